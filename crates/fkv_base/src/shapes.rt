@@ -1,6 +1,6 @@
 //! How large a store is.
-ghost use Rattle.std.specs.Prelude.{◌≡◌, ◌↔◌, ℕ, IsOk, IfOk, OnErr, Err};
-ghost use Rattle.fkv_base.specs.Limits.{IsShape, is_ring_size};
+ghost use Rattle.std.specs.Prelude.{◌≡◌, ◌↔◌, ℕ, IsOk, is_ok, IfOk, OnErr, Err};
+ghost use Rattle.fkv_base.specs.Limits.{IsShape, is_ring_size, is_shape};
 ghost use Rattle.fkv_base.specs.declared.faults.Fault.TheVariants.{BadShape};
 
 use crate::faults::Fault;
@@ -37,6 +37,7 @@ impl Shape {
         disk_pages: u64,
     ) -> Result<Shape, Fault>
         ensures accepted { IsOk result ↔ IsShape bucket_bits page frames mutable sessions overflow disk_pages }
+        ensures tested { is_ok result ≡ is_shape bucket_bits page frames mutable sessions overflow disk_pages }
         ensures bucket_bits { IfOk result (λ shape. shape.bucket_bits ≡ bucket_bits) }
         ensures page { IfOk result (λ shape. shape.page ≡ page) }
         ensures frames { IfOk result (λ shape. shape.frames ≡ frames) }
