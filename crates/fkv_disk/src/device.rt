@@ -1,0 +1,74 @@
+//! The medium that a store lies on, as the layers above see it.
+ghost use Rattle.std.specs.Prelude.{◌≡◌, ◌≤◌, ◌↔◌, List, ℕ, length, is_ok, OnOk};
+ghost use Rattle.fkv_disk.specs.Bytes.{bytes_at, AreBytes};
+ghost use Rattle.fkv_disk.specs.Device.{Writes, LeavesNoMore, LeavesTorn, LeavesOnly, Elapses, HasCause};
+
+use fkv_base::Fault;
+
+/// Bytes at offsets from 0 on, with an end past which each byte reads as 0.
+///
+/// A device either claims to be honest or claims nothing. Of an honest one three things are known: what it
+/// reads as, what a crash now may leave, and what a crash at some moment since a time may have left. Each call
+/// says what it makes of them.
+///
+/// Every call may be refused with `Fault::Device`, and with nothing else. Then `failures` rose in that call.
+pub trait Device {
+    /// The premise: what is read is what was last written, and a crash leaves no more than is said here.
+    ghost honest: { Self → Type 0 };
+
+    /// The bytes that reads give.
+    ghost seen: { Self → List ℕ };
+
+    /// What a crash at this moment may leave.
+    ghost may_leave: { Self → List ℕ → Type 0 };
+
+    /// The moment, as a number that doesn't fall.
+    ghost moment: { Self → ℕ };
+
+    /// What a crash at some moment from that one on may have left, during a call or between two.
+    ghost left_since: { Self → ℕ → List ℕ → Type 0 };
+
+    /// How many calls have failed.
+    ghost failed: { Self → ℕ };
+
+    /// Fills `into` with the bytes from offset `at` on. Those past the end are 0. After a refusal `into` holds
+    /// anything.
+    fn read(&mut self, at: u64, into: &mut [u8]) -> Result<(), Fault>
+        ensures honest { honest self.old ↔ honest self.new }
+        ensures bytes { honest self.old → OnOk result (into.new ≡ bytes_at (seen self.old) at (length into.old)) }
+        ensures seen { honest self.old → seen self.new ≡ seen self.old }
+        ensures crash { honest self.old → LeavesNoMore (may_leave self.old) (may_leave self.new) }
+        ensures time { honest self.old → Elapses (moment self.old) (moment self.new) (left_since self.old) (left_since self.new) (may_leave self.new) }
+        ensures cause { HasCause (failed self.old) (failed self.new) result };
+
+    /// Writes the bytes from offset `at` on, over what is there and past the end. Until a sync succeeds a crash
+    /// may leave anything in the range, and past the old end; so too where the write is refused.
+    fn write(&mut self, at: u64, bytes: &[u8]) -> Result<(), Fault>
+        ensures honest { honest self.old ↔ honest self.new }
+        ensures seen { honest self.old → Writes at bytes.now (is_ok result) (seen self.old) (seen self.new) }
+        ensures crash { honest self.old → LeavesTorn at bytes.now (may_leave self.old) (may_leave self.new) }
+        ensures time { honest self.old → Elapses (moment self.old) (moment self.new) (left_since self.old) (left_since self.new) (may_leave self.new) }
+        ensures cause { HasCause (failed self.old) (failed self.new) result };
+
+    /// At `Ok` a crash leaves just what is read. A refused sync changes nothing.
+    fn sync(&mut self) -> Result<(), Fault>
+        ensures honest { honest self.old ↔ honest self.new }
+        ensures durable { honest self.old → OnOk result (LeavesOnly (seen self.old) (may_leave self.new)) }
+        ensures seen { honest self.old → seen self.new ≡ seen self.old }
+        ensures crash { honest self.old → LeavesNoMore (may_leave self.old) (may_leave self.new) }
+        ensures time { honest self.old → Elapses (moment self.old) (moment self.new) (left_since self.old) (left_since self.new) (may_leave self.new) }
+        ensures cause { HasCause (failed self.old) (failed self.new) result };
+
+    /// How many calls have failed so far. At 2^64 - 1 it stays.
+    fn failures(&self) -> u64
+        ensures { result ≡ failed self.now };
+
+    /// This moment is one of those since an earlier one.
+    ghost counts_now: { (device : Self) (t : ℕ) (image : List ℕ) → honest device → t ≤ moment device → may_leave device image → left_since device t image };
+
+    /// Since this moment there is no other.
+    ghost only_now: { (device : Self) (image : List ℕ) → honest device → left_since device (moment device) image → may_leave device image };
+
+    /// What a crash leaves are bytes.
+    ghost leaves_bytes: { (device : Self) (image : List ℕ) → honest device → may_leave device image → AreBytes image };
+}
