@@ -1,0 +1,4 @@
+pub mod Histories
+pub mod KeptEntries
+pub mod Stored
+pub mod Values

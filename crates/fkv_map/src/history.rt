@@ -1,5 +1,5 @@
 //! Histories of updates.
-ghost use Rattle.std.specs.Prelude.{◌≡◌, ◌↔◌, ◌⊎◌, IfOk, IfErr, OnErr, Err};
+ghost use Rattle.std.specs.Prelude.{◌≡◌, ◌↔◌, ◌⊎◌, IfOk, IfErr, OnErr, Err, IsTrue};
 ghost use Rattle.std.specs.FinMap.{empty};
 ghost use Rattle.fkv_base.specs.declared.faults.Fault.TheVariants.{ValueReserved, Memory};
 ghost use Rattle.fkv_map.specs.History.{content, kept, point_of, HasReserved};
@@ -25,10 +25,8 @@ pub fn replay(alloc: Global, history: &[HistoryEntry]) -> Result<PlainMap, Fault
     ensures reserved { (result ≡ Err ValueReserved) ↔ HasReserved history.now }
     ensures cause { IfErr result (λ fault. (fault ≡ ValueReserved) ⊎ (fault ≡ Memory)) }
 {
-    for entry in history {
-        if entry.op.is_reserved() {
-            return Err(Fault::ValueReserved);
-        }
+    if has_reserved(history) {
+        return Err(Fault::ValueReserved);
     }
     let mut map = PlainMap::new(alloc);
     for entry in history {
@@ -54,6 +52,12 @@ pub fn kept(
         }
     }
     Ok(entries)
+}
+
+fn has_reserved(history: &[HistoryEntry]) -> bool
+    ensures { IsTrue result ↔ HasReserved history.now }
+{
+    history.iter().any(|entry| entry.op.is_reserved())
 }
 
 fn point_of(points: &[Serial], session: usize) -> u64

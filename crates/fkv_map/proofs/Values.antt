@@ -1,0 +1,119 @@
+-- The values that a history leaves.
+use Rattle.std.proofs.Common.{◌≡◌, ℕ, ◌≤◌, ◌<◌, ◌≢◌, Bool, true, false, cond, List, [], ◌∷◌, Option, Some, None, IfSome, All, suc, ◌^◌, refl, arith}
+use Rattle.std.specs.FinMap.{get, empty, insert, remove, get-empty, get-insert, get-remove}
+use Rattle.std.proofs.lemmas.List.Elements.{All-head, All-tail}
+use Rattle.std.specs.Ordering.{nat_cmp, eq_by_cmp}
+use Rattle.std.proofs.lemmas.Cmp.{nat_cmp_total}
+use Rattle.fkv_map.specs.declared.operations.Op.{Op}
+use Rattle.fkv_map.specs.declared.operations.Op.TheVariants.{Upsert, Delete, Add, Max, Read}
+use Rattle.fkv_map.specs.declared.history.HistoryEntry.{HistoryEntry}
+use Rattle.fkv_map.specs.Map.{Map, applied, sum_with, greater_with, IsReserved, greatest_value, absent_word}
+use Rattle.fkv_map.specs.History.{content, HasReserved}
+
+-- the operation's value is at most the greatest
+abbrev pub IsWithin : Op → Type 0
+IsWithin (Upsert key value) = value.0 ≤ greatest_value
+IsWithin (Delete key) = Unit {0}
+IsWithin (Add key n) = n ≤ greatest_value
+IsWithin (Max key n) = n ≤ greatest_value
+IsWithin (Read key) = Unit {0}
+
+-- the operation's value is a word of 64 bits, as every value of a program is
+abbrev pub IsWord : Op → Type 0
+IsWord (Upsert key value) = value.0 < 2 ^ 64
+IsWord (Delete key) = Unit {0}
+IsWord (Add key n) = n < 2 ^ 64
+IsWord (Max key n) = n < 2 ^ 64
+IsWord (Read key) = Unit {0}
+
+module _ (P : ℕ → Type 0) where
+  -- P holds of each value of the map
+  abbrev pub AllValues : Map → Type 0
+  AllValues m = (key : ℕ) → IfSome (get m key) P
+
+  holds_of_cond : (b : Bool) (v : ℕ) (rest : Option ℕ) → P v → IfSome rest P → IfSome (cond b (Some v) rest) P
+  holds_of_cond true v rest new old = new
+  holds_of_cond false v rest new old = old
+
+  holds_of_cond_none : (b : Bool) (rest : Option ℕ) → IfSome rest P → IfSome (cond b None rest) P
+  holds_of_cond_none true rest old = tt
+  holds_of_cond_none false rest old = old
+
+  pub AllValues-empty : AllValues empty
+  AllValues-empty key = rw (get-empty nat_cmp key) tt
+
+  pub AllValues-insert : (m : Map) (key v : ℕ) → AllValues m → P v → AllValues (insert m key v)
+  AllValues-insert m key v old new q = rw (get-insert nat_cmp_total m key v q) (holds_of_cond (eq_by_cmp nat_cmp q key) v (get m q) new (old q))
+
+  pub AllValues-remove : (m : Map) (key : ℕ) → AllValues m → AllValues (remove m key)
+  AllValues-remove m key old q = rw (get-remove nat_cmp_total m key q) (holds_of_cond_none (eq_by_cmp nat_cmp q key) (get m q) (old q))
+
+-- ---- no value is the word that stands for none
+abbrev pub IsValue : ℕ → Type 0
+IsValue v = v ≢ absent_word
+
+sum_is_value : (old : Option ℕ) (n : ℕ) → IsValue n → IsValue (sum_with old n)
+sum_is_value None n new = new
+sum_is_value (Some v) n new = λ same. grind arith
+
+greater_is_value : (old : Option ℕ) (n : ℕ) → IfSome old IsValue → IsValue n → IsValue (greater_with old n)
+greater_is_value None n old new = new
+greater_is_value (Some v) n old new = λ same. grind (arith, old, new)
+
+pub values-applied : (m : Map) (op : Op) → AllValues IsValue m → ¬ IsReserved op → AllValues IsValue (applied m op)
+values-applied m (Upsert key value) old free = AllValues-insert IsValue m key.0 value.0 old free
+values-applied m (Delete key) old free = AllValues-remove IsValue m key.0 old
+values-applied m (Add key n) old free = AllValues-insert IsValue m key.0 _ old (sum_is_value (get m key.0) n free)
+values-applied m (Max key n) old free = AllValues-insert IsValue m key.0 _ old (greater_is_value (get m key.0) n (old key.0) free)
+values-applied m (Read key) old free = old
+
+free_first : (entry : HistoryEntry) (later : List HistoryEntry) → ¬ HasReserved (entry ∷ later) → ¬ IsReserved entry.op
+free_first entry later free reserved = free (entry, (0, omega arith, refl), reserved)
+
+free_later : (entry : HistoryEntry) (later : List HistoryEntry) → ¬ HasReserved (entry ∷ later) → ¬ HasReserved later
+free_later entry later free (other, (k, within, is), reserved) = free (other, (suc k, omega arith, is), reserved)
+
+pub values-content : (m : Map) (history : List HistoryEntry) → AllValues IsValue m → ¬ HasReserved history → AllValues IsValue (content m history)
+values-content m [] old free = old
+values-content m (entry ∷ later) old free =
+    values-content (applied m entry.op) later (values-applied m entry.op old (free_first entry later free)) (free_later entry later free)
+
+-- what a history with no reserved operation makes of the empty map has that word at no key
+pub values_of_history : (history : List HistoryEntry) → ¬ HasReserved history → AllValues IsValue (content empty history)
+values_of_history history free = values-content empty history (AllValues-empty IsValue) free
+
+-- ---- every value is at most the greatest
+abbrev pub IsSmall : ℕ → Type 0
+IsSmall v = v ≤ greatest_value
+
+sum_is_small : (old : Option ℕ) (n : ℕ) → IsSmall n → IsSmall (sum_with old n)
+sum_is_small None n new = new
+sum_is_small (Some v) n new = grind arith
+
+greater_is_small : (old : Option ℕ) (n : ℕ) → IfSome old IsSmall → IsSmall n → IsSmall (greater_with old n)
+greater_is_small None n old new = new
+greater_is_small (Some v) n old new = grind (arith, old, new)
+
+pub small-applied : (m : Map) (op : Op) → AllValues IsSmall m → IsWithin op → AllValues IsSmall (applied m op)
+small-applied m (Upsert key value) old within = AllValues-insert IsSmall m key.0 value.0 old within
+small-applied m (Delete key) old within = AllValues-remove IsSmall m key.0 old
+small-applied m (Add key n) old within = AllValues-insert IsSmall m key.0 _ old (sum_is_small (get m key.0) n within)
+small-applied m (Max key n) old within = AllValues-insert IsSmall m key.0 _ old (greater_is_small (get m key.0) n (old key.0) within)
+small-applied m (Read key) old within = old
+
+pub small-content : (m : Map) (history : List HistoryEntry) → AllValues IsSmall m → All (λ entry. IsWithin entry.op) history → AllValues IsSmall (content m history)
+small-content m [] old within = old
+small-content m (entry ∷ later) old within =
+    small-content (applied m entry.op) later (small-applied m entry.op old (All-head (λ x. IsWithin x.op) entry later within)) (All-tail (λ x. IsWithin x.op) entry later within)
+
+-- what operations with values of at most the greatest make of the empty map has no greater value
+pub small_of_history : (history : List HistoryEntry) → All (λ entry. IsWithin entry.op) history → AllValues IsSmall (content empty history)
+small_of_history history within = small-content empty history (AllValues-empty IsSmall) within
+
+-- an operation on words of 64 bits that is not reserved brings at most the greatest value
+pub IsWithin-from_words : (op : Op) → ¬ IsReserved op → IsWord op → IsWithin op
+IsWithin-from_words (Upsert key value) free word = omega (arith, free)
+IsWithin-from_words (Delete key) free word = tt
+IsWithin-from_words (Add key n) free word = omega (arith, free)
+IsWithin-from_words (Max key n) free word = omega (arith, free)
+IsWithin-from_words (Read key) free word = tt
