@@ -1,0 +1,4 @@
+pub mod Fields
+pub mod Home
+pub mod Layout
+pub mod Phases

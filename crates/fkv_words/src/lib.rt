@@ -1,1 +1,23 @@
+//! The 64-bit words that sessions and the keeper share: each value has one word, and a word is no other value's.
 #![tactic(auto)]
+
+mod bucket_tail;
+mod cut_word;
+mod entry;
+mod fields;
+mod header;
+mod home;
+mod laws;
+mod phase_number;
+mod phase_word;
+
+pub use bucket_tail::BucketTail;
+pub use cut_word::CutWord;
+pub use entry::Entry;
+pub use header::Header;
+pub use home::{bucket_of, tag_of};
+pub use laws::law_words_apart;
+pub use phase_word::PhaseWord;
+
+#[cfg(test)]
+mod tests;

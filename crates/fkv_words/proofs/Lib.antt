@@ -1,0 +1,4 @@
+pub mod Apart
+pub mod Bits
+pub mod Large
+pub mod Spelled

@@ -1,0 +1,9 @@
+use Rattle.std.proofs.Common.{arith}
+use Rattle.fkv_words.specs.Layout.{tail_word}
+use Rattle.fkv_words.proofs.Bits.{bit_is}
+use Rattle.fkv_words.proofs.Spelled.{reads_made}
+use Rattle.fkv_words.proofs.Apart.{tail_apart}
+use Rattle.fkv_words.proofs.bucket_tail.BucketTail.unpack.Goals as goal
+
+pub returns : goal.returns
+returns c = reads_made tail_word tail_apart _ c.args.word (let bit = bit_is c.field-3.result (omega arith) in omega arith)

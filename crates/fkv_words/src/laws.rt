@@ -1,0 +1,12 @@
+//! What holds of all words at once.
+ghost use Rattle.fkv_words.specs.Fields.{SpellsApart};
+ghost use Rattle.fkv_words.specs.Layout.{entry_word, tail_word, header_word, phase_word, cut_word};
+
+/// No two values of a type have one word.
+pub fn law_words_apart()
+    ensures entries { SpellsApart entry_word }
+    ensures tails { SpellsApart tail_word }
+    ensures headers { SpellsApart header_word }
+    ensures phases { SpellsApart phase_word }
+    ensures cuts { SpellsApart cut_word }
+{}
