@@ -1,0 +1,4 @@
+pub mod BytesLemmas
+pub mod Left
+pub mod Carry
+pub mod Moments

@@ -1,3 +1,5 @@
 pub mod Bytes
 pub mod Calls
 pub mod Device
+pub mod Done
+pub mod Memory

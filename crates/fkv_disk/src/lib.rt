@@ -1,6 +1,8 @@
 //! The device that a store lies on, and what a crash may leave of it.
 #![tactic(auto)]
 
-mod device;
+mod devices;
+mod memory;
 
-pub use device::Device;
+pub use devices::Device;
+pub use memory::MemDisk;

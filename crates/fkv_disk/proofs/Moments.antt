@@ -1,0 +1,25 @@
+-- How a run of device calls goes on.
+use Rattle.std.proofs.Common.{◌⊎◌, inl, inr, ⊎_elim, ℕ, ◌≤◌, List, arith}
+use Rattle.fkv_disk.specs.Device.{Elapses, AtEachMoment}
+
+module _ {D : Type 0} (moment : D → ℕ) (left_since : D → ℕ → List ℕ → Type 0) where
+  -- before the first call
+  pub started : (old : D) (P : List ℕ → Type 0) → ((image : List ℕ) → left_since old (moment old) image → P image) → AtEachMoment moment left_since old old P
+  started old P here = record { later = omega arith; each = here; before = λ t image le left. inl left }
+
+  -- one call more, after which a crash leaves what has P
+  pub goes_on : (old mid new : D) (P may_leave : List ℕ → Type 0) → AtEachMoment moment left_since old mid P → Elapses (moment mid) (moment new) (left_since mid) (left_since new) may_leave
+      → ((image : List ℕ) → may_leave image → P image) → AtEachMoment moment left_since old new P
+  goes_on old mid new P may_leave so_far time here = record {
+    later = omega (arith, so_far.later, time.later);
+    each = λ image left. ⊎_elim (so_far.each image) (here image) (time.nothing_else (moment old) image so_far.later left);
+    before = λ t image le left. ⊎_elim (so_far.before t image le) (λ now. inr (here image now)) (time.nothing_else t image (omega (arith, le, so_far.later)) left);
+  }
+
+  -- a stretch of calls with its own postcondition, after which the same P holds
+  pub goes_on_to : (old mid new : D) (P : List ℕ → Type 0) → AtEachMoment moment left_since old mid P → AtEachMoment moment left_since mid new P → AtEachMoment moment left_since old new P
+  goes_on_to old mid new P first second = record {
+    later = omega (arith, first.later, second.later);
+    each = λ image left. ⊎_elim (first.each image) (λ p. p) (second.before (moment old) image first.later left);
+    before = λ t image le left. ⊎_elim (first.before t image le) inr (second.before t image (omega (arith, le, first.later)) left);
+  }

@@ -1,0 +1,33 @@
+-- The record of calls that a device in memory keeps, and what it says of crashes.
+use Rattle.std.specs.Prelude.{◌≡◌, ℕ, ◌+◌, ◌≤◌, List, [], ◌∷◌, ◌++◌, length, drop, true}
+use Rattle.std.proofs.Common.{subst, arith}
+use Rattle.fkv_disk.specs.Bytes.{AreBytes}
+use Rattle.fkv_disk.specs.Calls.{Call, Write, Sync, MayLeave}
+use Rattle.fkv_disk.specs.declared.memory.DoneCall.{DoneCall}
+use Rattle.fkv_disk.specs.declared.memory.DoneCall.TheVariants.{Wrote, Synced}
+
+abbrev pub call_of : DoneCall → Call
+call_of (Wrote at bytes) = Write at bytes.items true
+call_of Synced = Sync true
+
+-- the record has the oldest call first
+abbrev pub calls_of : List DoneCall → List Call
+calls_of [] = []
+calls_of (done ∷ later) = calls_of later ++ call_of done ∷ []
+
+-- an image of bytes that a crash may leave
+pub record MayLeaveBytes (opening : List ℕ) (calls : List Call) (image : List ℕ) : Type 0 where
+  pub allowed : MayLeave opening calls image
+  pub are_bytes : AreBytes image
+
+-- An image that a crash may have left when the newest of these calls hadn't come yet, at most those since time t. Time counts calls.
+abbrev pub LeftSince : List ℕ → List Call → ℕ → List ℕ → Type 0
+LeftSince opening calls t image = (newest : ℕ) × (t + newest ≤ length calls) × MayLeaveBytes opening (drop newest calls) image
+
+-- this moment is one of those since an earlier one
+pub counts_now : (opening : List ℕ) (calls : List Call) (t : ℕ) (image : List ℕ) → t ≤ length calls → MayLeaveBytes opening calls image → LeftSince opening calls t image
+counts_now opening calls t image le left = (0, omega arith, left)
+
+-- since this moment there is no other
+pub only_now : (opening : List ℕ) (calls : List Call) (image : List ℕ) → LeftSince opening calls (length calls) image → MayLeaveBytes opening calls image
+only_now opening calls image left = subst (λ (n : ℕ). MayLeaveBytes opening (drop n calls) image) (let none : left.0 ≡ 0 = omega (arith, left.1) in none) left.2

@@ -1,0 +1,198 @@
+//! A device in memory. It keeps its calls, so that a crash may leave all that the definition allows.
+ghost use Rattle.std.specs.Prelude.{◌≡◌, ◌+◌, ◌<◌, ◌≤◌, ◌^◌, [], ◌∷◌, length, min, true, ⊤, IfOk, IfErr, OnOk, OnErr};
+ghost use Rattle.fkv_disk.specs.Bytes.{bytes_at, written};
+ghost use Rattle.fkv_disk.specs.Calls.{Write, Sync, reads_as};
+ghost use Rattle.fkv_disk.specs.Device.{Rose};
+ghost use Rattle.fkv_disk.specs.Done.{calls_of, MayLeaveBytes, LeftSince, counts_now, only_now};
+
+use crate::Device;
+use fkv_base::Fault;
+use std::alloc::{AllocError, Global};
+
+/// A call that succeeded.
+#[derive(Drop)]
+enum DoneCall {
+    Wrote(u64, Vec<u8>),
+    Synced,
+}
+
+/// A device in memory. It keeps its bytes, those that it was made with, and each write and sync that
+/// succeeded. A growth that memory refuses is a failure of the device, which changes nothing.
+#[derive(Drop)]
+pub struct MemDisk {
+    alloc: Global,
+    opening: Vec<u8>,
+    bytes: Vec<u8>,
+    done: Vec<DoneCall>,
+    failures: u64,
+    ghost is_replayed: { bytes.items ≡ reads_as opening.items (calls_of done.items) },
+}
+
+impl MemDisk {
+    ghost use Rattle.fkv_disk.specs.Memory.{disk_bytes, disk_opening, disk_calls, disk_failures};
+
+    /// An empty device. Its later growth is in `alloc`.
+    pub fn new(alloc: Global) -> MemDisk
+        ensures bytes { disk_bytes result ≡ [] }
+        ensures opening { disk_opening result ≡ [] }
+        ensures calls { disk_calls result ≡ [] }
+        ensures failures { disk_failures result ≡ 0 }
+    {
+        MemDisk {
+            alloc,
+            opening: Vec::new(alloc),
+            bytes: Vec::new(alloc),
+            done: Vec::new(alloc),
+            failures: 0,
+        }
+    }
+
+    /// A device with these bytes, all of them synced. `Fault::Memory` where memory is refused for a copy.
+    pub fn from_bytes(alloc: Global, bytes: Vec<u8>) -> Result<MemDisk, Fault>
+        ensures bytes { IfOk result (λ disk. disk_bytes disk ≡ bytes.items) }
+        ensures opening { IfOk result (λ disk. disk_opening disk ≡ bytes.items) }
+        ensures calls { IfOk result (λ disk. disk_calls disk ≡ []) }
+        ensures failures { IfOk result (λ disk. disk_failures disk ≡ 0) }
+        ensures memory { IfErr result (λ fault. fault ≡ Fault.Memory) }
+    {
+        let opening = bytes.to_vec(alloc)?;
+        Ok(MemDisk {
+            alloc,
+            opening,
+            bytes,
+            done: Vec::new(alloc),
+            failures: 0,
+        })
+    }
+
+    /// The bytes that it reads as.
+    pub fn bytes(&self) -> &[u8]
+        ensures { result.now ≡ disk_bytes self.now }
+    {
+        &self.bytes
+    }
+
+    /// The bytes that it reads as, handed out.
+    pub fn into_bytes(self) -> Vec<u8>
+        ensures { result.items ≡ disk_bytes self }
+    {
+        self.bytes
+    }
+
+}
+
+// Counts a failure, and names it.
+fn count(failures: &mut u64) -> Fault
+    ensures named { result ≡ Fault.Device }
+    ensures rose { Rose failures.old failures.new }
+    ensures later { failures.old ≤ failures.new }
+{
+    *failures = failures.saturating_add(1);
+    Fault::Device
+}
+
+// Fills with the bytes from an offset on, and past the end with 0.
+fn fill(bytes: &[u8], at: u64, into: &mut [u8])
+    ensures { into.new ≡ bytes_at bytes.now at (length into.old) }
+{
+    let rest: &[u8] = if at < bytes.len() as u64 {
+        &bytes[at as usize..]
+    } else {
+        &[]
+    };
+    let count = rest.len().min(into.len());
+    into[..count].copy_from_slice(&rest[..count]);
+    into[count..].fill(0);
+}
+
+// Puts bytes in their place, with zeros in a gap before them.
+fn put(bytes: &mut Vec<u8>, at: usize, new: &[u8]) -> Result<(), AllocError>
+    requires { at + length new.now < 2 ^ 64 }
+    ensures ok { OnOk result (bytes.new.items ≡ written bytes.old.items at new.now) }
+    ensures err { OnErr result (bytes.new.items ≡ bytes.old.items) }
+{
+    if new.is_empty() {
+        return Ok(());
+    }
+    let end = at + new.len();
+    if bytes.len() < end {
+        bytes.resize(end, 0)?;
+    }
+    bytes[at..end].copy_from_slice(new);
+    Ok(())
+}
+
+// A write is put down in the record first, and taken out again where the bytes can't grow.
+fn put_and_record(
+    alloc: Global,
+    bytes: &mut Vec<u8>,
+    done: &mut Vec<DoneCall>,
+    at: u64,
+    new: &[u8],
+) -> Result<(), AllocError>
+    ensures bytes { OnOk result (bytes.new.items ≡ written bytes.old.items at new.now) }
+    ensures calls { OnOk result (calls_of done.new.items ≡ Write at new.now true ∷ calls_of done.old.items) }
+    ensures bytes_err { OnErr result (bytes.new.items ≡ bytes.old.items) }
+    ensures calls_err { OnErr result (done.new.items ≡ done.old.items) }
+{
+    if new.len() as u64 > u64::MAX - at {
+        return Err(AllocError);
+    }
+    done.push(DoneCall::Wrote(at, new.to_vec(alloc)?))?;
+    if put(bytes, at as usize, new).is_err() {
+        done.pop();
+        return Err(AllocError);
+    }
+    Ok(())
+}
+
+fn record_sync(done: &mut Vec<DoneCall>) -> Result<(), AllocError>
+    ensures calls { OnOk result (calls_of done.new.items ≡ Sync true ∷ calls_of done.old.items) }
+    ensures calls_err { OnErr result (done.new.items ≡ done.old.items) }
+{
+    done.push(DoneCall::Synced)?;
+    Ok(())
+}
+
+impl Device for MemDisk {
+    ghost honest = { λ _. ⊤ };
+
+    ghost seen = { λ disk. disk.bytes.items };
+
+    ghost may_leave = { λ disk image. MayLeaveBytes disk.opening.items (calls_of disk.done.items) image };
+
+    ghost moment = { λ disk. length (calls_of disk.done.items) };
+
+    ghost left_since = { λ disk t image. LeftSince disk.opening.items (calls_of disk.done.items) t image };
+
+    ghost failed = { λ disk. disk.failures };
+
+    ghost counts_now = { λ disk t image claim le left. counts_now disk.opening.items (calls_of disk.done.items) t image le left };
+
+    ghost only_now = { λ disk image claim left. only_now disk.opening.items (calls_of disk.done.items) image left };
+
+    ghost leaves_bytes = { λ disk image claim left. left.are_bytes };
+
+    fn read(&mut self, at: u64, into: &mut [u8]) -> Result<(), Fault> {
+        fill(&self.bytes, at, into);
+        Ok(())
+    }
+
+    fn write(&mut self, at: u64, bytes: &[u8]) -> Result<(), Fault> {
+        if put_and_record(self.alloc, &mut self.bytes, &mut self.done, at, bytes).is_err() {
+            return Err(count(&mut self.failures));
+        }
+        Ok(())
+    }
+
+    fn sync(&mut self) -> Result<(), Fault> {
+        if record_sync(&mut self.done).is_err() {
+            return Err(count(&mut self.failures));
+        }
+        Ok(())
+    }
+
+    fn failures(&self) -> u64 {
+        self.failures
+    }
+}
