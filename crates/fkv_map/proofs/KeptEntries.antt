@@ -55,3 +55,7 @@ kept_all (entry ∷ later) points covers =
 -- a count over two histories is the sum of the counts
 pub count-append : (test : HistoryEntry → Bool) (earlier later : List HistoryEntry) → count_by test (earlier ++ later) ≡ count_by test earlier + count_by test later
 count-append test earlier later = sum_by-append (λ entry. cond (test entry) 1 0) earlier later
+
+-- what holds of each entry holds of each that is kept
+pub All-kept : (P : HistoryEntry → Type 0) (history : List HistoryEntry) (points : List Serial) → All P history → All P (kept history points)
+All-kept P history points all = All-filter (is_kept points) P history all

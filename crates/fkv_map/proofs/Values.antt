@@ -1,14 +1,16 @@
 -- The values that a history leaves.
-use Rattle.std.proofs.Common.{◌≡◌, ℕ, ◌≤◌, ◌<◌, ◌≢◌, Bool, true, false, cond, List, [], ◌∷◌, Option, Some, None, IfSome, All, suc, ◌^◌, refl, arith}
+use Rattle.std.proofs.Common.{◌≡◌, ℕ, ◌≤◌, ◌<◌, ◌≢◌, Bool, true, false, cond, List, [], ◌∷◌, ◌++◌, Option, Some, None, IfSome, All, suc, ◌^◌, refl, arith}
 use Rattle.std.specs.FinMap.{get, empty, insert, remove, get-empty, get-insert, get-remove}
-use Rattle.std.proofs.lemmas.List.Elements.{All-head, All-tail}
+use Rattle.std.proofs.lemmas.List.Elements.{All-head, All-tail, All-nil, All-cons, All-push, All-contains}
 use Rattle.std.specs.Ordering.{nat_cmp, eq_by_cmp}
 use Rattle.std.proofs.lemmas.Cmp.{nat_cmp_total}
 use Rattle.fkv_map.specs.declared.operations.Op.{Op}
 use Rattle.fkv_map.specs.declared.operations.Op.TheVariants.{Upsert, Delete, Add, Max, Read}
 use Rattle.fkv_map.specs.declared.history.HistoryEntry.{HistoryEntry}
 use Rattle.fkv_map.specs.Map.{Map, applied, sum_with, greater_with, IsReserved, greatest_value, absent_word}
-use Rattle.fkv_map.specs.History.{content, HasReserved}
+use Rattle.fkv_map.specs.History.{content, kept, HasReserved}
+use Rattle.fkv_map.proofs.KeptEntries.{All-kept}
+use Rattle.fkv_base.specs.declared.numbers.Serial.{Serial}
 
 -- the operation's value is at most the greatest
 abbrev pub IsWithin : Op → Type 0
@@ -117,3 +119,18 @@ IsWithin-from_words (Delete key) free word = tt
 IsWithin-from_words (Add key n) free word = omega (arith, free)
 IsWithin-from_words (Max key n) free word = omega (arith, free)
 IsWithin-from_words (Read key) free word = tt
+
+-- ---- histories with no reserved operation
+pub free_from_All : (history : List HistoryEntry) → All (λ entry. ¬ IsReserved entry.op) history → ¬ HasReserved history
+free_from_All history all (entry, among, reserved) = All-contains (λ x. ¬ IsReserved x.op) history entry all among reserved
+
+pub All-from_free : (history : List HistoryEntry) → ¬ HasReserved history → All (λ entry. ¬ IsReserved entry.op) history
+All-from_free [] free = All-nil (λ x. ¬ IsReserved x.op)
+All-from_free (entry ∷ later) free = All-cons (λ x. ¬ IsReserved x.op) entry later (free_first entry later free) (All-from_free later (free_later entry later free))
+
+-- what is kept of a history with no reserved operation has none, nor has one more entry that isn't
+pub free-kept : (history : List HistoryEntry) (points : List Serial) → ¬ HasReserved history → ¬ HasReserved (kept history points)
+free-kept history points free = free_from_All (kept history points) (All-kept (λ x. ¬ IsReserved x.op) history points (All-from_free history free))
+
+pub free-push : (earlier : List HistoryEntry) (entry : HistoryEntry) → ¬ HasReserved earlier → ¬ IsReserved entry.op → ¬ HasReserved (earlier ++ entry ∷ [])
+free-push earlier entry free new = free_from_All (earlier ++ entry ∷ []) (All-push (λ x. ¬ IsReserved x.op) earlier entry (All-from_free earlier free) new)

@@ -55,3 +55,15 @@ impl Op {
         }
     }
 }
+
+#[cfg(test)]
+mod tests {
+    use super::*;
+
+    #[test]
+    fn the_absent_word_is_reserved(rt: HostRuntime) {
+        assert!(rt; Op::Add(Key(1), 18446744073709551615).is_reserved());
+        assert!(rt; !Op::Add(Key(1), 18446744073709551614).is_reserved());
+        assert!(rt; !Op::Delete(Key(18446744073709551615)).is_reserved());
+    }
+}

@@ -159,4 +159,21 @@ mod tests {
         );
         Ok(())
     }
+
+    #[test]
+    fn an_insertion_without_memory_changes_nothing(rt: HostRuntime) -> Result<(), Fail> {
+        let mut map = PlainMap::new(rt.alloc());
+        for number in 0..40u64 {
+            let op = Op::Upsert(Key(number), Value(number));
+            if map.apply(op) == Err(Fault::Memory) {
+                assert_eq!(rt; map.apply(Op::Read(Key(number))), Ok(Reply::Absent));
+                map.apply(op)?;
+            }
+            assert_eq!(rt;
+                map.apply(Op::Read(Key(number))),
+                Ok(Reply::Found(Value(number)))
+            );
+        }
+        Ok(())
+    }
 }
