@@ -2,9 +2,9 @@
 use Rattle.std.proofs.Common.{◌≡◌, ℕ, ◌^◌, ◌<◌, Bool, arith}
 use Rattle.std.proofs.Math.Bridge.{le_prop}
 use Rattle.fkv_base.specs.declared.phases.Phase.{Phase}
-use Rattle.fkv_words.specs.declared.entry.Entry.{Entry}
+use Rattle.fkv_words.specs.declared.entries.Entry.{Entry}
 use Rattle.fkv_words.specs.declared.bucket_tail.BucketTail.{BucketTail}
-use Rattle.fkv_words.specs.declared.header.Header.{Header}
+use Rattle.fkv_words.specs.declared.headers.Header.{Header}
 use Rattle.fkv_words.specs.declared.phase_word.PhaseWord.{PhaseWord}
 use Rattle.fkv_words.specs.declared.cut_word.CutWord.{CutWord}
 use Rattle.fkv_words.specs.Fields.{SpellsApart}

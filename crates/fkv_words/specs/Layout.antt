@@ -1,8 +1,8 @@
 -- The layout of each word: its fields, each at its power of two.
 use Rattle.std.specs.Prelude.{ℕ, ◌+◌, ◌*◌, ◌^◌}
-use Rattle.fkv_words.specs.declared.entry.Entry.{Entry}
+use Rattle.fkv_words.specs.declared.entries.Entry.{Entry}
 use Rattle.fkv_words.specs.declared.bucket_tail.BucketTail.{BucketTail}
-use Rattle.fkv_words.specs.declared.header.Header.{Header}
+use Rattle.fkv_words.specs.declared.headers.Header.{Header}
 use Rattle.fkv_words.specs.declared.phase_word.PhaseWord.{PhaseWord}
 use Rattle.fkv_words.specs.declared.cut_word.CutWord.{CutWord}
 use Rattle.fkv_words.specs.Fields.{bit_of}

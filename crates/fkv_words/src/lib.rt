@@ -3,9 +3,9 @@
 
 mod bucket_tail;
 mod cut_word;
-mod entry;
+mod entries;
 mod fields;
-mod header;
+mod headers;
 mod home;
 mod laws;
 mod phase_number;
@@ -13,8 +13,8 @@ mod phase_word;
 
 pub use bucket_tail::BucketTail;
 pub use cut_word::CutWord;
-pub use entry::Entry;
-pub use header::Header;
+pub use entries::Entry;
+pub use headers::Header;
 pub use home::{bucket_of, tag_of};
 pub use laws::law_words_apart;
 pub use phase_word::PhaseWord;
