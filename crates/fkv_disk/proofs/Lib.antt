@@ -2,3 +2,5 @@ pub mod BytesLemmas
 pub mod Left
 pub mod Carry
 pub mod Moments
+pub mod Recorded
+pub mod Spliced

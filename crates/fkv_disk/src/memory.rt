@@ -1,6 +1,6 @@
 //! A device in memory. It keeps its calls, so that a crash may leave all that the definition allows.
-ghost use Rattle.std.specs.Prelude.{◌≡◌, ◌+◌, ◌<◌, ◌≤◌, ◌^◌, [], ◌∷◌, length, min, true, ⊤, IfOk, IfErr, OnOk, OnErr};
-ghost use Rattle.fkv_disk.specs.Bytes.{bytes_at, written};
+ghost use Rattle.std.specs.Prelude.{◌≡◌, ◌+◌, ◌-◌, ◌<◌, ◌≤◌, ◌^◌, [], ◌∷◌, ◌++◌, length, take, drop, replicate, min, true, ⊤, IfOk, IfErr, OnOk, OnErr};
+ghost use Rattle.fkv_disk.specs.Bytes.{bytes_at, written, AreBytes};
 ghost use Rattle.fkv_disk.specs.Calls.{Write, Sync, reads_as};
 ghost use Rattle.fkv_disk.specs.Device.{Rose};
 ghost use Rattle.fkv_disk.specs.Done.{calls_of, MayLeaveBytes, LeftSince, counts_now, only_now};
@@ -95,14 +95,29 @@ fn count(failures: &mut u64) -> Fault
 fn fill(bytes: &[u8], at: u64, into: &mut [u8])
     ensures { into.new ≡ bytes_at bytes.now at (length into.old) }
 {
-    let rest: &[u8] = if at < bytes.len() as u64 {
-        &bytes[at as usize..]
-    } else {
-        &[]
-    };
-    let count = rest.len().min(into.len());
-    into[..count].copy_from_slice(&rest[..count]);
-    into[count..].fill(0);
+    into.fill(0);
+    if at < bytes.len() as u64 {
+        let rest = &bytes[at as usize..];
+        let count = rest.len().min(into.len());
+        overwrite(into, 0, &rest[..count]);
+    }
+}
+
+fn overwrite(bytes: &mut [u8], at: usize, new: &[u8])
+    requires { at + length new.now ≤ length bytes.old }
+    ensures { bytes.new ≡ take at bytes.old ++ new.now ++ drop (at + length new.now) bytes.old }
+{
+    bytes[at..at + new.len()].copy_from_slice(new);
+}
+
+fn grow(bytes: &mut Vec<u8>, end: usize) -> Result<(), AllocError>
+    ensures ok { OnOk result (bytes.new.items ≡ bytes.old.items ++ replicate (end - length bytes.old.items) 0) }
+    ensures err { OnErr result (bytes.new.items ≡ bytes.old.items) }
+{
+    if bytes.len() < end {
+        bytes.resize(end, 0)?;
+    }
+    Ok(())
 }
 
 // Puts bytes in their place, with zeros in a gap before them.
@@ -110,15 +125,13 @@ fn put(bytes: &mut Vec<u8>, at: usize, new: &[u8]) -> Result<(), AllocError>
     requires { at + length new.now < 2 ^ 64 }
     ensures ok { OnOk result (bytes.new.items ≡ written bytes.old.items at new.now) }
     ensures err { OnErr result (bytes.new.items ≡ bytes.old.items) }
+    ensures were_bytes { AreBytes bytes.old.items }
 {
     if new.is_empty() {
         return Ok(());
     }
-    let end = at + new.len();
-    if bytes.len() < end {
-        bytes.resize(end, 0)?;
-    }
-    bytes[at..end].copy_from_slice(new);
+    grow(bytes, at + new.len())?;
+    overwrite(bytes, at, new);
     Ok(())
 }
 
@@ -134,6 +147,7 @@ fn put_and_record(
     ensures calls { OnOk result (calls_of done.new.items ≡ Write at new.now true ∷ calls_of done.old.items) }
     ensures bytes_err { OnErr result (bytes.new.items ≡ bytes.old.items) }
     ensures calls_err { OnErr result (done.new.items ≡ done.old.items) }
+    ensures were_bytes { AreBytes bytes.old.items }
 {
     if new.len() as u64 > u64::MAX - at {
         return Err(AllocError);
@@ -179,17 +193,17 @@ impl Device for MemDisk {
     }
 
     fn write(&mut self, at: u64, bytes: &[u8]) -> Result<(), Fault> {
-        if put_and_record(self.alloc, &mut self.bytes, &mut self.done, at, bytes).is_err() {
-            return Err(count(&mut self.failures));
+        match put_and_record(self.alloc, &mut self.bytes, &mut self.done, at, bytes) {
+            Ok(()) => Ok(()),
+            Err(_) => Err(count(&mut self.failures)),
         }
-        Ok(())
     }
 
     fn sync(&mut self) -> Result<(), Fault> {
-        if record_sync(&mut self.done).is_err() {
-            return Err(count(&mut self.failures));
+        match record_sync(&mut self.done) {
+            Ok(()) => Ok(()),
+            Err(_) => Err(count(&mut self.failures)),
         }
-        Ok(())
     }
 
     fn failures(&self) -> u64 {
