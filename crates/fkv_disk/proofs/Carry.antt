@@ -20,7 +20,7 @@ module _ (opening : List ℕ) (calls : List Call) (seen seen' : List ℕ) (may_l
   }
 
   -- a write, succeeded or failed
-  pub after_write : (at : ℕ) (bytes : List ℕ) (done : Bool) → Writes at bytes done seen seen' → LeavesTorn at bytes may_leave may_leave' → IsAfter opening (Write at bytes done ∷ calls) seen' may_leave'
+  pub after_write : (at : ℕ) (bytes : List ℕ) (done : Bool) → Writes at bytes done seen seen' → LeavesTorn at (length bytes) may_leave may_leave' → IsAfter opening (Write at bytes done ∷ calls) seen' may_leave'
   after_write at bytes done writes torn = record {
     reads = reads_to opening at bytes done calls seen seen' was.reads writes;
     leaves = λ image left. let from = torn image left in torn_to opening at bytes done calls from.0 image (was.leaves from.0 from.1) from.2;

@@ -16,7 +16,7 @@ calls_of-push [] call = refl
 calls_of-push (first ∷ done) call = ap (λ (cs : List Call). cs ++ call_of first ∷ []) (calls_of-push done call)
 
 -- an image after a write is a torn write over one from before it
-pub write_torn : (opening : List ℕ) (before calls : List Call) (at : ℕ) (bytes image : List ℕ) → calls ≡ Write at bytes true ∷ before → AreBytes (reads_as opening before) → MayLeaveBytes opening calls image → (old : List ℕ) × MayLeaveBytes opening before old × Torn at bytes old image
+pub write_torn : (opening : List ℕ) (before calls : List Call) (at : ℕ) (bytes image : List ℕ) → calls ≡ Write at bytes true ∷ before → AreBytes (reads_as opening before) → MayLeaveBytes opening calls image → (old : List ℕ) × MayLeaveBytes opening before old × Torn at (length bytes) old image
 write_torn opening before calls at bytes image is fit left =
     let now : MayLeaveBytes opening (Write at bytes true ∷ before) image = subst (λ (cs : List Call). MayLeaveBytes opening cs image) is left in (
       torn_over opening at bytes true before image now.allowed,
@@ -65,7 +65,7 @@ all_done (call ∷ later) = all_done-push (calls_of later) call (all_done later)
 -- then each byte is sure, and the end is known
 sure_if_done : (calls : List Call) (i : ℕ) → AllDone calls → is_sure calls i ≡ true
 sure_if_done [] i all = refl
-sure_if_done (Write at bytes true ∷ before) i all = either_way (covers at bytes i) (sure_if_done before i all)
+sure_if_done (Write at bytes true ∷ before) i all = either_way (covers at (length bytes) i) (sure_if_done before i all)
   where
     either_way : (b : Bool) → is_sure before i ≡ true → (if b then true else is_sure before i) ≡ true
     either_way true sure = refl
@@ -76,7 +76,7 @@ sure_if_done (Sync false ∷ before) i all = absurd all
 
 end_if_done : (opening : List ℕ) (calls : List Call) → AllDone calls → far_end opening calls ≡ length (reads_as opening calls)
 end_if_done opening [] all = refl
-end_if_done opening (Write at bytes true ∷ before) all = ap (λ (n : ℕ). max n (range_end at bytes)) (end_if_done opening before all) ∙ sym (length-written (reads_as opening before) at bytes)
+end_if_done opening (Write at bytes true ∷ before) all = ap (λ (n : ℕ). max n (range_end at (length bytes))) (end_if_done opening before all) ∙ sym (length-written (reads_as opening before) at bytes)
 end_if_done opening (Write at bytes false ∷ before) all = absurd all
 end_if_done opening (Sync true ∷ before) all = end_if_done opening before all
 end_if_done opening (Sync false ∷ before) all = absurd all

@@ -42,12 +42,12 @@ module _ (old : List ℕ) (at : ℕ) (new : List ℕ) (fits : at + length new �
 -- bytes over others that have room for them
 pub spliced_is_written : (old : List ℕ) (at : ℕ) (new : List ℕ) → at + length new ≤ length old → 0 < length new → take at old ++ new ++ drop (at + length new) old ≡ written old at new
 spliced_is_written old at new fits some =
-    is_listed (spliced old at new fits) (max (length old) (range_end at new)) _ (omega (arith, length-spliced old at new fits, range_end_is at new some)) (λ i below. by_place i (where_is i at (at + length new)))
+    is_listed (spliced old at new fits) (max (length old) (range_end at (length new))) _ (omega (arith, length-spliced old at new fits, range_end_is at (length new) some)) (λ i below. by_place i (where_is i at (at + length new)))
   where
-    by_place : (i : ℕ) → (i < at) ⊎ ((at ≤ i) × (i < at + length new)) ⊎ ((at ≤ i) × (at + length new ≤ i)) → byte_at (spliced old at new fits) i ≡ (if covers at new i then byte_at new (i - at) else byte_at old i)
-    by_place i (inl before) = spliced_before old at new fits i before ∙ sym (ap (λ (b : Bool). if b then byte_at new (i - at) else byte_at old i) (before_range at new i before))
-    by_place i (inr (inl in_it)) = spliced_in old at new fits i in_it.0 in_it.1 ∙ sym (ap (λ (b : Bool). if b then byte_at new (i - at) else byte_at old i) (in_range at new i in_it.0 in_it.1))
-    by_place i (inr (inr past)) = spliced_after old at new fits i past.1 ∙ sym (ap (λ (b : Bool). if b then byte_at new (i - at) else byte_at old i) (after_range at new i past.1))
+    by_place : (i : ℕ) → (i < at) ⊎ ((at ≤ i) × (i < at + length new)) ⊎ ((at ≤ i) × (at + length new ≤ i)) → byte_at (spliced old at new fits) i ≡ (if covers at (length new) i then byte_at new (i - at) else byte_at old i)
+    by_place i (inl before) = spliced_before old at new fits i before ∙ sym (ap (λ (b : Bool). if b then byte_at new (i - at) else byte_at old i) (before_range at (length new) i before))
+    by_place i (inr (inl in_it)) = spliced_in old at new fits i in_it.0 in_it.1 ∙ sym (ap (λ (b : Bool). if b then byte_at new (i - at) else byte_at old i) (in_range at (length new) i in_it.0 in_it.1))
+    by_place i (inr (inr past)) = spliced_after old at new fits i past.1 ∙ sym (ap (λ (b : Bool). if b then byte_at new (i - at) else byte_at old i) (after_range at (length new) i past.1))
 
 -- n zeros
 abbrev pub zeros : ℕ → List ℕ
@@ -74,14 +74,14 @@ zeros_change_nothing old n i = by_place (where_is i 0 (length old))
     by_place (inr (inr past)) = get_or-append_right old (zeros n) (length old) i 0 refl past.1 ∙ zero_in n (i - length old) ∙ sym (byte_at_past old i past.1)
 
 -- writes over bytes that read alike and end alike are alike
-written_alike : (xs ys : List ℕ) (at : ℕ) (new : List ℕ) → max (length xs) (range_end at new) ≡ max (length ys) (range_end at new) → ((i : ℕ) → byte_at xs i ≡ byte_at ys i) → written xs at new ≡ written ys at new
+written_alike : (xs ys : List ℕ) (at : ℕ) (new : List ℕ) → max (length xs) (range_end at (length new)) ≡ max (length ys) (range_end at (length new)) → ((i : ℕ) → byte_at xs i ≡ byte_at ys i) → written xs at new ≡ written ys at new
 written_alike xs ys at new size each =
-    same_bytes (written xs at new) (written ys at new) (length-written xs at new ∙ size ∙ sym (length-written ys at new)) (λ i. by_cover i (bool_is (covers at new i)))
+    same_bytes (written xs at new) (written ys at new) (length-written xs at new ∙ size ∙ sym (length-written ys at new)) (λ i. by_cover i (bool_is (covers at (length new) i)))
   where
     bool_is : (b : Bool) → (b ≡ true) ⊎ (b ≡ false)
     bool_is true = inl refl
     bool_is false = inr refl
-    by_cover : (i : ℕ) → (covers at new i ≡ true) ⊎ (covers at new i ≡ false) → byte_at (written xs at new) i ≡ byte_at (written ys at new) i
+    by_cover : (i : ℕ) → (covers at (length new) i ≡ true) ⊎ (covers at (length new) i ≡ false) → byte_at (written xs at new) i ≡ byte_at (written ys at new) i
     by_cover i (inl in_it) = byte_at-written_in xs at new i in_it ∙ sym (byte_at-written_in ys at new i in_it)
     by_cover i (inr out_it) = byte_at-written_out xs at new i out_it ∙ each i ∙ sym (byte_at-written_out ys at new i out_it)
 
@@ -92,12 +92,12 @@ put_is_written old grown at new is some =
     let added : length (old ++ zeros n) ≡ length old + n = length-append old (zeros n) ∙ ap (λ (m : ℕ). length old + m) (zeros_size n) in
     let size : length grown ≡ max (length old) (at + length new) = ap length is ∙ added ∙ (let sum : length old + n ≡ max (length old) (at + length new) = omega arith in sum) in
     let fits : at + length new ≤ length grown = omega arith in
-    (fits, spliced_is_written grown at new fits some ∙ written_alike grown old at new (omega (arith, size, range_end_is at new some)) (λ i. ap (λ (l : List ℕ). byte_at l i) is ∙ zeros_change_nothing old n i))
+    (fits, spliced_is_written grown at new fits some ∙ written_alike grown old at new (omega (arith, size, range_end_is at (length new) some)) (λ i. ap (λ (l : List ℕ). byte_at l i) is ∙ zeros_change_nothing old n i))
 
 pub nothing_written : (old : List ℕ) (at : ℕ) (new : List ℕ) → length new ≡ 0 → old ≡ written old at new
 nothing_written old at [] none = same_bytes old (written old at []) (omega (arith, length-written old at [])) (λ i. sym (byte_at-written_out old at [] i (nowhere i)))
   where
-    nowhere : (i : ℕ) → covers at [] i ≡ false
+    nowhere : (i : ℕ) → covers at 0 i ≡ false
     nowhere i = grind (arith, nat_tests)
 nothing_written old at (b ∷ new) none = absurd (omega arith)
 

@@ -17,13 +17,13 @@ reads_as opening (Sync done ∷ before) = reads_as opening before
 -- the newest write over this offset succeeded, or there was none
 abbrev pub is_sure : List Call → ℕ → Bool
 is_sure [] i = true
-is_sure (Write at bytes done ∷ before) i = if covers at bytes i then done else is_sure before i
+is_sure (Write at bytes done ∷ before) i = if covers at (length bytes) i then done else is_sure before i
 is_sure (Sync done ∷ before) i = is_sure before i
 
 -- no write, succeeded or failed, was over this offset since the last sync that succeeded
 abbrev pub is_untouched : List Call → ℕ → Bool
 is_untouched [] i = true
-is_untouched (Write at bytes done ∷ before) i = not (covers at bytes i) && is_untouched before i
+is_untouched (Write at bytes done ∷ before) i = not (covers at (length bytes) i) && is_untouched before i
 is_untouched (Sync true ∷ before) i = true
 is_untouched (Sync false ∷ before) i = is_untouched before i
 
@@ -37,7 +37,7 @@ synced_end opening (Sync false ∷ before) = synced_end opening before
 -- the end if each failed write has reached its own
 abbrev pub far_end : List ℕ → List Call → ℕ
 far_end opening [] = length opening
-far_end opening (Write at bytes done ∷ before) = max (far_end opening before) (range_end at bytes)
+far_end opening (Write at bytes done ∷ before) = max (far_end opening before) (range_end at (length bytes))
 far_end opening (Sync done ∷ before) = far_end opening before
 
 -- A device that answered these calls may read as these bytes: at each offset what was last written there, and anything where that write failed.

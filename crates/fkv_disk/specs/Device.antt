@@ -5,24 +5,24 @@ use Rattle.fkv_base.specs.declared.faults.Fault.TheVariants as fault
 use Rattle.fkv_disk.specs.Bytes.{byte_at, covers, range_end, written}
 use Rattle.fkv_disk.specs.Calls.{Call, ReadsAs, MayLeave}
 
--- What is kept outside the range of a write that a failure or a crash cut short: each byte below the old end. The new end is anywhere from the old one to that of the range.
-pub record Torn (at : ℕ) (bytes old new : List ℕ) : Type 0 where
+-- What is kept outside the range of a write of n bytes that a failure or a crash cut short: each byte below the old end. The new end is anywhere from the old one to that of the range.
+pub record Torn (at n : ℕ) (old new : List ℕ) : Type 0 where
   pub no_shorter : length old ≤ length new
-  pub no_longer : length new ≤ max (length old) (range_end at bytes)
-  pub outside : (i : ℕ) → i < length old → covers at bytes i ≡ false → byte_at new i ≡ byte_at old i
+  pub no_longer : length new ≤ max (length old) (range_end at n)
+  pub outside : (i : ℕ) → i < length old → covers at n i ≡ false → byte_at new i ≡ byte_at old i
 
 -- What a write makes of the bytes that are read. One that failed may leave anything in its range, and a gap before it still reads as 0.
 abbrev pub Writes : ℕ → List ℕ → Bool → List ℕ → List ℕ → Type 0
 Writes at bytes true old new = new ≡ written old at bytes
-Writes at bytes false old new = (length old ≤ length new) × (length new ≤ max (length old) (range_end at bytes)) × ((i : ℕ) → covers at bytes i ≡ false → byte_at new i ≡ byte_at old i)
+Writes at bytes false old new = (length old ≤ length new) × (length new ≤ max (length old) (range_end at (length bytes))) × ((i : ℕ) → covers at (length bytes) i ≡ false → byte_at new i ≡ byte_at old i)
 
 -- a crash may leave no more than before
 abbrev pub LeavesNoMore : (List ℕ → Type 0) → (List ℕ → Type 0) → Type 0
 LeavesNoMore was now = (image : List ℕ) → now image → was image
 
--- each image that may be left now is one of before, with a write over it that is torn
-abbrev pub LeavesTorn : ℕ → List ℕ → (List ℕ → Type 0) → (List ℕ → Type 0) → Type 0
-LeavesTorn at bytes was now = (image : List ℕ) → now image → (old : List ℕ) × was old × Torn at bytes old image
+-- each image that may be left now is one of before, with a write of n bytes over it that is torn
+abbrev pub LeavesTorn : ℕ → ℕ → (List ℕ → Type 0) → (List ℕ → Type 0) → Type 0
+LeavesTorn at n was now = (image : List ℕ) → now image → (old : List ℕ) × was old × Torn at n old image
 
 -- a crash leaves these bytes and nothing else
 abbrev pub LeavesOnly : List ℕ → (List ℕ → Type 0) → Type 0

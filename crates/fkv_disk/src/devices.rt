@@ -46,7 +46,7 @@ pub trait Device {
     fn write(&mut self, at: u64, bytes: &[u8]) -> Result<(), Fault>
         ensures honest { honest self.old ↔ honest self.new }
         ensures seen { honest self.old → Writes at bytes.now (is_ok result) (seen self.old) (seen self.new) }
-        ensures crash { honest self.old → LeavesTorn at bytes.now (may_leave self.old) (may_leave self.new) }
+        ensures crash { honest self.old → LeavesTorn at (length bytes.now) (may_leave self.old) (may_leave self.new) }
         ensures time { honest self.old → Elapses (moment self.old) (moment self.new) (left_since self.old) (left_since self.new) (may_leave self.new) }
         ensures cause { HasCause (failed self.old) (failed self.new) result };
 
