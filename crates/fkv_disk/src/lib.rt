@@ -2,7 +2,9 @@
 #![tactic(auto)]
 
 mod devices;
+mod fuses;
 mod memory;
 
 pub use devices::Device;
+pub use fuses::{Fuse, FuseState};
 pub use memory::MemDisk;

@@ -1,0 +1,74 @@
+-- What a fuse shows, and what it makes of the images that its device may leave.
+use Rattle.std.specs.Prelude.{◌≡◌, ◌⊎◌, ℕ, zero, suc, ◌<◌, ◌≤◌, max, List, length, Bool, true, false, nat_lt, refl}
+use Rattle.std.proofs.Common.{inl, inr, ⊎_elim, arith}
+use Rattle.fkv_disk.specs.Bytes.{AreBytes, range_end}
+use Rattle.fkv_disk.specs.Device.{Torn}
+use Rattle.fkv_disk.specs.declared.fuses.FuseState.{FuseState}
+use Rattle.fkv_disk.specs.declared.fuses.FuseState.TheVariants.{Sound, Armed, Blown, BlownAt}
+
+-- the next call passes
+abbrev pub passes : FuseState → Bool
+passes Sound = true
+passes (Armed left) = nat_lt 0 left
+passes Blown = false
+passes (BlownAt at n) = false
+
+-- after a read or a sync
+abbrev pub burned : FuseState → FuseState
+burned Sound = Sound
+burned (Armed zero) = Blown
+burned (Armed (suc left)) = Armed left
+burned Blown = Blown
+burned (BlownAt at n) = BlownAt at n
+
+-- after a write of n bytes at an offset: it keeps the range of the write at which it blew
+abbrev pub burned_at : ℕ → ℕ → FuseState → FuseState
+burned_at at n Sound = Sound
+burned_at at n (Armed zero) = BlownAt at n
+burned_at at n (Armed (suc left)) = Armed left
+burned_at at n Blown = Blown
+burned_at at n (BlownAt from m) = BlownAt from m
+
+-- after it was set to pass so many calls: one that has blown stays blown
+abbrev pub armed : ℕ → FuseState → FuseState
+armed k Sound = Armed k
+armed k (Armed left) = Armed k
+armed k Blown = Blown
+armed k (BlownAt at n) = BlownAt at n
+
+-- What a crash may leave: where the fuse blew at a write, an image of the device with that write torn over it.
+abbrev pub FuseLeaves : FuseState → (List ℕ → Type 0) → List ℕ → Type 0
+FuseLeaves Sound leaves image = leaves image
+FuseLeaves (Armed left) leaves image = leaves image
+FuseLeaves Blown leaves image = leaves image
+FuseLeaves (BlownAt at n) leaves image = (old : List ℕ) × leaves old × Torn at n old image × AreBytes image
+
+-- What a crash since a time may have left: no time passes for the device once the fuse has blown.
+abbrev pub FuseLeftSince : FuseState → (ℕ → List ℕ → Type 0) → (List ℕ → Type 0) → ℕ → List ℕ → Type 0
+FuseLeftSince Sound since leaves t image = since t image
+FuseLeftSince (Armed left) since leaves t image = since t image
+FuseLeftSince Blown since leaves t image = since t image
+FuseLeftSince (BlownAt at n) since leaves t image = since t image ⊎ FuseLeaves (BlownAt at n) leaves image
+
+pub fuse_counts_now : (state : FuseState) (since : ℕ → List ℕ → Type 0) (leaves : List ℕ → Type 0) (t : ℕ) (image : List ℕ) → (leaves image → since t image) → FuseLeaves state leaves image → FuseLeftSince state since leaves t image
+fuse_counts_now Sound since leaves t image counts left = counts left
+fuse_counts_now (Armed k) since leaves t image counts left = counts left
+fuse_counts_now Blown since leaves t image counts left = counts left
+fuse_counts_now (BlownAt at n) since leaves t image counts left = inr left
+
+-- bytes that no crash changed are torn over themselves
+pub torn_same : (at n : ℕ) (image : List ℕ) → Torn at n image image
+torn_same at n image = record { no_shorter = omega arith; no_longer = omega arith; outside = λ i below out. refl }
+
+pub fuse_only_now : (state : FuseState) (since : ℕ → List ℕ → Type 0) (leaves : List ℕ → Type 0) (now : ℕ) (image : List ℕ) → (since now image → leaves image) → (leaves image → AreBytes image) → FuseLeftSince state since leaves now image → FuseLeaves state leaves image
+fuse_only_now Sound since leaves now image only fits left = only left
+fuse_only_now (Armed k) since leaves now image only fits left = only left
+fuse_only_now Blown since leaves now image only fits left = only left
+fuse_only_now (BlownAt at n) since leaves now image only fits (inl past) = (image, only past, torn_same at n image, fits (only past))
+fuse_only_now (BlownAt at n) since leaves now image only fits (inr torn) = torn
+
+pub fuse_leaves_bytes : (state : FuseState) (leaves : List ℕ → Type 0) (image : List ℕ) → (leaves image → AreBytes image) → FuseLeaves state leaves image → AreBytes image
+fuse_leaves_bytes Sound leaves image fits left = fits left
+fuse_leaves_bytes (Armed k) leaves image fits left = fits left
+fuse_leaves_bytes Blown leaves image fits left = fits left
+fuse_leaves_bytes (BlownAt at n) leaves image fits left = left.3
