@@ -1,7 +1,9 @@
 pub mod Bytes
 pub mod Calls
+pub mod Countdown
 pub mod Device
 pub mod Done
 pub mod Fuse
 pub mod Fuses
 pub mod Memory
+pub mod Once

@@ -1,5 +1,5 @@
 //! A device that fails from some call on, as where the power is cut.
-ghost use Rattle.std.specs.Prelude.{◌≡◌, ◌+◌, ◌-◌, ◌≤◌, ◌^◌, ◌↔◌, length, min, false, is_ok, IsTrue, OnOk};
+ghost use Rattle.std.specs.Prelude.{◌≡◌, ◌+◌, ◌-◌, ◌≤◌, ◌^◌, ◌↔◌, length, min, true, false, is_ok, IsErr, OnOk};
 ghost use Rattle.fkv_disk.specs.Bytes.{bytes_at};
 ghost use Rattle.fkv_disk.specs.Device.{Rose, Writes, LeavesNoMore, LeavesTorn, LeavesOnly, Elapses, HasCause};
 ghost use Rattle.fkv_disk.specs.Fuse.{passes, burned, burned_at, armed, FuseLeaves, FuseLeftSince, fuse_counts_now, fuse_only_now, fuse_leaves_bytes};
@@ -112,7 +112,7 @@ fn burn_at(state: &mut FuseState, at: u64, n: u64) -> bool
 }
 
 // Counts a refusal, and names it.
-fn refuse(refused: &mut u64) -> Fault
+pub(crate) fn refuse(refused: &mut u64) -> Fault
     ensures named { result ≡ Fault.Device }
     ensures counted { refused.new ≡ min (refused.old + 1) (2 ^ 64 - 1) }
 {
@@ -121,6 +121,8 @@ fn refuse(refused: &mut u64) -> Fault
 }
 
 impl<D: Device> Device for Fuse<D> {
+    ghost use Rattle.fkv_disk.specs.Fuses.{fuse_device, fuse_state, fuse_refused};
+
     ghost honest = { λ fuse. D.Device.honest fuse.device };
 
     ghost seen = { λ fuse. D.Device.seen fuse.device };
@@ -140,6 +142,17 @@ impl<D: Device> Device for Fuse<D> {
     ghost leaves_bytes = { λ fuse image claim left. fuse_leaves_bytes fuse.state (D.Device.may_leave fuse.device) image (D.Device.leaves_bytes fuse.device image claim) left };
 
     fn read(&mut self, at: u64, into: &mut [u8]) -> Result<(), Fault>
+        ensures honest { ⟦<Fuse<D> as Device>⟧.honest self.old ↔ ⟦<Fuse<D> as Device>⟧.honest self.new }
+        ensures bytes { ⟦<Fuse<D> as Device>⟧.honest self.old → OnOk result (into.new ≡ bytes_at (⟦<Fuse<D> as Device>⟧.seen self.old) at (length into.old)) }
+        ensures seen { ⟦<Fuse<D> as Device>⟧.honest self.old → ⟦<Fuse<D> as Device>⟧.seen self.new ≡ ⟦<Fuse<D> as Device>⟧.seen self.old }
+        ensures crash { ⟦<Fuse<D> as Device>⟧.honest self.old → LeavesNoMore (⟦<Fuse<D> as Device>⟧.may_leave self.old) (⟦<Fuse<D> as Device>⟧.may_leave self.new) }
+        ensures time { ⟦<Fuse<D> as Device>⟧.honest self.old → Elapses (⟦<Fuse<D> as Device>⟧.moment self.old) (⟦<Fuse<D> as Device>⟧.moment self.new) (⟦<Fuse<D> as Device>⟧.left_since self.old) (⟦<Fuse<D> as Device>⟧.left_since self.new) (⟦<Fuse<D> as Device>⟧.may_leave self.new) }
+        ensures cause { HasCause (⟦<Fuse<D> as Device>⟧.failed self.old) (⟦<Fuse<D> as Device>⟧.failed self.new) result }
+
+        ensures state { fuse_state self.new ≡ burned (fuse_state self.old) }
+        ensures refuses { passes (fuse_state self.old) ≡ false → IsErr result }
+        ensures counts { passes (fuse_state self.old) ≡ false → fuse_refused self.new ≡ min (fuse_refused self.old + 1) (2 ^ 64 - 1) }
+        ensures lets_pass { passes (fuse_state self.old) ≡ true → HasCause (D.failed (fuse_device self.old)) (D.failed (fuse_device self.new)) result }
     {
         if burn(&mut self.state) {
             return self.device.read(at, into);
@@ -147,14 +160,37 @@ impl<D: Device> Device for Fuse<D> {
         Err(refuse(&mut self.refused))
     }
 
-    fn write(&mut self, at: u64, bytes: &[u8]) -> Result<(), Fault> {
+    fn write(&mut self, at: u64, bytes: &[u8]) -> Result<(), Fault>
+        ensures honest { ⟦<Fuse<D> as Device>⟧.honest self.old ↔ ⟦<Fuse<D> as Device>⟧.honest self.new }
+        ensures seen { ⟦<Fuse<D> as Device>⟧.honest self.old → Writes at bytes.now (is_ok result) (⟦<Fuse<D> as Device>⟧.seen self.old) (⟦<Fuse<D> as Device>⟧.seen self.new) }
+        ensures crash { ⟦<Fuse<D> as Device>⟧.honest self.old → LeavesTorn at (length bytes.now) (⟦<Fuse<D> as Device>⟧.may_leave self.old) (⟦<Fuse<D> as Device>⟧.may_leave self.new) }
+        ensures time { ⟦<Fuse<D> as Device>⟧.honest self.old → Elapses (⟦<Fuse<D> as Device>⟧.moment self.old) (⟦<Fuse<D> as Device>⟧.moment self.new) (⟦<Fuse<D> as Device>⟧.left_since self.old) (⟦<Fuse<D> as Device>⟧.left_since self.new) (⟦<Fuse<D> as Device>⟧.may_leave self.new) }
+        ensures cause { HasCause (⟦<Fuse<D> as Device>⟧.failed self.old) (⟦<Fuse<D> as Device>⟧.failed self.new) result }
+
+        ensures state { fuse_state self.new ≡ burned_at at (length bytes.now) (fuse_state self.old) }
+        ensures refuses { passes (fuse_state self.old) ≡ false → IsErr result }
+        ensures counts { passes (fuse_state self.old) ≡ false → fuse_refused self.new ≡ min (fuse_refused self.old + 1) (2 ^ 64 - 1) }
+        ensures lets_pass { passes (fuse_state self.old) ≡ true → HasCause (D.failed (fuse_device self.old)) (D.failed (fuse_device self.new)) result }
+    {
         if burn_at(&mut self.state, at, bytes.len() as u64) {
             return self.device.write(at, bytes);
         }
         Err(refuse(&mut self.refused))
     }
 
-    fn sync(&mut self) -> Result<(), Fault> {
+    fn sync(&mut self) -> Result<(), Fault>
+        ensures honest { ⟦<Fuse<D> as Device>⟧.honest self.old ↔ ⟦<Fuse<D> as Device>⟧.honest self.new }
+        ensures durable { ⟦<Fuse<D> as Device>⟧.honest self.old → OnOk result (LeavesOnly (⟦<Fuse<D> as Device>⟧.seen self.old) (⟦<Fuse<D> as Device>⟧.may_leave self.new)) }
+        ensures seen { ⟦<Fuse<D> as Device>⟧.honest self.old → ⟦<Fuse<D> as Device>⟧.seen self.new ≡ ⟦<Fuse<D> as Device>⟧.seen self.old }
+        ensures crash { ⟦<Fuse<D> as Device>⟧.honest self.old → LeavesNoMore (⟦<Fuse<D> as Device>⟧.may_leave self.old) (⟦<Fuse<D> as Device>⟧.may_leave self.new) }
+        ensures time { ⟦<Fuse<D> as Device>⟧.honest self.old → Elapses (⟦<Fuse<D> as Device>⟧.moment self.old) (⟦<Fuse<D> as Device>⟧.moment self.new) (⟦<Fuse<D> as Device>⟧.left_since self.old) (⟦<Fuse<D> as Device>⟧.left_since self.new) (⟦<Fuse<D> as Device>⟧.may_leave self.new) }
+        ensures cause { HasCause (⟦<Fuse<D> as Device>⟧.failed self.old) (⟦<Fuse<D> as Device>⟧.failed self.new) result }
+
+        ensures state { fuse_state self.new ≡ burned (fuse_state self.old) }
+        ensures refuses { passes (fuse_state self.old) ≡ false → IsErr result }
+        ensures counts { passes (fuse_state self.old) ≡ false → fuse_refused self.new ≡ min (fuse_refused self.old + 1) (2 ^ 64 - 1) }
+        ensures lets_pass { passes (fuse_state self.old) ≡ true → HasCause (D.failed (fuse_device self.old)) (D.failed (fuse_device self.new)) result }
+    {
         if burn(&mut self.state) {
             return self.device.sync();
         }

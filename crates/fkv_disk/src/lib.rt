@@ -4,7 +4,9 @@
 mod devices;
 mod fuses;
 mod memory;
+mod single;
 
 pub use devices::Device;
 pub use fuses::{Fuse, FuseState};
 pub use memory::MemDisk;
+pub use single::Once;

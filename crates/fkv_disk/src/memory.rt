@@ -1,8 +1,8 @@
 //! A device in memory. It keeps its calls, so that a crash may leave all that the definition allows.
-ghost use Rattle.std.specs.Prelude.{◌≡◌, ◌+◌, ◌-◌, ◌<◌, ◌≤◌, ◌^◌, [], ◌∷◌, ◌++◌, length, take, drop, replicate, min, true, ⊤, IfOk, IfErr, OnOk, OnErr};
+ghost use Rattle.std.specs.Prelude.{◌≡◌, ◌↔◌, ◌+◌, ◌-◌, ◌<◌, ◌≤◌, ◌^◌, [], ◌∷◌, ◌++◌, length, take, drop, replicate, true, ⊤, is_ok, IsOk, IfOk, IfErr, OnOk, OnErr, if◌then◌else◌};
 ghost use Rattle.fkv_disk.specs.Bytes.{bytes_at, written, AreBytes};
 ghost use Rattle.fkv_disk.specs.Calls.{Write, Sync, reads_as};
-ghost use Rattle.fkv_disk.specs.Device.{Rose};
+ghost use Rattle.fkv_disk.specs.Device.{Rose, Writes, LeavesNoMore, LeavesTorn, LeavesOnly, Elapses, HasCause};
 ghost use Rattle.fkv_disk.specs.Done.{calls_of, MayLeaveBytes, LeftSince, counts_now, only_now};
 
 use crate::Device;
@@ -169,6 +169,8 @@ fn record_sync(done: &mut Vec<DoneCall>) -> Result<(), AllocError>
 }
 
 impl Device for MemDisk {
+    ghost use Rattle.fkv_disk.specs.Memory.{disk_opening, disk_calls};
+
     ghost honest = { λ _. ⊤ };
 
     ghost seen = { λ disk. disk.bytes.items };
@@ -187,19 +189,49 @@ impl Device for MemDisk {
 
     ghost leaves_bytes = { λ disk image claim left. left.are_bytes };
 
-    fn read(&mut self, at: u64, into: &mut [u8]) -> Result<(), Fault> {
+    fn read(&mut self, at: u64, into: &mut [u8]) -> Result<(), Fault>
+        ensures honest { ⟦<MemDisk as Device>⟧.honest self.old ↔ ⟦<MemDisk as Device>⟧.honest self.new }
+        ensures bytes { ⟦<MemDisk as Device>⟧.honest self.old → OnOk result (into.new ≡ bytes_at (⟦<MemDisk as Device>⟧.seen self.old) at (length into.old)) }
+        ensures seen { ⟦<MemDisk as Device>⟧.honest self.old → ⟦<MemDisk as Device>⟧.seen self.new ≡ ⟦<MemDisk as Device>⟧.seen self.old }
+        ensures crash { ⟦<MemDisk as Device>⟧.honest self.old → LeavesNoMore (⟦<MemDisk as Device>⟧.may_leave self.old) (⟦<MemDisk as Device>⟧.may_leave self.new) }
+        ensures time { ⟦<MemDisk as Device>⟧.honest self.old → Elapses (⟦<MemDisk as Device>⟧.moment self.old) (⟦<MemDisk as Device>⟧.moment self.new) (⟦<MemDisk as Device>⟧.left_since self.old) (⟦<MemDisk as Device>⟧.left_since self.new) (⟦<MemDisk as Device>⟧.may_leave self.new) }
+        ensures cause { HasCause (⟦<MemDisk as Device>⟧.failed self.old) (⟦<MemDisk as Device>⟧.failed self.new) result }
+
+        ensures succeeds { IsOk result }
+        ensures calls { disk_calls self.new ≡ disk_calls self.old }
+        ensures opening { disk_opening self.new ≡ disk_opening self.old }
+    {
         fill(&self.bytes, at, into);
         Ok(())
     }
 
-    fn write(&mut self, at: u64, bytes: &[u8]) -> Result<(), Fault> {
+    fn write(&mut self, at: u64, bytes: &[u8]) -> Result<(), Fault>
+        ensures honest { ⟦<MemDisk as Device>⟧.honest self.old ↔ ⟦<MemDisk as Device>⟧.honest self.new }
+        ensures seen { ⟦<MemDisk as Device>⟧.honest self.old → Writes at bytes.now (is_ok result) (⟦<MemDisk as Device>⟧.seen self.old) (⟦<MemDisk as Device>⟧.seen self.new) }
+        ensures crash { ⟦<MemDisk as Device>⟧.honest self.old → LeavesTorn at (length bytes.now) (⟦<MemDisk as Device>⟧.may_leave self.old) (⟦<MemDisk as Device>⟧.may_leave self.new) }
+        ensures time { ⟦<MemDisk as Device>⟧.honest self.old → Elapses (⟦<MemDisk as Device>⟧.moment self.old) (⟦<MemDisk as Device>⟧.moment self.new) (⟦<MemDisk as Device>⟧.left_since self.old) (⟦<MemDisk as Device>⟧.left_since self.new) (⟦<MemDisk as Device>⟧.may_leave self.new) }
+        ensures cause { HasCause (⟦<MemDisk as Device>⟧.failed self.old) (⟦<MemDisk as Device>⟧.failed self.new) result }
+
+        ensures calls { disk_calls self.new ≡ (if is_ok result then Write at bytes.now true ∷ disk_calls self.old else disk_calls self.old) }
+        ensures opening { disk_opening self.new ≡ disk_opening self.old }
+    {
         match put_and_record(self.alloc, &mut self.bytes, &mut self.done, at, bytes) {
             Ok(()) => Ok(()),
             Err(_) => Err(count(&mut self.failures)),
         }
     }
 
-    fn sync(&mut self) -> Result<(), Fault> {
+    fn sync(&mut self) -> Result<(), Fault>
+        ensures honest { ⟦<MemDisk as Device>⟧.honest self.old ↔ ⟦<MemDisk as Device>⟧.honest self.new }
+        ensures durable { ⟦<MemDisk as Device>⟧.honest self.old → OnOk result (LeavesOnly (⟦<MemDisk as Device>⟧.seen self.old) (⟦<MemDisk as Device>⟧.may_leave self.new)) }
+        ensures seen { ⟦<MemDisk as Device>⟧.honest self.old → ⟦<MemDisk as Device>⟧.seen self.new ≡ ⟦<MemDisk as Device>⟧.seen self.old }
+        ensures crash { ⟦<MemDisk as Device>⟧.honest self.old → LeavesNoMore (⟦<MemDisk as Device>⟧.may_leave self.old) (⟦<MemDisk as Device>⟧.may_leave self.new) }
+        ensures time { ⟦<MemDisk as Device>⟧.honest self.old → Elapses (⟦<MemDisk as Device>⟧.moment self.old) (⟦<MemDisk as Device>⟧.moment self.new) (⟦<MemDisk as Device>⟧.left_since self.old) (⟦<MemDisk as Device>⟧.left_since self.new) (⟦<MemDisk as Device>⟧.may_leave self.new) }
+        ensures cause { HasCause (⟦<MemDisk as Device>⟧.failed self.old) (⟦<MemDisk as Device>⟧.failed self.new) result }
+
+        ensures calls { disk_calls self.new ≡ (if is_ok result then Sync true ∷ disk_calls self.old else disk_calls self.old) }
+        ensures opening { disk_opening self.new ≡ disk_opening self.old }
+    {
         match record_sync(&mut self.done) {
             Ok(()) => Ok(()),
             Err(_) => Err(count(&mut self.failures)),

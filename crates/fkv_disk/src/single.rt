@@ -1,0 +1,145 @@
+//! A device that fails one call.
+ghost use Rattle.std.specs.Prelude.{◌≡◌, ◌≢◌, ◌+◌, ◌-◌, ◌≤◌, ◌^◌, ◌↔◌, length, min, Some, None, IsTrue, is_ok, IsErr, OnOk};
+ghost use Rattle.fkv_disk.specs.Bytes.{bytes_at};
+ghost use Rattle.fkv_disk.specs.Countdown.{counted_down};
+ghost use Rattle.fkv_disk.specs.Device.{Writes, LeavesNoMore, LeavesTorn, LeavesOnly, Elapses, HasCause};
+
+use crate::Device;
+use crate::fuses::refuse;
+use fkv_base::Fault;
+
+/// Passes calls on to a device, but for one, which it refuses and doesn't pass on.
+#[derive(Drop)]
+pub struct Once<D: Device> {
+    device: D,
+    left: Option<u64>,
+    refused: u64,
+}
+
+impl<D: Device> Once<D> {
+    ghost use Rattle.fkv_disk.specs.Once.{once_device, once_left};
+
+    /// `k` calls pass, the next one is refused, and all later ones pass.
+    pub fn new(device: D, k: u64) -> Once<D>
+        ensures device { once_device result ≡ device }
+        ensures left { once_left result ≡ Some k }
+    {
+        Once {
+            device,
+            left: Some(k),
+            refused: 0,
+        }
+    }
+
+    /// The device that it passes calls on to.
+    pub fn device(&self) -> &D
+        ensures { result.now ≡ once_device self.now }
+    {
+        &self.device
+    }
+
+    /// The device by itself.
+    pub fn into_device(self) -> D
+        ensures { result ≡ once_device self }
+    {
+        let Once { device, .. } = self;
+        device
+    }
+}
+
+// Counts a call, and tells whether it is the one that fails.
+fn count_down(left: &mut Option<u64>) -> bool
+    ensures left { left.new ≡ counted_down left.old }
+    ensures fails { IsTrue result ↔ (left.old ≡ Some 0) }
+{
+    match *left {
+        None => false,
+        Some(0) => {
+            *left = None;
+            true
+        }
+        Some(more) => {
+            *left = Some(more - 1);
+            false
+        }
+    }
+}
+
+impl<D: Device> Device for Once<D> {
+    ghost use Rattle.fkv_disk.specs.Once.{once_device, once_left};
+
+    ghost honest = { λ once. D.Device.honest once.device };
+
+    ghost seen = { λ once. D.Device.seen once.device };
+
+    ghost may_leave = { λ once. D.Device.may_leave once.device };
+
+    ghost moment = { λ once. D.Device.moment once.device };
+
+    ghost left_since = { λ once. D.Device.left_since once.device };
+
+    ghost failed = { λ once. min (D.Device.failed once.device + once.refused) (2 ^ 64 - 1) };
+
+    ghost counts_now = { λ once. D.Device.counts_now once.device };
+
+    ghost only_now = { λ once. D.Device.only_now once.device };
+
+    ghost leaves_bytes = { λ once. D.Device.leaves_bytes once.device };
+
+    fn read(&mut self, at: u64, into: &mut [u8]) -> Result<(), Fault>
+        ensures honest { ⟦<Once<D> as Device>⟧.honest self.old ↔ ⟦<Once<D> as Device>⟧.honest self.new }
+        ensures bytes { ⟦<Once<D> as Device>⟧.honest self.old → OnOk result (into.new ≡ bytes_at (⟦<Once<D> as Device>⟧.seen self.old) at (length into.old)) }
+        ensures seen { ⟦<Once<D> as Device>⟧.honest self.old → ⟦<Once<D> as Device>⟧.seen self.new ≡ ⟦<Once<D> as Device>⟧.seen self.old }
+        ensures crash { ⟦<Once<D> as Device>⟧.honest self.old → LeavesNoMore (⟦<Once<D> as Device>⟧.may_leave self.old) (⟦<Once<D> as Device>⟧.may_leave self.new) }
+        ensures time { ⟦<Once<D> as Device>⟧.honest self.old → Elapses (⟦<Once<D> as Device>⟧.moment self.old) (⟦<Once<D> as Device>⟧.moment self.new) (⟦<Once<D> as Device>⟧.left_since self.old) (⟦<Once<D> as Device>⟧.left_since self.new) (⟦<Once<D> as Device>⟧.may_leave self.new) }
+        ensures cause { HasCause (⟦<Once<D> as Device>⟧.failed self.old) (⟦<Once<D> as Device>⟧.failed self.new) result }
+
+        ensures left { once_left self.new ≡ counted_down (once_left self.old) }
+        ensures fails { once_left self.old ≡ Some 0 → IsErr result }
+        ensures lets_pass { once_left self.old ≢ Some 0 → HasCause (D.failed (once_device self.old)) (D.failed (once_device self.new)) result }
+    {
+        if count_down(&mut self.left) {
+            return Err(refuse(&mut self.refused));
+        }
+        self.device.read(at, into)
+    }
+
+    fn write(&mut self, at: u64, bytes: &[u8]) -> Result<(), Fault>
+        ensures honest { ⟦<Once<D> as Device>⟧.honest self.old ↔ ⟦<Once<D> as Device>⟧.honest self.new }
+        ensures seen { ⟦<Once<D> as Device>⟧.honest self.old → Writes at bytes.now (is_ok result) (⟦<Once<D> as Device>⟧.seen self.old) (⟦<Once<D> as Device>⟧.seen self.new) }
+        ensures crash { ⟦<Once<D> as Device>⟧.honest self.old → LeavesTorn at (length bytes.now) (⟦<Once<D> as Device>⟧.may_leave self.old) (⟦<Once<D> as Device>⟧.may_leave self.new) }
+        ensures time { ⟦<Once<D> as Device>⟧.honest self.old → Elapses (⟦<Once<D> as Device>⟧.moment self.old) (⟦<Once<D> as Device>⟧.moment self.new) (⟦<Once<D> as Device>⟧.left_since self.old) (⟦<Once<D> as Device>⟧.left_since self.new) (⟦<Once<D> as Device>⟧.may_leave self.new) }
+        ensures cause { HasCause (⟦<Once<D> as Device>⟧.failed self.old) (⟦<Once<D> as Device>⟧.failed self.new) result }
+
+        ensures left { once_left self.new ≡ counted_down (once_left self.old) }
+        ensures fails { once_left self.old ≡ Some 0 → IsErr result }
+        ensures lets_pass { once_left self.old ≢ Some 0 → HasCause (D.failed (once_device self.old)) (D.failed (once_device self.new)) result }
+    {
+        if count_down(&mut self.left) {
+            return Err(refuse(&mut self.refused));
+        }
+        self.device.write(at, bytes)
+    }
+
+    fn sync(&mut self) -> Result<(), Fault>
+        ensures honest { ⟦<Once<D> as Device>⟧.honest self.old ↔ ⟦<Once<D> as Device>⟧.honest self.new }
+        ensures durable { ⟦<Once<D> as Device>⟧.honest self.old → OnOk result (LeavesOnly (⟦<Once<D> as Device>⟧.seen self.old) (⟦<Once<D> as Device>⟧.may_leave self.new)) }
+        ensures seen { ⟦<Once<D> as Device>⟧.honest self.old → ⟦<Once<D> as Device>⟧.seen self.new ≡ ⟦<Once<D> as Device>⟧.seen self.old }
+        ensures crash { ⟦<Once<D> as Device>⟧.honest self.old → LeavesNoMore (⟦<Once<D> as Device>⟧.may_leave self.old) (⟦<Once<D> as Device>⟧.may_leave self.new) }
+        ensures time { ⟦<Once<D> as Device>⟧.honest self.old → Elapses (⟦<Once<D> as Device>⟧.moment self.old) (⟦<Once<D> as Device>⟧.moment self.new) (⟦<Once<D> as Device>⟧.left_since self.old) (⟦<Once<D> as Device>⟧.left_since self.new) (⟦<Once<D> as Device>⟧.may_leave self.new) }
+        ensures cause { HasCause (⟦<Once<D> as Device>⟧.failed self.old) (⟦<Once<D> as Device>⟧.failed self.new) result }
+
+        ensures left { once_left self.new ≡ counted_down (once_left self.old) }
+        ensures fails { once_left self.old ≡ Some 0 → IsErr result }
+        ensures lets_pass { once_left self.old ≢ Some 0 → HasCause (D.failed (once_device self.old)) (D.failed (once_device self.new)) result }
+    {
+        if count_down(&mut self.left) {
+            return Err(refuse(&mut self.refused));
+        }
+        self.device.sync()
+    }
+
+    fn failures(&self) -> u64 {
+        self.device.failures().saturating_add(self.refused)
+    }
+}
