@@ -1,5 +1,5 @@
 -- The values that a history leaves.
-use Rattle.std.proofs.Common.{◌≡◌, ℕ, ◌≤◌, ◌<◌, ◌≢◌, Bool, true, false, cond, List, [], ◌∷◌, ◌++◌, Option, Some, None, IfSome, All, suc, ◌^◌, refl, arith}
+use Rattle.std.proofs.Common.{ℕ, ◌≤◌, ◌<◌, ◌≢◌, Bool, true, false, cond, List, [], ◌∷◌, ◌++◌, Option, Some, None, IfSome, All, suc, ◌^◌, refl, arith}
 use Rattle.std.specs.FinMap.{get, empty, insert, remove, get-empty, get-insert, get-remove}
 use Rattle.std.proofs.lemmas.List.Elements.{All-head, All-tail, All-nil, All-cons, All-push, All-contains}
 use Rattle.std.specs.Ordering.{nat_cmp, eq_by_cmp}

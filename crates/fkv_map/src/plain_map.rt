@@ -131,12 +131,16 @@ mod tests {
     #[test]
     fn operations_reply_the_new_value(rt: HostRuntime) -> Result<(), Fail> {
         let mut map = PlainMap::new(rt.alloc());
-        assert_eq!(rt; map.apply(Op::Add(Key(5), 7))?, Reply::Number(Value(7)));
-        assert_eq!(rt; map.apply(Op::Add(Key(5), 7))?, Reply::Number(Value(14)));
-        assert_eq!(rt; map.apply(Op::Delete(Key(5)))?, Reply::Nothing);
-        assert_eq!(rt; map.apply(Op::Read(Key(5)))?, Reply::Absent);
-        assert_eq!(rt; map.apply(Op::Add(Key(5), 1))?, Reply::Number(Value(1)));
-        assert_eq!(rt; map.apply(Op::Read(Key(5)))?, Reply::Found(Value(1)));
+        for (op, reply) in [
+            (Op::Add(Key(5), 7), Reply::Number(Value(7))),
+            (Op::Add(Key(5), 7), Reply::Number(Value(14))),
+            (Op::Delete(Key(5)), Reply::Nothing),
+            (Op::Read(Key(5)), Reply::Absent),
+            (Op::Add(Key(5), 1), Reply::Number(Value(1))),
+            (Op::Read(Key(5)), Reply::Found(Value(1))),
+        ] {
+            assert_eq!(rt; map.apply(op)?, reply);
+        }
         Ok(())
     }
 
@@ -144,14 +148,16 @@ mod tests {
     fn values_stop_below_the_absent_word(rt: HostRuntime) -> Result<(), Fail> {
         let mut map = PlainMap::new(rt.alloc());
         let greatest = Value(18446744073709551614);
-        assert_eq!(rt;
-            map.apply(Op::Upsert(Key(1), Value(18446744073709551615))),
-            Err(Fault::ValueReserved)
-        );
-        assert_eq!(rt; map.apply(Op::Upsert(Key(1), greatest))?, Reply::Nothing);
-        assert_eq!(rt; map.apply(Op::Add(Key(1), 1))?, Reply::Number(greatest));
-        assert_eq!(rt; map.apply(Op::Max(Key(1), 5))?, Reply::Number(greatest));
-        assert_eq!(rt; map.apply(Op::Max(Key(2), 0))?, Reply::Number(Value(0)));
+        let refused = Op::Upsert(Key(1), Value(18446744073709551615));
+        assert_eq!(rt; map.apply(refused), Err(Fault::ValueReserved));
+        for (op, reply) in [
+            (Op::Upsert(Key(1), greatest), Reply::Nothing),
+            (Op::Add(Key(1), 1), Reply::Number(greatest)),
+            (Op::Max(Key(1), 5), Reply::Number(greatest)),
+            (Op::Max(Key(2), 0), Reply::Number(Value(0))),
+        ] {
+            assert_eq!(rt; map.apply(op)?, reply);
+        }
         let pairs = map.pairs()?;
         assert_eq!(rt;
             pairs.as_slice(),

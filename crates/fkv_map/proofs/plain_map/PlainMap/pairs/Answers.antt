@@ -1,8 +1,7 @@
-use Rattle.std.proofs.Common.{◌≡◌, [], ◌∷◌, ◌++◌, sym, ◌∙◌, ap, append-nil, append_assoc}
+use Rattle.std.proofs.Common.{◌≡◌, [], sym, ◌∙◌, ap, append-nil, append_assoc}
 use Rattle.std.specs.FinMap.{entries}
 use Rattle.std.specs.Map.Iter.{deref_pair}
 use Rattle.std.proofs.lemmas.Map.Iter.{rest_more, rest_all}
-use Rattle.fkv_map.specs.Map.{as_numbers, IsAscending}
 use Rattle.fkv_map.proofs.Stored.{entries-map_of, IsAscending-entries}
 use Rattle.fkv_map.proofs.plain_map.PlainMap.pairs.Goals as goal
 
