@@ -1,1 +1,24 @@
+//! What lies on the device: each value has one spelling in bytes, and bytes are no other value's.
 #![tactic(auto)]
+
+mod laws;
+mod numbers;
+mod point_numbers;
+mod points;
+mod record_bytes;
+mod records;
+mod shape_bytes;
+mod slot_bytes;
+mod slots;
+mod triple_bytes;
+mod triples;
+
+pub use laws::law_spellings_apart;
+pub use points::Points;
+pub use record_bytes::{read_record, write_record};
+pub use records::Record;
+pub use shape_bytes::{read_shape, write_shape};
+pub use slot_bytes::{read_slot, write_slot};
+pub use slots::Slot;
+pub use triple_bytes::{read_triple, write_triple};
+pub use triples::Triple;

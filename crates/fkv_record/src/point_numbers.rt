@@ -1,0 +1,61 @@
+//! Points as numbers.
+ghost use Rattle.std.specs.Prelude.{◌≡◌, ◌∷◌, ◌≤◌, ◌<◌, ◌^◌, ◌↔◌, All, length, replicate, IsTrue, IfSome, IfNone};
+ghost use Rattle.fkv_words.specs.Fields.{Reads};
+ghost use Rattle.fkv_record.specs.Layout.{point_numbers};
+ghost use Rattle.fkv_record.specs.Points.{serial_numbers};
+
+use crate::points::Points;
+use arrayvec::ArrayVec;
+use fkv_base::Serial;
+
+/// The points that stand in the places, if there are so many, and zeros after them.
+pub(crate) fn points_of(sessions: u64, places: &[u64]) -> Option<Points>
+    requires { length places.now ≡ 57 }
+    ensures { Reads point_numbers (sessions ∷ places.now) result }
+{
+    if sessions == 0 || sessions > 8 {
+        return None;
+    }
+    let (used, unused) = places.split_at(sessions as usize);
+    if !are_zero(unused) {
+        return None;
+    }
+    let serials = serials_of(used)?;
+    Some(Points { serials })
+}
+
+/// Whether no place is used.
+fn are_zero(places: &[u64]) -> bool
+    ensures { IsTrue result ↔ (places.now ≡ replicate (length places.now) 0) }
+{
+    places.iter().all(|place| *place == 0)
+}
+
+/// The serials with the numbers, if all of them are serials.
+fn serials_of(numbers: &[u64]) -> Option<ArrayVec<Serial, 8>>
+    requires { length numbers.now ≤ 8 }
+    ensures fit { IfSome result (λ serials. All (λ serial. serial.0 < 2 ^ 48) serials.items) }
+    ensures same { IfSome result (λ serials. serial_numbers serials.items ≡ numbers.now) }
+    ensures none { IfNone result (¬ All (λ number. number < 2 ^ 48) numbers.now) }
+{
+    let mut serials = ArrayVec::new();
+    for number in numbers {
+        if *number > Serial::LAST {
+            return None;
+        }
+        serials.push(Serial(*number));
+    }
+    Some(serials)
+}
+
+/// Writes how many points there are, and the points, over places that are zero.
+#[tactic(auto, unfolding(crate::specs::Layout::point_numbers))]
+pub(crate) fn put_points(places: &mut [u64], points: &Points)
+    requires { places.old ≡ replicate 58 0 }
+    ensures { places.new ≡ point_numbers points.now }
+{
+    places[0] = points.serials.len() as u64;
+    for (i, serial) in points.serials.iter().enumerate() {
+        places[i + 1] = serial.0;
+    }
+}
