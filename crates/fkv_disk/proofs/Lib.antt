@@ -4,3 +4,4 @@ pub mod Carry
 pub mod Moments
 pub mod Recorded
 pub mod Spliced
+pub mod Tearing

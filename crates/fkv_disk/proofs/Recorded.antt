@@ -43,7 +43,7 @@ pub elapses_push : (opening : List ℕ) (before calls : List Call) (call : Call)
 elapses_push opening before calls call is = subst (λ (cs : List Call). Elapses (length before) (length cs) (LeftSince opening before) (LeftSince opening cs) (MayLeaveBytes opening cs)) (sym is) (elapses opening before call)
 
 -- each of these calls succeeded
-abbrev AllDone : List Call → Type 0
+abbrev pub AllDone : List Call → Type 0
 AllDone [] = Unit {0}
 AllDone (Write at bytes true ∷ before) = AllDone before
 AllDone (Write at bytes false ∷ before) = ⊥
@@ -58,7 +58,7 @@ all_done-push (Write at bytes false ∷ before) done all = absurd all
 all_done-push (Sync true ∷ before) done all = all_done-push before done all
 all_done-push (Sync false ∷ before) done all = absurd all
 
-all_done : (done : List DoneCall) → AllDone (calls_of done)
+pub all_done : (done : List DoneCall) → AllDone (calls_of done)
 all_done [] = tt
 all_done (call ∷ later) = all_done-push (calls_of later) call (all_done later)
 
@@ -74,7 +74,7 @@ sure_if_done (Write at bytes false ∷ before) i all = absurd all
 sure_if_done (Sync true ∷ before) i all = sure_if_done before i all
 sure_if_done (Sync false ∷ before) i all = absurd all
 
-end_if_done : (opening : List ℕ) (calls : List Call) → AllDone calls → far_end opening calls ≡ length (reads_as opening calls)
+pub end_if_done : (opening : List ℕ) (calls : List Call) → AllDone calls → far_end opening calls ≡ length (reads_as opening calls)
 end_if_done opening [] all = refl
 end_if_done opening (Write at bytes true ∷ before) all = ap (λ (n : ℕ). max n (range_end at (length bytes))) (end_if_done opening before all) ∙ sym (length-written (reads_as opening before) at bytes)
 end_if_done opening (Write at bytes false ∷ before) all = absurd all

@@ -1,7 +1,8 @@
 -- What a fuse shows, and what it makes of the images that its device may leave.
-use Rattle.std.specs.Prelude.{◌≡◌, ◌⊎◌, ℕ, zero, suc, ◌<◌, ◌≤◌, max, List, length, Bool, true, false, nat_lt, refl}
+use Rattle.std.specs.Prelude.{◌≡◌, ◌⊎◌, ℕ, zero, suc, ◌<◌, ◌≤◌, max, List, ◌∷◌, length, Bool, true, false, nat_lt, refl}
 use Rattle.std.proofs.Common.{inl, inr, ⊎_elim, arith}
-use Rattle.fkv_disk.specs.Bytes.{AreBytes, range_end}
+use Rattle.fkv_disk.specs.Bytes.{AreBytes, listed, range_end}
+use Rattle.fkv_disk.specs.Calls.{Call, Write}
 use Rattle.fkv_disk.specs.Device.{Torn}
 use Rattle.fkv_disk.specs.declared.fuses.FuseState.{FuseState}
 use Rattle.fkv_disk.specs.declared.fuses.FuseState.TheVariants.{Sound, Armed, Blown, BlownAt}
@@ -72,3 +73,10 @@ fuse_leaves_bytes Sound leaves image fits left = fits left
 fuse_leaves_bytes (Armed k) leaves image fits left = fits left
 fuse_leaves_bytes Blown leaves image fits left = fits left
 fuse_leaves_bytes (BlownAt at n) leaves image fits left = left.3
+
+-- the calls of the device and, as the newest, the write at which the fuse blew, with bytes that don't matter
+abbrev pub with_refused : FuseState → List Call → List Call
+with_refused Sound calls = calls
+with_refused (Armed left) calls = calls
+with_refused Blown calls = calls
+with_refused (BlownAt at n) calls = Write at (listed n (λ k. 0)) false ∷ calls

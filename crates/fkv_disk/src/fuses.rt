@@ -24,8 +24,8 @@ pub enum FuseState {
 /// blew counts as failed: a crash may leave anything in its range.
 #[derive(Drop)]
 pub struct Fuse<D: Device> {
-    device: D,
-    state: FuseState,
+    pub(crate) device: D,
+    pub(crate) state: FuseState,
     refused: u64,
 }
 

@@ -1,11 +1,13 @@
 //! The device that a store lies on, and what a crash may leave of it.
 #![tactic(auto)]
 
+mod crashes;
 mod devices;
 mod fuses;
 mod memory;
 mod single;
 
+pub use crashes::law_torn;
 pub use devices::Device;
 pub use fuses::{Fuse, FuseState};
 pub use memory::MemDisk;

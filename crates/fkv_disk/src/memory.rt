@@ -11,7 +11,7 @@ use std::alloc::{AllocError, Global};
 
 /// A call that succeeded.
 #[derive(Drop)]
-enum DoneCall {
+pub(crate) enum DoneCall {
     Wrote(u64, Vec<u8>),
     Synced,
 }
@@ -20,10 +20,10 @@ enum DoneCall {
 /// succeeded. A growth that memory refuses is a failure of the device, which changes nothing.
 #[derive(Drop)]
 pub struct MemDisk {
-    alloc: Global,
+    pub(crate) alloc: Global,
     opening: Vec<u8>,
-    bytes: Vec<u8>,
-    done: Vec<DoneCall>,
+    pub(crate) bytes: Vec<u8>,
+    pub(crate) done: Vec<DoneCall>,
     failures: u64,
     ghost is_replayed: { bytes.items ≡ reads_as opening.items (calls_of done.items) },
 }
@@ -110,7 +110,7 @@ fn overwrite(bytes: &mut [u8], at: usize, new: &[u8])
     bytes[at..at + new.len()].copy_from_slice(new);
 }
 
-fn grow(bytes: &mut Vec<u8>, end: usize) -> Result<(), AllocError>
+pub(crate) fn grow(bytes: &mut Vec<u8>, end: usize) -> Result<(), AllocError>
     ensures ok { OnOk result (bytes.new.items ≡ bytes.old.items ++ replicate (end - length bytes.old.items) 0) }
     ensures err { OnErr result (bytes.new.items ≡ bytes.old.items) }
 {
