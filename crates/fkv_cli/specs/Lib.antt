@@ -1,0 +1,5 @@
+pub mod Life
+pub mod Output
+pub mod Reading
+pub mod RunFault
+pub mod Script

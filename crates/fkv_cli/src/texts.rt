@@ -1,0 +1,114 @@
+//! The text of answers.
+ghost use Rattle.std.specs.Prelude.{OnOk, Some};
+ghost use Rattle.std.specs.List.{flat_map};
+ghost use Rattle.std.specs.Io.KnownBytes.{Appends};
+ghost use Rattle.fkv_map.specs.Map.{as_numbers};
+ghost use Rattle.fkv_cli.specs.Output.{ended, refusal_text, session_text, commit_text, finish_text, report_text, report_line, pair_line};
+
+use crate::answers::{Answer, CommitPoint};
+use fkv_base::{Fault, Key, Value, Version};
+use fkv_map::Reply;
+use std::fmt;
+use std::io::{self, Write};
+
+impl fmt::Display for Answer {
+    ghost use Rattle.fkv_cli.specs.Output.{answer_text};
+
+    ghost output = { λ answer. Some (answer_text answer) };
+
+    fn fmt<W: fmt::Write>(&self, f: &mut fmt::Formatter<W>) -> fmt::Result {
+        match *self {
+            Answer::Refused(fault) => write!(f, "refused {} {}", fault.number(), fault.name()),
+            Answer::Updated(serial, Reply::Nothing) => write!(f, "#{} done", serial.0),
+            Answer::Updated(serial, Reply::Number(value)) => {
+                write!(f, "#{} = {}", serial.0, value.0)
+            }
+            Answer::Told(key, Reply::Found(value)) => write!(f, "get {} = {}", key.0, value.0),
+            Answer::Told(key, Reply::Absent) => write!(f, "get {} absent", key.0),
+            Answer::Updated(_, _) | Answer::Told(_, _) => Ok(()),
+        }
+    }
+}
+
+/// A session's line.
+pub(crate) fn write_answer<W: Write>(output: &mut W, session: u64, answer: Answer) -> io::Result<()>
+    ensures { OnOk result (Appends (W.contents output.old) (W.contents output.new) (session_text session answer)) }
+{
+    writeln!(output, "{session} {answer}")
+}
+
+/// The refusal of a whole script.
+pub(crate) fn write_refusal<W: Write>(output: &mut W, fault: Fault) -> io::Result<()>
+    ensures { OnOk result (Appends (W.contents output.old) (W.contents output.new) (ended (refusal_text fault))) }
+{
+    let refusal = Answer::Refused(fault);
+    writeln!(output, "{refusal}")
+}
+
+/// The answer to `k commit`.
+pub(crate) fn write_commit<W: Write>(
+    output: &mut W,
+    answer: Result<Version, Fault>,
+) -> io::Result<()>
+    ensures { OnOk result (Appends (W.contents output.old) (W.contents output.new) (commit_text answer)) }
+{
+    match answer {
+        Ok(version) => {
+            let number = version.0;
+            writeln!(output, "k commit {number}")
+        }
+        Err(fault) => {
+            let refusal = Answer::Refused(fault);
+            writeln!(output, "k {refusal}")
+        }
+    }
+}
+
+/// The answer to `k finish`, where a commit finished and where none ran.
+pub(crate) fn write_finish<W: Write>(output: &mut W, commit: Option<CommitPoint>) -> io::Result<()>
+    ensures { OnOk result (Appends (W.contents output.old) (W.contents output.new) (finish_text commit)) }
+{
+    match commit {
+        Some(commit) => {
+            let (number, point) = (commit.number, commit.point.0);
+            writeln!(output, "k finished {number} points {point}")
+        }
+        None => writeln!(output, "k finish nothing"),
+    }
+}
+
+/// The report of a crash: the commit that it left, and its pairs.
+pub(crate) fn write_report<W: Write>(
+    output: &mut W,
+    commit: CommitPoint,
+    pairs: &[(Key, Value)],
+) -> io::Result<()>
+    ensures { OnOk result (Appends (W.contents output.old) (W.contents output.new)
+        (report_text commit (as_numbers pairs.now))) }
+{
+    write_report_line(output, commit, pairs.len())?;
+    write_pairs(output, pairs)
+}
+
+fn write_report_line<W: Write>(output: &mut W, commit: CommitPoint, count: usize) -> io::Result<()>
+    ensures { OnOk result (Appends (W.contents output.old) (W.contents output.new) (report_line commit count)) }
+{
+    let (number, point) = (commit.number, commit.point.0);
+    writeln!(output, "crash commit {number} points {point} pairs {count}")
+}
+
+fn write_pairs<W: Write>(output: &mut W, pairs: &[(Key, Value)]) -> io::Result<()>
+    ensures { OnOk result (Appends (W.contents output.old) (W.contents output.new) (flat_map pair_line pairs.now)) }
+{
+    for pair in pairs {
+        write_pair(output, *pair)?;
+    }
+    Ok(())
+}
+
+fn write_pair<W: Write>(output: &mut W, pair: (Key, Value)) -> io::Result<()>
+    ensures { OnOk result (Appends (W.contents output.old) (W.contents output.new) (pair_line pair)) }
+{
+    let (key, value) = (pair.0.0, pair.1.0);
+    writeln!(output, "pair {key} {value}")
+}
