@@ -3,6 +3,7 @@ pub mod Calls
 pub mod Countdown
 pub mod Device
 pub mod Done
+pub mod File
 pub mod Fuse
 pub mod Fuses
 pub mod Memory

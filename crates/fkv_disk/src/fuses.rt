@@ -5,6 +5,7 @@ ghost use Rattle.fkv_disk.specs.Device.{Rose, Writes, LeavesNoMore, LeavesTorn, 
 ghost use Rattle.fkv_disk.specs.Fuse.{passes, burned, burned_at, armed, FuseLeaves, FuseLeftSince, fuse_counts_now, fuse_only_now, fuse_leaves_bytes};
 
 use crate::Device;
+use crate::refusals::refuse;
 use fkv_base::Fault;
 
 /// How far a fuse is from blowing.
@@ -109,15 +110,6 @@ fn burn_at(state: &mut FuseState, at: u64, n: u64) -> bool
         return false;
     }
     burn(state)
-}
-
-// Counts a refusal, and names it.
-pub(crate) fn refuse(refused: &mut u64) -> Fault
-    ensures named { result ≡ Fault.Device }
-    ensures counted { refused.new ≡ min (refused.old + 1) (2 ^ 64 - 1) }
-{
-    *refused = refused.saturating_add(1);
-    Fault::Device
 }
 
 impl<D: Device> Device for Fuse<D> {

@@ -2,10 +2,11 @@
 ghost use Rattle.std.specs.Prelude.{◌≡◌, ◌↔◌, ◌+◌, ◌-◌, ◌<◌, ◌≤◌, ◌^◌, [], ◌∷◌, ◌++◌, length, take, drop, replicate, true, ⊤, is_ok, IsOk, IfOk, IfErr, OnOk, OnErr, if◌then◌else◌};
 ghost use Rattle.fkv_disk.specs.Bytes.{bytes_at, written, AreBytes};
 ghost use Rattle.fkv_disk.specs.Calls.{Write, Sync, reads_as};
-ghost use Rattle.fkv_disk.specs.Device.{Rose, Writes, LeavesNoMore, LeavesTorn, LeavesOnly, Elapses, HasCause};
+ghost use Rattle.fkv_disk.specs.Device.{Writes, LeavesNoMore, LeavesTorn, LeavesOnly, Elapses, HasCause};
 ghost use Rattle.fkv_disk.specs.Done.{calls_of, MayLeaveBytes, LeftSince, counts_now, only_now};
 
 use crate::Device;
+use crate::refusals::refuse;
 use fkv_base::Fault;
 use std::alloc::{AllocError, Global};
 
@@ -79,16 +80,6 @@ impl MemDisk {
         self.bytes
     }
 
-}
-
-// Counts a failure, and names it.
-fn count(failures: &mut u64) -> Fault
-    ensures named { result ≡ Fault.Device }
-    ensures rose { Rose failures.old failures.new }
-    ensures later { failures.old ≤ failures.new }
-{
-    *failures = failures.saturating_add(1);
-    Fault::Device
 }
 
 // Fills with the bytes from an offset on, and past the end with 0.
@@ -217,7 +208,7 @@ impl Device for MemDisk {
     {
         match put_and_record(self.alloc, &mut self.bytes, &mut self.done, at, bytes) {
             Ok(()) => Ok(()),
-            Err(_) => Err(count(&mut self.failures)),
+            Err(_) => Err(refuse(&mut self.failures)),
         }
     }
 
@@ -234,7 +225,7 @@ impl Device for MemDisk {
     {
         match record_sync(&mut self.done) {
             Ok(()) => Ok(()),
-            Err(_) => Err(count(&mut self.failures)),
+            Err(_) => Err(refuse(&mut self.failures)),
         }
     }
 

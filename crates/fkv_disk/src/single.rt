@@ -5,7 +5,7 @@ ghost use Rattle.fkv_disk.specs.Countdown.{counted_down};
 ghost use Rattle.fkv_disk.specs.Device.{Writes, LeavesNoMore, LeavesTorn, LeavesOnly, Elapses, HasCause};
 
 use crate::Device;
-use crate::fuses::refuse;
+use crate::refusals::refuse;
 use fkv_base::Fault;
 
 /// Passes calls on to a device, but for one, which it refuses and doesn't pass on.
