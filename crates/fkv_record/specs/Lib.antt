@@ -1,3 +1,4 @@
 pub mod Layout
 pub mod Numbers
+pub mod Places
 pub mod Points

@@ -1,6 +1,8 @@
 //! What lies on the device: each value has one spelling in bytes, and bytes are no other value's.
 #![tactic(auto)]
 
+mod gates;
+mod image_places;
 mod laws;
 mod numbers;
 mod point_numbers;
@@ -13,6 +15,8 @@ mod slots;
 mod triple_bytes;
 mod triples;
 
+pub use gates::{OPEN, open_number};
+pub use image_places::{SHAPE_PLACE, SLOT_PLACES, area_place, most_triples, record_place};
 pub use laws::law_spellings_apart;
 pub use points::Points;
 pub use record_bytes::{read_record, write_record};
@@ -22,3 +26,6 @@ pub use slot_bytes::{read_slot, write_slot};
 pub use slots::Slot;
 pub use triple_bytes::{read_triple, write_triple};
 pub use triples::Triple;
+
+#[cfg(test)]
+mod tests;

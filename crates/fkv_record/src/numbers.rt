@@ -2,11 +2,13 @@
 ghost use Rattle.std.specs.Prelude.{◌≡◌, ℕ, ◌+◌, ◌*◌, ◌^◌, ◌<◌, ◌≤◌, ◌++◌, length, slice_index, take, drop};
 ghost use Rattle.std.specs.Int.{w64, to_le_bytes};
 ghost use Rattle.fkv_record.specs.Numbers.{spelled};
+ghost use Rattle.fkv_record.specs.Places.{number_at};
 
-/// The number that stands at a place.
-fn number_at(bytes: &[u8], at: usize) -> u64
+/// The number whose eight bytes begin at a place.
+pub(crate) fn number_at(bytes: &[u8], at: usize) -> u64
     requires { (at + 8) ≤ length bytes.now }
-    ensures { to_le_bytes w64 result ≡ take 8 (drop at bytes.now) }
+    ensures value { result ≡ number_at bytes.now at }
+    ensures bytes { to_le_bytes w64 result ≡ take 8 (drop at bytes.now) }
 {
     u64::from_le_bytes([
         bytes[at],

@@ -5,7 +5,7 @@ use arrayvec::ArrayVec;
 use fkv_base::Serial;
 
 /// How far each session's updates are kept by a commit: one serial for each session, 1 to 8 of them.
-#[derive(Debug, Drop)]
+#[derive(Debug, PartialEq, Eq, Drop)]
 pub struct Points {
     /// The last serial that is kept, below 2^48; 0 where the session has taken none.
     pub serials: ArrayVec<Serial, 8>,

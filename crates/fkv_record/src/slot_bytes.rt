@@ -3,13 +3,14 @@ ghost use Rattle.std.specs.Prelude.{◌≡◌, ◌∷◌, length};
 ghost use Rattle.fkv_words.specs.Fields.{Reads};
 ghost use Rattle.fkv_record.specs.Layout.{slot_bytes, first_layout, point_numbers};
 
+use crate::gates;
 use crate::numbers::{numbers, spell};
 use crate::point_numbers::{points_of, put_points};
 use crate::slots::Slot;
 use fkv_base::Addr;
 
-/// The gate byte of an open slot.
-const OPEN: u64 = 0xa5;
+/// The gate byte of an open slot and the seven zero bytes after it, as one number.
+const OPEN: u64 = gates::OPEN as u64;
 
 /// The slot that the bytes spell, if they spell one. They spell none where the gate is not open, bytes 1 to 7 or those
 /// after the points are not zero, there are no points or more than eight, or one of them is 2^48 or more.

@@ -5,7 +5,7 @@ use crate::points::Points;
 use fkv_base::Addr;
 
 /// What an open slot says of its commit. Which of these numbers a commit may have is the shape's and recovery's to say.
-#[derive(Debug, Drop)]
+#[derive(Debug, PartialEq, Eq, Drop)]
 pub struct Slot {
     /// The number of the commit.
     pub number: u64,

@@ -10,5 +10,5 @@ pub loop-i-preserved : goal.loop-i-preserved
 loop-i-preserved g c = record {
   all = search rules;
   words = words_set c.loop-i.numbers c.loop-i.i c.number_at.result c.loop-i.invariant.words (omega arith);
-  so_far = one_more c.args.bytes.now c.loop-i.numbers c.loop-i.i c.number_at.result (omega arith) c.number_at.ensures c.loop-i.invariant.so_far;
+  so_far = one_more c.args.bytes.now c.loop-i.numbers c.loop-i.i c.number_at.result (omega arith) c.number_at.ensures.bytes c.loop-i.invariant.so_far;
 }
