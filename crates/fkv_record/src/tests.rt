@@ -3,39 +3,52 @@ use arrayvec::ArrayVec;
 use byteorder::{ByteOrder, LittleEndian};
 use fkv_base::{Addr, Key, Serial, Shape, Version};
 use fkv_words::Header;
+use std::process::Abort;
 use std::test::Fail;
+
+/// Numbers at places of some bytes.
+type Numbers<'a> = &'a [(usize, u64)];
+
+/// Asserts that the numbers stand at their places.
+fn assert_numbers(rt: &impl Abort, bytes: &[u8], numbers: Numbers<'_>) {
+    for (at, number) in numbers {
+        assert!(rt; *at < 504 && *at + 8 <= bytes.len());
+        assert_eq!(rt; LittleEndian::read_u64(&bytes[*at..]), *number);
+    }
+}
 
 const RECORD: [u8; 24] = [
     0, 0, 0, 0, 0, 0, 1, 0, 1, 0, 0, 0, 0, 0, 0, 0, 10, 0, 0, 0, 0, 0, 0, 0,
 ];
 
-const TRIPLE: [u8; 16] = [1, 0, 0, 0, 0, 0, 0, 0, 1, 0, 0, 0, 0, 0, 0, 0];
-
-fn sample_shape() -> Result<Shape, Fail> {
-    Ok(Shape::new(4, 16, 4, 2, 1, 0, 64)?)
+/// The first record of a log.
+fn sample_record(invalid: bool) -> Record {
+    Record {
+        header: Header {
+            previous: Addr(0),
+            version: Version(1),
+            invalid,
+        },
+        key: Key(1),
+        value: 10,
+    }
 }
 
 #[test]
 fn a_record_has_its_bytes(rt: HostRuntime) {
-    let record = Record {
-        header: Header {
-            previous: Addr(0),
-            version: Version(1),
-            invalid: false,
-        },
-        key: Key(1),
-        value: 10,
-    };
-    assert_eq!(rt; write_record(record), RECORD);
-    assert_eq!(rt; read_record(&RECORD), Some(record));
-    assert_eq!(rt; LittleEndian::read_u64(&RECORD), 281474976710656);
-    let mut bytes = RECORD;
-    LittleEndian::write_u64(&mut bytes, 4611967493404098560);
-    assert_eq!(rt; bytes[7], 0x40);
-    assert!(rt; read_record(&bytes).is_some_and(|record| record.header.invalid));
-    LittleEndian::write_u64(&mut bytes, 0);
-    assert_eq!(rt; read_record(&bytes), None, "version 0");
+    assert_eq!(rt; write_record(sample_record(false)), RECORD);
+    assert_eq!(rt; read_record(&RECORD), Some(sample_record(false)));
+    assert_numbers(&rt, &RECORD, &[(0, 281474976710656), (8, 1), (16, 10)]);
 }
+
+#[test]
+fn an_invalid_record_has_its_bit(rt: HostRuntime) {
+    let bytes = write_record(sample_record(true));
+    assert_numbers(&rt, &bytes, &[(0, 4611967493404098560)]);
+    assert_eq!(rt; read_record(&bytes), Some(sample_record(true)));
+}
+
+const TRIPLE: [u8; 16] = [1, 0, 0, 0, 0, 0, 0, 0, 1, 0, 0, 0, 0, 0, 0, 0];
 
 #[test]
 fn a_triple_has_its_bytes(rt: HostRuntime) {
@@ -46,14 +59,20 @@ fn a_triple_has_its_bytes(rt: HostRuntime) {
     };
     assert_eq!(rt; write_triple(triple), TRIPLE);
     assert_eq!(rt; read_triple(&TRIPLE), Some(triple));
-    let mut bytes = TRIPLE;
-    LittleEndian::write_u16(&mut bytes[6..], 1);
-    assert_eq!(rt; read_triple(&bytes), None, "bytes 6 and 7");
-    LittleEndian::write_u64(&mut bytes, 0x8000_0000_0001);
-    assert_eq!(rt; read_triple(&bytes), None, "tag 2^15");
-    bytes = TRIPLE;
-    LittleEndian::write_u64(&mut bytes[8..], 0);
-    assert_eq!(rt; read_triple(&bytes), None, "address 0");
+}
+
+#[test]
+fn what_is_no_triple_is_refused(rt: HostRuntime) {
+    // Bytes 6 and 7, tag 2^15, address 0.
+    for (at, number) in [(0, 0x1_0000_0000_0001), (0, 0x8000_0000_0001), (8, 0)] {
+        let mut bytes = TRIPLE;
+        LittleEndian::write_u64(&mut bytes[at..], number);
+        assert_eq!(rt; read_triple(&bytes), None);
+    }
+}
+
+fn sample_shape() -> Result<Shape, Fail> {
+    Ok(Shape::new(4, 16, 4, 2, 1, 0, 64)?)
 }
 
 #[test]
@@ -64,20 +83,29 @@ fn a_shape_has_its_bytes(rt: HostRuntime) -> Result<(), Fail> {
         &bytes[..8],
         [0x46, 0x4b, 0x56, 0x53, 0x54, 0x4f, 0x52, 0x31].as_slice()
     );
-    assert_eq!(rt; LittleEndian::read_u64(&bytes[8..]), 4);
-    assert_eq!(rt; LittleEndian::read_u64(&bytes[16..]), 16);
-    assert_eq!(rt; LittleEndian::read_u64(&bytes[24..]), 4);
-    assert_eq!(rt; LittleEndian::read_u64(&bytes[32..]), 2);
-    assert_eq!(rt; LittleEndian::read_u64(&bytes[40..]), 1);
-    assert_eq!(rt; LittleEndian::read_u64(&bytes[48..]), 0);
-    assert_eq!(rt; LittleEndian::read_u64(&bytes[56..]), 64);
+    let sizes = [
+        (8, 4),
+        (16, 16),
+        (24, 4),
+        (32, 2),
+        (40, 1),
+        (48, 0),
+        (56, 64),
+    ];
+    assert_numbers(&rt, &bytes, &sizes);
     assert_eq!(rt; read_shape(&bytes), Some(shape));
-    let mut other = bytes;
-    other[7] = b'2';
-    assert_eq!(rt; read_shape(&other), None, "another text");
-    other = bytes;
-    LittleEndian::write_u64(&mut other[16..], 6);
-    assert_eq!(rt; read_shape(&other), None, "a page of six");
+    Ok(())
+}
+
+#[test]
+fn what_is_no_shape_is_refused(rt: HostRuntime) -> Result<(), Fail> {
+    let bytes = write_shape(sample_shape()?);
+    // Another text, a page of six records.
+    for (at, number) in [(0, 1), (16, 6)] {
+        let mut other = bytes;
+        LittleEndian::write_u64(&mut other[at..], number);
+        assert_eq!(rt; read_shape(&other), None);
+    }
     Ok(())
 }
 
@@ -99,40 +127,47 @@ fn sample_slot() -> Slot {
 fn a_slot_has_its_bytes(rt: HostRuntime) {
     let slot = sample_slot();
     let bytes = write_slot(&slot);
-    assert_eq!(rt; LittleEndian::read_u64(&bytes), 0xa5);
-    assert_eq!(rt; LittleEndian::read_u64(&bytes[8..]), 1);
-    assert_eq!(rt; LittleEndian::read_u64(&bytes[16..]), 2);
-    assert_eq!(rt; LittleEndian::read_u64(&bytes[24..]), 2);
-    assert_eq!(rt; LittleEndian::read_u64(&bytes[32..]), 1);
-    assert_eq!(rt; LittleEndian::read_u64(&bytes[40..]), 1);
-    assert_eq!(rt; LittleEndian::read_u64(&bytes[48..]), 1);
-    assert_eq!(rt; LittleEndian::read_u64(&bytes[56..]), 1);
-    assert!(rt; bytes[64..].iter().all(|byte| *byte == 0));
-    assert_eq!(rt; open_number(&bytes), Some(1));
+    let numbers = [
+        (0, 0xa5),
+        (8, 1),
+        (16, 2),
+        (24, 2),
+        (32, 1),
+        (40, 1),
+        (48, 1),
+        (56, 1),
+        (64, 0),
+    ];
+    assert_numbers(&rt, &bytes, &numbers);
     assert_eq!(rt; read_slot(&bytes), Some(slot));
 }
 
 #[test]
 fn what_is_no_slot_is_refused(rt: HostRuntime) {
     let bytes = write_slot(&sample_slot());
-    let mut closed = bytes;
-    closed[0] = 0;
-    assert_eq!(rt; open_number(&closed), None);
-    assert_eq!(rt; read_slot(&closed), None);
-    let mut other = bytes;
-    other[1] = 1;
-    assert_eq!(rt; open_number(&other), Some(1), "the rest may be anything");
-    assert_eq!(rt; read_slot(&other), None, "byte 1");
-    other = bytes;
-    other[511] = 1;
-    assert_eq!(rt; read_slot(&other), None, "the last byte");
-    other = bytes;
-    LittleEndian::write_u64(&mut other[56..], 281474976710656);
-    assert_eq!(rt; read_slot(&other), None, "a point of 2^48");
-    other = bytes;
-    LittleEndian::write_u64(&mut other[48..], 9);
-    assert_eq!(rt; read_slot(&other), None, "nine sessions");
-    law_spellings_apart();
+    // A closed gate, byte 1, no session, nine sessions, a point of 2^48, a number after the points, the last byte.
+    let changes = [
+        (0, 0),
+        (0, 0x1a5),
+        (48, 0),
+        (48, 9),
+        (56, 281474976710656),
+        (64, 1),
+        (504, 1 << 63),
+    ];
+    for (at, number) in changes {
+        let mut other = bytes;
+        LittleEndian::write_u64(&mut other[at..], number);
+        assert_eq!(rt; read_slot(&other), None);
+    }
+}
+
+#[test]
+fn an_open_slot_has_a_number(rt: HostRuntime) {
+    let mut bytes = [0xff; 512];
+    assert_eq!(rt; open_number(&bytes), None);
+    bytes[0] = OPEN;
+    assert_eq!(rt; open_number(&bytes), Some(18446744073709551615));
 }
 
 #[test]
@@ -143,5 +178,6 @@ fn an_image_has_its_places(rt: HostRuntime) -> Result<(), Fail> {
     assert_eq!(rt; area_place(shape, 1), 3328);
     assert_eq!(rt; record_place(shape, Addr(0)), 5120);
     assert_eq!(rt; record_place(shape, Addr(1)), 5144);
+    law_spellings_apart();
     Ok(())
 }
