@@ -1,4 +1,5 @@
 pub mod BytesLemmas
+pub mod Images
 pub mod Left
 pub mod Carry
 pub mod Moments

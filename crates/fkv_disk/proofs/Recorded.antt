@@ -3,13 +3,13 @@ use Rattle.std.proofs.Common.{◌≡◌, ◌⊎◌, inl, inr, ℕ, zero, suc, �
 use Rattle.std.specs.Prelude.{if◌then◌else◌}
 use Rattle.std.proofs.lemmas.List.{ext_get_or}
 use Rattle.fkv_disk.specs.Bytes.{AreBytes, covers, range_end}
-use Rattle.fkv_disk.specs.Calls.{Call, Write, Sync, reads_as, is_sure, far_end, ReadsAs, MayLeave}
+use Rattle.fkv_disk.specs.Calls.{Call, Write, Sync, reads_as, AllDone, ReadsAs, MayLeave}
 use Rattle.fkv_disk.specs.Device.{Torn, Elapses}
 use Rattle.fkv_disk.specs.Done.{call_of, calls_of, MayLeaveBytes, LeftSince}
 use Rattle.fkv_disk.specs.declared.memory.DoneCall.{DoneCall}
 use Rattle.fkv_disk.specs.declared.memory.DoneCall.TheVariants.{Wrote, Synced}
-use Rattle.fkv_disk.proofs.BytesLemmas.{length-written}
 use Rattle.fkv_disk.proofs.Left.{torn_over, torn_over_was, torn_over_torn, torn_over_bytes, reads_within, reads_may_stay}
+use Rattle.fkv_disk.proofs.Images.{synced_image}
 
 pub calls_of-push : (done : List DoneCall) (call : DoneCall) → calls_of (done ++ call ∷ []) ≡ call_of call ∷ calls_of done
 calls_of-push [] call = refl
@@ -42,14 +42,6 @@ elapses opening before call = record {
 pub elapses_push : (opening : List ℕ) (before calls : List Call) (call : Call) → calls ≡ call ∷ before → Elapses (length before) (length calls) (LeftSince opening before) (LeftSince opening calls) (MayLeaveBytes opening calls)
 elapses_push opening before calls call is = subst (λ (cs : List Call). Elapses (length before) (length cs) (LeftSince opening before) (LeftSince opening cs) (MayLeaveBytes opening cs)) (sym is) (elapses opening before call)
 
--- each of these calls succeeded
-abbrev pub AllDone : List Call → Type 0
-AllDone [] = Unit {0}
-AllDone (Write at bytes true ∷ before) = AllDone before
-AllDone (Write at bytes false ∷ before) = ⊥
-AllDone (Sync true ∷ before) = AllDone before
-AllDone (Sync false ∷ before) = ⊥
-
 all_done-push : (calls : List Call) (done : DoneCall) → AllDone calls → AllDone (calls ++ call_of done ∷ [])
 all_done-push [] (Wrote at bytes) all = tt
 all_done-push [] Synced all = tt
@@ -62,31 +54,9 @@ pub all_done : (done : List DoneCall) → AllDone (calls_of done)
 all_done [] = tt
 all_done (call ∷ later) = all_done-push (calls_of later) call (all_done later)
 
--- then each byte is sure, and the end is known
-sure_if_done : (calls : List Call) (i : ℕ) → AllDone calls → is_sure calls i ≡ true
-sure_if_done [] i all = refl
-sure_if_done (Write at bytes true ∷ before) i all = either_way (covers at (length bytes) i) (sure_if_done before i all)
-  where
-    either_way : (b : Bool) → is_sure before i ≡ true → (if b then true else is_sure before i) ≡ true
-    either_way true sure = refl
-    either_way false sure = sure
-sure_if_done (Write at bytes false ∷ before) i all = absurd all
-sure_if_done (Sync true ∷ before) i all = sure_if_done before i all
-sure_if_done (Sync false ∷ before) i all = absurd all
-
-pub end_if_done : (opening : List ℕ) (calls : List Call) → AllDone calls → far_end opening calls ≡ length (reads_as opening calls)
-end_if_done opening [] all = refl
-end_if_done opening (Write at bytes true ∷ before) all = ap (λ (n : ℕ). max n (range_end at (length bytes))) (end_if_done opening before all) ∙ sym (length-written (reads_as opening before) at bytes)
-end_if_done opening (Write at bytes false ∷ before) all = absurd all
-end_if_done opening (Sync true ∷ before) all = end_if_done opening before all
-end_if_done opening (Sync false ∷ before) all = absurd all
-
 -- after a sync a crash leaves what is read
 pub synced_only : (opening : List ℕ) (done : List DoneCall) (calls : List Call) (image : List ℕ) → calls ≡ Sync true ∷ calls_of done → MayLeave opening calls image → image ≡ reads_as opening (calls_of done)
-synced_only opening done calls image is left =
-    let now : MayLeave opening (Sync true ∷ calls_of done) image = subst (λ (cs : List Call). MayLeave opening cs image) is left in
-    let end = end_if_done opening (calls_of done) (all_done done) in
-    ext_get_or 0 image (reads_as opening (calls_of done)) (omega (arith, now.no_shorter, now.no_longer, end)) (λ i below. now.kept i (omega (arith, below, now.no_longer, end)) refl (sure_if_done (calls_of done) i (all_done done)))
+synced_only opening done calls image is left = synced_image opening (calls_of done) image (all_done done) (subst (λ (cs : List Call). MayLeave opening cs image) is left)
 
 pub synced_no_more : (opening : List ℕ) (done : List DoneCall) (calls : List Call) (image : List ℕ) → calls ≡ Sync true ∷ calls_of done → MayLeaveBytes opening calls image → MayLeaveBytes opening (calls_of done) image
 synced_no_more opening done calls image is left = record {

@@ -3,7 +3,7 @@ use Rattle.std.proofs.Common.{◌≡◌, ◌⊎◌, inl, inr, ℕ, ◌+◌, ◌-
 use Rattle.std.specs.Prelude.{if◌then◌else◌}
 use Rattle.std.proofs.lemmas.List.{take_more}
 use Rattle.fkv_disk.specs.Bytes.{byte_at, listed, covers, range_end, written, AreBytes}
-use Rattle.fkv_disk.specs.Calls.{Call, Write, Sync, reads_as, is_untouched, far_end, torn_image, MayLeave}
+use Rattle.fkv_disk.specs.Calls.{Call, Write, Sync, reads_as, is_untouched, far_end, AllDone, torn_image, MayLeave}
 use Rattle.fkv_disk.specs.Device.{Torn}
 use Rattle.fkv_disk.specs.Done.{call_of, calls_of, MayLeaveBytes}
 use Rattle.fkv_disk.specs.Fuse.{FuseLeaves, with_refused}
@@ -13,7 +13,8 @@ use Rattle.fkv_disk.specs.declared.memory.DoneCall.{DoneCall}
 use Rattle.fkv_disk.specs.declared.memory.DoneCall.TheVariants.{Wrote, Synced}
 use Rattle.fkv_disk.proofs.BytesLemmas.{length-listed, is_listed, byte_at_past, covered, range_end_is, length-written}
 use Rattle.fkv_disk.proofs.Left.{torn_allowed, torn_bytes, torn_over, torn_over_was, torn_over_torn, torn_over_bytes}
-use Rattle.fkv_disk.proofs.Recorded.{calls_of-push, AllDone, all_done, end_if_done}
+use Rattle.fkv_disk.proofs.Images.{end_if_done}
+use Rattle.fkv_disk.proofs.Recorded.{calls_of-push, all_done}
 
 -- the newest of the first calls
 pub calls_of-take : (done : List DoneCall) (left : ℕ) (call : DoneCall) → 0 < left → left ≤ length done → call ≡ get_or done (left - 1) call → calls_of (take left done) ≡ call_of call ∷ calls_of (take (left - 1) done)

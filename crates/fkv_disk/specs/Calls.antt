@@ -53,6 +53,14 @@ pub record MayLeave (opening : List ℕ) (calls : List Call) (image : List ℕ) 
   pub no_longer : length image ≤ far_end opening calls
   pub kept : (i : ℕ) → i < synced_end opening calls → is_untouched calls i ≡ true → is_sure calls i ≡ true → byte_at image i ≡ byte_at (reads_as opening calls) i
 
+-- each of these calls succeeded
+abbrev pub AllDone : List Call → Type 0
+AllDone [] = Unit {0}
+AllDone (Write at bytes true ∷ before) = AllDone before
+AllDone (Write at bytes false ∷ before) = ⊥
+AllDone (Sync true ∷ before) = AllDone before
+AllDone (Sync false ∷ before) = ⊥
+
 -- The image that tears the most: each byte written since the last sync has this value, also in the range of a failed write.
 abbrev pub torn_image : List ℕ → List Call → ℕ → List ℕ
 torn_image opening calls torn = listed (far_end opening calls) (λ i. if is_untouched calls i then byte_at (reads_as opening calls) i else torn)

@@ -62,7 +62,8 @@ impl<D: Device> Fuse<D> {
     pub fn state(&self) -> FuseState
         ensures { result ≡ fuse_state self.now }
     {
-        self.state
+        let Fuse { state, .. } = self;
+        *state
     }
 
     /// The device that it passes calls on to.

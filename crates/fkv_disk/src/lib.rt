@@ -15,3 +15,6 @@ pub use files::{FileDisk, make_file, open_file};
 pub use fuses::{Fuse, FuseState};
 pub use memory::MemDisk;
 pub use single::Once;
+
+#[cfg(test)]
+mod tests;

@@ -39,13 +39,7 @@ impl MemDisk {
         ensures calls { disk_calls result ≡ [] }
         ensures failures { disk_failures result ≡ 0 }
     {
-        MemDisk {
-            alloc,
-            opening: Vec::new(alloc),
-            bytes: Vec::new(alloc),
-            done: Vec::new(alloc),
-            failures: 0,
-        }
+        synced(alloc, Vec::new(alloc), Vec::new(alloc))
     }
 
     /// A device with these bytes, all of them synced. `Fault::Memory` where memory is refused for a copy.
@@ -57,13 +51,7 @@ impl MemDisk {
         ensures memory { IfErr result (λ fault. fault ≡ Fault.Memory) }
     {
         let opening = bytes.to_vec(alloc)?;
-        Ok(MemDisk {
-            alloc,
-            opening,
-            bytes,
-            done: Vec::new(alloc),
-            failures: 0,
-        })
+        Ok(synced(alloc, opening, bytes))
     }
 
     /// The bytes that it reads as.
@@ -80,6 +68,22 @@ impl MemDisk {
         self.bytes
     }
 
+}
+
+fn synced(alloc: Global, opening: Vec<u8>, bytes: Vec<u8>) -> MemDisk
+    requires { bytes.items ≡ opening.items }
+    ensures bytes { result.bytes ≡ bytes }
+    ensures opening { result.opening ≡ opening }
+    ensures calls { result.done.items ≡ [] }
+    ensures failures { result.failures ≡ 0 }
+{
+    MemDisk {
+        alloc,
+        opening,
+        bytes,
+        done: Vec::new(alloc),
+        failures: 0,
+    }
 }
 
 // Fills with the bytes from an offset on, and past the end with 0.
