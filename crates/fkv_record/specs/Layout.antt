@@ -10,7 +10,7 @@ use Rattle.fkv_record.specs.declared.slots.Slot.{Slot}
 use Rattle.fkv_record.specs.Numbers.{spelled, padded}
 use Rattle.fkv_record.specs.Points.{serial_numbers}
 
--- the three words of a record
+-- the three words of a record: header, key and value
 abbrev pub record_numbers : Record → List ℕ
 record_numbers x = header_word x.header ∷ x.key.0 ∷ x.value ∷ []
 
@@ -32,8 +32,9 @@ shape_bytes x = codes "FKVSTOR1" ++ spelled (size_numbers x)
 unfoldable pub point_numbers : Points → List ℕ
 point_numbers x = padded 58 (length x.serials.items ∷ serial_numbers x.serials.items)
 
--- The layout of the first format, in 64 numbers. The first is the gate, whose byte 165 says that the slot is open, and
--- seven zero bytes.
+-- The layout of the first format, in 64 numbers: at byte 0 the gate, whose byte 165 says that the slot is open, and seven
+-- zero bytes; at 8 the number, at 16 the first address, at 24 the end, at 32 how many triples, at 40 their area, at 48 how
+-- many points, and from 56 on the points.
 unfoldable pub first_layout : Slot → List ℕ
 first_layout x = 165 ∷ x.number ∷ x.first.0 ∷ x.end.0 ∷ x.triples ∷ x.area ∷ point_numbers x.points
 
