@@ -1,6 +1,6 @@
 -- What stands at each offset after a write, and what a read gives of it.
-use Rattle.std.proofs.Common.{◌≡◌, ◌⊎◌, inl, inr, ℕ, zero, suc, ◌+◌, ◌-◌, ◌<◌, ◌≤◌, max, List, [], ◌∷◌, length, get_or, Bool, true, false, ◌&&◌, cond, refl, sym, ◌∙◌, ap, arith}
-use Rattle.std.specs.Prelude.{nat_le, nat_lt, if◌then◌else◌}
+use Rattle.std.proofs.Common.{◌≡◌, ◌⊎◌, inl, inr, ℕ, zero, suc, ◌+◌, ◌-◌, ◌<◌, ◌≤◌, max, List, length, Bool, true, false, refl, sym, ◌∙◌, ap, arith}
+use Rattle.std.specs.Prelude.{if◌then◌else◌}
 use Rattle.std.proofs.lemmas.Bool.Decides.{nat_tests}
 use Rattle.std.proofs.lemmas.List.{get_or_past, ext_get_or}
 use Rattle.std.proofs.lemmas.List.FromFn.{length-map-range_with_len, get_or-map-range_with_len, fill_by_all}
@@ -64,6 +64,7 @@ module _ (old : List ℕ) (at : ℕ) (bytes : List ℕ) where
     where
       below_or : (i : ℕ) → (i < max (length old) (range_end at (length bytes))) ⊎ (max (length old) (range_end at (length bytes)) ≤ i)
       below_or i = grind arith
+
       by_place : (i < max (length old) (range_end at (length bytes))) ⊎ (max (length old) (range_end at (length bytes)) ≤ i) → byte_at (written old at bytes) i ≡ byte_at old i
       by_place (inl below) = byte_at-listed _ _ i below ∙ ap (λ (b : Bool). if b then byte_at bytes (i - at) else byte_at old i) is_out
       by_place (inr past) = byte_at_past (written old at bytes) i (omega (arith, length-written)) ∙ sym (byte_at_past old i (omega arith))

@@ -1,7 +1,7 @@
 -- How the sentence that a device reads as, and may leave, what these calls give goes from call to call.
-use Rattle.std.proofs.Common.{◌≡◌, ℕ, ◌<◌, ◌≤◌, List, [], ◌∷◌, length, Bool, true, false, refl, sym, ◌∙◌, ap, subst, arith}
-use Rattle.fkv_disk.specs.Calls.{Call, Write, Sync, reads_as, ReadsAs, MayLeave}
-use Rattle.fkv_disk.specs.Device.{Torn, Writes, LeavesNoMore, LeavesTorn, LeavesOnly, IsAfter}
+use Rattle.std.proofs.Common.{◌≡◌, ℕ, List, [], ◌∷◌, length, Bool, true, false, refl, sym, subst, arith}
+use Rattle.fkv_disk.specs.Calls.{Call, Write, Sync, ReadsAs, MayLeave}
+use Rattle.fkv_disk.specs.Device.{Writes, LeavesNoMore, LeavesTorn, LeavesOnly, IsAfter}
 use Rattle.fkv_disk.proofs.Left.{torn_to, synced_to, reads_to}
 
 -- a device that a crash leaves as it reads is as it was opened

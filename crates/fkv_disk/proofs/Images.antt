@@ -1,12 +1,11 @@
 -- What the crates above need of the images that a crash may leave, and of what a device reads as.
-use Rattle.std.proofs.Common.{◌≡◌, ◌⊎◌, inl, inr, ℕ, ◌+◌, ◌-◌, ◌<◌, ◌≤◌, max, List, [], ◌∷◌, length, Bool, true, false, not, ◌&&◌, cond, refl, sym, ◌∙◌, ap, subst, arith}
+use Rattle.std.proofs.Common.{◌≡◌, ◌⊎◌, inl, inr, ℕ, ◌+◌, ◌<◌, ◌≤◌, max, List, [], ◌∷◌, length, Bool, true, false, not, ◌&&◌, refl, sym, ◌∙◌, ap, arith}
 use Rattle.std.specs.Prelude.{if◌then◌else◌}
 use Rattle.std.proofs.lemmas.List.{ext_get_or}
-use Rattle.fkv_disk.specs.Bytes.{byte_at, bytes_at, listed, covers, range_end, written}
+use Rattle.fkv_disk.specs.Bytes.{byte_at, bytes_at, covers, range_end, written}
 use Rattle.fkv_disk.specs.Calls.{Call, Write, Sync, reads_as, is_sure, is_untouched, synced_end, far_end, AllDone, ReadsAs, MayLeave}
-use Rattle.fkv_disk.specs.Device.{IsAfter}
-use Rattle.fkv_disk.proofs.BytesLemmas.{bytes_at_same, bytes_at-written, length-written, before_range, after_range, in_range, range_end_is, same_bytes, byte_at_past}
-use Rattle.fkv_disk.proofs.Left.{synced_within, reads_within, sure_in, sure_out}
+use Rattle.fkv_disk.proofs.BytesLemmas.{bytes_at_same, bytes_at-written, length-written, before_range, after_range, in_range, range_end_is}
+use Rattle.fkv_disk.proofs.Left.{sure_in, sure_out}
 
 -- where each call succeeded each byte is sure, and the end is known
 pub sure_if_done : (calls : List Call) (i : ℕ) → AllDone calls → is_sure calls i ≡ true
@@ -26,7 +25,6 @@ end_if_done opening (Write at bytes true ∷ before) all = ap (λ (n : ℕ). max
 end_if_done opening (Write at bytes false ∷ before) all = absurd all
 end_if_done opening (Sync true ∷ before) all = end_if_done opening before all
 end_if_done opening (Sync false ∷ before) all = absurd all
-
 
 -- a device whose calls all succeeded reads as they make it
 pub reads_all : (opening : List ℕ) (calls : List Call) (seen : List ℕ) → AllDone calls → ReadsAs opening calls seen → seen ≡ reads_as opening calls
@@ -71,6 +69,7 @@ anything_in_range opening at bytes done calls image other left size same = recor
     bool_is : (b : Bool) → (b ≡ true) ⊎ (b ≡ false)
     bool_is true = inl refl
     bool_is false = inr refl
+
     by_cover : (i : ℕ) → i < synced_end opening calls → is_untouched (Write at bytes done ∷ calls) i ≡ true → is_sure (Write at bytes done ∷ calls) i ≡ true → (covers at (length bytes) i ≡ true) ⊎ (covers at (length bytes) i ≡ false) → byte_at other i ≡ byte_at (reads_as opening (Write at bytes done ∷ calls)) i
     by_cover i below u s (inl in_it) = let off : false ≡ true = sym (ap (λ (b : Bool). not b && is_untouched calls i) in_it) ∙ u in absurd (cc)
     by_cover i below u s (inr out_it) = same i out_it ∙ left.kept i below u s

@@ -1,8 +1,7 @@
 -- What a call makes of the images that a crash may leave.
-use Rattle.std.proofs.Common.{◌≡◌, ◌⊎◌, inl, inr, ℕ, ◌+◌, ◌-◌, ◌<◌, ◌≤◌, max, min, List, [], ◌∷◌, length, Bool, true, false, not, ◌&&◌, cond, refl, sym, ◌∙◌, ap, subst, arith}
+use Rattle.std.proofs.Common.{◌≡◌, ◌⊎◌, inl, inr, ℕ, ◌<◌, ◌≤◌, min, List, [], ◌∷◌, length, Bool, true, false, not, ◌&&◌, refl, sym, ◌∙◌, ap, subst, arith}
 use Rattle.std.specs.Prelude.{if◌then◌else◌}
-use Rattle.std.proofs.lemmas.Bool.Decides.{nat_tests}
-use Rattle.fkv_disk.specs.Bytes.{byte_at, listed, covers, range_end, written, AreBytes}
+use Rattle.fkv_disk.specs.Bytes.{byte_at, listed, covers, written, AreBytes}
 use Rattle.fkv_disk.specs.Calls.{Call, Write, Sync, reads_as, is_sure, is_untouched, synced_end, far_end, ReadsAs, MayLeave, torn_image}
 use Rattle.fkv_disk.specs.Device.{Torn, Writes}
 use Rattle.fkv_disk.proofs.BytesLemmas.{length-listed, byte_at-listed, byte_at_past, length-written, byte_at-written_in, byte_at-written_out}
@@ -54,9 +53,9 @@ torn_to opening at bytes done before old image was torn = record {
   no_shorter = omega (arith, was.no_shorter, torn.no_shorter);
   no_longer = omega (arith, was.no_longer, torn.no_longer);
   kept = λ i below u s.
-    let out = untouched_out at bytes done before i u in
-    let sure = sym (sure_out at bytes done before i out.0) ∙ s in
-    torn.outside i (omega (arith, below, was.no_shorter)) out.0 ∙ was.kept i below out.1 sure ∙ sym (reads_out opening at bytes done before i out.0);
+      let out = untouched_out at bytes done before i u in
+      let sure = sym (sure_out at bytes done before i out.0) ∙ s in
+      torn.outside i (omega (arith, below, was.no_shorter)) out.0 ∙ was.kept i below out.1 sure ∙ sym (reads_out opening at bytes done before i out.0);
 }
 
 -- an image that is allowed after a write is a torn write over one that was allowed
@@ -105,6 +104,7 @@ module _ (opening : List ℕ) (at : ℕ) (bytes : List ℕ) (done : Bool) (befor
     where
       below_or : (i : ℕ) → (i < size) ⊎ (size ≤ i)
       below_or i = grind arith
+
       by_place : (i < size) ⊎ (size ≤ i) → (covers at (length bytes) i ≡ true) ⊎ (covers at (length bytes) i ≡ false) → byte_at torn_over i < 256
       by_place (inl below) (inl in_it) = omega (arith, at_in i below in_it, reads_fit i)
       by_place (inl below) (inr out_it) = omega (arith, at_out i below out_it, fits i)
@@ -146,6 +146,7 @@ module _ (opening : List ℕ) (calls : List Call) (torn : ℕ) where
     where
       below_or : (i : ℕ) → (i < far_end opening calls) ⊎ (far_end opening calls ≤ i)
       below_or i = grind arith
+
       by_place : (i < far_end opening calls) ⊎ (far_end opening calls ≤ i) → (is_untouched calls i ≡ true) ⊎ (is_untouched calls i ≡ false) → byte_at (torn_image opening calls torn) i < 256
       by_place (inl below) (inl u) =
           let is : byte_at (torn_image opening calls torn) i ≡ byte_at (reads_as opening calls) i = byte_at-listed (far_end opening calls) torn_byte i below ∙ ap (λ (b : Bool). if b then byte_at (reads_as opening calls) i else torn) u in

@@ -1,9 +1,7 @@
 -- What the record of a device in memory says after one call more.
-use Rattle.std.proofs.Common.{◌≡◌, ◌⊎◌, inl, inr, ℕ, zero, suc, ◌+◌, ◌-◌, ◌≤◌, List, [], ◌∷◌, ◌++◌, length, max, take, drop, Bool, true, false, cond, refl, sym, ◌∙◌, ap, subst, arith}
-use Rattle.std.specs.Prelude.{if◌then◌else◌}
-use Rattle.std.proofs.lemmas.List.{ext_get_or}
-use Rattle.fkv_disk.specs.Bytes.{AreBytes, covers, range_end}
-use Rattle.fkv_disk.specs.Calls.{Call, Write, Sync, reads_as, AllDone, ReadsAs, MayLeave}
+use Rattle.std.proofs.Common.{◌≡◌, ◌⊎◌, inl, inr, ℕ, zero, suc, ◌+◌, ◌≤◌, List, [], ◌∷◌, ◌++◌, length, drop, true, false, refl, sym, ap, subst, arith}
+use Rattle.fkv_disk.specs.Bytes.{AreBytes}
+use Rattle.fkv_disk.specs.Calls.{Call, Write, Sync, reads_as, AllDone, MayLeave}
 use Rattle.fkv_disk.specs.Device.{Torn, Elapses}
 use Rattle.fkv_disk.specs.Done.{call_of, calls_of, MayLeaveBytes, LeftSince}
 use Rattle.fkv_disk.specs.declared.memory.DoneCall.{DoneCall}
@@ -61,6 +59,6 @@ synced_only opening done calls image is left = synced_image opening (calls_of do
 pub synced_no_more : (opening : List ℕ) (done : List DoneCall) (calls : List Call) (image : List ℕ) → calls ≡ Sync true ∷ calls_of done → MayLeaveBytes opening calls image → MayLeaveBytes opening (calls_of done) image
 synced_no_more opening done calls image is left = record {
   allowed = subst (MayLeave opening (calls_of done)) (sym (synced_only opening done calls image is left.allowed))
-  (reads_may_stay opening (calls_of done) (reads_as opening (calls_of done)) (record { no_shorter = omega arith; no_longer = reads_within opening (calls_of done); last_written = λ i s. refl }));
+      (reads_may_stay opening (calls_of done) (reads_as opening (calls_of done)) (record { no_shorter = omega arith; no_longer = reads_within opening (calls_of done); last_written = λ i s. refl }));
   are_bytes = left.are_bytes;
 }

@@ -1,9 +1,9 @@
 -- Bytes put over others in a list are what a write makes, and zeros with the stored bytes over them are what a read gives.
-use Rattle.std.proofs.Common.{◌≡◌, ◌⊎◌, inl, inr, ℕ, ◌+◌, ◌-◌, ◌<◌, ◌≤◌, max, min, List, [], ◌∷◌, ◌++◌, length, get_or, take, drop, replicate, Bool, true, false, cond, refl, sym, ◌∙◌, ap, subst, arith, length-append, length-drop}
+use Rattle.std.proofs.Common.{◌≡◌, ◌⊎◌, inl, inr, ℕ, ◌+◌, ◌-◌, ◌<◌, ◌≤◌, max, min, List, [], ◌∷◌, ◌++◌, length, take, drop, replicate, Bool, true, false, refl, sym, ◌∙◌, ap, arith, length-append, length-drop}
 use Rattle.std.specs.Prelude.{if◌then◌else◌}
 use Rattle.std.proofs.lemmas.Bool.Decides.{nat_tests}
-use Rattle.std.proofs.lemmas.List.{get_or_append_left, get_or-append_right, get_or-take, get_or-drop, get_or-replicate, length-take, length-take-le, length-replicate, take_at, drop_all, append-nil}
-use Rattle.fkv_disk.specs.Bytes.{byte_at, listed, bytes_at, covers, range_end, written}
+use Rattle.std.proofs.lemmas.List.{get_or_append_left, get_or-append_right, get_or-take, get_or-drop, get_or-replicate, length-take-le, length-replicate, take_at, drop_all}
+use Rattle.fkv_disk.specs.Bytes.{byte_at, bytes_at, covers, range_end, written}
 use Rattle.fkv_disk.proofs.BytesLemmas.{is_listed, same_bytes, byte_at_past, in_range, before_range, after_range, range_end_is, length-written, byte_at-written_in, byte_at-written_out}
 
 where_is : (i a b : ℕ) → (i < a) ⊎ ((a ≤ i) × (i < b)) ⊎ ((a ≤ i) × (b ≤ i))
@@ -81,6 +81,7 @@ written_alike xs ys at new size each =
     bool_is : (b : Bool) → (b ≡ true) ⊎ (b ≡ false)
     bool_is true = inl refl
     bool_is false = inr refl
+
     by_cover : (i : ℕ) → (covers at (length new) i ≡ true) ⊎ (covers at (length new) i ≡ false) → byte_at (written xs at new) i ≡ byte_at (written ys at new) i
     by_cover i (inl in_it) = byte_at-written_in xs at new i in_it ∙ sym (byte_at-written_in ys at new i in_it)
     by_cover i (inr out_it) = byte_at-written_out xs at new i out_it ∙ each i ∙ sym (byte_at-written_out ys at new i out_it)
@@ -108,10 +109,13 @@ fill_is_read bytes at n count blank is within counts =
   where
     front : List ℕ
     front = take count (drop at bytes)
+
     front_size : length front ≡ count
     front_size = length-take-le count (drop at bytes) (omega arith)
+
     fits : 0 + length front ≤ length blank
     fits = omega (arith, front_size, ap length is, zeros_size n)
+
     by_place : (i : ℕ) → i < n → (i < 0) ⊎ ((0 ≤ i) × (i < 0 + length front)) ⊎ ((0 ≤ i) × (0 + length front ≤ i)) → byte_at (spliced blank 0 front fits) i ≡ byte_at bytes (at + i)
     by_place i below (inl none) = absurd (omega arith)
     by_place i below (inr (inl mid)) =

@@ -1,8 +1,8 @@
 -- The image of a crash that tears the most, call by call from the newest on.
-use Rattle.std.proofs.Common.{◌≡◌, ◌⊎◌, inl, inr, ℕ, ◌+◌, ◌-◌, ◌<◌, ◌≤◌, max, List, [], ◌∷◌, ◌++◌, length, get_or, take, Bool, true, false, not, ◌&&◌, cond, refl, sym, ◌∙◌, ap, subst, arith}
+use Rattle.std.proofs.Common.{◌≡◌, ◌⊎◌, inl, inr, ℕ, ◌+◌, ◌-◌, ◌<◌, ◌≤◌, max, List, [], ◌∷◌, ◌++◌, length, get_or, take, Bool, true, false, not, ◌&&◌, refl, sym, ◌∙◌, ap, subst, arith}
 use Rattle.std.specs.Prelude.{if◌then◌else◌}
 use Rattle.std.proofs.lemmas.List.{take_more}
-use Rattle.fkv_disk.specs.Bytes.{byte_at, listed, covers, range_end, written, AreBytes}
+use Rattle.fkv_disk.specs.Bytes.{byte_at, listed, covers, range_end, AreBytes}
 use Rattle.fkv_disk.specs.Calls.{Call, Write, Sync, reads_as, is_untouched, far_end, AllDone, torn_image, MayLeave}
 use Rattle.fkv_disk.specs.Device.{Torn}
 use Rattle.fkv_disk.specs.Done.{call_of, calls_of, MayLeaveBytes}
@@ -10,7 +10,6 @@ use Rattle.fkv_disk.specs.Fuse.{FuseLeaves, with_refused}
 use Rattle.fkv_disk.specs.declared.fuses.FuseState.{FuseState}
 use Rattle.fkv_disk.specs.declared.fuses.FuseState.TheVariants.{Sound, Armed, Blown, BlownAt}
 use Rattle.fkv_disk.specs.declared.memory.DoneCall.{DoneCall}
-use Rattle.fkv_disk.specs.declared.memory.DoneCall.TheVariants.{Wrote, Synced}
 use Rattle.fkv_disk.proofs.BytesLemmas.{length-listed, is_listed, byte_at_past, covered, range_end_is, length-written}
 use Rattle.fkv_disk.proofs.Left.{torn_allowed, torn_bytes, torn_over, torn_over_was, torn_over_torn, torn_over_bytes}
 use Rattle.fkv_disk.proofs.Images.{end_if_done}
@@ -41,6 +40,7 @@ beyond opening (Write at bytes true ∷ before) i all past =
     bool_is : (b : Bool) → (b ≡ true) ⊎ (b ≡ false)
     bool_is true = inl refl
     bool_is false = inr refl
+
     by_cover : (covers at (length bytes) i ≡ true) ⊎ (covers at (length bytes) i ≡ false) → is_untouched before i ≡ true → is_untouched (Write at bytes true ∷ before) i ≡ true
     by_cover (inl in_it) u =
         let span = covered at (length bytes) i in_it in
@@ -70,6 +70,7 @@ module _ (opening : List ℕ) (done : List DoneCall) (bytes : List ℕ) (torn : 
     where
       below_or : (i : ℕ) → (i < length bytes) ⊎ (length bytes ≤ i)
       below_or i = grind arith
+
       by_place : (i < length bytes) ⊎ (length bytes ≤ i) → byte_at image i ≡ (if is_untouched calls i then byte_at (reads_as opening calls) i else torn)
       by_place (inl below) = each_of i below
       by_place (inr past) =

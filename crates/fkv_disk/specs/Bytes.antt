@@ -1,5 +1,5 @@
 -- The bytes of a medium. They have an end, and past it each byte reads as 0.
-use Rattle.std.specs.Prelude.{◌≡◌, ℕ, zero, suc, ◌+◌, ◌-◌, ◌<◌, max, List, length, map, Bool, ◌&&◌, nat_lt, nat_le, if◌then◌else◌, slice_index_or}
+use Rattle.std.specs.Prelude.{ℕ, zero, suc, ◌+◌, ◌-◌, ◌<◌, max, List, length, map, Bool, ◌&&◌, nat_lt, nat_le, if◌then◌else◌, slice_index_or}
 use Rattle.std.specs.List.{range_with_len}
 
 -- the byte at an offset, 0 past the end

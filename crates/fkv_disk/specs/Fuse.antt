@@ -1,7 +1,7 @@
 -- What a fuse shows, and what it makes of the images that its device may leave.
-use Rattle.std.specs.Prelude.{◌≡◌, ◌⊎◌, ℕ, zero, suc, ◌<◌, ◌≤◌, max, List, ◌∷◌, length, Bool, true, false, nat_lt, refl}
-use Rattle.std.proofs.Common.{inl, inr, ⊎_elim, arith}
-use Rattle.fkv_disk.specs.Bytes.{AreBytes, listed, range_end}
+use Rattle.std.specs.Prelude.{◌⊎◌, ℕ, zero, suc, List, ◌∷◌, Bool, true, false, nat_lt, refl}
+use Rattle.std.proofs.Common.{inl, inr, arith}
+use Rattle.fkv_disk.specs.Bytes.{AreBytes, listed}
 use Rattle.fkv_disk.specs.Calls.{Call, Write}
 use Rattle.fkv_disk.specs.Device.{Torn}
 use Rattle.fkv_disk.specs.declared.fuses.FuseState.{FuseState}

@@ -117,5 +117,4 @@ fn fill_between(bytes: &mut [u8], from: usize, end: usize, value: u8)
 /// A law of the definitions, by its contract: the image that tears the most is one that a crash may leave.
 pub fn law_torn()
     ensures { (opening : List ℕ) (calls : List Call) (torn : ℕ) → MayLeave opening calls (torn_image opening calls torn) }
-{
-}
+{}

@@ -6,9 +6,9 @@ use crate::Device;
 use crate::refusals::refuse;
 use fkv_base::Fault;
 use std::fs::{OpenFile, OpenOptions};
+use std::io;
 use std::io::{ErrorKind, Read, Seek, SeekFrom, Write};
 use std::rt::Files;
-use std::io;
 
 /// A file of the system. It claims no honesty: what a file holds after a crash is the premise of whoever
 /// uses it. Bytes past its end read as 0. Each call that the system refuses counts as a failure.
@@ -41,7 +41,11 @@ pub fn make_file<R: Files>(rt: &R, path: &str) -> Result<FileDisk<R::File>, Faul
     ensures failures { IfOk result (λ disk. file_failures disk ≡ 0) }
     ensures device { IfErr result (λ fault. fault ≡ Fault.Device) }
 {
-    open_with(rt, OpenOptions::new().read(true).write(true).create(true), path)
+    open_with(
+        rt,
+        OpenOptions::new().read(true).write(true).create(true),
+        path,
+    )
 }
 
 fn open_with<R: Files>(rt: &R, how: &OpenOptions, path: &str) -> Result<FileDisk<R::File>, Fault>

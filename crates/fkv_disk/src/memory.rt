@@ -67,7 +67,6 @@ impl MemDisk {
     {
         self.bytes
     }
-
 }
 
 fn synced(alloc: Global, opening: Vec<u8>, bytes: Vec<u8>) -> MemDisk

@@ -1,4 +1,4 @@
-use Rattle.std.proofs.Common.{◌≡◌, ℕ, List, inl, inr, sym, ap, ◌∙◌, rules}
+use Rattle.std.proofs.Common.{◌≡◌, List, inl, inr, sym, ap, ◌∙◌}
 use Rattle.fkv_disk.specs.Calls.{Call, torn_image}
 use Rattle.fkv_disk.specs.Done.{calls_of}
 use Rattle.fkv_disk.specs.Fuse.{with_refused}
@@ -11,8 +11,8 @@ returns-in_ok-tear_refused-in-BlownAt-clause-image c =
     let refused = c.in_ok-tear_refused-in-BlownAt.ensures in
     let calls = calls_of c.args.done.now in
     λ opening replayed.
-      torn_refused opening c.args.done.now c.args.bytes.now c.args.torn replayed c.in_ok-image.image.items copied.len copied.each c.in-BlownAt.at c.in-BlownAt.n _ refused.len refused.each
-      ∙ ap (λ state. torn_image opening (with_refused state calls) c.args.torn) (sym c.in-BlownAt.is)
+    torn_refused opening c.args.done.now c.args.bytes.now c.args.torn replayed c.in_ok-image.image.items copied.len copied.each c.in-BlownAt.at c.in-BlownAt.n _ refused.len refused.each
+    ∙ ap (λ state. torn_image opening (with_refused state calls) c.args.torn) (sym c.in-BlownAt.is)
 
 pub returns-in-Sound-clause-image : goal.returns-in-Sound-clause-image
 returns-in-Sound-clause-image c =
@@ -24,5 +24,5 @@ returns-in-Sound-clause-image c =
       | inr (inr blown) ↦ ap (λ state. with_refused state calls) blown
     ] in
     λ opening replayed.
-      torn_done opening c.args.done.now c.args.bytes.now c.args.torn replayed c.in_ok-image.image.items copied.len copied.each
-      ∙ sym (ap (λ (cs : List Call). torn_image opening cs c.args.torn) same)
+    torn_done opening c.args.done.now c.args.bytes.now c.args.torn replayed c.in_ok-image.image.items copied.len copied.each
+    ∙ sym (ap (λ (cs : List Call). torn_image opening cs c.args.torn) same)

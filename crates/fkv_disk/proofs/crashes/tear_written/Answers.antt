@@ -1,4 +1,4 @@
-use Rattle.std.proofs.Common.{◌≡◌, ◌∷◌, ℕ, ◌+◌, ◌-◌, Bool, true, not, ◌&&◌, cond, length, take, List, rules, arith, sym, ap, ◌∙◌}
+use Rattle.std.proofs.Common.{◌≡◌, ◌∷◌, ℕ, ◌-◌, true, length, take, List, rules, arith, sym, ap, ◌∙◌}
 use Rattle.std.specs.Prelude.{if◌then◌else◌}
 use Rattle.fkv_disk.specs.Bytes.{byte_at, covers}
 use Rattle.fkv_disk.specs.Calls.{Call, Write, Sync, is_untouched}
@@ -20,9 +20,9 @@ loop-left-preserved c =
       within = omega (arith, c.loop-left.invariant.within);
       size = c.tear.ensures.len ∙ c.loop-left.invariant.size;
       each = λ i below.
-        tear_step (covers c.in-Wrote.at n i) (is_untouched before i) (byte_at c.loop-left.image i) c.args.torn (byte_at c.tear.new.image i) _
-        (c.tear.ensures.each i (omega (arith, below, c.loop-left.invariant.size)) ∙ ap (λ (m : ℕ). if covers c.in-Wrote.at m i then c.args.torn else byte_at c.loop-left.image i) size)
-        (sym (ap (λ (cs : List Call). if is_untouched cs i then byte_at c.loop-left.image i else c.args.torn) newest) ∙ c.loop-left.invariant.each i below);
+          tear_step (covers c.in-Wrote.at n i) (is_untouched before i) (byte_at c.loop-left.image i) c.args.torn (byte_at c.tear.new.image i) _
+          (c.tear.ensures.each i (omega (arith, below, c.loop-left.invariant.size)) ∙ ap (λ (m : ℕ). if covers c.in-Wrote.at m i then c.args.torn else byte_at c.loop-left.image i) size)
+          (sym (ap (λ (cs : List Call). if is_untouched cs i then byte_at c.loop-left.image i else c.args.torn) newest) ∙ c.loop-left.invariant.each i below);
     }
 
 pub returns-in-Synced-clause-each : goal.returns-in-Synced-clause-each

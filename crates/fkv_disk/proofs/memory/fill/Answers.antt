@@ -1,4 +1,4 @@
-use Rattle.std.proofs.Common.{◌≡◌, length, rules, arith, ap, ◌∙◌}
+use Rattle.std.proofs.Common.{◌≡◌, length, rules, ap, ◌∙◌}
 use Rattle.std.proofs.lemmas.List.{take_rest}
 use Rattle.fkv_disk.proofs.Spliced.{zeros, zeros_size, fill_is_read, zeros_past}
 use Rattle.fkv_disk.proofs.memory.fill.Goals as goal

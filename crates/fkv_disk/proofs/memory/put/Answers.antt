@@ -1,4 +1,4 @@
-use Rattle.std.proofs.Common.{◌≡◌, ◌+◌, ◌-◌, ◌<◌, ◌++◌, length, drop, take, rules, arith, ap, sym, ◌∙◌}
+use Rattle.std.proofs.Common.{◌≡◌, ◌+◌, ◌-◌, ◌<◌, ◌++◌, length, rules, ap, ◌∙◌}
 use Rattle.fkv_disk.proofs.Spliced.{zeros, put_is_written, nothing_written, put_back, length-spliced}
 use Rattle.fkv_disk.proofs.memory.put.Goals as goal
 

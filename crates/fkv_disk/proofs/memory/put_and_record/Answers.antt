@@ -1,5 +1,5 @@
 use Rattle.std.proofs.Common.{ℕ, List, true, ◌∙◌, ap, ◌∷◌, ◌≡◌, rules}
-use Rattle.fkv_disk.specs.Calls.{Call, Write}
+use Rattle.fkv_disk.specs.Calls.{Write}
 use Rattle.fkv_disk.specs.Done.{calls_of}
 use Rattle.fkv_disk.specs.declared.memory.DoneCall.TheVariants.{Wrote}
 use Rattle.fkv_disk.proofs.Recorded.{calls_of-push}

@@ -1,10 +1,9 @@
-use Rattle.std.proofs.Common.{rules, ◌≡◌, ◌<◌, ℕ, List, sym, ◌∙◌, subst}
+use Rattle.std.proofs.Common.{rules, ◌≡◌, ◌<◌, sym, ◌∙◌, subst}
 use Rattle.std.proofs.lemmas.Result.{IfOk-weaker}
 use Rattle.fkv_disk.specs.Bytes.{AreBytes}
 use Rattle.fkv_disk.specs.Calls.{torn_image, reads_as}
 use Rattle.fkv_disk.specs.Done.{calls_of, MayLeaveBytes}
 use Rattle.fkv_disk.specs.Fuse.{FuseLeaves, with_refused}
-use Rattle.fkv_disk.specs.Memory.{disk_bytes}
 use Rattle.fkv_disk.proofs.Tearing.{torn_fuse_leaves}
 use Rattle.fkv_disk.proofs.crashes.Fuse+MemDisk.crash.Goals as goal
 

@@ -1,4 +1,4 @@
-use Rattle.std.proofs.Common.{true, subst, ◌∙◌, sym}
+use Rattle.std.proofs.Common.{true, ◌∙◌, sym}
 use Rattle.fkv_disk.specs.Calls.{Sync}
 use Rattle.fkv_disk.proofs.Recorded.{synced_only, synced_no_more, elapses_push}
 use Rattle.fkv_disk.proofs.memory.MemDiskDevice.sync.Goals as goal
