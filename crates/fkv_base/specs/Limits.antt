@@ -22,5 +22,5 @@ pub record IsShape (bucket_bits page frames mutable sessions overflow disk_pages
 -- the same as a test
 abbrev pub is_shape : ℕ → ℕ → ℕ → ℕ → ℕ → ℕ → ℕ → Bool
 is_shape bucket_bits page frames mutable sessions overflow disk_pages =
-  nat_le bucket_bits 10 && is_ring_size page 4 1024 && is_ring_size frames 2 64 && nat_le 1 mutable && nat_lt mutable frames
-  && nat_le 1 sessions && nat_le sessions 8 && nat_le overflow 1024 && nat_le 1 disk_pages && nat_le disk_pages 65536
+    nat_le bucket_bits 10 && is_ring_size page 4 1024 && is_ring_size frames 2 64 && nat_le 1 mutable && nat_lt mutable frames
+    && nat_le 1 sessions && nat_le sessions 8 && nat_le overflow 1024 && nat_le 1 disk_pages && nat_le disk_pages 65536
