@@ -1,7 +1,7 @@
 //! The image of a crash that tears the most.
 ghost use Rattle.std.specs.Prelude.{◌≡◌, ◌<◌, ◌≤◌, ◌+◌, ◌-◌, ◌++◌, [], ℕ, List, length, take, drop, replicate, max, OnOk, IfOk, IfErr, if◌then◌else◌};
 ghost use Rattle.fkv_disk.specs.Bytes.{byte_at, covers, range_end, AreBytes};
-ghost use Rattle.fkv_disk.specs.Calls.{Call, MayLeave, reads_as, is_untouched, torn_image};
+ghost use Rattle.fkv_disk.specs.Calls.{reads_as, is_untouched, torn_image};
 ghost use Rattle.fkv_disk.specs.Done.{calls_of};
 ghost use Rattle.fkv_disk.specs.Fuse.{with_refused};
 
@@ -113,8 +113,3 @@ fn fill_between(bytes: &mut [u8], from: usize, end: usize, value: u8)
 {
     bytes[from..end].fill(value);
 }
-
-/// A law of the definitions, by its contract: the image that tears the most is one that a crash may leave.
-pub fn law_torn()
-    ensures { (opening : List ℕ) (calls : List Call) (torn : ℕ) → MayLeave opening calls (torn_image opening calls torn) }
-{}

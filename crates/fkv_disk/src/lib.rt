@@ -5,14 +5,15 @@ mod crashes;
 mod devices;
 mod files;
 mod fuses;
+mod laws;
 mod memory;
 mod refusals;
 mod single;
 
-pub use crashes::law_torn;
 pub use devices::Device;
 pub use files::{FileDisk, make_file, open_file};
 pub use fuses::{Fuse, FuseState};
+pub use laws::{law_anything_in_range, law_synced, law_torn, law_written_and_synced};
 pub use memory::MemDisk;
 pub use single::Once;
 

@@ -1,0 +1,25 @@
+//! Laws of the definitions: each is the contract of a function with an empty body.
+ghost use Rattle.std.specs.Prelude.{◌≡◌, ◌∷◌, ℕ, List, Bool, length, true, false};
+ghost use Rattle.fkv_disk.specs.Bytes.{byte_at, bytes_at, covers};
+ghost use Rattle.fkv_disk.specs.Calls.{Call, Write, Sync, AllDone, MayLeave, reads_as, torn_image};
+
+/// The image that tears the most is one that a crash may leave.
+pub fn law_torn()
+    ensures { (opening : List ℕ) (calls : List Call) (torn : ℕ) → MayLeave opening calls (torn_image opening calls torn) }
+{}
+
+/// After a sync, where every call succeeded, a crash leaves what is read.
+pub fn law_synced()
+    ensures { (opening : List ℕ) (calls : List Call) (image : List ℕ) → AllDone calls → MayLeave opening (Sync true ∷ calls) image → image ≡ reads_as opening calls }
+{}
+
+/// What was written and then synced stands in each image, whatever failed before.
+pub fn law_written_and_synced()
+    ensures { (opening : List ℕ) (calls : List Call) (at : ℕ) (bytes image : List ℕ) → MayLeave opening (Sync true ∷ Write at bytes true ∷ calls) image → bytes_at image at (length bytes) ≡ bytes }
+{}
+
+/// In the range of a write that isn't synced, succeeded or failed, a crash may leave anything.
+pub fn law_anything_in_range()
+    ensures { (opening : List ℕ) (at : ℕ) (bytes : List ℕ) (done : Bool) (calls : List Call) (image other : List ℕ) → MayLeave opening (Write at bytes done ∷ calls) image → length other ≡ length image
+        → ((i : ℕ) → covers at (length bytes) i ≡ false → byte_at other i ≡ byte_at image i) → MayLeave opening (Write at bytes done ∷ calls) other }
+{}
