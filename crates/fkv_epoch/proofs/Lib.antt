@@ -1,0 +1,14 @@
+pub mod Cells
+pub mod Epochs
+pub mod Slots
+pub mod SlotSteps
+pub mod SlotRuns
+pub mod Sound
+pub mod SessionSteps
+pub mod ScanSteps
+pub mod ClaimSteps
+pub mod RaiseSteps
+pub mod Happens
+pub mod Outer
+pub mod Runs
+pub mod Facts

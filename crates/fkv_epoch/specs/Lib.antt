@@ -1,0 +1,11 @@
+pub mod Arming
+pub mod Claiming
+pub mod Leaving
+pub mod Once
+pub mod Protecting
+pub mod Raising
+pub mod Refreshing
+pub mod Scanning
+pub mod Stall
+pub mod Values
+pub mod World

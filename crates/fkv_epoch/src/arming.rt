@@ -1,0 +1,72 @@
+//! How a held slot is armed.
+ghost use Rattle.std.specs.Prelude.{◌≡◌, ◌<◌, ◌+◌, ◌^◌};
+ghost use Rattle.fkv_epoch.specs.Arming.{arm_ask, arm_next};
+ghost use Rattle.fkv_epoch.specs.declared.arming.Arming.TheVariants.{AtRest, PutsAction};
+ghost use Rattle.fkv_plane.specs.declared.asks.Ask.TheVariants.{Put};
+
+use fkv_plane::{Action, Ask, drain_place};
+use std::marker::Model;
+
+/// How far the machine has come: the slot, and the epoch at which it is armed.
+#[derive(Clone, Copy, Debug, PartialEq, Eq)]
+pub(crate) enum Arming {
+    AtRest,
+    PutsAction(usize, u64),
+    StoresEpoch(usize, u64),
+}
+
+/// Puts an action into a slot that its actor holds, and arms the slot at the epoch from which the actor raised.
+#[derive(Drop)]
+pub struct Arm {
+    step: Arming,
+}
+
+impl Model for Arm {
+    ghost use Rattle.fkv_epoch.specs.Arming.{Armer, IsArmInRange};
+
+    ghost Value = { Armer };
+
+    ghost view = { λ m. record { step = m.step } };
+
+    ghost invariant = { λ m. IsArmInRange m.step };
+}
+
+impl Arm {
+    /// The machine at rest.
+    pub fn new() -> Arm
+        ensures { result ≡ record { step = AtRest } }
+    {
+        Arm {
+            step: Arming::AtRest,
+        }
+    }
+
+    /// The first ask puts the action into the slot, 0 to 7.
+    pub fn start(&mut self, slot: usize, epoch: u64, action: Action) -> Ask<()>
+        requires slot { slot < 8 }
+        requires epoch { epoch + 2 < 2 ^ 64 }
+        ensures next { self.new ≡ record { step = PutsAction slot epoch } }
+        ensures ask { result ≡ Put slot action }
+    {
+        self.step = Arming::PutsAction(slot, epoch);
+        Ask::Put(slot, action)
+    }
+
+    /// Goes on with the reply to its ask.
+    #[tactic(auto, unfolding(crate::specs::Arming::arm_ask, crate::specs::Arming::arm_next))]
+    pub fn drive(&mut self, _reply: u64) -> Ask<()>
+        ensures next { self.new ≡ record { step = arm_next self.old.step } }
+        ensures ask { result ≡ arm_ask (arm_next self.old.step) }
+    {
+        match self.step {
+            Arming::PutsAction(slot, epoch) => {
+                self.step = Arming::StoresEpoch(slot, epoch);
+                Ask::Store(drain_place(slot), epoch + 2)
+            }
+            Arming::StoresEpoch(_, _) | Arming::AtRest => {
+                self.step = Arming::AtRest;
+                Ask::Done(())
+            }
+        }
+    }
+}

@@ -1,0 +1,66 @@
+//! A session is protected no more, as it goes to sleep.
+ghost use Rattle.std.specs.Prelude.{◌≡◌, ◌<◌};
+
+use fkv_plane::{Ask, SessionWord};
+use std::marker::Model;
+
+/// How far the machine has come.
+#[derive(Clone, Copy, Debug, PartialEq, Eq)]
+pub(crate) enum Leaving {
+    AtRest,
+    StoresZero,
+}
+
+/// Stores 0 as the session's epoch.
+#[derive(Drop)]
+pub struct Leave {
+    session: usize,
+    step: Leaving,
+}
+
+impl Model for Leave {
+    ghost use Rattle.std.specs.Prelude.{◌<◌};
+    ghost use Rattle.fkv_epoch.specs.Leaving.{Leaver};
+
+    ghost Value = { Leaver };
+
+    ghost view = { λ m. record { session = m.session; step = m.step } };
+
+    ghost invariant = { λ m. m.session < 8 };
+}
+
+impl Leave {
+    ghost use Rattle.fkv_epoch.specs.Leaving.{leave_ask, leave_next};
+    ghost use Rattle.fkv_epoch.specs.declared.leaving.Leaving.TheVariants.{AtRest, StoresZero};
+
+    /// The machine of a session, 0 to 7, at rest.
+    pub fn new(session: usize) -> Leave
+        requires { session < 8 }
+        ensures { result ≡ record { session = session; step = AtRest } }
+    {
+        Leave {
+            session,
+            step: Leaving::AtRest,
+        }
+    }
+
+    /// The first ask.
+    #[tactic(auto, unfolding(crate::specs::Leaving::leave_ask))]
+    pub fn start(&mut self) -> Ask<()>
+        ensures next { self.new ≡ record self.old { step = StoresZero } }
+        ensures ask { result ≡ leave_ask self.old.session StoresZero }
+    {
+        self.step = Leaving::StoresZero;
+        Ask::Store(SessionWord::Epoch.place(self.session), 0)
+    }
+
+    /// Goes on with the reply to its ask.
+    #[tactic(auto, unfolding(crate::specs::Leaving::leave_ask, crate::specs::Leaving::leave_next))]
+    pub fn drive(&mut self, _reply: u64) -> Ask<()>
+        ensures next { self.new ≡ record self.old { step = leave_next self.old.step } }
+        ensures ask { result ≡ leave_ask self.old.session (leave_next self.old.step) }
+    {
+        self.step = Leaving::AtRest;
+        Ask::Done(())
+    }
+}

@@ -1,0 +1,103 @@
+//! A session becomes protected, as it wakes.
+ghost use Rattle.std.specs.Prelude.{◌≡◌, ◌<◌};
+
+use crate::values::Seen;
+use fkv_base::Addr;
+use fkv_plane::{Ask, SessionWord, SharedWord};
+use std::marker::Model;
+
+/// How far the machine has come.
+#[derive(Clone, Copy, Debug, PartialEq, Eq)]
+pub(crate) enum Protecting {
+    AtRest,
+    LoadsEpoch,
+    StoresEpoch(u64),
+    LoadsPhase,
+    LoadsReadOnly(u64),
+    LoadsHead(u64, u64),
+}
+
+/// Loads the epoch, stores it as the session's own, and only then loads what the session goes by.
+#[derive(Drop)]
+pub struct Protect {
+    session: usize,
+    step: Protecting,
+}
+
+impl Model for Protect {
+    ghost use Rattle.std.specs.Prelude.{◌<◌};
+    ghost use Rattle.fkv_epoch.specs.Protecting.{Protector};
+
+    ghost Value = { Protector };
+
+    ghost view = { λ m. record { session = m.session; step = m.step } };
+
+    ghost invariant = { λ m. m.session < 8 };
+}
+
+impl Protect {
+    ghost use Rattle.fkv_epoch.specs.Protecting.{protect_ask, protect_next, protect_next_ask};
+    ghost use Rattle.fkv_epoch.specs.declared.protecting.Protecting.TheVariants.{AtRest, LoadsEpoch};
+
+    /// The machine of a session, 0 to 7, at rest.
+    pub fn new(session: usize) -> Protect
+        requires { session < 8 }
+        ensures { result ≡ record { session = session; step = AtRest } }
+    {
+        Protect {
+            session,
+            step: Protecting::AtRest,
+        }
+    }
+
+    /// The first ask.
+    #[tactic(auto, unfolding(crate::specs::Protecting::protect_ask))]
+    pub fn start(&mut self) -> Ask<Seen>
+        ensures next { self.new ≡ record self.old { step = LoadsEpoch } }
+        ensures ask { result ≡ protect_ask self.old.session LoadsEpoch }
+    {
+        self.step = Protecting::LoadsEpoch;
+        Ask::Load(SharedWord::Epoch.place())
+    }
+
+    /// Goes on with the reply to its ask. At rest it answers with zeros.
+    #[tactic(auto, unfolding(crate::specs::Protecting::protect_ask, crate::specs::Protecting::protect_next, crate::specs::Protecting::protect_next_ask))]
+    pub fn drive(&mut self, reply: u64) -> Ask<Seen>
+        ensures next { self.new ≡ record self.old { step = protect_next self.old.step reply } }
+        ensures ask { result ≡ protect_next_ask self.old.session self.old.step reply }
+    {
+        match self.step {
+            Protecting::LoadsEpoch => {
+                self.step = Protecting::StoresEpoch(reply);
+                Ask::Store(SessionWord::Epoch.place(self.session), reply)
+            }
+            Protecting::StoresEpoch(_) => {
+                self.step = Protecting::LoadsPhase;
+                Ask::Load(SharedWord::Phase.place())
+            }
+            Protecting::LoadsPhase => {
+                self.step = Protecting::LoadsReadOnly(reply);
+                Ask::Load(SharedWord::ReadOnly.place())
+            }
+            Protecting::LoadsReadOnly(phase) => {
+                self.step = Protecting::LoadsHead(phase, reply);
+                Ask::Load(SharedWord::Head.place())
+            }
+            Protecting::LoadsHead(phase, read_only) => {
+                self.step = Protecting::AtRest;
+                Ask::Done(seen(phase, read_only, reply))
+            }
+            Protecting::AtRest => Ask::Done(seen(0, 0, 0)),
+        }
+    }
+}
+
+fn seen(phase: u64, read_only: u64, head: u64) -> Seen
+    ensures { result ≡ record { phase = phase; read_only = record { 0 = read_only }; head = record { 0 = head } } }
+{
+    Seen {
+        phase,
+        read_only: Addr(read_only),
+        head: Addr(head),
+    }
+}

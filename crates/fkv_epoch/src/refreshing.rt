@@ -1,0 +1,125 @@
+//! A protected session looks again.
+ghost use Rattle.std.specs.Prelude.{◌≡◌, ◌<◌};
+
+use crate::values::Seen;
+use fkv_base::Addr;
+use fkv_plane::{Ask, SessionWord, SharedWord};
+use std::marker::Model;
+
+/// How far the machine has come.
+#[derive(Clone, Copy, Debug, PartialEq, Eq)]
+pub(crate) enum Refreshing {
+    AtRest,
+    LoadsEpoch,
+    LoadsPhase(u64),
+    LoadsReadOnly(u64, u64),
+    LoadsHead(u64, u64, u64),
+    HasLoaded(u64, Seen),
+    StoresEpoch(u64),
+}
+
+/// What the machine has come to.
+#[derive(Clone, Copy, Debug, PartialEq, Eq)]
+pub enum RefreshAnswer {
+    /// All is loaded. Before `finish` the session takes up what it has seen.
+    Loaded(Seen),
+    /// The session's epoch word is stored, or the machine is at rest.
+    Stored,
+}
+
+/// Loads the epoch, then what the session goes by, and stores as the session's epoch the one that it loaded, last.
+#[derive(Drop)]
+pub struct Refresh {
+    session: usize,
+    step: Refreshing,
+}
+
+impl Model for Refresh {
+    ghost use Rattle.std.specs.Prelude.{◌<◌};
+    ghost use Rattle.fkv_epoch.specs.Refreshing.{Refresher};
+
+    ghost Value = { Refresher };
+
+    ghost view = { λ m. record { session = m.session; step = m.step } };
+
+    ghost invariant = { λ m. m.session < 8 };
+}
+
+impl Refresh {
+    ghost use Rattle.fkv_epoch.specs.Refreshing.{refresh_ask, refresh_next, refresh_finish};
+    ghost use Rattle.fkv_epoch.specs.declared.refreshing.Refreshing.TheVariants.{AtRest, LoadsEpoch};
+
+    /// The machine of a session, 0 to 7, at rest.
+    pub fn new(session: usize) -> Refresh
+        requires { session < 8 }
+        ensures { result ≡ record { session = session; step = AtRest } }
+    {
+        Refresh {
+            session,
+            step: Refreshing::AtRest,
+        }
+    }
+
+    /// The first ask.
+    #[tactic(auto, unfolding(crate::specs::Refreshing::refresh_ask))]
+    pub fn start(&mut self) -> Ask<RefreshAnswer>
+        ensures next { self.new ≡ record self.old { step = LoadsEpoch } }
+        ensures ask { result ≡ refresh_ask self.old.session LoadsEpoch }
+    {
+        self.step = Refreshing::LoadsEpoch;
+        Ask::Load(SharedWord::Epoch.place())
+    }
+
+    /// Goes on to store the epoch, where all is loaded; else it stays where it is.
+    #[tactic(auto, unfolding(crate::specs::Refreshing::refresh_ask, crate::specs::Refreshing::refresh_finish))]
+    pub fn finish(&mut self) -> Ask<RefreshAnswer>
+        ensures next { self.new ≡ record self.old { step = refresh_finish self.old.step } }
+        ensures ask { result ≡ refresh_ask self.old.session (refresh_finish self.old.step) }
+    {
+        if let Refreshing::HasLoaded(epoch, _) = self.step {
+            self.step = Refreshing::StoresEpoch(epoch);
+        }
+        self.ask()
+    }
+
+    /// Goes on with the reply to its ask. At rest, and until `finish` is called, it stays where it is.
+    #[tactic(auto, unfolding(crate::specs::Refreshing::refresh_next))]
+    pub fn drive(&mut self, reply: u64) -> Ask<RefreshAnswer>
+        ensures next { self.new ≡ record self.old { step = refresh_next self.old.step reply } }
+        ensures ask { result ≡ refresh_ask self.old.session (refresh_next self.old.step reply) }
+    {
+        self.step = match self.step {
+            Refreshing::LoadsEpoch => Refreshing::LoadsPhase(reply),
+            Refreshing::LoadsPhase(epoch) => Refreshing::LoadsReadOnly(epoch, reply),
+            Refreshing::LoadsReadOnly(epoch, phase) => Refreshing::LoadsHead(epoch, phase, reply),
+            Refreshing::LoadsHead(epoch, phase, read_only) => Refreshing::HasLoaded(
+                epoch,
+                Seen {
+                    phase,
+                    read_only: Addr(read_only),
+                    head: Addr(reply),
+                },
+            ),
+            Refreshing::HasLoaded(epoch, seen) => Refreshing::HasLoaded(epoch, seen),
+            Refreshing::StoresEpoch(_) | Refreshing::AtRest => Refreshing::AtRest,
+        };
+        self.ask()
+    }
+
+    #[tactic(auto, unfolding(crate::specs::Refreshing::refresh_ask))]
+    fn ask(&self) -> Ask<RefreshAnswer>
+        ensures { result ≡ refresh_ask self.now.session self.now.step }
+    {
+        match self.step {
+            Refreshing::AtRest => Ask::Done(RefreshAnswer::Stored),
+            Refreshing::LoadsEpoch => Ask::Load(SharedWord::Epoch.place()),
+            Refreshing::LoadsPhase(_) => Ask::Load(SharedWord::Phase.place()),
+            Refreshing::LoadsReadOnly(_, _) => Ask::Load(SharedWord::ReadOnly.place()),
+            Refreshing::LoadsHead(_, _, _) => Ask::Load(SharedWord::Head.place()),
+            Refreshing::HasLoaded(_, seen) => Ask::Done(RefreshAnswer::Loaded(seen)),
+            Refreshing::StoresEpoch(epoch) => {
+                Ask::Store(SessionWord::Epoch.place(self.session), epoch)
+            }
+        }
+    }
+}

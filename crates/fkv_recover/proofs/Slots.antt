@@ -1,0 +1,63 @@
+-- What a slot that recovery takes says of its numbers.
+use Rattle.std.proofs.Common.{◌≡◌, ◌⊎◌, inl, inr, ℕ, ◌+◌, ◌*◌, ◌%◌, ◌^◌, ◌<◌, ◌≤◌, Bool, true, false, ◌&&◌, List, refl, sym, ap, ◌∙◌, arith}
+use Rattle.std.specs.Prelude.{nat_eq, nat_le, nat_lt, IsTrue}
+use Rattle.std.proofs.lemmas.Bool.Decides.{nat_tests}
+use Rattle.std.proofs.Math.Pow.{pow_mono}
+use Rattle.std.proofs.Math.Nat.{mul-le-mul}
+use Rattle.fkv_base.specs.Limits.{is_ring_size}
+use Rattle.fkv_recover.specs.Image.{slot_of, sessions_of, most_triples, disk_pages_of, page_of}
+use Rattle.fkv_recover.specs.Manifest.{is_slot, is_folded, is_manifest, slot_number, slot_log_start, slot_tail, slot_triples, slot_area}
+
+both : (a b : Bool) → (a && b) ≡ true → (a ≡ true) × (b ≡ true)
+both true true e = (refl, refl)
+both true false e = (refl, e)
+both false b e = (e, absurd (cc))
+
+le_of : (a b : ℕ) → nat_le a b ≡ true → a ≤ b
+le_of a b e = grind (arith, nat_tests)
+
+eq_of : (a b : ℕ) → nat_eq a b ≡ true → a ≡ b
+eq_of a b e = grind (arith, nat_tests)
+
+-- the numbers of a slot that recovery takes
+pub record AreSlotNumbers (place most_triples log_room number start tail count area : ℕ) : Type 0 where
+  pub few_versions : number ≤ 8190
+  pub some : 1 ≤ start
+  pub folded : start ≡ tail
+  pub on_disk : tail ≤ log_room
+  pub few_triples : count ≤ most_triples
+  pub its_area : area ≡ place
+
+pub slot_numbers : (place sessions most_triples log_room : ℕ) (slot : List ℕ) → (is_slot place sessions most_triples log_room slot && is_folded slot) ≡ true
+    → AreSlotNumbers place most_triples log_room (slot_number slot) (slot_log_start slot) (slot_tail slot) (slot_triples slot) (slot_area slot)
+slot_numbers place sessions most_triples log_room slot e =
+    let e0 = both _ _ e in
+    let e1 = both _ _ e0.0 in
+    let e2 = both _ _ e1.0 in
+    let e3 = both _ _ e2.0 in
+    let e4 = both _ _ e3.0 in
+    let e5 = both _ _ e4.0 in
+    let e6 = both _ _ e5.0 in
+    let e7 = both _ _ e6.0 in
+    let e8 = both _ _ e7.0 in
+    let e9 = both _ _ e8.0 in
+    let e10 = both _ _ e9.0 in
+    record {
+      few_versions = le_of _ _ e10.1;
+      some = le_of _ _ e8.1;
+      folded = eq_of _ _ e0.1;
+      on_disk = le_of _ _ e6.1;
+      few_triples = le_of _ _ e5.1;
+      its_area = eq_of _ _ e4.1;
+    }
+
+-- the sizes of a shape bound the triples and the log
+pub triples_fit : (bits overflow : ℕ) → bits ≤ 10 → overflow ≤ 1024 → 7 * (2 ^ bits + overflow) ≤ 14336
+triples_fit bits overflow few_bits few_overflow =
+    let few : 2 ^ bits ≤ 2 ^ 10 = pow_mono {i = bits} {j = 10} few_bits in omega (arith, few, few_overflow)
+
+pub page_fits : (page : ℕ) → IsTrue (is_ring_size page 4 1024) → page ≤ 1024
+page_fits page e = grind (arith, nat_tests)
+
+pub log_fits : (disk_pages page : ℕ) → disk_pages ≤ 65536 → page ≤ 1024 → disk_pages * page ≤ 2 ^ 26
+log_fits disk_pages page few small = mul-le-mul few small

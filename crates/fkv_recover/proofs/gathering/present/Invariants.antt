@@ -1,0 +1,9 @@
+use Rattle.std.proofs.Common.{◌≡◌, ◌++◌}
+use Rattle.std.specs.Ordering.{nat_cmp}
+use Rattle.std.specs.BTreeMap.{IsOrdered}
+use Rattle.fkv_recover.proofs.Shown.{shown_of}
+use Rattle.fkv_recover.proofs.gathering.present.Given as goal
+
+-- the pairs so far, and those that are left, are all
+abbrev pub invariant-loop-key : goal.invariant-loop-key
+invariant-loop-key l = l.pairs.items ++ shown_of l.key-iterator ≡ shown_of l.values.entries

@@ -1,0 +1,16 @@
+pub mod Image
+pub mod Manifest
+pub mod Log
+pub mod Scan
+pub mod Chains
+pub mod Room
+pub mod Created
+pub mod Faults
+pub mod Along
+pub mod Opened
+pub mod Gathered
+pub mod Naming
+pub mod Pairs
+pub mod Quiet
+pub mod Read
+pub mod Stages
