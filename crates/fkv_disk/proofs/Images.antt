@@ -38,6 +38,10 @@ synced_image opening calls image all left =
     let end = end_if_done opening calls all in
     ext_get_or 0 image (reads_as opening calls) (omega (arith, left.no_shorter, left.no_longer, end)) (λ i below. left.kept i (omega (arith, below, left.no_longer, end)) refl (sure_if_done calls i all))
 
+-- before the first call a crash leaves the opening bytes
+pub opened_image : (opening image : List ℕ) → MayLeave opening [] image → image ≡ opening
+opened_image opening image left = ext_get_or 0 image opening (omega (arith, left.no_shorter, left.no_longer)) (λ i below. left.kept i (omega (arith, below, left.no_longer)) refl refl)
+
 -- A range that lies below the synced end, and where nothing was written since the sync nor has failed before it, stands in each image.
 pub kept_range : (opening : List ℕ) (calls : List Call) (image : List ℕ) (at n : ℕ) → MayLeave opening calls image → at + n ≤ synced_end opening calls → ((i : ℕ) → at ≤ i → i < at + n → (is_untouched calls i ≡ true) × (is_sure calls i ≡ true)) → bytes_at image at n ≡ bytes_at (reads_as opening calls) at n
 kept_range opening calls image at n left below quiet = bytes_at_same image (reads_as opening calls) at n (λ i above under. left.kept i (omega (arith, below, under)) (quiet i above under).0 (quiet i above under).1)
