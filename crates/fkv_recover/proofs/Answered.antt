@@ -1,9 +1,8 @@
 -- From what the stages answer to what recovery answers.
-use Rattle.std.proofs.Common.{◌≡◌, ℕ, ◌+◌, ◌-◌, ◌*◌, ◌^◌, ◌<◌, ◌≤◌, min, List, true, false, refl, sym, ap, subst, ◌∙◌, arith}
+use Rattle.std.proofs.Common.{◌≡◌, ℕ, ◌+◌, ◌*◌, ◌^◌, ◌≤◌, List, true, false, subst, ◌∙◌, arith}
 use Rattle.fkv_base.specs.declared.faults.Fault.{Fault}
 use Rattle.fkv_base.specs.declared.faults.Fault.TheVariants.{NotAStore, Damaged, Device, Memory}
 use Rattle.fkv_base.specs.declared.faults.Damage.TheVariants.{Manifest, Triple, Record, Link, Full}
-use Rattle.fkv_disk.specs.Device.{Rose}
 use Rattle.fkv_recover.specs.Image.{head_of, words_from}
 use Rattle.fkv_recover.specs.Manifest.{is_store, newest, is_manifest}
 use Rattle.fkv_recover.specs.Log.{Log, log_of}

@@ -1,11 +1,11 @@
 -- Where recovery opens a store no fault stands.
-use Rattle.std.proofs.Common.{◌≡◌, ◌≢◌, ◌⊎◌, inl, inr, ⊎_elim, ℕ, suc, ◌+◌, ◌-◌, ◌<◌, ◌≤◌, ◌^◌, true, false, List, refl, sym, ap, subst, ◌∙◌, arith}
+use Rattle.std.proofs.Common.{◌≡◌, ⊎_elim, ℕ, suc, ◌+◌, ◌-◌, ◌≤◌, ◌^◌, true, false, List, sym, ap, subst, ◌∙◌, arith}
 use Rattle.fkv_base.specs.declared.faults.Fault.{Fault}
 use Rattle.fkv_base.specs.declared.faults.Fault.TheVariants.{NotAStore, Damaged}
 use Rattle.fkv_base.specs.declared.faults.Damage.{Damage}
 use Rattle.fkv_base.specs.declared.faults.Damage.TheVariants.{Manifest, Triple, Record, Link, Full}
 use Rattle.fkv_recover.specs.Image.{head_of}
-use Rattle.fkv_recover.specs.Manifest.{is_store, is_manifest, newest}
+use Rattle.fkv_recover.specs.Manifest.{is_store, is_manifest}
 use Rattle.fkv_recover.specs.Log.{Log, log_of, HasTriples, IsTripleFault}
 use Rattle.fkv_recover.specs.Scan.{HasScan, IsScanRecordFault, IsScanLinkFault, IsScanTripleFault}
 use Rattle.fkv_recover.specs.Room.{IsFull, HasRoom, taken}

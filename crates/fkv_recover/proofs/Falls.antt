@@ -1,10 +1,10 @@
 -- Chains fall, and hold what is reached.
-use Rattle.std.proofs.Common.{◌≡◌, ◌≢◌, ◌⊎◌, inl, inr, ⊎_elim, ℕ, ◌+◌, ◌<◌, ◌≤◌, Bool, true, false, ◌&&◌, refl, sym, ap, subst, ◌∙◌, arith}
+use Rattle.std.proofs.Common.{◌≡◌, ◌≢◌, ◌⊎◌, inl, inr, ⊎_elim, ℕ, ◌<◌, ◌≤◌, true, false, refl, sym, ◌∙◌, arith}
 use Rattle.std.proofs.lemmas.Bool.Decides.{nat_tests}
-use Rattle.fkv_recover.specs.Log.{Log, HasTriples, IsTriple, is_triple, triple_home, triple_addr, previous, version, is_invalid, is_record, record_home}
-use Rattle.fkv_recover.specs.Chains.{IsChainRecordFault, IsChainLinkFault, Reached, scanned, led_to, linked, LeadsTo, IsTripleLeading, IsRecordLeading}
+use Rattle.fkv_recover.specs.Log.{Log, HasTriples, is_triple, triple_home, triple_addr, previous, version, is_invalid, is_record, record_home}
+use Rattle.fkv_recover.specs.Chains.{IsChainRecordFault, IsChainLinkFault, Reached, led_to, linked, LeadsTo}
 use Rattle.fkv_recover.specs.Scan.{HasScan}
-use Rattle.fkv_recover.specs.Along.{IsAlong, here, on, IsOf, IsChain}
+use Rattle.fkv_recover.specs.Along.{IsAlong, here, on, IsOf}
 
 -- a record's previous address lies below it
 pub previous_below : (log : Log) (most a : ℕ) → is_record log most a ≡ true → previous log a < a

@@ -1,13 +1,13 @@
 -- In a log with no fault, and nothing to scan, each chain is of its triple's home.
-use Rattle.std.proofs.Common.{◌≡◌, ◌≢◌, ◌⊎◌, inl, inr, ⊎_elim, ℕ, ◌+◌, ◌*◌, ◌<◌, ◌≤◌, Bool, true, false, List, refl, sym, ap, subst, ◌∙◌, arith}
+use Rattle.std.proofs.Common.{◌≡◌, inl, inr, ⊎_elim, ℕ, ◌*◌, ◌<◌, Bool, true, false, List, refl, sym, arith}
 use Rattle.fkv_recover.specs.Image.{head_of, slot_of, sessions_of, most_triples, disk_pages_of, page_of}
 use Rattle.fkv_recover.specs.Manifest.{newest}
-use Rattle.fkv_recover.specs.Log.{Log, log_of, HasTriples, triple_home, triple_addr, previous, is_invalid, is_record, record_home}
+use Rattle.fkv_recover.specs.Log.{Log, log_of, triple_home, triple_addr, previous, is_invalid, is_record, record_home}
 use Rattle.fkv_recover.specs.Faults.{HasManifest}
 use Rattle.fkv_recover.specs.Chains.{Reached, led_to, linked, LeadsTo, HasChains}
-use Rattle.fkv_recover.specs.Along.{IsAlong, here, on, IsOf, IsChain, IsFollowed}
+use Rattle.fkv_recover.specs.Along.{IsAlong, here, on, IsOf, IsFollowed}
 use Rattle.fkv_recover.specs.Opened.{IsSound}
-use Rattle.fkv_recover.proofs.Keys.{bool_is, equal_or_not}
+use Rattle.fkv_recover.proofs.Keys.{equal_or_not}
 use Rattle.fkv_recover.proofs.Falls.{previous_below, addr_in_log}
 use Rattle.fkv_recover.proofs.Slots.{slot_numbers}
 

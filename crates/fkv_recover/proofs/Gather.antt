@@ -1,15 +1,15 @@
 -- Gathering the values of keys along a chain.
-use Rattle.std.proofs.Common.{◌≡◌, ◌≢◌, ◌⊎◌, inl, inr, ⊎_elim, ℕ, ◌+◌, ◌<◌, ◌≤◌, Bool, true, false, cond, Option, Some, None, refl, sym, ap, subst, ◌∙◌, arith, below_more}
+use Rattle.std.proofs.Common.{◌≡◌, ◌≢◌, ◌⊎◌, inl, inr, ⊎_elim, ℕ, ◌<◌, true, false, cond, Option, Some, refl, sym, ap, subst, ◌∙◌, arith}
 use Rattle.std.specs.Ordering.{nat_cmp, is_eq}
 use Rattle.std.specs.Option.{is_some}
 use Rattle.std.specs.Prelude.{if◌then◌else◌, nat_lt}
 use Rattle.std.proofs.lemmas.Bool.Decides.{nat_tests}
-use Rattle.fkv_recover.specs.Log.{Log, HasTriples, triple_home, triple_addr, previous, is_record, record_home, home_of_key, key, value}
-use Rattle.fkv_recover.specs.Chains.{Reached, led_to, IsKept}
-use Rattle.fkv_recover.specs.Along.{IsAlong, here, on, IsOf, IsChain, IsFollowed}
+use Rattle.fkv_recover.specs.Log.{Log, triple_addr, previous, home_of_key, key, value}
+use Rattle.fkv_recover.specs.Chains.{led_to}
+use Rattle.fkv_recover.specs.Along.{IsAlong, here, on, IsFollowed}
 use Rattle.fkv_recover.specs.Pairs.{IsNewest}
 use Rattle.fkv_recover.specs.Gathered.{IsNewestValue}
-use Rattle.fkv_recover.proofs.Keys.{got, kept_some, new_some, bool_is}
+use Rattle.fkv_recover.proofs.Keys.{got, kept_some, new_some}
 use Rattle.fkv_recover.proofs.Falls.{previous_below, along_reached, along_next, addr_in_log}
 use Rattle.fkv_recover.proofs.Sound.{along_below, all_kept, on_home_chain}
 

@@ -1,9 +1,9 @@
 -- The homes of the triples so far, as a map keeps them.
-use Rattle.std.proofs.Common.{◌≡◌, ◌≢◌, ◌⊎◌, inl, inr, ⊎_elim, ℕ, ◌+◌, ◌<◌, ◌≤◌, Bool, true, false, cond, Option, Some, None, refl, sym, ap, subst, ◌∙◌, arith, below_more}
+use Rattle.std.proofs.Common.{◌≡◌, inl, inr, ⊎_elim, ℕ, ◌+◌, ◌<◌, true, false, cond, Option, Some, None, sym, ap, ◌∙◌, arith, below_more}
 use Rattle.std.specs.Ordering.{nat_cmp, is_eq}
 use Rattle.std.specs.Option.{is_some}
 use Rattle.fkv_recover.specs.Log.{Log, IsTriple, IsTripleFault, is_triple, triple_home}
-use Rattle.fkv_recover.proofs.Keys.{got, kept_some, new_some, some_of, bool_is}
+use Rattle.fkv_recover.proofs.Keys.{got, kept_some, new_some, some_of}
 
 -- the triples so far are as they should be, and the map has their homes alone
 pub record AreSeen (log : Log) (at : ℕ → Option ℕ) (i : ℕ) : Type 0 where

@@ -1,14 +1,14 @@
 -- What the writes of a new store make of the words.
-use Rattle.std.proofs.Common.{◌≡◌, ◌⊎◌, inl, inr, ⊎_elim, ℕ, zero, suc, ◌+◌, ◌-◌, ◌*◌, ◌<◌, ◌≤◌, ◌^◌, Bool, true, false, List, [], ◌∷◌, ◌++◌, length, get_or, drop, take, refl, sym, ap, subst, ◌∙◌, arith, length-append, length-take, length-drop, get_or-take}
+use Rattle.std.proofs.Common.{◌≡◌, ◌⊎◌, inl, inr, ⊎_elim, ℕ, zero, suc, ◌+◌, ◌-◌, ◌*◌, ◌<◌, ◌≤◌, ◌^◌, true, false, List, [], ◌∷◌, ◌++◌, length, get_or, drop, take, refl, sym, ap, ◌∙◌, arith, length-append, length-take, length-drop, get_or-take}
 use Rattle.std.proofs.Math.ListN.{get_or-append}
-use Rattle.std.specs.Prelude.{slice_index, slice_range, nat_lt}
+use Rattle.std.specs.Prelude.{slice_range, nat_lt}
 use Rattle.std.proofs.lemmas.Bool.Decides.{nat_tests}
 use Rattle.std.proofs.Math.Seq.{get_or-append_seam}
 use Rattle.fkv_recover.proofs.Keys.{bool_is}
 use Rattle.std.specs.Int.{w64, from_le_bytes, to_le_bytes}
 use Rattle.std.proofs.lemmas.List.{get_or-drop, get_or-append-add}
 use Rattle.std.proofs.lemmas.Nat.{from_le_bytes-to_le_bytes_8}
-use Rattle.fkv_disk.specs.Bytes.{byte_at, written, covers}
+use Rattle.fkv_disk.specs.Bytes.{byte_at, written}
 use Rattle.fkv_disk.proofs.BytesLemmas.{byte_at-written_in, byte_at-written_out, in_range, before_range, after_range}
 use Rattle.fkv_recover.specs.Image.{word_at}
 use Rattle.fkv_recover.specs.Created.{AreWords, AreZeroBytes, HasGaps, IsLaid, laid_bytes}

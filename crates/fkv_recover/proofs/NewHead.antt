@@ -1,6 +1,6 @@
 -- The head of a new store: recovery finds no fault behind it.
-use Rattle.std.proofs.Common.{◌≡◌, ◌≢◌, ◌⊎◌, inl, inr, ℕ, zero, suc, ◌+◌, ◌-◌, ◌*◌, ◌%◌, ◌<◌, ◌≤◌, ◌^◌, Bool, true, false, ◌&&◌, List, [], ◌∷◌, ◌++◌, length, get_or, take, drop, refl, sym, ap, subst, ◌∙◌, arith}
-use Rattle.std.specs.Prelude.{nat_eq, nat_le, nat_lt, IsTrue, replicate, map, slice_index}
+use Rattle.std.proofs.Common.{◌≡◌, ℕ, zero, suc, ◌+◌, ◌-◌, ◌*◌, ◌<◌, ◌≤◌, ◌^◌, Bool, true, false, ◌&&◌, List, [], ◌∷◌, ◌++◌, length, get_or, take, drop, refl, sym, ap, subst, ◌∙◌, arith}
+use Rattle.std.specs.Prelude.{nat_eq, nat_le, nat_lt, IsTrue, replicate}
 use Rattle.std.specs.List.{list_all}
 use Rattle.std.proofs.lemmas.Bool.Decides.{nat_tests}
 use Rattle.std.proofs.lemmas.List.{get_or-drop, get_or-append-add}
@@ -8,9 +8,9 @@ use Rattle.std.proofs.Math.ListN.{get_or-append}
 use Rattle.std.proofs.Math.Nat.{mul-le-mul}
 use Rattle.fkv_base.specs.Limits.{IsShape, is_shape, is_ring_size}
 use Rattle.fkv_base.specs.declared.shapes.Shape.{Shape}
-use Rattle.fkv_recover.specs.Image.{head_of, slot_of, bits_of, sessions_of, most_triples, disk_pages_of, page_of}
-use Rattle.fkv_recover.specs.Manifest.{store_mark, is_slot, is_folded, is_manifest, is_store, has_shape, is_open, newest, HasSizes, slot_points}
-use Rattle.fkv_recover.specs.Log.{Log, log_in, log_of, HasTriples}
+use Rattle.fkv_recover.specs.Image.{slot_of, most_triples}
+use Rattle.fkv_recover.specs.Manifest.{store_mark, is_slot, is_manifest, is_store, is_open, newest, HasSizes}
+use Rattle.fkv_recover.specs.Log.{Log, HasTriples}
 use Rattle.fkv_recover.specs.Along.{IsChain}
 use Rattle.fkv_recover.specs.Room.{taken, triple_homes}
 use Rattle.fkv_recover.specs.Created.{new_head, HasGaps}

@@ -1,11 +1,11 @@
 -- A new store opens.
-use Rattle.std.proofs.Common.{◌≡◌, ℕ, ◌+◌, ◌*◌, ◌<◌, ◌≤◌, List, true, false, length, get_or, refl, sym, ap, subst, ◌∙◌, arith}
+use Rattle.std.proofs.Common.{◌≡◌, ℕ, ◌<◌, List, true, length, get_or, refl, sym, ap, subst, ◌∙◌, arith}
 use Rattle.std.proofs.lemmas.List.{ext_get_or}
 use Rattle.std.proofs.lemmas.List.FromFn.{get_or-map-range_with_len}
 use Rattle.fkv_base.specs.declared.shapes.Shape.{Shape}
 use Rattle.fkv_recover.specs.Image.{head_of, word_at, words_from, slot_of, sessions_of}
 use Rattle.fkv_recover.specs.Manifest.{newest, HasSizes, is_store, is_manifest, is_open, slot_number, slot_tail, slot_points}
-use Rattle.fkv_recover.specs.Log.{Log, log_in, log_of}
+use Rattle.fkv_recover.specs.Log.{log_in}
 use Rattle.fkv_recover.specs.Created.{new_head, IsLaid, ShowsNew}
 use Rattle.fkv_recover.specs.Naming.{AreNames}
 use Rattle.fkv_recover.specs.Opened.{IsOpenedOf, IsSound}

@@ -1,17 +1,15 @@
 -- The gathered values are the pairs of the log.
-use Rattle.std.proofs.Common.{◌≡◌, ◌≢◌, ℕ, ◌+◌, ◌<◌, ◌≤◌, true, List, Option, Some, None, refl, sym, ap, subst, ◌∙◌, arith}
+use Rattle.std.proofs.Common.{◌≡◌, ℕ, true, List, Some, None, sym, ap, ◌∙◌, arith}
 use Rattle.std.specs.Ordering.{nat_cmp}
 use Rattle.std.specs.Option.{is_some}
-use Rattle.std.specs.Map.{lookup}
-use Rattle.std.specs.BTreeMap.{BTreeMap, get, is_at}
+use Rattle.std.specs.BTreeMap.{BTreeMap, get}
 use Rattle.fkv_base.specs.declared.numbers.Key.{Key}
 use Rattle.fkv_base.specs.declared.numbers.Value.{Value}
-use Rattle.fkv_recover.specs.Log.{Log, triple_addr, key, value}
-use Rattle.fkv_recover.specs.Chains.{IsKept}
-use Rattle.fkv_recover.specs.Along.{IsAlong, IsFollowed}
+use Rattle.fkv_recover.specs.Log.{Log, value}
+use Rattle.fkv_recover.specs.Along.{IsFollowed}
 use Rattle.fkv_recover.specs.Pairs.{IsNewest, HasValue, ArePairs, IsPresent}
-use Rattle.fkv_recover.specs.Gathered.{IsNewestValue, IsGathered, AreShown}
-use Rattle.fkv_recover.proofs.Keys.{some_of, some_is}
+use Rattle.fkv_recover.specs.Gathered.{IsGathered, AreShown}
+use Rattle.fkv_recover.proofs.Keys.{some_of}
 use Rattle.fkv_recover.proofs.Sound.{on_chain}
 
 -- before the first chain

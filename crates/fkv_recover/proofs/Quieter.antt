@@ -1,7 +1,7 @@
 -- Quiet stretches follow each other.
-use Rattle.std.proofs.Common.{◌≡◌, ◌⊎◌, inl, inr, ⊎_elim, ℕ, ◌≤◌, List, refl, sym, ◌∙◌, arith}
+use Rattle.std.proofs.Common.{◌≡◌, inl, inr, ⊎_elim, ℕ, ◌≤◌, List, refl, ◌∙◌, arith}
 use Rattle.std.specs.Prelude.{◌↔◌}
-use Rattle.fkv_disk.specs.Device.{LeavesNoMore, Elapses, HasCause}
+use Rattle.fkv_disk.specs.Device.{LeavesNoMore, Elapses}
 use Rattle.fkv_recover.specs.Quiet.{IsQuiet}
 
 module _ {D : Type 0} (honest : D → Type 0) (seen : D → List ℕ) (may_leave : D → List ℕ → Type 0) (moment : D → ℕ)

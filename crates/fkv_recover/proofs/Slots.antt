@@ -1,12 +1,12 @@
 -- What a slot that recovery takes says of its numbers.
-use Rattle.std.proofs.Common.{◌≡◌, ◌⊎◌, inl, inr, ℕ, ◌+◌, ◌*◌, ◌%◌, ◌^◌, ◌<◌, ◌≤◌, Bool, true, false, ◌&&◌, List, refl, sym, ap, ◌∙◌, arith}
-use Rattle.std.specs.Prelude.{nat_eq, nat_le, nat_lt, IsTrue}
+use Rattle.std.proofs.Common.{◌≡◌, ℕ, ◌+◌, ◌*◌, ◌^◌, ◌≤◌, Bool, true, false, ◌&&◌, List, refl, arith}
+use Rattle.std.specs.Prelude.{nat_eq, nat_le, IsTrue}
 use Rattle.std.proofs.lemmas.Bool.Decides.{nat_tests}
 use Rattle.std.proofs.Math.Pow.{pow_mono}
 use Rattle.std.proofs.Math.Nat.{mul-le-mul}
 use Rattle.fkv_base.specs.Limits.{is_ring_size}
-use Rattle.fkv_recover.specs.Image.{slot_of, sessions_of, most_triples, disk_pages_of, page_of}
-use Rattle.fkv_recover.specs.Manifest.{is_slot, is_folded, is_manifest, slot_number, slot_log_start, slot_tail, slot_triples, slot_area}
+use Rattle.fkv_recover.specs.Image.{most_triples}
+use Rattle.fkv_recover.specs.Manifest.{is_slot, is_folded, slot_number, slot_log_start, slot_tail, slot_triples, slot_area}
 
 both : (a b : Bool) → (a && b) ≡ true → (a ≡ true) × (b ≡ true)
 both true true e = (refl, refl)

@@ -1,8 +1,8 @@
 -- What follows where triples and chains are sound and there is nothing to scan: which records are reached, and that triples are entries.
-use Rattle.std.proofs.Common.{◌≡◌, ◌≢◌, ◌⊎◌, inl, inr, ⊎_elim, ℕ, ◌+◌, ◌<◌, ◌≤◌, Bool, true, false, refl, sym, ap, subst, ◌∙◌, arith}
-use Rattle.fkv_recover.specs.Log.{Log, HasTriples, IsTriple, is_triple, triple_home, triple_addr, previous, version, is_invalid, is_record, record_home}
-use Rattle.fkv_recover.specs.Chains.{Reached, scanned, led_to, linked, LeadsTo, IsTripleLeading, IsRecordLeading, HasChains, IsChainRecordFault, IsChainLinkFault, IsKept, IsEntry}
-use Rattle.fkv_recover.specs.Along.{IsAlong, here, on, IsOf, IsChain}
+use Rattle.std.proofs.Common.{◌≡◌, ◌≢◌, ◌⊎◌, inl, inr, ℕ, ◌+◌, ◌<◌, ◌≤◌, true, false, sym, ap, subst, ◌∙◌, arith}
+use Rattle.fkv_recover.specs.Log.{Log, HasTriples, triple_home, triple_addr, previous, is_invalid, is_record, record_home}
+use Rattle.fkv_recover.specs.Chains.{Reached, scanned, led_to, linked, LeadsTo, HasChains, IsKept, IsEntry}
+use Rattle.fkv_recover.specs.Along.{IsAlong, here, on, IsChain}
 use Rattle.std.specs.Prelude.{Contains}
 use Rattle.std.proofs.Common.{get_or, length, ◌^◌}
 use Rattle.std.proofs.lemmas.List.FromFn.{get_or-map-range_with_len, length-map-range_with_len}

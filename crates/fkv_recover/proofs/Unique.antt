@@ -1,14 +1,13 @@
 -- Two lists that have the same homes, each once, count alike.
-use Rattle.std.proofs.Common.{◌≡◌, ◌≢◌, ◌⊎◌, inl, inr, ⊎_elim, ℕ, zero, suc, ◌+◌, ◌-◌, ◌<◌, ◌≤◌, Bool, true, false, cond, ◌/◌, ◌^◌, List, [], ◌∷◌, length, get_or, refl, sym, ap, subst, ◌∙◌, arith}
+use Rattle.std.proofs.Common.{◌≡◌, ◌≢◌, ⊎_elim, ℕ, zero, suc, ◌+◌, ◌<◌, ◌≤◌, true, false, cond, ◌/◌, ◌^◌, List, [], ◌∷◌, length, refl, sym, ap, ◌∙◌, arith}
 use Rattle.std.proofs.Math.Nat.{add-zero}
 use Rattle.std.proofs.Math.Nat.{add-suc}
-use Rattle.std.specs.Prelude.{nat_eq, Contains, AllPairs, ◌↔◌}
+use Rattle.std.specs.Prelude.{nat_eq, Contains, AllPairs}
 use Rattle.std.specs.List.{sum_by}
 use Rattle.std.proofs.lemmas.List.Sums.{sum_by-cons}
 use Rattle.std.proofs.lemmas.Bool.Decides.{nat_tests}
 use Rattle.fkv_recover.specs.Log.{Log}
 use Rattle.fkv_recover.specs.Room.{AreHomes, in_bucket, taken, needed}
-use Rattle.fkv_recover.proofs.Keys.{bool_is}
 use Rattle.fkv_recover.proofs.Shown.{in_rest, in_head, in_tail, by_cond}
 
 -- a list without the first x

@@ -1,12 +1,11 @@
 -- What an opened store is, against its image.
-use Rattle.std.specs.Prelude.{◌≡◌, ℕ, ◌+◌, ◌*◌, ◌^◌, ◌<◌, List, map, true}
+use Rattle.std.specs.Prelude.{◌≡◌, ℕ, List, map, true}
 use Rattle.fkv_base.specs.declared.faults.Fault.{Fault}
 use Rattle.fkv_base.specs.declared.faults.Fault.TheVariants.{NotAStore, Damaged, Device, Memory}
 use Rattle.fkv_disk.specs.Device.{Rose}
 use Rattle.fkv_recover.specs.Image.{head_of, slot_of, sessions_of}
 use Rattle.fkv_recover.specs.Manifest.{is_store, newest, is_open, HasSizes, slot_points, slot_number, slot_tail}
 use Rattle.fkv_recover.specs.Log.{Log, log_of, HasTriples}
-use Rattle.fkv_recover.specs.Along.{IsChain}
 use Rattle.fkv_recover.specs.Chains.{HasChains}
 use Rattle.fkv_recover.specs.Scan.{HasScan}
 use Rattle.fkv_recover.specs.Room.{HasRoom}

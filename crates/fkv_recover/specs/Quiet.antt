@@ -1,5 +1,5 @@
 -- A stretch of calls of a device that only reads and syncs.
-use Rattle.std.specs.Prelude.{◌≡◌, ◌↔◌, ◌⊎◌, ℕ, ◌≤◌, List}
+use Rattle.std.specs.Prelude.{◌≡◌, ◌↔◌, ℕ, ◌≤◌, List}
 use Rattle.fkv_base.specs.declared.faults.Fault.{Fault}
 use Rattle.fkv_base.specs.declared.faults.Fault.TheVariants.{Device, Memory}
 use Rattle.fkv_disk.specs.Device.{LeavesNoMore, Elapses, Rose}

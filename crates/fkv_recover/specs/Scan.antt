@@ -1,5 +1,5 @@
 -- The fourth stage: the records that no triple need know of, from the log's start to its tail, upwards.
-use Rattle.std.specs.Prelude.{◌≡◌, ◌≢◌, ◌⊎◌, ℕ, ◌+◌, ◌<◌, ◌≤◌, true, false}
+use Rattle.std.specs.Prelude.{◌≡◌, ◌≢◌, ℕ, ◌+◌, ◌<◌, ◌≤◌, true, false}
 use Rattle.fkv_recover.specs.Log.{Log, triple_home, triple_addr, previous, version, is_invalid, is_record, record_home}
 
 -- the nearest valid record below a, from the start on, of the home of a

@@ -1,5 +1,4 @@
 -- What a stage of recovery answers where it doesn't pass.
-use Rattle.std.specs.Prelude.{ℕ}
 use Rattle.fkv_base.specs.declared.faults.Fault.{Fault}
 use Rattle.fkv_base.specs.declared.faults.Fault.TheVariants.{Damaged, Memory}
 use Rattle.fkv_recover.specs.Log.{Log}

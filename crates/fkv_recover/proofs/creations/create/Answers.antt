@@ -1,4 +1,4 @@
-use Rattle.std.proofs.Common.{◌≡◌, ℕ, List, sym, ◌∙◌, ap, subst, length}
+use Rattle.std.proofs.Common.{sym, ◌∙◌, ap, subst, length}
 use Rattle.fkv_recover.specs.Created.{new_head, HasGaps, IsLaid}
 use Rattle.fkv_recover.proofs.NewHead.{length-new_head, new_gaps}
 use Rattle.fkv_recover.proofs.Newly.{opened_new}

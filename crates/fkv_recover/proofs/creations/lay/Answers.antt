@@ -1,4 +1,4 @@
-use Rattle.std.proofs.Common.{◌≡◌, ℕ, sym, ◌∙◌, ap, subst}
+use Rattle.std.proofs.Common.{◌≡◌, sym, ◌∙◌, ap, subst}
 use Rattle.fkv_recover.specs.Created.{laid_bytes, IsLaid}
 use Rattle.fkv_recover.proofs.Laying.{is_laid}
 use Rattle.fkv_recover.proofs.creations.lay.Goals as goal

@@ -1,6 +1,5 @@
-use Rattle.std.proofs.Common.{◌≡◌, ℕ, List, sym, ◌∙◌, ap, subst, true, length}
+use Rattle.std.proofs.Common.{◌≡◌, sym, ◌∙◌, ap, subst, true, length}
 use Rattle.fkv_recover.specs.Manifest.{HasSizes, is_manifest}
-use Rattle.fkv_recover.specs.Created.{new_head}
 use Rattle.fkv_recover.proofs.NewHead.{length-new_head, new_sizes, new_manifest}
 use Rattle.fkv_recover.proofs.creations.new_store.Goals as goal
 

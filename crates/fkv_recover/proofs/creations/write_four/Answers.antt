@@ -1,4 +1,4 @@
-use Rattle.std.proofs.Common.{◌≡◌, ◌∷◌, [], List, ℕ, ◌∙◌, ap}
+use Rattle.std.proofs.Common.{◌∷◌, [], ◌∙◌, ap}
 use Rattle.fkv_disk.specs.Bytes.{written}
 use Rattle.fkv_recover.specs.Created.{laid_bytes}
 use Rattle.fkv_recover.proofs.creations.write_four.Goals as goal

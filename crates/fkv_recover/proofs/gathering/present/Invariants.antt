@@ -1,6 +1,4 @@
 use Rattle.std.proofs.Common.{◌≡◌, ◌++◌}
-use Rattle.std.specs.Ordering.{nat_cmp}
-use Rattle.std.specs.BTreeMap.{IsOrdered}
 use Rattle.fkv_recover.proofs.Shown.{shown_of}
 use Rattle.fkv_recover.proofs.gathering.present.Given as goal
 

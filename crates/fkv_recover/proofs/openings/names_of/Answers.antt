@@ -1,4 +1,4 @@
-use Rattle.std.proofs.Common.{◌≡◌, ◌≤◌, ◌*◌, ◌^◌, ◌+◌, List, ℕ, true, arith, sym, ◌∙◌}
+use Rattle.std.proofs.Common.{◌≡◌, ◌≤◌, ◌*◌, List, ℕ, true, arith}
 use Rattle.fkv_recover.specs.Image.{slot_of, sessions_of, most_triples, disk_pages_of, page_of, bits_of, overflow_of}
 use Rattle.fkv_recover.specs.Manifest.{is_manifest, slot_number, slot_log_start, slot_tail, slot_triples, slot_area}
 use Rattle.fkv_recover.proofs.Slots.{AreSlotNumbers, slot_numbers, triples_fit, page_fits, log_fits}

@@ -1,4 +1,4 @@
-use Rattle.std.proofs.Common.{◌≡◌, sym, true}
+use Rattle.std.proofs.Common.{◌≡◌, true}
 use Rattle.fkv_recover.specs.Image.{head_of}
 use Rattle.fkv_recover.specs.Manifest.{is_manifest}
 use Rattle.fkv_recover.specs.Read.{shown}

@@ -1,5 +1,4 @@
-use Rattle.std.proofs.Common.{◌≡◌, sym, ◌∙◌, ap, ◌++◌, ◌∷◌, [], List, ℕ, ◌*◌, length, take, drop, arith, subst, rules}
-use Rattle.std.specs.Prelude.{IfOk}
+use Rattle.std.proofs.Common.{◌≡◌, ◌∙◌, ap, ◌++◌, ◌*◌, length, take, drop, arith}
 use Rattle.std.proofs.Math.Seq.{take-append_seam}
 use Rattle.fkv_disk.specs.Bytes.{bytes_at}
 use Rattle.fkv_disk.proofs.BytesLemmas.{length-bytes_at}

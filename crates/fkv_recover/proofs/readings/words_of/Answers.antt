@@ -1,5 +1,4 @@
-use Rattle.std.proofs.Common.{sym, ◌∙◌, ap, ◌++◌, ◌∷◌, [], List, ℕ, arith, length}
-use Rattle.fkv_recover.specs.Image.{words_from}
+use Rattle.std.proofs.Common.{sym, ◌∙◌, ap, arith, length}
 use Rattle.fkv_recover.proofs.Words.{no_words, words_more, length-words_from}
 use Rattle.fkv_recover.proofs.readings.words_of.Goals as goal
 

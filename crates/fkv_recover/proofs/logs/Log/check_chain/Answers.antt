@@ -1,7 +1,6 @@
-use Rattle.std.proofs.Common.{◌≡◌, ◌≢◌, inl, inr, true, false, ⊎_elim, arith, sym, ◌∙◌, rules}
+use Rattle.std.proofs.Common.{◌≡◌, ◌≢◌, inr, true, false, ◌∙◌}
 use Rattle.fkv_recover.specs.Log.{is_record, is_invalid, record_home, triple_home}
 use Rattle.fkv_recover.specs.Chains.{IsChainLinkFault}
-use Rattle.fkv_recover.specs.Along.{IsOf}
 use Rattle.fkv_recover.specs.Read.{shown}
 use Rattle.fkv_recover.proofs.Falls.{follow_first, follow_next, no_scan, previous_below, record_fault, invalid_fault, home_fault}
 use Rattle.fkv_recover.proofs.logs.Log.check_chain.Goals as goal

@@ -1,4 +1,3 @@
-use Rattle.std.proofs.Common.{ℕ}
 use Rattle.fkv_recover.specs.Read.{shown}
 use Rattle.fkv_recover.proofs.Falls.{Following}
 use Rattle.fkv_recover.proofs.logs.Log.check_chain.Given as goal

@@ -1,4 +1,4 @@
-use Rattle.std.proofs.Common.{rules, ◌≡◌, ◌≤◌, ◌<◌, ◌^◌, ◌+◌, arith, sym, ◌∙◌, get_or, length, subst, ap, ℕ}
+use Rattle.std.proofs.Common.{◌≡◌, ◌≤◌, ◌<◌, ◌^◌, ◌+◌, arith, length, subst, ap}
 use Rattle.fkv_recover.specs.Read.{shown}
 use Rattle.fkv_recover.specs.Room.{taken, needed, in_bucket, triple_homes}
 use Rattle.fkv_recover.proofs.Counts.{in_bucket_few, read_count}

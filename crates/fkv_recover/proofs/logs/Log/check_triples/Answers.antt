@@ -1,9 +1,9 @@
-use Rattle.std.proofs.Common.{◌≡◌, ℕ, true, false, refl, ap, sym, ◌∙◌, rules, None}
+use Rattle.std.proofs.Common.{◌≡◌, true, false, ap, sym, ◌∙◌}
 use Rattle.std.specs.Ordering.{nat_cmp}
 use Rattle.std.specs.Option.{is_some}
 use Rattle.std.specs.Map.{lookup}
-use Rattle.std.specs.BTreeMap.{get, get_by, is_at}
-use Rattle.fkv_recover.specs.Log.{is_triple, triple_home}
+use Rattle.std.specs.BTreeMap.{get, is_at}
+use Rattle.fkv_recover.specs.Log.{is_triple}
 use Rattle.fkv_recover.specs.Read.{shown}
 use Rattle.fkv_recover.proofs.Homes.{none_seen, seen_next, not_fitting, not_first}
 use Rattle.fkv_recover.proofs.logs.Log.check_triples.Goals as goal

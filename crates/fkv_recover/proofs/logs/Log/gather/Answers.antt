@@ -1,11 +1,8 @@
-use Rattle.std.proofs.Common.{◌≡◌, ℕ, ◌<◌, ◌≤◌, true, false, arith, sym, ◌∙◌, ap, subst, rules}
+use Rattle.std.proofs.Common.{◌≡◌, ◌<◌, true, false, arith, sym, ◌∙◌, ap, subst}
 use Rattle.std.specs.Ordering.{nat_cmp}
 use Rattle.std.specs.Option.{is_some}
 use Rattle.std.specs.BTreeMap.{get}
-use Rattle.std.specs.Prelude.{if◌then◌else◌, nat_lt}
-use Rattle.fkv_recover.specs.Log.{triple_addr, previous, key, value}
-use Rattle.fkv_recover.specs.Along.{IsFollowed}
-use Rattle.fkv_recover.specs.Gathered.{IsGathered}
+use Rattle.fkv_recover.specs.Log.{triple_addr, previous, key}
 use Rattle.fkv_recover.specs.Read.{shown}
 use Rattle.fkv_recover.proofs.Gather.{AreGathering, capped, gather_first, gather_seen, gather_new}
 use Rattle.fkv_recover.proofs.logs.Log.gather.Goals as goal
