@@ -15,7 +15,7 @@ pub bucket_in_index : (log : Log) (i : ℕ) → is_triple log i ≡ true → tri
 unfolding is_triple
 bucket_in_index log i fits = grind (arith, nat_tests)
 
-tag_fits : (log : Log) (i : ℕ) → is_triple log i ≡ true → triple_tag log i < 2 ^ 15
+pub tag_fits : (log : Log) (i : ℕ) → is_triple log i ≡ true → triple_tag log i < 2 ^ 15
 unfolding is_triple
 tag_fits log i fits = grind (arith, nat_tests)
 

@@ -1,5 +1,6 @@
 pub mod Answered
 pub mod Counts
+pub mod EntryLemmas
 pub mod Exact
 pub mod Falls
 pub mod Followed

@@ -5,6 +5,7 @@ pub mod Scan
 pub mod Chains
 pub mod Room
 pub mod Created
+pub mod Entries
 pub mod Faults
 pub mod Along
 pub mod Opened

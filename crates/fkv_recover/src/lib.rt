@@ -5,6 +5,8 @@ mod chain_stage;
 mod contents;
 mod creations;
 mod gathering;
+mod home_entries;
+mod indexes;
 mod logs;
 mod manifests;
 mod openings;
@@ -15,6 +17,8 @@ mod triple_stage;
 
 pub use contents::content;
 pub use creations::create;
+pub use home_entries::HomeEntry;
+pub use indexes::entries;
 pub use openings::{Opened, recover};
 
 #[cfg(test)]

@@ -1,6 +1,6 @@
 use super::*;
 use byteorder::{ByteOrder, LittleEndian};
-use fkv_base::{Damage, Fault, Key, Serial, Shape, Value, Version};
+use fkv_base::{Addr, Damage, Fault, Key, Serial, Shape, Value, Version};
 use fkv_disk::{Device, MemDisk, Once};
 use std::alloc::Global;
 use std::test::Fail;
@@ -88,6 +88,13 @@ fn a_store_is_recovered(rt: HostRuntime) -> Result<(), Fail> {
     assert_eq!(rt; opened.shape.disk_pages, 64);
     let pairs = content(rt.alloc(), &opened, &mut disk)?;
     assert_eq!(rt; pairs.as_slice(), [(Key(1), Value(10))].as_slice());
+    let homes = entries(rt.alloc(), &opened, &mut disk)?;
+    let first = HomeEntry {
+        bucket: 1,
+        tag: 0,
+        addr: Addr(1),
+    };
+    assert_eq!(rt; homes.as_slice(), [first].as_slice());
     Ok(())
 }
 
