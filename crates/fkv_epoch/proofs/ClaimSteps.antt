@@ -1,22 +1,22 @@
 -- Steps of a claim.
-use Rattle.std.proofs.Common.{◌≡◌, ◌≢◌, ℕ, ◌+◌, ◌-◌, ◌*◌, ◌^◌, ◌%◌, ◌<◌, ◌≤◌, ◌⊎◌, List, [], ◌∷◌, ◌++◌, length, refl, arith, sym, ap, inl, inr, ◌∙◌, max, Bool, true, false}
-use Rattle.std.specs.Prelude.{Option, Some, None, slice_get, slice_set, ⊤, ◌==◌, nat_lt, nat_le, if◌then◌else◌, map}
+use Rattle.std.proofs.Common.{◌≡◌, ◌≢◌, ℕ, ◌+◌, ◌-◌, ◌<◌, ◌≤◌, List, [], ◌∷◌, length, refl, arith, sym, ap, inl, inr, ◌∙◌, max, Bool, true, false}
+use Rattle.std.specs.Prelude.{Option, Some, None, slice_get, slice_set, ◌==◌, nat_lt, nat_le, if◌then◌else◌, map}
 use Rattle.std.proofs.lemmas.List.{set-get_or, length-set}
 use Rattle.std.proofs.lemmas.Bool.Decides.{nat_tests}
 use Rattle.fkv_plane.specs.declared.actions.Action.{Action}
 use Rattle.fkv_plane.specs.declared.actions.Action.TheVariants as act
-use Rattle.fkv_plane.specs.Asked.{word_at, words_after}
+use Rattle.fkv_plane.specs.Asked.{word_at}
 use Rattle.fkv_plane.specs.Plane.{action_at, found_action}
 use Rattle.fkv_plane.specs.Places.{session_place, drain_place}
 use Rattle.fkv_plane.specs.declared.places.SessionWord.TheVariants as own
 use Rattle.fkv_epoch.specs.declared.claiming.Claiming.{Claiming}
 use Rattle.fkv_epoch.specs.declared.claiming.Claiming.TheVariants.{AtRest, MeetsSlot, LoadsSafe, TakesSlot, Receives, Runs, FreesSlot}
-use Rattle.fkv_epoch.specs.Claiming.{claim_ask, claim_next, claim_given, slot_after, slot_armed, run_of, phase_stored}
-use Rattle.fkv_epoch.specs.World.{Duty, Claims, Sight, Loads, World, Now, Past, Armed, Claimed, Ran, put_near, claimed, near, epoch_of, safe_of, own_epoch, drain_word, loaded, moved, past_moved}
-use Rattle.fkv_epoch.specs.Once.{goes_by, load_of, Among, AreDifferent, RunsOnce}
-use Rattle.fkv_epoch.proofs.Cells.{same_or, word_written, word_spared, item_spared, within_item, set_at, set_here}
-use Rattle.fkv_epoch.proofs.Epochs.{IsFrom, AreFrom, Knows, Change, Epochs}
-use Rattle.fkv_epoch.proofs.Slots.{Fate, Taken, Spent, Waits, stage, Desk, Holds, Slots, Waiting, still}
+use Rattle.fkv_epoch.specs.Claiming.{claim_ask, claim_next, claim_given, slot_after, slot_armed, phase_stored}
+use Rattle.fkv_epoch.specs.World.{Duty, Claims, Sight, World, Claimed, Ran, put_near, claimed, near, epoch_of, safe_of, own_epoch, drain_word, loaded}
+use Rattle.fkv_epoch.specs.Once.{goes_by, Among}
+use Rattle.fkv_epoch.proofs.Cells.{word_written, word_spared, item_spared, within_item, set_at, set_here}
+use Rattle.fkv_epoch.proofs.Epochs.{AreFrom, Knows, Epochs}
+use Rattle.fkv_epoch.proofs.Slots.{Fate, Taken, Spent, stage, Desk, Holds, Slots, Waiting}
 use Rattle.fkv_epoch.proofs.SlotRuns.{take, spend, free}
 use Rattle.fkv_epoch.proofs.Sound.{IsSound, quiet, desk, assembled, epochs_written}
 use Rattle.fkv_epoch.proofs.SessionSteps.{SoundAfter, dutiful}

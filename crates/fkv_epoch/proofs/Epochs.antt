@@ -1,13 +1,11 @@
 -- Epochs in order: what each session goes by was loaded above every epoch that is safe or may become so by a scan under way.
-use Rattle.std.proofs.Common.{◌≡◌, ◌≢◌, ℕ, ◌+◌, ◌-◌, ◌<◌, ◌≤◌, ◌⊎◌, List, [], ◌∷◌, length, refl, arith, sym, ap, inl, inr, ◌∙◌, min, max, Bool, true, false}
-use Rattle.std.specs.Prelude.{Option, Some, None, slice_get, slice_set, ⊤}
-use Rattle.fkv_epoch.specs.declared.protecting.Protecting.{Protecting}
+use Rattle.std.proofs.Common.{◌≡◌, ◌≢◌, ℕ, ◌+◌, ◌<◌, ◌≤◌, List, refl, arith, sym, ap, inl, inr, ◌∙◌, true}
+use Rattle.std.specs.Prelude.{Some, slice_get, slice_set, ⊤}
 use Rattle.fkv_epoch.specs.declared.protecting.Protecting.TheVariants as wake
-use Rattle.fkv_epoch.specs.declared.refreshing.Refreshing.{Refreshing}
 use Rattle.fkv_epoch.specs.declared.refreshing.Refreshing.TheVariants as look
 use Rattle.fkv_epoch.specs.declared.leaving.Leaving.TheVariants as sleep
 use Rattle.fkv_epoch.specs.declared.scanning.Scanning.TheVariants as scan
-use Rattle.fkv_epoch.specs.World.{Duty, Protects, Refreshes, Leaves, Scans, Claims, Raises, Bears, Arms, Sight, OfPhase, OfReadOnly, OfHead, Loads}
+use Rattle.fkv_epoch.specs.World.{Duty, Protects, Refreshes, Leaves, Scans, Claims, Raises, Bears, Arms, Sight, Loads}
 use Rattle.fkv_epoch.specs.Once.{goes_by, load_of}
 use Rattle.fkv_epoch.proofs.Cells.{item_written, item_spared, same_or, some_same}
 

@@ -1,12 +1,11 @@
 -- What crates above need of a sound world, besides the law.
-use Rattle.std.proofs.Common.{◌≡◌, ℕ, ◌+◌, ◌-◌, ◌^◌, ◌<◌, ◌≤◌, ◌⊎◌, List, length, refl, arith, sym, ap, inl, inr, ◌∙◌}
-use Rattle.std.specs.Prelude.{Option, Some, None, slice_get}
-use Rattle.fkv_plane.specs.declared.actions.Action.{Action}
+use Rattle.std.proofs.Common.{◌≡◌, ℕ, ◌-◌, ◌^◌, ◌<◌, ◌≤◌, arith, ap}
+use Rattle.std.specs.Prelude.{Some, None, slice_get}
 use Rattle.fkv_plane.specs.Plane.{action_at}
 use Rattle.fkv_epoch.specs.declared.claiming.Claiming.TheVariants as claim
-use Rattle.fkv_epoch.specs.World.{Duty, Claims, Bears, Sight, World, Armed, epoch_of, safe_of, drain_word}
+use Rattle.fkv_epoch.specs.World.{Claims, Bears, Sight, World, Armed, epoch_of, safe_of, drain_word}
 use Rattle.fkv_epoch.specs.Once.{load_of, Among, FindsAction}
-use Rattle.fkv_epoch.proofs.Slots.{Unborn, stage, Slots, Waiting}
+use Rattle.fkv_epoch.proofs.Slots.{stage, Waiting}
 use Rattle.fkv_epoch.proofs.Sound.{IsSound, desk}
 
 -- no session has loaded anything at an epoch that is not reached, so none has seen past the epoch as it is raised

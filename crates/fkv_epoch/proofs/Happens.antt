@@ -1,13 +1,7 @@
 -- Every event keeps the world sound.
-use Rattle.std.proofs.Common.{◌≡◌, ◌≢◌, ℕ, zero, suc, ◌+◌, ◌-◌, ◌*◌, ◌^◌, ◌%◌, ◌<◌, ◌≤◌, ◌⊎◌, List, [], ◌∷◌, ◌++◌, length, refl, arith, sym, ap, inl, inr, ◌∙◌, max, Bool, true, false}
-use Rattle.std.specs.Prelude.{Option, Some, None, slice_get, slice_set, ⊤, ◌==◌, ◌&&◌, ◌||◌, not, nat_lt, nat_le, if◌then◌else◌, map}
-use Rattle.std.proofs.lemmas.List.{set-get_or, length-set}
+use Rattle.std.proofs.Common.{◌≡◌, ℕ, ◌≤◌, refl, arith, inl, Bool, true, false}
+use Rattle.std.specs.Prelude.{Option, Some, None, slice_get, ◌==◌, ◌&&◌, not, nat_lt, if◌then◌else◌}
 use Rattle.std.proofs.lemmas.Bool.Decides.{nat_tests}
-use Rattle.fkv_plane.specs.declared.actions.Action.{Action}
-use Rattle.fkv_plane.specs.Plane.{action_at, found_action}
-use Rattle.fkv_plane.specs.Places.{session_place, drain_place}
-use Rattle.fkv_plane.specs.declared.places.SessionWord.TheVariants as own
-use Rattle.fkv_epoch.specs.declared.protecting.Protecting.{Protecting}
 use Rattle.fkv_epoch.specs.declared.protecting.Protecting.TheVariants as wake
 use Rattle.fkv_epoch.specs.declared.refreshing.Refreshing.{Refreshing}
 use Rattle.fkv_epoch.specs.declared.refreshing.Refreshing.TheVariants as look
@@ -16,18 +10,14 @@ use Rattle.fkv_epoch.specs.declared.scanning.Scanning.TheVariants as scan
 use Rattle.fkv_epoch.specs.declared.claiming.Claiming.TheVariants as claim
 use Rattle.fkv_epoch.specs.declared.raising.Raising.{Raising}
 use Rattle.fkv_epoch.specs.declared.raising.Raising.TheVariants as raise
-use Rattle.fkv_epoch.specs.declared.arming.Arming.TheVariants as arm
 use Rattle.fkv_epoch.specs.Refreshing.{refresh_finish}
 use Rattle.fkv_epoch.specs.Raising.{raise_on}
-use Rattle.fkv_epoch.specs.Arming.{arm_next}
-use Rattle.fkv_epoch.specs.World.{Duty, Protects, Refreshes, Leaves, Scans, Claims, Raises, Bears, Arms, Task, ToProtect, ToRefresh, ToLeave, ToScan, ToClaim, ToRaise, Sight, OfPhase, OfReadOnly, OfHead, Loads, World, Now, Past, Event, Begins, Resumes, Puts, Moves, Sees, Changes, is_at_rest, may_begin, first_duty, begun, resumed, resumed_duty, put, put_by, moved, past_moved, past_seen, happens, happens_now, epoch_of, safe_of, own_epoch, drain_word, loaded, with_load, with_duty, is_own}
-use Rattle.fkv_epoch.specs.Once.{goes_by, load_of, RunsOnce}
-use Rattle.fkv_epoch.proofs.Cells.{same_or, word_spared, item_spared}
-use Rattle.fkv_epoch.proofs.Epochs.{IsFrom, AreFrom, Knows, Epochs, Change, knows_more, from_moved}
-use Rattle.fkv_epoch.proofs.Slots.{Fate, Desk, Holds, Slots, Waiting, Spares, holds_more}
-use Rattle.fkv_epoch.proofs.SlotSteps as slots
-use Rattle.fkv_epoch.proofs.Sound.{IsSound, quiet, desk, weight, load_up, change_load, bounded_step}
-use Rattle.fkv_epoch.proofs.SessionSteps.{SoundAfter, dutiful, looking, protect_moves, refresh_moves, leave_moves}
+use Rattle.fkv_epoch.specs.World.{Duty, Protects, Refreshes, Leaves, Scans, Claims, Raises, Bears, Arms, Task, ToProtect, ToRefresh, ToLeave, ToScan, ToClaim, ToRaise, Sight, Loads, World, is_at_rest, may_begin, first_duty, begun, resumed, moved, past_moved, epoch_of, own_epoch, loaded, with_load, with_duty}
+use Rattle.fkv_epoch.specs.Once.{goes_by}
+use Rattle.fkv_epoch.proofs.Epochs.{AreFrom, Knows}
+use Rattle.fkv_epoch.proofs.Slots.{Fate, Holds, Slots}
+use Rattle.fkv_epoch.proofs.Sound.{IsSound, quiet, desk, weight}
+use Rattle.fkv_epoch.proofs.SessionSteps.{dutiful, protect_moves, refresh_moves, leave_moves}
 use Rattle.fkv_epoch.proofs.ScanSteps.{scan_moves}
 use Rattle.fkv_epoch.proofs.ClaimSteps.{claim_moves}
 use Rattle.fkv_epoch.proofs.RaiseSteps.{raise_moves, bear_moves, arm_moves}

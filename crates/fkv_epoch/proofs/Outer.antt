@@ -1,7 +1,7 @@
 -- The events that are no ask of these machines: an action put into a slot, another load of a session, another word.
-use Rattle.std.proofs.Common.{◌≡◌, ◌≢◌, ℕ, zero, suc, ◌+◌, ◌-◌, ◌*◌, ◌^◌, ◌%◌, ◌<◌, ◌≤◌, ◌⊎◌, List, [], ◌∷◌, ◌++◌, length, refl, arith, sym, ap, inl, inr, ◌∙◌, max, Bool, true, false, eq-eqb}
-use Rattle.std.specs.Prelude.{Option, Some, None, slice_get, slice_set, ⊤, ◌==◌, ◌&&◌, ◌||◌, not, nat_lt, nat_le, if◌then◌else◌, map}
-use Rattle.std.proofs.lemmas.List.{set-get_or, length-set}
+use Rattle.std.proofs.Common.{◌≡◌, ℕ, zero, suc, ◌+◌, ◌-◌, ◌*◌, ◌%◌, ◌<◌, ◌≤◌, List, [], ◌∷◌, length, refl, arith, sym, ap, inl, inr, ◌∙◌, Bool, true, false, eq-eqb}
+use Rattle.std.specs.Prelude.{Option, Some, None, slice_get, slice_set, ◌==◌, ◌&&◌, ◌||◌, nat_lt, nat_le}
+use Rattle.std.proofs.lemmas.List.{length-set}
 use Rattle.std.proofs.lemmas.Bool.Decides.{nat_tests}
 use Rattle.fkv_plane.specs.declared.actions.Action.{Action}
 use Rattle.fkv_plane.specs.Plane.{action_at, found_action}
@@ -13,14 +13,14 @@ use Rattle.fkv_epoch.specs.declared.leaving.Leaving.TheVariants as sleep
 use Rattle.fkv_epoch.specs.declared.scanning.Scanning.TheVariants as scan
 use Rattle.fkv_epoch.specs.declared.arming.Arming.TheVariants as arm
 use Rattle.fkv_epoch.specs.Arming.{arm_next}
-use Rattle.fkv_epoch.specs.World.{Duty, Protects, Refreshes, Leaves, Scans, Claims, Raises, Bears, Arms, Sight, OfPhase, OfReadOnly, OfHead, Loads, World, Now, Past, Event, put, put_by, past_seen, epoch_of, safe_of, own_epoch, drain_word, loaded, with_load, is_own}
-use Rattle.fkv_epoch.specs.Once.{goes_by, load_of}
-use Rattle.fkv_epoch.proofs.Cells.{same_or, word_spared, item_spared, item_written, item_within, within_item}
-use Rattle.fkv_epoch.proofs.Epochs.{IsFrom, AreFrom, Knows, Epochs, Change, knows_more, from_moved}
-use Rattle.fkv_epoch.proofs.Slots.{Fate, Desk, Holds, Slots, Waiting, Spares, holds_more}
+use Rattle.fkv_epoch.specs.World.{Duty, Protects, Refreshes, Leaves, Scans, Claims, Raises, Bears, Arms, Sight, OfPhase, OfReadOnly, OfHead, Loads, World, put, past_seen, epoch_of, safe_of, own_epoch, drain_word, with_load, is_own}
+use Rattle.fkv_epoch.specs.Once.{load_of}
+use Rattle.fkv_epoch.proofs.Cells.{word_spared, item_spared, within_item}
+use Rattle.fkv_epoch.proofs.Epochs.{AreFrom, Knows, knows_more, from_moved}
+use Rattle.fkv_epoch.proofs.Slots.{Desk, holds_more}
 use Rattle.fkv_epoch.proofs.SlotSteps as slots
-use Rattle.fkv_epoch.proofs.Sound.{IsSound, quiet, desk, weight, load_up, change_load, assembled, epochs_step}
-use Rattle.fkv_epoch.proofs.SessionSteps.{SoundAfter, dutiful, looking}
+use Rattle.fkv_epoch.proofs.Sound.{IsSound, quiet, desk, load_up, assembled, epochs_step}
+use Rattle.fkv_epoch.proofs.SessionSteps.{dutiful, looking}
 use Rattle.fkv_epoch.proofs.Happens.{no_load}
 
 same_item : {X : Type 0} (xs : List X) (i : ℕ) (x : X) → slice_get xs i ≡ Some x → slice_set xs i x ≡ xs

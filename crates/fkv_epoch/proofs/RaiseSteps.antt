@@ -1,24 +1,21 @@
 -- Steps of the machines that raise the epoch and arm a slot.
-use Rattle.std.proofs.Common.{◌≡◌, ◌≢◌, ℕ, ◌+◌, ◌-◌, ◌*◌, ◌^◌, ◌%◌, ◌<◌, ◌≤◌, ◌⊎◌, List, [], ◌∷◌, ◌++◌, length, refl, arith, sym, ap, inl, inr, ◌∙◌, max, Bool, true, false}
-use Rattle.std.specs.Prelude.{Option, Some, None, slice_get, slice_set, ⊤, ◌==◌, nat_lt, nat_le, if◌then◌else◌, map}
+use Rattle.std.proofs.Common.{◌≡◌, ℕ, ◌+◌, ◌^◌, ◌%◌, ◌<◌, ◌≤◌, ◌⊎◌, List, ◌∷◌, refl, arith, ap, inl, inr, ◌∙◌, Bool, true, false}
+use Rattle.std.specs.Prelude.{Option, Some, None, slice_get, slice_set, ◌==◌, nat_lt, nat_le, if◌then◌else◌}
 use Rattle.std.proofs.lemmas.List.{set-get_or, length-set}
 use Rattle.std.proofs.lemmas.Bool.Decides.{nat_tests}
 use Rattle.fkv_plane.specs.declared.actions.Action.{Action}
-use Rattle.fkv_plane.specs.Asked.{word_at, words_after}
-use Rattle.fkv_plane.specs.Plane.{action_at, found_action}
+use Rattle.fkv_plane.specs.Plane.{action_at}
 use Rattle.fkv_plane.specs.Places.{session_place, drain_place}
 use Rattle.fkv_plane.specs.declared.places.SessionWord.TheVariants as own
 use Rattle.fkv_epoch.specs.declared.raising.Raising.{Raising}
 use Rattle.fkv_epoch.specs.declared.raising.Raising.TheVariants.{AtRest, LoadsEpoch, MeetsSlot, HoldsSlot, HasSlot, RaisesEpoch}
 use Rattle.fkv_epoch.specs.declared.arming.Arming.{Arming}
 use Rattle.fkv_epoch.specs.declared.arming.Arming.TheVariants as arms
-use Rattle.fkv_epoch.specs.Raising.{raise_ask, raise_next, raise_on, free_after, last_epoch}
+use Rattle.fkv_epoch.specs.Raising.{raise_ask, raise_next, free_after, last_epoch}
 use Rattle.fkv_epoch.specs.Arming.{arm_ask, arm_next}
-use Rattle.fkv_epoch.specs.World.{Duty, Raises, Bears, Arms, Sight, Loads, World, Now, Past, Armed, Claimed, Ran, put_near, near, epoch_of, safe_of, own_epoch, drain_word, loaded, moved, past_moved, put}
-use Rattle.fkv_epoch.specs.Once.{goes_by, load_of, Among, AreDifferent, RunsOnce}
-use Rattle.fkv_epoch.proofs.Cells.{same_or, word_written, word_spared, item_spared, set_at, set_here}
-use Rattle.fkv_epoch.proofs.Epochs.{IsFrom, AreFrom, Knows, Change, Epochs}
-use Rattle.fkv_epoch.proofs.Slots.{Fate, Borne, Waits, stage, Desk, Holds, Slots, Waiting, still}
+use Rattle.fkv_epoch.specs.World.{Duty, Raises, Bears, Arms, World, Armed, epoch_of, safe_of, own_epoch, drain_word, loaded}
+use Rattle.fkv_epoch.proofs.Cells.{word_written, word_spared, set_at, set_here}
+use Rattle.fkv_epoch.proofs.Slots.{Fate, Borne, Waits, stage, Desk, Holds, Slots}
 use Rattle.fkv_epoch.proofs.SlotSteps.{hold, raise}
 use Rattle.fkv_epoch.proofs.SlotRuns.{arm}
 use Rattle.fkv_epoch.proofs.Sound.{IsSound, quiet, desk, assembled, epochs_step, weight}

@@ -1,16 +1,15 @@
 -- Every run is sound, and what follows from that.
-use Rattle.std.proofs.Common.{◌≡◌, ◌≢◌, ℕ, zero, suc, ◌+◌, ◌-◌, ◌*◌, ◌^◌, ◌<◌, ◌≤◌, ◌⊎◌, List, [], ◌∷◌, length, refl, arith, sym, ap, inl, inr, ◌∙◌, Bool, true, false}
-use Rattle.std.specs.Prelude.{Option, Some, None, slice_get, slice_set, replicate, sum_by, All, ⊤, ◌==◌, if◌then◌else◌}
+use Rattle.std.proofs.Common.{◌≡◌, ℕ, zero, suc, ◌+◌, ◌-◌, ◌≤◌, List, [], ◌∷◌, length, refl, arith, ap, inl, inr, Bool, true, false}
+use Rattle.std.specs.Prelude.{Option, Some, None, slice_get, slice_set, replicate, sum_by, All, ◌==◌, if◌then◌else◌}
 use Rattle.std.proofs.lemmas.List.{length-replicate, get_or-replicate}
 use Rattle.std.proofs.lemmas.List.Sums.{sum_by-le}
 use Rattle.fkv_plane.specs.Plane.{action_at}
 use Rattle.fkv_epoch.specs.declared.protecting.Protecting.TheVariants as wake
 use Rattle.fkv_epoch.specs.declared.claiming.Claiming.{Claiming}
 use Rattle.fkv_epoch.specs.declared.claiming.Claiming.TheVariants as claim
-use Rattle.fkv_epoch.specs.World.{Duty, Protects, Refreshes, Leaves, Scans, Claims, Raises, Bears, Arms, Sight, OfPhase, OfReadOnly, OfHead, World, Now, Event, Begins, Resumes, Puts, Moves, Sees, Changes, Claimed, happens, run, epoch_of, safe_of, own_epoch, drain_word, claimed_by, is_own}
-use Rattle.fkv_epoch.specs.Once.{IsOpened, opening, goes_by, load_of, Counts, SeenSinceRaise, claims_found, claims_of, Among, HasRunOnce}
-use Rattle.fkv_epoch.proofs.Epochs.{IsFrom, AreFrom, Knows, Epochs}
-use Rattle.fkv_epoch.proofs.Slots.{Unborn, Slots, Holds}
+use Rattle.fkv_epoch.specs.World.{Duty, Protects, Refreshes, Leaves, Scans, Claims, Raises, Bears, Arms, Sight, OfPhase, OfReadOnly, OfHead, World, Event, Begins, Resumes, Puts, Moves, Sees, Changes, Claimed, happens, run, safe_of, drain_word, claimed_by, is_own}
+use Rattle.fkv_epoch.specs.Once.{IsOpened, opening, load_of, SeenSinceRaise, claims_found, claims_of, Among}
+use Rattle.fkv_epoch.proofs.Slots.{Unborn}
 use Rattle.fkv_epoch.proofs.Sound.{IsSound, weight}
 use Rattle.fkv_epoch.proofs.Happens.{begun_sound, resumed_sound, moved_sound}
 use Rattle.fkv_epoch.proofs.Outer.{put_sound, seen_sound, changes_sound}

@@ -1,6 +1,6 @@
 -- Steps of a scan.
-use Rattle.std.proofs.Common.{◌≡◌, ◌≢◌, ℕ, ◌+◌, ◌-◌, ◌*◌, ◌^◌, ◌<◌, ◌≤◌, ◌⊎◌, List, [], ◌∷◌, ◌++◌, length, refl, arith, sym, ap, inl, inr, ◌∙◌, max, min, Bool, true, false}
-use Rattle.std.specs.Prelude.{Option, Some, None, slice_get, slice_set, ⊤, ◌==◌, nat_lt, if◌then◌else◌}
+use Rattle.std.proofs.Common.{◌≡◌, ℕ, ◌+◌, ◌-◌, ◌<◌, ◌≤◌, List, refl, arith, ap, inl, inr, max, Bool, true, false}
+use Rattle.std.specs.Prelude.{Some, None, slice_get, slice_set, nat_lt, if◌then◌else◌}
 use Rattle.std.proofs.lemmas.List.{set-get_or, length-set}
 use Rattle.std.proofs.lemmas.Bool.Decides.{nat_tests}
 use Rattle.fkv_plane.specs.Places.{session_place, drain_place}
@@ -8,11 +8,10 @@ use Rattle.fkv_plane.specs.declared.places.SessionWord.TheVariants as own
 use Rattle.fkv_epoch.specs.declared.scanning.Scanning.{Scanning}
 use Rattle.fkv_epoch.specs.declared.scanning.Scanning.TheVariants.{AtRest, LoadsEpoch, LoadsSession, RaisesSafe}
 use Rattle.fkv_epoch.specs.Scanning.{scan_ask, scan_next, sessions_from, least_of}
-use Rattle.fkv_epoch.specs.World.{Duty, Scans, Sight, Loads, World, epoch_of, safe_of, own_epoch, drain_word}
-use Rattle.fkv_epoch.specs.Once.{goes_by, load_of}
+use Rattle.fkv_epoch.specs.World.{Duty, Scans, Loads, World, epoch_of, safe_of, own_epoch, drain_word}
 use Rattle.fkv_epoch.proofs.Cells.{same_or, word_written, word_spared}
-use Rattle.fkv_epoch.proofs.Epochs.{IsFrom, AreFrom, Knows, Change}
-use Rattle.fkv_epoch.proofs.Slots.{Desk, Holds, Slots, still}
+use Rattle.fkv_epoch.proofs.Epochs.{IsFrom, AreFrom, Knows}
+use Rattle.fkv_epoch.proofs.Slots.{still}
 use Rattle.fkv_epoch.proofs.Sound.{IsSound, quiet, desk, assembled, epochs_step}
 use Rattle.fkv_epoch.proofs.SessionSteps.{SoundAfter, dutiful}
 

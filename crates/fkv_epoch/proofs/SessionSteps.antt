@@ -1,9 +1,7 @@
 -- Steps of the machines that change a session's epoch word.
-use Rattle.std.proofs.Common.{◌≡◌, ◌≢◌, ℕ, ◌+◌, ◌-◌, ◌*◌, ◌^◌, ◌<◌, ◌≤◌, ◌⊎◌, List, [], ◌∷◌, ◌++◌, length, refl, arith, sym, ap, inl, inr, ◌∙◌, Bool, true, false}
-use Rattle.std.specs.Prelude.{Option, Some, None, slice_get, slice_set, ⊤}
+use Rattle.std.proofs.Common.{◌≡◌, ℕ, ◌<◌, ◌≤◌, ◌⊎◌, refl, arith, inl, inr, true}
+use Rattle.std.specs.Prelude.{Some, None, slice_get}
 use Rattle.std.proofs.lemmas.List.{set-get_or}
-use Rattle.fkv_plane.specs.declared.places.SharedWord.TheVariants as one
-use Rattle.fkv_plane.specs.Places.{shared_place}
 use Rattle.fkv_epoch.specs.declared.protecting.Protecting.{Protecting}
 use Rattle.fkv_epoch.specs.declared.protecting.Protecting.TheVariants as wake
 use Rattle.fkv_epoch.specs.declared.refreshing.Refreshing.{Refreshing}
@@ -15,9 +13,9 @@ use Rattle.fkv_epoch.specs.Values.{seen}
 use Rattle.fkv_epoch.specs.Protecting.{protect_ask, protect_next}
 use Rattle.fkv_epoch.specs.Refreshing.{refresh_ask, refresh_next}
 use Rattle.fkv_epoch.specs.Leaving.{leave_ask, leave_next}
-use Rattle.fkv_epoch.specs.World.{Duty, Protects, Refreshes, Leaves, Scans, Claims, Raises, Bears, Arms, Sight, OfPhase, OfReadOnly, OfHead, Loads, World, moved, past_moved, epoch_of, own_epoch, loaded, with_load}
+use Rattle.fkv_epoch.specs.World.{Duty, Protects, Refreshes, Leaves, Sight, OfPhase, OfReadOnly, OfHead, World, moved, past_moved, epoch_of, own_epoch, with_load}
 use Rattle.fkv_epoch.specs.Once.{goes_by, load_of}
-use Rattle.fkv_epoch.proofs.Epochs.{IsFrom, AreFrom, Knows, Change}
+use Rattle.fkv_epoch.proofs.Epochs.{Change}
 use Rattle.fkv_epoch.proofs.Sound.{IsSound, quiet, own_written, change_duty, change_load}
 
 -- the world is sound after one ask of the actor

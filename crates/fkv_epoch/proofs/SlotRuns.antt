@@ -1,11 +1,10 @@
 -- The steps of an armed slot: it is armed, taken, its action run, and it is set free.
-use Rattle.std.proofs.Common.{◌≡◌, ◌≢◌, ℕ, ◌+◌, ◌-◌, ◌<◌, ◌≤◌, ◌⊎◌, List, [], ◌∷◌, ◌++◌, length, refl, arith, sym, ap, inl, inr, ◌∙◌, Bool, true, false}
-use Rattle.std.specs.Prelude.{Option, Some, None, slice_get, slice_set, ⊤}
+use Rattle.std.proofs.Common.{◌≡◌, ◌≢◌, ℕ, ◌+◌, ◌<◌, ◌≤◌, List, ◌∷◌, refl, arith, sym, ap, inl, inr, ◌∙◌}
+use Rattle.std.specs.Prelude.{Option, Some, None, slice_get, slice_set}
 use Rattle.fkv_plane.specs.declared.actions.Action.{Action}
 use Rattle.fkv_epoch.specs.World.{Duty, Armed, Claimed, Ran}
-use Rattle.fkv_epoch.specs.Once.{Among, AreDifferent}
 use Rattle.fkv_epoch.proofs.Cells.{same_or, set_at, set_here, set_there, some_same, none_some}
-use Rattle.fkv_epoch.proofs.Slots.{Fate, Unborn, Borne, Waits, Taken, Spent, stage, Desk, Holds, Waiting, Slots, Spares, held}
+use Rattle.fkv_epoch.proofs.Slots.{Fate, Unborn, Borne, Waits, Taken, Spent, stage, Desk, Holds, Waiting, Slots, held}
 use Rattle.fkv_epoch.proofs.SlotSteps.{waiting_at, borne_same, taken_same, waits_same}
 
 -- an epoch of another stage keeps its fate

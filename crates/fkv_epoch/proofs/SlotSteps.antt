@@ -1,11 +1,11 @@
 -- The steps that touch a slot: it is held, given an action, armed, taken and set free; and the epoch is raised for it.
-use Rattle.std.proofs.Common.{◌≡◌, ◌≢◌, ℕ, ◌+◌, ◌-◌, ◌<◌, ◌≤◌, ◌⊎◌, List, [], ◌∷◌, ◌++◌, length, refl, arith, sym, ap, inl, inr, ◌∙◌, Bool, true, false}
-use Rattle.std.specs.Prelude.{Option, Some, None, slice_get, slice_set, ⊤}
+use Rattle.std.proofs.Common.{◌≡◌, ◌≢◌, ℕ, ◌+◌, ◌<◌, ◌≤◌, List, refl, arith, sym, ap, inl, inr, ◌∙◌}
+use Rattle.std.specs.Prelude.{Option, Some, None, slice_get, slice_set}
 use Rattle.fkv_plane.specs.declared.actions.Action.{Action}
-use Rattle.fkv_epoch.specs.World.{Duty, Armed, Claimed, Ran}
-use Rattle.fkv_epoch.specs.Once.{Among, AreDifferent}
-use Rattle.fkv_epoch.proofs.Cells.{same_or, set_at, set_here, set_there, some_same, none_some}
-use Rattle.fkv_epoch.proofs.Slots.{Fate, Unborn, Borne, Waits, Taken, Spent, stage, Desk, Holds, Waiting, Slots, Spares, held}
+use Rattle.fkv_epoch.specs.World.{Duty, Armed}
+use Rattle.fkv_epoch.specs.Once.{Among}
+use Rattle.fkv_epoch.proofs.Cells.{same_or, set_at, set_there, some_same, none_some}
+use Rattle.fkv_epoch.proofs.Slots.{Fate, Unborn, Borne, Waits, Taken, stage, Desk, Holds, Waiting, Slots, held}
 
 pub waiting_at : (k k' : Desk) (s c : ℕ) → Waiting k s c → k'.fates c ≡ k.fates c → k'.homes s ≡ k.homes s → ((x : Armed) → Among x k.armed → Among x k'.armed) → Waiting k' s c
 waiting_at k k' s c w f h more = record { waits = f ∙ w.waits; action = w.action; at_home = h ∙ w.at_home; was_armed = more _ w.was_armed }

@@ -1,13 +1,13 @@
 -- Slots and their owners. An epoch goes one way only: it is raised and borne to a slot, waits there, is taken, and spent.
-use Rattle.std.proofs.Common.{◌≡◌, ◌≢◌, ℕ, ◌+◌, ◌-◌, ◌<◌, ◌≤◌, ◌⊎◌, List, [], ◌∷◌, ◌++◌, length, refl, arith, sym, ap, inl, inr, ◌∙◌, Bool, true, false}
-use Rattle.std.specs.Prelude.{◌==◌, if◌then◌else◌, Option, Some, None, slice_get, slice_set, ⊤}
+use Rattle.std.proofs.Common.{◌≡◌, ◌≢◌, ℕ, ◌+◌, ◌<◌, ◌≤◌, List, refl, arith, sym, ap, inl, inr, ◌∙◌}
+use Rattle.std.specs.Prelude.{Option, Some, None, slice_get, slice_set, ⊤}
 use Rattle.fkv_plane.specs.declared.actions.Action.{Action}
 use Rattle.fkv_epoch.specs.declared.claiming.Claiming.TheVariants as claim
 use Rattle.fkv_epoch.specs.declared.raising.Raising.TheVariants as raise
 use Rattle.fkv_epoch.specs.declared.arming.Arming.TheVariants as arm
 use Rattle.fkv_epoch.specs.World.{Duty, Protects, Refreshes, Leaves, Scans, Claims, Raises, Bears, Arms, Armed, Claimed, Ran}
-use Rattle.fkv_epoch.specs.Once.{Among, AreDifferent}
-use Rattle.fkv_epoch.proofs.Cells.{item_written, item_spared, same_or, set_at, set_here, set_there, some_same, none_some}
+use Rattle.fkv_epoch.specs.Once.{Among}
+use Rattle.fkv_epoch.proofs.Cells.{item_written, item_spared, same_or, some_same}
 
 -- where the action of an epoch is
 pub data Fate : Type 0 where

@@ -1,6 +1,6 @@
 -- What holds at every moment, and how a step of one actor keeps it.
-use Rattle.std.proofs.Common.{◌≡◌, ◌≢◌, ℕ, ◌+◌, ◌-◌, ◌*◌, ◌^◌, ◌<◌, ◌≤◌, ◌⊎◌, List, [], ◌∷◌, ◌++◌, length, refl, arith, sym, ap, inl, inr, ◌∙◌, Bool, true, false}
-use Rattle.std.specs.Prelude.{Option, Some, None, slice_get, slice_set, sum_by, All, ⊤, ◌==◌, if◌then◌else◌}
+use Rattle.std.proofs.Common.{◌≡◌, ◌≢◌, ℕ, ◌+◌, ◌*◌, ◌^◌, ◌<◌, ◌≤◌, ◌⊎◌, List, length, refl, arith, ap, inl, inr, true}
+use Rattle.std.specs.Prelude.{Option, Some, None, slice_get, slice_set, sum_by, All}
 use Rattle.std.proofs.lemmas.List.Sums.{sum_by-set, sum_by-le}
 use Rattle.std.proofs.lemmas.Option.{get_or_from_slice_get}
 use Rattle.std.proofs.lemmas.List.{length-set}
@@ -9,10 +9,10 @@ use Rattle.fkv_plane.specs.declared.actions.Action.{Action}
 use Rattle.fkv_plane.specs.Plane.{action_at}
 use Rattle.fkv_epoch.specs.declared.raising.Raising.TheVariants as raise
 use Rattle.fkv_epoch.specs.World.{Duty, Protects, Refreshes, Leaves, Scans, Claims, Raises, Bears, Arms, Sight, OfPhase, OfReadOnly, OfHead, Loads, Armed, Claimed, Ran, Now, Past, World, epoch_of, safe_of, own_epoch, drain_word, loaded, with_load}
-use Rattle.fkv_epoch.specs.Once.{goes_by, load_of, Among, AreDifferent, RunsOnce}
+use Rattle.fkv_epoch.specs.Once.{goes_by, load_of, RunsOnce}
 use Rattle.fkv_plane.specs.declared.places.SessionWord.TheVariants as own
 use Rattle.fkv_plane.specs.Places.{session_place, drain_place}
-use Rattle.fkv_epoch.proofs.Cells.{item_within, same_or, word_written, word_spared}
+use Rattle.fkv_epoch.proofs.Cells.{item_within, word_written, word_spared}
 use Rattle.fkv_epoch.proofs.Epochs.{IsFrom, AreFrom, Knows, Epochs, Change, stepped}
 use Rattle.fkv_epoch.proofs.Slots.{Fate, Desk, Holds, Slots, still}
 

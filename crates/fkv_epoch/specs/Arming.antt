@@ -1,5 +1,5 @@
 -- How a held slot is armed.
-use Rattle.std.specs.Prelude.{ℕ, ◌+◌, ◌^◌, ◌<◌, ⊤}
+use Rattle.std.specs.Prelude.{◌+◌, ◌^◌, ◌<◌, ⊤}
 use Rattle.fkv_plane.specs.declared.asks.Ask.{Ask}
 use Rattle.fkv_plane.specs.declared.asks.Ask.TheVariants.{Store, Done}
 use Rattle.fkv_plane.specs.Places.{drain_place}

@@ -1,11 +1,9 @@
 -- The stall, event by event: what the law must allow, and does.
 use Rattle.std.specs.Prelude.{◌≡◌, ℕ, List, [], ◌∷◌, ◌++◌, replicate, slice_get, Some}
-use Rattle.fkv_base.specs.declared.numbers.Addr.{Addr}
 use Rattle.fkv_plane.specs.declared.actions.Action.{Action}
 use Rattle.fkv_plane.specs.declared.actions.Action.TheVariants.{Close}
 use Rattle.fkv_epoch.specs.declared.protecting.Protecting.TheVariants as wake
-use Rattle.fkv_epoch.specs.World.{Duty, Protects, Event, Begins, Resumes, Puts, Moves, ToProtect, ToLeave, ToScan, ToClaim, ToRaise, World, Ran, own_epoch, safe_of, run}
-use Rattle.fkv_epoch.specs.Once.{opening}
+use Rattle.fkv_epoch.specs.World.{Protects, Event, Begins, Resumes, Puts, Moves, ToProtect, ToLeave, ToScan, ToClaim, ToRaise, World, own_epoch, safe_of}
 
 -- one session, as it is opened: the epoch is 1, and so is the session's
 abbrev pub stall_words : List ℕ
