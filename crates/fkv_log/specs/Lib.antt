@@ -1,0 +1,4 @@
+pub mod Filling
+pub mod Invalidating
+pub mod Loading
+pub mod Reserving
