@@ -5,11 +5,20 @@
 mod cells;
 mod filling;
 mod invalidating;
+mod laws;
 mod loading;
+mod locating;
+mod regions;
 mod reserving;
 
 pub use cells::Cell;
 pub use filling::Fill;
 pub use invalidating::Invalidate;
+pub use laws::{law_records_of_open_pages, law_reserve_step, law_reserved_once};
 pub use loading::{LoadAnswer, LoadRecord};
+pub use locating::{region, seen_region};
+pub use regions::{Region, SeenOffsets};
 pub use reserving::{Reserve, ReserveAnswer};
+
+#[cfg(test)]
+mod tests;

@@ -1,0 +1,29 @@
+//! What holds of the log, over every list of events and for all addresses.
+ghost use Rattle.std.specs.Prelude.{ℕ, List, length, ◌<◌};
+ghost use Rattle.fkv_log.specs.Reserved.{Event, opening, run, tail_of, RiseTo, AreReservedOnce, TakesOrLeaves};
+ghost use Rattle.fkv_log.specs.Records.{AreOpenRecordsApart, AreRecordsInFrames};
+
+use fkv_frames::law_places_of_open_pages;
+
+/// Whatever the order of the steps of all that take addresses, and whatever others do to the words as long as nobody
+/// lowers the tail: no address is given twice. Each is below the tail, and above all that were given before it.
+pub fn law_reserved_once()
+    ensures once { (room actors : ℕ) (words : List ℕ) (events : List Event) → 3 < length words
+        → AreReservedOnce (run (opening room actors words) events).reserved }
+    ensures rising { (room actors : ℕ) (words : List ℕ) (events : List Event) → 3 < length words
+        → RiseTo (tail_of words) (tail_of (run (opening room actors words) events).now.words) (run (opening room actors words) events).reserved }
+{}
+
+/// One step of who takes an address: it gives the address of the tail and moves the tail up by one, or it gives none and
+/// changes no word.
+pub fn law_reserve_step()
+    ensures { TakesOrLeaves }
+{}
+
+/// Two records at open addresses have no word in common, and a record's words are where its place in the frames says.
+pub fn law_records_of_open_pages()
+    ensures apart { AreOpenRecordsApart }
+    ensures in_frames { AreRecordsInFrames }
+{
+    law_places_of_open_pages();
+}
