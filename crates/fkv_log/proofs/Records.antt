@@ -1,5 +1,5 @@
 -- The three words of a record.
-use Rattle.std.proofs.Common.{◌≡◌, ℕ, ◌<◌, refl, arith}
+use Rattle.std.proofs.Common.{◌≡◌, ◌<◌, refl, arith}
 use Rattle.fkv_plane.specs.declared.places.RecordWord.{RecordWord}
 use Rattle.fkv_plane.specs.declared.places.RecordWord.TheVariants.{Header, Key, Value}
 use Rattle.fkv_plane.specs.Places.{record_number}

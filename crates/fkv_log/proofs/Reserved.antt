@@ -1,15 +1,15 @@
 -- Steps at the tail, and the addresses that they give.
-use Rattle.std.proofs.Common.{◌≡◌, ◌≢◌, ℕ, zero, suc, ◌+◌, ◌<◌, ◌≤◌, ◌⊎◌, ◌∙◌, List, [], ◌∷◌, ◌++◌, length, refl, arith, sym, ap, inl, inr, Bool, true, false, eqb-true}
+use Rattle.std.proofs.Common.{◌≡◌, ◌≢◌, ℕ, zero, suc, ◌+◌, ◌<◌, ◌≤◌, ◌⊎◌, List, [], ◌∷◌, ◌++◌, length, refl, arith, sym, ap, inl, inr, Bool, true, false, eqb-true}
 use Rattle.std.specs.Prelude.{Option, Some, None, ◌==◌, ◌&&◌, nat_lt, if◌then◌else◌, slice_get, slice_set}
 use Rattle.std.proofs.lemmas.Bool.Decides.{nat_tests}
 use Rattle.std.proofs.lemmas.List.{length-set, get_or-set_same, get_or-set_other, set-get_or}
-use Rattle.fkv_plane.specs.Asked.{word_at, words_after, reply_to}
+use Rattle.fkv_plane.specs.Asked.{words_after, reply_to}
 use Rattle.fkv_log.specs.declared.reserving.Reserving.{Reserving}
 use Rattle.fkv_log.specs.declared.reserving.Reserving.TheVariants.{AtRest, LoadsLimit, LoadsTail, TakesTail}
 use Rattle.fkv_log.specs.declared.reserving.ReserveAnswer.TheVariants.{Reserved, Full, NoRoom, Contended}
 use Rattle.fkv_plane.specs.declared.asks.Ask.TheVariants.{Done}
-use Rattle.fkv_log.specs.Reserving.{reserve_ask, reserve_next, reserve_next_ask, no_room_at}
-use Rattle.fkv_log.specs.Reserved.{Event, Begins, Moves, Changes, Now, Reservation, World, tail_of, lowers_tail, moved, given, given_by, happens, run, opening, RiseTo, AreReservedOnce, Takes, Leaves}
+use Rattle.fkv_log.specs.Reserving.{reserve_ask, reserve_next, reserve_next_ask}
+use Rattle.fkv_log.specs.Reserved.{Event, Begins, Moves, Changes, Reservation, World, tail_of, lowers_tail, moved, given, given_by, happens, run, opening, RiseTo, AreReservedOnce, Takes, Leaves}
 
 -- a step of the machine takes the address of the tail, or leaves all as it is
 pub taken_or_left : (room actor : ℕ) (words : List ℕ) (step : Reserving)

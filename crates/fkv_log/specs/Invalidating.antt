@@ -1,5 +1,5 @@
 -- How a record is given up: its header is stored with the invalid bit.
-use Rattle.std.specs.Prelude.{ℕ, true}
+use Rattle.std.specs.Prelude.{true}
 use Rattle.fkv_words.specs.declared.headers.Header.{Header}
 use Rattle.fkv_words.specs.Layout.{header_word}
 use Rattle.fkv_plane.specs.declared.asks.Ask.{Ask}

@@ -5,3 +5,4 @@ pub mod Records
 pub mod Regions
 pub mod Reserved
 pub mod Reserving
+pub mod Written

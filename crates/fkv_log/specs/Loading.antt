@@ -1,6 +1,5 @@
 -- How the words of a record are loaded: header and key, and then the value where it is wanted.
 use Rattle.std.specs.Prelude.{ℕ}
-use Rattle.fkv_base.specs.declared.numbers.Addr.{Addr}
 use Rattle.fkv_plane.specs.declared.asks.Ask.{Ask}
 use Rattle.fkv_plane.specs.declared.asks.Ask.TheVariants.{Load, Done}
 use Rattle.fkv_plane.specs.declared.places.Places.{Places}

@@ -2,6 +2,7 @@
 ghost use Rattle.std.specs.Prelude.{ℕ, List, length, ◌<◌};
 ghost use Rattle.fkv_log.specs.Reserved.{Event, opening, run, tail_of, RiseTo, AreReservedOnce, TakesOrLeaves};
 ghost use Rattle.fkv_log.specs.Records.{AreOpenRecordsApart, AreRecordsInFrames};
+ghost use Rattle.fkv_log.specs.Written.{AreWritten, AreGivenUp};
 
 use fkv_frames::law_places_of_open_pages;
 
@@ -27,3 +28,10 @@ pub fn law_records_of_open_pages()
 {
     law_places_of_open_pages();
 }
+
+/// A record that is written has its header, its key and its value at its address, and one that is given up an invalid
+/// header in its place. No other word changes.
+pub fn law_records_are_written()
+    ensures written { AreWritten }
+    ensures given_up { AreGivenUp }
+{}

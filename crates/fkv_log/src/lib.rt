@@ -14,7 +14,9 @@ mod reserving;
 pub use cells::Cell;
 pub use filling::Fill;
 pub use invalidating::Invalidate;
-pub use laws::{law_records_of_open_pages, law_reserve_step, law_reserved_once};
+pub use laws::{
+    law_records_are_written, law_records_of_open_pages, law_reserve_step, law_reserved_once,
+};
 pub use loading::{LoadAnswer, LoadRecord};
 pub use locating::{region, seen_region};
 pub use regions::{Region, SeenOffsets};

@@ -1,6 +1,7 @@
 use crate::{
     Cell, Fill, Invalidate, LoadAnswer, LoadRecord, Region, Reserve, ReserveAnswer, SeenOffsets,
-    law_records_of_open_pages, law_reserve_step, law_reserved_once, region, seen_region,
+    law_records_are_written, law_records_of_open_pages, law_reserve_step, law_reserved_once,
+    region, seen_region,
 };
 use fkv_base::{Addr, Key, Shape, Version};
 use fkv_plane::{Ask, Places, PlainWords, RecordWord, SharedWord};
@@ -137,6 +138,7 @@ fn a_record_is_written_and_given_up(rt: HostRuntime) -> Result<(), Fail> {
         Some(LoadAnswer::Whole(4611967493404098562, Key(5), 50))
     );
     law_records_of_open_pages();
+    law_records_are_written();
     Ok(())
 }
 
