@@ -1,5 +1,5 @@
 -- Many actors that take addresses at the tail, and others who work on the same words.
-use Rattle.std.specs.Prelude.{◌≡◌, ℕ, ◌+◌, ◌<◌, ◌≤◌, ◌==◌, ◌&&◌, nat_lt, if◌then◌else◌, Bool, List, [], ◌∷◌, ◌++◌, ◌⊎◌, replicate, slice_get, slice_set, Option, Some, None}
+use Rattle.std.specs.Prelude.{◌≡◌, ℕ, ◌+◌, ◌<◌, ◌≤◌, ◌==◌, ◌&&◌, ◌||◌, nat_lt, if◌then◌else◌, Bool, List, [], ◌∷◌, ◌++◌, ◌⊎◌, length, replicate, slice_get, slice_set, Option, Some, None}
 use Rattle.fkv_plane.specs.declared.asks.Ask.{Ask}
 use Rattle.fkv_plane.specs.declared.asks.Ask.TheVariants.{Done}
 use Rattle.fkv_plane.specs.declared.places.SharedWord.TheVariants as one
@@ -17,7 +17,7 @@ pub data Event : Type 0 where
   Begins : ℕ → Event
   -- the actor makes its one ask
   Moves : ℕ → Event
-  -- somebody else changes a word; the tail never to a lower number
+  -- somebody else changes a word, but for what is barred
   Changes : ℕ → ℕ → Event
 
 -- the words, and how far each actor's machine has come
@@ -40,9 +40,15 @@ pub record World : Type 0 where
 abbrev pub tail_of : List ℕ → ℕ
 tail_of words = word_at words (shared_place one.Tail)
 
--- whether others may change a word to this: the tail is not lowered
-abbrev pub lowers_tail : List ℕ → ℕ → ℕ → Bool
-lowers_tail words place word = place == shared_place one.Tail && nat_lt word (tail_of words)
+abbrev pub limit_of : List ℕ → ℕ
+limit_of words = word_at words (shared_place one.Limit)
+
+-- nobody lowers the tail or the limit, or moves the tail past the limit
+abbrev pub bars_tail : List ℕ → ℕ → Bool
+bars_tail words word = nat_lt word (tail_of words) || nat_lt (limit_of words) word
+
+abbrev pub is_barred : List ℕ → ℕ → ℕ → Bool
+is_barred words place word = (place == shared_place one.Tail && bars_tail words word) || (place == shared_place one.Limit && nat_lt word (limit_of words))
 
 abbrev pub begun : Now → ℕ → Now
 begun n actor = record n { actors = slice_set n.actors actor LoadsLimit }
@@ -55,7 +61,7 @@ moved n actor (Some step) = record n { words = words_after n.words (reserve_ask 
 abbrev pub happens_now : Now → Event → Now
 happens_now n (Begins actor) = begun n actor
 happens_now n (Moves actor) = moved n actor (slice_get n.actors actor)
-happens_now n (Changes place word) = if lowers_tail n.words place word then n else record n { words = slice_set n.words place word }
+happens_now n (Changes place word) = if is_barred n.words place word then n else record n { words = slice_set n.words place word }
 
 -- what the machine's answer gives its actor
 abbrev pub given_by : ℕ → Ask ReserveAnswer → List Reservation
@@ -78,7 +84,12 @@ unfoldable pub run : World → List Event → World
 run opening [] = opening
 run opening (event ∷ before) = happens (run opening before) event
 
--- all actors at rest, over words that have a tail
+-- the words have a tail and a limit
+pub record IsOpened (words : List ℕ) : Type 0 where
+  pub enough_words : 4 < length words
+  pub below_limit : tail_of words ≤ limit_of words
+
+-- all actors at rest
 abbrev pub opening : ℕ → ℕ → List ℕ → World
 opening room actors words = record { now = record { room = room; words = words; actors = replicate actors AtRest }; reserved = [] }
 

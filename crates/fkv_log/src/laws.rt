@@ -1,18 +1,21 @@
 //! What holds of the log, over every list of events and for all addresses.
-ghost use Rattle.std.specs.Prelude.{ℕ, List, length, ◌<◌};
-ghost use Rattle.fkv_log.specs.Reserved.{Event, opening, run, tail_of, RiseTo, AreReservedOnce, TakesOrLeaves};
+ghost use Rattle.std.specs.Prelude.{ℕ, List, ◌≤◌};
+ghost use Rattle.fkv_log.specs.Reserved.{Event, IsOpened, opening, run, tail_of, limit_of, RiseTo, AreReservedOnce, TakesOrLeaves};
 ghost use Rattle.fkv_log.specs.Records.{AreOpenRecordsApart, AreRecordsInFrames};
 ghost use Rattle.fkv_log.specs.Written.{AreWritten, AreGivenUp};
 
 use fkv_frames::law_places_of_open_pages;
 
 /// Whatever the order of the steps of all that take addresses, and whatever others do to the words as long as nobody
-/// lowers the tail: no address is given twice. Each is below the tail, and above all that were given before it.
+/// lowers the tail or the limit, or moves the tail past the limit: no address is given twice. Each is below the tail and
+/// above all that were given before it, and the tail is never past the limit.
 pub fn law_reserved_once()
-    ensures once { (room actors : ℕ) (words : List ℕ) (events : List Event) → 3 < length words
+    ensures once { (room actors : ℕ) (words : List ℕ) (events : List Event) → IsOpened words
         → AreReservedOnce (run (opening room actors words) events).reserved }
-    ensures rising { (room actors : ℕ) (words : List ℕ) (events : List Event) → 3 < length words
+    ensures rising { (room actors : ℕ) (words : List ℕ) (events : List Event) → IsOpened words
         → RiseTo (tail_of words) (tail_of (run (opening room actors words) events).now.words) (run (opening room actors words) events).reserved }
+    ensures below { (room actors : ℕ) (words : List ℕ) (events : List Event) → IsOpened words
+        → tail_of (run (opening room actors words) events).now.words ≤ limit_of (run (opening room actors words) events).now.words }
 {}
 
 /// One step of who takes an address: it gives the address of the tail and moves the tail up by one, or it gives none and
