@@ -1,0 +1,9 @@
+-- What is written stands there.
+use Rattle.fkv_log.proofs.Written.{written, dropped_record}
+use Rattle.fkv_log.proofs.laws.law_records_are_written.Goals as goal
+
+pub returns-clause-written : goal.returns-clause-written
+returns-clause-written c = written
+
+pub returns-clause-given_up : goal.returns-clause-given_up
+returns-clause-given_up c = dropped_record

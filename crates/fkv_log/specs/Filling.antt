@@ -1,0 +1,27 @@
+-- How a record is written: its value, its key, and then its header.
+use Rattle.fkv_words.specs.Layout.{header_word}
+use Rattle.fkv_plane.specs.declared.asks.Ask.{Ask}
+use Rattle.fkv_plane.specs.declared.asks.Ask.TheVariants.{Store, Done}
+use Rattle.fkv_plane.specs.declared.places.Places.{Places}
+use Rattle.fkv_plane.specs.declared.places.RecordWord.TheVariants as rec
+use Rattle.fkv_plane.specs.Places.{record_place}
+use Rattle.fkv_log.specs.declared.filling.Filling.{Filling}
+use Rattle.fkv_log.specs.declared.filling.Filling.TheVariants.{AtRest, StoresValue, StoresKey, StoresHeader}
+
+pub record Filler : Type 0 where
+  pub places : Places
+  pub step : Filling
+
+-- what each state asks
+unfoldable pub fill_ask : Places → Filling → Ask (Unit {0})
+fill_ask places AtRest = Done tt
+fill_ask places (StoresValue addr cell) = Store (record_place places addr.0 rec.Value) cell.value
+fill_ask places (StoresKey addr cell) = Store (record_place places addr.0 rec.Key) cell.key.0
+fill_ask places (StoresHeader addr cell) = Store (record_place places addr.0 rec.Header) (header_word cell.header)
+
+-- where the reply leads
+unfoldable pub fill_next : Filling → Filling
+fill_next AtRest = AtRest
+fill_next (StoresValue addr cell) = StoresKey addr cell
+fill_next (StoresKey addr cell) = StoresHeader addr cell
+fill_next (StoresHeader addr cell) = AtRest

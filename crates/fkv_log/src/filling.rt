@@ -1,0 +1,88 @@
+//! How a record is written to the address that was taken for it.
+ghost use Rattle.std.specs.Prelude.{◌≡◌};
+
+use crate::cells::Cell;
+use fkv_base::Addr;
+use fkv_plane::{Ask, Places, RecordWord};
+use std::marker::Model;
+
+/// How far the machine has come, with the address and the record.
+#[derive(Clone, Copy, Debug, PartialEq, Eq)]
+pub(crate) enum Filling {
+    AtRest,
+    StoresValue(Addr, Cell),
+    StoresKey(Addr, Cell),
+    StoresHeader(Addr, Cell),
+}
+
+/// Stores the value, the key and then the header of a record.
+#[derive(Drop)]
+pub struct Fill {
+    places: Places,
+    step: Filling,
+}
+
+impl Model for Fill {
+    ghost use Rattle.fkv_log.specs.Filling.{Filler};
+
+    ghost Value = { Filler };
+
+    ghost view = { λ m. record { places = m.places; step = m.step } };
+}
+
+impl Fill {
+    ghost use Rattle.fkv_log.specs.Filling.{fill_ask, fill_next};
+    ghost use Rattle.fkv_log.specs.declared.filling.Filling.TheVariants.{AtRest, StoresValue};
+
+    /// The machine of a store with these places, at rest.
+    pub fn new(places: Places) -> Fill
+        ensures { result ≡ record { places = places; step = AtRest } }
+    {
+        Fill {
+            places,
+            step: Filling::AtRest,
+        }
+    }
+
+    /// The first ask, to write the record at the address.
+    pub fn start(&mut self, addr: Addr, cell: Cell) -> Ask<()>
+        ensures next { self.new ≡ record self.old { step = StoresValue addr cell } }
+        ensures ask { result ≡ fill_ask self.old.places (StoresValue addr cell) }
+    {
+        self.step = Filling::StoresValue(addr, cell);
+        self.ask()
+    }
+
+    /// Goes on with the reply to its ask. At rest it stays where it is.
+    #[tactic(auto, unfolding(crate::specs::Filling::fill_next))]
+    pub fn drive(&mut self, _reply: u64) -> Ask<()>
+        ensures next { self.new ≡ record self.old { step = fill_next self.old.step } }
+        ensures ask { result ≡ fill_ask self.old.places (fill_next self.old.step) }
+    {
+        self.step = match self.step {
+            Filling::StoresValue(addr, cell) => Filling::StoresKey(addr, cell),
+            Filling::StoresKey(addr, cell) => Filling::StoresHeader(addr, cell),
+            Filling::StoresHeader(_, _) | Filling::AtRest => Filling::AtRest,
+        };
+        self.ask()
+    }
+
+    #[tactic(auto, unfolding(crate::specs::Filling::fill_ask))]
+    fn ask(&self) -> Ask<()>
+        ensures { result ≡ fill_ask self.now.places self.now.step }
+    {
+        match self.step {
+            Filling::AtRest => Ask::Done(()),
+            Filling::StoresValue(addr, cell) => {
+                Ask::Store(self.places.record(addr, RecordWord::Value), cell.value)
+            }
+            Filling::StoresKey(addr, cell) => {
+                Ask::Store(self.places.record(addr, RecordWord::Key), cell.key.0)
+            }
+            Filling::StoresHeader(addr, cell) => Ask::Store(
+                self.places.record(addr, RecordWord::Header),
+                cell.header.pack(),
+            ),
+        }
+    }
+}

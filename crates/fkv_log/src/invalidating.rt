@@ -1,0 +1,83 @@
+//! How a record that no entry came to name is given up.
+ghost use Rattle.std.specs.Prelude.{◌≡◌};
+
+use fkv_base::Addr;
+use fkv_plane::{Ask, Places, RecordWord};
+use fkv_words::Header;
+use std::marker::Model;
+
+/// How far the machine has come, with the address and the header that the record has there.
+#[derive(Clone, Copy, Debug, PartialEq, Eq)]
+pub(crate) enum Invalidating {
+    AtRest,
+    StoresHeader(Addr, Header),
+}
+
+/// Stores the header of a record once more, as that of an invalid one.
+#[derive(Drop)]
+pub struct Invalidate {
+    places: Places,
+    step: Invalidating,
+}
+
+impl Model for Invalidate {
+    ghost use Rattle.fkv_log.specs.Invalidating.{Invalidator};
+
+    ghost Value = { Invalidator };
+
+    ghost view = { λ m. record { places = m.places; step = m.step } };
+}
+
+impl Invalidate {
+    ghost use Rattle.fkv_log.specs.Invalidating.{invalidate_ask, invalidate_next};
+    ghost use Rattle.fkv_log.specs.declared.invalidating.Invalidating.TheVariants.{AtRest, StoresHeader};
+
+    /// The machine of a store with these places, at rest.
+    pub fn new(places: Places) -> Invalidate
+        ensures { result ≡ record { places = places; step = AtRest } }
+    {
+        Invalidate {
+            places,
+            step: Invalidating::AtRest,
+        }
+    }
+
+    /// The first ask, to give up the record at the address, which has this header.
+    pub fn start(&mut self, addr: Addr, header: Header) -> Ask<()>
+        ensures next { self.new ≡ record self.old { step = StoresHeader addr header } }
+        ensures ask { result ≡ invalidate_ask self.old.places (StoresHeader addr header) }
+    {
+        self.step = Invalidating::StoresHeader(addr, header);
+        self.ask()
+    }
+
+    /// Goes on with the reply to its ask. At rest it stays where it is.
+    #[tactic(auto, unfolding(crate::specs::Invalidating::invalidate_next))]
+    pub fn drive(&mut self, _reply: u64) -> Ask<()>
+        ensures next { self.new ≡ record self.old { step = invalidate_next self.old.step } }
+        ensures ask { result ≡ invalidate_ask self.old.places (invalidate_next self.old.step) }
+    {
+        self.step = Invalidating::AtRest;
+        self.ask()
+    }
+
+    #[tactic(auto, unfolding(crate::specs::Invalidating::invalidate_ask))]
+    fn ask(&self) -> Ask<()>
+        ensures { result ≡ invalidate_ask self.now.places self.now.step }
+    {
+        match self.step {
+            Invalidating::AtRest => Ask::Done(()),
+            Invalidating::StoresHeader(addr, header) => {
+                let given_up = Header {
+                    previous: header.previous,
+                    version: header.version,
+                    invalid: true,
+                };
+                Ask::Store(
+                    self.places.record(addr, RecordWord::Header),
+                    given_up.pack(),
+                )
+            }
+        }
+    }
+}

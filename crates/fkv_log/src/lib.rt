@@ -1,0 +1,26 @@
+//! The log in memory: how an address is taken at its tail, how a record is written and given up there, how its words are
+//! loaded, and which region an address lies in. Each machine makes one ask at a time.
+#![tactic(auto)]
+
+mod cells;
+mod filling;
+mod invalidating;
+mod laws;
+mod loading;
+mod locating;
+mod regions;
+mod reserving;
+
+pub use cells::Cell;
+pub use filling::Fill;
+pub use invalidating::Invalidate;
+pub use laws::{
+    law_records_are_written, law_records_of_open_pages, law_reserve_step, law_reserved_once,
+};
+pub use loading::{LoadAnswer, LoadRecord};
+pub use locating::{region, seen_region};
+pub use regions::{Region, SeenOffsets};
+pub use reserving::{Reserve, ReserveAnswer};
+
+#[cfg(test)]
+mod tests;
