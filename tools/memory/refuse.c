@@ -1,7 +1,11 @@
-/* Refuses the request for memory whose number the variable REFUSE names, counted from 1. */
+/* Refuses the request for memory whose number the variable REFUSE names, counted from 1. At the end it writes how many
+   requests there were into the file that the variable REQUESTS names, if it is set. */
 #define _GNU_SOURCE
 #include <dlfcn.h>
+#include <fcntl.h>
+#include <stdio.h>
 #include <stdlib.h>
+#include <unistd.h>
 
 static long refused, count;
 
@@ -9,6 +13,15 @@ __attribute__((constructor)) static void begin(void) {
     const char *number = getenv("REFUSE");
     refused = number ? atol(number) : 0;
     count = 0;
+}
+
+__attribute__((destructor)) static void end(void) {
+    const char *name = getenv("REQUESTS");
+    int file = name ? open(name, O_CREAT | O_TRUNC | O_WRONLY, 0644) : -1;
+    if (file >= 0) {
+        dprintf(file, "%ld\n", count);
+        close(file);
+    }
 }
 
 void *malloc(size_t size) {

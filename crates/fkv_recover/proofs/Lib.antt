@@ -3,12 +3,15 @@ pub mod Counts
 pub mod EntryLemmas
 pub mod Exact
 pub mod Falls
+pub mod Filling
 pub mod Followed
 pub mod Gather
 pub mod Homes
 pub mod Keys
 pub mod Laying
+pub mod LayoutLemmas
 pub mod NewHead
+pub mod Named
 pub mod Newly
 pub mod PairLemmas
 pub mod Quieter

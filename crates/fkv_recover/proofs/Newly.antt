@@ -1,18 +1,20 @@
 -- A new store opens.
-use Rattle.std.proofs.Common.{◌≡◌, ℕ, ◌<◌, List, true, length, get_or, refl, sym, ap, subst, ◌∙◌, arith}
+use Rattle.std.proofs.Common.{◌≡◌, ℕ, ◌<◌, List, true, length, map, get_or, refl, sym, ap, subst, ◌∙◌, arith}
 use Rattle.std.proofs.lemmas.List.{ext_get_or}
 use Rattle.std.proofs.lemmas.List.FromFn.{get_or-map-range_with_len}
 use Rattle.fkv_base.specs.declared.shapes.Shape.{Shape}
 use Rattle.fkv_recover.specs.Image.{head_of, word_at, words_from, slot_of, sessions_of}
 use Rattle.fkv_recover.specs.Manifest.{newest, HasSizes, is_store, is_manifest, is_open, slot_number, slot_tail, slot_points}
-use Rattle.fkv_recover.specs.Log.{log_in}
-use Rattle.fkv_recover.specs.Created.{new_head, IsLaid, ShowsNew}
-use Rattle.fkv_recover.specs.Naming.{AreNames}
+use Rattle.fkv_recover.specs.Log.{log_in, log_of}
+use Rattle.fkv_recover.specs.Along.{IsFollowed}
+use Rattle.fkv_recover.specs.Entries.{numbers_of, listed_entries}
+use Rattle.fkv_recover.specs.Created.{new_head, IsLaid, IsNew}
 use Rattle.fkv_recover.specs.Opened.{IsOpenedOf, IsSound}
-use Rattle.fkv_recover.specs.declared.openings.Opened.{Opened}
+use Rattle.fkv_recover.specs.declared.opened_store.Opened.{Opened}
 use Rattle.fkv_recover.proofs.Words.{length-words_from}
 use Rattle.fkv_recover.proofs.NewHead.{length-new_head, new_sizes, new_manifest, new_store, new_newest, new_open, new_closed, empty_sound}
-use Rattle.fkv_recover.proofs.Answered.{named_is}
+use Rattle.fkv_recover.proofs.EntryLemmas.{are_entries}
+use Rattle.fkv_recover.proofs.Followed.{is_followed}
 
 word_in_head : (image : List ℕ) (j : ℕ) → j < 192 → get_or (words_from image 0 192) j 0 ≡ word_at image j
 unfolding words_from
@@ -45,20 +47,19 @@ unfolding new_head
 new_tail shape = refl
 
 -- what a new store shows is what its image defines
-pub opened_new : (old image : List ℕ) (shape : Shape) (opened : Opened) → IsLaid old (new_head shape) image → ShowsNew shape opened → IsOpenedOf image opened
+pub opened_new : (old image : List ℕ) (shape : Shape) (opened : Opened) → IsLaid old (new_head shape) image → IsNew shape opened → IsOpenedOf image opened
 opened_new old image shape opened laid shows = record {
   store = subst (λ h. is_store h ≡ true) (sym head_eq) (new_store shape);
   manifest = subst (λ h. is_manifest h (newest h) ≡ true) (sym head_eq) (subst (λ p. is_manifest (new_head shape) p ≡ true) (sym (new_newest shape)) (new_manifest shape));
-  sound = subst (λ h. IsSound (log_in image h (slot_of h (newest h)))) (sym head_eq)
-      (subst (λ p. IsSound (log_in image (new_head shape) (slot_of (new_head shape) p))) (sym (new_newest shape))
-      (empty_sound (log_in image (new_head shape) (slot_of (new_head shape) 0)) (new_log_start image shape ∙ sym (new_log_tail image shape)) (new_log_count image shape)));
-  sizes = subst (λ h. HasSizes h opened.shape) (sym head_eq) (subst (λ s. HasSizes (new_head shape) s) (sym shows.new.its_shape) (new_sizes shape));
-  number = shows.new.number ∙ sym (ap (λ s. slot_number s) slot_eq ∙ new_number shape);
-  tail = shows.new.tail ∙ sym (ap (λ s. slot_tail s) slot_eq ∙ new_tail shape);
-  points = shows.new.points ∙ sym (ap (λ s. slot_points s (sessions_of (head_of image))) slot_eq ∙ ap (λ n. slot_points (slot_of (new_head shape) 0) n) sessions_eq);
-  gate_0 = shows.new.gate_0 ∙ sym (ap (λ h. is_open h 0) head_eq ∙ new_open shape);
-  gate_1 = shows.new.gate_1 ∙ sym (ap (λ h. is_open h 1) head_eq ∙ new_closed shape);
-  log = sym (named_is image opened.names (subst (λ h. AreNames h (newest h) opened.names) (sym head_eq) (subst (λ p. AreNames (new_head shape) p opened.names) (sym (new_newest shape)) shows.names)));
+  sound = sound;
+  sizes = subst (λ h. HasSizes h opened.shape) (sym head_eq) (subst (λ s. HasSizes (new_head shape) s) (sym shows.its_shape) (new_sizes shape));
+  number = shows.number ∙ sym (ap (λ s. slot_number s) slot_eq ∙ new_number shape);
+  tail = shows.tail ∙ sym (ap (λ s. slot_tail s) slot_eq ∙ new_tail shape);
+  points = shows.points ∙ sym (ap (λ s. slot_points s (sessions_of (head_of image))) slot_eq ∙ ap (λ n. slot_points (slot_of (new_head shape) 0) n) sessions_eq);
+  gate_0 = shows.gate_0 ∙ sym (ap (λ h. is_open h 0) head_eq ∙ new_open shape);
+  gate_1 = shows.gate_1 ∙ sym (ap (λ h. is_open h 1) head_eq ∙ new_closed shape);
+  entries = are_entries (log_of image) followed opened.entries.items listed;
+  in_order = listed;
 }
   where
     head_eq : head_of image ≡ new_head shape
@@ -69,3 +70,21 @@ opened_new old image shape opened laid shows = record {
 
     sessions_eq : sessions_of (head_of image) ≡ shape.sessions
     sessions_eq = ap (λ h. sessions_of h) head_eq ∙ sym (new_sizes shape).sessions
+
+    log_eq : log_of image ≡ log_in image (new_head shape) (slot_of (new_head shape) 0)
+    log_eq = ap (λ h. log_in image h (slot_of h (newest h))) head_eq ∙ ap (λ p. log_in image (new_head shape) (slot_of (new_head shape) p)) (new_newest shape)
+
+    sound : IsSound (log_of image)
+    sound = subst IsSound (sym log_eq) (empty_sound (log_in image (new_head shape) (slot_of (new_head shape) 0)) (new_log_start image shape ∙ sym (new_log_tail image shape)) (new_log_count image shape))
+
+    folded : let log = log_of image in log.start ≡ log.tail
+    folded = subst (λ log. log.start ≡ log.tail) (sym log_eq) (new_log_start image shape ∙ sym (new_log_tail image shape))
+
+    followed : IsFollowed (log_of image)
+    followed = is_followed (log_of image) folded sound
+
+    empty : let log = log_of image in log.count ≡ 0
+    empty = subst (λ log. log.count ≡ 0) (sym log_eq) (new_log_count image shape)
+
+    listed : let log = log_of image in map numbers_of opened.entries.items ≡ listed_entries log log.count
+    listed = ap (map numbers_of) shows.entries ∙ sym (ap (listed_entries (log_of image)) empty)

@@ -4,8 +4,7 @@ use Rattle.fkv_base.specs.declared.shapes.Shape.{Shape}
 use Rattle.fkv_disk.specs.Bytes.{byte_at, written}
 use Rattle.fkv_recover.specs.Image.{word_at, slot_of}
 use Rattle.fkv_recover.specs.Manifest.{store_mark, slot_points}
-use Rattle.fkv_recover.specs.Naming.{AreNames}
-use Rattle.fkv_recover.specs.declared.openings.Opened.{Opened}
+use Rattle.fkv_recover.specs.declared.opened_store.Opened.{Opened}
 
 -- the bytes spell these words
 pub record AreWords (bytes words : List ℕ) : Type 0 where
@@ -39,7 +38,7 @@ pub record IsLaid (old head image : List ℕ) : Type 0 where
   pub front : (j : ℕ) → j < 192 → word_at image j ≡ slice_index head j
   pub behind : (j : ℕ) → 192 ≤ j → word_at image j ≡ word_at old j
 
--- what is opened is new: of this shape, at commit 0, with an empty log, and slot 0 alone open
+-- what is opened is new: of this shape, at commit 0, with an empty log, slot 0 alone open, and no entries
 pub record IsNew (shape : Shape) (opened : Opened) : Type 0 where
   pub its_shape : opened.shape ≡ shape
   pub number : opened.number.0 ≡ 0
@@ -47,8 +46,4 @@ pub record IsNew (shape : Shape) (opened : Opened) : Type 0 where
   pub gate_0 : opened.gates.0 ≡ true
   pub gate_1 : opened.gates.1 ≡ false
   pub points : map (λ point. point.0) opened.points.items ≡ slot_points (slot_of (new_head shape) 0) shape.sessions
-
--- and its log is named by slot 0 of the head
-pub record ShowsNew (shape : Shape) (opened : Opened) : Type 0 where
-  pub new : IsNew shape opened
-  pub names : AreNames (new_head shape) 0 opened.names
+  pub entries : opened.entries.items ≡ []

@@ -1,5 +1,6 @@
 pub mod Image
 pub mod Manifest
+pub mod Layouts
 pub mod Log
 pub mod Scan
 pub mod Chains
@@ -7,8 +8,10 @@ pub mod Room
 pub mod Created
 pub mod Entries
 pub mod Faults
+pub mod Filled
 pub mod Along
 pub mod Opened
+pub mod Opening
 pub mod Gathered
 pub mod Naming
 pub mod Pairs

@@ -1,5 +1,6 @@
 -- The log that a manifest slot names: triples, each the address at which the chain of a home begins, and records by their addresses.
 use Rattle.std.specs.Prelude.{◌≡◌, ◌≢◌, ◌⊎◌, ℕ, ◌+◌, ◌*◌, ◌/◌, ◌%◌, ◌^◌, ◌<◌, List, Bool, true, false, ◌&&◌, nat_eq, nat_lt, nat_le, slice_index}
+use Rattle.fkv_words.specs.Home.{bucket_of, tag_of}
 use Rattle.fkv_recover.specs.Image.{words_from, head_of, slot_of, bits_of, overflow_of, area_start, log_start}
 use Rattle.fkv_recover.specs.Manifest.{newest, slot_number, slot_log_start, slot_tail, slot_triples, slot_area}
 
@@ -36,9 +37,9 @@ log_of image = log_in image (head_of image) (slot_of (head_of image) (newest (he
 abbrev pub home : ℕ → ℕ → ℕ
 home bucket tag = bucket * 2 ^ 15 + tag
 
--- the home of a key: its low bits are the bucket, the fifteen above them the tag
+-- the home of a key
 abbrev pub home_of_key : ℕ → ℕ → ℕ
-home_of_key bits key = home (key % 2 ^ bits) (key / 2 ^ bits % 2 ^ 15)
+home_of_key bits key = home (bucket_of (record { 0 = key }) bits) (tag_of (record { 0 = key }) bits)
 
 -- the parts of a triple: the bucket, the tag and zeros in its first word, the address in the second
 abbrev pub triple_bucket : Log → ℕ → ℕ

@@ -10,8 +10,8 @@ use Rattle.fkv_recover.specs.Chains.{HasChains}
 use Rattle.fkv_recover.specs.Scan.{HasScan}
 use Rattle.fkv_recover.specs.Room.{HasRoom}
 use Rattle.fkv_recover.specs.Faults.{IsFaultOf, HasManifest}
-use Rattle.fkv_recover.specs.Read.{named_log}
-use Rattle.fkv_recover.specs.declared.openings.Opened.{Opened}
+use Rattle.fkv_recover.specs.Entries.{AreEntriesOf, numbers_of, listed_entries}
+use Rattle.fkv_recover.specs.declared.opened_store.Opened.{Opened}
 
 -- No stage finds a fault in the log. Its records are told by the triples alone.
 pub record IsSound (log : Log) : Type 0 where
@@ -20,7 +20,8 @@ pub record IsSound (log : Log) : Type 0 where
   pub chains : HasChains log
   pub room : HasRoom log
 
--- An opened store shows what its image defines: the shape, the newest slot's number, tail and points, the gates, and the log, in which there is no fault.
+-- An opened store shows what its image defines: the shape, the newest slot's number, tail and points, the gates, and the entries of a log in which
+-- there is no fault, in the order of the triples.
 pub record IsOpenedOf (image : List ℕ) (opened : Opened) : Type 0 where
   pub store : is_store (head_of image) ≡ true
   pub manifest : HasManifest image
@@ -31,7 +32,8 @@ pub record IsOpenedOf (image : List ℕ) (opened : Opened) : Type 0 where
   pub points : map (λ point. point.0) opened.points.items ≡ slot_points (slot_of (head_of image) (newest (head_of image))) (sessions_of (head_of image))
   pub gate_0 : opened.gates.0 ≡ is_open (head_of image) 0
   pub gate_1 : opened.gates.1 ≡ is_open (head_of image) 1
-  pub log : log_of image ≡ named_log image opened.names
+  pub entries : AreEntriesOf image opened.entries.items
+  pub in_order : (let log = log_of image in map numbers_of opened.entries.items ≡ listed_entries log log.count)
 
 -- Why recovery is refused: a fault that stands in the image, a failure of the device in this call, or want of memory.
 abbrev pub IsRefused : ℕ → ℕ → Type 0 → List ℕ → Fault → Type 0

@@ -4,7 +4,7 @@ ghost use Rattle.fkv_recover.specs.Pairs.{ArePairsOf};
 ghost use Rattle.fkv_recover.specs.Quiet.{IsQuiet, IsHindrance};
 ghost use Rattle.fkv_recover.specs.Opened.{IsOpenedOf};
 
-use crate::openings::Opened;
+use crate::opened_store::Opened;
 use crate::readings::read_log;
 use fkv_base::{Fault, Key, Value};
 use fkv_disk::Device;
@@ -22,7 +22,7 @@ pub fn content<D: Device>(
     ensures err { IfErr result (IsHindrance (D.failed d.old) (D.failed d.new)) }
     ensures quiet { IsQuiet D.honest D.seen D.may_leave D.moment D.left_since D.failed d.old d.new }
 {
-    let log = read_log(alloc, d, opened.names)?;
+    let log = read_log(alloc, d, opened.names())?;
     let pairs = log.pairs(alloc)?;
     Ok(pairs)
 }

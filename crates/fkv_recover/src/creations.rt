@@ -3,12 +3,13 @@ ghost use Rattle.std.specs.Prelude.{◌≡◌, ℕ, ◌+◌, ◌*◌, ◌<◌, �
 ghost use Rattle.fkv_base.specs.declared.faults.Fault.TheVariants.{Memory};
 ghost use Rattle.fkv_disk.specs.Bytes.{written};
 ghost use Rattle.fkv_disk.specs.Device.{LeavesOnly};
-ghost use Rattle.fkv_recover.specs.Created.{AreWords, AreZeroBytes, HasGaps, laid_bytes, IsLaid, new_head, IsNew, ShowsNew};
+ghost use Rattle.fkv_recover.specs.Created.{AreWords, AreZeroBytes, HasGaps, laid_bytes, IsLaid, new_head, IsNew};
 ghost use Rattle.fkv_recover.specs.Quiet.{IsHindrance};
 ghost use Rattle.fkv_recover.specs.Opened.{IsOpenedOf};
 
 use crate::manifests::MARK;
-use crate::openings::{Opened, names_of, points_of};
+use crate::opened_store::Opened;
+use crate::openings::points_of;
 use fkv_base::{Addr, Fault, Shape, Version};
 use fkv_disk::Device;
 use std::alloc::Global;
@@ -106,19 +107,18 @@ fn lay<D: Device>(alloc: Global, d: &mut D, head: &[u64]) -> Result<(), Fault>
 /// What a new store of this shape begins with.
 fn new_store(alloc: Global, shape: Shape) -> Result<(Vec<u64>, Opened), Fault>
     ensures head { IfOk result (λ new. new.0.items ≡ new_head shape) }
-    ensures opened { IfOk result (λ new. ShowsNew shape new.1) }
+    ensures opened { IfOk result (λ new. IsNew shape new.1) }
     ensures err { OnErr result (result ≡ Err Memory) }
 {
     let head = head_of_new(alloc, &shape)?;
     let points = points_of(alloc, &head, shape.sessions, 0)?;
-    let names = names_of(&head, &shape, 0);
     let opened = Opened {
         shape,
         number: Version(0),
         tail: Addr(1),
         points,
         gates: (true, false),
-        names,
+        entries: Vec::new(alloc),
     };
     Ok((head, opened))
 }

@@ -6,9 +6,12 @@ mod contents;
 mod creations;
 mod gathering;
 mod home_entries;
-mod indexes;
+mod index_words;
+mod laws;
 mod logs;
 mod manifests;
+mod opened_store;
+mod opening_words;
 mod openings;
 mod parts;
 mod readings;
@@ -18,8 +21,17 @@ mod triple_stage;
 pub use contents::content;
 pub use creations::create;
 pub use home_entries::HomeEntry;
-pub use indexes::entries;
-pub use openings::{Opened, recover};
+pub use index_words::IndexWords;
+pub use laws::law_layouts;
+pub use opened_store::Opened;
+pub use opening_words::{OpeningWords, SessionWords};
+pub use openings::recover;
 
+#[cfg(test)]
+mod comparison;
+#[cfg(test)]
+mod refused_memory;
+#[cfg(test)]
+mod slow_recovery;
 #[cfg(test)]
 mod tests;

@@ -1,5 +1,5 @@
 //! Opening a store from its image.
-ghost use Rattle.std.specs.Prelude.{◌≡◌, ℕ, ◌<◌, true, length, map, IfOk, IfErr, OnOk, OnErr, Err};
+ghost use Rattle.std.specs.Prelude.{◌≡◌, ℕ, ◌+◌, ◌*◌, ◌^◌, ◌<◌, ◌≤◌, true, All, length, map, IfOk, IfErr, OnOk, OnErr, Err};
 ghost use Rattle.fkv_base.specs.declared.faults.Fault.TheVariants.{Memory};
 ghost use Rattle.fkv_recover.specs.Image.{head_of, slot_of, sessions_of};
 ghost use Rattle.fkv_recover.specs.Manifest.{newest, is_manifest, HasSizes, slot_points};
@@ -14,26 +14,11 @@ ghost use Rattle.fkv_disk.specs.Device.{LeavesOnly};
 
 use crate::logs::{Log, Names};
 use crate::manifests::{is_manifest, is_open, newest, shape_of};
+use crate::opened_store::Opened;
 use crate::readings::{read_log, read_words};
 use fkv_base::{Addr, Damage, Fault, Serial, Shape, Version};
 use fkv_disk::Device;
 use std::alloc::Global;
-
-/// A store as its image defines it.
-#[derive(Drop)]
-pub struct Opened {
-    /// The sizes of the store.
-    pub shape: Shape,
-    /// The number of the newest commit.
-    pub number: Version,
-    /// The address at which its log ends: the first that the next record takes.
-    pub tail: Addr,
-    /// The point of each session.
-    pub points: Vec<Serial>,
-    /// Whether the gate of slot 0 and that of slot 1 are open.
-    pub gates: (bool, bool),
-    pub(crate) names: Names,
-}
 
 impl Log {
     /// The last four stages, one after another.
@@ -49,7 +34,20 @@ impl Log {
     }
 }
 
+/// The words as serials.
+fn serials_of(alloc: Global, words: &[u64]) -> Result<Vec<Serial>, Fault>
+    ensures ok { IfOk result (λ serials. map (λ serial. serial.0) serials.items ≡ words.now) }
+    ensures err { OnErr result (result ≡ Err Memory) }
+{
+    let mut serials = Vec::with_capacity(alloc, words.len())?;
+    for word in words {
+        serials.push(Serial(*word))?;
+    }
+    Ok(serials)
+}
+
 /// The points in the slot with this number.
+#[tactic(auto, using(crate::proofs::Slots::points_fit))]
 pub(crate) fn points_of(
     alloc: Global,
     head: &[u64],
@@ -59,15 +57,15 @@ pub(crate) fn points_of(
     requires whole { length head.now ≡ 192 }
     requires few { sessions < 9 }
     requires place { place < 2 }
+    requires sound { is_manifest head.now place ≡ true }
+    requires counted { sessions ≡ sessions_of head.now }
     ensures ok { IfOk result (λ points. map (λ point. point.0) points.items ≡ slot_points (slot_of head.now place) sessions) }
+    ensures many { IfOk result (λ points. length points.items ≡ sessions) }
+    ensures small { IfOk result (λ points. All (λ point. point.0 < 2 ^ 48) points.items) }
     ensures err { OnErr result (result ≡ Err Memory) }
 {
     let slot = &head[64 + 64 * place..64 + 64 * place + 64];
-    let words = &slot[7..7 + sessions as usize];
-    let mut points = Vec::with_capacity(alloc, words.len())?;
-    for word in words {
-        points.push(Serial(*word))?;
-    }
+    let points = serials_of(alloc, &slot[7..7 + sessions as usize])?;
     Ok(points)
 }
 
@@ -79,6 +77,9 @@ pub(crate) fn names_of(head: &[u64], shape: &Shape, place: usize) -> Names
     requires sound { is_manifest head.now place ≡ true }
     ensures names { AreNames head.now place result }
     ensures folded { result.start ≡ result.tail }
+    ensures some { 1 ≤ result.tail }
+    ensures on_disk { result.tail ≤ shape.now.disk_pages * shape.now.page }
+    ensures few { result.count ≤ 7 * (2 ^ shape.now.bucket_bits + shape.now.overflow) }
 {
     let slot = &head[64 + 64 * place..64 + 64 * place + 64];
     Names {
@@ -122,13 +123,14 @@ fn open<D: Device>(alloc: Global, d: &mut D, head: &[u64]) -> Result<Opened, Fau
         return Err(fault);
     }
     let points = points_of(alloc, head, shape.sessions, place)?;
+    let entries = log.entries(alloc)?;
     Ok(Opened {
         shape,
         number: Version(names.version),
         tail: Addr(names.tail),
         points,
         gates: (is_open(head, 0), is_open(head, 1)),
-        names,
+        entries,
     })
 }
 

@@ -4,6 +4,8 @@ ghost use Rattle.fkv_recover.specs.Log.{triple_bucket, triple_tag, triple_home, 
 ghost use Rattle.fkv_recover.specs.Read.{shown};
 
 use crate::logs::Log;
+use fkv_base::Key;
+use fkv_words::{bucket_of, tag_of};
 
 const ADDRESSES: u64 = 1 << 48;
 
@@ -118,5 +120,5 @@ fn home_of(key: u64, bits: u64) -> u64
     requires { bits ≤ 10 }
     ensures { result ≡ home_of_key bits key }
 {
-    key % (1 << bits) * TAGS + (key >> bits) % TAGS
+    bucket_of(Key(key), bits) * TAGS + u64::from(tag_of(Key(key), bits))
 }

@@ -65,6 +65,7 @@ pub(crate) fn read_log<D: Device>(alloc: Global, d: &mut D, names: Names) -> Res
     ensures ok { D.honest d.old → IfOk result (λ log. shown log ≡ named_log (D.seen d.old) names) }
     ensures start { IfOk result (λ log. log.start ≡ names.start) }
     ensures tail { IfOk result (λ log. log.tail ≡ names.tail) }
+    ensures count { IfOk result (λ log. log.count ≡ names.count) }
     ensures err { IfErr result (IsHindrance (D.failed d.old) (D.failed d.new)) }
     ensures quiet { IsQuiet D.honest D.seen D.may_leave D.moment D.left_since D.failed d.old d.new }
 {

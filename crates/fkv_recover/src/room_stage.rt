@@ -47,7 +47,7 @@ impl Log {
 }
 
 /// How many overflow buckets a bucket with this many homes needs.
-fn needed(homes: u64) -> u64
+pub(crate) fn needed(homes: u64) -> u64
     requires { homes < 2 ^ 63 }
     ensures { result ≡ needed homes }
 {

@@ -2,6 +2,7 @@ use super::*;
 use byteorder::{ByteOrder, LittleEndian};
 use fkv_base::{Addr, Damage, Fault, Key, Serial, Shape, Value, Version};
 use fkv_disk::{Device, MemDisk, Once};
+use fkv_words::Entry;
 use std::alloc::Global;
 use std::test::Fail;
 
@@ -29,7 +30,7 @@ fn set(bytes: &mut Vec<u8>, at: u16, byte: u8) {
 }
 
 // The image of a store of one session after its first commit: key 1 has the value 10. All numbers are written by hand.
-fn sample(alloc: Global) -> Result<Vec<u8>, Fault> {
+pub(crate) fn sample(alloc: Global) -> Result<Vec<u8>, Fault> {
     let mut bytes = vec![in alloc; 0u8; 5168]?;
     put(&mut bytes, 0, 3553990279542754118);
     for (at, number) in [
@@ -88,13 +89,36 @@ fn a_store_is_recovered(rt: HostRuntime) -> Result<(), Fail> {
     assert_eq!(rt; opened.shape.disk_pages, 64);
     let pairs = content(rt.alloc(), &opened, &mut disk)?;
     assert_eq!(rt; pairs.as_slice(), [(Key(1), Value(10))].as_slice());
-    let homes = entries(rt.alloc(), &opened, &mut disk)?;
     let first = HomeEntry {
         bucket: 1,
-        tag: 0,
-        addr: Addr(1),
+        entry: Entry {
+            addr: Addr(1),
+            tag: 0,
+        },
     };
-    assert_eq!(rt; homes.as_slice(), [first].as_slice());
+    assert_eq!(rt; opened.entries.as_slice(), [first].as_slice());
+    Ok(())
+}
+
+#[test]
+fn a_store_opens_with_its_words(rt: HostRuntime) -> Result<(), Fail> {
+    let mut disk = MemDisk::from_bytes(rt.alloc(), sample(rt.alloc())?)?;
+    let opened = recover(rt.alloc(), &mut disk)?;
+    let words = opened.words();
+    assert_eq!(rt; words.epoch, 1);
+    assert_eq!(rt; words.phase.pack(), 2);
+    assert_eq!(rt; words.closed, Addr(2));
+    assert_eq!(rt; words.limit, Addr(32));
+    let session = opened.session(0);
+    assert_eq!(rt; session.odd_cut.pack(), 281474976710657);
+    assert_eq!(rt; session.even_cut.pack(), 0);
+    assert_eq!(rt; session.durable, Serial(1));
+    let index = opened.index(rt.alloc())?;
+    assert_eq!(rt; index.taken, 0);
+    assert_eq!(rt; index.words.len(), 128);
+    assert_eq!(rt; index.words.iter().position(|word| *word != 0), Some(8));
+    assert_eq!(rt; index.words.get(8).copied(), Some(1));
+    law_layouts();
     Ok(())
 }
 

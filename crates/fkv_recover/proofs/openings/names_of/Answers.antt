@@ -32,3 +32,16 @@ invariant_of-result-clause-two_areas c = omega (arith, (numbers c.args.head.now 
 
 pub returns-clause-folded : goal.returns-clause-folded
 returns-clause-folded c = (numbers c.args.head.now c.args.place c.requires.sound).folded
+
+pub returns-clause-some : goal.returns-clause-some
+returns-clause-some c = let are = numbers c.args.head.now c.args.place c.requires.sound in omega (arith, are.some, are.folded)
+
+pub returns-clause-on_disk : goal.returns-clause-on_disk
+returns-clause-on_disk c =
+    let sizes = c.requires.sizes in
+    rw (sizes.disk_pages, sizes.page) ((numbers c.args.head.now c.args.place c.requires.sound).on_disk)
+
+pub returns-clause-few : goal.returns-clause-few
+returns-clause-few c =
+    let sizes = c.requires.sizes in
+    rw (sizes.bucket_bits, sizes.overflow) ((numbers c.args.head.now c.args.place c.requires.sound).few_triples)

@@ -1,0 +1,25 @@
+use Rattle.std.proofs.Common.{ap, length, subst, arith}
+use Rattle.std.specs.List.Sorted.{IsPermutation}
+use Rattle.std.proofs.lemmas.List.Sorted.{IsNonDecreasingBy-from_sort, length_permutation}
+use Rattle.fkv_recover.proofs.Filling.{bucket_few}
+use Rattle.fkv_recover.proofs.Slots.{triples_fit}
+use Rattle.fkv_recover.proofs.opened_store.Opened.sorted_words.Goals as goal
+
+pub returns-clause-ok : goal.returns-clause-ok
+returns-clause-ok c = record {
+  same = subst (λ ws. IsPermutation ws c.sort.new.self.items) c.in_ok-words.ensures.ok c.in_ok-sort.ensures.permutation;
+  ascending = IsNonDecreasingBy-from_sort (λ x. x) c.sort.new.self.items c.in_ok-sort.ensures.sorted;
+}
+
+pub returns-clause-few : goal.returns-clause-few
+returns-clause-few c =
+    let opened = c.args.self.now in
+    let limits = opened.shape.limits in
+    omega (
+      arith,
+      length_permutation c.in_ok-words.words.items c.sort.new.self.items c.in_ok-sort.ensures.permutation,
+      ap length c.in_ok-words.ensures.ok,
+      bucket_few c.args.bucket opened.entries.items,
+      opened.few_entries,
+      triples_fit opened.shape.bucket_bits opened.shape.overflow limits.few_buckets limits.few_overflow,
+    )

@@ -1,0 +1,112 @@
+//! The words of the index that a store opens with.
+ghost use Rattle.std.specs.Prelude.{◌≡◌, ◌+◌, ◌*◌, ◌^◌, ◌<◌, ◌≤◌, ◌++◌, drop, length, IfOk, OnOk, OnErr, Err};
+ghost use Rattle.fkv_base.specs.declared.faults.Fault.TheVariants.{Memory};
+ghost use Rattle.fkv_recover.specs.Filled.{bucket_words, AreByTag, eight_words, link_words, other_links, IsFilled};
+
+use crate::opened_store::Opened;
+use crate::room_stage::needed;
+use fkv_base::Fault;
+use std::alloc::Global;
+
+/// The words of an index, and how far it is filled.
+#[derive(Drop)]
+pub struct IndexWords {
+    /// Eight words for each bucket, and behind them eight for each overflow bucket.
+    pub words: Vec<u64>,
+    /// How many overflow buckets are taken.
+    pub taken: u64,
+}
+
+const EMPTY: [u64; 7] = [0; 7];
+
+impl Opened {
+    /// The index with the store's entries. `Memory` where memory was refused.
+    #[tactic(auto, using(crate::proofs::Filling::filling_start, crate::proofs::Filling::filling_step, crate::proofs::Filling::filling_done))]
+    pub fn index(&self, alloc: Global) -> Result<IndexWords, Fault>
+        ensures ok { IfOk result (λ index. IsFilled (2 ^ self.now.shape.bucket_bits) self.now.shape.overflow self.now.entries.items index.words.items index.taken) }
+        ensures err { OnErr result (result ≡ Err Memory) }
+    {
+        let mut words = Vec::new(alloc);
+        let mut behind = Vec::new(alloc);
+        let mut taken = 0;
+        for bucket in 0..1 << self.shape.bucket_bits {
+            let sorted = self.sorted_words(alloc, bucket)?;
+            push_link(&mut words, &sorted, taken, 0)?;
+            push_other_links(&mut behind, &sorted, taken)?;
+            taken += needed(sorted.len() as u64);
+        }
+        behind.resize(8 * self.shape.overflow as usize, 0)?;
+        words.extend_from_slice(&behind)?;
+        Ok(IndexWords { words, taken })
+    }
+
+    /// The words of a bucket's entries, by tag.
+    fn sorted_words(&self, alloc: Global, bucket: u64) -> Result<Vec<u64>, Fault>
+        ensures ok { IfOk result (λ words. AreByTag (bucket_words bucket self.now.entries.items) words.items) }
+        ensures few { IfOk result (λ words. length words.items ≤ 14336) }
+        ensures err { OnErr result (result ≡ Err Memory) }
+    {
+        let mut words = self.words_in(alloc, bucket)?;
+        words.sort()?;
+        Ok(words)
+    }
+
+    /// The words of a bucket's entries.
+    #[tactic(auto, using(crate::proofs::Filling::words_with, crate::proofs::Filling::words_without, crate::proofs::Filling::words_whole))]
+    fn words_in(&self, alloc: Global, bucket: u64) -> Result<Vec<u64>, Fault>
+        ensures ok { IfOk result (λ words. words.items ≡ bucket_words bucket self.now.entries.items) }
+        ensures err { OnErr result (result ≡ Err Memory) }
+    {
+        let mut words = Vec::new(alloc);
+        for home in &self.entries {
+            if home.bucket == bucket {
+                words.push(home.entry.pack())?;
+            }
+        }
+        Ok(words)
+    }
+}
+
+/// Pushes the eight words of a bucket.
+#[tactic(auto, using(crate::proofs::Filling::eight_pushed))]
+fn push_bucket(index: &mut Vec<u64>, words: &[u64], next: u64) -> Result<(), Fault>
+    ensures ok { OnOk result (index.new.items ≡ index.old.items ++ eight_words words.now next) }
+    ensures err { OnErr result (result ≡ Err Memory) }
+{
+    let slots = 7.min(words.len());
+    index.extend_from_slice(&words[..slots])?;
+    index.extend_from_slice(&EMPTY[..7 - slots])?;
+    index.push(next)?;
+    Ok(())
+}
+
+/// Pushes link j of a bucket's chain.
+#[tactic(auto, unfolding(crate::specs::Filled::link_words))]
+fn push_link(index: &mut Vec<u64>, words: &[u64], taken: u64, j: u64) -> Result<(), Fault>
+    requires in_words { 7 * j ≤ length words.now }
+    requires few { length words.now ≤ 14336 }
+    requires taken { taken < 2 ^ 30 }
+    ensures ok { OnOk result (index.new.items ≡ index.old.items ++ link_words words.now taken j) }
+    ensures err { OnErr result (result ≡ Err Memory) }
+{
+    let next = if j < needed(words.len() as u64) {
+        taken + j + 1
+    } else {
+        0
+    };
+    push_bucket(index, &words[7 * j as usize..], next)
+}
+
+/// Pushes the overflow buckets of a bucket's chain.
+#[tactic(auto, using(crate::proofs::Filling::behind_start, crate::proofs::Filling::behind_step))]
+fn push_other_links(index: &mut Vec<u64>, words: &[u64], taken: u64) -> Result<(), Fault>
+    requires few { length words.now ≤ 14336 }
+    requires taken { taken < 2 ^ 30 }
+    ensures ok { OnOk result (index.new.items ≡ index.old.items ++ other_links words.now taken) }
+    ensures err { OnErr result (result ≡ Err Memory) }
+{
+    for j in 0..needed(words.len() as u64) {
+        push_link(index, words, taken, j + 1)?;
+    }
+    Ok(())
+}
