@@ -1,0 +1,22 @@
+use Rattle.fkv_flush.specs.GuardWorld.{run}
+use Rattle.fkv_flush.specs.Guarded.{opening}
+use Rattle.fkv_flush.proofs.GuardLaw.{run_sound, opening_sound, covered}
+use Rattle.fkv_flush.proofs.GuardPages.{guards_limit}
+use Rattle.fkv_flush.proofs.GuardWrites.{guards_writes}
+use Rattle.fkv_flush.proofs.laws.law_guarded.Goals as goal
+
+pub returns-clause-writes : goal.returns-clause-writes
+returns-clause-writes c = λ shape places actors words start events event o.
+    guards_writes (run (opening shape places actors words start) events) event (run_sound (opening shape places actors words start) events (opening_sound shape places actors words start o))
+
+pub returns-clause-limit : goal.returns-clause-limit
+returns-clause-limit c = λ shape places actors words start events event o.
+    guards_limit (run (opening shape places actors words start) events) event (run_sound (opening shape places actors words start) events (opening_sound shape places actors words start o))
+
+pub returns-clause-order : goal.returns-clause-order
+returns-clause-order c = λ shape places actors words start events o.
+    (run_sound (opening shape places actors words start) events (opening_sound shape places actors words start o)).guard.in_order
+
+pub returns-clause-covered : goal.returns-clause-covered
+returns-clause-covered c = λ shape places actors words start events o.
+    covered (run (opening shape places actors words start) events) (run_sound (opening shape places actors words start) events (opening_sound shape places actors words start o))

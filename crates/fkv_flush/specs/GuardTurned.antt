@@ -1,0 +1,45 @@
+-- A ring of two frames goes round, event by event: a page is opened in a frame that another page has had.
+use Rattle.std.specs.Prelude.{◌≡◌, ℕ, List, [], ◌∷◌, ◌++◌, replicate, true}
+use Rattle.fkv_base.specs.declared.shapes.Shape.{Shape}
+use Rattle.fkv_plane.specs.declared.places.Places.{Places}
+use Rattle.fkv_plane.specs.Asked.{word_at}
+use Rattle.fkv_log.specs.declared.cells.Cell.{Cell}
+use Rattle.fkv_epoch.specs.World.{ToRefresh, ToScan, ToClaim}
+use Rattle.fkv_flush.specs.GuardWorld.{World, Event, Begins, Resumes, Moves, Calls, Publishes, ToDo, ToReserve, ToFill, ToShift, ToTurnPage, ToFlush, run, levels}
+use Rattle.fkv_flush.specs.Guarded.{IsOpened, opening}
+
+-- one session, one bucket, and two frames of four records; the records end at 7, and the page from 8 on is open
+abbrev pub turned_words : List ℕ
+turned_words = 1 ∷ 0 ∷ 0 ∷ 7 ∷ 12 ∷ 7 ∷ 7 ∷ 7 ∷ 7 ∷ 7 ∷ replicate 14 0 ++ 1 ∷ replicate 47 0
+
+-- the session looks again; then actor 1 scans, and claims what is safe. (The newest event stands first.)
+abbrev pub looked_again : List Event
+looked_again =
+    replicate 20 (Moves 1) ++ Begins 1 (ToDo ToClaim) ∷ replicate 3 (Moves 1) ++ Begins 1 (ToDo ToScan)
+    ∷ Moves 0 ∷ Resumes 0 ∷ replicate 4 (Moves 0) ++ Begins 0 (ToDo ToRefresh) ∷ []
+
+-- The session writes a record at 7, the last of its page. Actor 1 shifts the read-only offset to 8, and flushes up to there once the session
+-- has seen it; it moves the head to 8, and opens the page after the next once the session has seen that.
+abbrev pub turns_round : Cell → List Event
+turns_round cell =
+    replicate 3 (Moves 1) ++ Begins 1 (ToTurnPage 8)
+    ∷ looked_again ++ replicate 12 (Moves 1) ++ Begins 1 (ToTurnPage 8)
+    ∷ Moves 1 ∷ Calls 1 true ∷ Calls 1 true ∷ replicate 5 (Moves 1) ++ Begins 1 ToFlush
+    ∷ looked_again ++ replicate 10 (Moves 1) ++ Begins 1 ToShift
+    ∷ Publishes 0 ∷ replicate 3 (Moves 0) ++ Begins 0 (ToFill cell) ∷ replicate 3 (Moves 0) ++ Begins 0 ToReserve ∷ []
+
+-- what was written is flushed and closed, and the limit is a page further
+pub record HasTurned (w : World) : Type 0 where
+  pub written : word_at w.now.words 71 ≡ 70
+  pub flushed : (levels w).flushed ≡ 8
+  pub closed : (levels w).closed ≡ 8
+  pub limit : (levels w).limit ≡ 16
+
+-- there is such a store
+pub record GoesRound : Type 0 where
+  pub shape : Shape
+  pub places : Places
+  pub cell : Cell
+  pub value : cell.value ≡ 70
+  pub opened : IsOpened shape places 2 turned_words 7
+  pub turned : HasTurned (run (opening shape places 2 turned_words 7) (turns_round cell))

@@ -1,0 +1,15 @@
+pub mod Devices
+pub mod Flushing
+pub mod GuardAnswered
+pub mod GuardAsks
+pub mod GuardLevels
+pub mod GuardSeen
+pub mod GuardTurned
+pub mod GuardWorld
+pub mod Guarded
+pub mod InHand
+pub mod Moving
+pub mod Passing
+pub mod Serving
+pub mod Shifting
+pub mod Turning

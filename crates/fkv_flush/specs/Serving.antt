@@ -1,0 +1,75 @@
+-- How the sessions' mailboxes are served.
+use Rattle.std.specs.Prelude.{ℕ, ◌+◌, ◌^◌, ◌<◌, ◌==◌, nat_lt, if◌then◌else◌, List, ⊤}
+use Rattle.fkv_base.specs.declared.shapes.Shape.{Shape}
+use Rattle.fkv_record.specs.Places.{number_at, record_place}
+use Rattle.fkv_plane.specs.declared.asks.Ask.{Ask}
+use Rattle.fkv_plane.specs.declared.asks.Ask.TheVariants.{Load, Store, Done}
+use Rattle.fkv_plane.specs.declared.places.SessionWord.TheVariants as own
+use Rattle.fkv_plane.specs.Places.{session_place}
+use Rattle.fkv_flush.specs.declared.answers.DeviceAnswer.{DeviceAnswer}
+use Rattle.fkv_flush.specs.declared.answers.DeviceAnswer.TheVariants as answer
+use Rattle.fkv_flush.specs.declared.serving.Mail.{Mail}
+use Rattle.fkv_flush.specs.declared.serving.Serving.{Serving}
+use Rattle.fkv_flush.specs.declared.serving.Serving.TheVariants.{AtRest, LoadsState, LoadsAddress, Reads, StoresHeader, StoresKey, StoresValue, StoresReady}
+
+pub record Server : Type 0 where
+  pub shape : Shape
+  pub step : Serving
+
+-- there are at most eight sessions, and an address is below 2^48
+abbrev pub IsServeInRange : Serving → Type 0
+IsServeInRange AtRest = ⊤
+IsServeInRange (LoadsState session) = session < 8
+IsServeInRange (LoadsAddress session) = session < 8
+IsServeInRange (Reads session addr) = (session < 8) × (addr < 2 ^ 48)
+IsServeInRange (StoresHeader session mail) = session < 8
+IsServeInRange (StoresKey session mail) = session < 8
+IsServeInRange (StoresValue session mail) = session < 8
+IsServeInRange (StoresReady session) = session < 8
+
+-- a mailbox in which a record is asked for, and one where it is ready
+abbrev pub asked_state : ℕ
+asked_state = 1
+
+abbrev pub ready_state : ℕ
+ready_state = 2
+
+-- the three words of the record that these bytes are
+abbrev pub mail_of : List ℕ → Mail
+mail_of bytes = record { header = number_at bytes 0; key = number_at bytes 8; value = number_at bytes 16 }
+
+-- what each state asks
+unfoldable pub serve_ask : Serving → Ask DeviceAnswer
+serve_ask AtRest = Done answer.Through
+serve_ask (LoadsState session) = Load (session_place session own.MailState)
+serve_ask (LoadsAddress session) = Load (session_place session own.MailAddress)
+serve_ask (Reads session addr) = Done answer.Device
+serve_ask (StoresHeader session mail) = Store (session_place session own.MailHeader) mail.header
+serve_ask (StoresKey session mail) = Store (session_place session own.MailKey) mail.key
+serve_ask (StoresValue session mail) = Store (session_place session own.MailValue) mail.value
+serve_ask (StoresReady session) = Store (session_place session own.MailState) ready_state
+
+-- the session of this number comes next, if there is one
+unfoldable pub mailbox_from : ℕ → ℕ → Serving
+mailbox_from sessions session = if nat_lt session sessions then LoadsState session else AtRest
+
+-- where the reply leads
+unfoldable pub serve_next : ℕ → Serving → ℕ → Serving
+serve_next sessions AtRest reply = AtRest
+serve_next sessions (LoadsState session) reply = if reply == asked_state then LoadsAddress session else mailbox_from sessions (session + 1)
+serve_next sessions (LoadsAddress session) reply = if nat_lt reply (2 ^ 48) then Reads session reply else mailbox_from sessions (session + 1)
+serve_next sessions (Reads session addr) reply = Reads session addr
+serve_next sessions (StoresHeader session mail) reply = StoresKey session mail
+serve_next sessions (StoresKey session mail) reply = StoresValue session mail
+serve_next sessions (StoresValue session mail) reply = StoresReady session
+serve_next sessions (StoresReady session) reply = mailbox_from sessions (session + 1)
+
+-- where the bytes that were read lead
+unfoldable pub serve_read : Serving → List ℕ → Serving
+serve_read (Reads session addr) bytes = StoresHeader session (mail_of bytes)
+serve_read step bytes = step
+
+-- where the record lies that is read
+unfoldable pub mail_place : Shape → Serving → ℕ
+mail_place shape (Reads session addr) = record_place shape addr
+mail_place shape step = 0
