@@ -145,6 +145,7 @@ impl<D: Device> Device for Fuse<D> {
         ensures state { fuse_state self.new ≡ burned (fuse_state self.old) }
         ensures refuses { passes (fuse_state self.old) ≡ false → IsErr result }
         ensures counts { passes (fuse_state self.old) ≡ false → fuse_refused self.new ≡ min (fuse_refused self.old + 1) (2 ^ 64 - 1) }
+        ensures untouched { passes (fuse_state self.old) ≡ false → fuse_device self.new ≡ fuse_device self.old }
         ensures lets_pass { passes (fuse_state self.old) ≡ true → HasCause (D.failed (fuse_device self.old)) (D.failed (fuse_device self.new)) result }
     {
         if burn(&mut self.state) {
@@ -163,6 +164,7 @@ impl<D: Device> Device for Fuse<D> {
         ensures state { fuse_state self.new ≡ burned_at at (length bytes.now) (fuse_state self.old) }
         ensures refuses { passes (fuse_state self.old) ≡ false → IsErr result }
         ensures counts { passes (fuse_state self.old) ≡ false → fuse_refused self.new ≡ min (fuse_refused self.old + 1) (2 ^ 64 - 1) }
+        ensures untouched { passes (fuse_state self.old) ≡ false → fuse_device self.new ≡ fuse_device self.old }
         ensures lets_pass { passes (fuse_state self.old) ≡ true → HasCause (D.failed (fuse_device self.old)) (D.failed (fuse_device self.new)) result }
     {
         if burn_at(&mut self.state, at, bytes.len() as u64) {
@@ -182,6 +184,7 @@ impl<D: Device> Device for Fuse<D> {
         ensures state { fuse_state self.new ≡ burned (fuse_state self.old) }
         ensures refuses { passes (fuse_state self.old) ≡ false → IsErr result }
         ensures counts { passes (fuse_state self.old) ≡ false → fuse_refused self.new ≡ min (fuse_refused self.old + 1) (2 ^ 64 - 1) }
+        ensures untouched { passes (fuse_state self.old) ≡ false → fuse_device self.new ≡ fuse_device self.old }
         ensures lets_pass { passes (fuse_state self.old) ≡ true → HasCause (D.failed (fuse_device self.old)) (D.failed (fuse_device self.new)) result }
     {
         if burn(&mut self.state) {
