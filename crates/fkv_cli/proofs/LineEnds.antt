@@ -1,6 +1,6 @@
 -- The first line of a script, and the lines after it.
-use Rattle.std.proofs.Common.{◌≡◌, ◌==◌, ℕ, ◌+◌, ◌<◌, ◌≤◌, Bool, true, false, cond, nat_lt, nat_eq, List, [], ◌∷◌, length, take, drop, position, Option, Some, None, refl, sym, ap, ◌∙◌, ltb-true, ltb-false, ne_eqb, arith}
-use Rattle.std.specs.List.{slice_split, position_or_len, All}
+use Rattle.std.proofs.Common.{◌≡◌, ◌==◌, ℕ, ◌+◌, ◌<◌, ◌≤◌, Bool, true, false, cond, nat_lt, nat_eq, List, [], ◌∷◌, length, take, drop, position, Some, None, refl, ap, ◌∙◌, ltb-true, ltb-false, ne_eqb, arith}
+use Rattle.std.specs.List.{slice_split, position_or_len}
 use Rattle.std.proofs.lemmas.List.Splits.{slice_split_first, slice_split_none, length-slice_split}
 use Rattle.std.proofs.lemmas.List.Elements.{All-from_get_or}
 use Rattle.std.proofs.lemmas.List.Sums.{fails_before_first}

@@ -1,5 +1,5 @@
 -- Words of digits, and the numbers that they spell.
-use Rattle.std.proofs.Common.{◌≡◌, ℕ, ◌^◌, ◌<◌, Bool, true, false, List, length, get_or, Result, Ok, Err, MatchResult, nat_eq, nat_lt, rules, arith, refl, ap, sym, ◌∙◌, inl, inr, ne_eqb, lt-ltb}
+use Rattle.std.proofs.Common.{◌≡◌, ℕ, ◌^◌, true, false, List, length, get_or, Result, Ok, Err, MatchResult, nat_eq, nat_lt, rules, arith, refl, ap, ◌∙◌, inl, inr, ne_eqb, lt-ltb}
 use Rattle.std.specs.Int.{IsInRange}
 use Rattle.std.proofs.lemmas.Bool.{cases_lt, cases_Bool, eqb-false, ltb-true}
 use Rattle.std.proofs.lemmas.List.{get_or_past}

@@ -1,5 +1,5 @@
 -- What the bytes of a script say, or its first faulty line.
-use Rattle.std.specs.Prelude.{ℕ, ◌+◌, ◌^◌, Bool, ◌&&◌, ◌||◌, not, nat_lt, List, [], ◌∷◌, length, filter, codes, if◌then◌else◌, Option, Some, None, Result, Ok, Err, ◌==◌, slice_index}
+use Rattle.std.specs.Prelude.{ℕ, ◌+◌, ◌^◌, Bool, ◌&&◌, ◌||◌, not, nat_lt, nat_eq, List, [], ◌∷◌, length, filter, codes, if◌then◌else◌, Option, Some, None, Result, Ok, Err, ◌==◌, slice_index}
 use Rattle.std.specs.List.{slice_split, starts_with, list_all}
 use Rattle.std.specs.Str.{bytes_eq}
 use Rattle.std.specs.Str.Parse.{digits_value}
@@ -10,7 +10,7 @@ use Rattle.fkv_base.specs.declared.numbers.Key.{Key}
 use Rattle.fkv_map.specs.declared.operations.Op.{Op}
 use Rattle.fkv_map.specs.declared.operations.Op.TheVariants.{Upsert, Delete, Add, Max, Read}
 use Rattle.fkv_cli.specs.declared.scripts.Command.{Command}
-use Rattle.fkv_cli.specs.declared.scripts.Command.TheVariants.{Operation, Commit, Finish, Crash}
+use Rattle.fkv_cli.specs.declared.scripts.Command.TheVariants.{Operation, Commit, Finish, Crash, CrashAt}
 use Rattle.fkv_cli.specs.declared.scripts.Sizes.{Sizes}
 
 -- a script as it was read: the sizes of its `shape` line, if it has one, and the later lines that say something
@@ -129,12 +129,18 @@ keeper_line (verb ∷ words) =
     else if bytes_eq verb (codes "finish") then alone words Finish
     else Err Word
 
--- a later line is `crash`, the keeper's behind `k`, or a session's, whose first word begins with a digit
+-- `crash` stands alone, or before the number of the device call at which it strikes; the first call is number 1
+unfoldable pub crash_line : List (List ℕ) → Result Command ScriptFault
+crash_line [] = Ok Crash
+crash_line (word ∷ []) = number_of word >>= λ call. if nat_eq call 0 then Err Number else Ok (CrashAt call)
+crash_line (word ∷ next ∷ more) = Err Count
+
+-- a later line is a `crash`, the keeper's behind `k`, or a session's, whose first word begins with a digit
 unfoldable pub command_line : List (List ℕ) → Result Command ScriptFault
 command_line [] = Err Word
 command_line (head ∷ words) =
     if is_opening head then Err Order
-    else if bytes_eq head (codes "crash") then alone words Crash
+    else if bytes_eq head (codes "crash") then crash_line words
     else if bytes_eq head (codes "k") then keeper_line words
     else if is_ascii_digit (slice_index head 0) then session_line head words
     else Err Word

@@ -1,13 +1,21 @@
 //! The words after the program's name, and how a run ends.
-ghost use Rattle.std.specs.Prelude.{◌≡◌, ◌⊎◌, ◌↔◌, [], string_bytes, IsOk, IfErr};
+ghost use Rattle.std.specs.Prelude.{◌≡◌, ◌⊎◌, [], string_bytes};
+ghost use Rattle.clap.specs.Values.{kind_of};
+ghost use Rattle.fkv_cli.specs.Options.{Parses, TellsMatches, TellsTorn};
+ghost use Rattle.fkv_cli.specs.Reading.{texts};
 ghost use Rattle.fkv_cli.specs.RunFault.{IsWant, IsOptionsFault};
 
+use clap::error::ErrorKind;
+use clap::{Arg, Command, value_parser};
 use std::alloc::Global;
 use thiserror::Error;
 
-/// What the words after the program's name ask for. None is served yet.
+/// What the words after the program's name ask for.
 #[derive(Clone, Copy, Debug, Default, PartialEq, Eq)]
-pub struct Options {}
+pub struct Options {
+    /// What a crash leaves in each byte that was written since the last successful sync.
+    pub torn: u8,
+}
 
 /// How a run ended that found no fault.
 #[derive(Clone, Copy, Debug, PartialEq, Eq)]
@@ -46,38 +54,49 @@ impl RunFault {
     {
         RunFault::printed(alloc, 4)
     }
-}
 
-/// Reads the words after the program's name. No option is served yet, so each word is refused: status 2 and the
-/// line `options`; status 4 where memory was refused.
-pub fn options_of(alloc: Global, words: &[&str]) -> Result<Options, RunFault>
-    ensures accepted { IsOk result ↔ (words.now ≡ []) }
-    ensures refused { IfErr result (λ fault. IsWant fault ⊎ IsOptionsFault fault) }
-{
-    if words.is_empty() {
-        return Ok(Options {});
-    }
-    match String::from_str(alloc, "options\n") {
-        Ok(text) => Err(RunFault { status: 2, text }),
-        Err(_) => Err(RunFault::want(alloc)),
-    }
-}
-
-#[cfg(test)]
-mod tests {
-    use super::*;
-
-    #[test]
-    fn no_word_is_served(rt: HostRuntime) {
-        assert!(rt; options_of(rt.alloc(), &[]).is_ok());
-        for word in ["--seed", "x", "--help", ""] {
-            match options_of(rt.alloc(), &[word]) {
-                Ok(_) => assert!(rt; false, "{word} is served"),
-                Err(fault) => {
-                    assert_eq!(rt; fault.status, 2);
-                    assert_eq!(rt; fault.text.as_str(), "options\n");
-                }
-            }
+    /// The words after the program's name are refused; or memory was.
+    fn of_options(alloc: Global) -> RunFault
+        ensures { IsWant result ⊎ IsOptionsFault result }
+    {
+        match String::from_str(alloc, "options\n") {
+            Ok(text) => RunFault { status: 2, text },
+            Err(_) => RunFault::want(alloc),
         }
     }
 }
+
+/// Reads the words after the program's name: `--torn B`, where B is 0 to 255, and nothing else. Words that are refused
+/// give status 2 and the line `options`; status 4 where memory was refused.
+pub fn options_of(alloc: Global, words: &[&str]) -> Result<Options, RunFault>
+    ensures matches { TellsMatches (texts words.now) result }
+    ensures torn { TellsTorn (texts words.now) result }
+{
+    match parse(alloc, words) {
+        Ok(options) => Ok(options),
+        Err(error) => match error.kind() {
+            ErrorKind::OutOfMemory => Err(RunFault::want(alloc)),
+            _ => Err(RunFault::of_options(alloc)),
+        },
+    }
+}
+
+/// The same, with what the parse of the command line says of words that are refused.
+fn parse(alloc: Global, words: &[&str]) -> Result<Options, clap::Error>
+    ensures { Parses (texts words.now) result }
+{
+    let torn = Arg::new(alloc, "torn")
+        .long("torn")
+        .value_parser(value_parser!(u8));
+    let command = Command::new(alloc, "fkv")
+        .no_binary_name(true)
+        .disable_help_flag(true)
+        .arg(torn)?;
+    let matches = command.try_get_matches_from(words)?;
+    Ok(Options {
+        torn: matches.get_one::<u8>("torn").unwrap_or(0),
+    })
+}
+
+#[cfg(test)]
+mod tests;

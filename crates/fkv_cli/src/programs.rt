@@ -1,15 +1,17 @@
 //! Runs of the program: a script in, its answers out.
-ghost use Rattle.std.specs.Prelude.{◌≡◌, ◌⊎◌, OnOk, IfOk, IfErr, IfSome, [], take, is_ok, string_bytes};
+ghost use Rattle.std.specs.Prelude.{◌≡◌, ◌⊎◌, OnOk, IfOk, IfErr, IfSome, [], ℕ, List, take, is_ok, string_bytes};
 ghost use Rattle.std.specs.Io.KnownBytes.{Appends};
 ghost use Rattle.fkv_base.specs.declared.faults.Fault.TheVariants.{BadShape};
 ghost use Rattle.fkv_cli.specs.RunFault.{IsWant};
-ghost use Rattle.fkv_cli.specs.Output.{IsRunOf, Ends, command_text, after_command, commands_text, opened_text, opened_status, is_accepted, script_limit};
+ghost use Rattle.fkv_cli.specs.declared.scripts.Command.TheVariants.{Finish};
+ghost use Rattle.fkv_cli.specs.Replays.{IsReplayRunOf};
+ghost use Rattle.fkv_cli.specs.Output.{IsRunOf, Ends, Plays, PlaysOpening, PlaysNew, IsPlayed, IsCrashed, HasSizes, ended, refusal_text, is_accepted, script_limit};
 
 use crate::options::{Options, RunFault, Verdict};
 use crate::reading::script_of;
 use crate::scripts::{Command, Script, Sizes};
 use crate::texts::{write_answer, write_commit, write_finish, write_refusal, write_report};
-use crate::worlds::PlainWorld;
+use crate::worlds::World;
 use fkv_base::{Fault, Shape};
 use std::alloc::Global;
 use std::io::{self, Read, Write};
@@ -35,24 +37,42 @@ impl From<Fault> for Want {
     }
 }
 
-/// Reads a script, runs it on a plain world of its own, and writes the answers to its lines and nothing else.
+/// Reads a script, runs it on a store of its own that lies on a device in memory, and writes the answers to its lines and
+/// nothing else.
 ///
-/// `Ok` is status 0. An `Err` has status 2 where the script has a faulty line or a bad shape, whose line is written,
-/// and status 4 where memory was refused or a stream failed: then the output may break off anywhere.
-#[tactic(auto, unfolding(crate::specs::Output::script_text, crate::specs::Output::script_status))]
+/// `Ok` is status 0. An `Err` has status 2 where the script has a faulty line or a bad shape, whose line is written;
+/// status 3 where creating or recovering a store was refused, whose line is the last that is written; and status 4 where
+/// memory was refused elsewhere or a stream failed: then the output may break off anywhere.
+///
+/// Each crash that is reported is answered by a replay, as `law_reports` has it.
 pub fn run<R: Read + Drop, W: Write>(
     alloc: Global,
     input: R,
     output: &mut W,
     options: &Options,
 ) -> Result<Verdict, RunFault>
-    ensures { IfSome (R.remaining input) (λ bytes. IsRunOf bytes (W.contents output.old) (W.contents output.new) result) }
+    ensures output { IfSome (R.remaining input) (λ bytes. IsRunOf options.now.torn bytes (W.contents output.old) (W.contents output.new) result) }
+    ensures replays { IfSome (R.remaining input) (λ bytes. IsReplayRunOf options.now.torn bytes (W.contents output.old) (W.contents output.new) result) }
+{
+    // The proof learns that it is a byte.
+    let _torn = options.torn;
+    run_bytes(alloc, input, output, options)
+}
+
+#[tactic(auto, unfolding(crate::specs::Output::PlaysScript))]
+fn run_bytes<R: Read + Drop, W: Write>(
+    alloc: Global,
+    input: R,
+    output: &mut W,
+    options: &Options,
+) -> Result<Verdict, RunFault>
+    ensures { IfSome (R.remaining input) (λ bytes. IsRunOf options.now.torn bytes (W.contents output.old) (W.contents output.new) result) }
 {
     let Ok(bytes) = script_bytes(alloc, input) else {
         return Err(RunFault::want(alloc));
     };
     match script_of(alloc, bytes.as_slice(), options) {
-        Ok(script) => run_script(alloc, output, &script),
+        Ok(script) => run_script(alloc, output, &script, options.torn),
         Err(fault) => Err(write_fault(alloc, output, fault)),
     }
 }
@@ -85,32 +105,27 @@ fn write_text<W: Write>(output: &mut W, text: &str) -> io::Result<()>
 }
 
 /// Runs a script without a faulty line.
-#[tactic(auto, using(crate::proofs::Appending::appends_nothing), unfolding(crate::specs::Output::opened_text, crate::specs::Output::opened_status))]
-fn run_script<W: Write>(alloc: Global, output: &mut W, script: &Script) -> Result<Verdict, RunFault>
-    ensures { Ends (opened_status script.now.opening) (opened_text script.now.opening script.now.commands.items)
-        (W.contents output.old) (W.contents output.new) result }
+#[tactic(auto, using(crate::proofs::Appending::appends_nothing), unfolding(crate::specs::Output::PlaysOpening))]
+fn run_script<W: Write>(
+    alloc: Global,
+    output: &mut W,
+    script: &Script,
+    torn: u8,
+) -> Result<Verdict, RunFault>
+    ensures { Ends (PlaysOpening torn script.now.opening script.now.commands.items) (W.contents output.old) (W.contents output.new) result }
 {
     let Some(sizes) = script.opening else {
         return Ok(Verdict::Agrees);
     };
     match shape_of(sizes) {
-        Ok(shape) => {
-            let world = PlainWorld::new(alloc, shape.sessions);
-            match run_commands(output, world, script.commands.as_slice()) {
-                Ok(()) => Ok(Verdict::Agrees),
-                Err(Want) => Err(RunFault::want(alloc)),
-            }
-        }
-        Err(fault) => match write_refusal(output, fault) {
-            Ok(()) => Err(RunFault::printed(alloc, 2)),
-            Err(_) => Err(RunFault::want(alloc)),
-        },
+        Ok(shape) => run_store(alloc, output, shape, script.commands.as_slice(), torn),
+        Err(fault) => Err(refuse(alloc, output, fault, 2)),
     }
 }
 
 fn shape_of(sizes: Sizes) -> Result<Shape, Fault>
     ensures accepted { is_ok result ≡ is_accepted sizes }
-    ensures sessions { IfOk result (λ shape. shape.sessions ≡ sizes.sessions) }
+    ensures sized { IfOk result (HasSizes sizes) }
     ensures refused { IfErr result (λ fault. fault ≡ BadShape) }
 {
     Shape::new(
@@ -124,28 +139,81 @@ fn shape_of(sizes: Sizes) -> Result<Shape, Fault>
     )
 }
 
-/// Answers the commands one after another.
-fn run_commands<W: Write>(
-    output: &mut W,
-    mut world: PlainWorld,
-    commands: &[Command],
-) -> Result<(), Want>
-    ensures { OnOk result (Appends (W.contents output.old) (W.contents output.new) (commands_text world commands.now)) }
+/// Writes the refusal that ends a run.
+fn refuse<W: Write>(alloc: Global, output: &mut W, fault: Fault, status: u8) -> RunFault
+    ensures { IsWant result ⊎ ((result.status ≡ status) × (string_bytes result.text ≡ []) × Appends (W.contents output.old) (W.contents output.new) (ended (refusal_text fault))) }
 {
-    for command in commands {
-        run_command(output, &mut world, *command)?;
+    if write_refusal(output, fault).is_err() || output.flush().is_err() {
+        return RunFault::want(alloc);
     }
-    output.flush()?;
-    Ok(())
+    RunFault::printed(alloc, status)
 }
 
+/// Creates a store, and lets it answer the commands.
+fn run_store<W: Write>(
+    alloc: Global,
+    output: &mut W,
+    shape: Shape,
+    commands: &[Command],
+    torn: u8,
+) -> Result<Verdict, RunFault>
+    ensures { Ends (PlaysNew torn shape commands.now) (W.contents output.old) (W.contents output.new) result }
+{
+    match World::create(alloc, shape) {
+        Ok(world) => match run_commands(output, world, commands, torn) {
+            Ok(0) => Ok(Verdict::Agrees),
+            Ok(status) => Err(RunFault::printed(alloc, status)),
+            Err(Want) => Err(RunFault::want(alloc)),
+        },
+        Err(Fault::Memory) => Err(refuse(alloc, output, Fault::Memory, 3)),
+        Err(_) => Err(RunFault::want(alloc)),
+    }
+}
+
+/// Answers the commands one after another, and takes a crash at their end that hasn't struck. The status is 0, or 3 where
+/// recovery was refused.
+fn run_commands<W: Write>(
+    output: &mut W,
+    mut world: World,
+    commands: &[Command],
+    torn: u8,
+) -> Result<u8, Want>
+    ensures { IfOk result (λ status. (text : List ℕ) × Plays torn world commands.now text status × Appends (W.contents output.old) (W.contents output.new) text) }
+{
+    for command in commands {
+        if !run_command(output, &mut world, *command, torn)? {
+            output.flush()?;
+            return Ok(3);
+        }
+    }
+    let status = run_end(output, &mut world, torn)?;
+    output.flush()?;
+    Ok(status)
+}
+
+/// Takes a crash that hasn't struck.
+fn run_end<W: Write>(output: &mut W, world: &mut World, torn: u8) -> Result<u8, Want>
+    ensures { IfOk result (λ status. (text : List ℕ) × Plays torn world.old [] text status × Appends (W.contents output.old) (W.contents output.new) text) }
+{
+    if !world.awaits_crash() {
+        return Ok(0);
+    }
+    let image = world.crash_image(torn)?;
+    if run_crash(output, world, image)? {
+        Ok(0)
+    } else {
+        Ok(3)
+    }
+}
+
+/// Answers a command. `false` where recovery was refused, which ends the run.
 fn run_command<W: Write>(
     output: &mut W,
-    world: &mut PlainWorld,
+    world: &mut World,
     command: Command,
-) -> Result<(), Want>
-    ensures text { OnOk result (Appends (W.contents output.old) (W.contents output.new) (command_text world.old command)) }
-    ensures after { OnOk result (world.new ≡ after_command world.old command) }
+    torn: u8,
+) -> Result<bool, Want>
+    ensures { IfOk result (λ goes_on. (text : List ℕ) × IsPlayed torn world.old command world.new text goes_on × Appends (W.contents output.old) (W.contents output.new) text) }
 {
     match command {
         Command::Operation(session, op) => {
@@ -156,15 +224,53 @@ fn run_command<W: Write>(
             let answer = world.commit();
             write_commit(output, answer)?;
         }
-        Command::Finish => {
-            let commit = world.finish();
-            write_finish(output, commit)?;
-        }
+        Command::Finish => return run_finish(output, world, torn),
         Command::Crash => {
-            world.crash()?;
-            let pairs = world.pairs()?;
-            write_report(output, world.last_commit(), pairs.as_slice())?;
+            let image = world.crash_image(torn)?;
+            return run_crash(output, world, image);
+        }
+        Command::CrashAt(call) => world.crash_at(call),
+    }
+    Ok(true)
+}
+
+/// Finishes the commit that runs, if one does, or crashes in it.
+fn run_finish<W: Write>(output: &mut W, world: &mut World, torn: u8) -> Result<bool, Want>
+    ensures { IfOk result (λ goes_on. (text : List ℕ) × IsPlayed torn world.old Finish world.new text goes_on × Appends (W.contents output.old) (W.contents output.new) text) }
+{
+    if !world.is_committing() {
+        write_finish(output, None)?;
+        return Ok(true);
+    }
+    let calls = world.finish_calls()?;
+    match world.strikes_after(&calls) {
+        Some(passed) => {
+            let image = world.struck_image(&calls, passed, torn)?;
+            run_crash(output, world, image)
+        }
+        None => {
+            let commit = world.finish(&calls)?;
+            write_finish(output, Some(commit))?;
+            Ok(true)
         }
     }
-    Ok(())
+}
+
+/// Recovers the store of an image and reports it.
+fn run_crash<W: Write>(output: &mut W, world: &mut World, image: Vec<u8>) -> Result<bool, Want>
+    ensures { IfOk result (λ goes_on. (text : List ℕ) × IsCrashed world.old image.items world.new text goes_on × Appends (W.contents output.old) (W.contents output.new) text) }
+{
+    match world.recovered(image) {
+        Ok(after) => {
+            *world = after;
+            let pairs = world.pairs()?;
+            write_report(output, world.last_commit(), pairs.as_slice())?;
+            Ok(true)
+        }
+        Err(Fault::Device) => Err(Want),
+        Err(fault) => {
+            write_refusal(output, fault)?;
+            Ok(false)
+        }
+    }
 }

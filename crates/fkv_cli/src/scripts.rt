@@ -24,6 +24,8 @@ pub enum Command {
     Finish,
     /// `crash`
     Crash,
+    /// `crash J`: the crash comes at the J-th call of the device in the lines that follow, counted from 1.
+    CrashAt(u64),
 }
 
 /// A script without a faulty line.

@@ -1,13 +1,21 @@
 //! Whole scripts: what a run writes, and the status it ends with.
+mod crashes;
+
 use super::*;
 use std::alloc::{AllocError, Global};
 use std::io::{self, ErrorKind, Read, Write};
+use std::process::Abort;
 use std::test::Fail;
 
 /// What a run of a script writes, and its status.
 fn ran(alloc: Global, script: &[u8]) -> (Vec<u8>, u8) {
+    ran_torn(alloc, script, 0)
+}
+
+/// The same, where torn bytes hold this.
+fn ran_torn(alloc: Global, script: &[u8], torn: u8) -> (Vec<u8>, u8) {
     let mut output = Vec::new(alloc);
-    let status = match run(alloc, script, &mut output, &Options::default()) {
+    let status = match run(alloc, script, &mut output, &Options { torn }) {
         Ok(Verdict::Agrees) => 0,
         Ok(Verdict::Differs) => 1,
         Err(fault) => fault.status,
@@ -15,7 +23,7 @@ fn ran(alloc: Global, script: &[u8]) -> (Vec<u8>, u8) {
     (output, status)
 }
 
-const ROWS: [(&str, &str, u8); 10] = [
+const ROWS: [(&str, &str, u8); 16] = [
     (
         "shape 4 16 4 2 1 0 64\n0 up 1 10\n0 get 1\nk commit\nk finish\n0 up 1 11\ncrash\n",
         "0 #1 done\n0 get 1 = 10\nk commit 1\nk finished 1 points 1\n0 #2 done\ncrash commit 1 points 1 pairs 1\npair 1 10\n",
@@ -53,6 +61,36 @@ const ROWS: [(&str, &str, u8); 10] = [
     ),
     ("shape 4 6 4 2 1 0 64\n", "refused 1 BadShape\n", 2),
     ("", "", 0),
+    (
+        "shape 4 16 4 2 1 0 64\n0 up 3 30\n0 up 524291 40\n0 del 3\n0 get 3\n0 get 524291\n",
+        "0 #1 done\n0 #2 done\n0 #3 done\n0 get 3 absent\n0 get 524291 = 40\n",
+        0,
+    ),
+    (
+        "shape 0 16 4 2 1 0 64\n0 up 1 1\n0 up 2 1\n0 up 3 1\n0 up 4 1\n0 up 5 1\n0 up 6 1\n0 up 7 1\n0 up 8 1\n0 up 1 2\n",
+        "0 #1 done\n0 #2 done\n0 #3 done\n0 #4 done\n0 #5 done\n0 #6 done\n0 #7 done\n0 refused 4 IndexFull\n0 #8 done\n",
+        0,
+    ),
+    (
+        "shape 0 16 4 2 1 1 64\n0 up 1 1\n0 up 2 1\n0 up 3 1\n0 up 4 1\n0 up 5 1\n0 up 6 1\n0 up 7 1\n0 up 8 1\n0 up 1 2\n",
+        "0 #1 done\n0 #2 done\n0 #3 done\n0 #4 done\n0 #5 done\n0 #6 done\n0 #7 done\n0 #8 done\n0 #9 done\n",
+        0,
+    ),
+    (
+        "shape 4 4 2 1 1 0 1\n0 up 1 1\n0 up 2 2\n0 up 3 3\n0 up 4 4\n0 up 1 5\n9 get 1\n",
+        "0 #1 done\n0 #2 done\n0 #3 done\n0 refused 5 LogFull\n0 #4 done\n9 refused 19 NoSession\n",
+        0,
+    ),
+    (
+        "shape 4 16 4 2 1 0 64\n0 del 9\n0 up 9 1\nk commit\nk finish\n0 del 9\ncrash\n0 del 9\nk commit\nk finish\ncrash\n",
+        "0 #1 done\n0 #2 done\nk commit 1\nk finished 1 points 2\n0 #3 done\ncrash commit 1 points 2 pairs 1\npair 9 1\n0 #3 done\nk commit 2\nk finished 2 points 3\ncrash commit 2 points 3 pairs 0\n",
+        0,
+    ),
+    (
+        "shape 4 16 4 2 1 0 64\n0 up 1 10\ncrash 3\ncrash 1000\n0 up 2 20\nk commit\nk finish\n0 up 1 11\n",
+        "0 #1 done\n0 #2 done\nk commit 1\nk finished 1 points 2\n0 #3 done\ncrash commit 1 points 2 pairs 2\npair 1 10\npair 2 20\n",
+        0,
+    ),
     (
         "# a comment\n\nshape 4 16 4 2 1 0 64\n007 get 1\n  0  get   1\n",
         "7 refused 19 NoSession\n0 get 1 absent\n",

@@ -18,6 +18,11 @@ impl fmt::Display for Answer {
 
     fn fmt<W: fmt::Write>(&self, f: &mut fmt::Formatter<W>) -> fmt::Result {
         match *self {
+            Answer::Refused(Fault::Damaged(part, place)) => {
+                let fault = Fault::Damaged(part, place);
+                let (number, name, part) = (fault.number(), fault.name(), part.name());
+                write!(f, "refused {number} {name}({part}, {place})")
+            }
             Answer::Refused(fault) => write!(f, "refused {} {}", fault.number(), fault.name()),
             Answer::Updated(serial, Reply::Nothing) => write!(f, "#{} done", serial.0),
             Answer::Updated(serial, Reply::Number(value)) => {

@@ -1,7 +1,7 @@
 //! What a line says, by its words.
 ghost use Rattle.std.specs.Prelude.{◌≡◌};
 ghost use Rattle.fkv_cli.specs.Reading.{texts};
-ghost use Rattle.fkv_cli.specs.Script.{is_opening, opening_line, command_line, keeper_line, session_line, operation_of, alone};
+ghost use Rattle.fkv_cli.specs.Script.{is_opening, opening_line, command_line, crash_line, keeper_line, session_line, operation_of, alone};
 
 use crate::reading::numbers::{arguments_of, number_of};
 use crate::scripts::{Command, Sizes};
@@ -45,7 +45,7 @@ pub(super) fn opening_line(words: &[&[u8]]) -> Result<Sizes, ScriptFault>
     })
 }
 
-/// A later line: `crash`, the keeper's behind `k`, or a session's behind its number.
+/// A later line: a `crash`, the keeper's behind `k`, or a session's behind its number.
 #[tactic(auto, unfolding(crate::specs::Script::command_line))]
 pub(super) fn command_line(words: &[&[u8]]) -> Result<Command, ScriptFault>
     ensures { result ≡ command_line (texts words.now) }
@@ -57,7 +57,7 @@ pub(super) fn command_line(words: &[&[u8]]) -> Result<Command, ScriptFault>
         return Err(ScriptFault::Order);
     }
     match *head {
-        b"crash" => alone(words, Command::Crash),
+        b"crash" => crash_line(words),
         b"k" => keeper_line(words),
         [b'0'..=b'9', ..] => session_line(head, words),
         _ => Err(ScriptFault::Word),
@@ -69,6 +69,21 @@ fn is_opening(head: &[u8]) -> bool
     ensures { result ≡ is_opening head.now }
 {
     head == b"shape".as_slice() || head == b"open".as_slice()
+}
+
+/// What stands behind `crash`: nothing, or the number of a device call.
+#[tactic(auto, unfolding(crate::specs::Script::crash_line))]
+fn crash_line(words: &[&[u8]]) -> Result<Command, ScriptFault>
+    ensures { result ≡ crash_line (texts words.now) }
+{
+    match words {
+        [] => Ok(Command::Crash),
+        [call] => match number_of(call)? {
+            0 => Err(ScriptFault::Number),
+            call => Ok(Command::CrashAt(call)),
+        },
+        _ => Err(ScriptFault::Count),
+    }
 }
 
 /// What stands behind `k`: `commit` or `finish`.

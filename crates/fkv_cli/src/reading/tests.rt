@@ -50,7 +50,7 @@ fn copies(alloc: Global, bytes: &[u8], count: u64) -> Result<Vec<u8>, Fail> {
 fn each_kind_of_line_is_read(rt: HostRuntime) -> Result<(), Fail> {
     let script = read_whole(
         rt.alloc(),
-        b"shape 4 16 4 2 1 0 64\n0 up 1 10\n007 get 1\n0 add 1 18446744073709551615\n0 max 1 2\n0  del 001\n k commit \nk finish\ncrash",
+        b"shape 4 16 4 2 1 0 64\n0 up 1 10\n007 get 1\n0 add 1 18446744073709551615\n0 max 1 2\n0  del 001\n k commit \nk finish\ncrash\ncrash 1\ncrash 0018446744073709551615",
     )?;
     let sizes = Sizes {
         bucket_bits: 4,
@@ -71,6 +71,8 @@ fn each_kind_of_line_is_read(rt: HostRuntime) -> Result<(), Fail> {
         Command::Commit,
         Command::Finish,
         Command::Crash,
+        Command::CrashAt(1),
+        Command::CrashAt(18446744073709551615),
     ];
     assert_eq!(rt; script.commands.as_slice(), commands.as_slice());
     Ok(())
@@ -103,7 +105,9 @@ fn each_kind_of_fault_is_named(rt: HostRuntime) -> Result<(), Fail> {
     expect_fault_after_shape(&rt, alloc, "k\n", "script line 2 Count\n")?;
     expect_fault_after_shape(&rt, alloc, "3", "script line 2 Count\n")?;
     expect_fault_after_shape(&rt, alloc, "k commit log\n", "script line 2 Count\n")?;
-    expect_fault_after_shape(&rt, alloc, "crash 1\n", "script line 2 Count\n")?;
+    expect_fault_after_shape(&rt, alloc, "k finish 1\n", "script line 2 Count\n")?;
+    expect_fault_after_shape(&rt, alloc, "crash 1 2\n", "script line 2 Count\n")?;
+    expect_fault_after_shape(&rt, alloc, "crash 0 x\n", "script line 2 Count\n")?;
     expect_fault(&rt, alloc, b"shape 4 16 4 2 1 0\n", "script line 1 Count\n")?;
     expect_fault_after_shape(&rt, alloc, "0x up 1 2\n", "script line 2 Number\n")?;
     expect_fault_after_shape(&rt, alloc, "0 up +1 2\n", "script line 2 Number\n")?;
@@ -111,6 +115,16 @@ fn each_kind_of_fault_is_named(rt: HostRuntime) -> Result<(), Fail> {
         &rt,
         alloc,
         "0 up 1 18446744073709551616\n",
+        "script line 2 Number\n",
+    )?;
+    expect_fault_after_shape(&rt, alloc, "crash 0\n", "script line 2 Number\n")?;
+    expect_fault_after_shape(&rt, alloc, "crash 000\n", "script line 2 Number\n")?;
+    expect_fault_after_shape(&rt, alloc, "crash x\n", "script line 2 Number\n")?;
+    expect_fault_after_shape(&rt, alloc, "crash -1\n", "script line 2 Number\n")?;
+    expect_fault_after_shape(
+        &rt,
+        alloc,
+        "crash 18446744073709551616\n",
         "script line 2 Number\n",
     )?;
     expect_fault(

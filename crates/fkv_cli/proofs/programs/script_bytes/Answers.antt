@@ -1,4 +1,4 @@
-use Rattle.std.proofs.Common.{◌≡◌, ℕ, List, IfSome, take, subst}
+use Rattle.std.proofs.Common.{◌≡◌, ℕ, IfSome, take, subst}
 use Rattle.fkv_cli.proofs.Appending.{first_bytes}
 use Rattle.fkv_cli.proofs.programs.script_bytes.Goals as goal
 

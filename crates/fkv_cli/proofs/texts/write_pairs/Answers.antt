@@ -1,4 +1,4 @@
-use Rattle.std.proofs.Common.{◌≡◌, refl, subst, [], ◌++◌, List, ℕ, get_or}
+use Rattle.std.proofs.Common.{refl, subst, [], ◌++◌, List, ℕ, get_or}
 use Rattle.std.specs.Io.KnownBytes.{Appends}
 use Rattle.fkv_cli.specs.Output.{pair_line}
 use Rattle.fkv_cli.proofs.Appending.{appends_both, appends_nothing, rest_joined, rest_is_nothing}

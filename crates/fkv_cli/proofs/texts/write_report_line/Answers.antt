@@ -1,4 +1,4 @@
-use Rattle.std.proofs.Common.{◌≡◌, append_assoc}
+use Rattle.std.proofs.Common.{append_assoc}
 use Rattle.fkv_cli.proofs.texts.write_report_line.Goals as goal
 
 pub returns : goal.returns

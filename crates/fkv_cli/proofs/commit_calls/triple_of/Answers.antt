@@ -1,0 +1,5 @@
+use Rattle.fkv_record.proofs.TripleApart.{triple_numbered}
+use Rattle.fkv_cli.proofs.commit_calls.triple_of.Goals as goal
+
+pub returns : goal.returns
+returns c = triple_numbered.same _
