@@ -35,12 +35,12 @@ use Rattle.fkv_epoch.proofs.Runs.{claim_is_safe}
 use Rattle.fkv_flush.specs.GuardLevels.{Levels, levels_of, AreInOrder, Rises}
 use Rattle.fkv_flush.specs.GuardSeen.{LastSeen}
 use Rattle.fkv_flush.specs.GuardWorld.{Actor, Now, World, epoch_now, epoch_world, seen_with}
-use Rattle.fkv_flush.specs.Guarded.{seen_at, seen_of, undecided_at, GoesBy}
+use Rattle.fkv_flush.specs.Guarded.{is_steady, seen_at, seen_of, undecided_at, GoesBy}
 use Rattle.fkv_flush.proofs.Guard.{SeesOn, knows_on, fresh_on}
 use Rattle.fkv_flush.proofs.GuardEpochs.{runs, acted_spared, offsets_spared, others_epoch, safe_rises}
 use Rattle.fkv_flush.proofs.GuardCounts.{writes_own, elsewhere, acted_counts}
 use Rattle.fkv_flush.proofs.GuardHomes.{homes_spared, arms_none}
-use Rattle.fkv_flush.proofs.GuardSound.{Knows, IsSound, Awake, is_steady, duty_of, duty_at, after, assembled}
+use Rattle.fkv_flush.proofs.GuardSound.{Knows, IsSound, Awake, duty_of, duty_at, after, assembled}
 use Rattle.fkv_flush.proofs.GuardSteps.{rises_same}
 
 pub loaded_here : (loads : ℕ → Loads) (a : ℕ) (sight : Option Sight) (epoch : ℕ) → loaded loads a sight epoch a ≡ with_load (loads a) sight epoch

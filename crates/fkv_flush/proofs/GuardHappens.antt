@@ -31,13 +31,14 @@ use Rattle.fkv_flush.specs.declared.shifting.Shifting.TheVariants as shift
 use Rattle.fkv_flush.specs.declared.turning.Turning.TheVariants as turn
 use Rattle.fkv_flush.specs.declared.flushing.Flushing.TheVariants as flush
 use Rattle.fkv_flush.specs.declared.serving.Serving.TheVariants as serve
+use Rattle.fkv_flush.specs.Moving.{move_at_rest}
 use Rattle.fkv_flush.specs.GuardLevels.{Levels, levels_of, Rises}
 use Rattle.fkv_flush.specs.GuardSeen.{LastSeen, IsStored}
-use Rattle.fkv_flush.specs.GuardWorld.{Actor, Work, Rests, Reserves, Fills, Invalidates, Shifts, Turns, Flushes, Serves, Task, ToDo, ToReserve, ToFill, ToInvalidate, ToShift, ToTurnPage, ToFlush, ToServe, Now, World, epoch_now, epoch_world, put_near, with_actor, dutied, worked, moved, duty_moved, drives_epochs, is_idle, is_none, is_awake, may_work, started, begun, resumed, called, called_by, read, read_by, seen_again, seen_with, sight_moved, published, may_update, updated, read_only_raised, is_stored, raised_for, raised_with, is_guarded, changed, address_of, move_at_rest}
-use Rattle.fkv_flush.specs.Guarded.{seen_at, seen_of, GoesBy}
+use Rattle.fkv_flush.specs.GuardWorld.{Actor, Work, Rests, Reserves, Fills, Invalidates, Shifts, Turns, Flushes, Serves, Task, ToDo, ToReserve, ToFill, ToInvalidate, ToShift, ToTurnPage, ToFlush, ToServe, Now, World, epoch_now, epoch_world, put_near, with_actor, dutied, worked, moved, duty_moved, drives_epochs, is_idle, is_none, is_awake, may_work, started, begun, resumed, called, called_by, read, read_by, seen_again, seen_with, sight_moved, published, may_update, updated, read_only_raised, is_stored, raised_for, raised_with, is_guarded, changed, address_of}
+use Rattle.fkv_flush.specs.Guarded.{is_steady, seen_at, seen_of, GoesBy}
 use Rattle.fkv_flush.proofs.Guard.{SeesOn, knows_on}
 use Rattle.fkv_flush.proofs.GuardEpochs.{runs}
-use Rattle.fkv_flush.proofs.GuardSound.{Knows, knows_more, IsSound, Awake, is_steady, duty_of, duty_at, after, assembled}
+use Rattle.fkv_flush.proofs.GuardSound.{Knows, knows_more, IsSound, Awake, duty_of, duty_at, after, assembled}
 use Rattle.fkv_flush.proofs.GuardSteps.{worded, looks, writes_elsewhere, high_elsewhere, IsElsewhere, rises_same, same_duties, goes_with}
 use Rattle.fkv_flush.proofs.GuardOffsets.{lifted, lifted_epochs, read_only_written}
 use Rattle.fkv_flush.proofs.GuardDuties.{dutied_sound, loaded_here, loaded_there, sees_read_only, sees_head}

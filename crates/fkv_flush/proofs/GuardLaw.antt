@@ -9,9 +9,10 @@ use Rattle.fkv_epoch.specs.World.{Protects, Arms, Sight, OfReadOnly, OfHead}
 use Rattle.fkv_epoch.proofs.Cells.{none_some}
 use Rattle.fkv_epoch.proofs.Runs as epochs_runs
 use Rattle.fkv_flush.specs.GuardSeen.{LastSeen}
-use Rattle.fkv_flush.specs.GuardWorld.{Actor, Now, World, Event, Begins, Resumes, Moves, Calls, Reads, Sees, Publishes, Updates, RaisesReadOnly, RaisesFor, Changes, happens, run}
-use Rattle.fkv_flush.specs.Guarded.{seen_at, seen_of, undecided_at, GoesBy, IsOpened, opening, first_actor, IsCovered, UndecidedIsFresh}
-use Rattle.fkv_flush.proofs.GuardSound.{IsSound, duty_of}
+use Rattle.fkv_flush.specs.GuardWorld.{Actor, Now, World, Event, Begins, Resumes, Moves, Calls, Reads, Sees, Publishes, Updates, RaisesReadOnly, RaisesFor, Changes, CallsElse, happens, run}
+use Rattle.fkv_flush.specs.Guarded.{seen_at, seen_of, undecided_at, undecided_of, GoesBy, IsOpened, opening, first_actor, IsCovered, UndecidedIsFresh}
+use Rattle.fkv_flush.proofs.GuardSound.{IsSound, duty_of, duty_at}
+use Rattle.fkv_flush.proofs.GuardDuties.{steady_goes}
 use Rattle.fkv_flush.proofs.GuardHappens.{begun_so, resumed_so, moved_sound, called_so, read_so, seen_so, published_so, updated_so, read_only_raised_so, raised_so, changed_so}
 
 -- one event
@@ -28,6 +29,7 @@ happens_sound w (Updates a addr word) sound = updated_so w a addr word (slice_ge
 happens_sound w (RaisesReadOnly a to) sound = read_only_raised_so w a to (slice_get w.now.actors a) refl sound
 happens_sound w (RaisesFor a action) sound = raised_so w a action (slice_get w.now.actors a) refl sound
 happens_sound w (Changes a place word) sound = changed_so w a place word (slice_get w.now.actors a) refl sound
+happens_sound w (CallsElse call) sound = sound
 
 -- a whole run
 pub run_sound : (w : World) (events : List Event) → IsSound w → IsSound (run w events)
@@ -35,7 +37,7 @@ unfolding run
 run_sound w [] sound = sound
 run_sound w (event ∷ before) sound = happens_sound (run w before) event (run_sound w before sound)
 
-replicate_item : {X : Type 0} (n i : ℕ) (x d : X) → slice_get (replicate n x) i ≡ Some d → d ≡ x
+pub replicate_item : {X : Type 0} (n i : ℕ) (x d : X) → slice_get (replicate n x) i ≡ Some d → d ≡ x
 replicate_item zero i x d e = cc
 replicate_item (suc n) zero x d e = cc
 replicate_item (suc n) (suc i) x d e = replicate_item n i x d e
@@ -121,14 +123,28 @@ covered w sound =
     let h = o.closed_below in
     let f = o.head_below in
     record {
+      closed = c;
       flushed = omega (arith, c, h, f);
       seen = λ s g. let i = sound.guard.safe.head s g in omega (arith, c, i);
     }
 
 pub undecided_fresh : (w : World) → IsSound w → UndecidedIsFresh w
 undecided_fresh w sound = record {
-  goes = λ s a e. (sound.guard.fresh s a e).counts;
+  goes = λ s a sight e. goes s a sight e (slice_get w.now.actors s) refl;
+  steady = λ s a x got u. sound.steady s a x got u;
   seen = λ s a e. (sound.guard.fresh s a e).above;
   safe = λ s a e. let f = sound.guard.fresh s a e in let low = sound.guard.safe.read_only s f.counts in let high = f.above in omega (arith, low, high);
   reserved = λ s a e. (sound.guard.fresh s a e).below;
 }
+  where
+    goes : (s a : ℕ) (sight : Sight) → undecided_of w.now.actors s ≡ Some a → (found : Option Actor) → slice_get w.now.actors s ≡ found → GoesBy w.now s sight
+    goes s a sight e None got = none_some {Y = GoesBy w.now s sight} a (sym (ap undecided_at got) ∙ e)
+    goes s a sight e (Some x) got =
+        let c = (sound.guard.fresh s a e).counts in
+        record {
+          is_session = c.is_session;
+          is_protected = c.is_protected;
+          duty = x.duty;
+          its_duty = duty_at w.now.actors s x got;
+          has_loaded = steady_goes x.duty sight (sound.steady s a x got (sym (ap undecided_at got) ∙ e));
+        }

@@ -24,8 +24,9 @@ use Rattle.fkv_flush.specs.Turning.{frame_end, limit_after}
 use Rattle.fkv_flush.specs.GuardAsks.{inner_of}
 use Rattle.fkv_flush.specs.GuardLevels.{Levels, levels_of}
 use Rattle.fkv_flush.specs.GuardWorld.{Actor, Now, World, epoch_now, epoch_world, seen_with}
+use Rattle.fkv_flush.specs.Guarded.{is_steady}
 use Rattle.fkv_flush.proofs.GuardEpochs.{runs}
-use Rattle.fkv_flush.proofs.GuardSound.{Knows, IsSound, Awake, is_steady, duty_of, duty_at, after}
+use Rattle.fkv_flush.proofs.GuardSound.{Knows, IsSound, Awake, duty_of, duty_at, after}
 use Rattle.fkv_flush.proofs.GuardSteps.{worded, rises_same}
 use Rattle.fkv_flush.proofs.GuardDuties.{dutied_sound}
 use Rattle.fkv_flush.proofs.GuardOffsets.{lifted, offset_foreign, read_only_written, head_written}

@@ -13,8 +13,8 @@ use Rattle.fkv_epoch.proofs.Sound as epochs_sound
 use Rattle.fkv_epoch.proofs.Outer.{changes_sound}
 use Rattle.fkv_flush.specs.GuardLevels.{Levels, levels_of, AreInOrder, Rises}
 use Rattle.fkv_flush.specs.GuardWorld.{Actor, World, epoch_world}
-use Rattle.fkv_flush.specs.Guarded.{seen_of, GoesBy}
-use Rattle.fkv_flush.proofs.GuardSound.{Knows, IsSound, Awake, is_steady, after}
+use Rattle.fkv_flush.specs.Guarded.{is_steady, seen_of, GoesBy}
+use Rattle.fkv_flush.proofs.GuardSound.{Knows, IsSound, Awake, after}
 use Rattle.fkv_flush.proofs.GuardSteps.{worded, same_duties}
 
 -- the word at a place of an offset is none of the epochs'

@@ -21,9 +21,9 @@ use Rattle.fkv_epoch.proofs.Outer.{put_sound}
 use Rattle.fkv_flush.specs.GuardLevels.{Levels, levels_of, AreInOrder, Rises}
 use Rattle.fkv_flush.specs.GuardSeen.{LastSeen, IsStored}
 use Rattle.fkv_flush.specs.GuardWorld.{Actor, Now, World, epoch_now, epoch_world}
-use Rattle.fkv_flush.specs.Guarded.{seen_at, seen_of, undecided_at, GoesBy}
+use Rattle.fkv_flush.specs.Guarded.{is_steady, seen_at, seen_of, undecided_at, GoesBy}
 use Rattle.fkv_flush.proofs.Guard.{Known, SeesOn, fresh_on}
-use Rattle.fkv_flush.proofs.GuardSound.{Knows, IsSound, Awake, is_steady, duty_of, duty_at, after, assembled}
+use Rattle.fkv_flush.proofs.GuardSound.{Knows, IsSound, Awake, duty_of, duty_at, after, assembled}
 use Rattle.fkv_flush.proofs.GuardSteps.{rises_same, goes_with}
 
 same_bearing : (slot slot' c c' : ℕ) → Arms (arm.StoresEpoch slot c) ≡ Arms (arm.StoresEpoch slot' c') → (slot ≡ slot') × (c ≡ c')

@@ -20,9 +20,9 @@ use Rattle.fkv_epoch.proofs.Happens.{moved_sound, no_load}
 use Rattle.fkv_epoch.proofs.Runs.{safe_is_seen}
 use Rattle.fkv_flush.specs.GuardLevels.{Levels, levels_of, AreInOrder, Rises}
 use Rattle.fkv_flush.specs.GuardWorld.{Actor, Now, World, epoch_now, epoch_world}
-use Rattle.fkv_flush.specs.Guarded.{seen_of, GoesBy}
+use Rattle.fkv_flush.specs.Guarded.{is_steady, seen_of, GoesBy}
 use Rattle.fkv_flush.proofs.Guard.{Known}
-use Rattle.fkv_flush.proofs.GuardSound.{Knows, IsSound, Awake, is_steady, duty_of, duty_at, after}
+use Rattle.fkv_flush.proofs.GuardSound.{Knows, IsSound, Awake, duty_of, duty_at, after}
 use Rattle.fkv_flush.proofs.GuardSteps.{worded_past, rises_same}
 use Rattle.fkv_flush.proofs.GuardOffsets.{safe_read_only_written, closed_written}
 

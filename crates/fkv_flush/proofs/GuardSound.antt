@@ -1,5 +1,5 @@
 -- What holds at every moment, and how a step of one actor keeps it.
-use Rattle.std.proofs.Common.{◌≡◌, ◌≢◌, ℕ, ◌+◌, ◌<◌, ◌≤◌, ◌⊎◌, List, length, map, refl, arith, sym, ap, inl, inr, ◌∙◌, Bool, true, false}
+use Rattle.std.proofs.Common.{◌≡◌, ◌≢◌, ℕ, ◌+◌, ◌/◌, ◌<◌, ◌≤◌, ◌⊎◌, List, length, map, refl, arith, sym, ap, inl, inr, ◌∙◌, true}
 use Rattle.std.specs.Prelude.{Option, Some, None, ⊤, slice_get, slice_set, option_map}
 use Rattle.std.proofs.lemmas.Option.{slice_get-map}
 use Rattle.fkv_plane.specs.declared.actions.Action.{Action}
@@ -23,9 +23,6 @@ use Rattle.fkv_flush.specs.declared.flushing.Flushing.TheVariants as flush
 use Rattle.fkv_flush.specs.declared.serving.Serving.TheVariants as serve
 use Rattle.fkv_flush.specs.Moving.{Mover, action_awaited}
 use Rattle.fkv_flush.specs.Turning.{frame_end}
-use Rattle.fkv_epoch.specs.declared.protecting.Protecting.TheVariants as wake
-use Rattle.fkv_epoch.specs.declared.refreshing.Refreshing.TheVariants as look
-use Rattle.fkv_epoch.specs.declared.leaving.Leaving.TheVariants as sleep
 use Rattle.fkv_epoch.specs.declared.arming.Arming.TheVariants as arm
 use Rattle.fkv_epoch.specs.World.{Duty, Protects, Refreshes, Leaves, Raises, Arms, is_at_rest, Sight, OfReadOnly, OfHead, Armed, Claimed, safe_of, own_epoch}
 use Rattle.fkv_epoch.specs.World as epochs
@@ -35,7 +32,7 @@ use Rattle.fkv_epoch.proofs.Sound as epochs_sound
 use Rattle.fkv_flush.specs.GuardLevels.{Levels, levels_of, AreInOrder, Rises}
 use Rattle.fkv_flush.specs.GuardSeen.{LastSeen, IsStored}
 use Rattle.fkv_flush.specs.GuardWorld.{Actor, Work, Rests, Reserves, Fills, Invalidates, Shifts, Turns, Flushes, Serves, Now, World, epoch_now, epoch_world}
-use Rattle.fkv_flush.specs.Guarded.{seen_at, seen_of, undecided_at, undecided_of, GoesBy, ArePlacesOf}
+use Rattle.fkv_flush.specs.Guarded.{is_steady, seen_at, seen_of, undecided_at, undecided_of, GoesBy, ArePlacesOf}
 use Rattle.fkv_flush.proofs.Guard.{Known, Fresh, Guard, SeesOn, knows_on, fresh_on, stepped}
 
 -- a move that has not moved its offset yet moves it no further than this
@@ -83,8 +80,8 @@ Knows shape l Awake d undecided (Shifts (shift.LoadsReadOnly tail) m) = Waits d 
 Knows shape l Awake d undecided (Shifts (shift.Moves tail) m) = MoveKnows l d m.step m.raise.step m.arm.step
 Knows shape l Awake d undecided (Turns turn.AtRest m) = ⊤
 Knows shape l Awake d undecided (Turns (turn.LoadsLimit tail) m) = Waits d m
-Knows shape l Awake d undecided (Turns (turn.LoadsClosed limit) m) = Waits d m
-Knows shape l Awake d undecided (Turns (turn.RaisesLimit limit) m) = Waits d m × (frame_end shape limit ≤ l.closed)
+Knows shape l Awake d undecided (Turns (turn.LoadsClosed limit) m) = Waits d m × (limit / shape.page < shape.disk_pages)
+Knows shape l Awake d undecided (Turns (turn.RaisesLimit limit) m) = Waits d m × (frame_end shape limit ≤ l.closed) × (limit / shape.page < shape.disk_pages)
 Knows shape l Awake d undecided (Turns (turn.LoadsHead end) m) = Waits d m
 Knows shape l Awake d undecided (Turns (turn.LoadsFlushed end) m) = Waits d m
 Knows shape l Awake d undecided (Turns turn.Moves m) = MoveKnows l d m.step m.raise.step m.arm.step
@@ -153,7 +150,7 @@ knows_more shape l l' A A' d u (Shifts (shift.Moves tail) m) up on k = move_more
 knows_more shape l l' A A' d u (Turns turn.AtRest m) up on k = tt
 knows_more shape l l' A A' d u (Turns (turn.LoadsLimit tail) m) up on k = k
 knows_more shape l l' A A' d u (Turns (turn.LoadsClosed limit) m) up on k = k
-knows_more shape l l' A A' d u (Turns (turn.RaisesLimit limit) m) up on k = (k.0, let r = up.closed in omega (arith, k.1, r))
+knows_more shape l l' A A' d u (Turns (turn.RaisesLimit limit) m) up on k = (k.0, let r = up.closed in omega (arith, k.1, r), k.2)
 knows_more shape l l' A A' d u (Turns (turn.LoadsHead end) m) up on k = k
 knows_more shape l l' A A' d u (Turns (turn.LoadsFlushed end) m) up on k = k
 knows_more shape l l' A A' d u (Turns turn.Moves m) up on k = move_more l l' d m.step m.raise.step m.arm.step up k
@@ -172,16 +169,6 @@ knows_more shape l l' A A' d u (Serves (serve.StoresHeader session mail)) up on 
 knows_more shape l l' A A' d u (Serves (serve.StoresKey session mail)) up on k = k
 knows_more shape l l' A A' d u (Serves (serve.StoresValue session mail)) up on k = k
 knows_more shape l l' A A' d u (Serves (serve.StoresReady session)) up on k = k
-
--- the machine of the epochs changes nothing of what its session goes by
-abbrev pub is_steady : Duty → Bool
-is_steady (Protects wake.AtRest) = true
-is_steady (Protects step) = false
-is_steady (Refreshes look.AtRest) = true
-is_steady (Refreshes step) = false
-is_steady (Leaves sleep.AtRest) = true
-is_steady (Leaves step) = false
-is_steady duty = true
 
 -- a session that goes by a read-only offset, and will as long as it turns to nothing else
 abbrev pub Awake : Now → ℕ → Duty → Type 0

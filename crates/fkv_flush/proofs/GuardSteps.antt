@@ -16,9 +16,9 @@ use Rattle.fkv_epoch.proofs.Outer.{changes_sound}
 use Rattle.fkv_flush.specs.GuardLevels.{Levels, levels_of, AreInOrder, Rises}
 use Rattle.fkv_flush.specs.GuardSeen.{LastSeen}
 use Rattle.fkv_flush.specs.GuardWorld.{Actor, Now, World, epoch_now, epoch_world}
-use Rattle.fkv_flush.specs.Guarded.{seen_at, seen_of, undecided_at, GoesBy}
+use Rattle.fkv_flush.specs.Guarded.{is_steady, seen_at, seen_of, undecided_at, GoesBy}
 use Rattle.fkv_flush.proofs.Guard.{SeesOn, knows_on, fresh_on}
-use Rattle.fkv_flush.proofs.GuardSound.{Knows, knows_more, IsSound, Awake, is_steady, duty_of, duty_at, after, assembled}
+use Rattle.fkv_flush.proofs.GuardSound.{Knows, knows_more, IsSound, Awake, duty_of, duty_at, after, assembled}
 
 same_item : {X : Type 0} (xs : List X) (i : ℕ) (x : X) → slice_get xs i ≡ Some x → slice_set xs i x ≡ xs
 same_item [] i x e = refl

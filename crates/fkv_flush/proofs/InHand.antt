@@ -1,5 +1,5 @@
 -- The bytes in hand are those of the records' words.
-use Rattle.std.proofs.Common.{◌≡◌, ℕ, zero, suc, ◌+◌, ◌-◌, ◌<◌, ◌≤◌, ◌^◌, Bool, true, false, List, [], ◌∷◌, ◌++◌, refl, sym, ap, ◌∙◌, arith}
+use Rattle.std.proofs.Common.{◌≡◌, ℕ, suc, ◌+◌, ◌-◌, ◌<◌, ◌≤◌, ◌^◌, Bool, true, false, List, [], ◌∷◌, ◌++◌, refl, sym, ap, ◌∙◌, arith}
 use Rattle.std.specs.Prelude.{nat_lt, ◌&&◌, if◌then◌else◌}
 use Rattle.std.specs.Int.{w64, to_le_bytes}
 use Rattle.std.proofs.lemmas.Bool.Decides.{nat_tests}
@@ -10,10 +10,9 @@ use Rattle.fkv_record.specs.Numbers.{spelled}
 use Rattle.fkv_plane.specs.declared.places.RecordWord.{RecordWord}
 use Rattle.fkv_plane.specs.declared.places.RecordWord.TheVariants as rec
 use Rattle.fkv_flush.specs.declared.flushing.Part.{Part}
-use Rattle.fkv_flush.specs.declared.flushing.Flushing.{Flushing}
 use Rattle.fkv_flush.specs.declared.flushing.Flushing.TheVariants.{AtRest, LoadsFlushed, LoadsEnd, LoadsWord, WritesPart, Syncs, RaisesFlushed}
 use Rattle.fkv_flush.specs.Flushing.{part_begun, flush_next, bytes_next, flush_done, bytes_done}
-use Rattle.fkv_flush.specs.InHand.{words_from, words_before, HasLoaded, LoadsRecords, LoadsNextPart}
+use Rattle.fkv_flush.specs.InHand.{words_from, HasLoaded, LoadsRecords, LoadsNextPart}
 
 another : (ws ys bytes : List ℕ) (x : ℕ) → bytes ≡ spelled (ws ++ ys) → bytes ++ to_le_bytes w64 x ≡ spelled (ws ++ (ys ++ x ∷ []))
 another ws ys bytes x h =

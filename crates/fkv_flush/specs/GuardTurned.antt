@@ -2,11 +2,17 @@
 use Rattle.std.specs.Prelude.{◌≡◌, ℕ, List, [], ◌∷◌, ◌++◌, replicate, true}
 use Rattle.fkv_base.specs.declared.shapes.Shape.{Shape}
 use Rattle.fkv_plane.specs.declared.places.Places.{Places}
+use Rattle.fkv_plane.specs.declared.places.RecordWord.TheVariants as rec
 use Rattle.fkv_plane.specs.Asked.{word_at}
+use Rattle.fkv_words.specs.Layout.{header_word}
+use Rattle.fkv_record.specs.Numbers.{spelled}
+use Rattle.fkv_record.specs.Places as image
+use Rattle.fkv_disk.specs.Calls.{Write, Sync}
 use Rattle.fkv_log.specs.declared.cells.Cell.{Cell}
 use Rattle.fkv_epoch.specs.World.{ToRefresh, ToScan, ToClaim}
 use Rattle.fkv_flush.specs.GuardWorld.{World, Event, Begins, Resumes, Moves, Calls, Publishes, ToDo, ToReserve, ToFill, ToShift, ToTurnPage, ToFlush, run, levels}
 use Rattle.fkv_flush.specs.Guarded.{IsOpened, opening}
+use Rattle.fkv_flush.specs.GuardFlushed.{OneFlushes, stands, calls_made}
 
 -- one session, one bucket, and two frames of four records; the records end at 7, and the page from 8 on is open
 abbrev pub turned_words : List ℕ
@@ -35,6 +41,13 @@ pub record HasTurned (w : World) : Type 0 where
   pub closed : (levels w).closed ≡ 8
   pub limit : (levels w).limit ≡ 16
 
+-- what stands for the record at 7, and what the device was told: to write it, and to sync
+pub record IsFlushed (shape : Shape) (first : World) (cell : Cell) (events : List Event) : Type 0 where
+  pub header : stands first events 7 rec.Header ≡ header_word cell.header
+  pub key : stands first events 7 rec.Key ≡ cell.key.0
+  pub value : stands first events 7 rec.Value ≡ cell.value
+  pub calls : calls_made first events ≡ Sync true ∷ Write (image.record_place shape 7) (spelled (header_word cell.header ∷ cell.key.0 ∷ cell.value ∷ [])) true ∷ []
+
 -- there is such a store
 pub record GoesRound : Type 0 where
   pub shape : Shape
@@ -43,3 +56,5 @@ pub record GoesRound : Type 0 where
   pub value : cell.value ≡ 70
   pub opened : IsOpened shape places 2 turned_words 7
   pub turned : HasTurned (run (opening shape places 2 turned_words 7) (turns_round cell))
+  pub flushed : IsFlushed shape (opening shape places 2 turned_words 7) cell (turns_round cell)
+  pub one_flushes : OneFlushes 1 (turns_round cell)

@@ -3,6 +3,7 @@
 use Rattle.std.specs.Prelude.{ℕ, ◌*◌, ◌==◌, ◌&&◌, ◌||◌, nat_lt, nat_le, not, max, if◌then◌else◌, Bool, true, false, List, [], ◌∷◌, map, slice_get, slice_set, Option, Some, None}
 use Rattle.fkv_base.specs.declared.numbers.Addr.{Addr}
 use Rattle.fkv_words.specs.declared.headers.Header.{Header}
+use Rattle.fkv_disk.specs.Calls.{Call}
 use Rattle.fkv_plane.specs.declared.actions.Action.{Action}
 use Rattle.fkv_plane.specs.declared.actions.Action.TheVariants as act
 use Rattle.fkv_plane.specs.declared.asks.Ask.{Ask}
@@ -33,7 +34,6 @@ use Rattle.fkv_epoch.specs.Arming.{arm_next}
 use Rattle.fkv_epoch.specs.World.{Duty, Protects, Raises, Arms, Sight, OfReadOnly, OfPhase, OfHead, is_at_rest, may_begin, first_duty, resumed_duty, acted, is_own, own_epoch, sight_of, past_moved, past_seen, put_by}
 use Rattle.fkv_epoch.specs.World as epochs
 use Rattle.fkv_flush.specs.declared.moving.Moving.{Moving}
-use Rattle.fkv_flush.specs.declared.moving.Moving.TheVariants as move
 use Rattle.fkv_flush.specs.declared.shifting.Shifting.{Shifting}
 use Rattle.fkv_flush.specs.declared.shifting.Shifting.TheVariants as shift
 use Rattle.fkv_flush.specs.declared.turning.Turning.{Turning}
@@ -42,7 +42,7 @@ use Rattle.fkv_flush.specs.declared.flushing.Flushing.{Flushing}
 use Rattle.fkv_flush.specs.declared.flushing.Flushing.TheVariants as flush
 use Rattle.fkv_flush.specs.declared.serving.Serving.{Serving}
 use Rattle.fkv_flush.specs.declared.serving.Serving.TheVariants as serve
-use Rattle.fkv_flush.specs.Moving.{Mover, mover}
+use Rattle.fkv_flush.specs.Moving.{Mover, move_at_rest}
 use Rattle.fkv_flush.specs.Shifting.{shift_next, shift_mover, shift_next_ask}
 use Rattle.fkv_flush.specs.Turning.{turn_next, turn_mover, turn_next_ask}
 use Rattle.fkv_flush.specs.Flushing.{flush_ask, flush_next, flush_done, bytes_next, bytes_done}
@@ -112,6 +112,8 @@ pub data Event : Type 0 where
   RaisesFor : ℕ → Action → Event
   -- the actor changes some word that is none of those of these machines
   Changes : ℕ → ℕ → ℕ → Event
+  -- some call of the device is made that touches no record
+  CallsElse : Call → Event
 
 -- what the Rust world has
 pub record Now : Type 0 where
@@ -169,10 +171,6 @@ may_work n actor x task = true
 abbrev pub address_of : Option ℕ → Addr
 address_of None = record { 0 = 0 }
 address_of (Some addr) = record { 0 = addr }
-
--- the move inside a machine is at rest before it begins
-abbrev pub move_at_rest : Mover
-move_at_rest = mover move.AtRest raise.AtRest arm.AtRest
 
 abbrev pub started : Now → Actor → Task → Actor
 started n x (ToDo task) = record x { duty = first_duty task; work = Rests }
@@ -368,6 +366,7 @@ happens_now n (Updates session addr word) = updated n session addr word (slice_g
 happens_now n (RaisesReadOnly actor to) = read_only_raised n actor to (slice_get n.actors actor)
 happens_now n (RaisesFor actor action) = raised_for n actor action (slice_get n.actors actor)
 happens_now n (Changes actor place word) = changed n actor place word (slice_get n.actors actor)
+happens_now n (CallsElse call) = n
 
 -- the actor drives a machine of the epochs, by itself or inside its work
 abbrev pub drives_epochs : Work → Bool

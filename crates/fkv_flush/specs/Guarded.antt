@@ -1,11 +1,13 @@
 -- The guard: which steps may write frames and raise the limit, and what every step keeps.
-use Rattle.std.specs.Prelude.{◌≡◌, ℕ, ◌+◌, ◌-◌, ◌*◌, ◌<◌, ◌≤◌, List, [], replicate, length, slice_get, Option, Some, None, if◌then◌else◌}
+use Rattle.std.specs.Prelude.{◌≡◌, ℕ, ◌+◌, ◌-◌, ◌*◌, ◌/◌, ◌<◌, ◌≤◌, Bool, true, false, List, [], replicate, length, slice_get, Option, Some, None, if◌then◌else◌}
 use Rattle.fkv_base.specs.declared.shapes.Shape.{Shape}
 use Rattle.fkv_plane.specs.declared.places.Places.{Places}
 use Rattle.fkv_plane.specs.declared.places.RecordWord.{RecordWord}
 use Rattle.fkv_plane.specs.Places.{shared_place, record_place, frames_start, word_count}
 use Rattle.fkv_epoch.specs.declared.protecting.Protecting.TheVariants as wake
-use Rattle.fkv_epoch.specs.World.{Protects, Sight, OfReadOnly, OfHead}
+use Rattle.fkv_epoch.specs.declared.refreshing.Refreshing.TheVariants as look
+use Rattle.fkv_epoch.specs.declared.leaving.Leaving.TheVariants as sleep
+use Rattle.fkv_epoch.specs.World.{Duty, Protects, Refreshes, Leaves, Sight, OfHead}
 use Rattle.fkv_epoch.specs.Once as epochs
 use Rattle.fkv_epoch.specs.Once.{Counts}
 use Rattle.fkv_flush.specs.GuardLevels.{levels_of}
@@ -70,19 +72,35 @@ opening shape places actors words start = record {
   past = record { loads = λ session. record { phase = 1; read_only = 1; head = 1 }; armed = []; claims = []; runs = [] };
 }
 
--- The frames hold all that may still be needed: flushed is no further than the ring below the limit, and neither is what any protected
--- session that isn't in the middle of Wake has seen as the head.
+-- The frames hold all that may still be needed: closed is no further than the ring below the limit, and neither is what is flushed, nor what any
+-- protected session that isn't in the middle of Wake has seen as the head.
 pub record IsCovered (w : World) : Type 0 where
+  pub closed : (levels w).limit ≤ (levels w).closed + w.now.places.ring
   pub flushed : (levels w).limit ≤ (levels w).flushed + w.now.places.ring
   pub seen : (session : ℕ) → GoesBy w.now session OfHead → (levels w).limit ≤ (seen_of w.now.actors session).head + w.now.places.ring
 
--- A reserved record that is undecided belongs to a session that goes by a read-only offset at or below it: the session hasn't looked
--- again since. So the record is at or above the safe read-only offset, and it is below the tail.
+-- its machine of the epochs is in the middle of no waking, looking again or leaving
+abbrev pub is_steady : Duty → Bool
+is_steady (Protects wake.AtRest) = true
+is_steady (Protects step) = false
+is_steady (Refreshes look.AtRest) = true
+is_steady (Refreshes step) = false
+is_steady (Leaves sleep.AtRest) = true
+is_steady (Leaves step) = false
+is_steady duty = true
+
+-- A reserved record that is undecided belongs to a session that is protected and neither wakes nor looks again nor leaves, and the record is at or
+-- above the read-only offset that it has seen. So it is at or above the safe read-only offset, and it is below the tail.
 pub record UndecidedIsFresh (w : World) : Type 0 where
-  pub goes : (session addr : ℕ) → undecided_of w.now.actors session ≡ Some addr → GoesBy w.now session OfReadOnly
+  pub goes : (session addr : ℕ) (sight : Sight) → undecided_of w.now.actors session ≡ Some addr → GoesBy w.now session sight
+  pub steady : (session addr : ℕ) (x : Actor) → slice_get w.now.actors session ≡ Some x → x.undecided ≡ Some addr → is_steady x.duty ≡ true
   pub seen : (session addr : ℕ) → undecided_of w.now.actors session ≡ Some addr → (seen_of w.now.actors session).read_only ≤ addr
   pub safe : (session addr : ℕ) → undecided_of w.now.actors session ≡ Some addr → (levels w).safe_read_only ≤ addr
   pub reserved : (session addr : ℕ) → undecided_of w.now.actors session ≡ Some addr → addr < (levels w).tail
+
+-- while its record is undecided a session sees nothing new
+abbrev pub KeepsSeen : World → Event → Type 0
+KeepsSeen w event = (session addr : ℕ) → undecided_of w.now.actors session ≡ Some addr → seen_of (happens w event).now.actors session ≡ seen_of w.now.actors session
 
 -- the place that an actor's machine may write next
 abbrev pub work_writes : Now → ℕ → Actor → Work → Option ℕ
@@ -128,9 +146,11 @@ pub record IsOpenPlace (w : World) (place : ℕ) : Type 0 where
 abbrev pub GuardsWrites : World → Event → Type 0
 GuardsWrites w event = (place : ℕ) → event_writes w.now event ≡ Some place → frames_start w.now.places ≤ place → IsOpenPlace w place
 
--- A step that opens a page: the Cas of the limit, to the start of the page after page n. What is below the end of the page that had its
--- frame is flushed, and each protected session that isn't in the middle of Wake has seen a head at or above that.
+-- A step that opens a page, the one at the limit, which is on the device: the Cas of the limit, to the start of the page after it. What is below the end of the page that
+-- had its frame is flushed, and each protected session that isn't in the middle of Wake has seen a head at or above that.
 pub record OpensPage (w : World) (page : ℕ) : Type 0 where
+  pub next : page ≡ (levels w).limit / w.now.shape.page
+  pub on_device : page < w.now.shape.disk_pages
   pub flushed : (page + 1 - w.now.shape.frames) * w.now.shape.page ≤ (levels w).flushed
   pub seen : (session : ℕ) → GoesBy w.now session OfHead → (page + 1 - w.now.shape.frames) * w.now.shape.page ≤ (seen_of w.now.actors session).head
 

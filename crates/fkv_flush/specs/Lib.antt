@@ -2,6 +2,7 @@ pub mod Devices
 pub mod Flushing
 pub mod GuardAnswered
 pub mod GuardAsks
+pub mod GuardFlushed
 pub mod GuardLevels
 pub mod GuardSeen
 pub mod GuardTurned

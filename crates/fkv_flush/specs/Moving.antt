@@ -32,6 +32,10 @@ pub record Mover : Type 0 where
 abbrev pub mover : Moving → Raising → Arming → Mover
 mover step raising arming = record { step = step; raise = record { step = raising }; arm = record { step = arming } }
 
+-- nothing of a move is under way
+abbrev pub move_at_rest : Mover
+move_at_rest = mover AtRest raise.AtRest arm.AtRest
+
 abbrev pub offset_place : Offset → ℕ
 offset_place ReadOnly = shared_place one.ReadOnly
 offset_place Head = shared_place one.Head

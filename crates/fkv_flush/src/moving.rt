@@ -1,9 +1,6 @@
 //! How an offset is moved that the protected sessions have to see.
 ghost use Rattle.std.specs.Prelude.{◌≡◌, ◌<◌, ◌-◌, ◌^◌, min};
-ghost use Rattle.fkv_epoch.specs.declared.raising.Raising.TheVariants as raise;
-ghost use Rattle.fkv_epoch.specs.declared.arming.Arming.TheVariants as arm;
-ghost use Rattle.fkv_flush.specs.Moving.{mover, HasSlotInRange, move_begun, move_first_ask, move_next, move_next_ask, step_raised, arm_raised, ask_raised, step_armed, offset_place, action_awaited};
-ghost use Rattle.fkv_flush.specs.declared.moving.Moving.TheVariants.{AtRest};
+ghost use Rattle.fkv_flush.specs.Moving.{move_at_rest, HasSlotInRange, move_begun, move_first_ask, move_next, move_next_ask, step_raised, arm_raised, ask_raised, step_armed, offset_place, action_awaited};
 
 use crate::answers::MoveAnswer;
 use crate::passing::passed;
@@ -62,7 +59,7 @@ impl Model for MoveOffset {
 impl MoveOffset {
     /// The machine at rest.
     pub fn new() -> MoveOffset
-        ensures { result ≡ mover AtRest raise.AtRest arm.AtRest }
+        ensures { result ≡ move_at_rest }
     {
         MoveOffset {
             step: Moving::AtRest,

@@ -1,10 +1,7 @@
 //! How the read-only offset is shifted as the tail goes on.
 ghost use Rattle.std.specs.Prelude.{◌≡◌, ◌≤◌};
-ghost use Rattle.fkv_epoch.specs.declared.raising.Raising.TheVariants as raise;
-ghost use Rattle.fkv_epoch.specs.declared.arming.Arming.TheVariants as arm;
-ghost use Rattle.fkv_flush.specs.Moving.{mover};
+ghost use Rattle.fkv_flush.specs.Moving.{move_at_rest};
 ghost use Rattle.fkv_flush.specs.Shifting.{mutable_start, shift_answer, shift_ask, shift_next, shift_mover, shift_next_ask, shift_moved, ask_moved};
-ghost use Rattle.fkv_flush.specs.declared.moving.Moving.TheVariants as moving;
 ghost use Rattle.fkv_flush.specs.declared.shifting.Shifting.TheVariants.{AtRest, LoadsTail};
 
 use crate::answers::{MoveAnswer, ShiftAnswer};
@@ -44,7 +41,7 @@ impl Model for ShiftReadOnly {
 impl ShiftReadOnly {
     /// The machine at rest.
     pub fn new(shape: Shape) -> ShiftReadOnly
-        ensures { result ≡ record { shape = shape; step = AtRest; mover = mover moving.AtRest raise.AtRest arm.AtRest } }
+        ensures { result ≡ record { shape = shape; step = AtRest; mover = move_at_rest } }
     {
         ShiftReadOnly {
             shape,
@@ -53,13 +50,14 @@ impl ShiftReadOnly {
         }
     }
 
-    /// The first ask.
+    /// The first ask. The move inside is at rest then, whatever came before.
     #[tactic(auto, unfolding(crate::specs::Shifting::shift_ask))]
     pub fn start(&mut self) -> Ask<ShiftAnswer>
-        ensures next { self.new ≡ record self.old { step = LoadsTail } }
+        ensures next { self.new ≡ record self.old { step = LoadsTail; mover = move_at_rest } }
         ensures ask { result ≡ shift_ask LoadsTail }
     {
         self.step = Shifting::LoadsTail;
+        self.mover = MoveOffset::new();
         Ask::Load(SharedWord::Tail.place())
     }
 

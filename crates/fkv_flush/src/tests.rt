@@ -1,6 +1,7 @@
 use crate::{
     DeviceAnswer, Flush, MoveAnswer, MoveOffset, Offset, Serve, ShiftAnswer, ShiftReadOnly,
-    TurnPage, law_asks_are_answered, law_guarded, law_of_the_ring, law_records_in_hand, law_seen,
+    TurnPage, law_asks_are_answered, law_flushed_is_synced, law_guarded, law_of_the_ring,
+    law_records_in_hand, law_seen,
 };
 use fkv_base::{Addr, Fault, Key, Shape, Version};
 use fkv_disk::{Device, Fuse, MemDisk};
@@ -275,6 +276,7 @@ fn frames_are_used_again(rt: HostRuntime) -> Result<(), Fail> {
     assert!(rt; holds_records(disk.bytes(), shape, 32));
     law_guarded();
     law_seen();
+    law_flushed_is_synced();
     law_of_the_ring();
     law_asks_are_answered();
     law_records_in_hand();

@@ -1,10 +1,7 @@
 //! How pages are opened and closed as the tail goes on.
 ghost use Rattle.std.specs.Prelude.{◌≡◌, ◌<◌, ◌/◌, nat_lt, nat_le, if◌then◌else◌};
-ghost use Rattle.fkv_epoch.specs.declared.raising.Raising.TheVariants as raise;
-ghost use Rattle.fkv_epoch.specs.declared.arming.Arming.TheVariants as arm;
-ghost use Rattle.fkv_flush.specs.Moving.{mover};
+ghost use Rattle.fkv_flush.specs.Moving.{move_at_rest};
 ghost use Rattle.fkv_flush.specs.Turning.{page_wanted, limit_after, frame_end, turn_ask, turn_next, turn_mover, turn_next_ask, turn_moved, IsTurnInRange, IsBeforeMove};
-ghost use Rattle.fkv_flush.specs.declared.moving.Moving.TheVariants as moving;
 ghost use Rattle.fkv_flush.specs.declared.turning.Turning.TheVariants.{AtRest, LoadsLimit, LoadsClosed, RaisesLimit, LoadsHead};
 
 use crate::answers::MoveAnswer;
@@ -54,7 +51,7 @@ impl Model for TurnPage {
 impl TurnPage {
     /// The machine at rest.
     pub fn new(shape: Shape) -> TurnPage
-        ensures { result ≡ record { shape = shape; step = AtRest; mover = mover moving.AtRest raise.AtRest arm.AtRest } }
+        ensures { result ≡ record { shape = shape; step = AtRest; mover = move_at_rest } }
     {
         TurnPage {
             shape,
@@ -63,13 +60,14 @@ impl TurnPage {
         }
     }
 
-    /// The first ask. The tail is the one that its actor has loaded.
+    /// The first ask. The tail is the one that its actor has loaded. The move inside is at rest then, whatever came before.
     #[tactic(auto, unfolding(crate::specs::Turning::turn_ask))]
     pub fn start(&mut self, tail: Addr) -> Ask<MoveAnswer>
-        ensures next { self.new ≡ record self.old { step = LoadsLimit tail.0 } }
+        ensures next { self.new ≡ record self.old { step = LoadsLimit tail.0; mover = move_at_rest } }
         ensures ask { result ≡ turn_ask self.old.shape (LoadsLimit tail.0) }
     {
         self.step = Turning::LoadsLimit(tail.0);
+        self.mover = MoveOffset::new();
         Ask::Load(SharedWord::Limit.place())
     }
 

@@ -1,7 +1,11 @@
+use Rattle.std.proofs.Common.{◌≢◌, ℕ, sym, ap}
+use Rattle.std.specs.Prelude.{Option, Some, None}
 use Rattle.fkv_flush.specs.GuardWorld.{run}
-use Rattle.fkv_flush.specs.Guarded.{opening}
+use Rattle.fkv_flush.specs.Guarded.{event_writes, opening}
+use Rattle.fkv_flush.proofs.GuardEpochs.{Spares}
 use Rattle.fkv_flush.proofs.GuardLaw.{run_sound, opening_sound, covered}
 use Rattle.fkv_flush.proofs.GuardPages.{guards_limit}
+use Rattle.fkv_flush.proofs.GuardUnwritten.{unwritten}
 use Rattle.fkv_flush.proofs.GuardWrites.{guards_writes}
 use Rattle.fkv_flush.proofs.laws.law_guarded.Goals as goal
 
@@ -20,3 +24,10 @@ returns-clause-order c = λ shape places actors words start events o.
 pub returns-clause-covered : goal.returns-clause-covered
 returns-clause-covered c = λ shape places actors words start events o.
     covered (run (opening shape places actors words start) events) (run_sound (opening shape places actors words start) events (opening_sound shape places actors words start o))
+
+spares : (found : Option ℕ) (place : ℕ) → found ≢ Some place → Spares found place
+spares None place other = tt
+spares (Some written) place other = λ same. other (ap Some (sym same))
+
+pub returns-clause-nothing_else : goal.returns-clause-nothing_else
+returns-clause-nothing_else c = λ w event place other. unwritten w event place (spares (event_writes w.now event) place other)

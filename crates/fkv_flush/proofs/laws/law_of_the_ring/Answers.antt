@@ -17,9 +17,10 @@ use Rattle.fkv_flush.specs.Passing.{passed}
 use Rattle.fkv_flush.specs.Moving.{step_raised, arm_raised, ask_raised, step_armed, moving_next, raising_next, arming_next, moving_next_ask}
 use Rattle.fkv_flush.specs.Shifting.{shift_ask, shift_next, shift_mover, shift_next_ask, shift_moved, ask_moved}
 use Rattle.fkv_flush.specs.Turning.{turn_ask, turn_next, turn_mover, turn_next_ask, turn_moved}
-use Rattle.fkv_flush.specs.Flushing.{flush_ask, flush_next, flush_done, bytes_next, bytes_done}
+use Rattle.fkv_flush.specs.Flushing.{flush_ask, flush_next, flush_done, flush_calls, bytes_next, bytes_done}
 use Rattle.fkv_flush.specs.Serving.{serve_ask, serve_next, serve_read, mailbox_from}
 use Rattle.fkv_flush.specs.GuardWorld.{happens, run}
+use Rattle.fkv_flush.specs.GuardFlushed.{stands, calls_made}
 use Rattle.fkv_flush.specs.GuardTurned.{turned_words}
 use Rattle.fkv_flush.proofs.laws.law_of_the_ring.Goals as goal
 
@@ -49,7 +50,7 @@ cell : Cell
 cell = record { header = record { previous = record { 0 = 0 }; version = record { 0 = 1 }; invalid = false; previous_fits = omega arith; some_version = omega arith; version_fits = omega arith }; key = record { 0 = 3 }; value = 70 }
 
 pub returns : goal.returns
-unfolding shape places cell protect_ask protect_next refresh_ask refresh_next refresh_finish leave_ask leave_next scan_ask scan_next sessions_from least_of claim_ask claim_next claim_given slot_after slot_armed raise_ask raise_next raise_next_ask raise_on free_after arm_ask arm_next reserve_ask reserve_next reserve_next_ask fill_ask fill_next invalidate_ask invalidate_next passed step_raised arm_raised ask_raised step_armed moving_next raising_next arming_next moving_next_ask shift_ask shift_next shift_mover shift_next_ask shift_moved ask_moved turn_ask turn_next turn_mover turn_next_ask turn_moved flush_ask flush_next flush_done bytes_next bytes_done serve_ask serve_next serve_read mailbox_from happens run
+unfolding shape places cell protect_ask protect_next refresh_ask refresh_next refresh_finish leave_ask leave_next scan_ask scan_next sessions_from least_of claim_ask claim_next claim_given slot_after slot_armed raise_ask raise_next raise_next_ask raise_on free_after arm_ask arm_next reserve_ask reserve_next reserve_next_ask fill_ask fill_next invalidate_ask invalidate_next passed step_raised arm_raised ask_raised step_armed moving_next raising_next arming_next moving_next_ask shift_ask shift_next shift_mover shift_next_ask shift_moved ask_moved turn_ask turn_next turn_mover turn_next_ask turn_moved flush_ask flush_next flush_done bytes_next bytes_done serve_ask serve_next serve_read mailbox_from happens run flush_calls stands calls_made
 returns c = record {
   shape = shape;
   places = places;
@@ -69,4 +70,6 @@ returns c = record {
     limit_below = omega arith;
   };
   turned = record { written = refl; flushed = refl; closed = refl; limit = refl };
+  flushed = record { header = refl; key = refl; value = refl; calls = refl };
+  one_flushes = search;
 }
