@@ -6,6 +6,9 @@ pub mod Falls
 pub mod Filling
 pub mod Followed
 pub mod Gather
+pub mod Held
+pub mod HeldShape
+pub mod HeldSlots
 pub mod Homes
 pub mod Keys
 pub mod Laying
@@ -18,5 +21,7 @@ pub mod Quieter
 pub mod Shown
 pub mod Slots
 pub mod Sound
+pub mod Spelled
+pub mod SpelledParts
 pub mod Unique
 pub mod Words

@@ -18,17 +18,17 @@ use Rattle.fkv_recover.specs.Opened.{IsSound}
 use Rattle.fkv_recover.proofs.Falls.{no_scan}
 use Rattle.fkv_recover.proofs.Sound.{has_chains, has_room}
 
-conj : (a b : Bool) → a ≡ true → b ≡ true → (a && b) ≡ true
+pub conj : (a b : Bool) → a ≡ true → b ≡ true → (a && b) ≡ true
 conj true b e f = f
 conj false b e f = absurd (cc)
 
-le_true : (a b : ℕ) → a ≤ b → nat_le a b ≡ true
+pub le_true : (a b : ℕ) → a ≤ b → nat_le a b ≡ true
 le_true a b h = grind (arith, nat_tests)
 
-eq_true : (a b : ℕ) → a ≡ b → nat_eq a b ≡ true
+pub eq_true : (a b : ℕ) → a ≡ b → nat_eq a b ≡ true
 eq_true a b h = grind (arith, nat_tests)
 
-lt_true : (a b : ℕ) → a < b → nat_lt a b ≡ true
+pub lt_true : (a b : ℕ) → a < b → nat_lt a b ≡ true
 lt_true a b h = grind (arith, nat_tests)
 
 page_at_least : (page : ℕ) → IsTrue (is_ring_size page 4 1024) → 1 ≤ page
@@ -38,21 +38,21 @@ true_of : (b : Bool) → IsTrue b → b ≡ true
 true_of b e = e
 
 -- a list of zeros
-abbrev AreZeros : List ℕ → Type 0
+abbrev pub AreZeros : List ℕ → Type 0
 AreZeros xs = (i : ℕ) → get_or xs i 0 ≡ 0
 
-zeros_replicate : (n : ℕ) → AreZeros (replicate n 0)
+pub zeros_replicate : (n : ℕ) → AreZeros (replicate n 0)
 zeros_replicate zero i = refl
 zeros_replicate (suc n) zero = refl
 zeros_replicate (suc n) (suc i) = zeros_replicate n i
 
-zeros_take : (n : ℕ) (xs : List ℕ) → AreZeros xs → AreZeros (take n xs)
+pub zeros_take : (n : ℕ) (xs : List ℕ) → AreZeros xs → AreZeros (take n xs)
 zeros_take zero xs none i = refl
 zeros_take (suc n) [] none i = refl
 zeros_take (suc n) (x ∷ xs) none zero = none 0
 zeros_take (suc n) (x ∷ xs) none (suc i) = zeros_take n xs (λ k. none (suc k)) i
 
-all_zeros : (p : ℕ → Bool) (xs : List ℕ) → p 0 ≡ true → AreZeros xs → list_all p xs ≡ true
+pub all_zeros : (p : ℕ → Bool) (xs : List ℕ) → p 0 ≡ true → AreZeros xs → list_all p xs ≡ true
 all_zeros p [] yet none = refl
 all_zeros p (x ∷ xs) yet none = conj (p x) (list_all p xs) (ap p (none 0) ∙ yet) (all_zeros p xs yet (λ k. none (suc k)))
 
@@ -76,7 +76,7 @@ slot_true sessions most room some =
     (all_zeros (λ word. nat_eq word 0) (take (64 - (7 + sessions)) (drop (7 + sessions) (new_slot sessions))) refl
     (zeros_take (64 - (7 + sessions)) (drop (7 + sessions) (new_slot sessions)) (behind sessions sessions)))
 
-shape_true : (b p f m s o d : ℕ) → IsShape b p f m s o d → is_shape b p f m s o d ≡ true
+pub shape_true : (b p f m s o d : ℕ) → IsShape b p f m s o d → is_shape b p f m s o d ≡ true
 shape_true b p f m s o d is =
     conj _ _ (conj _ _ (conj _ _ (conj _ _ (conj _ _ (conj _ _ (conj _ _ (conj _ _ (conj _ _
     (le_true b 10 is.few_buckets) (true_of _ is.page_size)) (true_of _ is.ring_size)) (le_true 1 m is.some_mutable)) (lt_true m f is.some_read_only))

@@ -11,18 +11,18 @@ use Rattle.fkv_base.specs.Limits.{is_ring_size}
 use Rattle.fkv_recover.specs.Image.{most_triples, slot_of, sessions_of, disk_pages_of, page_of}
 use Rattle.fkv_recover.specs.Manifest.{is_slot, is_folded, is_manifest, slot_number, slot_log_start, slot_tail, slot_triples, slot_area, slot_points}
 
-both : (a b : Bool) → (a && b) ≡ true → (a ≡ true) × (b ≡ true)
+pub both : (a b : Bool) → (a && b) ≡ true → (a ≡ true) × (b ≡ true)
 both true true e = (refl, refl)
 both true false e = (refl, e)
 both false b e = (e, absurd (cc))
 
-le_of : (a b : ℕ) → nat_le a b ≡ true → a ≤ b
+pub le_of : (a b : ℕ) → nat_le a b ≡ true → a ≤ b
 le_of a b e = grind (arith, nat_tests)
 
-lt_of : (a b : ℕ) → nat_lt a b ≡ true → a < b
+pub lt_of : (a b : ℕ) → nat_lt a b ≡ true → a < b
 lt_of a b e = grind (arith, nat_tests)
 
-eq_of : (a b : ℕ) → nat_eq a b ≡ true → a ≡ b
+pub eq_of : (a b : ℕ) → nat_eq a b ≡ true → a ≡ b
 eq_of a b e = grind (arith, nat_tests)
 
 -- the numbers of a slot that recovery takes

@@ -1,6 +1,7 @@
 pub mod Image
 pub mod Manifest
 pub mod Layouts
+pub mod Spellings
 pub mod Log
 pub mod Scan
 pub mod Chains

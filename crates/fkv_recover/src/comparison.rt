@@ -1,7 +1,6 @@
 //! Recovery beside its slow definition, on images written by hand and on changed bytes of them.
 use crate::slow_recovery::{Found, SlowStore, find};
 use crate::{Opened, content, recover};
-use byteorder::{ByteOrder, LittleEndian};
 use fkv_base::{Damage, Fault, Key, Shape, Value};
 use fkv_disk::MemDisk;
 use std::alloc::{AllocError, Global};
@@ -169,6 +168,12 @@ fn chains_are_followed(rt: HostRuntime) -> Result<(), Fail> {
         opens_with(alloc, &deleted, &[(2, 30), (524289, 20)])?,
         "a deleted key"
     );
+    Ok(())
+}
+
+#[test]
+fn homes_lead_to_their_records(rt: HostRuntime) -> Result<(), Fail> {
+    let alloc = rt.alloc();
     let second_home = Sample {
         triples: &[(1, 1, 2), (1, 0, 1)],
         records: &[(FIRST, 1, 10), (FIRST, 17, 20)],
@@ -324,6 +329,21 @@ fn damage_has_its_name(rt: HostRuntime) -> Result<(), Fail> {
         is_refused(alloc, &other_home, Damage::Link, 3)?,
         "a triple of another home"
     );
+    let joined = Sample {
+        triples: &[(1, 0, 2)],
+        records: &[(FIRST, 2, 10), (FIRST + 1, 1, 20)],
+        ..CHAIN
+    };
+    assert!(rt;
+        is_refused(alloc, &joined, Damage::Link, 1)?,
+        "a link to another home"
+    );
+    Ok(())
+}
+
+#[test]
+fn a_damaged_header_has_its_name(rt: HostRuntime) -> Result<(), Fail> {
+    let alloc = rt.alloc();
     for (header, part, what) in [
         (FIRST + 2, Damage::Record, "itself"),
         (FIRST + 3, Damage::Record, "a later record"),
@@ -341,15 +361,6 @@ fn damage_has_its_name(rt: HostRuntime) -> Result<(), Fail> {
         };
         assert!(rt; is_refused(alloc, &chained, part, 2)?, "{what}");
     }
-    let joined = Sample {
-        triples: &[(1, 0, 2)],
-        records: &[(FIRST, 2, 10), (FIRST + 1, 1, 20)],
-        ..CHAIN
-    };
-    assert!(rt;
-        is_refused(alloc, &joined, Damage::Link, 1)?,
-        "a link to another home"
-    );
     Ok(())
 }
 

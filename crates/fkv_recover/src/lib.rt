@@ -22,7 +22,7 @@ pub use contents::content;
 pub use creations::create;
 pub use home_entries::HomeEntry;
 pub use index_words::IndexWords;
-pub use laws::law_layouts;
+pub use laws::{law_layouts, law_spellings};
 pub use opened_store::Opened;
 pub use opening_words::{OpeningWords, SessionWords};
 pub use openings::recover;

@@ -25,7 +25,7 @@ fn put(bytes: &mut Vec<u8>, at: u32, number: u64) {
 fn set(bytes: &mut Vec<u8>, at: u16, byte: u8) {
     let at = at as usize;
     if at < bytes.len() {
-        bytes[at] = byte;
+        LittleEndian::write_uint(&mut bytes[at..at + 1], u64::from(byte), 1);
     }
 }
 
@@ -69,13 +69,25 @@ pub(crate) fn sample(alloc: Global) -> Result<Vec<u8>, Fault> {
     Ok(bytes)
 }
 
-// What recovery answers of the sample with these bytes changed.
-fn changed(alloc: Global, changes: &[(u16, u8)]) -> Result<Opened, Fault> {
+// The sample with these bytes changed.
+fn changed_disk(alloc: Global, changes: &[(u16, u8)]) -> Result<MemDisk, Fault> {
     let mut bytes = sample(alloc)?;
     for (at, byte) in changes {
         set(&mut bytes, *at, *byte);
     }
-    recover(alloc, &mut MemDisk::from_bytes(alloc, bytes)?)
+    Ok(MemDisk::from_bytes(alloc, bytes)?)
+}
+
+// What recovery answers of it.
+fn changed(alloc: Global, changes: &[(u16, u8)]) -> Result<Opened, Fault> {
+    recover(alloc, &mut changed_disk(alloc, changes)?)
+}
+
+// The pairs of the store that is recovered of it.
+fn changed_pairs(alloc: Global, changes: &[(u16, u8)]) -> Result<Vec<(Key, Value)>, Fault> {
+    let mut disk = changed_disk(alloc, changes)?;
+    let opened = recover(alloc, &mut disk)?;
+    content(alloc, &opened, &mut disk)
 }
 
 #[test]
@@ -119,6 +131,7 @@ fn a_store_opens_with_its_words(rt: HostRuntime) -> Result<(), Fail> {
     assert_eq!(rt; index.words.iter().position(|word| *word != 0), Some(8));
     assert_eq!(rt; index.words.get(8).copied(), Some(1));
     law_layouts();
+    law_spellings();
     Ok(())
 }
 
@@ -133,6 +146,7 @@ fn damage_is_named(rt: HostRuntime) -> Result<(), Fail> {
         (3328, 16, TRIPLE),
         (3334, 1, TRIPLE),
         (3336, 2, TRIPLE),
+        (5144, 1, RECORD),
         (5150, 2, RECORD),
         (5151, 32, RECORD),
         (5151, 64, LINK),
@@ -143,6 +157,13 @@ fn damage_is_named(rt: HostRuntime) -> Result<(), Fail> {
     }
     let answer = changed(rt.alloc(), &[(512, 0), (1024, 0)]);
     assert_eq!(rt; answer.err(), Some(Fault::NotAStore), "no gate is open");
+    let mut cut = sample(rt.alloc())?;
+    cut.truncate(63);
+    let mut disk = MemDisk::from_bytes(rt.alloc(), cut)?;
+    assert_eq!(rt;
+        recover(rt.alloc(), &mut disk).err(),
+        Some(Fault::NotAStore)
+    );
     Ok(())
 }
 
@@ -151,6 +172,9 @@ fn what_keeps_the_structure_opens(rt: HostRuntime) -> Result<(), Fail> {
     let opened = changed(rt.alloc(), &[(1024, 0)])?;
     assert_eq!(rt; opened.number, Version(0));
     assert_eq!(rt; opened.gates, (true, false));
+    assert_eq!(rt; changed_pairs(rt.alloc(), &[(1024, 0)])?.len(), 0);
+    let pairs = changed_pairs(rt.alloc(), &[(5160, 11)])?;
+    assert_eq!(rt; pairs.as_slice(), [(Key(1), Value(11))].as_slice());
     let opened = changed(
         rt.alloc(),
         &[
