@@ -1,21 +1,21 @@
 -- How a run ends: from a new store's lines to a whole script's.
 use Rattle.std.proofs.Common.{◌≡◌, ◌⊎◌, inl, inr, ℕ, ◌<◌, Bool, true, List, [], Option, Some, refl, sym, subst, arith, Result, Ok, Err, string_bytes}
 use Rattle.std.specs.Io.KnownBytes.{Appends}
-use Rattle.fkv_base.specs.declared.faults.Fault.TheVariants.{Memory}
+use Rattle.fkv_base.specs.declared.faults.Fault.{Fault}
 use Rattle.fkv_base.specs.declared.shapes.Shape.{Shape}
 use Rattle.fkv_cli.specs.declared.options.RunFault.{RunFault}
 use Rattle.fkv_cli.specs.declared.options.Verdict.{Verdict}
 use Rattle.fkv_cli.specs.declared.scripts.Command.{Command}
 use Rattle.fkv_cli.specs.declared.scripts.Sizes.{Sizes}
 use Rattle.fkv_cli.specs.RunFault.{IsWant}
-use Rattle.fkv_cli.specs.Output.{Ends, PlaysNew, PlaysShape, PlaysOpening, HasSizes, is_accepted, ended, refusal_text}
+use Rattle.fkv_cli.specs.Output.{Ends, IsWantOfMemory, PlaysNew, PlaysShape, PlaysOpening, HasSizes, is_accepted, ended, refusal_text}
 
 -- creating a store was refused
-pub refused_first : (torn : ℕ) (shape : Shape) (commands : List Command) (old new : Option (List ℕ)) (fault : RunFault)
-    → IsWant fault ⊎ ((fault.status ≡ 3) × (string_bytes fault.text ≡ []) × Appends old new (ended (refusal_text Memory))) → Ends (PlaysNew torn shape commands) old new (Err fault)
-refused_first torn shape commands old new fault (inl want) = inl want
-refused_first torn shape commands old new fault (inr h) =
-    inr ((let some : 0 < 3 = omega arith in subst (λ (n : ℕ). 0 < n) (sym h.0) some), h.1, (ended (refusal_text Memory), inr (refl, h.0), h.2))
+pub refused_first : (torn : ℕ) (shape : Shape) (commands : List Command) (refusal : Fault) (old new : Option (List ℕ)) (fault : RunFault) → IsWantOfMemory refusal
+    → IsWant fault ⊎ ((fault.status ≡ 3) × (string_bytes fault.text ≡ []) × Appends old new (ended (refusal_text refusal))) → Ends (PlaysNew torn shape commands) old new (Err fault)
+refused_first torn shape commands refusal old new fault wanted (inl want) = inl want
+refused_first torn shape commands refusal old new fault wanted (inr h) =
+    inr ((let some : 0 < 3 = omega arith in subst (λ (n : ℕ). 0 < n) (sym h.0) some), h.1, (ended (refusal_text refusal), inr (refusal, wanted, refl, h.0), h.2))
 
 -- what prints one prints the other
 pub ends_weaker : (P Q : List ℕ → ℕ → Type 0) (old new : Option (List ℕ)) (result : Result Verdict RunFault) → ((text : List ℕ) (status : ℕ) → P text status → Q text status)

@@ -1,11 +1,10 @@
 -- Every line of a script leaves a sound store, and so each crash is answered by a replay.
-use Rattle.std.proofs.Common.{◌≡◌, ℕ, ◌+◌, ◌*◌, ◌<◌, ◌≤◌, Bool, true, false, List, [], ◌∷◌, ◌++◌, length, Option, Some, None, refl, sym, ap, subst, ◌∙◌, arith, All}
+use Rattle.std.proofs.Common.{◌≡◌, inl, inr, ℕ, ◌+◌, ◌*◌, ◌<◌, ◌≤◌, Bool, true, false, List, [], ◌∷◌, ◌++◌, length, Option, Some, None, refl, sym, ap, subst, ◌∙◌, arith, All}
 use Rattle.std.specs.Prelude.{nat_eq, nat_le, nat_lt, ◌&&◌, if◌then◌else◌, option_map}
 use Rattle.std.specs.FinMap.{entries}
 use Rattle.std.proofs.lemmas.Bool.Decides.{nat_tests}
 use Rattle.std.proofs.lemmas.List.Elements.{All-head, All-tail, All-cons}
 use Rattle.fkv_base.specs.declared.faults.Fault.{Fault}
-use Rattle.fkv_base.specs.declared.faults.Fault.TheVariants.{Memory}
 use Rattle.fkv_disk.specs.Calls.{reads_as}
 use Rattle.fkv_recover.specs.Log.{Log}
 use Rattle.fkv_recover.proofs.Keys.{some_is}
@@ -16,7 +15,7 @@ use Rattle.fkv_cli.specs.FreshLog.{tail}
 use Rattle.fkv_cli.specs.Life.{Life, last_commit}
 use Rattle.fkv_cli.specs.Commits.{finish_calls, next_commit, finished}
 use Rattle.fkv_cli.specs.Crashes.{struck_in, struck_after, struck_image, crash_image, IsRecovered}
-use Rattle.fkv_cli.specs.Output.{image_of, IsRefusal, report_text, refusal_text, ended, after_command, Plays, ends, ends_in_crash, answers, recovers, refuses}
+use Rattle.fkv_cli.specs.Output.{image_of, IsWantOfMemory, IsRefusal, report_text, after_command, Plays, ends, ends_in_crash, answers, recovers, refuses}
 use Rattle.fkv_cli.specs.Replays as law
 use Rattle.fkv_cli.specs.Replays.{commit_at, commit_left, IsReplay, Replays, reports}
 use Rattle.fkv_cli.specs.Stores.{Stores}
@@ -160,9 +159,9 @@ module _ (torn : ℕ) (images : AreImages torn) where
   }
 
   -- a refusal is one of memory, since the image has no fault
-  only_memory : (life : Life) (image : List ℕ) (commit : CommitPoint) → HoldsCommit life image commit → (fault : Fault) → IsRefusal image fault → fault ≡ Memory
-  only_memory life image commit holds Memory refused = refl
-  only_memory life image commit holds fault refused = absurd (no_fault_in image life.shape commit.number commit.point.0 holds.log holds.left.committed.stores holds.left.committed.well fault refused)
+  only_memory : (life : Life) (image : List ℕ) (commit : CommitPoint) → HoldsCommit life image commit → (fault : Fault) → IsRefusal image fault → IsWantOfMemory fault
+  only_memory life image commit holds fault (inl want) = want
+  only_memory life image commit holds fault (inr stands) = absurd (no_fault_in image life.shape commit.number commit.point.0 holds.log holds.left.committed.stores holds.left.committed.well fault stands)
 
   -- what is recovered is a replay
   replay_of : (life : Life) (sound : IsSoundLife life) (image : List ℕ) (commit : CommitPoint) (holds : HoldsCommit life image commit) (after : Life) → IsRecovered life image after → IsReplay life commit after
@@ -192,8 +191,7 @@ module _ (torn : ℕ) (images : AreImages torn) where
       let sound_after = recovered_sound life sound image commit.0.number commit.0.point.0 commit.2.start commit.2.log commit.2.left after recovered in
       subst (λ (report : List ℕ). Replays torn life (command ∷ commands) (report ++ text) status)
       (sym (ap (λ c. report_text c (entries after.map)) replay.its_commit ∙ ap (λ m. report_text commit.0 (entries m)) replay.its_map))
-      (reports life command commands commit.0 after text status commit.1 replay (replays after commands text status sound_after (All-tail IsCommandOfWords command commands words) rest))
+      (reports life command commands commit.0 image after text status commit.1 this recovered replay (replays after commands text status sound_after (All-tail IsCommandOfWords command commands words) rest))
   replays _ _ _ _ sound words (refuses life command commands image fault this refused) =
       let commit = commit_of life (image_of torn life command) (commit_left torn life command) image this (crash_of life sound command) in
-      subst (λ f. Replays torn life (command ∷ commands) (ended (refusal_text f)) 3) (sym (only_memory life image commit.0 commit.2 fault refused))
-      (law.refuses life command commands commit.0 commit.1)
+      law.refuses life command commands commit.0 fault commit.1 (only_memory life image commit.0 commit.2 fault refused)

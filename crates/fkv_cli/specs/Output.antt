@@ -5,7 +5,7 @@ use Rattle.std.specs.FinMap.{entries}
 use Rattle.std.specs.Fmt.{decimal}
 use Rattle.std.specs.Io.KnownBytes.{Appends}
 use Rattle.fkv_base.specs.declared.faults.Fault.{Fault}
-use Rattle.fkv_base.specs.declared.faults.Fault.TheVariants.{BadShape, Damaged, Memory}
+use Rattle.fkv_base.specs.declared.faults.Fault.TheVariants.{BadShape, Damaged, Device, Memory}
 use Rattle.fkv_base.specs.declared.numbers.Key.{Key}
 use Rattle.fkv_base.specs.declared.numbers.Serial.{Serial}
 use Rattle.fkv_base.specs.declared.numbers.Value.{Value}
@@ -130,10 +130,15 @@ image_of torn life Finish = if life.is_committing then option_map (λ passed. st
 image_of torn life Crash = Some (crash_image torn life)
 image_of torn life (CrashAt call) = None
 
+-- memory was refused: the store says so, and a device in memory that can't grow fails
+abbrev pub IsWantOfMemory : Fault → Type 0
+IsWantOfMemory Memory = Unit {0}
+IsWantOfMemory Device = Unit {0}
+IsWantOfMemory fault = ⊥
+
 -- why nothing is recovered: a fault of the image, or memory was refused
 abbrev pub IsRefusal : List ℕ → Fault → Type 0
-IsRefusal image Memory = Unit {0}
-IsRefusal image fault = IsFaultOf image fault
+IsRefusal image fault = IsWantOfMemory fault ⊎ IsFaultOf image fault
 
 -- what a crash with this image prints: the report of what is recovered, or the refusal with which the run stops
 abbrev pub IsCrashed : Life → List ℕ → Life → List ℕ → Bool → Type 0
@@ -199,9 +204,12 @@ pub record PlaysAnew (torn : ℕ) (shape : Shape) (commands : List Command) (tex
   pub created : IsCreated shape bytes
   pub plays : Plays torn (new_life shape bytes) commands text status
 
--- or creating it is refused, where memory is
+-- creating it is refused, where memory is
+abbrev pub IsNotCreated : List ℕ → ℕ → Type 0
+IsNotCreated text status = (fault : Fault) × IsWantOfMemory fault × (text ≡ ended (refusal_text fault)) × (status ≡ 3)
+
 abbrev pub PlaysNew : ℕ → Shape → List Command → List ℕ → ℕ → Type 0
-PlaysNew torn shape commands text status = PlaysAnew torn shape commands text status ⊎ ((text ≡ ended (refusal_text Memory)) × (status ≡ 3))
+PlaysNew torn shape commands text status = PlaysAnew torn shape commands text status ⊎ IsNotCreated text status
 
 abbrev pub PlaysShape : Bool → ℕ → Sizes → List Command → List ℕ → ℕ → Type 0
 PlaysShape true torn sizes commands text status = (shape : Shape) × HasSizes sizes shape × PlaysNew torn shape commands text status

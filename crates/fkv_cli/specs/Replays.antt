@@ -1,7 +1,8 @@
 -- The law of crashes: what is recovered is what whole calls make of the updates that a commit's point keeps.
 use Rattle.std.specs.Prelude.{◌≡◌, ◌⊎◌, ℕ, ◌+◌, ◌<◌, Bool, true, false, nat_eq, nat_le, ◌&&◌, List, [], ◌∷◌, ◌++◌, length, take, if◌then◌else◌, Option, Some, None, option_map, Result, Ok, Err}
 use Rattle.std.specs.FinMap.{empty, entries}
-use Rattle.fkv_base.specs.declared.faults.Fault.TheVariants.{BadShape, Memory}
+use Rattle.fkv_base.specs.declared.faults.Fault.{Fault}
+use Rattle.fkv_base.specs.declared.faults.Fault.TheVariants.{BadShape}
 use Rattle.fkv_base.specs.declared.shapes.Shape.{Shape}
 use Rattle.fkv_map.specs.Map.{Map}
 use Rattle.fkv_map.specs.History.{content, kept}
@@ -15,8 +16,8 @@ use Rattle.fkv_cli.specs.Script.{ScriptText, LineFault, script_of}
 use Rattle.fkv_cli.specs.RunFault.{line_fault_text}
 use Rattle.fkv_cli.specs.Life.{Life, new_life, last_commit}
 use Rattle.fkv_cli.specs.Commits.{finish_calls, next_commit}
-use Rattle.fkv_cli.specs.Crashes.{struck_after}
-use Rattle.fkv_cli.specs.Output.{report_text, refusal_text, ended, command_text, after_command, HasSizes, IsCreated, is_accepted, script_limit, IsOutputOf, Ends}
+use Rattle.fkv_cli.specs.Crashes.{struck_after, IsRecovered}
+use Rattle.fkv_cli.specs.Output.{image_of, IsWantOfMemory, IsNotCreated, report_text, refusal_text, ended, command_text, after_command, HasSizes, IsCreated, is_accepted, script_limit, IsOutputOf, Ends}
 
 -- The commit that stands after a crash inside a finish: the last finished one. The last write of a finish opens the gate of its slot, and a sync
 -- follows: where the crash cut short one of these two, and torn bytes hold an open gate, the new commit stands.
@@ -51,12 +52,13 @@ pub data Replays (torn : ℕ) : Life → List Command → List ℕ → ℕ → T
   -- a line is answered
   answers : (life : Life) (command : Command) (commands : List Command) (text : List ℕ) (status : ℕ) → commit_left torn life command ≡ None → Replays torn (after_command life command) commands text status
       → Replays torn life (command ∷ commands) (command_text life command ++ text) status
-  -- a crash is reported: the commit that it left, and what the updates that its point keeps make of the empty map
-  reports : (life : Life) (command : Command) (commands : List Command) (commit : CommitPoint) (after : Life) (text : List ℕ) (status : ℕ) → commit_left torn life command ≡ Some commit → IsReplay life commit after
+  -- a crash is reported: the commit that it left, and what the updates that its point keeps make of the empty map. The store goes on from its image.
+  reports : (life : Life) (command : Command) (commands : List Command) (commit : CommitPoint) (image : List ℕ) (after : Life) (text : List ℕ) (status : ℕ)
+      → commit_left torn life command ≡ Some commit → image_of torn life command ≡ Some image → IsRecovered life image after → IsReplay life commit after
       → Replays torn after commands text status → Replays torn life (command ∷ commands) (report_text commit (entries (replayed life commit)) ++ text) status
   -- memory is refused, which ends the run
-  refuses : (life : Life) (command : Command) (commands : List Command) (commit : CommitPoint) → commit_left torn life command ≡ Some commit
-      → Replays torn life (command ∷ commands) (ended (refusal_text Memory)) 3
+  refuses : (life : Life) (command : Command) (commands : List Command) (commit : CommitPoint) (fault : Fault) → commit_left torn life command ≡ Some commit → IsWantOfMemory fault
+      → Replays torn life (command ∷ commands) (ended (refusal_text fault)) 3
 
 -- ---- the script
 
@@ -68,7 +70,7 @@ pub record ReplaysAnew (torn : ℕ) (shape : Shape) (commands : List Command) (t
 
 -- or creating it is refused, where memory is
 abbrev pub ReplaysNew : ℕ → Shape → List Command → List ℕ → ℕ → Type 0
-ReplaysNew torn shape commands text status = ReplaysAnew torn shape commands text status ⊎ ((text ≡ ended (refusal_text Memory)) × (status ≡ 3))
+ReplaysNew torn shape commands text status = ReplaysAnew torn shape commands text status ⊎ IsNotCreated text status
 
 abbrev pub ReplaysShape : Bool → ℕ → Sizes → List Command → List ℕ → ℕ → Type 0
 ReplaysShape true torn sizes commands text status = (shape : Shape) × HasSizes sizes shape × ReplaysNew torn shape commands text status

@@ -5,7 +5,7 @@ use fkv_map::Reply;
 /// The answer to an operation of a session.
 #[derive(Clone, Copy, Debug, PartialEq, Eq)]
 pub enum Answer {
-    /// It changed nothing.
+    /// It changed nothing, but that an overflow bucket may stay linked where the log then had no room.
     Refused(Fault),
     /// An update took this serial, and this is its reply.
     Updated(Serial, Reply),

@@ -165,8 +165,7 @@ fn run_store<W: Write>(
             Ok(status) => Err(RunFault::printed(alloc, status)),
             Err(Want) => Err(RunFault::want(alloc)),
         },
-        Err(Fault::Memory) => Err(refuse(alloc, output, Fault::Memory, 3)),
-        Err(_) => Err(RunFault::want(alloc)),
+        Err(fault) => Err(refuse(alloc, output, fault, 3)),
     }
 }
 
@@ -267,7 +266,6 @@ fn run_crash<W: Write>(output: &mut W, world: &mut World, image: Vec<u8>) -> Res
             write_report(output, world.last_commit(), pairs.as_slice())?;
             Ok(true)
         }
-        Err(Fault::Device) => Err(Want),
         Err(fault) => {
             write_refusal(output, fault)?;
             Ok(false)

@@ -20,12 +20,12 @@ use std::alloc::Global;
 impl World {
     ghost use Rattle.fkv_cli.specs.Life.{new_life};
     ghost use Rattle.fkv_cli.specs.Crashes.{IsRecovered};
-    ghost use Rattle.fkv_cli.specs.Output.{IsCreated, IsRefusal};
+    ghost use Rattle.fkv_cli.specs.Output.{IsCreated, IsWantOfMemory, IsRefusal};
 
     /// A store of this shape that is made on an empty device.
     pub(crate) fn create(alloc: Global, shape: Shape) -> Result<World, Fault>
         ensures ok { IfOk result (λ world. (bytes : List ℕ) × IsCreated shape bytes × (world ≡ new_life shape bytes)) }
-        ensures err { IfErr result (λ fault. (fault ≡ Fault.Device) ⊎ (fault ≡ Memory)) }
+        ensures err { IfErr result IsWantOfMemory }
     {
         let mut disk = MemDisk::new(alloc);
         create(alloc, &mut disk, shape)?;
@@ -51,7 +51,7 @@ impl World {
     /// The store that an image of this one holds.
     pub(crate) fn recovered(&self, image: Vec<u8>) -> Result<World, Fault>
         ensures ok { IfOk result (IsRecovered self.now image.items) }
-        ensures err { IfErr result (λ fault. (fault ≡ Fault.Device) ⊎ IsRefusal image.items fault) }
+        ensures err { IfErr result (IsRefusal image.items) }
     {
         let alloc = self.alloc;
         let mut disk = MemDisk::from_bytes(alloc, image)?;

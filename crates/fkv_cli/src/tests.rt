@@ -1,5 +1,6 @@
 //! Whole scripts: what a run writes, and the status it ends with.
 mod crashes;
+mod images;
 
 use super::*;
 use std::alloc::{AllocError, Global};
