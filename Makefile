@@ -1,7 +1,7 @@
 # make run     runs the stored script and prints its answers (a build without proof)
-# make test    the gate: every proof from nothing, the must-fail edits, the tests and the program
+# make test    the gate: every proof from nothing, the must-fail edits, the tests and the program; then what `make memory` does
 # make fkv     proves the program and leaves it at build/fkv
-# make memory  runs the stored script with each of its requests for memory refused in turn
+# make memory  runs the stored script, and recovery's calls, with each request for memory refused in turn
 # make bench   times the proved program on scripts of up to 65,536 lines
 
 .PHONY: run test fkv memory bench
@@ -11,6 +11,8 @@ run:
 
 test:
 	rt ci
+	@tools/memory/run crates/fkv/out/fkv > /dev/null
+	@tools/memory/recover > /dev/null
 
 fkv:
 	cd crates/fkv && rt run < stdin > /dev/null
@@ -18,7 +20,9 @@ fkv:
 	cp crates/fkv/out/fkv build/fkv
 
 memory: fkv
-	tools/memory/run
+	cd crates/fkv_recover && rt test > /dev/null
+	tools/memory/run build/fkv
+	tools/memory/recover
 
 bench: fkv
 	tools/bench/run
