@@ -45,8 +45,9 @@ pub fn law_seen()
 {}
 
 /// What is flushed is synced as the records stand, whatever calls of the device fail, where one actor alone flushes: at
-/// every moment a device that was called so shows each record below the flushed offset with the words that stand for it,
-/// and so does all that a crash leaves of it. No step changes what stands for a record below the safe read-only offset.
+/// every moment a device that was called so shows each record since the opening and below the flushed offset with the
+/// words that stand for it, and so does all that a crash leaves of it; the log before the opening is as it was, as far as
+/// the device reached then. No step changes what stands for a record below the safe read-only offset.
 pub fn law_flushed_is_synced()
     ensures synced { (shape : Shape) (places : Places) (actors : ℕ) (words : List ℕ) (start keeper : ℕ) (events : List Event) (opened : List ℕ)
         → IsOpened shape places actors words start → OneFlushes keeper events
