@@ -1,7 +1,7 @@
 -- The numbers and names of the faults, as the program prints them.
 use Rattle.std.specs.Prelude.{ℕ, List, codes}
 use Rattle.fkv_base.specs.declared.faults.Fault.{Fault}
-use Rattle.fkv_base.specs.declared.faults.Fault.TheVariants.{BadShape, ValueReserved, PendingFull, IndexFull, LogFull, VersionsSpent, SerialsSpent, EpochsSpent, DrainFull, CommitRunning, PendingLeft, Asleep, Broken, Device, NotAStore, Damaged, Script, Memory, NoSession, Awake}
+use Rattle.fkv_base.specs.declared.faults.Fault.TheVariants.{BadShape, ValueReserved, PendingFull, IndexFull, LogFull, VersionsSpent, SerialsSpent, EpochsSpent, DrainFull, CommitRunning, PendingLeft, Asleep, Broken, Device, NotAStore, Damaged, Script, Memory, NoSession, Awake, LostFull}
 use Rattle.fkv_base.specs.declared.faults.Damage.{Damage}
 use Rattle.fkv_base.specs.declared.faults.Damage.TheVariants.{Manifest, Triple, Record, Link, Full}
 use Rattle.fkv_base.specs.declared.faults.ScriptFault.{ScriptFault}
@@ -28,6 +28,7 @@ number_of (Script line kind) = 17
 number_of Memory = 18
 number_of NoSession = 19
 number_of Awake = 20
+number_of LostFull = 21
 
 abbrev pub name_of : Fault → List ℕ
 name_of BadShape = codes "BadShape"
@@ -50,6 +51,7 @@ name_of (Script line kind) = codes "Script"
 name_of Memory = codes "Memory"
 name_of NoSession = codes "NoSession"
 name_of Awake = codes "Awake"
+name_of LostFull = codes "LostFull"
 
 abbrev pub damage_name : Damage → List ℕ
 damage_name Manifest = codes "Manifest"

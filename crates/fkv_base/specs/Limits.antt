@@ -1,6 +1,57 @@
--- The limits of a shape's seven sizes.
-use Rattle.std.specs.Prelude.{ℕ, ◌-◌, ◌≤◌, ◌<◌, Bool, ◌&&◌, nat_le, nat_lt, IsTrue}
+-- The limits of a shape's seven sizes, and of the numbers that a store counts.
+use Rattle.std.specs.Prelude.{ℕ, ◌-◌, ◌^◌, ◌≤◌, ◌<◌, Bool, ◌&&◌, nat_le, nat_lt, IsTrue}
 use Rattle.std.specs.Int.{is_power_of_two}
+
+-- at most so many sessions, and requests of one session that are pending
+abbrev pub max_sessions : ℕ
+max_sessions = 32
+
+abbrev pub max_pending : ℕ
+max_pending = 64
+
+-- so many drain slots
+abbrev pub drain_slots : ℕ
+drain_slots = 8
+
+-- at most 2^10 buckets, so many overflow buckets, and pages of the log on the device
+abbrev pub max_bucket_bits : ℕ
+max_bucket_bits = 10
+
+abbrev pub max_buckets : ℕ
+max_buckets = 1024
+
+abbrev pub max_overflow : ℕ
+max_overflow = 1024
+
+abbrev pub max_disk_pages : ℕ
+max_disk_pages = 65536
+
+-- the records of a page, the frames, and the records that all frames hold together
+abbrev pub min_page : ℕ
+min_page = 4
+
+abbrev pub max_page : ℕ
+max_page = 1024
+
+abbrev pub min_frames : ℕ
+min_frames = 2
+
+abbrev pub max_frames : ℕ
+max_frames = 64
+
+abbrev pub max_ring : ℕ
+max_ring = 65536
+
+-- the last version, and the last serial of a session
+abbrev pub last_version : ℕ
+last_version = 8191
+
+abbrev pub last_serial : ℕ
+last_serial = 2 ^ 48 - 1
+
+-- from this epoch on nobody raises it: so raises that are under way together stay below 2^48
+abbrev pub last_epoch : ℕ
+last_epoch = 2 ^ 48 - 1024
 
 -- a power of two within two bounds
 abbrev pub is_ring_size : ℕ → ℕ → ℕ → Bool
@@ -8,19 +59,19 @@ is_ring_size size least most = is_power_of_two size && nat_le least size && nat_
 
 -- 2^bucket_bits buckets; the records of a page and the frames are powers of two; at least one frame is not mutable
 pub record IsShape (bucket_bits page frames mutable sessions overflow disk_pages : ℕ) : Type 0 where
-  pub few_buckets : bucket_bits ≤ 10
-  pub page_size : IsTrue (is_ring_size page 4 1024)
-  pub ring_size : IsTrue (is_ring_size frames 2 64)
+  pub few_buckets : bucket_bits ≤ max_bucket_bits
+  pub page_size : IsTrue (is_ring_size page min_page max_page)
+  pub ring_size : IsTrue (is_ring_size frames min_frames max_frames)
   pub some_mutable : 1 ≤ mutable
   pub some_read_only : mutable < frames
   pub some_session : 1 ≤ sessions
-  pub few_sessions : sessions ≤ 8
-  pub few_overflow : overflow ≤ 1024
+  pub few_sessions : sessions ≤ max_sessions
+  pub few_overflow : overflow ≤ max_overflow
   pub some_disk : 1 ≤ disk_pages
-  pub few_disk : disk_pages ≤ 65536
+  pub few_disk : disk_pages ≤ max_disk_pages
 
 -- the same as a test
 abbrev pub is_shape : ℕ → ℕ → ℕ → ℕ → ℕ → ℕ → ℕ → Bool
 is_shape bucket_bits page frames mutable sessions overflow disk_pages =
-    nat_le bucket_bits 10 && is_ring_size page 4 1024 && is_ring_size frames 2 64 && nat_le 1 mutable && nat_lt mutable frames
-    && nat_le 1 sessions && nat_le sessions 8 && nat_le overflow 1024 && nat_le 1 disk_pages && nat_le disk_pages 65536
+    nat_le bucket_bits max_bucket_bits && is_ring_size page min_page max_page && is_ring_size frames min_frames max_frames && nat_le 1 mutable && nat_lt mutable frames
+    && nat_le 1 sessions && nat_le sessions max_sessions && nat_le overflow max_overflow && nat_le 1 disk_pages && nat_le disk_pages max_disk_pages

@@ -13,7 +13,7 @@ pub enum Fault {
     BadShape,
     #[error("2^64 - 1 is no value: it stands for an absent one")]
     ValueReserved,
-    #[error("16 requests of the session are pending")]
+    #[error("64 requests of the session are pending")]
     PendingFull,
     #[error("the index has no room for another home")]
     IndexFull,
@@ -49,6 +49,8 @@ pub enum Fault {
     NoSession,
     #[error("the session is awake")]
     Awake,
+    #[error("eight ranges of lost records are in hand")]
+    LostFull,
 }
 
 /// What part of an image is damaged.
@@ -84,7 +86,7 @@ pub enum ScriptFault {
 }
 
 impl Fault {
-    /// The number of the fault, 1 to 20, as the program prints it.
+    /// The number of the fault, 1 to 21, as the program prints it.
     pub fn number(self) -> u64
         ensures { result ≡ number_of self }
     {
@@ -109,6 +111,7 @@ impl Fault {
             Fault::Memory => 18,
             Fault::NoSession => 19,
             Fault::Awake => 20,
+            Fault::LostFull => 21,
         }
     }
 
@@ -137,6 +140,7 @@ impl Fault {
             Fault::Memory => "Memory",
             Fault::NoSession => "NoSession",
             Fault::Awake => "Awake",
+            Fault::LostFull => "LostFull",
         }
     }
 }
@@ -200,7 +204,7 @@ mod tests {
         assert_eq!(rt; damaged.name(), "Damaged");
         assert_eq!(rt; Damage::Record.name(), "Record");
         assert_eq!(rt; ScriptFault::Count.name(), "Count");
-        assert_eq!(rt; Fault::Awake.number(), 20);
+        assert_eq!(rt; Fault::LostFull.number(), 21);
         let shown = format!(in rt.alloc(); "{damaged}")?;
         assert_eq!(rt; shown.as_str(), "the image is damaged: record 1");
         Ok(())

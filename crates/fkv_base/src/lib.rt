@@ -2,11 +2,16 @@
 #![tactic(auto)]
 
 mod faults;
+mod limits;
 mod numbers;
 mod phases;
 mod shapes;
 
 pub use faults::{Damage, Fault, ScriptFault};
+pub use limits::{
+    DRAIN_SLOTS, LAST_EPOCH, MAX_BUCKET_BITS, MAX_DISK_PAGES, MAX_FRAMES, MAX_OVERFLOW, MAX_PAGE,
+    MAX_PENDING, MAX_SESSIONS, MIN_FRAMES, MIN_PAGE,
+};
 pub use numbers::{Addr, Key, Serial, Value, Version};
 pub use phases::Phase;
 pub use shapes::Shape;

@@ -4,6 +4,10 @@ ghost use Rattle.fkv_base.specs.Limits.{IsShape, is_ring_size, is_shape};
 ghost use Rattle.fkv_base.specs.declared.faults.Fault.TheVariants.{BadShape};
 
 use crate::faults::Fault;
+use crate::limits::{
+    MAX_BUCKET_BITS, MAX_DISK_PAGES, MAX_FRAMES, MAX_OVERFLOW, MAX_PAGE, MAX_SESSIONS, MIN_FRAMES,
+    MIN_PAGE,
+};
 
 /// The seven sizes of a store, each within its limits.
 #[derive(Clone, Copy, Debug, PartialEq, Eq)]
@@ -16,7 +20,7 @@ pub struct Shape {
     pub frames: u64,
     /// Pages that stay mutable, 1 to frames - 1.
     pub mutable: u64,
-    /// Sessions, 1 to 8.
+    /// Sessions, 1 to 32.
     pub sessions: u64,
     /// Overflow buckets, 0 to 1024.
     pub overflow: u64,
@@ -47,16 +51,16 @@ impl Shape {
         ensures disk_pages { IfOk result (λ shape. shape.disk_pages ≡ disk_pages) }
         ensures refused { OnErr result (result ≡ Err BadShape) }
     {
-        if bucket_bits > 10
-            || !is_ring_size(page, 4, 1024)
-            || !is_ring_size(frames, 2, 64)
+        if bucket_bits > MAX_BUCKET_BITS
+            || !is_ring_size(page, MIN_PAGE, MAX_PAGE)
+            || !is_ring_size(frames, MIN_FRAMES, MAX_FRAMES)
             || mutable < 1
             || mutable >= frames
             || sessions < 1
-            || sessions > 8
-            || overflow > 1024
+            || sessions > MAX_SESSIONS
+            || overflow > MAX_OVERFLOW
             || disk_pages < 1
-            || disk_pages > 65536
+            || disk_pages > MAX_DISK_PAGES
         {
             return Err(Fault::BadShape);
         }
@@ -86,7 +90,8 @@ mod tests {
     #[test]
     fn a_shape_within_its_limits_is_kept(rt: HostRuntime) {
         assert!(rt; Shape::new(4, 16, 4, 2, 1, 0, 64).is_ok());
-        assert!(rt; Shape::new(10, 1024, 64, 63, 8, 1024, 65536).is_ok());
+        assert!(rt; Shape::new(10, 1024, 64, 63, 32, 1024, 65536).is_ok());
+        assert_eq!(rt; Shape::new(4, 16, 4, 2, 33, 0, 64), Err(Fault::BadShape));
         assert_eq!(rt; Shape::new(4, 6, 4, 2, 1, 0, 64), Err(Fault::BadShape));
         assert_eq!(rt; Shape::new(0, 4, 2, 2, 1, 0, 1), Err(Fault::BadShape));
     }

@@ -1,0 +1,24 @@
+//! The limits that every crate of the store goes by.
+
+/// Sessions of a store, at most.
+pub const MAX_SESSIONS: u64 = 32;
+/// Requests of one session that are pending, at most.
+pub const MAX_PENDING: usize = 64;
+/// Drain slots, in which actions wait for their epoch.
+pub const DRAIN_SLOTS: usize = 8;
+/// Bits of the number of a bucket, at most.
+pub const MAX_BUCKET_BITS: u64 = 10;
+/// Overflow buckets, at most.
+pub const MAX_OVERFLOW: u64 = 1024;
+/// Pages of the log on the device, at most.
+pub const MAX_DISK_PAGES: u64 = 65536;
+/// Records of a page, at least.
+pub const MIN_PAGE: u64 = 4;
+/// Records of a page, at most.
+pub const MAX_PAGE: u64 = 1024;
+/// Frames, at least.
+pub const MIN_FRAMES: u64 = 2;
+/// Frames, at most.
+pub const MAX_FRAMES: u64 = 64;
+/// From this epoch on, 2^48 - 1024, nobody raises it: so raises that are under way together stay below 2^48.
+pub const LAST_EPOCH: u64 = 281474976709632;
