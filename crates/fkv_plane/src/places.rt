@@ -1,5 +1,6 @@
 //! Where each shared word stands.
 ghost use Rattle.std.specs.Prelude.{◌≡◌, ◌<◌, ◌≤◌, ◌+◌, ◌*◌, ◌^◌};
+ghost use Rattle.fkv_base.specs.Limits.{max_sessions, max_buckets, max_overflow, max_ring, drain_slots};
 
 use fkv_base::{Addr, Shape};
 
@@ -53,11 +54,11 @@ pub struct Places {
     pub overflow: usize,
     /// Records that all frames hold together.
     pub ring: usize,
-    pub ghost few_sessions: { sessions ≤ 8 },
-    pub ghost few_buckets: { buckets ≤ 1024 },
-    pub ghost few_overflow: { overflow ≤ 1024 },
+    pub ghost few_sessions: { sessions ≤ max_sessions },
+    pub ghost few_buckets: { buckets ≤ max_buckets },
+    pub ghost few_overflow: { overflow ≤ max_overflow },
     pub ghost some_ring: { 0 < ring },
-    pub ghost small_ring: { ring ≤ 65536 },
+    pub ghost small_ring: { ring ≤ max_ring },
 }
 
 impl SharedWord {
@@ -105,7 +106,7 @@ impl SessionWord {
 
     /// The place of the word in the block of this session.
     pub fn place(self, session: usize) -> usize
-        requires { session < 8 }
+        requires { session < max_sessions }
         ensures { result ≡ session_place session self }
     {
         24 + 16 * session + self.number()
@@ -128,7 +129,7 @@ impl RecordWord {
 
 /// The place of the word of a drain slot, 0 to 7.
 pub fn drain_place(slot: usize) -> usize
-    requires { slot < 8 }
+    requires { slot < drain_slots }
     ensures { result ≡ 16 + slot }
 {
     16 + slot
