@@ -1,3 +1,4 @@
+pub mod Calm
 pub mod FlushKnows
 pub mod Guard
 pub mod GuardAnswered
@@ -25,5 +26,6 @@ pub mod GuardWorks
 pub mod GuardWrites
 pub mod InHand
 pub mod OnDevice
+pub mod OneEvent
 pub mod Parts
 pub mod RaiseRange

@@ -2,6 +2,7 @@ pub mod Devices
 pub mod Flushing
 pub mod GuardAnswered
 pub mod GuardAsks
+pub mod GuardCalm
 pub mod GuardFlushed
 pub mod GuardLevels
 pub mod GuardSeen

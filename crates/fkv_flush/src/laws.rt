@@ -8,6 +8,7 @@ ghost use Rattle.fkv_plane.specs.Asked.{word_at};
 ghost use Rattle.fkv_flush.specs.declared.answers.MoveAnswer.{MoveAnswer};
 ghost use Rattle.fkv_flush.specs.declared.answers.ShiftAnswer.{ShiftAnswer};
 ghost use Rattle.fkv_flush.specs.GuardAnswered.{AsksAsAnswered, AreAlike, ActAlike};
+ghost use Rattle.fkv_flush.specs.GuardCalm.{AreOther, IsCalm};
 ghost use Rattle.fkv_flush.specs.GuardLevels.{AreInOrder};
 ghost use Rattle.fkv_flush.specs.GuardSeen.{SeenIsSafe};
 ghost use Rattle.fkv_flush.specs.GuardWorld.{GuardWorld, GuardEvent, guard_happens, guard_run, levels};
@@ -71,4 +72,12 @@ pub fn law_asks_are_answered()
     ensures answered { AsksAsAnswered }
     ensures move_acts { (answered now : Ask MoveAnswer) → AreAlike answered now → ActAlike answered now }
     ensures shift_acts { (answered now : Ask ShiftAnswer) → AreAlike answered now → ActAlike answered now }
+{}
+
+/// From each moment to each later one no offset falls, nor the epoch, nor the safe epoch; and the epoch word of a session
+/// that does nothing in between stays as it is.
+pub fn law_nothing_falls()
+    ensures { (shape : Shape) (places : Places) (actors : ℕ) (words : List ℕ) (start : ℕ) (events later : List GuardEvent)
+        → IsOpened shape places actors words start
+        → IsCalm places.sessions (AreOther later) (guard_run (opening shape places actors words start) events).now.words (guard_run (guard_run (opening shape places actors words start) events) later).now.words }
 {}
