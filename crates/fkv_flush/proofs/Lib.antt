@@ -29,3 +29,4 @@ pub mod OnDevice
 pub mod OneEvent
 pub mod Parts
 pub mod RaiseRange
+pub mod Undecided

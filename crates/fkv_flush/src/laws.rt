@@ -10,6 +10,7 @@ ghost use Rattle.fkv_flush.specs.declared.answers.ShiftAnswer.{ShiftAnswer};
 ghost use Rattle.fkv_flush.specs.GuardAnswered.{AsksAsAnswered, AreAlike, ActAlike};
 ghost use Rattle.fkv_flush.specs.GuardCalm.{AreOther, IsCalm};
 ghost use Rattle.fkv_flush.specs.GuardLevels.{AreInOrder};
+ghost use Rattle.fkv_flush.specs.GuardReserved.{UndecidedApart};
 ghost use Rattle.fkv_flush.specs.GuardSeen.{SeenIsSafe};
 ghost use Rattle.fkv_flush.specs.GuardWorld.{GuardWorld, GuardEvent, guard_happens, guard_run, levels};
 ghost use Rattle.fkv_flush.specs.GuardTurned.{GoesRound};
@@ -34,13 +35,16 @@ pub fn law_guarded()
 {}
 
 /// At every moment what a session goes by is safe to go by; a reserved record that is undecided belongs to a protected
-/// session that neither protects itself nor refreshes nor leaves, and no event shows that session anything new.
+/// session that neither protects itself nor refreshes nor leaves, and to no other; and no event shows that session
+/// anything new.
 pub fn law_seen()
     ensures safe { (shape : Shape) (places : Places) (actors : ℕ) (words : List ℕ) (start : ℕ) (events : List GuardEvent)
         → IsOpened shape places actors words start
         → SeenIsSafe (levels (guard_run (opening shape places actors words start) events)) (GoesBy (guard_run (opening shape places actors words start) events).now) (seen_of (guard_run (opening shape places actors words start) events).now.actors) }
     ensures fresh { (shape : Shape) (places : Places) (actors : ℕ) (words : List ℕ) (start : ℕ) (events : List GuardEvent)
         → IsOpened shape places actors words start → UndecidedIsFresh (guard_run (opening shape places actors words start) events) }
+    ensures apart { (shape : Shape) (places : Places) (actors : ℕ) (words : List ℕ) (start : ℕ) (events : List GuardEvent)
+        → IsOpened shape places actors words start → UndecidedApart (guard_run (opening shape places actors words start) events).now.actors }
     ensures keeps { (shape : Shape) (places : Places) (actors : ℕ) (words : List ℕ) (start : ℕ) (events : List GuardEvent) (event : GuardEvent)
         → IsOpened shape places actors words start → KeepsSeen (guard_run (opening shape places actors words start) events) event }
 {}
