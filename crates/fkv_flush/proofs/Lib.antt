@@ -25,6 +25,7 @@ pub mod GuardUnwritten
 pub mod GuardWorks
 pub mod GuardWrites
 pub mod InHand
+pub mod Limit
 pub mod OnDevice
 pub mod OneEvent
 pub mod Parts

@@ -5,6 +5,7 @@ pub mod GuardAsks
 pub mod GuardCalm
 pub mod GuardFlushed
 pub mod GuardLevels
+pub mod GuardLimit
 pub mod GuardReserved
 pub mod GuardSeen
 pub mod GuardTurned

@@ -10,6 +10,7 @@ ghost use Rattle.fkv_flush.specs.declared.answers.ShiftAnswer.{ShiftAnswer};
 ghost use Rattle.fkv_flush.specs.GuardAnswered.{AsksAsAnswered, AreAlike, ActAlike};
 ghost use Rattle.fkv_flush.specs.GuardCalm.{AreOther, IsCalm};
 ghost use Rattle.fkv_flush.specs.GuardLevels.{AreInOrder};
+ghost use Rattle.fkv_flush.specs.GuardLimit.{EndsPages};
 ghost use Rattle.fkv_flush.specs.GuardReserved.{UndecidedApart};
 ghost use Rattle.fkv_flush.specs.GuardSeen.{SeenIsSafe};
 ghost use Rattle.fkv_flush.specs.GuardWorld.{GuardWorld, GuardEvent, guard_happens, guard_run, levels};
@@ -20,8 +21,8 @@ ghost use Rattle.fkv_flush.specs.Guarded.{IsOpened, opening, IsCovered, Undecide
 /// Whatever the order of the machines' steps, and whoever makes them: a step that writes a word of a frame writes one of
 /// an open address at or above the safe read-only offset and below the tail; a step that opens a page finds all flushed
 /// that its frame held, and each protected session that isn't in the middle of protecting itself with a head at or above that; and
-/// at every moment the offsets are in order, and the frames hold all that may still be needed. What a step is said to
-/// write is all that it writes.
+/// at every moment the offsets are in order, the frames hold all that may still be needed, and the limit is the end of
+/// whole pages that the device has. What a step is said to write is all that it writes.
 pub fn law_guarded()
     ensures writes { (shape : Shape) (places : Places) (actors : ℕ) (words : List ℕ) (start : ℕ) (events : List GuardEvent) (event : GuardEvent)
         → IsOpened shape places actors words start → GuardsWrites (guard_run (opening shape places actors words start) events) event }
@@ -31,6 +32,8 @@ pub fn law_guarded()
         → IsOpened shape places actors words start → AreInOrder (levels (guard_run (opening shape places actors words start) events)) }
     ensures covered { (shape : Shape) (places : Places) (actors : ℕ) (words : List ℕ) (start : ℕ) (events : List GuardEvent)
         → IsOpened shape places actors words start → IsCovered (guard_run (opening shape places actors words start) events) }
+    ensures paged { (shape : Shape) (places : Places) (actors : ℕ) (words : List ℕ) (start : ℕ) (events : List GuardEvent)
+        → IsOpened shape places actors words start → EndsPages shape (levels (guard_run (opening shape places actors words start) events)).limit }
     ensures nothing_else { (w : GuardWorld) (event : GuardEvent) (place : ℕ) → event_writes w.now event ≢ Some place → word_at (guard_happens w event).now.words place ≡ word_at w.now.words place }
 {}
 
