@@ -30,4 +30,5 @@ pub mod OnDevice
 pub mod OneEvent
 pub mod Parts
 pub mod RaiseRange
+pub mod Slots
 pub mod Undecided

@@ -8,6 +8,7 @@ pub mod GuardLevels
 pub mod GuardLimit
 pub mod GuardReserved
 pub mod GuardSeen
+pub mod GuardSlots
 pub mod GuardTurned
 pub mod GuardWorld
 pub mod Guarded

@@ -13,6 +13,7 @@ ghost use Rattle.fkv_flush.specs.GuardLevels.{AreInOrder};
 ghost use Rattle.fkv_flush.specs.GuardLimit.{EndsPages};
 ghost use Rattle.fkv_flush.specs.GuardReserved.{UndecidedApart};
 ghost use Rattle.fkv_flush.specs.GuardSeen.{SeenIsSafe};
+ghost use Rattle.fkv_flush.specs.GuardSlots.{FindsSlots};
 ghost use Rattle.fkv_flush.specs.GuardWorld.{GuardWorld, GuardEvent, guard_happens, guard_run, levels};
 ghost use Rattle.fkv_flush.specs.GuardTurned.{GoesRound};
 ghost use Rattle.fkv_flush.specs.GuardFlushed.{OneFlushes, IsSynced, stands, calls_made};
@@ -87,4 +88,11 @@ pub fn law_nothing_falls()
     ensures { (shape : Shape) (places : Places) (actors : ℕ) (words : List ℕ) (start : ℕ) (events later : List GuardEvent)
         → IsOpened shape places actors words start
         → IsCalm places.sessions (AreOther later) (guard_run (opening shape places actors words start) events).now.words (guard_run (guard_run (opening shape places actors words start) events) later).now.words }
+{}
+
+/// Whatever the order of the steps: a slot that an event gives an action to is empty, and one that an event takes has the
+/// action that was armed there; so no actor ever waits for one.
+pub fn law_finds_slots()
+    ensures { (shape : Shape) (places : Places) (actors : ℕ) (words : List ℕ) (start : ℕ) (events : List GuardEvent) (event : GuardEvent)
+        → IsOpened shape places actors words start → FindsSlots (guard_run (opening shape places actors words start) events) event }
 {}
