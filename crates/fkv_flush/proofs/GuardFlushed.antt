@@ -126,7 +126,7 @@ known_end w b y step bytes sound got its = by step (subst (Known w b y) its (sou
     by (flush.RaisesFlushed end) k = k
 
 -- the page of a store has records
-page_some : (w : GuardWorld) → IsSound w → 0 < w.now.shape.page
+pub page_some : (w : GuardWorld) → IsSound w → 0 < w.now.shape.page
 page_some w sound = let ring = sound.fits.ring in let some = w.now.places.some_ring in some_page w.now.shape.frames w.now.shape.page (omega (arith, ring, some))
 
 -- One event of a world that is sound, and has its flushed records on the device.

@@ -1,3 +1,4 @@
+pub mod Calm
 pub mod FlushKnows
 pub mod Guard
 pub mod GuardAnswered
@@ -24,6 +25,10 @@ pub mod GuardUnwritten
 pub mod GuardWorks
 pub mod GuardWrites
 pub mod InHand
+pub mod Limit
 pub mod OnDevice
+pub mod OneEvent
 pub mod Parts
 pub mod RaiseRange
+pub mod Slots
+pub mod Undecided

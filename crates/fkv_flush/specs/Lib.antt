@@ -2,9 +2,13 @@ pub mod Devices
 pub mod Flushing
 pub mod GuardAnswered
 pub mod GuardAsks
+pub mod GuardCalm
 pub mod GuardFlushed
 pub mod GuardLevels
+pub mod GuardLimit
+pub mod GuardReserved
 pub mod GuardSeen
+pub mod GuardSlots
 pub mod GuardTurned
 pub mod GuardWorld
 pub mod Guarded

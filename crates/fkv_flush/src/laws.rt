@@ -8,8 +8,12 @@ ghost use Rattle.fkv_plane.specs.Asked.{word_at};
 ghost use Rattle.fkv_flush.specs.declared.answers.MoveAnswer.{MoveAnswer};
 ghost use Rattle.fkv_flush.specs.declared.answers.ShiftAnswer.{ShiftAnswer};
 ghost use Rattle.fkv_flush.specs.GuardAnswered.{AsksAsAnswered, AreAlike, ActAlike};
+ghost use Rattle.fkv_flush.specs.GuardCalm.{AreOther, IsCalm};
 ghost use Rattle.fkv_flush.specs.GuardLevels.{AreInOrder};
+ghost use Rattle.fkv_flush.specs.GuardLimit.{EndsPages};
+ghost use Rattle.fkv_flush.specs.GuardReserved.{UndecidedApart};
 ghost use Rattle.fkv_flush.specs.GuardSeen.{SeenIsSafe};
+ghost use Rattle.fkv_flush.specs.GuardSlots.{FindsSlots};
 ghost use Rattle.fkv_flush.specs.GuardWorld.{GuardWorld, GuardEvent, guard_happens, guard_run, levels};
 ghost use Rattle.fkv_flush.specs.GuardTurned.{GoesRound};
 ghost use Rattle.fkv_flush.specs.GuardFlushed.{OneFlushes, IsSynced, stands, calls_made};
@@ -18,8 +22,8 @@ ghost use Rattle.fkv_flush.specs.Guarded.{IsOpened, opening, IsCovered, Undecide
 /// Whatever the order of the machines' steps, and whoever makes them: a step that writes a word of a frame writes one of
 /// an open address at or above the safe read-only offset and below the tail; a step that opens a page finds all flushed
 /// that its frame held, and each protected session that isn't in the middle of protecting itself with a head at or above that; and
-/// at every moment the offsets are in order, and the frames hold all that may still be needed. What a step is said to
-/// write is all that it writes.
+/// at every moment the offsets are in order, the frames hold all that may still be needed, and the limit is the end of
+/// whole pages that the device has. What a step is said to write is all that it writes.
 pub fn law_guarded()
     ensures writes { (shape : Shape) (places : Places) (actors : ℕ) (words : List ℕ) (start : ℕ) (events : List GuardEvent) (event : GuardEvent)
         → IsOpened shape places actors words start → GuardsWrites (guard_run (opening shape places actors words start) events) event }
@@ -29,17 +33,22 @@ pub fn law_guarded()
         → IsOpened shape places actors words start → AreInOrder (levels (guard_run (opening shape places actors words start) events)) }
     ensures covered { (shape : Shape) (places : Places) (actors : ℕ) (words : List ℕ) (start : ℕ) (events : List GuardEvent)
         → IsOpened shape places actors words start → IsCovered (guard_run (opening shape places actors words start) events) }
+    ensures paged { (shape : Shape) (places : Places) (actors : ℕ) (words : List ℕ) (start : ℕ) (events : List GuardEvent)
+        → IsOpened shape places actors words start → EndsPages shape (levels (guard_run (opening shape places actors words start) events)).limit }
     ensures nothing_else { (w : GuardWorld) (event : GuardEvent) (place : ℕ) → event_writes w.now event ≢ Some place → word_at (guard_happens w event).now.words place ≡ word_at w.now.words place }
 {}
 
 /// At every moment what a session goes by is safe to go by; a reserved record that is undecided belongs to a protected
-/// session that neither protects itself nor refreshes nor leaves, and no event shows that session anything new.
+/// session that neither protects itself nor refreshes nor leaves, and to no other; and no event shows that session
+/// anything new.
 pub fn law_seen()
     ensures safe { (shape : Shape) (places : Places) (actors : ℕ) (words : List ℕ) (start : ℕ) (events : List GuardEvent)
         → IsOpened shape places actors words start
         → SeenIsSafe (levels (guard_run (opening shape places actors words start) events)) (GoesBy (guard_run (opening shape places actors words start) events).now) (seen_of (guard_run (opening shape places actors words start) events).now.actors) }
     ensures fresh { (shape : Shape) (places : Places) (actors : ℕ) (words : List ℕ) (start : ℕ) (events : List GuardEvent)
         → IsOpened shape places actors words start → UndecidedIsFresh (guard_run (opening shape places actors words start) events) }
+    ensures apart { (shape : Shape) (places : Places) (actors : ℕ) (words : List ℕ) (start : ℕ) (events : List GuardEvent)
+        → IsOpened shape places actors words start → UndecidedApart (guard_run (opening shape places actors words start) events).now.actors }
     ensures keeps { (shape : Shape) (places : Places) (actors : ℕ) (words : List ℕ) (start : ℕ) (events : List GuardEvent) (event : GuardEvent)
         → IsOpened shape places actors words start → KeepsSeen (guard_run (opening shape places actors words start) events) event }
 {}
@@ -71,4 +80,19 @@ pub fn law_asks_are_answered()
     ensures answered { AsksAsAnswered }
     ensures move_acts { (answered now : Ask MoveAnswer) → AreAlike answered now → ActAlike answered now }
     ensures shift_acts { (answered now : Ask ShiftAnswer) → AreAlike answered now → ActAlike answered now }
+{}
+
+/// From each moment to each later one no offset falls, nor the epoch, nor the safe epoch; and the epoch word of a session
+/// that does nothing in between stays as it is.
+pub fn law_nothing_falls()
+    ensures { (shape : Shape) (places : Places) (actors : ℕ) (words : List ℕ) (start : ℕ) (events later : List GuardEvent)
+        → IsOpened shape places actors words start
+        → IsCalm places.sessions (AreOther later) (guard_run (opening shape places actors words start) events).now.words (guard_run (guard_run (opening shape places actors words start) events) later).now.words }
+{}
+
+/// Whatever the order of the steps: a slot that an event gives an action to is empty, and one that an event takes has the
+/// action that was armed there; so no actor ever waits for one.
+pub fn law_finds_slots()
+    ensures { (shape : Shape) (places : Places) (actors : ℕ) (words : List ℕ) (start : ℕ) (events : List GuardEvent) (event : GuardEvent)
+        → IsOpened shape places actors words start → FindsSlots (guard_run (opening shape places actors words start) events) event }
 {}

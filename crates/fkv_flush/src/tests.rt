@@ -1,7 +1,7 @@
 use crate::{
     DeviceAnswer, Flush, MoveAnswer, MoveOffset, Offset, Serve, ShiftAnswer, ShiftReadOnly,
-    TurnPage, law_asks_are_answered, law_flushed_is_synced, law_guarded, law_of_the_ring,
-    law_records_in_hand, law_seen,
+    TurnPage, law_asks_are_answered, law_finds_slots, law_flushed_is_synced, law_guarded,
+    law_nothing_falls, law_of_the_ring, law_records_in_hand, law_seen,
 };
 use fkv_base::{Addr, Fault, Key, Shape, Version};
 use fkv_disk::{Device, Fuse, MemDisk};
@@ -280,6 +280,8 @@ fn frames_are_used_again(rt: HostRuntime) -> Result<(), Fail> {
     law_of_the_ring();
     law_asks_are_answered();
     law_records_in_hand();
+    law_nothing_falls();
+    law_finds_slots();
     Ok(())
 }
 
