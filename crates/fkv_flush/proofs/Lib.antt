@@ -25,6 +25,10 @@ pub mod GuardUnwritten
 pub mod GuardWorks
 pub mod GuardWrites
 pub mod InHand
+pub mod GuardMail
+pub mod GuardMailAsks
+pub mod GuardMailPlaces
+pub mod GuardMailRows
 pub mod Limit
 pub mod OnDevice
 pub mod OneEvent

@@ -1,5 +1,5 @@
 //! What the machines keep together, over every list of their events.
-ghost use Rattle.std.specs.Prelude.{◌≡◌, ◌≢◌, ◌<◌, ◌∷◌, ℕ, List, Some};
+ghost use Rattle.std.specs.Prelude.{◌≡◌, ◌≢◌, ◌<◌, ◌∷◌, ℕ, List, Some, slice_get};
 ghost use Rattle.fkv_base.specs.declared.shapes.Shape.{Shape};
 ghost use Rattle.fkv_plane.specs.declared.places.Places.{Places};
 ghost use Rattle.fkv_plane.specs.declared.asks.Ask.{Ask};
@@ -14,9 +14,11 @@ ghost use Rattle.fkv_flush.specs.GuardLimit.{EndsPages};
 ghost use Rattle.fkv_flush.specs.GuardReserved.{UndecidedApart};
 ghost use Rattle.fkv_flush.specs.GuardSeen.{SeenIsSafe};
 ghost use Rattle.fkv_flush.specs.GuardSlots.{FindsSlots};
-ghost use Rattle.fkv_flush.specs.GuardWorld.{GuardWorld, GuardEvent, guard_happens, guard_run, levels};
+ghost use Rattle.fkv_flush.specs.GuardWorld.{GuardWorld, GuardEvent, Actor, Serves, guard_happens, guard_run, levels};
 ghost use Rattle.fkv_flush.specs.GuardTurned.{GoesRound};
 ghost use Rattle.fkv_flush.specs.GuardFlushed.{OneFlushes, IsSynced, stands, calls_made};
+ghost use Rattle.fkv_flush.specs.GuardMail.{AreEmpty, AreMailboxesKept, ReadyWasRead, FindsAsked, ChangesMailbox, mailbox_of, mail_reads};
+ghost use Rattle.fkv_flush.specs.declared.serving.Serving.{Serving};
 ghost use Rattle.fkv_flush.specs.Guarded.{IsOpened, opening, IsCovered, UndecidedIsFresh, GoesBy, seen_of, event_writes, GuardsWrites, GuardsLimit, KeepsSeen};
 
 /// Whatever the order of the machines' steps, and whoever makes them: a step that writes a word of a frame writes one of
@@ -95,4 +97,22 @@ pub fn law_nothing_falls()
 pub fn law_finds_slots()
     ensures { (shape : Shape) (places : Places) (actors : ℕ) (words : List ℕ) (start : ℕ) (events : List GuardEvent) (event : GuardEvent)
         → IsOpened shape places actors words start → FindsSlots (guard_run (opening shape places actors words start) events) event }
+{}
+
+/// Where one actor alone serves the mailboxes, and each session alone changes its own, the address while it is empty, and
+/// the state from empty to asked and from ready to empty: at every moment a mailbox that is ready has the words that the
+/// newest read for its session gave, which was at the address asked for; the actor that serves finds asked for what it
+/// has come to; and each event leaves a mailbox as it is, or is one of its session where it was empty or ready, or one of
+/// the actor that serves where a record was asked for.
+pub fn law_mail()
+    ensures ready { (shape : Shape) (places : Places) (actors : ℕ) (words : List ℕ) (start keeper : ℕ) (events : List GuardEvent) (session : ℕ)
+        → IsOpened shape places actors words start → AreEmpty places words → AreMailboxesKept keeper (opening shape places actors words start) events → session < places.sessions
+        → ReadyWasRead (mail_reads (opening shape places actors words start) events) session (mailbox_of (guard_run (opening shape places actors words start) events).now.words session) }
+    ensures asked { (shape : Shape) (places : Places) (actors : ℕ) (words : List ℕ) (start keeper : ℕ) (events : List GuardEvent) (actor : ℕ) (x : Actor) (step : Serving)
+        → IsOpened shape places actors words start → AreEmpty places words → AreMailboxesKept keeper (opening shape places actors words start) events
+        → slice_get (guard_run (opening shape places actors words start) events).now.actors actor ≡ Some x → x.work ≡ Serves step
+        → FindsAsked (mail_reads (opening shape places actors words start) events) (mailbox_of (guard_run (opening shape places actors words start) events).now.words) step }
+    ensures left { (shape : Shape) (places : Places) (actors : ℕ) (words : List ℕ) (start keeper : ℕ) (events : List GuardEvent) (event : GuardEvent) (session : ℕ)
+        → IsOpened shape places actors words start → AreEmpty places words → AreMailboxesKept keeper (opening shape places actors words start) (event ∷ events) → session < places.sessions
+        → ChangesMailbox keeper session event (mailbox_of (guard_run (opening shape places actors words start) events).now.words session) (mailbox_of (guard_run (opening shape places actors words start) (event ∷ events)).now.words session) }
 {}

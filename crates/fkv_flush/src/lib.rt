@@ -16,8 +16,8 @@ pub use answers::{DeviceAnswer, MoveAnswer, ShiftAnswer};
 pub use flushing::Flush;
 pub use in_hand::law_records_in_hand;
 pub use laws::{
-    law_asks_are_answered, law_finds_slots, law_flushed_is_synced, law_guarded, law_nothing_falls,
-    law_of_the_ring, law_seen,
+    law_asks_are_answered, law_finds_slots, law_flushed_is_synced, law_guarded, law_mail,
+    law_nothing_falls, law_of_the_ring, law_seen,
 };
 pub use moving::{MoveOffset, Offset};
 pub use serving::Serve;

@@ -1,6 +1,6 @@
 use crate::{
     DeviceAnswer, Flush, MoveAnswer, MoveOffset, Offset, Serve, ShiftAnswer, ShiftReadOnly,
-    TurnPage, law_asks_are_answered, law_finds_slots, law_flushed_is_synced, law_guarded,
+    TurnPage, law_asks_are_answered, law_finds_slots, law_flushed_is_synced, law_guarded, law_mail,
     law_nothing_falls, law_of_the_ring, law_records_in_hand, law_seen,
 };
 use fkv_base::{Addr, Fault, Key, Shape, Version};
@@ -348,6 +348,7 @@ fn a_mailbox_is_served(rt: HostRuntime) -> Result<(), Fail> {
         mailbox(&plane),
         [2, 281474976710656, 5, 18446744073709551610]
     );
+    law_mail();
     Ok(())
 }
 
