@@ -32,7 +32,7 @@ use Rattle.fkv_flush.proofs.OnDevice.{IsRead, IsKept, read_on, kept_on, opened_k
 use Rattle.fkv_flush.proofs.FlushKnows.{FlushKnows, IsReply, flush_end, synced_to, begins, record_kept_on, knows_on, replied, call_spares, called_on}
 
 -- an address below the limit whose page's frame is not used again has a frame
-opens : (n : GuardNow) (addr : ℕ) → addr < (levels_of n.words).limit → (levels_of n.words).limit ≤ addr + n.places.ring → is_open n addr ≡ true
+pub opens : (n : GuardNow) (addr : ℕ) → addr < (levels_of n.words).limit → (levels_of n.words).limit ≤ addr + n.places.ring → is_open n addr ≡ true
 opens n addr below near =
     let p : nat_lt addr (levels_of n.words).limit ≡ true = grind (arith, nat_tests) in
     let q : nat_le (levels_of n.words).limit (addr + n.places.ring) ≡ true = grind (arith, nat_tests) in

@@ -31,4 +31,5 @@ pub mod OneEvent
 pub mod Parts
 pub mod RaiseRange
 pub mod Slots
+pub mod Still
 pub mod Undecided

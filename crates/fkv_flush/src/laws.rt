@@ -16,7 +16,7 @@ ghost use Rattle.fkv_flush.specs.GuardSeen.{SeenIsSafe};
 ghost use Rattle.fkv_flush.specs.GuardSlots.{FindsSlots};
 ghost use Rattle.fkv_flush.specs.GuardWorld.{GuardWorld, GuardEvent, guard_happens, guard_run, levels};
 ghost use Rattle.fkv_flush.specs.GuardTurned.{GoesRound};
-ghost use Rattle.fkv_flush.specs.GuardFlushed.{OneFlushes, IsSynced, stands, calls_made};
+ghost use Rattle.fkv_flush.specs.GuardFlushed.{OneFlushes, IsSynced, SparesRecord, stands, calls_made};
 ghost use Rattle.fkv_flush.specs.Guarded.{IsOpened, opening, IsCovered, UndecidedIsFresh, GoesBy, seen_of, event_writes, GuardsWrites, GuardsLimit, KeepsSeen};
 
 /// Whatever the order of the machines' steps, and whoever makes them: a step that writes a word of a frame writes one of
@@ -56,13 +56,18 @@ pub fn law_seen()
 /// What is flushed is synced as the records stand, whatever calls of the device fail, where one actor alone flushes: at
 /// every moment a device that was called so shows each record since the opening and below the flushed offset with the
 /// words that stand for it, and so does all that a crash leaves of it; the log before the opening is as it was, as far as
-/// the device reached then. No step changes what stands for a record below the safe read-only offset.
+/// the device reached then. No step changes what stands for a record below the safe read-only offset, and below the tail
+/// only one that writes a word of its frame does.
 pub fn law_flushed_is_synced()
     ensures synced { (shape : Shape) (places : Places) (actors : ℕ) (words : List ℕ) (start keeper : ℕ) (events : List GuardEvent) (opened : List ℕ)
         → IsOpened shape places actors words start → OneFlushes keeper events
         → IsSynced shape opened (calls_made (opening shape places actors words start) events) (stands (opening shape places actors words start) events) start (levels (guard_run (opening shape places actors words start) events)).flushed }
     ensures steady { (shape : Shape) (places : Places) (actors : ℕ) (words : List ℕ) (start : ℕ) (events : List GuardEvent) (event : GuardEvent) (addr : ℕ) (word : RecordWord)
         → IsOpened shape places actors words start → addr < (levels (guard_run (opening shape places actors words start) events)).safe_read_only
+        → stands (opening shape places actors words start) (event ∷ events) addr word ≡ stands (opening shape places actors words start) events addr word }
+    ensures still { (shape : Shape) (places : Places) (actors : ℕ) (words : List ℕ) (start : ℕ) (events : List GuardEvent) (event : GuardEvent) (addr : ℕ) (word : RecordWord)
+        → IsOpened shape places actors words start → addr < (levels (guard_run (opening shape places actors words start) events)).tail
+        → SparesRecord (guard_run (opening shape places actors words start) events).now event addr word
         → stands (opening shape places actors words start) (event ∷ events) addr word ≡ stands (opening shape places actors words start) events addr word }
 {}
 
