@@ -65,7 +65,7 @@ use Rattle.fkv_flush.specs.GuardAsks.{move_now, shift_now, turn_now}
 use Rattle.fkv_flush.specs.GuardLevels.{levels_of}
 use Rattle.fkv_flush.specs.GuardCalm.{actor_of, IsOther, AreOther, IsCalm}
 use Rattle.fkv_flush.specs.GuardWorld.{Actor, Work, Rests, Reserves, Fills, Invalidates, Shifts, Turns, Flushes, Serves, GuardWorld, GuardEvent, Moves, Calls, Reads, Updates, RaisesReadOnly, RaisesFor, Changes, work_step, is_idle, is_guarded, is_stored, may_update, epoch_world, levels, guard_happens, guard_run}
-use Rattle.fkv_flush.proofs.GuardEpochs.{claimed_words}
+use Rattle.fkv_flush.proofs.GuardMachines.{claimed_same}
 use Rattle.fkv_flush.proofs.GuardSound.{IsSound, MoveKnows, machine_at}
 use Rattle.fkv_flush.proofs.GuardWorks.{truth, Known}
 use Rattle.fkv_flush.proofs.GuardMoves.{limit_fits}
@@ -251,7 +251,7 @@ machine_calm w a d sound got = by d got
     by (Refreshes step) its = asked_calm w.now.sessions a w.now.words (refresh_ask a step) enough (refresh_calm w.now.sessions a w.now.words step)
     by (Leaves step) its = asked_calm w.now.sessions a w.now.words (leave_ask a step) enough (leave_calm w.now.sessions a w.now.words step)
     by (Scans step) its = asked_calm w.now.sessions a w.now.words (scan_ask step) enough (scan_calm w.now.sessions a w.now.words step)
-    by (Claims step) its = rw (claimed_words (words_after w.now.words (claim_ask step)) w.now.actions (claim_next step _)) (asked_calm w.now.sessions a w.now.words (claim_ask step) enough (claim_calm w a step sound its))
+    by (Claims step) its = rw (claimed_same (words_after w.now.words (claim_ask step)) w.now.actions (claim_next step _)) (asked_calm w.now.sessions a w.now.words (claim_ask step) enough (claim_calm w a step sound its))
     by (Raises step) its = asked_calm w.now.sessions a w.now.words (raise_ask step) enough (raise_calm w a step sound its)
     by (HasRaised slot epoch) its = same_calm w.now.sessions (AllBut a) w.now.words
     by (Arms step) its = asked_calm w.now.sessions a w.now.words (arm_ask step) enough (arm_calm w a step sound its)

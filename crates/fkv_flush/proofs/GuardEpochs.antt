@@ -50,7 +50,7 @@ received_words : (words : List ℕ) (actions : List (Option Action)) (slot epoch
 received_words words actions slot epoch safe None = refl
 received_words words actions slot epoch safe (Some x) = refl
 
-pub claimed_words : (words : List ℕ) (actions : List (Option Action)) (step : Claiming) → (claimed words actions step).words ≡ words
+claimed_words : (words : List ℕ) (actions : List (Option Action)) (step : Claiming) → (claimed words actions step).words ≡ words
 claimed_words words actions claim.AtRest = refl
 claimed_words words actions (claim.MeetsSlot slot safe) = refl
 claimed_words words actions (claim.LoadsSafe slot word) = refl
