@@ -54,20 +54,26 @@ impl Arm {
     }
 
     /// Goes on with the reply to its ask.
-    #[tactic(auto, unfolding(crate::specs::Arming::arm_ask, crate::specs::Arming::arm_next))]
+    #[tactic(auto, unfolding(crate::specs::Arming::arm_next))]
     pub fn drive(&mut self, _reply: u64) -> Ask<()>
         ensures next { self.new ≡ record { step = arm_next self.old.step } }
         ensures ask { result ≡ arm_ask (arm_next self.old.step) }
     {
+        self.step = match self.step {
+            Arming::PutsAction(slot, epoch) => Arming::StoresEpoch(slot, epoch),
+            Arming::StoresEpoch(_, _) | Arming::AtRest => Arming::AtRest,
+        };
+        self.ask()
+    }
+
+    /// What it asks now. The ask that puts the action went out at the start.
+    #[tactic(auto, unfolding(crate::specs::Arming::arm_ask))]
+    pub fn ask(&self) -> Ask<()>
+        ensures { result ≡ arm_ask self.now.step }
+    {
         match self.step {
-            Arming::PutsAction(slot, epoch) => {
-                self.step = Arming::StoresEpoch(slot, epoch);
-                Ask::Store(drain_place(slot), epoch + 2)
-            }
-            Arming::StoresEpoch(_, _) | Arming::AtRest => {
-                self.step = Arming::AtRest;
-                Ask::Done(())
-            }
+            Arming::StoresEpoch(slot, epoch) => Ask::Store(drain_place(slot), epoch + 2),
+            Arming::PutsAction(_, _) | Arming::AtRest => Ask::Done(()),
         }
     }
 }

@@ -118,8 +118,9 @@ impl Raise {
         self.ask()
     }
 
+    /// What it asks now.
     #[tactic(auto, unfolding(crate::specs::Raising::raise_ask))]
-    fn ask(&self) -> Ask<RaiseAnswer>
+    pub fn ask(&self) -> Ask<RaiseAnswer>
         ensures { result ≡ raise_ask self.now.step }
     {
         match self.step {
