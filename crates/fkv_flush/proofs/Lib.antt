@@ -1,6 +1,5 @@
 pub mod FlushKnows
 pub mod Guard
-pub mod GuardAnswered
 pub mod GuardCounts
 pub mod GuardMachines
 pub mod GuardEpochs
@@ -26,4 +25,3 @@ pub mod GuardWrites
 pub mod InHand
 pub mod OnDevice
 pub mod Parts
-pub mod RaiseRange
