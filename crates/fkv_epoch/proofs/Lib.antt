@@ -11,4 +11,5 @@ pub mod RaiseSteps
 pub mod Happens
 pub mod Outer
 pub mod Runs
+pub mod Protected
 pub mod Facts
