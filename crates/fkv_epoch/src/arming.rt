@@ -42,7 +42,7 @@ impl Arm {
         }
     }
 
-    /// The first ask puts the action into the slot, 0 to 7.
+    /// The first ask puts the action into the slot.
     pub fn start(&mut self, slot: usize, epoch: u64, action: Action) -> Ask<()>
         requires slot { slot < drain_slots }
         requires epoch { epoch + 2 < 2 ^ 64 }
@@ -54,7 +54,7 @@ impl Arm {
     }
 
     /// Goes on with the reply to its ask.
-    #[tactic(auto, unfolding(crate::specs::Arming::arm_next))]
+    #[tactic(auto, unfolding(crate::specs::Arming::arm_ask, crate::specs::Arming::arm_next))]
     pub fn drive(&mut self, _reply: u64) -> Ask<()>
         ensures next { self.new ≡ record { step = arm_next self.old.step } }
         ensures ask { result ≡ arm_ask (arm_next self.old.step) }
@@ -66,14 +66,14 @@ impl Arm {
         self.ask()
     }
 
-    /// What it asks now. The ask that puts the action went out at the start.
+    /// What it asks now. The ask that puts the action had it, and so is never made again.
     #[tactic(auto, unfolding(crate::specs::Arming::arm_ask))]
     pub fn ask(&self) -> Ask<()>
         ensures { result ≡ arm_ask self.now.step }
     {
         match self.step {
+            Arming::AtRest | Arming::PutsAction(_, _) => Ask::Done(()),
             Arming::StoresEpoch(slot, epoch) => Ask::Store(drain_place(slot), epoch + 2),
-            Arming::PutsAction(_, _) | Arming::AtRest => Ask::Done(()),
         }
     }
 }

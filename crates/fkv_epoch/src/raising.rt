@@ -66,7 +66,7 @@ impl Raise {
         ensures ask { result ≡ raise_ask LoadsEpoch }
     {
         self.step = Raising::LoadsEpoch;
-        Ask::Load(SharedWord::Epoch.place())
+        self.ask()
     }
 
     /// Goes on to raise the epoch, where a slot is held; else it stays where it is.

@@ -18,7 +18,7 @@ use Rattle.fkv_plane.specs.Passing.{passed, is_done}
 use Rattle.fkv_plane.proofs.Shown.{passed_words, passed_reply}
 use Rattle.fkv_log.specs.Moving.{Mover, mover, move_ask, move_next, move_next_ask, moving_ask}
 use Rattle.fkv_log.specs.Shifting.{shift_at, shifting_ask, shifting_next, shift_led, mutable_start}
-use Rattle.fkv_log.proofs.Asks.{move_goes_on}
+use Rattle.fkv_log.proofs.Shown.{move_goes_on}
 use Rattle.fkv_flush.specs.GuardLevels.{levels_of}
 use Rattle.fkv_flush.specs.GuardWorld.{Actor, Shifts, GuardNow, GuardWorld, put_near, shifted}
 use Rattle.fkv_flush.proofs.GuardSound.{IsSound, Waits}

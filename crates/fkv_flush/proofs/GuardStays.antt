@@ -4,7 +4,7 @@ use Rattle.std.specs.Prelude.{Option, Some, None, slice_get, slice_set, nat_le, 
 use Rattle.fkv_plane.specs.Asked.{word_at}
 use Rattle.fkv_epoch.specs.declared.raising.Raising.TheVariants as raise
 use Rattle.fkv_epoch.specs.EpochWorld.{EpochMachine, Raises, is_at_rest}
-use Rattle.fkv_epoch.proofs.Items.{item_written, item_spared, same_or, some_same}
+use Rattle.fkv_epoch.proofs.Shown.{item_written, item_spared, same_or, some_same}
 use Rattle.fkv_flush.specs.GuardWorld.{Actor, Work, Rests, Reserves, Fills, Invalidates, Shifts, Turns, Flushes, Serves, GuardTask, ToDo, ToReserve, ToFill, ToInvalidate, ToShift, ToTurnPage, ToFlush, ToServe, GuardNow, GuardWorld, GuardEvent, Begins, Resumes, Moves, Calls, Reads, Sees, Publishes, Updates, RaisesReadOnly, RaisesFor, Changes, CallsElse, guard_happens, is_idle, is_none, is_guarded, is_stored, may_update, may_work, epoch_step, work_step, started, begun, resumed, moved, called, called_by, read, read_by, seen_again, published, updated, read_only_raised, raised_for, raised_with, changed}
 use Rattle.fkv_flush.proofs.GuardWorks.{truth}
 

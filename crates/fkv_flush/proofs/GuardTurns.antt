@@ -20,7 +20,7 @@ use Rattle.fkv_plane.specs.Passing.{passed, is_done}
 use Rattle.fkv_plane.proofs.Shown.{passed_words, passed_reply}
 use Rattle.fkv_log.specs.Moving.{Mover, mover, move_ask, move_next, move_next_ask, moving_ask}
 use Rattle.fkv_log.specs.Turning.{turn_at, turning_ask, turning_next, turn_led, frame_end, limit_after, page_wanted}
-use Rattle.fkv_log.proofs.Asks.{move_goes_on}
+use Rattle.fkv_log.proofs.Shown.{move_goes_on}
 use Rattle.fkv_flush.specs.GuardLevels.{Levels, levels_of}
 use Rattle.fkv_flush.specs.GuardWorld.{Actor, Turns, GuardNow, GuardWorld, put_near, turned}
 use Rattle.fkv_flush.proofs.GuardSound.{IsSound}

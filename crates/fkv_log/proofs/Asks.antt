@@ -1,7 +1,9 @@
--- Each machine is at rest, or it asks for something; and what it asks next, short of its end, is what the state asks that it comes to.
+-- A machine is at rest, or it asks for something; and what it asks next, short of its end, is what the state asks that it comes to. A load that
+-- has header and key pauses besides.
 use Rattle.std.proofs.Common.{◌≡◌, ℕ, ◌⊎◌, ◌/◌, refl, sym, inl, inr, ◌∙◌, ap, Bool, true, false}
-use Rattle.std.specs.Prelude.{nat_lt, nat_le, ⊤}
+use Rattle.std.specs.Prelude.{nat_lt, nat_le}
 use Rattle.fkv_base.specs.Limits.{last_epoch}
+use Rattle.fkv_base.specs.declared.numbers.Addr.{Addr}
 use Rattle.fkv_base.specs.declared.shapes.Shape.{Shape}
 use Rattle.fkv_plane.specs.declared.asks.Ask.{Ask}
 use Rattle.fkv_plane.specs.declared.asks.Ask.TheVariants.{Done}
@@ -52,31 +54,27 @@ truth false = inr refl
 never : {X : Type 0} → true ≡ false → X
 never e = cc
 
-pub reserve_rests_or_asks : (step : Reserving) → (step ≡ reserve.AtRest) ⊎ (is_done (reserve_ask step) ≡ false)
+pub reserve_asks : (step : Reserving) → (step ≡ reserve.AtRest) ⊎ (is_done (reserve_ask step) ≡ false)
 unfolding reserve_ask
-reserve_rests_or_asks reserve.AtRest = inl refl
-reserve_rests_or_asks step = inr refl
+reserve_asks reserve.AtRest = inl refl
+reserve_asks step = inr refl
 
-pub fill_rests_or_asks : (places : Places) (step : Filling) → (step ≡ fill.AtRest) ⊎ (is_done (fill_ask places step) ≡ false)
+pub fill_asks : (places : Places) (step : Filling) → (step ≡ fill.AtRest) ⊎ (is_done (fill_ask places step) ≡ false)
 unfolding fill_ask
-fill_rests_or_asks places fill.AtRest = inl refl
-fill_rests_or_asks places step = inr refl
+fill_asks places fill.AtRest = inl refl
+fill_asks places step = inr refl
 
-pub invalidate_rests_or_asks : (places : Places) (step : Invalidating) → (step ≡ invalidate.AtRest) ⊎ (is_done (invalidate_ask places step) ≡ false)
+pub invalidate_asks : (places : Places) (step : Invalidating) → (step ≡ invalidate.AtRest) ⊎ (is_done (invalidate_ask places step) ≡ false)
 unfolding invalidate_ask
-invalidate_rests_or_asks places invalidate.AtRest = inl refl
-invalidate_rests_or_asks places step = inr refl
+invalidate_asks places invalidate.AtRest = inl refl
+invalidate_asks places step = inr refl
 
--- it has header and key, and waits for its actor
-abbrev pub HasMet : Loading → Type 0
-HasMet (load.HasKey addr header key) = ⊤
-HasMet step = ⊥
-
-pub load_rests_or_asks : (places : Places) (step : Loading) → (step ≡ load.AtRest) ⊎ (HasMet step ⊎ (is_done (load_ask places step) ≡ false))
+-- a load that has header and key waits for its actor
+pub load_asks : (places : Places) (step : Loading) → ((step ≡ load.AtRest) ⊎ ((addr : Addr) × (header : ℕ) × (key : ℕ) × (step ≡ load.HasKey addr header key))) ⊎ (is_done (load_ask places step) ≡ false)
 unfolding load_ask
-load_rests_or_asks places load.AtRest = inl refl
-load_rests_or_asks places (load.HasKey addr header key) = inr (inl tt)
-load_rests_or_asks places step = inr (inr refl)
+load_asks places load.AtRest = inl (inl refl)
+load_asks places (load.HasKey addr header key) = inl (inr (addr, header, key, refl))
+load_asks places step = inr refl
 
 -- a raise that is under way asks what its state asks
 raise_goes_on : (step : Raising) (reply : ℕ) → is_done (raise_next_ask step reply) ≡ false → raise_next_ask step reply ≡ raise_ask (raise_next step reply)
@@ -104,17 +102,17 @@ unfolding arm_led moving_ask
 arm_led_asks raising arming (Done inner) h = inl refl
 arm_led_asks raising arming ask h = inr (passed_done (arm_ask arming) moved.Through ∙ ap is_done (sym h))
 
-moving_rests_or_asks : (step : Moving) (raising : Raising) (arming : Arming) (reply : ℕ) → MoveRestsOrAsks (moving_next step raising arming reply)
+moving_asks : (step : Moving) (raising : Raising) (arming : Arming) (reply : ℕ) → MoveRestsOrAsks (moving_next step raising arming reply)
 unfolding moving_next
-moving_rests_or_asks move.AtRest raising arming reply = inl refl
-moving_rests_or_asks (move.Raises target) raising arming reply = raise_led_asks target (raise_next raising reply) arming (raise_next_ask raising reply) (raise_goes_on raising reply)
-moving_rests_or_asks (move.MovesOffset target) raising arming reply = raise_led_asks target (raise_on raising) arming (raise_ask (raise_on raising)) (λ h. refl)
-moving_rests_or_asks (move.Puts target slot) raising arming reply = arm_led_asks raising (arm_next arming) (arm_ask (arm_next arming)) refl
-moving_rests_or_asks move.Arms raising arming reply = arm_led_asks raising (arm_next arming) (arm_ask (arm_next arming)) refl
+moving_asks move.AtRest raising arming reply = inl refl
+moving_asks (move.Raises target) raising arming reply = raise_led_asks target (raise_next raising reply) arming (raise_next_ask raising reply) (raise_goes_on raising reply)
+moving_asks (move.MovesOffset target) raising arming reply = raise_led_asks target (raise_on raising) arming (raise_ask (raise_on raising)) (λ h. refl)
+moving_asks (move.Puts target slot) raising arming reply = arm_led_asks raising (arm_next arming) (arm_ask (arm_next arming)) refl
+moving_asks move.Arms raising arming reply = arm_led_asks raising (arm_next arming) (arm_ask (arm_next arming)) refl
 
 -- after each reply a move is at rest, or it asks
-pub move_rests_or_asks : (m : Mover) (reply : ℕ) → ((move_next m reply).step ≡ move.AtRest) ⊎ (is_done (move_ask (move_next m reply)) ≡ false)
-move_rests_or_asks m reply = moving_rests_or_asks m.step m.raising m.arming reply
+pub move_asks : (m : Mover) (reply : ℕ) → ((move_next m reply).step ≡ move.AtRest) ⊎ (is_done (move_ask (move_next m reply)) ≡ false)
+move_asks m reply = moving_asks m.step m.raising m.arming reply
 
 -- as it begins it asks
 pub move_begun_asks : (m : Mover) (offset : Offset) (to : ℕ) → is_done (move_ask (move_begun m offset to)) ≡ false
@@ -147,19 +145,19 @@ unfolding shift_led shifting_ask
 shift_led_asks tail m (Done inner) h = inl refl
 shift_led_asks tail m ask h = inr (passed_done (move_ask m) (answer.Through (record { 0 = tail })) ∙ ap is_done (sym (h refl)))
 
-shifting_rests_or_asks : (shape : Shape) (step : Shifting) (m : Mover) (reply : ℕ) → ShiftRestsOrAsks (shifting_next shape step m reply)
+shifting_asks : (shape : Shape) (step : Shifting) (m : Mover) (reply : ℕ) → ShiftRestsOrAsks (shifting_next shape step m reply)
 unfolding shifting_next shifting_ask passed moving_ask raise_ask
-shifting_rests_or_asks shape shift.AtRest m reply = inl refl
-shifting_rests_or_asks shape shift.LoadsTail m reply = inr refl
-shifting_rests_or_asks shape (shift.LoadsReadOnly tail) m reply = elim (truth (nat_lt reply (mutable_start shape.page shape.mutable tail))) [
+shifting_asks shape shift.AtRest m reply = inl refl
+shifting_asks shape shift.LoadsTail m reply = inr refl
+shifting_asks shape (shift.LoadsReadOnly tail) m reply = elim (truth (nat_lt reply (mutable_start shape.page shape.mutable tail))) [
   | inl e ↦ rw e (inr refl)
   | inr e ↦ rw e (inl refl)
 ]
-shifting_rests_or_asks shape (shift.Moves tail) m reply = shift_led_asks tail (move_next m reply) (move_next_ask m reply) (move_goes_on m reply)
+shifting_asks shape (shift.Moves tail) m reply = shift_led_asks tail (move_next m reply) (move_next_ask m reply) (move_goes_on m reply)
 
 -- after each reply a shift is at rest, or it asks
-pub shift_rests_or_asks : (shape : Shape) (s : ShiftState) (reply : ℕ) → ((shift_next shape s reply).step ≡ shift.AtRest) ⊎ (is_done (shift_ask (shift_next shape s reply)) ≡ false)
-shift_rests_or_asks shape s reply = shifting_rests_or_asks shape s.step s.mover reply
+pub shift_asks : (shape : Shape) (s : ShiftState) (reply : ℕ) → ((shift_next shape s reply).step ≡ shift.AtRest) ⊎ (is_done (shift_ask (shift_next shape s reply)) ≡ false)
+shift_asks shape s reply = shifting_asks shape s.step s.mover reply
 
 -- as it begins it asks
 pub shift_begun_asks : is_done (shift_ask shift_begun) ≡ false
@@ -197,31 +195,31 @@ unfolding turning_ask
 frame_taken_asks shape form.Whole end m = inr refl
 frame_taken_asks shape form.OpensOnly end m = inl refl
 
-turning_rests_or_asks : (shape : Shape) (step : Turning) (m : Mover) (reply : ℕ) → TurnRestsOrAsks shape (turning_next shape step m reply)
+turning_asks : (shape : Shape) (step : Turning) (m : Mover) (reply : ℕ) → TurnRestsOrAsks shape (turning_next shape step m reply)
 unfolding turning_next turning_ask passed moving_ask raise_ask
-turning_rests_or_asks shape turn.AtRest m reply = inl refl
-turning_rests_or_asks shape (turn.LoadsLimit form tail) m reply = elim (truth (nat_lt (reply / shape.page) (page_wanted shape tail))) [
+turning_asks shape turn.AtRest m reply = inl refl
+turning_asks shape (turn.LoadsLimit form tail) m reply = elim (truth (nat_lt (reply / shape.page) (page_wanted shape tail))) [
   | inl e ↦ rw e (inr refl)
   | inr e ↦ rw e (inl refl)
 ]
-turning_rests_or_asks shape (turn.LoadsClosed form limit) m reply = elim (truth (nat_le (frame_end shape limit) reply)) [
+turning_asks shape (turn.LoadsClosed form limit) m reply = elim (truth (nat_le (frame_end shape limit) reply)) [
   | inl e ↦ rw e (inr refl)
   | inr e ↦ rw e (frame_taken_asks shape form (frame_end shape limit) m)
 ]
-turning_rests_or_asks shape (turn.RaisesLimit limit) m reply = inl refl
-turning_rests_or_asks shape (turn.LoadsHead end) m reply = elim (truth (nat_lt reply end)) [
+turning_asks shape (turn.RaisesLimit limit) m reply = inl refl
+turning_asks shape (turn.LoadsHead end) m reply = elim (truth (nat_lt reply end)) [
   | inl e ↦ rw e (inr refl)
   | inr e ↦ rw e (inl refl)
 ]
-turning_rests_or_asks shape (turn.LoadsFlushed end) m reply = elim (truth (nat_le end reply)) [
+turning_asks shape (turn.LoadsFlushed end) m reply = elim (truth (nat_le end reply)) [
   | inl e ↦ rw e (inr refl)
   | inr e ↦ rw e (inl refl)
 ]
-turning_rests_or_asks shape turn.Moves m reply = turn_led_asks shape (move_next m reply) (move_next_ask m reply) (move_goes_on m reply)
+turning_asks shape turn.Moves m reply = turn_led_asks shape (move_next m reply) (move_next_ask m reply) (move_goes_on m reply)
 
 -- after each reply a turn is at rest, or it asks
-pub turn_rests_or_asks : (shape : Shape) (s : TurnState) (reply : ℕ) → ((turn_next shape s reply).step ≡ turn.AtRest) ⊎ (is_done (turn_ask shape (turn_next shape s reply)) ≡ false)
-turn_rests_or_asks shape s reply = turning_rests_or_asks shape s.step s.mover reply
+pub turn_asks : (shape : Shape) (s : TurnState) (reply : ℕ) → ((turn_next shape s reply).step ≡ turn.AtRest) ⊎ (is_done (turn_ask shape (turn_next shape s reply)) ≡ false)
+turn_asks shape s reply = turning_asks shape s.step s.mover reply
 
 -- as it begins it asks
 pub turn_begun_asks : (shape : Shape) (form : TurnForm) (tail : ℕ) → is_done (turn_ask shape (turn_begun form tail)) ≡ false
