@@ -8,7 +8,7 @@ use Rattle.fkv_plane.specs.declared.places.RecordWord.TheVariants as rec
 use Rattle.fkv_plane.specs.Places.{shared_place, record_place}
 use Rattle.fkv_plane.specs.Asked.{word_at}
 use Rattle.fkv_epoch.specs.EpochWorld.{EpochMachine, Sight, is_at_rest, resumed_machine}
-use Rattle.fkv_epoch.proofs.Items.{item_written}
+use Rattle.fkv_epoch.proofs.Shown.{item_written}
 use Rattle.fkv_flush.specs.declared.flushing.Flushing.{Flushing}
 use Rattle.fkv_flush.specs.declared.serving.Serving.{Serving}
 use Rattle.fkv_flush.specs.Flushing.{flush_done, bytes_done}

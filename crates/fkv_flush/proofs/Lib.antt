@@ -2,7 +2,6 @@ mod Calm
 mod FlushKnows
 mod Follows
 mod Guard
-mod GuardAnswered
 mod GuardCounts
 mod GuardMachines
 mod GuardEpochs
@@ -31,7 +30,6 @@ mod OnDevice
 mod OneEvent
 mod OuterPlaces
 mod Parts
-mod RaiseRange
 pub mod Shown
 mod Slots
 mod SoFar
