@@ -44,29 +44,30 @@ use Rattle.fkv_epoch.specs.Claiming.{claim_ask, claim_next}
 use Rattle.fkv_epoch.specs.Raising.{raise_ask}
 use Rattle.fkv_epoch.specs.Arming.{arm_ask}
 use Rattle.fkv_epoch.specs.EpochWorld.{EpochMachine, Protects, Refreshes, Leaves, Scans, Claims, Raises, HasRaised, Arms, EpochWorld, machine_step}
-use Rattle.fkv_epoch.proofs.Items.{word_spared, word_written, same_or, some_same}
-use Rattle.fkv_epoch.proofs.Facts.{epoch_is_small}
-use Rattle.fkv_epoch.proofs.Sound as epochs_sound
-use Rattle.fkv_flush.specs.declared.moving.Offset.{Offset}
-use Rattle.fkv_flush.specs.declared.moving.Offset.TheVariants.{ReadOnly, Head}
-use Rattle.fkv_flush.specs.declared.moving.Moving.{Moving}
-use Rattle.fkv_flush.specs.declared.moving.Moving.TheVariants as move
-use Rattle.fkv_flush.specs.declared.shifting.Shifting.TheVariants as shift
-use Rattle.fkv_flush.specs.declared.turning.Turning.TheVariants as turn
+use Rattle.fkv_epoch.proofs.Shown.{word_spared, word_written, same_or, some_same}
+use Rattle.fkv_epoch.proofs.Shown.{epoch_is_small}
+use Rattle.fkv_epoch.proofs.Shown as epochs_sound
+use Rattle.fkv_log.specs.declared.moving.Offset.{Offset}
+use Rattle.fkv_log.specs.declared.moving.Offset.TheVariants.{ReadOnly, Head}
+use Rattle.fkv_log.specs.declared.moving.Moving.{Moving}
+use Rattle.fkv_log.specs.declared.moving.Moving.TheVariants as move
+use Rattle.fkv_log.specs.declared.shifting.Shifting.{Shifting}
+use Rattle.fkv_log.specs.declared.shifting.Shifting.TheVariants as shift
+use Rattle.fkv_log.specs.declared.turning.Turning.{Turning}
+use Rattle.fkv_log.specs.declared.turning.Turning.TheVariants as turn
 use Rattle.fkv_flush.specs.declared.flushing.Flushing.TheVariants as flush
 use Rattle.fkv_flush.specs.declared.serving.Serving.TheVariants as serve
-use Rattle.fkv_flush.specs.Moving.{offset_place}
-use Rattle.fkv_flush.specs.Passing.{passed}
-use Rattle.fkv_flush.specs.Shifting.{shift_ask}
-use Rattle.fkv_flush.specs.Turning.{turn_ask}
+use Rattle.fkv_log.specs.Moving.{Mover, offset_place, move_ask, moving_ask}
+use Rattle.fkv_plane.specs.Passing.{passed}
+use Rattle.fkv_log.specs.Shifting.{shift_ask, shifting_ask}
+use Rattle.fkv_log.specs.Turning.{turn_ask, turning_ask}
 use Rattle.fkv_flush.specs.Flushing.{flush_ask}
 use Rattle.fkv_flush.specs.Serving.{serve_ask}
-use Rattle.fkv_flush.specs.GuardAsks.{move_now, shift_now, turn_now}
 use Rattle.fkv_flush.specs.GuardLevels.{levels_of}
 use Rattle.fkv_flush.specs.GuardCalm.{actor_of, IsOther, AreOther, IsCalm}
 use Rattle.fkv_flush.specs.GuardWorld.{Actor, Work, Rests, Reserves, Fills, Invalidates, Shifts, Turns, Flushes, Serves, GuardWorld, GuardEvent, Moves, Calls, Reads, Updates, RaisesReadOnly, RaisesFor, Changes, work_step, is_idle, is_guarded, is_stored, may_update, epoch_world, levels, guard_happens, guard_run}
-use Rattle.fkv_flush.proofs.GuardEpochs.{claimed_words}
-use Rattle.fkv_flush.proofs.GuardSound.{IsSound, MoveKnows, machine_at}
+use Rattle.fkv_flush.proofs.GuardMachines.{claimed_same}
+use Rattle.fkv_flush.proofs.GuardSound.{IsSound, MoveKnows, ShiftKnows, TurnKnows, machine_at}
 use Rattle.fkv_flush.proofs.GuardWorks.{truth, Known}
 use Rattle.fkv_flush.proofs.GuardMoves.{limit_fits}
 use Rattle.fkv_flush.proofs.GuardStays.{SameStore, same_store}
@@ -251,7 +252,7 @@ machine_calm w a d sound got = by d got
     by (Refreshes step) its = asked_calm w.now.sessions a w.now.words (refresh_ask a step) enough (refresh_calm w.now.sessions a w.now.words step)
     by (Leaves step) its = asked_calm w.now.sessions a w.now.words (leave_ask a step) enough (leave_calm w.now.sessions a w.now.words step)
     by (Scans step) its = asked_calm w.now.sessions a w.now.words (scan_ask step) enough (scan_calm w.now.sessions a w.now.words step)
-    by (Claims step) its = rw (claimed_words (words_after w.now.words (claim_ask step)) w.now.actions (claim_next step _)) (asked_calm w.now.sessions a w.now.words (claim_ask step) enough (claim_calm w a step sound its))
+    by (Claims step) its = rw (claimed_same (words_after w.now.words (claim_ask step)) w.now.actions (claim_next step _)) (asked_calm w.now.sessions a w.now.words (claim_ask step) enough (claim_calm w a step sound its))
     by (Raises step) its = asked_calm w.now.sessions a w.now.words (raise_ask step) enough (raise_calm w a step sound its)
     by (HasRaised slot epoch) its = same_calm w.now.sessions (AllBut a) w.now.words
     by (Arms step) its = asked_calm w.now.sessions a w.now.words (arm_ask step) enough (arm_calm w a step sound its)
@@ -278,10 +279,12 @@ offset_low ReadOnly = omega arith
 offset_low Head = omega arith
 
 move_calm : (w : GuardWorld) (a : ℕ) (x : Actor) (step : Moving) (raising : Raising) (arming : Arming) → IsSound w → slice_get w.now.actors a ≡ Some x → MoveKnows (levels_of w.now.words) x.machine step raising arming
-    → AsksCalmly w.now.places.sessions a w.now.words (move_now step raising arming)
+    → AsksCalmly w.now.places.sessions a w.now.words (moving_ask step raising arming)
+unfolding moving_ask
 move_calm w a x move.AtRest raising arming sound got k = tt
 move_calm w a x (move.Raises target) raising arming sound got k = calm_passed w.now.places.sessions a w.now.words (raise_ask raising) _ (raise_calm (epoch_world w) a raising sound.epochs (machine_at w.now.actors a x got ∙ ap Some k.0))
 move_calm w a x (move.MovesOffset target) raising arming sound got k = offset_low target.offset
+move_calm w a x (move.Puts target slot) raising arming sound got k = tt
 move_calm w a x move.Arms raising arm.AtRest sound got k = absurd k
 move_calm w a x move.Arms raising (arm.PutsAction slot c) sound got k = absurd k
 move_calm w a x move.Arms raising (arm.StoresEpoch slot c) sound got k = calm_passed w.now.places.sessions a w.now.words (arm_ask (arm.StoresEpoch slot c)) _ (arm_calm (epoch_world w) a (arm.StoresEpoch slot c) sound.epochs (machine_at w.now.actors a x got ∙ ap Some k))
@@ -303,20 +306,26 @@ module _ (w : GuardWorld) (a : ℕ) (x : Actor) (sound : IsSound w) (got : slice
   still : CalmTo w.now.words
   still = same_calm S (AllBut a) w.now.words
 
+  shift_calm : (step : Shifting) (m : Mover) → ShiftKnows (levels_of w.now.words) x.machine step m → AsksCalmly S a w.now.words (shifting_ask step m)
+  unfolding shifting_ask
+  shift_calm (shift.Moves tail) m k = calm_passed S a w.now.words (move_ask m) _ (move_calm w a x m.step m.raising m.arming sound got k)
+  shift_calm step m k = tt
+
+  turn_calm : (step : Turning) (m : Mover) → TurnKnows w.now.shape (levels_of w.now.words) x.machine step m → AsksCalmly S a w.now.words (turning_ask w.now.shape step m)
+  unfolding turning_ask
+  turn_calm (turn.RaisesLimit limit) m k = inr (omega arith, let h = (limit_fits w.now.shape limit (page_some w sound)).0 in omega (arith, h))
+  turn_calm turn.Moves m k = calm_passed S a w.now.words (move_ask m) _ (move_calm w a x m.step m.raising m.arming sound got k)
+  turn_calm step m k = tt
+
   -- one ask of its work
   work_calm : (work : Work) → x.work ≡ work → CalmTo (work_step w.now a x work).words
-  unfolding shift_ask turn_ask flush_ask serve_ask
+  unfolding flush_ask serve_ask
   work_calm Rests its = machine_calm (epoch_world w) a x.machine sound.epochs (machine_at w.now.actors a x got)
   work_calm (Reserves step) its = asks (reserve_ask step) (reserve_calm S a w.now.words step)
   work_calm (Fills step) its = asks (fill_ask w.now.places step) (fill_calm w.now.places a w.now.words step)
   work_calm (Invalidates step) its = asks (invalidate_ask w.now.places step) (invalidate_calm w.now.places a w.now.words step)
-  work_calm (Shifts (shift.Moves tail) m) its =
-      asks (shift_now (shift.Moves tail) m)
-      (calm_passed S a w.now.words (move_now m.step m.raise.step m.arm.step) _ (move_calm w a x m.step m.raise.step m.arm.step sound got (subst (Known w a x) its (sound.knows a x got))))
-  work_calm (Shifts step m) its = asks (shift_now step m) tt
-  work_calm (Turns (turn.RaisesLimit limit) m) its = asks (turn_now w.now.shape (turn.RaisesLimit limit) m) (inr (omega arith, let h = (limit_fits w.now.shape limit (page_some w sound)).0 in omega (arith, h)))
-  work_calm (Turns turn.Moves m) its = asks (turn_now w.now.shape turn.Moves m) (move_calm w a x m.step m.raise.step m.arm.step sound got (subst (Known w a x) its (sound.knows a x got)))
-  work_calm (Turns step m) its = asks (turn_now w.now.shape step m) tt
+  work_calm (Shifts s) its = asks (shift_ask s) (shift_calm s.step s.mover (subst (Known w a x) its (sound.knows a x got)))
+  work_calm (Turns s) its = asks (turn_ask w.now.shape s) (turn_calm s.step s.mover (subst (Known w a x) its (sound.knows a x got)))
   work_calm (Flushes (flush.RaisesFlushed end) bytes) its = asks (flush_ask w.now.places (flush.RaisesFlushed end)) (omega arith)
   work_calm (Flushes step bytes) its = asks (flush_ask w.now.places step) tt
   work_calm (Serves (serve.StoresHeader session mail)) its = asks (serve_ask (serve.StoresHeader session mail)) (mail_aside S a session 7 (omega arith) (omega arith))

@@ -7,7 +7,7 @@ use Rattle.fkv_base.specs.declared.shapes.Shape.{Shape}
 use Rattle.fkv_plane.specs.declared.places.Places.{Places}
 use Rattle.fkv_plane.specs.declared.places.SessionWord.TheVariants as own
 use Rattle.fkv_plane.specs.Places.{session_place}
-use Rattle.fkv_epoch.proofs.Items.{same_or, some_same}
+use Rattle.fkv_epoch.proofs.Shown.{same_or, some_same}
 use Rattle.fkv_flush.specs.declared.serving.Mail.{Mail}
 use Rattle.fkv_flush.specs.declared.serving.Serving.{Serving}
 use Rattle.fkv_flush.specs.declared.serving.Serving.TheVariants as serve
@@ -252,8 +252,8 @@ module _ (keeper : ℕ) (reads : List MailRead) (w : GuardWorld) (sound : IsSoun
       by (Reserves step) its = inr (inr (ap is_serve its))
       by (Fills step) its = inr (inr (ap is_serve its))
       by (Invalidates step) its = inr (inr (ap is_serve its))
-      by (Shifts step m) its = inr (inr (ap is_serve its))
-      by (Turns step m) its = inr (inr (ap is_serve its))
+      by (Shifts s) its = inr (inr (ap is_serve its))
+      by (Turns s) its = inr (inr (ap is_serve its))
       by (Flushes step bytes) its = inr (inr (ap is_serve its))
 
   moves_case : (a : ℕ) → Kept reads (guard_happens_now n (Moves a))

@@ -16,21 +16,21 @@ use Rattle.fkv_epoch.specs.declared.arming.Arming.TheVariants as arm
 use Rattle.fkv_epoch.specs.Raising.{raise_ask}
 use Rattle.fkv_epoch.specs.Arming.{arm_ask}
 use Rattle.fkv_epoch.specs.EpochWorld.{EpochMachine, Raises, Arms}
-use Rattle.fkv_epoch.proofs.Items.{word_spared, word_written}
-use Rattle.fkv_flush.specs.declared.moving.Offset.{Offset}
-use Rattle.fkv_flush.specs.declared.moving.Offset.TheVariants.{ReadOnly, Head}
-use Rattle.fkv_flush.specs.declared.moving.Moving.{Moving}
-use Rattle.fkv_flush.specs.declared.moving.Moving.TheVariants as move
-use Rattle.fkv_flush.specs.declared.shifting.Shifting.{Shifting}
-use Rattle.fkv_flush.specs.declared.shifting.Shifting.TheVariants as shift
-use Rattle.fkv_flush.specs.declared.turning.Turning.{Turning}
-use Rattle.fkv_flush.specs.declared.turning.Turning.TheVariants as turn
+use Rattle.fkv_epoch.proofs.Shown.{word_spared, word_written}
+use Rattle.fkv_log.specs.declared.moving.Offset.{Offset}
+use Rattle.fkv_log.specs.declared.moving.Offset.TheVariants.{ReadOnly, Head}
+use Rattle.fkv_log.specs.declared.moving.Moving.{Moving}
+use Rattle.fkv_log.specs.declared.moving.Moving.TheVariants as move
+use Rattle.fkv_log.specs.declared.shifting.Shifting.{Shifting}
+use Rattle.fkv_log.specs.declared.shifting.Shifting.TheVariants as shift
+use Rattle.fkv_log.specs.declared.turning.Turning.{Turning}
+use Rattle.fkv_log.specs.declared.turning.Turning.TheVariants as turn
 use Rattle.fkv_flush.specs.declared.flushing.Flushing.TheVariants as flush
-use Rattle.fkv_flush.specs.Moving.{Mover, offset_place}
-use Rattle.fkv_flush.specs.Shifting.{shift_ask}
-use Rattle.fkv_flush.specs.Turning.{turn_ask}
+use Rattle.fkv_log.specs.Moving.{Mover, offset_place, move_ask, moving_ask}
+use Rattle.fkv_log.specs.Shifting.{shift_at, shift_ask, shifting_ask}
+use Rattle.fkv_log.specs.Turning.{turn_at, turn_ask, turning_ask}
 use Rattle.fkv_flush.specs.Flushing.{flush_ask}
-use Rattle.fkv_flush.specs.GuardAsks.{writes, machine_writes, move_now, shift_now, turn_now}
+use Rattle.fkv_flush.specs.GuardAsks.{writes, machine_writes}
 use Rattle.fkv_flush.specs.GuardLevels.{levels_of}
 use Rattle.fkv_flush.specs.GuardMail.{Mailbox, mailbox_of}
 use Rattle.fkv_flush.specs.GuardWorld.{Actor, Work, Rests, Reserves, Fills, Invalidates, Shifts, Turns, Flushes, Serves, GuardWorld, GuardEvent, Moves, Updates, RaisesReadOnly, RaisesFor, Changes, is_idle, may_update, epoch_world, guard_happens}
@@ -98,24 +98,26 @@ module _ (w : GuardWorld) (a : ℕ) (x : Actor) (sound : IsSound w) (got : slice
   offset_aside ReadOnly = low_aside S 5 (omega arith)
   offset_aside Head = low_aside S 8 (omega arith)
 
-  move_aside : (step : Moving) (raising : Raising) (arming : Arming) → MoveKnows (levels_of w.now.words) x.machine step raising arming → SparesMail S (writes (move_now step raising arming))
+  move_aside : (step : Moving) (raising : Raising) (arming : Arming) → MoveKnows (levels_of w.now.words) x.machine step raising arming → SparesMail S (writes (moving_ask step raising arming))
+  unfolding moving_ask
   move_aside move.AtRest raising arming k = tt
   move_aside (move.Raises target) raising arming k = rw (writes_passed (raise_ask raising) _) (machine_aside (Raises raising) k.0)
   move_aside (move.MovesOffset target) raising arming k = offset_aside target.offset
+  move_aside (move.Puts target slot) raising arming k = tt
   move_aside move.Arms raising arm.AtRest k = absurd k
   move_aside move.Arms raising (arm.PutsAction slot c) k = absurd k
   move_aside move.Arms raising (arm.StoresEpoch slot c) k = rw (writes_passed (arm_ask (arm.StoresEpoch slot c)) _) (machine_aside (Arms (arm.StoresEpoch slot c)) k)
 
   -- a shift of the read-only offset, and a turn of pages
-  shift_aside : (step : Shifting) (m : Mover) → Known w a x (Shifts step m) → SparesMail S (writes (shift_now step m))
-  unfolding shift_ask
-  shift_aside (shift.Moves tail) m k = rw (writes_passed (move_now m.step m.raise.step m.arm.step) _) (move_aside m.step m.raise.step m.arm.step k)
+  shift_aside : (step : Shifting) (m : Mover) → Known w a x (Shifts (shift_at step m)) → SparesMail S (writes (shift_ask (shift_at step m)))
+  unfolding shifting_ask
+  shift_aside (shift.Moves tail) m k = rw (writes_passed (move_ask m) _) (move_aside m.step m.raising m.arming k)
   shift_aside step m k = tt
 
-  turn_aside : (step : Turning) (m : Mover) → Known w a x (Turns step m) → SparesMail S (writes (turn_now w.now.shape step m))
-  unfolding turn_ask
+  turn_aside : (step : Turning) (m : Mover) → Known w a x (Turns (turn_at step m)) → SparesMail S (writes (turn_ask w.now.shape (turn_at step m)))
+  unfolding turning_ask
   turn_aside (turn.RaisesLimit limit) m k = low_aside S 4 (omega arith)
-  turn_aside turn.Moves m k = move_aside m.step m.raise.step m.arm.step k
+  turn_aside turn.Moves m k = rw (writes_passed (move_ask m) _) (move_aside m.step m.raising m.arming k)
   turn_aside step m k = tt
 
   -- any work but that of serving
@@ -130,8 +132,8 @@ module _ (w : GuardWorld) (a : ℕ) (x : Actor) (sound : IsSound w) (got : slice
   work_aside (Fills (fill.StoresHeader addr its_words)) its apart = λ session few is. omega (arith, few, is.1)
   work_aside (Invalidates invalidate.AtRest) its apart = tt
   work_aside (Invalidates (invalidate.StoresHeader addr header)) its apart = λ session few is. omega (arith, few, is.1)
-  work_aside (Shifts step m) its apart = shift_aside step m (subst (Known w a x) its (sound.knows a x got))
-  work_aside (Turns step m) its apart = turn_aside step m (subst (Known w a x) its (sound.knows a x got))
+  work_aside (Shifts s) its apart = shift_aside s.step s.mover (subst (Known w a x) its (sound.knows a x got))
+  work_aside (Turns s) its apart = turn_aside s.step s.mover (subst (Known w a x) its (sound.knows a x got))
   work_aside (Flushes (flush.RaisesFlushed end) bytes) its apart = low_aside S 7 (omega arith)
   work_aside (Flushes step bytes) its apart = tt
   work_aside (Serves step) its apart = cc

@@ -2,21 +2,15 @@
 use Rattle.std.proofs.Common.{◌≡◌, ◌≢◌, ◌⊎◌, inl, inr, ℕ, ◌<◌, Bool, true, false, List, refl, sym, ap, subst, arith}
 use Rattle.std.specs.Prelude.{Some, None, ⊤, slice_get, nat_lt, ◌&&◌, if◌then◌else◌}
 use Rattle.fkv_plane.specs.declared.actions.Action.{Action}
-use Rattle.fkv_plane.specs.declared.asks.Ask.{Ask}
-use Rattle.fkv_plane.specs.declared.asks.Ask.TheVariants as ask
-use Rattle.fkv_plane.specs.Asked.{reply_to}
 use Rattle.fkv_epoch.specs.declared.raising.Raising.TheVariants as raise
 use Rattle.fkv_epoch.specs.EpochWorld.{EpochMachine, Raises, is_at_rest}
-use Rattle.fkv_epoch.proofs.Items.{some_same}
+use Rattle.fkv_epoch.proofs.Shown.{some_same}
 use Rattle.fkv_flush.specs.declared.serving.Serving.{Serving}
 use Rattle.fkv_flush.specs.declared.serving.Serving.TheVariants as serve
-use Rattle.fkv_flush.specs.Shifting.{shift_next_ask}
-use Rattle.fkv_flush.specs.Turning.{turn_next_ask}
 use Rattle.fkv_flush.specs.Serving.{asked_state, ready_state, mailbox_from}
-use Rattle.fkv_flush.specs.GuardAsks.{shift_now, turn_now}
 use Rattle.fkv_flush.specs.GuardCalm.{actor_of}
 use Rattle.fkv_flush.specs.GuardMail.{Mailbox, MailRead, WasRead, FindsAsked, ServesAlone, AskerChanges}
-use Rattle.fkv_flush.specs.GuardWorld.{Actor, Work, Rests, Reserves, Fills, Invalidates, Shifts, Turns, Flushes, Serves, GuardTask, ToDo, ToReserve, ToFill, ToInvalidate, ToShift, ToTurnPage, ToFlush, ToServe, GuardNow, GuardWorld, GuardEvent, Begins, Resumes, Moves, Calls, Reads, Sees, Publishes, Updates, RaisesReadOnly, RaisesFor, Changes, CallsElse, is_idle, is_none, is_stored, may_work, after_put, work_step, actor_step, started}
+use Rattle.fkv_flush.specs.GuardWorld.{Actor, Work, Rests, Reserves, Fills, Invalidates, Shifts, Turns, Flushes, Serves, GuardTask, ToDo, ToReserve, ToFill, ToInvalidate, ToShift, ToTurnPage, ToFlush, ToServe, GuardNow, GuardWorld, GuardEvent, Begins, Resumes, Moves, Calls, Reads, Sees, Publishes, Updates, RaisesReadOnly, RaisesFor, Changes, CallsElse, is_idle, is_none, is_stored, may_work, work_step, actor_step, started}
 use Rattle.fkv_flush.proofs.GuardSound.{IsSound}
 use Rattle.fkv_flush.proofs.GuardWorks.{truth, Known}
 use Rattle.fkv_flush.proofs.GuardMailPlaces.{is_serve}
@@ -108,7 +102,7 @@ module _ (n : GuardNow) (keeper : ℕ) (reads : List MailRead) (boxes : ℕ → 
   started_row (ToFill its_words) alone = tt
   started_row (ToInvalidate header) alone = tt
   started_row ToShift alone = tt
-  started_row (ToTurnPage tail) alone = tt
+  started_row (ToTurnPage form tail) alone = tt
   started_row ToFlush alone = tt
   started_row ToServe alone = next_row keeper reads boxes a n.shape.sessions 0 alone
 
@@ -124,18 +118,14 @@ module _ (n : GuardNow) (keeper : ℕ) (reads : List MailRead) (boxes : ℕ → 
   raised_row action (Raises (raise.RaisesEpoch slot)) = row
   raised_row action d = row
 
-  put_row : {A : Type 0} (ask : Ask A) (once twice : Work) → Holds once → Holds twice → Holds (after_put ask once twice)
-  put_row (ask.Put slot action) once twice p q = q
-  put_row other once twice p q = p
-
   -- a step of a machine that serves nobody
   works_row : (work : Work) → is_serve work ≡ false → Holds (work_step n a x work).actor.work
   works_row Rests apart = row
   works_row (Reserves step) apart = tt
   works_row (Fills step) apart = tt
   works_row (Invalidates step) apart = tt
-  works_row (Shifts step m) apart = put_row (shift_next_ask n.shape step m (reply_to n.words (shift_now step m))) _ _ tt tt
-  works_row (Turns step m) apart = put_row (turn_next_ask n.shape step m (reply_to n.words (turn_now n.shape step m))) _ _ tt tt
+  works_row (Shifts s) apart = tt
+  works_row (Turns s) apart = tt
   works_row (Flushes step bytes) apart = tt
   works_row (Serves step) apart = cc
 

@@ -1,38 +1,41 @@
-pub mod Calm
-pub mod FlushKnows
-pub mod Guard
-pub mod GuardAnswered
-pub mod GuardCounts
-pub mod GuardMachines
-pub mod GuardEpochs
-pub mod GuardFlushed
-pub mod GuardHappens
-pub mod GuardHomes
-pub mod GuardHosted
-pub mod GuardLaw
-pub mod GuardSeeing
-pub mod GuardMoves
-pub mod GuardOffsets
-pub mod GuardPages
-pub mod GuardPuts
-pub mod GuardRuns
-pub mod GuardShifts
-pub mod GuardSound
-pub mod GuardStays
-pub mod GuardSteps
-pub mod GuardTurns
-pub mod GuardUnwritten
-pub mod GuardWorks
-pub mod GuardWrites
-pub mod InHand
-pub mod GuardMail
-pub mod GuardMailAsks
-pub mod GuardMailPlaces
-pub mod GuardMailRows
-pub mod Limit
-pub mod OnDevice
-pub mod OneEvent
-pub mod Parts
-pub mod RaiseRange
-pub mod Slots
-pub mod Undecided
+mod Calm
+mod FlushKnows
+mod Follows
+mod Guard
+mod GuardCounts
+mod GuardMachines
+mod GuardEpochs
+mod GuardFlushed
+mod GuardHappens
+mod GuardHomes
+mod GuardHosted
+mod GuardLaw
+mod GuardSeeing
+mod GuardMoves
+mod GuardOffsets
+mod GuardPages
+mod GuardPuts
+mod GuardRuns
+mod GuardShifts
+mod GuardSound
+mod GuardStays
+mod GuardSteps
+mod GuardTurns
+mod GuardUnwritten
+mod GuardWorks
+mod GuardWrites
+mod GuardMail
+mod GuardMailAsks
+mod GuardMailPlaces
+mod GuardMailRows
+mod InHand
+mod Limit
+mod OnDevice
+mod OneEvent
+mod OuterPlaces
+mod Parts
+pub mod Shown
+mod Slots
+mod SoFar
+mod Still
+mod Undecided

@@ -11,7 +11,7 @@ use Rattle.fkv_epoch.specs.declared.arming.Arming.TheVariants as arm
 use Rattle.fkv_epoch.specs.Raising.{raise_ask}
 use Rattle.fkv_epoch.specs.Arming.{arm_next}
 use Rattle.fkv_epoch.specs.EpochWorld.{EpochMachine, Raises, Arms, is_at_rest, resumed_machine}
-use Rattle.fkv_epoch.proofs.Items.{some_same, none_some}
+use Rattle.fkv_epoch.proofs.Shown.{some_same, none_some}
 use Rattle.fkv_flush.specs.Flushing.{flush_done, bytes_done}
 use Rattle.fkv_flush.specs.GuardWorld.{Actor, Work, Flushes, Serves, GuardNow, GuardNear, GuardEvent, Begins, Resumes, Moves, Calls, Reads, Sees, Publishes, Updates, RaisesReadOnly, RaisesFor, Changes, CallsElse, near, put_near, actor_step, guard_happens_now, is_idle, is_none, is_guarded, is_stored, may_update, may_work, started, mail_read, seen_with, called_by, read_by, raised_with}
 use Rattle.fkv_flush.specs.GuardCalm.{actor_of}

@@ -1,5 +1,5 @@
 -- A slot that gets an action is empty, and one that is taken has what was armed there.
-use Rattle.std.proofs.Common.{◌≡◌, ℕ, ◌+◌, refl, sym, ap, subst, arith, inl, inr, ◌∙◌}
+use Rattle.std.proofs.Common.{◌≡◌, ℕ, ◌+◌, ◌/◌, refl, sym, ap, subst, arith, inl, inr, ◌∙◌}
 use Rattle.std.specs.Prelude.{Option, Some, None, slice_get, nat_lt, nat_le, ◌==◌, ◌&&◌}
 use Rattle.std.proofs.lemmas.Bool.Decides.{nat_tests}
 use Rattle.fkv_base.specs.Limits.{drain_slots, last_epoch}
@@ -15,23 +15,25 @@ use Rattle.fkv_epoch.specs.Raising.{raise_ask, raise_next, raise_next_ask, raise
 use Rattle.fkv_epoch.specs.Arming.{arm_ask, arm_next}
 use Rattle.fkv_epoch.specs.EpochWorld.{EpochMachine, Raises, Claims, Claimed, claimed_by, drain_word}
 use Rattle.fkv_epoch.specs.Once.{Among, FindsAction}
-use Rattle.fkv_epoch.proofs.Items.{some_same, none_some}
-use Rattle.fkv_epoch.proofs.Facts.{claimer_finds_action, no_claim_waits}
-use Rattle.fkv_flush.specs.declared.moving.Moving.{Moving}
-use Rattle.fkv_flush.specs.declared.moving.Moving.TheVariants as move
-use Rattle.fkv_flush.specs.declared.answers.MoveAnswer.{MoveAnswer}
-use Rattle.fkv_flush.specs.declared.shifting.Shifting.TheVariants as shift
+use Rattle.fkv_epoch.proofs.Shown.{some_same, none_some}
+use Rattle.fkv_epoch.proofs.Shown.{claimer_finds_action, no_claim_waits}
+use Rattle.fkv_log.specs.declared.moving.Moving.{Moving}
+use Rattle.fkv_log.specs.declared.moving.Moving.TheVariants as move
+use Rattle.fkv_log.specs.declared.moving.MoveAnswer.{MoveAnswer}
+use Rattle.fkv_log.specs.declared.shifting.Shifting.{Shifting}
+use Rattle.fkv_log.specs.declared.shifting.Shifting.TheVariants as shift
 use Rattle.fkv_base.specs.declared.shapes.Shape.{Shape}
-use Rattle.fkv_flush.specs.declared.turning.Turning.{Turning}
-use Rattle.fkv_flush.specs.declared.turning.Turning.TheVariants as turn
-use Rattle.fkv_flush.specs.Passing.{passed}
-use Rattle.fkv_flush.specs.Moving.{ask_raised, moving_next_ask, move_next_ask}
-use Rattle.fkv_flush.specs.Shifting.{shift_ask, shift_next_ask, ask_moved, mutable_start}
-use Rattle.fkv_flush.specs.Turning.{turn_ask, turn_next, turn_next_ask}
+use Rattle.fkv_log.specs.declared.turning.TurnForm.TheVariants as form
+use Rattle.fkv_log.specs.declared.turning.Turning.{Turning}
+use Rattle.fkv_log.specs.declared.turning.Turning.TheVariants as turn
+use Rattle.fkv_plane.specs.Passing.{passed}
+use Rattle.fkv_log.specs.Moving.{Mover, move_ask, move_next, move_next_ask, moving_ask, moving_next, raise_led, arm_led}
+use Rattle.fkv_log.specs.Shifting.{shift_ask, shifting_ask, shifting_next, shift_led, mutable_start}
+use Rattle.fkv_log.specs.Turning.{turn_ask, turning_ask, turning_next, turn_led, frame_end, page_wanted}
 use Rattle.fkv_flush.specs.GuardLevels.{Levels, levels_of}
 use Rattle.fkv_flush.specs.GuardSlots.{slot_put, work_puts, raise_puts, actor_puts, raiser_puts, event_puts, actor_claims, event_claims, FindsSlots}
 use Rattle.fkv_flush.specs.GuardWorld.{Actor, Work, Shifts, Turns, GuardWorld, GuardEvent, Moves, RaisesFor, is_idle, is_stored, epoch_now, epoch_world}
-use Rattle.fkv_flush.proofs.GuardSound.{IsSound, MoveKnows, machine_at}
+use Rattle.fkv_flush.proofs.GuardSound.{IsSound, MoveKnows, ShiftKnows, TurnKnows, machine_at}
 use Rattle.fkv_flush.proofs.GuardWorks.{truth, Known}
 
 -- The machine is about to raise the epoch for this slot.
@@ -57,9 +59,9 @@ put_passed (Put slot action) b = refl
 put_passed (Take slot) b = refl
 put_passed (Done answer) b = refl
 
--- a move puts its action where it raises the epoch
-move_puts : (l : Levels) (machine : EpochMachine) (step : Moving) (raising : Raising) (arming : Arming) (reply : ℕ) → MoveKnows l machine step raising arming → PutsRaised machine (moving_next_ask step raising arming reply)
-unfolding moving_next_ask ask_raised raise_next_ask raise_ask raise_next raise_on free_after arm_ask arm_next passed
+-- where a raise leads, a move puts its action once the epoch is raised
+move_puts : (l : Levels) (machine : EpochMachine) (step : Moving) (raising : Raising) (arming : Arming) (reply : ℕ) → MoveKnows l machine step raising arming → PutsRaised machine (move_ask (moving_next step raising arming reply))
+unfolding moving_ask moving_next raise_led arm_led raise_next_ask raise_ask raise_next raise_on free_after arm_ask arm_next passed
 move_puts l machine move.AtRest raising arming reply k slot e = absurd k
 move_puts l machine (move.Raises target) raise.AtRest arming reply k slot e = absurd k.1
 move_puts l machine (move.Raises target) raise.LoadsEpoch arming reply k slot e = elim (truth (nat_le last_epoch reply)) [ inl f ↦ no_put slot (rw f at e) | inr f ↦ no_put slot (rw f at e) ]
@@ -75,32 +77,41 @@ move_puts l machine (move.Raises target) (raise.HasSlot met) arming reply k slot
 move_puts l machine (move.Raises target) (raise.RaisesEpoch its) arming reply k slot e = k.0 ∙ ap (λ (s : ℕ). Raises (raise.RaisesEpoch s)) (some_same its slot e)
 move_puts l machine (move.MovesOffset target) (raise.HasSlot met) arming reply k slot e = no_put slot e
 move_puts l machine (move.MovesOffset target) raising arming reply k slot e = absurd k
+move_puts l machine (move.Puts target its) raising arming reply k slot e = absurd k
 move_puts l machine move.Arms raising (arm.StoresEpoch its c) reply k slot e = no_put slot e
 move_puts l machine move.Arms raising arming reply k slot e = absurd k
 
-shift_passes : (tail : ℕ) (ask : Ask MoveAnswer) → slot_put (ask_moved tail ask) ≡ slot_put ask
-unfolding ask_moved
-shift_passes tail (Done inner) = refl
-shift_passes tail ask = put_passed ask _
+-- a shift or a turn puts what its move does
+shift_puts : (l : Levels) (machine : EpochMachine) (shape : Shape) (step : Shifting) (m : Mover) (reply : ℕ) → ShiftKnows l machine step m → PutsRaised machine (shift_ask (shifting_next shape step m reply))
+unfolding shifting_next shifting_ask shift_led moving_ask raise_ask passed
+shift_puts l machine shape shift.AtRest m reply k slot e = no_put slot e
+shift_puts l machine shape shift.LoadsTail m reply k slot e = no_put slot e
+shift_puts l machine shape (shift.LoadsReadOnly tail) m reply k slot e = elim (truth (nat_lt reply (mutable_start shape.page shape.mutable tail))) [ inl f ↦ no_put slot (rw f at e) | inr f ↦ no_put slot (rw f at e) ]
+shift_puts l machine shape (shift.Moves tail) m reply k slot e = led (move_next_ask m reply) e
+  where
+    led : (ask : Ask MoveAnswer) → slot_put (shift_ask (shift_led tail (move_next m reply) ask)) ≡ Some slot → RaisesWith machine slot
+    led (Done inner) f = no_put slot f
+    led ask f = move_puts l machine m.step m.raising m.arming reply k slot (sym (put_passed (move_ask (move_next m reply)) _) ∙ f)
 
-turn_asks_none : (shape : Shape) (step : Turning) → slot_put (turn_ask shape step) ≡ None
-unfolding turn_ask raise_ask passed
-turn_asks_none shape turn.AtRest = refl
-turn_asks_none shape step = refl
+turn_puts : (l : Levels) (machine : EpochMachine) (shape : Shape) (step : Turning) (m : Mover) (reply : ℕ) → TurnKnows shape l machine step m → PutsRaised machine (turn_ask shape (turning_next shape step m reply))
+unfolding turning_next turning_ask turn_led moving_ask raise_ask passed
+turn_puts l machine shape turn.AtRest m reply k slot e = no_put slot e
+turn_puts l machine shape (turn.LoadsLimit form tail) m reply k slot e = elim (truth (nat_lt (reply / shape.page) (page_wanted shape tail))) [ inl f ↦ no_put slot (rw f at e) | inr f ↦ no_put slot (rw f at e) ]
+turn_puts l machine shape (turn.LoadsClosed form.Whole limit) m reply k slot e = elim (truth (nat_le (frame_end shape limit) reply)) [ inl f ↦ no_put slot (rw f at e) | inr f ↦ no_put slot (rw f at e) ]
+turn_puts l machine shape (turn.LoadsClosed form.OpensOnly limit) m reply k slot e = elim (truth (nat_le (frame_end shape limit) reply)) [ inl f ↦ no_put slot (rw f at e) | inr f ↦ no_put slot (rw f at e) ]
+turn_puts l machine shape (turn.RaisesLimit limit) m reply k slot e = no_put slot e
+turn_puts l machine shape (turn.LoadsHead end) m reply k slot e = elim (truth (nat_lt reply end)) [ inl f ↦ no_put slot (rw f at e) | inr f ↦ no_put slot (rw f at e) ]
+turn_puts l machine shape (turn.LoadsFlushed end) m reply k slot e = elim (truth (nat_le end reply)) [ inl f ↦ no_put slot (rw f at e) | inr f ↦ no_put slot (rw f at e) ]
+turn_puts l machine shape turn.Moves m reply k slot e = led (move_next_ask m reply) e
+  where
+    led : (ask : Ask MoveAnswer) → slot_put (turn_ask shape (turn_led (move_next m reply) ask)) ≡ Some slot → RaisesWith machine slot
+    led (Done inner) f = no_put slot f
+    led ask f = move_puts l machine m.step m.raising m.arming reply k slot (sym (put_passed (move_ask (move_next m reply)) _) ∙ f)
 
 -- so does the actor's work
 work_raises : (w : GuardWorld) (a : ℕ) (x : Actor) (work : Work) → IsSound w → slice_get w.now.actors a ≡ Some x → x.work ≡ work → (slot : ℕ) → work_puts w.now work ≡ Some slot → RaisesWith x.machine slot
-unfolding shift_ask shift_next_ask turn_next_ask raise_ask passed
-work_raises w a x (Shifts (shift.Moves tail) m) sound got its slot e =
-    move_puts (levels_of w.now.words) x.machine m.step m.raise.step m.arm.step _ (subst (Known w a x) its (sound.knows a x got)) slot (sym (shift_passes tail (move_next_ask m _)) ∙ e)
-work_raises w a x (Shifts shift.AtRest m) sound got its slot e = no_put slot e
-work_raises w a x (Shifts shift.LoadsTail m) sound got its slot e = no_put slot e
-work_raises w a x (Shifts (shift.LoadsReadOnly tail) m) sound got its slot e = elim (truth (nat_lt (levels_of w.now.words).read_only (mutable_start w.now.shape.page w.now.shape.mutable tail))) [
-  | inl f ↦ no_put slot (rw f at e)
-  | inr f ↦ no_put slot (rw f at e)
-]
-work_raises w a x (Turns turn.Moves m) sound got its slot e = move_puts (levels_of w.now.words) x.machine m.step m.raise.step m.arm.step _ (subst (Known w a x) its (sound.knows a x got)) slot e
-work_raises w a x (Turns step m) sound got its slot e = no_put slot (sym (turn_asks_none w.now.shape (turn_next w.now.shape step m _)) ∙ e)
+work_raises w a x (Shifts s) sound got its slot e = shift_puts (levels_of w.now.words) x.machine w.now.shape s.step s.mover _ (subst (Known w a x) its (sound.knows a x got)) slot e
+work_raises w a x (Turns s) sound got its slot e = turn_puts (levels_of w.now.words) x.machine w.now.shape s.step s.mover _ (subst (Known w a x) its (sound.knows a x got)) slot e
 work_raises w a x work sound got its slot e = no_put slot e
 
 -- an event that puts an action is one of an actor that raises the epoch for it

@@ -13,7 +13,7 @@ use Rattle.fkv_log.specs.Reserving.{reserve_ask, reserve_next, reserve_next_ask}
 use Rattle.fkv_log.specs.Invalidating.{invalidate_next}
 use Rattle.fkv_epoch.specs.declared.raising.Raising.TheVariants as raise
 use Rattle.fkv_epoch.specs.EpochWorld.{EpochMachine, Raises}
-use Rattle.fkv_epoch.proofs.Items.{item_written, item_spared, same_or, none_some}
+use Rattle.fkv_epoch.proofs.Shown.{item_written, item_spared, same_or, none_some}
 use Rattle.fkv_flush.specs.GuardLevels.{levels_of}
 use Rattle.fkv_flush.specs.GuardCalm.{actor_of}
 use Rattle.fkv_flush.specs.GuardReserved.{UndecidedApart}
@@ -59,7 +59,7 @@ module _ (n : GuardNow) (x : Actor) where
   begun (ToFill its_words) = was
   begun (ToInvalidate header) = was
   begun ToShift = was
-  begun (ToTurnPage tail) = was
+  begun (ToTurnPage form tail) = was
   begun ToFlush = was
   begun ToServe = was
 
@@ -70,8 +70,8 @@ module _ (n : GuardNow) (x : Actor) where
   worked a (Fills step) = was
   worked a (Invalidates invalidate.AtRest) = λ addr u. cc
   worked a (Invalidates (invalidate.StoresHeader addr header)) = λ addr u. cc
-  worked a (Shifts step m) = was
-  worked a (Turns step m) = was
+  worked a (Shifts s) = was
+  worked a (Turns s) = was
   worked a (Flushes step bytes) = was
   worked a (Serves step) = was
 

@@ -9,9 +9,8 @@ use Rattle.fkv_epoch.specs.declared.raising.Raising.TheVariants as raise
 use Rattle.fkv_epoch.specs.declared.claiming.Claiming.TheVariants as claim
 use Rattle.fkv_epoch.specs.EpochWorld.{EpochMachine, Raises, Claims, Claimed, claimed_by}
 use Rattle.fkv_epoch.specs.Once.{Among, FindsAction}
-use Rattle.fkv_flush.specs.Shifting.{shift_next_ask}
-use Rattle.fkv_flush.specs.Turning.{turn_next_ask}
-use Rattle.fkv_flush.specs.GuardAsks.{shift_now, turn_now}
+use Rattle.fkv_log.specs.Shifting.{shift_ask, shift_next}
+use Rattle.fkv_log.specs.Turning.{turn_ask, turn_next}
 use Rattle.fkv_flush.specs.GuardWorld.{Actor, Work, Shifts, Turns, GuardNow, GuardWorld, GuardEvent, Moves, RaisesFor, is_idle, is_stored, epoch_now, epoch_world}
 
 -- the slot that an action is put into, where that is asked
@@ -21,8 +20,8 @@ slot_put ask = None
 
 -- a move puts its action into its slot once it has raised the epoch
 abbrev pub work_puts : GuardNow → Work → Option ℕ
-work_puts n (Shifts step m) = slot_put (shift_next_ask n.shape step m (reply_to n.words (shift_now step m)))
-work_puts n (Turns step m) = slot_put (turn_next_ask n.shape step m (reply_to n.words (turn_now n.shape step m)))
+work_puts n (Shifts s) = slot_put (shift_ask (shift_next n.shape s (reply_to n.words (shift_ask s))))
+work_puts n (Turns s) = slot_put (turn_ask n.shape (turn_next n.shape s (reply_to n.words (turn_ask n.shape s))))
 work_puts n work = None
 
 abbrev pub raise_puts : EpochMachine → Option ℕ

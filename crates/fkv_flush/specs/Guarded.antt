@@ -1,5 +1,5 @@
 -- The guard: which steps may write frames and raise the limit, and what every step keeps.
-use Rattle.std.specs.Prelude.{◌≡◌, ℕ, ◌+◌, ◌-◌, ◌*◌, ◌/◌, min, ◌<◌, ◌≤◌, Bool, true, false, List, [], replicate, length, slice_get, Option, Some, None, if◌then◌else◌}
+use Rattle.std.specs.Prelude.{◌≡◌, ℕ, ◌+◌, ◌-◌, ◌*◌, ◌/◌, min, ◌<◌, ◌≤◌, Bool, true, false, List, replicate, length, slice_get, Option, Some, None, if◌then◌else◌}
 use Rattle.fkv_base.specs.Limits.{drain_slots}
 use Rattle.fkv_base.specs.declared.shapes.Shape.{Shape}
 use Rattle.fkv_plane.specs.declared.places.Places.{Places}
@@ -10,7 +10,7 @@ use Rattle.fkv_epoch.specs.declared.refreshing.Refreshing.TheVariants as refresh
 use Rattle.fkv_epoch.specs.declared.leaving.Leaving.TheVariants as leave
 use Rattle.fkv_epoch.specs.EpochWorld.{EpochMachine, Protects, Refreshes, Leaves, Sight, OfHead}
 use Rattle.fkv_epoch.specs.Once as epochs
-use Rattle.fkv_epoch.specs.Once.{Counts}
+use Rattle.fkv_epoch.specs.Once.{Counts, opening_past}
 use Rattle.fkv_flush.specs.GuardLevels.{levels_of}
 use Rattle.fkv_flush.specs.GuardSeen.{LastSeen}
 use Rattle.fkv_plane.specs.declared.places.SharedWord.TheVariants as one
@@ -18,9 +18,11 @@ use Rattle.fkv_plane.specs.declared.places.RecordWord.TheVariants as rec
 use Rattle.fkv_log.specs.Reserving.{reserve_ask}
 use Rattle.fkv_log.specs.Filling.{fill_ask}
 use Rattle.fkv_log.specs.Invalidating.{invalidate_ask}
+use Rattle.fkv_log.specs.Shifting.{shift_ask}
+use Rattle.fkv_log.specs.Turning.{turn_ask}
 use Rattle.fkv_flush.specs.Flushing.{flush_ask}
 use Rattle.fkv_flush.specs.Serving.{serve_ask}
-use Rattle.fkv_flush.specs.GuardAsks.{writes, machine_writes, shift_now, turn_now}
+use Rattle.fkv_flush.specs.GuardAsks.{writes, machine_writes}
 use Rattle.fkv_flush.specs.GuardWorld.{Actor, Work, Rests, Reserves, Fills, Invalidates, Shifts, Turns, Flushes, Serves, GuardNow, GuardWorld, GuardEvent, Moves, Updates, RaisesReadOnly, RaisesFor, Changes, is_idle, is_guarded, may_update, epoch_now, levels, guard_happens}
 
 abbrev pub seen_at : Option Actor → LastSeen
@@ -72,7 +74,7 @@ first_actor start = record { machine = Protects protect.AtRest; work = Rests; se
 abbrev pub opening : Shape → Places → ℕ → List ℕ → ℕ → GuardWorld
 opening shape places actors words start = record {
   now = record { shape = shape; places = places; words = words; actions = replicate drain_slots None; actors = replicate actors (first_actor start) };
-  past = record { loads = λ session. record { phase = 1; read_only = 1; head = 1 }; armed = []; claims = []; runs = [] };
+  past = opening_past;
 }
 
 -- The frames hold all that may still be needed: closed is no further than the ring below the limit, and neither is what is flushed, nor what any
@@ -111,8 +113,8 @@ work_writes n actor x Rests = machine_writes actor x.machine
 work_writes n actor x (Reserves step) = writes (reserve_ask step)
 work_writes n actor x (Fills step) = writes (fill_ask n.places step)
 work_writes n actor x (Invalidates step) = writes (invalidate_ask n.places step)
-work_writes n actor x (Shifts step m) = writes (shift_now step m)
-work_writes n actor x (Turns step m) = writes (turn_now n.shape step m)
+work_writes n actor x (Shifts s) = writes (shift_ask s)
+work_writes n actor x (Turns s) = writes (turn_ask n.shape s)
 work_writes n actor x (Flushes step bytes) = writes (flush_ask n.places step)
 work_writes n actor x (Serves step) = writes (serve_ask step)
 

@@ -1,6 +1,5 @@
 pub mod Devices
 pub mod Flushing
-pub mod GuardAnswered
 pub mod GuardAsks
 pub mod GuardCalm
 pub mod GuardFlushed
@@ -14,8 +13,4 @@ pub mod GuardTurned
 pub mod GuardWorld
 pub mod Guarded
 pub mod InHand
-pub mod Moving
-pub mod Passing
 pub mod Serving
-pub mod Shifting
-pub mod Turning

@@ -2,12 +2,8 @@
 ghost use Rattle.std.specs.Prelude.{◌≡◌, ◌≢◌, ◌<◌, ◌∷◌, ℕ, List, Some, slice_get};
 ghost use Rattle.fkv_base.specs.declared.shapes.Shape.{Shape};
 ghost use Rattle.fkv_plane.specs.declared.places.Places.{Places};
-ghost use Rattle.fkv_plane.specs.declared.asks.Ask.{Ask};
 ghost use Rattle.fkv_plane.specs.declared.places.RecordWord.{RecordWord};
 ghost use Rattle.fkv_plane.specs.Asked.{word_at};
-ghost use Rattle.fkv_flush.specs.declared.answers.MoveAnswer.{MoveAnswer};
-ghost use Rattle.fkv_flush.specs.declared.answers.ShiftAnswer.{ShiftAnswer};
-ghost use Rattle.fkv_flush.specs.GuardAnswered.{AsksAsAnswered, AreAlike, ActAlike};
 ghost use Rattle.fkv_flush.specs.GuardCalm.{AreOther, IsCalm};
 ghost use Rattle.fkv_flush.specs.GuardLevels.{AreInOrder};
 ghost use Rattle.fkv_flush.specs.GuardLimit.{EndsPages};
@@ -16,7 +12,7 @@ ghost use Rattle.fkv_flush.specs.GuardSeen.{SeenIsSafe};
 ghost use Rattle.fkv_flush.specs.GuardSlots.{FindsSlots};
 ghost use Rattle.fkv_flush.specs.GuardWorld.{GuardWorld, GuardEvent, Actor, Serves, guard_happens, guard_run, levels};
 ghost use Rattle.fkv_flush.specs.GuardTurned.{GoesRound};
-ghost use Rattle.fkv_flush.specs.GuardFlushed.{OneFlushes, IsSynced, stands, calls_made};
+ghost use Rattle.fkv_flush.specs.GuardFlushed.{OneFlushes, IsSynced, SparesRecord, stands, calls_made};
 ghost use Rattle.fkv_flush.specs.GuardMail.{AreEmpty, AreMailboxesKept, ReadyWasRead, FindsAsked, ChangesMailbox, mailbox_of, mail_reads};
 ghost use Rattle.fkv_flush.specs.declared.serving.Serving.{Serving};
 ghost use Rattle.fkv_flush.specs.Guarded.{IsOpened, opening, IsCovered, UndecidedIsFresh, GoesBy, seen_of, event_writes, GuardsWrites, GuardsLimit, KeepsSeen};
@@ -58,13 +54,18 @@ pub fn law_seen()
 /// What is flushed is synced as the records stand, whatever calls of the device fail, where one actor alone flushes: at
 /// every moment a device that was called so shows each record since the opening and below the flushed offset with the
 /// words that stand for it, and so does all that a crash leaves of it; the log before the opening is as it was, as far as
-/// the device reached then. No step changes what stands for a record below the safe read-only offset.
+/// the device reached then. No step changes what stands for a record below the safe read-only offset, and below the tail
+/// only one that writes a word of its frame does.
 pub fn law_flushed_is_synced()
     ensures synced { (shape : Shape) (places : Places) (actors : ℕ) (words : List ℕ) (start keeper : ℕ) (events : List GuardEvent) (opened : List ℕ)
         → IsOpened shape places actors words start → OneFlushes keeper events
         → IsSynced shape opened (calls_made (opening shape places actors words start) events) (stands (opening shape places actors words start) events) start (levels (guard_run (opening shape places actors words start) events)).flushed }
     ensures steady { (shape : Shape) (places : Places) (actors : ℕ) (words : List ℕ) (start : ℕ) (events : List GuardEvent) (event : GuardEvent) (addr : ℕ) (word : RecordWord)
         → IsOpened shape places actors words start → addr < (levels (guard_run (opening shape places actors words start) events)).safe_read_only
+        → stands (opening shape places actors words start) (event ∷ events) addr word ≡ stands (opening shape places actors words start) events addr word }
+    ensures still { (shape : Shape) (places : Places) (actors : ℕ) (words : List ℕ) (start : ℕ) (events : List GuardEvent) (event : GuardEvent) (addr : ℕ) (word : RecordWord)
+        → IsOpened shape places actors words start → addr < (levels (guard_run (opening shape places actors words start) events)).tail
+        → SparesRecord (guard_run (opening shape places actors words start) events).now event addr word
         → stands (opening shape places actors words start) (event ∷ events) addr word ≡ stands (opening shape places actors words start) events addr word }
 {}
 
@@ -73,15 +74,6 @@ pub fn law_flushed_is_synced()
 /// the device was told one write of its bytes and one sync.
 pub fn law_of_the_ring()
     ensures { GoesRound }
-{}
-
-/// What `law_guarded` takes a move of an offset, a shift of the read-only offset or a turn of a page to ask, at its start
-/// and after each reply, is the ask that `start` and `drive` answer; at an end, and where an action is put into its slot,
-/// neither names a word. So both do the same to the words, and get the same reply.
-pub fn law_asks_are_answered()
-    ensures answered { AsksAsAnswered }
-    ensures move_acts { (answered now : Ask MoveAnswer) → AreAlike answered now → ActAlike answered now }
-    ensures shift_acts { (answered now : Ask ShiftAnswer) → AreAlike answered now → ActAlike answered now }
 {}
 
 /// From each moment to each later one no offset falls, nor the epoch, nor the safe epoch; and the epoch word of a session

@@ -67,8 +67,9 @@ impl Fill {
         self.ask()
     }
 
+    /// What it asks now.
     #[tactic(auto, unfolding(crate::specs::Filling::fill_ask))]
-    fn ask(&self) -> Ask<()>
+    pub fn ask(&self) -> Ask<()>
         ensures { result ≡ fill_ask self.now.places self.now.step }
     {
         match self.step {

@@ -61,8 +61,9 @@ impl Invalidate {
         self.ask()
     }
 
+    /// What it asks now.
     #[tactic(auto, unfolding(crate::specs::Invalidating::invalidate_ask))]
-    fn ask(&self) -> Ask<()>
+    pub fn ask(&self) -> Ask<()>
         ensures { result ≡ invalidate_ask self.now.places self.now.step }
     {
         match self.step {

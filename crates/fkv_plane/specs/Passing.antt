@@ -1,4 +1,5 @@
 -- How a machine passes on what a machine inside it asks.
+use Rattle.std.specs.Prelude.{Bool, true, false}
 use Rattle.fkv_plane.specs.declared.asks.Ask.{Ask}
 use Rattle.fkv_plane.specs.declared.asks.Ask.TheVariants.{Load, Store, Swap, Cas, Add, Max, Put, Take, Done}
 
@@ -13,3 +14,8 @@ passed (Max place k) answer = Max place k
 passed (Put slot action) answer = Put slot action
 passed (Take slot) answer = Take slot
 passed (Done inner) answer = Done answer
+
+-- the machine is at an end, and not about to ask for something
+abbrev pub is_done : {A : Type 0} → Ask A → Bool
+is_done (Done answer) = true
+is_done ask = false

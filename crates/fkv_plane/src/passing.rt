@@ -1,12 +1,12 @@
 //! How a machine passes on what a machine inside it asks.
 ghost use Rattle.std.specs.Prelude.{◌≡◌};
-ghost use Rattle.fkv_flush.specs.Passing.{passed};
+ghost use Rattle.fkv_plane.specs.Passing.{passed};
 
-use fkv_plane::Ask;
+use crate::asks::Ask;
 
 /// The ask of a machine inside another, as an ask of the outer one. At its end the outer one gives this answer.
 #[tactic(auto, unfolding(crate::specs::Passing::passed))]
-pub(crate) fn passed<A: Drop, B: Drop>(ask: Ask<A>, answer: B) -> Ask<B>
+pub fn passed<A: Drop, B: Drop>(ask: Ask<A>, answer: B) -> Ask<B>
     ensures { result ≡ passed ask answer }
 {
     match ask {
