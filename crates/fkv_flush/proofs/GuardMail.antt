@@ -13,7 +13,7 @@ use Rattle.fkv_flush.specs.declared.serving.Serving.{Serving}
 use Rattle.fkv_flush.specs.declared.serving.Serving.TheVariants as serve
 use Rattle.fkv_flush.specs.Serving.{asked_state, ready_state, mail_of, serve_ask, serve_next, serve_read, mailbox_from}
 use Rattle.fkv_flush.specs.GuardCalm.{actor_of}
-use Rattle.fkv_flush.specs.GuardMail.{Mailbox, mailbox_of, MailRead, work_reads, actor_reads, event_reads, mail_reads, newest_for, WasRead, ReadyWasRead, FindsAsked, KeepsMailboxes, ServesAlone, AreMailboxesKept, AreEmpty, AskerChanges, KeeperChanges, ChangesMailbox}
+use Rattle.fkv_flush.specs.GuardMail.{Mailbox, mailbox_of, MailRead, work_reads, actor_reads, event_reads, mail_reads, newest_for, WasRead, ReadyWasRead, HasRead, FindsAsked, KeepsMailboxes, ServesAlone, AreMailboxesKept, AreEmpty, AskerChanges, KeeperChanges, ChangesMailbox}
 use Rattle.fkv_flush.specs.GuardWorld.{Actor, Work, Rests, Reserves, Fills, Invalidates, Shifts, Turns, Flushes, Serves, GuardNow, GuardWorld, GuardEvent, Begins, Resumes, Moves, Calls, Reads, Sees, Publishes, Updates, RaisesReadOnly, RaisesFor, Changes, CallsElse, is_idle, is_guarded, near, GuardNear, put_near, epoch_step, work_step, actor_step, guard_happens, guard_happens_now, guard_run}
 use Rattle.fkv_flush.specs.Guarded.{opening, first_actor, event_writes}
 use Rattle.fkv_flush.proofs.GuardSound.{IsSound}
@@ -173,20 +173,20 @@ module _ (keeper : ℕ) (reads : List MailRead) (w : GuardWorld) (sound : IsSoun
         let stored = sym (stored_header n.words session (room_for w session sound few) mail.header) in
         stores session (session_place session own.MailHeader) mail.header (serve.StoresKey session mail) few (omega arith, omega arith)
         (subst (ReadyWasRead reads session) stored (asked_apart session _ k.0))
-        (inr (mine, subst (λ (box : Mailbox). (box.state ≡ asked_state) × WasRead reads session box.addr mail × (box.mail.header ≡ mail.header)) stored (k.0, k.1, refl)))
+        (inr (mine, subst (λ (box : Mailbox). HasRead reads session box mail × (box.mail.header ≡ mail.header)) stored (k, refl)))
     serve_case (serve.StoresKey session mail) its k busy =
         let few : session < S = served_below w a x (serve.StoresKey session mail) sound got its in
         let stored = sym (stored_key n.words session (room_for w session sound few) mail.key) in
         stores session (session_place session own.MailKey) mail.key (serve.StoresValue session mail) few (omega arith, omega arith)
-        (subst (ReadyWasRead reads session) stored (asked_apart session _ k.0))
-        (inr (mine, subst (λ (box : Mailbox). (box.state ≡ asked_state) × WasRead reads session box.addr mail × (box.mail.header ≡ mail.header) × (box.mail.key ≡ mail.key)) stored (k.0, k.1, k.2, refl)))
+        (subst (ReadyWasRead reads session) stored (asked_apart session _ k.0.0))
+        (inr (mine, subst (λ (box : Mailbox). HasRead reads session box mail × (box.mail.header ≡ mail.header) × (box.mail.key ≡ mail.key)) stored (k.0, k.1, refl)))
     serve_case (serve.StoresValue session mail) its k busy =
         let few : session < S = served_below w a x (serve.StoresValue session mail) sound got its in
         let stored = sym (stored_value n.words session (room_for w session sound few) mail.value) in
-        let words : record { header = (boxes session).mail.header; key = (boxes session).mail.key; value = mail.value } ≡ mail = rw (k.2, k.3) refl in
+        let words : record { header = (boxes session).mail.header; key = (boxes session).mail.key; value = mail.value } ≡ mail = rw (k.1, k.2) refl in
         stores session (session_place session own.MailValue) mail.value (serve.StoresReady session) few (omega arith, omega arith)
-        (subst (ReadyWasRead reads session) stored (asked_apart session _ k.0))
-        (inr (mine, subst (λ (box : Mailbox). (box.state ≡ asked_state) × WasRead reads session box.addr box.mail) stored (k.0, subst (WasRead reads session (boxes session).addr) (sym words) k.1)))
+        (subst (ReadyWasRead reads session) stored (asked_apart session _ k.0.0))
+        (inr (mine, subst (λ (box : Mailbox). HasRead reads session box box.mail) stored (k.0.0, subst (WasRead reads session (boxes session).addr) (sym words) k.0.1)))
     serve_case (serve.StoresReady session) its k busy =
         let few : session < S = served_below w a x (serve.StoresReady session) sound got its in
         let stored = sym (stored_state n.words session (room_for w session sound few) ready_state) in
@@ -210,10 +210,10 @@ module _ (keeper : ℕ) (reads : List MailRead) (w : GuardWorld) (sound : IsSoun
         (λ below. subst (KeeperChanges (boxes served)) (sym (stored_header n.words served (room_for w served sound below) mail.header)) (k.0, inl refl)) few
     serve_changes (serve.StoresKey served mail) its k session few =
         changes served session (session_place served own.MailKey) mail.key (omega arith, omega arith)
-        (λ below. subst (KeeperChanges (boxes served)) (sym (stored_key n.words served (room_for w served sound below) mail.key)) (k.0, inl refl)) few
+        (λ below. subst (KeeperChanges (boxes served)) (sym (stored_key n.words served (room_for w served sound below) mail.key)) (k.0.0, inl refl)) few
     serve_changes (serve.StoresValue served mail) its k session few =
         changes served session (session_place served own.MailValue) mail.value (omega arith, omega arith)
-        (λ below. subst (KeeperChanges (boxes served)) (sym (stored_value n.words served (room_for w served sound below) mail.value)) (k.0, inl refl)) few
+        (λ below. subst (KeeperChanges (boxes served)) (sym (stored_value n.words served (room_for w served sound below) mail.value)) (k.0.0, inl refl)) few
     serve_changes (serve.StoresReady served) its k session few =
         changes served session (session_place served own.MailState) ready_state (omega arith, omega arith)
         (λ below. subst (KeeperChanges (boxes served)) (sym (stored_state n.words served (room_for w served sound below) ready_state)) (k.0, inr refl)) few

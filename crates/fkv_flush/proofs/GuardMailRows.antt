@@ -9,7 +9,7 @@ use Rattle.fkv_flush.specs.declared.serving.Serving.{Serving}
 use Rattle.fkv_flush.specs.declared.serving.Serving.TheVariants as serve
 use Rattle.fkv_flush.specs.Serving.{asked_state, ready_state, mailbox_from}
 use Rattle.fkv_flush.specs.GuardCalm.{actor_of}
-use Rattle.fkv_flush.specs.GuardMail.{Mailbox, MailRead, WasRead, FindsAsked, ServesAlone, AskerChanges}
+use Rattle.fkv_flush.specs.GuardMail.{Mailbox, MailRead, HasRead, FindsAsked, ServesAlone, AskerChanges}
 use Rattle.fkv_flush.specs.GuardWorld.{Actor, Work, Rests, Reserves, Fills, Invalidates, Shifts, Turns, Flushes, Serves, GuardTask, ToDo, ToReserve, ToFill, ToInvalidate, ToShift, ToTurnPage, ToFlush, ToServe, GuardNow, GuardWorld, GuardEvent, Begins, Resumes, Moves, Calls, Reads, Sees, Publishes, Updates, RaisesReadOnly, RaisesFor, Changes, CallsElse, is_idle, is_none, is_stored, may_work, work_step, actor_step, started}
 use Rattle.fkv_flush.proofs.GuardSound.{IsSound}
 use Rattle.fkv_flush.proofs.GuardWorks.{truth, Known}
@@ -27,7 +27,7 @@ is_still (Moves a) = false
 is_still (Reads a (Some bytes)) = false
 is_still event = true
 
--- a mailbox that stays, or changes as no one asks in it and none is ready in it afterwards
+-- a mailbox that stays, or one in which nothing was asked for and nothing is ready afterwards
 abbrev pub StaysOrIsApart : Mailbox → Mailbox → Type 0
 StaysOrIsApart before after = (after ≡ before) ⊎ ((before.state ≢ asked_state) × (after.state ≢ ready_state))
 
@@ -71,10 +71,10 @@ finds_on sessions reads boxes boxes' step stay few finds = by step few finds
     by (serve.LoadsState session) few finds = tt
     by (serve.LoadsAddress session) few finds = with_box session (λ box. box.state ≡ asked_state) few finds finds
     by (serve.Reads session addr) few finds = with_box session (λ box. (box.state ≡ asked_state) × (box.addr ≡ addr)) few finds.0 finds
-    by (serve.StoresHeader session mail) few finds = with_box session (λ box. (box.state ≡ asked_state) × WasRead reads session box.addr mail) few finds.0 finds
-    by (serve.StoresKey session mail) few finds = with_box session (λ box. (box.state ≡ asked_state) × WasRead reads session box.addr mail × (box.mail.header ≡ mail.header)) few finds.0 finds
-    by (serve.StoresValue session mail) few finds = with_box session (λ box. (box.state ≡ asked_state) × WasRead reads session box.addr mail × (box.mail.header ≡ mail.header) × (box.mail.key ≡ mail.key)) few finds.0 finds
-    by (serve.StoresReady session) few finds = with_box session (λ box. (box.state ≡ asked_state) × WasRead reads session box.addr box.mail) few finds.0 finds
+    by (serve.StoresHeader session mail) few finds = with_box session (λ box. HasRead reads session box mail) few finds.0 finds
+    by (serve.StoresKey session mail) few finds = with_box session (λ box. HasRead reads session box mail × (box.mail.header ≡ mail.header)) few finds.0.0 finds
+    by (serve.StoresValue session mail) few finds = with_box session (λ box. HasRead reads session box mail × (box.mail.header ≡ mail.header) × (box.mail.key ≡ mail.key)) few finds.0.0 finds
+    by (serve.StoresReady session) few finds = with_box session (λ box. HasRead reads session box box.mail) few finds.0 finds
 
 -- what an asker changes is no mailbox in which a record is asked for, and none that is ready then
 pub asker_apart : (before after : Mailbox) → AskerChanges before after → (before.state ≢ asked_state) × (after.state ≢ ready_state)

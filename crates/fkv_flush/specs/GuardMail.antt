@@ -71,15 +71,19 @@ WasRead reads session addr mail = newest_for session reads ≡ Some (record { se
 abbrev pub ReadyWasRead : List MailRead → ℕ → Mailbox → Type 0
 ReadyWasRead reads session box = box.state ≡ ready_state → WasRead reads session box.addr box.mail
 
+-- a record is asked for in the mailbox, and the newest read for the session was at its address, and gave this
+abbrev pub HasRead : List MailRead → ℕ → Mailbox → Mail → Type 0
+HasRead reads session box mail = (box.state ≡ asked_state) × WasRead reads session box.addr mail
+
 -- What the keeper finds in the mailbox that it has come to: a record is asked for there. The address that it has loaded is the mailbox's; what it has read is
 -- what the newest read for the session gave, at that address; and the words that it has stored are those.
 abbrev pub FindsAsked : List MailRead → (ℕ → Mailbox) → Serving → Type 0
 FindsAsked reads boxes (serve.LoadsAddress session) = (boxes session).state ≡ asked_state
 FindsAsked reads boxes (serve.Reads session addr) = ((boxes session).state ≡ asked_state) × ((boxes session).addr ≡ addr)
-FindsAsked reads boxes (serve.StoresHeader session mail) = ((boxes session).state ≡ asked_state) × WasRead reads session (boxes session).addr mail
-FindsAsked reads boxes (serve.StoresKey session mail) = ((boxes session).state ≡ asked_state) × WasRead reads session (boxes session).addr mail × ((boxes session).mail.header ≡ mail.header)
-FindsAsked reads boxes (serve.StoresValue session mail) = ((boxes session).state ≡ asked_state) × WasRead reads session (boxes session).addr mail × ((boxes session).mail.header ≡ mail.header) × ((boxes session).mail.key ≡ mail.key)
-FindsAsked reads boxes (serve.StoresReady session) = ((boxes session).state ≡ asked_state) × WasRead reads session (boxes session).addr (boxes session).mail
+FindsAsked reads boxes (serve.StoresHeader session mail) = HasRead reads session (boxes session) mail
+FindsAsked reads boxes (serve.StoresKey session mail) = HasRead reads session (boxes session) mail × ((boxes session).mail.header ≡ mail.header)
+FindsAsked reads boxes (serve.StoresValue session mail) = HasRead reads session (boxes session) mail × ((boxes session).mail.header ≡ mail.header) × ((boxes session).mail.key ≡ mail.key)
+FindsAsked reads boxes (serve.StoresReady session) = HasRead reads session (boxes session) (boxes session).mail
 FindsAsked reads boxes step = ⊤
 
 -- a session asks where its mailbox is empty, and empties it where it is ready
