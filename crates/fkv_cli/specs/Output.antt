@@ -1,5 +1,5 @@
 -- What the program writes for a script, and the status it ends with.
-use Rattle.std.specs.Prelude.{◌≡◌, ◌⊎◌, ℕ, ◌<◌, ◌-◌, Bool, true, false, List, [], ◌∷◌, ◌++◌, take, if◌then◌else◌, Option, Some, None, option_map, Result, Ok, Err, string_bytes}
+use Rattle.std.specs.Prelude.{◌≡◌, ◌⊎◌, ℕ, ◌+◌, ◌*◌, ◌<◌, ◌-◌, Bool, true, false, List, [], ◌∷◌, ◌++◌, take, if◌then◌else◌, Option, Some, None, option_map, Result, Ok, Err, string_bytes}
 use Rattle.std.specs.FinMap.{entries}
 use Rattle.std.specs.Io.KnownBytes.{Appends}
 use Rattle.fkv_base.specs.declared.faults.Fault.{Fault}
@@ -15,7 +15,7 @@ use Rattle.fkv_script.specs.declared.options.Verdict.TheVariants.{Agrees}
 use Rattle.fkv_script.specs.declared.scripts.Command.{Command}
 use Rattle.fkv_script.specs.declared.scripts.Command.TheVariants.{Operation, Commit, Finish, Crash, CrashAt}
 use Rattle.fkv_script.specs.declared.scripts.Sizes.{Sizes}
-use Rattle.fkv_script.specs.Script.{ScriptText, LineFault, script_of}
+use Rattle.fkv_script.specs.Script.{ScriptText, LineFault, most_bytes, most_lines, script_of}
 use Rattle.fkv_script.specs.RunFault.{IsWant, line_fault_text}
 use Rattle.fkv_script.specs.Texts.{ended, refusal_text, session_text, commit_text, finish_text, report_text}
 use Rattle.fkv_cli.specs.Life.{Life, new_life, last_commit, answer_to, after_operation, answer_to_commit, after_commit}
@@ -152,9 +152,9 @@ unfoldable pub PlaysScript : ℕ → Result ScriptText LineFault → List ℕ �
 PlaysScript torn (Ok script) text status = PlaysOpening torn script.opening script.commands text status
 PlaysScript torn (Err fault) text status = (text ≡ line_fault_text fault) × (status ≡ 2)
 
--- so many bytes of a script are read: a longer one has its first faulty line among them
+-- so many bytes of a script are read, one more than all its lines may have with their ends: a longer one has its first faulty line among them
 abbrev pub script_limit : ℕ
-script_limit = 13172737
+script_limit = most_lines * (most_bytes + 1) + 1
 
 -- what is written for these bytes, and the status that the run ends with
 abbrev pub IsOutputOf : ℕ → List ℕ → List ℕ → ℕ → Type 0

@@ -11,15 +11,15 @@ ghost use Rattle.fkv_script.specs.Texts.{ended, refusal_text};
 use crate::worlds::World;
 use fkv_base::{Fault, Shape};
 use fkv_script::{
-    Command, Options, RunFault, Script, Sizes, Verdict, script_of, write_answer, write_commit,
-    write_finish, write_refusal, write_report,
+    Command, MOST_BYTES, MOST_LINES, Options, RunFault, Script, Sizes, Verdict, script_of,
+    write_answer, write_commit, write_finish, write_refusal, write_report,
 };
 use std::alloc::Global;
 use std::io::{self, Read, Write};
 use thiserror::Error;
 
 /// A longer script has its first faulty line among its first so many bytes.
-const SCRIPT_LIMIT: u64 = 13_172_737;
+const SCRIPT_LIMIT: u64 = MOST_LINES * (MOST_BYTES as u64 + 1) + 1;
 
 /// Memory was refused, or a stream failed.
 #[derive(Clone, Copy, Debug, PartialEq, Eq, Error)]

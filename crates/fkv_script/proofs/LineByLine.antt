@@ -6,7 +6,7 @@ use Rattle.fkv_base.specs.declared.faults.Fault.{Fault}
 use Rattle.fkv_base.specs.declared.faults.Fault.TheVariants.{Script}
 use Rattle.fkv_base.specs.declared.faults.ScriptFault.{ScriptFault}
 use Rattle.fkv_base.specs.declared.faults.ScriptFault.TheVariants.{Size}
-use Rattle.fkv_script.specs.Script.{◌>>=◌, ScriptText, LineFault, is_oversized, says_nothing, words_of, opening_line, command_line, commands_from, script_from, script_of, lines_of}
+use Rattle.fkv_script.specs.Script.{most_bytes, most_lines, ◌>>=◌, ScriptText, LineFault, is_oversized, says_nothing, words_of, opening_line, command_line, commands_from, script_from, script_of, lines_of}
 use Rattle.fkv_script.specs.declared.scripts.Command.{Command}
 use Rattle.fkv_script.specs.declared.scripts.Sizes.{Sizes}
 
@@ -49,8 +49,8 @@ pub begins : (commands : List Command) (bytes : List ℕ) → commands ≡ [] �
 unfolding script_of
 begins commands bytes empty = rw empty (unopened-nil (script_from 1 (lines_of bytes)))
 
-pub in_number : (number : ℕ) (line : List ℕ) → is_oversized number line ≡ false → number ≤ 65536
-in_number number line small = ltb-false _ _ (or_parts (nat_lt 200 (length line)) (nat_lt 65536 number) small).1
+pub in_number : (number : ℕ) (line : List ℕ) → is_oversized number line ≡ false → number ≤ most_lines
+in_number number line small = ltb-false _ _ (or_parts (nat_lt most_bytes (length line)) (nat_lt most_lines number) small).1
 
 -- a fault of a line, and what there is without one
 pub at_line-err : {A : Type 0} (number : ℕ) (read : Result A ScriptFault) (fault : Fault) → MatchResult read (λ x. failed {A = A} fault ≡ Ok x) (λ kind. failed {A = A} fault ≡ Err (Script number kind))

@@ -53,9 +53,15 @@ is_comment line = starts_with (λ a b. a == b) line (codes "#")
 abbrev pub says_nothing : List ℕ → Bool
 says_nothing line = is_comment line || (length (words_of line) == 0)
 
--- a line has at most 200 bytes, and a script 65,536 lines
+-- a line has at most so many bytes, and a script so many lines
+abbrev pub most_bytes : ℕ
+most_bytes = 200
+
+abbrev pub most_lines : ℕ
+most_lines = 65536
+
 abbrev pub is_oversized : ℕ → List ℕ → Bool
-is_oversized number line = nat_lt 200 (length line) || nat_lt 65536 number
+is_oversized number line = nat_lt most_bytes (length line) || nat_lt most_lines number
 
 -- ---- numbers
 

@@ -10,6 +10,6 @@ mod texts;
 
 pub use answers::{Answer, CommitPoint};
 pub use options::{Options, RunFault, Verdict, options_of};
-pub use reading::script_of;
+pub use reading::{MOST_BYTES, MOST_LINES, script_of};
 pub use scripts::{Command, Script, Sizes};
 pub use texts::{write_answer, write_commit, write_finish, write_refusal, write_report};

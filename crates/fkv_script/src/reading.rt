@@ -14,6 +14,7 @@ use crate::options::{Options, RunFault};
 use crate::scripts::Script;
 use commands::{command_line, opening_line};
 use fkv_base::{Fault, ScriptFault};
+pub use lines::{MOST_BYTES, MOST_LINES};
 use lines::{first_line, is_oversized, says_nothing, words_of};
 use std::alloc::Global;
 

@@ -6,10 +6,10 @@ ghost use Rattle.fkv_script.specs.Script.{lines_of, words_of, says_nothing, is_o
 use std::alloc::{AllocError, Global};
 
 /// The most bytes of a line.
-const MOST_BYTES: usize = 200;
+pub const MOST_BYTES: usize = 200;
 
 /// The most lines of a script.
-const MOST_LINES: u64 = 65536;
+pub const MOST_LINES: u64 = 65536;
 
 /// The first line, without its LF, and what stands behind it.
 pub(super) fn first_line(bytes: &[u8]) -> (&[u8], &[u8])
