@@ -1,4 +1,4 @@
-//! Whole scripts: what a run writes, and the status it ends with. tools/scripts has more rows, for the built program.
+//! Whole scripts: what a run writes, and the status it ends with. tools/rows has more rows, for the built program.
 use super::*;
 use fkv_cli::law_reports;
 use std::io::{ErrorKind, Read, Write};
