@@ -7,7 +7,7 @@ use Rattle.std.proofs.lemmas.List.Elements.{filter-append, filter_passes, All-we
 use Rattle.std.proofs.lemmas.List.Sums.{sum_by-append, sum_by_push}
 use Rattle.fkv_base.specs.declared.numbers.Serial.{Serial}
 use Rattle.fkv_map.specs.declared.history.HistoryEntry.{HistoryEntry}
-use Rattle.fkv_map.specs.History.{kept, is_kept, point_of, Follow, last_serial}
+use Rattle.fkv_map.specs.History.{kept, is_kept, point_of, AreAtMost, last_serial}
 
 -- ---- filters
 -- what passed a test passes one that holds wherever that does
@@ -55,12 +55,12 @@ kept-push_no earlier entry points is = kept-append earlier (entry ∷ []) points
 pub kept_again : (history : List HistoryEntry) (points : List Serial) → kept (kept history points) points ≡ kept history points
 kept_again history points = filter_by_more (is_kept points) (is_kept points) (λ entry is. is) history
 
--- what points have kept is kept by points that follow
-pub kept_by_more : (history : List HistoryEntry) (points later : List Serial) → Follow points later → kept (kept history points) later ≡ kept history points
-kept_by_more history points later follow = filter_by_more (is_kept points) (is_kept later) still history
+-- what points have kept is kept by points that they are at most
+pub kept_by_more : (history : List HistoryEntry) (points later : List Serial) → AreAtMost points later → kept (kept history points) later ≡ kept history points
+kept_by_more history points later within = filter_by_more (is_kept points) (is_kept later) still history
   where
     still : (entry : HistoryEntry) → is_kept points entry ≡ true → is_kept later entry ≡ true
-    still entry is = grind (arith, nat_tests, follow entry.session)
+    still entry is = grind (arith, nat_tests, within entry.session)
 
 -- each kept entry's serial is at most its session's point
 pub kept_at_most : (history : List HistoryEntry) (points : List Serial) → All (λ entry. entry.serial.0 ≤ point_of points entry.session) (kept history points)

@@ -6,7 +6,7 @@ use Rattle.std.proofs.lemmas.Bool.Decides.{nat_tests}
 use Rattle.std.proofs.lemmas.List.Sums.{sum_by-cons}
 use Rattle.fkv_base.specs.declared.numbers.Serial.{Serial}
 use Rattle.fkv_map.specs.declared.history.HistoryEntry.{HistoryEntry}
-use Rattle.fkv_map.specs.History.{kept, is_kept, point_of, is_update, IsWhole, last_serial, HasEachOnce, Follow}
+use Rattle.fkv_map.specs.History.{kept, is_kept, point_of, is_update, IsWhole, last_serial, HasEachOnce, AreAtMost}
 use Rattle.fkv_map.proofs.KeptEntries.{count-append, count-push, kept-append, kept_again, kept_by_more}
 
 -- ---- counts
@@ -110,16 +110,16 @@ two_parts : (opening between points serial : ℕ) → opening ≤ between → se
 two_parts opening between points serial first low = grind (arith, nat_tests)
 
 -- what two lives keep is whole, if the later was opened at the points of the earlier
-pub whole_of_lives : (earlier later : List HistoryEntry) (opening between points : List Serial) → IsWhole earlier opening between → IsWhole later between points → Follow opening between → IsWhole (kept earlier between ++ kept later points) opening points
-whole_of_lives earlier later opening between points first second follow = whole_by_count (kept earlier between ++ kept later points) opening points (λ session serial low.
+pub whole_of_lives : (earlier later : List HistoryEntry) (opening between points : List Serial) → IsWhole earlier opening between → IsWhole later between points → AreAtMost opening between → IsWhole (kept earlier between ++ kept later points) opening points
+whole_of_lives earlier later opening between points first second rises = whole_by_count (kept earlier between ++ kept later points) opening points (λ session serial low.
     count-append (is_update session serial) (kept earlier between) (kept later points)
     ∙ ap (λ n. n + count_by (is_update session serial) (kept later points)) (first session serial)
     ∙ ap (λ n. mark (nat_lt (point_of opening session) serial && nat_le serial (point_of between session)) + n) (second session serial)
-    ∙ two_parts (point_of opening session) (point_of between session) (point_of points session) serial (follow session) low)
+    ∙ two_parts (point_of opening session) (point_of between session) (point_of points session) serial (rises session) low)
 
 -- and the last points keep all of it
-pub kept_of_lives : (earlier later : List HistoryEntry) (between points : List Serial) → Follow between points → kept (kept earlier between ++ kept later points) points ≡ kept earlier between ++ kept later points
-kept_of_lives earlier later between points follow =
+pub kept_of_lives : (earlier later : List HistoryEntry) (between points : List Serial) → AreAtMost between points → kept (kept earlier between ++ kept later points) points ≡ kept earlier between ++ kept later points
+kept_of_lives earlier later between points rises =
     kept-append (kept earlier between) (kept later points) points
-    ∙ ap (λ es. es ++ kept (kept later points) points) (kept_by_more earlier between points follow)
+    ∙ ap (λ es. es ++ kept (kept later points) points) (kept_by_more earlier between points rises)
     ∙ ap (λ es. kept earlier between ++ es) (kept_again later points)

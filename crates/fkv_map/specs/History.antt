@@ -51,6 +51,6 @@ HasEachOnce history opening =
     (session serial : ℕ) → count_by (is_update session serial) history
     ≡ cond (nat_lt (point_of opening session) serial && nat_le serial (last_serial history session)) 1 0
 
--- no session's point falls from these points to those
-abbrev pub Follow : List Serial → List Serial → Type 0
-Follow points later = (session : ℕ) → point_of points session ≤ point_of later session
+-- each session's point among the first is at most its point among the second
+abbrev pub AreAtMost : List Serial → List Serial → Type 0
+AreAtMost points others = (session : ℕ) → point_of points session ≤ point_of others session

@@ -5,7 +5,7 @@ use Rattle.fkv_base.specs.declared.numbers.Serial.{Serial}
 use Rattle.fkv_map.specs.declared.history.HistoryEntry.{HistoryEntry}
 use Rattle.fkv_map.specs.Map.{Map}
 use Rattle.fkv_map.specs.Keys.{key_of, value_applied, reply_from, is_on, entries_of, value_after, AreLegal}
-use Rattle.fkv_map.specs.History.{content, IsLegal, is_kept, kept, point_of, is_update, IsWhole, HasEachOnce, Follow, last_serial}
+use Rattle.fkv_map.specs.History.{content, IsLegal, is_kept, kept, point_of, is_update, IsWhole, HasEachOnce, AreAtMost, last_serial}
 
 -- a history after another makes of a map what it makes of the map that the other left
 abbrev pub ContentOfAppend : Type 0
@@ -77,14 +77,14 @@ EachOnceOfOneMore =
     → entry.serial.0 ≡ max (point_of opening entry.session) (last_serial history entry.session) + 1 → HasEachOnce (history ++ entry ∷ []) opening
 
 -- ---- one life after another
--- what two lives keep, the later opened at the points of the earlier, is whole from the first opening to the last points
+-- what two lives keep, the later opened at the points of the earlier, is whole from the first opening to the last points, if no point fell in the earlier
 abbrev pub WholeOfLives : Type 0
 WholeOfLives =
     (earlier later : List HistoryEntry) (opening between points : List Serial) → IsWhole earlier opening between → IsWhole later between points
-    → Follow opening between → IsWhole (kept earlier between ++ kept later points) opening points
+    → AreAtMost opening between → IsWhole (kept earlier between ++ kept later points) opening points
 
--- and the last points keep all of it
+-- and the last points keep all of it, if none fell in the later
 abbrev pub KeptOfLives : Type 0
 KeptOfLives =
-    (earlier later : List HistoryEntry) (between points : List Serial) → Follow between points
+    (earlier later : List HistoryEntry) (between points : List Serial) → AreAtMost between points
     → kept (kept earlier between ++ kept later points) points ≡ kept earlier between ++ kept later points

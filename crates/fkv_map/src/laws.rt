@@ -55,8 +55,8 @@ pub fn law_each_once()
     ensures more { EachOnceOfOneMore }
 {}
 
-/// Where a life opened at the points of the one before, what the two kept, one after the other, is whole from the first
-/// opening to the last points, and those points keep all of it.
+/// Where a life opened at the points of the one before, and no point fell, what the two kept, one after the other, is
+/// whole from the first opening to the last points, and those points keep all of it.
 pub fn law_lives_follow()
     ensures whole { WholeOfLives }
     ensures kept { KeptOfLives }
