@@ -15,7 +15,7 @@ use Rattle.fkv_script.specs.declared.scripts.Command.{Command}
 use Rattle.fkv_script.specs.declared.scripts.Command.TheVariants.{Operation, Commit, Finish, Crash, CrashAt}
 use Rattle.fkv_script.specs.declared.scripts.Sizes.{Sizes}
 use Rattle.fkv_script.specs.Script.{ScriptText, ◌>>=◌, words_of, says_nothing, is_oversized, number_of, numbers_of, arguments_of, sizes_of, is_opening, opening_line, key_in, operation_of, session_line, alone, keeper_line, crash_line, command_line, at_line, commands_from, script_from, script_of}
-use Rattle.fkv_map.proofs.Values.{IsWord}
+use Rattle.fkv_map.proofs.Shown.{IsWord}
 
 -- the operation's key is a word of 64 bits
 abbrev pub IsKeyWord : Op → Type 0
