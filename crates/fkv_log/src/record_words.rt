@@ -4,7 +4,7 @@ use fkv_words::Header;
 
 /// A record as it is written to its three words.
 #[derive(Clone, Copy, Debug, PartialEq, Eq)]
-pub struct Cell {
+pub struct RecordWords {
     /// The record before it in the chain of its home, and the version that writes it.
     pub header: Header,
     pub key: Key,
