@@ -12,7 +12,7 @@ use std::alloc::{AllocError, Global};
 
 impl Fuse<MemDisk> {
     ghost use Rattle.fkv_disk.specs.Fuses.{fuse_device, fuse_state};
-    ghost use Rattle.fkv_disk.specs.Memory.{disk_bytes, disk_opening, disk_calls, disk_failures};
+    ghost use Rattle.fkv_disk.specs.Memory.{disk_bytes, disk_opening, disk_calls, disk_forgotten, disk_failures};
 
     /// A new device with the image of a crash here: what is read, with each byte set to `torn` that was
     /// written since the last sync that succeeded, and each byte of the write at which the fuse blew.
@@ -22,6 +22,7 @@ impl Fuse<MemDisk> {
         ensures allowed { IfOk result (λ disk. ⟦<Fuse<MemDisk> as Device>⟧.may_leave self (disk_bytes disk)) }
         ensures synced { IfOk result (λ disk. disk_opening disk ≡ disk_bytes disk) }
         ensures calls { IfOk result (λ disk. disk_calls disk ≡ []) }
+        ensures forgotten { IfOk result (λ disk. disk_forgotten disk ≡ 0) }
         ensures failures { IfOk result (λ disk. disk_failures disk ≡ 0) }
         ensures memory { IfErr result (λ fault. fault ≡ Fault.Memory) }
     {

@@ -9,9 +9,12 @@ use fkv_base::Fault;
 ///
 /// A device either claims to be honest or claims nothing. Of an honest one three things are known: what it
 /// reads as, what a crash now may leave, and what a crash at some moment since a time may have left. Each call
-/// says what it makes of them.
+/// says what it makes of them. These are claims and no facts about a disk: that a disk keeps them is the premise
+/// of who uses it.
 ///
 /// Every call may be refused with `Fault::Device`, and with nothing else. Then `failures` rose in that call.
+///
+/// Every device counts calls: what it says of the calls to come moves on by one with each.
 pub trait Device {
     /// The premise: what is read is what was last written, and a crash leaves no more than is said here.
     ghost honest: { Self → Type 0 };
@@ -56,7 +59,8 @@ pub trait Device {
         ensures cause { HasCause (failed self.old) (failed self.new) result }
         ensures counted { MakesCalls 1 (refuses self.old) (refuses self.new) result };
 
-    /// At `Ok` a crash leaves just what is read. A refused sync changes nothing.
+    /// At `Ok` a crash leaves just what is read. A refused sync changes nothing here; of a real disk nobody knows
+    /// what it has left, so a store makes no call after one.
     fn sync(&mut self) -> Result<(), Fault>
         ensures honest { honest self.old ↔ honest self.new }
         ensures durable { honest self.old → OnOk result (LeavesOnly (seen self.old) (may_leave self.new)) }
