@@ -9,7 +9,7 @@ use Rattle.std.proofs.Math.Nat.{suc-mul, mul-le-mul_right, div-mul-le_self, lt-d
 use Rattle.fkv_base.specs.Limits.{is_ring_size, min_page, max_page}
 use Rattle.fkv_disk.specs.Bytes.{covers, written}
 use Rattle.fkv_disk.specs.Calls.{Call, Write, Sync, reads_as}
-use Rattle.fkv_disk.proofs.BytesLemmas.{covered, before_range}
+use Rattle.fkv_disk.proofs.Shown.{covered, before_range}
 use Rattle.fkv_record.specs.Numbers.{spelled}
 use Rattle.fkv_record.specs.Places.{most_triples, record_place}
 use Rattle.fkv_recover.specs.Image.{word_at}

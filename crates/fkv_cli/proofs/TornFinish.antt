@@ -6,7 +6,7 @@ use Rattle.std.proofs.lemmas.Bool.Decides.{nat_tests}
 use Rattle.fkv_base.specs.Limits.{max_buckets, max_overflow}
 use Rattle.fkv_disk.specs.Bytes.{byte_at}
 use Rattle.fkv_disk.specs.Calls.{Call, reads_as, torn_image}
-use Rattle.fkv_disk.proofs.BytesLemmas.{is_listed}
+use Rattle.fkv_disk.proofs.Shown.{is_listed}
 use Rattle.fkv_record.specs.Places.{most_triples}
 use Rattle.fkv_recover.specs.Image.{head_of, slot_start, bits_of, overflow_of}
 use Rattle.fkv_recover.specs.Image as image
