@@ -12,7 +12,7 @@ use Rattle.std.proofs.lemmas.List.Elements.{Contains-get_or}
 use Rattle.std.proofs.lemmas.List.FromFn.{length-map-range_with_len, get_or-map-range_with_len}
 use Rattle.std.proofs.lemmas.Map.Keys.{sorted_from_strictly_increasing}
 use Rattle.std.proofs.lemmas.Nat.{pow_pos, mod_below, div-mul-add, mod-mul-add, div-add-mod'}
-use Rattle.fkv_map.proofs.Stored.{IsAscending-entries}
+use Rattle.fkv_map.proofs.Shown.{IsAscending-entries}
 use Rattle.fkv_recover.specs.Log.{Log, key, record_home, home_of_key, is_triple, triple_home, triple_addr, triple_bucket, triple_tag, triple_zeros, home}
 use Rattle.fkv_recover.specs.Room.{triple_homes, taken}
 use Rattle.fkv_recover.proofs.Keys.{some_of}

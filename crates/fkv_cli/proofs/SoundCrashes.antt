@@ -11,7 +11,7 @@ use Rattle.fkv_base.specs.declared.faults.Fault.{Fault}
 use Rattle.fkv_base.specs.declared.shapes.Shape.{Shape}
 use Rattle.fkv_map.specs.Map.{Map}
 use Rattle.fkv_map.specs.History.{content, kept}
-use Rattle.fkv_map.proofs.KeptEntries.{kept_again}
+use Rattle.fkv_map.proofs.Shown.{kept_again}
 use Rattle.fkv_recover.specs.Image.{head_of, slot_of, sessions_of}
 use Rattle.fkv_recover.specs.Manifest.{HasSizes, newest, slot_points, is_manifest}
 use Rattle.fkv_recover.specs.Log.{Log, log_of, record_home, triple_addr}

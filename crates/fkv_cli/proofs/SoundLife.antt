@@ -14,8 +14,7 @@ use Rattle.fkv_map.specs.declared.operations.Reply.{Reply}
 use Rattle.fkv_map.specs.declared.history.HistoryEntry.{HistoryEntry}
 use Rattle.fkv_map.specs.Map.{Map, absent_word, applied, reply_to, IsReserved}
 use Rattle.fkv_map.specs.History.{content, kept}
-use Rattle.fkv_map.proofs.Histories.{content-push}
-use Rattle.fkv_map.proofs.Values.{AllValues, IsValue, IsSmall, IsWord, IsWithin-from_words}
+use Rattle.fkv_map.proofs.Shown.{content-push, AllValues, IsValue, IsSmall, IsWord, IsWithin-from_words}
 use Rattle.fkv_recover.specs.Log.{Log, key, home_of_key}
 use Rattle.fkv_recover.proofs.Shown.{by_cond}
 use Rattle.fkv_cli.specs.declared.answers.Answer.{Answer}
