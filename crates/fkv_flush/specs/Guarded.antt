@@ -18,9 +18,11 @@ use Rattle.fkv_plane.specs.declared.places.RecordWord.TheVariants as rec
 use Rattle.fkv_log.specs.Reserving.{reserve_ask}
 use Rattle.fkv_log.specs.Filling.{fill_ask}
 use Rattle.fkv_log.specs.Invalidating.{invalidate_ask}
+use Rattle.fkv_log.specs.Shifting.{shift_ask}
+use Rattle.fkv_log.specs.Turning.{turn_ask}
 use Rattle.fkv_flush.specs.Flushing.{flush_ask}
 use Rattle.fkv_flush.specs.Serving.{serve_ask}
-use Rattle.fkv_flush.specs.GuardAsks.{writes, machine_writes, shift_now, turn_now}
+use Rattle.fkv_flush.specs.GuardAsks.{writes, machine_writes}
 use Rattle.fkv_flush.specs.GuardWorld.{Actor, Work, Rests, Reserves, Fills, Invalidates, Shifts, Turns, Flushes, Serves, GuardNow, GuardWorld, GuardEvent, Moves, Updates, RaisesReadOnly, RaisesFor, Changes, is_idle, is_guarded, may_update, epoch_now, levels, guard_happens}
 
 abbrev pub seen_at : Option Actor → LastSeen
@@ -109,8 +111,8 @@ work_writes n actor x Rests = machine_writes actor x.machine
 work_writes n actor x (Reserves step) = writes (reserve_ask step)
 work_writes n actor x (Fills step) = writes (fill_ask n.places step)
 work_writes n actor x (Invalidates step) = writes (invalidate_ask n.places step)
-work_writes n actor x (Shifts step m) = writes (shift_now step m)
-work_writes n actor x (Turns step m) = writes (turn_now n.shape step m)
+work_writes n actor x (Shifts s) = writes (shift_ask s)
+work_writes n actor x (Turns s) = writes (turn_ask n.shape s)
 work_writes n actor x (Flushes step bytes) = writes (flush_ask n.places step)
 work_writes n actor x (Serves step) = writes (serve_ask step)
 

@@ -1,6 +1,5 @@
 pub mod Devices
 pub mod Flushing
-pub mod GuardAnswered
 pub mod GuardAsks
 pub mod GuardFlushed
 pub mod GuardLevels
@@ -9,8 +8,4 @@ pub mod GuardTurned
 pub mod GuardWorld
 pub mod Guarded
 pub mod InHand
-pub mod Moving
-pub mod Passing
 pub mod Serving
-pub mod Shifting
-pub mod Turning

@@ -2,12 +2,8 @@
 ghost use Rattle.std.specs.Prelude.{◌≡◌, ◌≢◌, ◌<◌, ◌∷◌, ℕ, List, Some};
 ghost use Rattle.fkv_base.specs.declared.shapes.Shape.{Shape};
 ghost use Rattle.fkv_plane.specs.declared.places.Places.{Places};
-ghost use Rattle.fkv_plane.specs.declared.asks.Ask.{Ask};
 ghost use Rattle.fkv_plane.specs.declared.places.RecordWord.{RecordWord};
 ghost use Rattle.fkv_plane.specs.Asked.{word_at};
-ghost use Rattle.fkv_flush.specs.declared.answers.MoveAnswer.{MoveAnswer};
-ghost use Rattle.fkv_flush.specs.declared.answers.ShiftAnswer.{ShiftAnswer};
-ghost use Rattle.fkv_flush.specs.GuardAnswered.{AsksAsAnswered, AreAlike, ActAlike};
 ghost use Rattle.fkv_flush.specs.GuardLevels.{AreInOrder};
 ghost use Rattle.fkv_flush.specs.GuardSeen.{SeenIsSafe};
 ghost use Rattle.fkv_flush.specs.GuardWorld.{GuardWorld, GuardEvent, guard_happens, guard_run, levels};
@@ -62,13 +58,4 @@ pub fn law_flushed_is_synced()
 /// the device was told one write of its bytes and one sync.
 pub fn law_of_the_ring()
     ensures { GoesRound }
-{}
-
-/// What `law_guarded` takes a move of an offset, a shift of the read-only offset or a turn of a page to ask, at its start
-/// and after each reply, is the ask that `start` and `drive` answer; at an end, and where an action is put into its slot,
-/// neither names a word. So both do the same to the words, and get the same reply.
-pub fn law_asks_are_answered()
-    ensures answered { AsksAsAnswered }
-    ensures move_acts { (answered now : Ask MoveAnswer) → AreAlike answered now → ActAlike answered now }
-    ensures shift_acts { (answered now : Ask ShiftAnswer) → AreAlike answered now → ActAlike answered now }
 {}
