@@ -32,7 +32,7 @@ use Rattle.fkv_flush.proofs.OnDevice.{IsRead, IsKept, read_on, kept_on, opened_k
 use Rattle.fkv_flush.proofs.FlushKnows.{FlushKnows, IsReply, flush_end, synced_to, begins, record_kept_on, knows_on, replied, call_spares, called_on}
 
 -- an address below the limit whose page's frame is not used again has a frame
-opens : (n : GuardNow) (addr : ℕ) → addr < (levels_of n.words).limit → (levels_of n.words).limit ≤ addr + n.places.ring → is_open n addr ≡ true
+pub opens : (n : GuardNow) (addr : ℕ) → addr < (levels_of n.words).limit → (levels_of n.words).limit ≤ addr + n.places.ring → is_open n addr ≡ true
 opens n addr below near =
     let p : nat_lt addr (levels_of n.words).limit ≡ true = grind (arith, nat_tests) in
     let q : nat_le (levels_of n.words).limit (addr + n.places.ring) ≡ true = grind (arith, nat_tests) in
@@ -126,7 +126,7 @@ known_end w b y step bytes sound got its = by step (subst (Known w b y) its (sou
     by (flush.RaisesFlushed end) k = k
 
 -- the page of a store has records
-page_some : (w : GuardWorld) → IsSound w → 0 < w.now.shape.page
+pub page_some : (w : GuardWorld) → IsSound w → 0 < w.now.shape.page
 page_some w sound = let ring = sound.fits.ring in let some = w.now.places.some_ring in some_page w.now.shape.frames w.now.shape.page (omega (arith, ring, some))
 
 -- One event of a world that is sound, and has its flushed records on the device.

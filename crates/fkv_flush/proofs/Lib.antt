@@ -1,5 +1,7 @@
 mod Asks
+mod Calm
 mod FlushKnows
+mod Follows
 mod Guard
 mod GuardCounts
 mod GuardEpochs
@@ -9,6 +11,10 @@ mod GuardHomes
 mod GuardHosted
 mod GuardLaw
 mod GuardMachines
+mod GuardMail
+mod GuardMailAsks
+mod GuardMailPlaces
+mod GuardMailRows
 mod GuardMoves
 mod GuardOffsets
 mod GuardPages
@@ -24,6 +30,13 @@ mod GuardUnwritten
 mod GuardWorks
 mod GuardWrites
 mod InHand
+mod Limit
 mod OnDevice
+mod OneEvent
+mod OuterPlaces
 mod Parts
 pub mod Shown
+mod Slots
+mod SoFar
+mod Still
+mod Undecided

@@ -1,5 +1,5 @@
 -- The guard: which steps may write frames and raise the limit, and what every step keeps.
-use Rattle.std.specs.Prelude.{◌≡◌, ℕ, ◌+◌, ◌-◌, ◌*◌, ◌/◌, ◌<◌, ◌≤◌, Bool, true, false, List, replicate, length, slice_get, Option, Some, None, if◌then◌else◌}
+use Rattle.std.specs.Prelude.{◌≡◌, ℕ, ◌+◌, ◌-◌, ◌*◌, ◌/◌, min, ◌<◌, ◌≤◌, Bool, true, false, List, replicate, length, slice_get, Option, Some, None, if◌then◌else◌}
 use Rattle.fkv_base.specs.Limits.{drain_slots}
 use Rattle.fkv_base.specs.declared.shapes.Shape.{Shape}
 use Rattle.fkv_plane.specs.declared.places.Places.{Places}
@@ -50,7 +50,8 @@ pub record ArePlacesOf (shape : Shape) (places : Places) : Type 0 where
   pub sessions : places.sessions ≡ shape.sessions
   pub ring : places.ring ≡ shape.frames * shape.page
 
--- The store is just opened: all offsets but the limit stand where its records end, and the frames hold what is below the limit.
+-- The store is just opened: all offsets but the limit stand where its records end. The pages up to the next after that are open, as far as the
+-- device has them, and the frames hold what is below the limit.
 pub record IsOpened (shape : Shape) (places : Places) (actors : ℕ) (words : List ℕ) (start : ℕ) : Type 0 where
   pub fits : ArePlacesOf shape places
   pub enough_words : word_count places ≤ length words
@@ -61,6 +62,7 @@ pub record IsOpened (shape : Shape) (places : Places) (actors : ℕ) (words : Li
   pub safe_read_only : (levels_of words).safe_read_only ≡ start
   pub read_only : (levels_of words).read_only ≡ start
   pub tail : (levels_of words).tail ≡ start
+  pub limit : (levels_of words).limit ≡ min (start / shape.page + 2) shape.disk_pages * shape.page
   pub tail_below : start ≤ (levels_of words).limit
   pub limit_below : (levels_of words).limit ≤ start + places.ring
 

@@ -1,9 +1,14 @@
 pub mod Devices
 pub mod Flushing
 pub mod GuardAsks
+pub mod GuardCalm
 pub mod GuardFlushed
 pub mod GuardLevels
+pub mod GuardLimit
+pub mod GuardMail
+pub mod GuardReserved
 pub mod GuardSeen
+pub mod GuardSlots
 pub mod GuardTurned
 pub mod GuardWorld
 pub mod Guarded

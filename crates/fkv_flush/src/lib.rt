@@ -12,7 +12,10 @@ mod serving;
 pub use answers::DeviceAnswer;
 pub use flushing::Flush;
 pub use in_hand::law_records_in_hand;
-pub use laws::{law_flushed_is_synced, law_guarded, law_of_the_ring, law_seen};
+pub use laws::{
+    law_finds_slots, law_flushed_is_synced, law_guarded, law_mail, law_nothing_falls,
+    law_of_the_ring, law_seen,
+};
 pub use serving::Serve;
 
 #[cfg(test)]

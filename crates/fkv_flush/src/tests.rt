@@ -1,6 +1,6 @@
 use crate::{
-    DeviceAnswer, Flush, Serve, law_flushed_is_synced, law_guarded, law_of_the_ring,
-    law_records_in_hand, law_seen,
+    DeviceAnswer, Flush, Serve, law_finds_slots, law_flushed_is_synced, law_guarded, law_mail,
+    law_nothing_falls, law_of_the_ring, law_records_in_hand, law_seen,
 };
 use fkv_base::{Addr, Fault, Key, Shape, Version};
 use fkv_disk::{Device, Fuse, MemDisk};
@@ -281,6 +281,8 @@ fn frames_are_used_again(rt: HostRuntime) -> Result<(), Fail> {
     law_flushed_is_synced();
     law_of_the_ring();
     law_records_in_hand();
+    law_nothing_falls();
+    law_finds_slots();
     Ok(())
 }
 
@@ -347,5 +349,6 @@ fn a_mailbox_is_served(rt: HostRuntime) -> Result<(), Fail> {
         mailbox(&plane),
         [2, 281474976710656, 5, 18446744073709551610]
     );
+    law_mail();
     Ok(())
 }

@@ -68,6 +68,7 @@ returns c = record {
     safe_read_only = refl;
     read_only = refl;
     tail = refl;
+    limit = refl;
     tail_below = omega arith;
     limit_below = omega arith;
   };
