@@ -1,6 +1,7 @@
 mod Calm
 mod FlushKnows
 mod Follows
+mod Goes
 mod Guard
 mod GuardCounts
 mod GuardMachines
