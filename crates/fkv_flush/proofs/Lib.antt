@@ -1,3 +1,4 @@
+mod Armings
 mod Calm
 mod FlushKnows
 mod Follows
