@@ -31,7 +31,7 @@ use Rattle.fkv_flush.proofs.GuardHosted.{SoundNear, IsMoveSound, hosted, hosted_
 use Rattle.fkv_flush.proofs.GuardWorks.{truth, Known}
 
 -- one ask of a turn that moves is one of its move
-turned_hosted : (n : GuardNow) (x : Actor) (m : Mover) (next last : Ask MoveAnswer) → move_next_ask m (reply_to n.words (move_ask m)) ≡ next
+pub turned_hosted : (n : GuardNow) (x : Actor) (m : Mover) (next last : Ask MoveAnswer) → move_next_ask m (reply_to n.words (move_ask m)) ≡ next
     → (is_done next ≡ false → next ≡ move_ask (move_next m (reply_to n.words (move_ask m)))) → move_next_ask (move_next m (reply_to n.words (move_ask m))) 0 ≡ last
     → turned n x (turn_at turn.Moves m) ≡ hosted n x (λ its. Turns (turn_at turn.Moves its)) (λ its. Turns (turn_at turn.AtRest its)) m (reply_to n.words (move_ask m))
 unfolding turning_ask turning_next turn_led passed

@@ -1,7 +1,9 @@
+mod Armings
 mod Asks
 mod Calm
 mod FlushKnows
 mod Follows
+mod Goes
 mod Guard
 mod GuardCounts
 mod GuardEpochs

@@ -23,3 +23,4 @@ pub use Rattle.fkv_flush.proofs.OneEvent.{event_near, one_event, each_event}
 pub use Rattle.fkv_flush.proofs.Follows.{runs_now, run_now, put_twice, put_there, goes_first, goes_on, begins, resumes, moves_machine, moves_work, calls, reads, sees, publishes, updates, raises_read_only, raises_for, changes, Likeness, FitsMachine, FitsWork, Fits, Follows}
 pub use Rattle.fkv_flush.proofs.SoFar.{refreshed_so_far, protected_so_far, protected_then, refreshed_so, protected_so}
 pub use Rattle.fkv_flush.proofs.OuterPlaces.{session_is_outer, bucket_is_outer, overflow_is_outer, phase_is_outer, taken_is_outer}
+pub use Rattle.fkv_flush.proofs.Goes.{Goes, shift_goes, turn_goes}
