@@ -1,5 +1,5 @@
 # make run     runs the stored script and prints its answers (a build without proof)
-# make test    the gate: every proof from nothing, the must-fail edits, the tests and the program; then what `make memory` does
+# make test    the gate: every proof from nothing, the must-fail edits, the tests and the program; then tools/compare, and what `make memory` does
 # make fkv     proves the program and leaves it at build/fkv
 # make memory  runs the stored script, and recovery's calls, with each request for memory refused in turn
 # make bench   times the proved program on scripts of up to 65,536 lines
@@ -11,6 +11,7 @@ run:
 
 test:
 	rt ci
+	@tools/compare/run > /dev/null
 	@tools/memory/run crates/fkv/out/fkv > /dev/null
 	@tools/memory/recover > /dev/null
 

@@ -28,10 +28,8 @@ pub use opening_words::{OpeningWords, SessionWords};
 pub use openings::recover;
 
 #[cfg(test)]
-mod comparison;
+mod image_answers;
 #[cfg(test)]
 mod refused_memory;
-#[cfg(test)]
-mod slow_recovery;
 #[cfg(test)]
 mod tests;

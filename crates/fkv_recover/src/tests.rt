@@ -1,31 +1,16 @@
 use super::*;
 use byteorder::{ByteOrder, LittleEndian};
-use fkv_base::{Addr, Damage, Fault, Key, Serial, Shape, Value, Version};
+use fkv_base::{Addr, Fault, Key, Serial, Shape, Value, Version};
 use fkv_disk::{Device, MemDisk, Once};
 use fkv_words::Entry;
 use std::alloc::Global;
 use std::test::Fail;
-
-const MANIFEST: Fault = Fault::Damaged(Damage::Manifest, 1);
-
-const TRIPLE: Fault = Fault::Damaged(Damage::Triple, 0);
-
-const RECORD: Fault = Fault::Damaged(Damage::Record, 1);
-
-const LINK: Fault = Fault::Damaged(Damage::Link, 1);
 
 // Writes a number of eight bytes.
 fn put(bytes: &mut Vec<u8>, at: u32, number: u64) {
     let at = at as usize;
     if at + 8 <= bytes.len() {
         LittleEndian::write_u64(&mut bytes[at..at + 8], number);
-    }
-}
-
-fn set(bytes: &mut Vec<u8>, at: u16, byte: u8) {
-    let at = at as usize;
-    if at < bytes.len() {
-        LittleEndian::write_uint(&mut bytes[at..at + 1], u64::from(byte), 1);
     }
 }
 
@@ -67,27 +52,6 @@ pub(crate) fn sample(alloc: Global) -> Result<Vec<u8>, Fault> {
     put(&mut bytes, 5152, 1);
     put(&mut bytes, 5160, 10);
     Ok(bytes)
-}
-
-// The sample with these bytes changed.
-fn changed_disk(alloc: Global, changes: &[(u16, u8)]) -> Result<MemDisk, Fault> {
-    let mut bytes = sample(alloc)?;
-    for (at, byte) in changes {
-        set(&mut bytes, *at, *byte);
-    }
-    Ok(MemDisk::from_bytes(alloc, bytes)?)
-}
-
-// What recovery answers of it.
-fn changed(alloc: Global, changes: &[(u16, u8)]) -> Result<Opened, Fault> {
-    recover(alloc, &mut changed_disk(alloc, changes)?)
-}
-
-// The pairs of the store that is recovered of it.
-fn changed_pairs(alloc: Global, changes: &[(u16, u8)]) -> Result<Vec<(Key, Value)>, Fault> {
-    let mut disk = changed_disk(alloc, changes)?;
-    let opened = recover(alloc, &mut disk)?;
-    content(alloc, &opened, &mut disk)
 }
 
 #[test]
@@ -136,76 +100,16 @@ fn a_store_opens_with_its_words(rt: HostRuntime) -> Result<(), Fail> {
 }
 
 #[test]
-fn damage_is_named(rt: HostRuntime) -> Result<(), Fail> {
-    for (at, byte, fault) in [
-        (0, 0, Fault::NotAStore),
-        (1025, 1, MANIFEST),
-        (1032, 2, MANIFEST),
-        (1048, 1, MANIFEST),
-        (1086, 1, MANIFEST),
-        (3328, 16, TRIPLE),
-        (3334, 1, TRIPLE),
-        (3336, 2, TRIPLE),
-        (5144, 1, RECORD),
-        (5150, 2, RECORD),
-        (5151, 32, RECORD),
-        (5151, 64, LINK),
-        (5152, 2, LINK),
-    ] {
-        let answer = changed(rt.alloc(), &[(at, byte)]);
-        assert_eq!(rt; answer.err(), Some(fault), "byte {at}");
-    }
-    let answer = changed(rt.alloc(), &[(512, 0), (1024, 0)]);
-    assert_eq!(rt; answer.err(), Some(Fault::NotAStore), "no gate is open");
-    let mut cut = sample(rt.alloc())?;
-    cut.truncate(63);
-    let mut disk = MemDisk::from_bytes(rt.alloc(), cut)?;
-    assert_eq!(rt;
-        recover(rt.alloc(), &mut disk).err(),
-        Some(Fault::NotAStore)
-    );
-    Ok(())
-}
-
-#[test]
-fn what_keeps_the_structure_opens(rt: HostRuntime) -> Result<(), Fail> {
-    let opened = changed(rt.alloc(), &[(1024, 0)])?;
-    assert_eq!(rt; opened.number, Version(0));
-    assert_eq!(rt; opened.gates, (true, false));
-    assert_eq!(rt; changed_pairs(rt.alloc(), &[(1024, 0)])?.len(), 0);
-    let pairs = changed_pairs(rt.alloc(), &[(5160, 11)])?;
-    assert_eq!(rt; pairs.as_slice(), [(Key(1), Value(11))].as_slice());
-    let opened = changed(
-        rt.alloc(),
-        &[
-            (1080, 255),
-            (1081, 255),
-            (1082, 255),
-            (1083, 255),
-            (1084, 255),
-            (1085, 255),
-        ],
-    )?;
-    assert_eq!(rt;
-        opened.points.as_slice(),
-        [Serial(281474976710655)].as_slice()
-    );
-    let opened = changed(rt.alloc(), &[(1032, 253), (1033, 31)])?;
-    assert_eq!(rt; opened.number, Version(8189));
-    Ok(())
-}
-
-#[test]
 fn a_new_store_opens(rt: HostRuntime) -> Result<(), Fail> {
     let mut disk = MemDisk::new(rt.alloc());
-    let shape = Shape::new(4, 16, 4, 2, 2, 0, 64)?;
+    let shape = Shape::new(4, 16, 4, 2, 32, 0, 64)?;
     let created = create(rt.alloc(), &mut disk, shape)?;
     assert_eq!(rt; created.number, Version(0));
     let opened = recover(rt.alloc(), &mut disk)?;
     assert_eq!(rt; opened.shape, shape);
     assert_eq!(rt; opened.number, Version(0));
     assert_eq!(rt; opened.tail.0, 1);
-    assert_eq!(rt; opened.points.as_slice(), [Serial(0), Serial(0)].as_slice());
+    assert_eq!(rt; opened.points.as_slice(), [Serial(0); 32].as_slice());
     assert_eq!(rt; opened.gates, (true, false));
     let pairs = content(rt.alloc(), &opened, &mut disk)?;
     assert_eq!(rt; pairs.len(), 0);
@@ -255,27 +159,5 @@ fn creating_over_a_failing_device_is_refused(rt: HostRuntime) -> Result<(), Fail
         create(rt.alloc(), &mut once, shape)?;
         assert_eq!(rt; recover(rt.alloc(), &mut once)?.number, Version(0));
     }
-    Ok(())
-}
-
-// A chain of 65,535 records of one key.
-#[test]
-fn a_long_log_opens(rt: HostRuntime) -> Result<(), Fail> {
-    let mut bytes = sample(rt.alloc())?;
-    bytes.resize(1577984, 0)?;
-    for (at, number) in [(16, 1024), (1040, 65536), (1048, 65536), (3336, 65535)] {
-        put(&mut bytes, at, number);
-    }
-    for a in 1..65536 {
-        let at: u32 = 5120 + 24 * a;
-        put(&mut bytes, at, 281474976710656 + u64::from(a - 1));
-        put(&mut bytes, at + 8, 1);
-        put(&mut bytes, at + 16, u64::from(a));
-    }
-    let mut disk = MemDisk::from_bytes(rt.alloc(), bytes)?;
-    let opened = recover(rt.alloc(), &mut disk)?;
-    assert_eq!(rt; opened.tail.0, 65536);
-    let pairs = content(rt.alloc(), &opened, &mut disk)?;
-    assert_eq!(rt; pairs.as_slice(), [(Key(1), Value(65535))].as_slice());
     Ok(())
 }
