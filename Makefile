@@ -21,7 +21,7 @@ fkv:
 	cp crates/fkv/out/fkv build/fkv
 
 memory: fkv
-	cd crates/fkv_recover && rt test > /dev/null
+	cd crates/fkv_images && rt test > /dev/null
 	tools/memory/run build/fkv
 	tools/memory/recover
 

@@ -26,10 +26,3 @@ pub use laws::{law_layouts, law_spellings};
 pub use opened_store::Opened;
 pub use opening_words::{OpeningWords, SessionWords};
 pub use openings::recover;
-
-#[cfg(test)]
-mod image_answers;
-#[cfg(test)]
-mod refused_memory;
-#[cfg(test)]
-mod tests;

@@ -1,7 +1,7 @@
 //! What recovery answers of the image in the file that IMAGE names. A tool outside works out the same from the
 //! definitions and compares.
-use crate::{content, recover};
 use fkv_disk::MemDisk;
+use fkv_recover::{content, recover};
 use std::test::Fail;
 use std::{env, fs};
 

@@ -1,8 +1,8 @@
-use super::*;
+//! Stores that are created and opened.
 use byteorder::{ByteOrder, LittleEndian};
 use fkv_base::{Addr, Fault, Key, Serial, Shape, Value, Version};
 use fkv_disk::{Device, MemDisk, Once};
-use fkv_words::Entry;
+use fkv_recover::{content, create, law_layouts, law_spellings, recover};
 use std::alloc::Global;
 use std::test::Fail;
 
@@ -52,28 +52,6 @@ pub(crate) fn sample(alloc: Global) -> Result<Vec<u8>, Fault> {
     put(&mut bytes, 5152, 1);
     put(&mut bytes, 5160, 10);
     Ok(bytes)
-}
-
-#[test]
-fn a_store_is_recovered(rt: HostRuntime) -> Result<(), Fail> {
-    let mut disk = MemDisk::from_bytes(rt.alloc(), sample(rt.alloc())?)?;
-    let opened = recover(rt.alloc(), &mut disk)?;
-    assert_eq!(rt; opened.number, Version(1));
-    assert_eq!(rt; opened.tail.0, 2);
-    assert_eq!(rt; opened.points.as_slice(), [Serial(1)].as_slice());
-    assert_eq!(rt; opened.gates, (true, true));
-    assert_eq!(rt; opened.shape.disk_pages, 64);
-    let pairs = content(rt.alloc(), &opened, &mut disk)?;
-    assert_eq!(rt; pairs.as_slice(), [(Key(1), Value(10))].as_slice());
-    let first = HomeEntry {
-        bucket: 1,
-        entry: Entry {
-            addr: Addr(1),
-            tag: 0,
-        },
-    };
-    assert_eq!(rt; opened.entries.as_slice(), [first].as_slice());
-    Ok(())
 }
 
 #[test]
