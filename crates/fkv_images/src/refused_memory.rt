@@ -1,8 +1,8 @@
 //! Calls whose memory is refused, once: a tool outside lets each request fail in turn and runs this test.
-use crate::tests::sample;
-use crate::{IndexWords, Opened, content, create, recover};
+use crate::stores::sample;
 use fkv_base::{Fault, Key, Shape, Value, Version};
 use fkv_disk::{Device, MemDisk};
+use fkv_recover::{IndexWords, Opened, content, create, recover};
 use std::alloc::Global;
 use std::test::Fail;
 
