@@ -1,7 +1,8 @@
 # make run     runs a script and prints its answers (a build without proof): the stored one, or SCRIPT=path
 # make test    the gate: what crates name of each other, every proof from nothing, the must-fail edits, the tests and the
-#              program; then what `make memory` does
+#              program; then tools/compare, and what `make rows` and `make memory` do
 # make fkv     proves the program and leaves it at build/fkv
+# make rows    runs the built program on whole scripts, and compares what it writes
 # make memory  runs the stored script, and recovery's calls, with each request for memory refused in turn
 # make bench   times the proved program on scripts of up to 65,536 lines
 # make gate    runs the gate, and writes the processor time of each crate into docs/GATE.md
@@ -10,7 +11,7 @@
 
 SCRIPT ?= crates/fkv/stdin
 
-.PHONY: run test fkv memory bench gate toolchain
+.PHONY: run test fkv rows memory bench gate toolchain
 
 run: toolchain
 	@tools/script/run "$(SCRIPT)"
@@ -18,6 +19,8 @@ run: toolchain
 test: toolchain
 	tools/names/check
 	rt ci
+	@tools/rows/run crates/fkv/out/fkv > /dev/null
+	@tools/compare/run > /dev/null
 	@tools/memory/run crates/fkv/out/fkv > /dev/null
 	@tools/memory/recover > /dev/null
 
@@ -26,8 +29,11 @@ fkv: toolchain
 	mkdir -p build
 	cp crates/fkv/out/fkv build/fkv
 
+rows: fkv
+	tools/rows/run build/fkv
+
 memory: fkv
-	cd crates/fkv_recover && rt test > /dev/null
+	cd crates/fkv_images && rt test > /dev/null
 	tools/memory/run build/fkv
 	tools/memory/recover
 

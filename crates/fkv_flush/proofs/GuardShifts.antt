@@ -28,7 +28,7 @@ use Rattle.fkv_flush.proofs.GuardHosted.{SoundNear, IsMoveSound, hosted, hosted_
 use Rattle.fkv_flush.proofs.GuardWorks.{truth}
 
 -- one ask of a shift that moves is one of its move
-shifted_hosted : (n : GuardNow) (x : Actor) (tail : ℕ) (m : Mover) (next last : Ask MoveAnswer) → move_next_ask m (reply_to n.words (move_ask m)) ≡ next
+pub shifted_hosted : (n : GuardNow) (x : Actor) (tail : ℕ) (m : Mover) (next last : Ask MoveAnswer) → move_next_ask m (reply_to n.words (move_ask m)) ≡ next
     → (is_done next ≡ false → next ≡ move_ask (move_next m (reply_to n.words (move_ask m)))) → move_next_ask (move_next m (reply_to n.words (move_ask m))) 0 ≡ last
     → shifted n x (shift_at (shift.Moves tail) m) ≡ hosted n x (λ its. Shifts (shift_at (shift.Moves tail) its)) (λ its. Shifts (shift_at shift.AtRest its)) m (reply_to n.words (move_ask m))
 unfolding shifting_ask shifting_next shift_led passed
