@@ -29,7 +29,7 @@ use Rattle.fkv_log.specs.declared.turning.Turning.{Turning}
 use Rattle.fkv_log.specs.declared.turning.Turning.TheVariants as turn
 use Rattle.fkv_log.specs.Moving.{Mover, mover, move_ask, move_next, move_next_ask, moving_ask, moving_next, moving_next_ask, raise_led, raise_told, arm_led}
 use Rattle.fkv_log.specs.Shifting.{ShiftState, shift_at, shift_ask, shift_next, shifting_ask, shifting_next, shift_led, mutable_start}
-use Rattle.fkv_log.specs.Turning.{TurnState, turn_at, turn_ask, turn_next, turning_ask, turning_next, turn_led, frame_end, page_wanted}
+use Rattle.fkv_log.specs.Turning.{TurnState, turn_at, turn_ask, turn_next, turning_ask, turning_next, turn_led, frame_end, pages_wanted}
 use Rattle.fkv_log.proofs.Shown.{move_goes_on}
 use Rattle.fkv_flush.specs.GuardLevels.{Levels, levels_of}
 use Rattle.fkv_flush.specs.GuardCalm.{actor_of}
@@ -122,7 +122,7 @@ module _ (w : GuardWorld) (a : ℕ) (x : Actor) (sound : IsSound w) (got : slice
   turn_arms : (step : Turning) (m : Mover) → TurnKnows w.now.shape (levels_of w.now.words) x.machine step m → is_idle (Turns (turn_at step m)) ≡ false → ArmsBy (turned w.now x (turn_at step m))
   unfolding turning_ask turning_next moving_ask raise_ask passed
   turn_arms turn.AtRest m k busy = cc
-  turn_arms (turn.LoadsLimit form tail) m k busy = elim (truth (nat_lt ((levels_of w.now.words).limit / w.now.shape.page) (page_wanted w.now.shape tail))) [
+  turn_arms (turn.LoadsLimit form tail) m k busy = elim (truth (nat_lt ((levels_of w.now.words).limit / w.now.shape.page) (pages_wanted w.now.shape tail))) [
     | inl e ↦ rw e (λ slot c f. inl (sym (waits m k) ∙ f, refl))
     | inr e ↦ rw e (λ slot c f. inl (sym (waits m k) ∙ f, refl))
   ]
@@ -284,7 +284,7 @@ bears_on w event b slot c action sound = each_event (λ m. Bears m b slot c acti
       | inr n ↦
           let x' : Actor = (event_near w.now event x).actor in
           let same : slice_get (map machine_of (slice_set w.now.actors a x')) b ≡ slice_get (map machine_of w.now.actors) b =
-              slice_get-map machine_of (slice_set w.now.actors a x') b ∙ (ap (option_map machine_of) (item_spared w.now.actors a b x' n) ∙ sym (slice_get-map machine_of w.now.actors b)) in
+          slice_get-map machine_of (slice_set w.now.actors a x') b ∙ (ap (option_map machine_of) (item_spared w.now.actors a b x' n) ∙ sym (slice_get-map machine_of w.now.actors b)) in
           let bears = sym same ∙ h.0 in
           inl (bears, sym (near_keeps w a x sound got b slot c n bears event its) ∙ h.1)
     ]
