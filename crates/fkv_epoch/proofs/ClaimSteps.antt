@@ -1,5 +1,6 @@
 -- Steps of a claim.
 use Rattle.std.proofs.Common.{◌≡◌, ◌≢◌, ℕ, ◌+◌, ◌-◌, ◌<◌, ◌≤◌, List, [], ◌∷◌, length, refl, arith, sym, ap, inl, inr, ◌∙◌, max, Bool, true, false}
+use Rattle.fkv_base.specs.Limits.{drain_slots}
 use Rattle.std.specs.Prelude.{Option, Some, None, slice_get, slice_set, ◌==◌, nat_lt, nat_le, if◌then◌else◌, map}
 use Rattle.std.proofs.lemmas.List.{set-get_or, length-set}
 use Rattle.std.proofs.lemmas.Bool.Decides.{nat_tests}
@@ -12,17 +13,17 @@ use Rattle.fkv_plane.specs.declared.places.SessionWord.TheVariants as own
 use Rattle.fkv_epoch.specs.declared.claiming.Claiming.{Claiming}
 use Rattle.fkv_epoch.specs.declared.claiming.Claiming.TheVariants.{AtRest, MeetsSlot, LoadsSafe, TakesSlot, Receives, Runs, FreesSlot}
 use Rattle.fkv_epoch.specs.Claiming.{claim_ask, claim_next, claim_given, slot_after, slot_armed, phase_stored}
-use Rattle.fkv_epoch.specs.World.{Duty, Claims, Sight, World, Claimed, Ran, put_near, claimed, near, epoch_of, safe_of, own_epoch, drain_word, loaded}
+use Rattle.fkv_epoch.specs.EpochWorld.{EpochMachine, Claims, Sight, EpochWorld, Claimed, Ran, put_near, claimed, near, epoch_of, safe_of, own_epoch, drain_word, loaded}
 use Rattle.fkv_epoch.specs.Once.{goes_by, Among}
-use Rattle.fkv_epoch.proofs.Cells.{word_written, word_spared, item_spared, within_item, set_at, set_here}
+use Rattle.fkv_epoch.proofs.Items.{word_written, word_spared, item_spared, within_item, set_at, set_here}
 use Rattle.fkv_epoch.proofs.Epochs.{AreFrom, Knows, Epochs}
-use Rattle.fkv_epoch.proofs.Slots.{Fate, Taken, Spent, stage, Desk, Holds, Slots, Waiting}
+use Rattle.fkv_epoch.proofs.Slots.{Fate, Taken, Spent, stage, SlotTable, Holds, Slots, Waiting}
 use Rattle.fkv_epoch.proofs.SlotRuns.{take, spend, free}
-use Rattle.fkv_epoch.proofs.Sound.{IsSound, quiet, desk, assembled, epochs_written}
+use Rattle.fkv_epoch.proofs.Sound.{IsSound, quiet, slot_table, assembled, epochs_written}
 use Rattle.fkv_epoch.proofs.SessionSteps.{SoundAfter, dutiful}
 
 -- a word below the sessions' blocks, and neither epoch, is written by an actor whose duty says nothing of epochs
-pub low_written : (w : World) (a : ℕ) (d d' : Duty) (place word : ℕ) → IsSound w → slice_get w.now.actors a ≡ Some d → 2 ≤ place → place < 24
+pub low_written : (w : EpochWorld) (a : ℕ) (d d' : EpochMachine) (place word : ℕ) → IsSound w → slice_get w.now.actors a ≡ Some d → 2 ≤ place → place < 24
     → ((sight : Sight) → goes_by sight d' ≡ true → goes_by sight d ≡ true)
     → Knows w.now.sessions (epoch_of w.now.words) (own_epoch w.now.words a) (w.past.loads a) (AreFrom (own_epoch w.now.words) w.past.loads w.now.actors) a d'
     → (let words' : List ℕ = slice_set w.now.words place word in
@@ -55,33 +56,33 @@ way P true x y p q = p refl
 way P false x y p q = q refl
 
 -- the actor goes on to this state, and writes nothing
-abbrev pub Leads : World → ℕ → Claiming → Claiming → Type 0
+abbrev pub Leads : EpochWorld → ℕ → Claiming → Claiming → Type 0
 Leads w a step next = IsSound (record { now = put_near w.now a (claimed w.now.words w.now.actions next); past = record w.past { loads = loaded w.past.loads a None (epoch_of w.now.words) } })
 
-leads : (w : World) (a : ℕ) (step next : Claiming) → IsSound w → slice_get w.now.actors a ≡ Some (Claims step)
-    → ((owners : ℕ → Option ℕ) (fates : ℕ → Fate) → Slots (desk w.now w.past owners fates) w.now.actors → Holds (desk w.now w.past owners fates) a (Claims next))
+leads : (w : EpochWorld) (a : ℕ) (step next : Claiming) → IsSound w → slice_get w.now.actors a ≡ Some (Claims step)
+    → ((owners : ℕ → Option ℕ) (fates : ℕ → Fate) → Slots (slot_table w.now w.past owners fates) w.now.actors → Holds (slot_table w.now w.past owners fates) a (Claims next))
     → IsSound (record { now = record w.now { actors = slice_set w.now.actors a (Claims next) }; past = record w.past { loads = loaded w.past.loads a None (epoch_of w.now.words) } })
 leads w a step next sound got holds =
     quiet w a (Claims step) (Claims next) None sound got (inl (omega arith)) (dutiful w a (Claims step) (Claims next) sound got (λ s g. refl)) tt holds
 
 -- the next slot is met, or the claim is through
-holds_after : (k : Desk) (a slot : ℕ) (z : Option ℕ) → slot < 8 → Holds k a (Claims (MeetsSlot slot z)) → Holds k a (Claims (slot_after slot z))
+holds_after : (k : SlotTable) (a slot : ℕ) (z : Option ℕ) → slot < drain_slots → Holds k a (Claims (MeetsSlot slot z)) → Holds k a (Claims (slot_after slot z))
 unfolding slot_after
-holds_after k a slot None few h = way (λ s. Holds k a (Claims s)) (nat_lt slot 7) (MeetsSlot (slot + 1) None) AtRest (λ e. grind (arith, nat_tests, e)) (λ e. tt)
-holds_after k a slot (Some z) few h = way (λ s. Holds k a (Claims s)) (nat_lt slot 7) (MeetsSlot (slot + 1) (Some z)) AtRest (λ e. (grind (arith, nat_tests, e), h.1)) (λ e. tt)
+holds_after k a slot None few h = way (λ s. Holds k a (Claims s)) (nat_lt (slot + 1) drain_slots) (MeetsSlot (slot + 1) None) AtRest (λ e. grind (arith, nat_tests, e)) (λ e. tt)
+holds_after k a slot (Some z) few h = way (λ s. Holds k a (Claims s)) (nat_lt (slot + 1) drain_slots) (MeetsSlot (slot + 1) (Some z)) AtRest (λ e. (grind (arith, nat_tests, e), h.1)) (λ e. tt)
 
 claimed_after : (words : List ℕ) (actions : List (Option Action)) (slot : ℕ) (z : Option ℕ) → claimed words actions (slot_after slot z) ≡ near words actions (Claims (slot_after slot z))
 unfolding slot_after
-claimed_after words actions slot z = way (λ s. claimed words actions s ≡ near words actions (Claims s)) (nat_lt slot 7) (MeetsSlot (slot + 1) z) AtRest (λ e. refl) (λ e. refl)
+claimed_after words actions slot z = way (λ s. claimed words actions s ≡ near words actions (Claims s)) (nat_lt (slot + 1) drain_slots) (MeetsSlot (slot + 1) z) AtRest (λ e. refl) (λ e. refl)
 
-leads_after : (w : World) (a slot : ℕ) (z : Option ℕ) (step : Claiming) → IsSound w → slice_get w.now.actors a ≡ Some (Claims step) → slot < 8
-    → ((owners : ℕ → Option ℕ) (fates : ℕ → Fate) → Holds (desk w.now w.past owners fates) a (Claims (MeetsSlot slot z)))
+leads_after : (w : EpochWorld) (a slot : ℕ) (z : Option ℕ) (step : Claiming) → IsSound w → slice_get w.now.actors a ≡ Some (Claims step) → slot < drain_slots
+    → ((owners : ℕ → Option ℕ) (fates : ℕ → Fate) → Holds (slot_table w.now w.past owners fates) a (Claims (MeetsSlot slot z)))
     → Leads w a step (slot_after slot z)
 leads_after w a slot z step sound got few knows =
     rw (claimed_after w.now.words w.now.actions slot z)
-    (leads w a step (slot_after slot z) sound got (λ o f s. holds_after (desk w.now w.past o f) a slot z few (knows o f)))
+    (leads w a step (slot_after slot z) sound got (λ o f s. holds_after (slot_table w.now w.past o f) a slot z few (knows o f)))
 
-leads_armed : (w : World) (a slot word z : ℕ) (step : Claiming) → IsSound w → slice_get w.now.actors a ≡ Some (Claims step) → slot < 8 → 2 ≤ word → z ≤ safe_of w.now.words
+leads_armed : (w : EpochWorld) (a slot word z : ℕ) (step : Claiming) → IsSound w → slice_get w.now.actors a ≡ Some (Claims step) → slot < drain_slots → 2 ≤ word → z ≤ safe_of w.now.words
     → Leads w a step (slot_armed slot word z)
 unfolding slot_armed
 leads_armed w a slot word z step sound got few some safe =
@@ -90,16 +91,16 @@ leads_armed w a slot word z step sound got few some safe =
     (λ e. leads_after w a slot (Some z) step sound got few (λ o f. (few, safe)))
 
 -- running an action writes one word that is none of these machines'
-run_moves : (w : World) (a slot c z : ℕ) (action : Action) (place word : ℕ) → IsSound w → slice_get w.now.actors a ≡ Some (Claims (Runs slot c z action)) → 2 ≤ place → place < 16
+run_moves : (w : EpochWorld) (a slot c z : ℕ) (action : Action) (place word : ℕ) → IsSound w → slice_get w.now.actors a ≡ Some (Claims (Runs slot c z action)) → 2 ≤ place → place < 16
     → IsSound (record {
       now = record w.now { words = slice_set w.now.words place word; actors = slice_set w.now.actors a (Claims (FreesSlot slot z)) };
       past = record { loads = loaded w.past.loads a None (epoch_of w.now.words); armed = w.past.armed; claims = w.past.claims; runs = record { actor = a; slot = slot; epoch = c; action = action } ∷ w.past.runs };
     })
 run_moves w a slot c z action place word sound got far low =
     let words' : List ℕ = slice_set w.now.words place word in
-    let k : Desk = desk w.now w.past sound.owners sound.fates in
-    let d : Duty = Claims (Runs slot c z action) in
-    let d' : Duty = Claims (FreesSlot slot z) in
+    let k : SlotTable = slot_table w.now w.past sound.owners sound.fates in
+    let d : EpochMachine = Claims (Runs slot c z action) in
+    let d' : EpochMachine = Claims (FreesSlot slot z) in
     let h = sound.slots.holds a d got in
     let r0 : Ran = record { actor = a; slot = slot; epoch = c; action = action } in
     let same_epoch = low_epoch w.now.words place word far in
@@ -119,7 +120,7 @@ run_moves w a slot c z action place word sound got far low =
     })
 
 -- the Cas that takes an armed slot is won
-take_moves : (w : World) (a slot word z : ℕ) → IsSound w → slice_get w.now.actors a ≡ Some (Claims (TakesSlot slot word z)) → drain_word w.now.words slot ≡ word
+take_moves : (w : EpochWorld) (a slot word z : ℕ) → IsSound w → slice_get w.now.actors a ≡ Some (Claims (TakesSlot slot word z)) → drain_word w.now.words slot ≡ word
     → IsSound (record {
       now = put_near w.now a (claimed (slice_set w.now.words (drain_place slot) 1) w.now.actions (Receives slot (word - 2) z));
       past = record { loads = loaded w.past.loads a None (epoch_of w.now.words); armed = w.past.armed; claims = record { actor = a; slot = slot; epoch = word - 2 } ∷ w.past.claims; runs = w.past.runs };
@@ -130,14 +131,14 @@ take_moves w a slot word z sound got found =
     let place : ℕ = drain_place slot in
     let words' : List ℕ = slice_set w.now.words place 1 in
     let actions' : List (Option Action) = slice_set w.now.actions slot None in
-    let k : Desk = desk w.now w.past sound.owners sound.fates in
-    let d : Duty = Claims (TakesSlot slot word z) in
+    let k : SlotTable = slot_table w.now w.past sound.owners sound.fates in
+    let d : EpochMachine = Claims (TakesSlot slot word z) in
     let h = sound.slots.holds a d got in
-    let few : slot < 8 = h.0 in
+    let few : slot < drain_slots = h.0 in
     let some : 2 ≤ word = h.2 in
     let at_slot : drain_word w.now.words slot ≡ c + 2 = omega (arith, found, some) in
     let wait : Waiting k slot c = sound.slots.waiting slot c few at_slot in
-    let d' : Duty = Claims (Runs slot c z wait.action) in
+    let d' : EpochMachine = Claims (Runs slot c z wait.action) in
     let t0 : Claimed = record { actor = a; slot = slot; epoch = c } in
     let same_epoch = low_epoch w.now.words place 1 (omega arith) in
     let same_safe = low_safe w.now.words place 1 (omega arith) in
@@ -161,20 +162,20 @@ take_moves w a slot word z sound got found =
     }))
 
 -- the slot is set free
-free_moves : (w : World) (a slot z : ℕ) → IsSound w → slice_get w.now.actors a ≡ Some (Claims (FreesSlot slot z))
+free_moves : (w : EpochWorld) (a slot z : ℕ) → IsSound w → slice_get w.now.actors a ≡ Some (Claims (FreesSlot slot z))
     → IsSound (record { now = put_near w.now a (claimed (slice_set w.now.words (drain_place slot) 0) w.now.actions (slot_after slot (Some z))); past = record w.past { loads = loaded w.past.loads a None (epoch_of w.now.words) } })
 free_moves w a slot z sound got =
     let place : ℕ = drain_place slot in
     let words' : List ℕ = slice_set w.now.words place 0 in
-    let k : Desk = desk w.now w.past sound.owners sound.fates in
-    let d : Duty = Claims (FreesSlot slot z) in
+    let k : SlotTable = slot_table w.now w.past sound.owners sound.fates in
+    let d : EpochMachine = Claims (FreesSlot slot z) in
     let h = sound.slots.holds a d got in
-    let few : slot < 8 = h.0 in
-    let d' : Duty = Claims (slot_after slot (Some z)) in
+    let few : slot < drain_slots = h.0 in
+    let d' : EpochMachine = Claims (slot_after slot (Some z)) in
     let same_epoch = low_epoch w.now.words place 0 (omega arith) in
     let same_safe = low_safe w.now.words place 0 (omega arith) in
     let now_zero : drain_word words' slot ≡ 0 = word_written w.now.words place 0 (omega (arith, few, sound.enough_words)) in
-    let k' : Desk = record k { epoch = epoch_of words'; safe = safe_of words'; drains = drain_word words'; owners = set_at sound.owners slot None } in
+    let k' : SlotTable = record k { epoch = epoch_of words'; safe = safe_of words'; drains = drain_word words'; owners = set_at sound.owners slot None } in
     rw (claimed_after words' w.now.actions slot (Some z))
     (assembled w a d d' None words' w.now.actions w.past.armed w.past.claims w.past.runs (set_at sound.owners slot None) sound.fates sound got
     (length-set w.now.words place 0) sound.eight_slots (inl (omega arith))
@@ -184,7 +185,7 @@ free_moves w a slot z sound got =
     (holds_after k' a slot (Some z) few (few, omega (arith, h.1, same_safe))))
     sound.once)
 
-pub claim_moves : (w : World) (a : ℕ) (step : Claiming) → IsSound w → slice_get w.now.actors a ≡ Some (Claims step) → SoundAfter w a (Claims step)
+pub claim_moves : (w : EpochWorld) (a : ℕ) (step : Claiming) → IsSound w → slice_get w.now.actors a ≡ Some (Claims step) → SoundAfter w a (Claims step)
 unfolding claim_ask claim_next
 claim_moves w a AtRest sound got = leads w a AtRest AtRest sound got (λ o f s. tt)
 claim_moves w a (MeetsSlot slot None) sound got =

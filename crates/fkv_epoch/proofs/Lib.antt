@@ -1,4 +1,4 @@
-pub mod Cells
+pub mod Items
 pub mod Epochs
 pub mod Slots
 pub mod SlotSteps

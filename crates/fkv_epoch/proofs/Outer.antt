@@ -1,5 +1,6 @@
 -- The events that are no ask of these machines: an action put into a slot, another load of a session, another word.
 use Rattle.std.proofs.Common.{◌≡◌, ℕ, zero, suc, ◌+◌, ◌-◌, ◌*◌, ◌%◌, ◌<◌, ◌≤◌, List, [], ◌∷◌, length, refl, arith, sym, ap, inl, inr, ◌∙◌, Bool, true, false, eq-eqb}
+use Rattle.fkv_base.specs.Limits.{drain_slots}
 use Rattle.std.specs.Prelude.{Option, Some, None, slice_get, slice_set, ◌==◌, ◌&&◌, ◌||◌, nat_lt, nat_le}
 use Rattle.std.proofs.lemmas.List.{length-set}
 use Rattle.std.proofs.lemmas.Bool.Decides.{nat_tests}
@@ -7,19 +8,19 @@ use Rattle.fkv_plane.specs.declared.actions.Action.{Action}
 use Rattle.fkv_plane.specs.Plane.{action_at, found_action}
 use Rattle.fkv_plane.specs.Places.{session_place, drain_place}
 use Rattle.fkv_plane.specs.declared.places.SessionWord.TheVariants as own
-use Rattle.fkv_epoch.specs.declared.protecting.Protecting.TheVariants as wake
-use Rattle.fkv_epoch.specs.declared.refreshing.Refreshing.TheVariants as look
-use Rattle.fkv_epoch.specs.declared.leaving.Leaving.TheVariants as sleep
+use Rattle.fkv_epoch.specs.declared.protecting.Protecting.TheVariants as protect
+use Rattle.fkv_epoch.specs.declared.refreshing.Refreshing.TheVariants as refresh
+use Rattle.fkv_epoch.specs.declared.leaving.Leaving.TheVariants as leave
 use Rattle.fkv_epoch.specs.declared.scanning.Scanning.TheVariants as scan
 use Rattle.fkv_epoch.specs.declared.arming.Arming.TheVariants as arm
 use Rattle.fkv_epoch.specs.Arming.{arm_next}
-use Rattle.fkv_epoch.specs.World.{Duty, Protects, Refreshes, Leaves, Scans, Claims, Raises, Bears, Arms, Sight, OfPhase, OfReadOnly, OfHead, Loads, World, put, past_seen, epoch_of, safe_of, own_epoch, drain_word, with_load, is_own}
+use Rattle.fkv_epoch.specs.EpochWorld.{EpochMachine, Protects, Refreshes, Leaves, Scans, Claims, Raises, HasRaised, Arms, Sight, OfPhase, OfReadOnly, OfHead, Loads, EpochWorld, put, past_seen, epoch_of, safe_of, own_epoch, drain_word, with_load, is_own}
 use Rattle.fkv_epoch.specs.Once.{load_of}
-use Rattle.fkv_epoch.proofs.Cells.{word_spared, item_spared, within_item}
+use Rattle.fkv_epoch.proofs.Items.{word_spared, item_spared, within_item}
 use Rattle.fkv_epoch.proofs.Epochs.{AreFrom, Knows, knows_more, from_moved}
-use Rattle.fkv_epoch.proofs.Slots.{Desk, holds_more}
+use Rattle.fkv_epoch.proofs.Slots.{SlotTable, holds_more}
 use Rattle.fkv_epoch.proofs.SlotSteps as slots
-use Rattle.fkv_epoch.proofs.Sound.{IsSound, quiet, desk, load_up, assembled, epochs_step}
+use Rattle.fkv_epoch.proofs.Sound.{IsSound, quiet, slot_table, load_up, assembled, epochs_step}
 use Rattle.fkv_epoch.proofs.SessionSteps.{dutiful, looking}
 use Rattle.fkv_epoch.proofs.Happens.{no_load}
 
@@ -28,15 +29,15 @@ same_item [] i x e = refl
 same_item (y ∷ ys) zero x e = let h : y ≡ x = cc in ap (λ z. z ∷ ys) (sym h)
 same_item (y ∷ ys) (suc i) x e = ap (λ zs. y ∷ zs) (same_item ys i x e)
 
-put_bears : (w : World) (a slot c : ℕ) (action : Action) → IsSound w → slice_get w.now.actors a ≡ Some (Bears slot c)
+put_bears : (w : EpochWorld) (a slot c : ℕ) (action : Action) → IsSound w → slice_get w.now.actors a ≡ Some (HasRaised slot c)
     → IsSound (record { now = record w.now { actions = slice_set w.now.actions slot (Some action); actors = slice_set w.now.actors a (Arms (arm.StoresEpoch slot c)) }; past = w.past })
 put_bears w a slot c action sound got =
     let actions' : List (Option Action) = slice_set w.now.actions slot (Some action) in
-    let k : Desk = desk w.now w.past sound.owners sound.fates in
-    let d : Duty = Bears slot c in
-    let d' : Duty = Arms (arm.StoresEpoch slot c) in
+    let k : SlotTable = slot_table w.now w.past sound.owners sound.fates in
+    let d : EpochMachine = HasRaised slot c in
+    let d' : EpochMachine = Arms (arm.StoresEpoch slot c) in
     let h = sound.slots.holds a d got in
-    let few : slot < 8 = h.0 in
+    let few : slot < drain_slots = h.0 in
     let same_actions : length actions' ≡ length w.now.actions = length-set w.now.actions slot (Some action) in
     let home : action_at actions' slot ≡ Some action = ap found_action (within_item w.now.actions slot (Some action) (omega (arith, few, sound.eight_slots))) in
     let none = no_load w.past.loads a (epoch_of w.now.words) in
@@ -50,10 +51,10 @@ put_bears w a slot c action sound got =
     sound.once in
     rw none at whole
 
-pub put_sound : (w : World) (a : ℕ) (action : Action) (found : Option Duty) → slice_get w.now.actors a ≡ found → IsSound w → IsSound (record { now = put w.now a action found; past = w.past })
+pub put_sound : (w : EpochWorld) (a : ℕ) (action : Action) (found : Option EpochMachine) → slice_get w.now.actors a ≡ found → IsSound w → IsSound (record { now = put w.now a action found; past = w.past })
 unfolding arm_next
 put_sound w a action None got sound = sound
-put_sound w a action (Some (Bears slot c)) got sound = put_bears w a slot c action sound got
+put_sound w a action (Some (HasRaised slot c)) got sound = put_bears w a slot c action sound got
 put_sound w a action (Some (Protects x)) got sound = sound
 put_sound w a action (Some (Refreshes x)) got sound = sound
 put_sound w a action (Some (Leaves x)) got sound = sound
@@ -63,32 +64,32 @@ put_sound w a action (Some (Raises x)) got sound = sound
 put_sound w a action (Some (Arms x)) got sound = sound
 
 -- a later load takes nothing from what a machine knows
-knows_load : (S E word : ℕ) (l l' : Loads) (From : ℕ → ℕ → Type 0) (a : ℕ) (d : Duty) → ((s : Sight) → load_of l s ≤ load_of l' s) → Knows S E word l From a d → Knows S E word l' From a d
-knows_load S E w l l' F a (Protects wake.AtRest) up k = k
-knows_load S E w l l' F a (Protects wake.LoadsEpoch) up k = k
-knows_load S E w l l' F a (Protects (wake.StoresEpoch x)) up k = k
-knows_load S E w l l' F a (Protects wake.LoadsPhase) up k = k
-knows_load S E w l l' F a (Protects (wake.LoadsReadOnly x)) up k = k
-knows_load S E w l l' F a (Protects (wake.LoadsHead x y)) up k = k
-knows_load S E w l l' F a (Refreshes look.AtRest) up k = k
-knows_load S E w l l' F a (Refreshes look.LoadsEpoch) up k = k
-knows_load S E w l l' F a (Refreshes (look.LoadsPhase x)) up k = k
-knows_load S E w l l' F a (Refreshes (look.LoadsReadOnly x y)) up k = let p = up OfPhase in (k.0, k.1, k.2, omega (arith, p, k.3))
-knows_load S E w l l' F a (Refreshes (look.LoadsHead x y z)) up k = let p = up OfPhase in let r = up OfReadOnly in (k.0, k.1, k.2, omega (arith, p, k.3), omega (arith, r, k.4))
-knows_load S E w l l' F a (Refreshes (look.HasLoaded x y)) up k = let p = up OfPhase in let r = up OfReadOnly in let h = up OfHead in (k.0, k.1, k.2, omega (arith, p, k.3), omega (arith, r, k.4), omega (arith, h, k.5))
-knows_load S E w l l' F a (Refreshes (look.StoresEpoch x)) up k = let p = up OfPhase in let r = up OfReadOnly in let h = up OfHead in (k.0, k.1, k.2, omega (arith, p, k.3), omega (arith, r, k.4), omega (arith, h, k.5))
-knows_load S E w l l' F a (Leaves sleep.AtRest) up k = k
-knows_load S E w l l' F a (Leaves sleep.StoresZero) up k = k
+knows_load : (S E word : ℕ) (l l' : Loads) (From : ℕ → ℕ → Type 0) (a : ℕ) (d : EpochMachine) → ((s : Sight) → load_of l s ≤ load_of l' s) → Knows S E word l From a d → Knows S E word l' From a d
+knows_load S E w l l' F a (Protects protect.AtRest) up k = k
+knows_load S E w l l' F a (Protects protect.LoadsEpoch) up k = k
+knows_load S E w l l' F a (Protects (protect.StoresEpoch x)) up k = k
+knows_load S E w l l' F a (Protects protect.LoadsPhase) up k = k
+knows_load S E w l l' F a (Protects (protect.LoadsReadOnly x)) up k = k
+knows_load S E w l l' F a (Protects (protect.LoadsHead x y)) up k = k
+knows_load S E w l l' F a (Refreshes refresh.AtRest) up k = k
+knows_load S E w l l' F a (Refreshes refresh.LoadsEpoch) up k = k
+knows_load S E w l l' F a (Refreshes (refresh.LoadsPhase x)) up k = k
+knows_load S E w l l' F a (Refreshes (refresh.LoadsReadOnly x y)) up k = let p = up OfPhase in (k.0, k.1, k.2, omega (arith, p, k.3))
+knows_load S E w l l' F a (Refreshes (refresh.LoadsHead x y z)) up k = let p = up OfPhase in let r = up OfReadOnly in (k.0, k.1, k.2, omega (arith, p, k.3), omega (arith, r, k.4))
+knows_load S E w l l' F a (Refreshes (refresh.HasLoaded x y)) up k = let p = up OfPhase in let r = up OfReadOnly in let h = up OfHead in (k.0, k.1, k.2, omega (arith, p, k.3), omega (arith, r, k.4), omega (arith, h, k.5))
+knows_load S E w l l' F a (Refreshes (refresh.StoresEpoch x)) up k = let p = up OfPhase in let r = up OfReadOnly in let h = up OfHead in (k.0, k.1, k.2, omega (arith, p, k.3), omega (arith, r, k.4), omega (arith, h, k.5))
+knows_load S E w l l' F a (Leaves leave.AtRest) up k = k
+knows_load S E w l l' F a (Leaves leave.StoresZero) up k = k
 knows_load S E w l l' F a (Scans scan.AtRest) up k = k
 knows_load S E w l l' F a (Scans scan.LoadsEpoch) up k = k
 knows_load S E w l l' F a (Scans (scan.LoadsSession i m)) up k = k
 knows_load S E w l l' F a (Scans (scan.RaisesSafe m)) up k = k
 knows_load S E w l l' F a (Claims x) up k = k
 knows_load S E w l l' F a (Raises x) up k = k
-knows_load S E w l l' F a (Bears x y) up k = k
+knows_load S E w l l' F a (HasRaised x y) up k = k
 knows_load S E w l l' F a (Arms x) up k = k
 
-pub seen_sound : (w : World) (a : ℕ) (x : Sight) (found : Option Duty) → slice_get w.now.actors a ≡ found → IsSound w → IsSound (record { now = w.now; past = past_seen w.now a x w.past found })
+pub seen_sound : (w : EpochWorld) (a : ℕ) (x : Sight) (found : Option EpochMachine) → slice_get w.now.actors a ≡ found → IsSound w → IsSound (record { now = w.now; past = past_seen w.now a x w.past found })
 seen_sound w a x None got sound = sound
 seen_sound w a x (Some d) got sound =
     let E : ℕ = epoch_of w.now.words in
@@ -137,7 +138,7 @@ own_session S s p h e =
     right_true (nat_lt p 2 || (nat_le 16 p && nat_lt p 24)) (nat_le 24 p && nat_lt p (24 + 16 * S) && (p - 24) % 16 == 0) (and_true (nat_le 24 p && nat_lt p (24 + 16 * S)) ((p - 24) % 16 == 0) (and_true (nat_le 24 p) (nat_lt p (24 + 16 * S)) t u) v)
 
 -- another word changes
-pub changes_sound : (w : World) (p v : ℕ) → is_own w.now.sessions p ≡ false → IsSound w → IsSound (record { now = record w.now { words = slice_set w.now.words p v }; past = w.past })
+pub changes_sound : (w : EpochWorld) (p v : ℕ) → is_own w.now.sessions p ≡ false → IsSound w → IsSound (record { now = record w.now { words = slice_set w.now.words p v }; past = w.past })
 changes_sound w p v foreign sound =
     let S : ℕ = w.now.sessions in
     let words : List ℕ = w.now.words in
@@ -146,12 +147,12 @@ changes_sound w p v foreign sound =
     let same_epoch : epoch_of words' ≡ epoch_of words = word_spared words p v 0 (λ e. apart (own_low S p (omega (arith, e)))) in
     let same_safe : safe_of words' ≡ safe_of words = word_spared words p v 1 (λ e. apart (own_low S p (omega (arith, e)))) in
     let same_own : (s : ℕ) → s < S → own_epoch words' s ≡ own_epoch words s = λ s h. word_spared words p v (session_place s own.Epoch) (λ e. apart (own_session S s p h (omega (arith, e)))) in
-    let same_drain : (s : ℕ) → s < 8 → drain_word words' s ≡ drain_word words s = λ s h. word_spared words p v (drain_place s) (λ e. apart (own_drain S p (omega (arith, e)) (omega (arith, e, h)))) in
-    let k : Desk = desk w.now w.past sound.owners sound.fates in
-    let k' : Desk = record k { epoch = epoch_of words'; safe = safe_of words'; drains = drain_word words' } in
+    let same_drain : (s : ℕ) → s < drain_slots → drain_word words' s ≡ drain_word words s = λ s h. word_spared words p v (drain_place s) (λ e. apart (own_drain S p (omega (arith, e)) (omega (arith, e, h)))) in
+    let k : SlotTable = slot_table w.now w.past sound.owners sound.fates in
+    let k' : SlotTable = record k { epoch = epoch_of words'; safe = safe_of words'; drains = drain_word words' } in
     let old = sound.epochs in
-    let more : (m i : ℕ) → m ≤ epoch_of words → i ≤ S → AreFrom (own_epoch words) w.past.loads w.now.actors m i → AreFrom (own_epoch words') w.past.loads w.now.actors m i = λ m i below few f s inside duty got.
-    from_moved m (own_epoch words s) (own_epoch words' s) (w.past.loads s) (w.past.loads s) duty (same_own s (omega (arith, inside, few))) refl (f s inside duty got) in
+    let more : (m i : ℕ) → m ≤ epoch_of words → i ≤ S → AreFrom (own_epoch words) w.past.loads w.now.actors m i → AreFrom (own_epoch words') w.past.loads w.now.actors m i = λ m i below few f s inside machine got.
+    from_moved m (own_epoch words s) (own_epoch words' s) (w.past.loads s) (w.past.loads s) machine (same_own s (omega (arith, inside, few))) refl (f s inside machine got) in
     let below = old.safe_below in
     record {
       few_sessions = sound.few_sessions;
@@ -164,9 +165,9 @@ changes_sound w p v foreign sound =
         loads_below = λ s sight. let h = old.loads_below s sight in omega (arith, same_epoch, h);
         words_below = λ s h. let x = old.words_below s h in let y = same_own s h in omega (arith, x, y, same_epoch);
         above_safe = rw same_safe (more (safe_of words + 1) S below (omega arith) old.above_safe);
-        above_word = λ s h duty got. rw (same_own s h) (old.above_word s h duty got);
-        knows = λ b duty got. knows_more S (epoch_of words) (epoch_of words') (own_epoch words b) (own_epoch words' b) (w.past.loads b) (w.past.loads b) (AreFrom (own_epoch words) w.past.loads w.now.actors) (AreFrom (own_epoch words') w.past.loads w.now.actors) b duty
-            (omega (arith, same_epoch)) (same_own b) refl more (old.knows b duty got);
+        above_word = λ s h machine got. rw (same_own s h) (old.above_word s h machine got);
+        knows = λ b machine got. knows_more S (epoch_of words) (epoch_of words') (own_epoch words b) (own_epoch words' b) (w.past.loads b) (w.past.loads b) (AreFrom (own_epoch words) w.past.loads w.now.actors) (AreFrom (own_epoch words') w.past.loads w.now.actors) b machine
+            (omega (arith, same_epoch)) (same_own b) refl more (old.knows b machine got);
       };
       owners = sound.owners;
       fates = sound.fates;
@@ -174,11 +175,11 @@ changes_sound w p v foreign sound =
         unowned = λ s few n. sound.slots.unowned s few (λ e. n (same_drain s few ∙ e));
         empty = λ s few e. sound.slots.empty s few (sym (same_drain s few) ∙ e);
         waiting = λ s c few e. let h = sound.slots.waiting s c few (sym (same_drain s few) ∙ e) in record { waits = h.waits; action = h.action; at_home = h.at_home; was_armed = h.was_armed };
-        unborn = λ c h. sound.slots.unborn c (omega (arith, h, same_epoch));
+        not_raised = λ c h. sound.slots.not_raised c (omega (arith, h, same_epoch));
         armed_stage = sound.slots.armed_stage;
         claimed_stage = sound.slots.claimed_stage;
         run_stage = sound.slots.run_stage;
-        holds = λ b duty got. holds_more k k' b duty (record { safe = omega (arith, same_safe); owner = λ s f o. o; home = λ s f o. refl; borne = λ c o. o; taken = λ c o. o; armed = λ x o. o; claims = λ x o. o }) (sound.slots.holds b duty got);
+        holds = λ b machine got. holds_more k k' b machine (record { safe = omega (arith, same_safe); owner = λ s f o. o; home = λ s f o. refl; carried = λ c o. o; taken = λ c o. o; armed = λ x o. o; claims = λ x o. o }) (sound.slots.holds b machine got);
       };
       once = sound.once;
     }

@@ -8,15 +8,15 @@ use Rattle.fkv_plane.specs.declared.places.SessionWord.TheVariants as own
 use Rattle.fkv_epoch.specs.declared.scanning.Scanning.{Scanning}
 use Rattle.fkv_epoch.specs.declared.scanning.Scanning.TheVariants.{AtRest, LoadsEpoch, LoadsSession, RaisesSafe}
 use Rattle.fkv_epoch.specs.Scanning.{scan_ask, scan_next, sessions_from, least_of}
-use Rattle.fkv_epoch.specs.World.{Duty, Scans, Loads, World, epoch_of, safe_of, own_epoch, drain_word}
-use Rattle.fkv_epoch.proofs.Cells.{same_or, word_written, word_spared}
+use Rattle.fkv_epoch.specs.EpochWorld.{EpochMachine, Scans, Loads, EpochWorld, epoch_of, safe_of, own_epoch, drain_word}
+use Rattle.fkv_epoch.proofs.Items.{same_or, word_written, word_spared}
 use Rattle.fkv_epoch.proofs.Epochs.{IsFrom, AreFrom, Knows}
 use Rattle.fkv_epoch.proofs.Slots.{still}
-use Rattle.fkv_epoch.proofs.Sound.{IsSound, quiet, desk, assembled, epochs_step}
+use Rattle.fkv_epoch.proofs.Sound.{IsSound, quiet, slot_table, assembled, epochs_step}
 use Rattle.fkv_epoch.proofs.SessionSteps.{SoundAfter, dutiful}
 
-from_weaker : (m m' word : ℕ) (l : Loads) (duty : Duty) → m' ≤ m → IsFrom m word l duty → IsFrom m' word l duty
-from_weaker m m' word l duty h f = record { loaded = λ s p g. let o = f.loaded s p g in omega (arith, o, h) }
+from_weaker : (m m' word : ℕ) (l : Loads) (machine : EpochMachine) → m' ≤ m → IsFrom m word l machine → IsFrom m' word l machine
+from_weaker m m' word l machine h f = record { loaded = λ s p g. let o = f.loaded s p g in omega (arith, o, h) }
 
 least_le : (m word : ℕ) → least_of m word ≤ m
 unfolding least_of
@@ -40,13 +40,13 @@ meets S E word l From a i m some below few from =
     cases true e = (grind (arith, nat_tests, e), some, below, from)
     cases false e = let same : i ≡ S = grind (arith, nat_tests, e) in (some, below, rw (← same) from)
 
-pub scan_moves : (w : World) (a : ℕ) (step : Scanning) → IsSound w → slice_get w.now.actors a ≡ Some (Scans step) → SoundAfter w a (Scans step)
+pub scan_moves : (w : EpochWorld) (a : ℕ) (step : Scanning) → IsSound w → slice_get w.now.actors a ≡ Some (Scans step) → SoundAfter w a (Scans step)
 unfolding scan_ask scan_next
 scan_moves w a AtRest sound got =
     quiet w a (Scans AtRest) (Scans AtRest) None sound got (inl (omega arith))
     (dutiful w a (Scans AtRest) (Scans AtRest) sound got (λ s g. refl)) tt (λ o f s. tt)
 scan_moves w a LoadsEpoch sound got =
-    let d' : Duty = Scans (sessions_from w.now.sessions 0 (epoch_of w.now.words)) in
+    let d' : EpochMachine = Scans (sessions_from w.now.sessions 0 (epoch_of w.now.words)) in
     let some = sound.epochs.safe_below in
     rw (set-get_or w.now.words 0 0)
     (quiet w a (Scans LoadsEpoch) d' None sound got (inl (omega arith))
@@ -55,14 +55,14 @@ scan_moves w a LoadsEpoch sound got =
 scan_moves w a (LoadsSession i m) sound got =
     let word : ℕ = own_epoch w.now.words i in
     let least : ℕ = least_of m word in
-    let d' : Duty = Scans (sessions_from w.now.sessions (i + 1) least) in
+    let d' : EpochMachine = Scans (sessions_from w.now.sessions (i + 1) least) in
     let k = sound.epochs.knows a (Scans (LoadsSession i m)) got in
     let low = least_le m word in
-    let from : AreFrom (own_epoch w.now.words) w.past.loads w.now.actors least (i + 1) = λ s h duty its. elim (same_or s i) [
+    let from : AreFrom (own_epoch w.now.words) w.past.loads w.now.actors least (i + 1) = λ s h machine its. elim (same_or s i) [
       | inl e ↦
-          let f : IsFrom (own_epoch w.now.words s) (own_epoch w.now.words s) (w.past.loads s) duty = sound.epochs.above_word s (omega (arith, e, k.0)) duty its in
+          let f : IsFrom (own_epoch w.now.words s) (own_epoch w.now.words s) (w.past.loads s) machine = sound.epochs.above_word s (omega (arith, e, k.0)) machine its in
           record { loaded = λ o p g. let x = f.loaded o p g in let y = least_word m word (omega (arith, p, ap (own_epoch w.now.words) e)) in omega (arith, x, y, ap (own_epoch w.now.words) e) }
-      | inr n ↦ from_weaker m least (own_epoch w.now.words s) (w.past.loads s) duty low (k.3 s (omega (arith, n, h)) duty its)
+      | inr n ↦ from_weaker m least (own_epoch w.now.words s) (w.past.loads s) machine low (k.3 s (omega (arith, n, h)) machine its)
     ] in
     rw (set-get_or w.now.words (session_place i own.Epoch) 0)
     (quiet w a (Scans (LoadsSession i m)) d' None sound got (inl (omega arith))
@@ -78,13 +78,13 @@ scan_moves w a (RaisesSafe m) sound got =
     let some : 1 ≤ m = k.0 in
     let few : m ≤ epoch_of w.now.words = k.1 in
     let safer = sound.epochs.safe_below in
-    let above : AreFrom (own_epoch w.now.words) w.past.loads w.now.actors (safe_of words' + 1) w.now.sessions = λ s inside duty its. record {
+    let above : AreFrom (own_epoch w.now.words) w.past.loads w.now.actors (safe_of words' + 1) w.now.sessions = λ s inside machine its. record {
       loaded = λ o p g.
-          let x = (k.2 s inside duty its).loaded o p g in
-          let y = (sound.epochs.above_safe s inside duty its).loaded o p g in
+          let x = (k.2 s inside machine its).loaded o p g in
+          let y = (sound.epochs.above_safe s inside machine its).loaded o p g in
           omega (arith, x, y, now_safe);
     } in
-    let d' : Duty = Scans AtRest in
+    let d' : EpochMachine = Scans AtRest in
     assembled w a (Scans (RaisesSafe m)) d' None words' w.now.actions w.past.armed w.past.claims w.past.runs sound.owners sound.fates sound got
     (length-set w.now.words 1 word) sound.eight_slots (inl (omega arith))
     (epochs_step w.now.sessions (epoch_of w.now.words) (epoch_of words') (safe_of w.now.words) (safe_of words') (own_epoch w.now.words) (own_epoch words') w.past.loads w.now.actors a (Scans (RaisesSafe m)) d' None
@@ -92,6 +92,6 @@ scan_moves w a (RaisesSafe m) sound got =
     (λ s i n. word_spared w.now.words 1 word (session_place s own.Epoch) (λ e. omega (arith, e)))
     (λ i. rw (word_spared w.now.words 1 word (session_place a own.Epoch) (λ e. omega (arith, e))) (dutiful w a (Scans (RaisesSafe m)) d' sound got (λ s g. refl) i))
     tt)
-    (still (desk w.now w.past sound.owners sound.fates) (epoch_of words') (safe_of words') (drain_word words') w.now.actors a (Scans (RaisesSafe m)) d' sound.slots got
+    (still (slot_table w.now w.past sound.owners sound.fates) (epoch_of words') (safe_of words') (drain_word words') w.now.actors a (Scans (RaisesSafe m)) d' sound.slots got
     (omega arith) (omega (arith, now_safe)) (λ s f. word_spared w.now.words 1 word (drain_place s) (λ e. omega (arith, e))) tt)
     sound.once

@@ -1,11 +1,12 @@
 -- The steps of an armed slot: it is armed, taken, its action run, and it is set free.
 use Rattle.std.proofs.Common.{◌≡◌, ◌≢◌, ℕ, ◌+◌, ◌<◌, ◌≤◌, List, ◌∷◌, refl, arith, sym, ap, inl, inr, ◌∙◌}
+use Rattle.fkv_base.specs.Limits.{drain_slots}
 use Rattle.std.specs.Prelude.{Option, Some, None, slice_get, slice_set}
 use Rattle.fkv_plane.specs.declared.actions.Action.{Action}
-use Rattle.fkv_epoch.specs.World.{Duty, Armed, Claimed, Ran}
-use Rattle.fkv_epoch.proofs.Cells.{same_or, set_at, set_here, set_there, some_same, none_some}
-use Rattle.fkv_epoch.proofs.Slots.{Fate, Unborn, Borne, Waits, Taken, Spent, stage, Desk, Holds, Waiting, Slots, held}
-use Rattle.fkv_epoch.proofs.SlotSteps.{waiting_at, borne_same, taken_same, waits_same}
+use Rattle.fkv_epoch.specs.EpochWorld.{EpochMachine, Armed, Claimed, Ran}
+use Rattle.fkv_epoch.proofs.Items.{same_or, set_at, set_here, set_there, some_same, none_some}
+use Rattle.fkv_epoch.proofs.Slots.{Fate, NotRaised, Carried, Waits, Taken, Spent, stage, SlotTable, Holds, Waiting, Slots, held}
+use Rattle.fkv_epoch.proofs.SlotSteps.{waiting_at, carried_same, taken_same, waits_same}
 
 -- an epoch of another stage keeps its fate
 other_fate : (fates : ℕ → Fate) (c : ℕ) (new : Fate) (e : ℕ) (f : Fate) → fates e ≡ f → (fates c ≡ f → ⊥) → set_at fates c new e ≡ f
@@ -25,17 +26,17 @@ stage_up fates c new e up = elim (same_or e c) [
 ]
 
 -- a held slot is armed
-pub arm : (k : Desk) (E' safe' : ℕ) (D' : ℕ → ℕ) (slot c : ℕ) (action : Action) (actors : List Duty) (a : ℕ) (d d' : Duty)
+pub arm : (k : SlotTable) (E' safe' : ℕ) (D' : ℕ → ℕ) (slot c : ℕ) (action : Action) (actors : List EpochMachine) (a : ℕ) (d d' : EpochMachine)
     → Slots k actors → slice_get actors a ≡ Some d → k.epoch ≤ E' → k.safe ≤ safe'
-    → slot < 8 → k.owners slot ≡ Some a → k.fates c ≡ Borne a → k.homes slot ≡ Some action
-    → D' slot ≡ c + 2 → ((s : ℕ) → s < 8 → s ≢ slot → D' s ≡ k.drains s)
-    → (let k' : Desk = record k { epoch = E'; safe = safe'; drains = D'; owners = set_at k.owners slot None; fates = set_at k.fates c (Waits slot); armed = record { slot = slot; epoch = c; action = action } ∷ k.armed } in
+    → slot < drain_slots → k.owners slot ≡ Some a → k.fates c ≡ Carried a → k.homes slot ≡ Some action
+    → D' slot ≡ c + 2 → ((s : ℕ) → s < drain_slots → s ≢ slot → D' s ≡ k.drains s)
+    → (let k' : SlotTable = record k { epoch = E'; safe = safe'; drains = D'; owners = set_at k.owners slot None; fates = set_at k.fates c (Waits slot); armed = record { slot = slot; epoch = c; action = action } ∷ k.armed } in
     Holds k' a d' → Slots k' (slice_set actors a d'))
-arm k E' safe' D' slot c action actors a d d' old got up safer few mine borne home now same here =
+arm k E' safe' D' slot c action actors a d d' old got up safer few mine carried home now same here =
     let x0 : Armed = record { slot = slot; epoch = c; action = action } in
-    let k' : Desk = record k { epoch = E'; safe = safe'; drains = D'; owners = set_at k.owners slot None; fates = set_at k.fates c (Waits slot); armed = x0 ∷ k.armed } in
-    let no : (f : Fate) → (stage f ≡ 1 → ⊥) → k.fates c ≡ f → ⊥ = λ f n e. n (ap stage (sym e ∙ borne)) in
-    let at_c : stage (k.fates c) ≡ 1 = ap stage borne in
+    let k' : SlotTable = record k { epoch = E'; safe = safe'; drains = D'; owners = set_at k.owners slot None; fates = set_at k.fates c (Waits slot); armed = x0 ∷ k.armed } in
+    let no : (f : Fate) → (stage f ≡ 1 → ⊥) → k.fates c ≡ f → ⊥ = λ f n e. n (ap stage (sym e ∙ carried)) in
+    let at_c : stage (k.fates c) ≡ 1 = ap stage carried in
     let rises : (e : ℕ) → stage (k.fates e) ≤ stage (k'.fates e) = λ e. stage_up k.fates c (Waits slot) e (omega arith) in
     record {
       unowned = λ s small n. elim (same_or s slot) [
@@ -59,7 +60,7 @@ arm k E' safe' D' slot c action actors a d d' old got up safer few mine borne ho
             let w : Waiting k s e = old.waiting s e small (sym (same s small ne) ∙ at_s) in
             waiting_at k k' s e w (other_fate k.fates c (Waits slot) e (Waits s) w.waits (no (Waits s) (λ z. omega (arith, z))) ∙ sym w.waits) refl (λ x o. inr o)
       ];
-      unborn = λ e h. other_fate k.fates c (Waits slot) e Unborn (old.unborn e (omega arith)) (no Unborn (λ z. omega (arith, z)));
+      not_raised = λ e h. other_fate k.fates c (Waits slot) e NotRaised (old.not_raised e (omega arith)) (no NotRaised (λ z. omega (arith, z)));
       armed_stage = λ x o. elim o [
         | inl e ↦
             let ec : x.epoch ≡ c = ap (λ (y : Armed). y.epoch) e in
@@ -75,7 +76,7 @@ arm k E' safe' D' slot c action actors a d d' old got up safer few mine borne ho
           | inr ne ↦ set_there k.owners slot None s ne ∙ o
         ];
         home = λ s f o. refl;
-        borne = λ e o. other_fate k.fates c (Waits slot) e (Borne b) o (λ h. n (borne_same b a (sym h ∙ borne)));
+        carried = λ e o. other_fate k.fates c (Waits slot) e (Carried b) o (λ h. n (carried_same b a (sym h ∙ carried)));
         taken = λ e o. other_fate k.fates c (Waits slot) e (Taken b) o (no (Taken b) (λ z. omega (arith, z)));
         armed = λ x o. inr o;
         claims = λ x o. o;
@@ -83,15 +84,15 @@ arm k E' safe' D' slot c action actors a d d' old got up safer few mine borne ho
     }
 
 -- an armed slot is taken, and its action with it
-pub take : (k : Desk) (E' safe' : ℕ) (D' : ℕ → ℕ) (H' : ℕ → Option Action) (slot c : ℕ) (actors : List Duty) (a : ℕ) (d d' : Duty)
+pub take : (k : SlotTable) (E' safe' : ℕ) (D' : ℕ → ℕ) (H' : ℕ → Option Action) (slot c : ℕ) (actors : List EpochMachine) (a : ℕ) (d d' : EpochMachine)
     → Slots k actors → slice_get actors a ≡ Some d → k.epoch ≤ E' → k.safe ≤ safe'
-    → slot < 8 → k.drains slot ≡ c + 2 → D' slot ≡ 1 → ((s : ℕ) → s < 8 → s ≢ slot → D' s ≡ k.drains s)
-    → ((s : ℕ) → s < 8 → s ≢ slot → H' s ≡ k.homes s)
-    → (let k' : Desk = record k { epoch = E'; safe = safe'; drains = D'; homes = H'; owners = set_at k.owners slot (Some a); fates = set_at k.fates c (Taken a); claims = record { actor = a; slot = slot; epoch = c } ∷ k.claims } in
+    → slot < drain_slots → k.drains slot ≡ c + 2 → D' slot ≡ 1 → ((s : ℕ) → s < drain_slots → s ≢ slot → D' s ≡ k.drains s)
+    → ((s : ℕ) → s < drain_slots → s ≢ slot → H' s ≡ k.homes s)
+    → (let k' : SlotTable = record k { epoch = E'; safe = safe'; drains = D'; homes = H'; owners = set_at k.owners slot (Some a); fates = set_at k.fates c (Taken a); claims = record { actor = a; slot = slot; epoch = c } ∷ k.claims } in
     Holds k' a d' → Slots k' (slice_set actors a d'))
 take k E' safe' D' H' slot c actors a d d' old got up safer few was now same same_home here =
     let t0 : Claimed = record { actor = a; slot = slot; epoch = c } in
-    let k' : Desk = record k { epoch = E'; safe = safe'; drains = D'; homes = H'; owners = set_at k.owners slot (Some a); fates = set_at k.fates c (Taken a); claims = t0 ∷ k.claims } in
+    let k' : SlotTable = record k { epoch = E'; safe = safe'; drains = D'; homes = H'; owners = set_at k.owners slot (Some a); fates = set_at k.fates c (Taken a); claims = t0 ∷ k.claims } in
     let mine : Waiting k slot c = old.waiting slot c few was in
     let free : k.owners slot ≡ None = old.unowned slot few (λ e. omega (arith, e, was)) in
     let at_c : stage (k.fates c) ≡ 2 = ap stage mine.waits in
@@ -112,7 +113,7 @@ take k E' safe' D' H' slot c actors a d d' old got up safer few was now same sam
             let w : Waiting k s e = old.waiting s e small (sym (same s small ne) ∙ at_s) in
             waiting_at k k' s e w (other_fate k.fates c (Taken a) e (Waits s) w.waits (λ h. ne (waits_same s slot (sym h ∙ mine.waits))) ∙ sym w.waits) (same_home s small ne) (λ x o. o)
       ];
-      unborn = λ e h. other_fate k.fates c (Taken a) e Unborn (old.unborn e (omega arith)) (no Unborn (λ z. omega (arith, z)));
+      not_raised = λ e h. other_fate k.fates c (Taken a) e NotRaised (old.not_raised e (omega arith)) (no NotRaised (λ z. omega (arith, z)));
       armed_stage = λ x o. let h = old.armed_stage x o in let r = rises x.epoch in omega arith;
       claimed_stage = λ x o. elim o [
         | inl e ↦
@@ -127,7 +128,7 @@ take k E' safe' D' H' slot c actors a d d' old got up safer few was now same sam
             safe = safer;
             owner = λ s f o. set_there k.owners slot (Some a) s (apart s o) ∙ o;
             home = λ s f o. same_home s f (apart s o);
-            borne = λ e o. other_fate k.fates c (Taken a) e (Borne b) o (no (Borne b) (λ z. omega (arith, z)));
+            carried = λ e o. other_fate k.fates c (Taken a) e (Carried b) o (no (Carried b) (λ z. omega (arith, z)));
             taken = λ e o. other_fate k.fates c (Taken a) e (Taken b) o (no (Taken b) (λ z. omega (arith, z)));
             armed = λ x o. o;
             claims = λ x o. inr o;
@@ -135,14 +136,14 @@ take k E' safe' D' H' slot c actors a d d' old got up safer few was now same sam
     }
 
 -- a taken action is run
-pub spend : (k : Desk) (E' safe' : ℕ) (D' : ℕ → ℕ) (slot c : ℕ) (action : Action) (actors : List Duty) (a : ℕ) (d d' : Duty)
+pub spend : (k : SlotTable) (E' safe' : ℕ) (D' : ℕ → ℕ) (slot c : ℕ) (action : Action) (actors : List EpochMachine) (a : ℕ) (d d' : EpochMachine)
     → Slots k actors → slice_get actors a ≡ Some d → k.epoch ≤ E' → k.safe ≤ safe'
-    → k.fates c ≡ Taken a → ((s : ℕ) → s < 8 → D' s ≡ k.drains s)
-    → (let k' : Desk = record k { epoch = E'; safe = safe'; drains = D'; fates = set_at k.fates c Spent; runs = record { actor = a; slot = slot; epoch = c; action = action } ∷ k.runs } in
+    → k.fates c ≡ Taken a → ((s : ℕ) → s < drain_slots → D' s ≡ k.drains s)
+    → (let k' : SlotTable = record k { epoch = E'; safe = safe'; drains = D'; fates = set_at k.fates c Spent; runs = record { actor = a; slot = slot; epoch = c; action = action } ∷ k.runs } in
     Holds k' a d' → Slots k' (slice_set actors a d'))
 spend k E' safe' D' slot c action actors a d d' old got up safer taken same here =
     let r0 : Ran = record { actor = a; slot = slot; epoch = c; action = action } in
-    let k' : Desk = record k { epoch = E'; safe = safe'; drains = D'; fates = set_at k.fates c Spent; runs = r0 ∷ k.runs } in
+    let k' : SlotTable = record k { epoch = E'; safe = safe'; drains = D'; fates = set_at k.fates c Spent; runs = r0 ∷ k.runs } in
     let at_c : stage (k.fates c) ≡ 3 = ap stage taken in
     let no : (f : Fate) → (stage f ≡ 3 → ⊥) → k.fates c ≡ f → ⊥ = λ f n e. n (ap stage (sym e ∙ taken)) in
     let rises : (e : ℕ) → stage (k.fates e) ≤ stage (k'.fates e) = λ e. stage_up k.fates c Spent e (omega arith) in
@@ -152,7 +153,7 @@ spend k E' safe' D' slot c action actors a d d' old got up safer taken same here
       waiting = λ s e small at_s.
           let w : Waiting k s e = old.waiting s e small (sym (same s small) ∙ at_s) in
           waiting_at k k' s e w (other_fate k.fates c Spent e (Waits s) w.waits (no (Waits s) (λ z. omega (arith, z))) ∙ sym w.waits) refl (λ x o. o);
-      unborn = λ e h. other_fate k.fates c Spent e Unborn (old.unborn e (omega arith)) (no Unborn (λ z. omega (arith, z)));
+      not_raised = λ e h. other_fate k.fates c Spent e NotRaised (old.not_raised e (omega arith)) (no NotRaised (λ z. omega (arith, z)));
       armed_stage = λ x o. let h = old.armed_stage x o in let r = rises x.epoch in omega arith;
       claimed_stage = λ x o. let h = old.claimed_stage x o in let r = rises x.epoch in omega arith;
       run_stage = λ x o. elim o [
@@ -165,7 +166,7 @@ spend k E' safe' D' slot c action actors a d d' old got up safer taken same here
         safe = safer;
         owner = λ s f o. o;
         home = λ s f o. refl;
-        borne = λ e o. other_fate k.fates c Spent e (Borne b) o (no (Borne b) (λ z. omega (arith, z)));
+        carried = λ e o. other_fate k.fates c Spent e (Carried b) o (no (Carried b) (λ z. omega (arith, z)));
         taken = λ e o. other_fate k.fates c Spent e (Taken b) o (λ h. n (taken_same b a (sym h ∙ taken)));
         armed = λ x o. o;
         claims = λ x o. o;
@@ -173,12 +174,12 @@ spend k E' safe' D' slot c action actors a d d' old got up safer taken same here
     }
 
 -- a slot is set free
-pub free : (k : Desk) (E' safe' : ℕ) (D' : ℕ → ℕ) (slot : ℕ) (actors : List Duty) (a : ℕ) (d d' : Duty)
+pub free : (k : SlotTable) (E' safe' : ℕ) (D' : ℕ → ℕ) (slot : ℕ) (actors : List EpochMachine) (a : ℕ) (d d' : EpochMachine)
     → Slots k actors → slice_get actors a ≡ Some d → k.epoch ≤ E' → k.safe ≤ safe'
-    → k.owners slot ≡ Some a → k.homes slot ≡ None → D' slot ≡ 0 → ((s : ℕ) → s < 8 → s ≢ slot → D' s ≡ k.drains s)
-    → (let k' : Desk = record k { epoch = E'; safe = safe'; drains = D'; owners = set_at k.owners slot None } in Holds k' a d' → Slots k' (slice_set actors a d'))
+    → k.owners slot ≡ Some a → k.homes slot ≡ None → D' slot ≡ 0 → ((s : ℕ) → s < drain_slots → s ≢ slot → D' s ≡ k.drains s)
+    → (let k' : SlotTable = record k { epoch = E'; safe = safe'; drains = D'; owners = set_at k.owners slot None } in Holds k' a d' → Slots k' (slice_set actors a d'))
 free k E' safe' D' slot actors a d d' old got up safer mine bare now same here =
-    let k' : Desk = record k { epoch = E'; safe = safe'; drains = D'; owners = set_at k.owners slot None } in
+    let k' : SlotTable = record k { epoch = E'; safe = safe'; drains = D'; owners = set_at k.owners slot None } in
     record {
       unowned = λ s small n. elim (same_or s slot) [
         | inl e ↦ set_here k.owners slot None s e
@@ -192,7 +193,7 @@ free k E' safe' D' slot actors a d d' old got up safer mine bare now same here =
         | inl es ↦ absurd (omega (arith, at_s, ap D' es, now))
         | inr ne ↦ waiting_at k k' s e (old.waiting s e small (sym (same s small ne) ∙ at_s)) refl refl (λ x o. o)
       ];
-      unborn = λ e h. old.unborn e (omega arith);
+      not_raised = λ e h. old.not_raised e (omega arith);
       armed_stage = old.armed_stage;
       claimed_stage = old.claimed_stage;
       run_stage = old.run_stage;
@@ -203,7 +204,7 @@ free k E' safe' D' slot actors a d d' old got up safer mine bare now same here =
           | inr ne ↦ set_there k.owners slot None s ne ∙ o
         ];
         home = λ s f o. refl;
-        borne = λ e o. o;
+        carried = λ e o. o;
         taken = λ e o. o;
         armed = λ x o. o;
         claims = λ x o. o;

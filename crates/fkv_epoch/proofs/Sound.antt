@@ -1,5 +1,6 @@
 -- What holds at every moment, and how a step of one actor keeps it.
 use Rattle.std.proofs.Common.{◌≡◌, ◌≢◌, ℕ, ◌+◌, ◌*◌, ◌^◌, ◌<◌, ◌≤◌, ◌⊎◌, List, length, refl, arith, ap, inl, inr, true}
+use Rattle.fkv_base.specs.Limits.{max_sessions, drain_slots}
 use Rattle.std.specs.Prelude.{Option, Some, None, slice_get, slice_set, sum_by, All}
 use Rattle.std.proofs.lemmas.List.Sums.{sum_by-set, sum_by-le}
 use Rattle.std.proofs.lemmas.Option.{get_or_from_slice_get}
@@ -8,23 +9,23 @@ use Rattle.std.proofs.lemmas.Bool.Decides.{nat_tests}
 use Rattle.fkv_plane.specs.declared.actions.Action.{Action}
 use Rattle.fkv_plane.specs.Plane.{action_at}
 use Rattle.fkv_epoch.specs.declared.raising.Raising.TheVariants as raise
-use Rattle.fkv_epoch.specs.World.{Duty, Protects, Refreshes, Leaves, Scans, Claims, Raises, Bears, Arms, Sight, OfPhase, OfReadOnly, OfHead, Loads, Armed, Claimed, Ran, Now, Past, World, epoch_of, safe_of, own_epoch, drain_word, loaded, with_load}
+use Rattle.fkv_epoch.specs.EpochWorld.{EpochMachine, Protects, Refreshes, Leaves, Scans, Claims, Raises, HasRaised, Arms, Sight, OfPhase, OfReadOnly, OfHead, Loads, Armed, Claimed, Ran, EpochNow, EpochPast, EpochWorld, epoch_of, safe_of, own_epoch, drain_word, loaded, with_load}
 use Rattle.fkv_epoch.specs.Once.{goes_by, load_of, RunsOnce}
 use Rattle.fkv_plane.specs.declared.places.SessionWord.TheVariants as own
 use Rattle.fkv_plane.specs.Places.{session_place, drain_place}
-use Rattle.fkv_epoch.proofs.Cells.{item_within, word_written, word_spared}
+use Rattle.fkv_epoch.proofs.Items.{item_within, word_written, word_spared}
 use Rattle.fkv_epoch.proofs.Epochs.{IsFrom, AreFrom, Knows, Epochs, Change, stepped}
-use Rattle.fkv_epoch.proofs.Slots.{Fate, Desk, Holds, Slots, still}
+use Rattle.fkv_epoch.proofs.Slots.{Fate, SlotTable, Holds, Slots, still}
 
 -- an actor that has seen that the epoch may be raised, and has not raised it yet
-abbrev pub weight : Duty → ℕ
+abbrev pub weight : EpochMachine → ℕ
 weight (Raises (raise.MeetsSlot slot)) = 1
 weight (Raises (raise.HoldsSlot slot)) = 1
 weight (Raises (raise.HasSlot slot)) = 1
 weight (Raises (raise.RaisesEpoch slot)) = 1
-weight duty = 0
+weight machine = 0
 
-light : (duty : Duty) → weight duty ≤ 1
+light : (machine : EpochMachine) → weight machine ≤ 1
 light (Raises raise.AtRest) = omega arith
 light (Raises raise.LoadsEpoch) = omega arith
 light (Raises (raise.MeetsSlot slot)) = omega arith
@@ -36,15 +37,15 @@ light (Refreshes x) = omega arith
 light (Leaves x) = omega arith
 light (Scans x) = omega arith
 light (Claims x) = omega arith
-light (Bears x y) = omega arith
+light (HasRaised x y) = omega arith
 light (Arms x) = omega arith
 
-all_light : (actors : List Duty) → All (λ x. weight x ≤ 1) actors
+all_light : (actors : List EpochMachine) → All (λ x. weight x ≤ 1) actors
 all_light actors = λ k d h. light _
 
 -- what the slots' part of a world is
-abbrev pub desk : Now → Past → (ℕ → Option ℕ) → (ℕ → Fate) → Desk
-desk n past owners fates = record {
+abbrev pub slot_table : EpochNow → EpochPast → (ℕ → Option ℕ) → (ℕ → Fate) → SlotTable
+slot_table n past owners fates = record {
   epoch = epoch_of n.words;
   safe = safe_of n.words;
   drains = drain_word n.words;
@@ -56,20 +57,20 @@ desk n past owners fates = record {
   runs = past.runs;
 }
 
-pub record IsSound (w : World) : Type 0 where
-  pub few_sessions : w.now.sessions ≤ 8
+pub record IsSound (w : EpochWorld) : Type 0 where
+  pub few_sessions : w.now.sessions ≤ max_sessions
   pub enough_words : 24 + 16 * w.now.sessions ≤ length w.now.words
-  pub eight_slots : length w.now.actions ≡ 8
+  pub eight_slots : length w.now.actions ≡ drain_slots
   pub few_actors : length w.now.actors ≤ 2 ^ 48
   pub bounded : epoch_of w.now.words + sum_by weight w.now.actors < 2 ^ 48 + length w.now.actors
   pub epochs : Epochs w.now.sessions (epoch_of w.now.words) (safe_of w.now.words) (own_epoch w.now.words) w.past.loads w.now.actors
   pub owners : ℕ → Option ℕ
   pub fates : ℕ → Fate
-  pub slots : Slots (desk w.now w.past owners fates) w.now.actors
+  pub slots : Slots (slot_table w.now w.past owners fates) w.now.actors
   pub once : RunsOnce w.past.armed w.past.claims w.past.runs
 
 -- the epoch stays bounded: it rises at one actor's cost, or is below its last
-pub bounded_step : (E E' : ℕ) (actors : List Duty) (a : ℕ) (d d' : Duty) → slice_get actors a ≡ Some d
+pub bounded_step : (E E' : ℕ) (actors : List EpochMachine) (a : ℕ) (d d' : EpochMachine) → slice_get actors a ≡ Some d
     → E + sum_by weight actors < 2 ^ 48 + length actors
     → (E' + weight d' ≤ E + weight d) ⊎ (E' + 1 < 2 ^ 48)
     → E' + sum_by weight (slice_set actors a d') < 2 ^ 48 + length (slice_set actors a d')
@@ -101,7 +102,7 @@ load_below l (Some OfHead) epoch h OfReadOnly = h OfReadOnly
 load_below l (Some OfHead) epoch h OfHead = omega arith
 
 -- the epochs' part of a step of the actor a
-pub epochs_step : (S E E' safe safe' : ℕ) (W W' : ℕ → ℕ) (L : ℕ → Loads) (actors : List Duty) (a : ℕ) (d d' : Duty) (x : Option Sight)
+pub epochs_step : (S E E' safe safe' : ℕ) (W W' : ℕ → ℕ) (L : ℕ → Loads) (actors : List EpochMachine) (a : ℕ) (d d' : EpochMachine) (x : Option Sight)
     → Epochs S E safe W L actors → slice_get actors a ≡ Some d
     → E ≤ E' → safe' + 1 ≤ E → AreFrom W L actors (safe' + 1) S
     → ((s : ℕ) → s < S → s ≢ a → W' s ≡ W s)
@@ -117,11 +118,11 @@ epochs_step S E E' safe safe' W W' L actors a d d' x old got up safe_up above sw
     (rw here knows)
 
 -- a step that writes no word and moves no action
-pub quiet : (w : World) (a : ℕ) (d d' : Duty) (x : Option Sight) → IsSound w → slice_get w.now.actors a ≡ Some d
+pub quiet : (w : EpochWorld) (a : ℕ) (d d' : EpochMachine) (x : Option Sight) → IsSound w → slice_get w.now.actors a ≡ Some d
     → (weight d' ≤ weight d) ⊎ (epoch_of w.now.words + 1 < 2 ^ 48)
     → (a < w.now.sessions → Change (epoch_of w.now.words) (own_epoch w.now.words a) (w.past.loads a) d (own_epoch w.now.words a) (with_load (w.past.loads a) x (epoch_of w.now.words)) d')
     → Knows w.now.sessions (epoch_of w.now.words) (own_epoch w.now.words a) (with_load (w.past.loads a) x (epoch_of w.now.words)) (AreFrom (own_epoch w.now.words) w.past.loads w.now.actors) a d'
-    → ((owners : ℕ → Option ℕ) (fates : ℕ → Fate) → Slots (desk w.now w.past owners fates) w.now.actors → Holds (desk w.now w.past owners fates) a d')
+    → ((owners : ℕ → Option ℕ) (fates : ℕ → Fate) → Slots (slot_table w.now w.past owners fates) w.now.actors → Holds (slot_table w.now w.past owners fates) a d')
     → IsSound (record { now = record w.now { actors = slice_set w.now.actors a d' }; past = record w.past { loads = loaded w.past.loads a x (epoch_of w.now.words) } })
 quiet w a d d' x sound got lighter change knows holds =
     record {
@@ -134,18 +135,18 @@ quiet w a d d' x sound got lighter change knows holds =
           sound.epochs got (omega arith) sound.epochs.safe_below sound.epochs.above_safe (λ s i n. refl) change knows;
       owners = sound.owners;
       fates = sound.fates;
-      slots = still (desk w.now w.past sound.owners sound.fates) (epoch_of w.now.words) (safe_of w.now.words) (drain_word w.now.words) w.now.actors a d d' sound.slots got (omega arith) (omega arith) (λ s f. refl) (holds sound.owners sound.fates sound.slots);
+      slots = still (slot_table w.now w.past sound.owners sound.fates) (epoch_of w.now.words) (safe_of w.now.words) (drain_word w.now.words) w.now.actors a d d' sound.slots got (omega arith) (omega arith) (λ s f. refl) (holds sound.owners sound.fates sound.slots);
       once = sound.once;
     }
 
 -- any step of the actor a, from what its parts keep
-pub assembled : (w : World) (a : ℕ) (d d' : Duty) (x : Option Sight) (words' : List ℕ) (actions' : List (Option Action)) (armed' : List Armed) (claims' : List Claimed) (runs' : List Ran) (owners' : ℕ → Option ℕ) (fates' : ℕ → Fate)
-    → IsSound w → slice_get w.now.actors a ≡ Some d → length words' ≡ length w.now.words → length actions' ≡ 8
+pub assembled : (w : EpochWorld) (a : ℕ) (d d' : EpochMachine) (x : Option Sight) (words' : List ℕ) (actions' : List (Option Action)) (armed' : List Armed) (claims' : List Claimed) (runs' : List Ran) (owners' : ℕ → Option ℕ) (fates' : ℕ → Fate)
+    → IsSound w → slice_get w.now.actors a ≡ Some d → length words' ≡ length w.now.words → length actions' ≡ drain_slots
     → (epoch_of words' + weight d' ≤ epoch_of w.now.words + weight d) ⊎ (epoch_of words' + 1 < 2 ^ 48)
-    → (let n' : Now = record w.now { words = words'; actions = actions'; actors = slice_set w.now.actors a d' } in
-    let past' : Past = record { loads = loaded w.past.loads a x (epoch_of w.now.words); armed = armed'; claims = claims'; runs = runs' } in
+    → (let n' : EpochNow = record w.now { words = words'; actions = actions'; actors = slice_set w.now.actors a d' } in
+    let past' : EpochPast = record { loads = loaded w.past.loads a x (epoch_of w.now.words); armed = armed'; claims = claims'; runs = runs' } in
     Epochs w.now.sessions (epoch_of words') (safe_of words') (own_epoch words') past'.loads n'.actors
-    → Slots (desk n' past' owners' fates') n'.actors → RunsOnce armed' claims' runs' → IsSound (record { now = n'; past = past' }))
+    → Slots (slot_table n' past' owners' fates') n'.actors → RunsOnce armed' claims' runs' → IsSound (record { now = n'; past = past' }))
 assembled w a d d' x words' actions' armed' claims' runs' owners' fates' sound got same_words same_actions lighter epochs slots once =
     record {
       few_sessions = sound.few_sessions;
@@ -161,7 +162,7 @@ assembled w a d d' x words' actions' armed' claims' runs' owners' fates' sound g
     }
 
 -- a step that writes a word which is neither epoch
-pub epochs_written : (w : World) (a : ℕ) (d d' : Duty) (place word : ℕ) → IsSound w → slice_get w.now.actors a ≡ Some d
+pub epochs_written : (w : EpochWorld) (a : ℕ) (d d' : EpochMachine) (place word : ℕ) → IsSound w → slice_get w.now.actors a ≡ Some d
     → 2 ≤ place → ((s : ℕ) → s < w.now.sessions → s ≢ a → session_place s own.Epoch ≢ place)
     → (let words' : List ℕ = slice_set w.now.words place word in
     (a < w.now.sessions → Change (epoch_of w.now.words) (own_epoch w.now.words a) (w.past.loads a) d (own_epoch words' a) (w.past.loads a) d')
@@ -176,11 +177,11 @@ epochs_written w a d d' place word sound got far others change knows =
     (λ s i n. word_spared w.now.words place word (session_place s own.Epoch) (others s i n)) change knows
 
 -- a step that writes the epoch word of a session
-pub own_written : (w : World) (a : ℕ) (d d' : Duty) (word : ℕ) → IsSound w → slice_get w.now.actors a ≡ Some d
+pub own_written : (w : EpochWorld) (a : ℕ) (d d' : EpochMachine) (word : ℕ) → IsSound w → slice_get w.now.actors a ≡ Some d
     → weight d' ≤ weight d → a < w.now.sessions
     → Change (epoch_of w.now.words) (own_epoch w.now.words a) (w.past.loads a) d word (w.past.loads a) d'
     → Knows w.now.sessions (epoch_of w.now.words) word (w.past.loads a) (AreFrom (own_epoch w.now.words) w.past.loads w.now.actors) a d'
-    → ((k : Desk) → Holds k a d')
+    → ((k : SlotTable) → Holds k a d')
     → IsSound (record { now = record w.now { words = slice_set w.now.words (session_place a own.Epoch) word; actors = slice_set w.now.actors a d' }; past = record w.past { loads = loaded w.past.loads a None (epoch_of w.now.words) } })
 own_written w a d d' word sound got lighter inside change knows holds =
     let place : ℕ = session_place a own.Epoch in
@@ -188,19 +189,19 @@ own_written w a d d' word sound got lighter inside change knows holds =
     let now_own : own_epoch words' a ≡ word = word_written w.now.words place word (omega (arith, inside, sound.enough_words)) in
     let same_epoch : epoch_of words' ≡ epoch_of w.now.words = word_spared w.now.words place word 0 (λ e. omega (arith, e)) in
     let same_safe : safe_of words' ≡ safe_of w.now.words = word_spared w.now.words place word 1 (λ e. omega (arith, e)) in
-    let k : Desk = desk w.now w.past sound.owners sound.fates in
-    let k' : Desk = record k { epoch = epoch_of words'; safe = safe_of words'; drains = drain_word words' } in
+    let k : SlotTable = slot_table w.now w.past sound.owners sound.fates in
+    let k' : SlotTable = record k { epoch = epoch_of words'; safe = safe_of words'; drains = drain_word words' } in
     assembled w a d d' None words' w.now.actions w.past.armed w.past.claims w.past.runs sound.owners sound.fates sound got
     (length-set w.now.words place word) sound.eight_slots (inl (omega arith))
     (epochs_written w a d d' place word sound got (omega arith) (λ s i n e. n (omega (arith, e))) (λ i. rw now_own change) (rw now_own knows))
-    (still (desk w.now w.past sound.owners sound.fates) (epoch_of words') (safe_of words') (drain_word words') w.now.actors a d d' sound.slots got
+    (still (slot_table w.now w.past sound.owners sound.fates) (epoch_of words') (safe_of words') (drain_word words') w.now.actors a d d' sound.slots got
     (omega arith) (omega arith) (λ s f. word_spared w.now.words place word (drain_place s) (λ e. omega (arith, e, f))) (holds k'))
     sound.once
 
 -- a session with another duty goes by no more than before
-pub change_duty : (E word : ℕ) (l : Loads) (d d' : Duty) → ((sight : Sight) → goes_by sight d' ≡ true → goes_by sight d ≡ true)
+pub change_machine : (E word : ℕ) (l : Loads) (d d' : EpochMachine) → ((sight : Sight) → goes_by sight d' ≡ true → goes_by sight d ≡ true)
     → IsFrom word word l d → word ≤ E → Change E word l d word l d'
-change_duty E word l d d' less own below = record {
+change_machine E word l d d' less own below = record {
   bounds = λ m h f. record { loaded = λ sight p g. f.loaded sight p (less sight g) };
   own = record { loaded = λ sight p g. own.loaded sight p (less sight g) };
   below = below;
@@ -223,7 +224,7 @@ load_now l OfReadOnly epoch = refl
 load_now l OfHead epoch = refl
 
 -- a session that has loaded one value
-pub change_load : (E word : ℕ) (l : Loads) (d d' : Duty) (x : Sight) → ((sight : Sight) → goes_by sight d' ≡ true → (sight ≡ x) ⊎ (goes_by sight d ≡ true))
+pub change_load : (E word : ℕ) (l : Loads) (d d' : EpochMachine) (x : Sight) → ((sight : Sight) → goes_by sight d' ≡ true → (sight ≡ x) ⊎ (goes_by sight d ≡ true))
     → IsFrom word word l d → word ≤ E → ((sight : Sight) → load_of l sight ≤ E) → Change E word l d word (with_load l (Some x) E) d'
 change_load E word l d d' x more own below loads =
     let bound : (m : ℕ) → m ≤ E → IsFrom m word l d → IsFrom m word (with_load l (Some x) E) d' = λ m h f. record {

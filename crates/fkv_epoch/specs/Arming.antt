@@ -1,5 +1,6 @@
 -- How a held slot is armed.
 use Rattle.std.specs.Prelude.{◌+◌, ◌^◌, ◌<◌, ⊤}
+use Rattle.fkv_base.specs.Limits.{drain_slots}
 use Rattle.fkv_plane.specs.declared.asks.Ask.{Ask}
 use Rattle.fkv_plane.specs.declared.asks.Ask.TheVariants.{Store, Done}
 use Rattle.fkv_plane.specs.Places.{drain_place}
@@ -12,8 +13,8 @@ pub record Armer : Type 0 where
 -- there are eight slots, and a slot's word holds the epoch and 2
 abbrev pub IsArmInRange : Arming → Type 0
 IsArmInRange AtRest = ⊤
-IsArmInRange (PutsAction slot epoch) = (slot < 8) × (epoch + 2 < 2 ^ 64)
-IsArmInRange (StoresEpoch slot epoch) = (slot < 8) × (epoch + 2 < 2 ^ 64)
+IsArmInRange (PutsAction slot epoch) = (slot < drain_slots) × (epoch + 2 < 2 ^ 64)
+IsArmInRange (StoresEpoch slot epoch) = (slot < drain_slots) × (epoch + 2 < 2 ^ 64)
 
 -- what each state asks. The ask that puts the action went out with it at the start
 unfoldable pub arm_ask : Arming → Ask (Unit {0})

@@ -1,5 +1,6 @@
 -- How armed actions are claimed and run.
 use Rattle.std.specs.Prelude.{ℕ, ◌+◌, ◌-◌, ◌*◌, ◌%◌, ◌^◌, ◌<◌, ◌==◌, nat_lt, nat_le, if◌then◌else◌, Option, Some, None, ⊤}
+use Rattle.fkv_base.specs.Limits.{drain_slots}
 use Rattle.fkv_base.specs.declared.phases.Phase.{Phase}
 use Rattle.fkv_base.specs.declared.numbers.Version.{Version}
 use Rattle.fkv_words.specs.Phases.{phase_number}
@@ -18,12 +19,12 @@ pub record Claimer : Type 0 where
 -- there are eight slots
 abbrev pub IsClaimInRange : Claiming → Type 0
 IsClaimInRange AtRest = ⊤
-IsClaimInRange (MeetsSlot slot safe) = slot < 8
-IsClaimInRange (LoadsSafe slot word) = slot < 8
-IsClaimInRange (TakesSlot slot word safe) = slot < 8
-IsClaimInRange (Receives slot epoch safe) = slot < 8
-IsClaimInRange (Runs slot epoch safe action) = slot < 8
-IsClaimInRange (FreesSlot slot safe) = slot < 8
+IsClaimInRange (MeetsSlot slot safe) = slot < drain_slots
+IsClaimInRange (LoadsSafe slot word) = slot < drain_slots
+IsClaimInRange (TakesSlot slot word safe) = slot < drain_slots
+IsClaimInRange (Receives slot epoch safe) = slot < drain_slots
+IsClaimInRange (Runs slot epoch safe action) = slot < drain_slots
+IsClaimInRange (FreesSlot slot safe) = slot < drain_slots
 
 -- the phase word of a phase and a version, of which it has the low bits
 abbrev pub phase_stored : Phase → Version → ℕ
@@ -47,7 +48,7 @@ claim_ask (FreesSlot slot safe) = Store (drain_place slot) 0
 
 -- the slot after this one is met, up to the last
 unfoldable pub slot_after : ℕ → Option ℕ → Claiming
-slot_after slot safe = if nat_lt slot 7 then MeetsSlot (slot + 1) safe else AtRest
+slot_after slot safe = if nat_lt (slot + 1) drain_slots then MeetsSlot (slot + 1) safe else AtRest
 
 -- a slot armed at an epoch, which is its word less 2, is taken where that epoch is safe
 unfoldable pub slot_armed : ℕ → ℕ → ℕ → Claiming

@@ -8,4 +8,4 @@ pub mod Refreshing
 pub mod Scanning
 pub mod Stall
 pub mod Values
-pub mod World
+pub mod EpochWorld

@@ -1,5 +1,6 @@
 -- How an actor gets a slot, and raises the epoch.
 use Rattle.std.specs.Prelude.{ℕ, ◌+◌, ◌<◌, ◌==◌, nat_lt, nat_le, if◌then◌else◌, ⊤}
+use Rattle.fkv_base.specs.Limits.{drain_slots, last_epoch}
 use Rattle.fkv_plane.specs.declared.asks.Ask.{Ask}
 use Rattle.fkv_plane.specs.declared.asks.Ask.TheVariants.{Load, Cas, Add, Done}
 use Rattle.fkv_plane.specs.declared.places.SharedWord.TheVariants as one
@@ -16,14 +17,10 @@ pub record Raiser : Type 0 where
 abbrev pub IsRaiseInRange : Raising → Type 0
 IsRaiseInRange AtRest = ⊤
 IsRaiseInRange LoadsEpoch = ⊤
-IsRaiseInRange (MeetsSlot slot) = slot < 8
-IsRaiseInRange (HoldsSlot slot) = slot < 8
-IsRaiseInRange (HasSlot slot) = slot < 8
-IsRaiseInRange (RaisesEpoch slot) = slot < 8
-
--- the epoch that is not raised any more
-abbrev pub last_epoch : ℕ
-last_epoch = 281474976710655
+IsRaiseInRange (MeetsSlot slot) = slot < drain_slots
+IsRaiseInRange (HoldsSlot slot) = slot < drain_slots
+IsRaiseInRange (HasSlot slot) = slot < drain_slots
+IsRaiseInRange (RaisesEpoch slot) = slot < drain_slots
 
 -- what each state asks
 unfoldable pub raise_ask : Raising → Ask RaiseAnswer
@@ -36,7 +33,7 @@ raise_ask (RaisesEpoch slot) = Add (shared_place one.Epoch) 1
 
 -- the slot after one that isn't free is met, up to the last
 unfoldable pub free_after : ℕ → Raising
-free_after slot = if nat_lt slot 7 then MeetsSlot (slot + 1) else AtRest
+free_after slot = if nat_lt (slot + 1) drain_slots then MeetsSlot (slot + 1) else AtRest
 
 -- where the reply leads
 unfoldable pub raise_next : Raising → ℕ → Raising

@@ -1,4 +1,4 @@
--- How a protected session looks again: what it goes by first, its epoch word last.
+-- How a protected session refreshes: what it goes by first, its epoch word last.
 use Rattle.std.specs.Prelude.{ℕ}
 use Rattle.fkv_plane.specs.declared.asks.Ask.{Ask}
 use Rattle.fkv_plane.specs.declared.asks.Ask.TheVariants.{Load, Store, Done}

@@ -1,5 +1,6 @@
 -- How the safe epoch is found: one below the least epoch that anyone may still go by.
 use Rattle.std.specs.Prelude.{ℕ, ◌+◌, ◌-◌, ◌<◌, ◌≤◌, ◌==◌, nat_lt, min, if◌then◌else◌}
+use Rattle.fkv_base.specs.Limits.{max_sessions}
 use Rattle.fkv_plane.specs.declared.asks.Ask.{Ask}
 use Rattle.fkv_plane.specs.declared.asks.Ask.TheVariants.{Load, Max, Done}
 use Rattle.fkv_plane.specs.declared.places.SharedWord.TheVariants as one
@@ -14,8 +15,8 @@ pub record Scanner : Type 0 where
 
 -- there are at most eight sessions, and the one that is met is one of them
 abbrev pub IsScanInRange : ℕ → Scanning → Type 0
-IsScanInRange sessions (LoadsSession session least) = (sessions ≤ 8) × (session < sessions)
-IsScanInRange sessions step = sessions ≤ 8
+IsScanInRange sessions (LoadsSession session least) = (sessions ≤ max_sessions) × (session < sessions)
+IsScanInRange sessions step = sessions ≤ max_sessions
 
 -- what each state asks
 unfoldable pub scan_ask : Scanning → Ask (Unit {0})

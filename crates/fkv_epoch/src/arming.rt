@@ -1,5 +1,6 @@
 //! How a held slot is armed.
 ghost use Rattle.std.specs.Prelude.{◌≡◌, ◌<◌, ◌+◌, ◌^◌};
+ghost use Rattle.fkv_base.specs.Limits.{drain_slots};
 ghost use Rattle.fkv_epoch.specs.Arming.{arm_ask, arm_next};
 ghost use Rattle.fkv_epoch.specs.declared.arming.Arming.TheVariants.{AtRest, PutsAction};
 ghost use Rattle.fkv_plane.specs.declared.asks.Ask.TheVariants.{Put};
@@ -43,7 +44,7 @@ impl Arm {
 
     /// The first ask puts the action into the slot, 0 to 7.
     pub fn start(&mut self, slot: usize, epoch: u64, action: Action) -> Ask<()>
-        requires slot { slot < 8 }
+        requires slot { slot < drain_slots }
         requires epoch { epoch + 2 < 2 ^ 64 }
         ensures next { self.new ≡ record { step = PutsAction slot epoch } }
         ensures ask { result ≡ Put slot action }

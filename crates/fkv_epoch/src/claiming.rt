@@ -1,9 +1,10 @@
 //! How armed actions are claimed and run, once their epoch is safe.
 ghost use Rattle.std.specs.Prelude.{◌≡◌, ◌<◌, None};
+ghost use Rattle.fkv_base.specs.Limits.{drain_slots};
 ghost use Rattle.fkv_epoch.specs.Claiming.{claim_ask, claim_next, claim_given, slot_after, slot_armed, run_of, phase_stored, IsClaimInRange};
 ghost use Rattle.fkv_epoch.specs.declared.claiming.Claiming.TheVariants.{AtRest, MeetsSlot};
 
-use fkv_base::{Phase, Version};
+use fkv_base::{DRAIN_SLOTS, Phase, Version};
 use fkv_plane::{Action, Ask, SharedWord, drain_place};
 use std::marker::Model;
 use std::mem;
@@ -128,11 +129,11 @@ impl Claim {
 /// The slot after this one is met, if there is one.
 #[tactic(auto, unfolding(crate::specs::Claiming::slot_after))]
 fn slot_after(slot: usize, safe: Option<u64>) -> Claiming
-    requires { slot < 8 }
+    requires { slot < drain_slots }
     ensures next { result ≡ slot_after slot safe }
     ensures in_range { IsClaimInRange result }
 {
-    if slot < 7 {
+    if slot + 1 < DRAIN_SLOTS {
         Claiming::MeetsSlot(slot + 1, safe)
     } else {
         Claiming::AtRest
@@ -142,7 +143,7 @@ fn slot_after(slot: usize, safe: Option<u64>) -> Claiming
 /// A slot that is armed is taken where its epoch is safe.
 #[tactic(auto, unfolding(crate::specs::Claiming::slot_armed))]
 fn slot_armed(slot: usize, word: u64, safe: u64) -> Claiming
-    requires { slot < 8 }
+    requires { slot < drain_slots }
     ensures next { result ≡ slot_armed slot word safe }
     ensures in_range { IsClaimInRange result }
 {

@@ -1,5 +1,6 @@
 //! A session is protected no more, as it goes to sleep.
 ghost use Rattle.std.specs.Prelude.{◌≡◌, ◌<◌};
+ghost use Rattle.fkv_base.specs.Limits.{max_sessions};
 
 use fkv_plane::{Ask, SessionWord};
 use std::marker::Model;
@@ -19,6 +20,7 @@ pub struct Leave {
 }
 
 impl Model for Leave {
+    ghost use Rattle.fkv_base.specs.Limits.{max_sessions};
     ghost use Rattle.std.specs.Prelude.{◌<◌};
     ghost use Rattle.fkv_epoch.specs.Leaving.{Leaver};
 
@@ -26,7 +28,7 @@ impl Model for Leave {
 
     ghost view = { λ m. record { session = m.session; step = m.step } };
 
-    ghost invariant = { λ m. m.session < 8 };
+    ghost invariant = { λ m. m.session < max_sessions };
 }
 
 impl Leave {
@@ -35,7 +37,7 @@ impl Leave {
 
     /// The machine of a session, 0 to 7, at rest.
     pub fn new(session: usize) -> Leave
-        requires { session < 8 }
+        requires { session < max_sessions }
         ensures { result ≡ record { session = session; step = AtRest } }
     {
         Leave {

@@ -1,5 +1,6 @@
 //! A session becomes protected, as it wakes.
 ghost use Rattle.std.specs.Prelude.{◌≡◌, ◌<◌};
+ghost use Rattle.fkv_base.specs.Limits.{max_sessions};
 
 use crate::values::Seen;
 use fkv_base::Addr;
@@ -25,6 +26,7 @@ pub struct Protect {
 }
 
 impl Model for Protect {
+    ghost use Rattle.fkv_base.specs.Limits.{max_sessions};
     ghost use Rattle.std.specs.Prelude.{◌<◌};
     ghost use Rattle.fkv_epoch.specs.Protecting.{Protector};
 
@@ -32,7 +34,7 @@ impl Model for Protect {
 
     ghost view = { λ m. record { session = m.session; step = m.step } };
 
-    ghost invariant = { λ m. m.session < 8 };
+    ghost invariant = { λ m. m.session < max_sessions };
 }
 
 impl Protect {
@@ -41,7 +43,7 @@ impl Protect {
 
     /// The machine of a session, 0 to 7, at rest.
     pub fn new(session: usize) -> Protect
-        requires { session < 8 }
+        requires { session < max_sessions }
         ensures { result ≡ record { session = session; step = AtRest } }
     {
         Protect {

@@ -1,8 +1,10 @@
 //! How an actor gets a slot, and raises the epoch.
 ghost use Rattle.std.specs.Prelude.{◌≡◌, ◌<◌};
+ghost use Rattle.fkv_base.specs.Limits.{drain_slots};
 ghost use Rattle.fkv_epoch.specs.Raising.{raise_ask, raise_next, raise_next_ask, raise_on, free_after, IsRaiseInRange};
 ghost use Rattle.fkv_epoch.specs.declared.raising.Raising.TheVariants.{AtRest, LoadsEpoch};
 
+use fkv_base::{DRAIN_SLOTS, LAST_EPOCH};
 use fkv_plane::{Ask, SharedWord, drain_place};
 use std::marker::Model;
 
@@ -48,9 +50,6 @@ impl Model for Raise {
 }
 
 impl Raise {
-    /// The epoch that is not raised any more.
-    pub const LAST_EPOCH: u64 = 281474976710655;
-
     /// The machine at rest.
     pub fn new() -> Raise
         ensures { result ≡ record { step = AtRest } }
@@ -90,7 +89,7 @@ impl Raise {
     {
         match self.step {
             Raising::LoadsEpoch => {
-                if reply >= Self::LAST_EPOCH {
+                if reply >= LAST_EPOCH {
                     self.step = Raising::AtRest;
                     return Ask::Done(RaiseAnswer::Spent);
                 }
@@ -137,11 +136,11 @@ impl Raise {
 /// The slot after one that isn't free is met, if there is one.
 #[tactic(auto, unfolding(crate::specs::Raising::free_after))]
 fn free_after(slot: usize) -> Raising
-    requires { slot < 8 }
+    requires { slot < drain_slots }
     ensures next { result ≡ free_after slot }
     ensures in_range { IsRaiseInRange result }
 {
-    if slot < 7 {
+    if slot + 1 < DRAIN_SLOTS {
         Raising::MeetsSlot(slot + 1)
     } else {
         Raising::AtRest

@@ -1,5 +1,6 @@
-//! A protected session looks again.
+//! A protected session refreshes.
 ghost use Rattle.std.specs.Prelude.{◌≡◌, ◌<◌};
+ghost use Rattle.fkv_base.specs.Limits.{max_sessions};
 
 use crate::values::Seen;
 use fkv_base::Addr;
@@ -35,6 +36,7 @@ pub struct Refresh {
 }
 
 impl Model for Refresh {
+    ghost use Rattle.fkv_base.specs.Limits.{max_sessions};
     ghost use Rattle.std.specs.Prelude.{◌<◌};
     ghost use Rattle.fkv_epoch.specs.Refreshing.{Refresher};
 
@@ -42,7 +44,7 @@ impl Model for Refresh {
 
     ghost view = { λ m. record { session = m.session; step = m.step } };
 
-    ghost invariant = { λ m. m.session < 8 };
+    ghost invariant = { λ m. m.session < max_sessions };
 }
 
 impl Refresh {
@@ -51,7 +53,7 @@ impl Refresh {
 
     /// The machine of a session, 0 to 7, at rest.
     pub fn new(session: usize) -> Refresh
-        requires { session < 8 }
+        requires { session < max_sessions }
         ensures { result ≡ record { session = session; step = AtRest } }
     {
         Refresh {

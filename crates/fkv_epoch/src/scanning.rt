@@ -1,5 +1,6 @@
 //! How the safe epoch is found.
 ghost use Rattle.std.specs.Prelude.{◌≡◌, ◌≤◌};
+ghost use Rattle.fkv_base.specs.Limits.{max_sessions};
 
 use fkv_plane::{Ask, SessionWord, SharedWord};
 use std::marker::Model;
@@ -37,7 +38,7 @@ impl Scan {
 
     /// The machine over so many sessions, at most 8, at rest.
     pub fn new(sessions: usize) -> Scan
-        requires { sessions ≤ 8 }
+        requires { sessions ≤ max_sessions }
         ensures { result ≡ record { sessions = sessions; step = AtRest } }
     {
         Scan {

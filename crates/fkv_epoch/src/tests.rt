@@ -1,4 +1,5 @@
 ghost use Rattle.std.specs.Prelude.{◌≤◌};
+ghost use Rattle.fkv_base.specs.Limits.{max_sessions};
 
 use crate::{Arm, Claim, Leave, Protect, Raise, RaiseAnswer, Refresh, RefreshAnswer, Scan, Seen};
 use fkv_base::{Addr, Phase, Version};
@@ -7,7 +8,7 @@ use std::test::Fail;
 
 /// Moves a scan to its end.
 fn scan(plane: &mut PlainWords, sessions: usize)
-    requires { sessions ≤ 8 }
+    requires { sessions ≤ max_sessions }
 {
     let mut machine = Scan::new(sessions);
     let mut ask = machine.start();
@@ -140,7 +141,7 @@ fn a_protected_session_is_waited_for(rt: HostRuntime) -> Result<(), Fail> {
     Ok(())
 }
 
-/// Nobody waits for a session that sleeps.
+/// Nobody waits for a session that has left.
 #[test]
 fn a_session_that_left_is_not_waited_for(rt: HostRuntime) -> Result<(), Fail> {
     let mut plane = PlainWords::new(rt.alloc(), 64)?;

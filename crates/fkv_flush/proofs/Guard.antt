@@ -4,7 +4,7 @@ use Rattle.std.proofs.Common.{◌≡◌, ℕ, ◌+◌, ◌<◌, ◌≤◌, ◌�
 use Rattle.std.specs.Prelude.{Option, Some}
 use Rattle.fkv_plane.specs.declared.actions.Action.{Action}
 use Rattle.fkv_plane.specs.declared.actions.Action.TheVariants as act
-use Rattle.fkv_epoch.specs.World.{Sight, OfReadOnly, OfHead, Loads, Armed}
+use Rattle.fkv_epoch.specs.EpochWorld.{Sight, OfReadOnly, OfHead, Loads, Armed}
 use Rattle.fkv_epoch.specs.Once.{Among}
 use Rattle.fkv_flush.specs.GuardLevels.{Levels, AreInOrder, Rises}
 use Rattle.fkv_flush.specs.GuardSeen.{LastSeen, SeenIsSafe, IsStored, HaveSeen}

@@ -1,17 +1,18 @@
 -- What the machines that have a move inside them answer is what the world takes them to ask.
 use Rattle.std.proofs.Common.{◌≡◌, ℕ, ◌/◌, refl, ap, ◌∙◌, inl, inr}
+use Rattle.fkv_base.specs.Limits.{last_epoch}
 use Rattle.std.specs.Prelude.{nat_lt, nat_le}
 use Rattle.fkv_base.specs.declared.shapes.Shape.{Shape}
 use Rattle.fkv_plane.specs.declared.asks.Ask.{Ask}
 use Rattle.fkv_plane.specs.declared.asks.Ask.TheVariants.{Done}
-use Rattle.fkv_plane.specs.Asked.{place_of, words_after, reply_to}
+use Rattle.fkv_plane.specs.Asked.{asked_place, words_after, reply_to}
 use Rattle.fkv_epoch.specs.declared.raising.RaiseAnswer.{RaiseAnswer}
 use Rattle.fkv_epoch.specs.declared.raising.RaiseAnswer.TheVariants as raised
 use Rattle.fkv_epoch.specs.declared.raising.Raising.{Raising}
 use Rattle.fkv_epoch.specs.declared.raising.Raising.TheVariants as raise
 use Rattle.fkv_epoch.specs.declared.arming.Arming.{Arming}
 use Rattle.fkv_epoch.specs.declared.arming.Arming.TheVariants as arm
-use Rattle.fkv_epoch.specs.Raising.{raise_ask, raise_next, raise_next_ask, raise_on, last_epoch}
+use Rattle.fkv_epoch.specs.Raising.{raise_ask, raise_next, raise_next_ask, raise_on}
 use Rattle.fkv_epoch.specs.Arming.{arm_ask, arm_next}
 use Rattle.fkv_flush.specs.declared.answers.MoveAnswer.{MoveAnswer}
 use Rattle.fkv_flush.specs.declared.answers.MoveAnswer.TheVariants as moved
@@ -32,7 +33,7 @@ use Rattle.fkv_flush.specs.GuardAnswered.{AreAlike, ActAlike, move_waits}
 use Rattle.fkv_flush.proofs.GuardWorks.{truth}
 
 -- the ask that is passed on names the word that it named
-passed_place : {A B : Type 0} (ask : Ask A) (end : B) → place_of (passed ask end) ≡ place_of ask
+passed_place : {A B : Type 0} (ask : Ask A) (end : B) → asked_place (passed ask end) ≡ asked_place ask
 unfolding passed
 passed_place (Done inner) end = refl
 passed_place ask end = refl

@@ -11,12 +11,12 @@ use Rattle.fkv_plane.specs.declared.places.Places.{Places}
 use Rattle.fkv_plane.specs.declared.places.RecordWord.{RecordWord}
 use Rattle.fkv_plane.specs.Places.{record_place}
 use Rattle.fkv_plane.specs.Asked.{word_at, reply_to}
-use Rattle.fkv_epoch.proofs.Cells.{some_same, none_some}
+use Rattle.fkv_epoch.proofs.Items.{some_same, none_some}
 use Rattle.fkv_flush.specs.declared.flushing.Flushing.{Flushing}
 use Rattle.fkv_flush.specs.declared.flushing.Flushing.TheVariants as flush
 use Rattle.fkv_flush.specs.Flushing.{flush_ask, flush_next, bytes_next, flush_calls, flush_done, bytes_done}
 use Rattle.fkv_flush.specs.GuardLevels.{levels_of}
-use Rattle.fkv_flush.specs.GuardWorld.{Actor, Work, Rests, Reserves, Fills, Invalidates, Shifts, Turns, Flushes, Serves, ToDo, ToReserve, ToFill, ToInvalidate, ToShift, ToTurnPage, ToFlush, ToServe, Now, World, Event, Begins, Resumes, Moves, Calls, Reads, Sees, Publishes, Updates, RaisesReadOnly, RaisesFor, Changes, CallsElse, is_idle, dutied, worked, with_actor, started, begun, moved, called, called_by, happens, run}
+use Rattle.fkv_flush.specs.GuardWorld.{Actor, Work, Rests, Reserves, Fills, Invalidates, Shifts, Turns, Flushes, Serves, ToDo, ToReserve, ToFill, ToInvalidate, ToShift, ToTurnPage, ToFlush, ToServe, GuardNow, GuardWorld, GuardEvent, Begins, Resumes, Moves, Calls, Reads, Sees, Publishes, Updates, RaisesReadOnly, RaisesFor, Changes, CallsElse, is_idle, epoch_step, work_step, with_actor, started, begun, moved, called, called_by, guard_happens, guard_run}
 use Rattle.fkv_flush.specs.Guarded.{event_writes, IsOpened, opening, first_actor}
 use Rattle.fkv_flush.specs.GuardFlushed.{is_open, framed, stands, spares_log, work_calls, actor_calls, event_calls, calls_made, FlushesAlone, OneFlushes, IsSynced}
 use Rattle.fkv_flush.proofs.GuardEpochs.{Spares}
@@ -32,22 +32,22 @@ use Rattle.fkv_flush.proofs.OnDevice.{IsRead, IsKept, read_on, kept_on, opened_k
 use Rattle.fkv_flush.proofs.FlushKnows.{FlushKnows, IsReply, flush_end, synced_to, begins, record_kept_on, knows_on, replied, call_spares, called_on}
 
 -- an address below the limit whose page's frame is not used again has a frame
-opens : (n : Now) (addr : ℕ) → addr < (levels_of n.words).limit → (levels_of n.words).limit ≤ addr + n.places.ring → is_open n addr ≡ true
+opens : (n : GuardNow) (addr : ℕ) → addr < (levels_of n.words).limit → (levels_of n.words).limit ≤ addr + n.places.ring → is_open n addr ≡ true
 opens n addr below near =
     let p : nat_lt addr (levels_of n.words).limit ≡ true = grind (arith, nat_tests) in
     let q : nat_le (levels_of n.words).limit (addr + n.places.ring) ≡ true = grind (arith, nat_tests) in
     ap (λ (b : Bool). b && nat_le (levels_of n.words).limit (addr + n.places.ring)) p ∙ q
 
 -- what is still to be flushed has one
-has_frame : (w : World) (addr : ℕ) → IsSound w → (levels_of w.now.words).flushed ≤ addr → addr < (levels_of w.now.words).safe_read_only → is_open w.now addr ≡ true
+has_frame : (w : GuardWorld) (addr : ℕ) → IsSound w → (levels_of w.now.words).flushed ≤ addr → addr < (levels_of w.now.words).safe_read_only → is_open w.now addr ≡ true
 has_frame w addr sound above below =
     let o = sound.guard.in_order in
     let c = sound.guard.cover in
     opens w.now addr (omega (arith, below, o.safe_below, o.read_only_below, o.tail_below)) (omega (arith, c, o.closed_below, o.head_below, above))
 
 -- no event writes a word of a record below the safe read-only offset
-untouched : (w : World) (event : Event) (addr : ℕ) (word : RecordWord) → IsSound w → addr < (levels_of w.now.words).safe_read_only → addr < (levels_of w.now.words).limit → (levels_of w.now.words).limit ≤ addr + w.now.places.ring
-    → word_at (happens w event).now.words (record_place w.now.places addr word) ≡ word_at w.now.words (record_place w.now.places addr word)
+untouched : (w : GuardWorld) (event : GuardEvent) (addr : ℕ) (word : RecordWord) → IsSound w → addr < (levels_of w.now.words).safe_read_only → addr < (levels_of w.now.words).limit → (levels_of w.now.words).limit ≤ addr + w.now.places.ring
+    → word_at (guard_happens w event).now.words (record_place w.now.places addr word) ≡ word_at w.now.words (record_place w.now.places addr word)
 untouched w event addr word sound safe below near = unwritten w event (record_place w.now.places addr word) (spares (event_writes w.now event) refl)
   where
     spares : (found : Option ℕ) → event_writes w.now event ≡ found → Spares found (record_place w.now.places addr word)
@@ -59,12 +59,12 @@ untouched w event addr word sound safe below near = unwritten w event (record_pl
         omega (arith, alone, above, safe)
 
 -- so what stands for it stays
-pub steady : (w : World) (event : Event) (before : ℕ → RecordWord → ℕ) (addr : ℕ) (word : RecordWord) → IsSound w → addr < (levels_of w.now.words).safe_read_only
+pub steady : (w : GuardWorld) (event : GuardEvent) (before : ℕ → RecordWord → ℕ) (addr : ℕ) (word : RecordWord) → IsSound w → addr < (levels_of w.now.words).safe_read_only
     → (is_open w.now addr ≡ true → before addr word ≡ word_at w.now.words (record_place w.now.places addr word))
-    → framed (happens w event).now before addr word ≡ before addr word
-steady w event before addr word sound safe stood = elim (truth (is_open (happens w event).now addr)) [
+    → framed (guard_happens w event).now before addr word ≡ before addr word
+steady w event before addr word sound safe stood = elim (truth (is_open (guard_happens w event).now addr)) [
   | inl e ↦
-      let n' : Now = (happens w event).now in
+      let n' : GuardNow = (guard_happens w event).now in
       let t = both (nat_lt addr (levels_of n'.words).limit) (nat_le (levels_of n'.words).limit (addr + n'.places.ring)) e in
       let near : (levels_of n'.words).limit ≤ addr + n'.places.ring = grind (arith, nat_tests, t) in
       let same : n'.places ≡ w.now.places = (same_store w event).1 in
@@ -77,16 +77,16 @@ steady w event before addr word sound safe stood = elim (truth (is_open (happens
       ∙ ap (λ (p : Places). word_at n'.words (record_place p addr word)) same
       ∙ untouched w event addr word sound safe below near_before
       ∙ sym (stood (opens w.now addr below near_before))
-  | inr e ↦ ap (λ (b : Bool). if b then word_at (happens w event).now.words (record_place (happens w event).now.places addr word) else before addr word) e
+  | inr e ↦ ap (λ (b : Bool). if b then word_at (guard_happens w event).now.words (record_place (guard_happens w event).now.places addr word) else before addr word) e
 ]
 
 -- what stands for a record that has a frame is in the frame
-pub stood_open : (first : World) (events : List Event) (addr : ℕ) (word : RecordWord) → is_open (run first events).now addr ≡ true
-    → stands first events addr word ≡ word_at (run first events).now.words (record_place (run first events).now.places addr word)
-unfolding stands run
+pub stood_open : (first : GuardWorld) (events : List GuardEvent) (addr : ℕ) (word : RecordWord) → is_open (guard_run first events).now addr ≡ true
+    → stands first events addr word ≡ word_at (guard_run first events).now.words (record_place (guard_run first events).now.places addr word)
+unfolding stands guard_run
 stood_open first [] addr word e = ap (λ (b : Bool). if b then word_at first.now.words (record_place first.now.places addr word) else 0) e
 stood_open first (event ∷ before) addr word e =
-    ap (λ (b : Bool). if b then word_at (run first (event ∷ before)).now.words (record_place (run first (event ∷ before)).now.places addr word) else stands first before addr word) e
+    ap (λ (b : Bool). if b then word_at (guard_run first (event ∷ before)).now.words (record_place (guard_run first (event ∷ before)).now.places addr word) else stands first before addr word) e
 
 -- what is known of an actor's flush: it is at rest, or the keeper's
 abbrev Row : ℕ → Shape → List ℕ → List Call → (ℕ → RecordWord → ℕ) → ℕ → ℕ → Work → Type 0
@@ -94,7 +94,7 @@ Row keeper shape opened calls words flushed b (Flushes step bytes) = (step ≡ f
 Row keeper shape opened calls words flushed b work = ⊤
 
 -- What holds at every moment of the device and of the flush.
-pub record IsFlushed (keeper start : ℕ) (shape : Shape) (opened : List ℕ) (calls : List Call) (words : ℕ → RecordWord → ℕ) (w : World) : Type 0 where
+pub record IsFlushed (keeper start : ℕ) (shape : Shape) (opened : List ℕ) (calls : List Call) (words : ℕ → RecordWord → ℕ) (w : GuardWorld) : Type 0 where
   pub start_below : start ≤ (levels_of w.now.words).flushed
   pub earlier : (i : ℕ) → image.record_place shape 0 ≤ i → i < image.record_place shape start → i < length opened → IsKept opened calls i (byte_at opened i)
   pub records : (addr : ℕ) → start ≤ addr → addr < (levels_of w.now.words).flushed → RecordKept shape opened calls words addr
@@ -113,7 +113,7 @@ row_other keeper shape opened calls calls' words words' flushed flushed' b (Flus
 row_other keeper shape opened calls calls' words words' flushed flushed' b work n row = tt
 
 -- a flush ends where nobody writes any more
-known_end : (w : World) (b : ℕ) (y : Actor) (step : Flushing) (bytes : List ℕ) → IsSound w → slice_get w.now.actors b ≡ Some y → y.work ≡ Flushes step bytes → flush_end step ≤ (levels_of w.now.words).safe_read_only
+known_end : (w : GuardWorld) (b : ℕ) (y : Actor) (step : Flushing) (bytes : List ℕ) → IsSound w → slice_get w.now.actors b ≡ Some y → y.work ≡ Flushes step bytes → flush_end step ≤ (levels_of w.now.words).safe_read_only
 known_end w b y step bytes sound got its = by step (subst (Known w b y) its (sound.knows b y got))
   where
     by : (step : Flushing) → Known w b y (Flushes step bytes) → flush_end step ≤ (levels_of w.now.words).safe_read_only
@@ -126,11 +126,11 @@ known_end w b y step bytes sound got its = by step (subst (Known w b y) its (sou
     by (flush.RaisesFlushed end) k = k
 
 -- the page of a store has records
-page_some : (w : World) → IsSound w → 0 < w.now.shape.page
+page_some : (w : GuardWorld) → IsSound w → 0 < w.now.shape.page
 page_some w sound = let ring = sound.fits.ring in let some = w.now.places.some_ring in some_page w.now.shape.frames w.now.shape.page (omega (arith, ring, some))
 
 -- One event of a world that is sound, and has its flushed records on the device.
-module _ (keeper start : ℕ) (opened : List ℕ) (calls : List Call) (words : ℕ → RecordWord → ℕ) (w : World) (sound : IsSound w)
+module _ (keeper start : ℕ) (opened : List ℕ) (calls : List Call) (words : ℕ → RecordWord → ℕ) (w : GuardWorld) (sound : IsSound w)
     (stood : (addr : ℕ) (word : RecordWord) → is_open w.now addr ≡ true → words addr word ≡ word_at w.now.words (record_place w.now.places addr word))
     (was : IsFlushed keeper start w.now.shape opened calls words w) where
   abbrev shape : Shape
@@ -146,10 +146,10 @@ module _ (keeper start : ℕ) (opened : List ℕ) (calls : List Call) (words : �
   flushed_safe = sound.guard.in_order.flushed_below
 
   -- what stands after the event
-  abbrev words_on : Event → ℕ → RecordWord → ℕ
-  words_on event = framed (happens w event).now words
+  abbrev words_on : GuardEvent → ℕ → RecordWord → ℕ
+  words_on event = framed (guard_happens w event).now words
 
-  same_below : (event : Event) (addr : ℕ) (word : RecordWord) → addr < safe → words_on event addr word ≡ words addr word
+  same_below : (event : GuardEvent) (addr : ℕ) (word : RecordWord) → addr < safe → words_on event addr word ≡ words addr word
   same_below event addr word below = steady w event words addr word sound below (stood addr word)
 
   -- the calls leave what is synced of the log, and what is read of what is still to be flushed
@@ -157,9 +157,9 @@ module _ (keeper start : ℕ) (opened : List ℕ) (calls : List Call) (words : �
     kept_too : (i b : ℕ) → image.record_place shape 0 ≤ i → i < image.record_place shape flushed → IsKept opened calls i b → IsKept opened calls' i b
 
   -- what is flushed stays, where flushed does
-  stays_flushed : (event : Event) (calls' : List Call) → SparesLog calls' → (levels_of (happens w event).now.words).flushed ≡ flushed
-      → ((b : ℕ) (y : Actor) → slice_get (happens w event).now.actors b ≡ Some y → Row keeper shape opened calls' (words_on event) flushed b y.work)
-      → IsFlushed keeper start shape opened calls' (words_on event) (happens w event)
+  stays_flushed : (event : GuardEvent) (calls' : List Call) → SparesLog calls' → (levels_of (guard_happens w event).now.words).flushed ≡ flushed
+      → ((b : ℕ) (y : Actor) → slice_get (guard_happens w event).now.actors b ≡ Some y → Row keeper shape opened calls' (words_on event) flushed b y.work)
+      → IsFlushed keeper start shape opened calls' (words_on event) (guard_happens w event)
   stays_flushed event calls' spares same rows =
       let s = was.start_below in
       let top = flushed_safe in
@@ -174,7 +174,7 @@ module _ (keeper start : ℕ) (opened : List ℕ) (calls : List Call) (words : �
       }
 
   -- a flush that another event leaves as far as it was
-  row_on : (event : Event) (calls' : List Call) (b : ℕ) (y : Actor) (work : Work) → slice_get w.now.actors b ≡ Some y → y.work ≡ work
+  row_on : (event : GuardEvent) (calls' : List Call) (b : ℕ) (y : Actor) (work : Work) → slice_get w.now.actors b ≡ Some y → y.work ≡ work
       → ((i c : ℕ) → image.record_place shape flushed ≤ i → IsRead opened calls i c → IsRead opened calls' i c)
       → ((i c : ℕ) → image.record_place shape flushed ≤ i → IsKept opened calls i c → IsKept opened calls' i c)
       → Row keeper shape opened calls words flushed b work → Row keeper shape opened calls' (words_on event) flushed b work
@@ -184,7 +184,7 @@ module _ (keeper start : ℕ) (opened : List ℕ) (calls : List Call) (words : �
   row_on event calls' b y work got its read_too kept_too row = tt
 
   -- the same without a call of the device
-  row_stays : (event : Event) (b : ℕ) (y : Actor) (work : Work) → slice_get w.now.actors b ≡ Some y → y.work ≡ work
+  row_stays : (event : GuardEvent) (b : ℕ) (y : Actor) (work : Work) → slice_get w.now.actors b ≡ Some y → y.work ≡ work
       → Row keeper shape opened calls words flushed b work → Row keeper shape opened calls (words_on event) flushed b work
   row_stays event b y work got its = row_on event calls b y work got its (λ i c above is. is) (λ i c above is. is)
 
@@ -192,7 +192,7 @@ module _ (keeper start : ℕ) (opened : List ℕ) (calls : List Call) (words : �
   no_call = record { kept_too = λ i b above below is. is }
 
   -- an event by which no flush begins or goes on makes no call of the log
-  quiet_reads : (event : Event) → is_quiet event ≡ true → (i b : ℕ) → image.record_place shape 0 ≤ i → IsRead opened calls i b → IsRead opened (event_calls w.now event ++ calls) i b
+  quiet_reads : (event : GuardEvent) → is_quiet event ≡ true → (i b : ℕ) → image.record_place shape 0 ≤ i → IsRead opened calls i b → IsRead opened (event_calls w.now event ++ calls) i b
   quiet_reads (Calls a done) quiet i b above is = cc
   quiet_reads (CallsElse call) quiet i b above is = elim (truth (spares_log shape call)) [
     | inl e ↦ rw e (read_on opened calls call i b (log_missed shape call i e above) is)
@@ -200,7 +200,7 @@ module _ (keeper start : ℕ) (opened : List ℕ) (calls : List Call) (words : �
   ]
   quiet_reads event quiet i b above is = is
 
-  quiet_keeps : (event : Event) → is_quiet event ≡ true → (i b : ℕ) → image.record_place shape 0 ≤ i → IsKept opened calls i b → IsKept opened (event_calls w.now event ++ calls) i b
+  quiet_keeps : (event : GuardEvent) → is_quiet event ≡ true → (i b : ℕ) → image.record_place shape 0 ≤ i → IsKept opened calls i b → IsKept opened (event_calls w.now event ++ calls) i b
   quiet_keeps (Calls a done) quiet i b above is = cc
   quiet_keeps (CallsElse call) quiet i b above is = elim (truth (spares_log shape call)) [
     | inl e ↦ rw e (kept_on opened calls call i b (log_missed shape call i e above) is)
@@ -209,20 +209,20 @@ module _ (keeper start : ℕ) (opened : List ℕ) (calls : List Call) (words : �
   quiet_keeps event quiet i b above is = is
 
   -- and leaves the flushed offset
-  no_move : {X : Type 0} (event : Event) (a : ℕ) → is_quiet event ≡ true → event ≡ Moves a → X
+  no_move : {X : Type 0} (event : GuardEvent) (a : ℕ) → is_quiet event ≡ true → event ≡ Moves a → X
   no_move {X} event a quiet e = let false_too : is_quiet event ≡ false = ap is_quiet e in cc
 
-  quiet_flushed : (event : Event) → is_quiet event ≡ true → (levels_of (happens w event).now.words).flushed ≡ flushed
+  quiet_flushed : (event : GuardEvent) → is_quiet event ≡ true → (levels_of (guard_happens w event).now.words).flushed ≡ flushed
   quiet_flushed event quiet = elim (flushed_stays w event sound) [
     | inl same ↦ same
     | inr r ↦ no_move event r.actor quiet r.its_event
   ]
 
-  quiet_case : (event : Event) → is_quiet event ≡ true → IsFlushed keeper start shape opened (event_calls w.now event ++ calls) (words_on event) (happens w event)
+  quiet_case : (event : GuardEvent) → is_quiet event ≡ true → IsFlushed keeper start shape opened (event_calls w.now event ++ calls) (words_on event) (guard_happens w event)
   quiet_case event quiet =
       stays_flushed event (event_calls w.now event ++ calls) (record { kept_too = λ i b above below is. quiet_keeps event quiet i b above is }) (quiet_flushed event quiet) row
     where
-      row : (b : ℕ) (y : Actor) → slice_get (happens w event).now.actors b ≡ Some y → Row keeper shape opened (event_calls w.now event ++ calls) (words_on event) flushed b y.work
+      row : (b : ℕ) (y : Actor) → slice_get (guard_happens w event).now.actors b ≡ Some y → Row keeper shape opened (event_calls w.now event ++ calls) (words_on event) flushed b y.work
       row b y got =
           let from = quiet_stays w event quiet b y got in
           elim from.2 [
@@ -235,24 +235,24 @@ module _ (keeper start : ℕ) (opened : List ℕ) (calls : List Call) (words : �
           ]
 
   -- the flushed offset is raised by the actor alone that does so
-  moves_flushed : (event : Event) → ((r : RaisesIt w event) → ⊥) → (levels_of (happens w event).now.words).flushed ≡ flushed
+  moves_flushed : (event : GuardEvent) → ((r : RaisesIt w event) → ⊥) → (levels_of (guard_happens w event).now.words).flushed ≡ flushed
   moves_flushed event none = elim (flushed_stays w event sound) [
     | inl same ↦ same
     | inr r ↦ absurd (none r)
   ]
 
   -- the keeper begins to flush
-  begins_case : (a : ℕ) → a ≡ keeper → IsFlushed keeper start shape opened calls (words_on (Begins a ToFlush)) (happens w (Begins a ToFlush))
-  unfolding happens
+  begins_case : (a : ℕ) → a ≡ keeper → IsFlushed keeper start shape opened calls (words_on (Begins a ToFlush)) (guard_happens w (Begins a ToFlush))
+  unfolding guard_happens
   begins_case a mine = stays_flushed (Begins a ToFlush) calls no_call (moves_flushed (Begins a ToFlush) (λ r. let e = r.its_event in cc)) (by (slice_get w.now.actors a) refl)
     where
-      after : Now → Type 0
+      after : GuardNow → Type 0
       after n = (b : ℕ) (y : Actor) → slice_get n.actors b ≡ Some y → Row keeper shape opened calls (words_on (Begins a ToFlush)) flushed b y.work
 
       stays : after w.now
       stays b y got = row_stays (Begins a ToFlush) b y y.work got refl (was.rows b y got)
 
-      either : (b : Bool) (n m : Now) → after n → after m → after (if b then n else m)
+      either : (b : Bool) (n m : GuardNow) → after n → after m → after (if b then n else m)
       either true n m p q = p
       either false n m p q = q
 
@@ -265,8 +265,8 @@ module _ (keeper start : ℕ) (opened : List ℕ) (calls : List Call) (words : �
           stays
 
   -- a step of an actor that is not flushing
-  aside_case : (a : ℕ) (x : Actor) → slice_get w.now.actors a ≡ Some x → (is_idle x.work ≡ true) ⊎ (is_flush x.work ≡ false) → IsFlushed keeper start shape opened calls (words_on (Moves a)) (happens w (Moves a))
-  unfolding happens
+  aside_case : (a : ℕ) (x : Actor) → slice_get w.now.actors a ≡ Some x → (is_idle x.work ≡ true) ⊎ (is_flush x.work ≡ false) → IsFlushed keeper start shape opened calls (words_on (Moves a)) (guard_happens w (Moves a))
+  unfolding guard_happens
   aside_case a x got why = stays_flushed (Moves a) calls no_call (moves_flushed (Moves a) raises_none) (λ b y found. row b y (subst (λ (o : Option Actor). slice_get (moved w.now a o).actors b ≡ Some y) got found))
     where
       raises_none : RaisesIt w (Moves a) → ⊥
@@ -288,7 +288,7 @@ module _ (keeper start : ℕ) (opened : List ℕ) (calls : List Call) (words : �
           ]
 
   -- the reply to a flush is the flushed offset, or the word that stands
-  reply_is : (event : Event) (step : Flushing) (bytes : List ℕ) → flush_end step ≤ safe → FlushKnows shape opened calls words flushed step bytes
+  reply_is : (event : GuardEvent) (step : Flushing) (bytes : List ℕ) → flush_end step ≤ safe → FlushKnows shape opened calls words flushed step bytes
       → IsReply (words_on event) flushed step (reply_to w.now.words (flush_ask w.now.places step))
   unfolding flush_ask
   reply_is event flush.AtRest bytes within k = tt
@@ -320,21 +320,21 @@ module _ (keeper start : ℕ) (opened : List ℕ) (calls : List Call) (words : �
     within = known_end w a x step bytes sound got its
 
     -- what it knows, with what stands after the event
-    knows_still : (event : Event) → FlushKnows shape opened calls (words_on event) flushed step bytes
+    knows_still : (event : GuardEvent) → FlushKnows shape opened calls (words_on event) flushed step bytes
     knows_still event = knows_on shape opened calls calls words (words_on event) flushed safe step bytes within (same_below event) (λ i c above is. is) (λ i c above is. is) k
 
-    others : (event : Event) (calls' : List Call) (flushed' : ℕ) (b : ℕ) (y : Actor) → slice_get w.now.actors b ≡ Some y → b ≢ a → Row keeper shape opened calls' (words_on event) flushed' b y.work
+    others : (event : GuardEvent) (calls' : List Call) (flushed' : ℕ) (b : ℕ) (y : Actor) → slice_get w.now.actors b ≡ Some y → b ≢ a → Row keeper shape opened calls' (words_on event) flushed' b y.work
     others event calls' flushed' b y found other =
         row_other keeper shape opened calls calls' words (words_on event) flushed flushed' b y.work (λ e. other (e ∙ sym mine)) (was.rows b y found)
 
-    actors_moved : is_idle (Flushes step bytes) ≡ false → (happens w (Moves a)).now.actors ≡ slice_set w.now.actors a stepped
-    unfolding happens
+    actors_moved : is_idle (Flushes step bytes) ≡ false → (guard_happens w (Moves a)).now.actors ≡ slice_set w.now.actors a stepped
+    unfolding guard_happens
     actors_moved busy =
         ap (λ (o : Option Actor). (moved w.now a o).actors) got
-        ∙ ap (λ (work : Work). slice_set w.now.actors a (if is_idle work then dutied w.now a x else worked w.now a x work).actor) its
-        ∙ ap (λ (c : Bool). slice_set w.now.actors a (if c then dutied w.now a x else worked w.now a x (Flushes step bytes)).actor) busy
+        ∙ ap (λ (work : Work). slice_set w.now.actors a (if is_idle work then epoch_step w.now a x else work_step w.now a x work).actor) its
+        ∙ ap (λ (c : Bool). slice_set w.now.actors a (if c then epoch_step w.now a x else work_step w.now a x (Flushes step bytes)).actor) busy
 
-    flush_case : is_idle (Flushes step bytes) ≡ false → IsFlushed keeper start shape opened calls (words_on (Moves a)) (happens w (Moves a))
+    flush_case : is_idle (Flushes step bytes) ≡ false → IsFlushed keeper start shape opened calls (words_on (Moves a)) (guard_happens w (Moves a))
     unfolding flush_next
     flush_case busy = elim (flushed_stays w (Moves a) sound) [
       | inl same ↦ stays_flushed (Moves a) calls no_call same (λ b y found.
@@ -344,7 +344,7 @@ module _ (keeper start : ℕ) (opened : List ℕ) (calls : List Call) (words : �
       | inr r ↦ raises r
     ]
       where
-        raises : RaisesIt w (Moves a) → IsFlushed keeper start shape opened calls (words_on (Moves a)) (happens w (Moves a))
+        raises : RaisesIt w (Moves a) → IsFlushed keeper start shape opened calls (words_on (Moves a)) (guard_happens w (Moves a))
         raises r =
             let same : a ≡ r.actor = let e = r.its_event in cc in
             let x_same : x ≡ r.x = some_same x r.x (sym got ∙ (ap (slice_get w.now.actors) same ∙ r.its_actor)) in
@@ -365,20 +365,20 @@ module _ (keeper start : ℕ) (opened : List ℕ) (calls : List Call) (words : �
                     (k.synced addr new (subst (λ (z : Flushing). addr < synced_to z) (sym step_is) upto))
               ];
               rows = λ b y found.
-                  put_each (λ c z. Row keeper shape opened calls (words_on (Moves a)) (levels_of (happens w (Moves a)).now.words).flushed c z.work) w.now.actors a x stepped got
-                  (others (Moves a) calls (levels_of (happens w (Moves a)).now.words).flushed)
+                  put_each (λ c z. Row keeper shape opened calls (words_on (Moves a)) (levels_of (guard_happens w (Moves a)).now.words).flushed c z.work) w.now.actors a x stepped got
+                  (others (Moves a) calls (levels_of (guard_happens w (Moves a)).now.words).flushed)
                   (inl (ap (λ (z : Flushing). flush_next shape.page z reply) step_is))
                   b y (subst (λ (all : List Actor). slice_get all b ≡ Some y) (actors_moved busy) found);
             }
 
-    actors_called : (done : Bool) → (happens w (Calls a done)).now.actors ≡ slice_set w.now.actors a (called_once done)
-    unfolding happens
+    actors_called : (done : Bool) → (guard_happens w (Calls a done)).now.actors ≡ slice_set w.now.actors a (called_once done)
+    unfolding guard_happens
     actors_called done =
         ap (λ (o : Option Actor). (called w.now a done o).actors) got
         ∙ ap (λ (work : Work). (called_by w.now a done x work).actors) its
 
     -- its call of the device
-    call_case : (done : Bool) → IsFlushed keeper start shape opened (flush_calls shape bytes step done ++ calls) (words_on (Calls a done)) (happens w (Calls a done))
+    call_case : (done : Bool) → IsFlushed keeper start shape opened (flush_calls shape bytes step done ++ calls) (words_on (Calls a done)) (guard_happens w (Calls a done))
     call_case done =
         stays_flushed (Calls a done) (flush_calls shape bytes step done ++ calls) (record { kept_too = λ i b above below is. call_spares shape opened calls words flushed step bytes done i b k below is })
         (moves_flushed (Calls a done) (λ r. let e = r.its_event in cc))
@@ -388,11 +388,11 @@ module _ (keeper start : ℕ) (opened : List ℕ) (calls : List Call) (words : �
         (inr (mine, called_on shape opened calls (words_on (Calls a done)) flushed step bytes done (page_some w sound) (knows_still (Calls a done))))
         b y (subst (λ (all : List Actor). slice_get all b ≡ Some y) (actors_called done) found))
 
-  abbrev After : Event → List Call → Type 0
-  After event calls' = IsFlushed keeper start shape opened calls' (words_on event) (happens w event)
+  abbrev After : GuardEvent → List Call → Type 0
+  After event calls' = IsFlushed keeper start shape opened calls' (words_on event) (guard_happens w event)
 
   moves_case : (a : ℕ) (found : Option Actor) → slice_get w.now.actors a ≡ found → After (Moves a) calls
-  unfolding happens
+  unfolding guard_happens
   moves_case a None got = stays_flushed (Moves a) calls no_call (moves_flushed (Moves a) raises_none) (λ b y found. row_stays (Moves a) b y y.work (there b y found) refl (was.rows b y (there b y found)))
     where
       raises_none : RaisesIt w (Moves a) → ⊥
@@ -421,13 +421,13 @@ module _ (keeper start : ℕ) (opened : List ℕ) (calls : List Call) (words : �
       ]
 
   -- a call that no flush makes
-  no_flush_call : (a : ℕ) (done : Bool) → ((b : ℕ) (y : Actor) → slice_get (happens w (Calls a done)).now.actors b ≡ Some y → slice_get w.now.actors b ≡ Some y) → After (Calls a done) calls
+  no_flush_call : (a : ℕ) (done : Bool) → ((b : ℕ) (y : Actor) → slice_get (guard_happens w (Calls a done)).now.actors b ≡ Some y → slice_get w.now.actors b ≡ Some y) → After (Calls a done) calls
   no_flush_call a done there =
       stays_flushed (Calls a done) calls no_call (moves_flushed (Calls a done) (λ r. let e = r.its_event in cc))
       (λ b y found. row_stays (Calls a done) b y y.work (there b y found) refl (was.rows b y (there b y found)))
 
   calls_case : (a : ℕ) (done : Bool) (found : Option Actor) → slice_get w.now.actors a ≡ found → After (Calls a done) (actor_calls w.now done found ++ calls)
-  unfolding happens flush_done flush_calls
+  unfolding guard_happens flush_done flush_calls
   calls_case a done None got = no_flush_call a done (λ b y found. subst (λ (o : Option Actor). slice_get (called w.now a done o).actors b ≡ Some y) got found)
   calls_case a done (Some x) got = by x.work refl
     where
@@ -458,10 +458,10 @@ module _ (keeper start : ℕ) (opened : List ℕ) (calls : List Call) (words : �
       by (Turns step m) its = no_flush_call a done (λ b y found. to_work (Turns step m) b y its found)
       by (Serves step) its = no_flush_call a done (λ b y found. to_work (Serves step) b y its found)
 
-  pub happens_flushed : (event : Event) → FlushesAlone keeper event → After event (event_calls w.now event ++ calls)
+  pub happens_flushed : (event : GuardEvent) → FlushesAlone keeper event → After event (event_calls w.now event ++ calls)
   happens_flushed (Begins a (ToDo task)) alone = quiet_case (Begins a (ToDo task)) refl
   happens_flushed (Begins a ToReserve) alone = quiet_case (Begins a ToReserve) refl
-  happens_flushed (Begins a (ToFill cell)) alone = quiet_case (Begins a (ToFill cell)) refl
+  happens_flushed (Begins a (ToFill its_words)) alone = quiet_case (Begins a (ToFill its_words)) refl
   happens_flushed (Begins a (ToInvalidate header)) alone = quiet_case (Begins a (ToInvalidate header)) refl
   happens_flushed (Begins a ToShift) alone = quiet_case (Begins a ToShift) refl
   happens_flushed (Begins a (ToTurnPage tail)) alone = quiet_case (Begins a (ToTurnPage tail)) refl
@@ -480,18 +480,18 @@ module _ (keeper start : ℕ) (opened : List ℕ) (calls : List Call) (words : �
   happens_flushed (CallsElse call) alone = quiet_case (CallsElse call) refl
 
 -- A whole run.
-module _ (keeper start : ℕ) (opened : List ℕ) (first : World) (sound : IsSound first) (was : IsFlushed keeper start first.now.shape opened [] (stands first []) first) where
-  pub same_shape : (events : List Event) → (run first events).now.shape ≡ first.now.shape
-  unfolding run
+module _ (keeper start : ℕ) (opened : List ℕ) (first : GuardWorld) (sound : IsSound first) (was : IsFlushed keeper start first.now.shape opened [] (stands first []) first) where
+  pub same_shape : (events : List GuardEvent) → (guard_run first events).now.shape ≡ first.now.shape
+  unfolding guard_run
   same_shape [] = refl
-  same_shape (event ∷ before) = (same_store (run first before) event).0 ∙ same_shape before
+  same_shape (event ∷ before) = (same_store (guard_run first before) event).0 ∙ same_shape before
 
-  pub run_flushed : (events : List Event) → OneFlushes keeper events → IsFlushed keeper start (run first events).now.shape opened (calls_made first events) (stands first events) (run first events)
-  unfolding run stands calls_made
+  pub run_flushed : (events : List GuardEvent) → OneFlushes keeper events → IsFlushed keeper start (guard_run first events).now.shape opened (calls_made first events) (stands first events) (guard_run first events)
+  unfolding guard_run stands calls_made
   run_flushed [] alone = was
   run_flushed (event ∷ before) alone =
-      let w : World = run first before in
-      subst (λ (s : Shape). IsFlushed keeper start s opened (event_calls w.now event ++ calls_made first before) (framed (happens w event).now (stands first before)) (happens w event)) (sym (same_store w event).0)
+      let w : GuardWorld = guard_run first before in
+      subst (λ (s : Shape). IsFlushed keeper start s opened (event_calls w.now event ++ calls_made first before) (framed (guard_happens w event).now (stands first before)) (guard_happens w event)) (sym (same_store w event).0)
       (happens_flushed keeper start opened (calls_made first before) (stands first before) w (run_sound first before sound) (stood_open first before) (run_flushed before alone.1) event alone.0)
 
 -- The store as it is opened: no flush is under way, and the device has what it was opened with.
@@ -505,7 +505,7 @@ opening_flushed keeper shape places actors words start opened stood o = record {
 }
 
 -- so what is flushed is synced
-pub is_synced : (keeper start : ℕ) (shape : Shape) (opened : List ℕ) (calls : List Call) (words : ℕ → RecordWord → ℕ) (w : World) → IsFlushed keeper start shape opened calls words w
+pub is_synced : (keeper start : ℕ) (shape : Shape) (opened : List ℕ) (calls : List Call) (words : ℕ → RecordWord → ℕ) (w : GuardWorld) → IsFlushed keeper start shape opened calls words w
     → IsSynced shape opened calls words start (levels_of w.now.words).flushed
 is_synced keeper start shape opened calls words w is = record {
   records = λ bytes shows addr above below. record_shown shape opened calls words addr bytes (is.records addr above below) shows;

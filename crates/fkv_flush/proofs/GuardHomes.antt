@@ -1,5 +1,6 @@
 -- The action in a slot that one actor is about to arm is touched by no other actor.
 use Rattle.std.proofs.Common.{◌≡◌, ◌≢◌, ℕ, ◌+◌, ◌-◌, ◌≤◌, ◌<◌, List, refl, arith, sym, ap, ◌∙◌, Bool, true, false}
+use Rattle.fkv_base.specs.Limits.{drain_slots}
 use Rattle.std.specs.Prelude.{Option, Some, None, slice_get, ◌==◌, if◌then◌else◌, nat_lt, nat_le}
 use Rattle.std.proofs.lemmas.Bool.Decides.{nat_tests}
 use Rattle.fkv_plane.specs.declared.actions.Action.{Action}
@@ -13,8 +14,8 @@ use Rattle.fkv_epoch.specs.declared.raising.Raising.TheVariants as raise
 use Rattle.fkv_epoch.specs.Claiming.{claim_ask, claim_next, slot_after, slot_armed}
 use Rattle.fkv_epoch.specs.Raising.{raise_ask}
 use Rattle.fkv_epoch.specs.Arming.{arm_next}
-use Rattle.fkv_epoch.specs.World.{Duty, Claims, Raises, Arms, World, acted, claimed, received, raised, drain_word}
-use Rattle.fkv_epoch.proofs.Cells.{item_spared, none_some}
+use Rattle.fkv_epoch.specs.EpochWorld.{EpochMachine, Claims, Raises, Arms, EpochWorld, machine_step, claimed, received, raised, drain_word}
+use Rattle.fkv_epoch.proofs.Items.{item_spared, none_some}
 use Rattle.fkv_epoch.proofs.Sound.{IsSound}
 
 received_spares : (words : List ℕ) (actions : List (Option Action)) (other epoch safe slot : ℕ) (found : Option Action) → slot ≢ other → action_at (received words actions other epoch safe found).actions slot ≡ action_at actions slot
@@ -31,20 +32,20 @@ Keeps words actions slot step = action_at (claimed words actions step).actions s
 
 after_leaves : (words : List ℕ) (actions : List (Option Action)) (slot other : ℕ) (safe : Option ℕ) → Keeps words actions slot (slot_after other safe)
 unfolding slot_after
-after_leaves words actions slot other safe = way (Keeps words actions slot) (nat_lt other 7) (claim.MeetsSlot (other + 1) safe) claim.AtRest (λ e. refl) (λ e. refl)
+after_leaves words actions slot other safe = way (Keeps words actions slot) (nat_lt (other + 1) drain_slots) (claim.MeetsSlot (other + 1) safe) claim.AtRest (λ e. refl) (λ e. refl)
 
 armed_leaves : (words : List ℕ) (actions : List (Option Action)) (slot other word safe : ℕ) → Keeps words actions slot (slot_armed other word safe)
 unfolding slot_armed
 armed_leaves words actions slot other word safe = way (Keeps words actions slot) (nat_le (word - 2) safe) (claim.TakesSlot other word safe) (slot_after other (Some safe)) (λ e. refl) (λ e. after_leaves words actions slot other (Some safe))
 
 -- a slot that is armed has no owner, and one that an actor is about to arm is its own
-apart : (w : World) (b slot c other word : ℕ) → IsSound w → slice_get w.now.actors b ≡ Some (Arms (arm.StoresEpoch slot c)) → other < 8 → 2 ≤ word → drain_word w.now.words other ≡ word → slot ≢ other
+apart : (w : EpochWorld) (b slot c other word : ℕ) → IsSound w → slice_get w.now.actors b ≡ Some (Arms (arm.StoresEpoch slot c)) → other < drain_slots → 2 ≤ word → drain_word w.now.words other ≡ word → slot ≢ other
 apart w b slot c other word sound its few some found same =
     let owned : sound.owners slot ≡ Some b = (sound.slots.holds b (Arms (arm.StoresEpoch slot c)) its).1 in
     let free : sound.owners other ≡ None = sound.slots.unowned other few (λ e. omega (arith, e, found, some)) in
     none_some {Y = ⊥} b (sym free ∙ (sym (ap sound.owners same) ∙ owned))
 
-claim_spares : (w : World) (a b : ℕ) (step : Claiming) (slot c : ℕ) → IsSound w → slice_get w.now.actors a ≡ Some (Claims step) → slice_get w.now.actors b ≡ Some (Arms (arm.StoresEpoch slot c))
+claim_spares : (w : EpochWorld) (a b : ℕ) (step : Claiming) (slot c : ℕ) → IsSound w → slice_get w.now.actors a ≡ Some (Claims step) → slice_get w.now.actors b ≡ Some (Arms (arm.StoresEpoch slot c))
     → Keeps (words_after w.now.words (claim_ask step)) w.now.actions slot (claim_next step (reply_to w.now.words (claim_ask step)))
 unfolding claim_ask claim_next
 claim_spares w a b claim.AtRest slot c sound got its = refl
@@ -62,21 +63,21 @@ claim_spares w a b (claim.Receives other epoch safe) slot c sound got its = absu
 claim_spares w a b (claim.Runs other epoch safe action) slot c sound got its = refl
 claim_spares w a b (claim.FreesSlot other safe) slot c sound got its = after_leaves _ w.now.actions slot other (Some safe)
 
-pub homes_spared : (w : World) (a b : ℕ) (d : Duty) (slot c : ℕ) → IsSound w → slice_get w.now.actors a ≡ Some d → slice_get w.now.actors b ≡ Some (Arms (arm.StoresEpoch slot c))
-    → action_at (acted w.now.sessions a w.now.words w.now.actions d).actions slot ≡ action_at w.now.actions slot
+pub homes_spared : (w : EpochWorld) (a b : ℕ) (d : EpochMachine) (slot c : ℕ) → IsSound w → slice_get w.now.actors a ≡ Some d → slice_get w.now.actors b ≡ Some (Arms (arm.StoresEpoch slot c))
+    → action_at (machine_step w.now.sessions a w.now.words w.now.actions d).actions slot ≡ action_at w.now.actions slot
 homes_spared w a b (Claims step) slot c sound got its = claim_spares w a b step slot c sound got its
 homes_spared w a b d slot c sound got its = refl
 
 -- no step of a machine leads to where a slot is about to be armed, but that of raising the epoch with its action
-is_arming : Duty → Bool
+is_arming : EpochMachine → Bool
 is_arming (Arms (arm.StoresEpoch slot c)) = true
 is_arming d = false
 
-claimed_arms_none : (words : List ℕ) (actions : List (Option Action)) (step : Claiming) → is_arming (claimed words actions step).duty ≡ false
+claimed_arms_none : (words : List ℕ) (actions : List (Option Action)) (step : Claiming) → is_arming (claimed words actions step).machine ≡ false
 unfolding is_arming
 claimed_arms_none words actions (claim.Receives slot epoch safe) = found (action_at actions slot)
   where
-    found : (x : Option Action) → is_arming (received words actions slot epoch safe x).duty ≡ false
+    found : (x : Option Action) → is_arming (received words actions slot epoch safe x).machine ≡ false
     found None = refl
     found (Some x) = refl
 claimed_arms_none words actions step = refl
@@ -86,7 +87,7 @@ unfolding is_arming
 raised_arms_none (raise.RaisesEpoch slot) reply = refl
 raised_arms_none step reply = refl
 
-acted_arms_none : (w : World) (a : ℕ) (d : Duty) → IsSound w → slice_get w.now.actors a ≡ Some d → is_arming (acted w.now.sessions a w.now.words w.now.actions d).duty ≡ false
+acted_arms_none : (w : EpochWorld) (a : ℕ) (d : EpochMachine) → IsSound w → slice_get w.now.actors a ≡ Some d → is_arming (machine_step w.now.sessions a w.now.words w.now.actions d).machine ≡ false
 unfolding is_arming arm_next
 acted_arms_none w a (Claims step) sound got = claimed_arms_none _ w.now.actions (claim_next step (reply_to w.now.words (claim_ask step)))
 acted_arms_none w a (Raises step) sound got = raised_arms_none step (reply_to w.now.words (raise_ask step))
@@ -98,6 +99,6 @@ acted_arms_none w a d sound got = refl
 not_both : (b : Bool) {X : Type 0} → b ≡ false → b ≡ true → X
 not_both b f t = cc
 
-pub arms_none : (w : World) (a slot c : ℕ) (d : Duty) {X : Type 0} → IsSound w → slice_get w.now.actors a ≡ Some d → (acted w.now.sessions a w.now.words w.now.actions d).duty ≡ Arms (arm.StoresEpoch slot c) → X
+pub arms_none : (w : EpochWorld) (a slot c : ℕ) (d : EpochMachine) {X : Type 0} → IsSound w → slice_get w.now.actors a ≡ Some d → (machine_step w.now.sessions a w.now.words w.now.actions d).machine ≡ Arms (arm.StoresEpoch slot c) → X
 unfolding is_arming
-arms_none w a slot c d {X} sound got e = not_both (is_arming (acted w.now.sessions a w.now.words w.now.actions d).duty) (acted_arms_none w a d sound got) (ap is_arming e)
+arms_none w a slot c d {X} sound got e = not_both (is_arming (machine_step w.now.sessions a w.now.words w.now.actions d).machine) (acted_arms_none w a d sound got) (ap is_arming e)

@@ -3,21 +3,21 @@ use Rattle.std.proofs.Common.{◌≡◌, ℕ, zero, suc, ◌<◌, ◌≤◌, Lis
 use Rattle.std.specs.Prelude.{Option, Some, None, slice_get, replicate}
 use Rattle.fkv_base.specs.declared.shapes.Shape.{Shape}
 use Rattle.fkv_plane.specs.declared.places.Places.{Places}
-use Rattle.fkv_epoch.specs.declared.protecting.Protecting.TheVariants as wake
+use Rattle.fkv_epoch.specs.declared.protecting.Protecting.TheVariants as protect
 use Rattle.fkv_epoch.specs.declared.arming.Arming.TheVariants as arm
-use Rattle.fkv_epoch.specs.World.{Protects, Arms, Sight, OfReadOnly, OfHead}
-use Rattle.fkv_epoch.proofs.Cells.{none_some}
+use Rattle.fkv_epoch.specs.EpochWorld.{Protects, Arms, Sight, OfReadOnly, OfHead}
+use Rattle.fkv_epoch.proofs.Items.{none_some}
 use Rattle.fkv_epoch.proofs.Runs as epochs_runs
 use Rattle.fkv_flush.specs.GuardSeen.{LastSeen}
-use Rattle.fkv_flush.specs.GuardWorld.{Actor, Now, World, Event, Begins, Resumes, Moves, Calls, Reads, Sees, Publishes, Updates, RaisesReadOnly, RaisesFor, Changes, CallsElse, happens, run}
+use Rattle.fkv_flush.specs.GuardWorld.{Actor, GuardNow, GuardWorld, GuardEvent, Begins, Resumes, Moves, Calls, Reads, Sees, Publishes, Updates, RaisesReadOnly, RaisesFor, Changes, CallsElse, guard_happens, guard_run}
 use Rattle.fkv_flush.specs.Guarded.{seen_at, seen_of, undecided_at, undecided_of, GoesBy, IsOpened, opening, first_actor, IsCovered, UndecidedIsFresh}
-use Rattle.fkv_flush.proofs.GuardSound.{IsSound, duty_of, duty_at}
-use Rattle.fkv_flush.proofs.GuardDuties.{steady_goes}
+use Rattle.fkv_flush.proofs.GuardSound.{IsSound, machine_of, machine_at}
+use Rattle.fkv_flush.proofs.GuardMachines.{steady_goes}
 use Rattle.fkv_flush.proofs.GuardHappens.{begun_so, resumed_so, moved_sound, called_so, read_so, seen_so, published_so, updated_so, read_only_raised_so, raised_so, changed_so}
 
 -- one event
-pub happens_sound : (w : World) (event : Event) → IsSound w → IsSound (happens w event)
-unfolding happens
+pub happens_sound : (w : GuardWorld) (event : GuardEvent) → IsSound w → IsSound (guard_happens w event)
+unfolding guard_happens
 happens_sound w (Begins a task) sound = begun_so w a task (slice_get w.now.actors a) refl sound
 happens_sound w (Resumes a) sound = resumed_so w a (slice_get w.now.actors a) refl sound
 happens_sound w (Moves a) sound = moved_sound w a (slice_get w.now.actors a) refl sound
@@ -32,10 +32,10 @@ happens_sound w (Changes a place word) sound = changed_so w a place word (slice_
 happens_sound w (CallsElse call) sound = sound
 
 -- a whole run
-pub run_sound : (w : World) (events : List Event) → IsSound w → IsSound (run w events)
-unfolding run
+pub run_sound : (w : GuardWorld) (events : List GuardEvent) → IsSound w → IsSound (guard_run w events)
+unfolding guard_run
 run_sound w [] sound = sound
-run_sound w (event ∷ before) sound = happens_sound (run w before) event (run_sound w before sound)
+run_sound w (event ∷ before) sound = happens_sound (guard_run w before) event (run_sound w before sound)
 
 pub replicate_item : {X : Type 0} (n i : ℕ) (x d : X) → slice_get (replicate n x) i ≡ Some d → d ≡ x
 replicate_item zero i x d e = cc
@@ -54,9 +54,9 @@ map_replicate f (suc n) x = ap (λ ys. f x ∷ ys) (map_replicate f n x)
 -- the store as it is opened
 pub opening_sound : (shape : Shape) (places : Places) (actors : ℕ) (words : List ℕ) (start : ℕ) → IsOpened shape places actors words start → IsSound (opening shape places actors words start)
 opening_sound shape places actors words start o =
-    let n : Now = (opening shape places actors words start).now in
+    let n : GuardNow = (opening shape places actors words start).now in
     let first : Actor = first_actor start in
-    let duties : map duty_of n.actors ≡ replicate actors (Protects wake.AtRest) = map_replicate duty_of actors first in
+    let machines : map machine_of n.actors ≡ replicate actors (Protects protect.AtRest) = map_replicate machine_of actors first in
     let below : (s : ℕ) → ((seen_of n.actors s).read_only ≤ start) × ((seen_of n.actors s).head ≤ start) = λ s. seen_first s (slice_get n.actors s) refl in
     let inside : (s : ℕ) (sight : Sight) → GoesBy n s sight → seen_of n.actors s ≡ first.seen = λ s sight c.
     ap seen_at (replicate_there actors s first (let h = c.is_session in let m = o.epochs.with_others in omega (arith, h, m))) in
@@ -69,7 +69,7 @@ opening_sound shape places actors words start o =
     record {
       fits = o.fits;
       enough_words = o.enough_words;
-      epochs = rw duties (epochs_runs.opening_sound places.sessions actors words o.epochs);
+      epochs = rw machines (epochs_runs.opening_sound places.sessions actors words o.epochs);
       guard = record {
         in_order = record {
           closed_below = omega (arith, closed, head);
@@ -90,7 +90,7 @@ opening_sound shape places actors words start o =
         fresh = λ s a e. none_undecided s a (slice_get n.actors s) refl e;
       };
       claims_safe = λ y among. absurd among;
-      arming = λ a slot c action its home. no_arming a slot c (rw duties at its);
+      arming = λ a slot c action its home. no_arming a slot c (rw machines at its);
       steady = λ a addr x got u. let same = replicate_item actors a first x got in absurd_undecided x addr (ap (λ (y : Actor). y.undecided) same) u;
       knows = λ a x got. rw (replicate_item actors a first x got) tt;
     }
@@ -110,13 +110,13 @@ opening_sound shape places actors words start o =
     none_undecided {X} s a None got e = none_some {Y = X} a e
     none_undecided {X} s a (Some x) got e = absurd_undecided x a (ap (λ (y : Actor). y.undecided) (replicate_item actors s (first_actor start) x got)) e
 
-    no_arming : {X : Type 0} (a slot c : ℕ) → slice_get (replicate actors (Protects wake.AtRest)) a ≡ Some (Arms (arm.StoresEpoch slot c)) → X
-    no_arming {X} a slot c its = not_rest slot c (replicate_item actors a (Protects wake.AtRest) (Arms (arm.StoresEpoch slot c)) its)
+    no_arming : {X : Type 0} (a slot c : ℕ) → slice_get (replicate actors (Protects protect.AtRest)) a ≡ Some (Arms (arm.StoresEpoch slot c)) → X
+    no_arming {X} a slot c its = not_rest slot c (replicate_item actors a (Protects protect.AtRest) (Arms (arm.StoresEpoch slot c)) its)
       where
-        not_rest : (slot c : ℕ) → Arms (arm.StoresEpoch slot c) ≡ Protects wake.AtRest → X
+        not_rest : (slot c : ℕ) → Arms (arm.StoresEpoch slot c) ≡ Protects protect.AtRest → X
         not_rest slot c e = cc
 
-pub covered : (w : World) → IsSound w → IsCovered w
+pub covered : (w : GuardWorld) → IsSound w → IsCovered w
 covered w sound =
     let c = sound.guard.cover in
     let o = sound.guard.in_order in
@@ -128,7 +128,7 @@ covered w sound =
       seen = λ s g. let i = sound.guard.safe.head s g in omega (arith, c, i);
     }
 
-pub undecided_fresh : (w : World) → IsSound w → UndecidedIsFresh w
+pub undecided_fresh : (w : GuardWorld) → IsSound w → UndecidedIsFresh w
 undecided_fresh w sound = record {
   goes = λ s a sight e. goes s a sight e (slice_get w.now.actors s) refl;
   steady = λ s a x got u. sound.steady s a x got u;
@@ -144,7 +144,7 @@ undecided_fresh w sound = record {
         record {
           is_session = c.is_session;
           is_protected = c.is_protected;
-          duty = x.duty;
-          its_duty = duty_at w.now.actors s x got;
-          has_loaded = steady_goes x.duty sight (sound.steady s a x got (sym (ap undecided_at got) ∙ e));
+          machine = x.machine;
+          its_machine = machine_at w.now.actors s x got;
+          has_loaded = steady_goes x.machine sight (sound.steady s a x got (sym (ap undecided_at got) ∙ e));
         }

@@ -2,14 +2,14 @@
 use Rattle.std.proofs.Common.{subst, ℕ, ◌/◌, ◌≤◌, sym, ap, arith, inl, inr}
 use Rattle.fkv_flush.specs.Turning.{frame_end}
 use Rattle.fkv_flush.specs.GuardLevels.{levels_of}
-use Rattle.fkv_flush.specs.GuardWorld.{World, Event}
+use Rattle.fkv_flush.specs.GuardWorld.{GuardWorld, GuardEvent}
 use Rattle.fkv_flush.specs.Guarded.{GuardsLimit}
 use Rattle.fkv_flush.proofs.GuardSound.{IsSound}
 use Rattle.fkv_flush.proofs.GuardUnwritten.{limit_stays}
 use Rattle.fkv_flush.proofs.GuardWorks.{Known}
 
 -- The Cas of the limit is won where all below the frame's end is closed. So that is flushed, and each session that counts has seen a head no lower.
-pub guards_limit : (w : World) (event : Event) → IsSound w → GuardsLimit w event
+pub guards_limit : (w : GuardWorld) (event : GuardEvent) → IsSound w → GuardsLimit w event
 guards_limit w event sound up = elim (limit_stays w event sound) [
   | inl same ↦ absurd (omega (arith, same, up))
   | inr r ↦

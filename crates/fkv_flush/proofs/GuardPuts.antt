@@ -11,19 +11,19 @@ use Rattle.fkv_epoch.specs.declared.raising.Raising.TheVariants as raise
 use Rattle.fkv_epoch.specs.declared.arming.Arming.TheVariants as arm
 use Rattle.fkv_epoch.specs.Raising.{raise_ask, raise_next}
 use Rattle.fkv_epoch.specs.Arming.{arm_next}
-use Rattle.fkv_epoch.specs.World.{Duty, Raises, Bears, Arms, Sight, OfReadOnly, OfHead, Loads, safe_of, epoch_of, own_epoch, past_moved}
-use Rattle.fkv_epoch.specs.World as epochs
+use Rattle.fkv_epoch.specs.EpochWorld.{EpochMachine, Raises, HasRaised, Arms, Sight, OfReadOnly, OfHead, Loads, safe_of, epoch_of, own_epoch, past_moved}
+use Rattle.fkv_epoch.specs.EpochWorld as epochs
 use Rattle.fkv_epoch.specs.Once.{goes_by}
-use Rattle.fkv_epoch.proofs.Cells.{word_spared, item_written, item_spared, within_item, some_same}
+use Rattle.fkv_epoch.proofs.Items.{word_spared, item_written, item_spared, within_item, some_same}
 use Rattle.fkv_epoch.proofs.Sound as epochs_sound
 use Rattle.fkv_epoch.proofs.Happens.{moved_sound, no_load}
 use Rattle.fkv_epoch.proofs.Outer.{put_sound}
 use Rattle.fkv_flush.specs.GuardLevels.{Levels, levels_of, AreInOrder, Rises}
 use Rattle.fkv_flush.specs.GuardSeen.{LastSeen, IsStored}
-use Rattle.fkv_flush.specs.GuardWorld.{Actor, Now, World, epoch_now, epoch_world}
+use Rattle.fkv_flush.specs.GuardWorld.{Actor, GuardNow, GuardWorld, epoch_now, epoch_world}
 use Rattle.fkv_flush.specs.Guarded.{is_steady, seen_at, seen_of, undecided_at, GoesBy}
 use Rattle.fkv_flush.proofs.Guard.{Known, SeesOn, fresh_on}
-use Rattle.fkv_flush.proofs.GuardSound.{Knows, IsSound, Awake, duty_of, duty_at, after, assembled}
+use Rattle.fkv_flush.proofs.GuardSound.{Knows, IsSound, Awake, machine_of, machine_at, after, assembled}
 use Rattle.fkv_flush.proofs.GuardSteps.{rises_same, goes_with}
 
 same_bearing : (slot slot' c c' : ℕ) → Arms (arm.StoresEpoch slot c) ≡ Arms (arm.StoresEpoch slot' c') → (slot ≡ slot') × (c ≡ c')
@@ -38,46 +38,46 @@ known_now l C seen loads c (act.Phase phase version) stored r h = record { store
 stored_same : (l l' : Levels) (x : Action) → l ≡ l' → IsStored l x → IsStored l' x
 stored_same l l' x e h = subst (λ (m : Levels). IsStored m x) e h
 
-pub put_for : (w : World) (a : ℕ) (x x' : Actor) (slot : ℕ) (action : Action) → IsSound w → slice_get w.now.actors a ≡ Some x → x.duty ≡ Raises (raise.RaisesEpoch slot)
+pub put_for : (w : GuardWorld) (a : ℕ) (x x' : Actor) (slot : ℕ) (action : Action) → IsSound w → slice_get w.now.actors a ≡ Some x → x.machine ≡ Raises (raise.RaisesEpoch slot)
     → IsStored (levels_of w.now.words) action
-    → x'.duty ≡ Arms (arm.StoresEpoch slot (epoch_of w.now.words)) → x'.seen ≡ x.seen → x'.undecided ≡ x.undecided
-    → ((A : Type 0) → Knows w.now.shape (levels_of w.now.words) A x'.duty x'.undecided x'.work)
+    → x'.machine ≡ Arms (arm.StoresEpoch slot (epoch_of w.now.words)) → x'.seen ≡ x.seen → x'.undecided ≡ x.undecided
+    → ((A : Type 0) → Knows w.now.shape (levels_of w.now.words) A x'.machine x'.undecided x'.work)
     → IsSound (after w a x' (slice_set w.now.words 0 ((epoch_of w.now.words + 1) % 2 ^ 64)) (slice_set w.now.actions slot (Some action)) w.past)
 unfolding raise_ask raise_next arm_next
-put_for w a x x' slot action sound got its stored duty seen undecided knows =
-    let n : Now = w.now in
+put_for w a x x' slot action sound got its stored machine seen undecided knows =
+    let n : GuardNow = w.now in
     let E : ℕ = epoch_of n.words in
     let v : ℕ = (E + 1) % 2 ^ 64 in
-    let e : epochs.World = epoch_world w in
-    let d : Duty = Raises (raise.RaisesEpoch slot) in
-    let d' : Duty = Arms (arm.StoresEpoch slot E) in
+    let e : epochs.EpochWorld = epoch_world w in
+    let d : EpochMachine = Raises (raise.RaisesEpoch slot) in
+    let d' : EpochMachine = Arms (arm.StoresEpoch slot E) in
     let words' : List ℕ = slice_set n.words 0 v in
     let actions' : List (Option Action) = slice_set n.actions slot (Some action) in
-    let w' : World = after w a x' words' actions' w.past in
-    let n' : Now = w'.now in
+    let w' : GuardWorld = after w a x' words' actions' w.past in
+    let n' : GuardNow = w'.now in
     let l : Levels = levels_of n.words in
     let l' : Levels = levels_of words' in
-    let duties : List Duty = map duty_of n.actors in
-    let got_e : slice_get duties a ≡ Some d = duty_at n.actors a x got ∙ ap Some its in
-    let swap : map duty_of (slice_set n.actors a x') ≡ slice_set duties a d' = map-set duty_of n.actors a x' ∙ ap (slice_set duties a) duty in
+    let machines : List EpochMachine = map machine_of n.actors in
+    let got_e : slice_get machines a ≡ Some d = machine_at n.actors a x got ∙ ap Some its in
+    let swap : map machine_of (slice_set n.actors a x') ≡ slice_set machines a d' = map-set machine_of n.actors a x' ∙ ap (slice_set machines a) machine in
     let none = no_load w.past.loads a E in
-    let twice : slice_set (slice_set duties a (Bears slot E)) a d' ≡ slice_set duties a d' = set-set duties a (Bears slot E) d' in
+    let twice : slice_set (slice_set machines a (HasRaised slot E)) a d' ≡ slice_set machines a d' = set-set machines a (HasRaised slot E) d' in
     let raised = rw none at (moved_sound e a (Some d) got_e sound.epochs) in
-    let middle : epochs.World = record { now = record e.now { words = words'; actors = slice_set duties a (Bears slot E) }; past = w.past } in
-    let put : epochs_sound.IsSound (record { now = record e.now { words = words'; actions = actions'; actors = slice_set (slice_set duties a (Bears slot E)) a d' }; past = w.past })
-    = put_sound middle a action (Some (Bears slot E)) (item_written duties a d (Bears slot E) got_e) raised in
+    let middle : epochs.EpochWorld = record { now = record e.now { words = words'; actors = slice_set machines a (HasRaised slot E) }; past = w.past } in
+    let put : epochs_sound.IsSound (record { now = record e.now { words = words'; actions = actions'; actors = slice_set (slice_set machines a (HasRaised slot E)) a d' }; past = w.past })
+    = put_sound middle a action (Some (HasRaised slot E)) (item_written machines a d (HasRaised slot E) got_e) raised in
     let epochs' : epochs_sound.IsSound (epoch_world w') = rw swap (rw twice at put) in
     let same : l' ≡ l = levels_there n.words v in
     let back = sym same in
     let up : Rises l l' = rises_same l l' same in
     let at_a : slice_get n'.actors a ≡ Some x' = item_written n.actors a x x' got in
     let same_word : own_epoch words' a ≡ own_epoch n.words a = word_spared n.words 0 v (session_place a own.Epoch) (λ i. omega (arith, i)) in
-    let goes : (sight : Sight) → goes_by sight x'.duty ≡ goes_by sight x.duty = λ sight. ap (goes_by sight) duty ∙ sym (ap (goes_by sight) its) in
-    let steady : is_steady x'.duty ≡ is_steady x.duty = ap is_steady duty ∙ sym (ap is_steady its) in
+    let goes : (sight : Sight) → goes_by sight x'.machine ≡ goes_by sight x.machine = λ sight. ap (goes_by sight) machine ∙ sym (ap (goes_by sight) its) in
+    let steady : is_steady x'.machine ≡ is_steady x.machine = ap is_steady machine ∙ sym (ap is_steady its) in
     let forth : (sight : Sight) → GoesBy n a sight → GoesBy n' a sight = λ sight c.
-    goes_with (epoch_now n) (epoch_now n') a x.duty x'.duty sight refl (λ h. same_word) (duty_at n.actors a x got) (duty_at n'.actors a x' at_a) (goes sight) c in
+    goes_with (epoch_now n) (epoch_now n') a x.machine x'.machine sight refl (λ h. same_word) (machine_at n.actors a x got) (machine_at n'.actors a x' at_a) (goes sight) c in
     let before : (sight : Sight) → GoesBy n' a sight → GoesBy n a sight = λ sight c.
-    goes_with (epoch_now n') (epoch_now n) a x'.duty x.duty sight refl (λ h. sym same_word) (duty_at n'.actors a x' at_a) (duty_at n.actors a x got) (sym (goes sight)) c in
+    goes_with (epoch_now n') (epoch_now n) a x'.machine x.machine sight refl (λ h. sym same_word) (machine_at n'.actors a x' at_a) (machine_at n.actors a x got) (sym (goes sight)) c in
     let seen_here : seen_of n'.actors a ≡ seen_of n.actors a = ap seen_at at_a ∙ (seen ∙ sym (ap seen_at got)) in
     let same_read_only = ap (λ (y : LastSeen). y.read_only) seen_here in
     let same_head = ap (λ (y : LastSeen). y.head) seen_here in
@@ -100,7 +100,7 @@ put_for w a x x' slot action sound got its stored duty seen undecided knows =
     (λ b other c i held. ap found_action (item_spared n.actions slot other (Some action) (λ j.
     i (some_same b a (sym (sound.epochs.slots.holds b (Arms (arm.StoresEpoch other c)) held).1 ∙ (ap sound.epochs.owners j ∙ mine.1))))))
     (λ all other c y arming home.
-    let it = same_bearing slot other E c (sym duty ∙ arming) in
+    let it = same_bearing slot other E c (sym machine ∙ arming) in
     let few : slot < length n.actions = let h = sound.epochs.eight_slots in omega (arith, h, mine.0) in
     let there : action_at actions' slot ≡ Some action = ap found_action (within_item n.actions slot (Some action) few) in
     let is_it : action ≡ y = some_same action y (sym there ∙ (ap (action_at actions') it.0 ∙ home)) in
@@ -110,7 +110,7 @@ put_for w a x x' slot action sound got its stored duty seen undecided knows =
     let f = sound.guard.fresh a addr (ap undecided_at got ∙ (sym undecided ∙ u)) in
     fresh_on l l' (GoesBy n) (GoesBy n') (seen_of n.actors) (seen_of n'.actors) a addr up (forth OfReadOnly f.counts) same_read_only f)
     (λ addr u. steady ∙ sound.steady a addr x got (sym undecided ∙ u))
-    (subst (λ (m : Levels). Knows n.shape m (Awake n' a x'.duty) x'.duty x'.undecided x'.work) back (knows (Awake n' a x'.duty)))
+    (subst (λ (m : Levels). Knows n.shape m (Awake n' a x'.machine) x'.machine x'.undecided x'.work) back (knows (Awake n' a x'.machine)))
   where
     levels_there : (words : List ℕ) (u : ℕ) → levels_of (slice_set words 0 u) ≡ levels_of words
     levels_there words u = rw (word_spared words 0 u 9 (λ i. omega (arith, i)), word_spared words 0 u 8 (λ i. omega (arith, i)), word_spared words 0 u 7 (λ i. omega (arith, i)), word_spared words 0 u 6 (λ i. omega (arith, i)), word_spared words 0 u 5 (λ i. omega (arith, i)), word_spared words 0 u 4 (λ i. omega (arith, i)), word_spared words 0 u 3 (λ i. omega (arith, i))) refl

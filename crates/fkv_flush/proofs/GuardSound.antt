@@ -7,7 +7,7 @@ use Rattle.fkv_plane.specs.Plane.{action_at}
 use Rattle.fkv_plane.specs.Places.{word_count}
 use Rattle.fkv_log.specs.declared.reserving.Reserving.TheVariants as reserve
 use Rattle.fkv_log.specs.declared.filling.Filling.TheVariants as fill
-use Rattle.fkv_log.specs.declared.invalidating.Invalidating.TheVariants as drop
+use Rattle.fkv_log.specs.declared.invalidating.Invalidating.TheVariants as invalidate
 use Rattle.fkv_base.specs.declared.shapes.Shape.{Shape}
 use Rattle.fkv_epoch.specs.declared.raising.Raising.{Raising}
 use Rattle.fkv_epoch.specs.declared.raising.Raising.TheVariants as raise
@@ -24,14 +24,14 @@ use Rattle.fkv_flush.specs.declared.serving.Serving.TheVariants as serve
 use Rattle.fkv_flush.specs.Moving.{Mover, action_awaited}
 use Rattle.fkv_flush.specs.Turning.{frame_end}
 use Rattle.fkv_epoch.specs.declared.arming.Arming.TheVariants as arm
-use Rattle.fkv_epoch.specs.World.{Duty, Protects, Refreshes, Leaves, Raises, Arms, is_at_rest, Sight, OfReadOnly, OfHead, Armed, Claimed, safe_of, own_epoch}
-use Rattle.fkv_epoch.specs.World as epochs
+use Rattle.fkv_epoch.specs.EpochWorld.{EpochMachine, Protects, Refreshes, Leaves, Raises, Arms, is_at_rest, Sight, OfReadOnly, OfHead, Armed, Claimed, safe_of, own_epoch}
+use Rattle.fkv_epoch.specs.EpochWorld as epochs
 use Rattle.fkv_epoch.specs.Once.{Among, Counts}
-use Rattle.fkv_epoch.proofs.Cells.{item_written, item_spared, same_or, some_same}
+use Rattle.fkv_epoch.proofs.Items.{item_written, item_spared, same_or, some_same}
 use Rattle.fkv_epoch.proofs.Sound as epochs_sound
 use Rattle.fkv_flush.specs.GuardLevels.{Levels, levels_of, AreInOrder, Rises}
 use Rattle.fkv_flush.specs.GuardSeen.{LastSeen, IsStored}
-use Rattle.fkv_flush.specs.GuardWorld.{Actor, Work, Rests, Reserves, Fills, Invalidates, Shifts, Turns, Flushes, Serves, Now, World, epoch_now, epoch_world}
+use Rattle.fkv_flush.specs.GuardWorld.{Actor, Work, Rests, Reserves, Fills, Invalidates, Shifts, Turns, Flushes, Serves, GuardNow, GuardWorld, epoch_now, epoch_world}
 use Rattle.fkv_flush.specs.Guarded.{is_steady, seen_at, seen_of, undecided_at, undecided_of, GoesBy, ArePlacesOf}
 use Rattle.fkv_flush.proofs.Guard.{Known, Fresh, Guard, SeesOn, knows_on, fresh_on, stepped}
 
@@ -49,7 +49,7 @@ RaiseKnows l target (raise.RaisesEpoch slot) = IsStored l (action_awaited target
 RaiseKnows l target raising = ⊥
 
 -- what a move knows: the actor's machine of the epochs is the one inside it
-abbrev pub MoveKnows : Levels → Duty → Moving → Raising → Arming → Type 0
+abbrev pub MoveKnows : Levels → EpochMachine → Moving → Raising → Arming → Type 0
 MoveKnows l d move.AtRest raising arming = ⊥
 MoveKnows l d (move.Raises target) raising arming = (d ≡ Raises raising) × RaiseKnows l target raising
 MoveKnows l d (move.MovesOffset target) (raise.HasSlot slot) arming = (d ≡ Raises (raise.HasSlot slot)) × IsAhead l target.offset target.to
@@ -58,22 +58,22 @@ MoveKnows l d move.Arms raising (arm.StoresEpoch slot c) = d ≡ Arms (arm.Store
 MoveKnows l d move.Arms raising arming = ⊥
 
 -- a machine that has not begun its move
-abbrev pub Waits : Duty → Mover → Type 0
+abbrev pub Waits : EpochMachine → Mover → Type 0
 Waits d m = (m.step ≡ move.AtRest) × (is_at_rest d ≡ true)
 
 -- what an actor knows, by how far its machine has come; Awake says that it is a session which goes by a read-only offset
-abbrev pub Knows : Shape → Levels → Type 0 → Duty → Option ℕ → Work → Type 0
+abbrev pub Knows : Shape → Levels → Type 0 → EpochMachine → Option ℕ → Work → Type 0
 Knows shape l Awake d undecided Rests = ⊤
 Knows shape l Awake d undecided (Reserves reserve.AtRest) = ⊤
 Knows shape l Awake d undecided (Reserves reserve.LoadsLimit) = Awake × (undecided ≡ None)
 Knows shape l Awake d undecided (Reserves (reserve.LoadsTail limit)) = Awake × (undecided ≡ None) × (limit ≤ l.limit)
 Knows shape l Awake d undecided (Reserves (reserve.TakesTail tail)) = Awake × (undecided ≡ None) × (tail < l.limit)
 Knows shape l Awake d undecided (Fills fill.AtRest) = ⊤
-Knows shape l Awake d undecided (Fills (fill.StoresValue addr cell)) = undecided ≡ Some addr.0
-Knows shape l Awake d undecided (Fills (fill.StoresKey addr cell)) = undecided ≡ Some addr.0
-Knows shape l Awake d undecided (Fills (fill.StoresHeader addr cell)) = undecided ≡ Some addr.0
-Knows shape l Awake d undecided (Invalidates drop.AtRest) = ⊤
-Knows shape l Awake d undecided (Invalidates (drop.StoresHeader addr header)) = undecided ≡ Some addr.0
+Knows shape l Awake d undecided (Fills (fill.StoresValue addr its_words)) = undecided ≡ Some addr.0
+Knows shape l Awake d undecided (Fills (fill.StoresKey addr its_words)) = undecided ≡ Some addr.0
+Knows shape l Awake d undecided (Fills (fill.StoresHeader addr its_words)) = undecided ≡ Some addr.0
+Knows shape l Awake d undecided (Invalidates invalidate.AtRest) = ⊤
+Knows shape l Awake d undecided (Invalidates (invalidate.StoresHeader addr header)) = undecided ≡ Some addr.0
 Knows shape l Awake d undecided (Shifts shift.AtRest m) = ⊤
 Knows shape l Awake d undecided (Shifts shift.LoadsTail m) = Waits d m
 Knows shape l Awake d undecided (Shifts (shift.LoadsReadOnly tail) m) = Waits d m × (tail ≤ l.tail)
@@ -117,7 +117,7 @@ raise_more l l' target (raise.HoldsSlot slot) up h = ahead_more l l' target.offs
 raise_more l l' target (raise.HasSlot slot) up h = h
 raise_more l l' target (raise.RaisesEpoch slot) up h = stored_more l l' target.offset target.to up h
 
-move_more : (l l' : Levels) (d : Duty) (step : Moving) (raising : Raising) (arming : Arming) → Rises l l' → MoveKnows l d step raising arming → MoveKnows l' d step raising arming
+move_more : (l l' : Levels) (d : EpochMachine) (step : Moving) (raising : Raising) (arming : Arming) → Rises l l' → MoveKnows l d step raising arming → MoveKnows l' d step raising arming
 move_more l l' d move.AtRest raising arming up h = h
 move_more l l' d (move.Raises target) raising arming up h = (h.0, raise_more l l' target raising up h.1)
 move_more l l' d (move.MovesOffset target) raise.AtRest arming up h = h
@@ -131,18 +131,18 @@ move_more l l' d move.Arms raising (arm.PutsAction slot c) up h = h
 move_more l l' d move.Arms raising (arm.StoresEpoch slot c) up h = h
 
 -- offsets rise, and so what is known of them stays
-pub knows_more : (shape : Shape) (l l' : Levels) (A A' : Type 0) (d : Duty) (u : Option ℕ) (work : Work) → Rises l l' → (A → A') → Knows shape l A d u work → Knows shape l' A' d u work
+pub knows_more : (shape : Shape) (l l' : Levels) (A A' : Type 0) (d : EpochMachine) (u : Option ℕ) (work : Work) → Rises l l' → (A → A') → Knows shape l A d u work → Knows shape l' A' d u work
 knows_more shape l l' A A' d u Rests up on k = tt
 knows_more shape l l' A A' d u (Reserves reserve.AtRest) up on k = tt
 knows_more shape l l' A A' d u (Reserves reserve.LoadsLimit) up on k = (on k.0, k.1)
 knows_more shape l l' A A' d u (Reserves (reserve.LoadsTail limit)) up on k = (on k.0, k.1, let r = up.limit in omega (arith, k.2, r))
 knows_more shape l l' A A' d u (Reserves (reserve.TakesTail tail)) up on k = (on k.0, k.1, let r = up.limit in omega (arith, k.2, r))
 knows_more shape l l' A A' d u (Fills fill.AtRest) up on k = tt
-knows_more shape l l' A A' d u (Fills (fill.StoresValue addr cell)) up on k = k
-knows_more shape l l' A A' d u (Fills (fill.StoresKey addr cell)) up on k = k
-knows_more shape l l' A A' d u (Fills (fill.StoresHeader addr cell)) up on k = k
-knows_more shape l l' A A' d u (Invalidates drop.AtRest) up on k = tt
-knows_more shape l l' A A' d u (Invalidates (drop.StoresHeader addr header)) up on k = k
+knows_more shape l l' A A' d u (Fills (fill.StoresValue addr its_words)) up on k = k
+knows_more shape l l' A A' d u (Fills (fill.StoresKey addr its_words)) up on k = k
+knows_more shape l l' A A' d u (Fills (fill.StoresHeader addr its_words)) up on k = k
+knows_more shape l l' A A' d u (Invalidates invalidate.AtRest) up on k = tt
+knows_more shape l l' A A' d u (Invalidates (invalidate.StoresHeader addr header)) up on k = k
 knows_more shape l l' A A' d u (Shifts shift.AtRest m) up on k = tt
 knows_more shape l l' A A' d u (Shifts shift.LoadsTail m) up on k = k
 knows_more shape l l' A A' d u (Shifts (shift.LoadsReadOnly tail) m) up on k = (k.0, let r = up.tail in omega (arith, k.1, r))
@@ -171,13 +171,13 @@ knows_more shape l l' A A' d u (Serves (serve.StoresValue session mail)) up on k
 knows_more shape l l' A A' d u (Serves (serve.StoresReady session)) up on k = k
 
 -- a session that goes by a read-only offset, and will as long as it turns to nothing else
-abbrev pub Awake : Now → ℕ → Duty → Type 0
-Awake n session duty = GoesBy n session OfReadOnly × (is_steady duty ≡ true)
+abbrev pub Awake : GuardNow → ℕ → EpochMachine → Type 0
+Awake n session machine = GoesBy n session OfReadOnly × (is_steady machine ≡ true)
 
-abbrev pub duty_of : Actor → Duty
-duty_of x = x.duty
+abbrev pub machine_of : Actor → EpochMachine
+machine_of x = x.machine
 
-pub record IsSound (w : World) : Type 0 where
+pub record IsSound (w : GuardWorld) : Type 0 where
   pub fits : ArePlacesOf w.now.shape w.now.places
   pub enough_words : word_count w.now.places ≤ length w.now.words
   pub epochs : epochs_sound.IsSound (epoch_world w)
@@ -185,33 +185,33 @@ pub record IsSound (w : World) : Type 0 where
   -- who has taken a slot has done so when its epoch was safe
   pub claims_safe : (y : Claimed) → Among y w.past.claims → y.epoch ≤ safe_of w.now.words
   -- an action in a slot that is about to be armed
-  pub arming : (a slot c : ℕ) (action : Action) → slice_get (map duty_of w.now.actors) a ≡ Some (Arms (arm.StoresEpoch slot c)) → action_at w.now.actions slot ≡ Some action
+  pub arming : (a slot c : ℕ) (action : Action) → slice_get (map machine_of w.now.actors) a ≡ Some (Arms (arm.StoresEpoch slot c)) → action_at w.now.actions slot ≡ Some action
       → Known (levels_of w.now.words) (GoesBy w.now) (seen_of w.now.actors) w.past.loads c action
-  -- who has an undecided record is not about to look again or to leave
-  pub steady : (a addr : ℕ) (x : Actor) → slice_get w.now.actors a ≡ Some x → x.undecided ≡ Some addr → is_steady x.duty ≡ true
-  pub knows : (a : ℕ) (x : Actor) → slice_get w.now.actors a ≡ Some x → Knows w.now.shape (levels_of w.now.words) (Awake w.now a x.duty) x.duty x.undecided x.work
+  -- who has an undecided record is not about to refresh or to leave
+  pub steady : (a addr : ℕ) (x : Actor) → slice_get w.now.actors a ≡ Some x → x.undecided ≡ Some addr → is_steady x.machine ≡ true
+  pub knows : (a : ℕ) (x : Actor) → slice_get w.now.actors a ≡ Some x → Knows w.now.shape (levels_of w.now.words) (Awake w.now a x.machine) x.machine x.undecided x.work
 
 -- an actor's machine of the epochs
-pub duty_at : (actors : List Actor) (s : ℕ) (x : Actor) → slice_get actors s ≡ Some x → slice_get (map duty_of actors) s ≡ Some x.duty
-duty_at actors s x e = slice_get-map duty_of actors s ∙ ap (option_map duty_of) e
+pub machine_at : (actors : List Actor) (s : ℕ) (x : Actor) → slice_get actors s ≡ Some x → slice_get (map machine_of actors) s ≡ Some x.machine
+machine_at actors s x e = slice_get-map machine_of actors s ∙ ap (option_map machine_of) e
 
 -- who goes by a value still does where neither its epoch word nor its duty changes
-pub goes_on : (n n' : epochs.Now) (s : ℕ) (sight : Sight) → n'.sessions ≡ n.sessions → (s < n.sessions → own_epoch n'.words s ≡ own_epoch n.words s) → slice_get n'.actors s ≡ slice_get n.actors s → Counts n s sight → Counts n' s sight
-goes_on n n' s sight same_sessions same_word same_duty c = record {
+pub goes_on : (n n' : epochs.EpochNow) (s : ℕ) (sight : Sight) → n'.sessions ≡ n.sessions → (s < n.sessions → own_epoch n'.words s ≡ own_epoch n.words s) → slice_get n'.actors s ≡ slice_get n.actors s → Counts n s sight → Counts n' s sight
+goes_on n n' s sight same_sessions same_word same_machine c = record {
   is_session = let h = c.is_session in omega (arith, h, same_sessions);
   is_protected = let h = c.is_protected in let e = same_word c.is_session in omega (arith, h, e);
-  duty = c.duty;
-  its_duty = same_duty ∙ c.its_duty;
+  machine = c.machine;
+  its_machine = same_machine ∙ c.its_machine;
   has_loaded = c.has_loaded;
 }
 
 -- the world after a step of the actor a
-abbrev pub after : World → ℕ → Actor → List ℕ → List (Option Action) → epochs.Past → World
+abbrev pub after : GuardWorld → ℕ → Actor → List ℕ → List (Option Action) → epochs.EpochPast → GuardWorld
 after w a x' words' actions' past' = record { now = record w.now { words = words'; actions = actions'; actors = slice_set w.now.actors a x' }; past = past' }
 
 -- The step of one actor: its epochs' part is sound; the offsets rise and keep their order; what it knows then is as said.
-pub assembled : (w : World) (a : ℕ) (x x' : Actor) (words' : List ℕ) (actions' : List (Option Action)) (past' : epochs.Past) → IsSound w → slice_get w.now.actors a ≡ Some x
-    → (let w' : World = after w a x' words' actions' past' in let n' : Now = w'.now in let l' : Levels = levels_of words' in
+pub assembled : (w : GuardWorld) (a : ℕ) (x x' : Actor) (words' : List ℕ) (actions' : List (Option Action)) (past' : epochs.EpochPast) → IsSound w → slice_get w.now.actors a ≡ Some x
+    → (let w' : GuardWorld = after w a x' words' actions' past' in let n' : GuardNow = w'.now in let l' : Levels = levels_of words' in
     length words' ≡ length w.now.words
     → epochs_sound.IsSound (epoch_world w')
     → Rises (levels_of w.now.words) l' → AreInOrder l' → l'.limit ≤ l'.closed + w.now.places.ring
@@ -223,24 +223,24 @@ pub assembled : (w : World) (a : ℕ) (x x' : Actor) (words' : List ℕ) (action
     → safe_of w.now.words ≤ safe_of words'
     → ((y : Claimed) → Among y past'.claims → Among y w.past.claims ⊎ (y.epoch ≤ safe_of words'))
     → (((s : ℕ) → SeesOn l' (GoesBy w.now) (GoesBy n') (seen_of w.now.actors) (seen_of n'.actors) w.past.loads past'.loads s) → (y : Armed) → Among y past'.armed → Among y w.past.armed ⊎ Known l' (GoesBy n') (seen_of n'.actors) past'.loads y.epoch y.action)
-    → ((b slot c : ℕ) → b ≢ a → slice_get (map duty_of w.now.actors) b ≡ Some (Arms (arm.StoresEpoch slot c)) → action_at actions' slot ≡ action_at w.now.actions slot)
-    → (((s : ℕ) → SeesOn l' (GoesBy w.now) (GoesBy n') (seen_of w.now.actors) (seen_of n'.actors) w.past.loads past'.loads s) → (slot c : ℕ) (action : Action) → x'.duty ≡ Arms (arm.StoresEpoch slot c) → action_at actions' slot ≡ Some action → Known l' (GoesBy n') (seen_of n'.actors) past'.loads c action)
+    → ((b slot c : ℕ) → b ≢ a → slice_get (map machine_of w.now.actors) b ≡ Some (Arms (arm.StoresEpoch slot c)) → action_at actions' slot ≡ action_at w.now.actions slot)
+    → (((s : ℕ) → SeesOn l' (GoesBy w.now) (GoesBy n') (seen_of w.now.actors) (seen_of n'.actors) w.past.loads past'.loads s) → (slot c : ℕ) (action : Action) → x'.machine ≡ Arms (arm.StoresEpoch slot c) → action_at actions' slot ≡ Some action → Known l' (GoesBy n') (seen_of n'.actors) past'.loads c action)
     → ((addr : ℕ) → x'.undecided ≡ Some addr → Fresh l' (GoesBy n') (seen_of n'.actors) a addr)
-    → ((addr : ℕ) → x'.undecided ≡ Some addr → is_steady x'.duty ≡ true)
-    → Knows w.now.shape l' (Awake n' a x'.duty) x'.duty x'.undecided x'.work
+    → ((addr : ℕ) → x'.undecided ≡ Some addr → is_steady x'.machine ≡ true)
+    → Knows w.now.shape l' (Awake n' a x'.machine) x'.machine x'.undecided x'.work
     → IsSound w')
 assembled w a x x' words' actions' past' sound got same_length epochs' up order cover others loads on low_read_only low_head safer claims news homes arming fresh steady knows =
-    let n : Now = w.now in
-    let w' : World = after w a x' words' actions' past' in
-    let n' : Now = w'.now in
+    let n : GuardNow = w.now in
+    let w' : GuardWorld = after w a x' words' actions' past' in
+    let n' : GuardNow = w'.now in
     let l : Levels = levels_of n.words in
     let l' : Levels = levels_of words' in
     let at_a : slice_get n'.actors a ≡ Some x' = item_written n.actors a x x' got in
     let elsewhere : (s : ℕ) → s ≢ a → slice_get n'.actors s ≡ slice_get n.actors s = λ s i. item_spared n.actors a s x' i in
-    let duties : (s : ℕ) → s ≢ a → slice_get (map duty_of n'.actors) s ≡ slice_get (map duty_of n.actors) s = λ s i.
-    slice_get-map duty_of n'.actors s ∙ (ap (option_map duty_of) (elsewhere s i) ∙ sym (slice_get-map duty_of n.actors s)) in
-    let forth : (s : ℕ) (sight : Sight) → s ≢ a → GoesBy n s sight → GoesBy n' s sight = λ s sight i c. goes_on (epoch_now n) (epoch_now n') s sight refl (λ h. others s h i) (duties s i) c in
-    let back : (s : ℕ) (sight : Sight) → s ≢ a → GoesBy n' s sight → GoesBy n s sight = λ s sight i c. goes_on (epoch_now n') (epoch_now n) s sight refl (λ h. sym (others s h i)) (sym (duties s i)) c in
+    let machines : (s : ℕ) → s ≢ a → slice_get (map machine_of n'.actors) s ≡ slice_get (map machine_of n.actors) s = λ s i.
+    slice_get-map machine_of n'.actors s ∙ (ap (option_map machine_of) (elsewhere s i) ∙ sym (slice_get-map machine_of n.actors s)) in
+    let forth : (s : ℕ) (sight : Sight) → s ≢ a → GoesBy n s sight → GoesBy n' s sight = λ s sight i c. goes_on (epoch_now n) (epoch_now n') s sight refl (λ h. others s h i) (machines s i) c in
+    let back : (s : ℕ) (sight : Sight) → s ≢ a → GoesBy n' s sight → GoesBy n s sight = λ s sight i c. goes_on (epoch_now n') (epoch_now n) s sight refl (λ h. sym (others s h i)) (sym (machines s i)) c in
     let seen_there : (s : ℕ) → s ≢ a → seen_of n'.actors s ≡ seen_of n.actors s = λ s i. ap seen_at (elsewhere s i) in
     let all_on : (s : ℕ) → SeesOn l' (GoesBy n) (GoesBy n') (seen_of n.actors) (seen_of n'.actors) w.past.loads past'.loads s = λ s. elim (same_or s a) [
       | inl e ↦ rw e on
@@ -266,10 +266,10 @@ assembled w a x x' words' actions' past' sound got same_length epochs' up order 
       claims_safe = λ y among. elim (claims y among) [ inl o ↦ let h = sound.claims_safe y o in omega (arith, h, safer) | inr h ↦ h ];
       arming = λ b slot c action its home. elim (same_or b a) [
         | inl e ↦
-            let same : x'.duty ≡ Arms (arm.StoresEpoch slot c) = some_same x'.duty (Arms (arm.StoresEpoch slot c)) (sym (duty_at n'.actors a x' at_a) ∙ (sym (ap (slice_get (map duty_of n'.actors)) e) ∙ its)) in
+            let same : x'.machine ≡ Arms (arm.StoresEpoch slot c) = some_same x'.machine (Arms (arm.StoresEpoch slot c)) (sym (machine_at n'.actors a x' at_a) ∙ (sym (ap (slice_get (map machine_of n'.actors)) e) ∙ its)) in
             arming all_on slot c action same home
         | inr i ↦
-            let before : slice_get (map duty_of n.actors) b ≡ Some (Arms (arm.StoresEpoch slot c)) = sym (duties b i) ∙ its in
+            let before : slice_get (map machine_of n.actors) b ≡ Some (Arms (arm.StoresEpoch slot c)) = sym (machines b i) ∙ its in
             knows_on l l' (GoesBy n) (GoesBy n') (seen_of n.actors) (seen_of n'.actors) w.past.loads past'.loads c action up all_on (sound.arming b slot c action before (sym (homes b slot c i before) ∙ home))
       ];
       steady = λ b addr y its undecided. elim (same_or b a) [
@@ -282,6 +282,6 @@ assembled w a x x' words' actions' past' sound got same_length epochs' up order 
         | inl e ↦
             let same : y ≡ x' = some_same y x' (sym its ∙ (ap (slice_get n'.actors) e ∙ at_a)) in
             rw (e, same) knows
-        | inr i ↦ knows_more n.shape l l' (Awake n b y.duty) (Awake n' b y.duty) y.duty y.undecided y.work up (λ k. (forth b OfReadOnly i k.0, k.1)) (sound.knows b y (sym (elsewhere b i) ∙ its))
+        | inr i ↦ knows_more n.shape l l' (Awake n b y.machine) (Awake n' b y.machine) y.machine y.undecided y.work up (λ k. (forth b OfReadOnly i k.0, k.1)) (sound.knows b y (sym (elsewhere b i) ∙ its))
       ];
     }

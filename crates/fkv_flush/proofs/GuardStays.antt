@@ -5,35 +5,35 @@ use Rattle.fkv_plane.specs.declared.asks.Ask.{Ask}
 use Rattle.fkv_plane.specs.declared.asks.Ask.TheVariants as ask
 use Rattle.fkv_plane.specs.Asked.{word_at, reply_to}
 use Rattle.fkv_epoch.specs.declared.raising.Raising.TheVariants as raise
-use Rattle.fkv_epoch.specs.World.{Duty, Raises, is_at_rest}
-use Rattle.fkv_epoch.proofs.Cells.{item_written, item_spared, same_or, some_same}
+use Rattle.fkv_epoch.specs.EpochWorld.{EpochMachine, Raises, is_at_rest}
+use Rattle.fkv_epoch.proofs.Items.{item_written, item_spared, same_or, some_same}
 use Rattle.fkv_flush.specs.declared.shifting.Shifting.{Shifting}
 use Rattle.fkv_flush.specs.declared.turning.Turning.{Turning}
 use Rattle.fkv_flush.specs.Moving.{Mover}
 use Rattle.fkv_flush.specs.Shifting.{shift_next, shift_mover, shift_next_ask}
 use Rattle.fkv_flush.specs.Turning.{turn_next, turn_mover, turn_next_ask}
 use Rattle.fkv_flush.specs.GuardAsks.{shift_now, turn_now}
-use Rattle.fkv_flush.specs.GuardWorld.{Actor, Work, Rests, Reserves, Fills, Invalidates, Shifts, Turns, Flushes, Serves, Task, ToDo, ToReserve, ToFill, ToInvalidate, ToShift, ToTurnPage, ToFlush, ToServe, Now, World, Event, Begins, Resumes, Moves, Calls, Reads, Sees, Publishes, Updates, RaisesReadOnly, RaisesFor, Changes, CallsElse, happens, is_idle, is_none, is_guarded, is_stored, may_update, may_work, after_put, dutied, worked, started, begun, resumed, moved, called, called_by, read, read_by, seen_again, published, updated, read_only_raised, raised_for, raised_with, changed}
+use Rattle.fkv_flush.specs.GuardWorld.{Actor, Work, Rests, Reserves, Fills, Invalidates, Shifts, Turns, Flushes, Serves, GuardTask, ToDo, ToReserve, ToFill, ToInvalidate, ToShift, ToTurnPage, ToFlush, ToServe, GuardNow, GuardWorld, GuardEvent, Begins, Resumes, Moves, Calls, Reads, Sees, Publishes, Updates, RaisesReadOnly, RaisesFor, Changes, CallsElse, guard_happens, is_idle, is_none, is_guarded, is_stored, may_update, may_work, after_put, epoch_step, work_step, started, begun, resumed, moved, called, called_by, read, read_by, seen_again, published, updated, read_only_raised, raised_for, raised_with, changed}
 use Rattle.fkv_flush.proofs.GuardWorks.{truth}
 
-abbrev pub SameStore : Now → Now → Type 0
+abbrev pub SameStore : GuardNow → GuardNow → Type 0
 SameStore n m = (m.shape ≡ n.shape) × (m.places ≡ n.places)
 
-same : (n : Now) → SameStore n n
+same : (n : GuardNow) → SameStore n n
 same n = (refl, refl)
 
-either_store : (n m k : Now) (b : Bool) → SameStore n m → SameStore n k → SameStore n (if b then m else k)
+either_store : (n m k : GuardNow) (b : Bool) → SameStore n m → SameStore n k → SameStore n (if b then m else k)
 either_store n m k true p q = p
 either_store n m k false p q = q
 
 -- no event changes the shape or the places
-pub same_store : (w : World) (event : Event) → SameStore w.now (happens w event).now
-unfolding happens
+pub same_store : (w : GuardWorld) (event : GuardEvent) → SameStore w.now (guard_happens w event).now
+unfolding guard_happens
 same_store w (Begins a task) = by (slice_get w.now.actors a)
   where
     by : (found : Option Actor) → SameStore w.now (begun w.now a task found)
     by None = same w.now
-    by (Some x) = either_store w.now _ w.now (is_at_rest x.duty && is_idle x.work && may_work w.now a x task) (refl, refl) (refl, refl)
+    by (Some x) = either_store w.now _ w.now (is_at_rest x.machine && is_idle x.work && may_work w.now a x task) (refl, refl) (refl, refl)
 same_store w (Resumes a) = by (slice_get w.now.actors a)
   where
     by : (found : Option Actor) → SameStore w.now (resumed w.now a found)
@@ -84,13 +84,13 @@ same_store w (RaisesReadOnly a to) = by (slice_get w.now.actors a)
     by (Some x) = either_store w.now _ w.now (nat_le to (word_at w.now.words 3)) (refl, refl) (refl, refl)
 same_store w (RaisesFor a action) = by (slice_get w.now.actors a)
   where
-    by_duty : (x : Actor) (d : Duty) → SameStore w.now (raised_with w.now a action x d)
-    by_duty x (Raises (raise.RaisesEpoch slot)) = (refl, refl)
-    by_duty x d = (refl, refl)
+    by_machine : (x : Actor) (d : EpochMachine) → SameStore w.now (raised_with w.now a action x d)
+    by_machine x (Raises (raise.RaisesEpoch slot)) = (refl, refl)
+    by_machine x d = (refl, refl)
 
     by : (found : Option Actor) → SameStore w.now (raised_for w.now a action found)
     by None = same w.now
-    by (Some x) = either_store w.now _ w.now (is_idle x.work && is_stored w.now.words action) (by_duty x x.duty) (refl, refl)
+    by (Some x) = either_store w.now _ w.now (is_idle x.work && is_stored w.now.words action) (by_machine x x.machine) (refl, refl)
 same_store w (Changes a place word) = by (slice_get w.now.actors a)
   where
     by : (found : Option Actor) → SameStore w.now (changed w.now a place word found)
@@ -131,34 +131,34 @@ all_same actors b y found = (y, found, inl refl)
 put_stay : (actors : List Actor) (a : ℕ) (x x' : Actor) → slice_get actors a ≡ Some x → Stays x.work x'.work → AllStay actors (slice_set actors a x')
 put_stay actors a x x' got stays = put_each (StaysAt actors) actors a x x' got (λ b y found n. (y, found, inl refl)) (x, got, stays)
 
-either_stay : (actors : List Actor) (n m : Now) (b : Bool) → AllStay actors n.actors → AllStay actors m.actors → AllStay actors (if b then n else m).actors
+either_stay : (actors : List Actor) (n m : GuardNow) (b : Bool) → AllStay actors n.actors → AllStay actors m.actors → AllStay actors (if b then n else m).actors
 either_stay actors n m true p q = p
 either_stay actors n m false p q = q
 
 -- an event by which no flush begins or goes on
-abbrev pub is_quiet : Event → Bool
+abbrev pub is_quiet : GuardEvent → Bool
 is_quiet (Begins a ToFlush) = false
 is_quiet (Moves a) = false
 is_quiet (Calls a done) = false
 is_quiet event = true
 
-begins_none : (n : Now) (x : Actor) (a : ℕ) (task : Task) → is_quiet (Begins a task) ≡ true → is_flush (started n x task).work ≡ false
+begins_none : (n : GuardNow) (x : Actor) (a : ℕ) (task : GuardTask) → is_quiet (Begins a task) ≡ true → is_flush (started n x task).work ≡ false
 begins_none n x a (ToDo task) quiet = refl
 begins_none n x a ToReserve quiet = refl
-begins_none n x a (ToFill cell) quiet = refl
+begins_none n x a (ToFill its_words) quiet = refl
 begins_none n x a (ToInvalidate header) quiet = refl
 begins_none n x a ToShift quiet = refl
 begins_none n x a (ToTurnPage tail) quiet = refl
 begins_none n x a ToFlush quiet = cc
 begins_none n x a ToServe quiet = refl
 
-pub quiet_stays : (w : World) (event : Event) → is_quiet event ≡ true → AllStay w.now.actors (happens w event).now.actors
-unfolding happens
+pub quiet_stays : (w : GuardWorld) (event : GuardEvent) → is_quiet event ≡ true → AllStay w.now.actors (guard_happens w event).now.actors
+unfolding guard_happens
 quiet_stays w (Begins a task) quiet = by (slice_get w.now.actors a) refl
   where
     by : (found : Option Actor) → slice_get w.now.actors a ≡ found → AllStay w.now.actors (begun w.now a task found).actors
     by None got = all_same w.now.actors
-    by (Some x) got = either_stay w.now.actors _ w.now (is_at_rest x.duty && is_idle x.work && may_work w.now a x task) (put_stay w.now.actors a x (started w.now x task) got (inr (begins_none w.now x a task quiet))) (all_same w.now.actors)
+    by (Some x) got = either_stay w.now.actors _ w.now (is_at_rest x.machine && is_idle x.work && may_work w.now a x task) (put_stay w.now.actors a x (started w.now x task) got (inr (begins_none w.now x a task quiet))) (all_same w.now.actors)
 quiet_stays w (Resumes a) quiet = by (slice_get w.now.actors a) refl
   where
     by : (found : Option Actor) → slice_get w.now.actors a ≡ found → AllStay w.now.actors (resumed w.now a found).actors
@@ -197,13 +197,13 @@ quiet_stays w (RaisesReadOnly a to) quiet = by (slice_get w.now.actors a) refl
     by (Some x) got = either_stay w.now.actors _ w.now (nat_le to (word_at w.now.words 3)) (put_stay w.now.actors a x x got (inl refl)) (all_same w.now.actors)
 quiet_stays w (RaisesFor a action) quiet = by (slice_get w.now.actors a) refl
   where
-    by_duty : (x : Actor) (d : Duty) → slice_get w.now.actors a ≡ Some x → AllStay w.now.actors (raised_with w.now a action x d).actors
-    by_duty x (Raises (raise.RaisesEpoch slot)) got = put_stay w.now.actors a x _ got (inl refl)
-    by_duty x d got = all_same w.now.actors
+    by_machine : (x : Actor) (d : EpochMachine) → slice_get w.now.actors a ≡ Some x → AllStay w.now.actors (raised_with w.now a action x d).actors
+    by_machine x (Raises (raise.RaisesEpoch slot)) got = put_stay w.now.actors a x _ got (inl refl)
+    by_machine x d got = all_same w.now.actors
 
     by : (found : Option Actor) → slice_get w.now.actors a ≡ found → AllStay w.now.actors (raised_for w.now a action found).actors
     by None got = all_same w.now.actors
-    by (Some x) got = either_stay w.now.actors _ w.now (is_idle x.work && is_stored w.now.words action) (by_duty x x.duty got) (all_same w.now.actors)
+    by (Some x) got = either_stay w.now.actors _ w.now (is_idle x.work && is_stored w.now.words action) (by_machine x x.machine got) (all_same w.now.actors)
 quiet_stays w (Changes a place word) quiet = by (slice_get w.now.actors a) refl
   where
     by : (found : Option Actor) → slice_get w.now.actors a ≡ found → AllStay w.now.actors (changed w.now a place word found).actors
@@ -216,7 +216,7 @@ put_none (ask.Put slot action) once twice p q = q
 put_none other once twice p q = p
 
 -- a machine that is no flush is none after its step
-works_none : (n : Now) (a : ℕ) (x : Actor) (work : Work) → is_flush work ≡ false → is_flush (worked n a x work).actor.work ≡ false ⊎ ((worked n a x work).actor.work ≡ x.work)
+works_none : (n : GuardNow) (a : ℕ) (x : Actor) (work : Work) → is_flush work ≡ false → is_flush (work_step n a x work).actor.work ≡ false ⊎ ((work_step n a x work).actor.work ≡ x.work)
 works_none n a x Rests apart = inr refl
 works_none n a x (Reserves step) apart = inl refl
 works_none n a x (Fills step) apart = inl refl
@@ -235,10 +235,10 @@ works_none n a x (Flushes step bytes) apart = cc
 works_none n a x (Serves step) apart = inl refl
 
 -- a step of an actor that is not flushing
-pub moved_stays : (w : World) (a : ℕ) (x : Actor) → slice_get w.now.actors a ≡ Some x → (is_idle x.work ≡ true) ⊎ (is_flush x.work ≡ false) → AllStay w.now.actors (moved w.now a (Some x)).actors
+pub moved_stays : (w : GuardWorld) (a : ℕ) (x : Actor) → slice_get w.now.actors a ≡ Some x → (is_idle x.work ≡ true) ⊎ (is_flush x.work ≡ false) → AllStay w.now.actors (moved w.now a (Some x)).actors
 moved_stays w a x got why = elim (truth (is_idle x.work)) [
-  | inl e ↦ rw e (put_stay w.now.actors a x (dutied w.now a x).actor got (inl refl))
-  | inr e ↦ rw e (put_stay w.now.actors a x (worked w.now a x x.work).actor got (elim why [
+  | inl e ↦ rw e (put_stay w.now.actors a x (epoch_step w.now a x).actor got (inl refl))
+  | inr e ↦ rw e (put_stay w.now.actors a x (work_step w.now a x x.work).actor got (elim why [
     | inl idle ↦ absurd_bool (is_idle x.work) idle e
     | inr apart ↦ elim (works_none w.now a x x.work apart) [ inl none ↦ inr none | inr same_work ↦ inl same_work ]
   ]))

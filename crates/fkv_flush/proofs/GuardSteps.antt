@@ -7,18 +7,18 @@ use Rattle.fkv_plane.specs.Asked.{word_at}
 use Rattle.fkv_plane.specs.Places.{session_place}
 use Rattle.fkv_plane.specs.declared.places.SessionWord.TheVariants as own
 use Rattle.fkv_epoch.specs.declared.arming.Arming.TheVariants as arm
-use Rattle.fkv_epoch.specs.World.{Duty, Arms, Sight, OfPhase, OfReadOnly, OfHead, Armed, Claimed, Loads, safe_of, epoch_of, own_epoch, is_own, loaded, with_load, sight_of}
-use Rattle.fkv_epoch.specs.World as epochs
+use Rattle.fkv_epoch.specs.EpochWorld.{EpochMachine, Arms, Sight, OfPhase, OfReadOnly, OfHead, Armed, Claimed, Loads, safe_of, epoch_of, own_epoch, is_own, loaded, with_load, sight_of}
+use Rattle.fkv_epoch.specs.EpochWorld as epochs
 use Rattle.fkv_epoch.specs.Once.{Among, Counts, goes_by}
-use Rattle.fkv_epoch.proofs.Cells.{item_written, some_same, word_spared}
+use Rattle.fkv_epoch.proofs.Items.{item_written, some_same, word_spared}
 use Rattle.fkv_epoch.proofs.Sound as epochs_sound
 use Rattle.fkv_epoch.proofs.Outer.{changes_sound}
 use Rattle.fkv_flush.specs.GuardLevels.{Levels, levels_of, AreInOrder, Rises}
 use Rattle.fkv_flush.specs.GuardSeen.{LastSeen}
-use Rattle.fkv_flush.specs.GuardWorld.{Actor, Now, World, epoch_now, epoch_world}
+use Rattle.fkv_flush.specs.GuardWorld.{Actor, GuardNow, GuardWorld, epoch_now, epoch_world}
 use Rattle.fkv_flush.specs.Guarded.{is_steady, seen_at, seen_of, undecided_at, GoesBy}
 use Rattle.fkv_flush.proofs.Guard.{SeesOn, knows_on, fresh_on}
-use Rattle.fkv_flush.proofs.GuardSound.{Knows, knows_more, IsSound, Awake, duty_of, duty_at, after, assembled}
+use Rattle.fkv_flush.proofs.GuardSound.{Knows, knows_more, IsSound, Awake, machine_of, machine_at, after, assembled}
 
 same_item : {X : Type 0} (xs : List X) (i : ℕ) (x : X) → slice_get xs i ≡ Some x → slice_set xs i x ≡ xs
 same_item [] i x e = refl
@@ -26,28 +26,28 @@ same_item (y ∷ ys) zero x e = let h : y ≡ x = cc in ap (λ z. z ∷ ys) (sym
 same_item (y ∷ ys) (suc i) x e = ap (λ zs. y ∷ zs) (same_item ys i x e)
 
 -- an actor that keeps its machine of the epochs
-pub same_duties : (actors : List Actor) (a : ℕ) (x x' : Actor) → slice_get actors a ≡ Some x → x'.duty ≡ x.duty → map duty_of (slice_set actors a x') ≡ map duty_of actors
-same_duties actors a x x' got same = map-set duty_of actors a x' ∙ (ap (slice_set (map duty_of actors) a) same ∙ same_item (map duty_of actors) a x.duty (duty_at actors a x got))
+pub same_machines : (actors : List Actor) (a : ℕ) (x x' : Actor) → slice_get actors a ≡ Some x → x'.machine ≡ x.machine → map machine_of (slice_set actors a x') ≡ map machine_of actors
+same_machines actors a x x' got same = map-set machine_of actors a x' ∙ (ap (slice_set (map machine_of actors) a) same ∙ same_item (map machine_of actors) a x.machine (machine_at actors a x got))
 
 -- offsets that stay have not fallen
 pub rises_same : (l l' : Levels) → l' ≡ l → Rises l l'
 rises_same l l' e = rw e (record { closed = omega arith; head = omega arith; flushed = omega arith; safe_read_only = omega arith; read_only = omega arith; tail = omega arith; limit = omega arith })
 
 -- who goes by a value, where its epoch word is the same and its duty goes by the value too
-pub goes_with : (n n' : epochs.Now) (a : ℕ) (d d' : Duty) (sight : Sight) → n'.sessions ≡ n.sessions → (a < n.sessions → own_epoch n'.words a ≡ own_epoch n.words a) → slice_get n.actors a ≡ Some d → slice_get n'.actors a ≡ Some d'
+pub goes_with : (n n' : epochs.EpochNow) (a : ℕ) (d d' : EpochMachine) (sight : Sight) → n'.sessions ≡ n.sessions → (a < n.sessions → own_epoch n'.words a ≡ own_epoch n.words a) → slice_get n.actors a ≡ Some d → slice_get n'.actors a ≡ Some d'
     → goes_by sight d' ≡ goes_by sight d → Counts n a sight → Counts n' a sight
 goes_with n n' a d d' sight same_sessions same_word got got' same c =
-    let its : c.duty ≡ d = some_same c.duty d (sym c.its_duty ∙ got) in
+    let its : c.machine ≡ d = some_same c.machine d (sym c.its_machine ∙ got) in
     record {
       is_session = let h = c.is_session in omega (arith, h, same_sessions);
       is_protected = let h = c.is_protected in let e = same_word c.is_session in omega (arith, h, e);
-      duty = d';
-      its_duty = got';
+      machine = d';
+      its_machine = got';
       has_loaded = same ∙ (sym (ap (goes_by sight) its) ∙ c.has_loaded);
     }
 
 -- A step that touches no word of the epochs and no action, and after which the actor goes by what it went by before.
-pub worded_past : (w : World) (a : ℕ) (x x' : Actor) (words' : List ℕ) (past' : epochs.Past) → IsSound w → slice_get w.now.actors a ≡ Some x
+pub worded_past : (w : GuardWorld) (a : ℕ) (x x' : Actor) (words' : List ℕ) (past' : epochs.EpochPast) → IsSound w → slice_get w.now.actors a ≡ Some x
     → past'.loads ≡ w.past.loads → past'.armed ≡ w.past.armed → past'.claims ≡ w.past.claims
     → length words' ≡ length w.now.words
     → epochs_sound.IsSound (epoch_world (after w a x' words' w.now.actions past'))
@@ -56,24 +56,24 @@ pub worded_past : (w : World) (a : ℕ) (x x' : Actor) (words' : List ℕ) (past
     → ((s : ℕ) → GoesBy w.now s OfReadOnly → (levels_of words').safe_read_only ≤ (seen_of w.now.actors s).read_only)
     → ((s : ℕ) → GoesBy w.now s OfHead → (levels_of words').closed ≤ (seen_of w.now.actors s).head)
     → safe_of words' ≡ safe_of w.now.words
-    → ((sight : Sight) → goes_by sight x'.duty ≡ goes_by sight x.duty)
-    → is_steady x'.duty ≡ is_steady x.duty
-    → ((slot c : ℕ) → x'.duty ≡ Arms (arm.StoresEpoch slot c) → x.duty ≡ Arms (arm.StoresEpoch slot c))
+    → ((sight : Sight) → goes_by sight x'.machine ≡ goes_by sight x.machine)
+    → is_steady x'.machine ≡ is_steady x.machine
+    → ((slot c : ℕ) → x'.machine ≡ Arms (arm.StoresEpoch slot c) → x.machine ≡ Arms (arm.StoresEpoch slot c))
     → x'.seen ≡ x.seen
-    → ((addr : ℕ) → x'.undecided ≡ Some addr → (x.undecided ≡ Some addr) ⊎ (Awake w.now a x.duty × ((levels_of w.now.words).read_only ≤ addr) × (addr < (levels_of words').tail)))
-    → Knows w.now.shape (levels_of words') (Awake w.now a x.duty) x'.duty x'.undecided x'.work
+    → ((addr : ℕ) → x'.undecided ≡ Some addr → (x.undecided ≡ Some addr) ⊎ (Awake w.now a x.machine × ((levels_of w.now.words).read_only ≤ addr) × (addr < (levels_of words').tail)))
+    → Knows w.now.shape (levels_of words') (Awake w.now a x.machine) x'.machine x'.undecided x'.work
     → IsSound (after w a x' words' w.now.actions past')
 worded_past w a x x' words' past' sound got same_loads same_armed same_claims same_length epochs' up order cover own low_read_only low_head safe goes steady arms seen fresh knows =
-    let n : Now = w.now in
-    let w' : World = after w a x' words' n.actions past' in
-    let n' : Now = w'.now in
+    let n : GuardNow = w.now in
+    let w' : GuardWorld = after w a x' words' n.actions past' in
+    let n' : GuardNow = w'.now in
     let l : Levels = levels_of n.words in
     let l' : Levels = levels_of words' in
     let at_a : slice_get n'.actors a ≡ Some x' = item_written n.actors a x x' got in
     let forth : (sight : Sight) → GoesBy n a sight → GoesBy n' a sight = λ sight c.
-    goes_with (epoch_now n) (epoch_now n') a x.duty x'.duty sight refl (own a) (duty_at n.actors a x got) (duty_at n'.actors a x' at_a) (goes sight) c in
+    goes_with (epoch_now n) (epoch_now n') a x.machine x'.machine sight refl (own a) (machine_at n.actors a x got) (machine_at n'.actors a x' at_a) (goes sight) c in
     let back : (sight : Sight) → GoesBy n' a sight → GoesBy n a sight = λ sight c.
-    goes_with (epoch_now n') (epoch_now n) a x'.duty x.duty sight refl (λ h. sym (own a h)) (duty_at n'.actors a x' at_a) (duty_at n.actors a x got) (sym (goes sight)) c in
+    goes_with (epoch_now n') (epoch_now n) a x'.machine x.machine sight refl (λ h. sym (own a h)) (machine_at n'.actors a x' at_a) (machine_at n.actors a x got) (sym (goes sight)) c in
     let seen_here : seen_of n'.actors a ≡ seen_of n.actors a = ap seen_at at_a ∙ (seen ∙ sym (ap seen_at got)) in
     let same_read_only = ap (λ (y : LastSeen). y.read_only) seen_here in
     let same_head = ap (λ (y : LastSeen). y.head) seen_here in
@@ -87,7 +87,7 @@ worded_past w a x x' words' past' sound got same_loads same_armed same_claims sa
     (λ y o. inl (subst (Among y) same_claims o)) (λ all y o. inl (subst (Among y) same_armed o)) (λ b slot c i its. refl)
     (λ all slot c action its home.
     knows_on l l' (GoesBy n) (GoesBy n') (seen_of n.actors) (seen_of n'.actors) w.past.loads past'.loads c action up all
-    (sound.arming a slot c action (duty_at n.actors a x got ∙ ap Some (arms slot c its)) home))
+    (sound.arming a slot c action (machine_at n.actors a x got ∙ ap Some (arms slot c its)) home))
     (λ addr e. elim (fresh addr e) [
       | inl o ↦
           let f = sound.guard.fresh a addr (ap undecided_at got ∙ o) in
@@ -102,9 +102,9 @@ worded_past w a x x' words' past' sound got same_loads same_armed same_claims sa
       | inl o ↦ steady ∙ sound.steady a addr x got o
       | inr o ↦ steady ∙ o.0.1
     ])
-    (knows_more n.shape l' l' (Awake n a x.duty) (Awake n' a x'.duty) x'.duty x'.undecided x'.work (rises_same l' l' refl) (λ k. (forth OfReadOnly k.0, steady ∙ k.1)) knows)
+    (knows_more n.shape l' l' (Awake n a x.machine) (Awake n' a x'.machine) x'.machine x'.undecided x'.work (rises_same l' l' refl) (λ k. (forth OfReadOnly k.0, steady ∙ k.1)) knows)
 
-pub worded : (w : World) (a : ℕ) (x x' : Actor) (words' : List ℕ) → IsSound w → slice_get w.now.actors a ≡ Some x
+pub worded : (w : GuardWorld) (a : ℕ) (x x' : Actor) (words' : List ℕ) → IsSound w → slice_get w.now.actors a ≡ Some x
     → length words' ≡ length w.now.words
     → epochs_sound.IsSound (epoch_world (after w a x' words' w.now.actions w.past))
     → Rises (levels_of w.now.words) (levels_of words') → AreInOrder (levels_of words') → (levels_of words').limit ≤ (levels_of words').closed + w.now.places.ring
@@ -112,26 +112,26 @@ pub worded : (w : World) (a : ℕ) (x x' : Actor) (words' : List ℕ) → IsSoun
     → ((s : ℕ) → GoesBy w.now s OfReadOnly → (levels_of words').safe_read_only ≤ (seen_of w.now.actors s).read_only)
     → ((s : ℕ) → GoesBy w.now s OfHead → (levels_of words').closed ≤ (seen_of w.now.actors s).head)
     → safe_of words' ≡ safe_of w.now.words
-    → ((sight : Sight) → goes_by sight x'.duty ≡ goes_by sight x.duty)
-    → is_steady x'.duty ≡ is_steady x.duty
-    → ((slot c : ℕ) → x'.duty ≡ Arms (arm.StoresEpoch slot c) → x.duty ≡ Arms (arm.StoresEpoch slot c))
+    → ((sight : Sight) → goes_by sight x'.machine ≡ goes_by sight x.machine)
+    → is_steady x'.machine ≡ is_steady x.machine
+    → ((slot c : ℕ) → x'.machine ≡ Arms (arm.StoresEpoch slot c) → x.machine ≡ Arms (arm.StoresEpoch slot c))
     → x'.seen ≡ x.seen
-    → ((addr : ℕ) → x'.undecided ≡ Some addr → (x.undecided ≡ Some addr) ⊎ (Awake w.now a x.duty × ((levels_of w.now.words).read_only ≤ addr) × (addr < (levels_of words').tail)))
-    → Knows w.now.shape (levels_of words') (Awake w.now a x.duty) x'.duty x'.undecided x'.work
+    → ((addr : ℕ) → x'.undecided ≡ Some addr → (x.undecided ≡ Some addr) ⊎ (Awake w.now a x.machine × ((levels_of w.now.words).read_only ≤ addr) × (addr < (levels_of words').tail)))
+    → Knows w.now.shape (levels_of words') (Awake w.now a x.machine) x'.machine x'.undecided x'.work
     → IsSound (after w a x' words' w.now.actions w.past)
 worded w a x x' words' sound got = worded_past w a x x' words' w.past sound got refl refl refl
 
 -- A step that writes one word, none of the epochs' and no offset, or none at all.
-pub calm : (w : World) (a : ℕ) (x x' : Actor) (words' : List ℕ) → IsSound w → slice_get w.now.actors a ≡ Some x
+pub calm : (w : GuardWorld) (a : ℕ) (x x' : Actor) (words' : List ℕ) → IsSound w → slice_get w.now.actors a ≡ Some x
     → length words' ≡ length w.now.words
     → epochs_sound.IsSound (epoch_world (after w a x' words' w.now.actions w.past))
     → levels_of words' ≡ levels_of w.now.words
     → ((s : ℕ) → s < w.now.places.sessions → own_epoch words' s ≡ own_epoch w.now.words s) → safe_of words' ≡ safe_of w.now.words
-    → x'.duty ≡ x.duty → x'.seen ≡ x.seen
+    → x'.machine ≡ x.machine → x'.seen ≡ x.seen
     → ((addr : ℕ) → x'.undecided ≡ Some addr → x.undecided ≡ Some addr)
-    → Knows w.now.shape (levels_of w.now.words) (Awake w.now a x.duty) x'.duty x'.undecided x'.work
+    → Knows w.now.shape (levels_of w.now.words) (Awake w.now a x.machine) x'.machine x'.undecided x'.work
     → IsSound (after w a x' words' w.now.actions w.past)
-calm w a x x' words' sound got same_length epochs' same own safe duty seen undecided knows =
+calm w a x x' words' sound got same_length epochs' same own safe machine seen undecided knows =
     let up = rises_same (levels_of w.now.words) (levels_of words') same in
     let back = sym same in
     worded w a x x' words' sound got same_length epochs' up
@@ -139,16 +139,16 @@ calm w a x x' words' sound got same_length epochs' same own safe duty seen undec
     (subst (λ (m : Levels). m.limit ≤ m.closed + w.now.places.ring) back sound.guard.cover) own
     (subst (λ (m : Levels). (s : ℕ) → GoesBy w.now s OfReadOnly → m.safe_read_only ≤ (seen_of w.now.actors s).read_only) back sound.guard.safe.read_only)
     (subst (λ (m : Levels). (s : ℕ) → GoesBy w.now s OfHead → m.closed ≤ (seen_of w.now.actors s).head) back sound.guard.safe.head)
-    safe (λ sight. ap (goes_by sight) duty) (ap is_steady duty) (λ slot c e. sym duty ∙ e) seen
-    (λ addr e. inl (undecided addr e)) (subst (λ (m : Levels). Knows w.now.shape m (Awake w.now a x.duty) x'.duty x'.undecided x'.work) back knows)
+    safe (λ sight. ap (goes_by sight) machine) (ap is_steady machine) (λ slot c e. sym machine ∙ e) seen
+    (λ addr e. inl (undecided addr e)) (subst (λ (m : Levels). Knows w.now.shape m (Awake w.now a x.machine) x'.machine x'.undecided x'.work) back knows)
 
 -- a machine goes on, and no word changes
-pub looks : (w : World) (a : ℕ) (x x' : Actor) → IsSound w → slice_get w.now.actors a ≡ Some x → x'.duty ≡ x.duty → x'.seen ≡ x.seen
+pub looks : (w : GuardWorld) (a : ℕ) (x x' : Actor) → IsSound w → slice_get w.now.actors a ≡ Some x → x'.machine ≡ x.machine → x'.seen ≡ x.seen
     → ((addr : ℕ) → x'.undecided ≡ Some addr → x.undecided ≡ Some addr)
-    → Knows w.now.shape (levels_of w.now.words) (Awake w.now a x.duty) x'.duty x'.undecided x'.work
+    → Knows w.now.shape (levels_of w.now.words) (Awake w.now a x.machine) x'.machine x'.undecided x'.work
     → IsSound (after w a x' w.now.words w.now.actions w.past)
-looks w a x x' sound got duty seen undecided knows =
-    calm w a x x' w.now.words sound got refl (rw (same_duties w.now.actors a x x' got duty) sound.epochs) refl (λ s h. refl) refl duty seen undecided knows
+looks w a x x' sound got machine seen undecided knows =
+    calm w a x x' w.now.words sound got refl (rw (same_machines w.now.actors a x x' got machine) sound.epochs) refl (λ s h. refl) refl machine seen undecided knows
 
 left_true : (b c : Bool) → b ≡ true → (b || c) ≡ true
 left_true true c e = refl
@@ -199,17 +199,17 @@ levels_elsewhere S p v words e =
     rw (at 9 (omega arith) (omega arith), at 8 (omega arith) (omega arith), at 7 (omega arith) (omega arith), at 6 (omega arith) (omega arith), at 5 (omega arith) (omega arith), at 4 (omega arith) (omega arith), at 3 (omega arith) (omega arith)) refl
 
 -- a word that is neither the epochs' nor an offset's is written
-pub writes_elsewhere : (w : World) (a : ℕ) (x x' : Actor) (p v : ℕ) → IsSound w → slice_get w.now.actors a ≡ Some x → IsElsewhere w.now.places.sessions p → x'.duty ≡ x.duty → x'.seen ≡ x.seen
+pub writes_elsewhere : (w : GuardWorld) (a : ℕ) (x x' : Actor) (p v : ℕ) → IsSound w → slice_get w.now.actors a ≡ Some x → IsElsewhere w.now.places.sessions p → x'.machine ≡ x.machine → x'.seen ≡ x.seen
     → ((addr : ℕ) → x'.undecided ≡ Some addr → x.undecided ≡ Some addr)
-    → Knows w.now.shape (levels_of w.now.words) (Awake w.now a x.duty) x'.duty x'.undecided x'.work
+    → Knows w.now.shape (levels_of w.now.words) (Awake w.now a x.machine) x'.machine x'.undecided x'.work
     → IsSound (after w a x' (slice_set w.now.words p v) w.now.actions w.past)
-writes_elsewhere w a x x' p v sound got place duty seen undecided knows =
+writes_elsewhere w a x x' p v sound got place machine seen undecided knows =
     let S : ℕ = w.now.places.sessions in
     calm w a x x' (slice_set w.now.words p v) sound got (length-set w.now.words p v)
-    (rw (same_duties w.now.actors a x x' got duty) (changes_sound (epoch_world w) p v place.foreign sound.epochs))
+    (rw (same_machines w.now.actors a x x' got machine) (changes_sound (epoch_world w) p v place.foreign sound.epochs))
     (levels_elsewhere S p v w.now.words place)
     (λ s h. word_spared w.now.words p v (session_place s own.Epoch) (foreign_session S s p place.foreign h))
-    (word_spared w.now.words p v 1 (foreign_safe S p place.foreign)) duty seen undecided knows
+    (word_spared w.now.words p v 1 (foreign_safe S p place.foreign)) machine seen undecided knows
 
 -- words past the sessions' blocks
 past_sessions : (b c d : Bool) → b ≡ false → c ≡ false → d ≡ false → ((b || c) || d) ≡ false

@@ -1,4 +1,4 @@
--- Steps of the machines that reserve, write and give up records, of the flush, and of the mailboxes.
+-- Steps of the machines that reserve, write and invalidate records, of the flush, and of the mailboxes.
 use Rattle.std.proofs.Common.{◌≡◌, ℕ, ◌+◌, ◌-◌, ◌*◌, ◌%◌, ◌^◌, ◌<◌, ◌≤◌, ◌⊎◌, List, refl, arith, inl, inr, Bool, true, false, max}
 use Rattle.std.specs.Prelude.{Some, None, slice_get, nat_lt, nat_le, ◌==◌, ◌&&◌, ◌||◌}
 use Rattle.std.proofs.lemmas.List.{set-get_or}
@@ -12,7 +12,7 @@ use Rattle.fkv_log.specs.declared.filling.Filling.{Filling}
 use Rattle.fkv_log.specs.declared.invalidating.Invalidating.{Invalidating}
 use Rattle.fkv_log.specs.declared.reserving.Reserving.TheVariants as reserve
 use Rattle.fkv_log.specs.declared.filling.Filling.TheVariants as fill
-use Rattle.fkv_log.specs.declared.invalidating.Invalidating.TheVariants as drop
+use Rattle.fkv_log.specs.declared.invalidating.Invalidating.TheVariants as invalidate
 use Rattle.fkv_log.specs.Reserving.{reserve_ask, reserve_next, reserve_next_ask}
 use Rattle.fkv_log.specs.Filling.{fill_ask, fill_next}
 use Rattle.fkv_log.specs.Invalidating.{invalidate_ask, invalidate_next}
@@ -23,7 +23,7 @@ use Rattle.fkv_flush.specs.declared.serving.Serving.TheVariants as serve
 use Rattle.fkv_flush.specs.Flushing.{flush_ask, flush_next, flush_done, bytes_next, bytes_done}
 use Rattle.fkv_flush.specs.Serving.{serve_ask, serve_next, serve_read, mailbox_from}
 use Rattle.fkv_flush.specs.GuardLevels.{Levels, levels_of}
-use Rattle.fkv_flush.specs.GuardWorld.{Actor, Work, Reserves, Fills, Invalidates, Flushes, Serves, World, put_near, worked, is_idle}
+use Rattle.fkv_flush.specs.GuardWorld.{Actor, Work, Reserves, Fills, Invalidates, Flushes, Serves, GuardWorld, put_near, work_step, is_idle}
 use Rattle.fkv_flush.proofs.GuardSound.{Knows, IsSound, Awake, after}
 use Rattle.fkv_flush.proofs.GuardSteps.{looks, writes_elsewhere, high_elsewhere, IsElsewhere}
 use Rattle.fkv_flush.proofs.GuardOffsets.{lifted, lifted_epochs, tail_written, flushed_written}
@@ -34,14 +34,14 @@ truth true = inl refl
 truth false = inr refl
 
 -- the world is sound after one ask of this machine
-abbrev pub SoundAfter : World → ℕ → Actor → Work → Type 0
-SoundAfter w a x work = IsSound (record { now = put_near w.now a (worked w.now a x work); past = w.past })
+abbrev pub SoundAfter : GuardWorld → ℕ → Actor → Work → Type 0
+SoundAfter w a x work = IsSound (record { now = put_near w.now a (work_step w.now a x work); past = w.past })
 
 -- what the actor knows
-abbrev pub Known : World → ℕ → Actor → Work → Type 0
-Known w a x work = Knows w.now.shape (levels_of w.now.words) (Awake w.now a x.duty) x.duty x.undecided work
+abbrev pub Known : GuardWorld → ℕ → Actor → Work → Type 0
+Known w a x work = Knows w.now.shape (levels_of w.now.words) (Awake w.now a x.machine) x.machine x.undecided work
 
-pub reserve_moves : (w : World) (a : ℕ) (x : Actor) (step : Reserving) → IsSound w → slice_get w.now.actors a ≡ Some x → is_idle (Reserves step) ≡ false → Known w a x (Reserves step) → SoundAfter w a x (Reserves step)
+pub reserve_moves : (w : GuardWorld) (a : ℕ) (x : Actor) (step : Reserving) → IsSound w → slice_get w.now.actors a ≡ Some x → is_idle (Reserves step) ≡ false → Known w a x (Reserves step) → SoundAfter w a x (Reserves step)
 unfolding reserve_ask reserve_next reserve_next_ask
 reserve_moves w a x reserve.AtRest sound got busy k = cc
 reserve_moves w a x reserve.LoadsLimit sound got busy k =
@@ -77,27 +77,27 @@ reserve_moves w a x (reserve.TakesTail tail) sound got busy k =
       | inr e ↦ rw e (rw (set-get_or w.now.words 3 0) (looks w a x (record x { work = Reserves reserve.AtRest }) sound got refl refl (λ addr u. u) tt))
     ]
 
-pub fill_moves : (w : World) (a : ℕ) (x : Actor) (step : Filling) → IsSound w → slice_get w.now.actors a ≡ Some x → is_idle (Fills step) ≡ false → Known w a x (Fills step) → SoundAfter w a x (Fills step)
+pub fill_moves : (w : GuardWorld) (a : ℕ) (x : Actor) (step : Filling) → IsSound w → slice_get w.now.actors a ≡ Some x → is_idle (Fills step) ≡ false → Known w a x (Fills step) → SoundAfter w a x (Fills step)
 unfolding fill_ask fill_next
 fill_moves w a x fill.AtRest sound got busy k = cc
-fill_moves w a x (fill.StoresValue addr cell) sound got busy k =
-    writes_elsewhere w a x (record x { work = Fills (fill.StoresKey addr cell) }) (record_place w.now.places addr.0 rec.Value) cell.value sound got (high_elsewhere w.now.places.sessions (record_place w.now.places addr.0 rec.Value) (omega arith)) refl refl (λ _ u. u) k
-fill_moves w a x (fill.StoresKey addr cell) sound got busy k =
-    writes_elsewhere w a x (record x { work = Fills (fill.StoresHeader addr cell) }) (record_place w.now.places addr.0 rec.Key) cell.key.0 sound got (high_elsewhere w.now.places.sessions (record_place w.now.places addr.0 rec.Key) (omega arith)) refl refl (λ _ u. u) k
-fill_moves w a x (fill.StoresHeader addr cell) sound got busy k =
+fill_moves w a x (fill.StoresValue addr its_words) sound got busy k =
+    writes_elsewhere w a x (record x { work = Fills (fill.StoresKey addr its_words) }) (record_place w.now.places addr.0 rec.Value) its_words.value sound got (high_elsewhere w.now.places.sessions (record_place w.now.places addr.0 rec.Value) (omega arith)) refl refl (λ _ u. u) k
+fill_moves w a x (fill.StoresKey addr its_words) sound got busy k =
+    writes_elsewhere w a x (record x { work = Fills (fill.StoresHeader addr its_words) }) (record_place w.now.places addr.0 rec.Key) its_words.key.0 sound got (high_elsewhere w.now.places.sessions (record_place w.now.places addr.0 rec.Key) (omega arith)) refl refl (λ _ u. u) k
+fill_moves w a x (fill.StoresHeader addr its_words) sound got busy k =
     writes_elsewhere w a x (record x { work = Fills fill.AtRest }) (record_place w.now.places addr.0 rec.Header) _ sound got (high_elsewhere w.now.places.sessions (record_place w.now.places addr.0 rec.Header) (omega arith)) refl refl (λ _ u. u) tt
 
-pub invalidate_moves : (w : World) (a : ℕ) (x : Actor) (step : Invalidating) → IsSound w → slice_get w.now.actors a ≡ Some x → is_idle (Invalidates step) ≡ false → Known w a x (Invalidates step) → SoundAfter w a x (Invalidates step)
+pub invalidate_moves : (w : GuardWorld) (a : ℕ) (x : Actor) (step : Invalidating) → IsSound w → slice_get w.now.actors a ≡ Some x → is_idle (Invalidates step) ≡ false → Known w a x (Invalidates step) → SoundAfter w a x (Invalidates step)
 unfolding invalidate_ask invalidate_next
-invalidate_moves w a x drop.AtRest sound got busy k = cc
-invalidate_moves w a x (drop.StoresHeader addr header) sound got busy k =
-    writes_elsewhere w a x (record x { work = Invalidates drop.AtRest; undecided = None }) (record_place w.now.places addr.0 rec.Header) _ sound got (high_elsewhere w.now.places.sessions (record_place w.now.places addr.0 rec.Header) (omega arith)) refl refl (λ _ u. cc) tt
+invalidate_moves w a x invalidate.AtRest sound got busy k = cc
+invalidate_moves w a x (invalidate.StoresHeader addr header) sound got busy k =
+    writes_elsewhere w a x (record x { work = Invalidates invalidate.AtRest; undecided = None }) (record_place w.now.places addr.0 rec.Header) _ sound got (high_elsewhere w.now.places.sessions (record_place w.now.places addr.0 rec.Header) (omega arith)) refl refl (λ _ u. cc) tt
 
 -- a load by a flush
-flush_looks : (w : World) (a : ℕ) (x : Actor) (step : Flushing) (bytes : List ℕ) → IsSound w → slice_get w.now.actors a ≡ Some x → Known w a x (Flushes step bytes) → IsSound (after w a (record x { work = Flushes step bytes }) w.now.words w.now.actions w.past)
+flush_looks : (w : GuardWorld) (a : ℕ) (x : Actor) (step : Flushing) (bytes : List ℕ) → IsSound w → slice_get w.now.actors a ≡ Some x → Known w a x (Flushes step bytes) → IsSound (after w a (record x { work = Flushes step bytes }) w.now.words w.now.actions w.past)
 flush_looks w a x step bytes sound got k = looks w a x (record x { work = Flushes step bytes }) sound got refl refl (λ addr u. u) k
 
-pub flush_moves : (w : World) (a : ℕ) (x : Actor) (step : Flushing) (bytes : List ℕ) → IsSound w → slice_get w.now.actors a ≡ Some x → is_idle (Flushes step bytes) ≡ false → Known w a x (Flushes step bytes) → SoundAfter w a x (Flushes step bytes)
+pub flush_moves : (w : GuardWorld) (a : ℕ) (x : Actor) (step : Flushing) (bytes : List ℕ) → IsSound w → slice_get w.now.actors a ≡ Some x → is_idle (Flushes step bytes) ≡ false → Known w a x (Flushes step bytes) → SoundAfter w a x (Flushes step bytes)
 unfolding flush_ask flush_next bytes_next
 flush_moves w a x flush.AtRest bytes sound got busy k = cc
 flush_moves w a x flush.LoadsFlushed bytes sound got busy k = rw (set-get_or w.now.words 7 0) (flush_looks w a x (flush.LoadsEnd (word_at w.now.words 7)) bytes sound got tt)
@@ -132,11 +132,11 @@ flush_moves w a x (flush.RaisesFlushed end) bytes sound got busy k =
     sound.guard.cover refl refl (λ sight. refl) refl (λ slot c i. i) refl (λ addr u. inl u) tt
 
 -- the session that comes next in a round of the mailboxes is one of the store's
-pub next_mailbox : (w : World) (a : ℕ) (x : Actor) (session : ℕ) → Known w a x (Serves (mailbox_from w.now.shape.sessions session))
+pub next_mailbox : (w : GuardWorld) (a : ℕ) (x : Actor) (session : ℕ) → Known w a x (Serves (mailbox_from w.now.shape.sessions session))
 unfolding mailbox_from
 next_mailbox w a x session = elim (truth (nat_lt session w.now.shape.sessions)) [ inl e ↦ rw e (grind (arith, nat_tests, e)) | inr e ↦ rw e tt ]
 
-serve_looks : (w : World) (a : ℕ) (x : Actor) (step : Serving) → IsSound w → slice_get w.now.actors a ≡ Some x → Known w a x (Serves step) → IsSound (after w a (record x { work = Serves step }) w.now.words w.now.actions w.past)
+serve_looks : (w : GuardWorld) (a : ℕ) (x : Actor) (step : Serving) → IsSound w → slice_get w.now.actors a ≡ Some x → Known w a x (Serves step) → IsSound (after w a (record x { work = Serves step }) w.now.words w.now.actions w.past)
 serve_looks w a x step sound got k = looks w a x (record x { work = Serves step }) sound got refl refl (λ addr u. u) k
 
 -- a word of a mailbox is none of the epochs'
@@ -156,7 +156,7 @@ mail_elsewhere S p r session e low high =
     none false true false = refl
     none false false d = refl
 
-pub serve_moves : (w : World) (a : ℕ) (x : Actor) (step : Serving) → IsSound w → slice_get w.now.actors a ≡ Some x → is_idle (Serves step) ≡ false → Known w a x (Serves step) → SoundAfter w a x (Serves step)
+pub serve_moves : (w : GuardWorld) (a : ℕ) (x : Actor) (step : Serving) → IsSound w → slice_get w.now.actors a ≡ Some x → is_idle (Serves step) ≡ false → Known w a x (Serves step) → SoundAfter w a x (Serves step)
 unfolding serve_ask serve_next
 serve_moves w a x serve.AtRest sound got busy k = cc
 serve_moves w a x (serve.LoadsState session) sound got busy k =
@@ -182,7 +182,7 @@ serve_moves w a x (serve.StoresReady session) sound got busy k =
     writes_elsewhere w a x (record x { work = Serves (mailbox_from w.now.shape.sessions (session + 1)) }) (session_place session own.MailState) 2 sound got (mail_elsewhere w.now.places.sessions (session_place session own.MailState) 5 session (omega arith) (omega arith) (omega arith)) refl refl (λ addr u. u) (next_mailbox w a x (session + 1))
 
 -- a call of the device, made or failed
-pub called_sound : (w : World) (a : ℕ) (x : Actor) (step : Flushing) (bytes : List ℕ) (done : Bool) → IsSound w → slice_get w.now.actors a ≡ Some x → Known w a x (Flushes step bytes)
+pub called_sound : (w : GuardWorld) (a : ℕ) (x : Actor) (step : Flushing) (bytes : List ℕ) (done : Bool) → IsSound w → slice_get w.now.actors a ≡ Some x → Known w a x (Flushes step bytes)
     → IsSound (after w a (record x { work = Flushes (flush_done w.now.shape.page step done) (bytes_done step bytes) }) w.now.words w.now.actions w.past)
 unfolding flush_done bytes_done
 called_sound w a x (flush.WritesPart part) bytes true sound got k = elim (truth (nat_lt part.stop part.end)) [
@@ -195,7 +195,7 @@ called_sound w a x (flush.Syncs end) bytes false sound got k = flush_looks w a x
 called_sound w a x step bytes done sound got k = flush_looks w a x step bytes sound got k
 
 -- a read for a mailbox, made or failed
-pub read_sound : (w : World) (a : ℕ) (x : Actor) (step : Serving) (bytes : List ℕ) → IsSound w → slice_get w.now.actors a ≡ Some x → Known w a x (Serves step)
+pub read_sound : (w : GuardWorld) (a : ℕ) (x : Actor) (step : Serving) (bytes : List ℕ) → IsSound w → slice_get w.now.actors a ≡ Some x → Known w a x (Serves step)
     → IsSound (after w a (record x { work = Serves (serve_read step bytes) }) w.now.words w.now.actions w.past)
 unfolding serve_read
 read_sound w a x (serve.Reads session addr) bytes sound got k = serve_looks w a x _ sound got k

@@ -10,7 +10,7 @@ use Rattle.fkv_plane.specs.declared.places.SessionWord.TheVariants as own
 use Rattle.fkv_plane.specs.Places.{record_place, record_number, frames_start, session_place}
 use Rattle.fkv_log.specs.declared.reserving.Reserving.TheVariants as reserve
 use Rattle.fkv_log.specs.declared.filling.Filling.TheVariants as fill
-use Rattle.fkv_log.specs.declared.invalidating.Invalidating.TheVariants as drop
+use Rattle.fkv_log.specs.declared.invalidating.Invalidating.TheVariants as invalidate
 use Rattle.fkv_log.specs.Reserving.{reserve_ask}
 use Rattle.fkv_log.specs.Filling.{fill_ask}
 use Rattle.fkv_log.specs.Invalidating.{invalidate_ask}
@@ -19,8 +19,8 @@ use Rattle.fkv_epoch.specs.declared.arming.Arming.{Arming}
 use Rattle.fkv_epoch.specs.declared.arming.Arming.TheVariants as arm
 use Rattle.fkv_epoch.specs.Raising.{raise_ask}
 use Rattle.fkv_epoch.specs.Arming.{arm_ask}
-use Rattle.fkv_epoch.specs.World.{Duty, Raises, Arms, is_own}
-use Rattle.fkv_epoch.proofs.Cells.{some_same, none_some}
+use Rattle.fkv_epoch.specs.EpochWorld.{EpochMachine, Raises, Arms, is_own}
+use Rattle.fkv_epoch.proofs.Items.{some_same, none_some}
 use Rattle.fkv_flush.specs.declared.moving.Offset.{Offset}
 use Rattle.fkv_flush.specs.declared.moving.Offset.TheVariants.{ReadOnly, Head}
 use Rattle.fkv_flush.specs.declared.moving.Moving.{Moving}
@@ -35,13 +35,13 @@ use Rattle.fkv_flush.specs.Shifting.{shift_ask}
 use Rattle.fkv_flush.specs.Turning.{turn_ask}
 use Rattle.fkv_flush.specs.Flushing.{flush_ask}
 use Rattle.fkv_flush.specs.Serving.{serve_ask}
-use Rattle.fkv_flush.specs.GuardAsks.{writes, duty_writes, move_now}
+use Rattle.fkv_flush.specs.GuardAsks.{writes, machine_writes, move_now}
 use Rattle.fkv_flush.specs.GuardLevels.{levels_of}
-use Rattle.fkv_flush.specs.GuardWorld.{Actor, Work, Rests, Reserves, Fills, Invalidates, Shifts, Turns, Flushes, Serves, World, Event, Moves, Updates, RaisesReadOnly, RaisesFor, Changes, is_idle, is_awake, is_guarded, may_update, epoch_world}
+use Rattle.fkv_flush.specs.GuardWorld.{Actor, Work, Rests, Reserves, Fills, Invalidates, Shifts, Turns, Flushes, Serves, GuardWorld, GuardEvent, Moves, Updates, RaisesReadOnly, RaisesFor, Changes, is_idle, is_awake, is_guarded, may_update, epoch_world}
 use Rattle.fkv_flush.specs.Guarded.{seen_at, seen_of, undecided_at, work_writes, actor_writes, update_writes, IsOpenPlace, GuardsWrites}
-use Rattle.fkv_frames.proofs.Open.{same_place}
+use Rattle.fkv_frames.proofs.Shown.{same_place}
 use Rattle.fkv_flush.proofs.GuardEpochs.{OwnAt, own_writes}
-use Rattle.fkv_flush.proofs.GuardSound.{MoveKnows, IsSound, duty_at}
+use Rattle.fkv_flush.proofs.GuardSound.{MoveKnows, IsSound, machine_at}
 use Rattle.fkv_flush.proofs.GuardWorks.{truth, Known}
 use Rattle.fkv_flush.proofs.GuardHappens.{both, neither, awake_goes}
 
@@ -61,12 +61,12 @@ writes_passed (Take slot) b = refl
 writes_passed (Done answer) b = refl
 
 -- a place of the words below the frames
-abbrev IsLow : World → Option ℕ → Type 0
+abbrev IsLow : GuardWorld → Option ℕ → Type 0
 IsLow w None = ⊤
 IsLow w (Some place) = place < frames_start w.now.places
 
 -- the machines of the epochs write below the frames
-own_low : (w : World) (a : ℕ) (d : Duty) (at : Option ℕ) → OwnAt w.now.places.sessions a d at → IsLow w at
+own_low : (w : GuardWorld) (a : ℕ) (d : EpochMachine) (at : Option ℕ) → OwnAt w.now.places.sessions a d at → IsLow w at
 own_low w a d None h = tt
 own_low w a d (Some place) (inl h) = omega (arith, h)
 own_low w a d (Some place) (inr (inl h)) = omega (arith, h.0)
@@ -74,23 +74,23 @@ own_low w a d (Some place) (inr (inr (inl h))) = omega (arith, h.1)
 own_low w a d (Some place) (inr (inr (inr (inl h)))) = omega (arith, h.0, h.1)
 own_low w a d (Some place) (inr (inr (inr (inr h)))) = omega (arith, h.1)
 
-duty_low : (w : World) (a : ℕ) (x : Actor) (d : Duty) → IsSound w → slice_get w.now.actors a ≡ Some x → x.duty ≡ d → IsLow w (duty_writes a d)
-duty_low w a x d sound got its = own_low w a d (duty_writes a d) (own_writes (epoch_world w) a d sound.epochs (duty_at w.now.actors a x got ∙ ap Some its))
+machine_low : (w : GuardWorld) (a : ℕ) (x : Actor) (d : EpochMachine) → IsSound w → slice_get w.now.actors a ≡ Some x → x.machine ≡ d → IsLow w (machine_writes a d)
+machine_low w a x d sound got its = own_low w a d (machine_writes a d) (own_writes (epoch_world w) a d sound.epochs (machine_at w.now.actors a x got ∙ ap Some its))
 
-offset_low : (w : World) (offset : Offset) → offset_place offset < frames_start w.now.places
+offset_low : (w : GuardWorld) (offset : Offset) → offset_place offset < frames_start w.now.places
 offset_low w ReadOnly = omega arith
 offset_low w Head = omega arith
 
-move_low : (w : World) (a : ℕ) (x : Actor) (step : Moving) (raising : Raising) (arming : Arming) → IsSound w → slice_get w.now.actors a ≡ Some x → MoveKnows (levels_of w.now.words) x.duty step raising arming → IsLow w (writes (move_now step raising arming))
+move_low : (w : GuardWorld) (a : ℕ) (x : Actor) (step : Moving) (raising : Raising) (arming : Arming) → IsSound w → slice_get w.now.actors a ≡ Some x → MoveKnows (levels_of w.now.words) x.machine step raising arming → IsLow w (writes (move_now step raising arming))
 move_low w a x move.AtRest raising arming sound got k = absurd k
-move_low w a x (move.Raises target) raising arming sound got k = rw (writes_passed (raise_ask raising) _) (duty_low w a x (Raises raising) sound got k.0)
+move_low w a x (move.Raises target) raising arming sound got k = rw (writes_passed (raise_ask raising) _) (machine_low w a x (Raises raising) sound got k.0)
 move_low w a x (move.MovesOffset target) raising arming sound got k = offset_low w target.offset
 move_low w a x move.Arms raising arm.AtRest sound got k = absurd k
 move_low w a x move.Arms raising (arm.PutsAction slot c) sound got k = absurd k
-move_low w a x move.Arms raising (arm.StoresEpoch slot c) sound got k = rw (writes_passed (arm_ask (arm.StoresEpoch slot c)) _) (duty_low w a x (Arms (arm.StoresEpoch slot c)) sound got k)
+move_low w a x move.Arms raising (arm.StoresEpoch slot c) sound got k = rw (writes_passed (arm_ask (arm.StoresEpoch slot c)) _) (machine_low w a x (Arms (arm.StoresEpoch slot c)) sound got k)
 
 -- a low place is no frame's
-low_none : {X : Type 0} (w : World) (at : Option ℕ) (place : ℕ) → IsLow w at → at ≡ Some place → frames_start w.now.places ≤ place → X
+low_none : {X : Type 0} (w : GuardWorld) (at : Option ℕ) (place : ℕ) → IsLow w at → at ≡ Some place → frames_start w.now.places ≤ place → X
 low_none {X} w None place low e high = none_some {Y = X} place e
 low_none {X} w (Some other) place low e high = let same = some_same other place e in absurd (omega (arith, low, same, high))
 
@@ -100,7 +100,7 @@ word_small rec.Key = omega arith
 word_small rec.Value = omega arith
 
 -- an address between what its session has seen as read-only and the tail is open
-open_place : (w : World) (addr seen place : ℕ) (word : RecordWord) → IsSound w → (levels_of w.now.words).safe_read_only ≤ seen → seen ≤ addr → addr < (levels_of w.now.words).tail → place ≡ record_place w.now.places addr word → IsOpenPlace w place
+open_place : (w : GuardWorld) (addr seen place : ℕ) (word : RecordWord) → IsSound w → (levels_of w.now.words).safe_read_only ≤ seen → seen ≤ addr → addr < (levels_of w.now.words).tail → place ≡ record_place w.now.places addr word → IsOpenPlace w place
 open_place w addr seen place word sound safe above below its =
     let o = sound.guard.in_order in
     let c = sound.guard.cover in
@@ -124,32 +124,32 @@ open_place w addr seen place word sound safe above below its =
     }
 
 -- the record that an actor has reserved is
-reserved_place : (w : World) (a : ℕ) (x : Actor) (addr place : ℕ) (word : RecordWord) → IsSound w → slice_get w.now.actors a ≡ Some x → x.undecided ≡ Some addr → Some (record_place w.now.places addr word) ≡ Some place → IsOpenPlace w place
+reserved_place : (w : GuardWorld) (a : ℕ) (x : Actor) (addr place : ℕ) (word : RecordWord) → IsSound w → slice_get w.now.actors a ≡ Some x → x.undecided ≡ Some addr → Some (record_place w.now.places addr word) ≡ Some place → IsOpenPlace w place
 reserved_place w a x addr place word sound got undecided e =
     let f = sound.guard.fresh a addr (ap undecided_at got ∙ undecided) in
     open_place w addr (seen_of w.now.actors a).read_only place word sound (sound.guard.safe.read_only a f.counts) f.above f.below (sym (some_same (record_place w.now.places addr word) place e))
 
-writes_by : (w : World) (a : ℕ) (x : Actor) (work : Work) (place : ℕ) → IsSound w → slice_get w.now.actors a ≡ Some x → x.work ≡ work
-    → (if is_idle work then duty_writes a x.duty else work_writes w.now a x work) ≡ Some place → frames_start w.now.places ≤ place → IsOpenPlace w place
+writes_by : (w : GuardWorld) (a : ℕ) (x : Actor) (work : Work) (place : ℕ) → IsSound w → slice_get w.now.actors a ≡ Some x → x.work ≡ work
+    → (if is_idle work then machine_writes a x.machine else work_writes w.now a x work) ≡ Some place → frames_start w.now.places ≤ place → IsOpenPlace w place
 unfolding reserve_ask fill_ask invalidate_ask flush_ask serve_ask shift_ask turn_ask
-writes_by w a x Rests place sound got its e high = low_none w (duty_writes a x.duty) place (duty_low w a x x.duty sound got refl) e high
-writes_by w a x (Reserves reserve.AtRest) place sound got its e high = low_none w (duty_writes a x.duty) place (duty_low w a x x.duty sound got refl) e high
+writes_by w a x Rests place sound got its e high = low_none w (machine_writes a x.machine) place (machine_low w a x x.machine sound got refl) e high
+writes_by w a x (Reserves reserve.AtRest) place sound got its e high = low_none w (machine_writes a x.machine) place (machine_low w a x x.machine sound got refl) e high
 writes_by w a x (Reserves reserve.LoadsLimit) place sound got its e high = no_place place e
 writes_by w a x (Reserves (reserve.LoadsTail limit)) place sound got its e high = no_place place e
 writes_by w a x (Reserves (reserve.TakesTail tail)) place sound got its e high = low_none w (Some 3) place (omega arith) e high
-writes_by w a x (Fills fill.AtRest) place sound got its e high = low_none w (duty_writes a x.duty) place (duty_low w a x x.duty sound got refl) e high
-writes_by w a x (Fills (fill.StoresValue addr cell)) place sound got its e high = reserved_place w a x addr.0 place rec.Value sound got (subst (Known w a x) its (sound.knows a x got)) e
-writes_by w a x (Fills (fill.StoresKey addr cell)) place sound got its e high = reserved_place w a x addr.0 place rec.Key sound got (subst (Known w a x) its (sound.knows a x got)) e
-writes_by w a x (Fills (fill.StoresHeader addr cell)) place sound got its e high = reserved_place w a x addr.0 place rec.Header sound got (subst (Known w a x) its (sound.knows a x got)) e
-writes_by w a x (Invalidates drop.AtRest) place sound got its e high = low_none w (duty_writes a x.duty) place (duty_low w a x x.duty sound got refl) e high
-writes_by w a x (Invalidates (drop.StoresHeader addr header)) place sound got its e high = reserved_place w a x addr.0 place rec.Header sound got (subst (Known w a x) its (sound.knows a x got)) e
-writes_by w a x (Shifts shift.AtRest m) place sound got its e high = low_none w (duty_writes a x.duty) place (duty_low w a x x.duty sound got refl) e high
+writes_by w a x (Fills fill.AtRest) place sound got its e high = low_none w (machine_writes a x.machine) place (machine_low w a x x.machine sound got refl) e high
+writes_by w a x (Fills (fill.StoresValue addr its_words)) place sound got its e high = reserved_place w a x addr.0 place rec.Value sound got (subst (Known w a x) its (sound.knows a x got)) e
+writes_by w a x (Fills (fill.StoresKey addr its_words)) place sound got its e high = reserved_place w a x addr.0 place rec.Key sound got (subst (Known w a x) its (sound.knows a x got)) e
+writes_by w a x (Fills (fill.StoresHeader addr its_words)) place sound got its e high = reserved_place w a x addr.0 place rec.Header sound got (subst (Known w a x) its (sound.knows a x got)) e
+writes_by w a x (Invalidates invalidate.AtRest) place sound got its e high = low_none w (machine_writes a x.machine) place (machine_low w a x x.machine sound got refl) e high
+writes_by w a x (Invalidates (invalidate.StoresHeader addr header)) place sound got its e high = reserved_place w a x addr.0 place rec.Header sound got (subst (Known w a x) its (sound.knows a x got)) e
+writes_by w a x (Shifts shift.AtRest m) place sound got its e high = low_none w (machine_writes a x.machine) place (machine_low w a x x.machine sound got refl) e high
 writes_by w a x (Shifts shift.LoadsTail m) place sound got its e high = no_place place e
 writes_by w a x (Shifts (shift.LoadsReadOnly tail) m) place sound got its e high = no_place place e
 writes_by w a x (Shifts (shift.Moves tail) m) place sound got its e high =
     low_none w (writes (move_now m.step m.raise.step m.arm.step)) place (move_low w a x m.step m.raise.step m.arm.step sound got (subst (Known w a x) its (sound.knows a x got)))
     (sym (writes_passed (move_now m.step m.raise.step m.arm.step) _) ∙ e) high
-writes_by w a x (Turns turn.AtRest m) place sound got its e high = low_none w (duty_writes a x.duty) place (duty_low w a x x.duty sound got refl) e high
+writes_by w a x (Turns turn.AtRest m) place sound got its e high = low_none w (machine_writes a x.machine) place (machine_low w a x x.machine sound got refl) e high
 writes_by w a x (Turns (turn.LoadsLimit tail) m) place sound got its e high = no_place place e
 writes_by w a x (Turns (turn.LoadsClosed limit) m) place sound got its e high = no_place place e
 writes_by w a x (Turns (turn.RaisesLimit limit) m) place sound got its e high = low_none w (Some 4) place (omega arith) e high
@@ -157,10 +157,10 @@ writes_by w a x (Turns (turn.LoadsHead end) m) place sound got its e high = no_p
 writes_by w a x (Turns (turn.LoadsFlushed end) m) place sound got its e high = no_place place e
 writes_by w a x (Turns turn.Moves m) place sound got its e high =
     low_none w (writes (move_now m.step m.raise.step m.arm.step)) place (move_low w a x m.step m.raise.step m.arm.step sound got (subst (Known w a x) its (sound.knows a x got))) e high
-writes_by w a x (Flushes flush.AtRest bytes) place sound got its e high = low_none w (duty_writes a x.duty) place (duty_low w a x x.duty sound got refl) e high
+writes_by w a x (Flushes flush.AtRest bytes) place sound got its e high = low_none w (machine_writes a x.machine) place (machine_low w a x x.machine sound got refl) e high
 writes_by w a x (Flushes (flush.RaisesFlushed end) bytes) place sound got its e high = low_none w (Some 7) place (omega arith) e high
 writes_by w a x (Flushes step bytes) place sound got its e high = no_place place e
-writes_by w a x (Serves serve.AtRest) place sound got its e high = low_none w (duty_writes a x.duty) place (duty_low w a x x.duty sound got refl) e high
+writes_by w a x (Serves serve.AtRest) place sound got its e high = low_none w (machine_writes a x.machine) place (machine_low w a x x.machine sound got refl) e high
 writes_by w a x (Serves (serve.LoadsState session)) place sound got its e high = no_place place e
 writes_by w a x (Serves (serve.LoadsAddress session)) place sound got its e high = no_place place e
 writes_by w a x (Serves (serve.Reads session addr)) place sound got its e high = no_place place e
@@ -173,12 +173,12 @@ writes_by w a x (Serves (serve.StoresValue session mail)) place sound got its e 
 writes_by w a x (Serves (serve.StoresReady session)) place sound got its e high =
     let k : session < w.now.shape.sessions = subst (Known w a x) its (sound.knows a x got) in let s = sound.fits.sessions in low_none w (Some (session_place session own.MailState)) place (omega (arith, k, s)) e high
 
-moves_case : (w : World) (a : ℕ) (found : Option Actor) (place : ℕ) → IsSound w → slice_get w.now.actors a ≡ found → actor_writes w.now a found ≡ Some place → frames_start w.now.places ≤ place → IsOpenPlace w place
+moves_case : (w : GuardWorld) (a : ℕ) (found : Option Actor) (place : ℕ) → IsSound w → slice_get w.now.actors a ≡ found → actor_writes w.now a found ≡ Some place → frames_start w.now.places ≤ place → IsOpenPlace w place
 moves_case w a None place sound got e high = no_place place e
 moves_case w a (Some x) place sound got e high = writes_by w a x x.work place sound got refl e high
 
 -- a change in place
-update_case : (w : World) (a addr : ℕ) (found : Option Actor) (place : ℕ) → IsSound w → slice_get w.now.actors a ≡ found → update_writes w.now a addr found ≡ Some place → IsOpenPlace w place
+update_case : (w : GuardWorld) (a addr : ℕ) (found : Option Actor) (place : ℕ) → IsSound w → slice_get w.now.actors a ≡ found → update_writes w.now a addr found ≡ Some place → IsOpenPlace w place
 update_case w a addr None place sound got e = no_place place e
 update_case w a addr (Some x) place sound got e = elim (truth (may_update w.now a x addr)) [
   | inl m ↦
@@ -195,7 +195,7 @@ update_case w a addr (Some x) place sound got e = elim (truth (may_update w.now 
   | inr m ↦ let its : ◌≡◌ {A = Option ℕ} None (Some place) = rw m at e in no_place place its
 ]
 
-change_case : {X : Type 0} (w : World) (place other : ℕ) → (if is_guarded w.now.places place then None else Some place) ≡ Some other → frames_start w.now.places ≤ other → X
+change_case : {X : Type 0} (w : GuardWorld) (place other : ℕ) → (if is_guarded w.now.places place then None else Some place) ≡ Some other → frames_start w.now.places ≤ other → X
 change_case {X} w place other e high = elim (truth (is_guarded w.now.places place)) [
   | inl m ↦ let its : ◌≡◌ {A = Option ℕ} None (Some other) = rw m at e in no_place other its
   | inr m ↦
@@ -206,7 +206,7 @@ change_case {X} w place other e high = elim (truth (is_guarded w.now.places plac
       absurd (omega (arith, same, low, high))
 ]
 
-pub guards_writes : (w : World) (event : Event) → IsSound w → GuardsWrites w event
+pub guards_writes : (w : GuardWorld) (event : GuardEvent) → IsSound w → GuardsWrites w event
 guards_writes w (Moves a) sound place e high = moves_case w a (slice_get w.now.actors a) place sound refl e high
 guards_writes w (Updates a addr word) sound place e high = update_case w a addr (slice_get w.now.actors a) place sound refl e
 guards_writes w (RaisesReadOnly a to) sound place e high = low_none w (Some 5) place (omega arith) e high

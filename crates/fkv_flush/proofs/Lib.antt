@@ -2,14 +2,14 @@ pub mod FlushKnows
 pub mod Guard
 pub mod GuardAnswered
 pub mod GuardCounts
-pub mod GuardDuties
+pub mod GuardMachines
 pub mod GuardEpochs
 pub mod GuardFlushed
 pub mod GuardHappens
 pub mod GuardHomes
 pub mod GuardHosted
 pub mod GuardLaw
-pub mod GuardLooks
+pub mod GuardSeeing
 pub mod GuardMoves
 pub mod GuardOffsets
 pub mod GuardPages

@@ -3,7 +3,7 @@
 use Rattle.std.specs.Prelude.{◌≡◌, ◌⊎◌, ℕ, List, None}
 use Rattle.fkv_base.specs.declared.shapes.Shape.{Shape}
 use Rattle.fkv_plane.specs.declared.asks.Ask.{Ask}
-use Rattle.fkv_plane.specs.Asked.{place_of, words_after, reply_to}
+use Rattle.fkv_plane.specs.Asked.{asked_place, words_after, reply_to}
 use Rattle.fkv_flush.specs.declared.answers.MoveAnswer.{MoveAnswer}
 use Rattle.fkv_flush.specs.declared.moving.Offset.{Offset}
 use Rattle.fkv_flush.specs.declared.shifting.Shifting.{Shifting}
@@ -18,7 +18,7 @@ use Rattle.fkv_flush.specs.GuardAsks.{move_now, shift_now, turn_now}
 -- They are one ask, or neither names a word: so it is at an end, of which a state keeps no answer, and where an action is put into
 -- its slot.
 abbrev pub AreAlike : {A : Type 0} → Ask A → Ask A → Type 0
-AreAlike answered now = (answered ≡ now) ⊎ ((place_of answered ≡ None) × (place_of now ≡ None))
+AreAlike answered now = (answered ≡ now) ⊎ ((asked_place answered ≡ None) × (asked_place now ≡ None))
 
 -- they do the same to all words, and get the same reply
 abbrev pub ActAlike : {A : Type 0} → Ask A → Ask A → Type 0

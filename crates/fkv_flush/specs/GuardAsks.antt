@@ -26,7 +26,7 @@ use Rattle.fkv_flush.specs.Moving.{Mover, offset_place}
 use Rattle.fkv_flush.specs.Passing.{passed}
 use Rattle.fkv_flush.specs.Shifting.{shift_ask}
 use Rattle.fkv_flush.specs.Turning.{turn_ask}
-use Rattle.fkv_epoch.specs.World.{Duty, Protects, Refreshes, Leaves, Scans, Claims, Raises, Bears, Arms}
+use Rattle.fkv_epoch.specs.EpochWorld.{EpochMachine, Protects, Refreshes, Leaves, Scans, Claims, Raises, HasRaised, Arms}
 
 -- the place of the word that an ask may write. A load writes none, and a Cas counts whether it is won or lost
 abbrev pub writes : {A : Type 0} → Ask A → Option ℕ
@@ -41,15 +41,15 @@ writes (Take slot) = None
 writes (Done answer) = None
 
 -- the place that the next step of an epoch machine may write
-abbrev pub duty_writes : ℕ → Duty → Option ℕ
-duty_writes actor (Protects step) = writes (protect_ask actor step)
-duty_writes actor (Refreshes step) = writes (refresh_ask actor step)
-duty_writes actor (Leaves step) = writes (leave_ask actor step)
-duty_writes actor (Scans step) = writes (scan_ask step)
-duty_writes actor (Claims step) = writes (claim_ask step)
-duty_writes actor (Raises step) = writes (raise_ask step)
-duty_writes actor (Bears slot epoch) = None
-duty_writes actor (Arms step) = writes (arm_ask step)
+abbrev pub machine_writes : ℕ → EpochMachine → Option ℕ
+machine_writes actor (Protects step) = writes (protect_ask actor step)
+machine_writes actor (Refreshes step) = writes (refresh_ask actor step)
+machine_writes actor (Leaves step) = writes (leave_ask actor step)
+machine_writes actor (Scans step) = writes (scan_ask step)
+machine_writes actor (Claims step) = writes (claim_ask step)
+machine_writes actor (Raises step) = writes (raise_ask step)
+machine_writes actor (HasRaised slot epoch) = None
+machine_writes actor (Arms step) = writes (arm_ask step)
 
 -- what a move asks now: what the machine inside it asks, and in between to move the offset
 abbrev pub move_now : Moving → Raising → Arming → Ask MoveAnswer
@@ -69,11 +69,11 @@ turn_now shape turn.Moves m = move_now m.step m.raise.step m.arm.step
 turn_now shape step m = turn_ask shape step
 
 -- the machine of the epochs that a move drove last, from how far it was and has come
-abbrev pub inner_of : Duty → Moving → Moving → Raising → Arming → Duty
-inner_of duty before (move.Raises target) raising arming = Raises raising
-inner_of duty before (move.MovesOffset target) raising arming = Raises raising
-inner_of duty before move.Arms raising arming = Arms arming
-inner_of duty move.AtRest move.AtRest raising arming = duty
-inner_of duty (move.Raises target) move.AtRest raising arming = Raises raising
-inner_of duty (move.MovesOffset target) move.AtRest raising arming = Raises raising
-inner_of duty move.Arms move.AtRest raising arming = Arms arming
+abbrev pub inner_of : EpochMachine → Moving → Moving → Raising → Arming → EpochMachine
+inner_of machine before (move.Raises target) raising arming = Raises raising
+inner_of machine before (move.MovesOffset target) raising arming = Raises raising
+inner_of machine before move.Arms raising arming = Arms arming
+inner_of machine move.AtRest move.AtRest raising arming = machine
+inner_of machine (move.Raises target) move.AtRest raising arming = Raises raising
+inner_of machine (move.MovesOffset target) move.AtRest raising arming = Raises raising
+inner_of machine move.Arms move.AtRest raising arming = Arms arming

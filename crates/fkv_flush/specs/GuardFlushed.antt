@@ -12,53 +12,53 @@ use Rattle.fkv_plane.specs.Places.{record_place}
 use Rattle.fkv_plane.specs.Asked.{word_at}
 use Rattle.fkv_flush.specs.Flushing.{flush_calls}
 use Rattle.fkv_flush.specs.GuardLevels.{levels_of}
-use Rattle.fkv_flush.specs.GuardWorld.{Actor, Work, Flushes, ToFlush, Now, World, Event, Begins, Calls, CallsElse, run}
+use Rattle.fkv_flush.specs.GuardWorld.{Actor, Work, Flushes, ToFlush, GuardNow, GuardWorld, GuardEvent, Begins, Calls, CallsElse, guard_run}
 
 -- the address is one of the last of the ring below the limit: it has a frame
-abbrev pub is_open : Now → ℕ → Bool
+abbrev pub is_open : GuardNow → ℕ → Bool
 is_open n addr = nat_lt addr (levels_of n.words).limit && nat_le (levels_of n.words).limit (addr + n.places.ring)
 
 -- the words of the record at an address: those in its frame where it has one, and else those before
-abbrev pub framed : Now → (ℕ → RecordWord → ℕ) → ℕ → RecordWord → ℕ
+abbrev pub framed : GuardNow → (ℕ → RecordWord → ℕ) → ℕ → RecordWord → ℕ
 framed n before addr word = if is_open n addr then word_at n.words (record_place n.places addr word) else before addr word
 
 -- What stands for each record since the opening, once there is one: the words in its frame as long as it has one, and from then on those that it had
 -- last. Older records are on the device alone.
-unfoldable pub stands : World → List Event → ℕ → RecordWord → ℕ
+unfoldable pub stands : GuardWorld → List GuardEvent → ℕ → RecordWord → ℕ
 stands opening [] = framed opening.now (λ addr word. 0)
-stands opening (event ∷ before) = framed (run opening (event ∷ before)).now (stands opening before)
+stands opening (event ∷ before) = framed (guard_run opening (event ∷ before)).now (stands opening before)
 
 -- a sync, or a write that ends at the latest where the log begins
 abbrev pub spares_log : Shape → Call → Bool
 spares_log shape (Write at bytes done) = nat_le (range_end at (length bytes)) (image.record_place shape 0)
 spares_log shape (Sync done) = true
 
-abbrev pub work_calls : Now → Bool → Work → List Call
+abbrev pub work_calls : GuardNow → Bool → Work → List Call
 work_calls n done (Flushes step bytes) = flush_calls n.shape bytes step done
 work_calls n done work = []
 
-abbrev pub actor_calls : Now → Bool → Option Actor → List Call
+abbrev pub actor_calls : GuardNow → Bool → Option Actor → List Call
 actor_calls n done None = []
 actor_calls n done (Some x) = work_calls n done x.work
 
 -- the writes and syncs that an event makes
-abbrev pub event_calls : Now → Event → List Call
+abbrev pub event_calls : GuardNow → GuardEvent → List Call
 event_calls n (Calls actor done) = actor_calls n done (slice_get n.actors actor)
 event_calls n (CallsElse call) = if spares_log n.shape call then call ∷ [] else []
 event_calls n event = []
 
 -- those of a whole run, the newest first
-unfoldable pub calls_made : World → List Event → List Call
+unfoldable pub calls_made : GuardWorld → List GuardEvent → List Call
 calls_made opening [] = []
-calls_made opening (event ∷ before) = event_calls (run opening before).now event ++ calls_made opening before
+calls_made opening (event ∷ before) = event_calls (guard_run opening before).now event ++ calls_made opening before
 
 -- no other actor begins to flush
-abbrev pub FlushesAlone : ℕ → Event → Type 0
+abbrev pub FlushesAlone : ℕ → GuardEvent → Type 0
 FlushesAlone keeper (Begins actor ToFlush) = actor ≡ keeper
 FlushesAlone keeper event = ⊤
 
 -- in a whole run one actor alone flushes
-abbrev pub OneFlushes : ℕ → List Event → Type 0
+abbrev pub OneFlushes : ℕ → List GuardEvent → Type 0
 OneFlushes keeper [] = ⊤
 OneFlushes keeper (event ∷ before) = FlushesAlone keeper event × OneFlushes keeper before
 

@@ -2,7 +2,7 @@
 use Rattle.std.specs.Prelude.{ℕ, ◌<◌, ◌≤◌, ⊤}
 use Rattle.fkv_plane.specs.declared.actions.Action.{Action}
 use Rattle.fkv_plane.specs.declared.actions.Action.TheVariants as act
-use Rattle.fkv_epoch.specs.World.{Sight, OfReadOnly, OfHead, Loads}
+use Rattle.fkv_epoch.specs.EpochWorld.{Sight, OfReadOnly, OfHead, Loads}
 use Rattle.fkv_flush.specs.GuardLevels.{Levels}
 
 -- the offsets that a session loaded last

@@ -1,5 +1,6 @@
 -- How an offset is moved that the protected sessions have to see.
 use Rattle.std.specs.Prelude.{ℕ, ◌-◌, ◌^◌, ◌<◌, min, ⊤}
+use Rattle.fkv_base.specs.Limits.{drain_slots}
 use Rattle.fkv_plane.specs.declared.actions.Action.{Action}
 use Rattle.fkv_plane.specs.declared.actions.Action.TheVariants.{SafeReadOnly, Close}
 use Rattle.fkv_plane.specs.declared.asks.Ask.{Ask}
@@ -116,5 +117,5 @@ move_begun m offset to = mover (Raises (record { offset = offset; to = to })) ra
 
 -- a slot that the raise tells is one of the eight
 abbrev pub HasSlotInRange : Ask RaiseAnswer → Type 0
-HasSlotInRange (Done (raised.Raised slot epoch)) = slot < 8
+HasSlotInRange (Done (raised.Raised slot epoch)) = slot < drain_slots
 HasSlotInRange ask = ⊤

@@ -1,5 +1,6 @@
 -- How the sessions' mailboxes are served.
 use Rattle.std.specs.Prelude.{ℕ, ◌+◌, ◌^◌, ◌<◌, ◌==◌, nat_lt, if◌then◌else◌, List, ⊤}
+use Rattle.fkv_base.specs.Limits.{max_sessions}
 use Rattle.fkv_base.specs.declared.shapes.Shape.{Shape}
 use Rattle.fkv_record.specs.Places.{number_at, record_place}
 use Rattle.fkv_plane.specs.declared.asks.Ask.{Ask}
@@ -19,13 +20,13 @@ pub record Server : Type 0 where
 -- there are at most eight sessions, and an address is below 2^48
 abbrev pub IsServeInRange : Serving → Type 0
 IsServeInRange AtRest = ⊤
-IsServeInRange (LoadsState session) = session < 8
-IsServeInRange (LoadsAddress session) = session < 8
-IsServeInRange (Reads session addr) = (session < 8) × (addr < 2 ^ 48)
-IsServeInRange (StoresHeader session mail) = session < 8
-IsServeInRange (StoresKey session mail) = session < 8
-IsServeInRange (StoresValue session mail) = session < 8
-IsServeInRange (StoresReady session) = session < 8
+IsServeInRange (LoadsState session) = session < max_sessions
+IsServeInRange (LoadsAddress session) = session < max_sessions
+IsServeInRange (Reads session addr) = (session < max_sessions) × (addr < 2 ^ 48)
+IsServeInRange (StoresHeader session mail) = session < max_sessions
+IsServeInRange (StoresKey session mail) = session < max_sessions
+IsServeInRange (StoresValue session mail) = session < max_sessions
+IsServeInRange (StoresReady session) = session < max_sessions
 
 -- a mailbox in which a record is asked for, and one where it is ready
 abbrev pub asked_state : ℕ

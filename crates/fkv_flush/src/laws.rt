@@ -10,38 +10,38 @@ ghost use Rattle.fkv_flush.specs.declared.answers.ShiftAnswer.{ShiftAnswer};
 ghost use Rattle.fkv_flush.specs.GuardAnswered.{AsksAsAnswered, AreAlike, ActAlike};
 ghost use Rattle.fkv_flush.specs.GuardLevels.{AreInOrder};
 ghost use Rattle.fkv_flush.specs.GuardSeen.{SeenIsSafe};
-ghost use Rattle.fkv_flush.specs.GuardWorld.{World, Event, happens, run, levels};
+ghost use Rattle.fkv_flush.specs.GuardWorld.{GuardWorld, GuardEvent, guard_happens, guard_run, levels};
 ghost use Rattle.fkv_flush.specs.GuardTurned.{GoesRound};
 ghost use Rattle.fkv_flush.specs.GuardFlushed.{OneFlushes, IsSynced, stands, calls_made};
 ghost use Rattle.fkv_flush.specs.Guarded.{IsOpened, opening, IsCovered, UndecidedIsFresh, GoesBy, seen_of, event_writes, GuardsWrites, GuardsLimit, KeepsSeen};
 
 /// Whatever the order of the machines' steps, and whoever makes them: a step that writes a word of a frame writes one of
 /// an open address at or above the safe read-only offset and below the tail; a step that opens a page finds all flushed
-/// that its frame held, and each protected session that isn't in the middle of waking with a head at or above that; and
+/// that its frame held, and each protected session that isn't in the middle of protecting itself with a head at or above that; and
 /// at every moment the offsets are in order, and the frames hold all that may still be needed. What a step is said to
 /// write is all that it writes.
 pub fn law_guarded()
-    ensures writes { (shape : Shape) (places : Places) (actors : ℕ) (words : List ℕ) (start : ℕ) (events : List Event) (event : Event)
-        → IsOpened shape places actors words start → GuardsWrites (run (opening shape places actors words start) events) event }
-    ensures limit { (shape : Shape) (places : Places) (actors : ℕ) (words : List ℕ) (start : ℕ) (events : List Event) (event : Event)
-        → IsOpened shape places actors words start → GuardsLimit (run (opening shape places actors words start) events) event }
-    ensures order { (shape : Shape) (places : Places) (actors : ℕ) (words : List ℕ) (start : ℕ) (events : List Event)
-        → IsOpened shape places actors words start → AreInOrder (levels (run (opening shape places actors words start) events)) }
-    ensures covered { (shape : Shape) (places : Places) (actors : ℕ) (words : List ℕ) (start : ℕ) (events : List Event)
-        → IsOpened shape places actors words start → IsCovered (run (opening shape places actors words start) events) }
-    ensures nothing_else { (w : World) (event : Event) (place : ℕ) → event_writes w.now event ≢ Some place → word_at (happens w event).now.words place ≡ word_at w.now.words place }
+    ensures writes { (shape : Shape) (places : Places) (actors : ℕ) (words : List ℕ) (start : ℕ) (events : List GuardEvent) (event : GuardEvent)
+        → IsOpened shape places actors words start → GuardsWrites (guard_run (opening shape places actors words start) events) event }
+    ensures limit { (shape : Shape) (places : Places) (actors : ℕ) (words : List ℕ) (start : ℕ) (events : List GuardEvent) (event : GuardEvent)
+        → IsOpened shape places actors words start → GuardsLimit (guard_run (opening shape places actors words start) events) event }
+    ensures order { (shape : Shape) (places : Places) (actors : ℕ) (words : List ℕ) (start : ℕ) (events : List GuardEvent)
+        → IsOpened shape places actors words start → AreInOrder (levels (guard_run (opening shape places actors words start) events)) }
+    ensures covered { (shape : Shape) (places : Places) (actors : ℕ) (words : List ℕ) (start : ℕ) (events : List GuardEvent)
+        → IsOpened shape places actors words start → IsCovered (guard_run (opening shape places actors words start) events) }
+    ensures nothing_else { (w : GuardWorld) (event : GuardEvent) (place : ℕ) → event_writes w.now event ≢ Some place → word_at (guard_happens w event).now.words place ≡ word_at w.now.words place }
 {}
 
 /// At every moment what a session goes by is safe to go by; a reserved record that is undecided belongs to a protected
-/// session that neither wakes nor looks again nor leaves, and no event shows that session anything new.
+/// session that neither protects itself nor refreshes nor leaves, and no event shows that session anything new.
 pub fn law_seen()
-    ensures safe { (shape : Shape) (places : Places) (actors : ℕ) (words : List ℕ) (start : ℕ) (events : List Event)
+    ensures safe { (shape : Shape) (places : Places) (actors : ℕ) (words : List ℕ) (start : ℕ) (events : List GuardEvent)
         → IsOpened shape places actors words start
-        → SeenIsSafe (levels (run (opening shape places actors words start) events)) (GoesBy (run (opening shape places actors words start) events).now) (seen_of (run (opening shape places actors words start) events).now.actors) }
-    ensures fresh { (shape : Shape) (places : Places) (actors : ℕ) (words : List ℕ) (start : ℕ) (events : List Event)
-        → IsOpened shape places actors words start → UndecidedIsFresh (run (opening shape places actors words start) events) }
-    ensures keeps { (shape : Shape) (places : Places) (actors : ℕ) (words : List ℕ) (start : ℕ) (events : List Event) (event : Event)
-        → IsOpened shape places actors words start → KeepsSeen (run (opening shape places actors words start) events) event }
+        → SeenIsSafe (levels (guard_run (opening shape places actors words start) events)) (GoesBy (guard_run (opening shape places actors words start) events).now) (seen_of (guard_run (opening shape places actors words start) events).now.actors) }
+    ensures fresh { (shape : Shape) (places : Places) (actors : ℕ) (words : List ℕ) (start : ℕ) (events : List GuardEvent)
+        → IsOpened shape places actors words start → UndecidedIsFresh (guard_run (opening shape places actors words start) events) }
+    ensures keeps { (shape : Shape) (places : Places) (actors : ℕ) (words : List ℕ) (start : ℕ) (events : List GuardEvent) (event : GuardEvent)
+        → IsOpened shape places actors words start → KeepsSeen (guard_run (opening shape places actors words start) events) event }
 {}
 
 /// What is flushed is synced as the records stand, whatever calls of the device fail, where one actor alone flushes: at
@@ -49,11 +49,11 @@ pub fn law_seen()
 /// words that stand for it, and so does all that a crash leaves of it; the log before the opening is as it was, as far as
 /// the device reached then. No step changes what stands for a record below the safe read-only offset.
 pub fn law_flushed_is_synced()
-    ensures synced { (shape : Shape) (places : Places) (actors : ℕ) (words : List ℕ) (start keeper : ℕ) (events : List Event) (opened : List ℕ)
+    ensures synced { (shape : Shape) (places : Places) (actors : ℕ) (words : List ℕ) (start keeper : ℕ) (events : List GuardEvent) (opened : List ℕ)
         → IsOpened shape places actors words start → OneFlushes keeper events
-        → IsSynced shape opened (calls_made (opening shape places actors words start) events) (stands (opening shape places actors words start) events) start (levels (run (opening shape places actors words start) events)).flushed }
-    ensures steady { (shape : Shape) (places : Places) (actors : ℕ) (words : List ℕ) (start : ℕ) (events : List Event) (event : Event) (addr : ℕ) (word : RecordWord)
-        → IsOpened shape places actors words start → addr < (levels (run (opening shape places actors words start) events)).safe_read_only
+        → IsSynced shape opened (calls_made (opening shape places actors words start) events) (stands (opening shape places actors words start) events) start (levels (guard_run (opening shape places actors words start) events)).flushed }
+    ensures steady { (shape : Shape) (places : Places) (actors : ℕ) (words : List ℕ) (start : ℕ) (events : List GuardEvent) (event : GuardEvent) (addr : ℕ) (word : RecordWord)
+        → IsOpened shape places actors words start → addr < (levels (guard_run (opening shape places actors words start) events)).safe_read_only
         → stands (opening shape places actors words start) (event ∷ events) addr word ≡ stands (opening shape places actors words start) events addr word }
 {}
 

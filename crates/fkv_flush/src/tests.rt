@@ -6,7 +6,7 @@ use crate::{
 use fkv_base::{Addr, Fault, Key, Shape, Version};
 use fkv_disk::{Device, Fuse, MemDisk};
 use fkv_epoch::{Claim, Raise, Refresh, RefreshAnswer, Scan};
-use fkv_log::{Cell, Fill, Reserve, ReserveAnswer};
+use fkv_log::{Fill, RecordWords, Reserve, ReserveAnswer};
 use fkv_plane::{Action, Ask, Places, PlainWords, SessionWord, SharedWord, drain_place};
 use fkv_record::{Record, record_place, write_record};
 use fkv_words::Header;
@@ -67,12 +67,12 @@ fn append(plane: &mut PlainWords, shape: &Shape) -> Option<Addr> {
     }
     let addr = taken?;
     let mut fill = Fill::new(Places::of(shape));
-    let cell = Cell {
+    let its_words = RecordWords {
         header: header(),
         key: Key(addr.0),
         value: value_at(addr),
     };
-    let mut ask = fill.start(addr, cell);
+    let mut ask = fill.start(addr, its_words);
     for _ in 0..4 {
         ask = match ask {
             Ask::Done(()) => return Some(addr),
@@ -82,7 +82,7 @@ fn append(plane: &mut PlainWords, shape: &Shape) -> Option<Addr> {
     None
 }
 
-// Session 0 looks again.
+// Session 0 refreshes.
 fn refresh(plane: &mut PlainWords) {
     let mut machine = Refresh::new(0);
     let mut ask = machine.start();

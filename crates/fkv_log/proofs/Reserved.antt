@@ -9,26 +9,26 @@ use Rattle.fkv_log.specs.declared.reserving.Reserving.TheVariants.{AtRest, Loads
 use Rattle.fkv_log.specs.declared.reserving.ReserveAnswer.TheVariants.{Reserved, Full, NoRoom, Contended}
 use Rattle.fkv_plane.specs.declared.asks.Ask.TheVariants.{Done}
 use Rattle.fkv_log.specs.Reserving.{reserve_ask, reserve_next, reserve_next_ask}
-use Rattle.fkv_log.specs.Reserved.{Event, Begins, Moves, Changes, Reservation, World, tail_of, limit_of, bars_tail, is_barred, IsOpened, moved, given, given_by, happens, run, opening, RiseTo, AreReservedOnce, Takes, Leaves}
+use Rattle.fkv_log.specs.Reserved.{TailEvent, Begins, Moves, Changes, Reservation, TailWorld, tail_of, limit_of, bars_tail, is_barred, IsOpened, moved, reserved_of, reserved_by, tail_happens, tail_run, opening, RiseTo, AreReservedOnce, ReservesTail, Stays}
 
 -- a step of the machine takes the address of the tail, or leaves all as it is
 pub taken_or_left : (room actor : ℕ) (words : List ℕ) (step : Reserving)
-    → Takes words actor (words_after words (reserve_ask step)) (given_by actor (reserve_next_ask room step (reply_to words (reserve_ask step))))
-    ⊎ Leaves words (words_after words (reserve_ask step)) (given_by actor (reserve_next_ask room step (reply_to words (reserve_ask step))))
+    → ReservesTail words actor (words_after words (reserve_ask step)) (reserved_by actor (reserve_next_ask room step (reply_to words (reserve_ask step))))
+    ⊎ Stays words (words_after words (reserve_ask step)) (reserved_by actor (reserve_next_ask room step (reply_to words (reserve_ask step))))
 unfolding reserve_ask reserve_next reserve_next_ask
 taken_or_left room actor words AtRest = inr (record { words_stay = refl; no_address = refl })
 taken_or_left room actor words LoadsLimit = inr (record { words_stay = set-get_or words 4 0; no_address = refl })
 taken_or_left room actor words (LoadsTail limit) = inr (record { words_stay = set-get_or words 3 0; no_address = refused (nat_lt (tail_of words) limit) (tail_of words == room) })
   where
-    refused : (below at_end : Bool) → given_by actor (if below then reserve_ask (TakesTail (tail_of words)) else Done (if at_end then Full else NoRoom)) ≡ []
+    refused : (below at_end : Bool) → reserved_by actor (if below then reserve_ask (TakesTail (tail_of words)) else Done (if at_end then Full else NoRoom)) ≡ []
     refused true at_end = refl
     refused false true = refl
     refused false false = refl
 taken_or_left room actor words (TakesTail tail) = won (tail_of words == tail) refl
   where
     won : (b : Bool) → (tail_of words == tail) ≡ b
-        → Takes words actor (slice_set words 3 (if b then tail + 1 else tail_of words)) (given_by actor (Done (if b then Reserved (record { 0 = tail }) else Contended)))
-        ⊎ Leaves words (slice_set words 3 (if b then tail + 1 else tail_of words)) (given_by actor (Done (if b then Reserved (record { 0 = tail }) else Contended)))
+        → ReservesTail words actor (slice_set words 3 (if b then tail + 1 else tail_of words)) (reserved_by actor (Done (if b then Reserved (record { 0 = tail }) else Contended)))
+        ⊎ Stays words (slice_set words 3 (if b then tail + 1 else tail_of words)) (reserved_by actor (Done (if b then Reserved (record { 0 = tail }) else Contended)))
     won true e =
         let same : tail_of words ≡ tail = eqb-true (tail_of words) tail e in
         inl (record { tail = ap (λ x. slice_set words 3 (x + 1)) (sym same); address = ap (λ x. record { actor = actor; addr = x } ∷ []) (sym same) })
@@ -81,7 +81,7 @@ stays_below words (TakesTail tail) enough h k = won (tail_of words == tail)
     won false = rw (set-get_or words 3 0) (record { same_limit = refl; below = h })
 
 -- what stands after every event
-pub record IsSound (first : ℕ) (w : World) : Type 0 where
+pub record IsSound (first : ℕ) (w : TailWorld) : Type 0 where
   pub enough_words : 4 < length w.now.words
   pub rises : RiseTo first (tail_of w.now.words) w.reserved
   pub below : tail_of w.now.words ≤ limit_of w.now.words
@@ -96,7 +96,7 @@ each_set P (z ∷ zs) (suc i) x p all zero y e = all zero y e
 each_set P (z ∷ zs) (suc i) x p all (suc j) y e = each_set P zs i x p (λ k w g. all (suc k) w g) j y e
 
 step_sound : (first actor : ℕ) (words after : List ℕ) (new reserved : List Reservation) → 4 < length words → RiseTo first (tail_of words) reserved
-    → Takes words actor after new ⊎ Leaves words after new → (4 < length after) × RiseTo first (tail_of after) (new ++ reserved)
+    → ReservesTail words actor after new ⊎ Stays words after new → (4 < length after) × RiseTo first (tail_of after) (new ++ reserved)
 step_sound first actor words after new reserved enough rise (inr leaves) =
     rw (leaves.words_stay, leaves.no_address) (enough, rise)
 step_sound first actor words after new reserved enough rise (inl takes) =
@@ -105,13 +105,13 @@ step_sound first actor words after new reserved enough rise (inl takes) =
     let higher : tail_of (slice_set words 3 (tail + 1)) ≡ tail + 1 = get_or-set_same words 3 (tail + 1) 0 (omega (arith, enough)) in
     rw (takes.tail, takes.address) (omega (arith, same, enough), (omega (arith, higher), rise))
 
-moved_sound : (first : ℕ) (w : World) (actor : ℕ) (found : Option Reserving) → slice_get w.now.actors actor ≡ found → IsSound first w → IsSound first (record { now = moved w.now actor found; reserved = given w.now actor found ++ w.reserved })
+moved_sound : (first : ℕ) (w : TailWorld) (actor : ℕ) (found : Option Reserving) → slice_get w.now.actors actor ≡ found → IsSound first w → IsSound first (record { now = moved w.now actor found; reserved = reserved_of w.now actor found ++ w.reserved })
 moved_sound first w actor None got sound = sound
 moved_sound first w actor (Some step) got sound =
     let words : List ℕ = w.now.words in
     let after : List ℕ = words_after words (reserve_ask step) in
     let known : Knows (limit_of words) step = sound.knows actor step got in
-    let s = step_sound first actor words after (given w.now actor (Some step)) w.reserved sound.enough_words sound.rises (taken_or_left w.now.room actor words step) in
+    let s = step_sound first actor words after (reserved_of w.now actor (Some step)) w.reserved sound.enough_words sound.rises (taken_or_left w.now.room actor words step) in
     let stays = stays_below words step sound.enough_words sound.below known in
     let next : Reserving = reserve_next step (reply_to words (reserve_ask step)) in
     let same = stays.same_limit in
@@ -167,7 +167,7 @@ may_change words place word enough e = cases (place == 3) (place == 4) refl refl
         let limit : limit_of (slice_set words place word) ≡ limit_of words = get_or-set_other words place 4 word 0 (λ e. off_limit (sym e)) in
         record { tail_up = omega (arith, tail); limit_up = omega (arith, limit); below = λ h. omega (arith, tail, limit, h) }
 
-changes_sound : (first : ℕ) (w : World) (place word : ℕ) → is_barred w.now.words place word ≡ false → IsSound first w
+changes_sound : (first : ℕ) (w : TailWorld) (place word : ℕ) → is_barred w.now.words place word ≡ false → IsSound first w
     → IsSound first (record w { now = record w.now { words = slice_set w.now.words place word } })
 changes_sound first w place word e sound =
     let words : List ℕ = w.now.words in
@@ -181,8 +181,8 @@ changes_sound first w place word e sound =
       knows = λ actor step got. knows_more (limit_of words) (limit_of after) step change.limit_up (sound.knows actor step got);
     }
 
-pub happens_sound : (first : ℕ) (w : World) (event : Event) → IsSound first w → IsSound first (happens w event)
-unfolding happens
+pub happens_sound : (first : ℕ) (w : TailWorld) (event : TailEvent) → IsSound first w → IsSound first (tail_happens w event)
+unfolding tail_happens
 happens_sound first w (Begins actor) sound = record {
   enough_words = sound.enough_words;
   rises = sound.rises;
@@ -196,10 +196,10 @@ happens_sound first w (Changes place word) sound = cases (is_barred w.now.words 
     cases true e = sound
     cases false e = changes_sound first w place word e sound
 
-pub run_sound : (first : ℕ) (w : World) (events : List Event) → IsSound first w → IsSound first (run w events)
-unfolding run
+pub run_sound : (first : ℕ) (w : TailWorld) (events : List TailEvent) → IsSound first w → IsSound first (tail_run w events)
+unfolding tail_run
 run_sound first w [] sound = sound
-run_sound first w (event ∷ before) sound = happens_sound first (run w before) event (run_sound first w before sound)
+run_sound first w (event ∷ before) sound = happens_sound first (tail_run w before) event (run_sound first w before sound)
 
 rest_knows : (limit n actor : ℕ) (step : Reserving) → slice_get (replicate n AtRest) actor ≡ Some step → Knows limit step
 rest_knows limit zero actor step e = cc

@@ -11,10 +11,10 @@ use Rattle.fkv_plane.specs.declared.places.RecordWord.{RecordWord}
 use Rattle.fkv_plane.specs.declared.places.RecordWord.TheVariants as rec
 use Rattle.fkv_plane.specs.Places.{record_place, record_number, word_count}
 use Rattle.fkv_plane.specs.Asked.{word_at}
-use Rattle.fkv_log.specs.declared.cells.Cell.{Cell}
+use Rattle.fkv_log.specs.declared.record_words.RecordWords.{RecordWords}
 use Rattle.fkv_log.specs.Filling.{fill_ask}
-use Rattle.fkv_log.specs.Invalidating.{invalidate_ask, given_up}
-use Rattle.fkv_log.specs.Written.{HasWords, SparesOthers, filled, dropped}
+use Rattle.fkv_log.specs.Invalidating.{invalidate_ask, invalidated}
+use Rattle.fkv_log.specs.Written.{HasWords, SparesOthers, filled, invalidated_words}
 use Rattle.fkv_log.proofs.Records.{three_words}
 
 -- a record's words are among those that the store has
@@ -43,33 +43,33 @@ three_writes words first second third x y z a b c fs ft st =
       get_or-set_same two third z 0 (omega (arith, same_one, same_two, c)),
     )
 
-pub written : (places : Places) (words : List ℕ) (addr : Addr) (cell : Cell) → word_count places ≤ length words
-    → HasWords places (filled places words addr cell) addr.0 (header_word cell.header) cell.key.0 cell.value × SparesOthers places addr.0 words (filled places words addr cell)
+pub written : (places : Places) (words : List ℕ) (addr : Addr) (its_words : RecordWords) → word_count places ≤ length words
+    → HasWords places (filled places words addr its_words) addr.0 (header_word its_words.header) its_words.key.0 its_words.value × SparesOthers places addr.0 words (filled places words addr its_words)
 unfolding fill_ask
-written places words addr cell enough =
+written places words addr its_words enough =
     let value : ℕ = record_place places addr.0 rec.Value in
     let key : ℕ = record_place places addr.0 rec.Key in
     let header : ℕ = record_place places addr.0 rec.Header in
-    let one : List ℕ = slice_set words value cell.value in
-    let two : List ℕ = slice_set one key cell.key.0 in
+    let one : List ℕ = slice_set words value its_words.value in
+    let two : List ℕ = slice_set one key its_words.key.0 in
     let v = within places addr.0 rec.Value in
     let k = within places addr.0 rec.Key in
     let h = within places addr.0 rec.Header in
-    let all = three_writes words value key header cell.value cell.key.0 (header_word cell.header) (omega (arith, v, enough)) (omega (arith, k, enough)) (omega (arith, h, enough))
+    let all = three_writes words value key header its_words.value its_words.key.0 (header_word its_words.header) (omega (arith, v, enough)) (omega (arith, k, enough)) (omega (arith, h, enough))
     (words_apart places addr.0 rec.Value rec.Key (omega arith)) (words_apart places addr.0 rec.Value rec.Header (omega arith)) (words_apart places addr.0 rec.Key rec.Header (omega arith)) in (
       record { its_header = all.2; its_key = all.1; its_value = all.0 },
       λ place apart.
-          get_or-set_other two header place (header_word cell.header) 0 (apart rec.Header)
-          ∙ get_or-set_other one key place cell.key.0 0 (apart rec.Key)
-          ∙ get_or-set_other words value place cell.value 0 (apart rec.Value),
+          get_or-set_other two header place (header_word its_words.header) 0 (apart rec.Header)
+          ∙ get_or-set_other one key place its_words.key.0 0 (apart rec.Key)
+          ∙ get_or-set_other words value place its_words.value 0 (apart rec.Value),
     )
 
 pub dropped_record : (places : Places) (words : List ℕ) (addr : Addr) (header : Header) (word key value : ℕ) → word_count places ≤ length words → HasWords places words addr.0 word key value
-    → HasWords places (dropped places words addr header) addr.0 (header_word (given_up header)) key value × SparesOthers places addr.0 words (dropped places words addr header)
+    → HasWords places (invalidated_words places words addr header) addr.0 (header_word (invalidated header)) key value × SparesOthers places addr.0 words (invalidated_words places words addr header)
 unfolding invalidate_ask
 dropped_record places words addr header word key value enough has =
     let place : ℕ = record_place places addr.0 rec.Header in
-    let new : ℕ = header_word (given_up header) in
+    let new : ℕ = header_word (invalidated header) in
     let h = within places addr.0 rec.Header in (
       record {
         its_header = get_or-set_same words place new 0 (omega (arith, h, enough));

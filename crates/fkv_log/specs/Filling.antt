@@ -15,13 +15,13 @@ pub record Filler : Type 0 where
 -- what each state asks
 unfoldable pub fill_ask : Places → Filling → Ask (Unit {0})
 fill_ask places AtRest = Done tt
-fill_ask places (StoresValue addr cell) = Store (record_place places addr.0 rec.Value) cell.value
-fill_ask places (StoresKey addr cell) = Store (record_place places addr.0 rec.Key) cell.key.0
-fill_ask places (StoresHeader addr cell) = Store (record_place places addr.0 rec.Header) (header_word cell.header)
+fill_ask places (StoresValue addr its_words) = Store (record_place places addr.0 rec.Value) its_words.value
+fill_ask places (StoresKey addr its_words) = Store (record_place places addr.0 rec.Key) its_words.key.0
+fill_ask places (StoresHeader addr its_words) = Store (record_place places addr.0 rec.Header) (header_word its_words.header)
 
 -- where the reply leads
 unfoldable pub fill_next : Filling → Filling
 fill_next AtRest = AtRest
-fill_next (StoresValue addr cell) = StoresKey addr cell
-fill_next (StoresKey addr cell) = StoresHeader addr cell
-fill_next (StoresHeader addr cell) = AtRest
+fill_next (StoresValue addr its_words) = StoresKey addr its_words
+fill_next (StoresKey addr its_words) = StoresHeader addr its_words
+fill_next (StoresHeader addr its_words) = AtRest

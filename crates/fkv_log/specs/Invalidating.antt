@@ -1,4 +1,4 @@
--- How a record is given up: its header is stored with the invalid bit.
+-- How a record is invalidated: its header is stored with the invalid bit.
 use Rattle.std.specs.Prelude.{true}
 use Rattle.fkv_words.specs.declared.headers.Header.{Header}
 use Rattle.fkv_words.specs.Layout.{header_word}
@@ -14,14 +14,14 @@ pub record Invalidator : Type 0 where
   pub places : Places
   pub step : Invalidating
 
--- the header of the same record, given up
-abbrev pub given_up : Header → Header
-given_up header = record header { invalid = true }
+-- the header of the same record, invalidated
+abbrev pub invalidated : Header → Header
+invalidated header = record header { invalid = true }
 
 -- what each state asks
 unfoldable pub invalidate_ask : Places → Invalidating → Ask (Unit {0})
 invalidate_ask places AtRest = Done tt
-invalidate_ask places (StoresHeader addr header) = Store (record_place places addr.0 rec.Header) (header_word (given_up header))
+invalidate_ask places (StoresHeader addr header) = Store (record_place places addr.0 rec.Header) (header_word (invalidated header))
 
 -- where the reply leads
 unfoldable pub invalidate_next : Invalidating → Invalidating

@@ -1,4 +1,4 @@
--- Many actors that take addresses at the tail, and others who work on the same words.
+-- Many actors that reserve addresses at the tail, and others who work on the same words.
 use Rattle.std.specs.Prelude.{◌≡◌, ℕ, ◌+◌, ◌<◌, ◌≤◌, ◌==◌, ◌&&◌, ◌||◌, nat_lt, if◌then◌else◌, Bool, List, [], ◌∷◌, ◌++◌, ◌⊎◌, length, replicate, slice_get, slice_set, Option, Some, None}
 use Rattle.fkv_plane.specs.declared.asks.Ask.{Ask}
 use Rattle.fkv_plane.specs.declared.asks.Ask.TheVariants.{Done}
@@ -12,16 +12,16 @@ use Rattle.fkv_log.specs.declared.reserving.Reserving.TheVariants.{AtRest, Loads
 use Rattle.fkv_log.specs.Reserving.{reserve_ask, reserve_next, reserve_next_ask}
 
 -- What may happen next.
-pub data Event : Type 0 where
-  -- the actor begins to take an address
-  Begins : ℕ → Event
+pub data TailEvent : Type 0 where
+  -- the actor begins to reserve an address
+  Begins : ℕ → TailEvent
   -- the actor makes its one ask
-  Moves : ℕ → Event
+  Moves : ℕ → TailEvent
   -- somebody else changes a word, but for what is barred
-  Changes : ℕ → ℕ → Event
+  Changes : ℕ → ℕ → TailEvent
 
 -- the words, and how far each actor's machine has come
-pub record Now : Type 0 where
+pub record TailNow : Type 0 where
   -- how many addresses the log has on the device
   pub room : ℕ
   pub words : List ℕ
@@ -32,8 +32,8 @@ pub record Reservation : Type 0 where
   pub actor : ℕ
   pub addr : ℕ
 
-pub record World : Type 0 where
-  pub now : Now
+pub record TailWorld : Type 0 where
+  pub now : TailNow
   -- all reservations ever, the newest first
   pub reserved : List Reservation
 
@@ -50,39 +50,39 @@ bars_tail words word = nat_lt word (tail_of words) || nat_lt (limit_of words) wo
 abbrev pub is_barred : List ℕ → ℕ → ℕ → Bool
 is_barred words place word = (place == shared_place one.Tail && bars_tail words word) || (place == shared_place one.Limit && nat_lt word (limit_of words))
 
-abbrev pub begun : Now → ℕ → Now
+abbrev pub begun : TailNow → ℕ → TailNow
 begun n actor = record n { actors = slice_set n.actors actor LoadsLimit }
 
 -- one ask of the machine, by the machine's own tables
-abbrev pub moved : Now → ℕ → Option Reserving → Now
+abbrev pub moved : TailNow → ℕ → Option Reserving → TailNow
 moved n actor None = n
 moved n actor (Some step) = record n { words = words_after n.words (reserve_ask step); actors = slice_set n.actors actor (reserve_next step (reply_to n.words (reserve_ask step))) }
 
-abbrev pub happens_now : Now → Event → Now
-happens_now n (Begins actor) = begun n actor
-happens_now n (Moves actor) = moved n actor (slice_get n.actors actor)
-happens_now n (Changes place word) = if is_barred n.words place word then n else record n { words = slice_set n.words place word }
+abbrev pub tail_happens_now : TailNow → TailEvent → TailNow
+tail_happens_now n (Begins actor) = begun n actor
+tail_happens_now n (Moves actor) = moved n actor (slice_get n.actors actor)
+tail_happens_now n (Changes place word) = if is_barred n.words place word then n else record n { words = slice_set n.words place word }
 
 -- what the machine's answer gives its actor
-abbrev pub given_by : ℕ → Ask ReserveAnswer → List Reservation
-given_by actor (Done (Reserved addr)) = record { actor = actor; addr = addr.0 } ∷ []
-given_by actor ask = []
+abbrev pub reserved_by : ℕ → Ask ReserveAnswer → List Reservation
+reserved_by actor (Done (Reserved addr)) = record { actor = actor; addr = addr.0 } ∷ []
+reserved_by actor ask = []
 
-abbrev pub given : Now → ℕ → Option Reserving → List Reservation
-given n actor None = []
-given n actor (Some step) = given_by actor (reserve_next_ask n.room step (reply_to n.words (reserve_ask step)))
+abbrev pub reserved_of : TailNow → ℕ → Option Reserving → List Reservation
+reserved_of n actor None = []
+reserved_of n actor (Some step) = reserved_by actor (reserve_next_ask n.room step (reply_to n.words (reserve_ask step)))
 
-abbrev pub reserved_after : Now → Event → List Reservation → List Reservation
-reserved_after n (Moves actor) reserved = given n actor (slice_get n.actors actor) ++ reserved
+abbrev pub reserved_after : TailNow → TailEvent → List Reservation → List Reservation
+reserved_after n (Moves actor) reserved = reserved_of n actor (slice_get n.actors actor) ++ reserved
 reserved_after n event reserved = reserved
 
-unfoldable pub happens : World → Event → World
-happens w event = record { now = happens_now w.now event; reserved = reserved_after w.now event w.reserved }
+unfoldable pub tail_happens : TailWorld → TailEvent → TailWorld
+tail_happens w event = record { now = tail_happens_now w.now event; reserved = reserved_after w.now event w.reserved }
 
 -- a whole run, the newest event first
-unfoldable pub run : World → List Event → World
-run opening [] = opening
-run opening (event ∷ before) = happens (run opening before) event
+unfoldable pub tail_run : TailWorld → List TailEvent → TailWorld
+tail_run opening [] = opening
+tail_run opening (event ∷ before) = tail_happens (tail_run opening before) event
 
 -- the words have a tail and a limit
 pub record IsOpened (words : List ℕ) : Type 0 where
@@ -90,7 +90,7 @@ pub record IsOpened (words : List ℕ) : Type 0 where
   pub below_limit : tail_of words ≤ limit_of words
 
 -- all actors at rest
-abbrev pub opening : ℕ → ℕ → List ℕ → World
+abbrev pub opening : ℕ → ℕ → List ℕ → TailWorld
 opening room actors words = record { now = record { room = room; words = words; actors = replicate actors AtRest }; reserved = [] }
 
 -- each address is below the tail, above all that were reserved before it, and none is below the first
@@ -103,16 +103,16 @@ abbrev pub AreReservedOnce : List Reservation → Type 0
 AreReservedOnce reserved = (i j : ℕ) (r s : Reservation) → slice_get reserved i ≡ Some r → slice_get reserved j ≡ Some s → r.addr ≡ s.addr → i ≡ j
 
 -- the one step that gives an address: it gives that of the tail, which it moves up by one
-pub record Takes (words : List ℕ) (actor : ℕ) (after : List ℕ) (given : List Reservation) : Type 0 where
+pub record ReservesTail (words : List ℕ) (actor : ℕ) (after : List ℕ) (its : List Reservation) : Type 0 where
   pub tail : after ≡ slice_set words (shared_place one.Tail) (tail_of words + 1)
-  pub address : given ≡ record { actor = actor; addr = tail_of words } ∷ []
+  pub address : its ≡ record { actor = actor; addr = tail_of words } ∷ []
 
 -- each other changes no word and gives none
-pub record Leaves (words : List ℕ) (after : List ℕ) (given : List Reservation) : Type 0 where
+pub record Stays (words : List ℕ) (after : List ℕ) (its : List Reservation) : Type 0 where
   pub words_stay : after ≡ words
-  pub no_address : given ≡ []
+  pub no_address : its ≡ []
 
-abbrev pub TakesOrLeaves : Type 0
-TakesOrLeaves = (room actor : ℕ) (words : List ℕ) (step : Reserving)
-    → Takes words actor (words_after words (reserve_ask step)) (given_by actor (reserve_next_ask room step (reply_to words (reserve_ask step))))
-    ⊎ Leaves words (words_after words (reserve_ask step)) (given_by actor (reserve_next_ask room step (reply_to words (reserve_ask step))))
+abbrev pub ReservesOrStays : Type 0
+ReservesOrStays = (room actor : ℕ) (words : List ℕ) (step : Reserving)
+    → ReservesTail words actor (words_after words (reserve_ask step)) (reserved_by actor (reserve_next_ask room step (reply_to words (reserve_ask step))))
+    ⊎ Stays words (words_after words (reserve_ask step)) (reserved_by actor (reserve_next_ask room step (reply_to words (reserve_ask step))))

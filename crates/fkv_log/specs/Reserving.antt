@@ -1,4 +1,4 @@
--- How an address is taken at the tail: the limit, then the tail, then one Cas.
+-- How an address is reserved at the tail: the limit, then the tail, then one Cas.
 use Rattle.std.specs.Prelude.{ℕ, ◌+◌, ◌^◌, ◌<◌, ◌==◌, nat_lt, if◌then◌else◌, ⊤}
 use Rattle.fkv_plane.specs.declared.asks.Ask.{Ask}
 use Rattle.fkv_plane.specs.declared.asks.Ask.TheVariants.{Load, Cas, Done}

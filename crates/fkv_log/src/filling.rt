@@ -1,7 +1,7 @@
 //! How a record is written to the address that was taken for it.
 ghost use Rattle.std.specs.Prelude.{◌≡◌};
 
-use crate::cells::Cell;
+use crate::record_words::RecordWords;
 use fkv_base::Addr;
 use fkv_plane::{Ask, Places, RecordWord};
 use std::marker::Model;
@@ -10,9 +10,9 @@ use std::marker::Model;
 #[derive(Clone, Copy, Debug, PartialEq, Eq)]
 pub(crate) enum Filling {
     AtRest,
-    StoresValue(Addr, Cell),
-    StoresKey(Addr, Cell),
-    StoresHeader(Addr, Cell),
+    StoresValue(Addr, RecordWords),
+    StoresKey(Addr, RecordWords),
+    StoresHeader(Addr, RecordWords),
 }
 
 /// Stores the value, the key and then the header of a record.
@@ -45,11 +45,11 @@ impl Fill {
     }
 
     /// The first ask, to write the record at the address.
-    pub fn start(&mut self, addr: Addr, cell: Cell) -> Ask<()>
-        ensures next { self.new ≡ record self.old { step = StoresValue addr cell } }
-        ensures ask { result ≡ fill_ask self.old.places (StoresValue addr cell) }
+    pub fn start(&mut self, addr: Addr, its_words: RecordWords) -> Ask<()>
+        ensures next { self.new ≡ record self.old { step = StoresValue addr its_words } }
+        ensures ask { result ≡ fill_ask self.old.places (StoresValue addr its_words) }
     {
-        self.step = Filling::StoresValue(addr, cell);
+        self.step = Filling::StoresValue(addr, its_words);
         self.ask()
     }
 
@@ -60,8 +60,8 @@ impl Fill {
         ensures ask { result ≡ fill_ask self.old.places (fill_next self.old.step) }
     {
         self.step = match self.step {
-            Filling::StoresValue(addr, cell) => Filling::StoresKey(addr, cell),
-            Filling::StoresKey(addr, cell) => Filling::StoresHeader(addr, cell),
+            Filling::StoresValue(addr, its_words) => Filling::StoresKey(addr, its_words),
+            Filling::StoresKey(addr, its_words) => Filling::StoresHeader(addr, its_words),
             Filling::StoresHeader(_, _) | Filling::AtRest => Filling::AtRest,
         };
         self.ask()
@@ -73,15 +73,15 @@ impl Fill {
     {
         match self.step {
             Filling::AtRest => Ask::Done(()),
-            Filling::StoresValue(addr, cell) => {
-                Ask::Store(self.places.record(addr, RecordWord::Value), cell.value)
+            Filling::StoresValue(addr, its_words) => {
+                Ask::Store(self.places.record(addr, RecordWord::Value), its_words.value)
             }
-            Filling::StoresKey(addr, cell) => {
-                Ask::Store(self.places.record(addr, RecordWord::Key), cell.key.0)
+            Filling::StoresKey(addr, its_words) => {
+                Ask::Store(self.places.record(addr, RecordWord::Key), its_words.key.0)
             }
-            Filling::StoresHeader(addr, cell) => Ask::Store(
+            Filling::StoresHeader(addr, its_words) => Ask::Store(
                 self.places.record(addr, RecordWord::Header),
-                cell.header.pack(),
+                its_words.header.pack(),
             ),
         }
     }

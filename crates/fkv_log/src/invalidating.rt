@@ -1,4 +1,4 @@
-//! How a record that no entry came to name is given up.
+//! How a record that no entry came to name is invalidated.
 ghost use Rattle.std.specs.Prelude.{◌≡◌};
 
 use fkv_base::Addr;
@@ -42,7 +42,7 @@ impl Invalidate {
         }
     }
 
-    /// The first ask, to give up the record at the address, which has this header.
+    /// The first ask, to invalidate the record at the address, which has this header.
     pub fn start(&mut self, addr: Addr, header: Header) -> Ask<()>
         ensures next { self.new ≡ record self.old { step = StoresHeader addr header } }
         ensures ask { result ≡ invalidate_ask self.old.places (StoresHeader addr header) }
@@ -68,14 +68,14 @@ impl Invalidate {
         match self.step {
             Invalidating::AtRest => Ask::Done(()),
             Invalidating::StoresHeader(addr, header) => {
-                let given_up = Header {
+                let invalidated = Header {
                     previous: header.previous,
                     version: header.version,
                     invalid: true,
                 };
                 Ask::Store(
                     self.places.record(addr, RecordWord::Header),
-                    given_up.pack(),
+                    invalidated.pack(),
                 )
             }
         }

@@ -1,17 +1,16 @@
-//! The log in memory: how an address is taken at its tail, how a record is written and given up there, how its words are
+//! The log in memory: how an address is reserved at its tail, how a record is written and invalidated there, how its words are
 //! loaded, and which region an address lies in. Each machine makes one ask at a time.
 #![tactic(auto)]
 
-mod cells;
 mod filling;
 mod invalidating;
 mod laws;
 mod loading;
 mod locating;
+mod record_words;
 mod regions;
 mod reserving;
 
-pub use cells::Cell;
 pub use filling::Fill;
 pub use invalidating::Invalidate;
 pub use laws::{
@@ -19,6 +18,7 @@ pub use laws::{
 };
 pub use loading::{LoadAnswer, LoadRecord};
 pub use locating::{region, seen_region};
+pub use record_words::RecordWords;
 pub use regions::{Region, SeenOffsets};
 pub use reserving::{Reserve, ReserveAnswer};
 

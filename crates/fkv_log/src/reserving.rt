@@ -1,4 +1,4 @@
-//! How an address is taken at the tail of the log.
+//! How an address is reserved at the tail of the log.
 ghost use Rattle.std.specs.Prelude.{◌≡◌, ◌*◌};
 ghost use Rattle.fkv_log.specs.Reserving.{reserved_where};
 

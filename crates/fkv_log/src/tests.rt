@@ -1,7 +1,7 @@
 use crate::{
-    Cell, Fill, Invalidate, LoadAnswer, LoadRecord, Region, Reserve, ReserveAnswer, SeenOffsets,
-    law_records_are_written, law_records_of_open_pages, law_reserve_step, law_reserved_once,
-    region, seen_region,
+    Fill, Invalidate, LoadAnswer, LoadRecord, RecordWords, Region, Reserve, ReserveAnswer,
+    SeenOffsets, law_records_are_written, law_records_of_open_pages, law_reserve_step,
+    law_reserved_once, region, seen_region,
 };
 use fkv_base::{Addr, Key, Shape, Version};
 use fkv_plane::{Ask, Places, PlainWords, RecordWord, SharedWord};
@@ -96,7 +96,7 @@ fn two_take_the_same_tail(rt: HostRuntime) -> Result<(), Fail> {
     Ok(())
 }
 
-/// A record is written value first and header last, is loaded as it was written, and is given up by its header alone.
+/// A record is written value first and header last, is loaded as it was written, and is invalidated by its header alone.
 #[test]
 fn a_record_is_written_and_given_up(rt: HostRuntime) -> Result<(), Fail> {
     let shape = Shape::new(0, 4, 2, 1, 1, 0, 2)?;
@@ -107,13 +107,13 @@ fn a_record_is_written_and_given_up(rt: HostRuntime) -> Result<(), Fail> {
         version: Version(1),
         invalid: false,
     };
-    let cell = Cell {
+    let its_words = RecordWords {
         header,
         key: Key(5),
         value: 50,
     };
     let mut fill = Fill::new(places);
-    let value = fill.start(Addr(9), cell);
+    let value = fill.start(Addr(9), its_words);
     assert_eq!(rt;
         value,
         Ask::Store(places.record(Addr(1), RecordWord::Value), 50)
@@ -131,8 +131,11 @@ fn a_record_is_written_and_given_up(rt: HostRuntime) -> Result<(), Fail> {
         Some(LoadAnswer::Whole(281474976710658, Key(5), 50))
     );
     let mut invalidate = Invalidate::new(places);
-    let given_up = invalidate.start(Addr(9), header);
-    assert_eq!(rt; invalidate.drive(plane.perform(&given_up)), Ask::Done(()));
+    let invalidated = invalidate.start(Addr(9), header);
+    assert_eq!(rt;
+        invalidate.drive(plane.perform(&invalidated)),
+        Ask::Done(())
+    );
     assert_eq!(rt;
         load(&mut plane, places, Addr(9)),
         Some(LoadAnswer::Whole(4611967493404098562, Key(5), 50))

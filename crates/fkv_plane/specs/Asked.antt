@@ -16,16 +16,16 @@ asked (Take slot) n = n
 asked (Done answer) n = n
 
 -- the place of its word. What goes with another ask has none
-abbrev pub place_of : {A : Type 0} → Ask A → Option ℕ
-place_of (Load place) = Some place
-place_of (Store place new) = Some place
-place_of (Swap place new) = Some place
-place_of (Cas place old new) = Some place
-place_of (Add place k) = Some place
-place_of (Max place k) = Some place
-place_of (Put slot action) = None
-place_of (Take slot) = None
-place_of (Done answer) = None
+abbrev pub asked_place : {A : Type 0} → Ask A → Option ℕ
+asked_place (Load place) = Some place
+asked_place (Store place new) = Some place
+asked_place (Swap place new) = Some place
+asked_place (Cas place old new) = Some place
+asked_place (Add place k) = Some place
+asked_place (Max place k) = Some place
+asked_place (Put slot action) = None
+asked_place (Take slot) = None
+asked_place (Done answer) = None
 
 -- the word at a place, 0 past the last
 abbrev pub word_at : List ℕ → ℕ → ℕ
@@ -38,7 +38,7 @@ words_changed words (Some place) f = slice_set words place (f (word_at words pla
 
 -- all words after the ask
 abbrev pub words_after : {A : Type 0} → List ℕ → Ask A → List ℕ
-words_after words ask = words_changed words (place_of ask) (asked ask)
+words_after words ask = words_changed words (asked_place ask) (asked ask)
 
 abbrev pub word_found : List ℕ → Option ℕ → ℕ
 word_found words None = 0
@@ -46,4 +46,4 @@ word_found words (Some place) = word_at words place
 
 -- the reply: the word as it was
 abbrev pub reply_to : {A : Type 0} → List ℕ → Ask A → ℕ
-reply_to words ask = word_found words (place_of ask)
+reply_to words ask = word_found words (asked_place ask)

@@ -1,5 +1,6 @@
 -- Where each shared word stands, and that no two names stand at one place.
 use Rattle.std.specs.Prelude.{◌≡◌, ℕ, ◌+◌, ◌-◌, ◌*◌, ◌%◌, ◌<◌, ◌≤◌, ⊤}
+use Rattle.fkv_base.specs.Limits.{drain_slots}
 use Rattle.fkv_plane.specs.declared.places.SharedWord.{SharedWord}
 use Rattle.fkv_plane.specs.declared.places.SharedWord.TheVariants as one
 use Rattle.fkv_plane.specs.declared.places.SessionWord.{SessionWord}
@@ -80,7 +81,7 @@ pub data Name : Type 0 where
 -- the words that a store has
 abbrev pub IsWord : Places → Name → Type 0
 IsWord p (Shared word) = ⊤
-IsWord p (Drain slot) = slot < 8
+IsWord p (Drain slot) = slot < drain_slots
 IsWord p (Session session word) = session < p.sessions
 IsWord p (Bucket bucket word) = (bucket < p.buckets) × (word < 8)
 IsWord p (Overflow number word) = (1 ≤ number) × (number ≤ p.overflow) × (word < 8)

@@ -1,5 +1,7 @@
 //! Where each shared word stands.
-ghost use Rattle.std.specs.Prelude.{◌≡◌, ◌<◌, ◌≤◌, ◌+◌, ◌*◌, ◌^◌};
+ghost use Rattle.std.specs.Prelude.{◌≡◌, ◌<◌, ◌≤◌, ◌+◌, ◌-◌, ◌*◌, ◌%◌, ◌^◌, ℕ};
+ghost use Rattle.std.specs.Int.Bits.{bit_and};
+ghost use Rattle.fkv_base.specs.Limits.{max_sessions, max_buckets, max_overflow, max_ring, drain_slots};
 
 use fkv_base::{Addr, Shape};
 
@@ -51,13 +53,16 @@ pub struct Places {
     /// Buckets that are not overflow buckets.
     pub buckets: usize,
     pub overflow: usize,
-    /// Records that all frames hold together.
+    /// Records that all frames hold together, a power of two.
     pub ring: usize,
-    pub ghost few_sessions: { sessions ≤ 8 },
-    pub ghost few_buckets: { buckets ≤ 1024 },
-    pub ghost few_overflow: { overflow ≤ 1024 },
+    /// The ring less one: an address masked by it is its place in the ring.
+    pub ring_mask: usize,
+    pub ghost few_sessions: { sessions ≤ max_sessions },
+    pub ghost few_buckets: { buckets ≤ max_buckets },
+    pub ghost few_overflow: { overflow ≤ max_overflow },
     pub ghost some_ring: { 0 < ring },
-    pub ghost small_ring: { ring ≤ 65536 },
+    pub ghost masks: { (a : ℕ) → bit_and a ring_mask ≡ a % ring },
+    pub ghost small_ring: { ring ≤ max_ring },
 }
 
 impl SharedWord {
@@ -105,7 +110,7 @@ impl SessionWord {
 
     /// The place of the word in the block of this session.
     pub fn place(self, session: usize) -> usize
-        requires { session < 8 }
+        requires { session < max_sessions }
         ensures { result ≡ session_place session self }
     {
         24 + 16 * session + self.number()
@@ -128,7 +133,7 @@ impl RecordWord {
 
 /// The place of the word of a drain slot, 0 to 7.
 pub fn drain_place(slot: usize) -> usize
-    requires { slot < 8 }
+    requires { slot < drain_slots }
     ensures { result ≡ 16 + slot }
 {
     16 + slot
@@ -144,11 +149,13 @@ impl Places {
         ensures overflow { result.overflow ≡ shape.now.overflow }
         ensures ring { result.ring ≡ shape.now.frames * shape.now.page }
     {
+        let ring = (shape.frames * shape.page) as usize;
         Places {
             sessions: shape.sessions as usize,
             buckets: 1 << shape.bucket_bits,
             overflow: shape.overflow as usize,
-            ring: (shape.frames * shape.page) as usize,
+            ring,
+            ring_mask: ring - 1,
         }
     }
 
@@ -195,6 +202,6 @@ impl Places {
     pub fn record(&self, addr: Addr, word: RecordWord) -> usize
         ensures { result ≡ record_place self.now addr.0 word }
     {
-        self.frames_start() + 3 * (addr.0 as usize % self.ring) + word.number()
+        self.frames_start() + 3 * (addr.0 as usize & self.ring_mask) + word.number()
     }
 }

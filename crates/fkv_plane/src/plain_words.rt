@@ -1,5 +1,6 @@
 //! The words as a plain list, for one actor's step at a time.
 ghost use Rattle.std.specs.Prelude.{◌≡◌, ℕ, List, IfOk, OnErr, Err, Option, replicate, None, Some, slice_set};
+ghost use Rattle.fkv_base.specs.Limits.{drain_slots};
 ghost use Rattle.fkv_base.specs.declared.faults.Fault.TheVariants.{Memory};
 
 use crate::actions::Action;
@@ -29,7 +30,7 @@ impl PlainWords {
 
     /// So many words, all 0, and eight empty slots.
     pub fn new(alloc: Global, count: usize) -> Result<PlainWords, Fault>
-        ensures made { IfOk result (λ p. p ≡ record { words = replicate count 0; actions = replicate 8 None }) }
+        ensures made { IfOk result (λ p. p ≡ record { words = replicate count 0; actions = replicate drain_slots None }) }
         ensures err { OnErr result (result ≡ Err Memory) }
     {
         let words = vec![in alloc; 0; count]?;

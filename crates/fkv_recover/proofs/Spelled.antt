@@ -8,7 +8,7 @@ use Rattle.std.proofs.lemmas.Nat.{from_le_bytes-to_le_bytes_8, le_bytes_8}
 use Rattle.std.proofs.lemmas.Bool.{cases_lt}
 use Rattle.std.proofs.Math.ListN.{get_or-append}
 use Rattle.fkv_disk.specs.Bytes.{AreBytes, byte_at, bytes_at}
-use Rattle.fkv_disk.proofs.BytesLemmas.{byte_at-bytes_at, byte_at_past, length-bytes_at}
+use Rattle.fkv_disk.proofs.Shown.{byte_at-bytes_at, byte_at_past, length-bytes_at}
 use Rattle.fkv_record.specs.Numbers.{spelled}
 use Rattle.fkv_record.proofs.Shown.{AreWords, IsNumbered, length-spelled}
 use Rattle.fkv_recover.specs.Image.{word_at}

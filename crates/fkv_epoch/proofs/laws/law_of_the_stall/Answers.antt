@@ -1,15 +1,16 @@
 use Rattle.std.proofs.Common.{◌≡◌, ℕ, zero, suc, ◌<◌, refl, arith}
+use Rattle.fkv_base.specs.Limits.{drain_slots}
 use Rattle.fkv_epoch.specs.Protecting.{protect_ask, protect_next}
 use Rattle.fkv_epoch.specs.Leaving.{leave_ask, leave_next}
 use Rattle.fkv_epoch.specs.Scanning.{scan_ask, scan_next, sessions_from, least_of}
 use Rattle.fkv_epoch.specs.Claiming.{claim_ask, claim_next, claim_given, slot_after, slot_armed}
 use Rattle.fkv_epoch.specs.Raising.{raise_ask, raise_next, raise_on, free_after}
 use Rattle.fkv_epoch.specs.Arming.{arm_ask, arm_next}
-use Rattle.fkv_epoch.specs.World.{happens, run, own_epoch, drain_word}
+use Rattle.fkv_epoch.specs.EpochWorld.{epoch_happens, epoch_run, own_epoch, drain_word}
 use Rattle.fkv_epoch.specs.Stall.{stall_words}
 use Rattle.fkv_epoch.proofs.laws.law_of_the_stall.Goals as goal
 
-free_slot : (slot : ℕ) → slot < 8 → drain_word stall_words slot ≡ 0
+free_slot : (slot : ℕ) → slot < drain_slots → drain_word stall_words slot ≡ 0
 free_slot zero few = refl
 free_slot (suc zero) few = refl
 free_slot (suc (suc zero)) few = refl
@@ -37,5 +38,5 @@ returns-clause-opened c = record {
 }
 
 pub returns-clause-stalls : goal.returns-clause-stalls
-unfolding protect_ask protect_next leave_ask leave_next scan_ask scan_next sessions_from least_of claim_ask claim_next claim_given slot_after slot_armed raise_ask raise_next raise_on free_after arm_ask arm_next happens run
+unfolding protect_ask protect_next leave_ask leave_next scan_ask scan_next sessions_from least_of claim_ask claim_next claim_given slot_after slot_armed raise_ask raise_next raise_on free_after arm_ask arm_next epoch_happens epoch_run
 returns-clause-stalls c = record { stored_late = refl; already_safe = refl; yet_to_load = refl; has_run = refl }

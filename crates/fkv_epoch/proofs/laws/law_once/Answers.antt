@@ -1,6 +1,6 @@
 use Rattle.fkv_epoch.proofs.Runs.{run_sound, opening_sound, safe_is_seen, claim_is_safe}
 use Rattle.std.proofs.Common.{arith}
-use Rattle.fkv_epoch.specs.World.{run, safe_of}
+use Rattle.fkv_epoch.specs.EpochWorld.{epoch_run, safe_of}
 use Rattle.fkv_epoch.specs.Once.{opening}
 use Rattle.fkv_epoch.proofs.laws.law_once.Goals as goal
 
@@ -10,10 +10,10 @@ returns-clause-once c = λ sessions actors words events o. (run_sound (opening s
 pub returns-clause-seen : goal.returns-clause-seen
 returns-clause-seen c = λ sessions actors words events event claim o among.
     let sound = run_sound (opening sessions actors words) events (opening_sound sessions actors words o) in
-    safe_is_seen (run (opening sessions actors words) events) claim.epoch sound (claim_is_safe (run (opening sessions actors words) events) event claim sound among)
+    safe_is_seen (epoch_run (opening sessions actors words) events) claim.epoch sound (claim_is_safe (epoch_run (opening sessions actors words) events) event claim sound among)
 
 pub returns-clause-safe : goal.returns-clause-safe
 returns-clause-safe c = λ sessions actors words events o.
-    let w = run (opening sessions actors words) events in
+    let w = epoch_run (opening sessions actors words) events in
     let sound = run_sound (opening sessions actors words) events (opening_sound sessions actors words o) in
-    safe_is_seen (run (opening sessions actors words) events) (safe_of (run (opening sessions actors words) events).now.words) sound (omega arith)
+    safe_is_seen (epoch_run (opening sessions actors words) events) (safe_of (epoch_run (opening sessions actors words) events).now.words) sound (omega arith)

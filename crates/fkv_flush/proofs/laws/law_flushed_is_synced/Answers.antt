@@ -1,6 +1,6 @@
 use Rattle.std.proofs.Common.{subst, []}
 use Rattle.fkv_base.specs.declared.shapes.Shape.{Shape}
-use Rattle.fkv_flush.specs.GuardWorld.{World, run, levels}
+use Rattle.fkv_flush.specs.GuardWorld.{GuardWorld, guard_run, levels}
 use Rattle.fkv_flush.specs.Guarded.{opening}
 use Rattle.fkv_flush.specs.GuardFlushed.{IsSynced, stands, calls_made}
 use Rattle.fkv_flush.proofs.GuardLaw.{run_sound, opening_sound}
@@ -9,14 +9,14 @@ use Rattle.fkv_flush.proofs.laws.law_flushed_is_synced.Goals as goal
 
 pub returns-clause-synced : goal.returns-clause-synced
 returns-clause-synced c = λ shape places actors words start keeper events opened o alone.
-    let first : World = opening shape places actors words start in
+    let first : GuardWorld = opening shape places actors words start in
     let sound = opening_sound shape places actors words start o in
     let was = opening_flushed keeper shape places actors words start opened (stands first []) o in
-    subst (λ (s : Shape). IsSynced s opened (calls_made first events) (stands first events) start (levels (run first events)).flushed) (same_shape keeper start opened first sound was events)
-    (is_synced keeper start (run first events).now.shape opened (calls_made first events) (stands first events) (run first events) (run_flushed keeper start opened first sound was events alone))
+    subst (λ (s : Shape). IsSynced s opened (calls_made first events) (stands first events) start (levels (guard_run first events)).flushed) (same_shape keeper start opened first sound was events)
+    (is_synced keeper start (guard_run first events).now.shape opened (calls_made first events) (stands first events) (guard_run first events) (run_flushed keeper start opened first sound was events alone))
 
 pub returns-clause-steady : goal.returns-clause-steady
-unfolding stands run
+unfolding stands guard_run
 returns-clause-steady c = λ shape places actors words start events event addr word o below.
-    let first : World = opening shape places actors words start in
-    steady (run first events) event (stands first events) addr word (run_sound first events (opening_sound shape places actors words start o)) below (stood_open first events addr word)
+    let first : GuardWorld = opening shape places actors words start in
+    steady (guard_run first events) event (stands first events) addr word (run_sound first events (opening_sound shape places actors words start o)) below (stood_open first events addr word)

@@ -1,7 +1,9 @@
 use Rattle.std.proofs.Common.{◌≡◌, ℕ, zero, suc, ◌<◌, refl, arith, false}
+use Rattle.std.proofs.lemmas.Nat.{and_mask}
+use Rattle.fkv_base.specs.Limits.{drain_slots}
 use Rattle.fkv_base.specs.declared.shapes.Shape.{Shape}
 use Rattle.fkv_plane.specs.declared.places.Places.{Places}
-use Rattle.fkv_log.specs.declared.cells.Cell.{Cell}
+use Rattle.fkv_log.specs.declared.record_words.RecordWords.{RecordWords}
 use Rattle.fkv_log.specs.Reserving.{reserve_ask, reserve_next, reserve_next_ask}
 use Rattle.fkv_log.specs.Filling.{fill_ask, fill_next}
 use Rattle.fkv_log.specs.Invalidating.{invalidate_ask, invalidate_next}
@@ -12,19 +14,19 @@ use Rattle.fkv_epoch.specs.Scanning.{scan_ask, scan_next, sessions_from, least_o
 use Rattle.fkv_epoch.specs.Claiming.{claim_ask, claim_next, claim_given, slot_after, slot_armed}
 use Rattle.fkv_epoch.specs.Raising.{raise_ask, raise_next, raise_next_ask, raise_on, free_after}
 use Rattle.fkv_epoch.specs.Arming.{arm_ask, arm_next}
-use Rattle.fkv_epoch.specs.World.{own_epoch, drain_word}
+use Rattle.fkv_epoch.specs.EpochWorld.{own_epoch, drain_word}
 use Rattle.fkv_flush.specs.Passing.{passed}
 use Rattle.fkv_flush.specs.Moving.{step_raised, arm_raised, ask_raised, step_armed, moving_next, raising_next, arming_next, moving_next_ask}
 use Rattle.fkv_flush.specs.Shifting.{shift_ask, shift_next, shift_mover, shift_next_ask, shift_moved, ask_moved}
 use Rattle.fkv_flush.specs.Turning.{turn_ask, turn_next, turn_mover, turn_next_ask, turn_moved}
 use Rattle.fkv_flush.specs.Flushing.{flush_ask, flush_next, flush_done, flush_calls, bytes_next, bytes_done}
 use Rattle.fkv_flush.specs.Serving.{serve_ask, serve_next, serve_read, mailbox_from}
-use Rattle.fkv_flush.specs.GuardWorld.{happens, run}
+use Rattle.fkv_flush.specs.GuardWorld.{guard_happens, guard_run}
 use Rattle.fkv_flush.specs.GuardFlushed.{stands, calls_made}
 use Rattle.fkv_flush.specs.GuardTurned.{turned_words}
 use Rattle.fkv_flush.proofs.laws.law_of_the_ring.Goals as goal
 
-free_slot : (slot : ℕ) → slot < 8 → drain_word turned_words slot ≡ 0
+free_slot : (slot : ℕ) → slot < drain_slots → drain_word turned_words slot ≡ 0
 free_slot zero few = refl
 free_slot (suc zero) few = refl
 free_slot (suc (suc zero)) few = refl
@@ -44,17 +46,17 @@ unfolding lib.Count.ones
 shape = record { bucket_bits = 0; page = 4; frames = 2; mutable = 1; sessions = 1; overflow = 0; disk_pages = 64; limits = record { few_buckets = omega arith; page_size = refl; ring_size = refl; some_mutable = omega arith; some_read_only = omega arith; some_session = omega arith; few_sessions = omega arith; few_overflow = omega arith; some_disk = omega arith; few_disk = omega arith } }
 
 places : Places
-places = record { sessions = 1; buckets = 1; overflow = 0; ring = 8; few_sessions = omega arith; few_buckets = omega arith; few_overflow = omega arith; some_ring = omega arith; small_ring = omega arith }
+places = record { sessions = 1; buckets = 1; overflow = 0; ring = 8; ring_mask = 7; few_sessions = omega arith; few_buckets = omega arith; few_overflow = omega arith; some_ring = omega arith; masks = λ a. and_mask a 3; small_ring = omega arith }
 
-cell : Cell
-cell = record { header = record { previous = record { 0 = 0 }; version = record { 0 = 1 }; invalid = false; previous_fits = omega arith; some_version = omega arith; version_fits = omega arith }; key = record { 0 = 3 }; value = 70 }
+its_words : RecordWords
+its_words = record { header = record { previous = record { 0 = 0 }; version = record { 0 = 1 }; invalid = false; previous_fits = omega arith; some_version = omega arith; version_fits = omega arith }; key = record { 0 = 3 }; value = 70 }
 
 pub returns : goal.returns
-unfolding shape places cell protect_ask protect_next refresh_ask refresh_next refresh_finish leave_ask leave_next scan_ask scan_next sessions_from least_of claim_ask claim_next claim_given slot_after slot_armed raise_ask raise_next raise_next_ask raise_on free_after arm_ask arm_next reserve_ask reserve_next reserve_next_ask fill_ask fill_next invalidate_ask invalidate_next passed step_raised arm_raised ask_raised step_armed moving_next raising_next arming_next moving_next_ask shift_ask shift_next shift_mover shift_next_ask shift_moved ask_moved turn_ask turn_next turn_mover turn_next_ask turn_moved flush_ask flush_next flush_done bytes_next bytes_done serve_ask serve_next serve_read mailbox_from happens run flush_calls stands calls_made
+unfolding shape places its_words protect_ask protect_next refresh_ask refresh_next refresh_finish leave_ask leave_next scan_ask scan_next sessions_from least_of claim_ask claim_next claim_given slot_after slot_armed raise_ask raise_next raise_next_ask raise_on free_after arm_ask arm_next reserve_ask reserve_next reserve_next_ask fill_ask fill_next invalidate_ask invalidate_next passed step_raised arm_raised ask_raised step_armed moving_next raising_next arming_next moving_next_ask shift_ask shift_next shift_mover shift_next_ask shift_moved ask_moved turn_ask turn_next turn_mover turn_next_ask turn_moved flush_ask flush_next flush_done bytes_next bytes_done serve_ask serve_next serve_read mailbox_from guard_happens guard_run flush_calls stands calls_made
 returns c = record {
   shape = shape;
   places = places;
-  cell = cell;
+  its_words = its_words;
   value = refl;
   opened = record {
     fits = record { sessions = refl; ring = refl };

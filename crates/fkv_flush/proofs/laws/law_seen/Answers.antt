@@ -1,7 +1,7 @@
-use Rattle.fkv_flush.specs.GuardWorld.{run}
+use Rattle.fkv_flush.specs.GuardWorld.{guard_run}
 use Rattle.fkv_flush.specs.Guarded.{opening}
 use Rattle.fkv_flush.proofs.GuardLaw.{run_sound, opening_sound, undecided_fresh}
-use Rattle.fkv_flush.proofs.GuardLooks.{keeps_seen}
+use Rattle.fkv_flush.proofs.GuardSeeing.{keeps_seen}
 use Rattle.fkv_flush.proofs.laws.law_seen.Goals as goal
 
 pub returns-clause-safe : goal.returns-clause-safe
@@ -10,8 +10,8 @@ returns-clause-safe c = λ shape places actors words start events o.
 
 pub returns-clause-fresh : goal.returns-clause-fresh
 returns-clause-fresh c = λ shape places actors words start events o.
-    undecided_fresh (run (opening shape places actors words start) events) (run_sound (opening shape places actors words start) events (opening_sound shape places actors words start o))
+    undecided_fresh (guard_run (opening shape places actors words start) events) (run_sound (opening shape places actors words start) events (opening_sound shape places actors words start o))
 
 pub returns-clause-keeps : goal.returns-clause-keeps
 returns-clause-keeps c = λ shape places actors words start events event o.
-    keeps_seen (run (opening shape places actors words start) events) event (run_sound (opening shape places actors words start) events (opening_sound shape places actors words start o))
+    keeps_seen (guard_run (opening shape places actors words start) events) event (run_sound (opening shape places actors words start) events (opening_sound shape places actors words start o))

@@ -5,5 +5,5 @@ use Rattle.fkv_log.proofs.laws.law_records_are_written.Goals as goal
 pub returns-clause-written : goal.returns-clause-written
 returns-clause-written c = written
 
-pub returns-clause-given_up : goal.returns-clause-given_up
-returns-clause-given_up c = dropped_record
+pub returns-clause-invalidated : goal.returns-clause-invalidated
+returns-clause-invalidated c = dropped_record
