@@ -14,7 +14,6 @@ use Rattle.fkv_epoch.specs.declared.raising.Raising.{Raising}
 use Rattle.fkv_epoch.specs.declared.raising.Raising.TheVariants as raise
 use Rattle.fkv_epoch.specs.declared.arming.Arming.{Arming}
 use Rattle.fkv_epoch.specs.declared.arming.Arming.TheVariants as arm
-use Rattle.fkv_epoch.specs.declared.refreshing.Refreshing.TheVariants as refresh
 use Rattle.fkv_epoch.specs.Raising.{raise_ask, raise_next, raise_next_ask, raise_on, free_after}
 use Rattle.fkv_epoch.specs.Arming.{arm_ask, arm_next}
 use Rattle.fkv_epoch.specs.EpochWorld.{EpochMachine, Raises, Refreshes, Arms, epoch_of, is_at_rest, resumed_machine, first_machine}
@@ -27,19 +26,18 @@ use Rattle.fkv_log.specs.declared.shifting.Shifting.TheVariants as shift
 use Rattle.fkv_log.specs.declared.turning.TurnForm.TheVariants as form
 use Rattle.fkv_log.specs.declared.turning.Turning.{Turning}
 use Rattle.fkv_log.specs.declared.turning.Turning.TheVariants as turn
-use Rattle.fkv_log.specs.Moving.{Mover, mover, move_ask, move_next, move_next_ask, moving_ask, moving_next, moving_next_ask, raise_led, raise_told, arm_led}
-use Rattle.fkv_log.specs.Shifting.{ShiftState, shift_at, shift_ask, shift_next, shifting_ask, shifting_next, shift_led, mutable_start}
-use Rattle.fkv_log.specs.Turning.{TurnState, turn_at, turn_ask, turn_next, turning_ask, turning_next, turn_led, frame_end, page_wanted}
+use Rattle.fkv_log.specs.Moving.{Mover, move_ask, move_next, moving_ask, moving_next, moving_next_ask, raise_led, raise_told, arm_led}
+use Rattle.fkv_log.specs.Shifting.{shift_at, shift_ask, shift_next, shifting_ask, shifting_next, mutable_start}
+use Rattle.fkv_log.specs.Turning.{turn_at, turn_ask, turn_next, turning_ask, turning_next, frame_end, page_wanted}
 use Rattle.fkv_log.proofs.Shown.{move_goes_on}
 use Rattle.fkv_flush.specs.GuardLevels.{Levels, levels_of}
 use Rattle.fkv_flush.specs.GuardCalm.{actor_of}
 use Rattle.fkv_flush.specs.GuardSlots.{slot_put, work_puts, raise_puts, actor_puts, raiser_puts, event_puts}
-use Rattle.fkv_flush.specs.GuardWorld.{Actor, Work, Rests, Reserves, Fills, Invalidates, Shifts, Turns, Flushes, Serves, GuardTask, ToDo, ToReserve, ToFill, ToInvalidate, ToShift, ToTurnPage, ToFlush, ToServe, GuardNow, GuardNear, GuardWorld, GuardEvent, Begins, Resumes, Moves, Calls, Reads, Sees, Publishes, Updates, RaisesReadOnly, RaisesFor, Changes, CallsElse, is_idle, is_none, is_stored, may_work, seen_with, started, near, epoch_step, work_step, shifted, turned, put_near, actions_after, after_put, inner_machine, epoch_world, guard_happens}
+use Rattle.fkv_flush.specs.GuardWorld.{Actor, Work, Rests, Reserves, Fills, Invalidates, Shifts, Turns, Flushes, Serves, GuardTask, ToDo, ToReserve, ToFill, ToInvalidate, ToShift, ToTurnPage, ToFlush, ToServe, GuardNow, GuardNear, GuardWorld, GuardEvent, Begins, Resumes, Moves, Calls, Reads, Sees, Publishes, RaisesFor, is_idle, is_none, is_stored, may_work, seen_with, started, near, work_step, shifted, turned, put_near, actions_after, after_put, inner_machine, epoch_world, guard_happens}
 use Rattle.fkv_flush.proofs.GuardSound.{IsSound, MoveKnows, ShiftKnows, TurnKnows, Waits, machine_of, machine_at}
 use Rattle.fkv_flush.proofs.GuardWorks.{truth, Known}
 use Rattle.fkv_flush.proofs.GuardMoves.{inner_rest}
 use Rattle.fkv_flush.proofs.GuardHomes.{homes_spared, arms_none}
-use Rattle.fkv_flush.proofs.GuardHosted.{hosted}
 use Rattle.fkv_flush.proofs.GuardShifts as shifts
 use Rattle.fkv_flush.proofs.GuardTurns as turns
 use Rattle.fkv_flush.proofs.Slots.{finds_slots}
@@ -284,7 +282,7 @@ bears_on w event b slot c action sound = each_event (λ m. Bears m b slot c acti
       | inr n ↦
           let x' : Actor = (event_near w.now event x).actor in
           let same : slice_get (map machine_of (slice_set w.now.actors a x')) b ≡ slice_get (map machine_of w.now.actors) b =
-              slice_get-map machine_of (slice_set w.now.actors a x') b ∙ (ap (option_map machine_of) (item_spared w.now.actors a b x' n) ∙ sym (slice_get-map machine_of w.now.actors b)) in
+          slice_get-map machine_of (slice_set w.now.actors a x') b ∙ (ap (option_map machine_of) (item_spared w.now.actors a b x' n) ∙ sym (slice_get-map machine_of w.now.actors b)) in
           let bears = sym same ∙ h.0 in
           inl (bears, sym (near_keeps w a x sound got b slot c n bears event its) ∙ h.1)
     ]

@@ -33,6 +33,8 @@ mod OneEvent
 mod OuterPlaces
 mod Parts
 pub mod Shown
+mod PhaseTails
+mod SafeRaise
 mod Slots
 mod SoFar
 mod Still

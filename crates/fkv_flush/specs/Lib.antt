@@ -5,6 +5,7 @@ pub mod GuardCalm
 pub mod GuardFlushed
 pub mod GuardLevels
 pub mod GuardLimit
+pub mod GuardPhase
 pub mod GuardReserved
 pub mod GuardSeen
 pub mod GuardSlots
