@@ -37,6 +37,8 @@ mod OnDevice
 mod OneEvent
 mod OuterPlaces
 mod Parts
+mod PhaseTails
+mod SafeRaise
 pub mod Shown
 mod Slots
 mod SoFar

@@ -15,7 +15,7 @@ pub use Rattle.fkv_flush.proofs.GuardMail.{IsMailKept, happens_mail, changes_mai
 pub use Rattle.fkv_flush.proofs.GuardMailPlaces.{IsMail}
 pub use Rattle.fkv_flush.proofs.GuardMailAsks.{keeps_own, keeps_other}
 pub use Rattle.fkv_flush.proofs.Calm.{same_calm, then_calm, event_calm, events_calm, same_stores}
-pub use Rattle.fkv_flush.proofs.Undecided.{next_undecided, happens_apart, run_apart, opening_apart}
+pub use Rattle.fkv_flush.proofs.Undecided.{next_undecided, undecided_on, happens_apart, run_apart, opening_apart}
 pub use Rattle.fkv_flush.proofs.Limit.{happens_paged, run_paged, opening_paged}
 pub use Rattle.fkv_flush.proofs.Slots.{finds_slots}
 pub use Rattle.fkv_flush.proofs.Still.{not_written, framed_still, stands_still}
@@ -24,3 +24,6 @@ pub use Rattle.fkv_flush.proofs.Follows.{runs_now, run_now, put_twice, put_there
 pub use Rattle.fkv_flush.proofs.SoFar.{refreshed_so_far, protected_so_far, protected_then, refreshed_so, protected_so}
 pub use Rattle.fkv_flush.proofs.OuterPlaces.{session_is_outer, bucket_is_outer, overflow_is_outer, phase_is_outer, taken_is_outer}
 pub use Rattle.fkv_flush.proofs.Goes.{Goes, shift_goes, turn_goes}
+pub use Rattle.fkv_flush.proofs.PhaseTails.{TailsOn, tails_on, Found, HaveFound, TailSound, happens_tails, run_tails, keeps_tails, opening_tails}
+pub use Rattle.fkv_flush.proofs.Armings.{Bears, bears_on}
+pub use Rattle.fkv_flush.proofs.SafeRaise.{RaisesSafe, safe_stays}

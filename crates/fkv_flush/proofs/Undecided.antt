@@ -98,6 +98,21 @@ module _ (n : GuardNow) (x : Actor) where
   next_undecided (RaisesFor a action) = elim (truth (is_idle x.work && is_stored n.words action)) [ inl e ↦ rw e (raised action x.machine) | inr e ↦ rw e was ]
   next_undecided event = was
 
+-- so it is of every session
+pub undecided_on : (w : GuardWorld) (event : GuardEvent) (session addr : ℕ) → undecided_of (guard_happens w event).now.actors session ≡ Some addr → (undecided_of w.now.actors session ≡ Some addr) ⊎ ((levels_of w.now.words).tail ≡ addr)
+unfolding guard_happens
+undecided_on w event session addr =
+    each_event (λ m. undecided_of m.actors session ≡ Some addr → (undecided_of w.now.actors session ≡ Some addr) ⊎ ((levels_of w.now.words).tail ≡ addr)) w.now event (λ u. inl u)
+    (λ a x its got u.
+    let x' : Actor = (event_near w.now event x).actor in
+    elim (same_or session a) [
+      | inl e ↦ elim (next_undecided w.now x event addr (sym (ap undecided_at (item_written w.now.actors a x x' got)) ∙ (sym (ap (undecided_of (slice_set w.now.actors a x')) e) ∙ u))) [
+        | inl o ↦ inl (ap (undecided_of w.now.actors) e ∙ (ap undecided_at got ∙ o))
+        | inr t ↦ inr t
+      ]
+      | inr n ↦ inl (sym (ap undecided_at (item_spared w.now.actors a session x' n)) ∙ u)
+    ])
+
 -- two sessions have different addresses still
 pub happens_apart : (w : GuardWorld) (event : GuardEvent) → IsSound w → UndecidedApart w.now.actors → UndecidedApart (guard_happens w event).now.actors
 unfolding guard_happens
@@ -138,9 +153,12 @@ run_apart w [] sound apart = apart
 run_apart w (event ∷ before) sound apart = happens_apart (guard_run w before) event (run_sound w before sound) (run_apart w before sound apart)
 
 -- nobody has reserved anything in a store that is just opened
-pub opening_apart : (shape : Shape) (places : Places) (actors : ℕ) (words : List ℕ) (start : ℕ) → UndecidedApart (opening shape places actors words start).now.actors
-opening_apart shape places actors words start session other addr mine others = none session (slice_get (replicate actors (first_actor start)) session) refl mine
+pub none_undecided : {X : Type 0} (shape : Shape) (places : Places) (actors : ℕ) (words : List ℕ) (start session addr : ℕ) → undecided_of (opening shape places actors words start).now.actors session ≡ Some addr → X
+none_undecided {X} shape places actors words start session addr = none (slice_get (replicate actors (first_actor start)) session) refl
   where
-    none : {X : Type 0} (session : ℕ) (found : Option Actor) → slice_get (replicate actors (first_actor start)) session ≡ found → undecided_at found ≡ Some addr → X
-    none {X} session None got u = cc
-    none {X} session (Some x) got u = let e = ap (λ (y : Actor). y.undecided) (replicate_item actors session (first_actor start) x got) in none_some {Y = X} addr (sym e ∙ u)
+    none : (found : Option Actor) → slice_get (replicate actors (first_actor start)) session ≡ found → undecided_at found ≡ Some addr → X
+    none None got u = cc
+    none (Some x) got u = let e = ap (λ (y : Actor). y.undecided) (replicate_item actors session (first_actor start) x got) in none_some {Y = X} addr (sym e ∙ u)
+
+pub opening_apart : (shape : Shape) (places : Places) (actors : ℕ) (words : List ℕ) (start : ℕ) → UndecidedApart (opening shape places actors words start).now.actors
+opening_apart shape places actors words start session other addr mine others = none_undecided shape places actors words start session addr mine

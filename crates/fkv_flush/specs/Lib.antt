@@ -6,6 +6,7 @@ pub mod GuardFlushed
 pub mod GuardLevels
 pub mod GuardLimit
 pub mod GuardMail
+pub mod GuardPhase
 pub mod GuardReserved
 pub mod GuardSeen
 pub mod GuardSlots

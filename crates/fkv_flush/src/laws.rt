@@ -7,6 +7,7 @@ ghost use Rattle.fkv_plane.specs.Asked.{word_at};
 ghost use Rattle.fkv_flush.specs.GuardCalm.{AreOther, IsCalm};
 ghost use Rattle.fkv_flush.specs.GuardLevels.{AreInOrder};
 ghost use Rattle.fkv_flush.specs.GuardLimit.{EndsPages};
+ghost use Rattle.fkv_flush.specs.GuardPhase.{KeepsTails, phase_tails};
 ghost use Rattle.fkv_flush.specs.GuardReserved.{UndecidedApart};
 ghost use Rattle.fkv_flush.specs.GuardSeen.{SeenIsSafe};
 ghost use Rattle.fkv_flush.specs.GuardSlots.{FindsSlots};
@@ -37,8 +38,9 @@ pub fn law_guarded()
 {}
 
 /// At every moment what a session goes by is safe to go by; a reserved record that is undecided belongs to a protected
-/// session that neither protects itself nor refreshes nor leaves, and to no other; and no event shows that session
-/// anything new.
+/// session that neither protects itself nor refreshes nor leaves, and to no other; it is at or above the tail that the session
+/// found when it loaded the phase, and for each session that goes by its phase the safe read-only offset is no higher than that
+/// tail. No event shows a session with an undecided record anything new.
 pub fn law_seen()
     ensures safe { (shape : Shape) (places : Places) (actors : ℕ) (words : List ℕ) (start : ℕ) (events : List GuardEvent)
         → IsOpened shape places actors words start
@@ -47,6 +49,9 @@ pub fn law_seen()
         → IsOpened shape places actors words start → UndecidedIsFresh (guard_run (opening shape places actors words start) events) }
     ensures apart { (shape : Shape) (places : Places) (actors : ℕ) (words : List ℕ) (start : ℕ) (events : List GuardEvent)
         → IsOpened shape places actors words start → UndecidedApart (guard_run (opening shape places actors words start) events).now.actors }
+    ensures tails { (shape : Shape) (places : Places) (actors : ℕ) (words : List ℕ) (start : ℕ) (events : List GuardEvent)
+        → IsOpened shape places actors words start
+        → KeepsTails (guard_run (opening shape places actors words start) events) (phase_tails (opening shape places actors words start) events) }
     ensures keeps { (shape : Shape) (places : Places) (actors : ℕ) (words : List ℕ) (start : ℕ) (events : List GuardEvent) (event : GuardEvent)
         → IsOpened shape places actors words start → KeepsSeen (guard_run (opening shape places actors words start) events) event }
 {}
