@@ -1,23 +1,35 @@
-# make run     runs the stored script and prints its answers (a build without proof)
-# make test    the gate: every proof from nothing, the must-fail edits, the tests and the program; then what `make memory` does
+# make run     runs a script and prints its answers (a build without proof): the stored one, or SCRIPT=path
+# make test    the gate: what crates name of each other, every proof from nothing, the must-fail edits, the tests and the
+#              program; then what `make rows` and `make memory` do
 # make fkv     proves the program and leaves it at build/fkv
+# make rows    runs the built program on whole scripts, and compares what it writes
 # make memory  runs the stored script, and recovery's calls, with each request for memory refused in turn
 # make bench   times the proved program on scripts of up to 65,536 lines
+# make gate    runs the gate, and writes the processor time of each crate into docs/GATE.md
+#
+# Each of them needs the Rattle toolchain, the command rt. What make run ends with is the program's status, where it isn't 0.
 
-.PHONY: run test fkv memory bench
+SCRIPT ?= crates/fkv/stdin
 
-run:
-	@cd crates/fkv && rt try < stdin 2> /dev/null
+.PHONY: run test fkv rows memory bench gate toolchain
 
-test:
+run: toolchain
+	@tools/script/run "$(SCRIPT)"
+
+test: toolchain
+	tools/names/check
 	rt ci
+	@tools/rows/run crates/fkv/out/fkv > /dev/null
 	@tools/memory/run crates/fkv/out/fkv > /dev/null
 	@tools/memory/recover > /dev/null
 
-fkv:
+fkv: toolchain
 	cd crates/fkv && rt run < stdin > /dev/null
 	mkdir -p build
 	cp crates/fkv/out/fkv build/fkv
+
+rows: fkv
+	tools/rows/run build/fkv
 
 memory: fkv
 	cd crates/fkv_recover && rt test > /dev/null
@@ -26,3 +38,9 @@ memory: fkv
 
 bench: fkv
 	tools/bench/run
+
+gate: toolchain
+	tools/gate/measure
+
+toolchain:
+	@command -v rt > /dev/null || { echo "the Rattle toolchain is missing: there is no command rt (README.md, Two commands)" >&2; exit 1; }

@@ -4,6 +4,7 @@ use Rattle.std.specs.Prelude.{nat_eq, nat_le, nat_lt, slice_index}
 use Rattle.std.proofs.lemmas.Bool.Decides.{nat_tests}
 use Rattle.std.proofs.lemmas.List.{get_or-append_right}
 use Rattle.std.proofs.Math.ListN.{get_or-append}
+use Rattle.fkv_base.specs.Limits.{last_version, last_serial}
 use Rattle.fkv_base.specs.declared.shapes.Shape.{Shape}
 use Rattle.fkv_disk.specs.Bytes.{AreBytes}
 use Rattle.fkv_recover.specs.Image.{word_at, words_from, head_of, slot_of, bits_of, page_of, sessions_of, overflow_of, disk_pages_of, most_triples, area_start, log_start}
@@ -24,16 +25,16 @@ lt_true : (a b : ℕ) → a < b → nat_lt a b ≡ true
 lt_true a b h = grind (arith, nat_tests)
 
 -- recovery takes the slot
-slot_true : (p number tail count point most room : ℕ) → number % 2 ≡ p → number ≤ 8190 → 1 ≤ tail → tail ≤ room → count ≤ most → point < 2 ^ 48
+slot_true : (p number tail count point most room : ℕ) → number % 2 ≡ p → number < last_version → 1 ≤ tail → tail ≤ room → count ≤ most → point ≤ last_serial
     → is_slot p 1 most room (slot_words number tail count point) ≡ true
 slot_true p number tail count point most room turn few some on_disk counted fits =
     conj _ _ (conj _ _ (conj _ _ (conj _ _ (conj _ _ (conj _ _ (conj _ _ (conj _ _ (conj _ _ (conj _ _
-    refl (le_true number 8190 few)) (eq_true (number % 2) p turn)) (le_true 1 tail some)) (le_true tail tail (omega arith)))
+    refl (grind (arith, nat_tests, few))) (eq_true (number % 2) p turn)) (le_true 1 tail some)) (le_true tail tail (omega arith)))
     (le_true tail room on_disk)) (le_true count most counted)) (eq_true (number % 2) p turn)) refl)
-    (conj _ _ (lt_true point (2 ^ 48) fits) refl)) refl
+    (conj _ _ (grind (arith, nat_tests, fits)) refl)) refl
 
 -- in a store of these sizes
-manifest_true : (p number tail count point bits overflow disk_pages page : ℕ) → number % 2 ≡ p → number ≤ 8190 → 1 ≤ tail → tail ≤ disk_pages * page → count ≤ 7 * (2 ^ bits + overflow) → point < 2 ^ 48
+manifest_true : (p number tail count point bits overflow disk_pages page : ℕ) → number % 2 ≡ p → number < last_version → 1 ≤ tail → tail ≤ disk_pages * page → count ≤ 7 * (2 ^ bits + overflow) → point ≤ last_serial
     → manifest_with p 1 bits overflow disk_pages page (slot_words number tail count point) ≡ true
 unfolding manifest_with
 manifest_true p number tail count point bits overflow disk_pages page turn few some on_disk counted fits =
@@ -59,11 +60,11 @@ made_records b o v s t n x y = refl
 -- the numbers of the next commit
 pub record AreNext (shape : Shape) (p most number old_tail tail count point : ℕ) (triples fresh : List ℕ) : Type 0 where
   pub turn : number % 2 ≡ p
-  pub few : number ≤ 8190
+  pub few : number < last_version
   pub some : 1 ≤ tail
   pub on_disk : tail ≤ shape.disk_pages * shape.page
   pub counted : count ≤ most
-  pub fits : point < 2 ^ 48
+  pub fits : point ≤ last_serial
   pub one_session : shape.sessions ≡ 1
   pub all_triples : length triples ≡ 2 * count
   pub all_records : 3 * old_tail + length fresh ≡ 3 * tail

@@ -8,7 +8,7 @@ use Rattle.std.proofs.lemmas.List.Concat.{flat_map-cons}
 use Rattle.std.proofs.Math.Nat.{mul-le-mul_left}
 use Rattle.fkv_disk.specs.Bytes.{AreBytes}
 use Rattle.fkv_disk.specs.Calls.{Call, Write, Sync, reads_as}
-use Rattle.fkv_disk.proofs.BytesLemmas.{covered, after_range}
+use Rattle.fkv_disk.proofs.Shown.{covered, after_range}
 use Rattle.fkv_record.specs.Numbers.{spelled}
 use Rattle.fkv_record.specs.Places.{most_triples, area_place}
 use Rattle.fkv_recover.specs.Image.{word_at}

@@ -9,7 +9,7 @@ use Rattle.fkv_recover.specs.Log.{Log}
 use Rattle.fkv_recover.specs.Faults.{IsFaultOf, HasManifest}
 use Rattle.fkv_recover.specs.Opened.{IsSound, IsOpenedOf}
 use Rattle.fkv_recover.specs.declared.opened_store.Opened.{Opened}
-use Rattle.fkv_recover.proofs.Exact.{no_fault}
+use Rattle.fkv_recover.proofs.Shown.{no_fault}
 use Rattle.fkv_cli.specs.Crashes.{image_number, image_tail, image_point}
 use Rattle.fkv_cli.specs.Stores.{Stores}
 use Rattle.fkv_cli.proofs.BytesKept.{number_in_slot, newest_stored, tail_stored}

@@ -6,10 +6,10 @@ use Rattle.std.proofs.lemmas.Bool.Decides.{nat_tests}
 use Rattle.std.proofs.lemmas.List.{reverse-append, get_or_past, length-take-le}
 use Rattle.std.proofs.lemmas.List.FromFn.{map-range_with_len_more}
 use Rattle.std.proofs.Math.Nat.{suc-mul, mul-le-mul_right, div-mul-le_self, lt-div-mul-add, le-div_iff_mul-le}
-use Rattle.fkv_base.specs.Limits.{is_ring_size}
+use Rattle.fkv_base.specs.Limits.{is_ring_size, min_page, max_page}
 use Rattle.fkv_disk.specs.Bytes.{covers, written}
 use Rattle.fkv_disk.specs.Calls.{Call, Write, Sync, reads_as}
-use Rattle.fkv_disk.proofs.BytesLemmas.{covered, before_range}
+use Rattle.fkv_disk.proofs.Shown.{covered, before_range}
 use Rattle.fkv_record.specs.Numbers.{spelled}
 use Rattle.fkv_record.specs.Places.{most_triples, record_place}
 use Rattle.fkv_recover.specs.Image.{word_at}
@@ -23,7 +23,7 @@ use Rattle.fkv_cli.specs.Stops.{AreWithin}
 use Rattle.fkv_cli.proofs.BytesWords.{below_or, word_in, word_out}
 use Rattle.fkv_cli.proofs.BytesSpelled.{spelled_bytes, spelled_words, length_by_three, word_of_some}
 
-page_some : (page : ℕ) → IsTrue (is_ring_size page 4 1024) → 0 < page
+page_some : (page : ℕ) → IsTrue (is_ring_size page min_page max_page) → 0 < page
 page_some page e = grind (arith, nat_tests)
 
 next_page : (a p : ℕ) → (a + 1) * p ≡ a * p + p

@@ -12,7 +12,7 @@ use Rattle.fkv_disk.specs.Bytes.{AreBytes}
 use Rattle.fkv_record.specs.Numbers.{spelled}
 use Rattle.fkv_recover.specs.Image.{word_at}
 use Rattle.fkv_recover.specs.Created.{AreWords}
-use Rattle.fkv_recover.proofs.Words.{same_number}
+use Rattle.fkv_recover.proofs.Shown.{same_number}
 use Rattle.fkv_cli.specs.Holds.{AreSmall}
 use Rattle.fkv_cli.proofs.BytesWords.{word_by_bytes}
 

@@ -6,10 +6,9 @@ use Rattle.std.proofs.lemmas.List.{ext_get_or, get_or-drop}
 use Rattle.std.proofs.lemmas.List.FromFn.{length-map-range_with_len, get_or-map-range_with_len}
 use Rattle.fkv_disk.specs.Bytes.{byte_at, covers, range_end, written}
 use Rattle.fkv_disk.specs.Calls.{Call, Write, Sync, reads_as, is_untouched, far_end, torn_image}
-use Rattle.fkv_disk.proofs.BytesLemmas.{byte_at-listed, length-listed, byte_at_past, after_range, in_range, byte_at-written_in, byte_at-written_out}
-use Rattle.fkv_disk.proofs.Left.{reads_within}
+use Rattle.fkv_disk.proofs.Shown.{byte_at-listed, length-listed, byte_at_past, after_range, in_range, byte_at-written_in, byte_at-written_out, reads_within}
 use Rattle.fkv_recover.specs.Image.{word_at, words_from}
-use Rattle.fkv_recover.proofs.Words.{same_number}
+use Rattle.fkv_recover.proofs.Shown.{same_number}
 
 pub bool_is : (b : Bool) → (b ≡ true) ⊎ (b ≡ false)
 bool_is true = inl refl

@@ -6,15 +6,16 @@ use Rattle.std.specs.Io.KnownBytes.{Appends}
 use Rattle.fkv_map.specs.declared.operations.Op.{Op}
 use Rattle.fkv_base.specs.declared.faults.Fault.{Fault}
 use Rattle.fkv_base.specs.declared.numbers.Version.{Version}
-use Rattle.fkv_cli.specs.declared.answers.Answer.{Answer}
-use Rattle.fkv_cli.specs.declared.answers.CommitPoint.{CommitPoint}
-use Rattle.fkv_cli.specs.declared.scripts.Command.{Command}
-use Rattle.fkv_cli.specs.declared.scripts.Command.TheVariants.{Operation, Commit, Finish, Crash, CrashAt}
+use Rattle.fkv_script.specs.declared.answers.Answer.{Answer}
+use Rattle.fkv_script.specs.declared.answers.CommitPoint.{CommitPoint}
+use Rattle.fkv_script.specs.declared.scripts.Command.{Command}
+use Rattle.fkv_script.specs.declared.scripts.Command.TheVariants.{Operation, Commit, Finish, Crash, CrashAt}
 use Rattle.std.specs.Prelude.{Result}
 use Rattle.fkv_cli.specs.Life.{Life, last_commit, answer_to, after_operation, answer_to_commit, after_commit}
 use Rattle.fkv_cli.specs.Commits.{finished, next_commit}
 use Rattle.fkv_cli.specs.Crashes.{crash_image, struck_image, struck_after}
-use Rattle.fkv_cli.specs.Output.{Plays, GoesOn, IsPlayed, IsCrashed, report_text, recovery_text, session_text, commit_text, finish_text, after_crash_at}
+use Rattle.fkv_cli.specs.Output.{Plays, GoesOn, IsPlayed, IsCrashed, recovery_text, after_crash_at}
+use Rattle.fkv_script.specs.Texts.{report_text, session_text, commit_text, finish_text}
 use Rattle.fkv_cli.proofs.Playing.{answered, crashed, crashes_here, status_of}
 
 -- the report of a recovered store

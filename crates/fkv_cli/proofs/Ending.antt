@@ -3,12 +3,13 @@ use Rattle.std.proofs.Common.{◌≡◌, ◌⊎◌, inl, inr, ℕ, ◌<◌, Bool
 use Rattle.std.specs.Io.KnownBytes.{Appends}
 use Rattle.fkv_base.specs.declared.faults.Fault.{Fault}
 use Rattle.fkv_base.specs.declared.shapes.Shape.{Shape}
-use Rattle.fkv_cli.specs.declared.options.RunFault.{RunFault}
-use Rattle.fkv_cli.specs.declared.options.Verdict.{Verdict}
-use Rattle.fkv_cli.specs.declared.scripts.Command.{Command}
-use Rattle.fkv_cli.specs.declared.scripts.Sizes.{Sizes}
-use Rattle.fkv_cli.specs.RunFault.{IsWant}
-use Rattle.fkv_cli.specs.Output.{Ends, IsWantOfMemory, PlaysNew, PlaysShape, PlaysOpening, HasSizes, is_accepted, ended, refusal_text}
+use Rattle.fkv_script.specs.declared.options.RunFault.{RunFault}
+use Rattle.fkv_script.specs.declared.options.Verdict.{Verdict}
+use Rattle.fkv_script.specs.declared.scripts.Command.{Command}
+use Rattle.fkv_script.specs.declared.scripts.Sizes.{Sizes}
+use Rattle.fkv_script.specs.RunFault.{IsWant}
+use Rattle.fkv_cli.specs.Output.{Ends, IsWantOfMemory, PlaysNew, PlaysShape, PlaysOpening, HasSizes, is_accepted}
+use Rattle.fkv_script.specs.Texts.{ended, refusal_text}
 
 -- creating a store was refused
 pub refused_first : (torn : ℕ) (shape : Shape) (commands : List Command) (refusal : Fault) (old new : Option (List ℕ)) (fault : RunFault) → IsWantOfMemory refusal

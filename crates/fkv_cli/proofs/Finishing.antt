@@ -13,7 +13,7 @@ use Rattle.std.specs.Int.{w64, to_le_bytes}
 use Rattle.std.specs.List.{flat_map, range_with_len}
 use Rattle.std.specs.Ordering.{nat_cmp, is_lt, is_eq}
 use Rattle.std.specs.Prelude.{max, min, slice_range, nat_eq, All, IsTrue}
-use Rattle.fkv_base.specs.Limits.{is_ring_size}
+use Rattle.fkv_base.specs.Limits.{is_ring_size, min_page, max_page, max_disk_pages, max_bucket_bits, max_buckets}
 use Rattle.fkv_record.specs.Numbers.{spelled}
 use Rattle.fkv_record.specs.Places.{area_place, record_place}
 use Rattle.fkv_disk.specs.Calls.{Call, Write, Sync, reads_as}
@@ -96,13 +96,13 @@ found_at (e ∷ es) h (suc j) d within =
 pub entry_held : (m : FinMap nat_cmp ℕ) (j : ℕ) (d : ℕ × ℕ) → j < length (entries m) → get m (get_or (entries m) j d).0 ≡ Some (get_or (entries m) j d).1
 entry_held m j d within = get-entries m (get_or (entries m) j d).0 ∙ found_at (entries m) (entries_sorted m) j d within
 
-small_page : (page : ℕ) → IsTrue (is_ring_size page 4 1024) → page ≤ 1024
+small_page : (page : ℕ) → IsTrue (is_ring_size page min_page max_page) → page ≤ max_page
 small_page page e = grind (arith, nat_tests)
 
-small_log : (disk_pages page : ℕ) → disk_pages ≤ 65536 → IsTrue (is_ring_size page 4 1024) → disk_pages * page ≤ 65536 * 1024
+small_log : (disk_pages page : ℕ) → disk_pages ≤ max_disk_pages → IsTrue (is_ring_size page min_page max_page) → disk_pages * page ≤ max_disk_pages * max_page
 small_log disk_pages page few sized = mul-le-mul few (small_page page sized)
 
-few_buckets : (bits : ℕ) → bits ≤ 10 → 2 ^ bits ≤ 2 ^ 10
+few_buckets : (bits : ℕ) → bits ≤ max_bucket_bits → 2 ^ bits ≤ max_buckets
 few_buckets bits few = pow-le-pow_right (omega arith) few
 
 -- each entry is one that a triple can spell

@@ -1,55 +1,46 @@
-pub mod Appending
-pub mod Arguments
-pub mod AskedWords
-pub mod BytesCommitted
-pub mod BytesFinish
-pub mod BytesKept
-pub mod BytesOpened
-pub mod BytesPages
-pub mod BytesSpelled
-pub mod BytesWords
-pub mod CommandLine
-pub mod Commands
-pub mod Ending
-pub mod Finishing
-pub mod FreshLogs
-pub mod HomeCounts
-pub mod IndexFilled
-pub mod LineByLine
-pub mod LineEnds
-pub mod LogChains
-pub mod LogKept
-pub mod LogPairs
-pub mod LogRoom
-pub mod LogSteps
-pub mod LogTriples
-pub mod LogWellKept
-pub mod MapSteps
-pub mod NowLog
-pub mod NowSteps
-pub mod NumberMaps
-pub mod Numerals
-pub mod PairMaps
-pub mod Plans
-pub mod Playing
-pub mod Ranges
-pub mod RecoveredStores
-pub mod Reserved
-pub mod ScriptWords
-pub mod SoundBeginnings
-pub mod SoundCrashes
-pub mod SoundFinishes
-pub mod SoundHistories
-pub mod SoundIndexes
-pub mod SoundLife
-pub mod SoundRuns
-pub mod SoundScripts
-pub mod Spelled
-pub mod Striking
-pub mod TornCalls
-pub mod TornCommits
-pub mod TornFinish
-pub mod TornImages
-pub mod TornTexts
-pub mod UpdateAnswers
-pub mod WordKinds
+mod Appending
+mod BytesCommitted
+mod BytesFinish
+mod BytesKept
+mod BytesOpened
+mod BytesPages
+mod BytesSpelled
+mod BytesWords
+mod Commands
+mod Ending
+mod Finishing
+mod FreshLogs
+mod HomeCounts
+mod IndexFilled
+mod LogChains
+mod LogKept
+mod LogPairs
+mod LogRoom
+mod LogSteps
+mod LogTriples
+mod LogWellKept
+mod MapSteps
+mod NowLog
+mod NowSteps
+mod NumberMaps
+mod PairMaps
+mod Plans
+mod Playing
+mod Ranges
+mod RecoveredStores
+mod Reserved
+mod SoundBeginnings
+mod SoundCrashes
+mod SoundFinishes
+mod SoundHistories
+mod SoundIndexes
+mod SoundLife
+mod SoundRuns
+mod SoundScripts
+mod Spelled
+mod Striking
+mod TornCalls
+mod TornCommits
+mod TornFinish
+mod TornImages
+mod UpdateAnswers

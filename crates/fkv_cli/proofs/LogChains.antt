@@ -4,9 +4,7 @@ use Rattle.fkv_recover.specs.Log.{Log, HasTriples, triple_home, triple_addr, pre
 use Rattle.fkv_recover.specs.Chains.{Reached, led_to, IsKept, IsEntry}
 use Rattle.fkv_recover.specs.Along.{IsAlong, here, on, IsChain, IsFollowed}
 use Rattle.fkv_recover.specs.Opened.{IsSound}
-use Rattle.fkv_recover.proofs.Falls.{no_scan, along_reached}
-use Rattle.fkv_recover.proofs.Sound.{on_chain, all_kept, has_chains, has_room}
-use Rattle.fkv_recover.proofs.Keys.{equal_or_not}
+use Rattle.fkv_recover.proofs.Shown.{no_scan, along_reached, on_chain, all_kept, has_chains, has_room, equal_or_not}
 use Rattle.fkv_cli.proofs.LogWellKept.{IsWellKept, IsLast}
 
 -- an address of a record of a home

@@ -6,7 +6,7 @@ use Rattle.std.specs.FinMap.{FinMap, get}
 use Rattle.std.proofs.lemmas.Bool.Decides.{nat_tests}
 use Rattle.fkv_map.specs.Map.{Map}
 use Rattle.fkv_recover.specs.Log.{Log, header, key, value, previous, version, is_invalid, is_record, record_home, home_of_key}
-use Rattle.fkv_recover.proofs.Keys.{some_of}
+use Rattle.fkv_recover.proofs.Shown.{some_of}
 use Rattle.fkv_cli.proofs.LogWellKept.{IsPrevious, IsWritten, IsLast, IsWellKept}
 use Rattle.fkv_cli.proofs.LogPairs.{Shows, shown}
 

@@ -13,11 +13,10 @@ use Rattle.std.proofs.lemmas.Bool.Decides.{nat_tests}
 use Rattle.fkv_base.specs.declared.numbers.Key.{Key}
 use Rattle.fkv_base.specs.declared.numbers.Value.{Value}
 use Rattle.fkv_map.specs.Map.{Map, as_numbers}
-use Rattle.fkv_map.proofs.Stored.{key_cmp, map_of, entries-map_of}
+use Rattle.fkv_map.proofs.Shown.{key_cmp, map_of, entries-map_of}
 use Rattle.fkv_recover.specs.Log.{Log, key, value}
 use Rattle.fkv_recover.specs.Pairs.{absent_word, IsPresent, HasValue, ArePairs}
-use Rattle.fkv_recover.proofs.Keys.{bool_is, is_same, at_same, some_is, equal_or_not}
-use Rattle.fkv_recover.proofs.Shown.{in_rest, in_head, in_tail}
+use Rattle.fkv_recover.proofs.Shown.{bool_is, is_same, at_same, some_is, equal_or_not, in_rest, in_head, in_tail}
 use Rattle.fkv_cli.proofs.LogWellKept.{IsWellKept}
 use Rattle.fkv_cli.proofs.LogChains.{is_kept, reached_in_log}
 

@@ -15,7 +15,7 @@ use Rattle.std.proofs.lemmas.List.{get_or-set_same, get_or-set_other, length-rep
 use Rattle.std.proofs.lemmas.List.Sums.{sum_by-cons, sum_by_more, sum_by-set}
 use Rattle.std.proofs.lemmas.List.FromFn.{length-map-range_with_len, get_or-map-range_with_len, sum_by-map-range_with_len_more}
 use Rattle.fkv_recover.specs.Room.{in_bucket, needed, taken}
-use Rattle.fkv_recover.proofs.Keys.{bool_is, some_of, equal_or_not}
+use Rattle.fkv_recover.proofs.Shown.{bool_is, some_of, equal_or_not}
 use Rattle.fkv_cli.proofs.LogPairs.{found, in_first}
 use Rattle.fkv_cli.proofs.LogTriples.{keys_sorted}
 

@@ -6,7 +6,7 @@ use Rattle.std.specs.FinMap.{FinMap, get, insert, get-insert}
 use Rattle.std.proofs.lemmas.Cmp.{nat_cmp_total}
 use Rattle.fkv_map.specs.Map.{Map}
 use Rattle.fkv_recover.specs.Log.{Log, key, value, previous, is_invalid, is_record, record_home}
-use Rattle.fkv_recover.proofs.Keys.{bool_is, is_same, at_itself, some_is, equal_or_not}
+use Rattle.fkv_recover.proofs.Shown.{bool_is, is_same, at_itself, some_is, equal_or_not}
 use Rattle.fkv_cli.proofs.LogWellKept.{IsPrevious, IsWritten, IsLast}
 use Rattle.fkv_cli.proofs.LogPairs.{Shows, IsNewestBelow, shown}
 use Rattle.fkv_cli.proofs.LogKept.{IsKeptBy, IsAlike, alike_home, alike_written}

@@ -12,10 +12,11 @@ use Rattle.std.proofs.lemmas.List.Elements.{Contains-get_or}
 use Rattle.std.proofs.lemmas.List.FromFn.{length-map-range_with_len, get_or-map-range_with_len}
 use Rattle.std.proofs.lemmas.Map.Keys.{sorted_from_strictly_increasing}
 use Rattle.std.proofs.lemmas.Nat.{pow_pos, mod_below, div-mul-add, mod-mul-add, div-add-mod'}
-use Rattle.fkv_map.proofs.Stored.{IsAscending-entries}
+use Rattle.fkv_base.specs.Limits.{max_bucket_bits}
+use Rattle.fkv_map.proofs.Shown.{IsAscending-entries}
 use Rattle.fkv_recover.specs.Log.{Log, key, record_home, home_of_key, is_triple, triple_home, triple_addr, triple_bucket, triple_tag, triple_zeros, home}
 use Rattle.fkv_recover.specs.Room.{triple_homes, taken}
-use Rattle.fkv_recover.proofs.Keys.{some_of}
+use Rattle.fkv_recover.proofs.Shown.{some_of}
 use Rattle.fkv_cli.proofs.LogWellKept.{IsLast, IsLeading, HasTriple, IsWellKept}
 use Rattle.fkv_cli.proofs.LogPairs.{found, finds}
 use Rattle.fkv_cli.proofs.LogKept.{AreLast, IsKeptBy}
@@ -80,7 +81,7 @@ get_from_contains m h a has = get-entries m h ∙ finds (entries m) h a (keys_so
 pub contains_from_get : (m : FinMap nat_cmp ℕ) (h a : ℕ) → get m h ≡ Some a → Contains (entries m) (h, a)
 contains_from_get m h a is = found (entries m) h a (sym (get-entries m h) ∙ is)
 
-module _ (log : Log) (m : FinMap nat_cmp ℕ) (triples : log.triples ≡ flat_map entry_words (entries m)) (count : log.count ≡ length (entries m)) (few : log.bits ≤ 10) (are : AreLast log m) where
+module _ (log : Log) (m : FinMap nat_cmp ℕ) (triples : log.triples ≡ flat_map entry_words (entries m)) (count : log.count ≡ length (entries m)) (few : log.bits ≤ max_bucket_bits) (are : AreLast log m) where
   abbrev entry_at : ℕ → ℕ × ℕ
   entry_at i = get_or (entries m) i (0, 0)
 

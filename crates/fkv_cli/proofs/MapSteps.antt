@@ -9,8 +9,8 @@ use Rattle.std.proofs.lemmas.Bool.Decides.{nat_tests}
 use Rattle.fkv_map.specs.declared.operations.Op.{Op}
 use Rattle.fkv_map.specs.declared.operations.Op.TheVariants.{Upsert, Delete, Add, Max, Read}
 use Rattle.fkv_map.specs.Map.{Map, absent_word, applied, sum_with, greater_with}
-use Rattle.fkv_map.proofs.Values.{AllValues, IsValue, IsSmall}
-use Rattle.fkv_recover.proofs.Keys.{is_same}
+use Rattle.fkv_map.proofs.Shown.{AllValues, IsValue, IsSmall}
+use Rattle.fkv_recover.proofs.Shown.{is_same}
 use Rattle.fkv_cli.specs.Life.{key_of, word_of}
 use Rattle.fkv_cli.proofs.LogPairs.{shown}
 use Rattle.fkv_cli.proofs.LogSteps.{IsPut}

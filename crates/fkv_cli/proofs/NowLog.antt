@@ -5,7 +5,7 @@ use Rattle.std.specs.List.{flat_map, list_any}
 use Rattle.std.proofs.lemmas.List.{get_or_append_left, get_or-append-add, get_or-map, length-map, get_or_at, length_push}
 use Rattle.std.proofs.lemmas.Bool.Decides.{nat_tests}
 use Rattle.fkv_recover.specs.Log.{Log, header, key, value}
-use Rattle.fkv_recover.proofs.Keys.{bool_is}
+use Rattle.fkv_recover.proofs.Shown.{bool_is}
 use Rattle.fkv_cli.specs.declared.fresh_logs.FreshRecord.{FreshRecord}
 use Rattle.fkv_cli.specs.FreshLog.{FreshLog, tail, has_key, has_fresh, changed, with_value, with_record}
 use Rattle.fkv_cli.specs.Commits.{record_words}

@@ -8,7 +8,7 @@ use Rattle.std.proofs.lemmas.Bool.Decides.{nat_tests}
 use Rattle.std.proofs.lemmas.Nat.{div-mul-add, mod-mul-add}
 use Rattle.fkv_map.specs.Map.{Map}
 use Rattle.fkv_recover.specs.Log.{Log, header, key, value, previous, version, is_invalid, is_record, record_home, home_of_key}
-use Rattle.fkv_recover.proofs.Keys.{equal_or_not}
+use Rattle.fkv_recover.proofs.Shown.{equal_or_not}
 use Rattle.fkv_cli.specs.declared.fresh_logs.FreshRecord.{FreshRecord}
 use Rattle.fkv_cli.specs.FreshLog.{FreshLog, tail, has_fresh, with_value, with_record}
 use Rattle.fkv_cli.proofs.LogPairs.{Shows, IsNewestBelow}

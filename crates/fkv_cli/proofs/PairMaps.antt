@@ -11,7 +11,7 @@ use Rattle.std.proofs.lemmas.List.Kept.{AllPairs-from_increasing}
 use Rattle.fkv_base.specs.declared.numbers.Key.{Key}
 use Rattle.fkv_base.specs.declared.numbers.Value.{Value}
 use Rattle.fkv_map.specs.Map.{Map, as_numbers}
-use Rattle.fkv_recover.proofs.Keys.{is_same}
+use Rattle.fkv_recover.proofs.Shown.{is_same}
 
 abbrev pub made_of : List (ℕ × ℕ) → Map
 made_of es = from_entries es

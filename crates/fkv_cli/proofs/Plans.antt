@@ -13,7 +13,7 @@ use Rattle.fkv_disk.specs.declared.memory.MemDisk.{MemDisk}
 use Rattle.fkv_disk.specs.declared.fuses.Fuse.{Fuse}
 use Rattle.fkv_disk.specs.Fuses.{fuse_device, fuse_state}
 use Rattle.fkv_disk.specs.Memory.{disk_bytes, disk_opening, disk_calls}
-use Rattle.fkv_disk.proofs.BytesLemmas.{length-listed}
+use Rattle.fkv_disk.proofs.Shown.{length-listed}
 use Rattle.fkv_cli.specs.declared.planned_calls.PlannedCall.TheVariants.{Writes, Syncs}
 use Rattle.fkv_cli.specs.declared.planned_calls.PlannedCall.{PlannedCall}
 use Rattle.fkv_cli.specs.Planned.{planned, call_of}

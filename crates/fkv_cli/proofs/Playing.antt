@@ -3,8 +3,8 @@ use Rattle.std.proofs.Common.{◌≡◌, ℕ, ◌+◌, ◌<◌, ◌≤◌, Bool,
 use Rattle.std.specs.Option.{is_some}
 use Rattle.std.proofs.Math.Seq.{drop-cons}
 use Rattle.std.proofs.lemmas.List.{drop_all}
-use Rattle.fkv_cli.specs.declared.scripts.Command.{Command}
-use Rattle.fkv_cli.specs.declared.scripts.Command.TheVariants.{Crash}
+use Rattle.fkv_script.specs.declared.scripts.Command.{Command}
+use Rattle.fkv_script.specs.declared.scripts.Command.TheVariants.{Crash}
 use Rattle.fkv_cli.specs.Life.{Life}
 use Rattle.fkv_cli.specs.Crashes.{crash_image}
 use Rattle.fkv_cli.specs.Output.{Plays, ends, ends_in_crash, answers, recovers, refuses, GoesOn, Stops, IsPlayed, IsCrashed, image_of, command_text, after_command, recovery_text}

@@ -3,7 +3,7 @@ use Rattle.std.proofs.Common.{◌≡◌, ◌⊎◌, inl, inr, ℕ, ◌+◌, ◌*
 use Rattle.std.specs.Prelude.{slice_index, nat_le, IsTrue, Result, Ok, Err, OnOk, OnErr}
 use Rattle.std.proofs.lemmas.Bool.Decides.{nat_tests}
 use Rattle.std.proofs.Math.Nat.{mul-le-mul}
-use Rattle.fkv_base.specs.Limits.{is_ring_size}
+use Rattle.fkv_base.specs.Limits.{is_ring_size, min_page, max_page}
 use Rattle.fkv_base.specs.declared.faults.Fault.{Fault}
 use Rattle.std.specs.Ordering.{nat_cmp, eq_by_cmp}
 use Rattle.std.specs.FinMap.{get, get-insert, nat_cmp-IsAntisymmetric}
@@ -165,10 +165,10 @@ pub word_changed : (life : Life) (key : Key) (word : ℕ) → has_fresh life.log
 unfolding with_word
 word_changed life key word old = rw old refl
 
-some_page : (page : ℕ) → IsTrue (is_ring_size page 4 1024) → 1 ≤ page
+some_page : (page : ℕ) → IsTrue (is_ring_size page min_page max_page) → 1 ≤ page
 some_page page e = grind (arith, nat_tests)
 
-pub some_log : (disk_pages page : ℕ) → 1 ≤ disk_pages → IsTrue (is_ring_size page 4 1024) → 1 ≤ disk_pages * page
+pub some_log : (disk_pages page : ℕ) → 1 ≤ disk_pages → IsTrue (is_ring_size page min_page max_page) → 1 ≤ disk_pages * page
 some_log disk_pages page some sized = mul-le-mul some (some_page page sized)
 
 -- an index and a log that such a record leaves

@@ -1,5 +1,5 @@
 -- What a store has that is recovered from an image: its entries, its pairs, and the range of its numbers.
-use Rattle.std.proofs.Common.{◌≡◌, ◌≢◌, ◌⊎◌, inl, inr, ⊎_elim, ℕ, ◌/◌, ◌^◌, ◌<◌, true, false, cond, List, [], ◌∷◌, get_or, map, Some, None, refl, sym, ap, subst, ◌∙◌, arith}
+use Rattle.std.proofs.Common.{◌≡◌, ◌≢◌, ◌⊎◌, inl, inr, ⊎_elim, ℕ, ◌/◌, ◌^◌, ◌<◌, ◌≤◌, true, false, cond, List, [], ◌∷◌, get_or, map, Some, None, refl, sym, ap, subst, ◌∙◌, arith}
 use Rattle.std.specs.Prelude.{All, Contains, slice_index}
 use Rattle.std.specs.Ordering.{nat_cmp, eq_by_cmp}
 use Rattle.std.specs.FinMap.{get, find, keys, get-from_entries}
@@ -8,6 +8,7 @@ use Rattle.std.proofs.lemmas.List.{get_or-map}
 use Rattle.std.proofs.lemmas.List.Elements.{Contains-get_or}
 use Rattle.std.proofs.lemmas.List.FromFn.{length-map-range_with_len, get_or-map-range_with_len}
 use Rattle.std.proofs.lemmas.Nat.{div-mul-add}
+use Rattle.fkv_base.specs.Limits.{last_serial}
 use Rattle.fkv_base.specs.declared.faults.Fault.{Fault}
 use Rattle.fkv_base.specs.declared.numbers.Key.{Key}
 use Rattle.fkv_base.specs.declared.numbers.Serial.{Serial}
@@ -24,10 +25,7 @@ use Rattle.fkv_recover.specs.Faults.{IsFaultOf}
 use Rattle.fkv_recover.specs.Opened.{IsOpenedOf}
 use Rattle.fkv_recover.specs.declared.home_entries.HomeEntry.{HomeEntry}
 use Rattle.fkv_recover.specs.declared.opened_store.Opened.{Opened}
-use Rattle.fkv_recover.proofs.EntryLemmas.{listed_length}
-use Rattle.fkv_recover.proofs.Falls.{addr_in_log}
-use Rattle.fkv_recover.proofs.Keys.{bool_is, at_same}
-use Rattle.fkv_recover.proofs.Shown.{in_rest, in_head, in_tail}
+use Rattle.fkv_recover.proofs.Shown.{listed_length, addr_in_log, bool_is, at_same, in_rest, in_head, in_tail}
 use Rattle.fkv_cli.specs.Crashes.{IsRecovered, image_number, image_point}
 use Rattle.fkv_cli.specs.FreshLog.{log_at}
 use Rattle.fkv_cli.specs.Homes.{IsInIndex, entry_pair, entries_of}
@@ -60,7 +58,7 @@ some_found (e ∷ es) q v has = ⊎_elim
     (λ rest. some_next e es q (some_found es q v rest) (bool_is (eq_by_cmp nat_cmp q e.0)))
     (in_rest e (q, v) es has)
 
-first_small : (points : List Serial) → All (λ point. point.0 < 2 ^ 48) points → slice_index (map (λ point. point.0) points) 0 < 2 ^ 48
+first_small : (points : List Serial) → All (λ point. point.0 ≤ last_serial) points → slice_index (map (λ point. point.0) points) 0 ≤ last_serial
 first_small [] small = omega arith
 first_small (p ∷ ps) small = small 0 p (omega arith)
 

@@ -5,7 +5,7 @@ use Rattle.std.proofs.Math.Nat.{mul-le-mul}
 use Rattle.std.proofs.lemmas.Bool.Decides.{nat_tests}
 use Rattle.std.specs.Ordering.{nat_cmp}
 use Rattle.std.specs.FinMap.{empty, get-empty}
-use Rattle.fkv_base.specs.Limits.{is_ring_size}
+use Rattle.fkv_base.specs.Limits.{is_ring_size, min_page, max_page}
 use Rattle.fkv_base.specs.declared.shapes.Shape.{Shape}
 use Rattle.fkv_disk.specs.Bytes.{AreBytes}
 use Rattle.fkv_recover.specs.Image.{head_of, slot_of, sessions_of, log_start}
@@ -13,9 +13,7 @@ use Rattle.fkv_recover.specs.Manifest.{is_store, is_manifest, is_open, number_of
 use Rattle.fkv_recover.specs.Log.{Log, log_of, log_in}
 use Rattle.fkv_recover.specs.Room.{triple_homes, taken}
 use Rattle.fkv_recover.specs.Created.{new_head, IsLaid}
-use Rattle.fkv_recover.proofs.NewHead.{length-new_head, new_sizes, new_manifest, new_store, new_newest, new_open, new_closed}
-use Rattle.fkv_recover.proofs.Newly.{head_is}
-use Rattle.fkv_recover.proofs.Words.{length-words_from}
+use Rattle.fkv_recover.proofs.Shown.{length-new_head, new_sizes, new_manifest, new_store, new_newest, new_open, new_closed, head_is, length-words_from}
 use Rattle.fkv_cli.specs.FreshLog.{log_at}
 use Rattle.fkv_cli.specs.Index.{new_index}
 use Rattle.fkv_cli.specs.Life.{new_life}
@@ -29,7 +27,7 @@ use Rattle.fkv_cli.proofs.SoundHistories.{no_updates}
 use Rattle.fkv_cli.proofs.SoundLife.{IsSoundLife}
 use Rattle.fkv_cli.proofs.SoundFinishes.{opened_indexed}
 
-page_some : (page : ℕ) → IsTrue (is_ring_size page 4 1024) → 1 ≤ page
+page_some : (page : ℕ) → IsTrue (is_ring_size page min_page max_page) → 1 ≤ page
 page_some page e = grind (arith, nat_tests)
 
 -- the log has room on the device for address 0 at least

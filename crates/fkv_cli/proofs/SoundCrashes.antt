@@ -7,11 +7,12 @@ use Rattle.std.specs.FinMap.{FinMap, empty, get, entries, keys, same_map, nat_cm
 use Rattle.std.proofs.lemmas.Cmp.{nat_cmp_total}
 use Rattle.std.proofs.lemmas.List.{length-map, get_or-map, get_or_default}
 use Rattle.std.proofs.lemmas.Map.Keys.{below_from_sorted}
+use Rattle.fkv_base.specs.Limits.{last_version, last_serial}
 use Rattle.fkv_base.specs.declared.faults.Fault.{Fault}
 use Rattle.fkv_base.specs.declared.shapes.Shape.{Shape}
 use Rattle.fkv_map.specs.Map.{Map}
 use Rattle.fkv_map.specs.History.{content, kept}
-use Rattle.fkv_map.proofs.KeptEntries.{kept_again}
+use Rattle.fkv_map.proofs.Shown.{kept_again}
 use Rattle.fkv_recover.specs.Image.{head_of, slot_of, sessions_of}
 use Rattle.fkv_recover.specs.Manifest.{HasSizes, newest, slot_points, is_manifest}
 use Rattle.fkv_recover.specs.Log.{Log, log_of, record_home, triple_addr}
@@ -20,9 +21,7 @@ use Rattle.fkv_recover.specs.Room.{AreHomes, triple_homes, taken}
 use Rattle.fkv_recover.specs.Pairs.{HasValue}
 use Rattle.fkv_recover.specs.Faults.{IsFaultOf}
 use Rattle.fkv_recover.specs.Opened.{IsSound}
-use Rattle.fkv_recover.proofs.Exact.{no_fault}
-use Rattle.fkv_recover.proofs.Sound.{are_homes}
-use Rattle.fkv_recover.proofs.Unique.{same_taken}
+use Rattle.fkv_recover.proofs.Shown.{no_fault, are_homes, same_taken}
 use Rattle.fkv_cli.specs.FreshLog.{log_at, tail}
 use Rattle.fkv_cli.specs.Index.{filled}
 use Rattle.fkv_cli.specs.Life.{Life}
@@ -128,8 +127,8 @@ map_of_values log well m other shows are = same_map nat_cmp_total nat_cmp-IsAnti
 -- an image that holds a commit, which is one of this store or the one that it was about to finish
 pub record IsLeft (life : Life) (image : List ℕ) (number point start : ℕ) (log : Log) : Type 0 where
   pub committed : IsCommitted image life.shape number point start (kept life.history (points_at point)) log
-  pub few : number ≤ 8190
-  pub fits : point < 2 ^ 48
+  pub few : number < last_version
+  pub fits : point ≤ last_serial
   pub some : 1 ≤ start
   pub end : start ≤ life.shape.disk_pages * life.shape.page
 

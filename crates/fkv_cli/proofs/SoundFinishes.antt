@@ -8,6 +8,7 @@ use Rattle.std.proofs.lemmas.Bool.Decides.{nat_tests}
 use Rattle.std.proofs.lemmas.List.{take_all, length-map}
 use Rattle.std.proofs.lemmas.List.Sums.{sum_by-cons, sum_by_more}
 use Rattle.std.proofs.lemmas.List.Elements.{All-nil, All-head, All-tail, All-map, All-from_get_or, Contains-get_or}
+use Rattle.fkv_base.specs.Limits.{last_version}
 use Rattle.fkv_base.specs.declared.shapes.Shape.{Shape}
 use Rattle.fkv_map.specs.Map.{Map}
 use Rattle.fkv_map.specs.History.{content, kept}
@@ -199,7 +200,7 @@ module _ (life : Life) (sound : IsSoundLife life) where
     shows = subst (λ m. Shows written m) (sound.content_is ∙ ap (λ h. content empty h) (sym (kept_whole life.history life.serial sound.updates))) written_shows;
   }
 
-  pub finish_sound : life.number < 8190 → Stores (reads_as life.bytes (finish_calls life)) life.shape (life.number + 1) life.serial written → IsSoundLife (finished life)
+  pub finish_sound : life.number + 1 < last_version → Stores (reads_as life.bytes (finish_calls life)) life.shape (life.number + 1) life.serial written → IsSoundLife (finished life)
   unfolding finished
   finish_sound few stores = record {
     log = written;
@@ -209,7 +210,7 @@ module _ (life : Life) (sound : IsSoundLife life) where
     content_is = sound.content_is;
     earlier = (let same : life.serial ≤ life.serial = omega arith in same);
     range = record {
-      number = (let most : life.number + 1 ≤ 8190 = omega (arith, few) in most);
+      number = (let most : life.number + 1 < last_version = omega (arith, few) in most);
       committing = λ none. absurd (cc);
       serial = sound.range.serial;
       point = sound.range.serial;

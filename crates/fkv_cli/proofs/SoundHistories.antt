@@ -9,8 +9,7 @@ use Rattle.fkv_base.specs.declared.numbers.Serial.{Serial}
 use Rattle.fkv_map.specs.declared.history.HistoryEntry.{HistoryEntry}
 use Rattle.fkv_map.specs.Map.{IsReserved}
 use Rattle.fkv_map.specs.History.{content, kept, is_kept, point_of}
-use Rattle.fkv_map.proofs.KeptEntries.{kept-push_no, kept_at_most, All-kept}
-use Rattle.fkv_map.proofs.Values.{AllValues, IsValue, IsSmall, IsWithin, free_from_All, values_of_history, small_of_history}
+use Rattle.fkv_map.proofs.Shown.{kept-push_no, kept_at_most, All-kept, AllValues, IsValue, IsSmall, IsWithin, free_from_All, values_of_history, small_of_history}
 
 -- the point of the one session
 abbrev pub points_at : ℕ → List Serial

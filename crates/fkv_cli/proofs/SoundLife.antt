@@ -1,5 +1,5 @@
 -- What is true of a store at every line of a script: its image holds the last finished commit, and what came since stands in memory.
-use Rattle.std.proofs.Common.{◌≡◌, ◌≢◌, ◌⊎◌, inl, inr, ⊎_elim, ℕ, ◌+◌, ◌-◌, ◌*◌, ◌^◌, ◌<◌, ◌≤◌, Bool, true, false, not, List, [], ◌∷◌, ◌++◌, Option, Some, None, refl, sym, ap, subst, ◌∙◌, arith}
+use Rattle.std.proofs.Common.{◌≡◌, ◌≢◌, ◌⊎◌, inl, inr, ⊎_elim, ℕ, ◌+◌, ◌*◌, ◌^◌, ◌<◌, ◌≤◌, Bool, true, false, not, List, [], ◌∷◌, ◌++◌, Option, Some, None, refl, sym, ap, subst, ◌∙◌, arith}
 use Rattle.std.specs.Prelude.{nat_lt, nat_eq, nat_le, ◌&&◌, ◌||◌, IsTrue, is_ok}
 use Rattle.std.specs.Option.{unwrap_or}
 use Rattle.std.specs.FinMap.{empty, get}
@@ -7,18 +7,18 @@ use Rattle.std.proofs.lemmas.Bool.Decides.{nat_tests}
 use Rattle.std.proofs.Math.Nat.{mul-le-mul}
 use Rattle.fkv_base.specs.declared.shapes.Shape.{Shape}
 use Rattle.fkv_base.specs.declared.numbers.Key.{Key}
-use Rattle.fkv_base.specs.Limits.{is_ring_size}
+use Rattle.fkv_base.specs.Limits.{is_ring_size, min_page, max_page, max_disk_pages, last_version, last_serial}
 use Rattle.fkv_map.specs.declared.operations.Op.{Op}
 use Rattle.fkv_map.specs.declared.operations.Op.TheVariants.{Upsert, Delete, Add, Max, Read}
 use Rattle.fkv_map.specs.declared.operations.Reply.{Reply}
 use Rattle.fkv_map.specs.declared.history.HistoryEntry.{HistoryEntry}
 use Rattle.fkv_map.specs.Map.{Map, absent_word, applied, reply_to, IsReserved}
 use Rattle.fkv_map.specs.History.{content, kept}
-use Rattle.fkv_map.proofs.Histories.{content-push}
-use Rattle.fkv_map.proofs.Values.{AllValues, IsValue, IsSmall, IsWord, IsWithin-from_words}
+use Rattle.fkv_map.proofs.Shown.{content-push, AllValues, IsValue, IsSmall, IsWithin-from_words}
 use Rattle.fkv_recover.specs.Log.{Log, key, home_of_key}
 use Rattle.fkv_recover.proofs.Shown.{by_cond}
-use Rattle.fkv_cli.specs.declared.answers.Answer.{Answer}
+use Rattle.fkv_script.specs.declared.answers.Answer.{Answer}
+use Rattle.fkv_script.proofs.Shown.{IsKeyWord, IsOfWords}
 use Rattle.fkv_cli.specs.declared.fresh_logs.FreshRecord.{FreshRecord}
 use Rattle.fkv_cli.specs.FreshLog.{FreshLog, tail, has_fresh, with_value, with_record}
 use Rattle.fkv_cli.specs.Index.{Index, entry_of, has_room, with_entry}
@@ -45,10 +45,10 @@ pub record IsCommitted (bytes : List ℕ) (shape : Shape) (number point start : 
 
 -- A commit that runs isn't one of the last version; the log begins at 1 and ends on the device.
 pub record IsWithinLimits (life : Life) : Type 0 where
-  pub number : life.number ≤ 8190
-  pub committing : IsTrue life.is_committing → life.number < 8190
-  pub serial : life.serial < 2 ^ 48
-  pub point : life.point < 2 ^ 48
+  pub number : life.number < last_version
+  pub committing : IsTrue life.is_committing → life.number + 1 < last_version
+  pub serial : life.serial ≤ last_serial
+  pub point : life.point ≤ last_serial
   pub start : 1 ≤ life.log.start
   pub end : tail life.log ≤ log_end life
 
@@ -64,16 +64,18 @@ pub record IsSoundLife (life : Life) : Type 0 where
   pub range : IsWithinLimits life
   pub one_session : life.shape.sessions ≡ 1
 
--- an operation whose numbers are words
-pub record IsOfWords (op : Op) : Type 0 where
-  pub word : IsWord op
-  pub its_key : (key_of op).0 < 2 ^ 64
+key_small : (op : Op) → IsKeyWord op → (key_of op).0 < 2 ^ 64
+key_small (Upsert key value) small = small
+key_small (Delete key) small = small
+key_small (Add key n) small = small
+key_small (Max key n) small = small
+key_small (Read key) small = small
 
 -- ---- bounds
-page_fits : (page : ℕ) → IsTrue (is_ring_size page 4 1024) → page ≤ 1024
+page_fits : (page : ℕ) → IsTrue (is_ring_size page min_page max_page) → page ≤ max_page
 page_fits page e = grind (arith, nat_tests)
 
-pub log_end_fits : (shape : Shape) → shape.disk_pages * shape.page ≤ 2 ^ 26
+pub log_end_fits : (shape : Shape) → shape.disk_pages * shape.page ≤ max_disk_pages * max_page
 log_end_fits shape = mul-le-mul shape.limits.few_disk (page_fits shape.page shape.limits.page_size)
 
 pub follows_now : (life : Life) (sound : IsSoundLife life) → IsFollowedBy sound.log life.log
@@ -126,7 +128,7 @@ slotted life k sound has =
     )
 
 -- ---- an update
-module _ (life : Life) (sound : IsSoundLife life) (session : ℕ) (op : Op) (reply : Reply) (first : session ≡ 0) (words : IsOfWords op) (free : ¬ IsReserved op) (left : life.serial + 1 < 2 ^ 48)
+module _ (life : Life) (sound : IsSoundLife life) (session : ℕ) (op : Op) (reply : Reply) (first : session ≡ 0) (words : IsOfWords op) (free : ¬ IsReserved op) (left : life.serial + 1 ≤ last_serial)
     (slot : HasFree life.index (home_in life (key_of op))) (room : lacks_record life (key_of op) ≡ false) where
   abbrev after_map : Map
   after_map = applied life.map op
@@ -219,7 +221,7 @@ module _ (life : Life) (sound : IsSoundLife life) (session : ℕ) (op : Op) (rep
       (subst (λ h. HasFree life.index h) (sym same_home) slot)
       (record {
         previous = subst (λ h. entry_of life.index h < 2 ^ 48) (sym same_home) (small_address (get life.index.entries (home_in life (key_of op))) refl);
-        key = words.its_key;
+        key = key_small op words.its_key;
         value = small;
       }) put))
 
@@ -235,16 +237,16 @@ module _ (life : Life) (sound : IsSoundLife life) (session : ℕ) (op : Op) (wor
   abbrev After : Answer → Type 0
   After answer = IsSoundLife (after_answer life session op answer)
 
-  less_serial : life.serial ≢ 2 ^ 48 - 1 → life.serial + 1 < 2 ^ 48
+  less_serial : life.serial ≢ last_serial → life.serial + 1 ≤ last_serial
   less_serial off = omega (arith, off, sound.range.serial)
 
   update_sound : session ≡ 0 → ¬ IsReserved op → After (answer_to_update life op)
-  update_sound first free = by_cond After (nat_eq life.serial (2 ^ 48 - 1)) _ _ (λ spent. sound) (λ left.
+  update_sound first free = by_cond After (nat_eq life.serial last_serial) _ _ (λ spent. sound) (λ left.
       by_cond After (not (has_room life.index (home_in life (key_of op)))) _ _ (λ full. sound) (λ has.
       let slot = slotted life (key_of op) sound (not_true (has_room life.index (home_in life (key_of op))) has) in
       by_cond After (lacks_record life (key_of op)) _ _ (λ full. slot.0) (λ room.
       written_sound (with_slot life (key_of op)) slot.0 session op (reply_to life.map op) first words free
-      (less_serial (other_of life.serial (2 ^ 48 - 1) left)) slot.1 room)))
+      (less_serial (other_of life.serial last_serial left)) slot.1 room)))
 
 op_sound : (life : Life) (sound : IsSoundLife life) (session : ℕ) (op : Op) → IsOfWords op → session ≡ 0 → ¬ IsReserved op → IsSoundLife (after_answer life session op (answer_to_op life op))
 op_sound life sound session (Upsert key value) words first free = update_sound life sound session (Upsert key value) words first free
@@ -261,17 +263,17 @@ operation_sound life sound session op words =
     op_sound life sound session op words (first_of_one session life.shape.sessions sound.one_session (not_true (nat_lt session life.shape.sessions) some)) (free_of op free)))
 
 -- ---- a commit that is asked for
-less_number : (number : ℕ) → number ≤ 8190 → nat_eq (number + 1) 8191 ≡ false → number < 8190
+less_number : (number : ℕ) → number < last_version → nat_eq (number + 1) last_version ≡ false → number + 1 < last_version
 less_number number most e = grind (arith, nat_tests)
 
 true_is : (b : Bool) → IsTrue b → b ≡ true
 true_is b e = e
 
-begun : (life : Life) (b : Bool) → life.is_committing ≡ b → IsWithinLimits life → IsTrue (b || is_ok (answer_to_commit (record life { is_committing = b }))) → life.number < 8190
+begun : (life : Life) (b : Bool) → life.is_committing ≡ b → IsWithinLimits life → IsTrue (b || is_ok (answer_to_commit (record life { is_committing = b }))) → life.number + 1 < last_version
 begun life true is range runs = range.committing (rw is refl)
-begun life false is range runs = by_test (nat_eq (life.number + 1) 8191) refl
+begun life false is range runs = by_test (nat_eq (life.number + 1) last_version) refl
   where
-    by_test : (t : Bool) → nat_eq (life.number + 1) 8191 ≡ t → life.number < 8190
+    by_test : (t : Bool) → nat_eq (life.number + 1) last_version ≡ t → life.number + 1 < last_version
     by_test true full = let off : false ≡ true = rw full at runs in absurd (cc)
     by_test false few = less_number life.number range.number few
 

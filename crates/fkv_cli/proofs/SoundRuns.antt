@@ -4,32 +4,27 @@ use Rattle.std.specs.Prelude.{nat_eq, nat_le, nat_lt, ◌&&◌, if◌then◌else
 use Rattle.std.specs.FinMap.{entries}
 use Rattle.std.proofs.lemmas.Bool.Decides.{nat_tests}
 use Rattle.std.proofs.lemmas.List.Elements.{All-head, All-tail, All-cons}
+use Rattle.fkv_base.specs.Limits.{last_version}
 use Rattle.fkv_base.specs.declared.faults.Fault.{Fault}
 use Rattle.fkv_disk.specs.Calls.{reads_as}
 use Rattle.fkv_recover.specs.Log.{Log}
-use Rattle.fkv_recover.proofs.Keys.{some_is}
-use Rattle.fkv_cli.specs.declared.answers.CommitPoint.{CommitPoint}
-use Rattle.fkv_cli.specs.declared.scripts.Command.{Command}
-use Rattle.fkv_cli.specs.declared.scripts.Command.TheVariants.{Operation, Commit, Finish, Crash, CrashAt}
+use Rattle.fkv_recover.proofs.Shown.{some_is}
+use Rattle.fkv_script.specs.declared.answers.CommitPoint.{CommitPoint}
+use Rattle.fkv_script.specs.declared.scripts.Command.{Command}
+use Rattle.fkv_script.specs.declared.scripts.Command.TheVariants.{Operation, Commit, Finish, Crash, CrashAt}
+use Rattle.fkv_script.proofs.Shown.{IsCommandOfWords}
 use Rattle.fkv_cli.specs.FreshLog.{tail}
 use Rattle.fkv_cli.specs.Life.{Life, last_commit}
 use Rattle.fkv_cli.specs.Commits.{finish_calls, next_commit, finished}
 use Rattle.fkv_cli.specs.Crashes.{struck_in, struck_after, struck_image, crash_image, IsRecovered}
-use Rattle.fkv_cli.specs.Output.{image_of, IsWantOfMemory, IsRefusal, report_text, after_command, Plays, ends, ends_in_crash, answers, recovers, refuses}
+use Rattle.fkv_cli.specs.Output.{image_of, IsWantOfMemory, IsRefusal, after_command, Plays, ends, ends_in_crash, answers, recovers, refuses}
+use Rattle.fkv_script.specs.Texts.{report_text}
 use Rattle.fkv_cli.specs.Replays as law
 use Rattle.fkv_cli.specs.Replays.{commit_at, commit_left, IsReplay, Replays, reports}
 use Rattle.fkv_cli.specs.Stores.{Stores}
-use Rattle.fkv_cli.proofs.SoundLife.{IsSoundLife, IsOfWords, operation_sound, commit_sound}
+use Rattle.fkv_cli.proofs.SoundLife.{IsSoundLife, operation_sound, commit_sound}
 use Rattle.fkv_cli.proofs.SoundFinishes.{log_written, finish_committed, finish_sound}
 use Rattle.fkv_cli.proofs.SoundCrashes.{IsLeft, no_fault_in, recovered_sound, recovered_number, recovered_point, recovered_serial, recovered_history, recovered_map}
-
--- the numbers of a command are words
-abbrev pub IsCommandOfWords : Command → Type 0
-IsCommandOfWords (Operation session op) = IsOfWords op
-IsCommandOfWords Commit = Unit {0}
-IsCommandOfWords Finish = Unit {0}
-IsCommandOfWords Crash = Unit {0}
-IsCommandOfWords (CrashAt call) = Unit {0}
 
 -- The bytes: what a finish makes of them, and what a crash leaves, where torn bytes hold this.
 pub record AreImages (torn : ℕ) : Type 0 where
@@ -40,7 +35,7 @@ pub record AreImages (torn : ℕ) : Type 0 where
       → (nat_eq torn 165 && nat_le (length (finish_calls life)) (passed + 2)) ≡ true → Stores (struck_image torn passed life) life.shape (life.number + 1) life.serial (log_written sound.log life)
   pub calm : (life : Life) (sound : IsSoundLife life) → Stores (crash_image torn life) life.shape life.number life.point sound.log
 
-less_number : (life : Life) → IsSoundLife life → life.is_committing ≡ true → life.number < 8190
+less_number : (life : Life) → IsSoundLife life → life.is_committing ≡ true → life.number + 1 < last_version
 less_number life sound runs = sound.range.committing runs
 
 -- ---- what a crash leaves
@@ -67,7 +62,7 @@ new_left : (life : Life) (sound : IsSoundLife life) → life.is_committing ≡ t
     → IsLeft life image (life.number + 1) life.serial (tail life.log) (log_written sound.log life)
 new_left life sound runs image stores = record {
   committed = finish_committed life sound image stores;
-  few = (let most : life.number + 1 ≤ 8190 = omega (arith, less_number life sound runs) in most);
+  few = (let most : life.number + 1 < last_version = omega (arith, less_number life sound runs) in most);
   fits = sound.range.serial;
   some = (let some : 1 ≤ tail life.log = omega (arith, sound.range.start) in some);
   end = sound.range.end;

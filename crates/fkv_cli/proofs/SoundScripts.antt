@@ -1,17 +1,17 @@
 -- What is written for a script is what is written where each crash is answered by a replay.
 use Rattle.std.proofs.Common.{◌≡◌, inl, inr, ℕ, ◌<◌, ◌≤◌, Bool, true, false, List, take, Option, Some, None, IfSome, Result, Ok, Err, refl, arith, All}
 use Rattle.fkv_base.specs.declared.shapes.Shape.{Shape}
-use Rattle.fkv_cli.specs.declared.options.RunFault.{RunFault}
-use Rattle.fkv_cli.specs.declared.options.Verdict.{Verdict}
-use Rattle.fkv_cli.specs.declared.scripts.Command.{Command}
-use Rattle.fkv_cli.specs.declared.scripts.Sizes.{Sizes}
+use Rattle.fkv_script.specs.declared.options.RunFault.{RunFault}
+use Rattle.fkv_script.specs.declared.options.Verdict.{Verdict}
+use Rattle.fkv_script.specs.declared.scripts.Command.{Command}
+use Rattle.fkv_script.specs.declared.scripts.Sizes.{Sizes}
 use Rattle.fkv_cli.specs.Life.{new_life}
-use Rattle.fkv_cli.specs.Script.{ScriptText, LineFault, script_of}
+use Rattle.fkv_script.specs.Script.{ScriptText, LineFault, script_of}
 use Rattle.fkv_cli.specs.Output.{PlaysNew, PlaysShape, PlaysOpening, PlaysScript, is_accepted, script_limit, IsOutputOf, Ends, IsRunOf}
 use Rattle.fkv_cli.specs.Replays.{ReplaysNew, ReplaysShape, ReplaysOpening, ReplaysScript, IsReplayOf, IsReplayRunOf, CrashesAreReplays}
-use Rattle.fkv_cli.proofs.ScriptWords.{HasOneSession, HasOne, IsScriptOfWords, script_words}
+use Rattle.fkv_script.proofs.Shown.{IsCommandOfWords, HasOneSession, HasOne, IsScriptOfWords, script_words}
 use Rattle.fkv_cli.proofs.SoundBeginnings.{new_sound}
-use Rattle.fkv_cli.proofs.SoundRuns.{IsCommandOfWords, replays}
+use Rattle.fkv_cli.proofs.SoundRuns.{replays}
 use Rattle.fkv_cli.proofs.TornImages.{are_images}
 
 module _ (torn : ℕ) (fits : torn < 256) where

@@ -2,8 +2,7 @@
 use Rattle.std.proofs.Common.{◌≡◌, ◌⊎◌, inl, inr, ⊎_elim, ℕ, ◌-◌, ◌<◌, List, [], ◌∷◌, length, Bool, true, false, not, ◌&&◌, refl, ap, ◌∙◌, arith}
 use Rattle.fkv_disk.specs.Bytes.{byte_at, covers, written, AreBytes}
 use Rattle.fkv_disk.specs.Calls.{Call, Write, Sync, reads_as, is_untouched, torn_image}
-use Rattle.fkv_disk.proofs.BytesLemmas.{byte_at-written_in, byte_at-written_out}
-use Rattle.fkv_disk.proofs.Left.{torn_bytes}
+use Rattle.fkv_disk.proofs.Shown.{byte_at-written_in, byte_at-written_out, torn_bytes}
 use Rattle.fkv_cli.specs.Stops.{IsStop, here, earlier, AreWithin}
 use Rattle.fkv_cli.proofs.BytesWords.{bool_is, torn_untouched}
 

@@ -5,8 +5,7 @@ use Rattle.std.proofs.lemmas.Bool.Decides.{nat_tests}
 use Rattle.fkv_base.specs.declared.shapes.Shape.{Shape}
 use Rattle.fkv_disk.specs.Bytes.{byte_at, covers, written, AreBytes}
 use Rattle.fkv_disk.specs.Calls.{Call, Write, Sync, reads_as, is_untouched, torn_image}
-use Rattle.fkv_disk.proofs.BytesLemmas.{covered, in_range, before_range, after_range, byte_at-written_in, byte_at-written_out}
-use Rattle.fkv_disk.proofs.Left.{reads_out}
+use Rattle.fkv_disk.proofs.Shown.{covered, in_range, before_range, after_range, byte_at-written_in, byte_at-written_out, reads_out}
 use Rattle.fkv_recover.specs.Image.{word_at, head_of, slot_start, most_triples}
 use Rattle.fkv_recover.specs.Manifest.{is_open, number_of}
 use Rattle.fkv_recover.specs.Log.{Log}

@@ -3,15 +3,16 @@ use Rattle.std.proofs.Common.{◌≡◌, ◌≢◌, ◌⊎◌, inl, inr, ⊎_eli
 use Rattle.std.specs.Prelude.{nat_eq, nat_le, ◌&&◌, slice_index}
 use Rattle.std.specs.FinMap.{entries}
 use Rattle.std.proofs.lemmas.Bool.Decides.{nat_tests}
+use Rattle.fkv_base.specs.Limits.{max_buckets, max_overflow}
 use Rattle.fkv_disk.specs.Bytes.{byte_at}
 use Rattle.fkv_disk.specs.Calls.{Call, reads_as, torn_image}
-use Rattle.fkv_disk.proofs.BytesLemmas.{is_listed}
+use Rattle.fkv_disk.proofs.Shown.{is_listed}
 use Rattle.fkv_record.specs.Places.{most_triples}
 use Rattle.fkv_recover.specs.Image.{head_of, slot_start, bits_of, overflow_of}
 use Rattle.fkv_recover.specs.Image as image
 use Rattle.fkv_recover.specs.Manifest.{is_open}
 use Rattle.fkv_recover.specs.Log.{Log}
-use Rattle.fkv_recover.proofs.Slots.{triples_fit, page_fits, log_fits}
+use Rattle.fkv_recover.proofs.Shown.{triples_fit, page_fits, log_fits}
 use Rattle.fkv_cli.specs.FreshLog.{tail}
 use Rattle.fkv_cli.specs.Life.{Life}
 use Rattle.fkv_cli.specs.Commits.{next_number, slot_place, is_gate_open, slot_body, finish_calls}
@@ -87,7 +88,7 @@ module _ (life : Life) (log : Log) (holds : HoldsLast life log) (fits : FitsComm
   number_fits : next_number life < 2 ^ 64
   number_fits = omega (arith, fits.number)
 
-  few : length (entries life.index.entries) ≤ 14336
+  few : length (entries life.index.entries) ≤ 7 * (max_buckets + max_overflow)
   few = omega (arith, fits.few_entries, triples_fit life.shape.bucket_bits life.shape.overflow life.shape.limits.few_buckets life.shape.limits.few_overflow)
 
   tail_fits : tail life.log < 2 ^ 64

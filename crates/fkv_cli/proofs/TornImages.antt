@@ -5,6 +5,7 @@ use Rattle.std.specs.FinMap.{entries}
 use Rattle.std.proofs.lemmas.List.Concat.{flat_map-cons}
 use Rattle.std.proofs.lemmas.List.Elements.{All-head, All-tail, All-from_get_or, All-weaker, Contains-get_or}
 use Rattle.fkv_recover.specs.Log.{key}
+use Rattle.fkv_base.specs.Limits.{max_disk_pages, max_page, max_bucket_bits, max_buckets, last_version}
 use Rattle.fkv_cli.specs.declared.fresh_logs.FreshRecord.{FreshRecord}
 use Rattle.fkv_cli.specs.FreshLog.{tail}
 use Rattle.fkv_cli.specs.Life.{Life}
@@ -26,7 +27,7 @@ small_each f [] all = small_none
 small_each f (x ∷ xs) all = subst AreSmall (sym (flat_map-cons f x xs))
     (small_append (f x) (flat_map f xs) (All-head (λ y. AreSmall (f y)) x xs all) (small_each f xs (All-tail (λ y. AreSmall (f y)) x xs all)))
 
-record_small : (version : ℕ) → version ≤ 8190 → (r : FreshRecord) → IsWords r → AreSmall (record_words version r)
+record_small : (version : ℕ) → version < last_version → (r : FreshRecord) → IsWords r → AreSmall (record_words version r)
 record_small version few r are =
     small_cons (r.previous.0 + version * 2 ^ 48) (r.key.0 ∷ r.value ∷ []) (omega (arith, few, are.previous))
     (small_cons r.key.0 (r.value ∷ []) are.key (small_cons r.value [] are.value small_none))
@@ -39,7 +40,7 @@ module _ (life : Life) (sound : IsSoundLife life) where
   pub device_holds : HoldsLast life sound.log
   device_holds = record { stored = sound.committed.stores; start = sound.committed.follows.tail; one_session = sound.one_session }
 
-  tail_low : tail life.log ≤ 2 ^ 26
+  tail_low : tail life.log ≤ max_disk_pages * max_page
   tail_low = omega (arith, sound.range.end, log_end_fits life.shape)
 
   entries_small : AreSmall (entry_words life)
@@ -47,11 +48,11 @@ module _ (life : Life) (sound : IsSoundLife life) where
       let e = get_or (entries life.index.entries) i (0, 0) in
       let last = sound.indexed.now.last.found e.0 e.1 (get_from_contains life.index.entries e.0 e.1 (Contains-get_or (entries life.index.entries) i (0, 0) within)) in
       let in_index : e.0 / 2 ^ 15 < 2 ^ sound.log.bits = subst (λ h. h / 2 ^ 15 < 2 ^ sound.log.bits) last.of_home (home_in_index sound.log.bits (key (now_log sound.log (life.number + 1) life.log) e.1)) in
-      let few : sound.log.bits ≤ 10 = omega (arith, sound.committed.bits, life.shape.limits.few_buckets) in
-      let most : 2 ^ sound.log.bits ≤ 2 ^ 10 = pow_mono {i = sound.log.bits} {j = 10} few in
+      let few : sound.log.bits ≤ max_bucket_bits = omega (arith, sound.committed.bits, life.shape.limits.few_buckets) in
+      let most : 2 ^ sound.log.bits ≤ max_buckets = pow_mono {i = sound.log.bits} {j = max_bucket_bits} few in
       entry_small e (omega (arith, in_index, most)) (omega (arith, last.in_log, tail_low))))
 
-  records_small : life.number < 8190 → AreSmall (fresh_words life)
+  records_small : life.number + 1 < last_version → AreSmall (fresh_words life)
   records_small few = small_each (record_words (next_number life)) life.log.records
       (All-weaker IsWords (λ r. AreSmall (record_words (next_number life) r)) (λ r are. record_small (next_number life) (omega (arith, few)) r are) life.log.records sound.indexed.words)
 

@@ -6,7 +6,7 @@ use Rattle.fkv_record.specs.Numbers.{spelled}
 use Rattle.fkv_record.specs.Places.{area_place, record_place}
 use Rattle.fkv_disk.specs.Bytes.{byte_at}
 use Rattle.fkv_disk.specs.Calls.{Call, Write, Sync, reads_as}
-use Rattle.fkv_cli.specs.declared.answers.CommitPoint.{CommitPoint}
+use Rattle.fkv_script.specs.declared.answers.CommitPoint.{CommitPoint}
 use Rattle.fkv_cli.specs.declared.fresh_logs.FreshRecord.{FreshRecord}
 use Rattle.fkv_cli.specs.Index.{bucket_of, tag_of}
 use Rattle.fkv_cli.specs.FreshLog.{FreshLog, log_at, tail}

@@ -1,7 +1,8 @@
 -- How a store of whole calls and its device agree: between two lines the device stores the last finished commit.
-use Rattle.std.specs.Prelude.{◌≡◌, ℕ, ◌^◌, ◌<◌, ◌≤◌, List, length, slice_index}
+use Rattle.std.specs.Prelude.{◌≡◌, ℕ, ◌+◌, ◌^◌, ◌<◌, ◌≤◌, List, length, slice_index}
 use Rattle.std.specs.List.{flat_map}
 use Rattle.std.specs.FinMap.{entries}
+use Rattle.fkv_base.specs.Limits.{last_version, last_serial}
 use Rattle.fkv_record.specs.Places.{most_triples}
 use Rattle.fkv_recover.specs.Log.{Log}
 use Rattle.fkv_cli.specs.FreshLog.{tail}
@@ -28,8 +29,8 @@ AreSmall words = (k : ℕ) → slice_index words k < 2 ^ 64
 
 -- The numbers of the next commit are within their limits.
 pub record FitsCommit (life : Life) : Type 0 where
-  pub number : life.number < 8190
-  pub serial : life.serial < 2 ^ 48
+  pub number : life.number + 1 < last_version
+  pub serial : life.serial ≤ last_serial
   pub start : 1 ≤ life.log.start
   pub end : tail life.log ≤ log_end life
   pub few_entries : length (entries life.index.entries) ≤ most_triples life.shape

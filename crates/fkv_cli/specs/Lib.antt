@@ -6,13 +6,9 @@ pub mod Holds
 pub mod Homes
 pub mod Index
 pub mod Life
-pub mod Options
 pub mod Output
 pub mod Placed
 pub mod Planned
-pub mod Reading
 pub mod Replays
-pub mod RunFault
-pub mod Script
 pub mod Stops
 pub mod Stores

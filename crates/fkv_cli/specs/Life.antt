@@ -1,5 +1,5 @@
 -- A store of whole calls: what it has been told, its records and its device; and what it answers.
-use Rattle.std.specs.Prelude.{◌≡◌, ℕ, ◌+◌, ◌*◌, ◌^◌, ◌-◌, Bool, false, not, nat_lt, nat_le, nat_eq, List, [], ◌∷◌, ◌++◌, if◌then◌else◌, ◌&&◌, ◌||◌, Option, Some, None, Result, Ok, Err, is_ok, IsTrue, ◌<◌, ◌≤◌, length, All}
+use Rattle.std.specs.Prelude.{◌≡◌, ℕ, ◌+◌, ◌*◌, ◌^◌, Bool, false, not, nat_lt, nat_le, nat_eq, List, [], ◌∷◌, ◌++◌, if◌then◌else◌, ◌&&◌, ◌||◌, Option, Some, None, Result, Ok, Err, is_ok, IsTrue, ◌<◌, ◌≤◌, length, All}
 use Rattle.std.specs.Option.{unwrap_or}
 use Rattle.std.specs.FinMap.{empty, get}
 use Rattle.fkv_base.specs.declared.faults.Fault.{Fault}
@@ -7,15 +7,16 @@ use Rattle.fkv_base.specs.declared.faults.Fault.TheVariants.{ValueReserved, Inde
 use Rattle.fkv_base.specs.declared.numbers.Key.{Key}
 use Rattle.fkv_base.specs.declared.numbers.Version.{Version}
 use Rattle.fkv_base.specs.declared.shapes.Shape.{Shape}
+use Rattle.fkv_base.specs.Limits.{last_version, last_serial}
 use Rattle.fkv_map.specs.declared.operations.Op.{Op}
 use Rattle.fkv_map.specs.declared.operations.Op.TheVariants.{Upsert, Delete, Add, Max, Read}
 use Rattle.fkv_map.specs.declared.operations.Reply.{Reply}
 use Rattle.fkv_map.specs.declared.history.HistoryEntry.{HistoryEntry}
 use Rattle.fkv_map.specs.Map.{Map, absent_word, applied, reply_to}
 use Rattle.fkv_recover.specs.Log.{home_of_key}
-use Rattle.fkv_cli.specs.declared.answers.Answer.{Answer}
-use Rattle.fkv_cli.specs.declared.answers.CommitPoint.{CommitPoint}
-use Rattle.fkv_cli.specs.declared.answers.Answer.TheVariants.{Refused, Updated, Told}
+use Rattle.fkv_script.specs.declared.answers.Answer.{Answer}
+use Rattle.fkv_script.specs.declared.answers.CommitPoint.{CommitPoint}
+use Rattle.fkv_script.specs.declared.answers.Answer.TheVariants.{Refused, Updated, Told}
 use Rattle.fkv_cli.specs.Index.{Index, new_index, bucket_of, entry_of, has_room, with_room, with_entry}
 use Rattle.fkv_cli.specs.FreshLog.{FreshLog, log_at, tail, has_fresh, with_value, with_record}
 
@@ -89,7 +90,7 @@ lacks_record life key = not (has_fresh life.log key.0) && nat_le (log_end life) 
 -- record no place in the log.
 abbrev pub answer_to_update : Life → Op → Answer
 answer_to_update life op =
-    if nat_eq life.serial (2 ^ 48 - 1) then Refused SerialsSpent
+    if nat_eq life.serial last_serial then Refused SerialsSpent
     else if not (has_room life.index (home_in life (key_of op))) then Refused IndexFull
     else if lacks_record life (key_of op) then Refused LogFull
     else Updated (record { 0 = life.serial + 1 }) (reply_to life.map op)
@@ -165,7 +166,7 @@ after_operation life session op = after_answer life session op (answer_to life s
 abbrev pub answer_to_commit : Life → Result Version Fault
 answer_to_commit life =
     if life.is_committing then Err CommitRunning
-    else if nat_eq (life.number + 1) 8191 then Err VersionsSpent
+    else if nat_eq (life.number + 1) last_version then Err VersionsSpent
     else Ok (record { 0 = life.number + 1 })
 
 abbrev pub after_commit : Life → Life
@@ -182,10 +183,10 @@ pub record IsEntryInRange (life : Life) (home addr : ℕ) : Type 0 where
 -- a commit that runs isn't one of the last version; the log begins at 1 and ends on the device; each entry is in range, and each
 -- chain leads down
 pub record IsInRange (life : Life) : Type 0 where
-  pub number : life.number ≤ 8190
-  pub committing : IsTrue life.is_committing → life.number < 8190
-  pub serial : life.serial < 2 ^ 48
-  pub point : life.point < 2 ^ 48
+  pub number : life.number < last_version
+  pub committing : IsTrue life.is_committing → life.number + 1 < last_version
+  pub serial : life.serial ≤ last_serial
+  pub point : life.point ≤ last_serial
   pub start : 1 ≤ life.log.start
   pub end : tail life.log ≤ log_end life
   pub buckets : length life.index.linked ≡ 2 ^ life.shape.bucket_bits

@@ -6,18 +6,19 @@ use Rattle.fkv_base.specs.declared.faults.Fault.TheVariants.{BadShape}
 use Rattle.fkv_base.specs.declared.shapes.Shape.{Shape}
 use Rattle.fkv_map.specs.Map.{Map}
 use Rattle.fkv_map.specs.History.{content, kept}
-use Rattle.fkv_cli.specs.declared.answers.CommitPoint.{CommitPoint}
-use Rattle.fkv_cli.specs.declared.options.RunFault.{RunFault}
-use Rattle.fkv_cli.specs.declared.options.Verdict.{Verdict}
-use Rattle.fkv_cli.specs.declared.scripts.Command.{Command}
-use Rattle.fkv_cli.specs.declared.scripts.Command.TheVariants.{Operation, Commit, Finish, Crash, CrashAt}
-use Rattle.fkv_cli.specs.declared.scripts.Sizes.{Sizes}
-use Rattle.fkv_cli.specs.Script.{ScriptText, LineFault, script_of}
-use Rattle.fkv_cli.specs.RunFault.{line_fault_text}
+use Rattle.fkv_script.specs.declared.answers.CommitPoint.{CommitPoint}
+use Rattle.fkv_script.specs.declared.options.RunFault.{RunFault}
+use Rattle.fkv_script.specs.declared.options.Verdict.{Verdict}
+use Rattle.fkv_script.specs.declared.scripts.Command.{Command}
+use Rattle.fkv_script.specs.declared.scripts.Command.TheVariants.{Operation, Commit, Finish, Crash, CrashAt}
+use Rattle.fkv_script.specs.declared.scripts.Sizes.{Sizes}
+use Rattle.fkv_script.specs.Script.{ScriptText, LineFault, script_of}
+use Rattle.fkv_script.specs.RunFault.{line_fault_text}
 use Rattle.fkv_cli.specs.Life.{Life, new_life, last_commit}
 use Rattle.fkv_cli.specs.Commits.{finish_calls, next_commit}
 use Rattle.fkv_cli.specs.Crashes.{struck_after, IsRecovered}
-use Rattle.fkv_cli.specs.Output.{image_of, IsWantOfMemory, IsNotCreated, report_text, refusal_text, ended, command_text, after_command, HasSizes, IsCreated, is_accepted, script_limit, IsOutputOf, Ends}
+use Rattle.fkv_cli.specs.Output.{image_of, IsWantOfMemory, IsNotCreated, command_text, after_command, HasSizes, IsCreated, is_accepted, script_limit, IsOutputOf, Ends}
+use Rattle.fkv_script.specs.Texts.{report_text, refusal_text, ended}
 
 -- The commit that stands after a crash inside a finish: the last finished one. The last write of a finish opens the gate of its slot, and a sync
 -- follows: where the crash cut short one of these two, and torn bytes hold an open gate, the new commit stands.

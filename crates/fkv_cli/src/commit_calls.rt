@@ -1,6 +1,7 @@
 //! What a commit writes: the fresh records, the triples, and its slot behind its gate.
 ghost use Rattle.std.specs.Prelude.{◌≡◌, ◌≤◌, ◌<◌, ◌+◌, ◌*◌, ◌^◌, ◌++◌, ◌∷◌, [], IfOk, OnOk, true, All};
 ghost use Rattle.std.specs.List.{flat_map};
+ghost use Rattle.fkv_base.specs.Limits.{last_version, last_serial};
 ghost use Rattle.fkv_disk.specs.Calls.{Write, Sync};
 ghost use Rattle.fkv_record.specs.Layout.{slot_bytes, record_bytes, triple_bytes};
 ghost use Rattle.fkv_record.specs.Numbers.{spelled};
@@ -28,7 +29,7 @@ impl World {
 
     /// The calls of the device that finish the next commit.
     pub(crate) fn finish_calls(&self) -> Result<Vec<PlannedCall>, Fault>
-        requires { self.now.number < 8190 }
+        requires { self.now.number + 1 < last_version }
         ensures { IfOk result (λ calls. planned calls.items ≡ finish_calls self.now) }
     {
         let mut calls = Vec::new(self.alloc);
@@ -41,7 +42,7 @@ impl World {
 
     /// One write for each page with a fresh record, and a sync.
     fn plan_flush(&self, calls: &mut Vec<PlannedCall>) -> Result<(), Fault>
-        requires { self.now.number < 8190 }
+        requires { self.now.number + 1 < last_version }
         ensures { OnOk result (planned calls.new.items ≡ flush_calls self.now ++ planned calls.old.items) }
     {
         if self.log.records().is_empty() {
@@ -58,7 +59,7 @@ impl World {
 
     /// The write of the fresh records of a page.
     fn page_write(&self, page: u64) -> Result<PlannedCall, Fault>
-        requires number { self.now.number < 8190 }
+        requires number { self.now.number + 1 < last_version }
         requires from { page * self.now.shape.page < tail self.now.log }
         requires end { self.now.log.start < (page + 1) * self.now.shape.page }
         ensures { IfOk result (λ call. call_of call ≡ page_write self.now page) }
@@ -74,7 +75,7 @@ impl World {
     /// All triples in one write, where there are some, and a sync.
     #[tactic(auto, using(crate::proofs::Plans::planned_push), unfolding(crate::specs::Commits::triple_calls))]
     fn plan_triples(&self, calls: &mut Vec<PlannedCall>) -> Result<(), Fault>
-        requires { self.now.number < 8190 }
+        requires { self.now.number + 1 < last_version }
         ensures { OnOk result (planned calls.new.items ≡ triple_calls self.now ++ planned calls.old.items) }
     {
         let entries = self.index.entries()?;
@@ -90,7 +91,7 @@ impl World {
     /// The gate of the slot is closed, where it is open, and synced.
     #[tactic(auto, unfolding(crate::specs::Commits::close_calls))]
     fn plan_closing(&self, calls: &mut Vec<PlannedCall>) -> Result<(), Fault>
-        requires { self.now.number < 8190 }
+        requires { self.now.number + 1 < last_version }
         ensures { OnOk result (planned calls.new.items ≡ close_calls self.now ++ planned calls.old.items) }
     {
         if self.is_gate_open() {
@@ -101,7 +102,7 @@ impl World {
 
     /// Whether the gate of the slot of the next commit is open.
     fn is_gate_open(&self) -> bool
-        requires { self.now.number < 8190 }
+        requires { self.now.number + 1 < last_version }
         ensures { result ≡ is_gate_open self.now }
     {
         self.bytes.get(self.slot_place() as usize) == Some(&OPEN)
@@ -110,7 +111,7 @@ impl World {
     /// The slot behind its gate, a sync, the gate, and a sync.
     #[tactic(auto, using(crate::proofs::Plans::planned_push), unfolding(crate::specs::Commits::slot_calls))]
     fn plan_slot(&self, calls: &mut Vec<PlannedCall>) -> Result<(), Fault>
-        requires { self.now.number < 8190 }
+        requires { self.now.number + 1 < last_version }
         ensures { OnOk result (planned calls.new.items ≡ slot_calls self.now ++ planned calls.old.items) }
     {
         let place = self.slot_place();
@@ -123,7 +124,7 @@ impl World {
 
     /// Where the slot of the next commit lies.
     fn slot_place(&self) -> u64
-        requires { self.now.number < 8190 }
+        requires { self.now.number + 1 < last_version }
         ensures { result ≡ slot_place (next_number self.now) }
     {
         SLOT_PLACES[((self.number + 1) % 2) as usize]
@@ -131,7 +132,7 @@ impl World {
 
     /// The bytes of the slot behind its gate.
     fn slot_body(&self) -> Result<Vec<u8>, Fault>
-        requires { self.now.number < 8190 }
+        requires { self.now.number + 1 < last_version }
         ensures { IfOk result (λ bytes. bytes.items ≡ slot_body self.now) }
     {
         let triples = self.index.entries()?.len() as u64;
@@ -147,7 +148,7 @@ impl World {
 
 /// The slot of a commit whose log is written up to its tail.
 fn slot_of(number: u64, tail: u64, triples: u64, point: Serial) -> Slot
-    requires { point.0 < 2 ^ 48 }
+    requires { point.0 ≤ last_serial }
     ensures { slot_bytes result ≡ spelled (slot_words number tail triples point.0) }
 {
     let mut serials = ArrayVec::new();

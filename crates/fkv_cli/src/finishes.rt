@@ -1,13 +1,14 @@
 //! A finish: its calls all pass, or a crash strikes at one of them.
 ghost use Rattle.std.specs.Option.{is_some};
-ghost use Rattle.std.specs.Prelude.{◌≡◌, IfOk, OnOk, IsTrue, ◌<◌, Some, None};
+ghost use Rattle.std.specs.Prelude.{◌≡◌, ◌+◌, IfOk, OnOk, IsTrue, ◌<◌, Some, None};
+ghost use Rattle.fkv_base.specs.Limits.{last_version};
 
-use crate::answers::CommitPoint;
 use crate::crashes::{bytes_after, image_between, image_within};
 use crate::fresh_logs::FreshLog;
 use crate::planned_calls::PlannedCall;
 use crate::worlds::World;
 use fkv_base::{Fault, Serial};
+use fkv_script::CommitPoint;
 use std::mem;
 
 impl World {
@@ -18,7 +19,7 @@ impl World {
     /// Whether a commit was asked for and isn't finished.
     pub(crate) fn is_committing(&self) -> bool
         ensures committing { result ≡ self.now.is_committing }
-        ensures not_last { IsTrue result → self.now.number < 8190 }
+        ensures not_last { IsTrue result → self.now.number + 1 < last_version }
     {
         self.is_committing
     }
@@ -43,7 +44,7 @@ impl World {
 
     /// Makes the calls of a finish, and answers the commit that it finishes.
     pub(crate) fn finish(&mut self, calls: &[PlannedCall]) -> Result<CommitPoint, Fault>
-        requires running { self.old.number < 8190 }
+        requires running { self.old.number + 1 < last_version }
         requires planned { planned calls.now ≡ finish_calls self.old }
         requires passes { struck_after self.old ≡ None }
         ensures answer { IfOk result (λ commit. commit ≡ next_commit self.old) }

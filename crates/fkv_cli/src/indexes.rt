@@ -1,6 +1,7 @@
 //! The index, as far as records need it: where the chains of the homes begin, and how many slots the buckets have.
-ghost use Rattle.std.specs.Prelude.{◌≡◌, ◌<◌, ◌^◌, ◌-◌, ◌/◌, ◌+◌, IfOk, OnOk, OnErr, Err, true, length, map, nat_lt, sum};
+ghost use Rattle.std.specs.Prelude.{◌≡◌, ◌≤◌, ◌<◌, ◌^◌, ◌-◌, ◌/◌, ◌+◌, IfOk, OnOk, OnErr, Err, true, length, map, nat_lt, sum};
 ghost use Rattle.std.specs.FinMap.{entries};
+ghost use Rattle.fkv_base.specs.Limits.{max_bucket_bits};
 ghost use Rattle.fkv_base.specs.declared.faults.Fault.TheVariants.{Memory};
 ghost use Rattle.fkv_recover.specs.Room.{needed};
 
@@ -46,7 +47,7 @@ impl Index {
 
     /// An index of 2^bits buckets, in which no home has a record.
     pub(crate) fn new(alloc: Global, bits: u64, overflow: u64) -> Result<Index, Fault>
-        requires { bits < 11 }
+        requires { bits ≤ max_bucket_bits }
         ensures new { IfOk result (λ index. index ≡ new_index bits overflow) }
         ensures cause { OnErr result (result ≡ Err Memory) }
     {

@@ -1,7 +1,6 @@
-//! Session scripts: from the bytes of a script to the text of its answers.
+//! Runs of session scripts on a plain world: a map, its history, and records on a device in memory.
 #![tactic(auto)]
 
-mod answers;
 mod commit_calls;
 mod crashes;
 mod finishes;
@@ -9,19 +8,10 @@ mod fresh_logs;
 mod indexes;
 mod laws;
 mod number_maps;
-mod options;
 mod planned_calls;
 mod programs;
-mod reading;
 mod recoveries;
-mod scripts;
-#[cfg(test)]
-mod tests;
-mod texts;
 mod worlds;
 
 pub use laws::law_reports;
-pub use options::{Options, RunFault, Verdict, options_of};
 pub use programs::run;
-pub use reading::script_of;
-pub use scripts::{Command, Script, Sizes};

@@ -2,23 +2,24 @@
 ghost use Rattle.std.specs.Prelude.{◌≡◌, ◌⊎◌, OnOk, IfOk, IfErr, IfSome, [], ℕ, List, take, is_ok, string_bytes};
 ghost use Rattle.std.specs.Io.KnownBytes.{Appends};
 ghost use Rattle.fkv_base.specs.declared.faults.Fault.TheVariants.{BadShape};
-ghost use Rattle.fkv_cli.specs.RunFault.{IsWant};
-ghost use Rattle.fkv_cli.specs.declared.scripts.Command.TheVariants.{Finish};
+ghost use Rattle.fkv_script.specs.RunFault.{IsWant};
+ghost use Rattle.fkv_script.specs.declared.scripts.Command.TheVariants.{Finish};
 ghost use Rattle.fkv_cli.specs.Replays.{IsReplayRunOf};
-ghost use Rattle.fkv_cli.specs.Output.{IsRunOf, Ends, Plays, PlaysOpening, PlaysNew, IsPlayed, IsCrashed, HasSizes, ended, refusal_text, is_accepted, script_limit};
+ghost use Rattle.fkv_cli.specs.Output.{IsRunOf, Ends, Plays, PlaysOpening, PlaysNew, IsPlayed, IsCrashed, HasSizes, is_accepted, script_limit};
+ghost use Rattle.fkv_script.specs.Texts.{ended, refusal_text};
 
-use crate::options::{Options, RunFault, Verdict};
-use crate::reading::script_of;
-use crate::scripts::{Command, Script, Sizes};
-use crate::texts::{write_answer, write_commit, write_finish, write_refusal, write_report};
 use crate::worlds::World;
 use fkv_base::{Fault, Shape};
+use fkv_script::{
+    Command, MOST_BYTES, MOST_LINES, Options, RunFault, Script, Sizes, Verdict, script_of,
+    write_answer, write_commit, write_finish, write_refusal, write_report,
+};
 use std::alloc::Global;
 use std::io::{self, Read, Write};
 use thiserror::Error;
 
 /// A longer script has its first faulty line among its first so many bytes.
-const SCRIPT_LIMIT: u64 = 13_172_737;
+const SCRIPT_LIMIT: u64 = MOST_LINES * (MOST_BYTES as u64 + 1) + 1;
 
 /// Memory was refused, or a stream failed.
 #[derive(Clone, Copy, Debug, PartialEq, Eq, Error)]
@@ -105,7 +106,7 @@ fn write_text<W: Write>(output: &mut W, text: &str) -> io::Result<()>
 }
 
 /// Runs a script without a faulty line.
-#[tactic(auto, using(crate::proofs::Appending::appends_nothing), unfolding(crate::specs::Output::PlaysOpening))]
+#[tactic(auto, using(fkv_script::proofs::Shown::appends_nothing), unfolding(crate::specs::Output::PlaysOpening))]
 fn run_script<W: Write>(
     alloc: Global,
     output: &mut W,

@@ -1,14 +1,15 @@
 //! The world that a script runs on: a store of one session whose calls are whole.
 ghost use Rattle.std.specs.Prelude.{◌≡◌, ◌<◌, ◌-◌, ◌+◌, ◌^◌, IfOk, OnOk, true, false, length};
 ghost use Rattle.std.specs.FinMap.{entries};
+ghost use Rattle.fkv_base.specs.Limits.{last_serial};
 ghost use Rattle.fkv_map.specs.Map.{as_numbers, reply_to};
 ghost use Rattle.fkv_cli.specs.Life.{key_of};
 
-use crate::answers::{Answer, CommitPoint};
 use crate::fresh_logs::{FreshLog, FreshRecord};
 use crate::indexes::Index;
 use fkv_base::{Addr, Fault, Key, Serial, Shape, Value, Version};
 use fkv_map::{HistoryEntry, Op, PlainMap, Reply};
+use fkv_script::{Answer, CommitPoint};
 use fkv_words::{bucket_of, tag_of};
 use std::alloc::Global;
 use std::marker::Model;
@@ -214,7 +215,7 @@ impl World {
 
     /// Puts an update at the history's end, and answers the serial that it takes.
     fn tell(&mut self, session: u64, op: Op, reply: Reply) -> Result<Serial, Fault>
-        requires { self.old.serial < 2 ^ 48 - 1 }
+        requires { self.old.serial < last_serial }
         ensures serial { IfOk result (λ serial. serial.0 ≡ self.old.serial + 1) }
         ensures after { OnOk result (self.new ≡ told self.old session op reply) }
     {

@@ -3,12 +3,9 @@ use Rattle.std.proofs.Common.{◌≡◌, ◌⊎◌, inl, inr, ℕ, zero, suc, �
 use Rattle.std.specs.Prelude.{if◌then◌else◌}
 use Rattle.std.proofs.lemmas.Bool.Decides.{nat_tests}
 use Rattle.std.proofs.lemmas.List.{get_or_past, ext_get_or}
-use Rattle.std.proofs.lemmas.List.FromFn.{length-map-range_with_len, get_or-map-range_with_len, fill_by_all}
+use Rattle.std.proofs.lemmas.List.FromFn.{get_or-map-range_with_len, fill_by_all}
 use Rattle.fkv_disk.specs.Bytes.{byte_at, listed, bytes_at, covers, range_end, written}
-
-pub length-listed : (n : ℕ) (f : ℕ → ℕ) → length (listed n f) ≡ n
-unfolding listed
-length-listed n f = length-map-range_with_len f 0 n
+use Rattle.fkv_disk.specs.Stays.{length-listed, length-written}
 
 pub byte_at-listed : (n : ℕ) (f : ℕ → ℕ) (i : ℕ) → i < n → byte_at (listed n f) i ≡ f i
 unfolding listed
@@ -50,9 +47,6 @@ module _ (old : List ℕ) (at : ℕ) (bytes : List ℕ) where
   after_write : ℕ → ℕ
   after_write i = if covers at (length bytes) i then byte_at bytes (i - at) else byte_at old i
 
-  pub length-written : length (written old at bytes) ≡ max (length old) (range_end at (length bytes))
-  length-written = length-listed _ _
-
   pub byte_at-written_in : (i : ℕ) → covers at (length bytes) i ≡ true → byte_at (written old at bytes) i ≡ byte_at bytes (i - at)
   byte_at-written_in i is_in =
       let span = covered at (length bytes) i is_in in
@@ -67,7 +61,7 @@ module _ (old : List ℕ) (at : ℕ) (bytes : List ℕ) where
 
       by_place : (i < max (length old) (range_end at (length bytes))) ⊎ (max (length old) (range_end at (length bytes)) ≤ i) → byte_at (written old at bytes) i ≡ byte_at old i
       by_place (inl below) = byte_at-listed _ _ i below ∙ ap (λ (b : Bool). if b then byte_at bytes (i - at) else byte_at old i) is_out
-      by_place (inr past) = byte_at_past (written old at bytes) i (omega (arith, length-written)) ∙ sym (byte_at_past old i (omega arith))
+      by_place (inr past) = byte_at_past (written old at bytes) i (omega (arith, length-written old at bytes)) ∙ sym (byte_at_past old i (omega arith))
 
 -- a read of a range gives what stands at its offsets
 pub byte_at-bytes_at : (bytes : List ℕ) (at n k : ℕ) → k < n → byte_at (bytes_at bytes at n) k ≡ byte_at bytes (at + k)

@@ -4,7 +4,8 @@ use Rattle.std.specs.Prelude.{if◌then◌else◌}
 use Rattle.std.proofs.lemmas.List.{ext_get_or}
 use Rattle.fkv_disk.specs.Bytes.{byte_at, bytes_at, covers, range_end, written}
 use Rattle.fkv_disk.specs.Calls.{Call, Write, Sync, reads_as, is_sure, is_untouched, synced_end, far_end, AllDone, ReadsAs, MayLeave}
-use Rattle.fkv_disk.proofs.BytesLemmas.{bytes_at_same, bytes_at-written, length-written, before_range, after_range, in_range, range_end_is}
+use Rattle.fkv_disk.specs.Stays.{length-written}
+use Rattle.fkv_disk.proofs.BytesLemmas.{bytes_at_same, bytes_at-written, before_range, after_range, in_range, range_end_is}
 use Rattle.fkv_disk.proofs.Left.{sure_in, sure_out}
 
 -- where each call succeeded each byte is sure, and the end is known

@@ -1,29 +1,15 @@
 -- What a call makes of the images that a crash may leave.
-use Rattle.std.proofs.Common.{◌≡◌, ◌⊎◌, inl, inr, ℕ, ◌<◌, ◌≤◌, min, List, [], ◌∷◌, length, Bool, true, false, not, ◌&&◌, refl, sym, ◌∙◌, ap, subst, arith}
+use Rattle.std.proofs.Common.{◌≡◌, ◌⊎◌, inl, inr, ℕ, ◌<◌, ◌≤◌, min, List, ◌∷◌, length, Bool, true, false, not, ◌&&◌, refl, sym, ◌∙◌, ap, subst, arith}
 use Rattle.std.specs.Prelude.{if◌then◌else◌}
 use Rattle.fkv_disk.specs.Bytes.{byte_at, listed, covers, written, AreBytes}
 use Rattle.fkv_disk.specs.Calls.{Call, Write, Sync, reads_as, is_sure, is_untouched, synced_end, far_end, ReadsAs, MayLeave, torn_image}
 use Rattle.fkv_disk.specs.Device.{Torn, Writes}
-use Rattle.fkv_disk.proofs.BytesLemmas.{length-listed, byte_at-listed, byte_at_past, length-written, byte_at-written_in, byte_at-written_out}
+use Rattle.fkv_disk.specs.Stays.{length-listed, length-written, reads_within, synced_within}
+use Rattle.fkv_disk.proofs.BytesLemmas.{byte_at-listed, byte_at_past, byte_at-written_in, byte_at-written_out}
 
 bool_is : (b : Bool) → (b ≡ true) ⊎ (b ≡ false)
 bool_is true = inl refl
 bool_is false = inr refl
-
--- the writes that succeeded reach no further than all of them
-pub reads_within : (opening : List ℕ) (calls : List Call) → length (reads_as opening calls) ≤ far_end opening calls
-reads_within opening [] = omega arith
-reads_within opening (Write at bytes true ∷ before) = omega (arith, length-written (reads_as opening before) at bytes, reads_within opening before)
-reads_within opening (Write at bytes false ∷ before) = omega (arith, reads_within opening before)
-reads_within opening (Sync done ∷ before) = reads_within opening before
-
--- the synced end lies within
-pub synced_within : (opening : List ℕ) (calls : List Call) → synced_end opening calls ≤ length (reads_as opening calls)
-synced_within opening [] = omega arith
-synced_within opening (Write at bytes true ∷ before) = omega (arith, length-written (reads_as opening before) at bytes, synced_within opening before)
-synced_within opening (Write at bytes false ∷ before) = synced_within opening before
-synced_within opening (Sync true ∷ before) = omega arith
-synced_within opening (Sync false ∷ before) = synced_within opening before
 
 -- what a write leaves of an offset that it doesn't cover
 untouched_out : (at : ℕ) (bytes : List ℕ) (done : Bool) (before : List Call) (i : ℕ) → is_untouched (Write at bytes done ∷ before) i ≡ true → (covers at (length bytes) i ≡ false) × (is_untouched before i ≡ true)
@@ -114,14 +100,6 @@ module _ (opening : List ℕ) (at : ℕ) (bytes : List ℕ) (done : Bool) (befor
 pub synced_to : (opening : List ℕ) (before : List Call) (seen : List ℕ) → ReadsAs opening before seen → MayLeave opening (Sync true ∷ before) seen
 synced_to opening before seen reads = record {
   no_shorter = reads.no_shorter;
-  no_longer = reads.no_longer;
-  kept = λ i below u s. reads.last_written i s;
-}
-
--- what is read may be left
-pub reads_may_stay : (opening : List ℕ) (calls : List Call) (seen : List ℕ) → ReadsAs opening calls seen → MayLeave opening calls seen
-reads_may_stay opening calls seen reads = record {
-  no_shorter = omega (arith, synced_within opening calls, reads.no_shorter);
   no_longer = reads.no_longer;
   kept = λ i below u s. reads.last_written i s;
 }

@@ -1,8 +1,12 @@
-pub mod BytesLemmas
-pub mod Images
-pub mod Left
-pub mod Carry
-pub mod Moments
-pub mod Recorded
-pub mod Spliced
-pub mod Tearing
+mod BytesLemmas
+mod Carry
+mod Counting
+mod Forgotten
+mod Images
+mod Left
+mod Moments
+mod Recorded
+mod Replayed
+pub mod Shown
+mod Spliced
+mod Tearing

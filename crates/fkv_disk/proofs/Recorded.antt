@@ -6,7 +6,8 @@ use Rattle.fkv_disk.specs.Device.{Torn, Elapses}
 use Rattle.fkv_disk.specs.Done.{call_of, calls_of, MayLeaveBytes, LeftSince}
 use Rattle.fkv_disk.specs.declared.memory.DoneCall.{DoneCall}
 use Rattle.fkv_disk.specs.declared.memory.DoneCall.TheVariants.{Wrote, Synced}
-use Rattle.fkv_disk.proofs.Left.{torn_over, torn_over_was, torn_over_torn, torn_over_bytes, reads_within, reads_may_stay}
+use Rattle.fkv_disk.specs.Stays.{reads_may_stay, reads_itself}
+use Rattle.fkv_disk.proofs.Left.{torn_over, torn_over_was, torn_over_torn, torn_over_bytes}
 use Rattle.fkv_disk.proofs.Images.{synced_image}
 
 pub calls_of-push : (done : List DoneCall) (call : DoneCall) → calls_of (done ++ call ∷ []) ≡ call_of call ∷ calls_of done
@@ -26,19 +27,23 @@ write_torn opening before calls at bytes image is fit left =
     )
 
 -- time goes on by one call
-elapses : (opening : List ℕ) (before : List Call) (call : Call) → Elapses (length before) (length (call ∷ before)) (LeftSince opening before) (LeftSince opening (call ∷ before)) (MayLeaveBytes opening (call ∷ before))
-elapses opening before call = record {
-  later = omega arith;
-  nothing_else = λ t image le left. older t image left.0 left.1 left.2;
-  keeps = λ t image le left. (suc left.0, omega (arith, left.1), left.2);
-}
+elapses : (forgotten : ℕ) (opening : List ℕ) (before : List Call) (call : Call) → Elapses (forgotten + length before) (forgotten + length (call ∷ before)) (LeftSince forgotten opening before) (LeftSince forgotten opening (call ∷ before)) (MayLeaveBytes opening (call ∷ before))
+elapses forgotten opening before call = record { later = omega arith; nothing_else = older; keeps = newer }
   where
-    older : (t : ℕ) (image : List ℕ) (newest : ℕ) → t + newest ≤ length (call ∷ before) → MayLeaveBytes opening (drop newest (call ∷ before)) image → LeftSince opening before t image ⊎ MayLeaveBytes opening (call ∷ before) image
-    older t image zero le left = inr left
-    older t image (suc newest) le left = inl (newest, omega (arith, le), left)
+    newer : (t : ℕ) (image : List ℕ) → t ≤ forgotten + length before → LeftSince forgotten opening before t image → LeftSince forgotten opening (call ∷ before) t image
+    newer t image le (inl early) = inl early
+    newer t image le (inr left) = inr (suc left.0, omega (arith, left.1), left.2)
 
-pub elapses_push : (opening : List ℕ) (before calls : List Call) (call : Call) → calls ≡ call ∷ before → Elapses (length before) (length calls) (LeftSince opening before) (LeftSince opening calls) (MayLeaveBytes opening calls)
-elapses_push opening before calls call is = subst (λ (cs : List Call). Elapses (length before) (length cs) (LeftSince opening before) (LeftSince opening cs) (MayLeaveBytes opening cs)) (sym is) (elapses opening before call)
+    older_of : (t : ℕ) (image : List ℕ) (newest : ℕ) → t + newest ≤ forgotten + length (call ∷ before) → MayLeaveBytes opening (drop newest (call ∷ before)) image → LeftSince forgotten opening before t image ⊎ MayLeaveBytes opening (call ∷ before) image
+    older_of t image zero le left = inr left
+    older_of t image (suc newest) le left = inl (inr (newest, omega (arith, le), left))
+
+    older : (t : ℕ) (image : List ℕ) → t ≤ forgotten + length before → LeftSince forgotten opening (call ∷ before) t image → LeftSince forgotten opening before t image ⊎ MayLeaveBytes opening (call ∷ before) image
+    older t image le (inl early) = inl (inl early)
+    older t image le (inr left) = older_of t image left.0 left.1 left.2
+
+pub elapses_push : (forgotten : ℕ) (opening : List ℕ) (before calls : List Call) (call : Call) → calls ≡ call ∷ before → Elapses (forgotten + length before) (forgotten + length calls) (LeftSince forgotten opening before) (LeftSince forgotten opening calls) (MayLeaveBytes opening calls)
+elapses_push forgotten opening before calls call is = subst (λ (cs : List Call). Elapses (forgotten + length before) (forgotten + length cs) (LeftSince forgotten opening before) (LeftSince forgotten opening cs) (MayLeaveBytes opening cs)) (sym is) (elapses forgotten opening before call)
 
 all_done-push : (calls : List Call) (done : DoneCall) → AllDone calls → AllDone (calls ++ call_of done ∷ [])
 all_done-push [] (Wrote at bytes) all = tt
@@ -59,6 +64,6 @@ synced_only opening done calls image is left = synced_image opening (calls_of do
 pub synced_no_more : (opening : List ℕ) (done : List DoneCall) (calls : List Call) (image : List ℕ) → calls ≡ Sync true ∷ calls_of done → MayLeaveBytes opening calls image → MayLeaveBytes opening (calls_of done) image
 synced_no_more opening done calls image is left = record {
   allowed = subst (MayLeave opening (calls_of done)) (sym (synced_only opening done calls image is left.allowed))
-      (reads_may_stay opening (calls_of done) (reads_as opening (calls_of done)) (record { no_shorter = omega arith; no_longer = reads_within opening (calls_of done); last_written = λ i s. refl }));
+      (reads_may_stay opening (calls_of done) (reads_as opening (calls_of done)) (reads_itself opening (calls_of done)));
   are_bytes = left.are_bytes;
 }

@@ -4,7 +4,8 @@ use Rattle.std.specs.Prelude.{if◌then◌else◌}
 use Rattle.std.proofs.lemmas.Bool.Decides.{nat_tests}
 use Rattle.std.proofs.lemmas.List.{get_or_append_left, get_or-append_right, get_or-take, get_or-drop, get_or-replicate, length-take-le, length-replicate, take_at, drop_all}
 use Rattle.fkv_disk.specs.Bytes.{byte_at, bytes_at, covers, range_end, written}
-use Rattle.fkv_disk.proofs.BytesLemmas.{is_listed, same_bytes, byte_at_past, in_range, before_range, after_range, range_end_is, length-written, byte_at-written_in, byte_at-written_out}
+use Rattle.fkv_disk.specs.Stays.{length-written}
+use Rattle.fkv_disk.proofs.BytesLemmas.{is_listed, same_bytes, byte_at_past, in_range, before_range, after_range, range_end_is, byte_at-written_in, byte_at-written_out}
 
 where_is : (i a b : ℕ) → (i < a) ⊎ ((a ≤ i) × (i < b)) ⊎ ((a ≤ i) × (b ≤ i))
 where_is i a b = grind arith

@@ -1,28 +1,19 @@
 -- The image of a crash that tears the most, call by call from the newest on.
-use Rattle.std.proofs.Common.{◌≡◌, ◌⊎◌, inl, inr, ℕ, ◌+◌, ◌-◌, ◌<◌, ◌≤◌, max, List, [], ◌∷◌, ◌++◌, length, get_or, take, Bool, true, false, not, ◌&&◌, refl, sym, ◌∙◌, ap, subst, arith}
+use Rattle.std.proofs.Common.{◌≡◌, ◌⊎◌, inl, inr, ℕ, ◌+◌, ◌<◌, ◌≤◌, max, List, [], ◌∷◌, length, Bool, true, false, not, ◌&&◌, refl, sym, ◌∙◌, ap, subst, arith}
 use Rattle.std.specs.Prelude.{if◌then◌else◌}
-use Rattle.std.proofs.lemmas.List.{take_more}
 use Rattle.fkv_disk.specs.Bytes.{byte_at, listed, covers, range_end, AreBytes}
 use Rattle.fkv_disk.specs.Calls.{Call, Write, Sync, reads_as, is_untouched, far_end, AllDone, torn_image, MayLeave}
 use Rattle.fkv_disk.specs.Device.{Torn}
-use Rattle.fkv_disk.specs.Done.{call_of, calls_of, MayLeaveBytes}
+use Rattle.fkv_disk.specs.Done.{calls_of, MayLeaveBytes}
 use Rattle.fkv_disk.specs.Fuse.{FuseLeaves, with_refused}
 use Rattle.fkv_disk.specs.declared.fuses.FuseState.{FuseState}
 use Rattle.fkv_disk.specs.declared.fuses.FuseState.TheVariants.{Sound, Armed, Blown, BlownAt}
 use Rattle.fkv_disk.specs.declared.memory.DoneCall.{DoneCall}
-use Rattle.fkv_disk.proofs.BytesLemmas.{length-listed, is_listed, byte_at_past, covered, range_end_is, length-written}
+use Rattle.fkv_disk.specs.Stays.{length-listed, length-written}
+use Rattle.fkv_disk.proofs.BytesLemmas.{is_listed, byte_at_past, covered, range_end_is}
 use Rattle.fkv_disk.proofs.Left.{torn_allowed, torn_bytes, torn_over, torn_over_was, torn_over_torn, torn_over_bytes}
 use Rattle.fkv_disk.proofs.Images.{end_if_done}
-use Rattle.fkv_disk.proofs.Recorded.{calls_of-push, all_done}
-
--- the newest of the first calls
-pub calls_of-take : (done : List DoneCall) (left : ℕ) (call : DoneCall) → 0 < left → left ≤ length done → call ≡ get_or done (left - 1) call → calls_of (take left done) ≡ call_of call ∷ calls_of (take (left - 1) done)
-calls_of-take done left call some within is =
-    let whole : (left - 1) + 1 ≡ left = omega arith in
-    ap (λ (n : ℕ). calls_of (take n done)) (sym whole)
-    ∙ ap calls_of (take_more done (left - 1) call (omega arith))
-    ∙ ap (λ (c : DoneCall). calls_of (take (left - 1) done ++ c ∷ [])) (sym is)
-    ∙ calls_of-push (take (left - 1) done) call
+use Rattle.fkv_disk.proofs.Recorded.{all_done}
 
 -- a torn write is one call less to tear
 pub tear_step : (is_in untouched : Bool) (old torn new end : ℕ) → new ≡ (if is_in then torn else old) → (if (not is_in && untouched) then old else torn) ≡ end → (if untouched then new else torn) ≡ end

@@ -1,5 +1,5 @@
 -- What one call of a device does to what it reads as and to what a crash may leave, and how such calls follow each other.
-use Rattle.std.specs.Prelude.{◌≡◌, ◌⊎◌, ℕ, ◌+◌, ◌-◌, ◌<◌, ◌≤◌, ◌^◌, max, min, List, length, Bool, true, false, Result, IfErr, OnErr}
+use Rattle.std.specs.Prelude.{◌≡◌, ◌⊎◌, ℕ, zero, suc, ◌+◌, ◌-◌, ◌<◌, ◌≤◌, ◌^◌, max, min, List, length, Bool, true, false, Result, IsErr, IfErr, OnErr}
 use Rattle.fkv_base.specs.declared.faults.Fault.{Fault}
 use Rattle.fkv_base.specs.declared.faults.Fault.TheVariants as fault
 use Rattle.fkv_disk.specs.Bytes.{byte_at, covers, range_end, written}
@@ -43,6 +43,16 @@ pub record HasCause {T : Type 0} (before now : ℕ) (result : Result T Fault) : 
   pub later : before ≤ now
   pub rose : OnErr result (Rose before now)
   pub named : IfErr result (λ e. e ≡ fault.Device)
+
+-- What is said of the calls to come, the next one being number 0, is said of those after n calls.
+abbrev pub after : ℕ → (ℕ → Bool) → ℕ → Bool
+after zero refuses = refuses
+after (suc n) refuses = after n (λ i. refuses (i + 1))
+
+-- n calls were made, no fewer and no more: what the device said of the calls after them it says now. Where it said that it refuses one of them, there was a refusal.
+pub record MakesCalls {T : Type 0} (n : ℕ) (before now : ℕ → Bool) (result : Result T Fault) : Type 0 where
+  pub counted : now ≡ after n before
+  pub refused : (i : ℕ) → i < n → before i ≡ true → IsErr result
 
 -- The one sentence that goes from call to call: the device reads as, and may leave, what these calls give.
 pub record IsAfter (opening : List ℕ) (calls : List Call) (seen : List ℕ) (may_leave : List ℕ → Type 0) : Type 0 where

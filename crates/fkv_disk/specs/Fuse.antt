@@ -1,5 +1,5 @@
 -- What a fuse shows, and what it makes of the images that its device may leave.
-use Rattle.std.specs.Prelude.{◌⊎◌, ℕ, zero, suc, List, ◌∷◌, Bool, true, false, nat_lt, refl}
+use Rattle.std.specs.Prelude.{◌⊎◌, ℕ, zero, suc, List, ◌∷◌, Bool, true, false, nat_lt, nat_le, ◌||◌, refl}
 use Rattle.std.proofs.Common.{inl, inr, arith}
 use Rattle.fkv_disk.specs.Bytes.{AreBytes, listed}
 use Rattle.fkv_disk.specs.Calls.{Call, Write}
@@ -29,6 +29,13 @@ burned_at at n (Armed zero) = BlownAt at n
 burned_at at n (Armed (suc left)) = Armed left
 burned_at at n Blown = Blown
 burned_at at n (BlownAt from m) = BlownAt from m
+
+-- which of the calls to come are refused: each from the fuse's count on, and before it those that its device refuses
+abbrev pub fuse_refuses : FuseState → (ℕ → Bool) → ℕ → Bool
+fuse_refuses Sound device = device
+fuse_refuses (Armed left) device = λ i. nat_le left i || device i
+fuse_refuses Blown device = λ i. true
+fuse_refuses (BlownAt at n) device = λ i. true
 
 -- after it was set to pass so many calls: one that has blown stays blown
 abbrev pub armed : ℕ → FuseState → FuseState
@@ -67,6 +74,13 @@ fuse_only_now (Armed k) since leaves now image only fits left = only left
 fuse_only_now Blown since leaves now image only fits left = only left
 fuse_only_now (BlownAt at n) since leaves now image only fits (inl past) = (image, only past, torn_same at n image, fits (only past))
 fuse_only_now (BlownAt at n) since leaves now image only fits (inr torn) = torn
+
+-- what the device may leave is left where nothing is torn
+pub fuse_leaves_whole : (state : FuseState) (leaves : List ℕ → Type 0) (image : List ℕ) → AreBytes image → leaves image → FuseLeaves state leaves image
+fuse_leaves_whole Sound leaves image fits left = left
+fuse_leaves_whole (Armed k) leaves image fits left = left
+fuse_leaves_whole Blown leaves image fits left = left
+fuse_leaves_whole (BlownAt at n) leaves image fits left = (image, left, torn_same at n image, fits)
 
 pub fuse_leaves_bytes : (state : FuseState) (leaves : List ℕ → Type 0) (image : List ℕ) → (leaves image → AreBytes image) → FuseLeaves state leaves image → AreBytes image
 fuse_leaves_bytes Sound leaves image fits left = fits left

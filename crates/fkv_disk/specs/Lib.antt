@@ -4,7 +4,9 @@ pub mod Countdown
 pub mod Device
 pub mod Done
 pub mod File
+pub mod Forgotten
 pub mod Fuse
 pub mod Fuses
 pub mod Memory
 pub mod Once
+pub mod Stays

@@ -8,13 +8,17 @@ use Rattle.fkv_disk.specs.declared.memory.MemDisk.{MemDisk}
 abbrev pub disk_bytes : MemDisk → List ℕ
 disk_bytes disk = disk.bytes.items
 
--- the bytes that it was made with, all of them synced
+-- The bytes that it was made with, all of them synced. Where it has forgotten calls these are the bytes after them.
 abbrev pub disk_opening : MemDisk → List ℕ
 disk_opening disk = disk.opening.items
 
--- its writes and syncs that succeeded, the newest first
+-- its writes and syncs that succeeded, the newest first, but for those that it has forgotten
 abbrev pub disk_calls : MemDisk → List Call
 disk_calls disk = calls_of disk.done.items
+
+-- how many of them it has forgotten
+abbrev pub disk_forgotten : MemDisk → ℕ
+disk_forgotten disk = disk.forgotten
 
 -- how many calls have failed
 abbrev pub disk_failures : MemDisk → ℕ

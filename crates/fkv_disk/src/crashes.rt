@@ -12,16 +12,17 @@ use std::alloc::{AllocError, Global};
 
 impl Fuse<MemDisk> {
     ghost use Rattle.fkv_disk.specs.Fuses.{fuse_device, fuse_state};
-    ghost use Rattle.fkv_disk.specs.Memory.{disk_bytes, disk_opening, disk_calls, disk_failures};
+    ghost use Rattle.fkv_disk.specs.Memory.{disk_bytes, disk_opening, disk_calls, disk_forgotten, disk_failures};
 
     /// A new device with the image of a crash here: what is read, with each byte set to `torn` that was
     /// written since the last sync that succeeded, and each byte of the write at which the fuse blew.
-    /// `Fault::Memory` where memory is refused for the image.
+    /// `Fault::Memory` where memory is refused for the image, and nowhere else: the body has no other way to fail.
     pub fn crash(self, torn: u8) -> Result<MemDisk, Fault>
         ensures image { IfOk result (λ disk. disk_bytes disk ≡ torn_image (disk_opening (fuse_device self)) (with_refused (fuse_state self) (disk_calls (fuse_device self))) torn) }
         ensures allowed { IfOk result (λ disk. ⟦<Fuse<MemDisk> as Device>⟧.may_leave self (disk_bytes disk)) }
         ensures synced { IfOk result (λ disk. disk_opening disk ≡ disk_bytes disk) }
         ensures calls { IfOk result (λ disk. disk_calls disk ≡ []) }
+        ensures forgotten { IfOk result (λ disk. disk_forgotten disk ≡ 0) }
         ensures failures { IfOk result (λ disk. disk_failures disk ≡ 0) }
         ensures memory { IfErr result (λ fault. fault ≡ Fault.Memory) }
     {
@@ -82,7 +83,8 @@ fn tear_written(image: &mut [u8], done: &[DoneCall], torn: u8)
     }
 }
 
-// Tears the range of a write that failed, and makes the image as long as it may have become.
+// Tears the range of a write that failed, and makes the image as long as it may have become. No vector
+// holds a range that passes 2^64.
 fn tear_refused(image: &mut Vec<u8>, at: u64, n: u64, torn: u8) -> Result<(), AllocError>
     ensures len { OnOk result (length image.new.items ≡ max (length image.old.items) (range_end at n)) }
     ensures each { OnOk result ((i : ℕ) → i < length image.new.items → byte_at image.new.items i ≡ (if covers at n i then torn else byte_at image.old.items i)) }
@@ -90,8 +92,7 @@ fn tear_refused(image: &mut Vec<u8>, at: u64, n: u64, torn: u8) -> Result<(), Al
     if n == 0 {
         return Ok(());
     }
-    let end = at.checked_add(n).ok_or(AllocError)?;
-    grow(image, end as usize)?;
+    grow(image, at.saturating_add(n) as usize)?;
     tear(image, at, n, torn);
     Ok(())
 }

@@ -1,7 +1,7 @@
 //! The medium that a store lies on, as the layers above see it.
-ghost use Rattle.std.specs.Prelude.{◌≡◌, ◌≤◌, ◌↔◌, List, ℕ, length, is_ok, OnOk};
+ghost use Rattle.std.specs.Prelude.{◌≡◌, ◌≤◌, ◌↔◌, List, ℕ, Bool, length, is_ok, OnOk};
 ghost use Rattle.fkv_disk.specs.Bytes.{bytes_at, AreBytes};
-ghost use Rattle.fkv_disk.specs.Device.{Writes, LeavesNoMore, LeavesTorn, LeavesOnly, Elapses, HasCause};
+ghost use Rattle.fkv_disk.specs.Device.{Writes, LeavesNoMore, LeavesTorn, LeavesOnly, Elapses, HasCause, MakesCalls};
 
 use fkv_base::Fault;
 
@@ -9,9 +9,12 @@ use fkv_base::Fault;
 ///
 /// A device either claims to be honest or claims nothing. Of an honest one three things are known: what it
 /// reads as, what a crash now may leave, and what a crash at some moment since a time may have left. Each call
-/// says what it makes of them.
+/// says what it makes of them. These are claims and no facts about a disk: that a disk keeps them is the premise
+/// of who uses it.
 ///
 /// Every call may be refused with `Fault::Device`, and with nothing else. Then `failures` rose in that call.
+///
+/// Every device counts calls: what it says of the calls to come moves on by one with each.
 pub trait Device {
     /// The premise: what is read is what was last written, and a crash leaves no more than is said here.
     ghost honest: { Self → Type 0 };
@@ -31,6 +34,10 @@ pub trait Device {
     /// How many calls have failed.
     ghost failed: { Self → ℕ };
 
+    /// Which of the calls to come it says that it refuses, the next one being number 0. Of a call that it doesn't
+    /// name it says nothing.
+    ghost refuses: { Self → ℕ → Bool };
+
     /// Fills `into` with the bytes from offset `at` on. Those past the end are 0. After a refusal `into` holds
     /// anything.
     fn read(&mut self, at: u64, into: &mut [u8]) -> Result<(), Fault>
@@ -39,7 +46,8 @@ pub trait Device {
         ensures seen { honest self.old → seen self.new ≡ seen self.old }
         ensures crash { honest self.old → LeavesNoMore (may_leave self.old) (may_leave self.new) }
         ensures time { honest self.old → Elapses (moment self.old) (moment self.new) (left_since self.old) (left_since self.new) (may_leave self.new) }
-        ensures cause { HasCause (failed self.old) (failed self.new) result };
+        ensures cause { HasCause (failed self.old) (failed self.new) result }
+        ensures counted { MakesCalls 1 (refuses self.old) (refuses self.new) result };
 
     /// Writes the bytes from offset `at` on, over what is there and past the end. Until a sync succeeds a crash
     /// may leave anything in the range, and past the old end; so too where the write is refused.
@@ -48,16 +56,19 @@ pub trait Device {
         ensures seen { honest self.old → Writes at bytes.now (is_ok result) (seen self.old) (seen self.new) }
         ensures crash { honest self.old → LeavesTorn at (length bytes.now) (may_leave self.old) (may_leave self.new) }
         ensures time { honest self.old → Elapses (moment self.old) (moment self.new) (left_since self.old) (left_since self.new) (may_leave self.new) }
-        ensures cause { HasCause (failed self.old) (failed self.new) result };
+        ensures cause { HasCause (failed self.old) (failed self.new) result }
+        ensures counted { MakesCalls 1 (refuses self.old) (refuses self.new) result };
 
-    /// At `Ok` a crash leaves just what is read. A refused sync changes nothing.
+    /// At `Ok` a crash leaves just what is read. A refused sync changes nothing here; of a real disk nobody knows
+    /// what it has left, so a store makes no call after one.
     fn sync(&mut self) -> Result<(), Fault>
         ensures honest { honest self.old ↔ honest self.new }
         ensures durable { honest self.old → OnOk result (LeavesOnly (seen self.old) (may_leave self.new)) }
         ensures seen { honest self.old → seen self.new ≡ seen self.old }
         ensures crash { honest self.old → LeavesNoMore (may_leave self.old) (may_leave self.new) }
         ensures time { honest self.old → Elapses (moment self.old) (moment self.new) (left_since self.old) (left_since self.new) (may_leave self.new) }
-        ensures cause { HasCause (failed self.old) (failed self.new) result };
+        ensures cause { HasCause (failed self.old) (failed self.new) result }
+        ensures counted { MakesCalls 1 (refuses self.old) (refuses self.new) result };
 
     /// How many calls have failed so far. At 2^64 - 1 it stays.
     fn failures(&self) -> u64
@@ -68,6 +79,9 @@ pub trait Device {
 
     /// Since this moment there is no other.
     ghost only_now: { (device : Self) (image : List ℕ) → honest device → left_since device (moment device) image → may_leave device image };
+
+    /// A crash may leave what is read.
+    ghost leaves_seen: { (device : Self) → honest device → may_leave device (seen device) };
 
     /// What a crash leaves are bytes.
     ghost leaves_bytes: { (device : Self) (image : List ℕ) → honest device → may_leave device image → AreBytes image };

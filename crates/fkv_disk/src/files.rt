@@ -1,5 +1,5 @@
 //! A real file as a device.
-ghost use Rattle.std.specs.Prelude.{◌≡◌, [], IfOk, IfErr};
+ghost use Rattle.std.specs.Prelude.{◌≡◌, [], false, IfOk, IfErr};
 ghost use Rattle.fkv_disk.specs.File.{file_failures};
 
 use crate::Device;
@@ -98,9 +98,13 @@ impl<F: Read + Write + Seek + OpenFile> Device for FileDisk<F> {
 
     ghost failed = { λ disk. disk.failures };
 
+    ghost refuses = { λ _ _. false };
+
     ghost counts_now = { λ disk t image claim le left. absurd claim };
 
     ghost only_now = { λ disk image claim left. absurd claim };
+
+    ghost leaves_seen = { λ disk claim. absurd claim };
 
     ghost leaves_bytes = { λ disk image claim left. absurd claim };
 

@@ -1,8 +1,8 @@
 //! A device that fails from some call on, as where the power is cut.
 ghost use Rattle.std.specs.Prelude.{◌≡◌, ◌+◌, ◌-◌, ◌≤◌, ◌^◌, ◌↔◌, length, min, true, false, is_ok, IsErr, OnOk};
 ghost use Rattle.fkv_disk.specs.Bytes.{bytes_at};
-ghost use Rattle.fkv_disk.specs.Device.{Rose, Writes, LeavesNoMore, LeavesTorn, LeavesOnly, Elapses, HasCause};
-ghost use Rattle.fkv_disk.specs.Fuse.{passes, burned, burned_at, armed, FuseLeaves, FuseLeftSince, fuse_counts_now, fuse_only_now, fuse_leaves_bytes};
+ghost use Rattle.fkv_disk.specs.Device.{Rose, Writes, LeavesNoMore, LeavesTorn, LeavesOnly, Elapses, HasCause, MakesCalls};
+ghost use Rattle.fkv_disk.specs.Fuse.{passes, burned, burned_at, armed, FuseLeaves, FuseLeftSince, fuse_counts_now, fuse_only_now, fuse_leaves_whole, fuse_leaves_bytes, fuse_refuses};
 
 use crate::Device;
 use crate::refusals::refuse;
@@ -128,9 +128,13 @@ impl<D: Device> Device for Fuse<D> {
 
     ghost failed = { λ fuse. min (D.Device.failed fuse.device + fuse.refused) (2 ^ 64 - 1) };
 
+    ghost refuses = { λ fuse. fuse_refuses fuse.state (D.Device.refuses fuse.device) };
+
     ghost counts_now = { λ fuse t image claim le left. fuse_counts_now fuse.state (D.Device.left_since fuse.device) (D.Device.may_leave fuse.device) t image (D.Device.counts_now fuse.device t image claim le) left };
 
     ghost only_now = { λ fuse image claim left. fuse_only_now fuse.state (D.Device.left_since fuse.device) (D.Device.may_leave fuse.device) (D.Device.moment fuse.device) image (D.Device.only_now fuse.device image claim) (D.Device.leaves_bytes fuse.device image claim) left };
+
+    ghost leaves_seen = { λ fuse claim. fuse_leaves_whole fuse.state (D.Device.may_leave fuse.device) (D.Device.seen fuse.device) (D.Device.leaves_bytes fuse.device (D.Device.seen fuse.device) claim (D.Device.leaves_seen fuse.device claim)) (D.Device.leaves_seen fuse.device claim) };
 
     ghost leaves_bytes = { λ fuse image claim left. fuse_leaves_bytes fuse.state (D.Device.may_leave fuse.device) image (D.Device.leaves_bytes fuse.device image claim) left };
 
@@ -141,12 +145,14 @@ impl<D: Device> Device for Fuse<D> {
         ensures crash { ⟦<Fuse<D> as Device>⟧.honest self.old → LeavesNoMore (⟦<Fuse<D> as Device>⟧.may_leave self.old) (⟦<Fuse<D> as Device>⟧.may_leave self.new) }
         ensures time { ⟦<Fuse<D> as Device>⟧.honest self.old → Elapses (⟦<Fuse<D> as Device>⟧.moment self.old) (⟦<Fuse<D> as Device>⟧.moment self.new) (⟦<Fuse<D> as Device>⟧.left_since self.old) (⟦<Fuse<D> as Device>⟧.left_since self.new) (⟦<Fuse<D> as Device>⟧.may_leave self.new) }
         ensures cause { HasCause (⟦<Fuse<D> as Device>⟧.failed self.old) (⟦<Fuse<D> as Device>⟧.failed self.new) result }
+        ensures counted { MakesCalls 1 (⟦<Fuse<D> as Device>⟧.refuses self.old) (⟦<Fuse<D> as Device>⟧.refuses self.new) result }
 
         ensures state { fuse_state self.new ≡ burned (fuse_state self.old) }
         ensures refuses { passes (fuse_state self.old) ≡ false → IsErr result }
         ensures counts { passes (fuse_state self.old) ≡ false → fuse_refused self.new ≡ min (fuse_refused self.old + 1) (2 ^ 64 - 1) }
         ensures untouched { passes (fuse_state self.old) ≡ false → fuse_device self.new ≡ fuse_device self.old }
         ensures lets_pass { passes (fuse_state self.old) ≡ true → HasCause (D.failed (fuse_device self.old)) (D.failed (fuse_device self.new)) result }
+        ensures passed_on { passes (fuse_state self.old) ≡ true → MakesCalls 1 (D.refuses (fuse_device self.old)) (D.refuses (fuse_device self.new)) result }
     {
         if burn(&mut self.state) {
             return self.device.read(at, into);
@@ -160,12 +166,14 @@ impl<D: Device> Device for Fuse<D> {
         ensures crash { ⟦<Fuse<D> as Device>⟧.honest self.old → LeavesTorn at (length bytes.now) (⟦<Fuse<D> as Device>⟧.may_leave self.old) (⟦<Fuse<D> as Device>⟧.may_leave self.new) }
         ensures time { ⟦<Fuse<D> as Device>⟧.honest self.old → Elapses (⟦<Fuse<D> as Device>⟧.moment self.old) (⟦<Fuse<D> as Device>⟧.moment self.new) (⟦<Fuse<D> as Device>⟧.left_since self.old) (⟦<Fuse<D> as Device>⟧.left_since self.new) (⟦<Fuse<D> as Device>⟧.may_leave self.new) }
         ensures cause { HasCause (⟦<Fuse<D> as Device>⟧.failed self.old) (⟦<Fuse<D> as Device>⟧.failed self.new) result }
+        ensures counted { MakesCalls 1 (⟦<Fuse<D> as Device>⟧.refuses self.old) (⟦<Fuse<D> as Device>⟧.refuses self.new) result }
 
         ensures state { fuse_state self.new ≡ burned_at at (length bytes.now) (fuse_state self.old) }
         ensures refuses { passes (fuse_state self.old) ≡ false → IsErr result }
         ensures counts { passes (fuse_state self.old) ≡ false → fuse_refused self.new ≡ min (fuse_refused self.old + 1) (2 ^ 64 - 1) }
         ensures untouched { passes (fuse_state self.old) ≡ false → fuse_device self.new ≡ fuse_device self.old }
         ensures lets_pass { passes (fuse_state self.old) ≡ true → HasCause (D.failed (fuse_device self.old)) (D.failed (fuse_device self.new)) result }
+        ensures passed_on { passes (fuse_state self.old) ≡ true → MakesCalls 1 (D.refuses (fuse_device self.old)) (D.refuses (fuse_device self.new)) result }
     {
         if burn_at(&mut self.state, at, bytes.len() as u64) {
             return self.device.write(at, bytes);
@@ -180,12 +188,14 @@ impl<D: Device> Device for Fuse<D> {
         ensures crash { ⟦<Fuse<D> as Device>⟧.honest self.old → LeavesNoMore (⟦<Fuse<D> as Device>⟧.may_leave self.old) (⟦<Fuse<D> as Device>⟧.may_leave self.new) }
         ensures time { ⟦<Fuse<D> as Device>⟧.honest self.old → Elapses (⟦<Fuse<D> as Device>⟧.moment self.old) (⟦<Fuse<D> as Device>⟧.moment self.new) (⟦<Fuse<D> as Device>⟧.left_since self.old) (⟦<Fuse<D> as Device>⟧.left_since self.new) (⟦<Fuse<D> as Device>⟧.may_leave self.new) }
         ensures cause { HasCause (⟦<Fuse<D> as Device>⟧.failed self.old) (⟦<Fuse<D> as Device>⟧.failed self.new) result }
+        ensures counted { MakesCalls 1 (⟦<Fuse<D> as Device>⟧.refuses self.old) (⟦<Fuse<D> as Device>⟧.refuses self.new) result }
 
         ensures state { fuse_state self.new ≡ burned (fuse_state self.old) }
         ensures refuses { passes (fuse_state self.old) ≡ false → IsErr result }
         ensures counts { passes (fuse_state self.old) ≡ false → fuse_refused self.new ≡ min (fuse_refused self.old + 1) (2 ^ 64 - 1) }
         ensures untouched { passes (fuse_state self.old) ≡ false → fuse_device self.new ≡ fuse_device self.old }
         ensures lets_pass { passes (fuse_state self.old) ≡ true → HasCause (D.failed (fuse_device self.old)) (D.failed (fuse_device self.new)) result }
+        ensures passed_on { passes (fuse_state self.old) ≡ true → MakesCalls 1 (D.refuses (fuse_device self.old)) (D.refuses (fuse_device self.new)) result }
     {
         if burn(&mut self.state) {
             return self.device.sync();

@@ -1,7 +1,8 @@
 //! Laws of the definitions: each is the contract of a function with an empty body.
-ghost use Rattle.std.specs.Prelude.{◌≡◌, ◌∷◌, ℕ, List, Bool, length, true, false};
+ghost use Rattle.std.specs.Prelude.{◌≡◌, ◌↔◌, ◌∷◌, ◌++◌, ℕ, List, Bool, length, true, false};
 ghost use Rattle.fkv_disk.specs.Bytes.{byte_at, bytes_at, covers};
 ghost use Rattle.fkv_disk.specs.Calls.{Call, Write, Sync, AllDone, MayLeave, reads_as, torn_image};
+ghost use Rattle.fkv_disk.specs.Forgotten.{since_sync, synced_bytes};
 
 /// The image that tears the most is one that a crash may leave.
 pub fn law_torn()
@@ -22,4 +23,11 @@ pub fn law_written_and_synced()
 pub fn law_anything_in_range()
     ensures { (opening : List ℕ) (at : ℕ) (bytes : List ℕ) (done : Bool) (calls : List Call) (image other : List ℕ) → MayLeave opening (Write at bytes done ∷ calls) image → length other ≡ length image
         → ((i : ℕ) → covers at (length bytes) i ≡ false → byte_at other i ≡ byte_at image i) → MayLeave opening (Write at bytes done ∷ calls) other }
+{}
+
+/// A life in which every call succeeded, told from its newest sync on, reads as the whole life and may leave what it
+/// may leave, also after whatever calls come later.
+pub fn law_forgotten()
+    ensures reads { (opening : List ℕ) (calls later : List Call) → AllDone calls → reads_as (synced_bytes opening calls) (later ++ since_sync calls) ≡ reads_as opening (later ++ calls) }
+    ensures leaves { (opening : List ℕ) (calls later : List Call) (image : List ℕ) → AllDone calls → MayLeave opening (later ++ calls) image ↔ MayLeave (synced_bytes opening calls) (later ++ since_sync calls) image }
 {}

@@ -4,6 +4,7 @@
 mod crashes;
 mod devices;
 mod files;
+mod forgetting;
 mod fuses;
 mod laws;
 mod memory;
@@ -13,7 +14,9 @@ mod single;
 pub use devices::Device;
 pub use files::{FileDisk, make_file, open_file};
 pub use fuses::{Fuse, FuseState};
-pub use laws::{law_anything_in_range, law_synced, law_torn, law_written_and_synced};
+pub use laws::{
+    law_anything_in_range, law_forgotten, law_synced, law_torn, law_written_and_synced,
+};
 pub use memory::MemDisk;
 pub use single::Once;
 

@@ -1,9 +1,10 @@
 //! A device in memory. It keeps its calls, so that a crash may leave all that the definition allows.
-ghost use Rattle.std.specs.Prelude.{◌≡◌, ◌↔◌, ◌+◌, ◌-◌, ◌<◌, ◌≤◌, ◌^◌, [], ◌∷◌, ◌++◌, length, take, drop, replicate, true, ⊤, is_ok, IsOk, IfOk, IfErr, OnOk, OnErr, if◌then◌else◌};
+ghost use Rattle.std.specs.Prelude.{◌≡◌, ◌↔◌, ◌+◌, ◌-◌, ◌<◌, ◌≤◌, ◌^◌, [], ◌∷◌, ◌++◌, length, take, drop, replicate, true, false, ⊤, is_ok, IsOk, IfOk, IfErr, OnOk, OnErr, if◌then◌else◌};
 ghost use Rattle.fkv_disk.specs.Bytes.{bytes_at, written, AreBytes};
 ghost use Rattle.fkv_disk.specs.Calls.{Write, Sync, reads_as};
-ghost use Rattle.fkv_disk.specs.Device.{Writes, LeavesNoMore, LeavesTorn, LeavesOnly, Elapses, HasCause};
+ghost use Rattle.fkv_disk.specs.Device.{Writes, LeavesNoMore, LeavesTorn, LeavesOnly, Elapses, HasCause, MakesCalls};
 ghost use Rattle.fkv_disk.specs.Done.{calls_of, MayLeaveBytes, LeftSince, counts_now, only_now};
+ghost use Rattle.fkv_disk.specs.Stays.{seen_left};
 
 use crate::Device;
 use crate::refusals::refuse;
@@ -18,25 +19,28 @@ pub(crate) enum DoneCall {
 }
 
 /// A device in memory. It keeps its bytes, those that it was made with, and each write and sync that
-/// succeeded. A growth that memory refuses is a failure of the device, which changes nothing.
+/// succeeded, up to where it is told to forget them. A growth that memory refuses is a failure of the device, which changes nothing.
 #[derive(Drop)]
 pub struct MemDisk {
     pub(crate) alloc: Global,
-    opening: Vec<u8>,
+    pub(crate) opening: Vec<u8>,
     pub(crate) bytes: Vec<u8>,
     pub(crate) done: Vec<DoneCall>,
+    pub(crate) forgotten: u64,
     failures: u64,
     ghost is_replayed: { bytes.items ≡ reads_as opening.items (calls_of done.items) },
+    ghost are_bytes: { AreBytes bytes.items },
 }
 
 impl MemDisk {
-    ghost use Rattle.fkv_disk.specs.Memory.{disk_bytes, disk_opening, disk_calls, disk_failures};
+    ghost use Rattle.fkv_disk.specs.Memory.{disk_bytes, disk_opening, disk_calls, disk_forgotten, disk_failures};
 
     /// An empty device. Its later growth is in `alloc`.
     pub fn new(alloc: Global) -> MemDisk
         ensures bytes { disk_bytes result ≡ [] }
         ensures opening { disk_opening result ≡ [] }
         ensures calls { disk_calls result ≡ [] }
+        ensures forgotten { disk_forgotten result ≡ 0 }
         ensures failures { disk_failures result ≡ 0 }
     {
         synced(alloc, Vec::new(alloc), Vec::new(alloc))
@@ -47,6 +51,7 @@ impl MemDisk {
         ensures bytes { IfOk result (λ disk. disk_bytes disk ≡ bytes.items) }
         ensures opening { IfOk result (λ disk. disk_opening disk ≡ bytes.items) }
         ensures calls { IfOk result (λ disk. disk_calls disk ≡ []) }
+        ensures forgotten { IfOk result (λ disk. disk_forgotten disk ≡ 0) }
         ensures failures { IfOk result (λ disk. disk_failures disk ≡ 0) }
         ensures memory { IfErr result (λ fault. fault ≡ Fault.Memory) }
     {
@@ -74,6 +79,7 @@ fn synced(alloc: Global, opening: Vec<u8>, bytes: Vec<u8>) -> MemDisk
     ensures bytes { result.bytes ≡ bytes }
     ensures opening { result.opening ≡ opening }
     ensures calls { result.done.items ≡ [] }
+    ensures forgotten { result.forgotten ≡ 0 }
     ensures failures { result.failures ≡ 0 }
 {
     MemDisk {
@@ -81,6 +87,7 @@ fn synced(alloc: Global, opening: Vec<u8>, bytes: Vec<u8>) -> MemDisk
         opening,
         bytes,
         done: Vec::new(alloc),
+        forgotten: 0,
         failures: 0,
     }
 }
@@ -107,6 +114,7 @@ fn overwrite(bytes: &mut [u8], at: usize, new: &[u8])
 pub(crate) fn grow(bytes: &mut Vec<u8>, end: usize) -> Result<(), AllocError>
     ensures ok { OnOk result (bytes.new.items ≡ bytes.old.items ++ replicate (end - length bytes.old.items) 0) }
     ensures err { OnErr result (bytes.new.items ≡ bytes.old.items) }
+    ensures fits { OnOk result (end < 2 ^ 63) }
 {
     if bytes.len() < end {
         bytes.resize(end, 0)?;
@@ -114,9 +122,8 @@ pub(crate) fn grow(bytes: &mut Vec<u8>, end: usize) -> Result<(), AllocError>
     Ok(())
 }
 
-// Puts bytes in their place, with zeros in a gap before them.
-fn put(bytes: &mut Vec<u8>, at: usize, new: &[u8]) -> Result<(), AllocError>
-    requires { at + length new.now < 2 ^ 64 }
+// Puts bytes in their place, with zeros in a gap before them. No vector holds a range that passes 2^64.
+pub(crate) fn put(bytes: &mut Vec<u8>, at: u64, new: &[u8]) -> Result<(), AllocError>
     ensures ok { OnOk result (bytes.new.items ≡ written bytes.old.items at new.now) }
     ensures err { OnErr result (bytes.new.items ≡ bytes.old.items) }
     ensures were_bytes { AreBytes bytes.old.items }
@@ -124,8 +131,9 @@ fn put(bytes: &mut Vec<u8>, at: usize, new: &[u8]) -> Result<(), AllocError>
     if new.is_empty() {
         return Ok(());
     }
-    grow(bytes, at + new.len())?;
-    overwrite(bytes, at, new);
+    let end = at.saturating_add(new.len() as u64);
+    grow(bytes, end as usize)?;
+    overwrite(bytes, at as usize, new);
     Ok(())
 }
 
@@ -142,12 +150,10 @@ fn put_and_record(
     ensures bytes_err { OnErr result (bytes.new.items ≡ bytes.old.items) }
     ensures calls_err { OnErr result (done.new.items ≡ done.old.items) }
     ensures were_bytes { AreBytes bytes.old.items }
+    ensures are_bytes { AreBytes bytes.new.items }
 {
-    if new.len() as u64 > u64::MAX - at {
-        return Err(AllocError);
-    }
     done.push(DoneCall::Wrote(at, new.to_vec(alloc)?))?;
-    if put(bytes, at as usize, new).is_err() {
+    if put(bytes, at, new).is_err() {
         done.pop();
         return Err(AllocError);
     }
@@ -163,7 +169,7 @@ fn record_sync(done: &mut Vec<DoneCall>) -> Result<(), AllocError>
 }
 
 impl Device for MemDisk {
-    ghost use Rattle.fkv_disk.specs.Memory.{disk_opening, disk_calls};
+    ghost use Rattle.fkv_disk.specs.Memory.{disk_opening, disk_calls, disk_forgotten};
 
     ghost honest = { λ _. ⊤ };
 
@@ -171,15 +177,19 @@ impl Device for MemDisk {
 
     ghost may_leave = { λ disk image. MayLeaveBytes disk.opening.items (calls_of disk.done.items) image };
 
-    ghost moment = { λ disk. length (calls_of disk.done.items) };
+    ghost moment = { λ disk. disk.forgotten + length (calls_of disk.done.items) };
 
-    ghost left_since = { λ disk t image. LeftSince disk.opening.items (calls_of disk.done.items) t image };
+    ghost left_since = { λ disk t image. LeftSince disk.forgotten disk.opening.items (calls_of disk.done.items) t image };
 
     ghost failed = { λ disk. disk.failures };
 
-    ghost counts_now = { λ disk t image claim le left. counts_now disk.opening.items (calls_of disk.done.items) t image le left };
+    ghost refuses = { λ _ _. false };
 
-    ghost only_now = { λ disk image claim left. only_now disk.opening.items (calls_of disk.done.items) image left };
+    ghost counts_now = { λ disk t image claim le left. counts_now disk.forgotten disk.opening.items (calls_of disk.done.items) t image le left };
+
+    ghost only_now = { λ disk image claim left. only_now disk.forgotten disk.opening.items (calls_of disk.done.items) image left };
+
+    ghost leaves_seen = { λ disk claim. seen_left disk.opening.items (calls_of disk.done.items) disk.bytes.items disk.is_replayed disk.are_bytes };
 
     ghost leaves_bytes = { λ disk image claim left. left.are_bytes };
 
@@ -190,10 +200,12 @@ impl Device for MemDisk {
         ensures crash { ⟦<MemDisk as Device>⟧.honest self.old → LeavesNoMore (⟦<MemDisk as Device>⟧.may_leave self.old) (⟦<MemDisk as Device>⟧.may_leave self.new) }
         ensures time { ⟦<MemDisk as Device>⟧.honest self.old → Elapses (⟦<MemDisk as Device>⟧.moment self.old) (⟦<MemDisk as Device>⟧.moment self.new) (⟦<MemDisk as Device>⟧.left_since self.old) (⟦<MemDisk as Device>⟧.left_since self.new) (⟦<MemDisk as Device>⟧.may_leave self.new) }
         ensures cause { HasCause (⟦<MemDisk as Device>⟧.failed self.old) (⟦<MemDisk as Device>⟧.failed self.new) result }
+        ensures counted { MakesCalls 1 (⟦<MemDisk as Device>⟧.refuses self.old) (⟦<MemDisk as Device>⟧.refuses self.new) result }
 
         ensures succeeds { IsOk result }
         ensures calls { disk_calls self.new ≡ disk_calls self.old }
         ensures opening { disk_opening self.new ≡ disk_opening self.old }
+        ensures forgotten { disk_forgotten self.new ≡ disk_forgotten self.old }
     {
         fill(&self.bytes, at, into);
         Ok(())
@@ -205,9 +217,11 @@ impl Device for MemDisk {
         ensures crash { ⟦<MemDisk as Device>⟧.honest self.old → LeavesTorn at (length bytes.now) (⟦<MemDisk as Device>⟧.may_leave self.old) (⟦<MemDisk as Device>⟧.may_leave self.new) }
         ensures time { ⟦<MemDisk as Device>⟧.honest self.old → Elapses (⟦<MemDisk as Device>⟧.moment self.old) (⟦<MemDisk as Device>⟧.moment self.new) (⟦<MemDisk as Device>⟧.left_since self.old) (⟦<MemDisk as Device>⟧.left_since self.new) (⟦<MemDisk as Device>⟧.may_leave self.new) }
         ensures cause { HasCause (⟦<MemDisk as Device>⟧.failed self.old) (⟦<MemDisk as Device>⟧.failed self.new) result }
+        ensures counted { MakesCalls 1 (⟦<MemDisk as Device>⟧.refuses self.old) (⟦<MemDisk as Device>⟧.refuses self.new) result }
 
         ensures calls { disk_calls self.new ≡ (if is_ok result then Write at bytes.now true ∷ disk_calls self.old else disk_calls self.old) }
         ensures opening { disk_opening self.new ≡ disk_opening self.old }
+        ensures forgotten { disk_forgotten self.new ≡ disk_forgotten self.old }
     {
         match put_and_record(self.alloc, &mut self.bytes, &mut self.done, at, bytes) {
             Ok(()) => Ok(()),
@@ -222,9 +236,11 @@ impl Device for MemDisk {
         ensures crash { ⟦<MemDisk as Device>⟧.honest self.old → LeavesNoMore (⟦<MemDisk as Device>⟧.may_leave self.old) (⟦<MemDisk as Device>⟧.may_leave self.new) }
         ensures time { ⟦<MemDisk as Device>⟧.honest self.old → Elapses (⟦<MemDisk as Device>⟧.moment self.old) (⟦<MemDisk as Device>⟧.moment self.new) (⟦<MemDisk as Device>⟧.left_since self.old) (⟦<MemDisk as Device>⟧.left_since self.new) (⟦<MemDisk as Device>⟧.may_leave self.new) }
         ensures cause { HasCause (⟦<MemDisk as Device>⟧.failed self.old) (⟦<MemDisk as Device>⟧.failed self.new) result }
+        ensures counted { MakesCalls 1 (⟦<MemDisk as Device>⟧.refuses self.old) (⟦<MemDisk as Device>⟧.refuses self.new) result }
 
         ensures calls { disk_calls self.new ≡ (if is_ok result then Sync true ∷ disk_calls self.old else disk_calls self.old) }
         ensures opening { disk_opening self.new ≡ disk_opening self.old }
+        ensures forgotten { disk_forgotten self.new ≡ disk_forgotten self.old }
     {
         match record_sync(&mut self.done) {
             Ok(()) => Ok(()),

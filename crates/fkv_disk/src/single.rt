@@ -1,11 +1,10 @@
 //! A device that fails one call.
-ghost use Rattle.std.specs.Prelude.{◌≡◌, ◌≢◌, ◌+◌, ◌-◌, ◌≤◌, ◌^◌, ◌↔◌, length, min, Some, None, IsTrue, is_ok, IsErr, OnOk};
+ghost use Rattle.std.specs.Prelude.{◌≡◌, ◌≢◌, ◌+◌, ◌-◌, ◌≤◌, ◌^◌, ◌↔◌, length, min, Some, None, Err, is_ok, IsErr, OnOk, OnErr};
 ghost use Rattle.fkv_disk.specs.Bytes.{bytes_at};
-ghost use Rattle.fkv_disk.specs.Countdown.{counted_down};
-ghost use Rattle.fkv_disk.specs.Device.{Writes, LeavesNoMore, LeavesTorn, LeavesOnly, Elapses, HasCause};
+ghost use Rattle.fkv_disk.specs.Countdown.{counted_down, refusals, once_refuses};
+ghost use Rattle.fkv_disk.specs.Device.{Writes, LeavesNoMore, LeavesTorn, LeavesOnly, Elapses, HasCause, MakesCalls};
 
 use crate::Device;
-use crate::refusals::refuse;
 use fkv_base::Fault;
 
 /// Passes calls on to a device, but for one, which it refuses and doesn't pass on.
@@ -13,7 +12,6 @@ use fkv_base::Fault;
 pub struct Once<D: Device> {
     device: D,
     left: Option<u64>,
-    refused: u64,
 }
 
 impl<D: Device> Once<D> {
@@ -27,7 +25,6 @@ impl<D: Device> Once<D> {
         Once {
             device,
             left: Some(k),
-            refused: 0,
         }
     }
 
@@ -45,22 +42,24 @@ impl<D: Device> Once<D> {
         let Once { device, .. } = self;
         device
     }
-}
 
-// Counts a call, and tells whether it is the one that fails.
-fn count_down(left: &mut Option<u64>) -> bool
-    ensures left { left.new ≡ counted_down left.old }
-    ensures fails { IsTrue result ↔ (left.old ≡ Some 0) }
-{
-    match *left {
-        None => false,
-        Some(0) => {
-            *left = None;
-            true
-        }
-        Some(more) => {
-            *left = Some(more - 1);
-            false
+    // Counts a call, and refuses the one that fails.
+    fn pass(&mut self) -> Result<(), Fault>
+        ensures device { once_device self.new ≡ once_device self.old }
+        ensures left { once_left self.new ≡ counted_down (once_left self.old) }
+        ensures fails { IsErr result ↔ (once_left self.old ≡ Some 0) }
+        ensures named { OnErr result (result ≡ Err Fault.Device) }
+    {
+        match self.left {
+            None => Ok(()),
+            Some(0) => {
+                self.left = None;
+                Err(Fault::Device)
+            }
+            Some(more) => {
+                self.left = Some(more - 1);
+                Ok(())
+            }
         }
     }
 }
@@ -78,11 +77,15 @@ impl<D: Device> Device for Once<D> {
 
     ghost left_since = { λ once. D.Device.left_since once.device };
 
-    ghost failed = { λ once. min (D.Device.failed once.device + once.refused) (2 ^ 64 - 1) };
+    ghost failed = { λ once. min (D.Device.failed once.device + refusals once.left) (2 ^ 64 - 1) };
+
+    ghost refuses = { λ once. once_refuses once.left (D.Device.refuses once.device) };
 
     ghost counts_now = { λ once. D.Device.counts_now once.device };
 
     ghost only_now = { λ once. D.Device.only_now once.device };
+
+    ghost leaves_seen = { λ once. D.Device.leaves_seen once.device };
 
     ghost leaves_bytes = { λ once. D.Device.leaves_bytes once.device };
 
@@ -93,14 +96,15 @@ impl<D: Device> Device for Once<D> {
         ensures crash { ⟦<Once<D> as Device>⟧.honest self.old → LeavesNoMore (⟦<Once<D> as Device>⟧.may_leave self.old) (⟦<Once<D> as Device>⟧.may_leave self.new) }
         ensures time { ⟦<Once<D> as Device>⟧.honest self.old → Elapses (⟦<Once<D> as Device>⟧.moment self.old) (⟦<Once<D> as Device>⟧.moment self.new) (⟦<Once<D> as Device>⟧.left_since self.old) (⟦<Once<D> as Device>⟧.left_since self.new) (⟦<Once<D> as Device>⟧.may_leave self.new) }
         ensures cause { HasCause (⟦<Once<D> as Device>⟧.failed self.old) (⟦<Once<D> as Device>⟧.failed self.new) result }
+        ensures counted { MakesCalls 1 (⟦<Once<D> as Device>⟧.refuses self.old) (⟦<Once<D> as Device>⟧.refuses self.new) result }
 
         ensures left { once_left self.new ≡ counted_down (once_left self.old) }
         ensures fails { once_left self.old ≡ Some 0 → IsErr result }
+        ensures untouched { once_left self.old ≡ Some 0 → once_device self.new ≡ once_device self.old }
         ensures lets_pass { once_left self.old ≢ Some 0 → HasCause (D.failed (once_device self.old)) (D.failed (once_device self.new)) result }
+        ensures passed_on { once_left self.old ≢ Some 0 → MakesCalls 1 (D.refuses (once_device self.old)) (D.refuses (once_device self.new)) result }
     {
-        if count_down(&mut self.left) {
-            return Err(refuse(&mut self.refused));
-        }
+        self.pass()?;
         self.device.read(at, into)
     }
 
@@ -110,14 +114,15 @@ impl<D: Device> Device for Once<D> {
         ensures crash { ⟦<Once<D> as Device>⟧.honest self.old → LeavesTorn at (length bytes.now) (⟦<Once<D> as Device>⟧.may_leave self.old) (⟦<Once<D> as Device>⟧.may_leave self.new) }
         ensures time { ⟦<Once<D> as Device>⟧.honest self.old → Elapses (⟦<Once<D> as Device>⟧.moment self.old) (⟦<Once<D> as Device>⟧.moment self.new) (⟦<Once<D> as Device>⟧.left_since self.old) (⟦<Once<D> as Device>⟧.left_since self.new) (⟦<Once<D> as Device>⟧.may_leave self.new) }
         ensures cause { HasCause (⟦<Once<D> as Device>⟧.failed self.old) (⟦<Once<D> as Device>⟧.failed self.new) result }
+        ensures counted { MakesCalls 1 (⟦<Once<D> as Device>⟧.refuses self.old) (⟦<Once<D> as Device>⟧.refuses self.new) result }
 
         ensures left { once_left self.new ≡ counted_down (once_left self.old) }
         ensures fails { once_left self.old ≡ Some 0 → IsErr result }
+        ensures untouched { once_left self.old ≡ Some 0 → once_device self.new ≡ once_device self.old }
         ensures lets_pass { once_left self.old ≢ Some 0 → HasCause (D.failed (once_device self.old)) (D.failed (once_device self.new)) result }
+        ensures passed_on { once_left self.old ≢ Some 0 → MakesCalls 1 (D.refuses (once_device self.old)) (D.refuses (once_device self.new)) result }
     {
-        if count_down(&mut self.left) {
-            return Err(refuse(&mut self.refused));
-        }
+        self.pass()?;
         self.device.write(at, bytes)
     }
 
@@ -128,18 +133,21 @@ impl<D: Device> Device for Once<D> {
         ensures crash { ⟦<Once<D> as Device>⟧.honest self.old → LeavesNoMore (⟦<Once<D> as Device>⟧.may_leave self.old) (⟦<Once<D> as Device>⟧.may_leave self.new) }
         ensures time { ⟦<Once<D> as Device>⟧.honest self.old → Elapses (⟦<Once<D> as Device>⟧.moment self.old) (⟦<Once<D> as Device>⟧.moment self.new) (⟦<Once<D> as Device>⟧.left_since self.old) (⟦<Once<D> as Device>⟧.left_since self.new) (⟦<Once<D> as Device>⟧.may_leave self.new) }
         ensures cause { HasCause (⟦<Once<D> as Device>⟧.failed self.old) (⟦<Once<D> as Device>⟧.failed self.new) result }
+        ensures counted { MakesCalls 1 (⟦<Once<D> as Device>⟧.refuses self.old) (⟦<Once<D> as Device>⟧.refuses self.new) result }
 
         ensures left { once_left self.new ≡ counted_down (once_left self.old) }
         ensures fails { once_left self.old ≡ Some 0 → IsErr result }
+        ensures untouched { once_left self.old ≡ Some 0 → once_device self.new ≡ once_device self.old }
         ensures lets_pass { once_left self.old ≢ Some 0 → HasCause (D.failed (once_device self.old)) (D.failed (once_device self.new)) result }
+        ensures passed_on { once_left self.old ≢ Some 0 → MakesCalls 1 (D.refuses (once_device self.old)) (D.refuses (once_device self.new)) result }
     {
-        if count_down(&mut self.left) {
-            return Err(refuse(&mut self.refused));
-        }
+        self.pass()?;
         self.device.sync()
     }
 
     fn failures(&self) -> u64 {
-        self.device.failures().saturating_add(self.refused)
+        self.device
+            .failures()
+            .saturating_add(self.left.is_none() as u64)
     }
 }

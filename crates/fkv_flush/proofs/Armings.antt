@@ -28,7 +28,7 @@ use Rattle.fkv_log.specs.declared.turning.Turning.{Turning}
 use Rattle.fkv_log.specs.declared.turning.Turning.TheVariants as turn
 use Rattle.fkv_log.specs.Moving.{Mover, move_ask, move_next, moving_ask, moving_next, moving_next_ask, raise_led, raise_told, arm_led}
 use Rattle.fkv_log.specs.Shifting.{shift_at, shift_ask, shift_next, shifting_ask, shifting_next, mutable_start}
-use Rattle.fkv_log.specs.Turning.{turn_at, turn_ask, turn_next, turning_ask, turning_next, frame_end, page_wanted}
+use Rattle.fkv_log.specs.Turning.{turn_at, turn_ask, turn_next, turning_ask, turning_next, frame_end, pages_wanted}
 use Rattle.fkv_log.proofs.Shown.{move_goes_on}
 use Rattle.fkv_flush.specs.GuardLevels.{Levels, levels_of}
 use Rattle.fkv_flush.specs.GuardCalm.{actor_of}
@@ -120,7 +120,7 @@ module _ (w : GuardWorld) (a : ℕ) (x : Actor) (sound : IsSound w) (got : slice
   turn_arms : (step : Turning) (m : Mover) → TurnKnows w.now.shape (levels_of w.now.words) x.machine step m → is_idle (Turns (turn_at step m)) ≡ false → ArmsBy (turned w.now x (turn_at step m))
   unfolding turning_ask turning_next moving_ask raise_ask passed
   turn_arms turn.AtRest m k busy = cc
-  turn_arms (turn.LoadsLimit form tail) m k busy = elim (truth (nat_lt ((levels_of w.now.words).limit / w.now.shape.page) (page_wanted w.now.shape tail))) [
+  turn_arms (turn.LoadsLimit form tail) m k busy = elim (truth (nat_lt ((levels_of w.now.words).limit / w.now.shape.page) (pages_wanted w.now.shape tail))) [
     | inl e ↦ rw e (λ slot c f. inl (sym (waits m k) ∙ f, refl))
     | inr e ↦ rw e (λ slot c f. inl (sym (waits m k) ∙ f, refl))
   ]

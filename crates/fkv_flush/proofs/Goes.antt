@@ -24,7 +24,7 @@ use Rattle.fkv_log.specs.declared.turning.Turning.{Turning}
 use Rattle.fkv_log.specs.declared.turning.Turning.TheVariants as turn
 use Rattle.fkv_log.specs.Moving.{Mover, move_ask, move_next, move_next_ask, moving_ask, moving_next, moving_next_ask, raise_led, raise_told, arm_led}
 use Rattle.fkv_log.specs.Shifting.{ShiftState, shift_at, shift_ask, shift_next, shift_next_ask, shifting_ask, shifting_next, shifting_next_ask, shift_led, move_told, mutable_start}
-use Rattle.fkv_log.specs.Turning.{TurnState, turn_at, turn_ask, turn_next, turn_next_ask, turning_ask, turning_next, turning_next_ask, turn_led, turn_told, frame_end, page_wanted}
+use Rattle.fkv_log.specs.Turning.{TurnState, turn_at, turn_ask, turn_next, turn_next_ask, turning_ask, turning_next, turning_next_ask, turn_led, turn_told, frame_end, pages_wanted}
 use Rattle.fkv_flush.specs.GuardLevels.{Levels, levels_of}
 use Rattle.fkv_flush.specs.GuardWorld.{Actor, Work, Shifts, Turns, GuardNow, GuardWorld, is_idle, inner_machine, host_to, shifted, turned}
 use Rattle.fkv_flush.proofs.GuardSound.{IsSound, MoveKnows, ShiftKnows, TurnKnows, Waits}
@@ -125,7 +125,7 @@ turn_step_goes : (n : GuardNow) (x : Actor) (step : Turning) (m : Mover) → Tur
     Goes (turning_next_ask n.shape step m reply) (Turns there) (Turns (turn_next n.shape there 0)) (turned n x (turn_at step m)).actor)
 unfolding turning_ask turning_next turning_next_ask moving_ask raise_ask passed
 turn_step_goes n x turn.AtRest m k busy = cc
-turn_step_goes n x (turn.LoadsLimit form tail) m k busy = elim (truth (nat_lt ((levels_of n.words).limit / n.shape.page) (page_wanted n.shape tail))) [
+turn_step_goes n x (turn.LoadsLimit form tail) m k busy = elim (truth (nat_lt ((levels_of n.words).limit / n.shape.page) (pages_wanted n.shape tail))) [
   | inl e ↦ rw e (refl, refl)
   | inr e ↦ rw e (refl, refl, rests x.machine m k)
 ]

@@ -19,7 +19,7 @@ use Rattle.fkv_log.specs.declared.turning.Turning.TheVariants as turn
 use Rattle.fkv_plane.specs.Passing.{passed, is_done}
 use Rattle.fkv_plane.proofs.Shown.{passed_words, passed_reply}
 use Rattle.fkv_log.specs.Moving.{Mover, mover, move_ask, move_next, move_next_ask, moving_ask}
-use Rattle.fkv_log.specs.Turning.{turn_at, turning_ask, turning_next, turn_led, frame_end, limit_after, page_wanted}
+use Rattle.fkv_log.specs.Turning.{turn_at, turning_ask, turning_next, turn_led, frame_end, limit_after, pages_wanted}
 use Rattle.fkv_log.proofs.Shown.{move_goes_on}
 use Rattle.fkv_flush.specs.GuardLevels.{Levels, levels_of}
 use Rattle.fkv_flush.specs.GuardWorld.{Actor, Turns, GuardNow, GuardWorld, put_near, turned}
@@ -65,7 +65,7 @@ turn_waits w a x (turn.LoadsLimit form tail) m sound got before k =
     let same = inner_rest x.machine m.step m.raising m.arming k.0 in
     let found : ℕ = word_at w.now.words 4 in
     rw (set-get_or w.now.words 4 0)
-    (elim (truth (nat_lt (found / w.now.shape.page) (page_wanted w.now.shape tail))) [
+    (elim (truth (nat_lt (found / w.now.shape.page) (pages_wanted w.now.shape tail))) [
       | inl e ↦
           let within : found / w.now.shape.page < w.now.shape.disk_pages = grind (arith, nat_tests, e) in
           rw e (rw same (looks w a x (record x { work = Turns (turn_at (turn.LoadsClosed form found) m) }) sound got refl refl (λ addr u. u) (k, within)))

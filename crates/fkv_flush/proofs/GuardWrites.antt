@@ -41,7 +41,7 @@ use Rattle.fkv_flush.specs.GuardAsks.{writes, machine_writes}
 use Rattle.fkv_flush.specs.GuardLevels.{levels_of}
 use Rattle.fkv_flush.specs.GuardWorld.{Actor, Work, Rests, Reserves, Fills, Invalidates, Shifts, Turns, Flushes, Serves, GuardWorld, GuardEvent, Moves, Updates, RaisesReadOnly, RaisesFor, Changes, is_idle, is_awake, is_guarded, may_update, epoch_world}
 use Rattle.fkv_flush.specs.Guarded.{seen_at, seen_of, undecided_at, work_writes, actor_writes, update_writes, IsOpenPlace, GuardsWrites}
-use Rattle.fkv_frames.proofs.Open.{same_place}
+use Rattle.fkv_frames.proofs.Shown.{same_place}
 use Rattle.fkv_flush.proofs.GuardEpochs.{OwnAt, own_writes}
 use Rattle.fkv_flush.proofs.GuardSound.{MoveKnows, IsSound, machine_at}
 use Rattle.fkv_flush.proofs.GuardWorks.{truth, Known}

@@ -1,23 +1,24 @@
 mod Armings
+mod Asks
 mod Calm
 mod FlushKnows
 mod Follows
 mod Goes
 mod Guard
 mod GuardCounts
-mod GuardMachines
 mod GuardEpochs
 mod GuardFlushed
 mod GuardHappens
 mod GuardHomes
 mod GuardHosted
 mod GuardLaw
-mod GuardSeeing
+mod GuardMachines
 mod GuardMoves
 mod GuardOffsets
 mod GuardPages
 mod GuardPuts
 mod GuardRuns
+mod GuardSeeing
 mod GuardShifts
 mod GuardSound
 mod GuardStays
@@ -32,9 +33,9 @@ mod OnDevice
 mod OneEvent
 mod OuterPlaces
 mod Parts
-pub mod Shown
 mod PhaseTails
 mod SafeRaise
+pub mod Shown
 mod Slots
 mod SoFar
 mod Still

@@ -11,8 +11,7 @@ use Rattle.fkv_record.specs.Numbers.{spelled}
 use Rattle.fkv_record.specs.Places as image
 use Rattle.fkv_disk.specs.Bytes.{byte_at, covers, range_end}
 use Rattle.fkv_disk.specs.Calls.{Call, Write, Sync, reads_as, is_sure, is_untouched, synced_end}
-use Rattle.fkv_disk.proofs.BytesLemmas.{is_listed, length-written, byte_at-written_in, in_range, before_range, after_range, range_end_is}
-use Rattle.fkv_disk.proofs.Left.{sure_in, sure_out, reads_out}
+use Rattle.fkv_disk.proofs.Shown.{is_listed, length-written, byte_at-written_in, in_range, before_range, after_range, range_end_is, sure_in, sure_out, reads_out}
 use Rattle.fkv_plane.specs.declared.places.RecordWord.{RecordWord}
 use Rattle.fkv_plane.specs.declared.places.RecordWord.TheVariants as rec
 use Rattle.fkv_flush.specs.declared.flushing.Part.{Part}

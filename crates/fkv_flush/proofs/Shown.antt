@@ -1,12 +1,16 @@
 -- What crates above may cite.
-pub use Rattle.fkv_flush.proofs.GuardSound.{IsSound, Awake}
+pub use Rattle.fkv_flush.proofs.Asks.{flush_asks, serve_asks}
+pub use Rattle.fkv_flush.proofs.Guard.{Known, Fresh, Guard, SeesOn}
+pub use Rattle.fkv_flush.proofs.GuardSound.{IsAhead, RaiseKnows, MoveKnows, Waits, ShiftKnows, TurnKnows, Knows, IsSound, Awake, machine_of, machine_at}
 pub use Rattle.fkv_flush.proofs.GuardLaw.{happens_sound, run_sound, opening_sound, covered, undecided_fresh}
 pub use Rattle.fkv_flush.proofs.GuardSeeing.{keeps_seen}
-pub use Rattle.fkv_flush.proofs.GuardWrites.{guards_writes}
+pub use Rattle.fkv_flush.proofs.GuardEpochs.{Spares, spared, acted_spared, runs}
+pub use Rattle.fkv_flush.proofs.GuardUnwritten.{unwritten, OpensIt, limit_stays, limit_rises, RaisesIt, flushed_stays}
+pub use Rattle.fkv_flush.proofs.GuardWrites.{writes_passed, guards_writes}
 pub use Rattle.fkv_flush.proofs.GuardPages.{guards_limit}
-pub use Rattle.fkv_flush.proofs.GuardUnwritten.{unwritten, limit_stays, limit_rises, flushed_stays}
-pub use Rattle.fkv_flush.proofs.GuardStays.{SameStore, same_store}
-pub use Rattle.fkv_flush.proofs.GuardFlushed.{steady, stood_open, run_flushed, opening_flushed, is_synced}
+pub use Rattle.fkv_flush.proofs.GuardStays.{same_store, SameStore}
+pub use Rattle.fkv_flush.proofs.GuardFlushed.{steady, stood_open, same_shape, IsFlushed, run_flushed, opening_flushed, is_synced}
+pub use Rattle.fkv_flush.proofs.InHand.{in_hand, next_part}
 pub use Rattle.fkv_flush.proofs.Calm.{same_calm, then_calm, event_calm, events_calm, same_stores}
 pub use Rattle.fkv_flush.proofs.Undecided.{next_undecided, undecided_on, happens_apart, run_apart, opening_apart}
 pub use Rattle.fkv_flush.proofs.Limit.{happens_paged, run_paged, opening_paged}

@@ -29,7 +29,7 @@ use Rattle.fkv_log.specs.declared.turning.Turning.TheVariants as turn
 use Rattle.fkv_plane.specs.Passing.{passed}
 use Rattle.fkv_log.specs.Moving.{Mover, move_ask, move_next, move_next_ask, moving_ask, moving_next, raise_led, arm_led}
 use Rattle.fkv_log.specs.Shifting.{shift_ask, shifting_ask, shifting_next, shift_led, mutable_start}
-use Rattle.fkv_log.specs.Turning.{turn_ask, turning_ask, turning_next, turn_led, frame_end, page_wanted}
+use Rattle.fkv_log.specs.Turning.{turn_ask, turning_ask, turning_next, turn_led, frame_end, pages_wanted}
 use Rattle.fkv_flush.specs.GuardLevels.{Levels, levels_of}
 use Rattle.fkv_flush.specs.GuardSlots.{slot_put, work_puts, raise_puts, actor_puts, raiser_puts, event_puts, actor_claims, event_claims, FindsSlots}
 use Rattle.fkv_flush.specs.GuardWorld.{Actor, Work, Shifts, Turns, GuardWorld, GuardEvent, Moves, RaisesFor, is_idle, is_stored, epoch_now, epoch_world}
@@ -96,7 +96,7 @@ shift_puts l machine shape (shift.Moves tail) m reply k slot e = led (move_next_
 turn_puts : (l : Levels) (machine : EpochMachine) (shape : Shape) (step : Turning) (m : Mover) (reply : ℕ) → TurnKnows shape l machine step m → PutsRaised machine (turn_ask shape (turning_next shape step m reply))
 unfolding turning_next turning_ask turn_led moving_ask raise_ask passed
 turn_puts l machine shape turn.AtRest m reply k slot e = no_put slot e
-turn_puts l machine shape (turn.LoadsLimit form tail) m reply k slot e = elim (truth (nat_lt (reply / shape.page) (page_wanted shape tail))) [ inl f ↦ no_put slot (rw f at e) | inr f ↦ no_put slot (rw f at e) ]
+turn_puts l machine shape (turn.LoadsLimit form tail) m reply k slot e = elim (truth (nat_lt (reply / shape.page) (pages_wanted shape tail))) [ inl f ↦ no_put slot (rw f at e) | inr f ↦ no_put slot (rw f at e) ]
 turn_puts l machine shape (turn.LoadsClosed form.Whole limit) m reply k slot e = elim (truth (nat_le (frame_end shape limit) reply)) [ inl f ↦ no_put slot (rw f at e) | inr f ↦ no_put slot (rw f at e) ]
 turn_puts l machine shape (turn.LoadsClosed form.OpensOnly limit) m reply k slot e = elim (truth (nat_le (frame_end shape limit) reply)) [ inl f ↦ no_put slot (rw f at e) | inr f ↦ no_put slot (rw f at e) ]
 turn_puts l machine shape (turn.RaisesLimit limit) m reply k slot e = no_put slot e

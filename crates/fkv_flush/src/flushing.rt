@@ -2,10 +2,11 @@
 ghost use Rattle.std.specs.Prelude.{◌≡◌, ◌<◌, ◌≤◌, ◌^◌, ◌↔◌, [], true, is_ok, vec_len, IfOk, OnErr, Err};
 ghost use Rattle.std.specs.Vec.{vec_capacity};
 ghost use Rattle.fkv_base.specs.declared.faults.Fault.TheVariants.{Memory};
-ghost use Rattle.fkv_disk.specs.Device.{Elapses, HasCause};
+ghost use Rattle.fkv_disk.specs.Device.{Elapses, HasCause, MakesCalls};
 ghost use Rattle.fkv_flush.specs.Flushing.{flush_ask, flush_next, bytes_next, flush_calls, flush_done, bytes_done, part_begun, record_after, count_next, count_done, HasRoom, IsWithin};
-ghost use Rattle.fkv_flush.specs.Devices.{Adds};
+ghost use Rattle.fkv_flush.specs.Devices.{Adds, calls_asked};
 ghost use Rattle.fkv_flush.specs.declared.flushing.Flushing.TheVariants.{AtRest, LoadsFlushed};
+ghost use Rattle.fkv_plane.specs.declared.places.Places.{Places};
 
 use crate::answers::DeviceAnswer;
 use fkv_base::{Addr, Fault, Shape};
@@ -104,6 +105,7 @@ impl Flush {
         ensures next { self.new ≡ record self.old { bytes = bytes_done self.old.step self.old.bytes; step = flush_done self.old.shape.page self.old.step (is_ok result) } }
         ensures ask { IfOk result (λ ask. ask ≡ flush_ask self.old.places (flush_done self.old.shape.page self.old.step true)) }
         ensures cause { HasCause (D.failed d.old) (D.failed d.new) result }
+        ensures counted { MakesCalls (calls_asked (flush_ask self.old.places self.old.step)) (D.refuses d.old) (D.refuses d.new) result }
         ensures honest { D.honest d.old ↔ D.honest d.new }
         ensures calls { D.honest d.old → Adds (flush_calls self.old.shape self.old.bytes self.old.step (is_ok result)) (D.seen d.old) (D.seen d.new) (D.may_leave d.old) (D.may_leave d.new) }
         ensures time { D.honest d.old → Elapses (D.moment d.old) (D.moment d.new) (D.left_since d.old) (D.left_since d.new) (D.may_leave d.new) }
@@ -203,7 +205,7 @@ fn record_after(part: Part, addr: u64) -> Flushing
 }
 
 // The call of the device that a step makes, if it makes one.
-#[tactic(auto, unfolding(crate::specs::Flushing::flush_calls))]
+#[tactic(auto, unfolding(crate::specs::Flushing::flush_calls, crate::specs::Flushing::flush_ask))]
 fn call_device<D: Device>(
     d: &mut D,
     shape: Shape,
@@ -212,6 +214,7 @@ fn call_device<D: Device>(
 ) -> Result<(), Fault>
     requires { IsWithin step }
     ensures cause { HasCause (D.failed d.old) (D.failed d.new) result }
+    ensures counted { (places : Places) → MakesCalls (calls_asked (flush_ask places step)) (D.refuses d.old) (D.refuses d.new) result }
     ensures honest { D.honest d.old ↔ D.honest d.new }
     ensures calls { D.honest d.old → Adds (flush_calls shape bytes.now step (is_ok result)) (D.seen d.old) (D.seen d.new) (D.may_leave d.old) (D.may_leave d.new) }
     ensures time { D.honest d.old → Elapses (D.moment d.old) (D.moment d.new) (D.left_since d.old) (D.left_since d.new) (D.may_leave d.new) }

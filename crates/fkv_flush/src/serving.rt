@@ -1,7 +1,8 @@
 //! How the sessions' mailboxes are served.
 ghost use Rattle.std.specs.Prelude.{◌≡◌, ◌+◌, ◌<◌, ◌≤◌, ◌↔◌, ℕ, List, length, IfOk, OnOk, OnErr};
 ghost use Rattle.fkv_disk.specs.Bytes.{bytes_at};
-ghost use Rattle.fkv_disk.specs.Device.{LeavesNoMore, Elapses, HasCause};
+ghost use Rattle.fkv_disk.specs.Device.{LeavesNoMore, Elapses, HasCause, MakesCalls};
+ghost use Rattle.fkv_flush.specs.Devices.{calls_asked};
 ghost use Rattle.fkv_record.specs.Places.{number_at};
 ghost use Rattle.fkv_flush.specs.Serving.{serve_ask, serve_next, serve_read, mailbox_from, mail_place, mail_of, IsServeInRange};
 ghost use Rattle.fkv_flush.specs.declared.serving.Serving.TheVariants.{AtRest};
@@ -111,13 +112,14 @@ impl Serve {
 
     /// Makes the one call of the device that it needs, a read of 24 bytes, and goes on. Where it needs none it makes none,
     /// and stays where it is. `Fault::Device` where the device failed: the machine is at rest then, and nothing was stored.
-    #[tactic(auto, unfolding(crate::specs::Serving::serve_read, crate::specs::Serving::mail_place))]
+    #[tactic(auto, unfolding(crate::specs::Serving::serve_read, crate::specs::Serving::mail_place, crate::specs::Serving::serve_ask))]
     pub fn device_step<D: Device>(&mut self, d: &mut D) -> Result<Ask<DeviceAnswer>, Fault>
         ensures next { OnOk result ((bytes : List ℕ) × (self.new ≡ record self.old { step = serve_read self.old.step bytes })) }
         ensures read { D.honest d.old → OnOk result (self.new ≡ record self.old { step = serve_read self.old.step (bytes_at (D.seen d.old) (mail_place self.old.shape self.old.step) 24) }) }
         ensures ask { IfOk result (λ ask. ask ≡ serve_ask self.new.step) }
         ensures failed { OnErr result (self.new ≡ record self.old { step = AtRest }) }
         ensures cause { HasCause (D.failed d.old) (D.failed d.new) result }
+        ensures counted { MakesCalls (calls_asked (serve_ask self.old.step)) (D.refuses d.old) (D.refuses d.new) result }
         ensures honest { D.honest d.old ↔ D.honest d.new }
         ensures seen { D.honest d.old → D.seen d.new ≡ D.seen d.old }
         ensures crash { D.honest d.old → LeavesNoMore (D.may_leave d.old) (D.may_leave d.new) }

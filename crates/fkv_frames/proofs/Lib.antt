@@ -1,2 +1,2 @@
-pub mod Open
-pub mod Sizes
+mod Open
+pub mod Shown

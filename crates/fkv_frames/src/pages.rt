@@ -15,12 +15,13 @@ pub fn page_of(shape: &Shape, addr: Addr) -> u64
 pub fn frame_of(shape: &Shape, addr: Addr) -> u64
     ensures { result ≡ frame_of shape.now addr.0 }
 {
-    page_of(shape, addr) % shape.frames
+    page_of(shape, addr) & (shape.frames - 1)
 }
 
 /// The place of the first of the record's three words, counted from the first word of the frames.
 pub fn place_of(shape: &Shape, addr: Addr) -> usize
     ensures { result ≡ place_of shape.now addr.0 }
 {
-    3 * (addr.0 % (shape.frames * shape.page)) as usize
+    let ring = shape.frames * shape.page;
+    3 * (addr.0 & (ring - 1)) as usize
 }

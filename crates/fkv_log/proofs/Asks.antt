@@ -44,7 +44,7 @@ use Rattle.fkv_log.specs.Invalidating.{invalidate_ask}
 use Rattle.fkv_log.specs.Loading.{load_ask}
 use Rattle.fkv_log.specs.Moving.{Mover, move_begun, move_ask, move_next, move_next_ask, moving_ask, moving_next, moving_next_ask, raise_led, raise_told, arm_led}
 use Rattle.fkv_log.specs.Shifting.{ShiftState, shift_begun, shift_ask, shift_next, shift_next_ask, shifting_ask, shifting_next, shifting_next_ask, shift_led, move_told, mutable_start}
-use Rattle.fkv_log.specs.Turning.{TurnState, turn_at, turn_begun, turn_ask, turn_next, turn_next_ask, turning_ask, turning_next, turning_next_ask, turn_led, turn_told, page_wanted, frame_end, frame_taken}
+use Rattle.fkv_log.specs.Turning.{TurnState, turn_at, turn_begun, turn_ask, turn_next, turn_next_ask, turning_ask, turning_next, turning_next_ask, turn_led, turn_told, pages_wanted, frame_end, frame_taken}
 
 -- a test is met or not
 truth : (b : Bool) → (b ≡ true) ⊎ (b ≡ false)
@@ -198,7 +198,7 @@ frame_taken_asks shape form.OpensOnly end m = inl refl
 turning_asks : (shape : Shape) (step : Turning) (m : Mover) (reply : ℕ) → TurnRestsOrAsks shape (turning_next shape step m reply)
 unfolding turning_next turning_ask passed moving_ask raise_ask
 turning_asks shape turn.AtRest m reply = inl refl
-turning_asks shape (turn.LoadsLimit form tail) m reply = elim (truth (nat_lt (reply / shape.page) (page_wanted shape tail))) [
+turning_asks shape (turn.LoadsLimit form tail) m reply = elim (truth (nat_lt (reply / shape.page) (pages_wanted shape tail))) [
   | inl e ↦ rw e (inr refl)
   | inr e ↦ rw e (inl refl)
 ]

@@ -1,5 +1,5 @@
 -- How the next page is opened, or the oldest one's frame is set free for it.
-use Rattle.std.specs.Prelude.{ℕ, ◌+◌, ◌-◌, ◌*◌, ◌/◌, ◌<◌, min, nat_lt, nat_le, if◌then◌else◌, ⊤}
+use Rattle.std.specs.Prelude.{◌≡◌, ℕ, ◌+◌, ◌-◌, ◌*◌, ◌/◌, ◌<◌, min, nat_lt, nat_le, if◌then◌else◌, ⊤}
 use Rattle.fkv_base.specs.declared.shapes.Shape.{Shape}
 use Rattle.fkv_plane.specs.declared.asks.Ask.{Ask}
 use Rattle.fkv_plane.specs.declared.asks.Ask.TheVariants.{Load, Cas, Done}
@@ -31,9 +31,9 @@ turn_at step m = record { step = step; mover = m }
 abbrev pub turn_begun : TurnForm → ℕ → TurnState
 turn_begun form tail = turn_at (LoadsLimit form tail) move_at_rest
 
--- the page at the limit is opened while it is at most one past the tail's, and on the device
-abbrev pub page_wanted : Shape → ℕ → ℕ
-page_wanted shape tail = min (tail / shape.page + 2) shape.disk_pages
+-- how many pages are to be open: those up to the one past the tail's, as far as the device has them
+abbrev pub pages_wanted : Shape → ℕ → ℕ
+pages_wanted shape tail = min (tail / shape.page + 2) shape.disk_pages
 
 -- the limit once the page at this one is open
 abbrev pub limit_after : Shape → ℕ → ℕ
@@ -76,7 +76,7 @@ turn_led m ask = turn_at Moves m
 -- where it isn't yet and all below is flushed.
 unfoldable pub turning_next : Shape → Turning → Mover → ℕ → TurnState
 turning_next shape AtRest m reply = turn_at AtRest m
-turning_next shape (LoadsLimit form tail) m reply = turn_at (if nat_lt (reply / shape.page) (page_wanted shape tail) then LoadsClosed form reply else AtRest) m
+turning_next shape (LoadsLimit form tail) m reply = turn_at (if nat_lt (reply / shape.page) (pages_wanted shape tail) then LoadsClosed form reply else AtRest) m
 turning_next shape (LoadsClosed form limit) m reply = turn_at (if nat_le (frame_end shape limit) reply then RaisesLimit limit else frame_taken form (frame_end shape limit)) m
 turning_next shape (RaisesLimit limit) m reply = turn_at AtRest m
 turning_next shape (LoadsHead end) m reply = turn_at (if nat_lt reply end then LoadsFlushed end else AtRest) m
@@ -98,3 +98,14 @@ turning_next_ask shape step m reply = turn_ask shape (turning_next shape step m 
 
 abbrev pub turn_next_ask : Shape → TurnState → ℕ → Ask MoveAnswer
 turn_next_ask shape s reply = turning_next_ask shape s.step s.mover reply
+
+-- A ring of two frames of four records each, on a device of five pages. With the tail at 13, in page 3, page 4 is wanted, the last; its frame is
+-- free once all below 12 is closed, and then the limit goes from 16 to 20. With the tail in page 4 no other is wanted.
+pub record IsWorkedTurn (shape : Shape) : Type 0 where
+  pub wanted : pages_wanted shape 13 ≡ 5
+  pub no_more : pages_wanted shape 17 ≡ 5
+  pub its_frame : frame_end shape 16 ≡ 12
+  pub limit : limit_after shape 16 ≡ 20
+
+abbrev pub TurnsLastPage : Type 0
+TurnsLastPage = (shape : Shape) → shape.page ≡ 4 → shape.frames ≡ 2 → shape.disk_pages ≡ 5 → IsWorkedTurn shape

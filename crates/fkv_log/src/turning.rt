@@ -1,7 +1,7 @@
 //! How pages are opened and closed as the tail goes on.
 ghost use Rattle.std.specs.Prelude.{◌≡◌, ◌<◌, ◌/◌, nat_lt, nat_le, if◌then◌else◌};
 ghost use Rattle.fkv_log.specs.Moving.{move_at_rest};
-ghost use Rattle.fkv_log.specs.Turning.{page_wanted, limit_after, frame_end, frame_taken, turn_at, turn_begun, turn_ask, turn_next, turn_next_ask, turn_led, turn_told, IsTurnInRange};
+ghost use Rattle.fkv_log.specs.Turning.{pages_wanted, limit_after, frame_end, frame_taken, turn_at, turn_begun, turn_ask, turn_next, turn_next_ask, turn_led, turn_told, IsTurnInRange};
 ghost use Rattle.fkv_log.specs.declared.turning.Turning.TheVariants.{AtRest, LoadsClosed, RaisesLimit};
 
 use crate::moving::{MoveAnswer, MoveOffset, Offset};
@@ -148,7 +148,7 @@ impl TurnPage {
 
 // A page is opened while the tail is near it, and the device has room for it.
 fn limit_loaded(shape: &Shape, form: TurnForm, tail: u64, limit: u64) -> Turning
-    ensures next { result ≡ (if nat_lt (limit / shape.now.page) (page_wanted shape.now tail) then LoadsClosed form limit else AtRest) }
+    ensures next { result ≡ (if nat_lt (limit / shape.now.page) (pages_wanted shape.now tail) then LoadsClosed form limit else AtRest) }
     ensures in_range { IsTurnInRange shape.now result }
 {
     let wanted = (tail / shape.page + 2).min(shape.disk_pages);

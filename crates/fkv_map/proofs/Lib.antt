@@ -1,4 +1,7 @@
-pub mod Histories
-pub mod KeptEntries
-pub mod Stored
-pub mod Values
+mod Histories
+mod KeptEntries
+mod Keys
+pub mod Shown
+mod Stored
+mod Values
+mod Whole

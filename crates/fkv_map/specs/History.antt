@@ -1,5 +1,5 @@
 -- Histories of updates: what they make of a map, and which of their entries the points of a commit keep.
-use Rattle.std.specs.Prelude.{◌≡◌, ℕ, max, Bool, cond, ◌&&◌, List, [], ◌∷◌, filter, count_by, nat_eq, nat_lt, nat_le, slice_index_or, Contains}
+use Rattle.std.specs.Prelude.{◌≡◌, ◌≤◌, ℕ, max, Bool, cond, ◌&&◌, List, [], ◌∷◌, filter, count_by, nat_eq, nat_lt, nat_le, slice_index_or, Contains}
 use Rattle.fkv_base.specs.declared.numbers.Serial.{Serial}
 use Rattle.fkv_map.specs.declared.history.HistoryEntry.{HistoryEntry}
 use Rattle.fkv_map.specs.Map.{Map, applied, reply_to, IsReserved}
@@ -44,3 +44,13 @@ IsWhole history opening points =
 abbrev pub last_serial : List HistoryEntry → ℕ → ℕ
 last_serial [] session = 0
 last_serial (entry ∷ later) session = cond (nat_eq entry.session session) (max entry.serial.0 (last_serial later session)) (last_serial later session)
+
+-- each session's serials above its opening point, up to its last, stand in the history once each, and no others do
+abbrev pub HasEachOnce : List HistoryEntry → List Serial → Type 0
+HasEachOnce history opening =
+    (session serial : ℕ) → count_by (is_update session serial) history
+    ≡ cond (nat_lt (point_of opening session) serial && nat_le serial (last_serial history session)) 1 0
+
+-- each session's point among the first is at most its point among the second
+abbrev pub AreAtMost : List Serial → List Serial → Type 0
+AreAtMost points others = (session : ℕ) → point_of points session ≤ point_of others session

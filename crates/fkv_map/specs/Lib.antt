@@ -1,3 +1,4 @@
 pub mod History
+pub mod Keys
 pub mod Laws
 pub mod Map

@@ -1,5 +1,6 @@
 //! Where each shared word stands.
-ghost use Rattle.std.specs.Prelude.{◌≡◌, ◌<◌, ◌≤◌, ◌+◌, ◌*◌, ◌^◌};
+ghost use Rattle.std.specs.Prelude.{◌≡◌, ◌<◌, ◌≤◌, ◌+◌, ◌-◌, ◌*◌, ◌%◌, ◌^◌, ℕ};
+ghost use Rattle.std.specs.Int.Bits.{bit_and};
 ghost use Rattle.fkv_base.specs.Limits.{max_sessions, max_buckets, max_overflow, max_ring, drain_slots};
 
 use fkv_base::{Addr, Shape};
@@ -52,12 +53,15 @@ pub struct Places {
     /// Buckets that are not overflow buckets.
     pub buckets: usize,
     pub overflow: usize,
-    /// Records that all frames hold together.
+    /// Records that all frames hold together, a power of two.
     pub ring: usize,
+    /// The ring less one: an address masked by it is its place in the ring.
+    pub ring_mask: usize,
     pub ghost few_sessions: { sessions ≤ max_sessions },
     pub ghost few_buckets: { buckets ≤ max_buckets },
     pub ghost few_overflow: { overflow ≤ max_overflow },
     pub ghost some_ring: { 0 < ring },
+    pub ghost masks: { (a : ℕ) → bit_and a ring_mask ≡ a % ring },
     pub ghost small_ring: { ring ≤ max_ring },
 }
 
@@ -145,11 +149,13 @@ impl Places {
         ensures overflow { result.overflow ≡ shape.now.overflow }
         ensures ring { result.ring ≡ shape.now.frames * shape.now.page }
     {
+        let ring = (shape.frames * shape.page) as usize;
         Places {
             sessions: shape.sessions as usize,
             buckets: 1 << shape.bucket_bits,
             overflow: shape.overflow as usize,
-            ring: (shape.frames * shape.page) as usize,
+            ring,
+            ring_mask: ring - 1,
         }
     }
 
@@ -196,6 +202,6 @@ impl Places {
     pub fn record(&self, addr: Addr, word: RecordWord) -> usize
         ensures { result ≡ record_place self.now addr.0 word }
     {
-        self.frames_start() + 3 * (addr.0 as usize % self.ring) + word.number()
+        self.frames_start() + 3 * (addr.0 as usize & self.ring_mask) + word.number()
     }
 }

@@ -1,6 +1,7 @@
-pub mod PointApart
-pub mod RecordApart
-pub mod ShapeApart
-pub mod SlotApart
-pub mod Spelling
-pub mod TripleApart
+mod PointApart
+mod RecordApart
+mod ShapeApart
+mod SlotApart
+mod Spelling
+mod TripleApart
+pub mod Shown

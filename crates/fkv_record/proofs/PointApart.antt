@@ -1,12 +1,15 @@
 -- Points and their numbers.
-use Rattle.std.proofs.Common.{◌≡◌, ℕ, zero, suc, ◌-◌, ◌^◌, ◌<◌, ◌≤◌, List, [], ◌∷◌, ◌++◌, length, All, take, drop, replicate, Some, None, refl, sym, ap, ◌∙◌, arith}
+use Rattle.std.proofs.Common.{◌≡◌, ℕ, zero, suc, ◌+◌, ◌-◌, ◌<◌, ◌≤◌, List, [], ◌∷◌, ◌++◌, length, All, take, drop, replicate, get_or, set, Some, None, refl, sym, ap, ◌∙◌, arith}
 use Rattle.std.proofs.Math.Bridge.{le_prop}
-use Rattle.std.proofs.lemmas.List.{take_at, drop_at, take-append-drop, length-append, length-replicate, length-map}
+use Rattle.std.proofs.lemmas.List.{take_at, drop_at, take-append-drop, length-append, length-replicate, length-map, length-take-le, append_assoc, map-append}
+use Rattle.std.proofs.Math.Seq.{take-suc, set-append_seam}
 use Rattle.fkv_base.specs.declared.numbers.Serial.{Serial}
+use Rattle.fkv_base.specs.Limits.{max_sessions, last_serial}
 use Rattle.fkv_words.specs.Fields.{Reads, SpellsApart}
-use Rattle.fkv_words.proofs.Spelled.{same_made, reads_made}
+use Rattle.fkv_words.proofs.Shown.{same_made, reads_made}
 use Rattle.fkv_record.specs.declared.points.Points.{Points}
 use Rattle.fkv_record.specs.Layout.{point_numbers}
+use Rattle.fkv_record.specs.Numbers.{padded}
 use Rattle.fkv_record.specs.Points.{serial_numbers}
 use Rattle.fkv_record.proofs.Spelling.{AreWords, words_append}
 
@@ -55,7 +58,7 @@ serials_apart (x ∷ xs) (y ∷ ys) e =
 
 points_same : (x y : Points) → x.serials.items ≡ y.serials.items → x ≡ y
 points_same x y e =
-    same_made {A = List Serial} {P = λ p. (0 < length p) × (length p ≤ 8) × All (λ s. s.0 < 2 ^ 48) p}
+    same_made {A = List Serial} {P = λ p. (0 < length p) × (length p ≤ max_sessions) × All (λ s. s.0 ≤ last_serial) p}
     (λ p h. record { serials = record { items = p }; some_session = h.0; few_sessions = h.1; serials_fit = h.2 })
     (λ p. hlevel le_prop) x.serials.items y.serials.items
     (x.some_session, x.few_sessions, x.serials_fit) (y.some_session, y.few_sessions, y.serials_fit) e
@@ -74,15 +77,15 @@ points_none sessions places none x =
     (λ s. let never : ⊥ = cc in absurd never, λ e. absurd (none x (fills x sessions places e)))
 
 -- the numbers of serials that fit do
-pub numbers_fit : (xs : List Serial) → All (λ s. s.0 < 2 ^ 48) xs → All (λ n. n < 2 ^ 48) (serial_numbers xs)
+pub numbers_fit : (xs : List Serial) → All (λ s. s.0 ≤ last_serial) xs → All (λ n. n ≤ last_serial) (serial_numbers xs)
 numbers_fit [] fits k d lt = absurd (omega arith)
 numbers_fit (x ∷ xs) fits zero d lt = fits zero (record { 0 = d }) (omega arith)
 numbers_fit (x ∷ xs) fits (suc k) d lt = numbers_fit xs (λ j e j-lt. fits (suc j) e (omega arith)) k d (omega arith)
 
-serial_words : (xs : List Serial) → All (λ s. s.0 < 2 ^ 48) xs → AreWords (serial_numbers xs)
+serial_words : (xs : List Serial) → All (λ s. s.0 ≤ last_serial) xs → AreWords (serial_numbers xs)
 serial_words [] fits = tt
 serial_words (x ∷ xs) fits =
-    let first : x.0 < 2 ^ 48 = fits zero x (omega arith) in
+    let first : x.0 ≤ last_serial = fits zero x (omega arith) in
     (omega arith, serial_words xs (λ j e j-lt. fits (suc j) e (omega arith)))
 
 zero_words : (n : ℕ) → AreWords (replicate n 0)
@@ -98,3 +101,22 @@ pub length-point_numbers : (x : Points) → length (point_numbers x) ≡ 58
 length-point_numbers x =
     let few = x.few_sessions in
     omega (arith, ap length (point_parts x), length-append (serial_numbers x.serials.items) (replicate (57 - length x.serials.items) 0), length-replicate {A = ℕ} (57 - length x.serials.items) 0, length-map {A = Serial} {B = ℕ} x.serials.items (λ s. s.0))
+
+-- one point more, over a zero
+pub one_more_point : (xs : List Serial) (i n : ℕ) (d : Serial) → i < length xs → length xs ≤ 57 → set (padded 58 (n ∷ serial_numbers (take i xs))) (i + 1) (get_or xs i d).0 ≡ padded 58 (n ∷ serial_numbers (take (i + 1) xs))
+one_more_point xs i n d here few =
+    let before : List ℕ = n ∷ serial_numbers (take i xs) in
+    let many : length before ≡ i + 1 = omega (arith, here, length-map {A = Serial} {B = ℕ} (take i xs) (λ s. s.0), length-take-le i xs (omega (arith, here))) in
+    let more : serial_numbers (take (i + 1) xs) ≡ serial_numbers (take i xs) ++ (get_or xs i d).0 ∷ [] =
+    ap (λ (k : ℕ). serial_numbers (take k xs)) (let e : i + 1 ≡ suc i = omega arith in e)
+    ∙ ap (λ (l : List Serial). serial_numbers l) (take-suc xs i d here)
+    ∙ map-append {A = Serial} {B = ℕ} (λ s. s.0) (take i xs) (get_or xs i d ∷ []) in
+    let rest : ℕ = 56 - i in
+    let left : 58 - length before ≡ suc rest = omega (arith, many, here, few) in
+    let right : 58 - length (n ∷ serial_numbers (take (i + 1) xs)) ≡ rest = omega (arith, ap length more, length-append (serial_numbers (take i xs)) ((get_or xs i d).0 ∷ []), many, here, few) in
+    ap (λ (k : ℕ). set (before ++ replicate k 0) (i + 1) (get_or xs i d).0) left
+    ∙ ap (λ (k : ℕ). set (before ++ 0 ∷ replicate rest 0) k (get_or xs i d).0) (sym many)
+    ∙ set-append_seam before 0 (replicate rest 0) (get_or xs i d).0
+    ∙ sym (append_assoc before ((get_or xs i d).0 ∷ []) (replicate rest 0))
+    ∙ ap (λ (l : List ℕ). (n ∷ l) ++ replicate rest 0) (sym more)
+    ∙ ap (λ (k : ℕ). (n ∷ serial_numbers (take (i + 1) xs)) ++ replicate k 0) (sym right)

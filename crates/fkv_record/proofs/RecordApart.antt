@@ -4,9 +4,7 @@ use Rattle.std.proofs.Math.Bridge.{le_prop}
 use Rattle.fkv_words.specs.declared.headers.Header.{Header}
 use Rattle.fkv_words.specs.Fields.{Reads, SpellsApart}
 use Rattle.fkv_words.specs.Layout.{header_word}
-use Rattle.fkv_words.proofs.Apart.{header_apart}
-use Rattle.fkv_words.proofs.Bits.{bit_small}
-use Rattle.fkv_words.proofs.Spelled.{same_made, reads_made}
+use Rattle.fkv_words.proofs.Shown.{header_apart, bit_small, same_made, reads_made}
 use Rattle.fkv_record.specs.declared.records.Record.{Record}
 use Rattle.fkv_record.specs.Layout.{record_numbers, record_bytes}
 use Rattle.fkv_record.proofs.Spelling.{AreWords, IsNumbered, numbered_apart, three_numbers}

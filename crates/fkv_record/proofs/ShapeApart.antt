@@ -8,9 +8,9 @@ use Rattle.std.specs.Result.{result_ok}
 use Rattle.fkv_base.specs.declared.faults.Fault.{Fault}
 use Rattle.std.specs.Int.{w64, from_le_bytes}
 use Rattle.fkv_base.specs.declared.shapes.Shape.{Shape}
-use Rattle.fkv_base.specs.Limits.{IsShape, is_ring_size}
+use Rattle.fkv_base.specs.Limits.{IsShape, is_ring_size, min_page, max_page, min_frames, max_frames}
 use Rattle.fkv_words.specs.Fields.{Reads, SpellsApart}
-use Rattle.fkv_words.proofs.Spelled.{same_made, reads_made}
+use Rattle.fkv_words.proofs.Shown.{same_made, reads_made}
 use Rattle.fkv_record.specs.Layout.{size_numbers, shape_bytes}
 use Rattle.fkv_record.proofs.Spelling.{AreWords, IsNumbered, numbered_apart, eight_numbers}
 
@@ -24,8 +24,8 @@ ring_small size least most h = grind (arith, nat_tests)
 shape_words : (x : Shape) → AreWords (shape_numbers x)
 shape_words x =
     let limits = x.limits in
-    let page = ring_small x.page 4 1024 limits.page_size in
-    let frames = ring_small x.frames 2 64 limits.ring_size in
+    let page = ring_small x.page min_page max_page limits.page_size in
+    let frames = ring_small x.frames min_frames max_frames limits.ring_size in
     (omega arith, (omega arith, (omega arith, (omega arith, (omega arith, (omega arith, (omega arith, (omega arith, tt))))))))
 
 shape_same : (x y : Shape) → size_numbers x ≡ size_numbers y → x ≡ y

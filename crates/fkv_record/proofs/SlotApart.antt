@@ -3,7 +3,7 @@ use Rattle.std.proofs.Common.{◌≡◌, ◌≢◌, ℕ, ◌^◌, ◌<◌, List,
 use Rattle.std.proofs.lemmas.List.{take-append-drop}
 use Rattle.std.proofs.Math.Bridge.{le_prop}
 use Rattle.fkv_words.specs.Fields.{Reads, SpellsApart}
-use Rattle.fkv_words.proofs.Spelled.{same_made, reads_made}
+use Rattle.fkv_words.proofs.Shown.{same_made, reads_made}
 use Rattle.fkv_record.specs.declared.points.Points.{Points}
 use Rattle.fkv_record.specs.declared.slots.Slot.{Slot}
 use Rattle.fkv_record.specs.Layout.{point_numbers, first_layout, slot_bytes}

@@ -2,7 +2,7 @@
 use Rattle.std.proofs.Common.{◌≡◌, ℕ, ◌+◌, ◌*◌, ◌^◌, ◌<◌, List, [], ◌∷◌, ◌++◌, length, take, drop, get_or, zero, suc, replicate, inl, inr, Option, refl, sym, ap, ◌∙◌, arith}
 use Rattle.std.proofs.Math.Seq.{take-add}
 use Rattle.std.proofs.Math.ListN.{set}
-use Rattle.std.proofs.lemmas.List.{take_more_set, take_at, drop_at, flat_map_more, get_or-replicate, get_or_past, length-replicate}
+use Rattle.std.proofs.lemmas.List.{take_more_set, take_at, drop_at, flat_map_more, get_or-replicate, get_or_past, length-replicate, length-append}
 use Rattle.std.proofs.lemmas.Bool.{cases_lt}
 use Rattle.std.proofs.lemmas.List.Concat.{flat_map-cons}
 use Rattle.std.proofs.lemmas.Nat.{from_le_bytes-to_le_bytes_8}
@@ -95,3 +95,8 @@ pub eight_numbers : (numbers : List ℕ) → length numbers ≡ 8
     → numbers ≡ get_or numbers 0 0 ∷ get_or numbers 1 0 ∷ get_or numbers 2 0 ∷ get_or numbers 3 0 ∷ get_or numbers 4 0 ∷ get_or numbers 5 0 ∷ get_or numbers 6 0 ∷ get_or numbers 7 0 ∷ []
 eight_numbers (a ∷ b ∷ c ∷ d ∷ e ∷ f ∷ g ∷ h ∷ []) len = refl
 eight_numbers numbers len = absurd (omega arith)
+
+-- eight bytes for each
+pub length-spelled : (numbers : List ℕ) → length (spelled numbers) ≡ 8 * length numbers
+length-spelled [] = refl
+length-spelled (n ∷ numbers) = omega (arith, ap length (flat_map-cons (to_le_bytes w64) n numbers), length-append (to_le_bytes w64 n) (spelled numbers), length-spelled numbers)

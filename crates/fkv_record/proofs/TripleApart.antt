@@ -2,7 +2,7 @@
 use Rattle.std.proofs.Common.{◌≡◌, ℕ, ◌+◌, ◌*◌, ◌^◌, ◌<◌, List, [], ◌∷◌, length, get_or, Some, None, refl, arith}
 use Rattle.std.proofs.Math.Bridge.{le_prop}
 use Rattle.fkv_words.specs.Fields.{Reads, SpellsApart}
-use Rattle.fkv_words.proofs.Spelled.{same_made, reads_made}
+use Rattle.fkv_words.proofs.Shown.{same_made, reads_made}
 use Rattle.fkv_record.specs.declared.triples.Triple.{Triple}
 use Rattle.fkv_record.specs.Layout.{triple_bytes}
 use Rattle.fkv_record.specs.Numbers.{spelled}

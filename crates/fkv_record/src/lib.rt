@@ -18,7 +18,7 @@ mod triples;
 pub use gates::{OPEN, open_number};
 pub use image_places::{SHAPE_PLACE, SLOT_PLACES, area_place, most_triples, record_place};
 pub use laws::law_spellings_apart;
-pub use points::Points;
+pub use points::{MAX_POINTS, Points};
 pub use record_bytes::{read_record, write_record};
 pub use records::Record;
 pub use shape_bytes::{read_shape, write_shape};

@@ -1,19 +1,20 @@
 //! Points as numbers.
-ghost use Rattle.std.specs.Prelude.{◌≡◌, ◌∷◌, ◌≤◌, ◌<◌, ◌^◌, ◌↔◌, All, length, replicate, IsTrue, IfSome, IfNone};
+ghost use Rattle.std.specs.Prelude.{◌≡◌, ◌∷◌, ◌≤◌, ◌↔◌, All, length, replicate, IsTrue, IfSome, IfNone};
+ghost use Rattle.fkv_base.specs.Limits.{max_sessions, last_serial};
 ghost use Rattle.fkv_words.specs.Fields.{Reads};
 ghost use Rattle.fkv_record.specs.Layout.{point_numbers};
 ghost use Rattle.fkv_record.specs.Points.{serial_numbers};
 
-use crate::points::Points;
+use crate::points::{MAX_POINTS, Points};
 use arrayvec::ArrayVec;
-use fkv_base::Serial;
+use fkv_base::{MAX_SESSIONS, Serial};
 
 /// The points that stand in the places, if there are so many, and zeros after them.
 pub(crate) fn points_of(sessions: u64, places: &[u64]) -> Option<Points>
     requires { length places.now ≡ 57 }
     ensures { Reads point_numbers (sessions ∷ places.now) result }
 {
-    if sessions == 0 || sessions > 8 {
+    if sessions == 0 || sessions > MAX_SESSIONS {
         return None;
     }
     let (used, unused) = places.split_at(sessions as usize);
@@ -32,11 +33,11 @@ fn are_zero(places: &[u64]) -> bool
 }
 
 /// The serials with the numbers, if all of them are serials.
-fn serials_of(numbers: &[u64]) -> Option<ArrayVec<Serial, 8>>
-    requires { length numbers.now ≤ 8 }
-    ensures fit { IfSome result (λ serials. All (λ serial. serial.0 < 2 ^ 48) serials.items) }
+fn serials_of(numbers: &[u64]) -> Option<ArrayVec<Serial, MAX_POINTS>>
+    requires { length numbers.now ≤ max_sessions }
+    ensures fit { IfSome result (λ serials. All (λ serial. serial.0 ≤ last_serial) serials.items) }
     ensures same { IfSome result (λ serials. serial_numbers serials.items ≡ numbers.now) }
-    ensures none { IfNone result (¬ All (λ number. number < 2 ^ 48) numbers.now) }
+    ensures none { IfNone result (¬ All (λ number. number ≤ last_serial) numbers.now) }
 {
     let mut serials = ArrayVec::new();
     for number in numbers {

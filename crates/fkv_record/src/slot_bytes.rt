@@ -13,7 +13,7 @@ use fkv_base::Addr;
 const OPEN: u64 = gates::OPEN as u64;
 
 /// The slot that the bytes spell, if they spell one. They spell none where the gate is not open, bytes 1 to 7 or those
-/// after the points are not zero, there are no points or more than eight, or one of them is 2^48 or more.
+/// after the points are not zero, there are no points or more than `MAX_SESSIONS`, or one of them is above `Serial::LAST`.
 pub fn read_slot(bytes: &[u8; 512]) -> Option<Slot>
     ensures { Reads slot_bytes bytes.now result }
 {

@@ -1,7 +1,7 @@
 use super::*;
 use arrayvec::ArrayVec;
 use byteorder::{ByteOrder, LittleEndian};
-use fkv_base::{Addr, Key, Serial, Shape, Version};
+use fkv_base::{Addr, Key, MAX_SESSIONS, Serial, Shape, Version};
 use fkv_words::Header;
 use std::process::Abort;
 use std::test::Fail;
@@ -143,15 +143,30 @@ fn a_slot_has_its_bytes(rt: HostRuntime) {
 }
 
 #[test]
+fn a_slot_has_a_point_for_each_session(rt: HostRuntime) {
+    let mut bytes = write_slot(&sample_slot());
+    // 32 points, of which the last is 7
+    for (at, number) in [(48, MAX_SESSIONS), (304, 7)] {
+        LittleEndian::write_u64(&mut bytes[at..], number);
+    }
+    let read = read_slot(&bytes);
+    assert_eq!(rt;
+        read.as_ref().map(|slot| slot.points.serials.len()),
+        Some(32)
+    );
+    assert_eq!(rt; read.map(|slot| write_slot(&slot)), Some(bytes));
+}
+
+#[test]
 fn what_is_no_slot_is_refused(rt: HostRuntime) {
     let bytes = write_slot(&sample_slot());
-    // A closed gate, byte 1, no session, nine sessions, a point of 2^48, a number after the points, the last byte.
+    // A closed gate, byte 1, no session, too many sessions, a point of 2^48, a number after the points, the last byte.
     let changes = [
         (0, 0),
         (0, 0x1a5),
         (48, 0),
-        (48, 9),
-        (56, 281474976710656),
+        (48, MAX_SESSIONS + 1),
+        (56, Serial::LAST + 1),
         (64, 1),
         (504, 1 << 63),
     ];

@@ -10,6 +10,7 @@ use Rattle.std.proofs.lemmas.List.Sums.{length-filter, count_by-le-length}
 use Rattle.std.proofs.lemmas.List.Elements.{filter_more}
 use Rattle.std.proofs.lemmas.Bool.Decides.{nat_tests}
 use Rattle.fkv_words.specs.Layout.{entry_word}
+use Rattle.fkv_recover.specs.Sizes.{all_triples}
 use Rattle.fkv_recover.specs.Room.{needed}
 use Rattle.fkv_recover.specs.Filled.{bucket_words, AreByTag, eight_words, IsFilled, up_to, filled_by, all_needed, link_words, links_behind, first_link, other_links}
 use Rattle.fkv_recover.specs.declared.home_entries.HomeEntry.{HomeEntry}
@@ -75,7 +76,7 @@ pub record IsFilling (buckets : ℕ) (entries : List HomeEntry) (words behind : 
 
 -- one bucket more, with the words of its entries by tag
 pub filling_more : (b : ℕ) (entries : List HomeEntry) (words behind : List ℕ) (taken : ℕ) (c : List ℕ) → IsFilling b entries words behind taken → AreByTag (bucket_words b entries) c
-    → length c ≤ 14336 → IsFilling (b + 1) entries (words ++ first_link c taken) (behind ++ other_links c taken) (taken + needed (length c))
+    → length c ≤ all_triples → IsFilling (b + 1) entries (words ++ first_link c taken) (behind ++ other_links c taken) (taken + needed (length c))
 filling_more b entries words behind taken c so_far by_tag few = record {
   chains = so_far.chains ++ c ∷ [];
   many = length-append so_far.chains (c ∷ []) ∙ ap (λ n. n + 1) so_far.many;
@@ -135,7 +136,7 @@ eight_pushed index words next slots one two three is first second third =
 pub link_in_words : (n j : ℕ) → j < needed n → 7 * (j + 1) ≤ n
 link_in_words n j low = omega (arith, low)
 
-pub needed_few : (n : ℕ) → n ≤ 14336 → needed n ≤ 16384
+pub needed_few : (n : ℕ) → n ≤ all_triples → needed n ≤ 16384
 needed_few n few = omega (arith, few)
 
 pub filling_none : (entries : List HomeEntry) → IsFilling 0 entries [] [] 0
@@ -154,7 +155,7 @@ pub filling_start : (entries : List HomeEntry) (words behind : List ℕ) → wor
 filling_start entries words behind none none' = subst (λ ws. IsFilling 0 entries ws behind 0) (sym none) (subst (λ bs. IsFilling 0 entries [] bs 0) (sym none') (filling_none entries))
 
 pub filling_step : (b : ℕ) (entries : List HomeEntry) (words behind : List ℕ) (taken : ℕ) (c words' behind' : List ℕ) (taken' : ℕ) → IsFilling b entries words behind taken → AreByTag (bucket_words b entries) c
-    → length c ≤ 14336 → words' ≡ words ++ first_link c taken → behind' ≡ behind ++ other_links c taken → taken' ≡ taken + needed (length c) → IsFilling (b + 1) entries words' behind' taken'
+    → length c ≤ all_triples → words' ≡ words ++ first_link c taken → behind' ≡ behind ++ other_links c taken → taken' ≡ taken + needed (length c) → IsFilling (b + 1) entries words' behind' taken'
 filling_step b entries words behind taken c words' behind' taken' so_far by_tag few one others more =
     subst (λ ws. IsFilling (b + 1) entries ws behind' taken') (sym one)
     (subst (λ bs. IsFilling (b + 1) entries (words ++ first_link c taken) bs taken') (sym others)

@@ -1,17 +1,17 @@
 -- Slots that pass recovery's test are those that are spelled.
 use Rattle.std.proofs.Common.{◌≡◌, ℕ, zero, suc, ◌+◌, ◌-◌, ◌*◌, ◌%◌, ◌^◌, ◌<◌, ◌≤◌, true, ◌&&◌, List, [], ◌∷◌, length, get_or, map, drop, take, refl, sym, ap, subst, ◌∙◌, arith, length-drop, length-take-le, get_or-take, drop-drop, drop_at, take_all}
-use Rattle.std.specs.Prelude.{◌↔◌, All, slice_range, nat_eq, nat_lt, replicate}
+use Rattle.std.specs.Prelude.{◌↔◌, All, slice_range, nat_eq, nat_le, replicate}
 use Rattle.std.specs.List.{list_all}
 use Rattle.std.proofs.lemmas.List.{length-map}
 use Rattle.fkv_base.specs.declared.numbers.Serial.{Serial}
 use Rattle.fkv_base.specs.declared.shapes.Shape.{Shape}
+use Rattle.fkv_base.specs.Limits.{max_sessions, last_version, last_serial}
 use Rattle.fkv_disk.specs.Bytes.{AreBytes}
 use Rattle.fkv_record.specs.declared.points.Points.{Points}
 use Rattle.fkv_record.specs.declared.slots.Slot.{Slot}
 use Rattle.fkv_record.specs.Layout.{first_layout, point_numbers}
 use Rattle.fkv_record.specs.Points.{serial_numbers}
-use Rattle.fkv_record.proofs.PointApart.{Fills, points_read}
-use Rattle.fkv_record.proofs.SlotApart.{Matches, parted_at, slot_read}
+use Rattle.fkv_record.proofs.Shown.{Fills, Matches, parted_at, points_read, slot_read}
 use Rattle.fkv_recover.specs.Image.{head_of, slot_of, most_triples, sessions_of, page_of, disk_pages_of}
 use Rattle.fkv_recover.specs.Manifest.{HasSizes, is_slot, is_folded, is_manifest, slot_tail, slot_triples, slot_points}
 use Rattle.fkv_recover.specs.Spellings.{HoldsSlot}
@@ -36,12 +36,12 @@ length-serials_of : (numbers : List ℕ) → length (serials_of numbers) ≡ len
 length-serials_of numbers = length-map {A = ℕ} {B = Serial} numbers (λ n. record { 0 = n })
 
 -- the points with these numbers
-points_of : (numbers : List ℕ) → 1 ≤ length numbers → length numbers ≤ 8 → list_all (λ point. nat_lt point (2 ^ 48)) numbers ≡ true → Points
+points_of : (numbers : List ℕ) → 1 ≤ length numbers → length numbers ≤ max_sessions → list_all (λ point. nat_le point last_serial) numbers ≡ true → Points
 points_of numbers some few small = record {
   serials = record { items = serials_of numbers };
   some_session = omega (arith, some, length-serials_of numbers);
   few_sessions = omega (arith, few, length-serials_of numbers);
-  serials_fit = small_numbers (serials_of numbers) (subst (λ l. list_all (λ point. nat_lt point (2 ^ 48)) l ≡ true) (sym (numbers_back numbers)) small);
+  serials_fit = small_numbers (serials_of numbers) (subst (λ l. list_all (λ point. nat_le point last_serial) l ≡ true) (sym (numbers_back numbers)) small);
 }
 
 -- a list of zeros is so many of them
@@ -53,10 +53,10 @@ all_zero (w ∷ words) none =
     let rest = all_zero words e.1 in
     cc
 
--- the numbers of serials are below 2^48
-all_small : (serials : List Serial) → All (λ s. s.0 < 2 ^ 48) serials → list_all (λ point. nat_lt point (2 ^ 48)) (serial_numbers serials) ≡ true
+-- the numbers of serials are small
+all_small : (serials : List Serial) → All (λ s. s.0 ≤ last_serial) serials → list_all (λ point. nat_le point last_serial) (serial_numbers serials) ≡ true
 all_small [] fits = refl
-all_small (s ∷ serials) fits = conj _ _ (lt_true s.0 (2 ^ 48) (fits zero s (omega arith))) (all_small serials (λ j e low. fits (suc j) e (omega (arith, low))))
+all_small (s ∷ serials) fits = conj _ _ (le_true s.0 last_serial (fits zero s (omega arith))) (all_small serials (λ j e low. fits (suc j) e (omega (arith, low))))
 
 -- ---- a slot that recovery takes
 
@@ -75,8 +75,8 @@ slot_ends place sessions most room words e =
     record { gate = eq_of _ _ e10.0; count = eq_of _ _ e3.1; zeros = e1.1 }
 
 -- the points of 64 words
-module _ (words : List ℕ) (sessions : ℕ) (whole : length words ≡ 64) (some : 1 ≤ sessions) (few : sessions ≤ 8)
-    (small : list_all (λ point. nat_lt point (2 ^ 48)) (slot_points words sessions) ≡ true) (ends : HasEnds words sessions) where
+module _ (words : List ℕ) (sessions : ℕ) (whole : length words ≡ 64) (some : 1 ≤ sessions) (few : sessions ≤ max_sessions)
+    (small : list_all (λ point. nat_le point last_serial) (slot_points words sessions) ≡ true) (ends : HasEnds words sessions) where
   -- the points follow the seven words
   points_at : slot_points words sessions ≡ take sessions (drop 7 words)
   points_at = ap (λ n. take n (drop 7 words)) (let e : 7 + sessions - 7 ≡ sessions = omega arith in e)
@@ -163,7 +163,7 @@ last_zeros x n many =
 
 -- these numbers of a slot are within the limits of a store
 record IsWithin (x : Slot) (place sessions most room : ℕ) : Type 0 where
-  pub few_versions : x.number ≤ 8190
+  pub few_versions : x.number < last_version
   pub parity : x.number % 2 ≡ place
   pub some : 1 ≤ x.first.0
   pub folded : x.first.0 ≡ x.end.0
@@ -177,10 +177,10 @@ taken : (x : Slot) (place sessions most room : ℕ) → IsWithin x place session
 unfolding first_layout point_numbers
 taken x place sessions most room is =
     conj _ _ (conj _ _ (conj _ _ (conj _ _ (conj _ _ (conj _ _ (conj _ _ (conj _ _ (conj _ _ (conj _ _ (conj _ _ refl
-    (le_true x.number 8190 is.few_versions)) (eq_true (x.number % 2) place is.parity))
+    (lt_true x.number last_version is.few_versions)) (eq_true (x.number % 2) place is.parity))
     (le_true 1 x.first.0 is.some)) (le_true x.first.0 x.end.0 (omega (arith, is.folded)))) (le_true x.end.0 room is.on_disk))
     (le_true x.triples most is.few_triples)) (eq_true x.area place is.its_area)) (eq_true (length x.points.serials.items) sessions is.a_point_each))
-    (subst (λ l. list_all (λ point. nat_lt point (2 ^ 48)) l ≡ true) (sym (first_points x sessions is.a_point_each)) (all_small x.points.serials.items x.points.serials_fit)))
+    (subst (λ l. list_all (λ point. nat_le point last_serial) l ≡ true) (sym (first_points x sessions is.a_point_each)) (all_small x.points.serials.items x.points.serials_fit)))
     (last_zeros x sessions is.a_point_each)) (eq_true x.first.0 x.end.0 is.folded)
 
 -- A slot passes its test exactly where one within the limits is spelled.
@@ -197,7 +197,7 @@ slot_held image shape place bytes sizes two_places =
           let small = points_small place (sessions_of head) (most_triples head) room words sound in
           let whole = length-slot_of image place two_places in
           let some : 1 ≤ sessions_of head = omega (arith, sizes.sessions, shape.limits.some_session) in
-          let few : sessions_of head ≤ 8 = omega (arith, sizes.sessions, shape.limits.few_sessions) in
+          let few : sessions_of head ≤ max_sessions = omega (arith, sizes.sessions, shape.limits.few_sessions) in
           let fits = λ (k : ℕ) (below : k < 64). let e : get_or words k 0 < 2 ^ 64 = subst (λ w. w < 2 ^ 64) (sym (word_of_slot image place k two_places below)) (word_small image (64 + 64 * place + k) bytes) in e in
           let x = slot words (sessions_of head) whole some few small ends fits in
           let is = spelled_slot words (sessions_of head) whole some few small ends fits in

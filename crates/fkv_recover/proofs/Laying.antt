@@ -9,7 +9,7 @@ use Rattle.std.specs.Int.{w64, from_le_bytes, to_le_bytes}
 use Rattle.std.proofs.lemmas.List.{get_or-drop, get_or-append-add}
 use Rattle.std.proofs.lemmas.Nat.{from_le_bytes-to_le_bytes_8}
 use Rattle.fkv_disk.specs.Bytes.{byte_at, written}
-use Rattle.fkv_disk.proofs.BytesLemmas.{byte_at-written_in, byte_at-written_out, in_range, before_range, after_range}
+use Rattle.fkv_disk.proofs.Shown.{byte_at-written_in, byte_at-written_out, in_range, before_range, after_range}
 use Rattle.fkv_recover.specs.Image.{word_at}
 use Rattle.fkv_recover.specs.Created.{AreWords, AreZeroBytes, HasGaps, IsLaid, laid_bytes}
 use Rattle.fkv_recover.proofs.Words.{same_number}

@@ -1,27 +1,28 @@
-pub mod Answered
-pub mod Counts
-pub mod EntryLemmas
-pub mod Exact
-pub mod Falls
-pub mod Filling
-pub mod Followed
-pub mod Gather
-pub mod Held
-pub mod HeldShape
-pub mod HeldSlots
-pub mod Homes
-pub mod Keys
-pub mod Laying
-pub mod LayoutLemmas
-pub mod NewHead
-pub mod Named
-pub mod Newly
-pub mod PairLemmas
-pub mod Quieter
+mod Answered
+mod Counts
+mod EntryLemmas
+mod Exact
+mod Falls
+mod Filling
+mod Followed
+mod Gather
+mod Held
+mod HeldShape
+mod HeldSlots
+mod Homes
+mod Keys
+mod Laying
+mod LayoutLemmas
+mod Named
+mod NewHead
+mod Newly
+mod PairLemmas
+mod Quieter
+mod ShownPairs
+mod Slots
+mod Sound
+mod Spelled
+mod SpelledParts
+mod Unique
+mod Words
 pub mod Shown
-pub mod Slots
-pub mod Sound
-pub mod Spelled
-pub mod SpelledParts
-pub mod Unique
-pub mod Words

@@ -6,7 +6,7 @@ use Rattle.std.proofs.lemmas.Bool.Decides.{nat_tests}
 use Rattle.std.proofs.lemmas.List.{get_or-drop, get_or-append-add}
 use Rattle.std.proofs.Math.ListN.{get_or-append}
 use Rattle.std.proofs.Math.Nat.{mul-le-mul}
-use Rattle.fkv_base.specs.Limits.{IsShape, is_shape, is_ring_size}
+use Rattle.fkv_base.specs.Limits.{IsShape, is_shape, is_ring_size, min_page, max_page, max_bucket_bits, max_sessions, max_overflow, max_disk_pages, last_serial}
 use Rattle.fkv_base.specs.declared.shapes.Shape.{Shape}
 use Rattle.fkv_recover.specs.Image.{slot_of, most_triples}
 use Rattle.fkv_recover.specs.Manifest.{store_mark, is_slot, is_manifest, is_store, is_open, newest, HasSizes}
@@ -31,7 +31,7 @@ eq_true a b h = grind (arith, nat_tests)
 pub lt_true : (a b : ℕ) → a < b → nat_lt a b ≡ true
 lt_true a b h = grind (arith, nat_tests)
 
-page_at_least : (page : ℕ) → IsTrue (is_ring_size page 4 1024) → 1 ≤ page
+page_at_least : (page : ℕ) → IsTrue (is_ring_size page min_page max_page) → 1 ≤ page
 page_at_least page e = grind (arith, nat_tests)
 
 true_of : (b : Bool) → IsTrue b → b ≡ true
@@ -72,15 +72,15 @@ slot_true : (sessions most room : ℕ) → 1 ≤ room → is_slot 0 sessions mos
 slot_true sessions most room some =
     conj _ _ (conj _ _ (conj _ _ (conj _ _ (conj _ _ (conj _ _ (conj _ _ (conj _ _ (conj _ _ (conj _ _ refl refl) refl) refl) refl)
     (le_true 1 room some)) (le_true 0 most (omega arith))) refl) (eq_true sessions sessions refl))
-    (all_zeros (λ point. nat_lt point (2 ^ 48)) (take (7 + sessions - 7) (replicate 57 0)) refl (zeros_take (7 + sessions - 7) (replicate 57 0) (zeros_replicate 57))))
+    (all_zeros (λ point. nat_le point last_serial) (take (7 + sessions - 7) (replicate 57 0)) refl (zeros_take (7 + sessions - 7) (replicate 57 0) (zeros_replicate 57))))
     (all_zeros (λ word. nat_eq word 0) (take (64 - (7 + sessions)) (drop (7 + sessions) (new_slot sessions))) refl
     (zeros_take (64 - (7 + sessions)) (drop (7 + sessions) (new_slot sessions)) (behind sessions sessions)))
 
 pub shape_true : (b p f m s o d : ℕ) → IsShape b p f m s o d → is_shape b p f m s o d ≡ true
 shape_true b p f m s o d is =
     conj _ _ (conj _ _ (conj _ _ (conj _ _ (conj _ _ (conj _ _ (conj _ _ (conj _ _ (conj _ _
-    (le_true b 10 is.few_buckets) (true_of _ is.page_size)) (true_of _ is.ring_size)) (le_true 1 m is.some_mutable)) (lt_true m f is.some_read_only))
-    (le_true 1 s is.some_session)) (le_true s 8 is.few_sessions)) (le_true o 1024 is.few_overflow)) (le_true 1 d is.some_disk)) (le_true d 65536 is.few_disk)
+    (le_true b max_bucket_bits is.few_buckets) (true_of _ is.page_size)) (true_of _ is.ring_size)) (le_true 1 m is.some_mutable)) (lt_true m f is.some_read_only))
+    (le_true 1 s is.some_session)) (le_true s max_sessions is.few_sessions)) (le_true o max_overflow is.few_overflow)) (le_true 1 d is.some_disk)) (le_true d max_disk_pages is.few_disk)
 
 module _ (shape : Shape) where
   pub length-new_head : length (new_head shape) ≡ 192

@@ -7,7 +7,8 @@ use Rattle.fkv_base.specs.declared.numbers.Serial.{Serial}
 use Rattle.std.proofs.lemmas.Bool.Decides.{nat_tests}
 use Rattle.std.proofs.Math.Pow.{pow_mono}
 use Rattle.std.proofs.Math.Nat.{mul-le-mul}
-use Rattle.fkv_base.specs.Limits.{is_ring_size}
+use Rattle.fkv_base.specs.Limits.{is_ring_size, max_bucket_bits, max_overflow, min_page, max_page, max_disk_pages, last_version, last_serial}
+use Rattle.fkv_recover.specs.Sizes.{longest_log, all_triples}
 use Rattle.fkv_recover.specs.Image.{most_triples, slot_of, sessions_of, disk_pages_of, page_of}
 use Rattle.fkv_recover.specs.Manifest.{is_slot, is_folded, is_manifest, slot_number, slot_log_start, slot_tail, slot_triples, slot_area, slot_points}
 
@@ -27,7 +28,7 @@ eq_of a b e = grind (arith, nat_tests)
 
 -- the numbers of a slot that recovery takes
 pub record AreSlotNumbers (place most_triples log_room number start tail count area : ℕ) : Type 0 where
-  pub few_versions : number ≤ 8190
+  pub few_versions : number < last_version
   pub parity : number % 2 ≡ place
   pub some : 1 ≤ start
   pub folded : start ≡ tail
@@ -50,7 +51,7 @@ slot_numbers place sessions most_triples log_room slot e =
     let e9 = both _ _ e8.0 in
     let e10 = both _ _ e9.0 in
     record {
-      few_versions = le_of _ _ e10.1;
+      few_versions = lt_of _ _ e10.1;
       parity = eq_of _ _ e9.1;
       some = le_of _ _ e8.1;
       folded = eq_of _ _ e0.1;
@@ -59,30 +60,30 @@ slot_numbers place sessions most_triples log_room slot e =
       its_area = eq_of _ _ e4.1;
     }
 
-pub small_numbers : (points : List Serial) → list_all (λ n. nat_lt n (2 ^ 48)) (map (λ point. point.0) points) ≡ true → All (λ point. point.0 < 2 ^ 48) points
-small_numbers [] small = All-nil (λ point. point.0 < 2 ^ 48)
+pub small_numbers : (points : List Serial) → list_all (λ n. nat_le n last_serial) (map (λ point. point.0) points) ≡ true → All (λ point. point.0 ≤ last_serial) points
+small_numbers [] small = All-nil (λ point. point.0 ≤ last_serial)
 small_numbers (point ∷ points) small =
     let e = both _ _ small in
-    All-cons (λ point. point.0 < 2 ^ 48) point points (lt_of _ _ e.0) (small_numbers points e.1)
+    All-cons (λ point. point.0 ≤ last_serial) point points (le_of _ _ e.0) (small_numbers points e.1)
 
 -- the points of a slot that recovery takes
 pub points_small : (place sessions most_triples log_room : ℕ) (slot : List ℕ) → (is_slot place sessions most_triples log_room slot && is_folded slot) ≡ true
-    → list_all (λ n. nat_lt n (2 ^ 48)) (slot_points slot sessions) ≡ true
+    → list_all (λ n. nat_le n last_serial) (slot_points slot sessions) ≡ true
 points_small place sessions most_triples log_room slot e = (both _ _ (both _ _ (both _ _ e).0).0).1
 
 pub points_fit : (head : List ℕ) (place sessions : ℕ) (points : List Serial) → is_manifest head place ≡ true → sessions ≡ sessions_of head
-    → map (λ point. point.0) points ≡ slot_points (slot_of head place) sessions → All (λ point. point.0 < 2 ^ 48) points
+    → map (λ point. point.0) points ≡ slot_points (slot_of head place) sessions → All (λ point. point.0 ≤ last_serial) points
 points_fit head place sessions points sound its_sessions are =
     let small = points_small place (sessions_of head) (most_triples head) (disk_pages_of head * page_of head) (slot_of head place) sound in
-    small_numbers points (subst (λ ns. list_all (λ n. nat_lt n (2 ^ 48)) ns ≡ true) (sym (are ∙ ap (λ n. slot_points (slot_of head place) n) its_sessions)) small)
+    small_numbers points (subst (λ ns. list_all (λ n. nat_le n last_serial) ns ≡ true) (sym (are ∙ ap (λ n. slot_points (slot_of head place) n) its_sessions)) small)
 
 -- the sizes of a shape bound the triples and the log
-pub triples_fit : (bits overflow : ℕ) → bits ≤ 10 → overflow ≤ 1024 → 7 * (2 ^ bits + overflow) ≤ 14336
+pub triples_fit : (bits overflow : ℕ) → bits ≤ max_bucket_bits → overflow ≤ max_overflow → 7 * (2 ^ bits + overflow) ≤ all_triples
 triples_fit bits overflow few_bits few_overflow =
-    let few : 2 ^ bits ≤ 2 ^ 10 = pow_mono {i = bits} {j = 10} few_bits in omega (arith, few, few_overflow)
+    let few : 2 ^ bits ≤ 2 ^ max_bucket_bits = pow_mono {i = bits} {j = max_bucket_bits} few_bits in omega (arith, few, few_overflow)
 
-pub page_fits : (page : ℕ) → IsTrue (is_ring_size page 4 1024) → page ≤ 1024
+pub page_fits : (page : ℕ) → IsTrue (is_ring_size page min_page max_page) → page ≤ max_page
 page_fits page e = grind (arith, nat_tests)
 
-pub log_fits : (disk_pages page : ℕ) → disk_pages ≤ 65536 → page ≤ 1024 → disk_pages * page ≤ 2 ^ 26
+pub log_fits : (disk_pages page : ℕ) → disk_pages ≤ max_disk_pages → page ≤ max_page → disk_pages * page ≤ longest_log
 log_fits disk_pages page few small = mul-le-mul few small

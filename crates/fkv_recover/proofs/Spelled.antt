@@ -1,5 +1,5 @@
 -- Bytes of an image that spell numbers, and the words there.
-use Rattle.std.proofs.Common.{◌≡◌, ℕ, zero, suc, ◌+◌, ◌-◌, ◌*◌, ◌^◌, ◌<◌, List, [], ◌∷◌, length, get_or, drop, inl, inr, refl, sym, ap, subst, ◌∙◌, arith, length-append}
+use Rattle.std.proofs.Common.{◌≡◌, ℕ, zero, suc, ◌+◌, ◌-◌, ◌*◌, ◌^◌, ◌<◌, List, [], ◌∷◌, length, get_or, drop, inl, inr, refl, sym, ap, subst, ◌∙◌, arith}
 use Rattle.std.specs.Prelude.{◌↔◌}
 use Rattle.std.specs.Int.{w64, to_le_bytes, from_le_bytes}
 use Rattle.std.proofs.lemmas.List.{ext_get_or, get_or-drop, get_or-append_right}
@@ -8,9 +8,9 @@ use Rattle.std.proofs.lemmas.Nat.{from_le_bytes-to_le_bytes_8, le_bytes_8}
 use Rattle.std.proofs.lemmas.Bool.{cases_lt}
 use Rattle.std.proofs.Math.ListN.{get_or-append}
 use Rattle.fkv_disk.specs.Bytes.{AreBytes, byte_at, bytes_at}
-use Rattle.fkv_disk.proofs.BytesLemmas.{byte_at-bytes_at, byte_at_past, length-bytes_at}
+use Rattle.fkv_disk.proofs.Shown.{byte_at-bytes_at, byte_at_past, length-bytes_at}
 use Rattle.fkv_record.specs.Numbers.{spelled}
-use Rattle.fkv_record.proofs.Spelling.{AreWords, IsNumbered}
+use Rattle.fkv_record.proofs.Shown.{AreWords, IsNumbered, length-spelled}
 use Rattle.fkv_recover.specs.Image.{word_at}
 use Rattle.fkv_recover.proofs.Words.{same_number}
 
@@ -21,11 +21,6 @@ HasWords image from numbers = (k : ℕ) → k < length numbers → word_at image
 -- and its bytes are those of the numbers
 abbrev HasBytes : List ℕ → ℕ → List ℕ → Type 0
 HasBytes image from numbers = (i : ℕ) → i < 8 * length numbers → byte_at image (8 * from + i) ≡ get_or (spelled numbers) i 0
-
--- eight bytes for each number
-length-spelled : (numbers : List ℕ) → length (spelled numbers) ≡ 8 * length numbers
-length-spelled [] = refl
-length-spelled (n ∷ numbers) = omega (arith, ap length (flat_map-cons (to_le_bytes w64) n numbers), length-append (to_le_bytes w64 n) (spelled numbers), length-spelled numbers)
 
 -- the bytes of the first number, and those behind them
 first_bytes : (n : ℕ) (numbers : List ℕ) (i : ℕ) → i < 8 → get_or (spelled (n ∷ numbers)) i 0 ≡ get_or (to_le_bytes w64 n) i 0

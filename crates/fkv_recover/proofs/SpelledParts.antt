@@ -14,10 +14,7 @@ use Rattle.fkv_record.specs.declared.triples.Triple.{Triple}
 use Rattle.fkv_record.specs.Layout.{record_bytes, triple_bytes, slot_bytes, shape_bytes, first_layout, point_numbers}
 use Rattle.fkv_record.specs.Places.{area_place, record_place}
 use Rattle.fkv_record.specs.Points.{serial_numbers}
-use Rattle.fkv_record.proofs.RecordApart.{record_numbered}
-use Rattle.fkv_record.proofs.TripleApart.{triple_numbered}
-use Rattle.fkv_record.proofs.SlotApart.{slot_numbered}
-use Rattle.fkv_record.proofs.ShapeApart.{shape_numbered}
+use Rattle.fkv_record.proofs.Shown.{record_numbered, shape_numbered, slot_numbered, triple_numbered}
 use Rattle.fkv_recover.specs.Image.{word_at, words_from, head_of, slot_of, bits_of, most_triples, area_start, log_start}
 use Rattle.fkv_recover.specs.Manifest.{HasSizes, slot_area, slot_tail, slot_triples}
 use Rattle.fkv_recover.specs.Log.{log_in, key, value, triple_addr}

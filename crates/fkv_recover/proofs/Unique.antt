@@ -8,7 +8,7 @@ use Rattle.std.proofs.lemmas.List.Sums.{sum_by-cons}
 use Rattle.std.proofs.lemmas.Bool.Decides.{nat_tests}
 use Rattle.fkv_recover.specs.Log.{Log}
 use Rattle.fkv_recover.specs.Room.{AreHomes, in_bucket, taken, needed}
-use Rattle.fkv_recover.proofs.Shown.{in_rest, in_head, in_tail, by_cond}
+use Rattle.fkv_recover.proofs.ShownPairs.{in_rest, in_head, in_tail, by_cond}
 
 -- a list without the first x
 abbrev drop_first : ℕ → List ℕ → List ℕ

@@ -4,7 +4,7 @@ use Rattle.std.specs.Int.{w64, from_le_bytes}
 use Rattle.std.proofs.lemmas.List.{ext_get_or, get_or-drop}
 use Rattle.std.proofs.lemmas.List.FromFn.{length-map-range_with_len, get_or-map-range_with_len, map-range_with_len_more}
 use Rattle.fkv_disk.specs.Bytes.{bytes_at}
-use Rattle.fkv_disk.proofs.BytesLemmas.{byte_at-bytes_at}
+use Rattle.fkv_disk.proofs.Shown.{byte_at-bytes_at}
 use Rattle.fkv_recover.specs.Image.{word_at, words_from}
 
 -- eight bytes of a list

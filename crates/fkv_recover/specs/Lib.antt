@@ -1,3 +1,4 @@
+pub mod Sizes
 pub mod Image
 pub mod Manifest
 pub mod Layouts

@@ -1,7 +1,7 @@
 -- The shape block and the manifest in the head of an image: the first two stages of recovery.
-use Rattle.std.specs.Prelude.{◌≡◌, ℕ, ◌+◌, ◌*◌, ◌%◌, ◌^◌, List, Bool, ◌&&◌, ◌||◌, not, nat_eq, nat_lt, nat_le, if◌then◌else◌, slice_index, slice_range}
+use Rattle.std.specs.Prelude.{◌≡◌, ℕ, ◌+◌, ◌*◌, ◌%◌, List, Bool, ◌&&◌, ◌||◌, not, nat_eq, nat_lt, nat_le, if◌then◌else◌, slice_index, slice_range}
 use Rattle.std.specs.List.{list_all}
-use Rattle.fkv_base.specs.Limits.{is_shape}
+use Rattle.fkv_base.specs.Limits.{is_shape, last_version, last_serial}
 use Rattle.fkv_base.specs.declared.shapes.Shape.{Shape}
 use Rattle.fkv_recover.specs.Image.{slot_of, slot_start, bits_of, page_of, frames_of, mutable_of, sessions_of, overflow_of, disk_pages_of, most_triples}
 
@@ -54,15 +54,15 @@ abbrev pub slot_points : List ℕ → ℕ → List ℕ
 slot_points slot sessions = slice_range slot 7 (7 + sessions)
 
 -- The slot with this number has these words as a finished commit writes them, in a store of these sizes: the gate and zeros, the commit's
--- number of the slot's parity, a log that ends on the device, no more triples than there is room for, in the area of the slot, a point below
--- 2^48 for each session, and zeros.
+-- number of the slot's parity, a log that ends on the device, no more triples than there is room for, in the area of the slot, a point for
+-- each session, which its last serial may be, and zeros.
 abbrev pub is_slot : (place sessions most_triples log_room : ℕ) → List ℕ → Bool
 is_slot place sessions most_triples log_room slot =
     nat_eq (slice_index slot 0) 165
-    && nat_le (slot_number slot) 8190 && nat_eq (slot_number slot % 2) place
+    && nat_lt (slot_number slot) last_version && nat_eq (slot_number slot % 2) place
     && nat_le 1 (slot_log_start slot) && nat_le (slot_log_start slot) (slot_tail slot) && nat_le (slot_tail slot) log_room
     && nat_le (slot_triples slot) most_triples && nat_eq (slot_area slot) place
-    && nat_eq (slot_sessions slot) sessions && list_all (λ point. nat_lt point (2 ^ 48)) (slot_points slot sessions)
+    && nat_eq (slot_sessions slot) sessions && list_all (λ point. nat_le point last_serial) (slot_points slot sessions)
     && list_all (λ word. nat_eq word 0) (slice_range slot (7 + sessions) 64)
 
 -- Until commits of running sessions exist, a slot's log ends where the records begin that no triple knows of: there are none.

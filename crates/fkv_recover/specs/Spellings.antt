@@ -1,6 +1,7 @@
 -- What recovery reads, beside the values that are spelled on the device.
 use Rattle.std.specs.Prelude.{◌≡◌, ◌⊎◌, ℕ, ◌+◌, ◌*◌, ◌%◌, ◌^◌, ◌<◌, ◌≤◌, true, List, length, slice_index}
 use Rattle.fkv_base.specs.declared.shapes.Shape.{Shape}
+use Rattle.fkv_base.specs.Limits.{last_version}
 use Rattle.fkv_disk.specs.Bytes.{byte_at, bytes_at}
 use Rattle.fkv_words.specs.Layout.{header_word}
 use Rattle.fkv_record.specs.declared.records.Record.{Record}
@@ -54,7 +55,7 @@ pub record HoldsStore (image : List ℕ) : Type 0 where
 pub record HoldsSlot (image : List ℕ) (shape : Shape) (place : ℕ) : Type 0 where
   pub held : Slot
   pub stands : bytes_at image (512 + 512 * place) 512 ≡ slot_bytes held
-  pub few_versions : (let x = held in x.number ≤ 8190)
+  pub few_versions : (let x = held in x.number < last_version)
   pub parity : (let x = held in x.number % 2 ≡ place)
   pub some : (let x = held in 1 ≤ x.first.0)
   pub folded : (let x = held in x.first.0 ≡ x.end.0)

@@ -12,10 +12,8 @@ use crate::opened_store::Opened;
 use crate::openings::points_of;
 use fkv_base::{Addr, Fault, Shape, Version};
 use fkv_disk::Device;
+use fkv_record::OPEN;
 use std::alloc::Global;
-
-/// The gate byte of an open slot.
-const OPEN: u8 = 0xa5;
 
 /// The bytes of the words.
 fn bytes_of(alloc: Global, words: &[u64]) -> Result<Vec<u8>, Fault>

@@ -1,6 +1,7 @@
 //! The words of the index that a store opens with.
 ghost use Rattle.std.specs.Prelude.{◌≡◌, ◌+◌, ◌*◌, ◌^◌, ◌<◌, ◌≤◌, ◌++◌, drop, length, IfOk, OnOk, OnErr, Err};
 ghost use Rattle.fkv_base.specs.declared.faults.Fault.TheVariants.{Memory};
+ghost use Rattle.fkv_recover.specs.Sizes.{all_triples};
 ghost use Rattle.fkv_recover.specs.Filled.{bucket_words, AreByTag, eight_words, link_words, other_links, IsFilled};
 
 use crate::opened_store::Opened;
@@ -43,7 +44,7 @@ impl Opened {
     /// The words of a bucket's entries, by tag.
     fn sorted_words(&self, alloc: Global, bucket: u64) -> Result<Vec<u64>, Fault>
         ensures ok { IfOk result (λ words. AreByTag (bucket_words bucket self.now.entries.items) words.items) }
-        ensures few { IfOk result (λ words. length words.items ≤ 14336) }
+        ensures few { IfOk result (λ words. length words.items ≤ all_triples) }
         ensures err { OnErr result (result ≡ Err Memory) }
     {
         let mut words = self.words_in(alloc, bucket)?;
@@ -84,7 +85,7 @@ fn push_bucket(index: &mut Vec<u64>, words: &[u64], next: u64) -> Result<(), Fau
 #[tactic(auto, unfolding(crate::specs::Filled::link_words))]
 fn push_link(index: &mut Vec<u64>, words: &[u64], taken: u64, j: u64) -> Result<(), Fault>
     requires in_words { 7 * j ≤ length words.now }
-    requires few { length words.now ≤ 14336 }
+    requires few { length words.now ≤ all_triples }
     requires taken { taken < 2 ^ 30 }
     ensures ok { OnOk result (index.new.items ≡ index.old.items ++ link_words words.now taken j) }
     ensures err { OnErr result (result ≡ Err Memory) }
@@ -100,7 +101,7 @@ fn push_link(index: &mut Vec<u64>, words: &[u64], taken: u64, j: u64) -> Result<
 /// Pushes the overflow buckets of a bucket's chain.
 #[tactic(auto, using(crate::proofs::Filling::behind_start, crate::proofs::Filling::behind_step))]
 fn push_other_links(index: &mut Vec<u64>, words: &[u64], taken: u64) -> Result<(), Fault>
-    requires few { length words.now ≤ 14336 }
+    requires few { length words.now ≤ all_triples }
     requires taken { taken < 2 ^ 30 }
     ensures ok { OnOk result (index.new.items ≡ index.old.items ++ other_links words.now taken) }
     ensures err { OnErr result (result ≡ Err Memory) }

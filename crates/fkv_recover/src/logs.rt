@@ -1,5 +1,7 @@
 //! The log that a manifest slot names, as it was read.
-ghost use Rattle.std.specs.Prelude.{◌≡◌, ◌*◌, ◌^◌, ◌<◌, ◌≤◌, length};
+ghost use Rattle.std.specs.Prelude.{◌≡◌, ◌*◌, ◌<◌, ◌≤◌, length};
+ghost use Rattle.fkv_base.specs.Limits.{max_bucket_bits, max_overflow, last_version};
+ghost use Rattle.fkv_recover.specs.Sizes.{longest_log, all_triples};
 
 /// The numbers that a shape and a slot give of their log.
 #[derive(Clone, Copy)]
@@ -18,11 +20,11 @@ pub(crate) struct Names {
     pub(crate) count: u64,
     /// The area that they lie in, 0 or 1.
     pub(crate) area: u64,
-    pub(crate) ghost few_bits: { bits ≤ 10 },
-    pub(crate) ghost few_overflow: { overflow ≤ 1024 },
-    pub(crate) ghost few_versions: { version < 8191 },
-    pub(crate) ghost short_log: { tail ≤ 2 ^ 26 },
-    pub(crate) ghost few_triples: { count ≤ 14336 },
+    pub(crate) ghost few_bits: { bits ≤ max_bucket_bits },
+    pub(crate) ghost few_overflow: { overflow ≤ max_overflow },
+    pub(crate) ghost few_versions: { version < last_version },
+    pub(crate) ghost short_log: { tail ≤ longest_log },
+    pub(crate) ghost few_triples: { count ≤ all_triples },
     pub(crate) ghost two_areas: { area < 2 },
 }
 
@@ -45,11 +47,11 @@ pub(crate) struct Log {
     pub(crate) triples: Vec<u64>,
     /// The words of the records below the tail, three each, from address 0 on.
     pub(crate) records: Vec<u64>,
-    pub(crate) ghost few_bits: { bits ≤ 10 },
-    pub(crate) ghost few_overflow: { overflow ≤ 1024 },
-    pub(crate) ghost few_versions: { version < 8191 },
-    pub(crate) ghost short_log: { tail ≤ 2 ^ 26 },
-    pub(crate) ghost few_triples: { count ≤ 14336 },
+    pub(crate) ghost few_bits: { bits ≤ max_bucket_bits },
+    pub(crate) ghost few_overflow: { overflow ≤ max_overflow },
+    pub(crate) ghost few_versions: { version < last_version },
+    pub(crate) ghost short_log: { tail ≤ longest_log },
+    pub(crate) ghost few_triples: { count ≤ all_triples },
     pub(crate) ghost triples_whole: { length triples.items ≡ 2 * count },
     pub(crate) ghost records_whole: { length records.items ≡ 3 * tail },
 }

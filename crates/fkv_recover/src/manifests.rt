@@ -1,11 +1,12 @@
 //! The first two stages of recovery: the shape block and the newest slot of the manifest, in the head of an image.
-ghost use Rattle.std.specs.Prelude.{◌≡◌, ℕ, ◌+◌, ◌*◌, ◌^◌, ◌<◌, ◌≤◌, true, false, length, nat_eq, nat_lt, IfOk, OnErr, Err};
+ghost use Rattle.std.specs.Prelude.{◌≡◌, ℕ, ◌+◌, ◌*◌, ◌^◌, ◌<◌, ◌≤◌, true, false, length, nat_eq, nat_le, IfOk, OnErr, Err};
 ghost use Rattle.std.specs.List.{list_all};
 ghost use Rattle.fkv_base.specs.declared.faults.Fault.TheVariants.{NotAStore};
+ghost use Rattle.fkv_base.specs.Limits.{max_sessions, last_serial};
 ghost use Rattle.fkv_recover.specs.Manifest.{is_open, is_store, newest, is_slot, is_folded, is_manifest, HasSizes};
 ghost use Rattle.fkv_recover.specs.Image.{slot_of};
 
-use fkv_base::{Fault, Shape};
+use fkv_base::{Fault, Serial, Shape, Version};
 
 /// The text FKVSTOR1 as a word.
 pub(crate) const MARK: u64 = 3553990279542754118;
@@ -61,22 +62,22 @@ fn are_zeros(words: &[u64]) -> bool
     words.iter().all(|word| *word == 0)
 }
 
-/// Whether all words are points, below 2^48.
+/// Whether all words are points, which a serial may be.
 fn are_points(words: &[u64]) -> bool
-    ensures { result ≡ list_all (λ point. nat_lt point (2 ^ 48)) words.now }
+    ensures { result ≡ list_all (λ point. nat_le point last_serial) words.now }
 {
-    words.iter().all(|point| *point < 1 << 48)
+    words.iter().all(|point| *point <= Serial::LAST)
 }
 
 /// Whether slot number `place` has the words that a finished commit writes, in a store of these sizes.
 fn is_slot(place: u64, sessions: u64, most_triples: u64, log_room: u64, slot: &[u64]) -> bool
     requires whole { length slot.now ≡ 64 }
-    requires few { sessions ≤ 8 }
+    requires few { sessions ≤ max_sessions }
     ensures { result ≡ is_slot place sessions most_triples log_room slot.now }
 {
     let points_end = 7 + sessions as usize;
     slot[0] == 165
-        && slot[1] <= 8190
+        && slot[1] < Version::LAST
         && slot[1] % 2 == place
         && 1 <= slot[2]
         && slot[2] <= slot[3]

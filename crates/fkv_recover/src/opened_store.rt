@@ -1,5 +1,6 @@
 //! A store as its image defines it.
 ghost use Rattle.std.specs.Prelude.{◌≡◌, ◌+◌, ◌*◌, ◌^◌, ◌<◌, ◌≤◌, All, length};
+ghost use Rattle.fkv_base.specs.Limits.{last_version, last_serial};
 
 use crate::home_entries::HomeEntry;
 use crate::logs::Names;
@@ -10,7 +11,7 @@ use fkv_base::{Addr, Serial, Shape, Version};
 pub struct Opened {
     /// The sizes of the store.
     pub shape: Shape,
-    /// The number of the newest commit, 0 to 8190.
+    /// The number of the newest commit, below `Version::LAST`.
     pub number: Version,
     /// The address at which its log ends: the first that the next record takes.
     pub tail: Addr,
@@ -20,11 +21,11 @@ pub struct Opened {
     pub gates: (bool, bool),
     /// The entries of the homes that have one, each home once.
     pub entries: Vec<HomeEntry>,
-    pub ghost few_commits: { number.0 ≤ 8190 },
+    pub ghost few_commits: { number.0 < last_version },
     pub ghost some_tail: { 1 ≤ tail.0 },
     pub ghost tail_on_disk: { tail.0 ≤ shape.disk_pages * shape.page },
     pub ghost each_session: { length points.items ≡ shape.sessions },
-    pub ghost small_points: { All (λ point. point.0 < 2 ^ 48) points.items },
+    pub ghost small_points: { All (λ point. point.0 ≤ last_serial) points.items },
     pub ghost few_entries: { length entries.items ≤ 7 * (2 ^ shape.bucket_bits + shape.overflow) },
 }
 

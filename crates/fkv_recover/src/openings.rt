@@ -1,6 +1,7 @@
 //! Opening a store from its image.
 ghost use Rattle.std.specs.Prelude.{◌≡◌, ℕ, ◌+◌, ◌*◌, ◌^◌, ◌<◌, ◌≤◌, true, All, length, map, IfOk, IfErr, OnOk, OnErr, Err};
 ghost use Rattle.fkv_base.specs.declared.faults.Fault.TheVariants.{Memory};
+ghost use Rattle.fkv_base.specs.Limits.{max_sessions, last_serial};
 ghost use Rattle.fkv_recover.specs.Image.{head_of, slot_of, sessions_of};
 ghost use Rattle.fkv_recover.specs.Manifest.{newest, is_manifest, HasSizes, slot_points};
 ghost use Rattle.fkv_recover.specs.Quiet.{IsQuiet, IsHindrance};
@@ -55,13 +56,13 @@ pub(crate) fn points_of(
     place: usize,
 ) -> Result<Vec<Serial>, Fault>
     requires whole { length head.now ≡ 192 }
-    requires few { sessions < 9 }
+    requires few { sessions ≤ max_sessions }
     requires place { place < 2 }
     requires sound { is_manifest head.now place ≡ true }
     requires counted { sessions ≡ sessions_of head.now }
     ensures ok { IfOk result (λ points. map (λ point. point.0) points.items ≡ slot_points (slot_of head.now place) sessions) }
     ensures many { IfOk result (λ points. length points.items ≡ sessions) }
-    ensures small { IfOk result (λ points. All (λ point. point.0 < 2 ^ 48) points.items) }
+    ensures small { IfOk result (λ points. All (λ point. point.0 ≤ last_serial) points.items) }
     ensures err { OnErr result (result ≡ Err Memory) }
 {
     let slot = &head[64 + 64 * place..64 + 64 * place + 64];

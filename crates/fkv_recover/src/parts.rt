@@ -1,5 +1,6 @@
 //! The parts of triples and records.
 ghost use Rattle.std.specs.Prelude.{◌≡◌, ◌*◌, ◌^◌, ◌<◌, ◌≤◌, length};
+ghost use Rattle.fkv_base.specs.Limits.{max_bucket_bits};
 ghost use Rattle.fkv_recover.specs.Log.{triple_bucket, triple_tag, triple_home, triple_addr, is_triple, key, value, previous, version, is_invalid, is_record, record_home, home_of_key};
 ghost use Rattle.fkv_recover.specs.Read.{shown};
 
@@ -117,7 +118,7 @@ impl Log {
 
 /// The home of a key in an index of 2^bits buckets.
 fn home_of(key: u64, bits: u64) -> u64
-    requires { bits ≤ 10 }
+    requires { bits ≤ max_bucket_bits }
     ensures { result ≡ home_of_key bits key }
 {
     bucket_of(Key(key), bits) * TAGS + u64::from(tag_of(Key(key), bits))

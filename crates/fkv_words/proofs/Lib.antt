@@ -1,4 +1,5 @@
-pub mod Apart
-pub mod Bits
-pub mod Large
-pub mod Spelled
+mod Apart
+mod Bits
+mod Large
+mod Spelled
+pub mod Shown

@@ -7,9 +7,9 @@ use fkv_base::{Serial, Version};
 /// The last serial of a session in a version.
 #[derive(Clone, Copy, Debug, PartialEq, Eq)]
 pub struct CutWord {
-    /// The serial, below 2^48; 0 where the session has taken none.
+    /// The serial, up to `Serial::LAST`; 0 where the session has taken none.
     pub serial: Serial,
-    /// The version, 0 to 8191; 0 before the session has left a version.
+    /// The version, up to `Version::LAST`; 0 before the session has left a version.
     pub version: Version,
     pub ghost serial_fits: { serial.0 < 2 ^ 48 },
     pub ghost version_fits: { version.0 < 2 ^ 13 },

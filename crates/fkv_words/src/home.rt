@@ -5,7 +5,7 @@ ghost use Rattle.fkv_words.specs.Home.{bucket_of, tag_of};
 use crate::fields::field;
 use fkv_base::Key;
 
-/// The bucket of the key where the index has 2^bits buckets. A shape has 0 to 10 bits; with 64 or more each key has a
+/// The bucket of the key where the index has 2^bits buckets. A shape has few enough; with 64 or more each key has a
 /// bucket of its own.
 pub fn bucket_of(key: Key, bits: u64) -> u64
     ensures { result ≡ bucket_of key bits }
@@ -16,7 +16,7 @@ pub fn bucket_of(key: Key, bits: u64) -> u64
     field(key.0, 0, bits as u32)
 }
 
-/// The tag of the key, below 2^15, where the index has 2^bits buckets. A shape has 0 to 10 bits; with 64 or more each
+/// The tag of the key, below 2^15, where the index has 2^bits buckets. A shape has few enough; with 64 or more each
 /// tag is 0.
 pub fn tag_of(key: Key, bits: u64) -> u16
     ensures { result ≡ tag_of key bits }

@@ -1,4 +1,4 @@
-use Rattle.fkv_record.proofs.TripleApart.{triple_numbered}
+use Rattle.fkv_record.proofs.Shown.{triple_numbered}
 use Rattle.fkv_cli.proofs.commit_calls.triple_of.Goals as goal
 
 pub returns : goal.returns

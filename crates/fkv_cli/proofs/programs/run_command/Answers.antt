@@ -1,7 +1,7 @@
 use Rattle.std.proofs.Common.{[]}
-use Rattle.fkv_cli.proofs.Appending.{appends_nothing}
+use Rattle.fkv_script.proofs.Shown.{appends_nothing}
 use Rattle.std.proofs.lemmas.Result.{IfOk-weaker}
-use Rattle.fkv_cli.specs.Output.{session_text, commit_text}
+use Rattle.fkv_script.specs.Texts.{session_text, commit_text}
 use Rattle.fkv_cli.proofs.Commands.{crash_played, crash_at_played, operation_played, commit_played}
 use Rattle.fkv_cli.proofs.programs.run_command.Goals as goal
 

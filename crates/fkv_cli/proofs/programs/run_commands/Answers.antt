@@ -1,7 +1,8 @@
 use Rattle.std.proofs.Common.{subst, [], ◌++◌, Bool, get_or}
-use Rattle.fkv_cli.proofs.Appending.{appends_both, appends_nothing, appends_kept}
+use Rattle.fkv_cli.proofs.Appending.{appends_kept}
+use Rattle.fkv_script.proofs.Shown.{appends_both, appends_nothing}
 use Rattle.fkv_map.specs.declared.operations.Op.TheVariants.{Upsert}
-use Rattle.fkv_cli.specs.declared.scripts.Command.TheVariants.{Operation}
+use Rattle.fkv_script.specs.declared.scripts.Command.TheVariants.{Operation}
 use Rattle.fkv_cli.specs.Output.{IsPlayed}
 use Rattle.fkv_cli.proofs.Playing.{so_far_more, so_far_stops, so_far_ends}
 use Rattle.fkv_cli.proofs.programs.run_commands.Goals as goal

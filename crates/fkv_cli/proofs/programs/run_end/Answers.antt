@@ -1,5 +1,5 @@
 use Rattle.std.proofs.Common.{sym, [], true, false}
-use Rattle.fkv_cli.proofs.Appending.{appends_nothing}
+use Rattle.fkv_script.proofs.Shown.{appends_nothing}
 use Rattle.fkv_cli.proofs.Playing.{ends_here}
 use Rattle.fkv_cli.proofs.Commands.{crashed_at_end}
 use Rattle.fkv_cli.proofs.programs.run_end.Goals as goal

@@ -1,6 +1,6 @@
 use Rattle.std.proofs.Common.{◌∙◌, sym, Some, None}
 use Rattle.std.proofs.lemmas.Result.{IfOk-weaker}
-use Rattle.fkv_cli.specs.Output.{finish_text}
+use Rattle.fkv_script.specs.Texts.{finish_text}
 use Rattle.fkv_cli.proofs.Commands.{nothing_finished, commit_finished, finish_struck}
 use Rattle.fkv_cli.proofs.programs.run_finish.Goals as goal
 

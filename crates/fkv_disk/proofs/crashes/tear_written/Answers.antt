@@ -3,7 +3,8 @@ use Rattle.std.specs.Prelude.{if◌then◌else◌}
 use Rattle.fkv_disk.specs.Bytes.{byte_at, covers}
 use Rattle.fkv_disk.specs.Calls.{Call, Write, Sync, is_untouched}
 use Rattle.fkv_disk.specs.Done.{call_of, calls_of}
-use Rattle.fkv_disk.proofs.Tearing.{calls_of-take, tear_step}
+use Rattle.fkv_disk.proofs.Replayed.{calls_of-take}
+use Rattle.fkv_disk.proofs.Tearing.{tear_step}
 use Rattle.fkv_disk.proofs.crashes.tear_written.Goals as goal
 
 pub loop-left-preserved : goal.loop-left-preserved

@@ -1,4 +1,4 @@
-use Rattle.std.proofs.Common.{◌≡◌, ◌+◌, ◌-◌, ◌<◌, ◌++◌, length, rules, ap, ◌∙◌}
+use Rattle.std.proofs.Common.{◌≡◌, ℕ, ◌+◌, ◌-◌, ◌<◌, ◌++◌, length, rules, ap, ◌∙◌}
 use Rattle.fkv_disk.proofs.Spliced.{zeros, put_is_written, nothing_written, put_back, length-spliced}
 use Rattle.fkv_disk.proofs.memory.put.Goals as goal
 
@@ -11,7 +11,7 @@ returns-clause-ok c =
     let new = c.args.new.now in
     let room = c.deref_mut.result.now in
     let some : 0 < length new = search rules in
-    let is : room ≡ old ++ zeros ((c.args.at + length new) - length old) = c.deref_mut.ensures.value ∙ c.in_ok-grow.ensures.ok in
+    let is : room ≡ old ++ zeros ((c.args.at + length new) - length old) = c.deref_mut.ensures.value ∙ c.in_ok-grow.ensures.ok ∙ ap (λ (end : ℕ). old ++ zeros (end - length old)) (let e : c.saturating_add-end.result ≡ c.args.at + length new = search rules in e) in
     let put = put_is_written old room c.args.at new is some in
     let size : length c.overwrite.new.bytes ≡ length room = ap length c.overwrite.ensures ∙ length-spliced room c.args.at new put.0 in
     let whole : length c.grow.new.bytes.items ≡ c.grow.new.bytes.len = search rules in

@@ -1,5 +1,5 @@
 use Rattle.std.specs.Prelude.{is_ok}
-use Rattle.fkv_disk.proofs.Carry.{after_write}
+use Rattle.fkv_disk.proofs.Shown.{after_write}
 use Rattle.fkv_flush.specs.Flushing.{flush_calls}
 use Rattle.fkv_flush.proofs.flushing.call_device.Goals as goal
 

@@ -1,4 +1,5 @@
 use Rattle.std.proofs.Common.{◌≡◌, ℕ, zero, suc, ◌<◌, refl, arith, false}
+use Rattle.std.proofs.lemmas.Nat.{and_mask}
 use Rattle.fkv_base.specs.Limits.{drain_slots}
 use Rattle.fkv_base.specs.declared.shapes.Shape.{Shape}
 use Rattle.fkv_plane.specs.declared.places.Places.{Places}
@@ -45,7 +46,7 @@ unfolding lib.Count.ones
 shape = record { bucket_bits = 0; page = 4; frames = 2; mutable = 1; sessions = 1; overflow = 0; disk_pages = 64; limits = record { few_buckets = omega arith; page_size = refl; ring_size = refl; some_mutable = omega arith; some_read_only = omega arith; some_session = omega arith; few_sessions = omega arith; few_overflow = omega arith; some_disk = omega arith; few_disk = omega arith } }
 
 places : Places
-places = record { sessions = 1; buckets = 1; overflow = 0; ring = 8; few_sessions = omega arith; few_buckets = omega arith; few_overflow = omega arith; some_ring = omega arith; small_ring = omega arith }
+places = record { sessions = 1; buckets = 1; overflow = 0; ring = 8; ring_mask = 7; few_sessions = omega arith; few_buckets = omega arith; few_overflow = omega arith; some_ring = omega arith; masks = λ a. and_mask a 3; small_ring = omega arith }
 
 its_words : RecordWords
 its_words = record { header = record { previous = record { 0 = 0 }; version = record { 0 = 1 }; invalid = false; previous_fits = omega arith; some_version = omega arith; version_fits = omega arith }; key = record { 0 = 3 }; value = 70 }

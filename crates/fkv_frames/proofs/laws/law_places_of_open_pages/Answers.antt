@@ -2,7 +2,8 @@
 use Rattle.std.proofs.Common.{◌≡◌, ◌*◌, ◌%◌, ◌<◌, arith, ap}
 use Rattle.fkv_frames.specs.Pages.{ring_of}
 use Rattle.fkv_frames.proofs.Open.{same_place, last_of, last_place, page_below, page_within}
-use Rattle.fkv_frames.proofs.Sizes.{at_least}
+use Rattle.fkv_base.specs.Limits.{min_page, max_page, min_frames, max_frames}
+use Rattle.fkv_base.proofs.Shown.{ring_between}
 use Rattle.fkv_frames.proofs.laws.law_places_of_open_pages.Goals as goal
 
 pub returns-clause-apart : goal.returns-clause-apart
@@ -18,7 +19,7 @@ returns-clause-each c = λ shape limit index small below.
 
 pub returns-clause-pages : goal.returns-clause-pages
 returns-clause-pages c = λ shape page addr.
-    let least = at_least shape.page 4 1024 shape.limits.page_size in
+    let least = (ring_between shape.page min_page max_page shape.limits.page_size).0 in
     let some : 0 < shape.page = omega (arith, least) in
     let low = page_below shape.page page addr some in
     let high = page_within shape.page shape.frames page addr some in

@@ -1,9 +1,10 @@
-use Rattle.std.proofs.Common.{◌≡◌, ℕ, ◌-◌, ◌^◌, ◌<◌, List, length, All, replicate, arith, refl, sym, ap, subst, ◌∙◌}
+use Rattle.std.proofs.Common.{◌≡◌, ℕ, ◌-◌, ◌≤◌, List, length, All, replicate, arith, refl, sym, ap, subst, ◌∙◌}
 use Rattle.std.proofs.lemmas.List.{length-map}
 use Rattle.fkv_base.specs.declared.numbers.Serial.{Serial}
+use Rattle.fkv_base.specs.Limits.{last_serial}
 use Rattle.fkv_record.proofs.PointApart.{points_read, points_none, numbers_fit}
 use Rattle.fkv_record.proofs.point_numbers.points_of.Goals as goal
-use Rattle.fkv_record.proofs.point_numbers.points_of.Goals.{then-sessions-eq0-via-then-sessions-eq0, then-sessions-eq0-via-else-sessions-eq0+then-sessions-gt8}
+use Rattle.fkv_record.proofs.point_numbers.points_of.Goals.{then-sessions-eq0-via-then-sessions-eq0, then-sessions-eq0-via-else-sessions-eq0+then-sessions-gt-MAX_SESSIONS}
 
 pub returns-then-sessions-eq0 : goal.returns-then-sessions-eq0
 returns-then-sessions-eq0 c =
@@ -13,7 +14,7 @@ returns-then-sessions-eq0 c =
     let count = f.count in
     elim c.then-sessions-eq0.branch [
       | then-sessions-eq0-via-then-sessions-eq0 w ↦ omega arith
-      | then-sessions-eq0-via-else-sessions-eq0+then-sessions-gt8 w ↦ omega arith
+      | then-sessions-eq0-via-else-sessions-eq0+then-sessions-gt-MAX_SESSIONS w ↦ omega arith
     ])
 
 pub returns-then-not-are_zero : goal.returns-then-not-are_zero
@@ -29,7 +30,7 @@ pub returns-in_err-serials : goal.returns-in_err-serials
 returns-in_err-serials c =
     rw c.from_residual.ensures (points_none c.args.sessions c.args.places.now (λ x f.
     let same = c.split_at.ensures.front ∙ f.used in
-    let F : List ℕ → Type 0 = λ ns. All (λ n. n < 2 ^ 48) ns in
+    let F : List ℕ → Type 0 = λ ns. All (λ n. n ≤ last_serial) ns in
     c.in_err-serials.ensures.none (subst F (sym same) (numbers_fit x.serials.items x.serials_fit))))
 
 pub returns : goal.returns

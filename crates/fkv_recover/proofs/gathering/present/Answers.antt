@@ -2,7 +2,7 @@ use Rattle.std.proofs.Common.{◌≡◌, [], ◌++◌, sym, ◌∙◌, ap, subst
 use Rattle.std.specs.Map.Iter.{deref_pair}
 use Rattle.std.proofs.lemmas.Map.Iter.{rest_all}
 use Rattle.fkv_recover.specs.Gathered.{AreShown}
-use Rattle.fkv_recover.proofs.Shown.{shown_of, are_shown}
+use Rattle.fkv_recover.proofs.ShownPairs.{shown_of, are_shown}
 use Rattle.fkv_recover.proofs.gathering.present.Goals as goal
 
 pub returns-clause-ok : goal.returns-clause-ok

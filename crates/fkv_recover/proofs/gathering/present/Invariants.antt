@@ -1,5 +1,5 @@
 use Rattle.std.proofs.Common.{◌≡◌, ◌++◌}
-use Rattle.fkv_recover.proofs.Shown.{shown_of}
+use Rattle.fkv_recover.proofs.ShownPairs.{shown_of}
 use Rattle.fkv_recover.proofs.gathering.present.Given as goal
 
 -- the pairs so far, and those that are left, are all

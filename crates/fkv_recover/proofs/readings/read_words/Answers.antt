@@ -1,7 +1,7 @@
 use Rattle.std.proofs.Common.{◌≡◌, ◌∙◌, ap, ◌++◌, ◌*◌, length, take, drop, arith}
 use Rattle.std.proofs.Math.Seq.{take-append_seam}
 use Rattle.fkv_disk.specs.Bytes.{bytes_at}
-use Rattle.fkv_disk.proofs.BytesLemmas.{length-bytes_at}
+use Rattle.fkv_disk.proofs.Shown.{length-bytes_at}
 use Rattle.fkv_recover.specs.Image.{words_from}
 use Rattle.fkv_recover.proofs.Words.{words_read}
 use Rattle.fkv_recover.proofs.readings.read_words.Goals as goal

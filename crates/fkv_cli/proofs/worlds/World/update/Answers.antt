@@ -1,5 +1,6 @@
-use Rattle.std.proofs.Common.{◌≡◌, ◌+◌, ◌^◌, ◌-◌, ◌∙◌, ap, sym, true, false, ℕ, arith}
+use Rattle.std.proofs.Common.{◌≡◌, ◌+◌, ◌∙◌, ap, sym, true, false, ℕ, arith}
 use Rattle.std.specs.Prelude.{nat_eq}
+use Rattle.fkv_base.specs.Limits.{last_serial}
 use Rattle.fkv_base.specs.declared.numbers.Key.{Key}
 use Rattle.fkv_map.specs.Map.{reply_to}
 use Rattle.fkv_cli.specs.Index.{has_room}
@@ -20,8 +21,8 @@ pub returns-clause-answer : goal.returns-clause-answer
 returns-clause-answer c =
     let now = c.args.self.now in
     let key = c.key_of-key.result in
-    let left : nat_eq now.serial (2 ^ 48 - 1) ≡ false =
-    ap (λ (l : Life). nat_eq l.serial (2 ^ 48 - 1)) (sym c.self.view_is) ∙ not_equal c.self.inside.serial (2 ^ 48 - 1) c.if-self-eq-LAST.false in
+    let left : nat_eq now.serial last_serial ≡ false =
+    ap (λ (l : Life). nat_eq l.serial last_serial) (sym c.self.view_is) ∙ not_equal c.self.inside.serial last_serial c.if-self-eq-LAST.false in
     let room : has_room now.index (home_in now (key_of c.args.op)) ≡ true =
     ap (λ (k : Key). has_room now.index (home_in now k)) (sym c.key_of-key.ensures) ∙ sym c.has_room.ensures ∙ c.if-not-has_room.false in
     let place : lacks_record now (key_of c.args.op) ≡ false =

@@ -14,4 +14,4 @@ returns-in-Ok-clause-crash c =
     λ claim image left. synced_no_more disk.opening.items disk.done.items _ image c.in-Ok.ensures.calls left
 
 pub returns-in-Ok-clause-time : goal.returns-in-Ok-clause-time
-returns-in-Ok-clause-time c = λ claim. elapses_push c.args.self.now.opening.items _ _ (Sync true) c.in-Ok.ensures.calls
+returns-in-Ok-clause-time c = λ claim. elapses_push c.args.self.now.forgotten c.args.self.now.opening.items _ _ (Sync true) c.in-Ok.ensures.calls

@@ -10,4 +10,4 @@ returns-in-Ok-clause-crash c =
     λ claim image left. write_torn disk.opening.items _ _ c.args.at c.args.bytes.now image c.in-Ok.ensures.calls (subst AreBytes disk.is_replayed c.in-Ok.ensures.were_bytes) left
 
 pub returns-in-Ok-clause-time : goal.returns-in-Ok-clause-time
-returns-in-Ok-clause-time c = λ claim. elapses_push c.args.self.now.opening.items _ _ (Write c.args.at c.args.bytes.now true) c.in-Ok.ensures.calls
+returns-in-Ok-clause-time c = λ claim. elapses_push c.args.self.now.forgotten c.args.self.now.opening.items _ _ (Write c.args.at c.args.bytes.now true) c.in-Ok.ensures.calls

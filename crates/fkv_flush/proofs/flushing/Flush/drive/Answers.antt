@@ -1,6 +1,6 @@
 use Rattle.std.proofs.Common.{◌≤◌, arith}
 use Rattle.std.specs.Prelude.{vec_len}
-use Rattle.fkv_plane.proofs.Shown.{ring_between}
+use Rattle.fkv_base.proofs.Shown.{ring_between}
 use Rattle.fkv_flush.proofs.Parts.{after_reply}
 use Rattle.fkv_flush.proofs.flushing.Flush.drive.Goals as goal
 

@@ -1,0 +1,5 @@
+pub mod Options
+pub mod Reading
+pub mod RunFault
+pub mod Script
+pub mod Texts
