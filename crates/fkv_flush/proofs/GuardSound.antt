@@ -14,7 +14,6 @@ use Rattle.fkv_epoch.specs.declared.raising.Raising.TheVariants as raise
 use Rattle.fkv_epoch.specs.declared.arming.Arming.{Arming}
 use Rattle.fkv_log.specs.declared.moving.Offset.{Offset}
 use Rattle.fkv_log.specs.declared.moving.Offset.TheVariants.{ReadOnly, Head}
-use Rattle.fkv_log.specs.declared.moving.Target.{Target}
 use Rattle.fkv_log.specs.declared.moving.Moving.{Moving}
 use Rattle.fkv_log.specs.declared.moving.Moving.TheVariants as move
 use Rattle.fkv_log.specs.declared.shifting.Shifting.{Shifting}
@@ -43,17 +42,17 @@ IsAhead l ReadOnly to = to ≤ l.tail
 IsAhead l Head to = to ≤ l.flushed
 
 -- what a move knows while a slot is sought, and while the epoch is raised
-abbrev pub RaiseKnows : Levels → Target → Raising → Type 0
-RaiseKnows l target raise.LoadsEpoch = IsAhead l target.offset target.to
-RaiseKnows l target (raise.MeetsSlot slot) = IsAhead l target.offset target.to
-RaiseKnows l target (raise.HoldsSlot slot) = IsAhead l target.offset target.to
-RaiseKnows l target (raise.RaisesEpoch slot) = IsStored l (action_awaited target.offset target.to)
-RaiseKnows l target raising = ⊥
+abbrev pub RaiseKnows : Levels → Offset → ℕ → Raising → Type 0
+RaiseKnows l offset to raise.LoadsEpoch = IsAhead l offset to
+RaiseKnows l offset to (raise.MeetsSlot slot) = IsAhead l offset to
+RaiseKnows l offset to (raise.HoldsSlot slot) = IsAhead l offset to
+RaiseKnows l offset to (raise.RaisesEpoch slot) = IsStored l (action_awaited offset to)
+RaiseKnows l offset to raising = ⊥
 
 -- what a move knows: the actor's machine of the epochs is the one inside it
 abbrev pub MoveKnows : Levels → EpochMachine → Moving → Raising → Arming → Type 0
 MoveKnows l d move.AtRest raising arming = ⊥
-MoveKnows l d (move.Raises target) raising arming = (d ≡ Raises raising) × RaiseKnows l target raising
+MoveKnows l d (move.Raises target) raising arming = (d ≡ Raises raising) × RaiseKnows l target.offset target.to raising
 MoveKnows l d (move.MovesOffset target) (raise.HasSlot slot) arming = (d ≡ Raises (raise.HasSlot slot)) × IsAhead l target.offset target.to
 MoveKnows l d (move.MovesOffset target) raising arming = ⊥
 MoveKnows l d (move.Puts target slot) raising arming = ⊥
@@ -120,17 +119,17 @@ stored_more : (l l' : Levels) (offset : Offset) (to : ℕ) → Rises l l' → Is
 stored_more l l' ReadOnly to up h = let r = up.read_only in omega (arith, h, r)
 stored_more l l' Head to up h = let r = up.head in omega (arith, h, r)
 
-raise_more : (l l' : Levels) (target : Target) (raising : Raising) → Rises l l' → RaiseKnows l target raising → RaiseKnows l' target raising
-raise_more l l' target raise.AtRest up h = h
-raise_more l l' target raise.LoadsEpoch up h = ahead_more l l' target.offset target.to up h
-raise_more l l' target (raise.MeetsSlot slot) up h = ahead_more l l' target.offset target.to up h
-raise_more l l' target (raise.HoldsSlot slot) up h = ahead_more l l' target.offset target.to up h
-raise_more l l' target (raise.HasSlot slot) up h = h
-raise_more l l' target (raise.RaisesEpoch slot) up h = stored_more l l' target.offset target.to up h
+raise_more : (l l' : Levels) (offset : Offset) (to : ℕ) (raising : Raising) → Rises l l' → RaiseKnows l offset to raising → RaiseKnows l' offset to raising
+raise_more l l' offset to raise.AtRest up h = h
+raise_more l l' offset to raise.LoadsEpoch up h = ahead_more l l' offset to up h
+raise_more l l' offset to (raise.MeetsSlot slot) up h = ahead_more l l' offset to up h
+raise_more l l' offset to (raise.HoldsSlot slot) up h = ahead_more l l' offset to up h
+raise_more l l' offset to (raise.HasSlot slot) up h = h
+raise_more l l' offset to (raise.RaisesEpoch slot) up h = stored_more l l' offset to up h
 
 move_more : (l l' : Levels) (d : EpochMachine) (step : Moving) (raising : Raising) (arming : Arming) → Rises l l' → MoveKnows l d step raising arming → MoveKnows l' d step raising arming
 move_more l l' d move.AtRest raising arming up h = h
-move_more l l' d (move.Raises target) raising arming up h = (h.0, raise_more l l' target raising up h.1)
+move_more l l' d (move.Raises target) raising arming up h = (h.0, raise_more l l' target.offset target.to raising up h.1)
 move_more l l' d (move.MovesOffset target) raise.AtRest arming up h = h
 move_more l l' d (move.MovesOffset target) raise.LoadsEpoch arming up h = h
 move_more l l' d (move.MovesOffset target) (raise.MeetsSlot slot) arming up h = h
