@@ -10,7 +10,7 @@ ghost use Rattle.fkv_cli.specs.Planned.{planned, call_of};
 
 use crate::fresh_logs::FreshRecord;
 use crate::planned_calls::PlannedCall;
-use crate::worlds::World;
+use crate::worlds::PlainWorld;
 use arrayvec::ArrayVec;
 use fkv_base::{Addr, Fault, Serial, Version};
 use fkv_record::{
@@ -23,7 +23,7 @@ use std::alloc::Global;
 /// The byte of a closed gate.
 const CLOSED: u8 = 0;
 
-impl World {
+impl PlainWorld {
     ghost use Rattle.fkv_cli.specs.Commits.{finish_calls, flush_calls, triple_calls, close_calls, slot_calls, page_write, triples_bytes, slot_body, next_number, slot_place, is_gate_open};
     ghost use Rattle.fkv_cli.specs.FreshLog.{tail};
 

@@ -6,12 +6,12 @@ ghost use Rattle.fkv_base.specs.Limits.{last_version};
 use crate::crashes::{bytes_after, image_between, image_within};
 use crate::fresh_logs::FreshLog;
 use crate::planned_calls::PlannedCall;
-use crate::worlds::World;
+use crate::worlds::PlainWorld;
 use fkv_base::{Fault, Serial};
 use fkv_script::CommitPoint;
 use std::mem;
 
-impl World {
+impl PlainWorld {
     ghost use Rattle.fkv_cli.specs.Commits.{finish_calls, finished, next_commit};
     ghost use Rattle.fkv_cli.specs.Crashes.{struck_after, struck_image, crash_image};
     ghost use Rattle.fkv_cli.specs.Planned.{planned};

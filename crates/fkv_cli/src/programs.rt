@@ -8,7 +8,7 @@ ghost use Rattle.fkv_cli.specs.Replays.{IsReplayRunOf};
 ghost use Rattle.fkv_cli.specs.Output.{IsRunOf, Ends, Plays, PlaysOpening, PlaysNew, IsPlayed, IsCrashed, HasSizes, is_accepted, script_limit};
 ghost use Rattle.fkv_script.specs.Texts.{ended, refusal_text};
 
-use crate::worlds::World;
+use crate::worlds::PlainWorld;
 use fkv_base::{Fault, Shape};
 use fkv_script::{
     Command, MOST_BYTES, MOST_LINES, Options, RunFault, Script, Sizes, Verdict, script_of,
@@ -160,7 +160,7 @@ fn run_store<W: Write>(
 ) -> Result<Verdict, RunFault>
     ensures { Ends (PlaysNew torn shape commands.now) (W.contents output.old) (W.contents output.new) result }
 {
-    match World::create(alloc, shape) {
+    match PlainWorld::create(alloc, shape) {
         Ok(world) => match run_commands(output, world, commands, torn) {
             Ok(0) => Ok(Verdict::Agrees),
             Ok(status) => Err(RunFault::printed(alloc, status)),
@@ -174,7 +174,7 @@ fn run_store<W: Write>(
 /// recovery was refused.
 fn run_commands<W: Write>(
     output: &mut W,
-    mut world: World,
+    mut world: PlainWorld,
     commands: &[Command],
     torn: u8,
 ) -> Result<u8, Want>
@@ -192,7 +192,7 @@ fn run_commands<W: Write>(
 }
 
 /// Takes a crash that hasn't struck.
-fn run_end<W: Write>(output: &mut W, world: &mut World, torn: u8) -> Result<u8, Want>
+fn run_end<W: Write>(output: &mut W, world: &mut PlainWorld, torn: u8) -> Result<u8, Want>
     ensures { IfOk result (λ status. (text : List ℕ) × Plays torn world.old [] text status × Appends (W.contents output.old) (W.contents output.new) text) }
 {
     if !world.awaits_crash() {
@@ -209,7 +209,7 @@ fn run_end<W: Write>(output: &mut W, world: &mut World, torn: u8) -> Result<u8, 
 /// Answers a command. `false` where recovery was refused, which ends the run.
 fn run_command<W: Write>(
     output: &mut W,
-    world: &mut World,
+    world: &mut PlainWorld,
     command: Command,
     torn: u8,
 ) -> Result<bool, Want>
@@ -235,7 +235,7 @@ fn run_command<W: Write>(
 }
 
 /// Finishes the commit that runs, if one does, or crashes in it.
-fn run_finish<W: Write>(output: &mut W, world: &mut World, torn: u8) -> Result<bool, Want>
+fn run_finish<W: Write>(output: &mut W, world: &mut PlainWorld, torn: u8) -> Result<bool, Want>
     ensures { IfOk result (λ goes_on. (text : List ℕ) × IsPlayed torn world.old Finish world.new text goes_on × Appends (W.contents output.old) (W.contents output.new) text) }
 {
     if !world.is_committing() {
@@ -257,7 +257,7 @@ fn run_finish<W: Write>(output: &mut W, world: &mut World, torn: u8) -> Result<b
 }
 
 /// Recovers the store of an image and reports it.
-fn run_crash<W: Write>(output: &mut W, world: &mut World, image: Vec<u8>) -> Result<bool, Want>
+fn run_crash<W: Write>(output: &mut W, world: &mut PlainWorld, image: Vec<u8>) -> Result<bool, Want>
     ensures { IfOk result (λ goes_on. (text : List ℕ) × IsCrashed world.old image.items world.new text goes_on × Appends (W.contents output.old) (W.contents output.new) text) }
 {
     match world.recovered(image) {

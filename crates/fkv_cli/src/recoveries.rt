@@ -10,20 +10,20 @@ ghost use Rattle.fkv_cli.specs.Homes.{IsInIndex, entries_of};
 
 use crate::fresh_logs::FreshLog;
 use crate::indexes::Index;
-use crate::worlds::World;
+use crate::worlds::PlainWorld;
 use fkv_base::{Fault, Key, Serial, Shape, Value};
 use fkv_disk::{Device, MemDisk};
 use fkv_map::{HistoryEntry, Op, PlainMap, kept};
 use fkv_recover::{HomeEntry, Opened, content, create, recover};
 use std::alloc::Global;
 
-impl World {
+impl PlainWorld {
     ghost use Rattle.fkv_cli.specs.Life.{new_life};
     ghost use Rattle.fkv_cli.specs.Crashes.{IsRecovered};
     ghost use Rattle.fkv_cli.specs.Output.{IsCreated, IsWantOfMemory, IsRefusal};
 
     /// A store of this shape that is made on an empty device.
-    pub(crate) fn create(alloc: Global, shape: Shape) -> Result<World, Fault>
+    pub(crate) fn create(alloc: Global, shape: Shape) -> Result<PlainWorld, Fault>
         ensures ok { IfOk result (λ world. (bytes : List ℕ) × IsCreated shape bytes × (world ≡ new_life shape bytes)) }
         ensures err { IfErr result IsWantOfMemory }
     {
@@ -32,7 +32,7 @@ impl World {
         let index = Index::new(alloc, shape.bucket_bits, shape.overflow)?;
         let bytes = disk.into_bytes();
         law_bytes(&bytes);
-        Ok(World {
+        Ok(PlainWorld {
             alloc,
             shape,
             history: Vec::new(alloc),
@@ -49,7 +49,7 @@ impl World {
     }
 
     /// The store that an image of this one holds.
-    pub(crate) fn recovered(&self, image: Vec<u8>) -> Result<World, Fault>
+    pub(crate) fn recovered(&self, image: Vec<u8>) -> Result<PlainWorld, Fault>
         ensures ok { IfOk result (IsRecovered self.now image.items) }
         ensures err { IfErr result (IsRefusal image.items) }
     {
@@ -58,7 +58,7 @@ impl World {
         let opened = recover(alloc, &mut disk)?;
         let pairs = content(alloc, &opened, &mut disk)?;
         let point = first_point(&opened);
-        Ok(World {
+        Ok(PlainWorld {
             alloc,
             shape: opened.shape,
             history: kept(alloc, &self.history, &[Serial(point)])?,

@@ -16,7 +16,7 @@ use std::marker::Model;
 
 /// A store between two lines. Its records lie on the device or, since the last finished commit, in `log`.
 #[derive(Drop)]
-pub(crate) struct World {
+pub(crate) struct PlainWorld {
     pub(crate) alloc: Global,
     pub(crate) shape: Shape,
     pub(crate) history: Vec<HistoryEntry>,
@@ -33,7 +33,7 @@ pub(crate) struct World {
     pub(crate) left: Option<u64>,
 }
 
-impl Model for World {
+impl Model for PlainWorld {
     ghost use Rattle.fkv_cli.specs.Life.{Life, IsInRange};
     ghost use Rattle.std.specs.Coded.{codes};
     ghost use Rattle.fkv_cli.specs.Codes.{numbers_code, index_code};
@@ -47,7 +47,7 @@ impl Model for World {
     ghost invariant = { λ w. IsInRange (record { shape = w.shape; history = w.history.items; serial = w.serial; number = w.number; point = w.point; is_committing = w.is_committing; map = w.map; index = w.index; log = w.log; bytes = w.bytes.items; left = w.left }) };
 }
 
-impl World {
+impl PlainWorld {
     ghost use Rattle.fkv_cli.specs.Life.{home_in, lacks_record, with_slot, with_word, word_of, with_change, told, answer_to, answer_to_update, after_answer, after_operation, answer_to_commit, after_commit, last_commit};
     ghost use Rattle.fkv_cli.specs.Output.{after_crash_at};
     ghost use Rattle.fkv_cli.specs.Index.{bucket_of, has_room};

@@ -12,7 +12,7 @@ use Rattle.fkv_cli.specs.Life.{Life}
 use Rattle.fkv_cli.specs.Homes.{entries_of}
 use Rattle.fkv_cli.proofs.PairMaps.{made_of}
 use Rattle.fkv_cli.proofs.RecoveredStores.{in_index, in_range-recovered, present, is_recovered}
-use Rattle.fkv_cli.proofs.worlds.World.recovered.Goals as goal
+use Rattle.fkv_cli.proofs.worlds.PlainWorld.recovered.Goals as goal
 
 pub map_of-requires-clause-present : goal.map_of-requires-clause-present
 map_of-requires-clause-present c =

@@ -12,8 +12,8 @@ use Rattle.fkv_cli.specs.Life.{Life}
 use Rattle.fkv_cli.specs.Planned.{planned}
 use Rattle.fkv_cli.proofs.Plans.{planned_push}
 use Rattle.fkv_cli.proofs.Finishing.{are_triples, triples_some, triples_none}
-use Rattle.fkv_cli.proofs.worlds.World.plan_triples.Goals as goal
-use Rattle.fkv_cli.proofs.worlds.World.plan_triples.Goals.{then-not-is_empty+in_ok-bytes+in_ok-push, else-not-is_empty}
+use Rattle.fkv_cli.proofs.worlds.PlainWorld.plan_triples.Goals as goal
+use Rattle.fkv_cli.proofs.worlds.PlainWorld.plan_triples.Goals.{then-not-is_empty+in_ok-bytes+in_ok-push, else-not-is_empty}
 
 pub triple_bytes-requires : goal.triple_bytes-requires
 triple_bytes-requires c = subst (λ (es : List (ℕ × ℕ)). All IsTriple es) (sym (c.deref.ensures.value ∙ c.in_ok-entries.ensures.entries)) (are_triples _ c.self.invariant)

@@ -6,7 +6,7 @@ use Rattle.fkv_map.specs.Map.{reply_to}
 use Rattle.fkv_cli.specs.Index.{has_room}
 use Rattle.fkv_cli.specs.Life.{Life, home_in, key_of, lacks_record}
 use Rattle.fkv_cli.proofs.UpdateAnswers.{serial_of-with_change, not_equal, updated_is}
-use Rattle.fkv_cli.proofs.worlds.World.update.Goals as goal
+use Rattle.fkv_cli.proofs.worlds.PlainWorld.update.Goals as goal
 
 pub tell-requires : goal.tell-requires
 tell-requires c =

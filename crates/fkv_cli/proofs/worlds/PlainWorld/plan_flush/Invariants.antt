@@ -2,7 +2,7 @@ use Rattle.std.proofs.Common.{◌≡◌, ◌≤◌, ◌+◌, ◌-◌, ◌++◌, 
 use Rattle.std.specs.List.{range_with_len}
 use Rattle.fkv_cli.specs.Commits.{page_write}
 use Rattle.fkv_cli.specs.Planned.{planned}
-use Rattle.fkv_cli.proofs.worlds.World.plan_flush.Given as goal
+use Rattle.fkv_cli.proofs.worlds.PlainWorld.plan_flush.Given as goal
 
 abbrev pub invariant-loop-page : goal.invariant-loop-page
 invariant-loop-page l = record {

@@ -4,11 +4,11 @@ use Rattle.fkv_cli.specs.Life.{Life}
 use Rattle.fkv_cli.specs.Commits.{finish_calls, finished, left_after}
 use Rattle.fkv_cli.specs.FreshLog.{log_at}
 use Rattle.fkv_cli.specs.Planned.{planned}
-use Rattle.fkv_cli.specs.contracts.worlds.World.{the_view}
+use Rattle.fkv_cli.specs.contracts.worlds.PlainWorld.{the_view}
 use Rattle.fkv_cli.proofs.Striking.{plan_many, all_pass}
 use Rattle.fkv_cli.proofs.Finishing.{finished_from}
-use Rattle.fkv_cli.proofs.worlds.World.finish.Goals as goal
-use Rattle.fkv_cli.proofs.worlds.World.finish.Goals.{in-Some, in_default}
+use Rattle.fkv_cli.proofs.worlds.PlainWorld.finish.Goals as goal
+use Rattle.fkv_cli.proofs.worlds.PlainWorld.finish.Goals.{in-Some, in_default}
 
 pub overflow_sub-self : goal.overflow_sub-self
 overflow_sub-self c =

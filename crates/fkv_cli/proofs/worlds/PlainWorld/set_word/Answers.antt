@@ -1,6 +1,6 @@
 use Rattle.std.proofs.Common.{◌∙◌, sym}
 use Rattle.fkv_cli.proofs.Ranges.{in_range-changed, word_changed}
-use Rattle.fkv_cli.proofs.worlds.World.set_word.Goals as goal
+use Rattle.fkv_cli.proofs.worlds.PlainWorld.set_word.Goals as goal
 
 pub invariant_of-self : goal.invariant_of-self
 invariant_of-self c = rw c.change.ensures (in_range-changed _ c.args.key.0 c.args.word c.self.invariant)

@@ -4,7 +4,7 @@ use Rattle.fkv_cli.specs.Index.{bucket_of, entry_of, with_entry}
 use Rattle.fkv_cli.specs.FreshLog.{tail, with_record}
 use Rattle.fkv_cli.specs.Life.{Life, IsInRange, home_in, with_word}
 use Rattle.fkv_cli.proofs.Ranges.{room_left, in_range-append, entry_below, either_way, map_ok, appended_is}
-use Rattle.fkv_cli.proofs.worlds.World.append.Goals as goal
+use Rattle.fkv_cli.proofs.worlds.PlainWorld.append.Goals as goal
 
 pub invariant_of-self-2 : goal.invariant_of-self-2
 invariant_of-self-2 c =

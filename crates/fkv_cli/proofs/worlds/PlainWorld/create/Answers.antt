@@ -3,7 +3,7 @@ use Rattle.fkv_disk.specs.Memory.{disk_bytes}
 use Rattle.fkv_disk.specs.Bytes.{AreBytes}
 use Rattle.fkv_recover.specs.Created.{IsLaid, new_head}
 use Rattle.fkv_cli.proofs.Ranges.{in_range-new, some_log}
-use Rattle.fkv_cli.proofs.worlds.World.create.Goals as goal
+use Rattle.fkv_cli.proofs.worlds.PlainWorld.create.Goals as goal
 
 pub invariant_of-result : goal.invariant_of-result
 invariant_of-result c =

@@ -3,7 +3,7 @@ use Rattle.fkv_disk.specs.Calls.{Call}
 use Rattle.fkv_cli.specs.declared.planned_calls.PlannedCall.{PlannedCall}
 use Rattle.fkv_cli.specs.Commits.{flush_calls, triple_calls, close_calls, slot_calls}
 use Rattle.fkv_cli.specs.Planned.{planned}
-use Rattle.fkv_cli.proofs.worlds.World.finish_calls.Goals as goal
+use Rattle.fkv_cli.proofs.worlds.PlainWorld.finish_calls.Goals as goal
 
 pub returns : goal.returns
 unfolding planned

@@ -1,7 +1,7 @@
 use Rattle.std.proofs.Common.{◌∙◌, sym, ap, arith}
 use Rattle.fkv_cli.specs.Life.{Life}
 use Rattle.fkv_cli.proofs.Striking.{plan_many, strikes_at, strikes_later, strikes_never}
-use Rattle.fkv_cli.proofs.worlds.World.strikes_after.Goals as goal
+use Rattle.fkv_cli.proofs.worlds.PlainWorld.strikes_after.Goals as goal
 
 pub returns-in-Some : goal.returns-in-Some
 returns-in-Some c =

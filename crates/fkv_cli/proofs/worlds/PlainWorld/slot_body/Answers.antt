@@ -4,7 +4,7 @@ use Rattle.fkv_record.specs.Numbers.{spelled}
 use Rattle.fkv_cli.specs.FreshLog.{tail}
 use Rattle.fkv_cli.specs.Commits.{slot_words, slot_body}
 use Rattle.fkv_cli.proofs.Finishing.{behind_gate}
-use Rattle.fkv_cli.proofs.worlds.World.slot_body.Goals as goal
+use Rattle.fkv_cli.proofs.worlds.PlainWorld.slot_body.Goals as goal
 
 pub returns : goal.returns
 returns c =

@@ -8,7 +8,7 @@ use Rattle.fkv_cli.specs.Life.{Life}
 use Rattle.fkv_cli.specs.Planned.{planned}
 use Rattle.fkv_cli.proofs.Plans.{planned_push}
 use Rattle.fkv_cli.proofs.Finishing.{pages_more, flushed}
-use Rattle.fkv_cli.proofs.worlds.World.plan_flush.Goals as goal
+use Rattle.fkv_cli.proofs.worlds.PlainWorld.plan_flush.Goals as goal
 
 pub returns-then-is_empty : goal.returns-then-is_empty
 unfolding flush_calls

@@ -4,7 +4,7 @@ use Rattle.fkv_cli.specs.Life.{Life}
 use Rattle.fkv_cli.specs.Crashes.{cut_calls, struck_image}
 use Rattle.fkv_cli.specs.Planned.{planned}
 use Rattle.fkv_cli.proofs.Striking.{plan_many, strikes_below, map_if_ok}
-use Rattle.fkv_cli.proofs.worlds.World.struck_image.Goals as goal
+use Rattle.fkv_cli.proofs.worlds.PlainWorld.struck_image.Goals as goal
 
 pub image_within-requires : goal.image_within-requires
 image_within-requires c =

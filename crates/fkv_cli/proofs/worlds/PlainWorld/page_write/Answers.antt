@@ -3,9 +3,9 @@ use Rattle.std.specs.Prelude.{min}
 use Rattle.fkv_cli.specs.FreshLog.{tail}
 use Rattle.fkv_cli.specs.Life.{Life}
 use Rattle.fkv_cli.specs.Commits.{page_write}
-use Rattle.fkv_cli.specs.contracts.worlds.World.{the_view}
+use Rattle.fkv_cli.specs.contracts.worlds.PlainWorld.{the_view}
 use Rattle.fkv_cli.proofs.Finishing.{page_written}
-use Rattle.fkv_cli.proofs.worlds.World.page_write.Goals as goal
+use Rattle.fkv_cli.proofs.worlds.PlainWorld.page_write.Goals as goal
 
 pub returns : goal.returns
 returns c =
