@@ -7,7 +7,8 @@
 # make bench   times the proved program on scripts of up to 65,536 lines
 # make gate    runs the gate, and writes the processor time of each crate into docs/GATE.md
 #
-# Each of them needs the Rattle toolchain, the command rt. What make run ends with is the program's status, where it isn't 0.
+# Each of them needs the Rattle toolchain, the command rt. Where the program ends with a status other than 0 make run fails, and says which
+# it was.
 
 SCRIPT ?= crates/fkv/stdin
 

@@ -7,7 +7,7 @@ use Rattle.std.proofs.lemmas.List.Elements.{filter-append, filter_passes, All-we
 use Rattle.std.proofs.lemmas.List.Sums.{sum_by-append, sum_by_push}
 use Rattle.fkv_base.specs.declared.numbers.Serial.{Serial}
 use Rattle.fkv_map.specs.declared.history.HistoryEntry.{HistoryEntry}
-use Rattle.fkv_map.specs.History.{kept, is_kept, point_of, AreAtMost, last_serial}
+use Rattle.fkv_map.specs.History.{kept, is_kept, point_of, AreAtMost, greatest_serial}
 
 -- ---- filters
 -- what passed a test passes one that holds wherever that does
@@ -74,11 +74,11 @@ kept_by_same_points (entry ∷ later) points others same =
     ∙ ap (λ rest. cond (is_kept others entry) (entry ∷ rest) rest) (kept_by_same_points later points others same)
 
 -- points that no serial is above keep the whole history
-pub kept_all : (history : List HistoryEntry) (points : List Serial) → ((session : ℕ) → last_serial history session ≤ point_of points session) → kept history points ≡ history
+pub kept_all : (history : List HistoryEntry) (points : List Serial) → ((session : ℕ) → greatest_serial history session ≤ point_of points session) → kept history points ≡ history
 kept_all [] points covers = refl
 kept_all (entry ∷ later) points covers =
     let here : entry.serial.0 ≤ point_of points entry.session = grind (arith, nat_tests, covers entry.session) in
-    let after : (session : ℕ) → last_serial later session ≤ point_of points session = λ session. grind (arith, nat_tests, covers session) in
+    let after : (session : ℕ) → greatest_serial later session ≤ point_of points session = λ session. grind (arith, nat_tests, covers session) in
     cond-true (is_kept points entry) _ _ (le-leb _ _ here) ∙ ap (λ rest. entry ∷ rest) (kept_all later points after)
 
 -- a count over two histories is the sum of the counts

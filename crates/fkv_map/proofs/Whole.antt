@@ -6,7 +6,7 @@ use Rattle.std.proofs.lemmas.Bool.Decides.{nat_tests}
 use Rattle.std.proofs.lemmas.List.Sums.{sum_by-cons}
 use Rattle.fkv_base.specs.declared.numbers.Serial.{Serial}
 use Rattle.fkv_map.specs.declared.history.HistoryEntry.{HistoryEntry}
-use Rattle.fkv_map.specs.History.{kept, is_kept, point_of, is_update, IsWhole, last_serial, HasEachOnce, AreAtMost}
+use Rattle.fkv_map.specs.History.{kept, is_kept, point_of, is_update, IsWhole, greatest_serial, HasEachOnce, AreAtMost}
 use Rattle.fkv_map.proofs.KeptEntries.{count-append, count-push, kept-append, kept_again, kept_by_more}
 
 -- ---- counts
@@ -61,11 +61,11 @@ whole_by_count history opening points has = λ session serial.
     ∙ whole_there serial (point_of points session) (count_by (is_update session serial) history) (nat_lt (point_of opening session) serial) (has session serial)
 
 -- ---- each serial once
-pub last_serial-push : (history : List HistoryEntry) (entry : HistoryEntry) (session : ℕ) → last_serial (history ++ entry ∷ []) session ≡ cond (nat_eq entry.session session) (max entry.serial.0 (last_serial history session)) (last_serial history session)
-last_serial-push [] entry session = refl
-last_serial-push (first ∷ later) entry session =
-    ap (λ n. cond (nat_eq first.session session) (max first.serial.0 n) n) (last_serial-push later entry session)
-    ∙ greatest_of (nat_eq first.session session) (nat_eq entry.session session) first.serial.0 entry.serial.0 (last_serial later session)
+pub greatest_serial-push : (history : List HistoryEntry) (entry : HistoryEntry) (session : ℕ) → greatest_serial (history ++ entry ∷ []) session ≡ cond (nat_eq entry.session session) (max entry.serial.0 (greatest_serial history session)) (greatest_serial history session)
+greatest_serial-push [] entry session = refl
+greatest_serial-push (first ∷ later) entry session =
+    ap (λ n. cond (nat_eq first.session session) (max first.serial.0 n) n) (greatest_serial-push later entry session)
+    ∙ greatest_of (nat_eq first.session session) (nat_eq entry.session session) first.serial.0 entry.serial.0 (greatest_serial later session)
   where
     greatest_of : (a b : Bool) (x y n : ℕ) → cond a (max x (cond b (max y n) n)) (cond b (max y n) n) ≡ cond b (max y (cond a (max x n) n)) (cond a (max x n) n)
     greatest_of true true x y n = omega arith
@@ -76,9 +76,9 @@ last_serial-push (first ∷ later) entry session =
 within_both : (serial point opening last : ℕ) → serial ≤ point → point ≤ max opening last → mark (nat_lt opening serial && nat_le serial last) ≡ mark (nat_lt opening serial)
 within_both serial point opening last low high = grind (arith, nat_tests)
 
-pub whole_of_each_once : (history : List HistoryEntry) (opening points : List Serial) → HasEachOnce history opening → ((session : ℕ) → point_of points session ≤ max (point_of opening session) (last_serial history session)) → IsWhole history opening points
+pub whole_of_each_once : (history : List HistoryEntry) (opening points : List Serial) → HasEachOnce history opening → ((session : ℕ) → point_of points session ≤ max (point_of opening session) (greatest_serial history session)) → IsWhole history opening points
 whole_of_each_once history opening points once within = whole_by_count history opening points (λ session serial low.
-    once session serial ∙ within_both serial (point_of points session) (point_of opening session) (last_serial history session) low (within session))
+    once session serial ∙ within_both serial (point_of points session) (point_of opening session) (greatest_serial history session) low (within session))
 
 -- an empty history has each serial once
 none_above : (opening serial : ℕ) → 0 ≡ mark (nat_lt opening serial && nat_le serial 0)
@@ -98,12 +98,12 @@ push_count true s t opening last serial its is next =
     next_serial (opening t) (last t) serial its (next ∙ ap (λ n. max (opening n) (last n) + 1) same)
 push_count false s t opening last serial its is next = omega arith
 
-pub each_once_more : (history : List HistoryEntry) (opening : List Serial) (entry : HistoryEntry) → HasEachOnce history opening → entry.serial.0 ≡ max (point_of opening entry.session) (last_serial history entry.session) + 1 → HasEachOnce (history ++ entry ∷ []) opening
+pub each_once_more : (history : List HistoryEntry) (opening : List Serial) (entry : HistoryEntry) → HasEachOnce history opening → entry.serial.0 ≡ max (point_of opening entry.session) (greatest_serial history entry.session) + 1 → HasEachOnce (history ++ entry ∷ []) opening
 each_once_more history opening entry once next = λ session serial.
     count-push (is_update session serial) history entry
     ∙ ap (λ n. n + mark (is_update session serial entry)) (once session serial)
-    ∙ push_count (nat_eq entry.session session) entry.session session (point_of opening) (last_serial history) serial entry.serial.0 refl next
-    ∙ ap (λ n. mark (nat_lt (point_of opening session) serial && nat_le serial n)) (sym (last_serial-push history entry session))
+    ∙ push_count (nat_eq entry.session session) entry.session session (point_of opening) (greatest_serial history) serial entry.serial.0 refl next
+    ∙ ap (λ n. mark (nat_lt (point_of opening session) serial && nat_le serial n)) (sym (greatest_serial-push history entry session))
 
 -- ---- lives
 two_parts : (opening between points serial : ℕ) → opening ≤ between → serial ≤ points → mark (nat_lt opening serial && nat_le serial between) + mark (nat_lt between serial && nat_le serial points) ≡ mark (nat_lt opening serial)

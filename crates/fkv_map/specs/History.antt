@@ -41,15 +41,15 @@ IsWhole history opening points =
     ≡ cond (nat_lt (point_of opening session) serial && nat_le serial (point_of points session)) 1 0
 
 -- the greatest serial of a session in a history; 0 of a session that has no entry
-abbrev pub last_serial : List HistoryEntry → ℕ → ℕ
-last_serial [] session = 0
-last_serial (entry ∷ later) session = cond (nat_eq entry.session session) (max entry.serial.0 (last_serial later session)) (last_serial later session)
+abbrev pub greatest_serial : List HistoryEntry → ℕ → ℕ
+greatest_serial [] session = 0
+greatest_serial (entry ∷ later) session = cond (nat_eq entry.session session) (max entry.serial.0 (greatest_serial later session)) (greatest_serial later session)
 
 -- each session's serials above its opening point, up to its last, stand in the history once each, and no others do
 abbrev pub HasEachOnce : List HistoryEntry → List Serial → Type 0
 HasEachOnce history opening =
     (session serial : ℕ) → count_by (is_update session serial) history
-    ≡ cond (nat_lt (point_of opening session) serial && nat_le serial (last_serial history session)) 1 0
+    ≡ cond (nat_lt (point_of opening session) serial && nat_le serial (greatest_serial history session)) 1 0
 
 -- each session's point among the first is at most its point among the second
 abbrev pub AreAtMost : List Serial → List Serial → Type 0

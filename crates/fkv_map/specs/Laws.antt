@@ -5,7 +5,7 @@ use Rattle.fkv_base.specs.declared.numbers.Serial.{Serial}
 use Rattle.fkv_map.specs.declared.history.HistoryEntry.{HistoryEntry}
 use Rattle.fkv_map.specs.Map.{Map}
 use Rattle.fkv_map.specs.Keys.{key_of, value_applied, reply_from, is_on, entries_of, value_after, AreLegal}
-use Rattle.fkv_map.specs.History.{content, IsLegal, is_kept, kept, point_of, is_update, IsWhole, HasEachOnce, AreAtMost, last_serial}
+use Rattle.fkv_map.specs.History.{content, IsLegal, is_kept, kept, point_of, is_update, IsWhole, HasEachOnce, AreAtMost, greatest_serial}
 
 -- a history after another makes of a map what it makes of the map that the other left
 abbrev pub ContentOfAppend : Type 0
@@ -52,7 +52,7 @@ LegalOfKept =
 -- ---- what points keep
 -- points that are each session's last serial keep the whole history
 abbrev pub KeptOfLastSerials : Type 0
-KeptOfLastSerials = (history : List HistoryEntry) (points : List Serial) → ((session : ℕ) → point_of points session ≡ last_serial history session) → kept history points ≡ history
+KeptOfLastSerials = (history : List HistoryEntry) (points : List Serial) → ((session : ℕ) → point_of points session ≡ greatest_serial history session) → kept history points ≡ history
 
 -- what the points have kept they keep again
 abbrev pub KeptOfKept : Type 0
@@ -68,13 +68,13 @@ WholeUpToPoints =
 abbrev pub WholeOfEachOnce : Type 0
 WholeOfEachOnce =
     (history : List HistoryEntry) (opening points : List Serial) → HasEachOnce history opening
-    → ((session : ℕ) → point_of points session ≤ max (point_of opening session) (last_serial history session)) → IsWhole history opening points
+    → ((session : ℕ) → point_of points session ≤ max (point_of opening session) (greatest_serial history session)) → IsWhole history opening points
 
 -- a history that has each serial once stays one with the next serial of a session: after its last, or after the opening's point where it has none yet
 abbrev pub EachOnceOfOneMore : Type 0
 EachOnceOfOneMore =
     (history : List HistoryEntry) (opening : List Serial) (entry : HistoryEntry) → HasEachOnce history opening
-    → entry.serial.0 ≡ max (point_of opening entry.session) (last_serial history entry.session) + 1 → HasEachOnce (history ++ entry ∷ []) opening
+    → entry.serial.0 ≡ max (point_of opening entry.session) (greatest_serial history entry.session) + 1 → HasEachOnce (history ++ entry ∷ []) opening
 
 -- ---- one life after another
 -- what two lives keep, the later opened at the points of the earlier, is whole from the first opening to the last points, if no point fell in the earlier

@@ -1,11 +1,13 @@
 use crate::{
-    Action, Ask, Places, PlainWords, RecordWord, SessionWord, SharedWord, drain_place, passed,
+    Action, Ask, Places, PlainWords, RecordWord, SessionWord, SharedWord, drain_place,
+    law_places_apart, passed,
 };
 use fkv_base::{Addr, Phase, Shape, Version};
 use std::test::Fail;
 
 #[test]
 fn each_ask_changes_its_word(rt: HostRuntime) -> Result<(), Fail> {
+    law_places_apart();
     let mut plane = PlainWords::new(rt.alloc(), 4)?;
     assert_eq!(rt; plane.perform::<()>(&Ask::Store(2, 7)), 0);
     assert_eq!(rt; plane.perform::<()>(&Ask::Swap(2, 9)), 7);
