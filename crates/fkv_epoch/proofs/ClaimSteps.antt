@@ -19,18 +19,18 @@ use Rattle.fkv_epoch.proofs.Items.{word_written, word_spared, item_spared, withi
 use Rattle.fkv_epoch.proofs.Epochs.{AreFrom, Knows, Epochs}
 use Rattle.fkv_epoch.proofs.Slots.{Fate, Taken, Spent, stage, SlotTable, Holds, Slots, Waiting}
 use Rattle.fkv_epoch.proofs.SlotRuns.{take, spend, free}
-use Rattle.fkv_epoch.proofs.Sound.{IsSound, quiet, slot_table, assembled, epochs_written}
+use Rattle.fkv_epoch.proofs.Sound.{IsSound, quiet, takes_none, slot_table, assembled, epochs_written}
 use Rattle.fkv_epoch.proofs.SessionSteps.{SoundAfter, dutiful}
 
 -- a word below the sessions' blocks, and neither epoch, is written by an actor whose duty says nothing of epochs
 pub low_written : (w : EpochWorld) (a : ℕ) (d d' : EpochMachine) (place word : ℕ) → IsSound w → slice_get w.now.actors a ≡ Some d → 2 ≤ place → place < 24
     → ((sight : Sight) → goes_by sight d' ≡ true → goes_by sight d ≡ true)
-    → Knows w.now.sessions (epoch_of w.now.words) (own_epoch w.now.words a) (w.past.loads a) (AreFrom (own_epoch w.now.words) w.past.loads w.now.actors) a d'
+    → Knows w.now.sessions (epoch_of w.now.words) (own_epoch w.now.words a) (w.past.loads a) (AreFrom (own_epoch w.now.words) w.past.in_force w.now.actors) a d'
     → (let words' : List ℕ = slice_set w.now.words place word in
-    Epochs w.now.sessions (epoch_of words') (safe_of words') (own_epoch words') (loaded w.past.loads a None (epoch_of w.now.words)) (slice_set w.now.actors a d'))
+    Epochs w.now.sessions (epoch_of words') (safe_of words') (own_epoch words') (loaded w.past.loads a None (epoch_of w.now.words)) w.past.in_force (slice_set w.now.actors a d'))
 low_written w a d d' place word sound got far low less knows =
     let same : own_epoch (slice_set w.now.words place word) a ≡ own_epoch w.now.words a = word_spared w.now.words place word (session_place a own.Epoch) (λ e. omega (arith, e, low)) in
-    epochs_written w a d d' place word sound got far (λ s i n e. omega (arith, e, low)) (λ i. rw same (dutiful w a d d' sound got less i)) (rw same knows)
+    epochs_written w a d d' w.past.in_force place word sound got far (λ s i n e. omega (arith, e, low)) (takes_none w a None sound) (λ i. rw same (dutiful w a d d' sound got less i)) (rw same knows)
 
 pub low_epoch : (words : List ℕ) (place word : ℕ) → 2 ≤ place → epoch_of (slice_set words place word) ≡ epoch_of words
 low_epoch words place word far = word_spared words place word 0 (λ e. omega (arith, e, far))
@@ -94,7 +94,7 @@ leads_armed w a slot word z step sound got few some safe =
 run_moves : (w : EpochWorld) (a slot c z : ℕ) (action : Action) (place word : ℕ) → IsSound w → slice_get w.now.actors a ≡ Some (Claims (Runs slot c z action)) → 2 ≤ place → place < 16
     → IsSound (record {
       now = record w.now { words = slice_set w.now.words place word; actors = slice_set w.now.actors a (Claims (FreesSlot slot z)) };
-      past = record { loads = loaded w.past.loads a None (epoch_of w.now.words); armed = w.past.armed; claims = w.past.claims; runs = record { actor = a; slot = slot; epoch = c; action = action } ∷ w.past.runs };
+      past = record { loads = loaded w.past.loads a None (epoch_of w.now.words); in_force = w.past.in_force; armed = w.past.armed; claims = w.past.claims; runs = record { actor = a; slot = slot; epoch = c; action = action } ∷ w.past.runs };
     })
 run_moves w a slot c z action place word sound got far low =
     let words' : List ℕ = slice_set w.now.words place word in
@@ -105,7 +105,7 @@ run_moves w a slot c z action place word sound got far low =
     let r0 : Ran = record { actor = a; slot = slot; epoch = c; action = action } in
     let same_epoch = low_epoch w.now.words place word far in
     let same_safe = low_safe w.now.words place word far in
-    assembled w a d d' None words' w.now.actions w.past.armed w.past.claims (r0 ∷ w.past.runs) sound.owners (set_at sound.fates c Spent) sound got
+    assembled w a d d' None w.past.in_force words' w.now.actions w.past.armed w.past.claims (r0 ∷ w.past.runs) sound.owners (set_at sound.fates c Spent) sound got
     (length-set w.now.words place word) sound.eight_slots (inl (omega arith))
     (low_written w a d d' place word sound got far (omega (arith, low)) (λ s g. refl) tt)
     (spend k (epoch_of words') (safe_of words') (drain_word words') slot c action w.now.actors a d d' sound.slots got (omega arith) (omega arith) h.3
@@ -123,7 +123,7 @@ run_moves w a slot c z action place word sound got far low =
 take_moves : (w : EpochWorld) (a slot word z : ℕ) → IsSound w → slice_get w.now.actors a ≡ Some (Claims (TakesSlot slot word z)) → drain_word w.now.words slot ≡ word
     → IsSound (record {
       now = put_near w.now a (claimed (slice_set w.now.words (drain_place slot) 1) w.now.actions (Receives slot (word - 2) z));
-      past = record { loads = loaded w.past.loads a None (epoch_of w.now.words); armed = w.past.armed; claims = record { actor = a; slot = slot; epoch = word - 2 } ∷ w.past.claims; runs = w.past.runs };
+      past = record { loads = loaded w.past.loads a None (epoch_of w.now.words); in_force = w.past.in_force; armed = w.past.armed; claims = record { actor = a; slot = slot; epoch = word - 2 } ∷ w.past.claims; runs = w.past.runs };
     })
 unfolding claim_given
 take_moves w a slot word z sound got found =
@@ -146,7 +146,7 @@ take_moves w a slot word z sound got found =
     let same_actions : length actions' ≡ length w.now.actions = length-set w.now.actions slot None in
     let now_bare : action_at actions' slot ≡ None = ap found_action (within_item w.now.actions slot None (omega (arith, few, sound.eight_slots))) in
     rw wait.at_home
-    (assembled w a d d' None words' actions' w.past.armed (t0 ∷ w.past.claims) w.past.runs (set_at sound.owners slot (Some a)) (set_at sound.fates c (Taken a)) sound got
+    (assembled w a d d' None w.past.in_force words' actions' w.past.armed (t0 ∷ w.past.claims) w.past.runs (set_at sound.owners slot (Some a)) (set_at sound.fates c (Taken a)) sound got
     (length-set w.now.words place 1) (same_actions ∙ sound.eight_slots) (inl (omega arith))
     (low_written w a d d' place 1 sound got (omega arith) (omega (arith, few)) (λ s g. refl) tt)
     (take k (epoch_of words') (safe_of words') (drain_word words') (action_at actions') slot c w.now.actors a d d' sound.slots got (omega arith) (omega arith) few at_slot now_one
@@ -177,7 +177,7 @@ free_moves w a slot z sound got =
     let now_zero : drain_word words' slot ≡ 0 = word_written w.now.words place 0 (omega (arith, few, sound.enough_words)) in
     let k' : SlotTable = record k { epoch = epoch_of words'; safe = safe_of words'; drains = drain_word words'; owners = set_at sound.owners slot None } in
     rw (claimed_after words' w.now.actions slot (Some z))
-    (assembled w a d d' None words' w.now.actions w.past.armed w.past.claims w.past.runs (set_at sound.owners slot None) sound.fates sound got
+    (assembled w a d d' None w.past.in_force words' w.now.actions w.past.armed w.past.claims w.past.runs (set_at sound.owners slot None) sound.fates sound got
     (length-set w.now.words place 0) sound.eight_slots (inl (omega arith))
     (low_written w a d d' place 0 sound got (omega arith) (omega (arith, few)) (λ s g. refl) tt)
     (free k (epoch_of words') (safe_of words') (drain_word words') slot w.now.actors a d d' sound.slots got (omega arith) (omega arith) h.2 h.3 now_zero

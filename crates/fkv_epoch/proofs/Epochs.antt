@@ -19,16 +19,17 @@ AreFrom words loads actors m i = (s : ℕ) → s < i → (machine : EpochMachine
 
 -- what a machine knows, by how far it has come
 abbrev pub Knows : ℕ → ℕ → ℕ → Loads → (ℕ → ℕ → Type 0) → ℕ → EpochMachine → Type 0
-Knows sessions epoch word l From a (Protects protect.AtRest) = ⊤
-Knows sessions epoch word l From a (Protects (protect.StoresEpoch e)) = (a < sessions) × (e ≤ epoch)
-Knows sessions epoch word l From a (Protects step) = a < sessions
-Knows sessions epoch word l From a (Refreshes refresh.AtRest) = ⊤
+Knows sessions epoch word l From a (Protects protect.AtRest) = a < sessions → 0 < word
+Knows sessions epoch word l From a (Protects protect.LoadsEpoch) = a < sessions
+Knows sessions epoch word l From a (Protects (protect.StoresEpoch e)) = (a < sessions) × (0 < e) × (e ≤ epoch)
+Knows sessions epoch word l From a (Protects step) = (a < sessions) × (0 < word)
+Knows sessions epoch word l From a (Refreshes refresh.AtRest) = a < sessions → 0 < word
 Knows sessions epoch word l From a (Refreshes refresh.LoadsEpoch) = (a < sessions) × (0 < word)
-Knows sessions epoch word l From a (Refreshes (refresh.LoadsPhase e)) = (a < sessions) × (0 < word) × (e ≤ epoch)
-Knows sessions epoch word l From a (Refreshes (refresh.LoadsReadOnly e phase)) = (a < sessions) × (0 < word) × (e ≤ epoch) × (e ≤ l.phase)
-Knows sessions epoch word l From a (Refreshes (refresh.LoadsHead e phase read_only)) = (a < sessions) × (0 < word) × (e ≤ epoch) × (e ≤ l.phase) × (e ≤ l.read_only)
-Knows sessions epoch word l From a (Refreshes (refresh.HasLoaded e values)) = (a < sessions) × (0 < word) × (e ≤ epoch) × (e ≤ l.phase) × (e ≤ l.read_only) × (e ≤ l.head)
-Knows sessions epoch word l From a (Refreshes (refresh.StoresEpoch e)) = (a < sessions) × (0 < word) × (e ≤ epoch) × (e ≤ l.phase) × (e ≤ l.read_only) × (e ≤ l.head)
+Knows sessions epoch word l From a (Refreshes (refresh.LoadsPhase e)) = (a < sessions) × (0 < word) × (0 < e) × (e ≤ epoch)
+Knows sessions epoch word l From a (Refreshes (refresh.LoadsReadOnly e phase)) = (a < sessions) × (0 < word) × (0 < e) × (e ≤ epoch) × (e ≤ l.phase)
+Knows sessions epoch word l From a (Refreshes (refresh.LoadsHead e phase read_only)) = (a < sessions) × (0 < word) × (0 < e) × (e ≤ epoch) × (e ≤ l.phase) × (e ≤ l.read_only)
+Knows sessions epoch word l From a (Refreshes (refresh.HasLoaded e values)) = (a < sessions) × (0 < word) × (0 < e) × (e ≤ epoch) × (e ≤ l.phase) × (e ≤ l.read_only) × (e ≤ l.head)
+Knows sessions epoch word l From a (Refreshes (refresh.StoresEpoch e)) = (a < sessions) × (0 < word) × (0 < e) × (e ≤ epoch) × (e ≤ l.phase) × (e ≤ l.read_only) × (e ≤ l.head)
 Knows sessions epoch word l From a (Leaves leave.AtRest) = ⊤
 Knows sessions epoch word l From a (Leaves leave.StoresZero) = a < sessions
 Knows sessions epoch word l From a (Scans scan.AtRest) = ⊤
@@ -37,13 +38,15 @@ Knows sessions epoch word l From a (Scans (scan.LoadsSession i m)) = (i < sessio
 Knows sessions epoch word l From a (Scans (scan.RaisesSafe m)) = (1 ≤ m) × (m ≤ epoch) × From m sessions
 Knows sessions epoch word l From a machine = ⊤
 
-pub record Epochs (sessions epoch safe : ℕ) (words : ℕ → ℕ) (loads : ℕ → Loads) (actors : List EpochMachine) : Type 0 where
+-- The bounds are said of the loads in force, none of which is later than the last one.
+pub record Epochs (sessions epoch safe : ℕ) (words : ℕ → ℕ) (loads force : ℕ → Loads) (actors : List EpochMachine) : Type 0 where
   pub safe_below : safe + 1 ≤ epoch
   pub loads_below : (s : ℕ) (sight : Sight) → load_of (loads s) sight ≤ epoch
+  pub force_below : (s : ℕ) (sight : Sight) → load_of (force s) sight ≤ load_of (loads s) sight
   pub words_below : (s : ℕ) → s < sessions → words s ≤ epoch
-  pub above_safe : AreFrom words loads actors (safe + 1) sessions
-  pub above_word : (s : ℕ) → s < sessions → (machine : EpochMachine) → slice_get actors s ≡ Some machine → IsFrom (words s) (words s) (loads s) machine
-  pub knows : (a : ℕ) (machine : EpochMachine) → slice_get actors a ≡ Some machine → Knows sessions epoch (words a) (loads a) (AreFrom words loads actors) a machine
+  pub above_safe : AreFrom words force actors (safe + 1) sessions
+  pub above_word : (s : ℕ) → s < sessions → (machine : EpochMachine) → slice_get actors s ≡ Some machine → IsFrom (words s) (words s) (force s) machine
+  pub knows : (a : ℕ) (machine : EpochMachine) → slice_get actors a ≡ Some machine → Knows sessions epoch (words a) (loads a) (AreFrom words force actors) a machine
 
 -- one session's step: it loses no bound, and keeps that of its own word
 pub record Change (epoch word : ℕ) (l : Loads) (machine : EpochMachine) (word' : ℕ) (l' : Loads) (machine' : EpochMachine) : Type 0 where
@@ -55,19 +58,19 @@ pub record Change (epoch word : ℕ) (l : Loads) (machine : EpochMachine) (word'
 pub knows_more : (sessions epoch epoch' word word' : ℕ) (l l' : Loads) (From From' : ℕ → ℕ → Type 0) (a : ℕ) (machine : EpochMachine)
     → epoch ≤ epoch' → (a < sessions → word' ≡ word) → l' ≡ l → ((m i : ℕ) → m ≤ epoch → i ≤ sessions → From m i → From' m i)
     → Knows sessions epoch word l From a machine → Knows sessions epoch' word' l' From' a machine
-knows_more S E E' w w' l l' F F' a (Protects protect.AtRest) up same e more k = tt
+knows_more S E E' w w' l l' F F' a (Protects protect.AtRest) up same e more k = λ i. let s = same i in let h = k i in omega arith
 knows_more S E E' w w' l l' F F' a (Protects protect.LoadsEpoch) up same e more k = k
-knows_more S E E' w w' l l' F F' a (Protects (protect.StoresEpoch x)) up same e more k = (k.0, omega arith)
-knows_more S E E' w w' l l' F F' a (Protects protect.LoadsPhase) up same e more k = k
-knows_more S E E' w w' l l' F F' a (Protects (protect.LoadsReadOnly x)) up same e more k = k
-knows_more S E E' w w' l l' F F' a (Protects (protect.LoadsHead x y)) up same e more k = k
-knows_more S E E' w w' l l' F F' a (Refreshes refresh.AtRest) up same e more k = tt
+knows_more S E E' w w' l l' F F' a (Protects (protect.StoresEpoch x)) up same e more k = (k.0, k.1, omega arith)
+knows_more S E E' w w' l l' F F' a (Protects protect.LoadsPhase) up same e more k = let s = same k.0 in (k.0, omega arith)
+knows_more S E E' w w' l l' F F' a (Protects (protect.LoadsReadOnly x)) up same e more k = let s = same k.0 in (k.0, omega arith)
+knows_more S E E' w w' l l' F F' a (Protects (protect.LoadsHead x y)) up same e more k = let s = same k.0 in (k.0, omega arith)
+knows_more S E E' w w' l l' F F' a (Refreshes refresh.AtRest) up same e more k = λ i. let s = same i in let h = k i in omega arith
 knows_more S E E' w w' l l' F F' a (Refreshes refresh.LoadsEpoch) up same e more k = let s = same k.0 in (k.0, omega arith)
-knows_more S E E' w w' l l' F F' a (Refreshes (refresh.LoadsPhase x)) up same e more k = let s = same k.0 in (k.0, omega arith, omega arith)
-knows_more S E E' w w' l l' F F' a (Refreshes (refresh.LoadsReadOnly x y)) up same e more k = let s = same k.0 in rw e (k.0, omega arith, omega arith, k.3)
-knows_more S E E' w w' l l' F F' a (Refreshes (refresh.LoadsHead x y z)) up same e more k = let s = same k.0 in rw e (k.0, omega arith, omega arith, k.3, k.4)
-knows_more S E E' w w' l l' F F' a (Refreshes (refresh.HasLoaded x y)) up same e more k = let s = same k.0 in rw e (k.0, omega arith, omega arith, k.3, k.4, k.5)
-knows_more S E E' w w' l l' F F' a (Refreshes (refresh.StoresEpoch x)) up same e more k = let s = same k.0 in rw e (k.0, omega arith, omega arith, k.3, k.4, k.5)
+knows_more S E E' w w' l l' F F' a (Refreshes (refresh.LoadsPhase x)) up same e more k = let s = same k.0 in (k.0, omega arith, k.2, omega arith)
+knows_more S E E' w w' l l' F F' a (Refreshes (refresh.LoadsReadOnly x y)) up same e more k = let s = same k.0 in rw e (k.0, omega arith, k.2, omega arith, k.4)
+knows_more S E E' w w' l l' F F' a (Refreshes (refresh.LoadsHead x y z)) up same e more k = let s = same k.0 in rw e (k.0, omega arith, k.2, omega arith, k.4, k.5)
+knows_more S E E' w w' l l' F F' a (Refreshes (refresh.HasLoaded x y)) up same e more k = let s = same k.0 in rw e (k.0, omega arith, k.2, omega arith, k.4, k.5, k.6)
+knows_more S E E' w w' l l' F F' a (Refreshes (refresh.StoresEpoch x)) up same e more k = let s = same k.0 in rw e (k.0, omega arith, k.2, omega arith, k.4, k.5, k.6)
 knows_more S E E' w w' l l' F F' a (Leaves leave.AtRest) up same e more k = tt
 knows_more S E E' w w' l l' F F' a (Leaves leave.StoresZero) up same e more k = k
 knows_more S E E' w w' l l' F F' a (Scans scan.AtRest) up same e more k = tt
@@ -102,21 +105,25 @@ from_kept S epoch W W' L L' actors a d d' got sw sl change m i below few h s ins
     ]
 
 -- one step of the actor a
-pub stepped : (S E E' safe safe' : ℕ) (W W' : ℕ → ℕ) (L L' : ℕ → Loads) (actors : List EpochMachine) (a : ℕ) (d d' : EpochMachine)
-    → Epochs S E safe W L actors → slice_get actors a ≡ Some d
-    → E ≤ E' → safe' + 1 ≤ E → AreFrom W L actors (safe' + 1) S
-    → ((s : ℕ) → s < S → s ≢ a → W' s ≡ W s) → ((s : ℕ) → s ≢ a → L' s ≡ L s)
-    → (a < S → Change E (W a) (L a) d (W' a) (L' a) d')
-    → ((sight : Sight) → load_of (L' a) sight ≤ E')
-    → Knows S E (W' a) (L' a) (AreFrom W L actors) a d'
-    → Epochs S E' safe' W' L' (slice_set actors a d')
-stepped S E E' safe safe' W W' L L' actors a d d' old got up safe_up above sw sl change loads_a knows_a =
-    let kept = from_kept S E W W' L L' actors a d d' got sw sl change in
+pub stepped : (S E E' safe safe' : ℕ) (W W' : ℕ → ℕ) (L L' F F' : ℕ → Loads) (actors : List EpochMachine) (a : ℕ) (d d' : EpochMachine)
+    → Epochs S E safe W L F actors → slice_get actors a ≡ Some d
+    → E ≤ E' → safe' + 1 ≤ E → AreFrom W F actors (safe' + 1) S
+    → ((s : ℕ) → s < S → s ≢ a → W' s ≡ W s) → ((s : ℕ) → s ≢ a → L' s ≡ L s) → ((s : ℕ) → s ≢ a → F' s ≡ F s)
+    → (a < S → Change E (W a) (F a) d (W' a) (F' a) d')
+    → ((sight : Sight) → load_of (L' a) sight ≤ E') → ((sight : Sight) → load_of (F' a) sight ≤ load_of (L' a) sight)
+    → Knows S E (W' a) (L' a) (AreFrom W F actors) a d'
+    → Epochs S E' safe' W' L' F' (slice_set actors a d')
+stepped S E E' safe safe' W W' L L' F F' actors a d d' old got up safe_up above sw sl sf change loads_a force_a knows_a =
+    let kept = from_kept S E W W' F F' actors a d d' got sw sf change in
     record {
       safe_below = omega arith;
       loads_below = λ s sight. elim (same_or s a) [
         | inl e ↦ rw e (loads_a sight)
         | inr n ↦ rw (sl s n) (omega (arith, old.loads_below s sight))
+      ];
+      force_below = λ s sight. elim (same_or s a) [
+        | inl e ↦ rw e (force_a sight)
+        | inr n ↦ rw (sl s n, sf s n) (old.force_below s sight)
       ];
       words_below = λ s inside. elim (same_or s a) [
         | inl e ↦
@@ -132,14 +139,14 @@ stepped S E E' safe safe' W W' L L' actors a d d' old got up safe_up above sw sl
             rw (e, its) (change inside_a).own
         | inr n ↦
             let before : slice_get actors s ≡ Some machine = sym (item_spared actors a s d' n) ∙ got' in
-            rw (sw s inside n) (from_moved (W s) (W s) (W s) (L s) (L' s) machine refl (sl s n) (old.above_word s inside machine before))
+            rw (sw s inside n) (from_moved (W s) (W s) (W s) (F s) (F' s) machine refl (sf s n) (old.above_word s inside machine before))
       ];
       knows = λ b machine got'. elim (same_or b a) [
         | inl e ↦
             let its : machine ≡ d' = some_same machine d' (sym got' ∙ (ap (slice_get (slice_set actors a d')) e ∙ item_written actors a d d' got)) in
-            rw (e, its) (knows_more S E E' (W' a) (W' a) (L' a) (L' a) (AreFrom W L actors) (AreFrom W' L' (slice_set actors a d')) a d' up (λ _. refl) refl kept knows_a)
+            rw (e, its) (knows_more S E E' (W' a) (W' a) (L' a) (L' a) (AreFrom W F actors) (AreFrom W' F' (slice_set actors a d')) a d' up (λ _. refl) refl kept knows_a)
         | inr n ↦
             let before : slice_get actors b ≡ Some machine = sym (item_spared actors a b d' n) ∙ got' in
-            knows_more S E E' (W b) (W' b) (L b) (L' b) (AreFrom W L actors) (AreFrom W' L' (slice_set actors a d')) b machine up (λ i. sw b i n) (sl b n) kept (old.knows b machine before)
+            knows_more S E E' (W b) (W' b) (L b) (L' b) (AreFrom W F actors) (AreFrom W' F' (slice_set actors a d')) b machine up (λ i. sw b i n) (sl b n) kept (old.knows b machine before)
       ];
     }

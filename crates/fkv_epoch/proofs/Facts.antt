@@ -1,16 +1,27 @@
 -- What crates above need of a sound world, besides the law.
 use Rattle.std.proofs.Common.{◌≡◌, ℕ, ◌-◌, ◌^◌, ◌<◌, ◌≤◌, arith, ap}
 use Rattle.std.specs.Prelude.{Some, None, slice_get}
+use Rattle.fkv_words.specs.declared.phase_word.PhaseWord.{PhaseWord}
+use Rattle.fkv_words.specs.Layout.{phase_word}
 use Rattle.fkv_plane.specs.Plane.{action_at}
+use Rattle.fkv_epoch.specs.Claiming.{phase_stored}
 use Rattle.fkv_epoch.specs.declared.claiming.Claiming.TheVariants as claim
-use Rattle.fkv_epoch.specs.EpochWorld.{Claims, HasRaised, Sight, EpochWorld, Armed, epoch_of, safe_of, drain_word}
-use Rattle.fkv_epoch.specs.Once.{load_of, Among, FindsAction}
+use Rattle.fkv_epoch.specs.EpochWorld.{Claims, HasRaised, Sight, EpochWorld, Armed, epoch_of, safe_of, own_epoch, drain_word}
+use Rattle.fkv_epoch.specs.Once.{load_of, Counts, Among, FindsAction}
 use Rattle.fkv_epoch.proofs.Slots.{stage, Waiting}
 use Rattle.fkv_epoch.proofs.Sound.{IsSound, slot_table}
 
 -- no session has loaded anything at an epoch that is not reached, so none has seen past the epoch as it is raised
 pub no_load_ahead : (w : EpochWorld) (session : ℕ) (sight : Sight) → IsSound w → load_of (w.past.loads session) sight ≤ epoch_of w.now.words
 no_load_ahead w session sight sound = sound.epochs.loads_below session sight
+
+-- what is in force was loaded no later than the last load
+pub in_force_is_no_later : (w : EpochWorld) (session : ℕ) (sight : Sight) → IsSound w → load_of (w.past.in_force session) sight ≤ load_of (w.past.loads session) sight
+in_force_is_no_later w session sight sound = sound.epochs.force_below session sight
+
+-- and no earlier than at the epoch that is the session's own
+pub own_epoch_is_no_later : (w : EpochWorld) (session : ℕ) (sight : Sight) → IsSound w → Counts w.now session sight → own_epoch w.now.words session ≤ load_of (w.past.in_force session) sight
+own_epoch_is_no_later w session sight sound counts = (sound.epochs.above_word session counts.is_session counts.machine counts.its_machine).loaded sight counts.is_protected counts.has_loaded
 
 -- the safe epoch is below the epoch
 pub safe_is_below : (w : EpochWorld) → IsSound w → safe_of w.now.words < epoch_of w.now.words
@@ -42,3 +53,7 @@ claimer_finds_action w a slot word safe sound got found =
 -- so no claim ever waits for an action
 pub no_claim_waits : (w : EpochWorld) (a slot c safe : ℕ) → IsSound w → slice_get w.now.actors a ≡ Some (Claims (claim.Receives slot c safe)) → ⊥
 no_claim_waits w a slot c safe sound got = sound.slots.holds a (Claims (claim.Receives slot c safe)) got
+
+-- a phase word is stored as it is spelled
+pub phase_is_stored : (x : PhaseWord) → phase_stored x.phase x.version ≡ phase_word x
+phase_is_stored x = omega (arith, x.some_version, x.version_fits)

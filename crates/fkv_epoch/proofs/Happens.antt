@@ -32,7 +32,7 @@ no_load loads a epoch = λ i s. cases s (s == a) i
 -- an actor turns to another duty, and nothing else happens
 turns : (w : EpochWorld) (a : ℕ) (d d' : EpochMachine) → IsSound w → slice_get w.now.actors a ≡ Some d → weight d' ≤ weight d
     → ((sight : Sight) → goes_by sight d' ≡ true → goes_by sight d ≡ true)
-    → Knows w.now.sessions (epoch_of w.now.words) (own_epoch w.now.words a) (w.past.loads a) (AreFrom (own_epoch w.now.words) w.past.loads w.now.actors) a d'
+    → Knows w.now.sessions (epoch_of w.now.words) (own_epoch w.now.words a) (w.past.loads a) (AreFrom (own_epoch w.now.words) w.past.in_force w.now.actors) a d'
     → ((owners : ℕ → Option ℕ) (fates : ℕ → Fate) → Slots (slot_table w.now w.past owners fates) w.now.actors → Holds (slot_table w.now w.past owners fates) a d')
     → IsSound (record { now = with_machine w.now a d'; past = w.past })
 turns w a d d' sound got lighter less knows holds =

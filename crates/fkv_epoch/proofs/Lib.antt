@@ -1,14 +1,17 @@
-pub mod Items
-pub mod Epochs
-pub mod Slots
-pub mod SlotSteps
-pub mod SlotRuns
-pub mod Sound
-pub mod SessionSteps
-pub mod ScanSteps
-pub mod ClaimSteps
-pub mod RaiseSteps
-pub mod Happens
-pub mod Outer
-pub mod Runs
-pub mod Facts
+mod Asking
+mod ClaimSteps
+mod Epochs
+mod Facts
+mod Happens
+mod Items
+mod Outer
+mod Protected
+mod RaiseSteps
+mod Runs
+mod ScanSteps
+mod SessionSteps
+pub mod Shown
+mod SlotRuns
+mod SlotSteps
+mod Slots
+mod Sound

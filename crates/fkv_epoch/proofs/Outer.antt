@@ -14,13 +14,13 @@ use Rattle.fkv_epoch.specs.declared.leaving.Leaving.TheVariants as leave
 use Rattle.fkv_epoch.specs.declared.scanning.Scanning.TheVariants as scan
 use Rattle.fkv_epoch.specs.declared.arming.Arming.TheVariants as arm
 use Rattle.fkv_epoch.specs.Arming.{arm_next}
-use Rattle.fkv_epoch.specs.EpochWorld.{EpochMachine, Protects, Refreshes, Leaves, Scans, Claims, Raises, HasRaised, Arms, Sight, OfPhase, OfReadOnly, OfHead, Loads, EpochWorld, put, past_seen, epoch_of, safe_of, own_epoch, drain_word, with_load, is_own}
+use Rattle.fkv_epoch.specs.EpochWorld.{EpochMachine, Protects, Refreshes, Leaves, Scans, Claims, Raises, HasRaised, Arms, Sight, OfPhase, OfReadOnly, OfHead, Loads, EpochWorld, put, past_seen, epoch_of, safe_of, own_epoch, drain_word, loaded, with_load, is_own}
 use Rattle.fkv_epoch.specs.Once.{load_of}
 use Rattle.fkv_epoch.proofs.Items.{word_spared, item_spared, within_item}
 use Rattle.fkv_epoch.proofs.Epochs.{AreFrom, Knows, knows_more, from_moved}
 use Rattle.fkv_epoch.proofs.Slots.{SlotTable, holds_more}
 use Rattle.fkv_epoch.proofs.SlotSteps as slots
-use Rattle.fkv_epoch.proofs.Sound.{IsSound, quiet, slot_table, load_up, assembled, epochs_step}
+use Rattle.fkv_epoch.proofs.Sound.{IsSound, takes_none, takes_load, looks, slot_table, load_up, assembled, epochs_step}
 use Rattle.fkv_epoch.proofs.SessionSteps.{dutiful, looking}
 use Rattle.fkv_epoch.proofs.Happens.{no_load}
 
@@ -41,10 +41,10 @@ put_bears w a slot c action sound got =
     let same_actions : length actions' ≡ length w.now.actions = length-set w.now.actions slot (Some action) in
     let home : action_at actions' slot ≡ Some action = ap found_action (within_item w.now.actions slot (Some action) (omega (arith, few, sound.eight_slots))) in
     let none = no_load w.past.loads a (epoch_of w.now.words) in
-    let whole = assembled w a d d' None w.now.words actions' w.past.armed w.past.claims w.past.runs sound.owners sound.fates sound got
+    let whole = assembled w a d d' None w.past.in_force w.now.words actions' w.past.armed w.past.claims w.past.runs sound.owners sound.fates sound got
     refl (same_actions ∙ sound.eight_slots) (inl (omega arith))
-    (epochs_step w.now.sessions (epoch_of w.now.words) (epoch_of w.now.words) (safe_of w.now.words) (safe_of w.now.words) (own_epoch w.now.words) (own_epoch w.now.words) w.past.loads w.now.actors a d d' None
-    sound.epochs got (omega arith) sound.epochs.safe_below sound.epochs.above_safe (λ s i n. refl) (dutiful w a d d' sound got (λ s g. refl)) tt)
+    (epochs_step w.now.sessions (epoch_of w.now.words) (epoch_of w.now.words) (safe_of w.now.words) (safe_of w.now.words) (own_epoch w.now.words) (own_epoch w.now.words) w.past.loads w.past.in_force w.past.in_force w.now.actors a d d' None
+    sound.epochs got (omega arith) sound.epochs.safe_below sound.epochs.above_safe (λ s i n. refl) (takes_none w a None sound) (dutiful w a d d' sound got (λ s g. refl)) tt)
     (slots.put k (action_at actions') slot w.now.actors a d d' sound.slots got few h.1
     (λ s f n. ap found_action (item_spared w.now.actions slot s (Some action) n))
     (few, h.1, h.2, (action, home)))
@@ -74,10 +74,10 @@ knows_load S E w l l' F a (Protects (protect.LoadsHead x y)) up k = k
 knows_load S E w l l' F a (Refreshes refresh.AtRest) up k = k
 knows_load S E w l l' F a (Refreshes refresh.LoadsEpoch) up k = k
 knows_load S E w l l' F a (Refreshes (refresh.LoadsPhase x)) up k = k
-knows_load S E w l l' F a (Refreshes (refresh.LoadsReadOnly x y)) up k = let p = up OfPhase in (k.0, k.1, k.2, omega (arith, p, k.3))
-knows_load S E w l l' F a (Refreshes (refresh.LoadsHead x y z)) up k = let p = up OfPhase in let r = up OfReadOnly in (k.0, k.1, k.2, omega (arith, p, k.3), omega (arith, r, k.4))
-knows_load S E w l l' F a (Refreshes (refresh.HasLoaded x y)) up k = let p = up OfPhase in let r = up OfReadOnly in let h = up OfHead in (k.0, k.1, k.2, omega (arith, p, k.3), omega (arith, r, k.4), omega (arith, h, k.5))
-knows_load S E w l l' F a (Refreshes (refresh.StoresEpoch x)) up k = let p = up OfPhase in let r = up OfReadOnly in let h = up OfHead in (k.0, k.1, k.2, omega (arith, p, k.3), omega (arith, r, k.4), omega (arith, h, k.5))
+knows_load S E w l l' F a (Refreshes (refresh.LoadsReadOnly x y)) up k = let p = up OfPhase in (k.0, k.1, k.2, k.3, omega (arith, p, k.4))
+knows_load S E w l l' F a (Refreshes (refresh.LoadsHead x y z)) up k = let p = up OfPhase in let r = up OfReadOnly in (k.0, k.1, k.2, k.3, omega (arith, p, k.4), omega (arith, r, k.5))
+knows_load S E w l l' F a (Refreshes (refresh.HasLoaded x y)) up k = let p = up OfPhase in let r = up OfReadOnly in let h = up OfHead in (k.0, k.1, k.2, k.3, omega (arith, p, k.4), omega (arith, r, k.5), omega (arith, h, k.6))
+knows_load S E w l l' F a (Refreshes (refresh.StoresEpoch x)) up k = let p = up OfPhase in let r = up OfReadOnly in let h = up OfHead in (k.0, k.1, k.2, k.3, omega (arith, p, k.4), omega (arith, r, k.5), omega (arith, h, k.6))
 knows_load S E w l l' F a (Leaves leave.AtRest) up k = k
 knows_load S E w l l' F a (Leaves leave.StoresZero) up k = k
 knows_load S E w l l' F a (Scans scan.AtRest) up k = k
@@ -93,14 +93,14 @@ pub seen_sound : (w : EpochWorld) (a : ℕ) (x : Sight) (found : Option EpochMac
 seen_sound w a x None got sound = sound
 seen_sound w a x (Some d) got sound =
     let E : ℕ = epoch_of w.now.words in
-    let whole = quiet w a d d (Some x) sound got (inl (omega arith)) (looking w a d d x sound got (λ s g. inr g))
-    (knows_load w.now.sessions E (own_epoch w.now.words a) (w.past.loads a) (with_load (w.past.loads a) (Some x) E) (AreFrom (own_epoch w.now.words) w.past.loads w.now.actors) a d
+    let whole = looks w a d d (Some x) (loaded w.past.in_force a (Some x) E) sound got (inl (omega arith)) (takes_load w a (Some x) sound) (looking w a d d x sound got (λ s g. inr g))
+    (knows_load w.now.sessions E (own_epoch w.now.words a) (w.past.loads a) (with_load (w.past.loads a) (Some x) E) (AreFrom (own_epoch w.now.words) w.past.in_force w.now.actors) a d
     (load_up (w.past.loads a) x E (λ s. sound.epochs.loads_below a s)) (sound.epochs.knows a d got))
     (λ o f s. s.holds a d got) in
     rw (same_item w.now.actors a d got) at whole
 
 -- a place that is none of these machines' is not where one of their words stands
-not_both : (b : Bool) {X : Type 0} → b ≡ true → b ≡ false → X
+pub not_both : (b : Bool) {X : Type 0} → b ≡ true → b ≡ false → X
 not_both b t f = cc
 
 left_true : (b c : Bool) → b ≡ true → (b || c) ≡ true
@@ -129,7 +129,7 @@ own_drain S p low high =
     let u : nat_lt p 24 ≡ true = grind (arith, nat_tests) in
     left_true (nat_lt p 2 || (nat_le 16 p && nat_lt p 24)) (nat_le 24 p && nat_lt p (24 + 16 * S) && (p - 24) % 16 == 0) (right_true (nat_lt p 2) (nat_le 16 p && nat_lt p 24) (and_true (nat_le 16 p) (nat_lt p 24) t u))
 
-own_session : (S s p : ℕ) → s < S → p ≡ 24 + 16 * s → is_own S p ≡ true
+pub own_session : (S s p : ℕ) → s < S → p ≡ 24 + 16 * s → is_own S p ≡ true
 own_session S s p h e =
     let t : nat_le 24 p ≡ true = grind (arith, nat_tests) in
     let u : nat_lt p (24 + 16 * S) ≡ true = grind (arith, nat_tests) in
@@ -151,8 +151,8 @@ changes_sound w p v foreign sound =
     let k : SlotTable = slot_table w.now w.past sound.owners sound.fates in
     let k' : SlotTable = record k { epoch = epoch_of words'; safe = safe_of words'; drains = drain_word words' } in
     let old = sound.epochs in
-    let more : (m i : ℕ) → m ≤ epoch_of words → i ≤ S → AreFrom (own_epoch words) w.past.loads w.now.actors m i → AreFrom (own_epoch words') w.past.loads w.now.actors m i = λ m i below few f s inside machine got.
-    from_moved m (own_epoch words s) (own_epoch words' s) (w.past.loads s) (w.past.loads s) machine (same_own s (omega (arith, inside, few))) refl (f s inside machine got) in
+    let more : (m i : ℕ) → m ≤ epoch_of words → i ≤ S → AreFrom (own_epoch words) w.past.in_force w.now.actors m i → AreFrom (own_epoch words') w.past.in_force w.now.actors m i = λ m i below few f s inside machine got.
+    from_moved m (own_epoch words s) (own_epoch words' s) (w.past.in_force s) (w.past.in_force s) machine (same_own s (omega (arith, inside, few))) refl (f s inside machine got) in
     let below = old.safe_below in
     record {
       few_sessions = sound.few_sessions;
@@ -163,10 +163,11 @@ changes_sound w p v foreign sound =
       epochs = record {
         safe_below = omega (arith, same_epoch, same_safe, below);
         loads_below = λ s sight. let h = old.loads_below s sight in omega (arith, same_epoch, h);
+        force_below = old.force_below;
         words_below = λ s h. let x = old.words_below s h in let y = same_own s h in omega (arith, x, y, same_epoch);
         above_safe = rw same_safe (more (safe_of words + 1) S below (omega arith) old.above_safe);
         above_word = λ s h machine got. rw (same_own s h) (old.above_word s h machine got);
-        knows = λ b machine got. knows_more S (epoch_of words) (epoch_of words') (own_epoch words b) (own_epoch words' b) (w.past.loads b) (w.past.loads b) (AreFrom (own_epoch words) w.past.loads w.now.actors) (AreFrom (own_epoch words') w.past.loads w.now.actors) b machine
+        knows = λ b machine got. knows_more S (epoch_of words) (epoch_of words') (own_epoch words b) (own_epoch words' b) (w.past.loads b) (w.past.loads b) (AreFrom (own_epoch words) w.past.in_force w.now.actors) (AreFrom (own_epoch words') w.past.in_force w.now.actors) b machine
             (omega (arith, same_epoch)) (same_own b) refl more (old.knows b machine got);
       };
       owners = sound.owners;

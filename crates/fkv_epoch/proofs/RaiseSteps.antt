@@ -19,7 +19,7 @@ use Rattle.fkv_epoch.proofs.Items.{word_written, word_spared, set_at, set_here}
 use Rattle.fkv_epoch.proofs.Slots.{Fate, Carried, Waits, stage, SlotTable, Holds, Slots}
 use Rattle.fkv_epoch.proofs.SlotSteps.{hold, raise}
 use Rattle.fkv_epoch.proofs.SlotRuns.{arm}
-use Rattle.fkv_epoch.proofs.Sound.{IsSound, quiet, slot_table, assembled, epochs_step, weight}
+use Rattle.fkv_epoch.proofs.Sound.{IsSound, quiet, takes_none, slot_table, assembled, epochs_step, weight}
 use Rattle.fkv_epoch.proofs.SessionSteps.{SoundAfter, dutiful}
 use Rattle.fkv_epoch.proofs.ClaimSteps.{low_written, low_epoch, low_safe, other_drain, not_among}
 
@@ -59,7 +59,7 @@ hold_moves w a slot sound got found =
     let same_epoch = low_epoch w.now.words place 1 (omega arith) in
     let same_safe = low_safe w.now.words place 1 (omega arith) in
     let now_one : drain_word words' slot ≡ 1 = word_written w.now.words place 1 (omega (arith, few, sound.enough_words)) in
-    assembled w a d d' None words' w.now.actions w.past.armed w.past.claims w.past.runs (set_at sound.owners slot (Some a)) sound.fates sound got
+    assembled w a d d' None w.past.in_force words' w.now.actions w.past.armed w.past.claims w.past.runs (set_at sound.owners slot (Some a)) sound.fates sound got
     (length-set w.now.words place 1) sound.eight_slots (inl (omega arith))
     (low_written w a d d' place 1 sound got (omega arith) (omega (arith, few)) (λ s g. refl) tt)
     (hold k (epoch_of words') (safe_of words') (drain_word words') slot w.now.actors a d d' sound.slots got (omega arith) (omega arith) few found now_one
@@ -83,11 +83,11 @@ raise_moves_on w a slot sound got =
     let now_epoch : epoch_of words' ≡ word = word_written w.now.words 0 word (omega (arith, sound.enough_words)) in
     let same_safe : safe_of words' ≡ safe_of w.now.words = word_spared w.now.words 0 word 1 (λ e. omega (arith, e)) in
     let same_own : (s : ℕ) → own_epoch words' s ≡ own_epoch w.now.words s = λ s. word_spared w.now.words 0 word (session_place s own.Epoch) (λ e. omega (arith, e)) in
-    assembled w a d d' None words' w.now.actions w.past.armed w.past.claims w.past.runs sound.owners (set_at sound.fates c (Carried a)) sound got
+    assembled w a d d' None w.past.in_force words' w.now.actions w.past.armed w.past.claims w.past.runs sound.owners (set_at sound.fates c (Carried a)) sound got
     (length-set w.now.words 0 word) sound.eight_slots (inl (omega (arith, now_epoch, no_wrap)))
-    (epochs_step w.now.sessions c (epoch_of words') (safe_of w.now.words) (safe_of words') (own_epoch w.now.words) (own_epoch words') w.past.loads w.now.actors a d d' None
+    (epochs_step w.now.sessions c (epoch_of words') (safe_of w.now.words) (safe_of words') (own_epoch w.now.words) (own_epoch words') w.past.loads w.past.in_force w.past.in_force w.now.actors a d d' None
     sound.epochs got (omega (arith, now_epoch, no_wrap)) (omega (arith, same_safe, sound.epochs.safe_below)) (rw same_safe sound.epochs.above_safe)
-    (λ s i n. same_own s) (λ i. rw (same_own a) (dutiful w a d d' sound got (λ s g. refl) i)) tt)
+    (λ s i n. same_own s) (takes_none w a None sound) (λ i. rw (same_own a) (dutiful w a d d' sound got (λ s g. refl) i)) tt)
     (raise k (epoch_of words') (safe_of words') (drain_word words') w.now.actors a d d' sound.slots got (now_epoch ∙ no_wrap) (omega (arith, same_safe))
     (λ s f. word_spared w.now.words 0 word (drain_place s) (λ e. omega (arith, e)))
     (h.0, h.1, set_here sound.fates c (Carried a) c refl, h.2))
@@ -141,7 +141,7 @@ arm_moves w a (arms.StoresEpoch slot c) sound got =
     let same_safe = low_safe w.now.words place (c + 2) (omega arith) in
     let now_armed : drain_word words' slot ≡ c + 2 = word_written w.now.words place (c + 2) (omega (arith, few, sound.enough_words)) in
     rw at_home
-    (assembled w a d d' None words' w.now.actions (x0 ∷ w.past.armed) w.past.claims w.past.runs (set_at sound.owners slot None) (set_at sound.fates c (Waits slot)) sound got
+    (assembled w a d d' None w.past.in_force words' w.now.actions (x0 ∷ w.past.armed) w.past.claims w.past.runs (set_at sound.owners slot None) (set_at sound.fates c (Waits slot)) sound got
     (length-set w.now.words place (c + 2)) sound.eight_slots (inl (omega arith))
     (low_written w a d d' place (c + 2) sound got (omega arith) (omega (arith, few)) (λ s g. refl) tt)
     (arm k (epoch_of words') (safe_of words') (drain_word words') slot c action w.now.actors a d d' sound.slots got (omega arith) (omega arith) few h.1 h.2 at_home now_armed

@@ -9,7 +9,7 @@ use Rattle.fkv_epoch.specs.declared.protecting.Protecting.TheVariants as protect
 use Rattle.fkv_epoch.specs.declared.claiming.Claiming.{Claiming}
 use Rattle.fkv_epoch.specs.declared.claiming.Claiming.TheVariants as claim
 use Rattle.fkv_epoch.specs.EpochWorld.{EpochMachine, Protects, Refreshes, Leaves, Scans, Claims, Raises, HasRaised, Arms, Sight, OfPhase, OfReadOnly, OfHead, EpochWorld, EpochEvent, Begins, Resumes, Puts, Moves, Sees, Changes, Claimed, epoch_happens, epoch_run, safe_of, drain_word, claimed_by, is_own}
-use Rattle.fkv_epoch.specs.Once.{IsOpened, opening, load_of, SeenSinceRaise, claims_found, claims_of, Among}
+use Rattle.fkv_epoch.specs.Once.{IsOpened, opening, load_of, SeenSinceRaise, InForceSinceRaise, claims_found, claims_of, Among}
 use Rattle.fkv_epoch.proofs.Slots.{NotRaised}
 use Rattle.fkv_epoch.proofs.Sound.{IsSound, weight}
 use Rattle.fkv_epoch.proofs.Happens.{begun_sound, resumed_sound, moved_sound}
@@ -71,10 +71,11 @@ opening_sound sessions actors words o =
       epochs = record {
         safe_below = omega (arith, first, safe);
         loads_below = λ s sight. let h = one sight in omega (arith, h, first);
+        force_below = λ s sight. omega arith;
         words_below = λ s h. let a = o.awake s h in omega (arith, a, first);
         above_safe = λ s h machine got. record { loaded = λ sight p g. let x = one sight in omega (arith, x, safe) };
         above_word = λ s h machine got. record { loaded = λ sight p g. let x = one sight in let a = o.awake s h in omega (arith, x, a) };
-        knows = λ a machine got. rw (replicate_item actors a rest machine got) tt;
+        knows = λ a machine got. rw (replicate_item actors a rest machine got) (λ h. let e = o.awake a h in omega (arith, e));
       };
       owners = λ slot. None;
       fates = λ c. NotRaised;
@@ -100,6 +101,14 @@ opening_sound sessions actors words o =
 pub safe_is_seen : (w : EpochWorld) (c : ℕ) → IsSound w → c ≤ safe_of w.now.words → SeenSinceRaise w c
 unfolding SeenSinceRaise
 safe_is_seen w c sound h session sight counts =
+    let x = (sound.epochs.above_safe session counts.is_session counts.machine counts.its_machine).loaded sight counts.is_protected counts.has_loaded in
+    let last = sound.epochs.force_below session sight in
+    omega (arith, x, last, h)
+
+-- and so was what it goes by while a refresh is under way
+pub safe_is_in_force : (w : EpochWorld) (c : ℕ) → IsSound w → c ≤ safe_of w.now.words → InForceSinceRaise w c
+unfolding InForceSinceRaise
+safe_is_in_force w c sound h session sight counts =
     let x = (sound.epochs.above_safe session counts.is_session counts.machine counts.its_machine).loaded sight counts.is_protected counts.has_loaded in
     omega (arith, x, h)
 

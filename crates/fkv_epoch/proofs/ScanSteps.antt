@@ -12,7 +12,7 @@ use Rattle.fkv_epoch.specs.EpochWorld.{EpochMachine, Scans, Loads, EpochWorld, e
 use Rattle.fkv_epoch.proofs.Items.{same_or, word_written, word_spared}
 use Rattle.fkv_epoch.proofs.Epochs.{IsFrom, AreFrom, Knows}
 use Rattle.fkv_epoch.proofs.Slots.{still}
-use Rattle.fkv_epoch.proofs.Sound.{IsSound, quiet, slot_table, assembled, epochs_step}
+use Rattle.fkv_epoch.proofs.Sound.{IsSound, quiet, takes_none, slot_table, assembled, epochs_step}
 use Rattle.fkv_epoch.proofs.SessionSteps.{SoundAfter, dutiful}
 
 from_weaker : (m m' word : ℕ) (l : Loads) (machine : EpochMachine) → m' ≤ m → IsFrom m word l machine → IsFrom m' word l machine
@@ -51,23 +51,23 @@ scan_moves w a LoadsEpoch sound got =
     rw (set-get_or w.now.words 0 0)
     (quiet w a (Scans LoadsEpoch) d' None sound got (inl (omega arith))
     (dutiful w a (Scans LoadsEpoch) d' sound got (λ s g. refl))
-    (meets w.now.sessions (epoch_of w.now.words) (own_epoch w.now.words a) (w.past.loads a) (AreFrom (own_epoch w.now.words) w.past.loads w.now.actors) a 0 (epoch_of w.now.words) (omega arith) (omega arith) (omega arith) (λ s h. absurd (omega (arith, h)))) (λ o f s. tt))
+    (meets w.now.sessions (epoch_of w.now.words) (own_epoch w.now.words a) (w.past.loads a) (AreFrom (own_epoch w.now.words) w.past.in_force w.now.actors) a 0 (epoch_of w.now.words) (omega arith) (omega arith) (omega arith) (λ s h. absurd (omega (arith, h)))) (λ o f s. tt))
 scan_moves w a (LoadsSession i m) sound got =
     let word : ℕ = own_epoch w.now.words i in
     let least : ℕ = least_of m word in
     let d' : EpochMachine = Scans (sessions_from w.now.sessions (i + 1) least) in
     let k = sound.epochs.knows a (Scans (LoadsSession i m)) got in
     let low = least_le m word in
-    let from : AreFrom (own_epoch w.now.words) w.past.loads w.now.actors least (i + 1) = λ s h machine its. elim (same_or s i) [
+    let from : AreFrom (own_epoch w.now.words) w.past.in_force w.now.actors least (i + 1) = λ s h machine its. elim (same_or s i) [
       | inl e ↦
-          let f : IsFrom (own_epoch w.now.words s) (own_epoch w.now.words s) (w.past.loads s) machine = sound.epochs.above_word s (omega (arith, e, k.0)) machine its in
+          let f : IsFrom (own_epoch w.now.words s) (own_epoch w.now.words s) (w.past.in_force s) machine = sound.epochs.above_word s (omega (arith, e, k.0)) machine its in
           record { loaded = λ o p g. let x = f.loaded o p g in let y = least_word m word (omega (arith, p, ap (own_epoch w.now.words) e)) in omega (arith, x, y, ap (own_epoch w.now.words) e) }
-      | inr n ↦ from_weaker m least (own_epoch w.now.words s) (w.past.loads s) machine low (k.3 s (omega (arith, n, h)) machine its)
+      | inr n ↦ from_weaker m least (own_epoch w.now.words s) (w.past.in_force s) machine low (k.3 s (omega (arith, n, h)) machine its)
     ] in
     rw (set-get_or w.now.words (session_place i own.Epoch) 0)
     (quiet w a (Scans (LoadsSession i m)) d' None sound got (inl (omega arith))
     (dutiful w a (Scans (LoadsSession i m)) d' sound got (λ s g. refl))
-    (meets w.now.sessions (epoch_of w.now.words) (own_epoch w.now.words a) (w.past.loads a) (AreFrom (own_epoch w.now.words) w.past.loads w.now.actors) a (i + 1) least (least_some m word k.1) (omega (arith, low, k.2)) (omega (arith, k.0)) from) (λ o f s. tt))
+    (meets w.now.sessions (epoch_of w.now.words) (own_epoch w.now.words a) (w.past.loads a) (AreFrom (own_epoch w.now.words) w.past.in_force w.now.actors) a (i + 1) least (least_some m word k.1) (omega (arith, low, k.2)) (omega (arith, k.0)) from) (λ o f s. tt))
 scan_moves w a (RaisesSafe m) sound got =
     let k = sound.epochs.knows a (Scans (RaisesSafe m)) got in
     let safe : ℕ = safe_of w.now.words in
@@ -78,18 +78,18 @@ scan_moves w a (RaisesSafe m) sound got =
     let some : 1 ≤ m = k.0 in
     let few : m ≤ epoch_of w.now.words = k.1 in
     let safer = sound.epochs.safe_below in
-    let above : AreFrom (own_epoch w.now.words) w.past.loads w.now.actors (safe_of words' + 1) w.now.sessions = λ s inside machine its. record {
+    let above : AreFrom (own_epoch w.now.words) w.past.in_force w.now.actors (safe_of words' + 1) w.now.sessions = λ s inside machine its. record {
       loaded = λ o p g.
           let x = (k.2 s inside machine its).loaded o p g in
           let y = (sound.epochs.above_safe s inside machine its).loaded o p g in
           omega (arith, x, y, now_safe);
     } in
     let d' : EpochMachine = Scans AtRest in
-    assembled w a (Scans (RaisesSafe m)) d' None words' w.now.actions w.past.armed w.past.claims w.past.runs sound.owners sound.fates sound got
+    assembled w a (Scans (RaisesSafe m)) d' None w.past.in_force words' w.now.actions w.past.armed w.past.claims w.past.runs sound.owners sound.fates sound got
     (length-set w.now.words 1 word) sound.eight_slots (inl (omega arith))
-    (epochs_step w.now.sessions (epoch_of w.now.words) (epoch_of words') (safe_of w.now.words) (safe_of words') (own_epoch w.now.words) (own_epoch words') w.past.loads w.now.actors a (Scans (RaisesSafe m)) d' None
+    (epochs_step w.now.sessions (epoch_of w.now.words) (epoch_of words') (safe_of w.now.words) (safe_of words') (own_epoch w.now.words) (own_epoch words') w.past.loads w.past.in_force w.past.in_force w.now.actors a (Scans (RaisesSafe m)) d' None
     sound.epochs got (omega arith) (omega (arith, now_safe, safer, few, some)) above
-    (λ s i n. word_spared w.now.words 1 word (session_place s own.Epoch) (λ e. omega (arith, e)))
+    (λ s i n. word_spared w.now.words 1 word (session_place s own.Epoch) (λ e. omega (arith, e))) (takes_none w a None sound)
     (λ i. rw (word_spared w.now.words 1 word (session_place a own.Epoch) (λ e. omega (arith, e))) (dutiful w a (Scans (RaisesSafe m)) d' sound got (λ s g. refl) i))
     tt)
     (still (slot_table w.now w.past sound.owners sound.fates) (epoch_of words') (safe_of words') (drain_word words') w.now.actors a (Scans (RaisesSafe m)) d' sound.slots got

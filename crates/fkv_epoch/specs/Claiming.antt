@@ -1,9 +1,10 @@
 -- How armed actions are claimed and run.
-use Rattle.std.specs.Prelude.{ℕ, ◌+◌, ◌-◌, ◌*◌, ◌%◌, ◌^◌, ◌<◌, ◌==◌, nat_lt, nat_le, if◌then◌else◌, Option, Some, None, ⊤}
-use Rattle.fkv_base.specs.Limits.{drain_slots}
+use Rattle.std.specs.Prelude.{ℕ, ◌+◌, ◌-◌, ◌<◌, ◌==◌, nat_lt, nat_le, min, max, if◌then◌else◌, Option, Some, None, ⊤}
+use Rattle.std.proofs.Common.{arith}
+use Rattle.fkv_base.specs.Limits.{drain_slots, last_version}
 use Rattle.fkv_base.specs.declared.phases.Phase.{Phase}
 use Rattle.fkv_base.specs.declared.numbers.Version.{Version}
-use Rattle.fkv_words.specs.Phases.{phase_number}
+use Rattle.fkv_words.specs.Layout.{phase_word}
 use Rattle.fkv_plane.specs.declared.actions.Action.{Action}
 use Rattle.fkv_plane.specs.declared.actions.Action.TheVariants as act
 use Rattle.fkv_plane.specs.declared.asks.Ask.{Ask}
@@ -26,9 +27,13 @@ IsClaimInRange (Receives slot epoch safe) = slot < drain_slots
 IsClaimInRange (Runs slot epoch safe action) = slot < drain_slots
 IsClaimInRange (FreesSlot slot safe) = slot < drain_slots
 
--- the phase word of a phase and a version, of which it has the low bits
+-- a version as it stands, and past its limits the nearest that there is
+abbrev pub version_within : Version → Version
+version_within version = record { 0 = max (min version.0 last_version) 1 }
+
+-- the phase word of a phase and a version
 abbrev pub phase_stored : Phase → Version → ℕ
-phase_stored phase version = version.0 % 2 ^ 13 + phase_number phase * 2 ^ 16
+phase_stored phase version = phase_word (record { version = version_within version; phase = phase; some_version = omega arith; version_fits = omega arith })
 
 -- what running an action asks
 abbrev pub run_of : Action → Ask (Unit {0})

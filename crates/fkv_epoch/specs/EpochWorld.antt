@@ -66,7 +66,7 @@ pub data EpochEvent : Type 0 where
   Puts : ℕ → Action → EpochEvent
   -- the actor makes its one ask, with the action that goes with it
   Moves : ℕ → EpochEvent
-  -- the session loads one of the values that it goes by, once more
+  -- the session loads one of the values that it goes by once more, and goes by that
   Sees : ℕ → Sight → EpochEvent
   -- some word that is none of those of these machines changes
   Changes : ℕ → ℕ → EpochEvent
@@ -78,7 +78,7 @@ pub record EpochNow : Type 0 where
   pub actions : List (Option Action)
   pub actors : List EpochMachine
 
--- the epoch at a session's last load of each value
+-- the epoch at a session's load of each value
 pub record Loads : Type 0 where
   pub phase : ℕ
   pub read_only : ℕ
@@ -105,7 +105,10 @@ pub record Ran : Type 0 where
 
 -- what no actor keeps: the newest first
 pub record EpochPast : Type 0 where
+  -- of each session its last loads
   pub loads : ℕ → Loads
+  -- and the loads of what it goes by: while a refresh is under way, those before it
+  pub in_force : ℕ → Loads
   pub armed : List Armed
   pub claims : List Claimed
   pub runs : List Ran
@@ -252,6 +255,19 @@ with_load l (Some OfHead) epoch = record l { head = epoch }
 abbrev pub loaded : (ℕ → Loads) → ℕ → Option Sight → ℕ → ℕ → Loads
 loaded loads session sight epoch other = if other == session then with_load (loads other) sight epoch else loads other
 
+-- a refresh that stores its epoch takes up all that the session has loaded
+abbrev pub taken_up : EpochPast → ℕ → ℕ → Loads
+taken_up past session other = if other == session then past.loads other else past.in_force other
+
+-- The loads in force after the machine's ask. What a session loads while it protects itself is in force at once; what it loads
+-- in a refresh is so once the refresh has stored its epoch.
+abbrev pub in_force_by : EpochPast → ℕ → ℕ → EpochMachine → (ℕ → Loads)
+in_force_by past actor epoch (Protects protect.LoadsPhase) = loaded past.in_force actor (Some OfPhase) epoch
+in_force_by past actor epoch (Protects (protect.LoadsReadOnly phase)) = loaded past.in_force actor (Some OfReadOnly) epoch
+in_force_by past actor epoch (Protects (protect.LoadsHead phase read_only)) = loaded past.in_force actor (Some OfHead) epoch
+in_force_by past actor epoch (Refreshes (refresh.StoresEpoch stored)) = taken_up past actor
+in_force_by past actor epoch machine = past.in_force
+
 abbrev pub armed_with : ℕ → ℕ → Option Action → List Armed
 armed_with slot epoch None = []
 armed_with slot epoch (Some action) = record { slot = slot; epoch = epoch; action = action } ∷ []
@@ -275,6 +291,7 @@ abbrev pub past_moved : EpochNow → ℕ → EpochPast → Option EpochMachine �
 past_moved n actor past None = past
 past_moved n actor past (Some machine) = record {
   loads = loaded past.loads actor (sight_of machine) (epoch_of n.words);
+  in_force = in_force_by past actor (epoch_of n.words) machine;
   armed = armed_by n machine ++ past.armed;
   claims = claimed_by n actor machine ++ past.claims;
   runs = run_by actor machine ++ past.runs;
@@ -282,7 +299,7 @@ past_moved n actor past (Some machine) = record {
 
 abbrev pub past_seen : EpochNow → ℕ → Sight → EpochPast → Option EpochMachine → EpochPast
 past_seen n session sight past None = past
-past_seen n session sight past (Some machine) = record past { loads = loaded past.loads session (Some sight) (epoch_of n.words) }
+past_seen n session sight past (Some machine) = record past { loads = loaded past.loads session (Some sight) (epoch_of n.words); in_force = loaded past.in_force session (Some sight) (epoch_of n.words) }
 
 abbrev pub past_after : EpochNow → EpochEvent → EpochPast → EpochPast
 past_after n (Moves actor) past = past_moved n actor past (slice_get n.actors actor)

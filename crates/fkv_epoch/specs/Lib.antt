@@ -2,6 +2,7 @@ pub mod Arming
 pub mod Claiming
 pub mod Leaving
 pub mod Once
+pub mod Protected
 pub mod Protecting
 pub mod Raising
 pub mod Refreshing

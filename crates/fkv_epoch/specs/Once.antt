@@ -18,11 +18,21 @@ pub record IsOpened (sessions actors : ℕ) (words : List ℕ) : Type 0 where
   pub awake : (session : ℕ) → session < sessions → own_epoch words session ≡ 1
   pub slots_free : (slot : ℕ) → slot < drain_slots → drain_word words slot ≡ 0
 
--- its world: every actor at rest, and what each session goes by loaded at epoch 1
+-- what each session goes by was loaded at epoch 1
+abbrev pub opening_past : EpochPast
+opening_past = record {
+  loads = λ session. record { phase = 1; read_only = 1; head = 1 };
+  in_force = λ session. record { phase = 1; read_only = 1; head = 1 };
+  armed = [];
+  claims = [];
+  runs = [];
+}
+
+-- its world: every actor at rest
 abbrev pub opening : ℕ → ℕ → List ℕ → EpochWorld
 opening sessions actors words = record {
   now = record { sessions = sessions; words = words; actions = replicate drain_slots None; actors = replicate actors (Protects protect.AtRest) };
-  past = record { loads = λ session. record { phase = 1; read_only = 1; head = 1 }; armed = []; claims = []; runs = [] };
+  past = opening_past;
 }
 
 -- a session that protects itself has yet to load this value, and so has none that it goes by
@@ -38,7 +48,7 @@ goes_by OfReadOnly (Protects (protect.LoadsHead phase read_only)) = true
 goes_by OfHead (Protects (protect.LoadsHead phase read_only)) = false
 goes_by sight machine = true
 
--- the epoch at the session's last load of a value
+-- the epoch at the session's load of a value
 abbrev pub load_of : Loads → Sight → ℕ
 load_of l OfPhase = l.phase
 load_of l OfReadOnly = l.read_only
@@ -56,6 +66,11 @@ pub record Counts (n : EpochNow) (session : ℕ) (sight : Sight) : Type 0 where
 -- session and each value that counts; a session in the middle of protecting itself has loaded none yet.
 unfoldable pub SeenSinceRaise : EpochWorld → ℕ → Type 0
 SeenSinceRaise w c = (session : ℕ) (sight : Sight) → Counts w.now session sight → c < load_of (w.past.loads session) sight
+
+-- The same of the load in force, which while a refresh is under way is one before the last: the session goes on by what it had until the
+-- refresh stores its epoch, and it had loaded that too after c was raised.
+unfoldable pub InForceSinceRaise : EpochWorld → ℕ → Type 0
+InForceSinceRaise w c = (session : ℕ) (sight : Sight) → Counts w.now session sight → c < load_of (w.past.in_force session) sight
 
 -- the claims that this event makes: one where it is a Cas that takes an armed slot
 abbrev pub claims_found : EpochNow → ℕ → Option EpochMachine → List Claimed

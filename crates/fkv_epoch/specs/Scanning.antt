@@ -13,7 +13,7 @@ pub record Scanner : Type 0 where
   pub sessions : ℕ
   pub step : Scanning
 
--- there are at most eight sessions, and the one that is met is one of them
+-- the session that is met is one of them
 abbrev pub IsScanInRange : ℕ → Scanning → Type 0
 IsScanInRange sessions (LoadsSession session least) = (sessions ≤ max_sessions) × (session < sessions)
 IsScanInRange sessions step = sessions ≤ max_sessions

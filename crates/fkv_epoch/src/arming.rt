@@ -42,7 +42,7 @@ impl Arm {
         }
     }
 
-    /// The first ask puts the action into the slot, 0 to 7.
+    /// The first ask puts the action into the slot.
     pub fn start(&mut self, slot: usize, epoch: u64, action: Action) -> Ask<()>
         requires slot { slot < drain_slots }
         requires epoch { epoch + 2 < 2 ^ 64 }
@@ -59,15 +59,21 @@ impl Arm {
         ensures next { self.new ≡ record { step = arm_next self.old.step } }
         ensures ask { result ≡ arm_ask (arm_next self.old.step) }
     {
+        self.step = match self.step {
+            Arming::PutsAction(slot, epoch) => Arming::StoresEpoch(slot, epoch),
+            Arming::StoresEpoch(_, _) | Arming::AtRest => Arming::AtRest,
+        };
+        self.ask()
+    }
+
+    /// What it asks now. The ask that puts the action had it, and so is never made again.
+    #[tactic(auto, unfolding(crate::specs::Arming::arm_ask))]
+    pub fn ask(&self) -> Ask<()>
+        ensures { result ≡ arm_ask self.now.step }
+    {
         match self.step {
-            Arming::PutsAction(slot, epoch) => {
-                self.step = Arming::StoresEpoch(slot, epoch);
-                Ask::Store(drain_place(slot), epoch + 2)
-            }
-            Arming::StoresEpoch(_, _) | Arming::AtRest => {
-                self.step = Arming::AtRest;
-                Ask::Done(())
-            }
+            Arming::AtRest | Arming::PutsAction(_, _) => Ask::Done(()),
+            Arming::StoresEpoch(slot, epoch) => Ask::Store(drain_place(slot), epoch + 2),
         }
     }
 }

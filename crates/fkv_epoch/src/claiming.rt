@@ -6,6 +6,7 @@ ghost use Rattle.fkv_epoch.specs.declared.claiming.Claiming.TheVariants.{AtRest,
 
 use fkv_base::{DRAIN_SLOTS, Phase, Version};
 use fkv_plane::{Action, Ask, SharedWord, drain_place};
+use fkv_words::PhaseWord;
 use std::marker::Model;
 use std::mem;
 
@@ -58,7 +59,7 @@ impl Claim {
         ensures ask { result ≡ claim_ask (MeetsSlot 0 None) }
     {
         self.step = Claiming::MeetsSlot(0, None);
-        Ask::Load(drain_place(0))
+        self.ask()
     }
 
     /// Goes on with the reply to its ask. Where it waits for an action it stays there.
@@ -110,8 +111,9 @@ impl Claim {
         self.ask()
     }
 
+    /// What it asks now.
     #[tactic(auto, unfolding(crate::specs::Claiming::claim_ask))]
-    fn ask(&self) -> Ask<()>
+    pub fn ask(&self) -> Ask<()>
         ensures { result ≡ claim_ask self.now.step }
     {
         match &self.step {
@@ -167,16 +169,10 @@ fn run_of(action: &Action) -> Ask<()>
     }
 }
 
-/// The phase word of a phase and a version, of which it takes the low 13 bits.
+/// The phase word of a phase and a version. Past its limits it takes the nearest version that there is.
 fn phase_stored(phase: Phase, version: Version) -> u64
     ensures { result ≡ phase_stored phase version }
 {
-    let number: u64 = match phase {
-        Phase::Rest => 0,
-        Phase::Prepare => 1,
-        Phase::InProgress => 2,
-        Phase::WaitPending => 3,
-        Phase::WaitFlush => 4,
-    };
-    version.0 % 8192 + number * 65536
+    let version = Version(version.0.min(Version::LAST).max(1));
+    PhaseWord { version, phase }.pack()
 }

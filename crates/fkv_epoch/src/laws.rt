@@ -1,12 +1,14 @@
 //! What the machines keep together, over every list of their events.
 ghost use Rattle.std.specs.Prelude.{ℕ, List};
 ghost use Rattle.fkv_epoch.specs.EpochWorld.{EpochWorld, EpochEvent, epoch_run, Claimed, safe_of};
+ghost use Rattle.fkv_epoch.specs.Protected.{HoldsNoZero, IsProtected, StaysProtected};
 ghost use Rattle.fkv_epoch.specs.Stall.{stall_words, stall, HasStalled};
-ghost use Rattle.fkv_epoch.specs.Once.{IsOpened, opening, HasRunOnce, SeenSinceRaise, claims_of, Among, PutsIntoEmpty, TakesFromFull};
+ghost use Rattle.fkv_epoch.specs.Once.{IsOpened, opening, HasRunOnce, SeenSinceRaise, InForceSinceRaise, claims_of, Among, PutsIntoEmpty, TakesFromFull};
 
 /// Whatever the order of the machines' steps, and whoever makes them: an action armed at an epoch is run at most once,
 /// by the actor whose Cas took its slot; at that step every protected session that isn't in the middle of protecting itself goes by
-/// values that it loaded after that epoch was raised, as at every moment it does for each epoch that is safe.
+/// values that it loaded after that epoch was raised, as at every moment it does for each epoch that is safe. While a refresh is
+/// under way that is said of both loads, the last one and the one before, by which the session still goes.
 pub fn law_once()
     ensures once { (sessions actors : ℕ) (words : List ℕ) (events : List EpochEvent) → IsOpened sessions actors words
         → HasRunOnce (epoch_run (opening sessions actors words) events).past }
@@ -16,6 +18,23 @@ pub fn law_once()
         → SeenSinceRaise (epoch_run (opening sessions actors words) events) claim.epoch }
     ensures safe { (sessions actors : ℕ) (words : List ℕ) (events : List EpochEvent) → IsOpened sessions actors words
         → SeenSinceRaise (epoch_run (opening sessions actors words) events) (safe_of (epoch_run (opening sessions actors words) events).now.words) }
+    ensures claimed_in_force { (sessions actors : ℕ) (words : List ℕ) (events : List EpochEvent) (event : EpochEvent) (claim : Claimed)
+        → IsOpened sessions actors words
+        → Among claim (claims_of (epoch_run (opening sessions actors words) events).now event)
+        → InForceSinceRaise (epoch_run (opening sessions actors words) events) claim.epoch }
+    ensures safe_in_force { (sessions actors : ℕ) (words : List ℕ) (events : List EpochEvent) → IsOpened sessions actors words
+        → InForceSinceRaise (epoch_run (opening sessions actors words) events) (safe_of (epoch_run (opening sessions actors words) events).now.words) }
+{}
+
+/// A session's epoch word is above 0 from the store of its protect to the store of its leave: no epoch that it is about to store
+/// is 0, and no event but that last store makes the word 0 again.
+pub fn law_protected()
+    ensures in_hand { (sessions actors : ℕ) (words : List ℕ) (events : List EpochEvent) → IsOpened sessions actors words
+        → HoldsNoZero (epoch_run (opening sessions actors words) events) }
+    ensures protected { (sessions actors : ℕ) (words : List ℕ) (events : List EpochEvent) → IsOpened sessions actors words
+        → IsProtected (epoch_run (opening sessions actors words) events) }
+    ensures stays { (sessions actors : ℕ) (words : List ℕ) (events : List EpochEvent) (event : EpochEvent) → IsOpened sessions actors words
+        → StaysProtected (epoch_run (opening sessions actors words) events) event }
 {}
 
 /// An action has one owner: a slot that gets one is empty, and a slot that is taken has the one that was armed there.

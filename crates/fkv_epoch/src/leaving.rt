@@ -35,7 +35,7 @@ impl Leave {
     ghost use Rattle.fkv_epoch.specs.Leaving.{leave_ask, leave_next};
     ghost use Rattle.fkv_epoch.specs.declared.leaving.Leaving.TheVariants.{AtRest, StoresZero};
 
-    /// The machine of a session, 0 to 7, at rest.
+    /// The machine of a session at rest.
     pub fn new(session: usize) -> Leave
         requires { session < max_sessions }
         ensures { result ≡ record { session = session; step = AtRest } }
@@ -53,7 +53,18 @@ impl Leave {
         ensures ask { result ≡ leave_ask self.old.session StoresZero }
     {
         self.step = Leaving::StoresZero;
-        Ask::Store(SessionWord::Epoch.place(self.session), 0)
+        self.ask()
+    }
+
+    /// What it asks now.
+    #[tactic(auto, unfolding(crate::specs::Leaving::leave_ask))]
+    pub fn ask(&self) -> Ask<()>
+        ensures { result ≡ leave_ask self.now.session self.now.step }
+    {
+        match self.step {
+            Leaving::AtRest => Ask::Done(()),
+            Leaving::StoresZero => Ask::Store(SessionWord::Epoch.place(self.session), 0),
+        }
     }
 
     /// Goes on with the reply to its ask.
@@ -63,6 +74,6 @@ impl Leave {
         ensures ask { result ≡ leave_ask self.old.session (leave_next self.old.step) }
     {
         self.step = Leaving::AtRest;
-        Ask::Done(())
+        self.ask()
     }
 }

@@ -14,7 +14,7 @@ mod values;
 
 pub use arming::Arm;
 pub use claiming::Claim;
-pub use laws::{law_of_the_stall, law_once, law_owned};
+pub use laws::{law_of_the_stall, law_once, law_owned, law_protected};
 pub use leaving::Leave;
 pub use protecting::Protect;
 pub use raising::{Raise, RaiseAnswer};

@@ -41,7 +41,7 @@ impl Protect {
     ghost use Rattle.fkv_epoch.specs.Protecting.{protect_ask, protect_next, protect_next_ask};
     ghost use Rattle.fkv_epoch.specs.declared.protecting.Protecting.TheVariants.{AtRest, LoadsEpoch};
 
-    /// The machine of a session, 0 to 7, at rest.
+    /// The machine of a session at rest.
     pub fn new(session: usize) -> Protect
         requires { session < max_sessions }
         ensures { result ≡ record { session = session; step = AtRest } }
@@ -59,7 +59,24 @@ impl Protect {
         ensures ask { result ≡ protect_ask self.old.session LoadsEpoch }
     {
         self.step = Protecting::LoadsEpoch;
-        Ask::Load(SharedWord::Epoch.place())
+        self.ask()
+    }
+
+    /// What it asks now. At rest it answers with zeros.
+    #[tactic(auto, unfolding(crate::specs::Protecting::protect_ask))]
+    pub fn ask(&self) -> Ask<Seen>
+        ensures { result ≡ protect_ask self.now.session self.now.step }
+    {
+        match self.step {
+            Protecting::AtRest => Ask::Done(seen(0, 0, 0)),
+            Protecting::LoadsEpoch => Ask::Load(SharedWord::Epoch.place()),
+            Protecting::StoresEpoch(epoch) => {
+                Ask::Store(SessionWord::Epoch.place(self.session), epoch)
+            }
+            Protecting::LoadsPhase => Ask::Load(SharedWord::Phase.place()),
+            Protecting::LoadsReadOnly(_) => Ask::Load(SharedWord::ReadOnly.place()),
+            Protecting::LoadsHead(_, _) => Ask::Load(SharedWord::Head.place()),
+        }
     }
 
     /// Goes on with the reply to its ask. At rest it answers with zeros.
@@ -68,29 +85,18 @@ impl Protect {
         ensures next { self.new ≡ record self.old { step = protect_next self.old.step reply } }
         ensures ask { result ≡ protect_next_ask self.old.session self.old.step reply }
     {
-        match self.step {
-            Protecting::LoadsEpoch => {
-                self.step = Protecting::StoresEpoch(reply);
-                Ask::Store(SessionWord::Epoch.place(self.session), reply)
-            }
-            Protecting::StoresEpoch(_) => {
-                self.step = Protecting::LoadsPhase;
-                Ask::Load(SharedWord::Phase.place())
-            }
-            Protecting::LoadsPhase => {
-                self.step = Protecting::LoadsReadOnly(reply);
-                Ask::Load(SharedWord::ReadOnly.place())
-            }
-            Protecting::LoadsReadOnly(phase) => {
-                self.step = Protecting::LoadsHead(phase, reply);
-                Ask::Load(SharedWord::Head.place())
-            }
+        self.step = match self.step {
+            Protecting::LoadsEpoch => Protecting::StoresEpoch(reply),
+            Protecting::StoresEpoch(_) => Protecting::LoadsPhase,
+            Protecting::LoadsPhase => Protecting::LoadsReadOnly(reply),
+            Protecting::LoadsReadOnly(phase) => Protecting::LoadsHead(phase, reply),
             Protecting::LoadsHead(phase, read_only) => {
                 self.step = Protecting::AtRest;
-                Ask::Done(seen(phase, read_only, reply))
+                return Ask::Done(seen(phase, read_only, reply));
             }
-            Protecting::AtRest => Ask::Done(seen(0, 0, 0)),
-        }
+            Protecting::AtRest => Protecting::AtRest,
+        };
+        self.ask()
     }
 }
 

@@ -66,7 +66,7 @@ impl Raise {
         ensures ask { result ≡ raise_ask LoadsEpoch }
     {
         self.step = Raising::LoadsEpoch;
-        Ask::Load(SharedWord::Epoch.place())
+        self.ask()
     }
 
     /// Goes on to raise the epoch, where a slot is held; else it stays where it is.
@@ -118,8 +118,9 @@ impl Raise {
         self.ask()
     }
 
+    /// What it asks now.
     #[tactic(auto, unfolding(crate::specs::Raising::raise_ask))]
-    fn ask(&self) -> Ask<RaiseAnswer>
+    pub fn ask(&self) -> Ask<RaiseAnswer>
         ensures { result ≡ raise_ask self.now.step }
     {
         match self.step {

@@ -51,7 +51,7 @@ impl Refresh {
     ghost use Rattle.fkv_epoch.specs.Refreshing.{refresh_ask, refresh_next, refresh_finish};
     ghost use Rattle.fkv_epoch.specs.declared.refreshing.Refreshing.TheVariants.{AtRest, LoadsEpoch};
 
-    /// The machine of a session, 0 to 7, at rest.
+    /// The machine of a session at rest.
     pub fn new(session: usize) -> Refresh
         requires { session < max_sessions }
         ensures { result ≡ record { session = session; step = AtRest } }
@@ -69,7 +69,7 @@ impl Refresh {
         ensures ask { result ≡ refresh_ask self.old.session LoadsEpoch }
     {
         self.step = Refreshing::LoadsEpoch;
-        Ask::Load(SharedWord::Epoch.place())
+        self.ask()
     }
 
     /// Goes on to store the epoch, where all is loaded; else it stays where it is.
@@ -108,8 +108,9 @@ impl Refresh {
         self.ask()
     }
 
+    /// What it asks now.
     #[tactic(auto, unfolding(crate::specs::Refreshing::refresh_ask))]
-    fn ask(&self) -> Ask<RefreshAnswer>
+    pub fn ask(&self) -> Ask<RefreshAnswer>
         ensures { result ≡ refresh_ask self.now.session self.now.step }
     {
         match self.step {

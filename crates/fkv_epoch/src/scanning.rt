@@ -36,7 +36,7 @@ impl Scan {
     ghost use Rattle.fkv_epoch.specs.Scanning.{scan_ask, scan_next, sessions_from};
     ghost use Rattle.fkv_epoch.specs.declared.scanning.Scanning.TheVariants.{AtRest, LoadsEpoch};
 
-    /// The machine over so many sessions, at most 8, at rest.
+    /// The machine over so many sessions, at rest.
     pub fn new(sessions: usize) -> Scan
         requires { sessions ≤ max_sessions }
         ensures { result ≡ record { sessions = sessions; step = AtRest } }
@@ -54,7 +54,7 @@ impl Scan {
         ensures ask { result ≡ scan_ask LoadsEpoch }
     {
         self.step = Scanning::LoadsEpoch;
-        Ask::Load(SharedWord::Epoch.place())
+        self.ask()
     }
 
     /// Goes on with the reply to its ask.
@@ -87,8 +87,9 @@ impl Scan {
         };
     }
 
+    /// What it asks now.
     #[tactic(auto, unfolding(crate::specs::Scanning::scan_ask))]
-    fn ask(&self) -> Ask<()>
+    pub fn ask(&self) -> Ask<()>
         ensures { result ≡ scan_ask self.now.step }
     {
         match self.step {

@@ -1,8 +1,10 @@
 ghost use Rattle.std.specs.Prelude.{◌≤◌};
 ghost use Rattle.fkv_base.specs.Limits.{max_sessions};
 
-use crate::{Arm, Claim, Leave, Protect, Raise, RaiseAnswer, Refresh, RefreshAnswer, Scan, Seen};
-use fkv_base::{Addr, Phase, Version};
+use crate::{
+    Arm, Claim, Leave, Protect, Raise, RaiseAnswer, Refresh, RefreshAnswer, Scan, Seen, law_of_the_stall, law_once, law_owned, law_protected,
+};
+use fkv_base::{Addr, LAST_EPOCH, Phase, Version};
 use fkv_plane::{Action, Ask, PlainWords};
 use std::test::Fail;
 
@@ -182,7 +184,7 @@ fn two_claims_of_one_slot(rt: HostRuntime) -> Result<(), Fail> {
 #[test]
 fn a_raise_is_refused(rt: HostRuntime) -> Result<(), Fail> {
     let mut plane = PlainWords::new(rt.alloc(), 64)?;
-    plane.perform::<()>(&Ask::Store(0, Raise::LAST_EPOCH));
+    plane.perform::<()>(&Ask::Store(0, LAST_EPOCH));
     assert_eq!(rt; raise(&mut plane), RaiseAnswer::Spent);
     plane.perform::<()>(&Ask::Store(0, 7));
     for slot in 16..23 {

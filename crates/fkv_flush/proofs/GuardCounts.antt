@@ -20,8 +20,7 @@ use Rattle.fkv_epoch.specs.Raising.{raise_ask}
 use Rattle.fkv_epoch.specs.Arming.{arm_ask}
 use Rattle.fkv_epoch.specs.EpochWorld.{EpochMachine, Protects, Refreshes, Leaves, Scans, Claims, Raises, Arms, Sight, OfPhase, OfReadOnly, OfHead, EpochWorld, machine_step, own_epoch, sight_of}
 use Rattle.fkv_epoch.specs.Once.{goes_by}
-use Rattle.fkv_epoch.proofs.Items.{word_written}
-use Rattle.fkv_epoch.proofs.Sound.{IsSound}
+use Rattle.fkv_epoch.proofs.Shown.{word_written, IsSound}
 use Rattle.fkv_flush.specs.GuardAsks.{machine_writes}
 use Rattle.fkv_flush.proofs.GuardEpochs.{Spares, acted_spared, own_elsewhere, run_writes}
 

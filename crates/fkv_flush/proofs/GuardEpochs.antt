@@ -26,8 +26,7 @@ use Rattle.fkv_epoch.specs.Claiming.{claim_ask, claim_next}
 use Rattle.fkv_epoch.specs.Raising.{raise_ask}
 use Rattle.fkv_epoch.specs.Arming.{arm_ask}
 use Rattle.fkv_epoch.specs.EpochWorld.{EpochMachine, Protects, Refreshes, Leaves, Scans, Claims, Raises, HasRaised, Arms, EpochWorld, machine_step, claimed, received, own_epoch, safe_of}
-use Rattle.fkv_epoch.proofs.Items.{word_spared, word_written}
-use Rattle.fkv_epoch.proofs.Sound.{IsSound}
+use Rattle.fkv_epoch.proofs.Shown.{word_spared, word_written, IsSound}
 use Rattle.fkv_flush.specs.GuardAsks.{writes, machine_writes}
 
 abbrev pub Spares : Option ℕ → ℕ → Type 0

@@ -11,7 +11,7 @@ use Rattle.fkv_plane.specs.declared.places.Places.{Places}
 use Rattle.fkv_plane.specs.declared.places.RecordWord.{RecordWord}
 use Rattle.fkv_plane.specs.Places.{record_place}
 use Rattle.fkv_plane.specs.Asked.{word_at, reply_to}
-use Rattle.fkv_epoch.proofs.Items.{some_same, none_some}
+use Rattle.fkv_epoch.proofs.Shown.{some_same, none_some}
 use Rattle.fkv_flush.specs.declared.flushing.Flushing.{Flushing}
 use Rattle.fkv_flush.specs.declared.flushing.Flushing.TheVariants as flush
 use Rattle.fkv_flush.specs.Flushing.{flush_ask, flush_next, bytes_next, flush_calls, flush_done, bytes_done}

@@ -23,10 +23,8 @@ use Rattle.fkv_epoch.specs.Arming.{arm_next}
 use Rattle.fkv_epoch.specs.EpochWorld.{EpochMachine, Protects, Refreshes, Leaves, Scans, Claims, Raises, HasRaised, Arms, Sight, OfPhase, OfReadOnly, OfHead, Loads, is_at_rest, may_begin, first_machine, resumed_machine, machine_step, sight_of, past_moved, past_seen, with_machine, epoch_of, own_epoch, is_own, loaded, with_load}
 use Rattle.fkv_epoch.specs.EpochWorld as epochs
 use Rattle.fkv_epoch.specs.Once.{goes_by}
-use Rattle.fkv_epoch.proofs.Items.{item_written}
-use Rattle.fkv_epoch.proofs.Sound as epochs_sound
-use Rattle.fkv_epoch.proofs.Happens.{begun_sound, resumed_sound}
-use Rattle.fkv_epoch.proofs.Outer.{seen_sound}
+use Rattle.fkv_epoch.proofs.Shown.{item_written, begun_sound, resumed_sound, seen_sound}
+use Rattle.fkv_epoch.proofs.Shown as epochs_sound
 use Rattle.fkv_flush.specs.declared.shifting.Shifting.TheVariants as shift
 use Rattle.fkv_flush.specs.declared.turning.Turning.TheVariants as turn
 use Rattle.fkv_flush.specs.declared.flushing.Flushing.TheVariants as flush

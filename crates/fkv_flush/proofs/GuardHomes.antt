@@ -15,8 +15,7 @@ use Rattle.fkv_epoch.specs.Claiming.{claim_ask, claim_next, slot_after, slot_arm
 use Rattle.fkv_epoch.specs.Raising.{raise_ask}
 use Rattle.fkv_epoch.specs.Arming.{arm_next}
 use Rattle.fkv_epoch.specs.EpochWorld.{EpochMachine, Claims, Raises, Arms, EpochWorld, machine_step, claimed, received, raised, drain_word}
-use Rattle.fkv_epoch.proofs.Items.{item_spared, none_some}
-use Rattle.fkv_epoch.proofs.Sound.{IsSound}
+use Rattle.fkv_epoch.proofs.Shown.{item_spared, none_some, IsSound}
 
 received_spares : (words : List ℕ) (actions : List (Option Action)) (other epoch safe slot : ℕ) (found : Option Action) → slot ≢ other → action_at (received words actions other epoch safe found).actions slot ≡ action_at actions slot
 received_spares words actions other epoch safe slot None n = refl

@@ -13,8 +13,7 @@ use Rattle.fkv_epoch.specs.declared.arming.Arming.TheVariants as arm
 use Rattle.fkv_epoch.specs.Raising.{raise_ask, raise_next, raise_next_ask, raise_on, free_after}
 use Rattle.fkv_epoch.specs.Arming.{arm_ask, arm_next}
 use Rattle.fkv_epoch.specs.EpochWorld.{EpochMachine, Raises, Arms, epoch_of, past_moved}
-use Rattle.fkv_epoch.proofs.Facts.{epoch_is_small}
-use Rattle.fkv_epoch.proofs.Happens.{no_load}
+use Rattle.fkv_epoch.proofs.Shown.{epoch_is_small, no_load}
 use Rattle.fkv_flush.specs.declared.answers.MoveAnswer.{MoveAnswer}
 use Rattle.fkv_flush.specs.declared.moving.Offset.{Offset}
 use Rattle.fkv_flush.specs.declared.moving.Offset.TheVariants.{ReadOnly, Head}

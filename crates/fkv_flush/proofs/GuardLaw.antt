@@ -6,8 +6,8 @@ use Rattle.fkv_plane.specs.declared.places.Places.{Places}
 use Rattle.fkv_epoch.specs.declared.protecting.Protecting.TheVariants as protect
 use Rattle.fkv_epoch.specs.declared.arming.Arming.TheVariants as arm
 use Rattle.fkv_epoch.specs.EpochWorld.{Protects, Arms, Sight, OfReadOnly, OfHead}
-use Rattle.fkv_epoch.proofs.Items.{none_some}
-use Rattle.fkv_epoch.proofs.Runs as epochs_runs
+use Rattle.fkv_epoch.proofs.Shown.{none_some}
+use Rattle.fkv_epoch.proofs.Shown as epochs_runs
 use Rattle.fkv_flush.specs.GuardSeen.{LastSeen}
 use Rattle.fkv_flush.specs.GuardWorld.{Actor, GuardNow, GuardWorld, GuardEvent, Begins, Resumes, Moves, Calls, Reads, Sees, Publishes, Updates, RaisesReadOnly, RaisesFor, Changes, CallsElse, guard_happens, guard_run}
 use Rattle.fkv_flush.specs.Guarded.{seen_at, seen_of, undecided_at, undecided_of, GoesBy, IsOpened, opening, first_actor, IsCovered, UndecidedIsFresh}

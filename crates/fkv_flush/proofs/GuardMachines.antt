@@ -28,10 +28,8 @@ use Rattle.fkv_epoch.specs.Arming.{arm_ask}
 use Rattle.fkv_epoch.specs.EpochWorld.{EpochMachine, Protects, Refreshes, Leaves, Scans, Claims, Raises, HasRaised, Arms, Sight, OfPhase, OfReadOnly, OfHead, Armed, Claimed, Loads, Moves, machine_step, claimed, received, raised, near, put_near, safe_of, epoch_of, own_epoch, loaded, with_load, sight_of, past_moved, claimed_by, armed_by, armed_with}
 use Rattle.fkv_epoch.specs.EpochWorld as epochs
 use Rattle.fkv_epoch.specs.Once.{Among, goes_by, claims_found}
-use Rattle.fkv_epoch.proofs.Items.{item_written, some_same}
-use Rattle.fkv_epoch.proofs.Sound as epochs_sound
-use Rattle.fkv_epoch.proofs.Happens.{moved_sound}
-use Rattle.fkv_epoch.proofs.Runs.{claim_is_safe}
+use Rattle.fkv_epoch.proofs.Shown.{item_written, some_same, moved_sound, claim_is_safe}
+use Rattle.fkv_epoch.proofs.Shown as epochs_sound
 use Rattle.fkv_flush.specs.GuardLevels.{Levels, levels_of, AreInOrder, Rises}
 use Rattle.fkv_flush.specs.GuardSeen.{LastSeen}
 use Rattle.fkv_flush.specs.GuardWorld.{Actor, GuardNow, GuardWorld, epoch_now, epoch_world, seen_with}

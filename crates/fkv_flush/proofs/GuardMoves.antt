@@ -14,9 +14,8 @@ use Rattle.fkv_epoch.specs.Raising.{raise_on}
 use Rattle.fkv_epoch.specs.EpochWorld.{EpochMachine, Protects, Refreshes, Leaves, Scans, Claims, Raises, HasRaised, Arms, Sight, ToRaise, is_at_rest, begun, resumed, with_machine, machine_step, sight_of, past_moved, epoch_of}
 use Rattle.fkv_epoch.specs.EpochWorld as epochs
 use Rattle.fkv_epoch.specs.Once.{goes_by}
-use Rattle.fkv_epoch.proofs.Sound as epochs_sound
-use Rattle.fkv_epoch.proofs.Happens.{begun_sound, resumed_sound}
-use Rattle.fkv_epoch.proofs.Outer.{changes_sound}
+use Rattle.fkv_epoch.proofs.Shown as epochs_sound
+use Rattle.fkv_epoch.proofs.Shown.{begun_sound, resumed_sound, changes_sound}
 use Rattle.fkv_flush.specs.declared.moving.Moving.{Moving}
 use Rattle.fkv_flush.specs.declared.moving.Moving.TheVariants as move
 use Rattle.fkv_flush.specs.Shifting.{mutable_start}

@@ -8,9 +8,8 @@ use Rattle.fkv_plane.specs.declared.places.SessionWord.TheVariants as own
 use Rattle.fkv_epoch.specs.declared.arming.Arming.TheVariants as arm
 use Rattle.fkv_epoch.specs.EpochWorld.{Arms, Sight, OfReadOnly, OfHead, is_own}
 use Rattle.fkv_epoch.specs.Once.{goes_by}
-use Rattle.fkv_epoch.proofs.Items.{word_spared, word_written}
-use Rattle.fkv_epoch.proofs.Sound as epochs_sound
-use Rattle.fkv_epoch.proofs.Outer.{changes_sound}
+use Rattle.fkv_epoch.proofs.Shown.{word_spared, word_written, changes_sound}
+use Rattle.fkv_epoch.proofs.Shown as epochs_sound
 use Rattle.fkv_flush.specs.GuardLevels.{Levels, levels_of, AreInOrder, Rises}
 use Rattle.fkv_flush.specs.GuardWorld.{Actor, GuardWorld, epoch_world}
 use Rattle.fkv_flush.specs.Guarded.{is_steady, seen_of, GoesBy}

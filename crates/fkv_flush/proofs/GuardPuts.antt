@@ -14,10 +14,8 @@ use Rattle.fkv_epoch.specs.Arming.{arm_next}
 use Rattle.fkv_epoch.specs.EpochWorld.{EpochMachine, Raises, HasRaised, Arms, Sight, OfReadOnly, OfHead, Loads, safe_of, epoch_of, own_epoch, past_moved}
 use Rattle.fkv_epoch.specs.EpochWorld as epochs
 use Rattle.fkv_epoch.specs.Once.{goes_by}
-use Rattle.fkv_epoch.proofs.Items.{word_spared, item_written, item_spared, within_item, some_same}
-use Rattle.fkv_epoch.proofs.Sound as epochs_sound
-use Rattle.fkv_epoch.proofs.Happens.{moved_sound, no_load}
-use Rattle.fkv_epoch.proofs.Outer.{put_sound}
+use Rattle.fkv_epoch.proofs.Shown.{word_spared, item_written, item_spared, within_item, some_same, moved_sound, no_load, put_sound}
+use Rattle.fkv_epoch.proofs.Shown as epochs_sound
 use Rattle.fkv_flush.specs.GuardLevels.{Levels, levels_of, AreInOrder, Rises}
 use Rattle.fkv_flush.specs.GuardSeen.{LastSeen, IsStored}
 use Rattle.fkv_flush.specs.GuardWorld.{Actor, GuardNow, GuardWorld, epoch_now, epoch_world}

@@ -14,10 +14,8 @@ use Rattle.fkv_epoch.specs.Claiming.{claim_ask, claim_next, run_of, phase_stored
 use Rattle.fkv_epoch.specs.EpochWorld.{EpochMachine, Claims, Arms, Sight, OfReadOnly, OfHead, Armed, Claimed, safe_of, own_epoch, machine_step, past_moved}
 use Rattle.fkv_epoch.specs.EpochWorld as epochs
 use Rattle.fkv_epoch.specs.Once.{SeenSinceRaise, goes_by, load_of}
-use Rattle.fkv_epoch.proofs.Items.{word_spared}
-use Rattle.fkv_epoch.proofs.Sound as epochs_sound
-use Rattle.fkv_epoch.proofs.Happens.{moved_sound, no_load}
-use Rattle.fkv_epoch.proofs.Runs.{safe_is_seen}
+use Rattle.fkv_epoch.proofs.Shown.{word_spared, moved_sound, no_load, safe_is_seen}
+use Rattle.fkv_epoch.proofs.Shown as epochs_sound
 use Rattle.fkv_flush.specs.GuardLevels.{Levels, levels_of, AreInOrder, Rises}
 use Rattle.fkv_flush.specs.GuardWorld.{Actor, GuardNow, GuardWorld, epoch_now, epoch_world}
 use Rattle.fkv_flush.specs.Guarded.{is_steady, seen_of, GoesBy}

@@ -27,8 +27,8 @@ use Rattle.fkv_epoch.specs.declared.arming.Arming.TheVariants as arm
 use Rattle.fkv_epoch.specs.EpochWorld.{EpochMachine, Protects, Refreshes, Leaves, Raises, Arms, is_at_rest, Sight, OfReadOnly, OfHead, Armed, Claimed, safe_of, own_epoch}
 use Rattle.fkv_epoch.specs.EpochWorld as epochs
 use Rattle.fkv_epoch.specs.Once.{Among, Counts}
-use Rattle.fkv_epoch.proofs.Items.{item_written, item_spared, same_or, some_same}
-use Rattle.fkv_epoch.proofs.Sound as epochs_sound
+use Rattle.fkv_epoch.proofs.Shown.{item_written, item_spared, same_or, some_same}
+use Rattle.fkv_epoch.proofs.Shown as epochs_sound
 use Rattle.fkv_flush.specs.GuardLevels.{Levels, levels_of, AreInOrder, Rises}
 use Rattle.fkv_flush.specs.GuardSeen.{LastSeen, IsStored}
 use Rattle.fkv_flush.specs.GuardWorld.{Actor, Work, Rests, Reserves, Fills, Invalidates, Shifts, Turns, Flushes, Serves, GuardNow, GuardWorld, epoch_now, epoch_world}

@@ -6,7 +6,7 @@ use Rattle.fkv_plane.specs.declared.asks.Ask.TheVariants as ask
 use Rattle.fkv_plane.specs.Asked.{word_at, reply_to}
 use Rattle.fkv_epoch.specs.declared.raising.Raising.TheVariants as raise
 use Rattle.fkv_epoch.specs.EpochWorld.{EpochMachine, Raises, is_at_rest}
-use Rattle.fkv_epoch.proofs.Items.{item_written, item_spared, same_or, some_same}
+use Rattle.fkv_epoch.proofs.Shown.{item_written, item_spared, same_or, some_same}
 use Rattle.fkv_flush.specs.declared.shifting.Shifting.{Shifting}
 use Rattle.fkv_flush.specs.declared.turning.Turning.{Turning}
 use Rattle.fkv_flush.specs.Moving.{Mover}

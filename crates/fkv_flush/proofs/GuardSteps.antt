@@ -10,9 +10,8 @@ use Rattle.fkv_epoch.specs.declared.arming.Arming.TheVariants as arm
 use Rattle.fkv_epoch.specs.EpochWorld.{EpochMachine, Arms, Sight, OfPhase, OfReadOnly, OfHead, Armed, Claimed, Loads, safe_of, epoch_of, own_epoch, is_own, loaded, with_load, sight_of}
 use Rattle.fkv_epoch.specs.EpochWorld as epochs
 use Rattle.fkv_epoch.specs.Once.{Among, Counts, goes_by}
-use Rattle.fkv_epoch.proofs.Items.{item_written, some_same, word_spared}
-use Rattle.fkv_epoch.proofs.Sound as epochs_sound
-use Rattle.fkv_epoch.proofs.Outer.{changes_sound}
+use Rattle.fkv_epoch.proofs.Shown.{item_written, some_same, word_spared, changes_sound}
+use Rattle.fkv_epoch.proofs.Shown as epochs_sound
 use Rattle.fkv_flush.specs.GuardLevels.{Levels, levels_of, AreInOrder, Rises}
 use Rattle.fkv_flush.specs.GuardSeen.{LastSeen}
 use Rattle.fkv_flush.specs.GuardWorld.{Actor, GuardNow, GuardWorld, epoch_now, epoch_world}

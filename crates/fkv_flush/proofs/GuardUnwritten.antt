@@ -30,7 +30,7 @@ use Rattle.fkv_epoch.specs.Claiming.{claim_ask}
 use Rattle.fkv_epoch.specs.Raising.{raise_ask}
 use Rattle.fkv_epoch.specs.Arming.{arm_ask}
 use Rattle.fkv_epoch.specs.EpochWorld.{EpochMachine, Protects, Refreshes, Leaves, Scans, Claims, Raises, Arms, Sight, is_at_rest}
-use Rattle.fkv_epoch.proofs.Items.{word_spared, word_written, same_or}
+use Rattle.fkv_epoch.proofs.Shown.{word_spared, word_written, same_or}
 use Rattle.fkv_flush.specs.declared.moving.Offset.{Offset}
 use Rattle.fkv_flush.specs.declared.moving.Offset.TheVariants.{ReadOnly, Head}
 use Rattle.fkv_flush.specs.declared.moving.Moving.{Moving}

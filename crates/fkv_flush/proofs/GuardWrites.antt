@@ -20,7 +20,7 @@ use Rattle.fkv_epoch.specs.declared.arming.Arming.TheVariants as arm
 use Rattle.fkv_epoch.specs.Raising.{raise_ask}
 use Rattle.fkv_epoch.specs.Arming.{arm_ask}
 use Rattle.fkv_epoch.specs.EpochWorld.{EpochMachine, Raises, Arms, is_own}
-use Rattle.fkv_epoch.proofs.Items.{some_same, none_some}
+use Rattle.fkv_epoch.proofs.Shown.{some_same, none_some}
 use Rattle.fkv_flush.specs.declared.moving.Offset.{Offset}
 use Rattle.fkv_flush.specs.declared.moving.Offset.TheVariants.{ReadOnly, Head}
 use Rattle.fkv_flush.specs.declared.moving.Moving.{Moving}

@@ -1,5 +1,5 @@
 -- The guard: which steps may write frames and raise the limit, and what every step keeps.
-use Rattle.std.specs.Prelude.{◌≡◌, ℕ, ◌+◌, ◌-◌, ◌*◌, ◌/◌, ◌<◌, ◌≤◌, Bool, true, false, List, [], replicate, length, slice_get, Option, Some, None, if◌then◌else◌}
+use Rattle.std.specs.Prelude.{◌≡◌, ℕ, ◌+◌, ◌-◌, ◌*◌, ◌/◌, ◌<◌, ◌≤◌, Bool, true, false, List, replicate, length, slice_get, Option, Some, None, if◌then◌else◌}
 use Rattle.fkv_base.specs.Limits.{drain_slots}
 use Rattle.fkv_base.specs.declared.shapes.Shape.{Shape}
 use Rattle.fkv_plane.specs.declared.places.Places.{Places}
@@ -10,7 +10,7 @@ use Rattle.fkv_epoch.specs.declared.refreshing.Refreshing.TheVariants as refresh
 use Rattle.fkv_epoch.specs.declared.leaving.Leaving.TheVariants as leave
 use Rattle.fkv_epoch.specs.EpochWorld.{EpochMachine, Protects, Refreshes, Leaves, Sight, OfHead}
 use Rattle.fkv_epoch.specs.Once as epochs
-use Rattle.fkv_epoch.specs.Once.{Counts}
+use Rattle.fkv_epoch.specs.Once.{Counts, opening_past}
 use Rattle.fkv_flush.specs.GuardLevels.{levels_of}
 use Rattle.fkv_flush.specs.GuardSeen.{LastSeen}
 use Rattle.fkv_plane.specs.declared.places.SharedWord.TheVariants as one
@@ -70,7 +70,7 @@ first_actor start = record { machine = Protects protect.AtRest; work = Rests; se
 abbrev pub opening : Shape → Places → ℕ → List ℕ → ℕ → GuardWorld
 opening shape places actors words start = record {
   now = record { shape = shape; places = places; words = words; actions = replicate drain_slots None; actors = replicate actors (first_actor start) };
-  past = record { loads = λ session. record { phase = 1; read_only = 1; head = 1 }; armed = []; claims = []; runs = [] };
+  past = opening_past;
 }
 
 -- The frames hold all that may still be needed: closed is no further than the ring below the limit, and neither is what is flushed, nor what any

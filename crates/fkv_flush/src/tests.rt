@@ -3,7 +3,7 @@ use crate::{
     TurnPage, law_asks_are_answered, law_flushed_is_synced, law_guarded, law_of_the_ring,
     law_records_in_hand, law_seen,
 };
-use fkv_base::{Addr, Fault, Key, Shape, Version};
+use fkv_base::{Addr, Fault, Key, LAST_EPOCH, Shape, Version};
 use fkv_disk::{Device, Fuse, MemDisk};
 use fkv_epoch::{Claim, Raise, Refresh, RefreshAnswer, Scan};
 use fkv_log::{Fill, RecordWords, Reserve, ReserveAnswer};
@@ -361,7 +361,7 @@ fn nothing_moves_without_a_slot(rt: HostRuntime) -> Result<(), Fail> {
         plane.perform::<()>(&Ask::Store(drain_place(slot), 1));
     }
     assert_eq!(rt; shift(&mut plane, shape), ShiftAnswer::NoSlot(Addr(6)));
-    plane.perform::<()>(&Ask::Store(SharedWord::Epoch.place(), Raise::LAST_EPOCH));
+    plane.perform::<()>(&Ask::Store(SharedWord::Epoch.place(), LAST_EPOCH));
     assert_eq!(rt; shift(&mut plane, shape), ShiftAnswer::Spent);
     assert_eq!(rt; offsets(&plane), [1, 1, 1, 1, 1, 6, 8]);
     Ok(())

@@ -5,12 +5,14 @@
 mod actions;
 mod asks;
 mod laws;
+mod passing;
 mod places;
 mod plain_words;
 
 pub use actions::Action;
 pub use asks::Ask;
 pub use laws::law_places_apart;
+pub use passing::passed;
 pub use places::{Places, RecordWord, SessionWord, SharedWord, drain_place};
 pub use plain_words::PlainWords;
 

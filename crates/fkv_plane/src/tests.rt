@@ -1,4 +1,6 @@
-use crate::{Action, Ask, Places, PlainWords, RecordWord, SessionWord, SharedWord, drain_place};
+use crate::{
+    Action, Ask, Places, PlainWords, RecordWord, SessionWord, SharedWord, drain_place, passed,
+};
 use fkv_base::{Addr, Phase, Shape, Version};
 use std::test::Fail;
 
@@ -12,6 +14,12 @@ fn each_ask_changes_its_word(rt: HostRuntime) -> Result<(), Fail> {
     assert_eq!(rt; plane.perform::<()>(&Ask::Max(2, 4)), 5);
     assert_eq!(rt; plane.perform::<()>(&Ask::Max(2, 6)), 5);
     Ok(())
+}
+
+#[test]
+fn an_ask_is_passed_on(rt: HostRuntime) {
+    assert_eq!(rt; passed(Ask::<()>::Max(5, 12), 7), Ask::Max(5, 12));
+    assert_eq!(rt; passed(Ask::Done(()), 7), Ask::Done(7));
 }
 
 #[test]
