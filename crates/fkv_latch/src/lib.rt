@@ -1,0 +1,7 @@
+//! The latch of a bucket, in the bucket's last word: some hold it together, or one alone. It is taken and dropped by one
+//! machine, one try each.
+#![tactic(auto)]
+
+mod latching;
+
+pub use latching::{Latch, LatchAnswer, LatchTask};
