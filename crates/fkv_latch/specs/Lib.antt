@@ -1,1 +1,3 @@
+pub mod LatchWorld
+pub mod Latched
 pub mod Latching

@@ -1,0 +1,6 @@
+pub mod Actors
+pub mod Counts
+pub mod Places
+pub mod Sound
+pub mod Steps
+pub mod Words
