@@ -1,4 +1,5 @@
 pub mod Actors
+pub mod Apart
 pub mod Counts
 pub mod Places
 pub mod Sound

@@ -43,9 +43,12 @@ shares_of place a = times place a.shared + added_shares place a.step
 abbrev pub bits_of : ℕ → LatchActor → ℕ
 bits_of place a = times place a.exclusive + set_bits place a.step
 
--- the word at a place counts just the shares of all actors, and has bit 63 just as often as they have set it: once or never
-abbrev pub IsCounted : LatchWorld → ℕ → Type 0
-IsCounted w place = (tail : BucketTail) × (word_at w.words place ≡ tail_word tail) × (tail.shared ≡ sum_by (shares_of place) w.actors) × (bit_of tail.exclusive ≡ sum_by (bits_of place) w.actors)
+-- the word of a latch counts just the shares of all actors, and has bit 63 as often as they have set it: once or never
+pub record IsCounted (w : LatchWorld) (place : ℕ) : Type 0 where
+  pub tail : BucketTail
+  pub its_word : word_at w.words place ≡ tail_word tail
+  pub its_shares : tail.shared ≡ sum_by (shares_of place) w.actors
+  pub its_bit : bit_of tail.exclusive ≡ sum_by (bits_of place) w.actors
 
 abbrev pub AreCounted : LatchWorld → Type 0
 AreCounted w = (place : ℕ) → has_latch w.places place ≡ true → IsCounted w place

@@ -3,5 +3,7 @@
 #![tactic(auto)]
 
 mod latching;
+mod laws;
 
 pub use latching::{Latch, LatchAnswer, LatchTask};
+pub use laws::law_latched;
