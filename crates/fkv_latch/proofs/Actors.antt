@@ -1,9 +1,8 @@
 -- What stands for each actor at every moment.
-use Rattle.std.proofs.Common.{◌≡◌, ℕ, ◌+◌, ◌<◌, ◌≤◌, ◌⊎◌, List, [], ◌∷◌, length, refl, arith, sym, ap, subst, inl, inr, Bool, true, false}
+use Rattle.std.proofs.Common.{◌≡◌, ℕ, ◌+◌, ◌<◌, ◌≤◌, List, ◌∷◌, length, refl, arith, Bool, true, false}
 use Rattle.std.specs.Prelude.{◌==◌, ◌&&◌, nat_lt, nat_le, if◌then◌else◌, ⊤}
 use Rattle.std.proofs.lemmas.Bool.Decides.{nat_tests}
 use Rattle.fkv_base.specs.Limits.{max_sessions, max_pending}
-use Rattle.fkv_words.specs.Fields.{bit_of}
 use Rattle.fkv_plane.specs.declared.asks.Ask.TheVariants.{Done}
 use Rattle.fkv_plane.specs.declared.places.Places.{Places}
 use Rattle.fkv_latch.specs.declared.latching.LatchAnswer.TheVariants.{Taken, Busy}
@@ -12,8 +11,8 @@ use Rattle.fkv_latch.specs.declared.latching.LatchTask.TheVariants.{TakeShared, 
 use Rattle.fkv_latch.specs.declared.latching.Latching.{Latching}
 use Rattle.fkv_latch.specs.declared.latching.Latching.TheVariants.{AtRest, AddsShare, GivesBack, DropsShare, LoadsWord, SetsExclusive, DropsExclusive}
 use Rattle.fkv_latch.specs.Latching.{one_share, is_exclusive, is_free, latch_ask, latch_next, latch_next_ask}
-use Rattle.fkv_latch.specs.LatchWorld.{LatchActor, has_latch, times, without, is_at_rest, may_do, may_begin, begun_by, given, replied}
-use Rattle.fkv_latch.proofs.Counts.{Meets, Here, There, meets, without_times, without_length}
+use Rattle.fkv_latch.specs.LatchWorld.{LatchActor, has_latch, times, is_at_rest, may_do, may_begin, begun_by, given, replied}
+use Rattle.fkv_latch.proofs.Counts.{Here, There, meets, without_times, without_length}
 
 -- how many shares an actor is about to take or to take off
 abbrev pub in_hand : Latching → ℕ

@@ -1,16 +1,20 @@
 -- What an actor that holds a latch can rely on.
-use Rattle.std.proofs.Common.{◌≡◌, ℕ, zero, suc, ◌+◌, ◌-◌, ◌*◌, ◌/◌, ◌%◌, ◌^◌, ◌<◌, ◌≤◌, ◌⊎◌, List, [], ◌∷◌, refl, arith, sym, ap, inl, inr, Bool, true, false}
-use Rattle.std.specs.Prelude.{Option, Some, ◌==◌, slice_get, sum_by}
+use Rattle.std.proofs.Common.{◌≡◌, ℕ, zero, suc, ◌+◌, ◌%◌, ◌^◌, ◌<◌, ◌≤◌, ◌⊎◌, List, [], ◌∷◌, refl, arith, ap, inl, inr, Bool, true, false}
+use Rattle.std.specs.Prelude.{Some, ◌==◌, slice_get, sum_by}
 use Rattle.std.proofs.lemmas.Bool.Decides.{nat_tests}
 use Rattle.std.proofs.lemmas.List.Sums.{sum_by-cons}
 use Rattle.fkv_words.specs.Fields.{bit_of}
 use Rattle.fkv_words.specs.Layout.{tail_word}
 use Rattle.fkv_words.specs.declared.bucket_tail.BucketTail.{BucketTail}
 use Rattle.fkv_plane.specs.Asked.{word_at}
-use Rattle.fkv_latch.specs.Latching.{one_share, exclusive_bit}
+use Rattle.fkv_plane.specs.declared.asks.Ask.TheVariants.{Done}
+use Rattle.fkv_latch.specs.declared.latching.LatchAnswer.TheVariants.{Taken, Busy}
+use Rattle.fkv_latch.specs.declared.latching.Latching.TheVariants.{AddsShare, GivesBack, SetsExclusive}
+use Rattle.fkv_latch.specs.Latching.{one_share, exclusive_bit, is_exclusive, latch_ask, latch_next_ask}
 use Rattle.fkv_latch.specs.LatchWorld.{LatchActor, LatchWorld, has_latch, times}
-use Rattle.fkv_latch.specs.Latched.{AreLatchesApart, IsCounted, AreCounted, shares_of, bits_of}
+use Rattle.fkv_latch.specs.Latched.{AreLatchesApart, AreCounted, shares_of, bits_of}
 use Rattle.fkv_latch.proofs.Words.{IsAt}
+use Rattle.fkv_latch.proofs.Actors.{WorksOnLatch}
 use Rattle.fkv_latch.proofs.Sound.{IsSound, StandsAt, held_of, few_shares}
 
 -- one term is within the sum, and two are where they are two
@@ -77,6 +81,7 @@ tail_of word shares bits held few at = tested (bits == 1) refl
       its_shares = refl;
       its_bit = same;
     }
+
     tested : (b : Bool) → (bits == 1) ≡ b → TailOf word shares bits
     tested true e = made true (grind (arith, nat_tests, e))
     tested false e = made false (grind (arith, nat_tests, e, at.single))
@@ -102,3 +107,34 @@ exclusive_stands w place i a sound got some =
     let stands = stands_for w place i a sound got (omega (arith, some)) in
     let bits = one_within (bits_of place) w.actors i a got in
     omega (arith, stands.counted, stands.single, bits, some)
+
+-- where nobody holds it alone, or is about to drop it, bit 63 is clear
+no_bits : (f : LatchActor → ℕ) (actors : List LatchActor) → ((i : ℕ) (a : LatchActor) → slice_get actors i ≡ Some a → f a ≡ 0) → sum_by f actors ≡ 0
+no_bits f [] none = refl
+no_bits f (a ∷ others) none = omega (arith, sum_by-cons f a others, none 0 a refl, no_bits f others (λ i b got. none (suc i) b got))
+
+pub clear_stands : (w : LatchWorld) (place : ℕ) → IsSound w → has_latch w.places place ≡ true → ((i : ℕ) (a : LatchActor) → slice_get w.actors i ≡ Some a → bits_of place a ≡ 0) → word_at w.words place < exclusive_bit
+clear_stands w place sound has none =
+    let stands = sound.stands place has in
+    let few = few_shares w.places place w.actors sound.actors in
+    let clear = no_bits (bits_of place) w.actors none in
+    omega (arith, stands.counted, few, clear)
+
+-- so a share that is added then is taken, one that meets bit 63 is given back, and nobody takes alone what others share
+pub share_is_taken : (place word : ℕ) → word < exclusive_bit → latch_next_ask (AddsShare place) word ≡ Done Taken
+unfolding latch_next_ask
+share_is_taken place word clear = let e : is_exclusive word ≡ false = grind (arith, nat_tests, clear) in rw e refl
+
+pub share_is_given_back : (place word : ℕ) → exclusive_bit ≤ word → latch_next_ask (AddsShare place) word ≡ latch_ask (GivesBack place)
+unfolding latch_next_ask
+share_is_given_back place word set = let e : is_exclusive word ≡ true = grind (arith, nat_tests, set) in rw e refl
+
+pub exclusive_is_lost : (w : LatchWorld) (place word i j : ℕ) (a b : LatchActor) → IsSound w → slice_get w.actors i ≡ Some a → 0 < times place a.shared
+    → slice_get w.actors j ≡ Some b → b.step ≡ SetsExclusive place word → latch_next_ask b.step (word_at w.words place) ≡ Done Busy
+unfolding latch_next_ask
+exclusive_is_lost w place word i j a b sound got some other at =
+    let low = (shared_stands w place i a sound got some).1 in
+    let works : WorksOnLatch w.places (SetsExclusive place word) = rw at at (sound.actors j b other).works in
+    let free = works.1 in
+    let e : (word_at w.words place == word) ≡ false = grind (arith, nat_tests, low, free) in
+    rw (at, e) refl

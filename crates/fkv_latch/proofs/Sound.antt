@@ -1,7 +1,6 @@
 -- What stands at every moment, and that each event leaves it so.
-use Rattle.std.proofs.Common.{◌≡◌, ◌≢◌, ℕ, zero, suc, ◌+◌, ◌-◌, ◌*◌, ◌/◌, ◌^◌, ◌<◌, ◌≤◌, ◌⊎◌, List, [], ◌∷◌, length, refl, arith, sym, ap, ◌∙◌, mul-zero, inl, inr, Bool, true, false, eqb-true, length-set}
+use Rattle.std.proofs.Common.{◌≡◌, ℕ, zero, suc, ◌+◌, ◌-◌, ◌*◌, ◌^◌, ◌<◌, ◌≤◌, List, [], ◌∷◌, length, refl, arith, sym, ap, ◌∙◌, mul-zero, Bool, true, false, eqb-true, length-set}
 use Rattle.std.specs.Prelude.{Option, Some, None, ◌==◌, ◌&&◌, not, if◌then◌else◌, slice_get, slice_set, replicate, sum_by}
-use Rattle.std.proofs.lemmas.Bool.Decides.{nat_tests}
 use Rattle.std.proofs.lemmas.List.{get_or-set_same, get_or-set_other}
 use Rattle.std.proofs.lemmas.List.Folds.{sum_by-replicate}
 use Rattle.std.proofs.lemmas.List.Sums.{sum_by-cons, sum_by-le-sum_by}
@@ -13,10 +12,10 @@ use Rattle.fkv_plane.specs.Asked.{word_at, words_after, reply_to}
 use Rattle.fkv_latch.specs.declared.latching.LatchTask.{LatchTask}
 use Rattle.fkv_latch.specs.declared.latching.Latching.{Latching}
 use Rattle.fkv_latch.specs.declared.latching.Latching.TheVariants.{AtRest, AddsShare, GivesBack, DropsShare, LoadsWord, SetsExclusive, DropsExclusive}
-use Rattle.fkv_latch.specs.Latching.{one_share, latch_ask}
-use Rattle.fkv_latch.specs.LatchWorld.{LatchEvent, Begins, Moves, Changes, LatchActor, LatchWorld, has_latch, latch_of, times, may_do, may_begin, begun_by, begun, replied, moved, is_barred, latch_happens, latch_run}
+use Rattle.fkv_latch.specs.Latching.{latch_ask}
+use Rattle.fkv_latch.specs.LatchWorld.{LatchEvent, Begins, Moves, Changes, LatchActor, LatchWorld, has_latch, latch_of, times, may_do, may_begin, begun_by, begun, moved, is_barred, latch_happens, latch_run}
 use Rattle.fkv_latch.specs.Latched.{IsOpened, opening, shares_of, bits_of, added_shares}
-use Rattle.fkv_latch.proofs.Counts.{Meets, Here, There, meets, times_all, Parted, parted}
+use Rattle.fkv_latch.proofs.Counts.{Here, There, meets, times_all, parted}
 use Rattle.fkv_latch.proofs.Words.{IsAt, same_at}
 use Rattle.fkv_latch.proofs.Actors.{IsActor, in_hand, actor_of, actor_replied, actor_begun, begins_then}
 use Rattle.fkv_latch.proofs.Places.{latch_within}
@@ -43,6 +42,7 @@ few_of_one p place i a is = let all = times_all place a.shared in let one = adde
   where
     bit : (q : ℕ) → bit_of (q == place) ≤ 1
     bit q = elim (meets place q) [ Here same one ↦ omega (arith, one) | There other none ↦ omega (arith, none) ]
+
     added : (step : Latching) → added_shares place step ≤ in_hand step
     added AtRest = omega arith
     added (AddsShare q) = omega arith
@@ -82,8 +82,8 @@ one_stands p place word word' i a b actors got are keeps stands =
     let few = few_shares p place actors are in
     let within = held_within place actors in
     same_at _ _ _ _ _ _ _ _ refl s.after o.after h.after
-        (keeps s.rest o.rest h.rest (omega (arith, few, s.before)) (omega (arith, within, s.before, h.before))
-            (same_at _ _ _ _ _ _ _ _ refl (sym s.before) (sym o.before) (sym h.before) stands))
+    (keeps s.rest o.rest h.rest (omega (arith, few, s.before)) (omega (arith, within, s.before, h.before))
+    (same_at _ _ _ _ _ _ _ _ refl (sym s.before) (sym o.before) (sym h.before) stands))
 
 each_set : {X : Type 0} (P : ℕ → X → Type 0) (xs : List X) (i : ℕ) (x : X) → P i x → ((j : ℕ) (y : X) → slice_get xs j ≡ Some y → P j y) → (j : ℕ) (y : X) → slice_get (slice_set xs i x) j ≡ Some y → P j y
 each_set P [] i x its all j y e = all j y e
@@ -125,6 +125,7 @@ begun_sound w i task place (Some a) got sound = tested (may_begin w.places i tas
       actors = each_set (IsActor w.places) w.actors i _ (actor_begun w.places i place task shared exclusive has may (sound.actors i _ it)) sound.actors;
       stands = λ at its. one_stands w.places at _ _ i _ _ w.actors it sound.actors (begins_keeps at place (word_at w.words at) i task shared exclusive may) (sound.stands at its);
     }
+
     tested : (b : Bool) → may_begin w.places i task place a ≡ b → IsSound (if b then record w { actors = slice_set w.actors i (begun_by task place a) } else w)
     tested true e =
         let begins = begins_then w.places i task place a e in
@@ -194,5 +195,5 @@ opening_sound places actors words opened = record {
   stands = λ place has.
       let free = opened.free place has in
       same_at (word_at words place) 0 0 0 (word_at words place) _ _ _ refl (nobody_has (shares_of place) actors refl) (nobody_has (bits_of place) actors refl) (nobody_has (held_of place) actors refl)
-          (record { counted = omega (arith, free); single = omega arith; apart = λ some. refl });
+      (record { counted = omega (arith, free); single = omega arith; apart = λ some. refl });
 }

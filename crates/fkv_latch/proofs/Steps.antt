@@ -1,5 +1,5 @@
 -- One ask of an actor, and the word of a latch.
-use Rattle.std.proofs.Common.{◌≡◌, ◌≢◌, ℕ, ◌+◌, ◌-◌, ◌^◌, ◌%◌, ◌<◌, ◌≤◌, List, [], ◌∷◌, length, refl, arith, sym, ap, Bool, true, false, eqb-true}
+use Rattle.std.proofs.Common.{◌≡◌, ℕ, ◌+◌, ◌-◌, ◌^◌, ◌%◌, ◌<◌, ◌≤◌, List, length, refl, arith, ap, Bool, true, false, eqb-true}
 use Rattle.std.specs.Prelude.{◌==◌, if◌then◌else◌, slice_set}
 use Rattle.std.proofs.lemmas.Bool.Decides.{nat_tests}
 use Rattle.std.proofs.lemmas.List.{get_or-set_same, get_or-set_other, set-get_or}
@@ -14,9 +14,9 @@ use Rattle.fkv_latch.specs.declared.latching.LatchTask.TheVariants.{TakeShared, 
 use Rattle.fkv_latch.specs.declared.latching.Latching.{Latching}
 use Rattle.fkv_latch.specs.declared.latching.Latching.TheVariants.{AtRest, AddsShare, GivesBack, DropsShare, LoadsWord, SetsExclusive, DropsExclusive}
 use Rattle.fkv_latch.specs.Latching.{is_exclusive, is_free, latch_ask, latch_next, latch_next_ask}
-use Rattle.fkv_latch.specs.LatchWorld.{LatchActor, times, without, may_do, begun_by, given, replied}
+use Rattle.fkv_latch.specs.LatchWorld.{LatchActor, times, may_do, begun_by, given, replied}
 use Rattle.fkv_latch.specs.Latched.{shares_of, bits_of}
-use Rattle.fkv_latch.proofs.Counts.{Meets, Here, There, meets, without_times}
+use Rattle.fkv_latch.proofs.Counts.{Here, There, meets, without_times}
 use Rattle.fkv_latch.proofs.Words.{IsAt, same_at, share_met, share_taken, share_dropped, bit_set, bit_dropped}
 use Rattle.fkv_latch.proofs.Actors.{WorksOnLatch, actor_of}
 use Rattle.fkv_latch.proofs.Places.{latch_within}
@@ -50,24 +50,24 @@ adds_here q words shared exclusive enough shares bits held few within at = teste
   where
     tested : (b : Bool) → is_exclusive (word_at words q) ≡ b
         → let after = given (AddsShare q) (if b then latch_ask (GivesBack q) else Done Taken) (actor_of (if b then GivesBack q else AtRest) shared exclusive) in
-          IsAt (word_at (slice_set words q ((word_at words q + 2 ^ 48) % 2 ^ 64)) q) (shares_of q after + shares) (bits_of q after + bits) (times q after.shared + held)
+        IsAt (word_at (slice_set words q ((word_at words q + 2 ^ 48) % 2 ^ 64)) q) (shares_of q after + shares) (bits_of q after + bits) (times q after.shared + held)
     tested true e =
         let set : 2 ^ 63 ≤ word_at words q = grind (arith, nat_tests, e) in
         let one = one_here q in
         same_at _ _ _ _ _ _ _ _ (get_or-set_same words q ((word_at words q + 2 ^ 48) % 2 ^ 64) 0 enough) (omega (arith, one)) refl refl
-            (share_met (word_at words q) _ _ _ set few at)
+        (share_met (word_at words q) _ _ _ set few at)
     tested false e =
         let clear : word_at words q < 2 ^ 63 = grind (arith, nat_tests, e) in
         let one = one_here q in
         same_at _ _ _ _ _ _ _ _ (get_or-set_same words q ((word_at words q + 2 ^ 48) % 2 ^ 64) 0 enough) (omega (arith, one)) refl (omega (arith, one))
-            (share_taken (word_at words q) _ _ _ clear few at)
+        (share_taken (word_at words q) _ _ _ clear few at)
 
 gives_here : (q : ℕ) (words shared exclusive : List ℕ) → q < length words → KeepsAfter q words (actor_of (GivesBack q) shared exclusive)
 unfolding latch_ask latch_next latch_next_ask
 gives_here q words shared exclusive enough shares bits held few within at =
     let one = one_here q in
     same_at _ _ _ _ _ (times q shared + 0 + shares) _ _ (get_or-set_same words q ((word_at words q + (2 ^ 64 - 2 ^ 48)) % 2 ^ 64) 0 enough) (omega arith) refl refl
-        (share_dropped (word_at words q) (times q shared + shares) _ _ (omega (arith, few)) (same_at _ _ _ _ (word_at words q) (times q shared + shares + 1) _ _ refl (omega (arith, one)) refl refl at))
+    (share_dropped (word_at words q) (times q shared + shares) _ _ (omega (arith, few)) (same_at _ _ _ _ (word_at words q) (times q shared + shares + 1) _ _ refl (omega (arith, one)) refl refl at))
 
 drops_here : (q : ℕ) (words shared exclusive : List ℕ) → q < length words → KeepsAfter q words (actor_of (DropsShare q) shared exclusive)
 unfolding latch_ask latch_next latch_next_ask
@@ -79,12 +79,12 @@ sets_here q word words shared exclusive enough free shares bits held few within 
   where
     tested : (b : Bool) → (word_at words q == word) ≡ b
         → let after = given (SetsExclusive q word) (Done (if b then Taken else Busy)) (actor_of AtRest shared exclusive) in
-          IsAt (word_at (slice_set words q (if b then word + 2 ^ 63 else word_at words q)) q) (shares_of q after + shares) (bits_of q after + bits) (times q after.shared + held)
+        IsAt (word_at (slice_set words q (if b then word + 2 ^ 63 else word_at words q)) q) (shares_of q after + shares) (bits_of q after + bits) (times q after.shared + held)
     tested true e =
         let same : word_at words q ≡ word = eqb-true (word_at words q) word e in
         let one = one_here q in
         same_at _ _ _ _ _ _ _ _ (get_or-set_same words q (word + 2 ^ 63) 0 enough) refl (omega (arith, one)) refl
-            (bit_set word _ _ _ free within (rw same at at))
+        (bit_set word _ _ _ free within (rw same at at))
     tested false e = rw (set-get_or words q 0) at
 
 clears_here : (q : ℕ) (words shared exclusive : List ℕ) → q < length words → KeepsAfter q words (actor_of (DropsExclusive q) shared exclusive)
@@ -92,7 +92,7 @@ unfolding latch_ask latch_next latch_next_ask
 clears_here q words shared exclusive enough shares bits held few within at =
     let one = one_here q in
     same_at _ _ _ _ _ _ (times q exclusive + 0 + bits) _ (get_or-set_same words q ((word_at words q + 2 ^ 63) % 2 ^ 64) 0 enough) refl (omega arith) refl
-        (bit_dropped (word_at words q) _ (times q exclusive + bits) _ few (same_at _ _ _ _ (word_at words q) _ (times q exclusive + bits + 1) _ refl refl (omega (arith, one)) refl at))
+    (bit_dropped (word_at words q) _ (times q exclusive + bits) _ few (same_at _ _ _ _ (word_at words q) _ (times q exclusive + bits + 1) _ refl refl (omega (arith, one)) refl at))
 
 -- an ask at another place
 adds_away : (place q reply : ℕ) (shared exclusive : List ℕ) → bit_of (q == place) ≡ 0 → SameAt place (actor_of (AddsShare q) shared exclusive) (replied (actor_of (AddsShare q) shared exclusive) reply)

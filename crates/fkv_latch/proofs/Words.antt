@@ -1,5 +1,5 @@
 -- The word of one latch, and what one ask does to it.
-use Rattle.std.proofs.Common.{◌≡◌, ℕ, ◌+◌, ◌-◌, ◌*◌, ◌/◌, ◌%◌, ◌^◌, ◌<◌, ◌≤◌, arith}
+use Rattle.std.proofs.Common.{◌≡◌, ℕ, ◌+◌, ◌-◌, ◌*◌, ◌%◌, ◌^◌, ◌<◌, ◌≤◌, arith}
 use Rattle.fkv_latch.specs.LatchWorld.{latch_of}
 
 -- the word counts these shares, and has bit 63 where one holds it alone, and none shares it

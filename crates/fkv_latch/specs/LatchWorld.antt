@@ -1,5 +1,5 @@
 -- The world of latches: actors that take and drop them, sessions first, and others who work on the same words.
-use Rattle.std.specs.Prelude.{ℕ, ◌+◌, ◌-◌, ◌*◌, ◌/◌, ◌%◌, ◌^◌, ◌==◌, ◌&&◌, nat_lt, nat_le, not, if◌then◌else◌, Bool, true, false, List, [], ◌∷◌, length, slice_get, slice_set, Option, Some, None}
+use Rattle.std.specs.Prelude.{ℕ, ◌+◌, ◌-◌, ◌/◌, ◌%◌, ◌==◌, ◌&&◌, nat_lt, nat_le, not, if◌then◌else◌, Bool, true, false, List, [], ◌∷◌, length, slice_get, slice_set, Option, Some, None}
 use Rattle.fkv_base.specs.Limits.{max_sessions, max_pending}
 use Rattle.fkv_words.specs.Fields.{bit_of}
 use Rattle.fkv_plane.specs.declared.asks.Ask.{Ask}

@@ -1,10 +1,10 @@
 -- What a latch keeps apart, and what its word counts.
-use Rattle.std.specs.Prelude.{◌≡◌, ℕ, ◌+◌, ◌<◌, ◌≤◌, ◌==◌, true, List, [], ◌∷◌, length, replicate, slice_get, sum_by, Option, Some}
+use Rattle.std.specs.Prelude.{◌≡◌, ℕ, ◌+◌, ◌<◌, ◌≤◌, ◌==◌, Bool, true, false, List, [], length, replicate, slice_get, sum_by, Some}
 use Rattle.fkv_words.specs.declared.bucket_tail.BucketTail.{BucketTail}
 use Rattle.fkv_words.specs.Fields.{bit_of}
 use Rattle.fkv_words.specs.Layout.{tail_word}
 use Rattle.fkv_plane.specs.declared.places.Places.{Places}
-use Rattle.fkv_plane.specs.Places.{word_count}
+use Rattle.fkv_plane.specs.Places.{Name, Bucket, IsWord, place, word_count}
 use Rattle.fkv_plane.specs.Asked.{word_at}
 use Rattle.fkv_latch.specs.declared.latching.Latching.{Latching}
 use Rattle.fkv_latch.specs.declared.latching.Latching.TheVariants.{AtRest, GivesBack, DropsShare, DropsExclusive}
@@ -19,6 +19,14 @@ pub record IsOpened (places : Places) (words : List ℕ) : Type 0 where
 -- all actors at rest, and none holds a latch
 abbrev pub opening : Places → ℕ → List ℕ → LatchWorld
 opening places actors words = record { places = places; words = words; actors = replicate actors (record { step = AtRest; shared = []; exclusive = [] }) }
+
+-- of all words, just the last ones of the buckets have a latch
+abbrev pub names_latch : Name → Bool
+names_latch (Bucket bucket word) = word == 7
+names_latch name = false
+
+abbrev pub AreLatchesNamed : Type 0
+AreLatchesNamed = (p : Places) (name : Name) → IsWord p name → has_latch p (place p name) ≡ names_latch name
 
 -- an exclusive latch that is held stands beside no shared one of that bucket, and beside no other exclusive one
 pub record AreLatchesApart (w : LatchWorld) : Type 0 where

@@ -2,7 +2,8 @@
 ghost use Rattle.std.specs.Prelude.{ℕ, List};
 ghost use Rattle.fkv_plane.specs.declared.places.Places.{Places};
 ghost use Rattle.fkv_latch.specs.LatchWorld.{LatchEvent, latch_run};
-ghost use Rattle.fkv_latch.specs.Latched.{IsOpened, opening, AreLatchesApart, AreCounted};
+ghost use Rattle.fkv_latch.specs.Meeting.{Meet};
+ghost use Rattle.fkv_latch.specs.Latched.{IsOpened, opening, AreLatchesApart, AreCounted, AreLatchesNamed};
 
 /// Whatever the order of the steps of all that take and drop latches, on any buckets, and whatever others do to the words as
 /// long as they keep the bits of a latch: an exclusive latch that an actor was answered, and hasn't begun to drop, stands
@@ -13,4 +14,11 @@ pub fn law_latched()
         → AreLatchesApart (latch_run (opening places actors words) events) }
     ensures counted { (places : Places) (actors : ℕ) (words : List ℕ) (events : List LatchEvent) → IsOpened places words
         → AreCounted (latch_run (opening places actors words) events) }
+    ensures named { AreLatchesNamed }
+{}
+
+/// A share that meets one who holds the latch alone is one of the runs of which `law_latched` speaks: it is counted beside
+/// bit 63 and taken off again, and the next try takes it.
+pub fn law_of_a_meeting()
+    ensures { Meet }
 {}

@@ -6,4 +6,7 @@ mod latching;
 mod laws;
 
 pub use latching::{Latch, LatchAnswer, LatchTask};
-pub use laws::law_latched;
+pub use laws::{law_latched, law_of_a_meeting};
+
+#[cfg(test)]
+mod tests;
