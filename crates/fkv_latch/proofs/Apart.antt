@@ -1,5 +1,5 @@
 -- What an actor that holds a latch can rely on.
-use Rattle.std.proofs.Common.{◌≡◌, ℕ, zero, suc, ◌+◌, ◌%◌, ◌^◌, ◌<◌, ◌≤◌, ◌⊎◌, List, [], ◌∷◌, refl, arith, ap, inl, inr, Bool, true, false}
+use Rattle.std.proofs.Common.{◌≡◌, ℕ, zero, suc, ◌+◌, ◌*◌, ◌%◌, ◌^◌, ◌<◌, ◌≤◌, ◌⊎◌, List, [], ◌∷◌, refl, arith, ap, inl, inr, Bool, true, false}
 use Rattle.std.specs.Prelude.{Some, ◌==◌, slice_get, sum_by}
 use Rattle.std.proofs.lemmas.Bool.Decides.{nat_tests}
 use Rattle.std.proofs.lemmas.List.Sums.{sum_by-cons}
@@ -11,7 +11,7 @@ use Rattle.fkv_plane.specs.declared.asks.Ask.TheVariants.{Done}
 use Rattle.fkv_latch.specs.declared.latching.LatchAnswer.TheVariants.{Taken, Busy}
 use Rattle.fkv_latch.specs.declared.latching.Latching.TheVariants.{AddsShare, GivesBack, SetsExclusive}
 use Rattle.fkv_latch.specs.Latching.{one_share, exclusive_bit, is_exclusive, latch_ask, latch_next_ask}
-use Rattle.fkv_latch.specs.LatchWorld.{LatchActor, LatchWorld, has_latch, times}
+use Rattle.fkv_latch.specs.LatchWorld.{LatchActor, LatchWorld, has_latch, latch_of, times}
 use Rattle.fkv_latch.specs.Latched.{AreLatchesApart, AreCounted, shares_of, bits_of}
 use Rattle.fkv_latch.proofs.Words.{IsAt}
 use Rattle.fkv_latch.proofs.Actors.{WorksOnLatch}
@@ -85,6 +85,10 @@ tail_of word shares bits held few at = tested (bits == 1) refl
     tested : (b : Bool) → (bits == 1) ≡ b → TailOf word shares bits
     tested true e = made true (grind (arith, nat_tests, e))
     tested false e = made false (grind (arith, nat_tests, e, at.single))
+
+-- the latch of a word that is spelled so: who changes nothing else of a tail keeps its latch
+pub tail_latch : (tail : BucketTail) → latch_of (tail_word tail) ≡ tail.shared + 2 ^ 15 * bit_of tail.exclusive
+tail_latch tail = omega (arith, tail.overflow_fits)
 
 pub sound_counted : (w : LatchWorld) → IsSound w → AreCounted w
 sound_counted w sound place has =

@@ -1,11 +1,13 @@
 -- What one event does to the world, and to whom.
-use Rattle.std.proofs.Common.{◌≡◌, ◌≢◌, ℕ, List, refl, arith, ap, Bool, true, false, zero, suc, [], ◌∷◌}
+use Rattle.std.proofs.Common.{◌≡◌, ◌≢◌, ℕ, ◌<◌, ◌∙◌, List, refl, arith, ap, Bool, true, false, zero, suc, [], ◌∷◌}
 use Rattle.std.specs.Prelude.{Option, Some, None, ◌==◌, ◌&&◌, not, if◌then◌else◌, slice_get, slice_set, ⊤}
 use Rattle.std.proofs.lemmas.Bool.Decides.{nat_tests}
 use Rattle.fkv_plane.specs.Asked.{word_at, words_after, reply_to}
 use Rattle.fkv_latch.specs.declared.latching.LatchTask.{LatchTask}
-use Rattle.fkv_latch.specs.Latching.{latch_ask}
-use Rattle.fkv_latch.specs.LatchWorld.{LatchEvent, Begins, Moves, Changes, LatchActor, LatchWorld, has_latch, latch_of, may_begin, begun_by, begun, replied, moved, is_barred, latch_happens}
+use Rattle.fkv_latch.specs.Latching.{exclusive_bit, latch_ask}
+use Rattle.fkv_latch.specs.LatchWorld.{LatchEvent, Begins, Moves, Changes, LatchActor, LatchWorld, has_latch, latch_of, may_begin, begun_by, begun, replied, moved, is_barred, latch_happens, latch_run, times}
+use Rattle.fkv_latch.proofs.Apart.{shared_stands}
+use Rattle.fkv_latch.proofs.Sound.{IsSound, run_sound}
 
 -- a known actor makes its ask
 pub moves : (w : LatchWorld) (i : ℕ) (a : LatchActor) → slice_get w.actors i ≡ Some a
@@ -69,3 +71,19 @@ spared_stays w (Changes place word) i other = tested (is_barred w place word)
     tested : (b : Bool) → slice_get (if b then w else record w { words = slice_set w.words place word }).actors i ≡ slice_get w.actors i
     tested true = refl
     tested false = refl
+
+-- no event of the list is this actor's
+abbrev pub AllSpare : ℕ → List LatchEvent → Type 0
+AllSpare i [] = ⊤
+AllSpare i (event ∷ before) = SparesActor i event × AllSpare i before
+
+pub run_spared : (w : LatchWorld) (events : List LatchEvent) (i : ℕ) → AllSpare i events → slice_get (latch_run w events).actors i ≡ slice_get w.actors i
+unfolding latch_run
+run_spared w [] i others = refl
+run_spared w (event ∷ before) i others = spared_stays (latch_run w before) event i others.0 ∙ run_spared w before i others.1
+
+-- whatever others do, bit 63 stays clear as long as an actor shares the latch
+pub stays_shared : (w : LatchWorld) (events : List LatchEvent) (place i : ℕ) (a : LatchActor) → IsSound w → slice_get w.actors i ≡ Some a → 0 < times place a.shared → AllSpare i events
+    → word_at (latch_run w events).words place < exclusive_bit
+stays_shared w events place i a sound got some others =
+    (shared_stands (latch_run w events) place i a (run_sound w events sound) (run_spared w events i others ∙ got) some).0
