@@ -1,6 +1,6 @@
 # make run     runs a script and prints its answers (a build without proof): the stored one, or SCRIPT=path
 # make test    the gate: what crates name of each other, every proof from nothing, the must-fail edits, the tests and the
-#              program; then what `make rows` and `make memory` do
+#              program; then tools/compare, and what `make rows` and `make memory` do
 # make fkv     proves the program and leaves it at build/fkv
 # make rows    runs the built program on whole scripts, and compares what it writes
 # make memory  runs the stored script, and recovery's calls, with each request for memory refused in turn
@@ -20,6 +20,7 @@ test: toolchain
 	tools/names/check
 	rt ci
 	@tools/rows/run crates/fkv/out/fkv > /dev/null
+	@tools/compare/run > /dev/null
 	@tools/memory/run crates/fkv/out/fkv > /dev/null
 	@tools/memory/recover > /dev/null
 
@@ -32,7 +33,7 @@ rows: fkv
 	tools/rows/run build/fkv
 
 memory: fkv
-	cd crates/fkv_recover && rt test > /dev/null
+	cd crates/fkv_images && rt test > /dev/null
 	tools/memory/run build/fkv
 	tools/memory/recover
 

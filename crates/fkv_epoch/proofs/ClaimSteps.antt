@@ -119,7 +119,7 @@ run_moves w a slot c z action place word sound got far low =
       the_armed_action = λ x o. elim o [ inl e ↦ rw e h.4 | inr o' ↦ sound.once.the_armed_action x o' ];
     })
 
--- the Cas that takes an armed slot is won
+-- the Cas that claims an armed slot is won
 take_moves : (w : EpochWorld) (a slot word z : ℕ) → IsSound w → slice_get w.now.actors a ≡ Some (Claims (TakesSlot slot word z)) → drain_word w.now.words slot ≡ word
     → IsSound (record {
       now = put_near w.now a (claimed (slice_set w.now.words (drain_place slot) 1) w.now.actions (Receives slot (word - 2) z));
@@ -161,7 +161,7 @@ take_moves w a slot word z sound got found =
       the_armed_action = sound.once.the_armed_action;
     }))
 
--- the slot is set free
+-- the slot is freed
 free_moves : (w : EpochWorld) (a slot z : ℕ) → IsSound w → slice_get w.now.actors a ≡ Some (Claims (FreesSlot slot z))
     → IsSound (record { now = put_near w.now a (claimed (slice_set w.now.words (drain_place slot) 0) w.now.actions (slot_after slot (Some z))); past = record w.past { loads = loaded w.past.loads a None (epoch_of w.now.words) } })
 free_moves w a slot z sound got =

@@ -112,7 +112,7 @@ safe_is_in_force w c sound h session sight counts =
     let x = (sound.epochs.above_safe session counts.is_session counts.machine counts.its_machine).loaded sight counts.is_protected counts.has_loaded in
     omega (arith, x, h)
 
--- who takes a slot has loaded a safe epoch that is no less than the slot's
+-- who claims a slot has loaded a safe epoch that is no less than the slot's
 pub claim_is_safe : (w : EpochWorld) (event : EpochEvent) (x : Claimed) → IsSound w → Among x (claims_of w.now event) → x.epoch ≤ safe_of w.now.words
 claim_is_safe w (Begins actor task) x sound o = absurd o
 claim_is_safe w (Resumes actor) x sound o = absurd o

@@ -1,4 +1,4 @@
--- The steps of an armed slot: it is armed, taken, its action run, and it is set free.
+-- The steps of an armed slot: it is armed, claimed, its action run, and it is freed.
 use Rattle.std.proofs.Common.{◌≡◌, ◌≢◌, ℕ, ◌+◌, ◌<◌, ◌≤◌, List, ◌∷◌, refl, arith, sym, ap, inl, inr, ◌∙◌}
 use Rattle.fkv_base.specs.Limits.{drain_slots}
 use Rattle.std.specs.Prelude.{Option, Some, None, slice_get, slice_set}
@@ -83,7 +83,7 @@ arm k E' safe' D' slot c action actors a d d' old got up safer few mine carried 
       }) here;
     }
 
--- an armed slot is taken, and its action with it
+-- an armed slot is claimed, and its action with it
 pub take : (k : SlotTable) (E' safe' : ℕ) (D' : ℕ → ℕ) (H' : ℕ → Option Action) (slot c : ℕ) (actors : List EpochMachine) (a : ℕ) (d d' : EpochMachine)
     → Slots k actors → slice_get actors a ≡ Some d → k.epoch ≤ E' → k.safe ≤ safe'
     → slot < drain_slots → k.drains slot ≡ c + 2 → D' slot ≡ 1 → ((s : ℕ) → s < drain_slots → s ≢ slot → D' s ≡ k.drains s)
@@ -135,7 +135,7 @@ take k E' safe' D' H' slot c actors a d d' old got up safer few was now same sam
           }) here;
     }
 
--- a taken action is run
+-- a claimed action is run
 pub spend : (k : SlotTable) (E' safe' : ℕ) (D' : ℕ → ℕ) (slot c : ℕ) (action : Action) (actors : List EpochMachine) (a : ℕ) (d d' : EpochMachine)
     → Slots k actors → slice_get actors a ≡ Some d → k.epoch ≤ E' → k.safe ≤ safe'
     → k.fates c ≡ Taken a → ((s : ℕ) → s < drain_slots → D' s ≡ k.drains s)

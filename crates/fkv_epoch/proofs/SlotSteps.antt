@@ -1,4 +1,4 @@
--- The steps that touch a slot: it is held, given an action, armed, taken and set free; and the epoch is raised for it.
+-- The steps that touch a slot: it is held, given an action, armed, claimed and freed; and the epoch is raised for it.
 use Rattle.std.proofs.Common.{◌≡◌, ◌≢◌, ℕ, ◌+◌, ◌<◌, ◌≤◌, List, refl, arith, sym, ap, inl, inr, ◌∙◌}
 use Rattle.fkv_base.specs.Limits.{drain_slots}
 use Rattle.std.specs.Prelude.{Option, Some, None, slice_get, slice_set}

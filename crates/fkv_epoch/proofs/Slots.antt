@@ -1,4 +1,4 @@
--- Slots and their owners. An epoch goes one way only: it is raised and borne to a slot, waits there, is taken, and spent.
+-- Slots and their owners. An epoch goes one way only: it is raised and borne to a slot, waits there, is claimed, and spent.
 use Rattle.std.proofs.Common.{◌≡◌, ◌≢◌, ℕ, ◌+◌, ◌<◌, ◌≤◌, List, refl, arith, sym, ap, inl, inr, ◌∙◌}
 use Rattle.fkv_base.specs.Limits.{drain_slots}
 use Rattle.std.specs.Prelude.{Option, Some, None, slice_get, slice_set, ⊤}

@@ -55,7 +55,7 @@ claim_ask (FreesSlot slot safe) = Store (drain_place slot) 0
 unfoldable pub slot_after : ℕ → Option ℕ → Claiming
 slot_after slot safe = if nat_lt (slot + 1) drain_slots then MeetsSlot (slot + 1) safe else AtRest
 
--- a slot armed at an epoch, which is its word less 2, is taken where that epoch is safe
+-- a slot armed at an epoch, which is its word less 2, is claimed where that epoch is safe
 unfoldable pub slot_armed : ℕ → ℕ → ℕ → Claiming
 slot_armed slot word safe = if nat_le (word - 2) safe then TakesSlot slot word safe else slot_after slot (Some safe)
 
@@ -70,7 +70,7 @@ claim_next (Receives slot epoch safe) reply = Receives slot epoch safe
 claim_next (Runs slot epoch safe action) reply = FreesSlot slot safe
 claim_next (FreesSlot slot safe) reply = slot_after slot (Some safe)
 
--- what the action of a taken slot leads to
+-- what the action of a claimed slot leads to
 unfoldable pub claim_given : Claiming → Action → Claiming
 claim_given (Receives slot epoch safe) action = Runs slot epoch safe action
 claim_given step action = step

@@ -90,7 +90,7 @@ pub record Armed : Type 0 where
   pub epoch : ℕ
   pub action : Action
 
--- an actor's Cas took a slot that was armed at this epoch
+-- an actor's Cas claimed a slot that was armed at this epoch
 pub record Claimed : Type 0 where
   pub actor : ℕ
   pub slot : ℕ
@@ -171,7 +171,7 @@ pub record EpochNear : Type 0 where
 abbrev pub near : List ℕ → List (Option Action) → EpochMachine → EpochNear
 near words actions machine = record { words = words; actions = actions; machine = machine }
 
--- a slot that was just taken gives its action up at once
+-- a slot that was just claimed gives its action up at once
 abbrev pub received : List ℕ → List (Option Action) → ℕ → ℕ → ℕ → Option Action → EpochNear
 received words actions slot epoch safe None = near words actions (Claims (claim.Receives slot epoch safe))
 received words actions slot epoch safe (Some action) = near words (slice_set actions slot None) (Claims (claim_given (claim.Receives slot epoch safe) action))
@@ -277,7 +277,7 @@ abbrev pub armed_by : EpochNow → EpochMachine → List Armed
 armed_by n (Arms (arm.StoresEpoch slot epoch)) = armed_with slot epoch (action_at n.actions slot)
 armed_by n machine = []
 
--- the Cas that takes an armed slot, where it is won
+-- the Cas that claims an armed slot, where it is won
 abbrev pub claimed_by : EpochNow → ℕ → EpochMachine → List Claimed
 claimed_by n actor (Claims (claim.TakesSlot slot word safe)) = if drain_word n.words slot == word then record { actor = actor; slot = slot; epoch = word - 2 } ∷ [] else []
 claimed_by n actor machine = []

@@ -72,7 +72,7 @@ SeenSinceRaise w c = (session : ℕ) (sight : Sight) → Counts w.now session si
 unfoldable pub InForceSinceRaise : EpochWorld → ℕ → Type 0
 InForceSinceRaise w c = (session : ℕ) (sight : Sight) → Counts w.now session sight → c < load_of (w.past.in_force session) sight
 
--- the claims that this event makes: one where it is a Cas that takes an armed slot
+-- the claims that this event makes: one where it is a Cas that claims an armed slot
 abbrev pub claims_found : EpochNow → ℕ → Option EpochMachine → List Claimed
 claims_found n actor None = []
 claims_found n actor (Some machine) = claimed_by n actor machine
@@ -91,7 +91,7 @@ abbrev pub AreDifferent : List ℕ → Type 0
 AreDifferent [] = ⊤
 AreDifferent (x ∷ xs) = (¬ Among x xs) × AreDifferent xs
 
--- Each epoch arms one action at most, which is taken once at most and run once at most, by the actor that took it.
+-- Each epoch arms one action at most, which is claimed once at most and run once at most, by the actor that claimed it.
 pub record RunsOnce (armed : List Armed) (claims : List Claimed) (runs : List Ran) : Type 0 where
   pub armed_once : AreDifferent (map (λ (x : Armed). x.epoch) armed)
   pub claimed_once : AreDifferent (map (λ (x : Claimed). x.epoch) claims)
@@ -113,7 +113,7 @@ pub record FindsAction (w : EpochWorld) (slot c : ℕ) : Type 0 where
 abbrev pub PutsIntoEmpty : EpochWorld → Type 0
 PutsIntoEmpty w = (actor slot c : ℕ) → slice_get w.now.actors actor ≡ Some (HasRaised slot c) → action_at w.now.actions slot ≡ None
 
--- an actor whose Cas takes a slot finds its action there, and so none ever waits for one
-pub record TakesFromFull (w : EpochWorld) : Type 0 where
+-- an actor whose Cas claims a slot finds its action there, and so none ever waits for one
+pub record ClaimsFromFull (w : EpochWorld) : Type 0 where
   pub finds : (actor slot word safe : ℕ) → slice_get w.now.actors actor ≡ Some (Claims (claim.TakesSlot slot word safe)) → drain_word w.now.words slot ≡ word → FindsAction w slot (word - 2)
   pub waits : (actor slot c safe : ℕ) → ¬ (slice_get w.now.actors actor ≡ Some (Claims (claim.Receives slot c safe)))

@@ -9,7 +9,7 @@ use fkv_plane::{Action, Ask, drain_place};
 use std::marker::Model;
 
 /// How far the machine has come: the slot, and the epoch at which it is armed.
-#[derive(Clone, Copy, Debug, PartialEq, Eq)]
+#[derive(Clone, Copy)]
 pub(crate) enum Arming {
     AtRest,
     PutsAction(usize, u64),

@@ -11,7 +11,7 @@ use std::marker::Model;
 use std::mem;
 
 /// How far the machine has come: the slot that is met, and the safe epoch once it is loaded.
-#[derive(Debug, PartialEq, Eq, Drop)]
+#[derive(Drop)]
 pub(crate) enum Claiming {
     AtRest,
     MeetsSlot(usize, Option<u64>),
@@ -19,14 +19,14 @@ pub(crate) enum Claiming {
     LoadsSafe(usize, u64),
     /// The slot's word, and the safe epoch.
     TakesSlot(usize, u64, u64),
-    /// The slot is taken, and the machine waits for its action. The epoch at which it was armed, and the safe epoch.
+    /// The slot is claimed, and the machine waits for its action. The epoch at which it was armed, and the safe epoch.
     Receives(usize, u64, u64),
     Runs(usize, u64, u64, Action),
     FreesSlot(usize, u64),
 }
 
-/// Goes over the drain slots once. A slot whose epoch is safe is taken, its action is moved out and run, and the slot is
-/// set free. Nothing here says who does so.
+/// Goes over the drain slots once. A slot whose epoch is safe is claimed, its action is moved out and run, and the slot is
+/// freed. Nothing here says who does so.
 #[derive(Drop)]
 pub struct Claim {
     step: Claiming,
@@ -99,7 +99,7 @@ impl Claim {
         self.ask()
     }
 
-    /// Takes over the action of the slot that it took. Where it waits for none the action is let go.
+    /// Gets the action of the slot that it claimed. Where it waits for none the action is let go.
     #[tactic(auto, unfolding(crate::specs::Claiming::claim_given))]
     pub fn given(&mut self, action: Action) -> Ask<()>
         ensures next { self.new ≡ record { step = claim_given self.old.step action } }
@@ -142,7 +142,7 @@ fn slot_after(slot: usize, safe: Option<u64>) -> Claiming
     }
 }
 
-/// A slot that is armed is taken where its epoch is safe.
+/// A slot that is armed is claimed where its epoch is safe.
 #[tactic(auto, unfolding(crate::specs::Claiming::slot_armed))]
 fn slot_armed(slot: usize, word: u64, safe: u64) -> Claiming
     requires { slot < drain_slots }
@@ -169,7 +169,7 @@ fn run_of(action: &Action) -> Ask<()>
     }
 }
 
-/// The phase word of a phase and a version. Past its limits it takes the nearest version that there is.
+/// The phase word of a phase and a version. For a version past its limits it has the nearest that there is.
 fn phase_stored(phase: Phase, version: Version) -> u64
     ensures { result ≡ phase_stored phase version }
 {

@@ -3,10 +3,10 @@ ghost use Rattle.std.specs.Prelude.{ℕ, List};
 ghost use Rattle.fkv_epoch.specs.EpochWorld.{EpochWorld, EpochEvent, epoch_run, Claimed, safe_of};
 ghost use Rattle.fkv_epoch.specs.Protected.{HoldsNoZero, IsProtected, StaysProtected};
 ghost use Rattle.fkv_epoch.specs.Stall.{stall_words, stall, HasStalled};
-ghost use Rattle.fkv_epoch.specs.Once.{IsOpened, opening, HasRunOnce, SeenSinceRaise, InForceSinceRaise, claims_of, Among, PutsIntoEmpty, TakesFromFull};
+ghost use Rattle.fkv_epoch.specs.Once.{IsOpened, opening, HasRunOnce, SeenSinceRaise, InForceSinceRaise, claims_of, Among, PutsIntoEmpty, ClaimsFromFull};
 
 /// Whatever the order of the machines' steps, and whoever makes them: an action armed at an epoch is run at most once,
-/// by the actor whose Cas took its slot; at that step every protected session that isn't in the middle of protecting itself goes by
+/// by the actor whose Cas claimed its slot; at that step every protected session that isn't in the middle of protecting itself goes by
 /// values that it loaded after that epoch was raised, as at every moment it does for each epoch that is safe. While a refresh is
 /// under way that is said of both loads, the last one and the one before, by which the session still goes.
 pub fn law_once()
@@ -37,12 +37,12 @@ pub fn law_protected()
         → StaysProtected (epoch_run (opening sessions actors words) events) event }
 {}
 
-/// An action has one owner: a slot that gets one is empty, and a slot that is taken has the one that was armed there.
+/// An action has one owner: a slot that gets one is empty, and a slot that is claimed has the one that was armed there.
 pub fn law_owned()
     ensures put { (sessions actors : ℕ) (words : List ℕ) (events : List EpochEvent) → IsOpened sessions actors words
         → PutsIntoEmpty (epoch_run (opening sessions actors words) events) }
-    ensures take { (sessions actors : ℕ) (words : List ℕ) (events : List EpochEvent) → IsOpened sessions actors words
-        → TakesFromFull (epoch_run (opening sessions actors words) events) }
+    ensures claim { (sessions actors : ℕ) (words : List ℕ) (events : List EpochEvent) → IsOpened sessions actors words
+        → ClaimsFromFull (epoch_run (opening sessions actors words) events) }
 {}
 
 /// The stall is one of the runs of which `law_once` speaks: a session stores an epoch that is safe already, and an action

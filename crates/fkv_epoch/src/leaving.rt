@@ -1,4 +1,4 @@
-//! A session is protected no more, as it goes to sleep.
+//! A session leaves: it is protected no more.
 ghost use Rattle.std.specs.Prelude.{◌≡◌, ◌<◌};
 ghost use Rattle.fkv_base.specs.Limits.{max_sessions};
 
@@ -6,7 +6,7 @@ use fkv_plane::{Ask, SessionWord};
 use std::marker::Model;
 
 /// How far the machine has come.
-#[derive(Clone, Copy, Debug, PartialEq, Eq)]
+#[derive(Clone, Copy)]
 pub(crate) enum Leaving {
     AtRest,
     StoresZero,

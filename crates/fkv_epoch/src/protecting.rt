@@ -1,4 +1,4 @@
-//! A session becomes protected, as it wakes.
+//! A session becomes protected.
 ghost use Rattle.std.specs.Prelude.{◌≡◌, ◌<◌};
 ghost use Rattle.fkv_base.specs.Limits.{max_sessions};
 
@@ -8,7 +8,7 @@ use fkv_plane::{Ask, SessionWord, SharedWord};
 use std::marker::Model;
 
 /// How far the machine has come.
-#[derive(Clone, Copy, Debug, PartialEq, Eq)]
+#[derive(Clone, Copy)]
 pub(crate) enum Protecting {
     AtRest,
     LoadsEpoch,

@@ -9,7 +9,7 @@ use fkv_plane::{Ask, SharedWord, drain_place};
 use std::marker::Model;
 
 /// How far the machine has come, and the slot that is met.
-#[derive(Clone, Copy, Debug, PartialEq, Eq)]
+#[derive(Clone, Copy)]
 pub(crate) enum Raising {
     AtRest,
     LoadsEpoch,

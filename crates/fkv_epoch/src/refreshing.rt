@@ -8,7 +8,7 @@ use fkv_plane::{Ask, SessionWord, SharedWord};
 use std::marker::Model;
 
 /// How far the machine has come.
-#[derive(Clone, Copy, Debug, PartialEq, Eq)]
+#[derive(Clone, Copy)]
 pub(crate) enum Refreshing {
     AtRest,
     LoadsEpoch,

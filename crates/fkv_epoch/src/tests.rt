@@ -2,9 +2,10 @@ ghost use Rattle.std.specs.Prelude.{◌≤◌};
 ghost use Rattle.fkv_base.specs.Limits.{max_sessions};
 
 use crate::{
-    Arm, Claim, Leave, Protect, Raise, RaiseAnswer, Refresh, RefreshAnswer, Scan, Seen, law_of_the_stall, law_once, law_owned, law_protected,
+    Arm, Claim, Leave, Protect, Raise, RaiseAnswer, Refresh, RefreshAnswer, Scan, Seen,
+    law_of_the_stall, law_once, law_owned, law_protected,
 };
-use fkv_base::{Addr, LAST_EPOCH, Phase, Version};
+use fkv_base::{Addr, DRAIN_SLOTS, LAST_EPOCH, Phase, Version};
 use fkv_plane::{Action, Ask, PlainWords};
 use std::test::Fail;
 
@@ -57,7 +58,7 @@ fn arm(plane: &mut PlainWords, action: Action) -> Option<u64> {
     let RaiseAnswer::Raised(slot, epoch) = raise(plane) else {
         return None;
     };
-    if slot >= 8 || epoch > 1000 {
+    if slot >= DRAIN_SLOTS || epoch > 1000 {
         return None;
     }
     let mut machine = Arm::new();
@@ -99,22 +100,23 @@ fn refresh(plane: &mut PlainWords) -> Option<Seen> {
 fn the_stall(rt: HostRuntime) -> Result<(), Fail> {
     let mut plane = PlainWords::new(rt.alloc(), 64)?;
     plane.perform::<()>(&Ask::Store(0, 5));
-    let mut waking = Protect::new(0);
-    let loads = waking.start();
-    let stores = waking.drive(plane.perform(&loads));
+    let mut protecting = Protect::new(0);
+    let loads = protecting.start();
+    let stores = protecting.drive(plane.perform(&loads));
     assert_eq!(rt; stores, Ask::Store(24, 5));
+    assert_eq!(rt; protecting.ask(), stores);
     plane.perform::<()>(&Ask::Max(5, 16));
     assert_eq!(rt; arm(&mut plane, Action::SafeReadOnly(Addr(16))), Some(5));
     plane.perform::<()>(&Ask::Add(0, 3));
     scan(&mut plane, 1);
     assert_eq!(rt; plane.word(1), 8);
-    let phase = waking.drive(plane.perform(&stores));
+    let phase = protecting.drive(plane.perform(&stores));
     assert_eq!(rt; plane.word(24), 5);
     claim(&mut plane);
     assert_eq!(rt; plane.word(6), 16);
-    let read_only = waking.drive(plane.perform(&phase));
-    let head = waking.drive(plane.perform(&read_only));
-    let done = waking.drive(plane.perform(&head));
+    let read_only = protecting.drive(plane.perform(&phase));
+    let head = protecting.drive(plane.perform(&read_only));
+    let done = protecting.drive(plane.perform(&head));
     let seen = Seen {
         phase: 0,
         read_only: Addr(16),
@@ -151,6 +153,7 @@ fn a_session_that_left_is_not_waited_for(rt: HostRuntime) -> Result<(), Fail> {
     plane.perform::<()>(&Ask::Store(24, 1));
     let mut leaving = Leave::new(0);
     let stores = leaving.start();
+    assert_eq!(rt; leaving.ask(), stores);
     assert_eq!(rt; leaving.drive(plane.perform(&stores)), Ask::Done(()));
     assert_eq!(rt;
         arm(&mut plane, Action::Phase(Phase::InProgress, Version(2))),
@@ -162,7 +165,7 @@ fn a_session_that_left_is_not_waited_for(rt: HostRuntime) -> Result<(), Fail> {
     Ok(())
 }
 
-/// Two actors find the same slot armed; the one whose Cas comes second takes nothing.
+/// Two actors find the same slot armed; the one whose Cas comes second claims nothing.
 #[test]
 fn two_claims_of_one_slot(rt: HostRuntime) -> Result<(), Fail> {
     let mut plane = PlainWords::new(rt.alloc(), 64)?;
@@ -174,6 +177,7 @@ fn two_claims_of_one_slot(rt: HostRuntime) -> Result<(), Fail> {
     let safe = slow.drive(plane.perform(&meets));
     let takes = slow.drive(plane.perform(&safe));
     assert_eq!(rt; takes, Ask::Cas(16, 3, 1));
+    assert_eq!(rt; slow.ask(), takes);
     claim(&mut plane);
     assert_eq!(rt; plane.word(9), 4);
     assert_eq!(rt; slow.drive(plane.perform(&takes)), Ask::Load(17));
@@ -193,5 +197,31 @@ fn a_raise_is_refused(rt: HostRuntime) -> Result<(), Fail> {
     assert_eq!(rt; raise(&mut plane), RaiseAnswer::Raised(7, 7));
     assert_eq!(rt; plane.word(0), 8);
     assert_eq!(rt; raise(&mut plane), RaiseAnswer::NoSlot);
+    Ok(())
+}
+
+/// What a machine asks now is what it asked last, until the reply comes. The laws are called.
+#[test]
+fn asks_are_told_again(rt: HostRuntime) -> Result<(), Fail> {
+    let mut scanning = Scan::new(1);
+    let epoch = scanning.start();
+    assert_eq!(rt; scanning.ask(), epoch);
+    let mut raising = Raise::new();
+    let epoch = raising.start();
+    assert_eq!(rt; raising.ask(), epoch);
+    let mut refreshing = Refresh::new(0);
+    let epoch = refreshing.start();
+    assert_eq!(rt; refreshing.ask(), epoch);
+    let mut arming = Arm::new();
+    assert_eq!(rt;
+        arming.start(3, 7, Action::Close(Addr(4))),
+        Ask::Put(3, Action::Close(Addr(4)))
+    );
+    assert_eq!(rt; arming.drive(0), Ask::Store(19, 9));
+    assert_eq!(rt; arming.ask(), Ask::Store(19, 9));
+    law_once();
+    law_protected();
+    law_owned();
+    law_of_the_stall();
     Ok(())
 }

@@ -32,7 +32,7 @@ use Rattle.fkv_flush.proofs.OnDevice.{IsRead, IsKept, read_on, kept_on, opened_k
 use Rattle.fkv_flush.proofs.FlushKnows.{FlushKnows, IsReply, flush_end, synced_to, begins, record_kept_on, knows_on, replied, call_spares, called_on}
 
 -- an address below the limit whose page's frame is not used again has a frame
-opens : (n : GuardNow) (addr : ℕ) → addr < (levels_of n.words).limit → (levels_of n.words).limit ≤ addr + n.places.ring → is_open n addr ≡ true
+pub opens : (n : GuardNow) (addr : ℕ) → addr < (levels_of n.words).limit → (levels_of n.words).limit ≤ addr + n.places.ring → is_open n addr ≡ true
 opens n addr below near =
     let p : nat_lt addr (levels_of n.words).limit ≡ true = grind (arith, nat_tests) in
     let q : nat_le (levels_of n.words).limit (addr + n.places.ring) ≡ true = grind (arith, nat_tests) in
@@ -126,7 +126,7 @@ known_end w b y step bytes sound got its = by step (subst (Known w b y) its (sou
     by (flush.RaisesFlushed end) k = k
 
 -- the page of a store has records
-page_some : (w : GuardWorld) → IsSound w → 0 < w.now.shape.page
+pub page_some : (w : GuardWorld) → IsSound w → 0 < w.now.shape.page
 page_some w sound = let ring = sound.fits.ring in let some = w.now.places.some_ring in some_page w.now.shape.frames w.now.shape.page (omega (arith, ring, some))
 
 -- One event of a world that is sound, and has its flushed records on the device.
@@ -409,8 +409,8 @@ module _ (keeper start : ℕ) (opened : List ℕ) (calls : List Call) (words : �
       by (Reserves step) its = aside_case a x got (inr (ap is_flush its))
       by (Fills step) its = aside_case a x got (inr (ap is_flush its))
       by (Invalidates step) its = aside_case a x got (inr (ap is_flush its))
-      by (Shifts step m) its = aside_case a x got (inr (ap is_flush its))
-      by (Turns step m) its = aside_case a x got (inr (ap is_flush its))
+      by (Shifts s) its = aside_case a x got (inr (ap is_flush its))
+      by (Turns s) its = aside_case a x got (inr (ap is_flush its))
       by (Serves step) its = aside_case a x got (inr (ap is_flush its))
       by (Flushes step bytes) its = elim (truth (is_idle (Flushes step bytes))) [
         | inl idle ↦ aside_case a x got (inl (ap is_idle its ∙ idle))
@@ -454,8 +454,8 @@ module _ (keeper start : ℕ) (opened : List ℕ) (calls : List Call) (words : �
       by (Reserves step) its = no_flush_call a done (λ b y found. to_work (Reserves step) b y its found)
       by (Fills step) its = no_flush_call a done (λ b y found. to_work (Fills step) b y its found)
       by (Invalidates step) its = no_flush_call a done (λ b y found. to_work (Invalidates step) b y its found)
-      by (Shifts step m) its = no_flush_call a done (λ b y found. to_work (Shifts step m) b y its found)
-      by (Turns step m) its = no_flush_call a done (λ b y found. to_work (Turns step m) b y its found)
+      by (Shifts s) its = no_flush_call a done (λ b y found. to_work (Shifts s) b y its found)
+      by (Turns s) its = no_flush_call a done (λ b y found. to_work (Turns s) b y its found)
       by (Serves step) its = no_flush_call a done (λ b y found. to_work (Serves step) b y its found)
 
   pub happens_flushed : (event : GuardEvent) → FlushesAlone keeper event → After event (event_calls w.now event ++ calls)
@@ -464,7 +464,7 @@ module _ (keeper start : ℕ) (opened : List ℕ) (calls : List Call) (words : �
   happens_flushed (Begins a (ToFill its_words)) alone = quiet_case (Begins a (ToFill its_words)) refl
   happens_flushed (Begins a (ToInvalidate header)) alone = quiet_case (Begins a (ToInvalidate header)) refl
   happens_flushed (Begins a ToShift) alone = quiet_case (Begins a ToShift) refl
-  happens_flushed (Begins a (ToTurnPage tail)) alone = quiet_case (Begins a (ToTurnPage tail)) refl
+  happens_flushed (Begins a (ToTurnPage form tail)) alone = quiet_case (Begins a (ToTurnPage form tail)) refl
   happens_flushed (Begins a ToFlush) alone = begins_case a alone
   happens_flushed (Begins a ToServe) alone = quiet_case (Begins a ToServe) refl
   happens_flushed (Moves a) alone = moves_case a (slice_get w.now.actors a) refl

@@ -3,6 +3,7 @@ use Rattle.std.proofs.Common.{subst, ◌≡◌, ℕ, ◌<◌, ◌≤◌, ◌⊎�
 use Rattle.std.specs.Prelude.{Option, Some, None, slice_get, slice_set, nat_lt, nat_le, not, ◌==◌, ◌&&◌, ◌||◌, if◌then◌else◌}
 use Rattle.std.proofs.lemmas.List.{map-set}
 use Rattle.std.proofs.lemmas.Bool.Decides.{nat_tests}
+use Rattle.fkv_base.specs.declared.shapes.Shape.{Shape}
 use Rattle.fkv_plane.specs.declared.actions.Action.{Action}
 use Rattle.fkv_plane.specs.declared.actions.Action.TheVariants as act
 use Rattle.fkv_plane.specs.Asked.{word_at}
@@ -25,18 +26,22 @@ use Rattle.fkv_epoch.specs.EpochWorld as epochs
 use Rattle.fkv_epoch.specs.Once.{goes_by}
 use Rattle.fkv_epoch.proofs.Shown.{item_written, begun_sound, resumed_sound, seen_sound}
 use Rattle.fkv_epoch.proofs.Shown as epochs_sound
-use Rattle.fkv_flush.specs.declared.shifting.Shifting.TheVariants as shift
-use Rattle.fkv_flush.specs.declared.turning.Turning.TheVariants as turn
+use Rattle.fkv_log.specs.declared.shifting.Shifting.{Shifting}
+use Rattle.fkv_log.specs.declared.shifting.Shifting.TheVariants as shift
+use Rattle.fkv_log.specs.declared.turning.Turning.{Turning}
+use Rattle.fkv_log.specs.declared.turning.Turning.TheVariants as turn
 use Rattle.fkv_flush.specs.declared.flushing.Flushing.TheVariants as flush
 use Rattle.fkv_flush.specs.declared.serving.Serving.TheVariants as serve
-use Rattle.fkv_flush.specs.Moving.{move_at_rest}
+use Rattle.fkv_log.specs.Moving.{Mover}
+use Rattle.fkv_log.specs.Shifting.{shift_at, shift_begun}
+use Rattle.fkv_log.specs.Turning.{turn_at, turn_begun}
 use Rattle.fkv_flush.specs.GuardLevels.{Levels, levels_of, Rises}
 use Rattle.fkv_flush.specs.GuardSeen.{LastSeen, IsStored}
-use Rattle.fkv_flush.specs.GuardWorld.{Actor, Work, Rests, Reserves, Fills, Invalidates, Shifts, Turns, Flushes, Serves, GuardTask, ToDo, ToReserve, ToFill, ToInvalidate, ToShift, ToTurnPage, ToFlush, ToServe, GuardNow, GuardWorld, epoch_now, epoch_world, put_near, with_actor, epoch_step, work_step, moved, machine_moved, drives_epochs, is_idle, is_none, is_awake, may_work, started, begun, resumed, called, called_by, read, read_by, seen_again, seen_with, sight_moved, published, may_update, updated, read_only_raised, is_stored, raised_for, raised_with, is_guarded, changed, address_of}
+use Rattle.fkv_flush.specs.GuardWorld.{Actor, Work, Rests, Reserves, Fills, Invalidates, Shifts, Turns, Flushes, Serves, GuardTask, ToDo, ToReserve, ToFill, ToInvalidate, ToShift, ToTurnPage, ToFlush, ToServe, GuardNow, GuardWorld, epoch_now, epoch_world, put_near, with_actor, epoch_step, work_step, moved, machine_moved, drives_epochs, shift_rests, turn_rests, is_idle, is_none, is_awake, may_work, started, begun, resumed, called, called_by, read, read_by, seen_again, seen_with, sight_moved, published, may_update, updated, read_only_raised, is_stored, raised_for, raised_with, is_guarded, changed, address_of}
 use Rattle.fkv_flush.specs.Guarded.{is_steady, seen_at, seen_of, GoesBy}
 use Rattle.fkv_flush.proofs.Guard.{SeesOn, knows_on}
 use Rattle.fkv_flush.proofs.GuardEpochs.{runs}
-use Rattle.fkv_flush.proofs.GuardSound.{Knows, knows_more, IsSound, Awake, machine_of, machine_at, after, assembled}
+use Rattle.fkv_flush.proofs.GuardSound.{ShiftKnows, TurnKnows, Knows, knows_more, IsSound, Awake, machine_of, machine_at, after, assembled}
 use Rattle.fkv_flush.proofs.GuardSteps.{worded, looks, writes_elsewhere, high_elsewhere, IsElsewhere, rises_same, same_machines, goes_with}
 use Rattle.fkv_flush.proofs.GuardOffsets.{lifted, lifted_epochs, read_only_written}
 use Rattle.fkv_flush.proofs.GuardMachines.{epoch_step_sound, loaded_here, loaded_there, sees_read_only, sees_head}
@@ -47,14 +52,22 @@ use Rattle.fkv_flush.proofs.GuardWorks.{truth, Known, reserve_moves, fill_moves,
 use Rattle.fkv_flush.proofs.GuardShifts as shifts
 use Rattle.fkv_flush.proofs.GuardTurns as turns
 
+shift_rest_knows : (l : Levels) (d : EpochMachine) (step : Shifting) (m : Mover) → shift_rests step ≡ true → ShiftKnows l d step m
+shift_rest_knows l d shift.AtRest m e = tt
+shift_rest_knows l d step m e = cc
+
+turn_rest_knows : (shape : Shape) (l : Levels) (d : EpochMachine) (step : Turning) (m : Mover) → turn_rests step ≡ true → TurnKnows shape l d step m
+turn_rest_knows shape l d turn.AtRest m e = tt
+turn_rest_knows shape l d step m e = cc
+
 -- a machine that is through knows nothing
 pub idle_knows : (w : GuardWorld) (l : Levels) (A : Type 0) (d : EpochMachine) (u : Option ℕ) (work : Work) → is_idle work ≡ true → Knows w.now.shape l A d u work
 idle_knows w l A d u Rests e = tt
 idle_knows w l A d u (Reserves reserve.AtRest) e = tt
 idle_knows w l A d u (Fills fill.AtRest) e = tt
 idle_knows w l A d u (Invalidates invalidate.AtRest) e = tt
-idle_knows w l A d u (Shifts shift.AtRest m) e = tt
-idle_knows w l A d u (Turns turn.AtRest m) e = tt
+idle_knows w l A d u (Shifts s) e = shift_rest_knows l d s.step s.mover e
+idle_knows w l A d u (Turns s) e = turn_rest_knows w.now.shape l d s.step s.mover e
 idle_knows w l A d u (Flushes flush.AtRest bytes) e = tt
 idle_knows w l A d u (Serves serve.AtRest) e = tt
 idle_knows w l A d u work e = cc
@@ -74,9 +87,25 @@ machine_case w a x d sound got idle its =
     epoch_step_sound w a x (record x { machine = (machine_step w.now.places.sessions a w.now.words w.now.actions x.machine).machine; seen = seen_with x.seen (sight_of x.machine) w.now.words }) sound got (ap runs its) refl refl (λ addr u. u)
     (λ A. idle_knows w (levels_of w.now.words) A (machine_step w.now.places.sessions a w.now.words w.now.actions x.machine).machine x.undecided x.work idle)
 
+-- the world is sound after one ask of an actor with this work
+abbrev SoundMove : GuardWorld → ℕ → Actor → Work → Type 0
+SoundMove w a x work = IsSound (record { now = put_near w.now a (if is_idle work then epoch_step w.now a x else work_step w.now a x work); past = if drives_epochs work then past_moved (epoch_now w.now) a w.past (Some x.machine) else w.past })
+
+-- one ask of a shift
+shift_moved : (w : GuardWorld) (a : ℕ) (x : Actor) (step : Shifting) (m : Mover) → IsSound w → slice_get w.now.actors a ≡ Some x → x.work ≡ Shifts (shift_at step m) → SoundMove w a x (Shifts (shift_at step m))
+shift_moved w a x shift.AtRest m sound got its = machine_case w a x x.machine sound got (ap is_idle its) refl
+shift_moved w a x shift.LoadsTail m sound got its = shifts.shift_waits w a x m sound got (subst (Known w a x) its (sound.knows a x got))
+shift_moved w a x (shift.LoadsReadOnly tail) m sound got its = let k = subst (Known w a x) its (sound.knows a x got) in shifts.shift_loads w a x tail m sound got k.0 k.1
+shift_moved w a x (shift.Moves tail) m sound got its = shifts.move_case w a x tail m.step m.raising m.arming sound got (subst (Known w a x) its (sound.knows a x got))
+
+-- one ask of a turn
+turn_moved : (w : GuardWorld) (a : ℕ) (x : Actor) (step : Turning) (m : Mover) → IsSound w → slice_get w.now.actors a ≡ Some x → x.work ≡ Turns (turn_at step m) → SoundMove w a x (Turns (turn_at step m))
+turn_moved w a x turn.AtRest m sound got its = machine_case w a x x.machine sound got (ap is_idle its) refl
+turn_moved w a x turn.Moves m sound got its = turns.move_case w a x m.step m.raising m.arming sound got (subst (Known w a x) its (sound.knows a x got))
+turn_moved w a x step m sound got its = turns.turn_waits w a x step m sound got tt (subst (Known w a x) its (sound.knows a x got))
+
 -- one ask of an actor
-moved_by : (w : GuardWorld) (a : ℕ) (x : Actor) (work : Work) → IsSound w → slice_get w.now.actors a ≡ Some x → x.work ≡ work
-    → IsSound (record { now = put_near w.now a (if is_idle work then epoch_step w.now a x else work_step w.now a x work); past = if drives_epochs work then past_moved (epoch_now w.now) a w.past (Some x.machine) else w.past })
+moved_by : (w : GuardWorld) (a : ℕ) (x : Actor) (work : Work) → IsSound w → slice_get w.now.actors a ≡ Some x → x.work ≡ work → SoundMove w a x work
 moved_by w a x Rests sound got its = machine_case w a x x.machine sound got (ap is_idle its) refl
 moved_by w a x (Reserves reserve.AtRest) sound got its = machine_case w a x x.machine sound got (ap is_idle its) refl
 moved_by w a x (Reserves step) sound got its = reserve_moves w a x step sound got refl (subst (Known w a x) its (sound.knows a x got))
@@ -84,13 +113,8 @@ moved_by w a x (Fills fill.AtRest) sound got its = machine_case w a x x.machine 
 moved_by w a x (Fills step) sound got its = fill_moves w a x step sound got refl (subst (Known w a x) its (sound.knows a x got))
 moved_by w a x (Invalidates invalidate.AtRest) sound got its = machine_case w a x x.machine sound got (ap is_idle its) refl
 moved_by w a x (Invalidates step) sound got its = invalidate_moves w a x step sound got refl (subst (Known w a x) its (sound.knows a x got))
-moved_by w a x (Shifts shift.AtRest m) sound got its = machine_case w a x x.machine sound got (ap is_idle its) refl
-moved_by w a x (Shifts shift.LoadsTail m) sound got its = shifts.shift_waits w a x m sound got (subst (Known w a x) its (sound.knows a x got))
-moved_by w a x (Shifts (shift.LoadsReadOnly tail) m) sound got its = let k = subst (Known w a x) its (sound.knows a x got) in shifts.shift_loads w a x tail m sound got k.0 k.1
-moved_by w a x (Shifts (shift.Moves tail) m) sound got its = shifts.move_case w a x tail m.step m.raise.step m.arm.step sound got (subst (Known w a x) its (sound.knows a x got))
-moved_by w a x (Turns turn.AtRest m) sound got its = machine_case w a x x.machine sound got (ap is_idle its) refl
-moved_by w a x (Turns turn.Moves m) sound got its = turns.move_case w a x m.step m.raise.step m.arm.step sound got (subst (Known w a x) its (sound.knows a x got))
-moved_by w a x (Turns step m) sound got its = turns.turn_waits w a x step m sound got tt (subst (Known w a x) its (sound.knows a x got))
+moved_by w a x (Shifts s) sound got its = shift_moved w a x s.step s.mover sound got its
+moved_by w a x (Turns s) sound got its = turn_moved w a x s.step s.mover sound got its
 moved_by w a x (Flushes flush.AtRest bytes) sound got its = machine_case w a x x.machine sound got (ap is_idle its) refl
 moved_by w a x (Flushes step bytes) sound got its = flush_moves w a x step bytes sound got refl (subst (Known w a x) its (sound.knows a x got))
 moved_by w a x (Serves serve.AtRest) sound got its = machine_case w a x x.machine sound got (ap is_idle its) refl
@@ -203,8 +227,8 @@ begins w a x ToReserve sound got rest idle may =
     looks w a x (record x { work = Reserves reserve.LoadsLimit }) sound got refl refl (λ addr u. u) (awake_goes w a x got t.1, none_is x.undecided t.0)
 begins w a x (ToFill its_words) sound got rest idle may = looks w a x (record x { work = Fills (fill.StoresValue (address_of x.undecided) its_words) }) sound got refl refl (λ addr u. u) (some_is x.undecided may)
 begins w a x (ToInvalidate header) sound got rest idle may = looks w a x (record x { work = Invalidates (invalidate.StoresHeader (address_of x.undecided) header) }) sound got refl refl (λ addr u. u) (some_is x.undecided may)
-begins w a x ToShift sound got rest idle may = looks w a x (record x { work = Shifts shift.LoadsTail move_at_rest }) sound got refl refl (λ addr u. u) (refl, rest)
-begins w a x (ToTurnPage tail) sound got rest idle may = looks w a x (record x { work = Turns (turn.LoadsLimit tail) move_at_rest }) sound got refl refl (λ addr u. u) (refl, rest)
+begins w a x ToShift sound got rest idle may = looks w a x (record x { work = Shifts shift_begun }) sound got refl refl (λ addr u. u) (refl, rest)
+begins w a x (ToTurnPage form tail) sound got rest idle may = looks w a x (record x { work = Turns (turn_begun form tail) }) sound got refl refl (λ addr u. u) (refl, rest)
 begins w a x ToFlush sound got rest idle may = looks w a x (record x { work = Flushes flush.LoadsFlushed [] }) sound got refl refl (λ addr u. u) tt
 begins w a x ToServe sound got rest idle may = looks w a x (started w.now x ToServe) sound got refl refl (λ addr u. u) (next_mailbox w a x 0)
 

@@ -14,14 +14,13 @@ use Rattle.fkv_epoch.specs.Raising.{raise_ask, raise_next, raise_next_ask, raise
 use Rattle.fkv_epoch.specs.Arming.{arm_ask, arm_next}
 use Rattle.fkv_epoch.specs.EpochWorld.{EpochMachine, Raises, Arms, epoch_of, past_moved}
 use Rattle.fkv_epoch.proofs.Shown.{epoch_is_small, no_load}
-use Rattle.fkv_flush.specs.declared.answers.MoveAnswer.{MoveAnswer}
-use Rattle.fkv_flush.specs.declared.moving.Offset.{Offset}
-use Rattle.fkv_flush.specs.declared.moving.Offset.TheVariants.{ReadOnly, Head}
-use Rattle.fkv_flush.specs.declared.moving.Moving.{Moving}
-use Rattle.fkv_flush.specs.declared.moving.Moving.TheVariants as move
-use Rattle.fkv_flush.specs.Passing.{passed}
-use Rattle.fkv_flush.specs.Moving.{Mover, mover, offset_place, action_awaited, move_next, move_next_ask, step_raised, arm_raised, ask_raised, step_armed, moving_next, raising_next, arming_next, moving_next_ask}
-use Rattle.fkv_flush.specs.GuardAsks.{move_now}
+use Rattle.fkv_log.specs.declared.moving.MoveAnswer.{MoveAnswer}
+use Rattle.fkv_log.specs.declared.moving.Offset.{Offset}
+use Rattle.fkv_log.specs.declared.moving.Offset.TheVariants.{ReadOnly, Head}
+use Rattle.fkv_log.specs.declared.moving.Moving.{Moving}
+use Rattle.fkv_log.specs.declared.moving.Moving.TheVariants as move
+use Rattle.fkv_plane.specs.Passing.{passed}
+use Rattle.fkv_log.specs.Moving.{Mover, mover, offset_place, action_awaited, move_ask, move_next, move_next_ask, moving_ask, moving_next, moving_next_ask, raise_led, raise_told, arm_led}
 use Rattle.fkv_flush.specs.GuardLevels.{Levels, levels_of}
 use Rattle.fkv_flush.specs.GuardSeen.{IsStored}
 use Rattle.fkv_flush.specs.GuardWorld.{Actor, Work, GuardNow, GuardWorld, GuardNear, near, put_near, actions_after, after_put, inner_machine, epoch_now, epoch_world}
@@ -37,7 +36,7 @@ work_after again through ask m = again m
 
 -- what one ask of a move leads to inside that machine
 abbrev pub hosted : GuardNow → Actor → (Mover → Work) → (Mover → Work) → Mover → ℕ → GuardNear
-hosted n x again through m reply = near (words_after n.words (move_now m.step m.raise.step m.arm.step)) (actions_after n.actions (move_next_ask m reply)) (record x {
+hosted n x again through m reply = near (words_after n.words (move_ask m)) (actions_after n.actions (move_next_ask m reply)) (record x {
   machine = inner_machine x.machine m.step (after_put (move_next_ask m reply) (move_next m reply) (move_next (move_next m reply) 0));
   work = after_put (move_next_ask m reply) (work_after again through (move_next_ask m reply) (move_next m reply)) (work_after again through (move_next_ask (move_next m reply) 0) (move_next (move_next m reply) 0));
 })
@@ -60,10 +59,10 @@ moves_offset w a x x' slot Head = moves_head w a x x' slot
 
 -- It does inside any machine that has to know no more than its move while it goes on, and nothing once it is through.
 pub hosted_sound : (w : GuardWorld) (a : ℕ) (x : Actor) (again through : Mover → Work)
-    → ((l : Levels) (A : Type 0) (d : EpochMachine) (m : Mover) → MoveKnows l d m.step m.raise.step m.arm.step → Knows w.now.shape l A d x.undecided (again m))
+    → ((l : Levels) (A : Type 0) (d : EpochMachine) (m : Mover) → MoveKnows l d m.step m.raising m.arming → Knows w.now.shape l A d x.undecided (again m))
     → ((l : Levels) (A : Type 0) (d : EpochMachine) (m : Mover) → Knows w.now.shape l A d x.undecided (through m))
-    → IsMoveSound w a x (λ m. hosted w.now x again through m (reply_to w.now.words (move_now m.step m.raise.step m.arm.step)))
-unfolding raise_ask raise_next raise_next_ask raise_on free_after arm_ask arm_next passed step_raised arm_raised ask_raised step_armed moving_next raising_next arming_next moving_next_ask
+    → IsMoveSound w a x (λ m. hosted w.now x again through m (reply_to w.now.words (move_ask m)))
+unfolding raise_ask raise_next raise_next_ask raise_on free_after arm_ask arm_next passed raise_led raise_told arm_led moving_ask moving_next moving_next_ask
 hosted_sound w a x again through on done (move.Raises target) raise.LoadsEpoch arming sound got k = elim (truth (nat_le last_epoch (epoch_of w.now.words))) [
   | inl e ↦ rw (k.0, e) (epoch_step_at w a x (record x { machine = Raises raise.AtRest; work = through (mover move.AtRest raise.AtRest arming) }) _ sound got k.0 refl (rw e refl) refl refl (λ addr u. u) (λ A. done (levels_of w.now.words) A (Raises raise.AtRest) _))
   | inr e ↦ rw (k.0, e) (epoch_step_at w a x (record x { machine = Raises (raise.MeetsSlot 0); work = again (mover (move.Raises target) (raise.MeetsSlot 0) arming) }) _ sound got k.0 refl (rw e refl) refl refl (λ addr u. u) (λ A. on _ _ _ _ (refl, k.1)))

@@ -96,26 +96,26 @@ machine_length S a words actions (HasRaised slot epoch) = refl
 machine_length S a words actions (Arms step) = changed_length words (arm_ask step)
 
 -- a list that two make
-split : {X : Type 0} (y : X) (xs ys : List X) → Among y (xs ++ ys) → Among y xs ⊎ Among y ys
+pub split : {X : Type 0} (y : X) (xs ys : List X) → Among y (xs ++ ys) → Among y xs ⊎ Among y ys
 split y [] ys o = inr o
 split y (x ∷ xs) ys (inl e) = inl (inl e)
 split y (x ∷ xs) ys (inr o) = elim (split y xs ys o) [ inl i ↦ inl (inr i) | inr i ↦ inr i ]
 
 -- what a step arms
-record Arming (actions : List (Option Action)) (d : EpochMachine) (y : Armed) : Type 0 where
-  slot : ℕ
-  epoch : ℕ
-  action : Action
-  machine : d ≡ Arms (arm.StoresEpoch slot epoch)
-  at_home : action_at actions slot ≡ Some action
-  is_it : y ≡ record { slot = slot; epoch = epoch; action = action }
+pub record Arming (actions : List (Option Action)) (d : EpochMachine) (y : Armed) : Type 0 where
+  pub slot : ℕ
+  pub epoch : ℕ
+  pub action : Action
+  pub machine : d ≡ Arms (arm.StoresEpoch slot epoch)
+  pub at_home : action_at actions slot ≡ Some action
+  pub is_it : y ≡ record { slot = slot; epoch = epoch; action = action }
 
 arms_that : (actions : List (Option Action)) (slot c : ℕ) (y : Armed) (found : Option Action) → action_at actions slot ≡ found → Among y (armed_with slot c found) → Arming actions (Arms (arm.StoresEpoch slot c)) y
 arms_that actions slot c y None home o = absurd o
 arms_that actions slot c y (Some action) home (inl e) = record { slot = slot; epoch = c; action = action; machine = refl; at_home = home; is_it = e }
 arms_that actions slot c y (Some action) home (inr o) = absurd o
 
-arms_it : (n : epochs.EpochNow) (d : EpochMachine) (y : Armed) → Among y (armed_by n d) → Arming n.actions d y
+pub arms_it : (n : epochs.EpochNow) (d : EpochMachine) (y : Armed) → Among y (armed_by n d) → Arming n.actions d y
 arms_it n (Arms (arm.StoresEpoch slot c)) y o = arms_that n.actions slot c y (action_at n.actions slot) refl o
 arms_it n d y o = absurd o
 

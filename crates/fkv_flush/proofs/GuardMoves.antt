@@ -14,12 +14,12 @@ use Rattle.fkv_epoch.specs.Raising.{raise_on}
 use Rattle.fkv_epoch.specs.EpochWorld.{EpochMachine, Protects, Refreshes, Leaves, Scans, Claims, Raises, HasRaised, Arms, Sight, ToRaise, is_at_rest, begun, resumed, with_machine, machine_step, sight_of, past_moved, epoch_of}
 use Rattle.fkv_epoch.specs.EpochWorld as epochs
 use Rattle.fkv_epoch.specs.Once.{goes_by}
-use Rattle.fkv_epoch.proofs.Shown as epochs_sound
 use Rattle.fkv_epoch.proofs.Shown.{begun_sound, resumed_sound, changes_sound}
-use Rattle.fkv_flush.specs.declared.moving.Moving.{Moving}
-use Rattle.fkv_flush.specs.declared.moving.Moving.TheVariants as move
-use Rattle.fkv_flush.specs.Shifting.{mutable_start}
-use Rattle.fkv_flush.specs.Turning.{frame_end, limit_after}
+use Rattle.fkv_epoch.proofs.Shown as epochs_sound
+use Rattle.fkv_log.specs.declared.moving.Moving.{Moving}
+use Rattle.fkv_log.specs.declared.moving.Moving.TheVariants as move
+use Rattle.fkv_log.specs.Shifting.{mutable_start}
+use Rattle.fkv_log.specs.Turning.{frame_end, limit_after}
 use Rattle.fkv_flush.specs.GuardAsks.{inner_of}
 use Rattle.fkv_flush.specs.GuardLevels.{Levels, levels_of}
 use Rattle.fkv_flush.specs.GuardWorld.{Actor, GuardNow, GuardWorld, epoch_now, epoch_world, seen_with}
@@ -129,6 +129,7 @@ pub inner_rest : (d : EpochMachine) (step : Moving) (raising : Raising) (arming 
 inner_rest d move.AtRest raising arming e = refl
 inner_rest d (move.Raises target) raising arming e = cc
 inner_rest d (move.MovesOffset target) raising arming e = cc
+inner_rest d (move.Puts target slot) raising arming e = cc
 inner_rest d move.Arms raising arming e = cc
 
 -- the mutable pages begin no higher than the tail

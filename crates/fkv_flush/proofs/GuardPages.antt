@@ -1,6 +1,6 @@
 -- The step that raises the limit: it opens a page whose frame holds nothing that is still needed.
 use Rattle.std.proofs.Common.{subst, ℕ, ◌/◌, ◌≤◌, sym, ap, arith, inl, inr}
-use Rattle.fkv_flush.specs.Turning.{frame_end}
+use Rattle.fkv_log.specs.Turning.{frame_end}
 use Rattle.fkv_flush.specs.GuardLevels.{levels_of}
 use Rattle.fkv_flush.specs.GuardWorld.{GuardWorld, GuardEvent}
 use Rattle.fkv_flush.specs.Guarded.{GuardsLimit}

@@ -42,7 +42,7 @@ begun_seen n x ToReserve = refl
 begun_seen n x (ToFill its_words) = refl
 begun_seen n x (ToInvalidate header) = refl
 begun_seen n x ToShift = refl
-begun_seen n x (ToTurnPage tail) = refl
+begun_seen n x (ToTurnPage form tail) = refl
 begun_seen n x ToFlush = refl
 begun_seen n x ToServe = refl
 
@@ -70,8 +70,8 @@ moved_seen w a x sound got addr u = by (is_idle x.work) x.work
     by false (Reserves step) = refl
     by false (Fills step) = refl
     by false (Invalidates step) = refl
-    by false (Shifts step m) = refl
-    by false (Turns step m) = refl
+    by false (Shifts s) = refl
+    by false (Turns s) = refl
     by false (Flushes step bytes) = refl
     by false (Serves step) = refl
 

@@ -12,17 +12,18 @@ use Rattle.fkv_base.specs.declared.shapes.Shape.{Shape}
 use Rattle.fkv_epoch.specs.declared.raising.Raising.{Raising}
 use Rattle.fkv_epoch.specs.declared.raising.Raising.TheVariants as raise
 use Rattle.fkv_epoch.specs.declared.arming.Arming.{Arming}
-use Rattle.fkv_flush.specs.declared.moving.Offset.{Offset}
-use Rattle.fkv_flush.specs.declared.moving.Offset.TheVariants.{ReadOnly, Head}
-use Rattle.fkv_flush.specs.declared.moving.Target.{Target}
-use Rattle.fkv_flush.specs.declared.moving.Moving.{Moving}
-use Rattle.fkv_flush.specs.declared.moving.Moving.TheVariants as move
-use Rattle.fkv_flush.specs.declared.shifting.Shifting.TheVariants as shift
-use Rattle.fkv_flush.specs.declared.turning.Turning.TheVariants as turn
+use Rattle.fkv_log.specs.declared.moving.Offset.{Offset}
+use Rattle.fkv_log.specs.declared.moving.Offset.TheVariants.{ReadOnly, Head}
+use Rattle.fkv_log.specs.declared.moving.Moving.{Moving}
+use Rattle.fkv_log.specs.declared.moving.Moving.TheVariants as move
+use Rattle.fkv_log.specs.declared.shifting.Shifting.{Shifting}
+use Rattle.fkv_log.specs.declared.shifting.Shifting.TheVariants as shift
+use Rattle.fkv_log.specs.declared.turning.Turning.{Turning}
+use Rattle.fkv_log.specs.declared.turning.Turning.TheVariants as turn
 use Rattle.fkv_flush.specs.declared.flushing.Flushing.TheVariants as flush
 use Rattle.fkv_flush.specs.declared.serving.Serving.TheVariants as serve
-use Rattle.fkv_flush.specs.Moving.{Mover, action_awaited}
-use Rattle.fkv_flush.specs.Turning.{frame_end}
+use Rattle.fkv_log.specs.Moving.{Mover, action_awaited}
+use Rattle.fkv_log.specs.Turning.{frame_end}
 use Rattle.fkv_epoch.specs.declared.arming.Arming.TheVariants as arm
 use Rattle.fkv_epoch.specs.EpochWorld.{EpochMachine, Protects, Refreshes, Leaves, Raises, Arms, is_at_rest, Sight, OfReadOnly, OfHead, Armed, Claimed, safe_of, own_epoch}
 use Rattle.fkv_epoch.specs.EpochWorld as epochs
@@ -41,25 +42,43 @@ IsAhead l ReadOnly to = to ≤ l.tail
 IsAhead l Head to = to ≤ l.flushed
 
 -- what a move knows while a slot is sought, and while the epoch is raised
-abbrev pub RaiseKnows : Levels → Target → Raising → Type 0
-RaiseKnows l target raise.LoadsEpoch = IsAhead l target.offset target.to
-RaiseKnows l target (raise.MeetsSlot slot) = IsAhead l target.offset target.to
-RaiseKnows l target (raise.HoldsSlot slot) = IsAhead l target.offset target.to
-RaiseKnows l target (raise.RaisesEpoch slot) = IsStored l (action_awaited target.offset target.to)
-RaiseKnows l target raising = ⊥
+abbrev pub RaiseKnows : Levels → Offset → ℕ → Raising → Type 0
+RaiseKnows l offset to raise.LoadsEpoch = IsAhead l offset to
+RaiseKnows l offset to (raise.MeetsSlot slot) = IsAhead l offset to
+RaiseKnows l offset to (raise.HoldsSlot slot) = IsAhead l offset to
+RaiseKnows l offset to (raise.RaisesEpoch slot) = IsStored l (action_awaited offset to)
+RaiseKnows l offset to raising = ⊥
 
 -- what a move knows: the actor's machine of the epochs is the one inside it
 abbrev pub MoveKnows : Levels → EpochMachine → Moving → Raising → Arming → Type 0
 MoveKnows l d move.AtRest raising arming = ⊥
-MoveKnows l d (move.Raises target) raising arming = (d ≡ Raises raising) × RaiseKnows l target raising
+MoveKnows l d (move.Raises target) raising arming = (d ≡ Raises raising) × RaiseKnows l target.offset target.to raising
 MoveKnows l d (move.MovesOffset target) (raise.HasSlot slot) arming = (d ≡ Raises (raise.HasSlot slot)) × IsAhead l target.offset target.to
 MoveKnows l d (move.MovesOffset target) raising arming = ⊥
+MoveKnows l d (move.Puts target slot) raising arming = ⊥
 MoveKnows l d move.Arms raising (arm.StoresEpoch slot c) = d ≡ Arms (arm.StoresEpoch slot c)
 MoveKnows l d move.Arms raising arming = ⊥
 
 -- a machine that has not begun its move
 abbrev pub Waits : EpochMachine → Mover → Type 0
 Waits d m = (m.step ≡ move.AtRest) × (is_at_rest d ≡ true)
+
+-- what a shift of the read-only offset knows
+abbrev pub ShiftKnows : Levels → EpochMachine → Shifting → Mover → Type 0
+ShiftKnows l d shift.AtRest m = ⊤
+ShiftKnows l d shift.LoadsTail m = Waits d m
+ShiftKnows l d (shift.LoadsReadOnly tail) m = Waits d m × (tail ≤ l.tail)
+ShiftKnows l d (shift.Moves tail) m = MoveKnows l d m.step m.raising m.arming
+
+-- what a turn of a page knows
+abbrev pub TurnKnows : Shape → Levels → EpochMachine → Turning → Mover → Type 0
+TurnKnows shape l d turn.AtRest m = ⊤
+TurnKnows shape l d (turn.LoadsLimit form tail) m = Waits d m
+TurnKnows shape l d (turn.LoadsClosed form limit) m = Waits d m × (limit / shape.page < shape.disk_pages)
+TurnKnows shape l d (turn.RaisesLimit limit) m = Waits d m × (frame_end shape limit ≤ l.closed) × (limit / shape.page < shape.disk_pages)
+TurnKnows shape l d (turn.LoadsHead end) m = Waits d m
+TurnKnows shape l d (turn.LoadsFlushed end) m = Waits d m
+TurnKnows shape l d turn.Moves m = MoveKnows l d m.step m.raising m.arming
 
 -- what an actor knows, by how far its machine has come; Awake says that it is a session which goes by a read-only offset
 abbrev pub Knows : Shape → Levels → Type 0 → EpochMachine → Option ℕ → Work → Type 0
@@ -74,17 +93,8 @@ Knows shape l Awake d undecided (Fills (fill.StoresKey addr its_words)) = undeci
 Knows shape l Awake d undecided (Fills (fill.StoresHeader addr its_words)) = undecided ≡ Some addr.0
 Knows shape l Awake d undecided (Invalidates invalidate.AtRest) = ⊤
 Knows shape l Awake d undecided (Invalidates (invalidate.StoresHeader addr header)) = undecided ≡ Some addr.0
-Knows shape l Awake d undecided (Shifts shift.AtRest m) = ⊤
-Knows shape l Awake d undecided (Shifts shift.LoadsTail m) = Waits d m
-Knows shape l Awake d undecided (Shifts (shift.LoadsReadOnly tail) m) = Waits d m × (tail ≤ l.tail)
-Knows shape l Awake d undecided (Shifts (shift.Moves tail) m) = MoveKnows l d m.step m.raise.step m.arm.step
-Knows shape l Awake d undecided (Turns turn.AtRest m) = ⊤
-Knows shape l Awake d undecided (Turns (turn.LoadsLimit tail) m) = Waits d m
-Knows shape l Awake d undecided (Turns (turn.LoadsClosed limit) m) = Waits d m × (limit / shape.page < shape.disk_pages)
-Knows shape l Awake d undecided (Turns (turn.RaisesLimit limit) m) = Waits d m × (frame_end shape limit ≤ l.closed) × (limit / shape.page < shape.disk_pages)
-Knows shape l Awake d undecided (Turns (turn.LoadsHead end) m) = Waits d m
-Knows shape l Awake d undecided (Turns (turn.LoadsFlushed end) m) = Waits d m
-Knows shape l Awake d undecided (Turns turn.Moves m) = MoveKnows l d m.step m.raise.step m.arm.step
+Knows shape l Awake d undecided (Shifts s) = ShiftKnows l d s.step s.mover
+Knows shape l Awake d undecided (Turns s) = TurnKnows shape l d s.step s.mover
 Knows shape l Awake d undecided (Flushes flush.AtRest bytes) = ⊤
 Knows shape l Awake d undecided (Flushes flush.LoadsFlushed bytes) = ⊤
 Knows shape l Awake d undecided (Flushes (flush.LoadsEnd flushed) bytes) = ⊤
@@ -109,26 +119,42 @@ stored_more : (l l' : Levels) (offset : Offset) (to : ℕ) → Rises l l' → Is
 stored_more l l' ReadOnly to up h = let r = up.read_only in omega (arith, h, r)
 stored_more l l' Head to up h = let r = up.head in omega (arith, h, r)
 
-raise_more : (l l' : Levels) (target : Target) (raising : Raising) → Rises l l' → RaiseKnows l target raising → RaiseKnows l' target raising
-raise_more l l' target raise.AtRest up h = h
-raise_more l l' target raise.LoadsEpoch up h = ahead_more l l' target.offset target.to up h
-raise_more l l' target (raise.MeetsSlot slot) up h = ahead_more l l' target.offset target.to up h
-raise_more l l' target (raise.HoldsSlot slot) up h = ahead_more l l' target.offset target.to up h
-raise_more l l' target (raise.HasSlot slot) up h = h
-raise_more l l' target (raise.RaisesEpoch slot) up h = stored_more l l' target.offset target.to up h
+raise_more : (l l' : Levels) (offset : Offset) (to : ℕ) (raising : Raising) → Rises l l' → RaiseKnows l offset to raising → RaiseKnows l' offset to raising
+raise_more l l' offset to raise.AtRest up h = h
+raise_more l l' offset to raise.LoadsEpoch up h = ahead_more l l' offset to up h
+raise_more l l' offset to (raise.MeetsSlot slot) up h = ahead_more l l' offset to up h
+raise_more l l' offset to (raise.HoldsSlot slot) up h = ahead_more l l' offset to up h
+raise_more l l' offset to (raise.HasSlot slot) up h = h
+raise_more l l' offset to (raise.RaisesEpoch slot) up h = stored_more l l' offset to up h
 
 move_more : (l l' : Levels) (d : EpochMachine) (step : Moving) (raising : Raising) (arming : Arming) → Rises l l' → MoveKnows l d step raising arming → MoveKnows l' d step raising arming
 move_more l l' d move.AtRest raising arming up h = h
-move_more l l' d (move.Raises target) raising arming up h = (h.0, raise_more l l' target raising up h.1)
+move_more l l' d (move.Raises target) raising arming up h = (h.0, raise_more l l' target.offset target.to raising up h.1)
 move_more l l' d (move.MovesOffset target) raise.AtRest arming up h = h
 move_more l l' d (move.MovesOffset target) raise.LoadsEpoch arming up h = h
 move_more l l' d (move.MovesOffset target) (raise.MeetsSlot slot) arming up h = h
 move_more l l' d (move.MovesOffset target) (raise.HoldsSlot slot) arming up h = h
 move_more l l' d (move.MovesOffset target) (raise.HasSlot slot) arming up h = (h.0, ahead_more l l' target.offset target.to up h.1)
 move_more l l' d (move.MovesOffset target) (raise.RaisesEpoch slot) arming up h = h
+move_more l l' d (move.Puts target slot) raising arming up h = h
 move_more l l' d move.Arms raising arm.AtRest up h = h
 move_more l l' d move.Arms raising (arm.PutsAction slot c) up h = h
 move_more l l' d move.Arms raising (arm.StoresEpoch slot c) up h = h
+
+shift_more : (l l' : Levels) (d : EpochMachine) (step : Shifting) (m : Mover) → Rises l l' → ShiftKnows l d step m → ShiftKnows l' d step m
+shift_more l l' d shift.AtRest m up k = tt
+shift_more l l' d shift.LoadsTail m up k = k
+shift_more l l' d (shift.LoadsReadOnly tail) m up k = (k.0, let r = up.tail in omega (arith, k.1, r))
+shift_more l l' d (shift.Moves tail) m up k = move_more l l' d m.step m.raising m.arming up k
+
+turn_more : (shape : Shape) (l l' : Levels) (d : EpochMachine) (step : Turning) (m : Mover) → Rises l l' → TurnKnows shape l d step m → TurnKnows shape l' d step m
+turn_more shape l l' d turn.AtRest m up k = tt
+turn_more shape l l' d (turn.LoadsLimit form tail) m up k = k
+turn_more shape l l' d (turn.LoadsClosed form limit) m up k = k
+turn_more shape l l' d (turn.RaisesLimit limit) m up k = (k.0, let r = up.closed in omega (arith, k.1, r), k.2)
+turn_more shape l l' d (turn.LoadsHead end) m up k = k
+turn_more shape l l' d (turn.LoadsFlushed end) m up k = k
+turn_more shape l l' d turn.Moves m up k = move_more l l' d m.step m.raising m.arming up k
 
 -- offsets rise, and so what is known of them stays
 pub knows_more : (shape : Shape) (l l' : Levels) (A A' : Type 0) (d : EpochMachine) (u : Option ℕ) (work : Work) → Rises l l' → (A → A') → Knows shape l A d u work → Knows shape l' A' d u work
@@ -143,17 +169,8 @@ knows_more shape l l' A A' d u (Fills (fill.StoresKey addr its_words)) up on k =
 knows_more shape l l' A A' d u (Fills (fill.StoresHeader addr its_words)) up on k = k
 knows_more shape l l' A A' d u (Invalidates invalidate.AtRest) up on k = tt
 knows_more shape l l' A A' d u (Invalidates (invalidate.StoresHeader addr header)) up on k = k
-knows_more shape l l' A A' d u (Shifts shift.AtRest m) up on k = tt
-knows_more shape l l' A A' d u (Shifts shift.LoadsTail m) up on k = k
-knows_more shape l l' A A' d u (Shifts (shift.LoadsReadOnly tail) m) up on k = (k.0, let r = up.tail in omega (arith, k.1, r))
-knows_more shape l l' A A' d u (Shifts (shift.Moves tail) m) up on k = move_more l l' d m.step m.raise.step m.arm.step up k
-knows_more shape l l' A A' d u (Turns turn.AtRest m) up on k = tt
-knows_more shape l l' A A' d u (Turns (turn.LoadsLimit tail) m) up on k = k
-knows_more shape l l' A A' d u (Turns (turn.LoadsClosed limit) m) up on k = k
-knows_more shape l l' A A' d u (Turns (turn.RaisesLimit limit) m) up on k = (k.0, let r = up.closed in omega (arith, k.1, r), k.2)
-knows_more shape l l' A A' d u (Turns (turn.LoadsHead end) m) up on k = k
-knows_more shape l l' A A' d u (Turns (turn.LoadsFlushed end) m) up on k = k
-knows_more shape l l' A A' d u (Turns turn.Moves m) up on k = move_more l l' d m.step m.raise.step m.arm.step up k
+knows_more shape l l' A A' d u (Shifts s) up on k = shift_more l l' d s.step s.mover up k
+knows_more shape l l' A A' d u (Turns s) up on k = turn_more shape l l' d s.step s.mover up k
 knows_more shape l l' A A' d u (Flushes flush.AtRest bytes) up on k = tt
 knows_more shape l l' A A' d u (Flushes flush.LoadsFlushed bytes) up on k = tt
 knows_more shape l l' A A' d u (Flushes (flush.LoadsEnd flushed) bytes) up on k = tt

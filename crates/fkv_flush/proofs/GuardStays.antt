@@ -1,19 +1,11 @@
 -- What an event leaves as it is: the shape and the places, and the flush of each actor that neither begins one nor goes on with it.
 use Rattle.std.proofs.Common.{◌≡◌, ◌≢◌, ℕ, ◌⊎◌, List, refl, sym, ap, subst, inl, inr, ◌∙◌, Bool, true, false}
 use Rattle.std.specs.Prelude.{Option, Some, None, slice_get, slice_set, nat_le, ◌&&◌, if◌then◌else◌}
-use Rattle.fkv_plane.specs.declared.asks.Ask.{Ask}
-use Rattle.fkv_plane.specs.declared.asks.Ask.TheVariants as ask
-use Rattle.fkv_plane.specs.Asked.{word_at, reply_to}
+use Rattle.fkv_plane.specs.Asked.{word_at}
 use Rattle.fkv_epoch.specs.declared.raising.Raising.TheVariants as raise
 use Rattle.fkv_epoch.specs.EpochWorld.{EpochMachine, Raises, is_at_rest}
 use Rattle.fkv_epoch.proofs.Shown.{item_written, item_spared, same_or, some_same}
-use Rattle.fkv_flush.specs.declared.shifting.Shifting.{Shifting}
-use Rattle.fkv_flush.specs.declared.turning.Turning.{Turning}
-use Rattle.fkv_flush.specs.Moving.{Mover}
-use Rattle.fkv_flush.specs.Shifting.{shift_next, shift_mover, shift_next_ask}
-use Rattle.fkv_flush.specs.Turning.{turn_next, turn_mover, turn_next_ask}
-use Rattle.fkv_flush.specs.GuardAsks.{shift_now, turn_now}
-use Rattle.fkv_flush.specs.GuardWorld.{Actor, Work, Rests, Reserves, Fills, Invalidates, Shifts, Turns, Flushes, Serves, GuardTask, ToDo, ToReserve, ToFill, ToInvalidate, ToShift, ToTurnPage, ToFlush, ToServe, GuardNow, GuardWorld, GuardEvent, Begins, Resumes, Moves, Calls, Reads, Sees, Publishes, Updates, RaisesReadOnly, RaisesFor, Changes, CallsElse, guard_happens, is_idle, is_none, is_guarded, is_stored, may_update, may_work, after_put, epoch_step, work_step, started, begun, resumed, moved, called, called_by, read, read_by, seen_again, published, updated, read_only_raised, raised_for, raised_with, changed}
+use Rattle.fkv_flush.specs.GuardWorld.{Actor, Work, Rests, Reserves, Fills, Invalidates, Shifts, Turns, Flushes, Serves, GuardTask, ToDo, ToReserve, ToFill, ToInvalidate, ToShift, ToTurnPage, ToFlush, ToServe, GuardNow, GuardWorld, GuardEvent, Begins, Resumes, Moves, Calls, Reads, Sees, Publishes, Updates, RaisesReadOnly, RaisesFor, Changes, CallsElse, guard_happens, is_idle, is_none, is_guarded, is_stored, may_update, may_work, epoch_step, work_step, started, begun, resumed, moved, called, called_by, read, read_by, seen_again, published, updated, read_only_raised, raised_for, raised_with, changed}
 use Rattle.fkv_flush.proofs.GuardWorks.{truth}
 
 abbrev pub SameStore : GuardNow → GuardNow → Type 0
@@ -148,7 +140,7 @@ begins_none n x a ToReserve quiet = refl
 begins_none n x a (ToFill its_words) quiet = refl
 begins_none n x a (ToInvalidate header) quiet = refl
 begins_none n x a ToShift quiet = refl
-begins_none n x a (ToTurnPage tail) quiet = refl
+begins_none n x a (ToTurnPage form tail) quiet = refl
 begins_none n x a ToFlush quiet = cc
 begins_none n x a ToServe quiet = refl
 
@@ -211,26 +203,14 @@ quiet_stays w (Changes a place word) quiet = by (slice_get w.now.actors a) refl
     by (Some x) got = either_stay w.now.actors w.now _ (is_guarded w.now.places place) (all_same w.now.actors) (put_stay w.now.actors a x x got (inl refl))
 quiet_stays w (CallsElse call) quiet = all_same w.now.actors
 
-put_none : {A : Type 0} (ask : Ask A) (once twice : Work) → is_flush once ≡ false → is_flush twice ≡ false → is_flush (after_put ask once twice) ≡ false
-put_none (ask.Put slot action) once twice p q = q
-put_none other once twice p q = p
-
 -- a machine that is no flush is none after its step
 works_none : (n : GuardNow) (a : ℕ) (x : Actor) (work : Work) → is_flush work ≡ false → is_flush (work_step n a x work).actor.work ≡ false ⊎ ((work_step n a x work).actor.work ≡ x.work)
 works_none n a x Rests apart = inr refl
 works_none n a x (Reserves step) apart = inl refl
 works_none n a x (Fills step) apart = inl refl
 works_none n a x (Invalidates step) apart = inl refl
-works_none n a x (Shifts step m) apart =
-    let reply : ℕ = reply_to n.words (shift_now step m) in
-    let next : Shifting = shift_next n.shape step m reply in
-    let mover : Mover = shift_mover n.shape step m reply in
-    inl (put_none (shift_next_ask n.shape step m reply) (Shifts next mover) (Shifts (shift_next n.shape next mover 0) (shift_mover n.shape next mover 0)) refl refl)
-works_none n a x (Turns step m) apart =
-    let reply : ℕ = reply_to n.words (turn_now n.shape step m) in
-    let next : Turning = turn_next n.shape step m reply in
-    let mover : Mover = turn_mover step m reply in
-    inl (put_none (turn_next_ask n.shape step m reply) (Turns next mover) (Turns (turn_next n.shape next mover 0) (turn_mover next mover 0)) refl refl)
+works_none n a x (Shifts s) apart = inl refl
+works_none n a x (Turns s) apart = inl refl
 works_none n a x (Flushes step bytes) apart = cc
 works_none n a x (Serves step) apart = inl refl
 

@@ -3,6 +3,7 @@ use Rattle.std.proofs.Common.{subst, ◌≡◌, ◌≢◌, ℕ, zero, suc, ◌+�
 use Rattle.std.specs.Prelude.{Some, slice_get, slice_set, ◌==◌, ◌||◌, ◌&&◌, nat_lt, nat_le}
 use Rattle.std.proofs.lemmas.List.{map-set, length-set}
 use Rattle.std.proofs.lemmas.Bool.Decides.{nat_tests}
+use Rattle.std.proofs.lemmas.Bool.{cases_lt}
 use Rattle.fkv_plane.specs.Asked.{word_at}
 use Rattle.fkv_plane.specs.Places.{session_place}
 use Rattle.fkv_plane.specs.declared.places.SessionWord.TheVariants as own
@@ -19,7 +20,7 @@ use Rattle.fkv_flush.specs.Guarded.{is_steady, seen_at, seen_of, undecided_at, G
 use Rattle.fkv_flush.proofs.Guard.{SeesOn, knows_on, fresh_on}
 use Rattle.fkv_flush.proofs.GuardSound.{Knows, knows_more, IsSound, Awake, machine_of, machine_at, after, assembled}
 
-same_item : {X : Type 0} (xs : List X) (i : ℕ) (x : X) → slice_get xs i ≡ Some x → slice_set xs i x ≡ xs
+pub same_item : {X : Type 0} (xs : List X) (i : ℕ) (x : X) → slice_get xs i ≡ Some x → slice_set xs i x ≡ xs
 same_item [] i x e = refl
 same_item (y ∷ ys) zero x e = let h : y ≡ x = cc in ap (λ z. z ∷ ys) (sym h)
 same_item (y ∷ ys) (suc i) x e = ap (λ zs. y ∷ zs) (same_item ys i x e)
@@ -183,6 +184,9 @@ not_both b t f = cc
 -- a place that is not the epochs' has none of their words
 pub foreign_safe : (S p : ℕ) → is_own S p ≡ false → 1 ≢ p
 foreign_safe S p f e = not_both (is_own S p) (own_low S p (omega (arith, e))) f
+
+pub foreign_low : (S p : ℕ) → is_own S p ≡ false → 2 ≤ p
+foreign_low S p f = elim (cases_lt p 2) [ inl h ↦ not_both (is_own S p) (own_low S p h) f | inr h ↦ h ]
 
 pub foreign_session : (S s p : ℕ) → is_own S p ≡ false → s < S → session_place s own.Epoch ≢ p
 foreign_session S s p f h e = not_both (is_own S p) (own_session S s p h (omega (arith, e))) f

@@ -31,20 +31,22 @@ use Rattle.fkv_epoch.specs.Raising.{raise_ask}
 use Rattle.fkv_epoch.specs.Arming.{arm_ask}
 use Rattle.fkv_epoch.specs.EpochWorld.{EpochMachine, Protects, Refreshes, Leaves, Scans, Claims, Raises, Arms, Sight, is_at_rest}
 use Rattle.fkv_epoch.proofs.Shown.{word_spared, word_written, same_or}
-use Rattle.fkv_flush.specs.declared.moving.Offset.{Offset}
-use Rattle.fkv_flush.specs.declared.moving.Offset.TheVariants.{ReadOnly, Head}
-use Rattle.fkv_flush.specs.declared.moving.Moving.{Moving}
-use Rattle.fkv_flush.specs.declared.moving.Moving.TheVariants as move
-use Rattle.fkv_flush.specs.declared.shifting.Shifting.TheVariants as shift
-use Rattle.fkv_flush.specs.declared.turning.Turning.TheVariants as turn
+use Rattle.fkv_log.specs.declared.moving.Offset.{Offset}
+use Rattle.fkv_log.specs.declared.moving.Offset.TheVariants.{ReadOnly, Head}
+use Rattle.fkv_log.specs.declared.moving.Moving.{Moving}
+use Rattle.fkv_log.specs.declared.moving.Moving.TheVariants as move
+use Rattle.fkv_log.specs.declared.shifting.Shifting.{Shifting}
+use Rattle.fkv_log.specs.declared.shifting.Shifting.TheVariants as shift
+use Rattle.fkv_log.specs.declared.turning.Turning.{Turning}
+use Rattle.fkv_log.specs.declared.turning.Turning.TheVariants as turn
 use Rattle.fkv_flush.specs.declared.flushing.Flushing.TheVariants as flush
 use Rattle.fkv_flush.specs.declared.serving.Serving.TheVariants as serve
-use Rattle.fkv_flush.specs.Moving.{Mover, offset_place}
-use Rattle.fkv_flush.specs.Shifting.{shift_ask}
-use Rattle.fkv_flush.specs.Turning.{turn_ask, limit_after}
+use Rattle.fkv_log.specs.Moving.{Mover, offset_place, move_ask, moving_ask}
+use Rattle.fkv_log.specs.Shifting.{shift_at, shift_ask, shifting_ask}
+use Rattle.fkv_log.specs.Turning.{turn_at, turn_ask, turning_ask, limit_after}
 use Rattle.fkv_flush.specs.Flushing.{flush_ask}
 use Rattle.fkv_flush.specs.Serving.{serve_ask}
-use Rattle.fkv_flush.specs.GuardAsks.{writes, machine_writes, move_now, shift_now, turn_now}
+use Rattle.fkv_flush.specs.GuardAsks.{writes, machine_writes}
 use Rattle.fkv_flush.specs.GuardLevels.{levels_of}
 use Rattle.fkv_flush.specs.GuardWorld.{Actor, Work, Rests, Reserves, Fills, Invalidates, Shifts, Turns, Flushes, Serves, GuardTask, GuardNow, GuardWorld, GuardEvent, Begins, Resumes, Moves, Calls, Reads, Sees, Publishes, Updates, RaisesReadOnly, RaisesFor, Changes, CallsElse, guard_happens, is_idle, is_none, is_guarded, is_stored, may_update, may_work, work_step, begun, resumed, moved, called, called_by, read, read_by, seen_again, published, updated, read_only_raised, raised_for, raised_with, changed}
 use Rattle.fkv_flush.specs.Guarded.{work_writes, actor_writes, update_writes, event_writes}
@@ -66,8 +68,8 @@ worked_same n a x Rests p h = acted_spared n.places.sessions a n.words n.actions
 worked_same n a x (Reserves step) p h = spared n.words (reserve_ask step) p h
 worked_same n a x (Fills step) p h = spared n.words (fill_ask n.places step) p h
 worked_same n a x (Invalidates step) p h = spared n.words (invalidate_ask n.places step) p h
-worked_same n a x (Shifts step m) p h = spared n.words (shift_now step m) p h
-worked_same n a x (Turns step m) p h = spared n.words (turn_now n.shape step m) p h
+worked_same n a x (Shifts s) p h = spared n.words (shift_ask s) p h
+worked_same n a x (Turns s) p h = spared n.words (turn_ask n.shape s) p h
 worked_same n a x (Flushes step bytes) p h = spared n.words (flush_ask n.places step) p h
 worked_same n a x (Serves step) p h = spared n.words (serve_ask step) p h
 
@@ -192,30 +194,47 @@ offset_spares ReadOnly p h = h.2
 offset_spares Head p h = λ e. omega (arith, e, h.1)
 
 -- a whole move asks what its machines of the epochs ask, and moves its offset
-move_spares : (step : Moving) (raising : Raising) (arming : Arming) (p : ℕ) → IsLimitOrFlushed p → Spares (writes (move_now step raising arming)) p
+move_spares : (step : Moving) (raising : Raising) (arming : Arming) (p : ℕ) → IsLimitOrFlushed p → Spares (writes (moving_ask step raising arming)) p
+unfolding moving_ask
 move_spares move.AtRest raising arming p h = tt
 move_spares (move.Raises target) raising arming p h = rw (writes_passed (raise_ask raising) _) (machine_spares 0 (Raises raising) p h)
 move_spares (move.MovesOffset target) raising arming p h = offset_spares target.offset p h
+move_spares (move.Puts target slot) raising arming p h = tt
 move_spares move.Arms raising arming p h = rw (writes_passed (arm_ask arming) _) (machine_spares 0 (Arms arming) p h)
 
--- the work is about to raise the limit, and this is its place; or so with the flushed offset
+-- the turn is about to raise the limit, and this is its place
+abbrev IsLimitRaise : Turning → ℕ → Type 0
+IsLimitRaise (turn.RaisesLimit limit) p = p ≡ 4
+IsLimitRaise step p = ⊥
+
+-- the work is such a turn; or it is about to raise the flushed offset, and this is its place
 abbrev IsRaise : Work → ℕ → Type 0
-IsRaise (Turns (turn.RaisesLimit limit) m) p = p ≡ 4
+IsRaise (Turns s) p = IsLimitRaise s.step p
 IsRaise (Flushes (flush.RaisesFlushed end) bytes) p = p ≡ 7
 IsRaise work p = ⊥
 
+shift_spares : (n : GuardNow) (step : Shifting) (m : Mover) (p : ℕ) → IsLimitOrFlushed p → Spares (writes (shift_ask (shift_at step m))) p
+unfolding shifting_ask
+shift_spares n (shift.Moves tail) m p h = rw (writes_passed (move_ask m) _) (move_spares m.step m.raising m.arming p h)
+shift_spares n step m p h = tt
+
+turn_spares : (n : GuardNow) (step : Turning) (m : Mover) (p : ℕ) → IsLimitOrFlushed p → Spares (writes (turn_ask n.shape (turn_at step m))) p ⊎ IsLimitRaise step p
+unfolding turning_ask
+turn_spares n (turn.RaisesLimit limit) m p h = elim (same_or p 4) [ inl e ↦ inr e | inr u ↦ inl u ]
+turn_spares n turn.Moves m p h = inl (rw (writes_passed (move_ask m) _) (move_spares m.step m.raising m.arming p h))
+turn_spares n step m p h = inl tt
+
 -- all other work spares it
 work_spares : (n : GuardNow) (a : ℕ) (x : Actor) (work : Work) (p : ℕ) → IsLimitOrFlushed p → Spares (work_writes n a x work) p ⊎ IsRaise work p
-unfolding reserve_ask fill_ask invalidate_ask flush_ask serve_ask shift_ask turn_ask
+unfolding reserve_ask fill_ask invalidate_ask flush_ask serve_ask
 work_spares n a x Rests p h = inl (machine_spares a x.machine p h)
 work_spares n a x (Reserves (reserve.TakesTail tail)) p h = inl (λ e. omega (arith, e, h.0))
 work_spares n a x (Fills (fill.StoresValue addr its_words)) p h = inl (λ e. omega (arith, e, h.1))
 work_spares n a x (Fills (fill.StoresKey addr its_words)) p h = inl (λ e. omega (arith, e, h.1))
 work_spares n a x (Fills (fill.StoresHeader addr its_words)) p h = inl (λ e. omega (arith, e, h.1))
 work_spares n a x (Invalidates (invalidate.StoresHeader addr header)) p h = inl (λ e. omega (arith, e, h.1))
-work_spares n a x (Shifts (shift.Moves tail) m) p h = inl (rw (writes_passed (move_now m.step m.raise.step m.arm.step) _) (move_spares m.step m.raise.step m.arm.step p h))
-work_spares n a x (Turns (turn.RaisesLimit limit) m) p h = elim (same_or p 4) [ inl e ↦ inr e | inr u ↦ inl u ]
-work_spares n a x (Turns turn.Moves m) p h = inl (move_spares m.step m.raise.step m.arm.step p h)
+work_spares n a x (Shifts s) p h = inl (shift_spares n s.step s.mover p h)
+work_spares n a x (Turns s) p h = turn_spares n s.step s.mover p h
 work_spares n a x (Flushes (flush.RaisesFlushed end) bytes) p h = elim (same_or p 7) [ inl e ↦ inr e | inr u ↦ inl u ]
 work_spares n a x (Serves (serve.StoresHeader session mail)) p h = inl (λ e. omega (arith, e, h.1))
 work_spares n a x (Serves (serve.StoresKey session mail)) p h = inl (λ e. omega (arith, e, h.1))
@@ -280,22 +299,27 @@ pub record OpensIt (w : GuardWorld) (event : GuardEvent) : Type 0 where
   pub mover : Mover
   pub its_event : event ≡ Moves actor
   pub its_actor : slice_get w.now.actors actor ≡ Some x
-  pub its_work : x.work ≡ Turns (turn.RaisesLimit limit) mover
+  pub its_work : x.work ≡ Turns (turn_at (turn.RaisesLimit limit) mover)
   pub found : (levels_of w.now.words).limit ≡ limit
   pub raised : (levels_of (guard_happens w event).now.words).limit ≡ limit_after w.now.shape limit
 
 -- its Cas, won or lost
-limit_by : (w : GuardWorld) (event : GuardEvent) (a : ℕ) (x : Actor) (work : Work) → IsSound w → event ≡ Moves a → slice_get w.now.actors a ≡ Some x → x.work ≡ work → IsRaise work 4
+turn_limit : (w : GuardWorld) (event : GuardEvent) (a : ℕ) (x : Actor) (step : Turning) (m : Mover) → IsSound w → event ≡ Moves a → slice_get w.now.actors a ≡ Some x → x.work ≡ Turns (turn_at step m) → IsLimitRaise step 4
     → ((levels_of (guard_happens w event).now.words).limit ≡ (levels_of w.now.words).limit) ⊎ OpensIt w event
-unfolding turn_ask
-limit_by w event a x (Turns (turn.RaisesLimit limit) m) sound its_event got its k =
+unfolding turning_ask
+turn_limit w event a x (turn.RaisesLimit limit) m sound its_event got its k =
     let old : ℕ = word_at w.now.words 4 in
     let enough = sound.epochs.enough_words in
-    let after = ap (λ (words : List ℕ). word_at words 4) (moved_words w event a x (Turns (turn.RaisesLimit limit) m) its_event got its refl) ∙ word_written w.now.words 4 (if old == limit then limit_after w.now.shape limit else old) (omega (arith, enough)) in
+    let after = ap (λ (words : List ℕ). word_at words 4) (moved_words w event a x (Turns (turn_at (turn.RaisesLimit limit) m)) its_event got its refl) ∙ word_written w.now.words 4 (if old == limit then limit_after w.now.shape limit else old) (omega (arith, enough)) in
     elim (truth (old == limit)) [
       | inl e ↦ inr (record { actor = a; x = x; limit = limit; mover = m; its_event = its_event; its_actor = got; its_work = its; found = grind (arith, nat_tests, e); raised = after ∙ (rw e refl) })
       | inr e ↦ inl (after ∙ (rw e refl))
     ]
+turn_limit w event a x step m sound its_event got its k = absurd k
+
+limit_by : (w : GuardWorld) (event : GuardEvent) (a : ℕ) (x : Actor) (work : Work) → IsSound w → event ≡ Moves a → slice_get w.now.actors a ≡ Some x → x.work ≡ work → IsRaise work 4
+    → ((levels_of (guard_happens w event).now.words).limit ≡ (levels_of w.now.words).limit) ⊎ OpensIt w event
+limit_by w event a x (Turns s) sound its_event got its k = turn_limit w event a x s.step s.mover sound its_event got its k
 limit_by w event a x (Flushes (flush.RaisesFlushed end) bytes) sound its_event got its k = absurd (omega (arith, k))
 limit_by w event a x work sound its_event got its k = absurd k
 
@@ -330,6 +354,10 @@ pub record RaisesIt (w : GuardWorld) (event : GuardEvent) : Type 0 where
   pub its_work : x.work ≡ Flushes (flush.RaisesFlushed end) bytes
   pub raised : (levels_of (guard_happens w event).now.words).flushed ≡ max (levels_of w.now.words).flushed end
 
+no_limit : {X : Type 0} (step : Turning) → IsLimitRaise step 7 → X
+no_limit (turn.RaisesLimit limit) k = absurd (omega (arith, k))
+no_limit step k = absurd k
+
 -- its Max raises it to the end of what is synced
 flushed_by : (w : GuardWorld) (event : GuardEvent) (a : ℕ) (x : Actor) (work : Work) → IsSound w → event ≡ Moves a → slice_get w.now.actors a ≡ Some x → x.work ≡ work → IsRaise work 7 → RaisesIt w event
 unfolding flush_ask
@@ -337,7 +365,7 @@ flushed_by w event a x (Flushes (flush.RaisesFlushed end) bytes) sound its_event
     let enough = sound.epochs.enough_words in
     let after = ap (λ (words : List ℕ). word_at words 7) (moved_words w event a x (Flushes (flush.RaisesFlushed end) bytes) its_event got its refl) in
     record { actor = a; x = x; end = end; bytes = bytes; its_event = its_event; its_actor = got; its_work = its; raised = after ∙ word_written w.now.words 7 (max (word_at w.now.words 7) end) (omega (arith, enough)) }
-flushed_by w event a x (Turns (turn.RaisesLimit limit) m) sound its_event got its k = absurd (omega (arith, k))
+flushed_by w event a x (Turns s) sound its_event got its k = no_limit s.step k
 flushed_by w event a x work sound its_event got its k = absurd k
 
 -- no other step changes the flushed offset

@@ -21,21 +21,23 @@ use Rattle.fkv_epoch.specs.Raising.{raise_ask}
 use Rattle.fkv_epoch.specs.Arming.{arm_ask}
 use Rattle.fkv_epoch.specs.EpochWorld.{EpochMachine, Raises, Arms, is_own}
 use Rattle.fkv_epoch.proofs.Shown.{some_same, none_some}
-use Rattle.fkv_flush.specs.declared.moving.Offset.{Offset}
-use Rattle.fkv_flush.specs.declared.moving.Offset.TheVariants.{ReadOnly, Head}
-use Rattle.fkv_flush.specs.declared.moving.Moving.{Moving}
-use Rattle.fkv_flush.specs.declared.moving.Moving.TheVariants as move
-use Rattle.fkv_flush.specs.declared.shifting.Shifting.TheVariants as shift
-use Rattle.fkv_flush.specs.declared.turning.Turning.TheVariants as turn
+use Rattle.fkv_log.specs.declared.moving.Offset.{Offset}
+use Rattle.fkv_log.specs.declared.moving.Offset.TheVariants.{ReadOnly, Head}
+use Rattle.fkv_log.specs.declared.moving.Moving.{Moving}
+use Rattle.fkv_log.specs.declared.moving.Moving.TheVariants as move
+use Rattle.fkv_log.specs.declared.shifting.Shifting.{Shifting}
+use Rattle.fkv_log.specs.declared.shifting.Shifting.TheVariants as shift
+use Rattle.fkv_log.specs.declared.turning.Turning.{Turning}
+use Rattle.fkv_log.specs.declared.turning.Turning.TheVariants as turn
 use Rattle.fkv_flush.specs.declared.flushing.Flushing.TheVariants as flush
 use Rattle.fkv_flush.specs.declared.serving.Serving.TheVariants as serve
-use Rattle.fkv_flush.specs.Passing.{passed}
-use Rattle.fkv_flush.specs.Moving.{offset_place}
-use Rattle.fkv_flush.specs.Shifting.{shift_ask}
-use Rattle.fkv_flush.specs.Turning.{turn_ask}
+use Rattle.fkv_plane.specs.Passing.{passed}
+use Rattle.fkv_log.specs.Moving.{Mover, offset_place, move_ask, moving_ask}
+use Rattle.fkv_log.specs.Shifting.{shift_at, shifting_ask}
+use Rattle.fkv_log.specs.Turning.{turn_at, turning_ask}
 use Rattle.fkv_flush.specs.Flushing.{flush_ask}
 use Rattle.fkv_flush.specs.Serving.{serve_ask}
-use Rattle.fkv_flush.specs.GuardAsks.{writes, machine_writes, move_now}
+use Rattle.fkv_flush.specs.GuardAsks.{writes, machine_writes}
 use Rattle.fkv_flush.specs.GuardLevels.{levels_of}
 use Rattle.fkv_flush.specs.GuardWorld.{Actor, Work, Rests, Reserves, Fills, Invalidates, Shifts, Turns, Flushes, Serves, GuardWorld, GuardEvent, Moves, Updates, RaisesReadOnly, RaisesFor, Changes, is_idle, is_awake, is_guarded, may_update, epoch_world}
 use Rattle.fkv_flush.specs.Guarded.{seen_at, seen_of, undecided_at, work_writes, actor_writes, update_writes, IsOpenPlace, GuardsWrites}
@@ -81,10 +83,12 @@ offset_low : (w : GuardWorld) (offset : Offset) → offset_place offset < frames
 offset_low w ReadOnly = omega arith
 offset_low w Head = omega arith
 
-move_low : (w : GuardWorld) (a : ℕ) (x : Actor) (step : Moving) (raising : Raising) (arming : Arming) → IsSound w → slice_get w.now.actors a ≡ Some x → MoveKnows (levels_of w.now.words) x.machine step raising arming → IsLow w (writes (move_now step raising arming))
+move_low : (w : GuardWorld) (a : ℕ) (x : Actor) (step : Moving) (raising : Raising) (arming : Arming) → IsSound w → slice_get w.now.actors a ≡ Some x → MoveKnows (levels_of w.now.words) x.machine step raising arming → IsLow w (writes (moving_ask step raising arming))
+unfolding moving_ask
 move_low w a x move.AtRest raising arming sound got k = absurd k
 move_low w a x (move.Raises target) raising arming sound got k = rw (writes_passed (raise_ask raising) _) (machine_low w a x (Raises raising) sound got k.0)
 move_low w a x (move.MovesOffset target) raising arming sound got k = offset_low w target.offset
+move_low w a x (move.Puts target slot) raising arming sound got k = absurd k
 move_low w a x move.Arms raising arm.AtRest sound got k = absurd k
 move_low w a x move.Arms raising (arm.PutsAction slot c) sound got k = absurd k
 move_low w a x move.Arms raising (arm.StoresEpoch slot c) sound got k = rw (writes_passed (arm_ask (arm.StoresEpoch slot c)) _) (machine_low w a x (Arms (arm.StoresEpoch slot c)) sound got k)
@@ -129,9 +133,30 @@ reserved_place w a x addr place word sound got undecided e =
     let f = sound.guard.fresh a addr (ap undecided_at got ∙ undecided) in
     open_place w addr (seen_of w.now.actors a).read_only place word sound (sound.guard.safe.read_only a f.counts) f.above f.below (sym (some_same (record_place w.now.places addr word) place e))
 
-writes_by : (w : GuardWorld) (a : ℕ) (x : Actor) (work : Work) (place : ℕ) → IsSound w → slice_get w.now.actors a ≡ Some x → x.work ≡ work
-    → (if is_idle work then machine_writes a x.machine else work_writes w.now a x work) ≡ Some place → frames_start w.now.places ≤ place → IsOpenPlace w place
-unfolding reserve_ask fill_ask invalidate_ask flush_ask serve_ask shift_ask turn_ask
+-- what an actor with this work writes of a frame is of an open address
+abbrev WritesOpen : GuardWorld → ℕ → Actor → Work → ℕ → Type 0
+WritesOpen w a x work place = (if is_idle work then machine_writes a x.machine else work_writes w.now a x work) ≡ Some place → frames_start w.now.places ≤ place → IsOpenPlace w place
+
+shift_writes : (w : GuardWorld) (a : ℕ) (x : Actor) (step : Shifting) (m : Mover) (place : ℕ) → IsSound w → slice_get w.now.actors a ≡ Some x → x.work ≡ Shifts (shift_at step m) → WritesOpen w a x (Shifts (shift_at step m)) place
+unfolding shifting_ask
+shift_writes w a x shift.AtRest m place sound got its e high = low_none w (machine_writes a x.machine) place (machine_low w a x x.machine sound got refl) e high
+shift_writes w a x shift.LoadsTail m place sound got its e high = no_place place e
+shift_writes w a x (shift.LoadsReadOnly tail) m place sound got its e high = no_place place e
+shift_writes w a x (shift.Moves tail) m place sound got its e high =
+    low_none w (writes (move_ask m)) place (move_low w a x m.step m.raising m.arming sound got (subst (Known w a x) its (sound.knows a x got)))
+    (sym (writes_passed (move_ask m) _) ∙ e) high
+
+turn_writes : (w : GuardWorld) (a : ℕ) (x : Actor) (step : Turning) (m : Mover) (place : ℕ) → IsSound w → slice_get w.now.actors a ≡ Some x → x.work ≡ Turns (turn_at step m) → WritesOpen w a x (Turns (turn_at step m)) place
+unfolding turning_ask
+turn_writes w a x turn.AtRest m place sound got its e high = low_none w (machine_writes a x.machine) place (machine_low w a x x.machine sound got refl) e high
+turn_writes w a x (turn.RaisesLimit limit) m place sound got its e high = low_none w (Some 4) place (omega arith) e high
+turn_writes w a x turn.Moves m place sound got its e high =
+    low_none w (writes (move_ask m)) place (move_low w a x m.step m.raising m.arming sound got (subst (Known w a x) its (sound.knows a x got)))
+    (sym (writes_passed (move_ask m) _) ∙ e) high
+turn_writes w a x step m place sound got its e high = no_place place e
+
+writes_by : (w : GuardWorld) (a : ℕ) (x : Actor) (work : Work) (place : ℕ) → IsSound w → slice_get w.now.actors a ≡ Some x → x.work ≡ work → WritesOpen w a x work place
+unfolding reserve_ask fill_ask invalidate_ask flush_ask serve_ask
 writes_by w a x Rests place sound got its e high = low_none w (machine_writes a x.machine) place (machine_low w a x x.machine sound got refl) e high
 writes_by w a x (Reserves reserve.AtRest) place sound got its e high = low_none w (machine_writes a x.machine) place (machine_low w a x x.machine sound got refl) e high
 writes_by w a x (Reserves reserve.LoadsLimit) place sound got its e high = no_place place e
@@ -143,20 +168,8 @@ writes_by w a x (Fills (fill.StoresKey addr its_words)) place sound got its e hi
 writes_by w a x (Fills (fill.StoresHeader addr its_words)) place sound got its e high = reserved_place w a x addr.0 place rec.Header sound got (subst (Known w a x) its (sound.knows a x got)) e
 writes_by w a x (Invalidates invalidate.AtRest) place sound got its e high = low_none w (machine_writes a x.machine) place (machine_low w a x x.machine sound got refl) e high
 writes_by w a x (Invalidates (invalidate.StoresHeader addr header)) place sound got its e high = reserved_place w a x addr.0 place rec.Header sound got (subst (Known w a x) its (sound.knows a x got)) e
-writes_by w a x (Shifts shift.AtRest m) place sound got its e high = low_none w (machine_writes a x.machine) place (machine_low w a x x.machine sound got refl) e high
-writes_by w a x (Shifts shift.LoadsTail m) place sound got its e high = no_place place e
-writes_by w a x (Shifts (shift.LoadsReadOnly tail) m) place sound got its e high = no_place place e
-writes_by w a x (Shifts (shift.Moves tail) m) place sound got its e high =
-    low_none w (writes (move_now m.step m.raise.step m.arm.step)) place (move_low w a x m.step m.raise.step m.arm.step sound got (subst (Known w a x) its (sound.knows a x got)))
-    (sym (writes_passed (move_now m.step m.raise.step m.arm.step) _) ∙ e) high
-writes_by w a x (Turns turn.AtRest m) place sound got its e high = low_none w (machine_writes a x.machine) place (machine_low w a x x.machine sound got refl) e high
-writes_by w a x (Turns (turn.LoadsLimit tail) m) place sound got its e high = no_place place e
-writes_by w a x (Turns (turn.LoadsClosed limit) m) place sound got its e high = no_place place e
-writes_by w a x (Turns (turn.RaisesLimit limit) m) place sound got its e high = low_none w (Some 4) place (omega arith) e high
-writes_by w a x (Turns (turn.LoadsHead end) m) place sound got its e high = no_place place e
-writes_by w a x (Turns (turn.LoadsFlushed end) m) place sound got its e high = no_place place e
-writes_by w a x (Turns turn.Moves m) place sound got its e high =
-    low_none w (writes (move_now m.step m.raise.step m.arm.step)) place (move_low w a x m.step m.raise.step m.arm.step sound got (subst (Known w a x) its (sound.knows a x got))) e high
+writes_by w a x (Shifts s) place sound got its e high = shift_writes w a x s.step s.mover place sound got its e high
+writes_by w a x (Turns s) place sound got its e high = turn_writes w a x s.step s.mover place sound got its e high
 writes_by w a x (Flushes flush.AtRest bytes) place sound got its e high = low_none w (machine_writes a x.machine) place (machine_low w a x x.machine sound got refl) e high
 writes_by w a x (Flushes (flush.RaisesFlushed end) bytes) place sound got its e high = low_none w (Some 7) place (omega arith) e high
 writes_by w a x (Flushes step bytes) place sound got its e high = no_place place e

@@ -1,29 +1,46 @@
-pub mod FlushKnows
-pub mod Guard
-pub mod GuardAnswered
-pub mod GuardCounts
-pub mod GuardMachines
-pub mod GuardEpochs
-pub mod GuardFlushed
-pub mod GuardHappens
-pub mod GuardHomes
-pub mod GuardHosted
-pub mod GuardLaw
-pub mod GuardSeeing
-pub mod GuardMoves
-pub mod GuardOffsets
-pub mod GuardPages
-pub mod GuardPuts
-pub mod GuardRuns
-pub mod GuardShifts
-pub mod GuardSound
-pub mod GuardStays
-pub mod GuardSteps
-pub mod GuardTurns
-pub mod GuardUnwritten
-pub mod GuardWorks
-pub mod GuardWrites
-pub mod InHand
-pub mod OnDevice
-pub mod Parts
-pub mod RaiseRange
+mod Armings
+mod Asks
+mod Calm
+mod FlushKnows
+mod Follows
+mod Goes
+mod Guard
+mod GuardCounts
+mod GuardEpochs
+mod GuardFlushed
+mod GuardHappens
+mod GuardHomes
+mod GuardHosted
+mod GuardLaw
+mod GuardMachines
+mod GuardMail
+mod GuardMailAsks
+mod GuardMailPlaces
+mod GuardMailRows
+mod GuardMoves
+mod GuardOffsets
+mod GuardPages
+mod GuardPuts
+mod GuardRuns
+mod GuardSeeing
+mod GuardShifts
+mod GuardSound
+mod GuardStays
+mod GuardSteps
+mod GuardTurns
+mod GuardUnwritten
+mod GuardWorks
+mod GuardWrites
+mod InHand
+mod Limit
+mod OnDevice
+mod OneEvent
+mod OuterPlaces
+mod Parts
+mod PhaseTails
+mod SafeRaise
+pub mod Shown
+mod Slots
+mod SoFar
+mod Still
+mod Undecided

@@ -1,6 +1,6 @@
 -- What is flushed: the words that stand for each record, the calls of the device that the events make, and that all below the flushed
 -- offset is synced as it stands.
-use Rattle.std.specs.Prelude.{◌≡◌, ◌⊎◌, ℕ, ◌+◌, ◌<◌, ◌≤◌, nat_lt, nat_le, ◌&&◌, if◌then◌else◌, Bool, true, List, [], ◌∷◌, ◌++◌, length, slice_get, Option, Some, None, ⊤}
+use Rattle.std.specs.Prelude.{◌≡◌, ◌≢◌, ◌⊎◌, ℕ, ◌+◌, ◌<◌, ◌≤◌, nat_lt, nat_le, ◌&&◌, if◌then◌else◌, Bool, true, List, [], ◌∷◌, ◌++◌, length, slice_get, Option, Some, None, ⊤}
 use Rattle.fkv_base.specs.declared.shapes.Shape.{Shape}
 use Rattle.fkv_record.specs.Numbers.{spelled}
 use Rattle.fkv_record.specs.Places as image
@@ -12,6 +12,7 @@ use Rattle.fkv_plane.specs.Places.{record_place}
 use Rattle.fkv_plane.specs.Asked.{word_at}
 use Rattle.fkv_flush.specs.Flushing.{flush_calls}
 use Rattle.fkv_flush.specs.GuardLevels.{levels_of}
+use Rattle.fkv_flush.specs.Guarded.{event_writes}
 use Rattle.fkv_flush.specs.GuardWorld.{Actor, Work, Flushes, ToFlush, GuardNow, GuardWorld, GuardEvent, Begins, Calls, CallsElse, guard_run}
 
 -- the address is one of the last of the ring below the limit: it has a frame
@@ -27,6 +28,10 @@ framed n before addr word = if is_open n addr then word_at n.words (record_place
 unfoldable pub stands : GuardWorld → List GuardEvent → ℕ → RecordWord → ℕ
 stands opening [] = framed opening.now (λ addr word. 0)
 stands opening (event ∷ before) = framed (guard_run opening (event ∷ before)).now (stands opening before)
+
+-- the event doesn't write this word of the record's frame, as long as it has one
+abbrev pub SparesRecord : GuardNow → GuardEvent → ℕ → RecordWord → Type 0
+SparesRecord n event addr word = is_open n addr ≡ true → event_writes n event ≢ Some (record_place n.places addr word)
 
 -- a sync, or a write that ends at the latest where the log begins
 abbrev pub spares_log : Shape → Call → Bool

@@ -9,6 +9,7 @@ use Rattle.fkv_record.specs.Numbers.{spelled}
 use Rattle.fkv_record.specs.Places as image
 use Rattle.fkv_disk.specs.Calls.{Write, Sync}
 use Rattle.fkv_log.specs.declared.record_words.RecordWords.{RecordWords}
+use Rattle.fkv_log.specs.declared.turning.TurnForm.TheVariants.{Whole}
 use Rattle.fkv_epoch.specs.EpochWorld.{ToRefresh, ToScan, ToClaim}
 use Rattle.fkv_flush.specs.GuardWorld.{GuardWorld, GuardEvent, Begins, Resumes, Moves, Calls, Publishes, ToDo, ToReserve, ToFill, ToShift, ToTurnPage, ToFlush, guard_run, levels}
 use Rattle.fkv_flush.specs.Guarded.{IsOpened, opening}
@@ -28,8 +29,8 @@ looked_again =
 -- has seen it; it moves the head to 8, and opens the page after the next once the session has seen that.
 abbrev pub turns_round : RecordWords → List GuardEvent
 turns_round its_words =
-    replicate 3 (Moves 1) ++ Begins 1 (ToTurnPage 8)
-    ∷ looked_again ++ replicate 12 (Moves 1) ++ Begins 1 (ToTurnPage 8)
+    replicate 3 (Moves 1) ++ Begins 1 (ToTurnPage Whole 8)
+    ∷ looked_again ++ replicate 12 (Moves 1) ++ Begins 1 (ToTurnPage Whole 8)
     ∷ Moves 1 ∷ Calls 1 true ∷ Calls 1 true ∷ replicate 5 (Moves 1) ++ Begins 1 ToFlush
     ∷ looked_again ++ replicate 10 (Moves 1) ++ Begins 1 ToShift
     ∷ Publishes 0 ∷ replicate 3 (Moves 0) ++ Begins 0 (ToFill its_words) ∷ replicate 3 (Moves 0) ++ Begins 0 ToReserve ∷ []

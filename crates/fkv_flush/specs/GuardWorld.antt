@@ -24,6 +24,15 @@ use Rattle.fkv_log.specs.declared.filling.Filling.{Filling}
 use Rattle.fkv_log.specs.declared.filling.Filling.TheVariants as fill
 use Rattle.fkv_log.specs.declared.invalidating.Invalidating.{Invalidating}
 use Rattle.fkv_log.specs.declared.invalidating.Invalidating.TheVariants as invalidate
+use Rattle.fkv_log.specs.declared.moving.Moving.{Moving}
+use Rattle.fkv_log.specs.declared.shifting.Shifting.{Shifting}
+use Rattle.fkv_log.specs.declared.shifting.Shifting.TheVariants as shift
+use Rattle.fkv_log.specs.declared.turning.TurnForm.{TurnForm}
+use Rattle.fkv_log.specs.declared.turning.Turning.{Turning}
+use Rattle.fkv_log.specs.declared.turning.Turning.TheVariants as turn
+use Rattle.fkv_log.specs.Moving.{Mover}
+use Rattle.fkv_log.specs.Shifting.{ShiftState, shift_begun, shift_ask, shift_next}
+use Rattle.fkv_log.specs.Turning.{TurnState, turn_begun, turn_ask, turn_next}
 use Rattle.fkv_log.specs.Reserving.{reserve_ask, reserve_next, reserve_next_ask}
 use Rattle.fkv_log.specs.Filling.{fill_ask, fill_next}
 use Rattle.fkv_log.specs.Invalidating.{invalidate_ask, invalidate_next}
@@ -33,21 +42,13 @@ use Rattle.fkv_epoch.specs.Raising.{raise_ask}
 use Rattle.fkv_epoch.specs.Arming.{arm_next}
 use Rattle.fkv_epoch.specs.EpochWorld.{EpochMachine, Protects, Raises, Arms, Sight, OfReadOnly, OfPhase, OfHead, is_at_rest, may_begin, first_machine, resumed_machine, machine_step, is_own, own_epoch, sight_of, past_moved, past_seen, put_by}
 use Rattle.fkv_epoch.specs.EpochWorld as epochs
-use Rattle.fkv_flush.specs.declared.moving.Moving.{Moving}
-use Rattle.fkv_flush.specs.declared.shifting.Shifting.{Shifting}
-use Rattle.fkv_flush.specs.declared.shifting.Shifting.TheVariants as shift
-use Rattle.fkv_flush.specs.declared.turning.Turning.{Turning}
-use Rattle.fkv_flush.specs.declared.turning.Turning.TheVariants as turn
 use Rattle.fkv_flush.specs.declared.flushing.Flushing.{Flushing}
 use Rattle.fkv_flush.specs.declared.flushing.Flushing.TheVariants as flush
 use Rattle.fkv_flush.specs.declared.serving.Serving.{Serving}
 use Rattle.fkv_flush.specs.declared.serving.Serving.TheVariants as serve
-use Rattle.fkv_flush.specs.Moving.{Mover, move_at_rest}
-use Rattle.fkv_flush.specs.Shifting.{shift_next, shift_mover, shift_next_ask}
-use Rattle.fkv_flush.specs.Turning.{turn_next, turn_mover, turn_next_ask}
 use Rattle.fkv_flush.specs.Flushing.{flush_ask, flush_next, flush_done, bytes_next, bytes_done}
 use Rattle.fkv_flush.specs.Serving.{serve_ask, serve_next, serve_read, mailbox_from}
-use Rattle.fkv_flush.specs.GuardAsks.{shift_now, turn_now, inner_of}
+use Rattle.fkv_flush.specs.GuardAsks.{inner_of}
 use Rattle.fkv_flush.specs.GuardLevels.{Levels, levels_of}
 use Rattle.fkv_flush.specs.GuardSeen.{LastSeen}
 
@@ -57,8 +58,8 @@ pub data Work : Type 0 where
   Reserves : Reserving → Work
   Fills : Filling → Work
   Invalidates : Invalidating → Work
-  Shifts : Shifting → Mover → Work
-  Turns : Turning → Mover → Work
+  Shifts : ShiftState → Work
+  Turns : TurnState → Work
   -- with the bytes in hand
   Flushes : Flushing → List ℕ → Work
   Serves : Serving → Work
@@ -82,8 +83,8 @@ pub data GuardTask : Type 0 where
   -- the record that the actor has reserved is invalidated
   ToInvalidate : Header → GuardTask
   ToShift : GuardTask
-  -- the next page is opened, or a frame set free for it, with the tail as it was loaded
-  ToTurnPage : ℕ → GuardTask
+  -- the next page is opened, or in a whole turn a frame set free for it, with the tail as it was loaded
+  ToTurnPage : TurnForm → ℕ → GuardTask
   ToFlush : GuardTask
   ToServe : GuardTask
 
@@ -137,14 +138,22 @@ epoch_world w = record { now = epoch_now w.now; past = w.past }
 abbrev pub levels : GuardWorld → Levels
 levels w = levels_of w.now.words
 
+abbrev pub shift_rests : Shifting → Bool
+shift_rests shift.AtRest = true
+shift_rests step = false
+
+abbrev pub turn_rests : Turning → Bool
+turn_rests turn.AtRest = true
+turn_rests step = false
+
 -- the machine beside those of the epochs is through
 abbrev pub is_idle : Work → Bool
 is_idle Rests = true
 is_idle (Reserves reserve.AtRest) = true
 is_idle (Fills fill.AtRest) = true
 is_idle (Invalidates invalidate.AtRest) = true
-is_idle (Shifts shift.AtRest mover) = true
-is_idle (Turns turn.AtRest mover) = true
+is_idle (Shifts s) = shift_rests s.step
+is_idle (Turns s) = turn_rests s.step
 is_idle (Flushes flush.AtRest bytes) = true
 is_idle (Serves serve.AtRest) = true
 is_idle work = false
@@ -177,8 +186,8 @@ started n x (ToDo task) = record x { machine = first_machine task; work = Rests 
 started n x ToReserve = record x { work = Reserves reserve.LoadsLimit }
 started n x (ToFill its_words) = record x { work = Fills (fill.StoresValue (address_of x.undecided) its_words) }
 started n x (ToInvalidate header) = record x { work = Invalidates (invalidate.StoresHeader (address_of x.undecided) header) }
-started n x ToShift = record x { work = Shifts shift.LoadsTail move_at_rest }
-started n x (ToTurnPage tail) = record x { work = Turns (turn.LoadsLimit tail) move_at_rest }
+started n x ToShift = record x { work = Shifts shift_begun }
+started n x (ToTurnPage form tail) = record x { work = Turns (turn_begun form tail) }
 started n x ToFlush = record x { work = Flushes flush.LoadsFlushed [] }
 started n x ToServe = record x { work = Serves (mailbox_from n.shape.sessions 0) }
 
@@ -242,25 +251,24 @@ after_put other once twice = once
 
 -- the machine of the epochs inside a move that it drove last
 abbrev pub inner_machine : EpochMachine → Moving → Mover → EpochMachine
-inner_machine machine before m = inner_of machine before m.step m.raise.step m.arm.step
+inner_machine machine before m = inner_of machine before m.step m.raising m.arming
 
--- what a shift asks, and where the reply leads
-abbrev pub shifted : GuardNow → ℕ → Actor → Shifting → Mover → ℕ → GuardNear
-shifted n actor x step m reply = near (words_after n.words (shift_now step m)) (actions_after n.actions (shift_next_ask n.shape step m reply)) (record x {
-  machine = inner_machine x.machine m.step (after_put (shift_next_ask n.shape step m reply) (shift_mover n.shape step m reply) (shift_mover n.shape (shift_next n.shape step m reply) (shift_mover n.shape step m reply) 0));
-  work = after_put (shift_next_ask n.shape step m reply)
-      (Shifts (shift_next n.shape step m reply) (shift_mover n.shape step m reply))
-      (Shifts (shift_next n.shape (shift_next n.shape step m reply) (shift_mover n.shape step m reply) 0) (shift_mover n.shape (shift_next n.shape step m reply) (shift_mover n.shape step m reply) 0));
+-- What a machine with a move inside it has come to: where that asks to put an action, this goes into its slot and the machine goes on at once.
+abbrev pub host_to : {A X : Type 0} → GuardNow → Actor → (X → Ask A) → (X → ℕ → X) → (X → Mover) → (X → Work) → X → X → GuardNear
+host_to n x ask next mover work was there = near (words_after n.words (ask was)) (actions_after n.actions (ask there)) (record x {
+  machine = inner_machine x.machine (mover was).step (mover (after_put (ask there) there (next there 0)));
+  work = work (after_put (ask there) there (next there 0));
 })
 
--- what a turn of a page asks, and where the reply leads
-abbrev pub turned : GuardNow → ℕ → Actor → Turning → Mover → ℕ → GuardNear
-turned n actor x step m reply = near (words_after n.words (turn_now n.shape step m)) (actions_after n.actions (turn_next_ask n.shape step m reply)) (record x {
-  machine = inner_machine x.machine m.step (after_put (turn_next_ask n.shape step m reply) (turn_mover step m reply) (turn_mover (turn_next n.shape step m reply) (turn_mover step m reply) 0));
-  work = after_put (turn_next_ask n.shape step m reply)
-      (Turns (turn_next n.shape step m reply) (turn_mover step m reply))
-      (Turns (turn_next n.shape (turn_next n.shape step m reply) (turn_mover step m reply) 0) (turn_mover (turn_next n.shape step m reply) (turn_mover step m reply) 0));
-})
+-- one ask of such a machine, and where the reply leads
+abbrev pub host_step : {A X : Type 0} → GuardNow → Actor → (X → Ask A) → (X → ℕ → X) → (X → Mover) → (X → Work) → X → GuardNear
+host_step n x ask next mover work was = host_to n x ask next mover work was (next was (reply_to n.words (ask was)))
+
+abbrev pub shifted : GuardNow → Actor → ShiftState → GuardNear
+shifted n x s = host_step n x shift_ask (shift_next n.shape) (λ (t : ShiftState). t.mover) Shifts s
+
+abbrev pub turned : GuardNow → Actor → TurnState → GuardNear
+turned n x s = host_step n x (turn_ask n.shape) (turn_next n.shape) (λ (t : TurnState). t.mover) Turns s
 
 -- one ask of the actor's machine, by the machine's own tables
 abbrev pub work_step : GuardNow → ℕ → Actor → Work → GuardNear
@@ -274,8 +282,8 @@ work_step n actor x (Invalidates step) = near (words_after n.words (invalidate_a
   work = Invalidates (invalidate_next step);
   undecided = invalidated_by x.undecided (invalidate_next step);
 })
-work_step n actor x (Shifts step m) = shifted n actor x step m (reply_to n.words (shift_now step m))
-work_step n actor x (Turns step m) = turned n actor x step m (reply_to n.words (turn_now n.shape step m))
+work_step n actor x (Shifts s) = shifted n x s
+work_step n actor x (Turns s) = turned n x s
 work_step n actor x (Flushes step bytes) = near (words_after n.words (flush_ask n.places step)) n.actions (record x { work = Flushes (flush_next n.shape.page step (reply_to n.words (flush_ask n.places step))) (bytes_next step bytes (reply_to n.words (flush_ask n.places step))) })
 work_step n actor x (Serves step) = near (words_after n.words (serve_ask step)) n.actions (record x { work = Serves (serve_next n.shape.sessions step (reply_to n.words (serve_ask step))) })
 
@@ -368,10 +376,18 @@ guard_happens_now n (RaisesFor actor action) = raised_for n actor action (slice_
 guard_happens_now n (Changes actor place word) = changed n actor place word (slice_get n.actors actor)
 guard_happens_now n (CallsElse call) = n
 
+abbrev pub shift_drives : Shifting → Bool
+shift_drives (shift.Moves tail) = true
+shift_drives step = shift_rests step
+
+abbrev pub turn_drives : Turning → Bool
+turn_drives turn.Moves = true
+turn_drives step = turn_rests step
+
 -- the actor drives a machine of the epochs, by itself or inside its work
 abbrev pub drives_epochs : Work → Bool
-drives_epochs (Shifts (shift.Moves tail) m) = true
-drives_epochs (Turns turn.Moves m) = true
+drives_epochs (Shifts s) = shift_drives s.step
+drives_epochs (Turns s) = turn_drives s.step
 drives_epochs work = is_idle work
 
 abbrev pub machine_moved : GuardNow → ℕ → epochs.EpochPast → Option Actor → epochs.EpochPast

@@ -1,5 +1,5 @@
 -- The guard: which steps may write frames and raise the limit, and what every step keeps.
-use Rattle.std.specs.Prelude.{◌≡◌, ℕ, ◌+◌, ◌-◌, ◌*◌, ◌/◌, ◌<◌, ◌≤◌, Bool, true, false, List, replicate, length, slice_get, Option, Some, None, if◌then◌else◌}
+use Rattle.std.specs.Prelude.{◌≡◌, ℕ, ◌+◌, ◌-◌, ◌*◌, ◌/◌, min, ◌<◌, ◌≤◌, Bool, true, false, List, replicate, length, slice_get, Option, Some, None, if◌then◌else◌}
 use Rattle.fkv_base.specs.Limits.{drain_slots}
 use Rattle.fkv_base.specs.declared.shapes.Shape.{Shape}
 use Rattle.fkv_plane.specs.declared.places.Places.{Places}
@@ -18,9 +18,11 @@ use Rattle.fkv_plane.specs.declared.places.RecordWord.TheVariants as rec
 use Rattle.fkv_log.specs.Reserving.{reserve_ask}
 use Rattle.fkv_log.specs.Filling.{fill_ask}
 use Rattle.fkv_log.specs.Invalidating.{invalidate_ask}
+use Rattle.fkv_log.specs.Shifting.{shift_ask}
+use Rattle.fkv_log.specs.Turning.{turn_ask}
 use Rattle.fkv_flush.specs.Flushing.{flush_ask}
 use Rattle.fkv_flush.specs.Serving.{serve_ask}
-use Rattle.fkv_flush.specs.GuardAsks.{writes, machine_writes, shift_now, turn_now}
+use Rattle.fkv_flush.specs.GuardAsks.{writes, machine_writes}
 use Rattle.fkv_flush.specs.GuardWorld.{Actor, Work, Rests, Reserves, Fills, Invalidates, Shifts, Turns, Flushes, Serves, GuardNow, GuardWorld, GuardEvent, Moves, Updates, RaisesReadOnly, RaisesFor, Changes, is_idle, is_guarded, may_update, epoch_now, levels, guard_happens}
 
 abbrev pub seen_at : Option Actor → LastSeen
@@ -48,7 +50,8 @@ pub record ArePlacesOf (shape : Shape) (places : Places) : Type 0 where
   pub sessions : places.sessions ≡ shape.sessions
   pub ring : places.ring ≡ shape.frames * shape.page
 
--- The store is just opened: all offsets but the limit stand where its records end, and the frames hold what is below the limit.
+-- The store is just opened: all offsets but the limit stand where its records end. The pages up to the next after that are open, as far as the
+-- device has them, and the frames hold what is below the limit.
 pub record IsOpened (shape : Shape) (places : Places) (actors : ℕ) (words : List ℕ) (start : ℕ) : Type 0 where
   pub fits : ArePlacesOf shape places
   pub enough_words : word_count places ≤ length words
@@ -59,6 +62,7 @@ pub record IsOpened (shape : Shape) (places : Places) (actors : ℕ) (words : Li
   pub safe_read_only : (levels_of words).safe_read_only ≡ start
   pub read_only : (levels_of words).read_only ≡ start
   pub tail : (levels_of words).tail ≡ start
+  pub limit : (levels_of words).limit ≡ min (start / shape.page + 2) shape.disk_pages * shape.page
   pub tail_below : start ≤ (levels_of words).limit
   pub limit_below : (levels_of words).limit ≤ start + places.ring
 
@@ -109,8 +113,8 @@ work_writes n actor x Rests = machine_writes actor x.machine
 work_writes n actor x (Reserves step) = writes (reserve_ask step)
 work_writes n actor x (Fills step) = writes (fill_ask n.places step)
 work_writes n actor x (Invalidates step) = writes (invalidate_ask n.places step)
-work_writes n actor x (Shifts step m) = writes (shift_now step m)
-work_writes n actor x (Turns step m) = writes (turn_now n.shape step m)
+work_writes n actor x (Shifts s) = writes (shift_ask s)
+work_writes n actor x (Turns s) = writes (turn_ask n.shape s)
 work_writes n actor x (Flushes step bytes) = writes (flush_ask n.places step)
 work_writes n actor x (Serves step) = writes (serve_ask step)
 

@@ -117,8 +117,9 @@ impl Flush {
         Ok(self.ask())
     }
 
+    /// What it asks now.
     #[tactic(auto, unfolding(crate::specs::Flushing::flush_ask))]
-    fn ask(&self) -> Ask<DeviceAnswer>
+    pub fn ask(&self) -> Ask<DeviceAnswer>
         ensures { result ≡ flush_ask self.now.places self.now.step }
     {
         match self.step {

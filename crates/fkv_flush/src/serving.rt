@@ -134,8 +134,9 @@ impl Serve {
         Ok(self.ask())
     }
 
+    /// What it asks now.
     #[tactic(auto, unfolding(crate::specs::Serving::serve_ask))]
-    fn ask(&self) -> Ask<DeviceAnswer>
+    pub fn ask(&self) -> Ask<DeviceAnswer>
         ensures { result ≡ serve_ask self.now.step }
     {
         match self.step {

@@ -1,13 +1,15 @@
 use crate::{
-    DeviceAnswer, Flush, MoveAnswer, MoveOffset, Offset, Serve, ShiftAnswer, ShiftReadOnly,
-    TurnPage, law_asks_are_answered, law_flushed_is_synced, law_guarded, law_of_the_ring,
-    law_records_in_hand, law_seen,
+    DeviceAnswer, Flush, Serve, law_finds_slots, law_flushed_is_synced, law_guarded, law_mail,
+    law_nothing_falls, law_of_the_ring, law_records_in_hand, law_seen,
 };
-use fkv_base::{Addr, Fault, Key, LAST_EPOCH, Shape, Version};
+use fkv_base::{Addr, Fault, Key, Shape, Version};
 use fkv_disk::{Device, Fuse, MemDisk};
-use fkv_epoch::{Claim, Raise, Refresh, RefreshAnswer, Scan};
-use fkv_log::{Fill, RecordWords, Reserve, ReserveAnswer};
-use fkv_plane::{Action, Ask, Places, PlainWords, SessionWord, SharedWord, drain_place};
+use fkv_epoch::{Claim, Refresh, RefreshAnswer, Scan};
+use fkv_log::{
+    Fill, MoveAnswer, RecordWords, Reserve, ReserveAnswer, ShiftAnswer, ShiftReadOnly, TurnForm,
+    TurnPage,
+};
+use fkv_plane::{Ask, Places, PlainWords, SessionWord, SharedWord};
 use fkv_record::{Record, record_place, write_record};
 use fkv_words::Header;
 use std::alloc::Global;
@@ -155,12 +157,12 @@ fn shift(plane: &mut PlainWords, shape: Shape) -> ShiftAnswer {
             other => machine.drive(plane.perform(&other)),
         };
     }
-    ShiftAnswer::Spent
+    ShiftAnswer::Spent(Addr(0))
 }
 
 fn turn_page(plane: &mut PlainWords, shape: Shape, tail: Addr) -> MoveAnswer {
     let mut machine = TurnPage::new(shape);
-    let mut ask = machine.start(tail);
+    let mut ask = machine.start(TurnForm::Whole, tail);
     for _ in 0..32 {
         ask = match ask {
             Ask::Done(answer) => return answer,
@@ -278,8 +280,9 @@ fn frames_are_used_again(rt: HostRuntime) -> Result<(), Fail> {
     law_seen();
     law_flushed_is_synced();
     law_of_the_ring();
-    law_asks_are_answered();
     law_records_in_hand();
+    law_nothing_falls();
+    law_finds_slots();
     Ok(())
 }
 
@@ -346,60 +349,6 @@ fn a_mailbox_is_served(rt: HostRuntime) -> Result<(), Fail> {
         mailbox(&plane),
         [2, 281474976710656, 5, 18446744073709551610]
     );
-    Ok(())
-}
-
-/// Without a free slot, or at the last epoch, no offset moves.
-#[test]
-fn nothing_moves_without_a_slot(rt: HostRuntime) -> Result<(), Fail> {
-    let shape = small_shape()?;
-    let mut plane = new_words(rt.alloc(), &shape)?;
-    for _ in 0..5 {
-        append(&mut plane, &shape);
-    }
-    for slot in 0..8 {
-        plane.perform::<()>(&Ask::Store(drain_place(slot), 1));
-    }
-    assert_eq!(rt; shift(&mut plane, shape), ShiftAnswer::NoSlot(Addr(6)));
-    plane.perform::<()>(&Ask::Store(SharedWord::Epoch.place(), LAST_EPOCH));
-    assert_eq!(rt; shift(&mut plane, shape), ShiftAnswer::Spent);
-    assert_eq!(rt; offsets(&plane), [1, 1, 1, 1, 1, 6, 8]);
-    Ok(())
-}
-
-/// A page's frame is wanted again: its page is closed once it is flushed, and opened for another once it is closed.
-#[test]
-fn a_page_is_closed_and_its_frame_opened(rt: HostRuntime) -> Result<(), Fail> {
-    let shape = small_shape()?;
-    let mut plane = new_words(rt.alloc(), &shape)?;
-    assert_eq!(rt; turn_page(&mut plane, shape, Addr(8)), MoveAnswer::Through);
-    assert_eq!(rt; offsets(&plane), [1, 1, 1, 1, 1, 1, 8]);
-    plane.perform::<()>(&Ask::Store(SharedWord::Flushed.place(), 8));
-    assert_eq!(rt; turn_page(&mut plane, shape, Addr(8)), MoveAnswer::Through);
-    assert_eq!(rt; offsets(&plane), [1, 4, 8, 1, 1, 1, 8]);
-    assert_eq!(rt; plane.word(drain_place(0)), 3);
-    assert_eq!(rt; plane.take(0), Some(Action::Close(Addr(4))));
-    plane.perform::<()>(&Ask::Store(SharedWord::Closed.place(), 4));
-    assert_eq!(rt; turn_page(&mut plane, shape, Addr(8)), MoveAnswer::Through);
-    assert_eq!(rt; offsets(&plane), [4, 4, 8, 1, 1, 1, 12]);
-    Ok(())
-}
-
-/// An offset is moved once a slot is held, and before the epoch is raised.
-#[test]
-fn an_offset_is_moved(rt: HostRuntime) -> Result<(), Fail> {
-    let mut plane = PlainWords::new(rt.alloc(), 64)?;
-    let mut machine = MoveOffset::new();
-    let mut ask = machine.start(Offset::ReadOnly, Addr(12));
-    for _ in 0..3 {
-        ask = machine.drive(plane.perform(&ask));
-    }
-    assert_eq!(rt; ask, Ask::Max(5, 12));
-    ask = machine.drive(plane.perform(&ask));
-    assert_eq!(rt; ask, Ask::Add(0, 1));
-    ask = machine.drive(plane.perform(&ask));
-    assert_eq!(rt; ask, Ask::Put(0, Action::SafeReadOnly(Addr(12))));
-    assert_eq!(rt; machine.drive(0), Ask::Store(16, 2));
-    assert_eq!(rt; machine.drive(1), Ask::Done(MoveAnswer::Through));
+    law_mail();
     Ok(())
 }

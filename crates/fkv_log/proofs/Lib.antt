@@ -1,3 +1,6 @@
-pub mod Records
-pub mod Reserved
-pub mod Written
+mod Asks
+mod RaiseRange
+mod Records
+mod Reserved
+pub mod Shown
+mod Written

@@ -1,5 +1,5 @@
 -- Three stores at the three places of one record.
-use Rattle.std.proofs.Common.{◌≡◌, ◌≢◌, ℕ, ◌%◌, ◌<◌, ◌≤◌, ◌∙◌, List, length, arith}
+use Rattle.std.proofs.Common.{◌≡◌, refl, ◌≢◌, ℕ, ◌%◌, ◌<◌, ◌≤◌, ◌∙◌, List, length, arith}
 use Rattle.std.specs.Prelude.{slice_set}
 use Rattle.std.proofs.lemmas.List.{length-set, get_or-set_same, get_or-set_other}
 use Rattle.std.proofs.lemmas.Nat.{mod_below}
@@ -12,9 +12,10 @@ use Rattle.fkv_plane.specs.declared.places.RecordWord.TheVariants as rec
 use Rattle.fkv_plane.specs.Places.{record_place, record_number, word_count}
 use Rattle.fkv_plane.specs.Asked.{word_at}
 use Rattle.fkv_log.specs.declared.record_words.RecordWords.{RecordWords}
-use Rattle.fkv_log.specs.Filling.{fill_ask}
-use Rattle.fkv_log.specs.Invalidating.{invalidate_ask, invalidated}
-use Rattle.fkv_log.specs.Written.{HasWords, SparesOthers, filled, invalidated_words}
+use Rattle.fkv_log.specs.Filling.{fill_ask, fill_next}
+use Rattle.fkv_log.specs.Invalidating.{invalidate_ask, invalidate_next, invalidated}
+use Rattle.fkv_log.specs.Turning.{TurnsLastPage}
+use Rattle.fkv_log.specs.Written.{HasWords, IsWritten, IsInvalidated, FillsInOrder}
 use Rattle.fkv_log.proofs.Records.{three_words}
 
 -- a record's words are among those that the store has
@@ -43,9 +44,8 @@ three_writes words first second third x y z a b c fs ft st =
       get_or-set_same two third z 0 (omega (arith, same_one, same_two, c)),
     )
 
-pub written : (places : Places) (words : List ℕ) (addr : Addr) (its_words : RecordWords) → word_count places ≤ length words
-    → HasWords places (filled places words addr its_words) addr.0 (header_word its_words.header) its_words.key.0 its_words.value × SparesOthers places addr.0 words (filled places words addr its_words)
-unfolding fill_ask
+pub written : (places : Places) (words : List ℕ) (addr : Addr) (its_words : RecordWords) → word_count places ≤ length words → IsWritten places words addr its_words
+unfolding fill_ask fill_next
 written places words addr its_words enough =
     let value : ℕ = record_place places addr.0 rec.Value in
     let key : ℕ = record_place places addr.0 rec.Key in
@@ -56,25 +56,40 @@ written places words addr its_words enough =
     let k = within places addr.0 rec.Key in
     let h = within places addr.0 rec.Header in
     let all = three_writes words value key header its_words.value its_words.key.0 (header_word its_words.header) (omega (arith, v, enough)) (omega (arith, k, enough)) (omega (arith, h, enough))
-    (words_apart places addr.0 rec.Value rec.Key (omega arith)) (words_apart places addr.0 rec.Value rec.Header (omega arith)) (words_apart places addr.0 rec.Key rec.Header (omega arith)) in (
-      record { its_header = all.2; its_key = all.1; its_value = all.0 },
-      λ place apart.
+    (words_apart places addr.0 rec.Value rec.Key (omega arith)) (words_apart places addr.0 rec.Value rec.Header (omega arith)) (words_apart places addr.0 rec.Key rec.Header (omega arith)) in
+    record {
+      asks = 3;
+      rests = refl;
+      has = record { its_header = all.2; its_key = all.1; its_value = all.0 };
+      spares = λ place apart.
           get_or-set_other two header place (header_word its_words.header) 0 (apart rec.Header)
           ∙ get_or-set_other one key place its_words.key.0 0 (apart rec.Key)
-          ∙ get_or-set_other words value place its_words.value 0 (apart rec.Value),
-    )
+          ∙ get_or-set_other words value place its_words.value 0 (apart rec.Value);
+    }
 
 pub dropped_record : (places : Places) (words : List ℕ) (addr : Addr) (header : Header) (word key value : ℕ) → word_count places ≤ length words → HasWords places words addr.0 word key value
-    → HasWords places (invalidated_words places words addr header) addr.0 (header_word (invalidated header)) key value × SparesOthers places addr.0 words (invalidated_words places words addr header)
-unfolding invalidate_ask
-dropped_record places words addr header word key value enough has =
+    → IsInvalidated places words addr header key value
+unfolding invalidate_ask invalidate_next
+dropped_record places words addr header word key value enough its =
     let place : ℕ = record_place places addr.0 rec.Header in
     let new : ℕ = header_word (invalidated header) in
-    let h = within places addr.0 rec.Header in (
-      record {
+    let h = within places addr.0 rec.Header in
+    record {
+      asks = 1;
+      rests = refl;
+      has = record {
         its_header = get_or-set_same words place new 0 (omega (arith, h, enough));
-        its_key = get_or-set_other words place (record_place places addr.0 rec.Key) new 0 (words_apart places addr.0 rec.Key rec.Header (omega arith)) ∙ has.its_key;
-        its_value = get_or-set_other words place (record_place places addr.0 rec.Value) new 0 (words_apart places addr.0 rec.Value rec.Header (omega arith)) ∙ has.its_value;
-      },
-      λ other apart. get_or-set_other words place other new 0 (apart rec.Header),
-    )
+        its_key = get_or-set_other words place (record_place places addr.0 rec.Key) new 0 (words_apart places addr.0 rec.Key rec.Header (omega arith)) ∙ its.its_key;
+        its_value = get_or-set_other words place (record_place places addr.0 rec.Value) new 0 (words_apart places addr.0 rec.Value rec.Header (omega arith)) ∙ its.its_value;
+      };
+      spares = λ other apart. get_or-set_other words place other new 0 (apart rec.Header);
+    }
+
+-- the order of a fill
+pub in_order : FillsInOrder
+unfolding fill_ask fill_next
+in_order places addr its_words = refl
+
+-- a turn by numbers
+pub last_page : TurnsLastPage
+last_page shape page frames pages = record { wanted = rw (page, pages) refl; no_more = rw (page, pages) refl; its_frame = rw (page, frames) refl; limit = rw page refl }

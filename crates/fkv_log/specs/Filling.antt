@@ -1,16 +1,22 @@
 -- How a record is written: its value, its key, and then its header.
+use Rattle.fkv_base.specs.declared.numbers.Addr.{Addr}
 use Rattle.fkv_words.specs.Layout.{header_word}
 use Rattle.fkv_plane.specs.declared.asks.Ask.{Ask}
 use Rattle.fkv_plane.specs.declared.asks.Ask.TheVariants.{Store, Done}
 use Rattle.fkv_plane.specs.declared.places.Places.{Places}
 use Rattle.fkv_plane.specs.declared.places.RecordWord.TheVariants as rec
 use Rattle.fkv_plane.specs.Places.{record_place}
+use Rattle.fkv_log.specs.declared.record_words.RecordWords.{RecordWords}
 use Rattle.fkv_log.specs.declared.filling.Filling.{Filling}
 use Rattle.fkv_log.specs.declared.filling.Filling.TheVariants.{AtRest, StoresValue, StoresKey, StoresHeader}
 
 pub record Filler : Type 0 where
   pub places : Places
   pub step : Filling
+
+-- it begins with the value
+abbrev pub fill_begun : Addr → RecordWords → Filling
+fill_begun addr its_words = StoresValue addr its_words
 
 -- what each state asks
 unfoldable pub fill_ask : Places → Filling → Ask (Unit {0})

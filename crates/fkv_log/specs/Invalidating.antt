@@ -1,5 +1,6 @@
 -- How a record is invalidated: its header is stored with the invalid bit.
 use Rattle.std.specs.Prelude.{true}
+use Rattle.fkv_base.specs.declared.numbers.Addr.{Addr}
 use Rattle.fkv_words.specs.declared.headers.Header.{Header}
 use Rattle.fkv_words.specs.Layout.{header_word}
 use Rattle.fkv_plane.specs.declared.asks.Ask.{Ask}
@@ -17,6 +18,9 @@ pub record Invalidator : Type 0 where
 -- the header of the same record, invalidated
 abbrev pub invalidated : Header → Header
 invalidated header = record header { invalid = true }
+
+abbrev pub invalidate_begun : Addr → Header → Invalidating
+invalidate_begun addr header = StoresHeader addr header
 
 -- what each state asks
 unfoldable pub invalidate_ask : Places → Invalidating → Ask (Unit {0})

@@ -1,8 +1,11 @@
 pub mod Filling
 pub mod Invalidating
 pub mod Loading
+pub mod Moving
 pub mod Records
 pub mod Regions
 pub mod Reserved
 pub mod Reserving
+pub mod Shifting
+pub mod Turning
 pub mod Written

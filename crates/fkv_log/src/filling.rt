@@ -31,8 +31,8 @@ impl Model for Fill {
 }
 
 impl Fill {
-    ghost use Rattle.fkv_log.specs.Filling.{fill_ask, fill_next};
-    ghost use Rattle.fkv_log.specs.declared.filling.Filling.TheVariants.{AtRest, StoresValue};
+    ghost use Rattle.fkv_log.specs.Filling.{fill_begun, fill_ask, fill_next};
+    ghost use Rattle.fkv_log.specs.declared.filling.Filling.TheVariants.{AtRest};
 
     /// The machine of a store with these places, at rest.
     pub fn new(places: Places) -> Fill
@@ -46,8 +46,8 @@ impl Fill {
 
     /// The first ask, to write the record at the address.
     pub fn start(&mut self, addr: Addr, its_words: RecordWords) -> Ask<()>
-        ensures next { self.new ≡ record self.old { step = StoresValue addr its_words } }
-        ensures ask { result ≡ fill_ask self.old.places (StoresValue addr its_words) }
+        ensures next { self.new ≡ record self.old { step = fill_begun addr its_words } }
+        ensures ask { result ≡ fill_ask self.old.places (fill_begun addr its_words) }
     {
         self.step = Filling::StoresValue(addr, its_words);
         self.ask()
@@ -67,8 +67,9 @@ impl Fill {
         self.ask()
     }
 
+    /// What it asks now.
     #[tactic(auto, unfolding(crate::specs::Filling::fill_ask))]
-    fn ask(&self) -> Ask<()>
+    pub fn ask(&self) -> Ask<()>
         ensures { result ≡ fill_ask self.now.places self.now.step }
     {
         match self.step {

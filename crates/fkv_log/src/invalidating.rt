@@ -29,8 +29,8 @@ impl Model for Invalidate {
 }
 
 impl Invalidate {
-    ghost use Rattle.fkv_log.specs.Invalidating.{invalidate_ask, invalidate_next};
-    ghost use Rattle.fkv_log.specs.declared.invalidating.Invalidating.TheVariants.{AtRest, StoresHeader};
+    ghost use Rattle.fkv_log.specs.Invalidating.{invalidate_begun, invalidate_ask, invalidate_next};
+    ghost use Rattle.fkv_log.specs.declared.invalidating.Invalidating.TheVariants.{AtRest};
 
     /// The machine of a store with these places, at rest.
     pub fn new(places: Places) -> Invalidate
@@ -44,8 +44,8 @@ impl Invalidate {
 
     /// The first ask, to invalidate the record at the address, which has this header.
     pub fn start(&mut self, addr: Addr, header: Header) -> Ask<()>
-        ensures next { self.new ≡ record self.old { step = StoresHeader addr header } }
-        ensures ask { result ≡ invalidate_ask self.old.places (StoresHeader addr header) }
+        ensures next { self.new ≡ record self.old { step = invalidate_begun addr header } }
+        ensures ask { result ≡ invalidate_ask self.old.places (invalidate_begun addr header) }
     {
         self.step = Invalidating::StoresHeader(addr, header);
         self.ask()
@@ -61,8 +61,9 @@ impl Invalidate {
         self.ask()
     }
 
+    /// What it asks now.
     #[tactic(auto, unfolding(crate::specs::Invalidating::invalidate_ask))]
-    fn ask(&self) -> Ask<()>
+    pub fn ask(&self) -> Ask<()>
         ensures { result ≡ invalidate_ask self.now.places self.now.step }
     {
         match self.step {

@@ -2,7 +2,8 @@
 ghost use Rattle.std.specs.Prelude.{ℕ, List, ◌≤◌};
 ghost use Rattle.fkv_log.specs.Reserved.{TailEvent, IsOpened, opening, tail_run, tail_of, limit_of, RiseTo, AreReservedOnce, ReservesOrStays};
 ghost use Rattle.fkv_log.specs.Records.{AreOpenRecordsApart, AreRecordsInFrames};
-ghost use Rattle.fkv_log.specs.Written.{AreWritten, AreInvalidated};
+ghost use Rattle.fkv_log.specs.Written.{AreWritten, AreInvalidated, FillsInOrder};
+ghost use Rattle.fkv_log.specs.Turning.{TurnsLastPage};
 
 use fkv_frames::law_places_of_open_pages;
 
@@ -32,9 +33,16 @@ pub fn law_records_of_open_pages()
     law_places_of_open_pages();
 }
 
-/// A record that is written has its header, its key and its value at its address, and one that is invalidated an invalid
-/// header in its place. No other word changes.
+/// A fill from its start to its rest, by its own tables and with nobody between: the record has its header, its key and
+/// its value at its address then, and no other word has changed. An invalidation leaves the record an invalid header in
+/// place of its header, and changes nothing else.
 pub fn law_records_are_written()
     ensures written { AreWritten }
     ensures invalidated { AreInvalidated }
+{}
+
+/// Worked by hand: in which order a fill stores its three words, and which page a turn opens last.
+pub fn law_of_a_record_and_a_page()
+    ensures order { FillsInOrder }
+    ensures last_page { TurnsLastPage }
 {}

@@ -94,8 +94,9 @@ impl LoadRecord {
         self.ask()
     }
 
+    /// What it asks now.
     #[tactic(auto, unfolding(crate::specs::Loading::load_ask))]
-    fn ask(&self) -> Ask<LoadAnswer>
+    pub fn ask(&self) -> Ask<LoadAnswer>
         ensures { result ≡ load_ask self.now.places self.now.step }
     {
         match self.step {

@@ -105,8 +105,9 @@ impl Reserve {
         }
     }
 
+    /// What it asks now.
     #[tactic(auto, unfolding(crate::specs::Reserving::reserve_ask))]
-    fn ask(&self) -> Ask<ReserveAnswer>
+    pub fn ask(&self) -> Ask<ReserveAnswer>
         ensures { result ≡ reserve_ask self.now.step }
     {
         match self.step {

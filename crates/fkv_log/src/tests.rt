@@ -1,10 +1,11 @@
 use crate::{
-    Fill, Invalidate, LoadAnswer, LoadRecord, RecordWords, Region, Reserve, ReserveAnswer,
-    SeenOffsets, law_records_are_written, law_records_of_open_pages, law_reserve_step,
-    law_reserved_once, region, seen_region,
+    Fill, Invalidate, LoadAnswer, LoadRecord, MoveAnswer, MoveOffset, Offset, RecordWords, Region,
+    Reserve, ReserveAnswer, SeenOffsets, ShiftAnswer, ShiftReadOnly, TurnForm, TurnPage,
+    law_of_a_record_and_a_page, law_records_are_written, law_records_of_open_pages,
+    law_reserve_step, law_reserved_once, region, seen_region,
 };
-use fkv_base::{Addr, Key, Shape, Version};
-use fkv_plane::{Ask, Places, PlainWords, RecordWord, SharedWord};
+use fkv_base::{Addr, Key, LAST_EPOCH, Shape, Version};
+use fkv_plane::{Action, Ask, Places, PlainWords, RecordWord, SharedWord, drain_place};
 use fkv_words::Header;
 use std::test::Fail;
 
@@ -142,6 +143,7 @@ fn a_record_is_written_and_given_up(rt: HostRuntime) -> Result<(), Fail> {
     );
     law_records_of_open_pages();
     law_records_are_written();
+    law_of_a_record_and_a_page();
     Ok(())
 }
 
@@ -174,4 +176,133 @@ fn regions_follow_each_other(rt: HostRuntime) {
         read_only: Addr(4),
     };
     assert_eq!(rt; seen_region(Addr(8), crossed), Some(Region::Disk));
+}
+
+/// A store whose log has the records 1 to 5, in a ring of two frames of four records each, on a device of eight pages.
+fn five_records(plane: &mut PlainWords) -> Result<Shape, Fail> {
+    for word in [
+        SharedWord::Epoch,
+        SharedWord::ReadOnly,
+        SharedWord::SafeReadOnly,
+        SharedWord::Flushed,
+        SharedWord::Head,
+        SharedWord::Closed,
+    ] {
+        plane.perform::<()>(&Ask::Store(word.place(), 1));
+    }
+    offsets(plane, 6, 8);
+    Ok(Shape::new(0, 4, 2, 1, 1, 0, 8)?)
+}
+
+/// The offsets in their order: closed, head, flushed, safe read-only, read-only, tail, limit.
+fn levels(plane: &PlainWords) -> [u64; 7] {
+    [
+        plane.word(SharedWord::Closed.place()),
+        plane.word(SharedWord::Head.place()),
+        plane.word(SharedWord::Flushed.place()),
+        plane.word(SharedWord::SafeReadOnly.place()),
+        plane.word(SharedWord::ReadOnly.place()),
+        plane.word(SharedWord::Tail.place()),
+        plane.word(SharedWord::Limit.place()),
+    ]
+}
+
+fn shift(plane: &mut PlainWords, shape: Shape) -> Option<ShiftAnswer> {
+    let mut machine = ShiftReadOnly::new(shape);
+    let mut ask = machine.start();
+    for _ in 0..32 {
+        ask = match ask {
+            Ask::Done(answer) => return Some(answer),
+            Ask::Put(slot, action) => {
+                let _ = plane.put(slot, action);
+                machine.drive(0)
+            }
+            other => machine.drive(plane.perform(&other)),
+        };
+    }
+    None
+}
+
+/// A turn at the tail 8.
+fn turn_page(plane: &mut PlainWords, shape: Shape, form: TurnForm) -> Option<MoveAnswer> {
+    let mut machine = TurnPage::new(shape);
+    let mut ask = machine.start(form, Addr(8));
+    for _ in 0..32 {
+        ask = match ask {
+            Ask::Done(answer) => return Some(answer),
+            Ask::Put(slot, action) => {
+                let _ = plane.put(slot, action);
+                machine.drive(0)
+            }
+            other => machine.drive(plane.perform(&other)),
+        };
+    }
+    None
+}
+
+/// The read-only offset is shifted to where the last page begins. Without a free slot, or at the last epoch, it isn't.
+#[test]
+fn the_read_only_offset_is_shifted(rt: HostRuntime) -> Result<(), Fail> {
+    let mut plane = PlainWords::new(rt.alloc(), 128)?;
+    let shape = five_records(&mut plane)?;
+    for slot in 1..8 {
+        plane.perform::<()>(&Ask::Store(drain_place(slot), 1));
+    }
+    assert_eq!(rt;
+        shift(&mut plane, shape),
+        Some(ShiftAnswer::Through(Addr(6)))
+    );
+    assert_eq!(rt; levels(&plane), [1, 1, 1, 1, 4, 6, 8]);
+    assert_eq!(rt; plane.take(0), Some(Action::SafeReadOnly(Addr(4))));
+    offsets(&mut plane, 8, 8);
+    assert_eq!(rt;
+        shift(&mut plane, shape),
+        Some(ShiftAnswer::NoSlot(Addr(8)))
+    );
+    plane.perform::<()>(&Ask::Store(SharedWord::Epoch.place(), LAST_EPOCH));
+    assert_eq!(rt; shift(&mut plane, shape), Some(ShiftAnswer::Spent(Addr(8))));
+    assert_eq!(rt; levels(&plane), [1, 1, 1, 1, 4, 8, 8]);
+    Ok(())
+}
+
+/// A page's frame is wanted again: its page is closed once it is flushed, by a whole turn alone, and opened for another
+/// once it is closed.
+#[test]
+fn a_page_is_closed_and_its_frame_opened(rt: HostRuntime) -> Result<(), Fail> {
+    let mut plane = PlainWords::new(rt.alloc(), 128)?;
+    let shape = five_records(&mut plane)?;
+    let through = Some(MoveAnswer::Through);
+    assert_eq!(rt; turn_page(&mut plane, shape, TurnForm::Whole), through);
+    assert_eq!(rt; levels(&plane), [1, 1, 1, 1, 1, 6, 8]);
+    plane.perform::<()>(&Ask::Store(SharedWord::Flushed.place(), 8));
+    assert_eq!(rt; turn_page(&mut plane, shape, TurnForm::OpensOnly), through);
+    assert_eq!(rt; levels(&plane), [1, 1, 8, 1, 1, 6, 8]);
+    assert_eq!(rt; turn_page(&mut plane, shape, TurnForm::Whole), through);
+    assert_eq!(rt; levels(&plane), [1, 4, 8, 1, 1, 6, 8]);
+    assert_eq!(rt; plane.word(drain_place(0)), 3);
+    assert_eq!(rt; plane.take(0), Some(Action::Close(Addr(4))));
+    plane.perform::<()>(&Ask::Store(SharedWord::Closed.place(), 4));
+    assert_eq!(rt; turn_page(&mut plane, shape, TurnForm::OpensOnly), through);
+    assert_eq!(rt; levels(&plane), [4, 4, 8, 1, 1, 6, 12]);
+    Ok(())
+}
+
+/// An offset is moved once a slot is held, and before the epoch is raised.
+#[test]
+fn an_offset_is_moved(rt: HostRuntime) -> Result<(), Fail> {
+    let mut plane = PlainWords::new(rt.alloc(), 64)?;
+    let mut machine = MoveOffset::new();
+    let mut ask = machine.start(Offset::ReadOnly, Addr(12));
+    for _ in 0..3 {
+        ask = machine.drive(plane.perform(&ask));
+    }
+    assert_eq!(rt; ask, Ask::Max(5, 12));
+    ask = machine.drive(plane.perform(&ask));
+    assert_eq!(rt; ask, Ask::Add(0, 1));
+    ask = machine.drive(plane.perform(&ask));
+    assert_eq!(rt; ask, Ask::Put(0, Action::SafeReadOnly(Addr(12))));
+    assert_eq!(rt; machine.ask(), ask);
+    assert_eq!(rt; machine.drive(0), Ask::Store(16, 2));
+    assert_eq!(rt; machine.drive(1), Ask::Done(MoveAnswer::Through));
+    Ok(())
 }

@@ -54,8 +54,8 @@ abbrev pub slot_points : List ℕ → ℕ → List ℕ
 slot_points slot sessions = slice_range slot 7 (7 + sessions)
 
 -- The slot with this number has these words as a finished commit writes them, in a store of these sizes: the gate and zeros, the commit's
--- number of the slot's parity, a log that ends on the device, no more triples than there is room for, in the area of the slot, a point for
--- each session, which its last serial may be, and zeros.
+-- number of the slot's parity, a log that ends on the device, no more triples than there is room for, in the area of the slot, for each session a
+-- point that is at most the last serial, and zeros. A commit's number lies below the last version, since the store goes on in the next one.
 abbrev pub is_slot : (place sessions most_triples log_room : ℕ) → List ℕ → Bool
 is_slot place sessions most_triples log_room slot =
     nat_eq (slice_index slot 0) 165

@@ -26,12 +26,3 @@ pub use laws::{law_layouts, law_spellings};
 pub use opened_store::Opened;
 pub use opening_words::{OpeningWords, SessionWords};
 pub use openings::recover;
-
-#[cfg(test)]
-mod comparison;
-#[cfg(test)]
-mod refused_memory;
-#[cfg(test)]
-mod slow_recovery;
-#[cfg(test)]
-mod tests;

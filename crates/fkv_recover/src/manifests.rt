@@ -62,7 +62,7 @@ fn are_zeros(words: &[u64]) -> bool
     words.iter().all(|word| *word == 0)
 }
 
-/// Whether all words are points, which a serial may be.
+/// Whether all words are points, at most the last serial.
 fn are_points(words: &[u64]) -> bool
     ensures { result ≡ list_all (λ point. nat_le point last_serial) words.now }
 {

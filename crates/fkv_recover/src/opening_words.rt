@@ -6,7 +6,7 @@ use fkv_base::{Addr, Phase, Serial, Version};
 use fkv_words::{CutWord, PhaseWord};
 
 /// The words that a store has once.
-#[derive(Clone, Copy, Debug, PartialEq, Eq)]
+#[derive(Clone, Copy)]
 pub struct OpeningWords {
     pub epoch: u64,
     pub safe_epoch: u64,
@@ -24,7 +24,7 @@ pub struct OpeningWords {
 }
 
 /// The words of one session.
-#[derive(Clone, Copy, Debug, PartialEq, Eq)]
+#[derive(Clone, Copy)]
 pub struct SessionWords {
     pub epoch: u64,
     pub even_cut: CutWord,

@@ -8,8 +8,8 @@ pub returns-clause-put : goal.returns-clause-put
 returns-clause-put c = λ sessions actors words events o actor slot epoch got.
     bearer_finds_none (epoch_run (opening sessions actors words) events) actor slot epoch (run_sound (opening sessions actors words) events (opening_sound sessions actors words o)) got
 
-pub returns-clause-take : goal.returns-clause-take
-returns-clause-take c = λ sessions actors words events o.
+pub returns-clause-claim : goal.returns-clause-claim
+returns-clause-claim c = λ sessions actors words events o.
     let sound = run_sound (opening sessions actors words) events (opening_sound sessions actors words o) in
     record {
       finds = λ actor slot word safe got found. claimer_finds_action (epoch_run (opening sessions actors words) events) actor slot word safe sound got found;

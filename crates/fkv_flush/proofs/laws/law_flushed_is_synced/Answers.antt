@@ -5,6 +5,7 @@ use Rattle.fkv_flush.specs.Guarded.{opening}
 use Rattle.fkv_flush.specs.GuardFlushed.{IsSynced, stands, calls_made}
 use Rattle.fkv_flush.proofs.GuardLaw.{run_sound, opening_sound}
 use Rattle.fkv_flush.proofs.GuardFlushed.{steady, stood_open, same_shape, run_flushed, opening_flushed, is_synced}
+use Rattle.fkv_flush.proofs.Still.{stands_still}
 use Rattle.fkv_flush.proofs.laws.law_flushed_is_synced.Goals as goal
 
 pub returns-clause-synced : goal.returns-clause-synced
@@ -20,3 +21,7 @@ unfolding stands guard_run
 returns-clause-steady c = λ shape places actors words start events event addr word o below.
     let first : GuardWorld = opening shape places actors words start in
     steady (guard_run first events) event (stands first events) addr word (run_sound first events (opening_sound shape places actors words start o)) below (stood_open first events addr word)
+
+pub returns-clause-still : goal.returns-clause-still
+returns-clause-still c = λ shape places actors words start events event addr word o below spares.
+    stands_still (opening shape places actors words start) events event addr word (opening_sound shape places actors words start o) below spares

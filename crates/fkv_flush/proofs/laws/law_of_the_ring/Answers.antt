@@ -15,10 +15,10 @@ use Rattle.fkv_epoch.specs.Claiming.{claim_ask, claim_next, claim_given, slot_af
 use Rattle.fkv_epoch.specs.Raising.{raise_ask, raise_next, raise_next_ask, raise_on, free_after}
 use Rattle.fkv_epoch.specs.Arming.{arm_ask, arm_next}
 use Rattle.fkv_epoch.specs.EpochWorld.{own_epoch, drain_word}
-use Rattle.fkv_flush.specs.Passing.{passed}
-use Rattle.fkv_flush.specs.Moving.{step_raised, arm_raised, ask_raised, step_armed, moving_next, raising_next, arming_next, moving_next_ask}
-use Rattle.fkv_flush.specs.Shifting.{shift_ask, shift_next, shift_mover, shift_next_ask, shift_moved, ask_moved}
-use Rattle.fkv_flush.specs.Turning.{turn_ask, turn_next, turn_mover, turn_next_ask, turn_moved}
+use Rattle.fkv_plane.specs.Passing.{passed}
+use Rattle.fkv_log.specs.Moving.{moving_ask, moving_next, moving_next_ask, raise_led, raise_told, arm_led}
+use Rattle.fkv_log.specs.Shifting.{shifting_ask, shifting_next, shift_led}
+use Rattle.fkv_log.specs.Turning.{turning_ask, turning_next, turn_led}
 use Rattle.fkv_flush.specs.Flushing.{flush_ask, flush_next, flush_done, flush_calls, bytes_next, bytes_done}
 use Rattle.fkv_flush.specs.Serving.{serve_ask, serve_next, serve_read, mailbox_from}
 use Rattle.fkv_flush.specs.GuardWorld.{guard_happens, guard_run}
@@ -52,7 +52,7 @@ its_words : RecordWords
 its_words = record { header = record { previous = record { 0 = 0 }; version = record { 0 = 1 }; invalid = false; previous_fits = omega arith; some_version = omega arith; version_fits = omega arith }; key = record { 0 = 3 }; value = 70 }
 
 pub returns : goal.returns
-unfolding shape places its_words protect_ask protect_next refresh_ask refresh_next refresh_finish leave_ask leave_next scan_ask scan_next sessions_from least_of claim_ask claim_next claim_given slot_after slot_armed raise_ask raise_next raise_next_ask raise_on free_after arm_ask arm_next reserve_ask reserve_next reserve_next_ask fill_ask fill_next invalidate_ask invalidate_next passed step_raised arm_raised ask_raised step_armed moving_next raising_next arming_next moving_next_ask shift_ask shift_next shift_mover shift_next_ask shift_moved ask_moved turn_ask turn_next turn_mover turn_next_ask turn_moved flush_ask flush_next flush_done bytes_next bytes_done serve_ask serve_next serve_read mailbox_from guard_happens guard_run flush_calls stands calls_made
+unfolding shape places its_words protect_ask protect_next refresh_ask refresh_next refresh_finish leave_ask leave_next scan_ask scan_next sessions_from least_of claim_ask claim_next claim_given slot_after slot_armed raise_ask raise_next raise_next_ask raise_on free_after arm_ask arm_next reserve_ask reserve_next reserve_next_ask fill_ask fill_next invalidate_ask invalidate_next passed moving_ask moving_next moving_next_ask raise_led raise_told arm_led shifting_ask shifting_next shift_led turning_ask turning_next turn_led flush_ask flush_next flush_done bytes_next bytes_done serve_ask serve_next serve_read mailbox_from guard_happens guard_run flush_calls stands calls_made
 returns c = record {
   shape = shape;
   places = places;
@@ -68,6 +68,7 @@ returns c = record {
     safe_read_only = refl;
     read_only = refl;
     tail = refl;
+    limit = refl;
     tail_below = omega arith;
     limit_below = omega arith;
   };

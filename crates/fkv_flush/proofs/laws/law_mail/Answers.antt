@@ -1,0 +1,30 @@
+use Rattle.std.proofs.Common.{◌<◌, sym, subst}
+use Rattle.fkv_plane.specs.declared.places.Places.{Places}
+use Rattle.fkv_flush.specs.GuardWorld.{GuardWorld, guard_run}
+use Rattle.fkv_flush.specs.GuardMail.{mail_reads}
+use Rattle.fkv_flush.specs.Guarded.{opening}
+use Rattle.fkv_flush.proofs.Calm.{same_stores}
+use Rattle.fkv_flush.proofs.GuardLaw.{run_sound, opening_sound}
+use Rattle.fkv_flush.proofs.GuardMail.{run_mail, opening_mail, changes_mail, finds_asked}
+use Rattle.fkv_flush.proofs.laws.law_mail.Goals as goal
+
+pub returns-clause-ready : goal.returns-clause-ready
+returns-clause-ready c = λ shape places actors words start keeper events session o empty kept few.
+    let first : GuardWorld = opening shape places actors words start in
+    (run_mail keeper first events (opening_sound shape places actors words start o) (opening_mail keeper shape places actors words start empty) kept).ready session
+    (subst (λ (p : Places). session < p.sessions) (sym (same_stores first events).1) few)
+
+pub returns-clause-asked : goal.returns-clause-asked
+returns-clause-asked c = λ shape places actors words start keeper events actor x step o empty kept got its.
+    let first : GuardWorld = opening shape places actors words start in
+    finds_asked keeper (mail_reads first events) (guard_run first events).now actor x step
+    (run_mail keeper first events (opening_sound shape places actors words start o) (opening_mail keeper shape places actors words start empty) kept) got its
+
+pub returns-clause-left : goal.returns-clause-left
+unfolding guard_run
+returns-clause-left c = λ shape places actors words start keeper events event session o empty kept few.
+    let first : GuardWorld = opening shape places actors words start in
+    let sound = opening_sound shape places actors words start o in
+    changes_mail keeper (mail_reads first events) (guard_run first events) (run_sound first events sound)
+    (run_mail keeper first events sound (opening_mail keeper shape places actors words start empty) kept.2) event session kept.1
+    (subst (λ (p : Places). session < p.sessions) (sym (same_stores first events).1) few)
