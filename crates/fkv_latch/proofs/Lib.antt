@@ -1,0 +1,10 @@
+pub mod Actors
+pub mod Apart
+pub mod Asks
+pub mod Counts
+pub mod Events
+pub mod Places
+pub mod Shown
+pub mod Sound
+pub mod Steps
+pub mod Words

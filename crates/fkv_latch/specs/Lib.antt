@@ -1,0 +1,4 @@
+pub mod LatchWorld
+pub mod Latched
+pub mod Latching
+pub mod Meeting
