@@ -14,7 +14,6 @@ use Rattle.fkv_epoch.specs.declared.raising.Raising.{Raising}
 use Rattle.fkv_epoch.specs.declared.raising.Raising.TheVariants as raise
 use Rattle.fkv_epoch.specs.declared.arming.Arming.{Arming}
 use Rattle.fkv_epoch.specs.declared.arming.Arming.TheVariants as arm
-use Rattle.fkv_epoch.specs.declared.refreshing.Refreshing.TheVariants as refresh
 use Rattle.fkv_epoch.specs.Raising.{raise_ask, raise_next, raise_next_ask, raise_on, free_after}
 use Rattle.fkv_epoch.specs.Arming.{arm_ask, arm_next}
 use Rattle.fkv_epoch.specs.EpochWorld.{EpochMachine, Raises, Refreshes, Arms, epoch_of, is_at_rest, resumed_machine, first_machine}
@@ -27,19 +26,18 @@ use Rattle.fkv_log.specs.declared.shifting.Shifting.TheVariants as shift
 use Rattle.fkv_log.specs.declared.turning.TurnForm.TheVariants as form
 use Rattle.fkv_log.specs.declared.turning.Turning.{Turning}
 use Rattle.fkv_log.specs.declared.turning.Turning.TheVariants as turn
-use Rattle.fkv_log.specs.Moving.{Mover, mover, move_ask, move_next, move_next_ask, moving_ask, moving_next, moving_next_ask, raise_led, raise_told, arm_led}
-use Rattle.fkv_log.specs.Shifting.{ShiftState, shift_at, shift_ask, shift_next, shifting_ask, shifting_next, shift_led, mutable_start}
-use Rattle.fkv_log.specs.Turning.{TurnState, turn_at, turn_ask, turn_next, turning_ask, turning_next, turn_led, frame_end, pages_wanted}
+use Rattle.fkv_log.specs.Moving.{Mover, move_ask, move_next, moving_ask, moving_next, moving_next_ask, raise_led, raise_told, arm_led}
+use Rattle.fkv_log.specs.Shifting.{shift_at, shift_ask, shift_next, shifting_ask, shifting_next, mutable_start}
+use Rattle.fkv_log.specs.Turning.{turn_at, turn_ask, turn_next, turning_ask, turning_next, frame_end, pages_wanted}
 use Rattle.fkv_log.proofs.Shown.{move_goes_on}
 use Rattle.fkv_flush.specs.GuardLevels.{Levels, levels_of}
 use Rattle.fkv_flush.specs.GuardCalm.{actor_of}
 use Rattle.fkv_flush.specs.GuardSlots.{slot_put, work_puts, raise_puts, actor_puts, raiser_puts, event_puts}
-use Rattle.fkv_flush.specs.GuardWorld.{Actor, Work, Rests, Reserves, Fills, Invalidates, Shifts, Turns, Flushes, Serves, GuardTask, ToDo, ToReserve, ToFill, ToInvalidate, ToShift, ToTurnPage, ToFlush, ToServe, GuardNow, GuardNear, GuardWorld, GuardEvent, Begins, Resumes, Moves, Calls, Reads, Sees, Publishes, Updates, RaisesReadOnly, RaisesFor, Changes, CallsElse, is_idle, is_none, is_stored, may_work, seen_with, started, near, epoch_step, work_step, shifted, turned, put_near, actions_after, after_put, inner_machine, epoch_world, guard_happens}
+use Rattle.fkv_flush.specs.GuardWorld.{Actor, Work, Rests, Reserves, Fills, Invalidates, Shifts, Turns, Flushes, Serves, GuardTask, ToDo, ToReserve, ToFill, ToInvalidate, ToShift, ToTurnPage, ToFlush, ToServe, GuardNow, GuardNear, GuardWorld, GuardEvent, Begins, Resumes, Moves, Calls, Reads, Sees, Publishes, RaisesFor, is_idle, is_none, is_stored, may_work, seen_with, started, near, work_step, shifted, turned, put_near, actions_after, after_put, inner_machine, epoch_world, guard_happens}
 use Rattle.fkv_flush.proofs.GuardSound.{IsSound, MoveKnows, ShiftKnows, TurnKnows, Waits, machine_of, machine_at}
 use Rattle.fkv_flush.proofs.GuardWorks.{truth, Known}
 use Rattle.fkv_flush.proofs.GuardMoves.{inner_rest}
 use Rattle.fkv_flush.proofs.GuardHomes.{homes_spared, arms_none}
-use Rattle.fkv_flush.proofs.GuardHosted.{hosted}
 use Rattle.fkv_flush.proofs.GuardShifts as shifts
 use Rattle.fkv_flush.proofs.GuardTurns as turns
 use Rattle.fkv_flush.proofs.Slots.{finds_slots}
@@ -212,13 +210,13 @@ module _ (w : GuardWorld) (a : ℕ) (x : Actor) (sound : IsSound w) (got : slice
   near_arms event its = λ slot c e. inl (e, refl)
 
   -- a slot that another actor is about to arm keeps its action
-  module _ (b slot c : ℕ) (other : b ≢ a) (bears : slice_get (map machine_of w.now.actors) b ≡ Some (Arms (arm.StoresEpoch slot c))) where
+  module _ (b slot c : ℕ) (other : b ≢ a) (about_to_arm : slice_get (map machine_of w.now.actors) b ≡ Some (Arms (arm.StoresEpoch slot c))) where
     abbrev Keeps : List (Option Action) → Type 0
     Keeps actions = action_at actions slot ≡ action_at w.now.actions slot
 
     not_put : (event : GuardEvent) → event_puts w.now event ≡ Some slot → ⊥
     not_put event e =
-        let home = (sound.epochs.slots.holds b (Arms (arm.StoresEpoch slot c)) bears).3 in
+        let home = (sound.epochs.slots.holds b (Arms (arm.StoresEpoch slot c)) about_to_arm).3 in
         none_some {Y = ⊥} home.0 (sym ((finds_slots w event sound).puts slot e) ∙ home.1)
 
     moves_put : is_idle x.work ≡ false → work_puts w.now x.work ≡ Some slot → ⊥
@@ -251,7 +249,7 @@ module _ (w : GuardWorld) (a : ℕ) (x : Actor) (sound : IsSound w) (got : slice
 
     near_keeps : (event : GuardEvent) → actor_of event ≡ Some a → Keeps (event_near w.now event x).actions
     near_keeps (Moves d) its = let e = some_same d a its in rw e (elim (truth (is_idle x.work)) [
-      | inl idle ↦ rw idle (homes_spared (epoch_world w) a b x.machine slot c sound.epochs (machine_at w.now.actors a x got) bears)
+      | inl idle ↦ rw idle (homes_spared (epoch_world w) a b x.machine slot c sound.epochs (machine_at w.now.actors a x got) about_to_arm)
       | inr busy ↦ rw busy (worked_keeps x.work (moves_put busy) busy)
     ])
     near_keeps (Calls d done) its = called_keeps done x.work
@@ -263,15 +261,15 @@ module _ (w : GuardWorld) (a : ℕ) (x : Actor) (sound : IsSound w) (got : slice
     near_keeps event its = refl
 
 -- the actor b is about to arm the slot at c, with this action there
-abbrev pub Bears : GuardNow → ℕ → ℕ → ℕ → Action → Type 0
-Bears n b slot c action = (slice_get (map machine_of n.actors) b ≡ Some (Arms (arm.StoresEpoch slot c))) × (action_at n.actions slot ≡ Some action)
+abbrev pub IsAboutToArm : GuardNow → ℕ → ℕ → ℕ → Action → Type 0
+IsAboutToArm n b slot c action = (slice_get (map machine_of n.actors) b ≡ Some (Arms (arm.StoresEpoch slot c))) × (action_at n.actions slot ≡ Some action)
 
 -- So it is in the whole world.
-pub bears_on : (w : GuardWorld) (event : GuardEvent) (b slot c : ℕ) (action : Action) → IsSound w → Bears (guard_happens w event).now b slot c action → Bears w.now b slot c action ⊎ (c ≡ epoch_of w.now.words)
+pub about_to_arm_on : (w : GuardWorld) (event : GuardEvent) (b slot c : ℕ) (action : Action) → IsSound w → IsAboutToArm (guard_happens w event).now b slot c action → IsAboutToArm w.now b slot c action ⊎ (c ≡ epoch_of w.now.words)
 unfolding guard_happens
-bears_on w event b slot c action sound = each_event (λ m. Bears m b slot c action → Bears w.now b slot c action ⊎ (c ≡ epoch_of w.now.words)) w.now event (λ h. inl h) moved
+about_to_arm_on w event b slot c action sound = each_event (λ m. IsAboutToArm m b slot c action → IsAboutToArm w.now b slot c action ⊎ (c ≡ epoch_of w.now.words)) w.now event (λ h. inl h) moved
   where
-    moved : (a : ℕ) (x : Actor) → actor_of event ≡ Some a → slice_get w.now.actors a ≡ Some x → Bears (put_near w.now a (event_near w.now event x)) b slot c action → Bears w.now b slot c action ⊎ (c ≡ epoch_of w.now.words)
+    moved : (a : ℕ) (x : Actor) → actor_of event ≡ Some a → slice_get w.now.actors a ≡ Some x → IsAboutToArm (put_near w.now a (event_near w.now event x)) b slot c action → IsAboutToArm w.now b slot c action ⊎ (c ≡ epoch_of w.now.words)
     moved a x its got h = elim (same_or b a) [
       | inl e ↦
           let x' : Actor = (event_near w.now event x).actor in
@@ -285,6 +283,6 @@ bears_on w event b slot c action sound = each_event (λ m. Bears m b slot c acti
           let x' : Actor = (event_near w.now event x).actor in
           let same : slice_get (map machine_of (slice_set w.now.actors a x')) b ≡ slice_get (map machine_of w.now.actors) b =
           slice_get-map machine_of (slice_set w.now.actors a x') b ∙ (ap (option_map machine_of) (item_spared w.now.actors a b x' n) ∙ sym (slice_get-map machine_of w.now.actors b)) in
-          let bears = sym same ∙ h.0 in
-          inl (bears, sym (near_keeps w a x sound got b slot c n bears event its) ∙ h.1)
+          let about_to_arm = sym same ∙ h.0 in
+          inl (about_to_arm, sym (near_keeps w a x sound got b slot c n about_to_arm event its) ∙ h.1)
     ]

@@ -1,4 +1,4 @@
--- No event lets an offset, the epoch or the safe epoch fall, and none of one actor changes another's epoch word.
+-- How the shared words move: offsets, epoch and safe epoch go up alone, and an epoch word is its session's own to change.
 use Rattle.std.proofs.Common.{◌≡◌, ◌≢◌, ℕ, ◌+◌, ◌*◌, ◌^◌, ◌<◌, ◌≤◌, ◌⊎◌, List, [], ◌∷◌, length, refl, sym, ap, subst, arith, inl, inr, ◌∙◌, Bool, true, false}
 use Rattle.std.specs.Prelude.{Option, Some, ⊤, slice_get, slice_set, nat_le, ◌==◌, ◌&&◌, if◌then◌else◌}
 use Rattle.std.proofs.lemmas.List.{set-get_or}
@@ -383,7 +383,7 @@ module _ (w : GuardWorld) (a : ℕ) (x : Actor) (sound : IsSound w) (got : slice
   near_calm (Changes b place word) its = else_calm (is_guarded w.now.places place) _ (changed_calm place word)
   near_calm event its = still
 
--- No event lets any of these fall.
+-- One event, whoever makes it, leaves each of these words where it was or higher.
 pub event_calm : (w : GuardWorld) (event : GuardEvent) → IsSound w → IsCalm w.now.places.sessions (IsOther event) w.now.words (guard_happens w event).now.words
 unfolding guard_happens
 event_calm w event sound =
@@ -404,7 +404,7 @@ same_stores w (event ∷ before) =
     let here = same_store (guard_run w before) event in
     (here.0 ∙ there.0, here.1 ∙ there.1)
 
--- Nor does a list of events.
+-- And so do many in a row.
 pub events_calm : (w : GuardWorld) (events : List GuardEvent) → IsSound w → IsCalm w.now.places.sessions (AreOther events) w.now.words (guard_run w events).now.words
 unfolding guard_run
 events_calm w [] sound = same_calm w.now.places.sessions (AreOther []) w.now.words

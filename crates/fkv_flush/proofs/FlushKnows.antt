@@ -7,6 +7,7 @@ use Rattle.std.proofs.lemmas.Bool.Decides.{nat_tests}
 use Rattle.fkv_base.specs.declared.shapes.Shape.{Shape}
 use Rattle.fkv_record.specs.Numbers.{spelled}
 use Rattle.fkv_record.specs.Places as image
+use Rattle.fkv_record.proofs.Shown.{length-spelled}
 use Rattle.fkv_disk.specs.Bytes.{byte_at}
 use Rattle.fkv_disk.specs.Calls.{Call, Write, Sync}
 use Rattle.fkv_plane.specs.declared.places.RecordWord.{RecordWord}
@@ -18,7 +19,7 @@ use Rattle.fkv_flush.specs.Flushing.{IsPart, IsFlushInRange, part_from, flush_ne
 use Rattle.fkv_flush.specs.InHand.{words_from, HasLoaded, IsAskedWord}
 use Rattle.fkv_flush.proofs.InHand.{in_hand, next_part}
 use Rattle.fkv_flush.proofs.Parts.{after_reply, after_call}
-use Rattle.fkv_flush.proofs.OnDevice.{IsRead, IsKept, read_on, kept_on, read_synced, record_bytes, RecordRead, RecordKept, part_read, part_misses, part_misses_below, spelled_length, words_from_length, PartOf, loaded_alike}
+use Rattle.fkv_flush.proofs.OnDevice.{IsRead, IsKept, read_on, kept_on, read_synced, record_bytes, RecordRead, RecordKept, part_read, part_misses, part_misses_below, words_from_length, PartOf, loaded_alike}
 
 -- where the whole flush ends
 abbrev pub flush_end : Flushing → ℕ
@@ -216,7 +217,7 @@ module _ (shape : Shape) (opened : List ℕ) (calls : List Call) (words : ℕ �
   part_size : (part : Part) (bytes : List ℕ) → FlushKnows shape opened calls words flushed (WritesPart part) bytes → length bytes ≡ 24 * (part.stop - part.from)
   part_size part bytes k =
       let size = ap (λ (those : List ℕ). length those) k.loaded in
-      let letters = spelled_length (words_from words part.from (part.stop - part.from)) in
+      let letters = length-spelled (words_from words part.from (part.stop - part.from)) in
       let three = words_from_length words part.from (part.stop - part.from) in
       omega (arith, size, letters, three)
 

@@ -22,7 +22,7 @@ use Rattle.fkv_epoch.specs.EpochWorld.{EpochMachine, Protects, Refreshes, Leaves
 use Rattle.fkv_epoch.specs.Once.{goes_by}
 use Rattle.fkv_epoch.proofs.Shown.{word_written, IsSound}
 use Rattle.fkv_flush.specs.GuardAsks.{machine_writes}
-use Rattle.fkv_flush.proofs.GuardEpochs.{Spares, acted_spared, own_elsewhere, run_writes}
+use Rattle.fkv_flush.proofs.GuardEpochs.{Spares, stepped_spared, own_elsewhere, run_writes}
 
 -- the step loads this value, or its session, protected, went by it before
 abbrev pub WasProtected : EpochWorld → ℕ → EpochMachine → Sight → Type 0
@@ -55,28 +55,28 @@ elsewhere w a d sound got not_own = tt
 still_protected : (w : EpochWorld) (a : ℕ) (d : EpochMachine) → IsSound w → slice_get w.now.actors a ≡ Some d → writes_own d ≡ false
     → 0 < own_epoch (machine_step w.now.sessions a w.now.words w.now.actions d).words a → 0 < own_epoch w.now.words a
 still_protected w a d sound got elsewhere_it p =
-    let same = acted_spared w.now.sessions a w.now.words w.now.actions d (session_place a own.Epoch) (elsewhere w a d sound got elsewhere_it) in
+    let same = stepped_spared w.now.sessions a w.now.words w.now.actions d (session_place a own.Epoch) (elsewhere w a d sound got elsewhere_it) in
     omega (arith, p, same)
 
-pub acted_counts : (w : EpochWorld) (a : ℕ) (d : EpochMachine) (x : Sight) → IsSound w → slice_get w.now.actors a ≡ Some d
+pub stepped_counts : (w : EpochWorld) (a : ℕ) (d : EpochMachine) (x : Sight) → IsSound w → slice_get w.now.actors a ≡ Some d
     → 0 < own_epoch (machine_step w.now.sessions a w.now.words w.now.actions d).words a → goes_by x (machine_step w.now.sessions a w.now.words w.now.actions d).machine ≡ true
     → WasProtected w a d x
 unfolding protect_ask protect_next refresh_ask refresh_next leave_ask leave_next
-acted_counts w a (Protects protect.AtRest) x sound got p g = inr (refl, p)
-acted_counts w a (Protects protect.LoadsEpoch) x sound got p g = cc
-acted_counts w a (Protects (protect.StoresEpoch e)) x sound got p g = cc
-acted_counts w a (Protects protect.LoadsPhase) OfPhase sound got p g = inl refl
-acted_counts w a (Protects protect.LoadsPhase) OfReadOnly sound got p g = cc
-acted_counts w a (Protects protect.LoadsPhase) OfHead sound got p g = cc
-acted_counts w a (Protects (protect.LoadsReadOnly q)) OfPhase sound got p g = inr (refl, still_protected w a (Protects (protect.LoadsReadOnly q)) sound got refl p)
-acted_counts w a (Protects (protect.LoadsReadOnly q)) OfReadOnly sound got p g = inl refl
-acted_counts w a (Protects (protect.LoadsReadOnly q)) OfHead sound got p g = cc
-acted_counts w a (Protects (protect.LoadsHead q r)) OfPhase sound got p g = inr (refl, still_protected w a (Protects (protect.LoadsHead q r)) sound got refl p)
-acted_counts w a (Protects (protect.LoadsHead q r)) OfReadOnly sound got p g = inr (refl, still_protected w a (Protects (protect.LoadsHead q r)) sound got refl p)
-acted_counts w a (Protects (protect.LoadsHead q r)) OfHead sound got p g = inl refl
-acted_counts w a (Refreshes (refresh.StoresEpoch e)) x sound got p g = inr (refl, (sound.epochs.knows a (Refreshes (refresh.StoresEpoch e)) got).1)
-acted_counts w a (Leaves leave.StoresZero) x sound got p g =
+stepped_counts w a (Protects protect.AtRest) x sound got p g = inr (refl, p)
+stepped_counts w a (Protects protect.LoadsEpoch) x sound got p g = cc
+stepped_counts w a (Protects (protect.StoresEpoch e)) x sound got p g = cc
+stepped_counts w a (Protects protect.LoadsPhase) OfPhase sound got p g = inl refl
+stepped_counts w a (Protects protect.LoadsPhase) OfReadOnly sound got p g = cc
+stepped_counts w a (Protects protect.LoadsPhase) OfHead sound got p g = cc
+stepped_counts w a (Protects (protect.LoadsReadOnly q)) OfPhase sound got p g = inr (refl, still_protected w a (Protects (protect.LoadsReadOnly q)) sound got refl p)
+stepped_counts w a (Protects (protect.LoadsReadOnly q)) OfReadOnly sound got p g = inl refl
+stepped_counts w a (Protects (protect.LoadsReadOnly q)) OfHead sound got p g = cc
+stepped_counts w a (Protects (protect.LoadsHead q r)) OfPhase sound got p g = inr (refl, still_protected w a (Protects (protect.LoadsHead q r)) sound got refl p)
+stepped_counts w a (Protects (protect.LoadsHead q r)) OfReadOnly sound got p g = inr (refl, still_protected w a (Protects (protect.LoadsHead q r)) sound got refl p)
+stepped_counts w a (Protects (protect.LoadsHead q r)) OfHead sound got p g = inl refl
+stepped_counts w a (Refreshes (refresh.StoresEpoch e)) x sound got p g = inr (refl, (sound.epochs.knows a (Refreshes (refresh.StoresEpoch e)) got).1)
+stepped_counts w a (Leaves leave.StoresZero) x sound got p g =
     let inside : a < w.now.sessions = sound.epochs.knows a (Leaves leave.StoresZero) got in
     let zeroed = word_written w.now.words (session_place a own.Epoch) 0 (omega (arith, inside, sound.enough_words)) in
     absurd (omega (arith, p, zeroed))
-acted_counts w a d x sound got p g = inr (refl, still_protected w a d sound got refl p)
+stepped_counts w a d x sound got p g = inr (refl, still_protected w a d sound got refl p)

@@ -59,16 +59,16 @@ claimed_words words actions (claim.Runs slot epoch safe action) = refl
 claimed_words words actions (claim.FreesSlot slot safe) = refl
 
 -- so is a word that a step of an epoch machine doesn't write
-pub acted_spared : (S a : ℕ) (words : List ℕ) (actions : List (Option Action)) (d : EpochMachine) (p : ℕ) → Spares (machine_writes a d) p
+pub stepped_spared : (S a : ℕ) (words : List ℕ) (actions : List (Option Action)) (d : EpochMachine) (p : ℕ) → Spares (machine_writes a d) p
     → word_at (machine_step S a words actions d).words p ≡ word_at words p
-acted_spared S a words actions (Protects step) p h = spared words (protect_ask a step) p h
-acted_spared S a words actions (Refreshes step) p h = spared words (refresh_ask a step) p h
-acted_spared S a words actions (Leaves step) p h = spared words (leave_ask a step) p h
-acted_spared S a words actions (Scans step) p h = spared words (scan_ask step) p h
-acted_spared S a words actions (Claims step) p h = rw (claimed_words (words_after words (claim_ask step)) actions (claim_next step (reply_to words (claim_ask step)))) (spared words (claim_ask step) p h)
-acted_spared S a words actions (Raises step) p h = spared words (raise_ask step) p h
-acted_spared S a words actions (HasRaised slot epoch) p h = refl
-acted_spared S a words actions (Arms step) p h = spared words (arm_ask step) p h
+stepped_spared S a words actions (Protects step) p h = spared words (protect_ask a step) p h
+stepped_spared S a words actions (Refreshes step) p h = spared words (refresh_ask a step) p h
+stepped_spared S a words actions (Leaves step) p h = spared words (leave_ask a step) p h
+stepped_spared S a words actions (Scans step) p h = spared words (scan_ask step) p h
+stepped_spared S a words actions (Claims step) p h = rw (claimed_words (words_after words (claim_ask step)) actions (claim_next step (reply_to words (claim_ask step)))) (spared words (claim_ask step) p h)
+stepped_spared S a words actions (Raises step) p h = spared words (raise_ask step) p h
+stepped_spared S a words actions (HasRaised slot epoch) p h = refl
+stepped_spared S a words actions (Arms step) p h = spared words (arm_ask step) p h
 
 -- the next step runs an action
 abbrev pub runs : EpochMachine → Bool
@@ -118,14 +118,14 @@ own_elsewhere S a p d (Some q) (inr (inr (inr (inr h)))) low scan drain mine gua
 -- another session's epoch word
 pub others_epoch : (w : EpochWorld) (a s : ℕ) (d : EpochMachine) → IsSound w → slice_get w.now.actors a ≡ Some d → s ≢ a → own_epoch (machine_step w.now.sessions a w.now.words w.now.actions d).words s ≡ own_epoch w.now.words s
 others_epoch w a s d sound got n =
-    acted_spared w.now.sessions a w.now.words w.now.actions d (session_place s own.Epoch)
+    stepped_spared w.now.sessions a w.now.words w.now.actions d (session_place s own.Epoch)
     (own_elsewhere w.now.sessions a (session_place s own.Epoch) d (machine_writes a d) (own_writes w a d sound got)
     (omega arith) (λ e _. omega (arith, e)) (λ h i. omega (arith, h, i)) (λ _ e. n (omega (arith, e))) (λ _ h _. omega (arith, h)))
 
 -- the offsets, and each other shared word but the phase, are no word of these machines, but where an action is run
 pub offsets_spared : (w : EpochWorld) (a p : ℕ) (d : EpochMachine) → IsSound w → slice_get w.now.actors a ≡ Some d → runs d ≡ false → 2 ≤ p → p < 16 → word_at (machine_step w.now.sessions a w.now.words w.now.actions d).words p ≡ word_at w.now.words p
 offsets_spared w a p d sound got quiet low high =
-    acted_spared w.now.sessions a w.now.words w.now.actions d p
+    stepped_spared w.now.sessions a w.now.words w.now.actions d p
     (own_elsewhere w.now.sessions a p d (machine_writes a d) (own_writes w a d sound got)
     (omega (arith, low)) (λ e _. omega (arith, e, low)) (λ h i. omega (arith, h, high)) (λ _ e. omega (arith, e, high)) (λ _ _ r. cc))
 
@@ -137,7 +137,7 @@ safe_rises w a d sound got = kept d got refl
   where
     kept : (x : EpochMachine) → slice_get w.now.actors a ≡ Some x → ends_scan x ≡ false → safe_of w.now.words ≤ safe_of (machine_step w.now.sessions a w.now.words w.now.actions x).words
     kept x its quiet =
-        let same = acted_spared w.now.sessions a w.now.words w.now.actions x 1
+        let same = stepped_spared w.now.sessions a w.now.words w.now.actions x 1
         (own_elsewhere w.now.sessions a 1 x (machine_writes a x) (own_writes w a x sound its)
         (omega arith) (λ _ y. cc) (λ h i. omega (arith, h)) (λ _ e. omega (arith, e)) (λ h _ _. omega (arith, h))) in
         omega (arith, same)

@@ -86,18 +86,18 @@ unfolding is_arming
 raised_arms_none (raise.RaisesEpoch slot) reply = refl
 raised_arms_none step reply = refl
 
-acted_arms_none : (w : EpochWorld) (a : ℕ) (d : EpochMachine) → IsSound w → slice_get w.now.actors a ≡ Some d → is_arming (machine_step w.now.sessions a w.now.words w.now.actions d).machine ≡ false
+stepped_arms_none : (w : EpochWorld) (a : ℕ) (d : EpochMachine) → IsSound w → slice_get w.now.actors a ≡ Some d → is_arming (machine_step w.now.sessions a w.now.words w.now.actions d).machine ≡ false
 unfolding is_arming arm_next
-acted_arms_none w a (Claims step) sound got = claimed_arms_none _ w.now.actions (claim_next step (reply_to w.now.words (claim_ask step)))
-acted_arms_none w a (Raises step) sound got = raised_arms_none step (reply_to w.now.words (raise_ask step))
-acted_arms_none w a (Arms (arm.PutsAction slot c)) sound got = absurd (sound.slots.holds a (Arms (arm.PutsAction slot c)) got)
-acted_arms_none w a (Arms arm.AtRest) sound got = refl
-acted_arms_none w a (Arms (arm.StoresEpoch slot c)) sound got = refl
-acted_arms_none w a d sound got = refl
+stepped_arms_none w a (Claims step) sound got = claimed_arms_none _ w.now.actions (claim_next step (reply_to w.now.words (claim_ask step)))
+stepped_arms_none w a (Raises step) sound got = raised_arms_none step (reply_to w.now.words (raise_ask step))
+stepped_arms_none w a (Arms (arm.PutsAction slot c)) sound got = absurd (sound.slots.holds a (Arms (arm.PutsAction slot c)) got)
+stepped_arms_none w a (Arms arm.AtRest) sound got = refl
+stepped_arms_none w a (Arms (arm.StoresEpoch slot c)) sound got = refl
+stepped_arms_none w a d sound got = refl
 
 not_both : (b : Bool) {X : Type 0} → b ≡ false → b ≡ true → X
 not_both b f t = cc
 
 pub arms_none : (w : EpochWorld) (a slot c : ℕ) (d : EpochMachine) {X : Type 0} → IsSound w → slice_get w.now.actors a ≡ Some d → (machine_step w.now.sessions a w.now.words w.now.actions d).machine ≡ Arms (arm.StoresEpoch slot c) → X
 unfolding is_arming
-arms_none w a slot c d {X} sound got e = not_both (is_arming (machine_step w.now.sessions a w.now.words w.now.actions d).machine) (acted_arms_none w a d sound got) (ap is_arming e)
+arms_none w a slot c d {X} sound got e = not_both (is_arming (machine_step w.now.sessions a w.now.words w.now.actions d).machine) (stepped_arms_none w a d sound got) (ap is_arming e)

@@ -35,8 +35,8 @@ use Rattle.fkv_flush.specs.GuardSeen.{LastSeen}
 use Rattle.fkv_flush.specs.GuardWorld.{Actor, GuardNow, GuardWorld, epoch_now, epoch_world, seen_with}
 use Rattle.fkv_flush.specs.Guarded.{is_steady, seen_at, seen_of, undecided_at, GoesBy}
 use Rattle.fkv_flush.proofs.Guard.{SeesOn, knows_on, fresh_on}
-use Rattle.fkv_flush.proofs.GuardEpochs.{runs, acted_spared, offsets_spared, others_epoch, safe_rises}
-use Rattle.fkv_flush.proofs.GuardCounts.{writes_own, elsewhere, acted_counts}
+use Rattle.fkv_flush.proofs.GuardEpochs.{runs, stepped_spared, offsets_spared, others_epoch, safe_rises}
+use Rattle.fkv_flush.proofs.GuardCounts.{writes_own, elsewhere, stepped_counts}
 use Rattle.fkv_flush.proofs.GuardHomes.{homes_spared, arms_none}
 use Rattle.fkv_flush.proofs.GuardSound.{Knows, IsSound, Awake, machine_of, machine_at, after, assembled}
 use Rattle.fkv_flush.proofs.GuardSteps.{rises_same}
@@ -209,7 +209,7 @@ epoch_step_sound w a x x' sound got quiet machine seen undecided knows =
     let loads_here : past'.loads a ≡ with_load (w.past.loads a) (sight_of d) (epoch_of n.words) = loaded_here w.past.loads a (sight_of d) (epoch_of n.words) in
     let before : (sight : Sight) → GoesBy n' a sight → (sight_of d ≡ Some sight) ⊎ GoesBy n a sight = λ sight c.
     let its : c.machine ≡ here.machine = some_same c.machine here.machine (sym c.its_machine ∙ at_a') in
-    elim (acted_counts e a d sight sound.epochs got_e c.is_protected (sym (ap (goes_by sight) its) ∙ c.has_loaded)) [
+    elim (stepped_counts e a d sight sound.epochs got_e c.is_protected (sym (ap (goes_by sight) its) ∙ c.has_loaded)) [
       | inl i ↦ inl i
       | inr i ↦ inr (record { is_session = c.is_session; is_protected = i.1; machine = d; its_machine = got_e; has_loaded = i.0 })
     ] in
@@ -272,7 +272,7 @@ epoch_step_sound w a x x' sound got quiet machine seen undecided knows =
     let steady : is_steady d ≡ true = sound.steady a addr x got old in
     let none : sight_of d ≡ None = steady_sees d steady in
     let f = sound.guard.fresh a addr (ap undecided_at got ∙ old) in
-    let own_same = acted_spared S a n.words n.actions d (session_place a own.Epoch) (elsewhere e a d sound.epochs got_e (steady_own d steady)) in
+    let own_same = stepped_spared S a n.words n.actions d (session_place a own.Epoch) (elsewhere e a d sound.epochs got_e (steady_own d steady)) in
     let same_seen : (seen_of n'.actors a).read_only ≡ (seen_of n.actors a).read_only = ap (λ (y : LastSeen). y.read_only) (seen_here ∙ (ap (λ (z : Option Sight). seen_with x.seen z n.words) none ∙ sym seen_before)) in
     fresh_on l l' (GoesBy n) (GoesBy n') (seen_of n.actors) (seen_of n'.actors) a addr up
     (record {

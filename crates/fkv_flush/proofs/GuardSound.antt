@@ -212,7 +212,7 @@ pub record IsSound (w : GuardWorld) : Type 0 where
 pub machine_at : (actors : List Actor) (s : ℕ) (x : Actor) → slice_get actors s ≡ Some x → slice_get (map machine_of actors) s ≡ Some x.machine
 machine_at actors s x e = slice_get-map machine_of actors s ∙ ap (option_map machine_of) e
 
--- who goes by a value still does where neither its epoch word nor its duty changes
+-- who goes by a value still does where neither its epoch word nor its machine changes
 pub goes_on : (n n' : epochs.EpochNow) (s : ℕ) (sight : Sight) → n'.sessions ≡ n.sessions → (s < n.sessions → own_epoch n'.words s ≡ own_epoch n.words s) → slice_get n'.actors s ≡ slice_get n.actors s → Counts n s sight → Counts n' s sight
 goes_on n n' s sight same_sessions same_word same_machine c = record {
   is_session = let h = c.is_session in omega (arith, h, same_sessions);

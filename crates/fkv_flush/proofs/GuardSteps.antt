@@ -33,7 +33,7 @@ same_machines actors a x x' got same = map-set machine_of actors a x' ∙ (ap (s
 pub rises_same : (l l' : Levels) → l' ≡ l → Rises l l'
 rises_same l l' e = rw e (record { closed = omega arith; head = omega arith; flushed = omega arith; safe_read_only = omega arith; read_only = omega arith; tail = omega arith; limit = omega arith })
 
--- who goes by a value, where its epoch word is the same and its duty goes by the value too
+-- who goes by a value, where its epoch word is the same and its machine goes by the value too
 pub goes_with : (n n' : epochs.EpochNow) (a : ℕ) (d d' : EpochMachine) (sight : Sight) → n'.sessions ≡ n.sessions → (a < n.sessions → own_epoch n'.words a ≡ own_epoch n.words a) → slice_get n.actors a ≡ Some d → slice_get n'.actors a ≡ Some d'
     → goes_by sight d' ≡ goes_by sight d → Counts n a sight → Counts n' a sight
 goes_with n n' a d d' sight same_sessions same_word got got' same c =

@@ -50,7 +50,7 @@ use Rattle.fkv_flush.specs.GuardAsks.{writes, machine_writes}
 use Rattle.fkv_flush.specs.GuardLevels.{levels_of}
 use Rattle.fkv_flush.specs.GuardWorld.{Actor, Work, Rests, Reserves, Fills, Invalidates, Shifts, Turns, Flushes, Serves, GuardTask, GuardNow, GuardWorld, GuardEvent, Begins, Resumes, Moves, Calls, Reads, Sees, Publishes, Updates, RaisesReadOnly, RaisesFor, Changes, CallsElse, guard_happens, is_idle, is_none, is_guarded, is_stored, may_update, may_work, work_step, begun, resumed, moved, called, called_by, read, read_by, seen_again, published, updated, read_only_raised, raised_for, raised_with, changed}
 use Rattle.fkv_flush.specs.Guarded.{work_writes, actor_writes, update_writes, event_writes}
-use Rattle.fkv_flush.proofs.GuardEpochs.{Spares, spared, acted_spared}
+use Rattle.fkv_flush.proofs.GuardEpochs.{Spares, spared, stepped_spared}
 use Rattle.fkv_flush.proofs.GuardSound.{IsSound}
 use Rattle.fkv_flush.proofs.GuardWorks.{truth}
 use Rattle.fkv_flush.proofs.GuardHappens.{guarded_not}
@@ -64,7 +64,7 @@ either_same false n m p e = refl
 
 -- one ask of an actor's machine leaves each word that it doesn't write
 worked_same : (n : GuardNow) (a : ℕ) (x : Actor) (work : Work) (p : ℕ) → Spares (work_writes n a x work) p → word_at (work_step n a x work).words p ≡ word_at n.words p
-worked_same n a x Rests p h = acted_spared n.places.sessions a n.words n.actions x.machine p h
+worked_same n a x Rests p h = stepped_spared n.places.sessions a n.words n.actions x.machine p h
 worked_same n a x (Reserves step) p h = spared n.words (reserve_ask step) p h
 worked_same n a x (Fills step) p h = spared n.words (fill_ask n.places step) p h
 worked_same n a x (Invalidates step) p h = spared n.words (invalidate_ask n.places step) p h
@@ -87,7 +87,7 @@ resumed_same n a (Some x) p = either_same (is_idle x.work) _ n p refl
 moved_same : (n : GuardNow) (a : ℕ) (found : Option Actor) (p : ℕ) → Spares (actor_writes n a found) p → word_at (moved n a found).words p ≡ word_at n.words p
 moved_same n a None p h = refl
 moved_same n a (Some x) p h = elim (truth (is_idle x.work)) [
-  | inl e ↦ rw e (acted_spared n.places.sessions a n.words n.actions x.machine p (rw e at h))
+  | inl e ↦ rw e (stepped_spared n.places.sessions a n.words n.actions x.machine p (rw e at h))
   | inr e ↦ rw e (worked_same n a x x.work p (rw e at h))
 ]
 

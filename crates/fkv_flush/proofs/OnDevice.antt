@@ -9,6 +9,7 @@ use Rattle.std.proofs.lemmas.List.{get_or_append_left, get_or-append_right}
 use Rattle.fkv_base.specs.declared.shapes.Shape.{Shape}
 use Rattle.fkv_record.specs.Numbers.{spelled}
 use Rattle.fkv_record.specs.Places as image
+use Rattle.fkv_record.proofs.Shown.{length-spelled}
 use Rattle.fkv_disk.specs.Bytes.{byte_at, covers, range_end}
 use Rattle.fkv_disk.specs.Calls.{Call, Write, Sync, reads_as, is_sure, is_untouched, synced_end}
 use Rattle.fkv_disk.proofs.Shown.{is_listed, length-written, byte_at-written_in, in_range, before_range, after_range, range_end_is, sure_in, sure_out, reads_out}
@@ -71,14 +72,6 @@ pub kept_shown : (opened : List ℕ) (calls : List Call) (i b : ℕ) (bytes : Li
 kept_shown opened calls i b bytes is (inl reads) = reads.last_written i is.read.sure ∙ is.read.byte
 kept_shown opened calls i b bytes is (inr leaves) = leaves.kept i is.synced is.untouched is.read.sure ∙ is.read.byte
 
--- each number takes eight bytes
-pub spelled_length : (numbers : List ℕ) → length (spelled numbers) ≡ 8 * length numbers
-spelled_length [] = refl
-spelled_length (n ∷ numbers) =
-    let others = spelled_length numbers in
-    let both = length-append (to_le_bytes w64 n) (spelled numbers) in
-    omega (arith, others, both)
-
 -- each record takes three words
 pub words_from_length : (words : ℕ → RecordWord → ℕ) (from n : ℕ) → length (words_from words from n) ≡ 3 * n
 words_from_length words from zero = refl
@@ -107,7 +100,7 @@ pub record_shown : (shape : Shape) (opened : List ℕ) (calls : List Call) (word
     → RecordKept shape opened calls words addr → MayShow opened calls bytes → ShowsRecord shape words addr bytes
 record_shown shape opened calls words addr bytes kept shows =
     sym (is_listed (record_bytes words addr) 24 (λ k. byte_at bytes (image.record_place shape addr + k))
-    (spelled_length (record_words words addr))
+    (length-spelled (record_words words addr))
     (λ k below. sym (kept_shown opened calls (image.record_place shape addr + k) (byte_at (record_bytes words addr) k) bytes (kept k below) shows)))
 
 -- the bytes of a record among those of a part
@@ -120,7 +113,7 @@ record_in_part words from (suc n) j k below small = by_place (λ before. record_
     parted = flat_map-append (to_le_bytes w64) (words_from words from n) (record_words words (from + n))
 
     size : length (spelled (words_from words from n)) ≡ 24 * n
-    size = let words_size = words_from_length words from n in let bytes_size = spelled_length (words_from words from n) in omega (arith, words_size, bytes_size)
+    size = let words_size = words_from_length words from n in let bytes_size = length-spelled (words_from words from n) in omega (arith, words_size, bytes_size)
 
     by_place : (j < n → byte_at (spelled (words_from words from n)) (24 * j + k) ≡ byte_at (record_bytes words (from + j)) k) → (j < n) ⊎ (n ≤ j)
         → byte_at (spelled (words_from words from (suc n))) (24 * j + k) ≡ byte_at (record_bytes words (from + j)) k
@@ -165,7 +158,7 @@ module _ (shape : Shape) (opened : List ℕ) (calls : List Call) (words : ℕ �
       along = omega (arith, after_start)
 
       total : length bytes ≡ 24 * n
-      total = let size = ap (λ (those : List ℕ). length those) is in let words_size = words_from_length words from n in let bytes_size = spelled_length (words_from words from n) in omega (arith, size, words_size, bytes_size)
+      total = let size = ap (λ (those : List ℕ). length those) is in let words_size = words_from_length words from n in let bytes_size = length-spelled (words_from words from n) in omega (arith, size, words_size, bytes_size)
 
       inside : covers start (length bytes) (place + k) ≡ true
       inside = in_range start (length bytes) (place + k) (omega (arith, after_start)) (omega (arith, after_start, total, above, below, small))

@@ -3,6 +3,7 @@ use Rattle.std.proofs.Common.{◌≡◌, ℕ, ◌+◌, ◌*◌, ◌/◌, ◌<◌
 use Rattle.std.specs.Prelude.{nat_lt, ◌&&◌, if◌then◌else◌}
 use Rattle.std.proofs.lemmas.Bool.Decides.{nat_tests}
 use Rattle.std.proofs.Math.Nat.{div-mul-le_self, lt-div-mul-add}
+use Rattle.fkv_base.specs.Limits.{max_page}
 use Rattle.fkv_plane.specs.declared.places.RecordWord.TheVariants as rec
 use Rattle.fkv_flush.specs.declared.flushing.Part.{Part}
 use Rattle.fkv_flush.specs.declared.flushing.Flushing.{Flushing}
@@ -10,7 +11,7 @@ use Rattle.fkv_flush.specs.declared.flushing.Flushing.TheVariants.{AtRest, Loads
 use Rattle.fkv_flush.specs.Flushing.{part_from, part_begun, flush_next, flush_done, count_next, count_done, IsPart, IsInHand, IsFlushInRange, HasRoom, IsWithin}
 
 -- the end of a page fits
-pub page_end_fits : (from page : ℕ) → page ≤ 1024 → from < 2 ^ 48 → (from / page + 1) * page < 2 ^ 64
+pub page_end_fits : (from page : ℕ) → page ≤ max_page → from < 2 ^ 48 → (from / page + 1) * page < 2 ^ 64
 page_end_fits from page small fits =
     let under : from / page * page ≤ from = div-mul-le_self from page in
     let next : (from / page + 1) * page ≡ from / page * page + page = omega arith in

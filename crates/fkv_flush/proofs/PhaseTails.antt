@@ -28,7 +28,7 @@ use Rattle.fkv_flush.proofs.GuardRuns.{run_is_safe}
 use Rattle.fkv_flush.proofs.Calm.{event_calm}
 use Rattle.fkv_flush.proofs.GuardMachines.{Arming, arms_it, split, steady_sees}
 use Rattle.fkv_flush.proofs.Undecided.{undecided_on, none_undecided}
-use Rattle.fkv_flush.proofs.Armings.{Bears, bears_on}
+use Rattle.fkv_flush.proofs.Armings.{IsAboutToArm, about_to_arm_on}
 use Rattle.fkv_flush.proofs.SafeRaise.{safe_stays}
 
 -- whoever has loaded the phase above epoch c found the tail at or above what an action raises the safe read-only offset to
@@ -193,7 +193,7 @@ pub record TailSound (w : GuardWorld) (t : PhaseTails) : Type 0 where
   pub in_force : (s : ℕ) → t.in_force s ≤ t.last s
   pub last : (s : ℕ) → t.last s ≤ (levels_of w.now.words).tail
   pub armed : (y : Armed) → Among y w.past.armed → HaveFound w.past t y.epoch y.action
-  pub bears : (b slot c : ℕ) (action : Action) → Bears w.now b slot c action → HaveFound w.past t c action
+  pub about_to_arm : (b slot c : ℕ) (action : Action) → IsAboutToArm w.now b slot c action → HaveFound w.past t c action
   pub safe : ((s : ℕ) → (levels_of w.now.words).safe_read_only ≤ t.in_force s) ⊎ RaisedBy w t
 
 is_reached : (w : GuardWorld) (action : Action) → IsSound w → IsStored (levels_of w.now.words) action → IsReached (levels_of w.now.words).tail action
@@ -205,7 +205,7 @@ is_reached w (act.Phase phase version) sound stored = tt
 record ArmedNow (w : GuardWorld) (y : Armed) : Type 0 where
   b : ℕ
   slot : ℕ
-  bears : Bears w.now b slot y.epoch y.action
+  about_to_arm : IsAboutToArm w.now b slot y.epoch y.action
 
 armed_on : (w : GuardWorld) (event : GuardEvent) (y : Armed) → Among y (guard_happens w event).past.armed → Among y w.past.armed ⊎ ArmedNow w y
 unfolding guard_happens
@@ -217,7 +217,7 @@ armed_on w event y = by event
       | inl e ↦ elim (split y (armed_by (epoch_now w.now) x.machine) w.past.armed (rw e at among)) [
         | inl i ↦
             let z : Arming w.now.actions x.machine y = arms_it (epoch_now w.now) x.machine y i in
-            inr (subst (ArmedNow w) (sym z.is_it) (record { b = a; slot = z.slot; bears = (machine_at w.now.actors a x got ∙ ap Some z.machine, z.at_home) }))
+            inr (subst (ArmedNow w) (sym z.is_it) (record { b = a; slot = z.slot; about_to_arm = (machine_at w.now.actors a x got ∙ ap Some z.machine, z.at_home) }))
         | inr o ↦ inl o
       ]
       | inr e ↦ inl (rw e at among)
@@ -302,10 +302,10 @@ happens_tails w event t sound old =
       last = λ s. let h = last s in omega (arith, h, up);
       armed = λ y among. elim (armed_on w event y among) [
         | inl o ↦ goes_on y.epoch y.action (sound.guard.known y o).stored (old.armed y o)
-        | inr n ↦ goes_on y.epoch y.action (sound.arming n.b n.slot y.epoch y.action n.bears.0 n.bears.1).stored (old.bears n.b n.slot y.epoch y.action n.bears)
+        | inr n ↦ goes_on y.epoch y.action (sound.arming n.b n.slot y.epoch y.action n.about_to_arm.0 n.about_to_arm.1).stored (old.about_to_arm n.b n.slot y.epoch y.action n.about_to_arm)
       ];
-      bears = λ b slot c action h. elim (bears_on w event b slot c action sound h) [
-        | inl o ↦ goes_on c action (sound.arming b slot c action o.0 o.1).stored (old.bears b slot c action o)
+      about_to_arm = λ b slot c action h. elim (about_to_arm_on w event b slot c action sound h) [
+        | inl o ↦ goes_on c action (sound.arming b slot c action o.0 o.1).stored (old.about_to_arm b slot c action o)
         | inr e ↦ rw e (found_now E tail w.past w'.past t t' action on loads_below force_below)
       ];
       safe = elim (safe_stays w event sound) [
@@ -361,7 +361,7 @@ opening_tails shape places actors words start o =
       in_force = λ s. omega arith;
       last = λ s. omega arith;
       armed = λ y among. absurd among;
-      bears = λ b slot c action h. none_there slot action (slice_get (opening shape places actors words start).now.actions slot) refl h.1;
+      about_to_arm = λ b slot c action h. none_there slot action (slice_get (opening shape places actors words start).now.actions slot) refl h.1;
       safe = inl (λ s. omega (arith, safe, tail));
     }
   where

@@ -4,7 +4,7 @@ pub use Rattle.fkv_flush.proofs.Guard.{Known, Fresh, Guard, SeesOn}
 pub use Rattle.fkv_flush.proofs.GuardSound.{IsAhead, RaiseKnows, MoveKnows, Waits, ShiftKnows, TurnKnows, Knows, IsSound, Awake, machine_of, machine_at}
 pub use Rattle.fkv_flush.proofs.GuardLaw.{happens_sound, run_sound, opening_sound, covered, undecided_fresh}
 pub use Rattle.fkv_flush.proofs.GuardSeeing.{keeps_seen}
-pub use Rattle.fkv_flush.proofs.GuardEpochs.{Spares, spared, acted_spared, runs}
+pub use Rattle.fkv_flush.proofs.GuardEpochs.{Spares, spared, stepped_spared, runs}
 pub use Rattle.fkv_flush.proofs.GuardUnwritten.{unwritten, OpensIt, limit_stays, limit_rises, RaisesIt, flushed_stays}
 pub use Rattle.fkv_flush.proofs.GuardWrites.{writes_passed, guards_writes}
 pub use Rattle.fkv_flush.proofs.GuardPages.{guards_limit}
@@ -25,5 +25,5 @@ pub use Rattle.fkv_flush.proofs.SoFar.{refreshed_so_far, protected_so_far, prote
 pub use Rattle.fkv_flush.proofs.OuterPlaces.{session_is_outer, bucket_is_outer, overflow_is_outer, phase_is_outer, taken_is_outer}
 pub use Rattle.fkv_flush.proofs.Goes.{Goes, shift_goes, turn_goes}
 pub use Rattle.fkv_flush.proofs.PhaseTails.{TailsOn, tails_on, Found, HaveFound, TailSound, happens_tails, run_tails, keeps_tails, opening_tails}
-pub use Rattle.fkv_flush.proofs.Armings.{Bears, bears_on}
+pub use Rattle.fkv_flush.proofs.Armings.{IsAboutToArm, about_to_arm_on}
 pub use Rattle.fkv_flush.proofs.SafeRaise.{RaisesSafe, safe_stays}

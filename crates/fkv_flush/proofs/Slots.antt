@@ -1,4 +1,4 @@
--- A slot that gets an action is empty, and one that is taken has what was armed there.
+-- The drain as events meet it: an action is put where there was none, and a claim that is won finds the one of its epoch.
 use Rattle.std.proofs.Common.{◌≡◌, ℕ, ◌+◌, ◌/◌, refl, sym, ap, subst, arith, inl, inr, ◌∙◌}
 use Rattle.std.specs.Prelude.{Option, Some, None, slice_get, nat_lt, nat_le, ◌==◌, ◌&&◌}
 use Rattle.std.proofs.lemmas.Bool.Decides.{nat_tests}

@@ -1,4 +1,4 @@
--- Below the tail, what stands for a record changes only where an event writes a word of its frame.
+-- Why a record below the tail keeps its words: its frame is written by an event that names the word's place, and else not at all.
 use Rattle.std.proofs.Common.{◌≡◌, ◌≢◌, ℕ, ◌+◌, ◌<◌, ◌≤◌, List, ◌∷◌, sym, ap, arith, inl, inr, ◌∙◌, Bool, true}
 use Rattle.std.specs.Prelude.{Option, Some, None, nat_lt, nat_le, if◌then◌else◌}
 use Rattle.std.proofs.lemmas.Bool.Decides.{nat_tests}

@@ -1,5 +1,8 @@
 -- Mailboxes: what a session may do to its own, the reads that are made for them, and what they hold.
-use Rattle.std.specs.Prelude.{◌≡◌, ◌⊎◌, ℕ, ◌<◌, ◌==◌, if◌then◌else◌, List, [], ◌∷◌, ◌++◌, slice_get, Option, Some, None, ⊤}
+use Rattle.std.specs.Prelude.{◌≡◌, ◌⊎◌, ℕ, ◌^◌, ◌<◌, ◌==◌, if◌then◌else◌, List, [], ◌∷◌, ◌++◌, slice_get, Option, Some, None, ⊤}
+use Rattle.fkv_base.specs.declared.shapes.Shape.{Shape}
+use Rattle.fkv_record.specs.Numbers.{spelled}
+use Rattle.fkv_record.specs.Places as image
 use Rattle.fkv_plane.specs.declared.places.Places.{Places}
 use Rattle.fkv_plane.specs.declared.places.SessionWord.{SessionWord}
 use Rattle.fkv_plane.specs.declared.places.SessionWord.TheVariants as own
@@ -8,7 +11,7 @@ use Rattle.fkv_plane.specs.Asked.{word_at}
 use Rattle.fkv_flush.specs.declared.serving.Mail.{Mail}
 use Rattle.fkv_flush.specs.declared.serving.Serving.{Serving}
 use Rattle.fkv_flush.specs.declared.serving.Serving.TheVariants as serve
-use Rattle.fkv_flush.specs.Serving.{asked_state, ready_state, mail_of}
+use Rattle.fkv_flush.specs.Serving.{asked_state, ready_state, mail_of, mail_place}
 use Rattle.fkv_flush.specs.GuardCalm.{actor_of}
 use Rattle.fkv_flush.specs.GuardWorld.{Actor, Work, Serves, ToServe, GuardNow, GuardWorld, GuardEvent, Begins, Moves, Reads, Changes, guard_run}
 
@@ -33,6 +36,15 @@ mailbox_of words session = record {
     value = word_at words (session_place session own.MailValue);
   };
 }
+
+-- Where the serving machine reads for a session at an address, it reads at the place of that record in the image: there a device shows a flushed record.
+abbrev pub ReadsItsPlace : Shape → ℕ → ℕ → Type 0
+ReadsItsPlace shape session addr = mail_place shape (serve.Reads session addr) ≡ image.record_place shape addr
+
+-- Bytes that spell three words, as those of a record that a device shows, give a mail with just these.
+abbrev pub GivesWords : ℕ → ℕ → ℕ → Type 0
+GivesWords header key value =
+    header < 2 ^ 64 → key < 2 ^ 64 → value < 2 ^ 64 → mail_of (spelled (header ∷ key ∷ value ∷ [])) ≡ record { header = header; key = key; value = value }
 
 -- a record that the device has read for a session: the words that it gave, and the address
 pub record MailRead : Type 0 where

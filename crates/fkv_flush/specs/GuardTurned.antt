@@ -20,8 +20,8 @@ abbrev pub turned_words : List ℕ
 turned_words = 1 ∷ 0 ∷ 0 ∷ 7 ∷ 12 ∷ 7 ∷ 7 ∷ 7 ∷ 7 ∷ 7 ∷ replicate 14 0 ++ 1 ∷ replicate 47 0
 
 -- the session refreshes; then actor 1 scans, and claims what is safe. (The newest event stands first.)
-abbrev pub looked_again : List GuardEvent
-looked_again =
+abbrev pub refreshed_and_claimed : List GuardEvent
+refreshed_and_claimed =
     replicate 20 (Moves 1) ++ Begins 1 (ToDo ToClaim) ∷ replicate 3 (Moves 1) ++ Begins 1 (ToDo ToScan)
     ∷ Moves 0 ∷ Resumes 0 ∷ replicate 4 (Moves 0) ++ Begins 0 (ToDo ToRefresh) ∷ []
 
@@ -30,9 +30,9 @@ looked_again =
 abbrev pub turns_round : RecordWords → List GuardEvent
 turns_round its_words =
     replicate 3 (Moves 1) ++ Begins 1 (ToTurnPage Whole 8)
-    ∷ looked_again ++ replicate 12 (Moves 1) ++ Begins 1 (ToTurnPage Whole 8)
+    ∷ refreshed_and_claimed ++ replicate 12 (Moves 1) ++ Begins 1 (ToTurnPage Whole 8)
     ∷ Moves 1 ∷ Calls 1 true ∷ Calls 1 true ∷ replicate 5 (Moves 1) ++ Begins 1 ToFlush
-    ∷ looked_again ++ replicate 10 (Moves 1) ++ Begins 1 ToShift
+    ∷ refreshed_and_claimed ++ replicate 10 (Moves 1) ++ Begins 1 ToShift
     ∷ Publishes 0 ∷ replicate 3 (Moves 0) ++ Begins 0 (ToFill its_words) ∷ replicate 3 (Moves 0) ++ Begins 0 ToReserve ∷ []
 
 -- what was written is flushed and closed, and the limit is a page further

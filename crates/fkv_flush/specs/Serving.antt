@@ -17,7 +17,7 @@ pub record Server : Type 0 where
   pub shape : Shape
   pub step : Serving
 
--- there are at most eight sessions, and an address is below 2^48
+-- a session is below max_sessions, and an address below 2^48
 abbrev pub IsServeInRange : Serving → Type 0
 IsServeInRange AtRest = ⊤
 IsServeInRange (LoadsState session) = session < max_sessions

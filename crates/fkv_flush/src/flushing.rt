@@ -1,6 +1,7 @@
 //! How records that nobody writes any more get to the device.
 ghost use Rattle.std.specs.Prelude.{◌≡◌, ◌<◌, ◌≤◌, ◌^◌, ◌↔◌, [], true, is_ok, vec_len, IfOk, OnErr, Err};
 ghost use Rattle.std.specs.Vec.{vec_capacity};
+ghost use Rattle.fkv_base.specs.Limits.{max_page};
 ghost use Rattle.fkv_base.specs.declared.faults.Fault.TheVariants.{Memory};
 ghost use Rattle.fkv_disk.specs.Device.{Elapses, HasCause, MakesCalls};
 ghost use Rattle.fkv_flush.specs.Flushing.{flush_ask, flush_next, bytes_next, flush_calls, flush_done, bytes_done, part_begun, record_after, count_next, count_done, HasRoom, IsWithin};
@@ -150,7 +151,7 @@ fn keep_word(bytes: &mut Vec<u8>, step: Flushing, reply: u64)
 #[tactic(auto, unfolding(crate::specs::Flushing::flush_next))]
 fn step_after(page: u64, step: Flushing, reply: u64) -> Flushing
     requires page { 0 < page }
-    requires small { page ≤ 1024 }
+    requires small { page ≤ max_page }
     requires within { IsWithin step }
     ensures { result ≡ flush_next page step reply }
 {
@@ -180,7 +181,7 @@ fn step_after(page: u64, step: Flushing, reply: u64) -> Flushing
 #[tactic(auto, using(crate::proofs::Parts::page_end_fits))]
 fn part_begun(page: u64, from: u64, end: u64) -> Flushing
     requires page { 0 < page }
-    requires small { page ≤ 1024 }
+    requires small { page ≤ max_page }
     requires addresses { from < 2 ^ 48 }
     ensures { result ≡ part_begun page from end }
 {
@@ -242,7 +243,7 @@ fn drop_written(bytes: &mut Vec<u8>, step: Flushing)
 #[tactic(auto, unfolding(crate::specs::Flushing::flush_done))]
 fn step_called(page: u64, step: Flushing, done: bool) -> Flushing
     requires page { 0 < page }
-    requires small { page ≤ 1024 }
+    requires small { page ≤ max_page }
     requires within { IsWithin step }
     ensures { result ≡ flush_done page step done }
 {

@@ -14,7 +14,7 @@ ghost use Rattle.fkv_flush.specs.GuardSlots.{FindsSlots};
 ghost use Rattle.fkv_flush.specs.GuardWorld.{GuardWorld, GuardEvent, Actor, Serves, guard_happens, guard_run, levels};
 ghost use Rattle.fkv_flush.specs.GuardTurned.{GoesRound};
 ghost use Rattle.fkv_flush.specs.GuardFlushed.{OneFlushes, IsSynced, SparesRecord, stands, calls_made};
-ghost use Rattle.fkv_flush.specs.GuardMail.{AreEmpty, AreMailboxesKept, ReadyWasRead, FindsAsked, ChangesMailbox, mailbox_of, mail_reads};
+ghost use Rattle.fkv_flush.specs.GuardMail.{AreEmpty, AreMailboxesKept, ReadyWasRead, FindsAsked, ChangesMailbox, ReadsItsPlace, GivesWords, mailbox_of, mail_reads};
 ghost use Rattle.fkv_flush.specs.declared.serving.Serving.{Serving};
 ghost use Rattle.fkv_flush.specs.Guarded.{IsOpened, opening, IsCovered, UndecidedIsFresh, GoesBy, seen_of, event_writes, GuardsWrites, GuardsLimit, KeepsSeen};
 
@@ -100,8 +100,11 @@ pub fn law_finds_slots()
 /// the state from empty to asked and from ready to empty: at every moment a mailbox that is ready has the words that the
 /// newest read for its session gave, which was at the address asked for; the actor that serves finds asked for what it
 /// has come to; and each event leaves a mailbox as it is, or is one of its session where it was empty or ready, or one of
-/// the actor that serves where a record was asked for.
+/// the actor that serves where a record was asked for. A read at an address is one at that record's place in the image,
+/// and the bytes of three words give these as header, key and value.
 pub fn law_mail()
+    ensures place { (shape : Shape) (session addr : ℕ) → ReadsItsPlace shape session addr }
+    ensures words { (header key value : ℕ) → GivesWords header key value }
     ensures ready { (shape : Shape) (places : Places) (actors : ℕ) (words : List ℕ) (start keeper : ℕ) (events : List GuardEvent) (session : ℕ)
         → IsOpened shape places actors words start → AreEmpty places words → AreMailboxesKept keeper (opening shape places actors words start) events → session < places.sessions
         → ReadyWasRead (mail_reads (opening shape places actors words start) events) session (mailbox_of (guard_run (opening shape places actors words start) events).now.words session) }

@@ -1,12 +1,25 @@
-use Rattle.std.proofs.Common.{◌<◌, sym, subst}
+use Rattle.std.proofs.Common.{◌<◌, refl, sym, subst}
+use Rattle.std.proofs.lemmas.Nat.{from_le_bytes-to_le_bytes_8}
 use Rattle.fkv_plane.specs.declared.places.Places.{Places}
 use Rattle.fkv_flush.specs.GuardWorld.{GuardWorld, guard_run}
+use Rattle.fkv_flush.specs.Serving.{mail_place}
 use Rattle.fkv_flush.specs.GuardMail.{mail_reads}
 use Rattle.fkv_flush.specs.Guarded.{opening}
 use Rattle.fkv_flush.proofs.Calm.{same_stores}
 use Rattle.fkv_flush.proofs.GuardLaw.{run_sound, opening_sound}
 use Rattle.fkv_flush.proofs.GuardMail.{run_mail, opening_mail, changes_mail, finds_asked}
 use Rattle.fkv_flush.proofs.laws.law_mail.Goals as goal
+
+pub returns-clause-place : goal.returns-clause-place
+unfolding mail_place
+returns-clause-place c = λ shape session addr. refl
+
+pub returns-clause-words : goal.returns-clause-words
+returns-clause-words c = λ header key value header_fits key_fits value_fits.
+    let header_is = from_le_bytes-to_le_bytes_8 header header_fits in
+    let key_is = from_le_bytes-to_le_bytes_8 key key_fits in
+    let value_is = from_le_bytes-to_le_bytes_8 value value_fits in
+    cc
 
 pub returns-clause-ready : goal.returns-clause-ready
 returns-clause-ready c = λ shape places actors words start keeper events session o empty kept few.
