@@ -47,7 +47,7 @@ use Rattle.fkv_log.specs.Shifting.{ShiftState, shift_begun, shift_ask, shift_nex
 use Rattle.fkv_log.specs.Turning.{TurnState, turn_at, turn_begun, turn_ask, turn_next, turn_next_ask, turning_ask, turning_next, turning_next_ask, turn_led, turn_told, pages_wanted, frame_end, frame_taken}
 
 -- a test is met or not
-truth : (b : Bool) → (b ≡ true) ⊎ (b ≡ false)
+pub truth : (b : Bool) → (b ≡ true) ⊎ (b ≡ false)
 truth true = inl refl
 truth false = inr refl
 

@@ -3,4 +3,5 @@ mod RaiseRange
 mod Records
 mod Reserved
 pub mod Shown
+mod Turned
 mod Written

@@ -14,6 +14,7 @@ use Rattle.fkv_plane.specs.Asked.{word_at}
 use Rattle.fkv_log.specs.declared.record_words.RecordWords.{RecordWords}
 use Rattle.fkv_log.specs.Filling.{fill_ask, fill_next}
 use Rattle.fkv_log.specs.Invalidating.{invalidate_ask, invalidate_next, invalidated}
+use Rattle.fkv_log.specs.Loading.{load_ask, load_next, load_next_ask, load_on, LoadsInOrder}
 use Rattle.fkv_log.specs.Turning.{TurnsLastPage}
 use Rattle.fkv_log.specs.Written.{HasWords, IsWritten, IsInvalidated, FillsInOrder}
 use Rattle.fkv_log.proofs.Records.{three_words}
@@ -90,6 +91,11 @@ pub in_order : FillsInOrder
 unfolding fill_ask fill_next
 in_order places addr its_words = refl
 
+-- the order of a load
+pub loads_in_order : LoadsInOrder
+unfolding load_ask load_next load_next_ask load_on
+loads_in_order places addr header key value = record { first = refl; second = refl; met = refl; waits = refl; third = refl; whole = refl; rests = refl }
+
 -- a turn by numbers
 pub last_page : TurnsLastPage
-last_page shape page frames pages = record { wanted = rw (page, pages) refl; no_more = rw (page, pages) refl; its_frame = rw (page, frames) refl; limit = rw page refl }
+last_page shape page frames pages = record { wanted = rw (page, pages) refl; no_more = rw (page, pages) refl; below_the_last = rw (page, pages) refl; its_frame = rw (page, frames) refl; limit = rw page refl }

@@ -1,5 +1,6 @@
 -- How the words of a record are loaded: header and key, and then the value where it is wanted.
-use Rattle.std.specs.Prelude.{ℕ}
+use Rattle.std.specs.Prelude.{◌≡◌, ℕ}
+use Rattle.fkv_base.specs.declared.numbers.Addr.{Addr}
 use Rattle.fkv_plane.specs.declared.asks.Ask.{Ask}
 use Rattle.fkv_plane.specs.declared.asks.Ask.TheVariants.{Load, Done}
 use Rattle.fkv_plane.specs.declared.places.Places.{Places}
@@ -39,3 +40,21 @@ load_next_ask places step reply = load_ask places (load_next step reply)
 unfoldable pub load_on : Loading → Loading
 load_on (HasKey addr header key) = LoadsValue addr header key
 load_on step = step
+
+-- where the load of an address is once these two words are replied
+abbrev pub load_met : Addr → ℕ → ℕ → Loading
+load_met addr header key = load_next (load_next (LoadsHeader addr) header) key
+
+-- Header, key and value are loaded in this order, each from its own place. What is replied is told: header and key
+-- where it waits, and all three at its end.
+pub record IsLoadedInOrder (places : Places) (addr : Addr) (header key value : ℕ) : Type 0 where
+  pub first : load_ask places (LoadsHeader addr) ≡ Load (record_place places addr.0 rec.Header)
+  pub second : load_next_ask places (LoadsHeader addr) header ≡ Load (record_place places addr.0 rec.Key)
+  pub met : load_next_ask places (load_next (LoadsHeader addr) header) key ≡ Done (answer.Met header (record { 0 = key }))
+  pub waits : load_ask places (load_met addr header key) ≡ Done (answer.Met header (record { 0 = key }))
+  pub third : load_ask places (load_on (load_met addr header key)) ≡ Load (record_place places addr.0 rec.Value)
+  pub whole : load_next_ask places (load_on (load_met addr header key)) value ≡ Done (answer.Whole header (record { 0 = key }) value)
+  pub rests : load_next (load_on (load_met addr header key)) value ≡ AtRest
+
+abbrev pub LoadsInOrder : Type 0
+LoadsInOrder = (places : Places) (addr : Addr) (header key value : ℕ) → IsLoadedInOrder places addr header key value

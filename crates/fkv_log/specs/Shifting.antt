@@ -1,11 +1,11 @@
 -- How the read-only offset is shifted, so that so many pages of the log stay mutable.
-use Rattle.std.specs.Prelude.{ℕ, ◌+◌, ◌-◌, ◌*◌, ◌/◌, nat_lt, if◌then◌else◌}
+use Rattle.std.specs.Prelude.{◌≡◌, ◌<◌, ◌≤◌, ℕ, ◌+◌, ◌-◌, ◌*◌, ◌/◌, Bool, false, nat_lt, if◌then◌else◌}
 use Rattle.fkv_base.specs.declared.shapes.Shape.{Shape}
 use Rattle.fkv_plane.specs.declared.asks.Ask.{Ask}
 use Rattle.fkv_plane.specs.declared.asks.Ask.TheVariants.{Load, Done}
 use Rattle.fkv_plane.specs.declared.places.SharedWord.TheVariants as one
 use Rattle.fkv_plane.specs.Places.{shared_place}
-use Rattle.fkv_plane.specs.Passing.{passed}
+use Rattle.fkv_plane.specs.Passing.{passed, is_done}
 use Rattle.fkv_log.specs.declared.moving.MoveAnswer.{MoveAnswer}
 use Rattle.fkv_log.specs.declared.moving.MoveAnswer.TheVariants as moved
 use Rattle.fkv_log.specs.declared.moving.Offset.TheVariants.{ReadOnly}
@@ -80,3 +80,21 @@ shifting_next_ask shape step m reply = shift_ask (shifting_next shape step m rep
 
 abbrev pub shift_next_ask : Shape → ShiftState → ℕ → Ask ShiftAnswer
 shift_next_ask shape s reply = shifting_next_ask shape s.step s.mover reply
+
+-- A shift has loaded the tail first, and then the read-only offset. It is through where that is far enough, and else it moves it.
+pub record IsShiftBegun (shape : Shape) (tail read_only : ℕ) : Type 0 where
+  pub far_enough : mutable_start shape.page shape.mutable tail ≤ read_only → shift_next_ask shape (shift_next shape shift_begun tail) read_only ≡ Done (answer.Through (record { 0 = tail }))
+  pub moves : read_only < mutable_start shape.page shape.mutable tail → (shift_next shape (shift_next shape shift_begun tail) read_only).step ≡ Moves tail
+
+-- while the move inside goes on it knows the tail, and where the move ends the shift ends alike, and tells the tail
+pub record KeepsTail (shape : Shape) (tail : ℕ) (m : Mover) (reply : ℕ) : Type 0 where
+  pub goes_on : is_done (move_next_ask m reply) ≡ false → (shift_next shape (shift_at (Moves tail) m) reply).step ≡ Moves tail
+  pub through : move_next_ask m reply ≡ Done moved.Through → shift_next_ask shape (shift_at (Moves tail) m) reply ≡ Done (answer.Through (record { 0 = tail }))
+  pub no_slot : move_next_ask m reply ≡ Done moved.NoSlot → shift_next_ask shape (shift_at (Moves tail) m) reply ≡ Done (answer.NoSlot (record { 0 = tail }))
+  pub spent : move_next_ask m reply ≡ Done moved.Spent → shift_next_ask shape (shift_at (Moves tail) m) reply ≡ Done (answer.Spent (record { 0 = tail }))
+
+abbrev pub ShiftsBegin : Type 0
+ShiftsBegin = (shape : Shape) (tail read_only : ℕ) → IsShiftBegun shape tail read_only
+
+abbrev pub ShiftsKeepTail : Type 0
+ShiftsKeepTail = (shape : Shape) (tail : ℕ) (m : Mover) (reply : ℕ) → KeepsTail shape tail m reply

@@ -1,5 +1,5 @@
 -- How the next page is opened, or the oldest one's frame is set free for it.
-use Rattle.std.specs.Prelude.{◌≡◌, ℕ, ◌+◌, ◌-◌, ◌*◌, ◌/◌, ◌<◌, min, nat_lt, nat_le, if◌then◌else◌, ⊤}
+use Rattle.std.specs.Prelude.{◌≡◌, ◌⊎◌, ℕ, List, [], ◌∷◌, ◌+◌, ◌-◌, ◌*◌, ◌/◌, ◌<◌, min, nat_lt, nat_le, if◌then◌else◌, ⊤}
 use Rattle.fkv_base.specs.declared.shapes.Shape.{Shape}
 use Rattle.fkv_plane.specs.declared.asks.Ask.{Ask}
 use Rattle.fkv_plane.specs.declared.asks.Ask.TheVariants.{Load, Cas, Done}
@@ -99,11 +99,34 @@ turning_next_ask shape step m reply = turn_ask shape (turning_next shape step m 
 abbrev pub turn_next_ask : Shape → TurnState → ℕ → Ask MoveAnswer
 turn_next_ask shape s reply = turning_next_ask shape s.step s.mover reply
 
+-- the turn after these replies, of which the first was given first
+abbrev pub turn_after : Shape → TurnState → List ℕ → TurnState
+turn_after shape s [] = s
+turn_after shape s (reply ∷ replies) = turn_after shape (turn_next shape s reply) replies
+
+-- an ask to load the limit or the closed offset, to swap the limit, or none more
+abbrev pub OpensAlone : Ask MoveAnswer → Type 0
+OpensAlone (Load place) = (place ≡ shared_place one.Limit) ⊎ (place ≡ shared_place one.Closed)
+OpensAlone (Cas place old new) = place ≡ shared_place one.Limit
+OpensAlone (Done how) = ⊤
+OpensAlone ask = ⊥
+
+-- what a turn that opens only asks for, whatever it was replied, and after one more reply
+pub record IsOpeningAlone (shape : Shape) (tail : ℕ) (replies : List ℕ) : Type 0 where
+  pub now : OpensAlone (turn_ask shape (turn_after shape (turn_begun OpensOnly tail) replies))
+  pub next : (reply : ℕ) → OpensAlone (turn_next_ask shape (turn_after shape (turn_begun OpensOnly tail) replies) reply)
+
+-- a session's turn moves no head: it touches the limit and looks at the closed offset, and no more
+abbrev pub TurnsOpeningAlone : Type 0
+TurnsOpeningAlone = (shape : Shape) (tail : ℕ) (replies : List ℕ) → IsOpeningAlone shape tail replies
+
 -- A ring of two frames of four records each, on a device of five pages. With the tail at 13, in page 3, page 4 is wanted, the last; its frame is
 -- free once all below 12 is closed, and then the limit goes from 16 to 20. With the tail in page 4 no other is wanted.
+-- With the tail at 5, in page 1, three pages are wanted, and the device has more.
 pub record IsWorkedTurn (shape : Shape) : Type 0 where
   pub wanted : pages_wanted shape 13 ≡ 5
   pub no_more : pages_wanted shape 17 ≡ 5
+  pub below_the_last : pages_wanted shape 5 ≡ 3
   pub its_frame : frame_end shape 16 ≡ 12
   pub limit : limit_after shape 16 ≡ 20
 

@@ -3,7 +3,9 @@ ghost use Rattle.std.specs.Prelude.{ℕ, List, ◌≤◌};
 ghost use Rattle.fkv_log.specs.Reserved.{TailEvent, IsOpened, opening, tail_run, tail_of, limit_of, RiseTo, AreReservedOnce, ReservesOrStays};
 ghost use Rattle.fkv_log.specs.Records.{AreOpenRecordsApart, AreRecordsInFrames};
 ghost use Rattle.fkv_log.specs.Written.{AreWritten, AreInvalidated, FillsInOrder};
-ghost use Rattle.fkv_log.specs.Turning.{TurnsLastPage};
+ghost use Rattle.fkv_log.specs.Loading.{LoadsInOrder};
+ghost use Rattle.fkv_log.specs.Shifting.{ShiftsBegin, ShiftsKeepTail};
+ghost use Rattle.fkv_log.specs.Turning.{TurnsLastPage, TurnsOpeningAlone};
 
 use fkv_frames::law_places_of_open_pages;
 
@@ -41,8 +43,18 @@ pub fn law_records_are_written()
     ensures invalidated { AreInvalidated }
 {}
 
-/// Worked by hand: in which order a fill stores its three words, and which page a turn opens last.
+/// In which order a fill stores a record's three words, and a load asks for them and tells them; and worked by hand,
+/// which pages a turn opens.
 pub fn law_of_a_record_and_a_page()
     ensures order { FillsInOrder }
+    ensures loads { LoadsInOrder }
     ensures last_page { TurnsLastPage }
+{}
+
+/// Whatever it is replied, a turn that opens only asks for the limit and the closed offset alone, and so it never moves the
+/// head. A shift tells the tail that it loaded, however it ends.
+pub fn law_of_a_turn_and_a_shift()
+    ensures opens_alone { TurnsOpeningAlone }
+    ensures begins { ShiftsBegin }
+    ensures keeps_tail { ShiftsKeepTail }
 {}

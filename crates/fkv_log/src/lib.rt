@@ -17,8 +17,8 @@ mod turning;
 pub use filling::Fill;
 pub use invalidating::Invalidate;
 pub use laws::{
-    law_of_a_record_and_a_page, law_records_are_written, law_records_of_open_pages,
-    law_reserve_step, law_reserved_once,
+    law_of_a_record_and_a_page, law_of_a_turn_and_a_shift, law_records_are_written,
+    law_records_of_open_pages, law_reserve_step, law_reserved_once,
 };
 pub use loading::{LoadAnswer, LoadRecord};
 pub use locating::{region, seen_region};

@@ -162,14 +162,14 @@ impl MoveOffset {
         match self.step {
             Moving::AtRest => Ask::Done(MoveAnswer::Through),
             Moving::Raises(_) => passed(self.raise.ask(), MoveAnswer::Through),
-            Moving::MovesOffset(target) => Ask::Max(place_of(target.offset), target.to),
+            Moving::MovesOffset(target) => Ask::Max(offset_place(target.offset), target.to),
             Moving::Puts(target, slot) => Ask::Put(slot, action_of(target)),
             Moving::Arms => passed(self.arm.ask(), MoveAnswer::Through),
         }
     }
 }
 
-fn place_of(offset: Offset) -> usize
+fn offset_place(offset: Offset) -> usize
     ensures { result ≡ offset_place offset }
 {
     match offset {

@@ -1,8 +1,8 @@
 use crate::{
     Fill, Invalidate, LoadAnswer, LoadRecord, MoveAnswer, MoveOffset, Offset, RecordWords, Region,
     Reserve, ReserveAnswer, SeenOffsets, ShiftAnswer, ShiftReadOnly, TurnForm, TurnPage,
-    law_of_a_record_and_a_page, law_records_are_written, law_records_of_open_pages,
-    law_reserve_step, law_reserved_once, region, seen_region,
+    law_of_a_record_and_a_page, law_of_a_turn_and_a_shift, law_records_are_written,
+    law_records_of_open_pages, law_reserve_step, law_reserved_once, region, seen_region,
 };
 use fkv_base::{Addr, Key, LAST_EPOCH, Shape, Version};
 use fkv_plane::{Action, Ask, Places, PlainWords, RecordWord, SharedWord, drain_place};
@@ -144,6 +144,7 @@ fn a_record_is_written_and_given_up(rt: HostRuntime) -> Result<(), Fail> {
     law_records_of_open_pages();
     law_records_are_written();
     law_of_a_record_and_a_page();
+    law_of_a_turn_and_a_shift();
     Ok(())
 }
 
