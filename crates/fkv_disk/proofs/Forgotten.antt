@@ -5,6 +5,9 @@ use Rattle.fkv_disk.specs.Bytes.{byte_at, covers, range_end, written}
 use Rattle.fkv_disk.specs.Calls.{Call, Write, Sync, reads_as, is_sure, is_untouched, synced_end, far_end, AllDone, MayLeave}
 use Rattle.fkv_disk.specs.Done.{MayLeaveBytes, LeftSince}
 use Rattle.fkv_disk.specs.Forgotten.{since_sync, synced_bytes}
+use Rattle.fkv_disk.specs.Fuse.{FuseLeftSince}
+use Rattle.fkv_disk.specs.declared.fuses.FuseState.{FuseState}
+use Rattle.fkv_disk.specs.declared.fuses.FuseState.TheVariants.{Sound, Armed, Blown, BlownAt}
 use Rattle.fkv_disk.proofs.Images.{sure_if_done, end_if_done}
 
 -- two lives that are told alike
@@ -97,3 +100,19 @@ forgotten_since opening calls before now t image all same later le = (there, bac
     back : LeftSince now (synced_bytes opening calls) (since_sync calls) t image → LeftSince before opening calls t image
     back (inl early) = absurd (omega (arith, early, le))
     back (inr left) = inr (left.0, omega (arith, left.1, same), bytes_from _ _ _ _ (alike_earlier opening calls left.0 all (omega (arith, left.1, same, le))) image left.2)
+
+-- what a device says alike of a time its fuse says alike
+pub fuse_since : (state : FuseState) (was now : ℕ → List ℕ → Type 0) (leaves_was leaves_now : List ℕ → Type 0) (t : ℕ) (image : List ℕ) → was t image ↔ now t image → ((old : List ℕ) → leaves_was old ↔ leaves_now old)
+    → FuseLeftSince state was leaves_was t image ↔ FuseLeftSince state now leaves_now t image
+fuse_since Sound was now leaves_was leaves_now t image since leaves = since
+fuse_since (Armed left) was now leaves_was leaves_now t image since leaves = since
+fuse_since Blown was now leaves_was leaves_now t image since leaves = since
+fuse_since (BlownAt at n) was now leaves_was leaves_now t image since leaves = (there, back)
+  where
+    there : FuseLeftSince (BlownAt at n) was leaves_was t image → FuseLeftSince (BlownAt at n) now leaves_now t image
+    there (inl past) = inl (since.0 past)
+    there (inr torn) = inr (torn.0, (leaves torn.0).0 torn.1, torn.2, torn.3)
+
+    back : FuseLeftSince (BlownAt at n) now leaves_now t image → FuseLeftSince (BlownAt at n) was leaves_was t image
+    back (inl past) = inl (since.1 past)
+    back (inr torn) = inr (torn.0, (leaves torn.0).1 torn.1, torn.2, torn.3)

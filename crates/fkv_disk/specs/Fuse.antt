@@ -37,6 +37,13 @@ fuse_refuses (Armed left) device = λ i. nat_le left i || device i
 fuse_refuses Blown device = λ i. true
 fuse_refuses (BlownAt at n) device = λ i. true
 
+-- it refuses each call, for good
+abbrev pub is_blown : FuseState → Bool
+is_blown Sound = false
+is_blown (Armed left) = false
+is_blown Blown = true
+is_blown (BlownAt at n) = true
+
 -- after it was set to pass so many calls: one that has blown stays blown
 abbrev pub armed : ℕ → FuseState → FuseState
 armed k Sound = Armed k

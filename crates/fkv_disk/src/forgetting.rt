@@ -6,7 +6,7 @@ ghost use Rattle.fkv_disk.specs.Done.{calls_of};
 ghost use Rattle.fkv_disk.specs.Forgotten.{since_sync, synced_bytes};
 
 use crate::memory::{DoneCall, put};
-use crate::{Device, MemDisk};
+use crate::{Device, Fuse, MemDisk};
 use fkv_base::Fault;
 use std::alloc::{AllocError, Global};
 
@@ -37,6 +37,31 @@ impl MemDisk {
         self.done.drain(..synced);
         self.forgotten = forgotten;
         Ok(())
+    }
+}
+
+impl Fuse<MemDisk> {
+    ghost use Rattle.fkv_disk.specs.Fuses.{fuse_device, fuse_state, fuse_refused};
+    ghost use Rattle.fkv_disk.specs.Memory.{disk_bytes, disk_opening, disk_calls, disk_forgotten, disk_failures};
+
+    /// Has its device forget, as `MemDisk::forget_synced` says. This is no call: the fuse stays as it is, and refuses the
+    /// calls to come that it would have refused.
+    pub fn forget_synced(&mut self) -> Result<(), Fault>
+        ensures state { fuse_state self.new ≡ fuse_state self.old }
+        ensures refused { fuse_refused self.new ≡ fuse_refused self.old }
+        ensures refuses { ⟦<Fuse<MemDisk> as Device>⟧.refuses self.new ≡ ⟦<Fuse<MemDisk> as Device>⟧.refuses self.old }
+        ensures calls { OnOk result (disk_calls (fuse_device self.new) ≡ since_sync (disk_calls (fuse_device self.old))) }
+        ensures opening { OnOk result (disk_opening (fuse_device self.new) ≡ synced_bytes (disk_opening (fuse_device self.old)) (disk_calls (fuse_device self.old))) }
+        ensures bytes { disk_bytes (fuse_device self.new) ≡ disk_bytes (fuse_device self.old) }
+        ensures failures { disk_failures (fuse_device self.new) ≡ disk_failures (fuse_device self.old) }
+        ensures failed { ⟦<Fuse<MemDisk> as Device>⟧.failed self.new ≡ ⟦<Fuse<MemDisk> as Device>⟧.failed self.old }
+        ensures crash { (image : List ℕ) → ⟦<Fuse<MemDisk> as Device>⟧.may_leave self.old image ↔ ⟦<Fuse<MemDisk> as Device>⟧.may_leave self.new image }
+        ensures moment { ⟦<Fuse<MemDisk> as Device>⟧.moment self.new ≡ ⟦<Fuse<MemDisk> as Device>⟧.moment self.old }
+        ensures since { (t : ℕ) (image : List ℕ) → disk_forgotten (fuse_device self.new) ≤ t → ⟦<Fuse<MemDisk> as Device>⟧.left_since self.old t image ↔ ⟦<Fuse<MemDisk> as Device>⟧.left_since self.new t image }
+        ensures err { OnErr result (result ≡ Err Memory) }
+        ensures unchanged { OnErr result ((disk_calls (fuse_device self.new) ≡ disk_calls (fuse_device self.old)) × (disk_opening (fuse_device self.new) ≡ disk_opening (fuse_device self.old)) × (disk_forgotten (fuse_device self.new) ≡ disk_forgotten (fuse_device self.old))) }
+    {
+        self.device.forget_synced()
     }
 }
 

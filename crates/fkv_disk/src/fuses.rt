@@ -1,8 +1,8 @@
 //! A device that fails from some call on, as where the power is cut.
-ghost use Rattle.std.specs.Prelude.{◌≡◌, ◌+◌, ◌-◌, ◌≤◌, ◌^◌, ◌↔◌, length, min, true, false, is_ok, IsErr, OnOk};
+ghost use Rattle.std.specs.Prelude.{◌≡◌, ◌+◌, ◌-◌, ◌≤◌, ◌^◌, ◌↔◌, ◌||◌, ℕ, nat_le, length, min, true, false, is_ok, IsErr, OnOk};
 ghost use Rattle.fkv_disk.specs.Bytes.{bytes_at};
 ghost use Rattle.fkv_disk.specs.Device.{Rose, Writes, LeavesNoMore, LeavesTorn, LeavesOnly, Elapses, HasCause, MakesCalls};
-ghost use Rattle.fkv_disk.specs.Fuse.{passes, burned, burned_at, armed, FuseLeaves, FuseLeftSince, fuse_counts_now, fuse_only_now, fuse_leaves_whole, fuse_leaves_bytes, fuse_refuses};
+ghost use Rattle.fkv_disk.specs.Fuse.{passes, burned, burned_at, armed, is_blown, FuseLeaves, FuseLeftSince, fuse_counts_now, fuse_only_now, fuse_leaves_whole, fuse_leaves_bytes, fuse_refuses};
 
 use crate::Device;
 use crate::refusals::refuse;
@@ -46,11 +46,14 @@ impl<D: Device> Fuse<D> {
         }
     }
 
-    /// From now on `k` calls pass, and then each is refused. A fuse that has blown stays so.
+    /// From now on `k` calls pass, and then each is refused: the calls numbered `k` and more, counted from the next one
+    /// on, and of those before it the ones that its device says that it refuses. A fuse that has blown stays so.
     pub fn arm(&mut self, k: u64)
         ensures device { fuse_device self.new ≡ fuse_device self.old }
         ensures state { fuse_state self.new ≡ armed k (fuse_state self.old) }
         ensures refused { fuse_refused self.new ≡ fuse_refused self.old }
+        ensures passes { is_blown (fuse_state self.old) ≡ false → (i : ℕ) → ⟦<Fuse<D> as Device>⟧.refuses self.new i ≡ (nat_le k i || D.refuses (fuse_device self.old) i) }
+        ensures stays_blown { is_blown (fuse_state self.old) ≡ true → (fuse_state self.new ≡ fuse_state self.old) × ((i : ℕ) → ⟦<Fuse<D> as Device>⟧.refuses self.new i ≡ true) }
     {
         self.state = match self.state {
             FuseState::Sound | FuseState::Armed(_) => FuseState::Armed(k),

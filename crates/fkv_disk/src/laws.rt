@@ -1,8 +1,10 @@
 //! Laws of the definitions: each is the contract of a function with an empty body.
-ghost use Rattle.std.specs.Prelude.{◌≡◌, ◌↔◌, ◌∷◌, ◌++◌, ℕ, List, Bool, length, true, false};
+ghost use Rattle.std.specs.Prelude.{◌≡◌, ◌↔◌, ◌∷◌, ◌++◌, ℕ, List, Bool, length, true, false, not, ◌||◌};
 ghost use Rattle.fkv_disk.specs.Bytes.{byte_at, bytes_at, covers};
 ghost use Rattle.fkv_disk.specs.Calls.{Call, Write, Sync, AllDone, MayLeave, reads_as, torn_image};
 ghost use Rattle.fkv_disk.specs.Forgotten.{since_sync, synced_bytes};
+ghost use Rattle.fkv_disk.specs.Fuse.{fuse_refuses, passes};
+ghost use Rattle.fkv_disk.specs.declared.fuses.FuseState.{FuseState};
 
 /// The image that tears the most is one that a crash may leave.
 pub fn law_torn()
@@ -30,4 +32,9 @@ pub fn law_anything_in_range()
 pub fn law_forgotten()
     ensures reads { (opening : List ℕ) (calls later : List Call) → AllDone calls → reads_as (synced_bytes opening calls) (later ++ since_sync calls) ≡ reads_as opening (later ++ calls) }
     ensures leaves { (opening : List ℕ) (calls later : List Call) (image : List ℕ) → AllDone calls → MayLeave opening (later ++ calls) image ↔ MayLeave (synced_bytes opening calls) (later ++ since_sync calls) image }
+{}
+
+/// A fuse says of the next call that it is refused just where it doesn't let it pass, or where its device says so.
+pub fn law_fuse_says()
+    ensures { (state : FuseState) (device : ℕ → Bool) → fuse_refuses state device 0 ≡ (not (passes state) || device 0) }
 {}

@@ -15,7 +15,8 @@ pub use devices::Device;
 pub use files::{FileDisk, make_file, open_file};
 pub use fuses::{Fuse, FuseState};
 pub use laws::{
-    law_anything_in_range, law_forgotten, law_synced, law_torn, law_written_and_synced,
+    law_anything_in_range, law_forgotten, law_fuse_says, law_synced, law_torn,
+    law_written_and_synced,
 };
 pub use memory::MemDisk;
 pub use single::Once;

@@ -25,9 +25,10 @@ fn a_fuse_tears_what_was_not_synced(rt: HostRuntime) -> Result<(), Fail> {
     let opening = [1, 2, 3, 4].to_vec(rt.alloc())?;
     let mut fuse = Fuse::new(MemDisk::from_bytes(rt.alloc(), opening)?);
     fuse.write(0, &[5])?;
+    fuse.arm(2);
     fuse.sync()?;
+    fuse.forget_synced()?;
     fuse.write(1, &[6])?;
-    fuse.arm(0);
     assert!(rt; fuse.write(3, &[7, 8, 9]).is_err());
     assert!(rt; fuse.failures() == 1);
     assert!(rt; fuse.state() == FuseState::BlownAt(3, 3));
@@ -78,5 +79,6 @@ fn laws_hold(_rt: HostRuntime) -> Result<(), Fail> {
     law_written_and_synced();
     law_anything_in_range();
     law_forgotten();
+    law_fuse_says();
     Ok(())
 }
