@@ -20,9 +20,9 @@ use Rattle.fkv_epoch.proofs.Epochs.{AreFrom, Knows, Epochs}
 use Rattle.fkv_epoch.proofs.Slots.{Fate, Taken, Spent, stage, SlotTable, Holds, Slots, Waiting}
 use Rattle.fkv_epoch.proofs.SlotRuns.{take, spend, free}
 use Rattle.fkv_epoch.proofs.Sound.{IsSound, quiet, takes_none, slot_table, assembled, epochs_written}
-use Rattle.fkv_epoch.proofs.SessionSteps.{SoundAfter, dutiful}
+use Rattle.fkv_epoch.proofs.SessionSteps.{SoundAfter, machine_changed}
 
--- a word below the sessions' blocks, and neither epoch, is written by an actor whose duty says nothing of epochs
+-- a word below the sessions' blocks, and neither epoch, is written by an actor whose machine says nothing of epochs
 pub low_written : (w : EpochWorld) (a : ℕ) (d d' : EpochMachine) (place word : ℕ) → IsSound w → slice_get w.now.actors a ≡ Some d → 2 ≤ place → place < 24
     → ((sight : Sight) → goes_by sight d' ≡ true → goes_by sight d ≡ true)
     → Knows w.now.sessions (epoch_of w.now.words) (own_epoch w.now.words a) (w.past.loads a) (AreFrom (own_epoch w.now.words) w.past.in_force w.now.actors) a d'
@@ -30,7 +30,7 @@ pub low_written : (w : EpochWorld) (a : ℕ) (d d' : EpochMachine) (place word :
     Epochs w.now.sessions (epoch_of words') (safe_of words') (own_epoch words') (loaded w.past.loads a None (epoch_of w.now.words)) w.past.in_force (slice_set w.now.actors a d'))
 low_written w a d d' place word sound got far low less knows =
     let same : own_epoch (slice_set w.now.words place word) a ≡ own_epoch w.now.words a = word_spared w.now.words place word (session_place a own.Epoch) (λ e. omega (arith, e, low)) in
-    epochs_written w a d d' w.past.in_force place word sound got far (λ s i n e. omega (arith, e, low)) (takes_none w a None sound) (λ i. rw same (dutiful w a d d' sound got less i)) (rw same knows)
+    epochs_written w a d d' w.past.in_force place word sound got far (λ s i n e. omega (arith, e, low)) (takes_none w a None sound) (λ i. rw same (machine_changed w a d d' sound got less i)) (rw same knows)
 
 pub low_epoch : (words : List ℕ) (place word : ℕ) → 2 ≤ place → epoch_of (slice_set words place word) ≡ epoch_of words
 low_epoch words place word far = word_spared words place word 0 (λ e. omega (arith, e, far))
@@ -63,7 +63,7 @@ leads : (w : EpochWorld) (a : ℕ) (step next : Claiming) → IsSound w → slic
     → ((owners : ℕ → Option ℕ) (fates : ℕ → Fate) → Slots (slot_table w.now w.past owners fates) w.now.actors → Holds (slot_table w.now w.past owners fates) a (Claims next))
     → IsSound (record { now = record w.now { actors = slice_set w.now.actors a (Claims next) }; past = record w.past { loads = loaded w.past.loads a None (epoch_of w.now.words) } })
 leads w a step next sound got holds =
-    quiet w a (Claims step) (Claims next) None sound got (inl (omega arith)) (dutiful w a (Claims step) (Claims next) sound got (λ s g. refl)) tt holds
+    quiet w a (Claims step) (Claims next) None sound got (inl (omega arith)) (machine_changed w a (Claims step) (Claims next) sound got (λ s g. refl)) tt holds
 
 -- the next slot is met, or the claim is through
 holds_after : (k : SlotTable) (a slot : ℕ) (z : Option ℕ) → slot < drain_slots → Holds k a (Claims (MeetsSlot slot z)) → Holds k a (Claims (slot_after slot z))

@@ -9,7 +9,7 @@ use Rattle.fkv_epoch.specs.EpochWorld.{EpochMachine, Protects, Refreshes, Leaves
 use Rattle.fkv_epoch.specs.Once.{goes_by, load_of}
 use Rattle.fkv_epoch.proofs.Items.{item_written, item_spared, same_or, some_same}
 
--- a session with this epoch word, these loads and this duty goes by no value that it loaded below m
+-- a session with this epoch word, these loads and this machine goes by no value that it loaded below m
 pub record IsFrom (m word : ℕ) (l : Loads) (machine : EpochMachine) : Type 0 where
   pub loaded : (sight : Sight) → 0 < word → goes_by sight machine ≡ true → m ≤ load_of l sight
 

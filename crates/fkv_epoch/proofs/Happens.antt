@@ -17,7 +17,7 @@ use Rattle.fkv_epoch.specs.Once.{goes_by}
 use Rattle.fkv_epoch.proofs.Epochs.{AreFrom, Knows}
 use Rattle.fkv_epoch.proofs.Slots.{Fate, Holds, Slots}
 use Rattle.fkv_epoch.proofs.Sound.{IsSound, quiet, slot_table, weight}
-use Rattle.fkv_epoch.proofs.SessionSteps.{dutiful, protect_moves, refresh_moves, leave_moves}
+use Rattle.fkv_epoch.proofs.SessionSteps.{machine_changed, protect_moves, refresh_moves, leave_moves}
 use Rattle.fkv_epoch.proofs.ScanSteps.{scan_moves}
 use Rattle.fkv_epoch.proofs.ClaimSteps.{claim_moves}
 use Rattle.fkv_epoch.proofs.RaiseSteps.{raise_moves, bear_moves, arm_moves}
@@ -29,7 +29,7 @@ no_load loads a epoch = λ i s. cases s (s == a) i
     cases s true = refl
     cases s false = refl
 
--- an actor turns to another duty, and nothing else happens
+-- an actor turns to another machine, or another step of its own, and nothing else happens
 turns : (w : EpochWorld) (a : ℕ) (d d' : EpochMachine) → IsSound w → slice_get w.now.actors a ≡ Some d → weight d' ≤ weight d
     → ((sight : Sight) → goes_by sight d' ≡ true → goes_by sight d ≡ true)
     → Knows w.now.sessions (epoch_of w.now.words) (own_epoch w.now.words a) (w.past.loads a) (AreFrom (own_epoch w.now.words) w.past.in_force w.now.actors) a d'
@@ -37,7 +37,7 @@ turns : (w : EpochWorld) (a : ℕ) (d d' : EpochMachine) → IsSound w → slice
     → IsSound (record { now = with_machine w.now a d'; past = w.past })
 turns w a d d' sound got lighter less knows holds =
     let none = no_load w.past.loads a (epoch_of w.now.words) in
-    rw none at (quiet w a d d' None sound got (inl lighter) (dutiful w a d d' sound got less) knows holds)
+    rw none at (quiet w a d d' None sound got (inl lighter) (machine_changed w a d d' sound got less) knows holds)
 
 rest_goes : (d : EpochMachine) (s : Sight) → is_at_rest d ≡ true → goes_by s d ≡ true
 rest_goes (Protects protect.AtRest) s r = refl

@@ -21,7 +21,7 @@ use Rattle.fkv_epoch.proofs.Epochs.{AreFrom, Knows, knows_more, from_moved}
 use Rattle.fkv_epoch.proofs.Slots.{SlotTable, holds_more}
 use Rattle.fkv_epoch.proofs.SlotSteps as slots
 use Rattle.fkv_epoch.proofs.Sound.{IsSound, takes_none, takes_load, looks, slot_table, load_up, assembled, epochs_step}
-use Rattle.fkv_epoch.proofs.SessionSteps.{dutiful, looking}
+use Rattle.fkv_epoch.proofs.SessionSteps.{machine_changed, looking}
 use Rattle.fkv_epoch.proofs.Happens.{no_load}
 
 same_item : {X : Type 0} (xs : List X) (i : ℕ) (x : X) → slice_get xs i ≡ Some x → slice_set xs i x ≡ xs
@@ -44,7 +44,7 @@ put_bears w a slot c action sound got =
     let whole = assembled w a d d' None w.past.in_force w.now.words actions' w.past.armed w.past.claims w.past.runs sound.owners sound.fates sound got
     refl (same_actions ∙ sound.eight_slots) (inl (omega arith))
     (epochs_step w.now.sessions (epoch_of w.now.words) (epoch_of w.now.words) (safe_of w.now.words) (safe_of w.now.words) (own_epoch w.now.words) (own_epoch w.now.words) w.past.loads w.past.in_force w.past.in_force w.now.actors a d d' None
-    sound.epochs got (omega arith) sound.epochs.safe_below sound.epochs.above_safe (λ s i n. refl) (takes_none w a None sound) (dutiful w a d d' sound got (λ s g. refl)) tt)
+    sound.epochs got (omega arith) sound.epochs.safe_below sound.epochs.above_safe (λ s i n. refl) (takes_none w a None sound) (machine_changed w a d d' sound got (λ s g. refl)) tt)
     (slots.put k (action_at actions') slot w.now.actors a d d' sound.slots got few h.1
     (λ s f n. ap found_action (item_spared w.now.actions slot s (Some action) n))
     (few, h.1, h.2, (action, home)))

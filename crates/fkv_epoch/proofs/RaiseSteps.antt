@@ -20,7 +20,7 @@ use Rattle.fkv_epoch.proofs.Slots.{Fate, Carried, Waits, stage, SlotTable, Holds
 use Rattle.fkv_epoch.proofs.SlotSteps.{hold, raise}
 use Rattle.fkv_epoch.proofs.SlotRuns.{arm}
 use Rattle.fkv_epoch.proofs.Sound.{IsSound, quiet, takes_none, slot_table, assembled, epochs_step, weight}
-use Rattle.fkv_epoch.proofs.SessionSteps.{SoundAfter, dutiful}
+use Rattle.fkv_epoch.proofs.SessionSteps.{SoundAfter, machine_changed}
 use Rattle.fkv_epoch.proofs.ClaimSteps.{low_written, low_epoch, low_safe, other_drain, not_among}
 
 -- a test that leads one of two ways
@@ -37,7 +37,7 @@ leads : (w : EpochWorld) (a : ℕ) (step next : Raising) → IsSound w → slice
     → ((owners : ℕ → Option ℕ) (fates : ℕ → Fate) → Slots (slot_table w.now w.past owners fates) w.now.actors → Holds (slot_table w.now w.past owners fates) a (Raises next))
     → Leads w a next
 leads w a step next sound got lighter holds =
-    quiet w a (Raises step) (Raises next) None sound got lighter (dutiful w a (Raises step) (Raises next) sound got (λ s g. refl)) tt holds
+    quiet w a (Raises step) (Raises next) None sound got lighter (machine_changed w a (Raises step) (Raises next) sound got (λ s g. refl)) tt holds
 
 leads_after : (w : EpochWorld) (a slot : ℕ) (step : Raising) → IsSound w → slice_get w.now.actors a ≡ Some (Raises step) → slot < drain_slots → weight (Raises step) ≡ 1 → Leads w a (free_after slot)
 unfolding free_after
@@ -87,7 +87,7 @@ raise_moves_on w a slot sound got =
     (length-set w.now.words 0 word) sound.eight_slots (inl (omega (arith, now_epoch, no_wrap)))
     (epochs_step w.now.sessions c (epoch_of words') (safe_of w.now.words) (safe_of words') (own_epoch w.now.words) (own_epoch words') w.past.loads w.past.in_force w.past.in_force w.now.actors a d d' None
     sound.epochs got (omega (arith, now_epoch, no_wrap)) (omega (arith, same_safe, sound.epochs.safe_below)) (rw same_safe sound.epochs.above_safe)
-    (λ s i n. same_own s) (takes_none w a None sound) (λ i. rw (same_own a) (dutiful w a d d' sound got (λ s g. refl) i)) tt)
+    (λ s i n. same_own s) (takes_none w a None sound) (λ i. rw (same_own a) (machine_changed w a d d' sound got (λ s g. refl) i)) tt)
     (raise k (epoch_of words') (safe_of words') (drain_word words') w.now.actors a d d' sound.slots got (now_epoch ∙ no_wrap) (omega (arith, same_safe))
     (λ s f. word_spared w.now.words 0 word (drain_place s) (λ e. omega (arith, e)))
     (h.0, h.1, set_here sound.fates c (Carried a) c refl, h.2))
@@ -118,13 +118,13 @@ raise_moves w a (RaisesEpoch slot) sound got = raise_moves_on w a slot sound got
 
 pub bear_moves : (w : EpochWorld) (a slot c : ℕ) → IsSound w → slice_get w.now.actors a ≡ Some (HasRaised slot c) → SoundAfter w a (HasRaised slot c)
 bear_moves w a slot c sound got =
-    quiet w a (HasRaised slot c) (HasRaised slot c) None sound got (inl (omega arith)) (dutiful w a (HasRaised slot c) (HasRaised slot c) sound got (λ s g. refl)) tt (λ o f s. s.holds a (HasRaised slot c) got)
+    quiet w a (HasRaised slot c) (HasRaised slot c) None sound got (inl (omega arith)) (machine_changed w a (HasRaised slot c) (HasRaised slot c) sound got (λ s g. refl)) tt (λ o f s. s.holds a (HasRaised slot c) got)
 
 -- the store that arms a slot
 pub arm_moves : (w : EpochWorld) (a : ℕ) (step : Arming) → IsSound w → slice_get w.now.actors a ≡ Some (Arms step) → SoundAfter w a (Arms step)
 unfolding arm_ask arm_next
 arm_moves w a arms.AtRest sound got =
-    quiet w a (Arms arms.AtRest) (Arms arms.AtRest) None sound got (inl (omega arith)) (dutiful w a (Arms arms.AtRest) (Arms arms.AtRest) sound got (λ s g. refl)) tt (λ o f s. tt)
+    quiet w a (Arms arms.AtRest) (Arms arms.AtRest) None sound got (inl (omega arith)) (machine_changed w a (Arms arms.AtRest) (Arms arms.AtRest) sound got (λ s g. refl)) tt (λ o f s. tt)
 arm_moves w a (arms.PutsAction slot c) sound got = absurd (sound.slots.holds a (Arms (arms.PutsAction slot c)) got)
 arm_moves w a (arms.StoresEpoch slot c) sound got =
     let place : ℕ = drain_place slot in

@@ -13,7 +13,7 @@ use Rattle.fkv_epoch.proofs.Items.{same_or, word_written, word_spared}
 use Rattle.fkv_epoch.proofs.Epochs.{IsFrom, AreFrom, Knows}
 use Rattle.fkv_epoch.proofs.Slots.{still}
 use Rattle.fkv_epoch.proofs.Sound.{IsSound, quiet, takes_none, slot_table, assembled, epochs_step}
-use Rattle.fkv_epoch.proofs.SessionSteps.{SoundAfter, dutiful}
+use Rattle.fkv_epoch.proofs.SessionSteps.{SoundAfter, machine_changed}
 
 from_weaker : (m m' word : ℕ) (l : Loads) (machine : EpochMachine) → m' ≤ m → IsFrom m word l machine → IsFrom m' word l machine
 from_weaker m m' word l machine h f = record { loaded = λ s p g. let o = f.loaded s p g in omega (arith, o, h) }
@@ -44,13 +44,13 @@ pub scan_moves : (w : EpochWorld) (a : ℕ) (step : Scanning) → IsSound w → 
 unfolding scan_ask scan_next
 scan_moves w a AtRest sound got =
     quiet w a (Scans AtRest) (Scans AtRest) None sound got (inl (omega arith))
-    (dutiful w a (Scans AtRest) (Scans AtRest) sound got (λ s g. refl)) tt (λ o f s. tt)
+    (machine_changed w a (Scans AtRest) (Scans AtRest) sound got (λ s g. refl)) tt (λ o f s. tt)
 scan_moves w a LoadsEpoch sound got =
     let d' : EpochMachine = Scans (sessions_from w.now.sessions 0 (epoch_of w.now.words)) in
     let some = sound.epochs.safe_below in
     rw (set-get_or w.now.words 0 0)
     (quiet w a (Scans LoadsEpoch) d' None sound got (inl (omega arith))
-    (dutiful w a (Scans LoadsEpoch) d' sound got (λ s g. refl))
+    (machine_changed w a (Scans LoadsEpoch) d' sound got (λ s g. refl))
     (meets w.now.sessions (epoch_of w.now.words) (own_epoch w.now.words a) (w.past.loads a) (AreFrom (own_epoch w.now.words) w.past.in_force w.now.actors) a 0 (epoch_of w.now.words) (omega arith) (omega arith) (omega arith) (λ s h. absurd (omega (arith, h)))) (λ o f s. tt))
 scan_moves w a (LoadsSession i m) sound got =
     let word : ℕ = own_epoch w.now.words i in
@@ -66,7 +66,7 @@ scan_moves w a (LoadsSession i m) sound got =
     ] in
     rw (set-get_or w.now.words (session_place i own.Epoch) 0)
     (quiet w a (Scans (LoadsSession i m)) d' None sound got (inl (omega arith))
-    (dutiful w a (Scans (LoadsSession i m)) d' sound got (λ s g. refl))
+    (machine_changed w a (Scans (LoadsSession i m)) d' sound got (λ s g. refl))
     (meets w.now.sessions (epoch_of w.now.words) (own_epoch w.now.words a) (w.past.loads a) (AreFrom (own_epoch w.now.words) w.past.in_force w.now.actors) a (i + 1) least (least_some m word k.1) (omega (arith, low, k.2)) (omega (arith, k.0)) from) (λ o f s. tt))
 scan_moves w a (RaisesSafe m) sound got =
     let k = sound.epochs.knows a (Scans (RaisesSafe m)) got in
@@ -90,7 +90,7 @@ scan_moves w a (RaisesSafe m) sound got =
     (epochs_step w.now.sessions (epoch_of w.now.words) (epoch_of words') (safe_of w.now.words) (safe_of words') (own_epoch w.now.words) (own_epoch words') w.past.loads w.past.in_force w.past.in_force w.now.actors a (Scans (RaisesSafe m)) d' None
     sound.epochs got (omega arith) (omega (arith, now_safe, safer, few, some)) above
     (λ s i n. word_spared w.now.words 1 word (session_place s own.Epoch) (λ e. omega (arith, e))) (takes_none w a None sound)
-    (λ i. rw (word_spared w.now.words 1 word (session_place a own.Epoch) (λ e. omega (arith, e))) (dutiful w a (Scans (RaisesSafe m)) d' sound got (λ s g. refl) i))
+    (λ i. rw (word_spared w.now.words 1 word (session_place a own.Epoch) (λ e. omega (arith, e))) (machine_changed w a (Scans (RaisesSafe m)) d' sound got (λ s g. refl) i))
     tt)
     (still (slot_table w.now w.past sound.owners sound.fates) (epoch_of words') (safe_of words') (drain_word words') w.now.actors a (Scans (RaisesSafe m)) d' sound.slots got
     (omega arith) (omega (arith, now_safe)) (λ s f. word_spared w.now.words 1 word (drain_place s) (λ e. omega (arith, e))) tt)

@@ -22,11 +22,11 @@ use Rattle.fkv_epoch.proofs.Sound.{IsSound, loaded_here, quiet, looks, takes_non
 abbrev pub SoundAfter : EpochWorld → ℕ → EpochMachine → Type 0
 SoundAfter w a d = IsSound (record { now = moved w.now a (Some d); past = past_moved w.now a w.past (Some d) })
 
--- another duty of the session, by which it goes no more than before
-pub dutiful : (w : EpochWorld) (a : ℕ) (d d' : EpochMachine) → IsSound w → slice_get w.now.actors a ≡ Some d
+-- another machine of the session, or another step, by which it goes no more than before
+pub machine_changed : (w : EpochWorld) (a : ℕ) (d d' : EpochMachine) → IsSound w → slice_get w.now.actors a ≡ Some d
     → ((sight : Sight) → goes_by sight d' ≡ true → goes_by sight d ≡ true) → a < w.now.sessions
     → Change (epoch_of w.now.words) (own_epoch w.now.words a) (w.past.in_force a) d (own_epoch w.now.words a) (w.past.in_force a) d'
-dutiful w a d d' sound got less inside =
+machine_changed w a d d' sound got less inside =
     change_machine (epoch_of w.now.words) (own_epoch w.now.words a) (w.past.in_force a) d d' less (sound.epochs.above_word a inside d got) (sound.epochs.words_below a inside)
 
 -- a load of one value, which is in force at once
@@ -42,13 +42,13 @@ pub protect_moves : (w : EpochWorld) (a : ℕ) (step : Protecting) → IsSound w
 unfolding protect_ask protect_next
 protect_moves w a protect.AtRest sound got =
     quiet w a (Protects protect.AtRest) (Protects protect.AtRest) None sound got (inl (omega arith))
-    (dutiful w a _ (Protects protect.AtRest) sound got (λ s g. refl)) (sound.epochs.knows a (Protects protect.AtRest) got) (λ o f s. tt)
+    (machine_changed w a _ (Protects protect.AtRest) sound got (λ s g. refl)) (sound.epochs.knows a (Protects protect.AtRest) got) (λ o f s. tt)
 protect_moves w a protect.LoadsEpoch sound got =
     let k = sound.epochs.knows a (Protects protect.LoadsEpoch) got in
     let some = sound.epochs.safe_below in
     rw (set-get_or w.now.words 0 0)
     (quiet w a (Protects protect.LoadsEpoch) (Protects (protect.StoresEpoch (epoch_of w.now.words))) None sound got (inl (omega arith))
-    (dutiful w a (Protects protect.LoadsEpoch) (Protects (protect.StoresEpoch (epoch_of w.now.words))) sound got (λ s g. g)) (k, omega (arith, some), omega arith) (λ o f s. tt))
+    (machine_changed w a (Protects protect.LoadsEpoch) (Protects (protect.StoresEpoch (epoch_of w.now.words))) sound got (λ s g. g)) (k, omega (arith, some), omega arith) (λ o f s. tt))
 protect_moves w a (protect.StoresEpoch e) sound got =
     let k = sound.epochs.knows a (Protects (protect.StoresEpoch e)) got in
     own_written w a (Protects (protect.StoresEpoch e)) (Protects protect.LoadsPhase) w.past.in_force e sound got (omega arith) k.0 (takes_none w a None sound)
@@ -88,7 +88,7 @@ pub leave_moves : (w : EpochWorld) (a : ℕ) (step : Leaving) → IsSound w → 
 unfolding leave_ask leave_next
 leave_moves w a leave.AtRest sound got =
     quiet w a (Leaves leave.AtRest) (Leaves leave.AtRest) None sound got (inl (omega arith))
-    (dutiful w a (Leaves leave.AtRest) (Leaves leave.AtRest) sound got (λ s g. refl)) tt (λ o f s. tt)
+    (machine_changed w a (Leaves leave.AtRest) (Leaves leave.AtRest) sound got (λ s g. refl)) tt (λ o f s. tt)
 leave_moves w a leave.StoresZero sound got =
     let k = sound.epochs.knows a (Leaves leave.StoresZero) got in
     own_written w a (Leaves leave.StoresZero) (Leaves leave.AtRest) w.past.in_force 0 sound got (omega arith) k (takes_none w a None sound)
@@ -98,32 +98,32 @@ pub refresh_moves : (w : EpochWorld) (a : ℕ) (step : Refreshing) → IsSound w
 unfolding refresh_ask refresh_next
 refresh_moves w a refresh.AtRest sound got =
     quiet w a (Refreshes refresh.AtRest) (Refreshes refresh.AtRest) None sound got (inl (omega arith))
-    (dutiful w a (Refreshes refresh.AtRest) (Refreshes refresh.AtRest) sound got (λ s g. refl)) (sound.epochs.knows a (Refreshes refresh.AtRest) got) (λ o f s. tt)
+    (machine_changed w a (Refreshes refresh.AtRest) (Refreshes refresh.AtRest) sound got (λ s g. refl)) (sound.epochs.knows a (Refreshes refresh.AtRest) got) (λ o f s. tt)
 refresh_moves w a refresh.LoadsEpoch sound got =
     let k = sound.epochs.knows a (Refreshes refresh.LoadsEpoch) got in
     let some = sound.epochs.safe_below in
     rw (set-get_or w.now.words 0 0)
     (quiet w a (Refreshes refresh.LoadsEpoch) (Refreshes (refresh.LoadsPhase (epoch_of w.now.words))) None sound got (inl (omega arith))
-    (dutiful w a (Refreshes refresh.LoadsEpoch) (Refreshes (refresh.LoadsPhase (epoch_of w.now.words))) sound got (λ s g. refl)) (k.0, k.1, omega (arith, some), omega arith) (λ o f s. tt))
+    (machine_changed w a (Refreshes refresh.LoadsEpoch) (Refreshes (refresh.LoadsPhase (epoch_of w.now.words))) sound got (λ s g. refl)) (k.0, k.1, omega (arith, some), omega arith) (λ o f s. tt))
 refresh_moves w a (refresh.LoadsPhase e) sound got =
     let k = sound.epochs.knows a (Refreshes (refresh.LoadsPhase e)) got in
     rw (set-get_or w.now.words 2 0)
     (quiet w a (Refreshes (refresh.LoadsPhase e)) (Refreshes (refresh.LoadsReadOnly e (word_at w.now.words 2))) (Some OfPhase) sound got (inl (omega arith))
-    (dutiful w a (Refreshes (refresh.LoadsPhase e)) (Refreshes (refresh.LoadsReadOnly e (word_at w.now.words 2))) sound got (λ s g. refl)) (k.0, k.1, k.2, k.3, k.3) (λ o f s. tt))
+    (machine_changed w a (Refreshes (refresh.LoadsPhase e)) (Refreshes (refresh.LoadsReadOnly e (word_at w.now.words 2))) sound got (λ s g. refl)) (k.0, k.1, k.2, k.3, k.3) (λ o f s. tt))
 refresh_moves w a (refresh.LoadsReadOnly e p) sound got =
     let k = sound.epochs.knows a (Refreshes (refresh.LoadsReadOnly e p)) got in
     rw (set-get_or w.now.words 5 0)
     (quiet w a (Refreshes (refresh.LoadsReadOnly e p)) (Refreshes (refresh.LoadsHead e p (word_at w.now.words 5))) (Some OfReadOnly) sound got (inl (omega arith))
-    (dutiful w a (Refreshes (refresh.LoadsReadOnly e p)) (Refreshes (refresh.LoadsHead e p (word_at w.now.words 5))) sound got (λ s g. refl)) (k.0, k.1, k.2, k.3, k.4, k.3) (λ o f s. tt))
+    (machine_changed w a (Refreshes (refresh.LoadsReadOnly e p)) (Refreshes (refresh.LoadsHead e p (word_at w.now.words 5))) sound got (λ s g. refl)) (k.0, k.1, k.2, k.3, k.4, k.3) (λ o f s. tt))
 refresh_moves w a (refresh.LoadsHead e p r) sound got =
     let k = sound.epochs.knows a (Refreshes (refresh.LoadsHead e p r)) got in
     rw (set-get_or w.now.words 8 0)
     (quiet w a (Refreshes (refresh.LoadsHead e p r)) (Refreshes (refresh.HasLoaded e (seen p r (word_at w.now.words 8)))) (Some OfHead) sound got (inl (omega arith))
-    (dutiful w a (Refreshes (refresh.LoadsHead e p r)) (Refreshes (refresh.HasLoaded e (seen p r (word_at w.now.words 8)))) sound got (λ s g. refl)) (k.0, k.1, k.2, k.3, k.4, k.5, k.3) (λ o f s. tt))
+    (machine_changed w a (Refreshes (refresh.LoadsHead e p r)) (Refreshes (refresh.HasLoaded e (seen p r (word_at w.now.words 8)))) sound got (λ s g. refl)) (k.0, k.1, k.2, k.3, k.4, k.5, k.3) (λ o f s. tt))
 refresh_moves w a (refresh.HasLoaded e v) sound got =
     let k = sound.epochs.knows a (Refreshes (refresh.HasLoaded e v)) got in
     quiet w a (Refreshes (refresh.HasLoaded e v)) (Refreshes (refresh.HasLoaded e v)) None sound got (inl (omega arith))
-    (dutiful w a (Refreshes (refresh.HasLoaded e v)) (Refreshes (refresh.HasLoaded e v)) sound got (λ s g. refl)) k (λ o f s. tt)
+    (machine_changed w a (Refreshes (refresh.HasLoaded e v)) (Refreshes (refresh.HasLoaded e v)) sound got (λ s g. refl)) k (λ o f s. tt)
 refresh_moves w a (refresh.StoresEpoch e) sound got =
     let k = sound.epochs.knows a (Refreshes (refresh.StoresEpoch e)) got in
     own_written w a (Refreshes (refresh.StoresEpoch e)) (Refreshes refresh.AtRest) (taken_up w.past a) e sound got (omega arith) k.0 (takes_all w a)

@@ -266,7 +266,7 @@ own_written w a d d' force' word sound got lighter inside takes change knows hol
     (omega arith) (omega arith) (λ s f. word_spared w.now.words place word (drain_place s) (λ e. omega (arith, e, f))) (holds k'))
     sound.once
 
--- a session with another duty goes by no more than before
+-- a session with another machine goes by no more than before
 pub change_machine : (E word : ℕ) (l : Loads) (d d' : EpochMachine) → ((sight : Sight) → goes_by sight d' ≡ true → goes_by sight d ≡ true)
     → IsFrom word word l d → word ≤ E → Change E word l d word l d'
 change_machine E word l d d' less own below = record {

@@ -171,7 +171,7 @@ pub record EpochNear : Type 0 where
 abbrev pub near : List ℕ → List (Option Action) → EpochMachine → EpochNear
 near words actions machine = record { words = words; actions = actions; machine = machine }
 
--- a slot that was just claimed gives its action up at once
+-- the action of a slot that was just claimed is taken out at once
 abbrev pub received : List ℕ → List (Option Action) → ℕ → ℕ → ℕ → Option Action → EpochNear
 received words actions slot epoch safe None = near words actions (Claims (claim.Receives slot epoch safe))
 received words actions slot epoch safe (Some action) = near words (slice_set actions slot None) (Claims (claim_given (claim.Receives slot epoch safe) action))

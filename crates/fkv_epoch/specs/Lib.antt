@@ -8,5 +8,6 @@ pub mod Raising
 pub mod Refreshing
 pub mod Scanning
 pub mod Stall
+pub mod Told
 pub mod Values
 pub mod EpochWorld

@@ -3,6 +3,8 @@ ghost use Rattle.std.specs.Prelude.{ℕ, List};
 ghost use Rattle.fkv_epoch.specs.EpochWorld.{EpochWorld, EpochEvent, epoch_run, Claimed, safe_of};
 ghost use Rattle.fkv_epoch.specs.Protected.{HoldsNoZero, IsProtected, StaysProtected};
 ghost use Rattle.fkv_epoch.specs.Stall.{stall_words, stall, HasStalled};
+ghost use Rattle.fkv_epoch.specs.Told.{LoadsItsSight, RefreshIsTold, ProtectIsTold, HasSeen, RaiseIsTold, StoresPhase};
+ghost use Rattle.fkv_epoch.specs.Values.{seen};
 ghost use Rattle.fkv_epoch.specs.Once.{IsOpened, opening, HasRunOnce, SeenSinceRaise, InForceSinceRaise, claims_of, Among, PutsIntoEmpty, ClaimsFromFull};
 
 /// Whatever the order of the machines' steps, and whoever makes them: an action armed at an epoch is run at most once,
@@ -50,4 +52,17 @@ pub fn law_owned()
 pub fn law_of_the_stall()
     ensures opened { IsOpened 1 2 stall_words }
     ensures stalls { HasStalled (epoch_run (opening 1 2 stall_words) stall) }
+{}
+
+/// The machines load what they are said to load, and end with what their loads were told. A step that is said to load a value
+/// loads that value's word; a refresh and a protect answer with the three values that they were told, each in its place, and store
+/// the epoch that they were told; a raise that is told the last epoch, or more, ends as spent, and else seeks a slot; and a
+/// claimer that runs a phase's action stores the word of that phase.
+pub fn law_of_what_is_loaded()
+    ensures sights { LoadsItsSight }
+    ensures refresh { (session epoch phase read_only head reply : ℕ) → RefreshIsTold session epoch phase read_only head reply }
+    ensures protect { (session epoch stored phase read_only head : ℕ) → ProtectIsTold session epoch stored phase read_only head }
+    ensures seen { (phase read_only head : ℕ) → HasSeen (seen phase read_only head) phase read_only head }
+    ensures raise { RaiseIsTold }
+    ensures phase { StoresPhase }
 {}

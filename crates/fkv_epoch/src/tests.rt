@@ -3,7 +3,7 @@ ghost use Rattle.fkv_base.specs.Limits.{max_sessions};
 
 use crate::{
     Arm, Claim, Leave, Protect, Raise, RaiseAnswer, Refresh, RefreshAnswer, Scan, Seen,
-    law_of_the_stall, law_once, law_owned, law_protected,
+    law_of_the_stall, law_of_what_is_loaded, law_once, law_owned, law_protected,
 };
 use fkv_base::{Addr, DRAIN_SLOTS, LAST_EPOCH, Phase, Version};
 use fkv_plane::{Action, Ask, PlainWords};
@@ -223,5 +223,6 @@ fn asks_are_told_again(rt: HostRuntime) -> Result<(), Fail> {
     law_protected();
     law_owned();
     law_of_the_stall();
+    law_of_what_is_loaded();
     Ok(())
 }
