@@ -1,0 +1,3 @@
+mod Asks
+mod Ranges
+pub mod Shown

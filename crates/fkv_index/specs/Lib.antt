@@ -1,0 +1,3 @@
+pub mod Finding
+pub mod Publishing
+pub mod Slots
