@@ -149,8 +149,8 @@ index_linked p words lists spares spares' actor home m word number low passed it
     linked_after c few = elim (same_or_not c home.bucket) [
       | inl e ↦ subst (λ x. IsLinked p.buckets (bucket_words p (slice_set words (bucket_place p m 7) (word + number))) x (with_link lists home.bucket number x)) (sym e)
           (subst (IsLinked p.buckets (bucket_words p (slice_set words (bucket_place p m 7) (word + number))) home.bucket) (sym (link_there lists home.bucket number))
-            (linked_more p.buckets (bucket_words p words) (bucket_words p (slice_set words (bucket_place p m 7) (word + number))) home.bucket (lists home.bucket) m number (index.linked home.bucket low) here no_link its_link some
-              (ap link_of (eighth (overflow_bucket p.buckets number) new_apart) ∙ is_fresh.no_link) (λ o among apart. ap link_of (eighth o apart))))
+          (linked_more p.buckets (bucket_words p words) (bucket_words p (slice_set words (bucket_place p m 7) (word + number))) home.bucket (lists home.bucket) m number (index.linked home.bucket low) here no_link its_link some
+          (ap link_of (eighth (overflow_bucket p.buckets number) new_apart) ∙ is_fresh.no_link) (λ o among apart. ap link_of (eighth o apart))))
       | inr apart ↦ subst (IsLinked p.buckets (bucket_words p (slice_set words (bucket_place p m 7) (word + number))) c) (sym (link_else lists home.bucket number c apart))
           (linked_same p.buckets (bucket_words p words) (bucket_words p (slice_set words (bucket_place p m 7) (word + number))) c (lists c) (λ o among. ap link_of (eighth o (elsewhere c o few apart among))) (index.linked c few))
     ]
@@ -159,11 +159,11 @@ index_linked p words lists spares spares' actor home m word number low passed it
     filled_after c few = elim (same_or_not c home.bucket) [
       | inl e ↦ subst (λ x. AreFilled p.buckets (bucket_words p (slice_set words (bucket_place p m 7) (word + number))) x (with_link lists home.bucket number x)) (sym e)
           (subst (AreFilled p.buckets (bucket_words p (slice_set words (bucket_place p m 7) (word + number))) home.bucket) (sym (link_there lists home.bucket number))
-            (filled_more p.buckets (bucket_words p (slice_set words (bucket_place p m 7) (word + number))) home.bucket (lists home.bucket) number
-              (λ o among i high empty. (all_others o i among high).0 (sym (slots o i high) ∙ empty)) (λ i j before high empty. slots (overflow_bucket p.buckets number) j high ∙ is_fresh.no_entry j high)))
+          (filled_more p.buckets (bucket_words p (slice_set words (bucket_place p m 7) (word + number))) home.bucket (lists home.bucket) number
+          (λ o among i high empty. (all_others o i among high).0 (sym (slots o i high) ∙ empty)) (λ i j before high empty. slots (overflow_bucket p.buckets number) j high ∙ is_fresh.no_entry j high)))
       | inr apart ↦ subst (AreFilled p.buckets (bucket_words p (slice_set words (bucket_place p m 7) (word + number))) c) (sym (link_else lists home.bucket number c apart))
           (filled_same p.buckets (bucket_words p words) (bucket_words p (slice_set words (bucket_place p m 7) (word + number))) c (lists c)
-            (λ o among fills i j before high empty. slots o j high ∙ fills i j before high (sym (slots o i (omega (arith, before, high))) ∙ empty)) (λ o among full i high empty. full i high (sym (slots o i high) ∙ empty)) (index.filled c few))
+          (λ o among fills i j before high empty. slots o j high ∙ fills i j before high (sym (slots o i (omega (arith, before, high))) ∙ empty)) (λ o among full i high empty. full i high (sym (slots o i high) ∙ empty)) (index.filled c few))
     ]
 
     -- an entry of the list that has grown stood there before
@@ -176,7 +176,7 @@ index_linked p words lists spares spares' actor home m word number low passed it
     one_more : HasOneEntry p.buckets (bucket_words p (slice_set words (bucket_place p m 7) (word + number))) home.bucket (lists home.bucket ++ number ∷ [])
     one_more o q i j a z high top full filled e =
         index.one_entry home.bucket low o q i j (stood o i a high full) (stood q j z top filled) high top (λ empty. full (slots o i high ∙ empty)) (λ empty. filled (slots q j top ∙ empty))
-          (ap entry_tag (sym (slots o i high)) ∙ e ∙ ap entry_tag (slots q j top))
+        (ap entry_tag (sym (slots o i high)) ∙ e ∙ ap entry_tag (slots q j top))
 
     one_entry_after : (c : ℕ) → c < p.buckets → HasOneEntry p.buckets (bucket_words p (slice_set words (bucket_place p m 7) (word + number))) c (with_link lists home.bucket number c)
     one_entry_after c few = elim (same_or_not c home.bucket) [
@@ -253,7 +253,7 @@ index_published p words lists spares spares' home place word entry its won its_t
     there o i a b =
         let low = its.in_bucket in
         subst (λ x. bucket_words p (slice_set words (bucket_place p its.bucket its.slot) entry) x i ≡ entry) (sym a)
-          (subst (λ x. bucket_words p (slice_set words (bucket_place p its.bucket its.slot) entry) its.bucket x ≡ entry) (sym b) (set_there p words its.bucket its.slot entry index.enough_words in_words (omega (arith, low))))
+        (subst (λ x. bucket_words p (slice_set words (bucket_place p its.bucket its.slot) entry) its.bucket x ≡ entry) (sym b) (set_there p words its.bucket its.slot entry index.enough_words in_words (omega (arith, low))))
 
     else : (o i : ℕ) → i < 7 → (o ≡ its.bucket → i ≡ its.slot → ⊥) → bucket_words p (slice_set words (bucket_place p its.bucket its.slot) entry) o i ≡ bucket_words p words o i
     else o i few apart = let low = its.in_bucket in set_else p words its.bucket its.slot o i entry (omega (arith, low)) (omega (arith, few)) apart
@@ -273,12 +273,12 @@ index_published p words lists spares spares' home place word entry its won its_t
       | inr e ↦
           let was : bucket_words p words o i ≡ 0 = sym (else o i (omega (arith, before, few)) e) ∙ empty in
           elim (here_or_not o j) [
-          | inl a ↦
-              let passed = passed_row p.buckets (bucket_words p words) home.tag home.bucket (lists home.bucket) its.bucket its.slot its.passed in
-              let behind = a.1 in
-              absurd ((passed i (omega (arith, before, behind))).0 (subst (λ x. bucket_words p words x i ≡ 0) a.0 was))
-          | inr a ↦ else o j few a ∙ old i j before few was
-        ]
+            | inl a ↦
+                let passed = passed_row p.buckets (bucket_words p words) home.tag home.bucket (lists home.bucket) its.bucket its.slot its.passed in
+                let behind = a.1 in
+                absurd ((passed i (omega (arith, before, behind))).0 (subst (λ x. bucket_words p words x i ≡ 0) a.0 was))
+            | inr a ↦ else o j few a ∙ old i j before few was
+          ]
     ]
 
     full : (o : ℕ) → IsFull (bucket_words p words) o → IsFull (bucket_words p (slice_set words (bucket_place p its.bucket its.slot) entry)) o
@@ -319,8 +319,8 @@ index_published p words lists spares spares' home place word entry its won its_t
       | inl e ↦ subst (λ x. HasOneEntry p.buckets (bucket_words p (slice_set words (bucket_place p its.bucket its.slot) entry)) x (lists x)) (sym e) one_here
       | inr apart ↦ one_entry_same p.buckets (bucket_words p words) (bucket_words p (slice_set words (bucket_place p its.bucket its.slot) entry)) c (lists c)
           (λ o i here low has.
-            let off : o ≡ its.bucket → i ≡ its.slot → ⊥ = λ a b. apart (among_apart c home.bucket its.bucket index few low_home (subst (IsAmong p.buckets c (lists c)) a here) among) in
-            ((λ empty. has (else o i low off ∙ empty)), ap entry_tag (else o i low off))) (index.one_entry c few)
+          let off : o ≡ its.bucket → i ≡ its.slot → ⊥ = λ a b. apart (among_apart c home.bucket its.bucket index few low_home (subst (IsAmong p.buckets c (lists c)) a here) among) in
+          ((λ empty. has (else o i low off ∙ empty)), ap entry_tag (else o i low off))) (index.one_entry c few)
     ]
 
     fresh_after : (n : ℕ) → 1 ≤ n → n ≤ p.overflow → ((c : ℕ) → index.owner n ≡ ListedAt c → ⊥) → IsFresh (bucket_words p (slice_set words (bucket_place p its.bucket its.slot) entry)) (overflow_bucket p.buckets n)
@@ -351,7 +351,7 @@ published_grows p words lists spares home place word entry its won its_tag rises
 
     other : (o i : ℕ) → i < 7 → (o ≡ its.bucket → i ≡ its.slot → ⊥) → (bucket_words p words o i ≡ 0 → ⊥)
         → (bucket_words p (slice_set words (bucket_place p its.bucket its.slot) entry) o i ≡ 0 → ⊥) × (entry_tag (bucket_words p (slice_set words (bucket_place p its.bucket its.slot) entry) o i) ≡ entry_tag (bucket_words p words o i))
-          × (entry_addr (bucket_words p words o i) ≤ entry_addr (bucket_words p (slice_set words (bucket_place p its.bucket its.slot) entry) o i))
+        × (entry_addr (bucket_words p words o i) ≤ entry_addr (bucket_words p (slice_set words (bucket_place p its.bucket its.slot) entry) o i))
     other o i few apart has =
         let low = its.in_bucket in
         let e = set_else p words its.bucket its.slot o i entry (omega (arith, low)) (omega (arith, few)) apart in
@@ -360,7 +360,7 @@ published_grows p words lists spares home place word entry its won its_tag rises
 
     at_it : (o i : ℕ) → o ≡ its.bucket → i ≡ its.slot → (bucket_words p words o i ≡ 0 → ⊥)
         → (bucket_words p (slice_set words (bucket_place p its.bucket its.slot) entry) o i ≡ 0 → ⊥) × (entry_tag (bucket_words p (slice_set words (bucket_place p its.bucket its.slot) entry) o i) ≡ entry_tag (bucket_words p words o i))
-          × (entry_addr (bucket_words p words o i) ≤ entry_addr (bucket_words p (slice_set words (bucket_place p its.bucket its.slot) entry) o i))
+        × (entry_addr (bucket_words p words o i) ≤ entry_addr (bucket_words p (slice_set words (bucket_place p its.bucket its.slot) entry) o i))
     at_it o i a b has =
         let low = its.in_bucket in
         let few : home.bucket < p.buckets = its.its_home.few in

@@ -5,4 +5,7 @@ mod IndexSteps
 mod Orders
 mod Owned
 mod Ranges
+mod Rows
+mod Runs
+mod Steps
 pub mod Shown

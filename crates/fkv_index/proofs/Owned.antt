@@ -181,3 +181,15 @@ owned_linked taken lists spares after owner actor bucket number its_number some 
 
     same_bucket : (x y : ℕ) → ListedAt x ≡ ListedAt y → x ≡ y
     same_bucket x y e = cc
+
+-- the spares where an actor has none
+pub spares_less : (ℕ → ℕ) → ℕ → ℕ → ℕ
+spares_less spares actor o = if o == actor then 0 else spares o
+
+pub less_there : (spares : ℕ → ℕ) (actor : ℕ) → spares_less spares actor actor ≡ 0
+unfolding spares_less
+less_there spares actor = let e : (actor == actor) ≡ true = grind (arith, nat_tests) in rw e refl
+
+pub less_else : (spares : ℕ → ℕ) (actor o : ℕ) → (o ≡ actor → ⊥) → spares_less spares actor o ≡ spares o
+unfolding spares_less
+less_else spares actor o apart = let e : (o == actor) ≡ false = grind (arith, nat_tests, apart) in rw e refl

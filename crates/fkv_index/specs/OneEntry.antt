@@ -15,7 +15,7 @@ use Rattle.fkv_index.specs.declared.publishing.Publishing.TheVariants as publish
 use Rattle.fkv_index.specs.Slots.{bucket_slots, entry_addr, entry_tag, link_of}
 use Rattle.fkv_index.specs.Finding.{find_ask, find_next_ask}
 use Rattle.fkv_index.specs.Buckets.{bucket_words, overflow_bucket, IsLinked, AreFilled, HasOneEntry, HasPassed, LacksTag, IsMember, IsOnce}
-use Rattle.fkv_index.specs.IndexWorld.{SlotWork, Seeks, Holds, Enters, IndexActor, IndexEvent, IndexNow, IndexWorld, taken_of, index_happens, index_run}
+use Rattle.fkv_index.specs.IndexWorld.{SlotWork, Seeks, Holds, Enters, IndexActor, IndexEvent, IndexNow, IndexWorld, taken_of, index_happens, index_run, index_opening}
 
 -- Who has an overflow bucket: nobody while it isn't taken, then the session that took it, and then the bucket to which it was linked.
 pub data Owner : Type 0 where
@@ -127,3 +127,11 @@ pub record Grows (p : Places) (words after : List ℕ) (lists lists_after : ℕ 
   pub its_entries : KeepsEntries p words after
   pub its_lists : KeepsLists lists lists_after
   pub more_taken : taken_of words ≤ taken_of after
+
+-- what holds at each moment of each run that begins with an index in order
+abbrev pub AtEachMoment : (IndexWorld → Type 0) → Type 0
+AtEachMoment P = (p : Places) (words : List ℕ) (lists : ℕ → List ℕ) (actors : ℕ) (events : List IndexEvent) → IsIndexAt (index_opening p words lists actors) → P (index_run (index_opening p words lists actors) events)
+
+-- each event lets the index grow, and nothing else
+abbrev pub EachGrows : IndexWorld → Type 0
+EachGrows w = (event : IndexEvent) → Grows w.now.places w.now.words (index_happens w event).now.words w.lists (index_happens w event).lists

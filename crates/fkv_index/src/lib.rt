@@ -4,11 +4,13 @@
 
 mod finding;
 mod homes;
+mod laws;
 mod publishing;
 mod slot_words;
 
 pub use finding::{Find, FindAnswer, Found, Purpose};
 pub use homes::{Home, home_of};
+pub use laws::law_one_entry;
 pub use publishing::{Publish, PublishAnswer};
 
 #[cfg(test)]
