@@ -1,5 +1,8 @@
 mod Asks
 mod BucketWords
+mod Empty
+mod EntryLists
+mod EntrySteps
 mod Index
 mod IndexSteps
 mod Orders

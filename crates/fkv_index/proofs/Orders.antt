@@ -153,6 +153,11 @@ among_more k c (r ∷ rest) n o (inr there) = elim (among_more k (overflow_bucke
   | inr last ↦ inr last
 ]
 
+pub among_kept : (k c : ℕ) (list : List ℕ) (n o : ℕ) → IsAmong k c list o → IsAmong k c (list ++ n ∷ []) o
+among_kept k c [] n o here = inl here
+among_kept k c (r ∷ rest) n o (inl here) = inl here
+among_kept k c (r ∷ rest) n o (inr there) = inr (among_kept k (overflow_bucket k r) rest n o there)
+
 -- a bucket of the list is the first, or one of its overflow buckets
 pub among_member : (k c : ℕ) (list : List ℕ) (o : ℕ) → IsAmong k c list o → (o ≡ c) ⊎ ((n : ℕ) × IsMember n list × (o ≡ overflow_bucket k n))
 among_member k c [] o here = inl here

@@ -170,7 +170,7 @@ neither : (a b : Bool) → (a || b) ≡ false → (a ≡ false) × (b ≡ false)
 neither false b e = (refl, e)
 neither true b e = cc
 
-changed_quiet : (p : Places) (words : List ℕ) (place word : ℕ) → frames_start p ≤ length words → is_barred p words place word ≡ false → IsQuiet p words (slice_set words place word)
+pub changed_quiet : (p : Places) (words : List ℕ) (place word : ℕ) → frames_start p ≤ length words → is_barred p words place word ≡ false → IsQuiet p words (slice_set words place word)
 changed_quiet p words place word enough free = record {
   same_length = length-set words place word;
   same_taken = get_or-set_other words place 10 word 0 (λ e. absurd (grind (arith, nat_tests, both.0, sym e)));

@@ -1,4 +1,6 @@
 pub mod Buckets
+pub mod EighthEntry
+pub mod Entries
 pub mod Finding
 pub mod IndexWorld
 pub mod OneEntry
