@@ -1,0 +1,14 @@
+mod Asks
+mod BucketWords
+mod Empty
+mod EntryLists
+mod EntrySteps
+mod Index
+mod IndexSteps
+mod Orders
+mod Owned
+mod Ranges
+mod Rows
+mod Runs
+mod Steps
+pub mod Shown

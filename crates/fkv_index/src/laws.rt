@@ -1,0 +1,29 @@
+//! What holds of the index, over every list of events.
+ghost use Rattle.fkv_index.specs.OneEntry.{AtEachMoment, IsIndexAt, AnswersTrue, HaveSlots, EachGrows};
+ghost use Rattle.fkv_index.specs.Entries.{AnswersEntry, EachMovesEntries};
+ghost use Rattle.fkv_index.specs.EighthEntry.{EmptyIsIndex, LinksOnce};
+
+/// Whatever the order of the steps of all that search and publish, and whatever others do to words that are not the index's,
+/// and to the upper bits of eighth words: the buckets are in order, each home has one entry at most, and each overflow bucket
+/// that is taken is in one list or is one session's spare. What a search comes to is so at the step that ends it, and a slot
+/// that it has found stays the home's. A slot that is not empty keeps its tag for good, and lists grow at their ends.
+pub fn law_one_entry()
+    ensures index { AtEachMoment IsIndexAt }
+    ensures answers { AtEachMoment AnswersTrue }
+    ensures slots { AtEachMoment HaveSlots }
+    ensures grows { AtEachMoment EachGrows }
+{}
+
+/// Over the same runs: what a search comes to is the entry that its home has at that step. A publish that is won puts its entry
+/// in the place of the one that was found, and that is what its home had until then; no other step changes the entry of a home.
+pub fn law_entries()
+    ensures answers { AtEachMoment AnswersEntry }
+    ensures moves { AtEachMoment EachMovesEntries }
+{}
+
+/// An index without entries is in order, and a run that begins with one: seven entries fill a bucket, two sessions link at once,
+/// and the eighth entry stands in the overflow bucket of the one that was first, while the other keeps its own to spare.
+pub fn law_of_the_eighth_entry()
+    ensures empty { EmptyIsIndex }
+    ensures links { LinksOnce }
+{}
