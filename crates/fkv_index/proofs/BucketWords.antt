@@ -1,10 +1,9 @@
 -- The words of the buckets, where one word of the plane changes.
-use Rattle.std.proofs.Common.{◌≡◌, ℕ, ◌+◌, ◌*◌, ◌<◌, ◌≤◌, List, length, refl, arith, sym}
+use Rattle.std.proofs.Common.{◌≡◌, ℕ, ◌+◌, ◌<◌, ◌≤◌, List, length, arith, sym}
 use Rattle.std.specs.Prelude.{slice_set}
 use Rattle.std.proofs.lemmas.List.{get_or-set_same, get_or-set_other}
 use Rattle.fkv_plane.specs.declared.places.Places.{Places}
 use Rattle.fkv_plane.specs.Places.{bucket_place, frames_start}
-use Rattle.fkv_plane.specs.Asked.{word_at}
 use Rattle.fkv_index.specs.Buckets.{bucket_words}
 use Rattle.fkv_index.specs.IndexWorld.{taken_of}
 

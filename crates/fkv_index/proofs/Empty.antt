@@ -1,15 +1,14 @@
 -- An empty index is in order.
-use Rattle.std.proofs.Common.{◌≡◌, ℕ, zero, suc, ◌+◌, ◌-◌, ◌<◌, ◌≤◌, ◌⊎◌, List, [], ◌∷◌, length, refl, inl, inr, arith, sym, ap, ◌∙◌, subst}
-use Rattle.std.specs.Prelude.{replicate, slice_get, Option, Some, None}
-use Rattle.fkv_plane.specs.declared.places.Places.{Places}
-use Rattle.fkv_plane.specs.Places.{bucket_place, frames_start}
+use Rattle.std.proofs.Common.{◌≡◌, ℕ, zero, suc, ◌+◌, ◌-◌, [], length, refl, inl, arith, sym, ap, ◌∙◌}
+use Rattle.std.specs.Prelude.{replicate}
+use Rattle.fkv_plane.specs.Places.{bucket_place}
 use Rattle.fkv_plane.specs.Asked.{word_at}
 use Rattle.fkv_index.specs.Slots.{link_of}
 use Rattle.fkv_index.specs.Finding.{rested}
 use Rattle.fkv_index.specs.Buckets.{bucket_words}
-use Rattle.fkv_index.specs.IndexWorld.{IndexActor, Seeks, taken_of, index_opening}
-use Rattle.fkv_index.specs.OneEntry.{Owner, Nobody, SpareOf, ListedAt, AreOwned, IsIndex, spare_at}
-use Rattle.fkv_index.specs.EighthEntry.{empty_index, EmptyIsIndex}
+use Rattle.fkv_index.specs.IndexWorld.{Seeks, taken_of}
+use Rattle.fkv_index.specs.OneEntry.{Owner, Nobody, SpareOf, ListedAt, AreOwned, spare_at}
+use Rattle.fkv_index.specs.EighthEntry.{EmptyIsIndex}
 
 zero_at : (n i : ℕ) → word_at (replicate n 0) i ≡ 0
 zero_at zero i = refl

@@ -1,12 +1,11 @@
 -- What a search finds is its home's entry, and a publish that is won changes that entry alone.
-use Rattle.std.proofs.Common.{◌≡◌, ℕ, ◌+◌, ◌-◌, ◌*◌, ◌<◌, ◌≤◌, ◌⊎◌, List, [], ◌∷◌, ◌++◌, refl, inl, inr, arith, sym, ap, ◌∙◌, subst, Bool, true, false, eqb-true}
-use Rattle.std.specs.Prelude.{Option, Some, None, slice_get, slice_set, ◌==◌, ◌&&◌, ◌||◌, not, nat_lt, if◌then◌else◌}
-use Rattle.std.proofs.lemmas.Bool.Decides.{nat_tests}
+use Rattle.std.proofs.Common.{◌≡◌, ℕ, ◌+◌, ◌<◌, ◌≤◌, List, refl, inl, inr, arith, sym, ap, ◌∙◌, subst, Bool, true, false, eqb-true}
+use Rattle.std.specs.Prelude.{Option, Some, None, slice_get, slice_set, ◌==◌, if◌then◌else◌}
 use Rattle.std.proofs.lemmas.List.{set-get_or}
 use Rattle.fkv_plane.specs.declared.asks.Ask.{Ask}
-use Rattle.fkv_plane.specs.declared.asks.Ask.TheVariants.{Load, Store, Swap, Cas, Add, Max, Put, Take, Done}
+use Rattle.fkv_plane.specs.declared.asks.Ask.TheVariants.{Done}
 use Rattle.fkv_plane.specs.declared.places.Places.{Places}
-use Rattle.fkv_plane.specs.Places.{bucket_place, frames_start}
+use Rattle.fkv_plane.specs.Places.{bucket_place}
 use Rattle.fkv_plane.specs.Asked.{word_at, words_after, reply_to}
 use Rattle.fkv_index.specs.declared.homes.Home.{Home}
 use Rattle.fkv_index.specs.declared.finding.Purpose.{Purpose}
@@ -16,23 +15,21 @@ use Rattle.fkv_index.specs.declared.finding.FindAnswer.{FindAnswer}
 use Rattle.fkv_index.specs.declared.finding.FindStep.{FindStep}
 use Rattle.fkv_index.specs.declared.finding.FindStep.TheVariants.{AtRest, LoadsSlot, LoadsLink, LoadsTaken, TakesBucket, LinksBucket}
 use Rattle.fkv_index.specs.declared.finding.Finding.{Finding}
-use Rattle.fkv_index.specs.declared.publishing.Publishing.{Publishing}
 use Rattle.fkv_index.specs.declared.publishing.Publishing.TheVariants as publish
-use Rattle.fkv_index.specs.Slots.{entry_addr, entry_tag, link_of}
+use Rattle.fkv_index.specs.Slots.{entry_addr, entry_tag}
 use Rattle.fkv_index.specs.Finding.{find_step_ask, find_ask, find_next_ask, first_finding}
-use Rattle.fkv_index.specs.Publishing.{publish_ask, publish_next}
+use Rattle.fkv_index.specs.Publishing.{publish_ask}
 use Rattle.fkv_index.specs.Buckets.{bucket_words, overflow_bucket, IsAmong, HasOneEntry}
-use Rattle.fkv_index.specs.IndexWorld.{SlotWork, Seeks, Holds, Enters, IndexActor, IndexEvent, BeginsFind, BeginsPublish, Moves, Changes, IndexNow, IndexWorld, taken_of, is_barred, may_find, find_begun, work_begun, publish_begun, with_link, lists_sought, lists_by, actor_step, moved, lists_moved, index_happens}
-use Rattle.fkv_index.specs.OneEntry.{Owner, SpareOf, ListedAt, spare_at, spare_in, IsFresh, IsIndex, IsHome, HasSlot, IsTrue, IsTrueAnswer, AnswersTrue}
-use Rattle.fkv_index.specs.Entries.{entry_at, entry_of, IsEntryFound, IsEntryAnswered, AnswersEntry, NewEntry, published_in, published_by, published, IsPublished, EntriesMove, EachMovesEntries}
+use Rattle.fkv_index.specs.IndexWorld.{SlotWork, Seeks, Holds, Enters, IndexActor, IndexEvent, BeginsFind, BeginsPublish, Moves, Changes, IndexWorld, taken_of, is_barred, may_find, find_begun, publish_begun, with_link, lists_sought, lists_by, actor_step, moved, lists_moved, index_happens}
+use Rattle.fkv_index.specs.OneEntry.{SpareOf, ListedAt, spare_at, spare_in, IsFresh, IsIndex, IsHome, HasSlot, IsTrue, IsTrueAnswer}
+use Rattle.fkv_index.specs.Entries.{entry_at, entry_of, IsEntryFound, IsEntryAnswered, AnswersEntry, published_in, published_by, published, IsPublished, EntriesMove}
 use Rattle.fkv_index.proofs.Orders.{same_or_not, passed_among, among_more, among_kept, beside}
 use Rattle.fkv_index.proofs.BucketWords.{set_there, set_else, set_outside}
-use Rattle.fkv_index.proofs.Owned.{SpareBecomes, link_there, link_else, spare_taken}
+use Rattle.fkv_index.proofs.Owned.{link_there, link_else, spare_taken}
 use Rattle.fkv_index.proofs.Index.{IsQuiet, among_real, among_apart}
 use Rattle.fkv_index.proofs.EntryLists.{IsOf, entry_is, entry_none, entry_same}
-use Rattle.fkv_index.proofs.Rows.{Stands, SeekKnows, EnterKnows, WorkKnows}
-use Rattle.fkv_index.proofs.Steps.{Stepped, actor_stepped}
-use Rattle.fkv_index.proofs.Runs.{IsSound, HasHappened, event_happened, changed_quiet, sound_answers}
+use Rattle.fkv_index.proofs.Rows.{SeekKnows, WorkKnows}
+use Rattle.fkv_index.proofs.Runs.{IsSound, event_happened, changed_quiet, sound_answers}
 
 -- what is found is the entry
 found_entry : (p : Places) (words : List ℕ) (lists : ℕ → List ℕ) (spares : ℕ → ℕ) (home : Home) (found : Found) → IsIndex p words lists spares → IsTrue p words lists home found → IsEntryFound (entry_at p words lists home) found

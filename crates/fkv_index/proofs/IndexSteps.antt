@@ -1,19 +1,18 @@
 -- The index stays in order, with one entry for each home, where a bucket is taken, where one is linked, and where an entry is published.
-use Rattle.std.proofs.Common.{◌≡◌, ℕ, ◌+◌, ◌-◌, ◌*◌, ◌/◌, ◌%◌, ◌^◌, ◌<◌, ◌≤◌, ◌⊎◌, List, [], ◌∷◌, ◌++◌, length, refl, inl, inr, arith, sym, ap, ◌∙◌, subst}
+use Rattle.std.proofs.Common.{◌≡◌, ℕ, ◌+◌, ◌%◌, ◌^◌, ◌<◌, ◌≤◌, ◌⊎◌, List, [], ◌∷◌, ◌++◌, length, inl, inr, arith, sym, ap, ◌∙◌, subst}
 use Rattle.std.specs.Prelude.{slice_set}
-use Rattle.std.proofs.lemmas.List.{length-set, get_or-set_same, get_or-set_other, append-nil}
-use Rattle.fkv_base.specs.Limits.{max_overflow}
+use Rattle.std.proofs.lemmas.List.{length-set, get_or-set_same, append-nil}
 use Rattle.fkv_plane.specs.declared.places.Places.{Places}
 use Rattle.fkv_plane.specs.Places.{bucket_place, frames_start}
 use Rattle.fkv_plane.specs.Asked.{word_at}
 use Rattle.fkv_index.specs.declared.homes.Home.{Home}
 use Rattle.fkv_index.specs.Slots.{entry_addr, entry_tag, link_of}
-use Rattle.fkv_index.specs.Buckets.{bucket_words, overflow_bucket, IsLinked, IsAmong, IsFull, FillsUp, AreFilled, HasOneEntry, IsOther, AreOthers, HasPassed, IsMember}
+use Rattle.fkv_index.specs.Buckets.{bucket_words, overflow_bucket, IsLinked, IsAmong, IsFull, FillsUp, AreFilled, HasOneEntry, IsOther, HasPassed}
 use Rattle.fkv_index.specs.IndexWorld.{taken_of, with_link}
-use Rattle.fkv_index.specs.OneEntry.{Owner, Nobody, SpareOf, ListedAt, AreOwned, IsFresh, IsSlotWord, IsIndex, IsHome, HasHeld, HasSlot, KeepsEntries, KeepsLists, Grows}
-use Rattle.fkv_index.proofs.Orders.{same_or_not, passed_among, passed_all, passed_row, beside, linked_same, linked_more, filled_same, filled_more, among_more, among_member, one_entry_same}
+use Rattle.fkv_index.specs.OneEntry.{Nobody, SpareOf, ListedAt, AreOwned, IsFresh, IsSlotWord, IsIndex, HasSlot, Grows}
+use Rattle.fkv_index.proofs.Orders.{same_or_not, passed_among, passed_all, passed_row, beside, linked_same, linked_more, filled_same, filled_more, among_more, one_entry_same}
 use Rattle.fkv_index.proofs.BucketWords.{set_there, set_else, set_outside, set_spares_taken}
-use Rattle.fkv_index.proofs.Owned.{SpareBecomes, owner_set, owner_there, owner_else, link_there, link_else, listed_taken, spare_taken, owned_same, owned_took, owned_linked}
+use Rattle.fkv_index.proofs.Owned.{SpareBecomes, owner_set, owner_there, owner_else, link_there, link_else, spare_taken, owned_same, owned_took, owned_linked}
 use Rattle.fkv_index.proofs.Index.{among_real, among_listed, among_apart, lists_stay}
 
 -- the count of taken buckets rises by one

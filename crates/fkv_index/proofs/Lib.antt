@@ -1,10 +1,12 @@
 mod Asks
 mod BucketWords
+mod Distinct
 mod Empty
 mod EntryLists
 mod EntrySteps
 mod Index
 mod IndexSteps
+mod Losing
 mod Orders
 mod Owned
 mod Ranges

@@ -1,9 +1,9 @@
 -- The order of a bucket's slots: how a search goes along it, and what stays of it as words change.
-use Rattle.std.proofs.Common.{◌≡◌, ℕ, ◌+◌, ◌-◌, ◌<◌, ◌≤◌, ◌⊎◌, List, [], ◌∷◌, ◌++◌, refl, inl, inr, arith, sym, ap, ◌∙◌, subst, Bool, true, false}
+use Rattle.std.proofs.Common.{◌≡◌, ℕ, suc, ◌+◌, ◌<◌, ◌≤◌, ◌⊎◌, List, [], ◌∷◌, ◌++◌, length, refl, inl, inr, arith, sym, ◌∙◌, subst, Bool, true, false}
 use Rattle.std.specs.Prelude.{nat_lt, ◌==◌}
 use Rattle.std.proofs.lemmas.Bool.Decides.{nat_tests}
 use Rattle.fkv_index.specs.Slots.{entry_tag, link_of}
-use Rattle.fkv_index.specs.Buckets.{overflow_bucket, IsLinked, IsAmong, IsFull, FillsUp, AreFilled, HasOneEntry, IsOther, AreOthers, HasPassed, LacksTag, IsMember, IsOnce}
+use Rattle.fkv_index.specs.Buckets.{overflow_bucket, IsLinked, IsAmong, IsFull, FillsUp, AreFilled, HasOneEntry, IsOther, AreOthers, HasPassed, IsMember, IsOnce}
 
 pub truth : (b : Bool) → (b ≡ true) ⊎ (b ≡ false)
 truth true = inl refl
@@ -93,6 +93,47 @@ beside k g tag c [] m i fills h low empty o j here few = elim (same_or_not j i) 
 beside k g tag c (r ∷ rest) m i fills (inl h) low empty o j here few = absurd (fills.0 i low (subst (λ x. g x i ≡ 0) h.0 empty))
 beside k g tag c (r ∷ rest) m i fills (inr h) low empty o j (inl here) few = inr (inr (subst (λ x. IsOther tag (g x j)) (sym here) (h.0 j few)))
 beside k g tag c (r ∷ rest) m i fills (inr h) low empty o j (inr there) few = beside k g tag (overflow_bucket k r) rest m i fills.1 h.1 low empty o j there few
+
+-- how many links lead to a bucket of the list
+abbrev pub IsDeep : ℕ → ℕ → List ℕ → ℕ → ℕ → Type 0
+IsDeep k c [] m d = (m ≡ c) × (d ≡ 0)
+IsDeep k c (n ∷ rest) m d = ((m ≡ c) × (d ≡ 0)) ⊎ ((e : ℕ) × (d ≡ suc e) × IsDeep k (overflow_bucket k n) rest m e)
+
+-- no bucket is deeper than the list is long
+pub deep_few : (k c : ℕ) (list : List ℕ) (m d : ℕ) → IsDeep k c list m d → d ≤ length list
+deep_few k c [] m d h = let none = h.1 in omega (arith, none)
+deep_few k c (r ∷ rest) m d (inl h) = let none = h.1 in omega (arith, none)
+deep_few k c (r ∷ rest) m d (inr h) = let one = h.1 in let few = deep_few k (overflow_bucket k r) rest m h.0 h.2 in omega (arith, one, few)
+
+pub deep_first : (k c : ℕ) (list : List ℕ) → IsDeep k c list c 0
+deep_first k c [] = (refl, refl)
+deep_first k c (r ∷ rest) = inl (refl, refl)
+
+pub deep_more : (k c : ℕ) (list more : List ℕ) (m d : ℕ) → IsDeep k c list m d → IsDeep k c (list ++ more) m d
+deep_more k c [] more m d h = here more
+  where
+    here : (more : List ℕ) → IsDeep k c more m d
+    here [] = h
+    here (r ∷ rest) = inl h
+deep_more k c (r ∷ rest) more m d (inl h) = inl h
+deep_more k c (r ∷ rest) more m d (inr h) = inr (h.0, h.1, deep_more k (overflow_bucket k r) rest more m h.0 h.2)
+
+-- a link leads one deeper, and not past the list
+pub deep_link : (k : ℕ) (g : ℕ → ℕ → ℕ) (c : ℕ) (list : List ℕ) (m d n : ℕ) → IsLinked k g c list → IsDeep k c list m d → link_of (g m 7) ≡ n → 1 ≤ n
+    → IsDeep k c list (overflow_bucket k n) (d + 1) × (d + 1 ≤ length list)
+deep_link k g c [] m d n linked h its some =
+    let none : link_of (g m 7) ≡ 0 = subst (λ x. link_of (g x 7) ≡ 0) (sym h.0) linked in
+    absurd (omega (arith, none, its, some))
+deep_link k g c (r ∷ rest) m d n linked (inl h) its some =
+    let next : link_of (g m 7) ≡ r = subst (λ x. link_of (g x 7) ≡ r) (sym h.0) linked.1 in
+    let same : r ≡ n = sym next ∙ its in
+    let none = h.1 in
+    (inr (0, omega (arith, none), subst (λ x. IsDeep k (overflow_bucket k r) rest (overflow_bucket k x) 0) same (deep_first k (overflow_bucket k r) rest)), omega (arith, none))
+deep_link k g c (r ∷ rest) m d n linked (inr h) its some =
+    let deeper = deep_link k g (overflow_bucket k r) rest m h.0 n linked.2 h.2 its some in
+    let one = h.1 in
+    let few = deeper.1 in
+    (inr (h.0 + 1, omega (arith, one), deeper.0), omega (arith, one, few))
 
 -- what stays of it while slots with entries of other tags keep such entries, and the list grows at its end
 pub passed_more : (k : ℕ) (g g' : ℕ → ℕ → ℕ) (tag c : ℕ) (list more : List ℕ) (m i : ℕ) → i ≤ 7

@@ -1,11 +1,11 @@
 -- Who has each overflow bucket, as buckets are taken and linked.
-use Rattle.std.proofs.Common.{◌≡◌, ℕ, ◌+◌, ◌-◌, ◌<◌, ◌≤◌, ◌⊎◌, List, [], ◌∷◌, ◌++◌, refl, inl, inr, arith, sym, ap, ◌∙◌, subst, Bool, true, false}
-use Rattle.std.specs.Prelude.{nat_lt, nat_le, ◌==◌, if◌then◌else◌}
+use Rattle.std.proofs.Common.{◌≡◌, ℕ, ◌+◌, ◌≤◌, List, [], ◌∷◌, ◌++◌, refl, inl, inr, arith, sym, ap, ◌∙◌, subst, true, false}
+use Rattle.std.specs.Prelude.{nat_le, ◌==◌, if◌then◌else◌}
 use Rattle.std.proofs.lemmas.Bool.Decides.{nat_tests}
-use Rattle.fkv_index.specs.Buckets.{overflow_bucket, IsAmong, IsMember, IsOnce}
+use Rattle.fkv_index.specs.Buckets.{IsMember, IsOnce}
 use Rattle.fkv_index.specs.IndexWorld.{with_link}
 use Rattle.fkv_index.specs.OneEntry.{Owner, Nobody, SpareOf, ListedAt, AreOwned}
-use Rattle.fkv_index.proofs.Orders.{truth, same_or_not, among_member, member_more, member_kept, member_last, once_more}
+use Rattle.fkv_index.proofs.Orders.{truth, same_or_not, member_more, member_kept, member_last, once_more}
 
 -- one number has another owner
 pub owner_set : (ℕ → Owner) → ℕ → Owner → ℕ → Owner

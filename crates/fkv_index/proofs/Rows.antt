@@ -1,5 +1,5 @@
 -- What an actor knows at each step, and that it stays so while others go on.
-use Rattle.std.proofs.Common.{◌≡◌, ℕ, ◌+◌, ◌<◌, ◌≤◌, ◌⊎◌, List, ◌++◌, refl, inl, inr, arith, sym, ◌∙◌, subst}
+use Rattle.std.proofs.Common.{◌≡◌, ℕ, ◌+◌, ◌<◌, ◌≤◌, List, inl, inr, arith, sym, ◌∙◌, subst}
 use Rattle.std.specs.Prelude.{⊤}
 use Rattle.fkv_plane.specs.declared.places.Places.{Places}
 use Rattle.fkv_plane.specs.Places.{bucket_place}
@@ -10,10 +10,10 @@ use Rattle.fkv_index.specs.declared.finding.Finding.{Finding}
 use Rattle.fkv_index.specs.declared.publishing.Publishing.{Publishing}
 use Rattle.fkv_index.specs.declared.publishing.Publishing.TheVariants as publish
 use Rattle.fkv_index.specs.Slots.{entry_addr, entry_tag, link_of}
-use Rattle.fkv_index.specs.Buckets.{bucket_words, HasPassed, IsOther, IsAmong}
+use Rattle.fkv_index.specs.Buckets.{bucket_words, HasPassed}
 use Rattle.fkv_index.specs.IndexWorld.{SlotWork, Seeks, Holds, Enters}
 use Rattle.fkv_index.specs.OneEntry.{IsIndex, IsHome, HasHeld, HasSlot, Grows}
-use Rattle.fkv_index.proofs.Orders.{passed_among, passed_more}
+use Rattle.fkv_index.proofs.Orders.{IsDeep, deep_more, passed_among, passed_more}
 use Rattle.fkv_index.proofs.Index.{among_real}
 
 -- a search stands in a bucket of its home's list, and has passed entries of other tags alone
@@ -22,6 +22,10 @@ pub record Stands (p : Places) (g : ℕ → ℕ → ℕ) (lists : ℕ → List �
   pub bucket : ℕ
   pub its_base : f.base ≡ bucket_place p bucket 0
   pub passed : HasPassed p.buckets g f.home.tag f.home.bucket (lists f.home.bucket) bucket slot
+  -- so many links led there, and the search may follow as many more as there can be
+  pub depth : ℕ
+  pub deep : IsDeep p.buckets f.home.bucket (lists f.home.bucket) bucket depth
+  pub budget : f.links + depth ≡ p.overflow
 
 abbrev pub SeekKnows : Places → (ℕ → ℕ → ℕ) → (ℕ → List ℕ) → Finding → FindStep → Type 0
 SeekKnows p g lists f AtRest = ⊤
@@ -51,6 +55,11 @@ passed_grows p words after lists lists' spares home m i index grows low few pass
     let kept = grows.its_entries o j (among_real home.bucket o index low among) below other.0 in
     (kept.0, λ e. other.1 (sym kept.1 ∙ e))) passed)
 
+pub deep_grows : (p : Places) (words after : List ℕ) (lists lists' : ℕ → List ℕ) (bucket m d : ℕ) → Grows p words after lists lists' → IsDeep p.buckets bucket (lists bucket) m d → IsDeep p.buckets bucket (lists' bucket) m d
+deep_grows p words after lists lists' bucket m d grows deep =
+    let more = grows.its_lists bucket in
+    subst (λ x. IsDeep p.buckets bucket x m d) (sym more.1) (deep_more p.buckets bucket (lists bucket) more.0 m d deep)
+
 pub stands_more : (p : Places) (words after : List ℕ) (lists lists' : ℕ → List ℕ) (spares : ℕ → ℕ) (f : Finding) (slot : ℕ) → IsIndex p words lists spares → Grows p words after lists lists' → slot ≤ 7
     → Stands p (bucket_words p words) lists f slot → Stands p (bucket_words p after) lists' f slot
 stands_more p words after lists lists' spares f slot index grows few stands = record {
@@ -58,6 +67,9 @@ stands_more p words after lists lists' spares f slot index grows few stands = re
   bucket = stands.bucket;
   its_base = stands.its_base;
   passed = passed_grows p words after lists lists' spares f.home stands.bucket slot index grows stands.its_home.few few stands.passed;
+  depth = stands.depth;
+  deep = deep_grows p words after lists lists' f.home.bucket stands.bucket stands.depth grows stands.deep;
+  budget = stands.budget;
 }
 
 slot_more : (p : Places) (words after : List ℕ) (lists lists' : ℕ → List ℕ) (spares : ℕ → ℕ) (home : Home) (place word : ℕ) → IsIndex p words lists spares → Grows p words after lists lists'

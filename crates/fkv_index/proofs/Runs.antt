@@ -1,28 +1,25 @@
 -- What stands after every event.
-use Rattle.std.proofs.Common.{◌≡◌, ℕ, zero, suc, ◌+◌, ◌-◌, ◌*◌, ◌%◌, ◌/◌, ◌^◌, ◌<◌, ◌≤◌, ◌⊎◌, List, [], ◌∷◌, ◌++◌, length, refl, inl, inr, arith, sym, ap, ◌∙◌, subst, Bool, true, false, eqb-true}
-use Rattle.std.specs.Prelude.{Option, Some, None, slice_get, slice_set, replicate, ◌==◌, ◌&&◌, ◌||◌, not, nat_lt, nat_le, if◌then◌else◌, ⊤}
+use Rattle.std.proofs.Common.{◌≡◌, ℕ, zero, suc, ◌+◌, ◌-◌, ◌%◌, ◌^◌, ◌<◌, ◌≤◌, List, [], ◌∷◌, length, refl, inl, inr, arith, sym, ap, ◌∙◌, subst, Bool, true, false, eqb-true}
+use Rattle.std.specs.Prelude.{Option, Some, None, slice_get, slice_set, replicate, ◌==◌, ◌&&◌, ◌||◌, not, nat_lt, nat_le, if◌then◌else◌}
 use Rattle.std.proofs.lemmas.Bool.Decides.{nat_tests}
-use Rattle.std.proofs.lemmas.List.{length-set, get_or-set_same, get_or-set_other}
-use Rattle.fkv_plane.specs.declared.asks.Ask.{Ask}
+use Rattle.std.proofs.lemmas.List.{length-set, get_or-set_other}
 use Rattle.fkv_plane.specs.declared.places.Places.{Places}
 use Rattle.fkv_plane.specs.Places.{bucket_place, frames_start}
-use Rattle.fkv_plane.specs.Asked.{word_at, reply_to}
+use Rattle.fkv_plane.specs.Asked.{word_at}
 use Rattle.fkv_index.specs.declared.homes.Home.{Home}
 use Rattle.fkv_index.specs.declared.finding.Purpose.{Purpose}
-use Rattle.fkv_index.specs.declared.finding.FindStep.TheVariants as find
-use Rattle.fkv_index.specs.declared.finding.Finding.{Finding}
 use Rattle.fkv_index.specs.declared.publishing.Publishing.TheVariants as publish
 use Rattle.fkv_index.specs.Slots.{entry_addr, entry_tag, link_of}
-use Rattle.fkv_index.specs.Finding.{rested, spare_of, first_finding, find_ask, find_next_ask}
+use Rattle.fkv_index.specs.Finding.{rested, spare_of, first_finding}
 use Rattle.fkv_index.specs.Buckets.{bucket_words}
-use Rattle.fkv_index.specs.IndexWorld.{SlotWork, Seeks, Holds, Enters, IndexActor, IndexEvent, BeginsFind, BeginsPublish, Moves, Changes, IndexNow, IndexWorld, taken_of, is_bucket_place, is_link_place, is_barred, may_find, is_seeking, is_publishing, find_begun, may_publish, new_entry, work_begun, publish_begun, actor_step, lists_by, moved, lists_moved, index_happens, index_run, index_opening}
-use Rattle.fkv_index.specs.OneEntry.{spare_at, spare_in, IsIndex, IsIndexAt, IsHome, HasSlot, IsTrueAnswer, AnswersTrue, HaveSlots, Grows}
-use Rattle.fkv_index.proofs.Orders.{truth, same_or_not, passed_none}
+use Rattle.fkv_index.specs.IndexWorld.{SlotWork, Seeks, Holds, Enters, IndexActor, IndexEvent, BeginsFind, BeginsPublish, Moves, Changes, IndexWorld, is_bucket_place, is_link_place, is_barred, is_seeking, is_publishing, find_begun, new_entry, work_begun, publish_begun, actor_step, lists_by, moved, lists_moved, index_happens, index_run, index_opening}
+use Rattle.fkv_index.specs.OneEntry.{spare_at, spare_in, IsIndexAt, IsHome, AnswersTrue, HaveSlots, Grows}
+use Rattle.fkv_index.proofs.Orders.{truth, same_or_not, passed_none, deep_first}
 use Rattle.fkv_index.proofs.BucketWords.{set_there, set_outside}
 use Rattle.fkv_index.proofs.Owned.{SpareBecomes, spare_taken}
-use Rattle.fkv_index.proofs.Index.{IsQuiet, quiet_same, index_quiet, quiet_grows, lists_stay}
-use Rattle.fkv_index.proofs.Rows.{WorkKnows, SeekKnows, EnterKnows, knows_more}
-use Rattle.fkv_index.proofs.Steps.{Stepped, becomes_same, actor_stepped, seek_true}
+use Rattle.fkv_index.proofs.Index.{IsQuiet, quiet_same, index_quiet, quiet_grows}
+use Rattle.fkv_index.proofs.Rows.{WorkKnows, SeekKnows, knows_more}
+use Rattle.fkv_index.proofs.Steps.{becomes_same, actor_stepped, seek_true}
 
 -- what holds of each item holds of each after one write of an item of which it holds
 each_set : {X : Type 0} (P : X → Type 0) (xs : List X) (i : ℕ) (x : X) → P x → ((j : ℕ) (y : X) → slice_get xs j ≡ Some y → P y) → (j : ℕ) (y : X) → slice_get (slice_set xs i x) j ≡ Some y → P y
@@ -132,7 +129,7 @@ begun_happened w actor home purpose (Some x) got sound = tested (nat_lt home.buc
 
         begins : (a b : Bool) → HasHappened w (record w { now = if true && true && a && b then record w.now { actors = slice_set w.now.actors actor (record { finding = first_finding w.now.places home purpose x.finding.spare; work = Seeks }) } else w.now })
         begins true true = put_happened w actor x (record { finding = first_finding w.now.places home purpose x.finding.spare; work = Seeks }) got sound same
-            (omega arith, record { its_home = its_home; bucket = home.bucket; its_base = refl; passed = passed_none w.now.places.buckets (bucket_words w.now.places w.now.words) home.tag home.bucket (w.lists home.bucket) })
+            (omega arith, record { its_home = its_home; bucket = home.bucket; its_base = refl; passed = passed_none w.now.places.buckets (bucket_words w.now.places w.now.words) home.tag home.bucket (w.lists home.bucket); depth = 0; deep = deep_first w.now.places.buckets home.bucket (w.lists home.bucket); budget = omega arith })
         begins true false = nothing_happened w sound
         begins false b = nothing_happened w sound
     tested true false d e = nothing_happened w sound

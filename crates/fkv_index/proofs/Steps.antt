@@ -1,21 +1,16 @@
 -- Each ask of an actor keeps the index, and leads to a state of which it knows what it has to.
-use Rattle.std.proofs.Common.{◌≡◌, ℕ, ◌+◌, ◌-◌, ◌*◌, ◌%◌, ◌^◌, ◌<◌, ◌≤◌, ◌⊎◌, List, ◌++◌, length, refl, inl, inr, arith, sym, ap, ◌∙◌, subst, Bool, true, false, eqb-true}
-use Rattle.std.specs.Prelude.{slice_set, ◌==◌, ◌&&◌, nat_lt, nat_le, if◌then◌else◌, ⊤}
+use Rattle.std.proofs.Common.{◌≡◌, ℕ, ◌+◌, ◌-◌, ◌%◌, ◌^◌, ◌<◌, ◌≤◌, ◌⊎◌, List, refl, inl, inr, arith, sym, ap, ◌∙◌, subst, Bool, true, false, eqb-true}
+use Rattle.std.specs.Prelude.{slice_set, ◌==◌, ◌&&◌, nat_lt, nat_le, if◌then◌else◌}
 use Rattle.std.proofs.lemmas.Bool.Decides.{nat_tests}
 use Rattle.std.proofs.lemmas.List.{set-get_or}
-use Rattle.fkv_plane.specs.declared.asks.Ask.{Ask}
-use Rattle.fkv_plane.specs.declared.asks.Ask.TheVariants.{Done}
 use Rattle.fkv_plane.specs.declared.places.Places.{Places}
-use Rattle.fkv_plane.specs.Places.{bucket_place, overflow_place, frames_start}
+use Rattle.fkv_plane.specs.Places.{bucket_place, overflow_place}
 use Rattle.fkv_plane.specs.Asked.{word_at, words_after, reply_to}
 use Rattle.fkv_index.specs.declared.homes.Home.{Home}
-use Rattle.fkv_index.specs.declared.slot_words.SlotWord.{SlotWord}
 use Rattle.fkv_index.specs.declared.slot_words.SlotWord.TheVariants.{Empty, Tagged, Spoiled}
 use Rattle.fkv_index.specs.declared.finding.Linking.{Linking}
 use Rattle.fkv_index.specs.declared.finding.Linking.TheVariants.{Never, Once, Made}
-use Rattle.fkv_index.specs.declared.finding.Found.{Found}
 use Rattle.fkv_index.specs.declared.finding.Found.TheVariants.{Slot, NoSlot, Full, Contended}
-use Rattle.fkv_index.specs.declared.finding.FindAnswer.{FindAnswer}
 use Rattle.fkv_index.specs.declared.finding.FindStep.{FindStep}
 use Rattle.fkv_index.specs.declared.finding.FindStep.TheVariants.{AtRest, LoadsSlot, LoadsLink, LoadsTaken, TakesBucket, LinksBucket}
 use Rattle.fkv_index.specs.declared.finding.Finding.{Finding}
@@ -24,17 +19,17 @@ use Rattle.fkv_index.specs.declared.finding.Led.TheVariants.{On, Ends}
 use Rattle.fkv_index.specs.declared.publishing.Publishing.{Publishing}
 use Rattle.fkv_index.specs.declared.publishing.Publishing.TheVariants as publish
 use Rattle.fkv_index.specs.Slots.{slot_word, entry_addr, entry_tag, link_of}
-use Rattle.fkv_index.specs.Finding.{find_step_ask, find_ask, find_led, slot_led, slot_after, entered, ended_list, link_led, taken_led, led_to, led_ask}
+use Rattle.fkv_index.specs.Finding.{find_step_ask, find_led, slot_led, slot_after, entered, ended_list, link_led, taken_led, led_to, led_ask}
 use Rattle.fkv_index.specs.Publishing.{publish_ask, publish_next}
-use Rattle.fkv_index.specs.Buckets.{bucket_words, overflow_bucket, HasPassed, IsOther, LacksTag}
-use Rattle.fkv_index.specs.IndexWorld.{SlotWork, Seeks, Holds, Enters, IndexNear, near, answer_work, found_work, taken_of, with_link, lists_sought, lists_by, actor_step}
-use Rattle.fkv_index.specs.OneEntry.{IsIndex, IsHome, HasHeld, HasSlot, LacksEntry, IsTrue, IsTrueAnswer, Grows}
-use Rattle.fkv_index.proofs.Orders.{same_or_not, passed_link, passed_next, passed_all, passed_among, beside}
+use Rattle.fkv_index.specs.Buckets.{bucket_words, overflow_bucket, HasPassed}
+use Rattle.fkv_index.specs.IndexWorld.{SlotWork, Seeks, Holds, Enters, IndexNear, near, answer_work, taken_of, with_link, lists_sought, lists_by, actor_step}
+use Rattle.fkv_index.specs.OneEntry.{IsSlotWord, IsIndex, IsHome, HasHeld, HasSlot, LacksEntry, IsTrue, IsTrueAnswer, Grows}
+use Rattle.fkv_index.proofs.Orders.{IsDeep, deep_link, same_or_not, passed_link, passed_next, passed_all, passed_among, beside}
 use Rattle.fkv_index.proofs.BucketWords.{set_there}
 use Rattle.fkv_index.proofs.Owned.{SpareBecomes, spares_less, less_there, less_else, spare_taken}
 use Rattle.fkv_index.proofs.Index.{among_real, quiet_same, index_quiet, quiet_grows}
 use Rattle.fkv_index.proofs.IndexSteps.{index_took, took_grows, index_linked, linked_grows, index_published, published_grows}
-use Rattle.fkv_index.proofs.Rows.{Stands, SeekKnows, EnterKnows, WorkKnows, passed_grows, stands_more}
+use Rattle.fkv_index.proofs.Rows.{Stands, SeekKnows, EnterKnows, WorkKnows, passed_grows, deep_grows, stands_more}
 
 -- what a step leaves
 pub record Stepped (p : Places) (actor : ℕ) (words : List ℕ) (lists : ℕ → List ℕ) (spares : ℕ → ℕ) (here : IndexNear) (lists' : ℕ → List ℕ) : Type 0 where
@@ -98,18 +93,30 @@ led_stepped p actor words lists spares home spare led index its knows = record {
 }
 
 -- what a slot's word may be
-slot_words : (word : ℕ) → ((slot_word word ≡ Empty) × (word ≡ 0)) ⊎ (((slot_word word ≡ Tagged (entry_tag word)) × (word ≡ 0 → ⊥) × (0 < entry_addr word) × (entry_tag word < 2 ^ 15)) ⊎ (slot_word word ≡ Spoiled))
+pub slot_words : (word : ℕ) → ((slot_word word ≡ Empty) × (word ≡ 0)) ⊎ (((slot_word word ≡ Tagged (entry_tag word)) × (word ≡ 0 → ⊥) × (0 < entry_addr word) × (entry_tag word < 2 ^ 15)) ⊎ ((slot_word word ≡ Spoiled) × (IsSlotWord word → ⊥)))
 unfolding slot_word
 slot_words word = tested (word == 0) (nat_lt 0 (entry_addr word)) (nat_lt (entry_tag word) (2 ^ 15)) refl refl refl
   where
     tested : (a b c : Bool) → (word == 0) ≡ a → nat_lt 0 (entry_addr word) ≡ b → nat_lt (entry_tag word) (2 ^ 15) ≡ c
         → (((if a then Empty else if b && c then Tagged (entry_tag word) else Spoiled) ≡ Empty) × (word ≡ 0))
         ⊎ ((((if a then Empty else if b && c then Tagged (entry_tag word) else Spoiled) ≡ Tagged (entry_tag word)) × (word ≡ 0 → ⊥) × (0 < entry_addr word) × (entry_tag word < 2 ^ 15))
-        ⊎ ((if a then Empty else if b && c then Tagged (entry_tag word) else Spoiled) ≡ Spoiled))
+        ⊎ (((if a then Empty else if b && c then Tagged (entry_tag word) else Spoiled) ≡ Spoiled) × (IsSlotWord word → ⊥)))
     tested true b c x y z = inl (refl, eqb-true word 0 x)
     tested false true true x y z = inr (inl (refl, (λ e. absurd (grind (arith, nat_tests, x, e))), grind (arith, nat_tests, y), grind (arith, nat_tests, z)))
-    tested false true false x y z = inr (inr refl)
-    tested false false c x y z = inr (inr refl)
+    tested false true false x y z = inr (inr (
+      refl,
+      λ its. elim its [
+        | inl none ↦ absurd (grind (arith, nat_tests, x, none))
+        | inr entry ↦ (let fits = entry.1 in absurd (grind (arith, nat_tests, z, fits)))
+      ],
+    ))
+    tested false false c x y z = inr (inr (
+      refl,
+      λ its. elim its [
+        | inl none ↦ absurd (grind (arith, nat_tests, x, none))
+        | inr entry ↦ (let some = entry.0 in absurd (grind (arith, nat_tests, y, some)))
+      ],
+    ))
 
 -- a slot that was loaded
 slot_knows : (p : Places) (words : List ℕ) (lists : ℕ → List ℕ) (spares : ℕ → ℕ) (f : Finding) (slot : ℕ) → IsIndex p words lists spares → slot < 7 → Stands p (bucket_words p words) lists f slot
@@ -118,7 +125,7 @@ slot_knows p words lists spares f slot index low stands = elim (slot_words (word
   | inl empty ↦ rw empty.0 (record { same_home = refl; same_spare = refl; its_row = (empty.1, has_slot 0 (inl refl), λ none. lacks (its_word ∙ empty.1)) })
   | inr full ↦ elim full [
     | inl entry ↦ rw entry.0 (tagged entry.1 entry.2 (entry_tag (word_at words (f.base + slot)) == f.home.tag) refl)
-    | inr spoiled ↦ rw spoiled (record { same_home = refl; same_spare = refl; its_row = tt })
+    | inr spoiled ↦ rw spoiled.0 (record { same_home = refl; same_spare = refl; its_row = tt })
   ]
 ]
   where
@@ -147,11 +154,11 @@ slot_knows p words lists spares f slot index low stands = elim (slot_words (word
 
     on_knows : (step : FindStep) → SeekKnows p (bucket_words p words) lists f step → SeekKnows p (bucket_words p words) lists (record f { step = step }) step
     on_knows AtRest knows = tt
-    on_knows (LoadsSlot i) knows = (knows.0, record { its_home = knows.1.its_home; bucket = knows.1.bucket; its_base = knows.1.its_base; passed = knows.1.passed })
-    on_knows LoadsLink knows = record { its_home = knows.its_home; bucket = knows.bucket; its_base = knows.its_base; passed = knows.passed }
-    on_knows (LoadsTaken word) knows = (record { its_home = knows.0.its_home; bucket = knows.0.bucket; its_base = knows.0.its_base; passed = knows.0.passed }, knows.1, knows.2)
-    on_knows (TakesBucket word taken) knows = (record { its_home = knows.0.its_home; bucket = knows.0.bucket; its_base = knows.0.its_base; passed = knows.0.passed }, knows.1, knows.2, knows.3)
-    on_knows (LinksBucket word) knows = (record { its_home = knows.0.its_home; bucket = knows.0.bucket; its_base = knows.0.its_base; passed = knows.0.passed }, knows.1, knows.2)
+    on_knows (LoadsSlot i) knows = (knows.0, record { its_home = knows.1.its_home; bucket = knows.1.bucket; its_base = knows.1.its_base; passed = knows.1.passed; depth = knows.1.depth; deep = knows.1.deep; budget = knows.1.budget })
+    on_knows LoadsLink knows = record { its_home = knows.its_home; bucket = knows.bucket; its_base = knows.its_base; passed = knows.passed; depth = knows.depth; deep = knows.deep; budget = knows.budget }
+    on_knows (LoadsTaken word) knows = (record { its_home = knows.0.its_home; bucket = knows.0.bucket; its_base = knows.0.its_base; passed = knows.0.passed; depth = knows.0.depth; deep = knows.0.deep; budget = knows.0.budget }, knows.1, knows.2)
+    on_knows (TakesBucket word taken) knows = (record { its_home = knows.0.its_home; bucket = knows.0.bucket; its_base = knows.0.its_base; passed = knows.0.passed; depth = knows.0.depth; deep = knows.0.deep; budget = knows.0.budget }, knows.1, knows.2, knows.3)
+    on_knows (LinksBucket word) knows = (record { its_home = knows.0.its_home; bucket = knows.0.bucket; its_base = knows.0.its_base; passed = knows.0.passed; depth = knows.0.depth; deep = knows.0.deep; budget = knows.0.budget }, knows.1, knows.2)
 
     tagged : (word_at words (f.base + slot) ≡ 0 → ⊥) → 0 < entry_addr (word_at words (f.base + slot)) → (b : Bool) → (entry_tag (word_at words (f.base + slot)) == f.home.tag) ≡ b
         → LedKnows p words lists f.home f.spare (if b then Ends f (Slot (f.base + slot) (word_at words (f.base + slot))) else On (record f { step = slot_after slot }))
@@ -179,17 +186,40 @@ slot_knows p words lists spares f slot index low stands = elim (slot_words (word
           bucket = stands.bucket;
           its_base = stands.its_base;
           passed = passed_next p.buckets (bucket_words p words) f.home.tag f.home.bucket (lists f.home.bucket) stands.bucket slot stands.passed ((λ none. some (sym its_word ∙ none)), other);
+          depth = stands.depth;
+          deep = stands.deep;
+          budget = stands.budget;
         } in
         record { same_home = refl; same_spare = refl; its_row = on_knows (slot_after slot) (after_knows (nat_lt (slot + 1) 7) refl next) }
 
 -- a bucket that is entered is the next of the list
-entered_knows : (p : Places) (words : List ℕ) (lists : ℕ → List ℕ) (f : Finding) (number : ℕ) → IsHome p f.home
-    → HasPassed p.buckets (bucket_words p words) f.home.tag f.home.bucket (lists f.home.bucket) (overflow_bucket p.buckets number) 0 → LedKnows p words lists f.home f.spare (entered p f number)
-entered_knows p words lists f number home passed = tested (nat_lt 0 f.links && nat_le number p.overflow)
+entered_knows : (p : Places) (words : List ℕ) (lists : ℕ → List ℕ) (f : Finding) (number depth : ℕ) → IsHome p f.home
+    → HasPassed p.buckets (bucket_words p words) f.home.tag f.home.bucket (lists f.home.bucket) (overflow_bucket p.buckets number) 0
+    → IsDeep p.buckets f.home.bucket (lists f.home.bucket) (overflow_bucket p.buckets number) (depth + 1) → f.links + depth ≡ p.overflow → LedKnows p words lists f.home f.spare (entered p f number)
+entered_knows p words lists f number depth home passed deep budget = tested (nat_lt 0 f.links) (nat_le number p.overflow) refl
   where
-    tested : (b : Bool) → LedKnows p words lists f.home f.spare (if b then On (record f { base = overflow_place p number 0; links = f.links - 1; step = LoadsSlot 0 }) else Ends f Contended)
-    tested true = record { same_home = refl; same_spare = refl; its_row = (omega arith, record { its_home = home; bucket = overflow_bucket p.buckets number; its_base = refl; passed = passed }) }
-    tested false = record { same_home = refl; same_spare = refl; its_row = tt }
+    tested : (a b : Bool) → nat_lt 0 f.links ≡ a
+        → LedKnows p words lists f.home f.spare (if a && b then On (record f { base = overflow_place p number 0; links = f.links - 1; step = LoadsSlot 0 }) else Ends f Contended)
+    tested true true e =
+        let some : 0 < f.links = grind (arith, nat_tests, e) in
+        record {
+          same_home = refl;
+          same_spare = refl;
+          its_row = (
+            omega arith,
+            record {
+              its_home = home;
+              bucket = overflow_bucket p.buckets number;
+              its_base = refl;
+              passed = passed;
+              depth = depth + 1;
+              deep = deep;
+              budget = omega (arith, some, budget);
+            },
+          );
+        }
+    tested true false e = record { same_home = refl; same_spare = refl; its_row = tt }
+    tested false b e = record { same_home = refl; same_spare = refl; its_row = tt }
 
 -- an eighth word that was loaded
 link_knows : (p : Places) (words : List ℕ) (lists : ℕ → List ℕ) (spares : ℕ → ℕ) (f : Finding) → IsIndex p words lists spares → Stands p (bucket_words p words) lists f 7
@@ -204,7 +234,7 @@ link_knows p words lists spares f index stands = tested (link_of (word_at words 
         (passed_all p.buckets (bucket_words p words) f.home.tag f.home.bucket (lists f.home.bucket) stands.bucket (index.linked f.home.bucket stands.its_home.few) stands.passed (ap link_of its_word ∙ none) m i among few).1 e
 
     here : (step : FindStep) → Stands p (bucket_words p words) lists (record f { step = step }) 7
-    here step = record { its_home = stands.its_home; bucket = stands.bucket; its_base = stands.its_base; passed = stands.passed }
+    here step = record { its_home = stands.its_home; bucket = stands.bucket; its_base = stands.its_base; passed = stands.passed; depth = stands.depth; deep = stands.deep; budget = stands.budget }
 
     links : (b : Bool) → (f.spare == 0) ≡ b → link_of (word_at words (f.base + 7)) ≡ 0
         → LedKnows p words lists f.home f.spare (On (record f { step = if b then LoadsTaken (word_at words (f.base + 7)) else LinksBucket (word_at words (f.base + 7)) }))
@@ -220,9 +250,12 @@ link_knows p words lists spares f index stands = tested (link_of (word_at words 
         → LedKnows p words lists f.home f.spare (if b then ended_list f (word_at words (f.base + 7)) f.linking else entered p f (link_of (word_at words (f.base + 7))))
     tested true e = ended f.linking (eqb-true (link_of (word_at words (f.base + 7))) 0 e)
     tested false e =
-        entered_knows p words lists f (link_of (word_at words (f.base + 7))) stands.its_home
+        let some : 1 ≤ link_of (word_at words (f.base + 7)) = grind (arith, nat_tests, e) in
+        entered_knows p words lists f (link_of (word_at words (f.base + 7))) stands.depth stands.its_home
         (passed_link p.buckets (bucket_words p words) f.home.tag f.home.bucket (lists f.home.bucket) stands.bucket (link_of (word_at words (f.base + 7))) (index.linked f.home.bucket stands.its_home.few) stands.passed
-        (ap link_of its_word) (grind (arith, nat_tests, e)))
+        (ap link_of its_word) some)
+        (deep_link p.buckets (bucket_words p words) f.home.bucket (lists f.home.bucket) stands.bucket stands.depth (link_of (word_at words (f.base + 7))) (index.linked f.home.bucket stands.its_home.few) stands.deep (ap link_of its_word) some).0
+        stands.budget
 
 -- the count that was loaded
 taken_knows : (p : Places) (words : List ℕ) (lists : ℕ → List ℕ) (f : Finding) (word : ℕ) → Stands p (bucket_words p words) lists f 7 → link_of word ≡ 0 → f.spare ≡ 0
@@ -233,7 +266,7 @@ taken_knows p words lists f word stands none no_spare = tested (nat_lt (taken_of
     tested true e = record {
       same_home = refl;
       same_spare = refl;
-      its_row = (record { its_home = stands.its_home; bucket = stands.bucket; its_base = stands.its_base; passed = stands.passed }, none, no_spare, grind (arith, nat_tests, e));
+      its_row = (record { its_home = stands.its_home; bucket = stands.bucket; its_base = stands.its_base; passed = stands.passed; depth = stands.depth; deep = stands.deep; budget = stands.budget }, none, no_spare, grind (arith, nat_tests, e));
     }
     tested false e = record { same_home = refl; same_spare = refl; its_row = grind (arith, nat_tests, e) }
 
@@ -259,7 +292,7 @@ takes_stepped p actor words lists spares f word taken index its knows = won (tak
               (index_took p words lists spares spares' actor (omega (arith, same, left)) (its ∙ knows.2) (subst (λ x. SpareBecomes spares spares' actor (x + 1)) (sym same) becomes) index);
           its_grows = grows;
           its_row = subst (WorkKnows p (bucket_words p (slice_set words 10 (taken + 1))) lists (record f { spare = taken + 1; step = LinksBucket word })) (sym (asks_seek (record f { spare = taken + 1; step = LinksBucket word }) (LinksBucket word)))
-              (record { its_home = stands.its_home; bucket = stands.bucket; its_base = stands.its_base; passed = stands.passed }, knows.1, omega arith);
+              (record { its_home = stands.its_home; bucket = stands.bucket; its_base = stands.its_base; passed = stands.passed; depth = stands.depth; deep = stands.deep; budget = stands.budget }, knows.1, omega arith);
         }
     won false e = rw (set-get_or words 10 0) (led_stepped p actor words lists spares f.home f.spare (Ends f Contended) index its (record { same_home = refl; same_spare = refl; its_row = tt }))
 
@@ -306,7 +339,9 @@ links_stepped p actor words lists spares f word index its knows = won (word_at w
         let index' : IsIndex p after lists' (spares_less spares actor) = new (spares_less spares actor) (record { its_spare = less_there spares actor; others = less_else spares actor }) in
         let passed = passed_grows p words after lists lists' spares f.home stands.bucket 7 index grows stands.its_home.few (omega arith) stands.passed in
         let next = passed_link p.buckets (bucket_words p after) f.home.tag f.home.bucket (lists' f.home.bucket) stands.bucket f.spare (index'.linked f.home.bucket stands.its_home.few) passed its_link knows.2 in
-        let knows' : LedKnows p after lists' f.home 0 (entered p (record f { linking = Made; spare = 0 }) f.spare) = entered_knows p after lists' (record f { linking = Made; spare = 0 }) f.spare stands.its_home next in
+        let deeper = (deep_link p.buckets (bucket_words p after) f.home.bucket (lists' f.home.bucket) stands.bucket stands.depth f.spare (index'.linked f.home.bucket stands.its_home.few)
+        (deep_grows p words after lists lists' f.home.bucket stands.bucket stands.depth grows stands.deep) its_link knows.2).0 in
+        let knows' : LedKnows p after lists' f.home 0 (entered p (record f { linking = Made; spare = 0 }) f.spare) = entered_knows p after lists' (record f { linking = Made; spare = 0 }) f.spare stands.depth stands.its_home next deeper stands.budget in
         record {
           its_index = λ spares' becomes. new spares' (subst (SpareBecomes spares spares' actor) knows'.same_spare becomes);
           its_grows = grows;

@@ -1,5 +1,5 @@
 -- The entry of a home: the one in the order of its slots that has its tag, 0 where none has.
-use Rattle.std.specs.Prelude.{◌≡◌, ℕ, zero, suc, ◌+◌, ◌==◌, ◌&&◌, not, if◌then◌else◌, Bool, List, [], ◌∷◌, ◌++◌, slice_get, Option, Some, None, ⊤}
+use Rattle.std.specs.Prelude.{◌≡◌, ℕ, zero, suc, ◌+◌, ◌==◌, ◌&&◌, not, if◌then◌else◌, List, [], ◌∷◌, ◌++◌, slice_get, Option, Some, None, ⊤}
 use Rattle.fkv_plane.specs.declared.asks.Ask.{Ask}
 use Rattle.fkv_plane.specs.declared.asks.Ask.TheVariants.{Done}
 use Rattle.fkv_plane.specs.declared.places.Places.{Places}
@@ -12,7 +12,7 @@ use Rattle.fkv_index.specs.declared.publishing.Publishing.TheVariants as publish
 use Rattle.fkv_index.specs.Slots.{bucket_slots, entry_tag}
 use Rattle.fkv_index.specs.Finding.{find_ask, find_next_ask}
 use Rattle.fkv_index.specs.Buckets.{bucket_words, overflow_bucket}
-use Rattle.fkv_index.specs.IndexWorld.{SlotWork, Seeks, Holds, Enters, IndexActor, IndexEvent, Moves, IndexNow, IndexWorld, index_happens}
+use Rattle.fkv_index.specs.IndexWorld.{SlotWork, Seeks, Enters, IndexActor, IndexEvent, Moves, IndexNow, IndexWorld, index_happens}
 use Rattle.fkv_index.specs.OneEntry.{IsHome}
 
 -- so many words of a bucket, from the first of them on

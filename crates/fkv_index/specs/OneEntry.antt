@@ -9,13 +9,14 @@ use Rattle.fkv_index.specs.declared.homes.Home.{Home}
 use Rattle.fkv_index.specs.declared.finding.Found.{Found}
 use Rattle.fkv_index.specs.declared.finding.Found.TheVariants.{Slot, NoSlot, Full, Contended}
 use Rattle.fkv_index.specs.declared.finding.FindAnswer.{FindAnswer}
+use Rattle.fkv_index.specs.declared.finding.Linking.TheVariants.{Made}
+use Rattle.fkv_index.specs.declared.finding.FindStep.{FindStep}
+use Rattle.fkv_index.specs.declared.finding.FindStep.TheVariants.{AtRest, LoadsSlot, LoadsLink, LoadsTaken, TakesBucket, LinksBucket}
 use Rattle.fkv_index.specs.declared.finding.Finding.{Finding}
-use Rattle.fkv_index.specs.declared.publishing.Publishing.{Publishing}
-use Rattle.fkv_index.specs.declared.publishing.Publishing.TheVariants as publish
 use Rattle.fkv_index.specs.Slots.{bucket_slots, entry_addr, entry_tag, link_of}
 use Rattle.fkv_index.specs.Finding.{find_ask, find_next_ask}
 use Rattle.fkv_index.specs.Buckets.{bucket_words, overflow_bucket, IsLinked, AreFilled, HasOneEntry, HasPassed, LacksTag, IsMember, IsOnce}
-use Rattle.fkv_index.specs.IndexWorld.{SlotWork, Seeks, Holds, Enters, IndexActor, IndexEvent, IndexNow, IndexWorld, taken_of, index_happens, index_run, index_opening}
+use Rattle.fkv_index.specs.IndexWorld.{Seeks, Holds, IndexActor, IndexEvent, IndexWorld, taken_of, index_happens, index_run, index_opening}
 
 -- Who has an overflow bucket: nobody while it isn't taken, then the session that took it, and then the bucket to which it was linked.
 pub data Owner : Type 0 where
@@ -107,6 +108,20 @@ IsTrueAnswer p words lists home ask = ⊤
 abbrev pub AnswersTrue : IndexWorld → Type 0
 AnswersTrue w = (actor : ℕ) (x : IndexActor) → slice_get w.now.actors actor ≡ Some x → x.work ≡ Seeks
     → IsTrueAnswer w.now.places w.now.words w.lists x.finding.home (find_next_ask w.now.places x.finding (reply_to w.now.words (find_ask x.finding)))
+
+-- a search has lost where another actor's Cas came first, or where others have filled the bucket that it linked and none follows
+abbrev pub HasLost : List ℕ → Finding → FindStep → Type 0
+HasLost words f AtRest = ⊤
+HasLost words f (LoadsSlot slot) = ⊥
+HasLost words f LoadsLink = (f.linking ≡ Made) × (link_of (word_at words (f.base + bucket_slots)) ≡ 0)
+HasLost words f (LoadsTaken word) = ⊥
+HasLost words f (TakesBucket word taken) = taken_of words ≡ taken → ⊥
+HasLost words f (LinksBucket word) = word_at words (f.base + bucket_slots) ≡ word → ⊥
+
+-- a search that ends as contended has lost: it has met no word that no store writes
+abbrev pub ContendedHaveLost : IndexWorld → Type 0
+ContendedHaveLost w = (actor : ℕ) (x : IndexActor) (answer : FindAnswer) → slice_get w.now.actors actor ≡ Some x → x.work ≡ Seeks
+    → find_next_ask w.now.places x.finding (reply_to w.now.words (find_ask x.finding)) ≡ Done answer → answer.found ≡ Contended → HasLost w.now.words x.finding x.finding.step
 
 -- and what was found stays found until the entry is published, or another search begins
 abbrev pub HaveSlots : IndexWorld → Type 0

@@ -1,6 +1,7 @@
 -- The index stays in order, and what is found is there.
 use Rattle.fkv_index.specs.IndexWorld.{index_run, index_opening}
-use Rattle.fkv_index.proofs.Runs.{IsSound, run_sound, opening_sound, sound_answers, sound_slots, event_happened}
+use Rattle.fkv_index.proofs.Runs.{run_sound, opening_sound, sound_answers, sound_slots, event_happened}
+use Rattle.fkv_index.proofs.Losing.{sound_lost}
 use Rattle.fkv_index.proofs.laws.law_one_entry.Goals as goal
 
 pub returns-clause-index : goal.returns-clause-index
@@ -10,6 +11,10 @@ returns-clause-index c = λ p words lists actors events index.
 pub returns-clause-answers : goal.returns-clause-answers
 returns-clause-answers c = λ p words lists actors events index.
     sound_answers (index_run (index_opening p words lists actors) events) (run_sound (index_opening p words lists actors) events (opening_sound p words lists actors index))
+
+pub returns-clause-contended : goal.returns-clause-contended
+returns-clause-contended c = λ p words lists actors events index.
+    sound_lost (index_run (index_opening p words lists actors) events) (run_sound (index_opening p words lists actors) events (opening_sound p words lists actors index))
 
 pub returns-clause-slots : goal.returns-clause-slots
 returns-clause-slots c = λ p words lists actors events index.
