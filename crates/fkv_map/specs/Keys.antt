@@ -1,6 +1,7 @@
 -- One key: what an operation does to its value, and what the entries of a history on it make of that.
-use Rattle.std.specs.Prelude.{◌≡◌, ℕ, Bool, nat_eq, Option, Some, None, List, [], ◌∷◌, filter}
+use Rattle.std.specs.Prelude.{◌≡◌, ℕ, Bool, nat_eq, Option, Some, None, option_map, List, [], ◌∷◌, filter}
 use Rattle.fkv_base.specs.declared.numbers.Key.{Key}
+use Rattle.fkv_base.specs.declared.numbers.Value.{Value}
 use Rattle.fkv_map.specs.declared.operations.Op.{Op}
 use Rattle.fkv_map.specs.declared.operations.Op.TheVariants.{Upsert, Delete, Add, Max, Read}
 use Rattle.fkv_map.specs.declared.operations.Reply.{Reply}
@@ -15,6 +16,10 @@ key_of (Delete key) = key
 key_of (Add key n) = key
 key_of (Max key n) = key
 key_of (Read key) = key
+
+-- a value as a number
+abbrev pub as_number : Option Value → Option ℕ
+as_number value = option_map (λ it. it.0) value
 
 -- what an operation makes of its key's value
 abbrev pub value_applied : Option ℕ → Op → Option ℕ

@@ -1,6 +1,7 @@
 //! What a session asks, and what it is told.
-ghost use Rattle.std.specs.Prelude.{◌↔◌, IsTrue};
-ghost use Rattle.fkv_map.specs.Map.{IsReserved};
+ghost use Rattle.std.specs.Prelude.{◌≡◌, ◌↔◌, IsTrue};
+ghost use Rattle.fkv_map.specs.Map.{IsReserved, sum_with, greater_with};
+ghost use Rattle.fkv_map.specs.Keys.{key_of, value_applied, reply_from, as_number};
 
 use fkv_base::{Key, Value};
 
@@ -54,11 +55,89 @@ impl Op {
             Op::Delete(_) | Op::Read(_) => false,
         }
     }
+
+    /// The key that the operation is on.
+    pub fn key(self) -> Key
+        ensures { result ≡ key_of self }
+    {
+        match self {
+            Op::Upsert(key, _)
+            | Op::Delete(key)
+            | Op::Add(key, _)
+            | Op::Max(key, _)
+            | Op::Read(key) => key,
+        }
+    }
+
+    /// What the operation makes of its key's value.
+    pub fn value_applied(self, old: Option<Value>) -> Option<Value>
+        ensures { as_number result ≡ value_applied (as_number old) self }
+    {
+        match self {
+            Op::Upsert(_, value) => Some(value),
+            Op::Delete(_) => None,
+            Op::Add(_, n) => Some(sum_with(old, n)),
+            Op::Max(_, n) => Some(greater_with(old, n)),
+            Op::Read(_) => old,
+        }
+    }
+
+    /// What the operation replies where its key has this value.
+    pub fn reply_from(self, old: Option<Value>) -> Reply
+        ensures { result ≡ reply_from (as_number old) self }
+    {
+        match self {
+            Op::Upsert(_, _) | Op::Delete(_) => Reply::Nothing,
+            Op::Add(_, n) => Reply::Number(sum_with(old, n)),
+            Op::Max(_, n) => Reply::Number(greater_with(old, n)),
+            Op::Read(_) => match old {
+                Some(value) => Reply::Found(value),
+                None => Reply::Absent,
+            },
+        }
+    }
+}
+
+/// The value with the number added to it, up to the greatest value; where there was none, the number.
+pub(crate) fn sum_with(old: Option<Value>, n: u64) -> Value
+    ensures { result.0 ≡ sum_with (as_number old) n }
+{
+    match old {
+        Some(old) => Value(old.0.saturating_add(n).min(Value::ABSENT - 1)),
+        None => Value(n),
+    }
+}
+
+/// The greater of the value and the number; where there was none, the number.
+pub(crate) fn greater_with(old: Option<Value>, n: u64) -> Value
+    ensures { result.0 ≡ greater_with (as_number old) n }
+{
+    match old {
+        Some(old) => Value(old.0.max(n)),
+        None => Value(n),
+    }
 }
 
 #[cfg(test)]
 mod tests {
     use super::*;
+
+    #[test]
+    fn an_operation_goes_by_its_keys_value(rt: HostRuntime) {
+        let add = Op::Add(Key(1), 18446744073709551614);
+        assert_eq!(rt; add.key(), Key(1));
+        assert_eq!(rt; add.value_applied(None), Some(Value(18446744073709551614)));
+        assert_eq!(rt;
+            add.reply_from(Some(Value(5))),
+            Reply::Number(Value(18446744073709551614))
+        );
+        assert_eq!(rt;
+            Op::Max(Key(1), 3).value_applied(Some(Value(5))),
+            Some(Value(5))
+        );
+        assert_eq!(rt; Op::Delete(Key(1)).value_applied(Some(Value(5))), None);
+        assert_eq!(rt; Op::Read(Key(1)).reply_from(None), Reply::Absent);
+    }
 
     #[test]
     fn the_absent_word_is_reserved(rt: HostRuntime) {

@@ -4,7 +4,7 @@ ghost use Rattle.std.specs.FinMap.{empty, entries, get, insert, remove};
 ghost use Rattle.fkv_base.specs.declared.faults.Fault.TheVariants.{ValueReserved, Memory};
 ghost use Rattle.fkv_map.specs.Map.{applied, reply_to, IsReserved, PutsNewKey, as_numbers, IsAscending};
 
-use crate::operations::{Op, Reply};
+use crate::operations::{Op, Reply, greater_with, sum_with};
 use fkv_base::{Fault, Key, Value};
 use std::alloc::Global;
 use std::collections::BTreeMap;
@@ -65,18 +65,12 @@ impl PlainMap {
                 Ok(Reply::Nothing)
             }
             Op::Add(key, n) => {
-                let sum = match self.get(key) {
-                    Some(old) => Value(old.0.saturating_add(n).min(Value::ABSENT - 1)),
-                    None => Value(n),
-                };
+                let sum = sum_with(self.get(key), n);
                 self.set(key, sum)?;
                 Ok(Reply::Number(sum))
             }
             Op::Max(key, n) => {
-                let greater = match self.get(key) {
-                    Some(old) => Value(old.0.max(n)),
-                    None => Value(n),
-                };
+                let greater = greater_with(self.get(key), n);
                 self.set(key, greater)?;
                 Ok(Reply::Number(greater))
             }
