@@ -1,0 +1,48 @@
+//! What a try of a request comes to.
+use fkv_base::{Addr, Value};
+use fkv_map::Reply;
+
+/// Why a request has to wait.
+#[derive(Clone, Copy, Debug, PartialEq, Eq)]
+pub enum Reason {
+    /// Its record lies in the fuzzy region.
+    Fuzzy,
+    /// Its record may lie on the device.
+    Disk,
+    /// The latch of its bucket was held, or another session was quicker.
+    Latch,
+    /// Another session was quicker.
+    Contended,
+    /// The page after the limit isn't open yet.
+    NoRoom,
+    /// The index or the log is full. A new request is refused there.
+    Full,
+}
+
+/// A record that is to be read from the device: where it is, and the word of the entry from which the walk to it began.
+#[derive(Clone, Copy, Debug, PartialEq, Eq)]
+pub struct DiskRecord {
+    pub entry: u64,
+    pub addr: Addr,
+}
+
+/// What a try has come to.
+#[derive(Clone, Copy, Debug, PartialEq, Eq)]
+pub enum TryAnswer {
+    /// The update has taken effect.
+    Done(Reply),
+    /// The read found a value.
+    Found(Value),
+    /// The read found no value.
+    Absent,
+    /// The request waits, for any reason but the device.
+    Wait(Reason),
+    /// The request waits for a record of the device.
+    AwaitsDisk(DiskRecord),
+    /// The session is to refresh and to try again: another session has gone on to the next version.
+    Shift,
+    /// At the call: the home has no slot, none is empty, and all overflow buckets are taken.
+    IndexFull,
+    /// At the call: the log has no page for another record.
+    LogFull,
+}

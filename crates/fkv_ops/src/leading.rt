@@ -1,0 +1,271 @@
+//! Where a try goes on by what the machines inside it ask.
+ghost use Rattle.std.specs.Prelude.{◌≡◌, Option};
+ghost use Rattle.fkv_ops.specs.Trying.{wants_shared, must_shift, is_prepare, is_above, shared_ledto, walk_ledto, walked, has_walked, met_nowhere, met_disk, met_record, region_met, changes, is_own_version, safe_loaded, current_ledto, value_changed, answer_ledto, told_value, exclusive_ledto, old_ledto, append_ledto, exclusive_dropped, shared_dropped};
+ghost use Rattle.fkv_map.specs.Keys.{as_number};
+
+use crate::answers::{Reason, TryAnswer};
+use crate::appending::AppendAnswer;
+use crate::requests::{is_blind, is_read};
+use crate::trying::{OldValue, Try, Trying};
+use crate::values::value_of_word;
+use crate::walking::WalkAnswer;
+use fkv_base::{Addr, Phase, Value, Version};
+use fkv_latch::LatchAnswer;
+use fkv_log::{Region, seen_region};
+use fkv_map::Reply;
+use fkv_plane::Ask;
+
+impl Try {
+    /// In prepare an update shares the latch of its bucket.
+    pub(crate) fn wants_shared(&self) -> bool
+        ensures { result ≡ wants_shared self.now.state }
+    {
+        self.seen.phase == Phase::Prepare && !is_read(self.request.op) && !self.has_shared
+    }
+
+    /// Where one holds the latch alone, that one is of the next version already.
+    #[tactic(auto, unfolding(crate::specs::Trying::shared_ledto))]
+    pub(crate) fn after_shared(&mut self, ask: Ask<LatchAnswer>)
+        ensures { self.new ≡ record self.old { state = shared_ledto self.old.places self.old.state ask } }
+    {
+        match ask {
+            Ask::Done(LatchAnswer::Taken) => {
+                self.has_shared = true;
+                self.walks();
+            }
+            Ask::Done(_) => self.ends(TryAnswer::Shift),
+            _ => {}
+        }
+    }
+
+    /// Where the walk has ended.
+    #[tactic(auto, unfolding(crate::specs::Trying::walk_ledto))]
+    pub(crate) fn after_walk(&mut self, ask: Ask<WalkAnswer>)
+        ensures { self.new ≡ record self.old { state = walk_ledto self.old.places self.old.state ask } }
+    {
+        if let Ask::Done(answer) = ask {
+            self.spare = self.walk.spare();
+            if has_walked(answer) && self.must_shift() {
+                self.ends(TryAnswer::Shift);
+            } else {
+                self.walked(answer);
+            }
+        }
+    }
+
+    /// Whether another session has published a record of the next version at the head of the chain.
+    fn must_shift(&self) -> bool
+        ensures { result ≡ must_shift self.now.state }
+    {
+        self.seen.phase == Phase::Prepare
+            && !is_read(self.request.op)
+            && is_above(self.walk.first(), self.request.version)
+    }
+
+    fn walked(&mut self, answer: WalkAnswer)
+        ensures { self.new ≡ record self.old { state = walked self.old.places self.old.state answer } }
+    {
+        match answer {
+            WalkAnswer::Found(addr, version) => self.met_record(addr, version),
+            WalkAnswer::Nowhere => self.met_nowhere(),
+            WalkAnswer::OnDisk(addr) => self.met_disk(addr),
+            WalkAnswer::Full => self.full(TryAnswer::IndexFull),
+            WalkAnswer::Value(_) | WalkAnswer::Contended => {
+                self.ends(TryAnswer::Wait(Reason::Contended));
+            }
+        }
+    }
+
+    /// The chain has no record of the key.
+    fn met_nowhere(&mut self)
+        ensures { self.new ≡ record self.old { state = met_nowhere self.old.places self.old.state } }
+    {
+        if is_read(self.request.op) {
+            self.ends(TryAnswer::Absent);
+        } else {
+            self.copies(OldValue::Known(Value::ABSENT), false);
+        }
+    }
+
+    /// The chain leaves memory at this address.
+    fn met_disk(&mut self, addr: Addr)
+        ensures { self.new ≡ record self.old { state = met_disk self.old.places self.old.state addr } }
+    {
+        if is_read(self.request.op) {
+            self.awaits(addr);
+        } else if is_blind(self.request.op) {
+            self.copies(OldValue::Known(Value::ABSENT), false);
+        } else {
+            self.held_used(addr, self.request.held);
+        }
+    }
+
+    /// The record of the key is in memory.
+    fn met_record(&mut self, addr: Addr, version: Version)
+        ensures { self.new ≡ record self.old { state = met_record self.old.places self.old.state addr version } }
+    {
+        if is_read(self.request.op) {
+            self.walk.load_value();
+            self.step = Trying::LoadsAnswer;
+        } else {
+            self.region_met(addr, version, seen_region(addr, self.seen.offsets));
+        }
+    }
+
+    /// The record lies in this region, or the safe read-only offset tells in which.
+    fn region_met(&mut self, addr: Addr, version: Version, region: Option<Region>)
+        ensures { self.new ≡ record self.old { state = region_met self.old.places self.old.state addr version region } }
+    {
+        match region {
+            None => self.step = Trying::LoadsSafe(addr, version),
+            Some(_) if version == self.request.version => self.changes(addr),
+            Some(_) => self.copies(OldValue::InMemory, false),
+        }
+    }
+
+    /// The record is changed in place.
+    fn changes(&mut self, addr: Addr)
+        ensures { self.new ≡ record self.old { state = changes self.old.state addr } }
+    {
+        if is_blind(self.request.op) {
+            self.step = Trying::SwapsValue(addr);
+        } else {
+            self.walk.load_value();
+            self.step = Trying::LoadsCurrent(addr);
+        }
+    }
+
+    /// At or above the safe read-only offset another session may still change the record.
+    pub(crate) fn after_safe(&mut self, addr: Addr, version: Version, safe: u64)
+        ensures { self.new ≡ record self.old { state = safe_loaded self.old.places self.old.state addr version safe } }
+    {
+        if addr.0 >= safe {
+            self.ends(TryAnswer::Wait(Reason::Fuzzy));
+        } else {
+            let is_current = version == self.request.version;
+            self.copies(OldValue::InMemory, is_current);
+        }
+    }
+
+    /// The value that is changed in place is loaded.
+    #[tactic(auto, unfolding(crate::specs::Trying::current_ledto))]
+    pub(crate) fn after_current(&mut self, addr: Addr, ask: Ask<WalkAnswer>)
+        ensures { self.new ≡ record self.old { state = current_ledto self.old.places self.old.state addr ask } }
+    {
+        match ask {
+            Ask::Done(WalkAnswer::Value(old)) => self.step = Trying::ChangesValue(addr, old),
+            Ask::Done(_) => self.ends(TryAnswer::Wait(Reason::Contended)),
+            _ => {}
+        }
+    }
+
+    /// The Cas of the value was won where it found the old one.
+    pub(crate) fn after_change(&mut self, old: u64, found: u64)
+        ensures { self.new ≡ record self.old { state = value_changed self.old.places self.old.state old found } }
+    {
+        if found == old {
+            self.takes_effect(self.request.op.reply_from(value_of_word(old)));
+        } else {
+            self.ends(TryAnswer::Wait(Reason::Contended));
+        }
+    }
+
+    /// The value that a read is told is loaded.
+    #[tactic(auto, unfolding(crate::specs::Trying::answer_ledto))]
+    pub(crate) fn after_answer(&mut self, ask: Ask<WalkAnswer>)
+        ensures { self.new ≡ record self.old { state = answer_ledto self.old.places self.old.state ask } }
+    {
+        match ask {
+            Ask::Done(WalkAnswer::Value(word)) => self.ends(told_value(value_of_word(word))),
+            Ask::Done(_) => self.ends(TryAnswer::Wait(Reason::Contended)),
+            _ => {}
+        }
+    }
+
+    /// The exclusive latch is held, or another session was quicker.
+    #[tactic(auto, unfolding(crate::specs::Trying::exclusive_ledto))]
+    pub(crate) fn after_exclusive(&mut self, old: OldValue, ask: Ask<LatchAnswer>)
+        ensures { self.new ≡ record self.old { state = exclusive_ledto self.old.places self.old.state old ask } }
+    {
+        match ask {
+            Ask::Done(LatchAnswer::Taken) => {
+                self.has_exclusive = true;
+                self.copies_from(old);
+            }
+            Ask::Done(_) => self.ends(TryAnswer::Wait(Reason::Latch)),
+            _ => {}
+        }
+    }
+
+    /// The value is loaded of which a copy is made.
+    #[tactic(auto, unfolding(crate::specs::Trying::old_ledto))]
+    pub(crate) fn after_old(&mut self, ask: Ask<WalkAnswer>)
+        ensures { self.new ≡ record self.old { state = old_ledto self.old.places self.old.state ask } }
+    {
+        match ask {
+            Ask::Done(WalkAnswer::Value(word)) => self.appends(word),
+            Ask::Done(_) => self.ends(TryAnswer::Wait(Reason::Contended)),
+            _ => {}
+        }
+    }
+
+    /// The new record is published, or none could be.
+    #[tactic(auto, unfolding(crate::specs::Trying::append_ledto))]
+    pub(crate) fn after_append(&mut self, told: Reply, ask: Ask<AppendAnswer>)
+        ensures { self.new ≡ record self.old { state = append_ledto self.old.places self.old.state told ask } }
+    {
+        match ask {
+            Ask::Done(AppendAnswer::Published) => self.takes_effect(told),
+            Ask::Done(AppendAnswer::Full) => self.full(TryAnswer::LogFull),
+            Ask::Done(AppendAnswer::NoRoom) => self.ends(TryAnswer::Wait(Reason::NoRoom)),
+            Ask::Done(AppendAnswer::Contended) => self.ends(TryAnswer::Wait(Reason::Contended)),
+            _ => {}
+        }
+    }
+
+    /// The exclusive latch is dropped.
+    #[tactic(auto, unfolding(crate::specs::Trying::exclusive_dropped))]
+    pub(crate) fn after_exclusive_drop(&mut self, answer: TryAnswer, ask: Ask<LatchAnswer>)
+        ensures { self.new ≡ record self.old { state = exclusive_dropped self.old.places self.old.state answer ask } }
+    {
+        if let Ask::Done(_) = ask {
+            self.ended_without(answer);
+        }
+    }
+
+    /// The shared latch is dropped.
+    #[tactic(auto, unfolding(crate::specs::Trying::shared_dropped))]
+    pub(crate) fn after_shared_drop(&mut self, answer: TryAnswer, ask: Ask<LatchAnswer>)
+        ensures { self.new ≡ record self.old { state = shared_dropped self.old.state answer ask } }
+    {
+        if let Ask::Done(_) = ask {
+            self.step = Trying::Ended(answer);
+        }
+    }
+}
+
+/// Whether the walk came to its end in memory or below it, and not to a full index or a lost race.
+fn has_walked(answer: WalkAnswer) -> bool
+    ensures { result ≡ has_walked answer }
+{
+    matches!(
+        answer,
+        WalkAnswer::Found(_, _) | WalkAnswer::Nowhere | WalkAnswer::OnDisk(_)
+    )
+}
+
+fn is_above(first: Option<Version>, version: Version) -> bool
+    ensures { result ≡ is_above first version }
+{
+    first.is_some_and(|first| first > version)
+}
+
+/// What a read tells.
+fn told_value(value: Option<Value>) -> TryAnswer
+    ensures { result ≡ told_value (as_number value) }
+{
+    match value {
+        Some(value) => TryAnswer::Found(value),
+        None => TryAnswer::Absent,
+    }
+}

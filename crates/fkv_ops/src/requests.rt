@@ -1,0 +1,71 @@
+//! Requests, and what a try of one goes by.
+ghost use Rattle.std.specs.Prelude.{◌≡◌, ◌<◌, ◌^◌, ℕ};
+ghost use Rattle.fkv_ops.specs.Requests.{purpose_of, is_read, is_blind};
+
+use fkv_base::{Addr, Key, Phase, Version};
+use fkv_index::Purpose;
+use fkv_log::SeenOffsets;
+use fkv_map::Op;
+
+/// A record that was read from the device for a request.
+#[derive(Clone, Copy, Debug, PartialEq, Eq)]
+pub struct HeldRecord {
+    /// The word of the entry from which the walk to the record began.
+    pub entry: u64,
+    /// The record before it in its chain, 0 where there is none.
+    pub previous: Addr,
+    pub key: Key,
+    /// The word of its value.
+    pub value: u64,
+}
+
+/// An operation that was asked for, with what goes with it from one try to the next.
+#[derive(Clone, Copy, Debug, PartialEq, Eq)]
+pub struct Request {
+    pub op: Op,
+    /// The session's version when it accepted the request, 1 to `Version::LAST`.
+    pub version: Version,
+    /// Whether it shares the latch of its bucket.
+    pub has_latch: bool,
+    pub held: Option<HeldRecord>,
+    pub ghost some_version: { 0 < version.0 },
+    pub ghost version_fits: { version.0 < 2 ^ 13 },
+}
+
+/// What a session loaded when it last refreshed or woke.
+#[derive(Clone, Copy, Debug, PartialEq, Eq)]
+pub struct Seen {
+    pub phase: Phase,
+    pub version: Version,
+    pub offsets: SeenOffsets,
+}
+
+/// When a request is tried. Where the index or the log is full a new request is refused, and one that is pending waits.
+#[derive(Clone, Copy, Debug, PartialEq, Eq)]
+pub enum Occasion {
+    Call,
+    Poll,
+}
+
+/// A read seeks a slot that there is, an update one that it may fill.
+pub(crate) fn purpose_of(op: Op) -> Purpose
+    ensures { result ≡ purpose_of op }
+{
+    match op {
+        Op::Read(_) => Purpose::Read,
+        Op::Upsert(_, _) | Op::Delete(_) | Op::Add(_, _) | Op::Max(_, _) => Purpose::Update,
+    }
+}
+
+pub(crate) fn is_read(op: Op) -> bool
+    ensures { result ≡ is_read op }
+{
+    matches!(op, Op::Read(_))
+}
+
+/// The new value doesn't depend on the old one.
+pub(crate) fn is_blind(op: Op) -> bool
+    ensures { result ≡ is_blind op }
+{
+    matches!(op, Op::Upsert(_, _) | Op::Delete(_))
+}
