@@ -1,4 +1,5 @@
 mod Asking
+mod AsksLeft
 mod ClaimSteps
 mod Epochs
 mod Facts

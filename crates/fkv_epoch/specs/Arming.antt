@@ -1,5 +1,5 @@
 -- How a held slot is armed.
-use Rattle.std.specs.Prelude.{◌+◌, ◌^◌, ◌<◌, ⊤}
+use Rattle.std.specs.Prelude.{ℕ, ◌+◌, ◌^◌, ◌<◌, ⊤}
 use Rattle.fkv_base.specs.Limits.{drain_slots}
 use Rattle.fkv_plane.specs.declared.asks.Ask.{Ask}
 use Rattle.fkv_plane.specs.declared.asks.Ask.TheVariants.{Store, Done}
@@ -27,3 +27,9 @@ unfoldable pub arm_next : Arming → Arming
 arm_next AtRest = AtRest
 arm_next (PutsAction slot epoch) = StoresEpoch slot epoch
 arm_next (StoresEpoch slot epoch) = AtRest
+
+-- how many asks it has left: the one that puts the action, and the store
+unfoldable pub arm_asks_left : Arming → ℕ
+arm_asks_left AtRest = 0
+arm_asks_left (PutsAction slot epoch) = 2
+arm_asks_left (StoresEpoch slot epoch) = 1

@@ -1,5 +1,5 @@
 -- How armed actions are claimed and run.
-use Rattle.std.specs.Prelude.{ℕ, ◌+◌, ◌-◌, ◌<◌, ◌==◌, nat_lt, nat_le, min, max, if◌then◌else◌, Option, Some, None, ⊤}
+use Rattle.std.specs.Prelude.{ℕ, ◌+◌, ◌-◌, ◌*◌, ◌<◌, ◌==◌, nat_lt, nat_le, min, max, if◌then◌else◌, Bool, true, false, Option, Some, None, ⊤}
 use Rattle.std.proofs.Common.{arith}
 use Rattle.fkv_base.specs.Limits.{drain_slots, last_version}
 use Rattle.fkv_base.specs.declared.phases.Phase.{Phase}
@@ -74,3 +74,19 @@ claim_next (FreesSlot slot safe) reply = slot_after slot (Some safe)
 unfoldable pub claim_given : Claiming → Action → Claiming
 claim_given (Receives slot epoch safe) action = Runs slot epoch safe action
 claim_given step action = step
+
+-- what it asks is an action, which is given to it in place of a reply
+abbrev pub takes_action : {A : Type 0} → Ask A → Bool
+takes_action (Take slot) = true
+takes_action ask = false
+
+-- How many asks it has left, at most: five for each slot that is still to be met, of which one takes the action; and the safe epoch is loaded once.
+unfoldable pub claim_asks_left : Claiming → ℕ
+claim_asks_left AtRest = 0
+claim_asks_left (MeetsSlot slot None) = 5 * (drain_slots - (slot + 1)) + 6
+claim_asks_left (MeetsSlot slot (Some safe)) = 5 * (drain_slots - (slot + 1)) + 5
+claim_asks_left (LoadsSafe slot word) = 5 * (drain_slots - (slot + 1)) + 5
+claim_asks_left (TakesSlot slot word safe) = 5 * (drain_slots - (slot + 1)) + 4
+claim_asks_left (Receives slot epoch safe) = 5 * (drain_slots - (slot + 1)) + 3
+claim_asks_left (Runs slot epoch safe action) = 5 * (drain_slots - (slot + 1)) + 2
+claim_asks_left (FreesSlot slot safe) = 5 * (drain_slots - (slot + 1)) + 1

@@ -20,3 +20,8 @@ leave_ask session StoresZero = Store (session_place session own.Epoch) 0
 unfoldable pub leave_next : Leaving → Leaving
 leave_next AtRest = AtRest
 leave_next StoresZero = AtRest
+
+-- how many asks it has left
+unfoldable pub leave_asks_left : Leaving → ℕ
+leave_asks_left AtRest = 0
+leave_asks_left StoresZero = 1

@@ -36,3 +36,12 @@ protect_next (LoadsHead phase read_only) reply = AtRest
 unfoldable pub protect_next_ask : ℕ → Protecting → ℕ → Ask Seen
 protect_next_ask session (LoadsHead phase read_only) reply = Done (seen phase read_only reply)
 protect_next_ask session step reply = protect_ask session (protect_next step reply)
+
+-- how many asks it has left
+unfoldable pub protect_asks_left : Protecting → ℕ
+protect_asks_left AtRest = 0
+protect_asks_left LoadsEpoch = 5
+protect_asks_left (StoresEpoch epoch) = 4
+protect_asks_left LoadsPhase = 3
+protect_asks_left (LoadsReadOnly phase) = 2
+protect_asks_left (LoadsHead phase read_only) = 1

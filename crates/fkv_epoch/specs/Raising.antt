@@ -1,5 +1,5 @@
 -- How an actor gets a slot, and raises the epoch.
-use Rattle.std.specs.Prelude.{ℕ, ◌+◌, ◌<◌, ◌==◌, nat_lt, nat_le, if◌then◌else◌, ⊤}
+use Rattle.std.specs.Prelude.{ℕ, ◌+◌, ◌-◌, ◌*◌, ◌<◌, ◌==◌, nat_lt, nat_le, if◌then◌else◌, ⊤}
 use Rattle.fkv_base.specs.Limits.{drain_slots, last_epoch}
 use Rattle.fkv_plane.specs.declared.asks.Ask.{Ask}
 use Rattle.fkv_plane.specs.declared.asks.Ask.TheVariants.{Load, Cas, Add, Done}
@@ -54,3 +54,18 @@ raise_next_ask step reply = raise_ask (raise_next step reply)
 unfoldable pub raise_on : Raising → Raising
 raise_on (HasSlot slot) = RaisesEpoch slot
 raise_on step = step
+
+-- how many asks it has left, at most, until it ends or waits for its holder: two for each slot that is still to be met
+unfoldable pub raise_asks_left : Raising → ℕ
+raise_asks_left AtRest = 0
+raise_asks_left LoadsEpoch = 2 * drain_slots + 1
+raise_asks_left (MeetsSlot slot) = 2 * (drain_slots - (slot + 1)) + 2
+raise_asks_left (HoldsSlot slot) = 2 * (drain_slots - (slot + 1)) + 1
+raise_asks_left (HasSlot slot) = 0
+raise_asks_left (RaisesEpoch slot) = 1
+
+-- how many come later, once its holder lets it go on
+unfoldable pub raise_asks_later : Raising → ℕ
+raise_asks_later AtRest = 0
+raise_asks_later (RaisesEpoch slot) = 0
+raise_asks_later step = 1

@@ -39,3 +39,19 @@ refresh_next (StoresEpoch epoch) reply = AtRest
 unfoldable pub refresh_finish : Refreshing → Refreshing
 refresh_finish (HasLoaded epoch values) = StoresEpoch epoch
 refresh_finish step = step
+
+-- how many asks it has left until it ends or waits for its session
+unfoldable pub refresh_asks_left : Refreshing → ℕ
+refresh_asks_left AtRest = 0
+refresh_asks_left LoadsEpoch = 4
+refresh_asks_left (LoadsPhase epoch) = 3
+refresh_asks_left (LoadsReadOnly epoch phase) = 2
+refresh_asks_left (LoadsHead epoch phase read_only) = 1
+refresh_asks_left (HasLoaded epoch values) = 0
+refresh_asks_left (StoresEpoch epoch) = 1
+
+-- how many come later, once its session lets it go on
+unfoldable pub refresh_asks_later : Refreshing → ℕ
+refresh_asks_later AtRest = 0
+refresh_asks_later (StoresEpoch epoch) = 0
+refresh_asks_later step = 1

@@ -39,3 +39,10 @@ scan_next sessions AtRest reply = AtRest
 scan_next sessions LoadsEpoch reply = sessions_from sessions 0 reply
 scan_next sessions (LoadsSession session least) reply = sessions_from sessions (session + 1) (least_of least reply)
 scan_next sessions (RaisesSafe least) reply = AtRest
+
+-- how many asks it has left, of so many sessions: one for each that is still to be met, and the one that raises the safe epoch
+unfoldable pub scan_asks_left : ℕ → Scanning → ℕ
+scan_asks_left sessions AtRest = 0
+scan_asks_left sessions LoadsEpoch = sessions + 2
+scan_asks_left sessions (LoadsSession session least) = sessions - (session + 1) + 2
+scan_asks_left sessions (RaisesSafe least) = 1

@@ -1,7 +1,7 @@
 //! How a held slot is armed.
-ghost use Rattle.std.specs.Prelude.{◌≡◌, ◌<◌, ◌+◌, ◌^◌};
+ghost use Rattle.std.specs.Prelude.{◌≡◌, ◌<◌, ◌≤◌, ◌+◌, ◌-◌, ◌^◌};
 ghost use Rattle.fkv_base.specs.Limits.{drain_slots};
-ghost use Rattle.fkv_epoch.specs.Arming.{arm_ask, arm_next};
+ghost use Rattle.fkv_epoch.specs.Arming.{arm_ask, arm_next, arm_asks_left};
 ghost use Rattle.fkv_epoch.specs.declared.arming.Arming.TheVariants.{AtRest, PutsAction};
 ghost use Rattle.fkv_plane.specs.declared.asks.Ask.TheVariants.{Put};
 
@@ -43,21 +43,24 @@ impl Arm {
     }
 
     /// The first ask puts the action into the slot.
+    #[tactic(auto, unfolding(crate::specs::Arming::arm_asks_left))]
     pub fn start(&mut self, slot: usize, epoch: u64, action: Action) -> Ask<()>
         requires slot { slot < drain_slots }
         requires epoch { epoch + 2 < 2 ^ 64 }
         ensures next { self.new ≡ record { step = PutsAction slot epoch } }
         ensures ask { result ≡ Put slot action }
+        ensures bounded { arm_asks_left self.new.step ≤ 2 }
     {
         self.step = Arming::PutsAction(slot, epoch);
         Ask::Put(slot, action)
     }
 
     /// Goes on with the reply to its ask.
-    #[tactic(auto, unfolding(crate::specs::Arming::arm_ask, crate::specs::Arming::arm_next))]
+    #[tactic(auto, unfolding(crate::specs::Arming::arm_ask, crate::specs::Arming::arm_next, crate::specs::Arming::arm_asks_left))]
     pub fn drive(&mut self, _reply: u64) -> Ask<()>
         ensures next { self.new ≡ record { step = arm_next self.old.step } }
         ensures ask { result ≡ arm_ask (arm_next self.old.step) }
+        ensures fewer { arm_asks_left self.new.step ≤ arm_asks_left self.old.step - 1 }
     {
         self.step = match self.step {
             Arming::PutsAction(slot, epoch) => Arming::StoresEpoch(slot, epoch),

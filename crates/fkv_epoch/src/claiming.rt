@@ -1,7 +1,7 @@
 //! How armed actions are claimed and run, once their epoch is safe.
-ghost use Rattle.std.specs.Prelude.{◌≡◌, ◌<◌, None};
+ghost use Rattle.std.specs.Prelude.{◌≡◌, ◌<◌, ◌≤◌, ◌+◌, ◌-◌, ◌*◌, None, true, false};
 ghost use Rattle.fkv_base.specs.Limits.{drain_slots};
-ghost use Rattle.fkv_epoch.specs.Claiming.{claim_ask, claim_next, claim_given, slot_after, slot_armed, run_of, phase_stored, IsClaimInRange};
+ghost use Rattle.fkv_epoch.specs.Claiming.{claim_ask, claim_next, claim_given, slot_after, slot_armed, run_of, phase_stored, takes_action, claim_asks_left, IsClaimInRange};
 ghost use Rattle.fkv_epoch.specs.declared.claiming.Claiming.TheVariants.{AtRest, MeetsSlot};
 
 use fkv_base::{DRAIN_SLOTS, Phase, Version};
@@ -53,10 +53,11 @@ impl Claim {
     }
 
     /// The first ask: the first slot.
-    #[tactic(auto, unfolding(crate::specs::Claiming::claim_ask))]
+    #[tactic(auto, unfolding(crate::specs::Claiming::claim_ask, crate::specs::Claiming::claim_asks_left))]
     pub fn start(&mut self) -> Ask<()>
         ensures next { self.new ≡ record { step = MeetsSlot 0 None } }
         ensures ask { result ≡ claim_ask (MeetsSlot 0 None) }
+        ensures bounded { claim_asks_left self.new.step ≤ 5 * drain_slots + 1 }
     {
         self.step = Claiming::MeetsSlot(0, None);
         self.ask()
@@ -67,6 +68,7 @@ impl Claim {
     pub fn drive(&mut self, reply: u64) -> Ask<()>
         ensures next { self.new ≡ record { step = claim_next self.old.step reply } }
         ensures ask { result ≡ claim_ask (claim_next self.old.step reply) }
+        ensures fewer { takes_action (claim_ask self.old.step) ≡ false → claim_asks_left self.new.step ≤ claim_asks_left self.old.step - 1 }
     {
         self.step = match mem::replace(&mut self.step, Claiming::AtRest) {
             Claiming::AtRest => Claiming::AtRest,
@@ -104,6 +106,7 @@ impl Claim {
     pub fn given(&mut self, action: Action) -> Ask<()>
         ensures next { self.new ≡ record { step = claim_given self.old.step action } }
         ensures ask { result ≡ claim_ask (claim_given self.old.step action) }
+        ensures fewer { takes_action (claim_ask self.old.step) ≡ true → claim_asks_left self.new.step ≤ claim_asks_left self.old.step - 1 }
     {
         if let Claiming::Receives(slot, epoch, safe) = self.step {
             self.step = Claiming::Runs(slot, epoch, safe, action);

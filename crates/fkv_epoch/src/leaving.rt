@@ -1,5 +1,5 @@
 //! A session leaves: it is protected no more.
-ghost use Rattle.std.specs.Prelude.{◌≡◌, ◌<◌};
+ghost use Rattle.std.specs.Prelude.{◌≡◌, ◌<◌, ◌≤◌, ◌-◌};
 ghost use Rattle.fkv_base.specs.Limits.{max_sessions};
 
 use fkv_plane::{Ask, SessionWord};
@@ -32,7 +32,7 @@ impl Model for Leave {
 }
 
 impl Leave {
-    ghost use Rattle.fkv_epoch.specs.Leaving.{leave_ask, leave_next};
+    ghost use Rattle.fkv_epoch.specs.Leaving.{leave_ask, leave_next, leave_asks_left};
     ghost use Rattle.fkv_epoch.specs.declared.leaving.Leaving.TheVariants.{AtRest, StoresZero};
 
     /// The machine of a session at rest.
@@ -47,10 +47,11 @@ impl Leave {
     }
 
     /// The first ask.
-    #[tactic(auto, unfolding(crate::specs::Leaving::leave_ask))]
+    #[tactic(auto, unfolding(crate::specs::Leaving::leave_ask, crate::specs::Leaving::leave_asks_left))]
     pub fn start(&mut self) -> Ask<()>
         ensures next { self.new ≡ record self.old { step = StoresZero } }
         ensures ask { result ≡ leave_ask self.old.session StoresZero }
+        ensures bounded { leave_asks_left self.new.step ≤ 1 }
     {
         self.step = Leaving::StoresZero;
         self.ask()
@@ -68,10 +69,11 @@ impl Leave {
     }
 
     /// Goes on with the reply to its ask.
-    #[tactic(auto, unfolding(crate::specs::Leaving::leave_ask, crate::specs::Leaving::leave_next))]
+    #[tactic(auto, unfolding(crate::specs::Leaving::leave_ask, crate::specs::Leaving::leave_next, crate::specs::Leaving::leave_asks_left))]
     pub fn drive(&mut self, _reply: u64) -> Ask<()>
         ensures next { self.new ≡ record self.old { step = leave_next self.old.step } }
         ensures ask { result ≡ leave_ask self.old.session (leave_next self.old.step) }
+        ensures fewer { leave_asks_left self.new.step ≤ leave_asks_left self.old.step - 1 }
     {
         self.step = Leaving::AtRest;
         self.ask()

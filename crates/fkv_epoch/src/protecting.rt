@@ -1,5 +1,5 @@
 //! A session becomes protected.
-ghost use Rattle.std.specs.Prelude.{◌≡◌, ◌<◌};
+ghost use Rattle.std.specs.Prelude.{◌≡◌, ◌<◌, ◌≤◌, ◌-◌};
 ghost use Rattle.fkv_base.specs.Limits.{max_sessions};
 
 use crate::values::Seen;
@@ -38,7 +38,7 @@ impl Model for Protect {
 }
 
 impl Protect {
-    ghost use Rattle.fkv_epoch.specs.Protecting.{protect_ask, protect_next, protect_next_ask};
+    ghost use Rattle.fkv_epoch.specs.Protecting.{protect_ask, protect_next, protect_next_ask, protect_asks_left};
     ghost use Rattle.fkv_epoch.specs.declared.protecting.Protecting.TheVariants.{AtRest, LoadsEpoch};
 
     /// The machine of a session at rest.
@@ -53,10 +53,11 @@ impl Protect {
     }
 
     /// The first ask.
-    #[tactic(auto, unfolding(crate::specs::Protecting::protect_ask))]
+    #[tactic(auto, unfolding(crate::specs::Protecting::protect_ask, crate::specs::Protecting::protect_asks_left))]
     pub fn start(&mut self) -> Ask<Seen>
         ensures next { self.new ≡ record self.old { step = LoadsEpoch } }
         ensures ask { result ≡ protect_ask self.old.session LoadsEpoch }
+        ensures bounded { protect_asks_left self.new.step ≤ 5 }
     {
         self.step = Protecting::LoadsEpoch;
         self.ask()
@@ -80,10 +81,11 @@ impl Protect {
     }
 
     /// Goes on with the reply to its ask. At rest it answers with zeros.
-    #[tactic(auto, unfolding(crate::specs::Protecting::protect_ask, crate::specs::Protecting::protect_next, crate::specs::Protecting::protect_next_ask))]
+    #[tactic(auto, unfolding(crate::specs::Protecting::protect_ask, crate::specs::Protecting::protect_next, crate::specs::Protecting::protect_next_ask, crate::specs::Protecting::protect_asks_left))]
     pub fn drive(&mut self, reply: u64) -> Ask<Seen>
         ensures next { self.new ≡ record self.old { step = protect_next self.old.step reply } }
         ensures ask { result ≡ protect_next_ask self.old.session self.old.step reply }
+        ensures fewer { protect_asks_left self.new.step ≤ protect_asks_left self.old.step - 1 }
     {
         self.step = match self.step {
             Protecting::LoadsEpoch => Protecting::StoresEpoch(reply),

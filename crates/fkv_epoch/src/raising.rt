@@ -1,7 +1,7 @@
 //! How an actor gets a slot, and raises the epoch.
-ghost use Rattle.std.specs.Prelude.{◌≡◌, ◌<◌};
+ghost use Rattle.std.specs.Prelude.{◌≡◌, ◌<◌, ◌≤◌, ◌+◌, ◌-◌, ◌*◌};
 ghost use Rattle.fkv_base.specs.Limits.{drain_slots};
-ghost use Rattle.fkv_epoch.specs.Raising.{raise_ask, raise_next, raise_next_ask, raise_on, free_after, IsRaiseInRange};
+ghost use Rattle.fkv_epoch.specs.Raising.{raise_ask, raise_next, raise_next_ask, raise_on, raise_asks_left, raise_asks_later, free_after, IsRaiseInRange};
 ghost use Rattle.fkv_epoch.specs.declared.raising.Raising.TheVariants.{AtRest, LoadsEpoch};
 
 use fkv_base::{DRAIN_SLOTS, LAST_EPOCH};
@@ -60,20 +60,22 @@ impl Raise {
     }
 
     /// The first ask.
-    #[tactic(auto, unfolding(crate::specs::Raising::raise_ask))]
+    #[tactic(auto, unfolding(crate::specs::Raising::raise_ask, crate::specs::Raising::raise_asks_left, crate::specs::Raising::raise_asks_later))]
     pub fn start(&mut self) -> Ask<RaiseAnswer>
         ensures next { self.new ≡ record { step = LoadsEpoch } }
         ensures ask { result ≡ raise_ask LoadsEpoch }
+        ensures bounded { raise_asks_left self.new.step + raise_asks_later self.new.step ≤ 2 * drain_slots + 2 }
     {
         self.step = Raising::LoadsEpoch;
         self.ask()
     }
 
     /// Goes on to raise the epoch, where a slot is held; else it stays where it is.
-    #[tactic(auto, unfolding(crate::specs::Raising::raise_on))]
+    #[tactic(auto, unfolding(crate::specs::Raising::raise_on, crate::specs::Raising::raise_asks_left, crate::specs::Raising::raise_asks_later))]
     pub fn raise(&mut self) -> Ask<RaiseAnswer>
         ensures next { self.new ≡ record { step = raise_on self.old.step } }
         ensures ask { result ≡ raise_ask (raise_on self.old.step) }
+        ensures bounded { raise_asks_left self.new.step + raise_asks_later self.new.step ≤ raise_asks_left self.old.step + raise_asks_later self.old.step }
     {
         if let Raising::HasSlot(slot) = self.step {
             self.step = Raising::RaisesEpoch(slot);
@@ -86,6 +88,8 @@ impl Raise {
     pub fn drive(&mut self, reply: u64) -> Ask<RaiseAnswer>
         ensures next { self.new ≡ record { step = raise_next self.old.step reply } }
         ensures ask { result ≡ raise_next_ask self.old.step reply }
+        ensures fewer { raise_asks_left self.new.step ≤ raise_asks_left self.old.step - 1 }
+        ensures later { raise_asks_later self.new.step ≤ raise_asks_later self.old.step }
     {
         match self.step {
             Raising::LoadsEpoch => {

@@ -1,5 +1,5 @@
 //! A protected session refreshes.
-ghost use Rattle.std.specs.Prelude.{◌≡◌, ◌<◌};
+ghost use Rattle.std.specs.Prelude.{◌≡◌, ◌<◌, ◌≤◌, ◌+◌, ◌-◌};
 ghost use Rattle.fkv_base.specs.Limits.{max_sessions};
 
 use crate::values::Seen;
@@ -48,7 +48,7 @@ impl Model for Refresh {
 }
 
 impl Refresh {
-    ghost use Rattle.fkv_epoch.specs.Refreshing.{refresh_ask, refresh_next, refresh_finish};
+    ghost use Rattle.fkv_epoch.specs.Refreshing.{refresh_ask, refresh_next, refresh_finish, refresh_asks_left, refresh_asks_later};
     ghost use Rattle.fkv_epoch.specs.declared.refreshing.Refreshing.TheVariants.{AtRest, LoadsEpoch};
 
     /// The machine of a session at rest.
@@ -63,20 +63,22 @@ impl Refresh {
     }
 
     /// The first ask.
-    #[tactic(auto, unfolding(crate::specs::Refreshing::refresh_ask))]
+    #[tactic(auto, unfolding(crate::specs::Refreshing::refresh_ask, crate::specs::Refreshing::refresh_asks_left, crate::specs::Refreshing::refresh_asks_later))]
     pub fn start(&mut self) -> Ask<RefreshAnswer>
         ensures next { self.new ≡ record self.old { step = LoadsEpoch } }
         ensures ask { result ≡ refresh_ask self.old.session LoadsEpoch }
+        ensures bounded { refresh_asks_left self.new.step + refresh_asks_later self.new.step ≤ 5 }
     {
         self.step = Refreshing::LoadsEpoch;
         self.ask()
     }
 
     /// Goes on to store the epoch, where all is loaded; else it stays where it is.
-    #[tactic(auto, unfolding(crate::specs::Refreshing::refresh_ask, crate::specs::Refreshing::refresh_finish))]
+    #[tactic(auto, unfolding(crate::specs::Refreshing::refresh_ask, crate::specs::Refreshing::refresh_finish, crate::specs::Refreshing::refresh_asks_left, crate::specs::Refreshing::refresh_asks_later))]
     pub fn finish(&mut self) -> Ask<RefreshAnswer>
         ensures next { self.new ≡ record self.old { step = refresh_finish self.old.step } }
         ensures ask { result ≡ refresh_ask self.old.session (refresh_finish self.old.step) }
+        ensures bounded { refresh_asks_left self.new.step + refresh_asks_later self.new.step ≤ refresh_asks_left self.old.step + refresh_asks_later self.old.step }
     {
         if let Refreshing::HasLoaded(epoch, _) = self.step {
             self.step = Refreshing::StoresEpoch(epoch);
@@ -85,10 +87,12 @@ impl Refresh {
     }
 
     /// Goes on with the reply to its ask. At rest, and until `finish` is called, it stays where it is.
-    #[tactic(auto, unfolding(crate::specs::Refreshing::refresh_next))]
+    #[tactic(auto, unfolding(crate::specs::Refreshing::refresh_next, crate::specs::Refreshing::refresh_asks_left, crate::specs::Refreshing::refresh_asks_later))]
     pub fn drive(&mut self, reply: u64) -> Ask<RefreshAnswer>
         ensures next { self.new ≡ record self.old { step = refresh_next self.old.step reply } }
         ensures ask { result ≡ refresh_ask self.old.session (refresh_next self.old.step reply) }
+        ensures fewer { refresh_asks_left self.new.step ≤ refresh_asks_left self.old.step - 1 }
+        ensures later { refresh_asks_later self.new.step ≤ refresh_asks_later self.old.step }
     {
         self.step = match self.step {
             Refreshing::LoadsEpoch => Refreshing::LoadsPhase(reply),

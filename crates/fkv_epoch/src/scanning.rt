@@ -1,5 +1,5 @@
 //! How the safe epoch is found.
-ghost use Rattle.std.specs.Prelude.{◌≡◌, ◌≤◌};
+ghost use Rattle.std.specs.Prelude.{◌≡◌, ◌≤◌, ◌+◌, ◌-◌};
 ghost use Rattle.fkv_base.specs.Limits.{max_sessions};
 
 use fkv_plane::{Ask, SessionWord, SharedWord};
@@ -33,7 +33,7 @@ impl Model for Scan {
 }
 
 impl Scan {
-    ghost use Rattle.fkv_epoch.specs.Scanning.{scan_ask, scan_next, sessions_from};
+    ghost use Rattle.fkv_epoch.specs.Scanning.{scan_ask, scan_next, sessions_from, scan_asks_left};
     ghost use Rattle.fkv_epoch.specs.declared.scanning.Scanning.TheVariants.{AtRest, LoadsEpoch};
 
     /// The machine over so many sessions, at rest.
@@ -48,20 +48,22 @@ impl Scan {
     }
 
     /// The first ask.
-    #[tactic(auto, unfolding(crate::specs::Scanning::scan_ask))]
+    #[tactic(auto, unfolding(crate::specs::Scanning::scan_ask, crate::specs::Scanning::scan_asks_left))]
     pub fn start(&mut self) -> Ask<()>
         ensures next { self.new ≡ record self.old { step = LoadsEpoch } }
         ensures ask { result ≡ scan_ask LoadsEpoch }
+        ensures bounded { scan_asks_left self.new.sessions self.new.step ≤ self.old.sessions + 2 }
     {
         self.step = Scanning::LoadsEpoch;
         self.ask()
     }
 
     /// Goes on with the reply to its ask.
-    #[tactic(auto, unfolding(crate::specs::Scanning::scan_next, crate::specs::Scanning::sessions_from, crate::specs::Scanning::least_of))]
+    #[tactic(auto, unfolding(crate::specs::Scanning::scan_next, crate::specs::Scanning::sessions_from, crate::specs::Scanning::least_of, crate::specs::Scanning::scan_asks_left))]
     pub fn drive(&mut self, reply: u64) -> Ask<()>
         ensures next { self.new ≡ record self.old { step = scan_next self.old.sessions self.old.step reply } }
         ensures ask { result ≡ scan_ask (scan_next self.old.sessions self.old.step reply) }
+        ensures fewer { scan_asks_left self.new.sessions self.new.step ≤ scan_asks_left self.old.sessions self.old.step - 1 }
     {
         match self.step {
             Scanning::LoadsEpoch => self.meet(0, reply),

@@ -1,4 +1,5 @@
 mod Asks
+mod AsksLeft
 mod RaiseRange
 mod Records
 mod Reserved

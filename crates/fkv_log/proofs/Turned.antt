@@ -1,5 +1,5 @@
 -- What a turn that opens only asks for, and what a shift tells.
-use Rattle.std.proofs.Common.{◌≡◌, ℕ, ◌/◌, ◌<◌, ◌≤◌, refl, inl, inr, List, [], ◌∷◌, Bool, true, false, arith}
+use Rattle.std.proofs.Common.{◌≡◌, ℕ, ◌/◌, refl, inl, inr, List, [], ◌∷◌, false}
 use Rattle.std.specs.Prelude.{nat_lt, nat_le, ⊤}
 use Rattle.std.proofs.lemmas.Bool.{lt-ltb, le-ltb}
 use Rattle.fkv_base.specs.declared.shapes.Shape.{Shape}
@@ -7,15 +7,13 @@ use Rattle.fkv_plane.specs.declared.asks.Ask.{Ask}
 use Rattle.fkv_plane.specs.declared.asks.Ask.TheVariants.{Done}
 use Rattle.fkv_plane.specs.Passing.{is_done}
 use Rattle.fkv_log.specs.declared.moving.MoveAnswer.{MoveAnswer}
-use Rattle.fkv_log.specs.declared.moving.MoveAnswer.TheVariants as moved
-use Rattle.fkv_log.specs.declared.shifting.ShiftAnswer.TheVariants as answer
 use Rattle.fkv_log.specs.declared.shifting.Shifting.TheVariants as shift
 use Rattle.fkv_log.specs.declared.turning.TurnForm.TheVariants.{Whole, OpensOnly}
 use Rattle.fkv_log.specs.declared.turning.Turning.{Turning}
 use Rattle.fkv_log.specs.declared.turning.Turning.TheVariants as turn
 use Rattle.fkv_log.specs.Moving.{Mover, move_next, move_next_ask}
-use Rattle.fkv_log.specs.Shifting.{shift_at, shifting_next, shifting_next_ask, shift_led, move_told, mutable_start, ShiftsBegin, ShiftsKeepTail}
-use Rattle.fkv_log.specs.Turning.{TurnState, turn_at, turn_begun, turn_ask, turn_next, turn_next_ask, turn_after, turning_ask, turning_next, turning_next_ask, frame_end, pages_wanted, OpensAlone, TurnsOpeningAlone}
+use Rattle.fkv_log.specs.Shifting.{shifting_next, shifting_next_ask, shift_led, move_told, mutable_start, ShiftsBegin, ShiftsKeepTail}
+use Rattle.fkv_log.specs.Turning.{TurnState, turn_begun, turn_next, turn_after, turning_ask, turning_next, turning_next_ask, frame_end, pages_wanted, OpensAlone, TurnsOpeningAlone}
 use Rattle.fkv_log.proofs.Asks.{truth}
 
 -- the steps of a turn that opens only

@@ -1,4 +1,5 @@
 -- How a record is written: its value, its key, and then its header.
+use Rattle.std.specs.Prelude.{ℕ}
 use Rattle.fkv_base.specs.declared.numbers.Addr.{Addr}
 use Rattle.fkv_words.specs.Layout.{header_word}
 use Rattle.fkv_plane.specs.declared.asks.Ask.{Ask}
@@ -31,3 +32,10 @@ fill_next AtRest = AtRest
 fill_next (StoresValue addr its_words) = StoresKey addr its_words
 fill_next (StoresKey addr its_words) = StoresHeader addr its_words
 fill_next (StoresHeader addr its_words) = AtRest
+
+-- how many asks it has left
+unfoldable pub fill_asks_left : Filling → ℕ
+fill_asks_left AtRest = 0
+fill_asks_left (StoresValue addr its_words) = 3
+fill_asks_left (StoresKey addr its_words) = 2
+fill_asks_left (StoresHeader addr its_words) = 1

@@ -1,5 +1,5 @@
 -- How a record is invalidated: its header is stored with the invalid bit.
-use Rattle.std.specs.Prelude.{true}
+use Rattle.std.specs.Prelude.{ℕ, true}
 use Rattle.fkv_base.specs.declared.numbers.Addr.{Addr}
 use Rattle.fkv_words.specs.declared.headers.Header.{Header}
 use Rattle.fkv_words.specs.Layout.{header_word}
@@ -31,3 +31,8 @@ invalidate_ask places (StoresHeader addr header) = Store (record_place places ad
 unfoldable pub invalidate_next : Invalidating → Invalidating
 invalidate_next AtRest = AtRest
 invalidate_next (StoresHeader addr header) = AtRest
+
+-- how many asks it has left
+unfoldable pub invalidate_asks_left : Invalidating → ℕ
+invalidate_asks_left AtRest = 0
+invalidate_asks_left (StoresHeader addr header) = 1

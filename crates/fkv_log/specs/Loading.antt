@@ -41,6 +41,14 @@ unfoldable pub load_on : Loading → Loading
 load_on (HasKey addr header key) = LoadsValue addr header key
 load_on step = step
 
+-- how many asks it has left until it ends or waits
+unfoldable pub load_asks_left : Loading → ℕ
+load_asks_left AtRest = 0
+load_asks_left (LoadsHeader addr) = 2
+load_asks_left (LoadsKey addr header) = 1
+load_asks_left (HasKey addr header key) = 0
+load_asks_left (LoadsValue addr header key) = 1
+
 -- where the load of an address is once these two words are replied
 abbrev pub load_met : Addr → ℕ → ℕ → Loading
 load_met addr header key = load_next (load_next (LoadsHeader addr) header) key

@@ -48,3 +48,10 @@ unfoldable pub reserve_next_ask : ℕ → Reserving → ℕ → Ask ReserveAnswe
 reserve_next_ask room (LoadsTail limit) reply = if nat_lt reply limit then reserve_ask (TakesTail reply) else Done (no_room_at room reply)
 reserve_next_ask room (TakesTail tail) reply = Done (reserved_where tail reply)
 reserve_next_ask room step reply = reserve_ask (reserve_next step reply)
+
+-- how many asks it has left, at most
+unfoldable pub reserve_asks_left : Reserving → ℕ
+reserve_asks_left AtRest = 0
+reserve_asks_left LoadsLimit = 3
+reserve_asks_left (LoadsTail limit) = 2
+reserve_asks_left (TakesTail tail) = 1

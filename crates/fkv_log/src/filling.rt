@@ -1,5 +1,5 @@
 //! How a record is written to the address that was taken for it.
-ghost use Rattle.std.specs.Prelude.{◌≡◌};
+ghost use Rattle.std.specs.Prelude.{◌≡◌, ◌≤◌, ◌-◌};
 
 use crate::record_words::RecordWords;
 use fkv_base::Addr;
@@ -31,7 +31,7 @@ impl Model for Fill {
 }
 
 impl Fill {
-    ghost use Rattle.fkv_log.specs.Filling.{fill_begun, fill_ask, fill_next};
+    ghost use Rattle.fkv_log.specs.Filling.{fill_begun, fill_ask, fill_next, fill_asks_left};
     ghost use Rattle.fkv_log.specs.declared.filling.Filling.TheVariants.{AtRest};
 
     /// The machine of a store with these places, at rest.
@@ -45,19 +45,22 @@ impl Fill {
     }
 
     /// The first ask, to write the record at the address.
+    #[tactic(auto, unfolding(crate::specs::Filling::fill_asks_left))]
     pub fn start(&mut self, addr: Addr, its_words: RecordWords) -> Ask<()>
         ensures next { self.new ≡ record self.old { step = fill_begun addr its_words } }
         ensures ask { result ≡ fill_ask self.old.places (fill_begun addr its_words) }
+        ensures bounded { fill_asks_left self.new.step ≤ 3 }
     {
         self.step = Filling::StoresValue(addr, its_words);
         self.ask()
     }
 
     /// Goes on with the reply to its ask. At rest it stays where it is.
-    #[tactic(auto, unfolding(crate::specs::Filling::fill_next))]
+    #[tactic(auto, unfolding(crate::specs::Filling::fill_next, crate::specs::Filling::fill_asks_left))]
     pub fn drive(&mut self, _reply: u64) -> Ask<()>
         ensures next { self.new ≡ record self.old { step = fill_next self.old.step } }
         ensures ask { result ≡ fill_ask self.old.places (fill_next self.old.step) }
+        ensures fewer { fill_asks_left self.new.step ≤ fill_asks_left self.old.step - 1 }
     {
         self.step = match self.step {
             Filling::StoresValue(addr, its_words) => Filling::StoresKey(addr, its_words),

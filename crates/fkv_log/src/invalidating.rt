@@ -1,5 +1,5 @@
 //! How a record that no entry came to name is invalidated.
-ghost use Rattle.std.specs.Prelude.{◌≡◌};
+ghost use Rattle.std.specs.Prelude.{◌≡◌, ◌≤◌, ◌-◌};
 
 use fkv_base::Addr;
 use fkv_plane::{Ask, Places, RecordWord};
@@ -29,7 +29,7 @@ impl Model for Invalidate {
 }
 
 impl Invalidate {
-    ghost use Rattle.fkv_log.specs.Invalidating.{invalidate_begun, invalidate_ask, invalidate_next};
+    ghost use Rattle.fkv_log.specs.Invalidating.{invalidate_begun, invalidate_ask, invalidate_next, invalidate_asks_left};
     ghost use Rattle.fkv_log.specs.declared.invalidating.Invalidating.TheVariants.{AtRest};
 
     /// The machine of a store with these places, at rest.
@@ -43,19 +43,22 @@ impl Invalidate {
     }
 
     /// The first ask, to invalidate the record at the address, which has this header.
+    #[tactic(auto, unfolding(crate::specs::Invalidating::invalidate_asks_left))]
     pub fn start(&mut self, addr: Addr, header: Header) -> Ask<()>
         ensures next { self.new ≡ record self.old { step = invalidate_begun addr header } }
         ensures ask { result ≡ invalidate_ask self.old.places (invalidate_begun addr header) }
+        ensures bounded { invalidate_asks_left self.new.step ≤ 1 }
     {
         self.step = Invalidating::StoresHeader(addr, header);
         self.ask()
     }
 
     /// Goes on with the reply to its ask. At rest it stays where it is.
-    #[tactic(auto, unfolding(crate::specs::Invalidating::invalidate_next))]
+    #[tactic(auto, unfolding(crate::specs::Invalidating::invalidate_next, crate::specs::Invalidating::invalidate_asks_left))]
     pub fn drive(&mut self, _reply: u64) -> Ask<()>
         ensures next { self.new ≡ record self.old { step = invalidate_next self.old.step } }
         ensures ask { result ≡ invalidate_ask self.old.places (invalidate_next self.old.step) }
+        ensures fewer { invalidate_asks_left self.new.step ≤ invalidate_asks_left self.old.step - 1 }
     {
         self.step = Invalidating::AtRest;
         self.ask()

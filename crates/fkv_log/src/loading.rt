@@ -1,5 +1,5 @@
 //! How the words of a record are loaded.
-ghost use Rattle.std.specs.Prelude.{◌≡◌};
+ghost use Rattle.std.specs.Prelude.{◌≡◌, ◌≤◌, ◌+◌, ◌-◌};
 
 use fkv_base::{Addr, Key};
 use fkv_plane::{Ask, Places, RecordWord};
@@ -42,7 +42,7 @@ impl Model for LoadRecord {
 }
 
 impl LoadRecord {
-    ghost use Rattle.fkv_log.specs.Loading.{load_ask, load_next, load_next_ask, load_on};
+    ghost use Rattle.fkv_log.specs.Loading.{load_ask, load_next, load_next_ask, load_on, load_asks_left};
     ghost use Rattle.fkv_log.specs.declared.loading.Loading.TheVariants.{AtRest, LoadsHeader};
 
     /// The machine of a store with these places, at rest.
@@ -56,19 +56,22 @@ impl LoadRecord {
     }
 
     /// The first ask, to load the record at the address.
+    #[tactic(auto, unfolding(crate::specs::Loading::load_asks_left))]
     pub fn start(&mut self, addr: Addr) -> Ask<LoadAnswer>
         ensures next { self.new ≡ record self.old { step = LoadsHeader addr } }
         ensures ask { result ≡ load_ask self.old.places (LoadsHeader addr) }
+        ensures bounded { load_asks_left self.new.step ≤ 2 }
     {
         self.step = Loading::LoadsHeader(addr);
         self.ask()
     }
 
     /// Goes on to load the value, where header and key are loaded; else it stays where it is.
-    #[tactic(auto, unfolding(crate::specs::Loading::load_on))]
+    #[tactic(auto, unfolding(crate::specs::Loading::load_on, crate::specs::Loading::load_asks_left))]
     pub fn load_value(&mut self) -> Ask<LoadAnswer>
         ensures next { self.new ≡ record self.old { step = load_on self.old.step } }
         ensures ask { result ≡ load_ask self.old.places (load_on self.old.step) }
+        ensures bounded { load_asks_left self.new.step ≤ load_asks_left self.old.step + 1 }
     {
         if let Loading::HasKey(addr, header, key) = self.step {
             self.step = Loading::LoadsValue(addr, header, key);
@@ -77,10 +80,11 @@ impl LoadRecord {
     }
 
     /// Goes on with the reply to its ask. At rest, and until `load_value` is called, it stays where it is.
-    #[tactic(auto, unfolding(crate::specs::Loading::load_next, crate::specs::Loading::load_next_ask))]
+    #[tactic(auto, unfolding(crate::specs::Loading::load_next, crate::specs::Loading::load_next_ask, crate::specs::Loading::load_asks_left))]
     pub fn drive(&mut self, reply: u64) -> Ask<LoadAnswer>
         ensures next { self.new ≡ record self.old { step = load_next self.old.step reply } }
         ensures ask { result ≡ load_next_ask self.old.places self.old.step reply }
+        ensures fewer { load_asks_left self.new.step ≤ load_asks_left self.old.step - 1 }
     {
         match self.step {
             Loading::LoadsHeader(addr) => self.step = Loading::LoadsKey(addr, reply),

@@ -1,5 +1,5 @@
 //! How an address is reserved at the tail of the log.
-ghost use Rattle.std.specs.Prelude.{◌≡◌, ◌*◌};
+ghost use Rattle.std.specs.Prelude.{◌≡◌, ◌≤◌, ◌-◌, ◌*◌};
 ghost use Rattle.fkv_log.specs.Reserving.{reserved_where};
 
 use fkv_base::{Addr, Shape};
@@ -47,7 +47,7 @@ impl Model for Reserve {
 }
 
 impl Reserve {
-    ghost use Rattle.fkv_log.specs.Reserving.{reserve_ask, reserve_next, reserve_next_ask, no_room_at};
+    ghost use Rattle.fkv_log.specs.Reserving.{reserve_ask, reserve_next, reserve_next_ask, reserve_asks_left, no_room_at};
     ghost use Rattle.fkv_log.specs.declared.reserving.Reserving.TheVariants.{AtRest, LoadsLimit};
 
     /// The machine of a store of this shape, at rest.
@@ -61,20 +61,22 @@ impl Reserve {
     }
 
     /// The first ask.
-    #[tactic(auto, unfolding(crate::specs::Reserving::reserve_ask))]
+    #[tactic(auto, unfolding(crate::specs::Reserving::reserve_ask, crate::specs::Reserving::reserve_asks_left))]
     pub fn start(&mut self) -> Ask<ReserveAnswer>
         ensures next { self.new ≡ record self.old { step = LoadsLimit } }
         ensures ask { result ≡ reserve_ask LoadsLimit }
+        ensures bounded { reserve_asks_left self.new.step ≤ 3 }
     {
         self.step = Reserving::LoadsLimit;
         Ask::Load(SharedWord::Limit.place())
     }
 
     /// Goes on with the reply to its ask. At rest it stays where it is.
-    #[tactic(auto, unfolding(crate::specs::Reserving::reserve_next, crate::specs::Reserving::reserve_next_ask))]
+    #[tactic(auto, unfolding(crate::specs::Reserving::reserve_next, crate::specs::Reserving::reserve_next_ask, crate::specs::Reserving::reserve_asks_left))]
     pub fn drive(&mut self, reply: u64) -> Ask<ReserveAnswer>
         ensures next { self.new ≡ record self.old { step = reserve_next self.old.step reply } }
         ensures ask { result ≡ reserve_next_ask self.old.room self.old.step reply }
+        ensures fewer { reserve_asks_left self.new.step ≤ reserve_asks_left self.old.step - 1 }
     {
         match self.step {
             Reserving::LoadsLimit => self.step = Reserving::LoadsTail(reply),
