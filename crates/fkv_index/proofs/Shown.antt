@@ -3,5 +3,5 @@ pub use Rattle.fkv_index.proofs.Asks.{find_asks, next_fewer, publish_asks}
 pub use Rattle.fkv_index.proofs.Rows.{Stands, SeekKnows, EnterKnows, WorkKnows}
 pub use Rattle.fkv_index.proofs.Runs.{IsSound, HasHappened, event_happened, run_sound, opening_sound, sound_answers, sound_slots}
 pub use Rattle.fkv_index.proofs.Losing.{sound_lost}
-pub use Rattle.fkv_index.proofs.EntrySteps.{sound_entries, event_entries}
+pub use Rattle.fkv_index.proofs.EntrySteps.{sound_entries, sound_publishes, event_entries}
 pub use Rattle.fkv_index.proofs.Empty.{empty_is_index}

@@ -18,7 +18,7 @@ use Rattle.fkv_index.specs.declared.publishing.Publishing.{Publishing}
 use Rattle.fkv_index.specs.declared.publishing.Publishing.TheVariants as publish
 use Rattle.fkv_index.specs.Slots.{bucket_slots, entry_addr, link_of}
 use Rattle.fkv_index.specs.Finding.{rested, first_finding, find_ask, find_next, find_next_ask}
-use Rattle.fkv_index.specs.Publishing.{publish_ask, publish_next}
+use Rattle.fkv_index.specs.Publishing.{publish_first, publish_ask, publish_next}
 
 -- What an actor is about.
 pub data SlotWork : Type 0 where
@@ -96,7 +96,7 @@ abbrev pub new_entry : ℕ → ℕ → ℕ
 new_entry addr tag = addr + tag * 2 ^ 48
 
 abbrev pub work_begun : Finding → ℕ → SlotWork → SlotWork
-work_begun f addr (Holds place word) = if may_publish word addr then Enters (publish.SwapsEntry place word (new_entry addr f.home.tag)) else Holds place word
+work_begun f addr (Holds place word) = if may_publish word addr then Enters (publish_first place word (new_entry addr f.home.tag)) else Holds place word
 work_begun f addr work = work
 
 abbrev pub publish_begun : IndexNow → ℕ → ℕ → Option IndexActor → IndexNow

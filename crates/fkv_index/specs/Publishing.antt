@@ -10,6 +10,10 @@ use Rattle.fkv_index.specs.declared.publishing.Publishing.TheVariants.{AtRest, S
 pub record Publisher : Type 0 where
   pub step : Publishing
 
+-- a publish begins with the slot's place, the word that was found there, and the word of the new entry
+abbrev pub publish_first : ℕ → ℕ → ℕ → Publishing
+publish_first place word entry = SwapsEntry place word entry
+
 -- what each state asks
 unfoldable pub publish_ask : Publishing → Ask PublishAnswer
 publish_ask AtRest = Done Lost

@@ -1,6 +1,6 @@
 //! What holds of the index, over every list of events.
 ghost use Rattle.fkv_index.specs.OneEntry.{AtEachMoment, IsIndexAt, AnswersTrue, ContendedHaveLost, HaveSlots, EachGrows};
-ghost use Rattle.fkv_index.specs.Entries.{AnswersEntry, EachMovesEntries};
+ghost use Rattle.fkv_index.specs.Entries.{AnswersEntry, PublishesTrue, EachMovesEntries};
 ghost use Rattle.fkv_index.specs.EighthEntry.{EmptyIsIndex, LinksOnce};
 
 /// Whatever the order of the steps of all that search and publish, and whatever others do to words that are not the index's,
@@ -15,10 +15,12 @@ pub fn law_one_entry()
     ensures grows { AtEachMoment EachGrows }
 {}
 
-/// Over the same runs: what a search comes to is the entry that its home has at that step. A publish that is won puts its entry
-/// in the place of the one that was found, and that is what its home had until then; no other step changes the entry of a home.
+/// Over the same runs: what a search comes to is the entry that its home has at that step. A publish is answered as won just where
+/// the word that was found stands in its slot, and puts its entry in the place of it then; that is what its home had until then.
+/// A publish that is answered as lost changes no word, and no other step changes the entry of a home.
 pub fn law_entries()
     ensures answers { AtEachMoment AnswersEntry }
+    ensures publishes { AtEachMoment PublishesTrue }
     ensures moves { AtEachMoment EachMovesEntries }
 {}
 

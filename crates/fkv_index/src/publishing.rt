@@ -1,7 +1,7 @@
 //! How an entry is published.
 ghost use Rattle.std.specs.Prelude.{◌≡◌};
 ghost use Rattle.fkv_words.specs.Layout.{entry_word};
-ghost use Rattle.fkv_index.specs.Publishing.{publish_ask, publish_next, publish_next_ask, published_where};
+ghost use Rattle.fkv_index.specs.Publishing.{publish_first, publish_ask, publish_next, publish_next_ask, published_where};
 
 use fkv_plane::Ask;
 use fkv_words::Entry;
@@ -38,7 +38,8 @@ impl Model for Publish {
 }
 
 impl Publish {
-    ghost use Rattle.fkv_index.specs.declared.publishing.Publishing.TheVariants.{AtRest, SwapsEntry};
+    ghost use Rattle.fkv_plane.specs.declared.asks.Ask.TheVariants.{Cas};
+    ghost use Rattle.fkv_index.specs.declared.publishing.Publishing.TheVariants.{AtRest};
 
     /// The machine at rest.
     pub fn new() -> Publish
@@ -52,8 +53,8 @@ impl Publish {
     /// The first ask: to publish the entry in the slot at this place, where this word was found.
     #[tactic(auto, unfolding(crate::specs::Publishing::publish_ask))]
     pub fn start(&mut self, place: usize, word: u64, entry: Entry) -> Ask<PublishAnswer>
-        ensures next { self.new ≡ record { step = SwapsEntry place word (entry_word entry) } }
-        ensures ask { result ≡ publish_ask (SwapsEntry place word (entry_word entry)) }
+        ensures next { self.new ≡ record { step = publish_first place word (entry_word entry) } }
+        ensures ask { result ≡ Cas place word (entry_word entry) }
     {
         self.step = Publishing::SwapsEntry(place, word, entry.pack());
         self.ask()

@@ -90,6 +90,16 @@ fn seven_entries_fill_a_bucket(rt: HostRuntime) -> Result<(), Fail> {
     assert_eq!(rt; publish(&mut plane, 58, 0, 6, 3), Some(PublishAnswer::Lost));
     assert_eq!(rt; plane.word(58), third);
     assert_eq!(rt;
+        publish(&mut plane, 58, third, 6, 3),
+        Some(PublishAnswer::Won)
+    );
+    assert_eq!(rt; plane.word(58), third + 1);
+    assert_eq!(rt;
+        publish(&mut plane, 58, third, 7, 3),
+        Some(PublishAnswer::Lost)
+    );
+    assert_eq!(rt; plane.word(58), third + 1);
+    assert_eq!(rt;
         find(&mut plane, &mut machine, 8, Purpose::Read, 0),
         Some((Found::NoSlot, 0))
     );
