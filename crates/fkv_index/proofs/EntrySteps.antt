@@ -22,7 +22,7 @@ use Rattle.fkv_index.specs.Slots.{entry_addr, entry_tag}
 use Rattle.fkv_index.specs.Finding.{find_step_ask, find_ask, find_next_ask, first_finding}
 use Rattle.fkv_index.specs.Publishing.{publish_ask, publish_next_ask}
 use Rattle.fkv_index.specs.Buckets.{bucket_words, overflow_bucket, IsAmong, HasOneEntry}
-use Rattle.fkv_index.specs.IndexWorld.{SlotWork, Seeks, Holds, Enters, IndexActor, IndexEvent, BeginsFind, BeginsPublish, Moves, Changes, IndexWorld, taken_of, is_barred, may_find, find_begun, publish_begun, with_link, lists_sought, lists_by, actor_step, moved, lists_moved, index_happens}
+use Rattle.fkv_index.specs.IndexWorld.{SlotWork, Seeks, Holds, Enters, IndexActor, IndexEvent, BeginsFind, BeginsPublish, Moves, Changes, IndexWorld, taken_of, is_barred, may_find, find_begun, publish_begun, with_link, lists_sought, lists_by, actor_step, actor_after, moved, lists_moved, index_happens}
 use Rattle.fkv_index.specs.OneEntry.{SpareOf, ListedAt, spare_at, spare_in, IsFresh, IsIndex, IsHome, HasSlot, IsTrue, IsTrueAnswer}
 use Rattle.fkv_index.specs.Entries.{entry_at, entry_of, IsEntryFound, IsEntryAnswered, AnswersEntry, IsPublishTrue, PublishesTrue, won_entry, published_in, published_by, published, IsPublished, EntriesMove}
 use Rattle.fkv_index.proofs.Orders.{same_or_not, passed_among, among_more, among_kept, beside}
@@ -224,14 +224,14 @@ moved_entries : (w : IndexWorld) (actor : ℕ) (found : Option IndexActor) → s
     → EntriesMove (published_by w.now found) (entry_of w) (entry_of (record { now = moved w.now actor found; lists = lists_moved w.now w.lists found })) w.now.places
 moved_entries w actor None got sound after = λ home real. refl
 moved_entries w actor (Some x) got sound after =
-    work_entries w.now.places actor w.now.words w.lists (spare_at w.now.actors) (spare_at (slice_set w.now.actors actor (actor_step w.now.places w.now.words x.finding x.work).actor)) x.finding x.work sound.its_index (ap spare_in got) (sound.rows actor x got) after.its_index
+    work_entries w.now.places actor w.now.words w.lists (spare_at w.now.actors) (spare_at (slice_set w.now.actors actor (actor_after w.now.places w.now.words x x.work))) x.finding x.work sound.its_index (ap spare_in got) (sound.rows actor x got) after.its_index
 
 -- the beginning of a search or a publish changes no word
 begun_same : (w : IndexWorld) (actor : ℕ) (home : Home) (purpose : Purpose) (found : Option IndexActor) (its : Home) → entry_of (record w { now = find_begun w.now actor home purpose found }) its ≡ entry_of w its
 begun_same w actor home purpose None its = refl
 begun_same w actor home purpose (Some x) its = tested (may_find w.now.places home x)
   where
-    tested : (b : Bool) → entry_of (record w { now = if b then record w.now { actors = slice_set w.now.actors actor (record { finding = first_finding w.now.places home purpose x.finding.spare; work = Seeks }) } else w.now }) its ≡ entry_of w its
+    tested : (b : Bool) → entry_of (record w { now = if b then record w.now { actors = slice_set w.now.actors actor (record x { finding = first_finding w.now.places home purpose x.spare; work = Seeks; purpose = purpose }) } else w.now }) its ≡ entry_of w its
     tested true = refl
     tested false = refl
 

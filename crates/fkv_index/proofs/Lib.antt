@@ -1,4 +1,5 @@
 mod Asks
+mod Begun
 mod BucketWords
 mod Distinct
 mod Empty

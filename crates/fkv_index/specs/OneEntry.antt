@@ -1,11 +1,12 @@
 -- What holds of the index at every moment: its buckets in order, one entry for each home, and what searches have found.
 use Rattle.std.specs.Prelude.{◌≡◌, ℕ, ◌+◌, ◌^◌, ◌<◌, ◌≤◌, ◌⊎◌, List, ◌++◌, slice_get, length, Option, Some, None, ⊤}
 use Rattle.fkv_plane.specs.declared.asks.Ask.{Ask}
-use Rattle.fkv_plane.specs.declared.asks.Ask.TheVariants.{Done}
+use Rattle.fkv_plane.specs.declared.asks.Ask.TheVariants.{Load, Done}
 use Rattle.fkv_plane.specs.declared.places.Places.{Places}
 use Rattle.fkv_plane.specs.Places.{bucket_place, frames_start}
 use Rattle.fkv_plane.specs.Asked.{word_at, reply_to}
 use Rattle.fkv_index.specs.declared.homes.Home.{Home}
+use Rattle.fkv_index.specs.declared.finding.Purpose.TheVariants.{Read}
 use Rattle.fkv_index.specs.declared.finding.Found.{Found}
 use Rattle.fkv_index.specs.declared.finding.Found.TheVariants.{Slot, NoSlot, Full, Contended}
 use Rattle.fkv_index.specs.declared.finding.FindAnswer.{FindAnswer}
@@ -16,7 +17,7 @@ use Rattle.fkv_index.specs.declared.finding.Finding.{Finding}
 use Rattle.fkv_index.specs.Slots.{bucket_slots, entry_addr, entry_tag, link_of}
 use Rattle.fkv_index.specs.Finding.{find_ask, find_next_ask}
 use Rattle.fkv_index.specs.Buckets.{bucket_words, overflow_bucket, IsLinked, AreFilled, HasOneEntry, HasPassed, LacksTag, IsMember, IsOnce}
-use Rattle.fkv_index.specs.IndexWorld.{Seeks, Holds, IndexActor, IndexEvent, IndexWorld, taken_of, index_happens, index_run, index_opening}
+use Rattle.fkv_index.specs.IndexWorld.{Seeks, Holds, IndexActor, IndexEvent, Moves, IndexWorld, taken_of, index_happens, index_run, index_opening}
 
 -- Who has an overflow bucket: nobody while it isn't taken, then the session that took it, and then the bucket to which it was linked.
 pub data Owner : Type 0 where
@@ -122,6 +123,20 @@ HasLost words f (LinksBucket word) = word_at words (f.base + bucket_slots) ≡ w
 abbrev pub ContendedHaveLost : IndexWorld → Type 0
 ContendedHaveLost w = (actor : ℕ) (x : IndexActor) (answer : FindAnswer) → slice_get w.now.actors actor ≡ Some x → x.work ≡ Seeks
     → find_next_ask w.now.places x.finding (reply_to w.now.words (find_ask x.finding)) ≡ Done answer → answer.found ≡ Contended → HasLost w.now.words x.finding x.finding.step
+
+-- the bucket that a search at rest has told its actor of is the one that it owns
+abbrev pub SparesTold : IndexWorld → Type 0
+SparesTold w = (actor : ℕ) (x : IndexActor) → slice_get w.now.actors actor ≡ Some x → x.finding.step ≡ AtRest → x.spare ≡ spare_at w.now.actors actor
+
+abbrev pub IsLoad : {A : Type 0} → Ask A → Type 0
+IsLoad (Load place) = ⊤
+IsLoad (Done answer) = ⊤
+IsLoad ask = ⊥
+
+-- a read asks for loads alone, and changes no word
+abbrev pub ReadsLoad : IndexWorld → Type 0
+ReadsLoad w = (actor : ℕ) (x : IndexActor) → slice_get w.now.actors actor ≡ Some x → x.work ≡ Seeks → x.purpose ≡ Read
+    → IsLoad (find_ask x.finding) × ((index_happens w (Moves actor)).now.words ≡ w.now.words)
 
 -- and what was found stays found until the entry is published, or another search begins
 abbrev pub HaveSlots : IndexWorld → Type 0

@@ -1,16 +1,20 @@
 //! What holds of the index, over every list of events.
-ghost use Rattle.fkv_index.specs.OneEntry.{AtEachMoment, IsIndexAt, AnswersTrue, ContendedHaveLost, HaveSlots, EachGrows};
+ghost use Rattle.fkv_index.specs.OneEntry.{AtEachMoment, IsIndexAt, AnswersTrue, ContendedHaveLost, SparesTold, ReadsLoad, HaveSlots, EachGrows};
 ghost use Rattle.fkv_index.specs.Entries.{AnswersEntry, PublishesTrue, EachMovesEntries};
 ghost use Rattle.fkv_index.specs.EighthEntry.{EmptyIsIndex, LinksOnce};
 
 /// Whatever the order of the steps of all that search and publish, and whatever others do to words that are not the index's,
 /// and to the upper bits of eighth words: the buckets are in order, each home has one entry at most, and each overflow bucket
 /// that is taken is in one list or is one session's spare. What a search comes to is so at the step that ends it, one that
-/// ends as contended has lost against another, and a slot that was found stays the home's. A slot that is not empty keeps its tag for good, and lists grow at their ends.
+/// ends as contended has lost against another, and a slot that was found stays the home's. The spare that a search answers is the
+/// one that its session owns, and a search that is a read changes no word. A slot that is not empty keeps its tag for good, and
+/// lists grow at their ends.
 pub fn law_one_entry()
     ensures index { AtEachMoment IsIndexAt }
     ensures answers { AtEachMoment AnswersTrue }
     ensures contended { AtEachMoment ContendedHaveLost }
+    ensures spares { AtEachMoment SparesTold }
+    ensures reads { AtEachMoment ReadsLoad }
     ensures slots { AtEachMoment HaveSlots }
     ensures grows { AtEachMoment EachGrows }
 {}
