@@ -5,6 +5,7 @@ mod Distinct
 mod Empty
 mod EntryLists
 mod EntrySteps
+mod HomesThere
 mod Index
 mod IndexSteps
 mod Losing

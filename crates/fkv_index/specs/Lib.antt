@@ -1,4 +1,5 @@
 pub mod Buckets
+pub mod Counted
 pub mod EighthEntry
 pub mod Entries
 pub mod Finding

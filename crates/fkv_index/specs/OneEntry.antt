@@ -1,5 +1,6 @@
 -- What holds of the index at every moment: its buckets in order, one entry for each home, and what searches have found.
 use Rattle.std.specs.Prelude.{◌≡◌, ℕ, ◌+◌, ◌^◌, ◌<◌, ◌≤◌, ◌⊎◌, List, ◌++◌, slice_get, length, Option, Some, None, ⊤}
+use Rattle.fkv_base.specs.declared.numbers.Key.{Key}
 use Rattle.fkv_plane.specs.declared.asks.Ask.{Ask}
 use Rattle.fkv_plane.specs.declared.asks.Ask.TheVariants.{Load, Done}
 use Rattle.fkv_plane.specs.declared.places.Places.{Places}
@@ -14,7 +15,7 @@ use Rattle.fkv_index.specs.declared.finding.Linking.TheVariants.{Made}
 use Rattle.fkv_index.specs.declared.finding.FindStep.{FindStep}
 use Rattle.fkv_index.specs.declared.finding.FindStep.TheVariants.{AtRest, LoadsSlot, LoadsLink, LoadsTaken, TakesBucket, LinksBucket}
 use Rattle.fkv_index.specs.declared.finding.Finding.{Finding}
-use Rattle.fkv_index.specs.Slots.{bucket_slots, entry_addr, entry_tag, link_of}
+use Rattle.fkv_index.specs.Slots.{bucket_slots, home_of, entry_addr, entry_tag, link_of}
 use Rattle.fkv_index.specs.Finding.{find_ask, find_next_ask}
 use Rattle.fkv_index.specs.Buckets.{bucket_words, overflow_bucket, IsLinked, AreFilled, HasOneEntry, HasPassed, LacksTag, IsMember, IsOnce}
 use Rattle.fkv_index.specs.IndexWorld.{Seeks, Holds, IndexActor, IndexEvent, Moves, IndexWorld, taken_of, index_happens, index_run, index_opening}
@@ -71,6 +72,10 @@ IsIndexAt w = IsIndex w.now.places w.now.words w.lists (spare_at w.now.actors)
 pub record IsHome (p : Places) (home : Home) : Type 0 where
   pub few : home.bucket < p.buckets
   pub fits : home.tag < 2 ^ 15
+
+-- each key has a home that there is, where there are 2^bits buckets
+abbrev pub HomesAreThere : Type 0
+HomesAreThere = (p : Places) (bits : ℕ) (key : Key) → p.buckets ≡ 2 ^ bits → IsHome p (home_of bits key)
 
 -- a slot that has held an entry of the tag, and has that entry now or a newer one of the same tag
 pub record HasHeld (tag word now : ℕ) : Type 0 where

@@ -32,3 +32,8 @@ published_where word found = if found == word then Won else Lost
 unfoldable pub publish_next_ask : Publishing → ℕ → Ask PublishAnswer
 publish_next_ask AtRest reply = Done Lost
 publish_next_ask (SwapsEntry place word entry) reply = Done (published_where word reply)
+
+-- how many asks a publish still makes
+unfoldable pub publish_asks_left : Publishing → ℕ
+publish_asks_left AtRest = 0
+publish_asks_left (SwapsEntry place word entry) = 1

@@ -1,7 +1,12 @@
 //! What holds of the index, over every list of events.
-ghost use Rattle.fkv_index.specs.OneEntry.{AtEachMoment, IsIndexAt, AnswersTrue, ContendedHaveLost, SparesTold, ReadsLoad, HaveSlots, EachGrows};
+ghost use Rattle.fkv_index.specs.OneEntry.{HomesAreThere, AtEachMoment, IsIndexAt, AnswersTrue, ContendedHaveLost, SparesTold, ReadsLoad, HaveSlots, EachGrows};
 ghost use Rattle.fkv_index.specs.Entries.{AnswersEntry, PublishesTrue, EachMovesEntries};
 ghost use Rattle.fkv_index.specs.EighthEntry.{EmptyIsIndex, LinksOnce};
+
+/// The home of a key is one that the index has.
+pub fn law_homes()
+    ensures { HomesAreThere }
+{}
 
 /// Whatever the order of the steps of all that search and publish, and whatever others do to words that are not the index's,
 /// and to the upper bits of eighth words: the buckets are in order, each home has one entry at most, and each overflow bucket

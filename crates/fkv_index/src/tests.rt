@@ -1,6 +1,6 @@
 use crate::{
     Find, FindAnswer, Found, Home, Publish, PublishAnswer, Purpose, home_of, law_entries,
-    law_of_the_eighth_entry, law_one_entry,
+    law_homes, law_of_the_eighth_entry, law_one_entry,
 };
 use fkv_base::{Addr, Key, Shape};
 use fkv_plane::{Ask, Places, PlainWords};
@@ -180,6 +180,7 @@ fn two_sessions_link_at_once(rt: HostRuntime) -> Result<(), Fail> {
         Some((Found::Slot(64, 0), 0))
     );
     assert_eq!(rt; (plane.word(63), plane.word(79), plane.word(10)), (2, 1, 2));
+    law_homes();
     law_one_entry();
     law_entries();
     law_of_the_eighth_entry();
