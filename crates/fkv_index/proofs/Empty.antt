@@ -49,6 +49,7 @@ empty_is_index p words actors enough =
       linked = λ bucket low. ap link_of (slot bucket 7);
       filled = λ bucket low i j before few empty. slot bucket j;
       one_entry = λ bucket low m k i j a z few high some other e. absurd (some (slot m i));
+      no_others = λ bucket high. refl;
       entries = λ m i real low. inl (slot m i);
       owner = λ number. Nobody;
       owned = empty_owned actors (taken_of (replicate words 0)) (zero_at words 10);

@@ -1,5 +1,5 @@
 -- What holds of the index at every moment: its buckets in order, one entry for each home, and what searches have found.
-use Rattle.std.specs.Prelude.{◌≡◌, ℕ, ◌+◌, ◌^◌, ◌<◌, ◌≤◌, ◌⊎◌, List, ◌++◌, slice_get, length, Option, Some, None, ⊤}
+use Rattle.std.specs.Prelude.{◌≡◌, ℕ, ◌+◌, ◌^◌, ◌<◌, ◌≤◌, ◌⊎◌, List, [], ◌++◌, slice_get, length, Option, Some, None, ⊤}
 use Rattle.fkv_base.specs.declared.numbers.Key.{Key}
 use Rattle.fkv_plane.specs.declared.asks.Ask.{Ask}
 use Rattle.fkv_plane.specs.declared.asks.Ask.TheVariants.{Load, Done}
@@ -60,6 +60,8 @@ pub record IsIndex (p : Places) (words : List ℕ) (lists : ℕ → List ℕ) (s
   pub linked : (bucket : ℕ) → bucket < p.buckets → IsLinked p.buckets (bucket_words p words) bucket (lists bucket)
   pub filled : (bucket : ℕ) → bucket < p.buckets → AreFilled p.buckets (bucket_words p words) bucket (lists bucket)
   pub one_entry : (bucket : ℕ) → bucket < p.buckets → HasOneEntry p.buckets (bucket_words p words) bucket (lists bucket)
+  -- no overflow bucket follows one that isn't there
+  pub no_others : (bucket : ℕ) → p.buckets ≤ bucket → lists bucket ≡ []
   pub entries : (m i : ℕ) → m < p.buckets + p.overflow → i < bucket_slots → IsSlotWord (bucket_words p words m i)
   pub owner : ℕ → Owner
   pub owned : AreOwned (taken_of words) lists spares owner
@@ -167,6 +169,6 @@ pub record Grows (p : Places) (words after : List ℕ) (lists lists_after : ℕ 
 abbrev pub AtEachMoment : (IndexWorld → Type 0) → Type 0
 AtEachMoment P = (p : Places) (words : List ℕ) (lists : ℕ → List ℕ) (actors : ℕ) (events : List IndexEvent) → IsIndexAt (index_opening p words lists actors) → P (index_run (index_opening p words lists actors) events)
 
--- each event lets the index grow, and nothing else
+-- each event keeps the tags of entries and lets lists and the count grow; what else it changes the laws on entries and orders say
 abbrev pub EachGrows : IndexWorld → Type 0
 EachGrows w = (event : IndexEvent) → Grows w.now.places w.now.words (index_happens w event).now.words w.lists (index_happens w event).lists
