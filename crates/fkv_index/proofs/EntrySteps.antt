@@ -86,7 +86,7 @@ quiet_slots : (p : Places) (words after : List ℕ) (lists : ℕ → List ℕ) (
 quiet_slots p words after lists spares index quiet = same_slots p words after lists (λ c m i low among few. quiet.same_slots m i (among_real c m index low among) few)
 
 -- a bucket that somebody has to spare is empty
-spare_fresh : (p : Places) (words : List ℕ) (lists : ℕ → List ℕ) (spares : ℕ → ℕ) (actor number : ℕ) → IsIndex p words lists spares → spares actor ≡ number → 1 ≤ number → IsFresh (bucket_words p words) (overflow_bucket p.buckets number)
+pub spare_fresh : (p : Places) (words : List ℕ) (lists : ℕ → List ℕ) (spares : ℕ → ℕ) (actor number : ℕ) → IsIndex p words lists spares → spares actor ≡ number → 1 ≤ number → IsFresh (bucket_words p words) (overflow_bucket p.buckets number)
 spare_fresh p words lists spares actor number index its some =
     let had : 1 ≤ spares actor = subst (λ x. 1 ≤ x) (sym its) some in
     let high = spare_taken actor index.owned had in

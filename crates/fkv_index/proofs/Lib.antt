@@ -9,6 +9,8 @@ mod HomesThere
 mod Index
 mod IndexSteps
 mod Losing
+mod OrderLists
+mod OrderSteps
 mod Orders
 mod Owned
 mod Ranges

@@ -6,4 +6,5 @@ pub mod Finding
 pub mod IndexWorld
 pub mod OneEntry
 pub mod Publishing
+pub mod SlotOrders
 pub mod Slots

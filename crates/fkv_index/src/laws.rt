@@ -1,6 +1,7 @@
 //! What holds of the index, over every list of events.
 ghost use Rattle.fkv_index.specs.OneEntry.{HomesAreThere, AtEachMoment, IsIndexAt, AnswersTrue, ContendedHaveLost, SparesTold, ReadsLoad, HaveSlots, EachGrows};
 ghost use Rattle.fkv_index.specs.Entries.{AnswersEntry, PublishesTrue, EachMovesEntries};
+ghost use Rattle.fkv_index.specs.SlotOrders.{OrdersFilled, OrdersHaveTagsOnce, EachMovesOrders};
 ghost use Rattle.fkv_index.specs.EighthEntry.{EmptyIsIndex, LinksOnce};
 
 /// The home of a key is one that the index has.
@@ -31,6 +32,15 @@ pub fn law_entries()
     ensures answers { AtEachMoment AnswersEntry }
     ensures publishes { AtEachMoment PublishesTrue }
     ensures moves { AtEachMoment EachMovesEntries }
+{}
+
+/// Over the same runs, on the list of a bucket's slot words, the bucket and its overflow buckets one after another: the list is
+/// filled from the left, and no two of its words are entries of one tag. A publish that is won changes one word of one list, a link adds seven empty slots at the end of one, and
+/// nothing else changes any.
+pub fn law_orders()
+    ensures filled { AtEachMoment OrdersFilled }
+    ensures tags { AtEachMoment OrdersHaveTagsOnce }
+    ensures moves { AtEachMoment EachMovesOrders }
 {}
 
 /// An index without entries is in order, and a run that begins with one: seven entries fill a bucket, two sessions link at once,

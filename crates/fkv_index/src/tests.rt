@@ -1,6 +1,6 @@
 use crate::{
     Find, FindAnswer, Found, Home, Publish, PublishAnswer, Purpose, home_of, law_entries,
-    law_homes, law_of_the_eighth_entry, law_one_entry,
+    law_homes, law_of_the_eighth_entry, law_one_entry, law_orders,
 };
 use fkv_base::{Addr, Key, Shape};
 use fkv_plane::{Ask, Places, PlainWords};
@@ -183,6 +183,7 @@ fn two_sessions_link_at_once(rt: HostRuntime) -> Result<(), Fail> {
     law_homes();
     law_one_entry();
     law_entries();
+    law_orders();
     law_of_the_eighth_entry();
     Ok(())
 }
