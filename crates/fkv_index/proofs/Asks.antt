@@ -18,8 +18,9 @@ use Rattle.fkv_index.specs.declared.finding.Led.TheVariants.{On, Ends}
 use Rattle.fkv_index.specs.declared.publishing.Publishing.{Publishing}
 use Rattle.fkv_index.specs.declared.publishing.Publishing.TheVariants as publish
 use Rattle.fkv_index.specs.Slots.{slot_word, link_of}
-use Rattle.fkv_index.specs.Finding.{find_step_ask, find_led, slot_led, slot_after, entered, ended_list, link_led, step_asks_left, led_asks_left, linking_asks, asks_left, led_to, find_next}
-use Rattle.fkv_index.specs.Publishing.{publish_ask}
+use Rattle.fkv_index.specs.Finding.{find_step_ask, find_led, slot_led, slot_after, entered, ended_list, link_led, step_asks_left, led_asks_left, linking_asks, asks_left, led_to, led_ask, find_next, find_next_ask}
+use Rattle.fkv_index.specs.Publishing.{publish_ask, publish_next, publish_next_ask, publish_asks_left}
+use Rattle.fkv_index.specs.Counted.{IsCounted}
 
 pub find_asks : (f : Finding) (step : FindStep) → (step ≡ AtRest) ⊎ (is_done (find_step_ask f step) ≡ false)
 unfolding find_step_ask
@@ -106,3 +107,36 @@ pub linking_few : (linking : Linking) → linking_asks linking ≤ 3
 linking_few Never = omega arith
 linking_few Once = omega arith
 linking_few Made = omega arith
+
+-- while a machine asks, asks are left
+pub find_counted : (f : Finding) (step : FindStep) → IsCounted (step_asks_left f step) (find_step_ask f step)
+unfolding find_step_ask step_asks_left
+find_counted f AtRest = refl
+find_counted f (LoadsSlot slot) = omega arith
+find_counted f LoadsLink = omega arith
+find_counted f (LoadsTaken word) = omega arith
+find_counted f (TakesBucket word taken) = omega arith
+find_counted f (LinksBucket word) = omega arith
+
+led_counted : (led : Led) → IsCounted (asks_left (led_to led)) (led_ask led)
+unfolding step_asks_left
+led_counted (On f) = find_counted f f.step
+led_counted (Ends f found) = refl
+
+pub next_counted : (p : Places) (f : Finding) (reply : ℕ) → IsCounted (asks_left (find_next p f reply)) (find_next_ask p f reply)
+next_counted p f reply = led_counted (find_led p f f.step reply)
+
+pub publish_fewer : (step : Publishing) (reply : ℕ) → 0 < publish_asks_left step → publish_asks_left (publish_next step reply) < publish_asks_left step
+unfolding publish_next publish_asks_left
+publish_fewer publish.AtRest reply some = some
+publish_fewer (publish.SwapsEntry place word entry) reply some = some
+
+pub publish_counted : (step : Publishing) → IsCounted (publish_asks_left step) (publish_ask step)
+unfolding publish_ask publish_asks_left
+publish_counted publish.AtRest = refl
+publish_counted (publish.SwapsEntry place word entry) = omega arith
+
+pub publish_next_counted : (step : Publishing) (reply : ℕ) → IsCounted (publish_asks_left (publish_next step reply)) (publish_next_ask step reply)
+unfolding publish_next publish_next_ask publish_asks_left
+publish_next_counted publish.AtRest reply = refl
+publish_next_counted (publish.SwapsEntry place word entry) reply = refl

@@ -4,9 +4,8 @@ use Rattle.std.specs.Prelude.{replicate}
 use Rattle.fkv_plane.specs.Places.{bucket_place}
 use Rattle.fkv_plane.specs.Asked.{word_at}
 use Rattle.fkv_index.specs.Slots.{link_of}
-use Rattle.fkv_index.specs.Finding.{rested}
 use Rattle.fkv_index.specs.Buckets.{bucket_words}
-use Rattle.fkv_index.specs.IndexWorld.{Seeks, taken_of}
+use Rattle.fkv_index.specs.IndexWorld.{taken_of, rested_actor}
 use Rattle.fkv_index.specs.OneEntry.{Owner, Nobody, SpareOf, ListedAt, AreOwned, spare_at}
 use Rattle.fkv_index.specs.EighthEntry.{EmptyIsIndex}
 
@@ -19,7 +18,7 @@ length_zeros : (n : ℕ) → length {A = ℕ} (replicate n 0) ≡ n
 length_zeros zero = refl
 length_zeros (suc n) = ap suc (length_zeros n)
 
-no_spare : (n actor : ℕ) → spare_at (replicate n (record { finding = rested 0; work = Seeks })) actor ≡ 0
+no_spare : (n actor : ℕ) → spare_at (replicate n rested_actor) actor ≡ 0
 no_spare zero actor = refl
 no_spare (suc n) zero = refl
 no_spare (suc n) (suc actor) = no_spare n actor
@@ -30,7 +29,7 @@ nobody owner none bucket its = let e : Nobody ≡ ListedAt bucket = sym none ∙
 no_session : (actor : ℕ) → Nobody ≡ SpareOf actor → ⊥
 no_session actor e = cc
 
-empty_owned : (actors : ℕ) (taken : ℕ) → taken ≡ 0 → AreOwned taken (λ bucket. []) (spare_at (replicate actors (record { finding = rested 0; work = Seeks }))) (λ number. Nobody)
+empty_owned : (actors : ℕ) (taken : ℕ) → taken ≡ 0 → AreOwned taken (λ bucket. []) (spare_at (replicate actors rested_actor)) (λ number. Nobody)
 empty_owned actors taken none = record {
   listed = λ bucket number member. absurd member;
   in_list = λ bucket number its. absurd (nobody Nobody refl bucket its);
@@ -50,6 +49,7 @@ empty_is_index p words actors enough =
       linked = λ bucket low. ap link_of (slot bucket 7);
       filled = λ bucket low i j before few empty. slot bucket j;
       one_entry = λ bucket low m k i j a z few high some other e. absurd (some (slot m i));
+      no_others = λ bucket high. refl;
       entries = λ m i real low. inl (slot m i);
       owner = λ number. Nobody;
       owned = empty_owned actors (taken_of (replicate words 0)) (zero_at words 10);

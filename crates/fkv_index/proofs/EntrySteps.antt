@@ -1,6 +1,7 @@
 -- What a search finds is its home's entry, and a publish that is won changes that entry alone.
 use Rattle.std.proofs.Common.{◌≡◌, ℕ, ◌+◌, ◌<◌, ◌≤◌, List, refl, inl, inr, arith, sym, ap, ◌∙◌, subst, Bool, true, false, eqb-true}
 use Rattle.std.specs.Prelude.{Option, Some, None, slice_get, slice_set, ◌==◌, if◌then◌else◌}
+use Rattle.std.proofs.lemmas.Bool.Decides.{nat_tests}
 use Rattle.std.proofs.lemmas.List.{set-get_or}
 use Rattle.fkv_plane.specs.declared.asks.Ask.{Ask}
 use Rattle.fkv_plane.specs.declared.asks.Ask.TheVariants.{Done}
@@ -15,14 +16,15 @@ use Rattle.fkv_index.specs.declared.finding.FindAnswer.{FindAnswer}
 use Rattle.fkv_index.specs.declared.finding.FindStep.{FindStep}
 use Rattle.fkv_index.specs.declared.finding.FindStep.TheVariants.{AtRest, LoadsSlot, LoadsLink, LoadsTaken, TakesBucket, LinksBucket}
 use Rattle.fkv_index.specs.declared.finding.Finding.{Finding}
+use Rattle.fkv_index.specs.declared.publishing.PublishAnswer.TheVariants.{Won, Lost}
 use Rattle.fkv_index.specs.declared.publishing.Publishing.TheVariants as publish
 use Rattle.fkv_index.specs.Slots.{entry_addr, entry_tag}
 use Rattle.fkv_index.specs.Finding.{find_step_ask, find_ask, find_next_ask, first_finding}
-use Rattle.fkv_index.specs.Publishing.{publish_ask}
+use Rattle.fkv_index.specs.Publishing.{publish_ask, publish_next_ask}
 use Rattle.fkv_index.specs.Buckets.{bucket_words, overflow_bucket, IsAmong, HasOneEntry}
-use Rattle.fkv_index.specs.IndexWorld.{SlotWork, Seeks, Holds, Enters, IndexActor, IndexEvent, BeginsFind, BeginsPublish, Moves, Changes, IndexWorld, taken_of, is_barred, may_find, find_begun, publish_begun, with_link, lists_sought, lists_by, actor_step, moved, lists_moved, index_happens}
+use Rattle.fkv_index.specs.IndexWorld.{SlotWork, Seeks, Holds, Enters, IndexActor, IndexEvent, BeginsFind, BeginsPublish, Moves, Changes, IndexWorld, taken_of, is_barred, may_find, find_begun, publish_begun, with_link, lists_sought, lists_by, actor_step, actor_after, moved, lists_moved, index_happens}
 use Rattle.fkv_index.specs.OneEntry.{SpareOf, ListedAt, spare_at, spare_in, IsFresh, IsIndex, IsHome, HasSlot, IsTrue, IsTrueAnswer}
-use Rattle.fkv_index.specs.Entries.{entry_at, entry_of, IsEntryFound, IsEntryAnswered, AnswersEntry, published_in, published_by, published, IsPublished, EntriesMove}
+use Rattle.fkv_index.specs.Entries.{entry_at, entry_of, IsEntryFound, IsEntryAnswered, AnswersEntry, IsPublishTrue, PublishesTrue, won_entry, published_in, published_by, published, IsPublished, EntriesMove}
 use Rattle.fkv_index.proofs.Orders.{same_or_not, passed_among, among_more, among_kept, beside}
 use Rattle.fkv_index.proofs.BucketWords.{set_there, set_else, set_outside}
 use Rattle.fkv_index.proofs.Owned.{link_there, link_else, spare_taken}
@@ -53,6 +55,15 @@ pub sound_entries : (w : IndexWorld) → IsSound w → AnswersEntry w
 sound_entries w sound actor x got seeks =
     answered_entry w.now.places w.now.words w.lists (spare_at w.now.actors) x.finding.home (find_next_ask w.now.places x.finding (reply_to w.now.words (find_ask x.finding))) sound.its_index (sound_answers w sound actor x got seeks)
 
+-- what a publish is answered is so
+pub sound_publishes : (w : IndexWorld) → PublishesTrue w
+unfolding index_happens publish_ask publish_next_ask
+sound_publishes w actor x place word entry got its = rw (got, its) (tested (word_at w.now.words place == word) refl)
+  where
+    tested : (b : Bool) → (word_at w.now.words place == word) ≡ b → IsPublishTrue w.now.words place word entry (slice_set w.now.words place (if b then entry else word_at w.now.words place)) (Done (if b then Won else Lost))
+    tested true e = (eqb-true (word_at w.now.words place) word e, refl)
+    tested false e = (λ same. absurd (grind (arith, nat_tests, e, same)), set-get_or w.now.words place 0)
+
 -- all entries stay in their slots, and there are no others
 pub record KeepsSlots (p : Places) (words after : List ℕ) (lists lists' : ℕ → List ℕ) : Type 0 where
   pub stay : (c m i : ℕ) → c < p.buckets → IsAmong p.buckets c (lists c) m → i < 7 → (bucket_words p words m i ≡ 0 → ⊥) → IsAmong p.buckets c (lists' c) m × (bucket_words p after m i ≡ bucket_words p words m i)
@@ -75,7 +86,7 @@ quiet_slots : (p : Places) (words after : List ℕ) (lists : ℕ → List ℕ) (
 quiet_slots p words after lists spares index quiet = same_slots p words after lists (λ c m i low among few. quiet.same_slots m i (among_real c m index low among) few)
 
 -- a bucket that somebody has to spare is empty
-spare_fresh : (p : Places) (words : List ℕ) (lists : ℕ → List ℕ) (spares : ℕ → ℕ) (actor number : ℕ) → IsIndex p words lists spares → spares actor ≡ number → 1 ≤ number → IsFresh (bucket_words p words) (overflow_bucket p.buckets number)
+pub spare_fresh : (p : Places) (words : List ℕ) (lists : ℕ → List ℕ) (spares : ℕ → ℕ) (actor number : ℕ) → IsIndex p words lists spares → spares actor ≡ number → 1 ≤ number → IsFresh (bucket_words p words) (overflow_bucket p.buckets number)
 spare_fresh p words lists spares actor number index its some =
     let had : 1 ≤ spares actor = subst (λ x. 1 ≤ x) (sym its) some in
     let high = spare_taken actor index.owned had in
@@ -197,7 +208,7 @@ publish_entries p words lists spares spares' home place word entry its won its_t
 work_entries : (p : Places) (actor : ℕ) (words : List ℕ) (lists : ℕ → List ℕ) (spares spares' : ℕ → ℕ) (f : Finding) (work : SlotWork) → IsIndex p words lists spares → spares actor ≡ f.spare → WorkKnows p (bucket_words p words) lists f work
     → IsIndex p (actor_step p words f work).words (lists_by words lists f work) spares'
     → EntriesMove (published_in words f.home work) (entry_at p words lists) (entry_at p (actor_step p words f work).words (lists_by words lists f work)) p
-unfolding publish_ask
+unfolding publish_ask publish_next_ask
 work_entries p actor words lists spares spares' f Seeks index its knows index' = λ home real.
     keeps_entries p words (words_after words (find_ask f)) lists (lists_sought words lists f f.step) home real.few (index'.one_entry home.bucket real.few) (seek_slots p actor words lists spares f f.step index its knows)
 work_entries p actor words lists spares spares' f (Holds place word) index its knows index' = λ home real. refl
@@ -205,7 +216,7 @@ work_entries p actor words lists spares spares' f (Enters publish.AtRest) index 
 work_entries p actor words lists spares spares' f (Enters (publish.SwapsEntry place word entry)) index its knows index' = won (word_at words place == word) refl index'
   where
     won : (b : Bool) → (word_at words place == word) ≡ b → IsIndex p (slice_set words place (if b then entry else word_at words place)) lists spares'
-        → EntriesMove (if b then Some (record { home = f.home; before = word; entry = entry }) else None) (entry_at p words lists) (entry_at p (slice_set words place (if b then entry else word_at words place)) lists) p
+        → EntriesMove (won_entry (record { home = f.home; before = word; entry = entry }) (Done (if b then Won else Lost))) (entry_at p words lists) (entry_at p (slice_set words place (if b then entry else word_at words place)) lists) p
     won true e index' = publish_entries p words lists spares spares' f.home place word entry knows.0 (eqb-true (word_at words place) word e) knows.1 knows.2 index index'
     won false e index' = rw (set-get_or words place 0) (λ home real. refl)
 
@@ -213,14 +224,14 @@ moved_entries : (w : IndexWorld) (actor : ℕ) (found : Option IndexActor) → s
     → EntriesMove (published_by w.now found) (entry_of w) (entry_of (record { now = moved w.now actor found; lists = lists_moved w.now w.lists found })) w.now.places
 moved_entries w actor None got sound after = λ home real. refl
 moved_entries w actor (Some x) got sound after =
-    work_entries w.now.places actor w.now.words w.lists (spare_at w.now.actors) (spare_at (slice_set w.now.actors actor (actor_step w.now.places w.now.words x.finding x.work).actor)) x.finding x.work sound.its_index (ap spare_in got) (sound.rows actor x got) after.its_index
+    work_entries w.now.places actor w.now.words w.lists (spare_at w.now.actors) (spare_at (slice_set w.now.actors actor (actor_after w.now.places w.now.words x x.work))) x.finding x.work sound.its_index (ap spare_in got) (sound.rows actor x got) after.its_index
 
 -- the beginning of a search or a publish changes no word
 begun_same : (w : IndexWorld) (actor : ℕ) (home : Home) (purpose : Purpose) (found : Option IndexActor) (its : Home) → entry_of (record w { now = find_begun w.now actor home purpose found }) its ≡ entry_of w its
 begun_same w actor home purpose None its = refl
 begun_same w actor home purpose (Some x) its = tested (may_find w.now.places home x)
   where
-    tested : (b : Bool) → entry_of (record w { now = if b then record w.now { actors = slice_set w.now.actors actor (record { finding = first_finding w.now.places home purpose x.finding.spare; work = Seeks }) } else w.now }) its ≡ entry_of w its
+    tested : (b : Bool) → entry_of (record w { now = if b then record w.now { actors = slice_set w.now.actors actor (record x { finding = first_finding w.now.places home purpose x.spare; work = Seeks; purpose = purpose }) } else w.now }) its ≡ entry_of w its
     tested true = refl
     tested false = refl
 

@@ -74,6 +74,7 @@ index_quiet p words after lists spares spares' quiet same index = record {
       (λ o among full i few empty. full i few (sym (quiet.same_slots o i (among_real c o index low among) few) ∙ empty)) (index.filled c low);
   one_entry = λ c low. one_entry_same p.buckets g g' c (lists c)
       (λ o i among few some. let e = quiet.same_slots o i (among_real c o index low among) few in ((λ none. some (e ∙ none)), ap entry_tag e)) (index.one_entry c low);
+  no_others = index.no_others;
   entries = λ m i real low. subst IsSlotWord (sym (quiet.same_slots m i real low)) (index.entries m i real low);
   owner = index.owner;
   owned = subst (λ x. AreOwned x lists spares' index.owner) (sym quiet.same_taken) (owned_same (taken_of words) lists spares spares' index.owner same index.owned);

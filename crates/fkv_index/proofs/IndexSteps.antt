@@ -25,6 +25,7 @@ index_took p words lists spares spares' actor left none becomes index = record {
   filled = λ c low. filled_same p.buckets (bucket_words p words) (bucket_words p after) c (lists c)
       (λ o among fills i j before few empty. same o j ∙ fills i j before few (sym (same o i) ∙ empty)) (λ o among full i few empty. full i few (sym (same o i) ∙ empty)) (index.filled c low);
   one_entry = λ c low. one_entry_same p.buckets (bucket_words p words) (bucket_words p after) c (lists c) (λ o i among few some. ((λ empty. some (same o i ∙ empty)), ap entry_tag (same o i))) (index.one_entry c low);
+  no_others = index.no_others;
   entries = λ m i real low. subst IsSlotWord (sym (same m i)) (index.entries m i real low);
   owner = owner_set index.owner (taken_of words + 1) (SpareOf actor);
   owned = subst (λ x. AreOwned x lists spares' (owner_set index.owner (taken_of words + 1) (SpareOf actor))) (sym counted) (owned_took (taken_of words) lists spares spares' index.owner actor none becomes index.owned);
@@ -67,7 +68,7 @@ took_grows p words lists enough = record {
     same : (o j : ℕ) → bucket_words p (slice_set words 10 (taken_of words + 1)) o j ≡ bucket_words p words o j
     same o j = set_outside p words 10 o j (taken_of words + 1) (λ e. omega (arith, e))
 
--- a spare is linked: the order gets seven empty slots at its end, and nothing else
+-- a spare is linked, and is the last of the list from then on
 pub index_linked : (p : Places) (words : List ℕ) (lists : ℕ → List ℕ) (spares spares' : ℕ → ℕ) (actor : ℕ) (home : Home) (m word number : ℕ)
     → home.bucket < p.buckets → HasPassed p.buckets (bucket_words p words) home.tag home.bucket (lists home.bucket) m 7 → bucket_words p words m 7 ≡ word → link_of word ≡ 0
     → spares actor ≡ number → 1 ≤ number → SpareBecomes spares spares' actor 0
@@ -78,6 +79,7 @@ index_linked p words lists spares spares' actor home m word number low passed it
   linked = linked_after;
   filled = filled_after;
   one_entry = one_entry_after;
+  no_others = λ c high. link_else lists home.bucket number c (λ e. omega (arith, e, high, low)) ∙ index.no_others c high;
   entries = λ o i real few. subst IsSlotWord (sym (slots o i few)) (index.entries o i real few);
   owner = owner_set index.owner number (ListedAt home.bucket);
   owned = subst (λ x. AreOwned x (with_link lists home.bucket number) spares' (owner_set index.owner number (ListedAt home.bucket))) (sym (set_spares_taken p words m 7 (word + number)))
@@ -221,6 +223,7 @@ index_published p words lists spares spares' home place word entry its won its_t
   linked = λ c low. linked_same p.buckets (bucket_words p words) (bucket_words p (slice_set words (bucket_place p its.bucket its.slot) entry)) c (lists c) (λ o among. ap link_of (eighth o)) (index.linked c low);
   filled = λ c low. filled_same p.buckets (bucket_words p words) (bucket_words p (slice_set words (bucket_place p its.bucket its.slot) entry)) c (lists c) (λ o among. fills o) (λ o among. full o) (index.filled c low);
   one_entry = one_after;
+  no_others = index.no_others;
   entries = λ o i real low. elim (here_or_not o i) [
     | inl e ↦ inr (subst (λ x. 0 < entry_addr x) (sym (there o i e.0 e.1)) (omega (arith, rises)), subst (λ x. entry_tag x < 2 ^ 15) (sym (there o i e.0 e.1)) (let h = its.its_home.fits in omega (arith, h, its_tag)))
     | inr e ↦ subst IsSlotWord (sym (else o i low e)) (index.entries o i real low)

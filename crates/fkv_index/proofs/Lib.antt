@@ -1,12 +1,16 @@
 mod Asks
+mod Begun
 mod BucketWords
 mod Distinct
 mod Empty
 mod EntryLists
 mod EntrySteps
+mod HomesThere
 mod Index
 mod IndexSteps
 mod Losing
+mod OrderLists
+mod OrderSteps
 mod Orders
 mod Owned
 mod Ranges

@@ -10,15 +10,16 @@ use Rattle.fkv_index.specs.declared.homes.Home.{Home}
 use Rattle.fkv_index.specs.declared.finding.Purpose.{Purpose}
 use Rattle.fkv_index.specs.declared.publishing.Publishing.TheVariants as publish
 use Rattle.fkv_index.specs.Slots.{entry_addr, entry_tag, link_of}
-use Rattle.fkv_index.specs.Finding.{rested, spare_of, first_finding}
+use Rattle.fkv_index.specs.Finding.{spare_of, linking_for, first_finding, find_ask}
 use Rattle.fkv_index.specs.Buckets.{bucket_words}
-use Rattle.fkv_index.specs.IndexWorld.{SlotWork, Seeks, Holds, Enters, IndexActor, IndexEvent, BeginsFind, BeginsPublish, Moves, Changes, IndexWorld, is_bucket_place, is_link_place, is_barred, is_seeking, is_publishing, find_begun, new_entry, work_begun, publish_begun, actor_step, lists_by, moved, lists_moved, index_happens, index_run, index_opening}
-use Rattle.fkv_index.specs.OneEntry.{spare_at, spare_in, IsIndexAt, IsHome, AnswersTrue, HaveSlots, Grows}
+use Rattle.fkv_index.specs.IndexWorld.{SlotWork, Seeks, Holds, Enters, IndexActor, IndexEvent, BeginsFind, BeginsPublish, Moves, Changes, IndexWorld, is_bucket_place, is_link_place, is_barred, is_seeking, is_publishing, find_begun, new_entry, work_begun, publish_begun, actor_step, actor_after, lists_by, moved, lists_moved, index_happens, index_run, rested_actor, index_opening}
+use Rattle.fkv_index.specs.OneEntry.{spare_at, spare_in, IsIndexAt, IsHome, AnswersTrue, SparesTold, ReadsLoad, HaveSlots, Grows}
 use Rattle.fkv_index.proofs.Orders.{truth, same_or_not, passed_none, deep_first}
 use Rattle.fkv_index.proofs.BucketWords.{set_there, set_outside}
 use Rattle.fkv_index.proofs.Owned.{SpareBecomes, spare_taken}
 use Rattle.fkv_index.proofs.Index.{IsQuiet, quiet_same, index_quiet, quiet_grows}
 use Rattle.fkv_index.proofs.Rows.{WorkKnows, SeekKnows, knows_more}
+use Rattle.fkv_index.proofs.Begun.{IsBegun, at_rest, moved_begun, reads_load, load_same}
 use Rattle.fkv_index.proofs.Steps.{becomes_same, actor_stepped, seek_true}
 
 -- what holds of each item holds of each after one write of an item of which it holds
@@ -52,6 +53,7 @@ its_spare actors actor x got = ap spare_in got
 pub record IsSound (w : IndexWorld) : Type 0 where
   pub its_index : IsIndexAt w
   pub rows : (actor : ℕ) (x : IndexActor) → slice_get w.now.actors actor ≡ Some x → WorkKnows w.now.places (bucket_words w.now.places w.now.words) w.lists x.finding x.work
+  pub begun : (actor : ℕ) (x : IndexActor) → slice_get w.now.actors actor ≡ Some x → IsBegun x
 
 -- what stands after an event
 pub record HasHappened (w after : IndexWorld) : Type 0 where
@@ -60,15 +62,16 @@ pub record HasHappened (w after : IndexWorld) : Type 0 where
   pub same_places : after.now.places ≡ w.now.places
 
 -- one actor's state changes, and no word
-put_happened : (w : IndexWorld) (actor : ℕ) (x y : IndexActor) → slice_get w.now.actors actor ≡ Some x → IsSound w → y.finding.spare ≡ x.finding.spare
+put_happened : (w : IndexWorld) (actor : ℕ) (x y : IndexActor) → slice_get w.now.actors actor ≡ Some x → IsSound w → y.finding.spare ≡ x.finding.spare → IsBegun y
     → WorkKnows w.now.places (bucket_words w.now.places w.now.words) w.lists y.finding y.work → HasHappened w (record w { now = record w.now { actors = slice_set w.now.actors actor y } })
-put_happened w actor x y got sound same knows =
+put_happened w actor x y got sound same its knows =
     let p : Places = w.now.places in
     record {
       sound = record {
         its_index = index_quiet p w.now.words w.now.words w.lists (spare_at w.now.actors) (spare_at (slice_set w.now.actors actor y)) (quiet_same p w.now.words)
             (becomes_same (spare_at w.now.actors) (spare_at (slice_set w.now.actors actor y)) actor y.finding.spare (becomes w.now.actors actor x y got) (its_spare w.now.actors actor x got ∙ sym same)) sound.its_index;
         rows = each_set (λ z. WorkKnows p (bucket_words p w.now.words) w.lists z.finding z.work) w.now.actors actor y knows sound.rows;
+        begun = each_set IsBegun w.now.actors actor y its sound.begun;
       };
       grows = quiet_grows p w.now.words w.now.words w.lists (quiet_same p w.now.words);
       same_places = refl;
@@ -82,13 +85,15 @@ moved_happened w actor None got sound = nothing_happened w sound
 moved_happened w actor (Some x) got sound =
     let p : Places = w.now.places in
     let here = actor_step p w.now.words x.finding x.work in
+    let y : IndexActor = actor_after p w.now.words x x.work in
     let lists' : ℕ → List ℕ = lists_by w.now.words w.lists x.finding x.work in
     let stepped = actor_stepped p actor w.now.words w.lists (spare_at w.now.actors) x.finding x.work sound.its_index (its_spare w.now.actors actor x got) (sound.rows actor x got) in
     record {
       sound = record {
-        its_index = stepped.its_index (spare_at (slice_set w.now.actors actor here.actor)) (becomes w.now.actors actor x here.actor got);
-        rows = each_set (λ z. WorkKnows p (bucket_words p here.words) lists' z.finding z.work) w.now.actors actor here.actor stepped.its_row
+        its_index = stepped.its_index (spare_at (slice_set w.now.actors actor y)) (becomes w.now.actors actor x y got);
+        rows = each_set (λ z. WorkKnows p (bucket_words p here.words) lists' z.finding z.work) w.now.actors actor y stepped.its_row
             (λ o z at_o. knows_more p w.now.words here.words w.lists lists' (spare_at w.now.actors) z.finding z.work sound.its_index stepped.its_grows (sound.rows o z at_o));
+        begun = each_set IsBegun w.now.actors actor y (moved_begun p w.now.words x x.work (sound.begun actor x got)) sound.begun;
       };
       grows = stepped.its_grows;
       same_places = refl;
@@ -117,21 +122,24 @@ begun_happened w actor home purpose (Some x) got sound = tested (nat_lt home.buc
       | inr e ↦ grind (arith, nat_tests, e)
     ]
 
-    same : spare_of w.now.places x.finding.spare ≡ x.finding.spare
-    same = let e : nat_le x.finding.spare w.now.places.overflow ≡ true = grind (arith, nat_tests, few_spare) in rw e refl
+    same : is_seeking x.finding.step ≡ false → spare_of w.now.places x.spare ≡ x.finding.spare
+    same rests =
+        let its = (sound.begun actor x got).its_spare (at_rest x.finding.step rests) in
+        let e : nat_le x.finding.spare w.now.places.overflow ≡ true = grind (arith, nat_tests, few_spare) in
+        rw (its, e) refl
 
     tested : (a b : Bool) → nat_lt home.bucket w.now.places.buckets ≡ a → nat_lt home.tag (2 ^ 15) ≡ b
-        → HasHappened w (record w { now = if a && b && not (is_seeking x.finding.step) && not (is_publishing x.work) then record w.now { actors = slice_set w.now.actors actor (record { finding = first_finding w.now.places home purpose x.finding.spare; work = Seeks }) } else w.now })
-    tested true true d e = begins (not (is_seeking x.finding.step)) (not (is_publishing x.work))
+        → HasHappened w (record w { now = if a && b && not (is_seeking x.finding.step) && not (is_publishing x.work) then record w.now { actors = slice_set w.now.actors actor (record x { finding = first_finding w.now.places home purpose x.spare; work = Seeks; purpose = purpose }) } else w.now })
+    tested true true d e = begins (is_seeking x.finding.step) refl (not (is_publishing x.work))
       where
         its_home : IsHome w.now.places home
         its_home = record { few = grind (arith, nat_tests, d); fits = grind (arith, nat_tests, e) }
 
-        begins : (a b : Bool) → HasHappened w (record w { now = if true && true && a && b then record w.now { actors = slice_set w.now.actors actor (record { finding = first_finding w.now.places home purpose x.finding.spare; work = Seeks }) } else w.now })
-        begins true true = put_happened w actor x (record { finding = first_finding w.now.places home purpose x.finding.spare; work = Seeks }) got sound same
+        begins : (a : Bool) → is_seeking x.finding.step ≡ a → (b : Bool) → HasHappened w (record w { now = if true && true && not a && b then record w.now { actors = slice_set w.now.actors actor (record x { finding = first_finding w.now.places home purpose x.spare; work = Seeks; purpose = purpose }) } else w.now })
+        begins false rests true = put_happened w actor x (record x { finding = first_finding w.now.places home purpose x.spare; work = Seeks; purpose = purpose }) got sound (same rests) (record { its_spare = λ e. cc; its_reading = λ read. record { never = ap linking_for read; loads = tt } })
             (omega arith, record { its_home = its_home; bucket = home.bucket; its_base = refl; passed = passed_none w.now.places.buckets (bucket_words w.now.places w.now.words) home.tag home.bucket (w.lists home.bucket); depth = 0; deep = deep_first w.now.places.buckets home.bucket (w.lists home.bucket); budget = omega arith })
-        begins true false = nothing_happened w sound
-        begins false b = nothing_happened w sound
+        begins false rests false = nothing_happened w sound
+        begins true seeks b = nothing_happened w sound
     tested true false d e = nothing_happened w sound
     tested false b d e = nothing_happened w sound
 
@@ -145,7 +153,7 @@ new_addr addr tag low = omega (arith, low)
 publish_happened : (w : IndexWorld) (actor addr : ℕ) (found : Option IndexActor) → slice_get w.now.actors actor ≡ found → IsSound w
     → HasHappened w (record w { now = publish_begun w.now actor addr found })
 publish_happened w actor addr None got sound = nothing_happened w sound
-publish_happened w actor addr (Some x) got sound = put_happened w actor x (record x { work = work_begun x.finding addr x.work }) got sound refl (begun x.work (sound.rows actor x got))
+publish_happened w actor addr (Some x) got sound = put_happened w actor x (record x { work = work_begun x.finding addr x.work }) got sound refl (let its = sound.begun actor x got in record { its_spare = its.its_spare; its_reading = its.its_reading }) (begun x.work (sound.rows actor x got))
   where
     begun : (work : SlotWork) → WorkKnows w.now.places (bucket_words w.now.places w.now.words) w.lists x.finding work → WorkKnows w.now.places (bucket_words w.now.places w.now.words) w.lists x.finding (work_begun x.finding addr work)
     begun Seeks knows = knows
@@ -218,6 +226,7 @@ changed_happened w place word free sound =
       sound = record {
         its_index = index_quiet p w.now.words after w.lists (spare_at w.now.actors) (spare_at w.now.actors) quiet (λ o. refl) sound.its_index;
         rows = λ actor x got. knows_more p w.now.words after w.lists w.lists (spare_at w.now.actors) x.finding x.work sound.its_index grown (sound.rows actor x got);
+        begun = sound.begun;
       };
       grows = grown;
       same_places = refl;
@@ -239,13 +248,17 @@ unfolding index_run
 run_sound opening [] sound = sound
 run_sound opening (event ∷ before) sound = (event_happened (index_run opening before) event (run_sound opening before sound)).sound
 
-rest_rows : (p : Places) (g : ℕ → ℕ → ℕ) (lists : ℕ → List ℕ) (n actor : ℕ) (x : IndexActor) → slice_get (replicate n (record { finding = rested 0; work = Seeks })) actor ≡ Some x → WorkKnows p g lists x.finding x.work
-rest_rows p g lists zero actor x e = cc
-rest_rows p g lists (suc n) zero x e = let same : x ≡ record { finding = rested 0; work = Seeks } = cc in rw same tt
-rest_rows p g lists (suc n) (suc actor) x e = rest_rows p g lists n actor x e
+each_rested : (P : IndexActor → Type 0) → P rested_actor → (n actor : ℕ) (x : IndexActor) → slice_get (replicate n rested_actor) actor ≡ Some x → P x
+each_rested P its zero actor x e = cc
+each_rested P its (suc n) zero x e = let same : x ≡ rested_actor = cc in rw same its
+each_rested P its (suc n) (suc actor) x e = each_rested P its n actor x e
 
 pub opening_sound : (p : Places) (words : List ℕ) (lists : ℕ → List ℕ) (actors : ℕ) → IsIndexAt (index_opening p words lists actors) → IsSound (index_opening p words lists actors)
-opening_sound p words lists actors index = record { its_index = index; rows = rest_rows p (bucket_words p words) lists actors }
+opening_sound p words lists actors index = record {
+  its_index = index;
+  rows = each_rested (λ x. WorkKnows p (bucket_words p words) lists x.finding x.work) tt actors;
+  begun = each_rested IsBegun (record { its_spare = λ e. refl; its_reading = λ read. record { never = refl; loads = tt } }) actors;
+}
 
 pub sound_answers : (w : IndexWorld) → IsSound w → AnswersTrue w
 sound_answers w sound actor x got seeks =
@@ -254,3 +267,12 @@ sound_answers w sound actor x got seeks =
 
 pub sound_slots : (w : IndexWorld) → IsSound w → HaveSlots w
 sound_slots w sound actor x place word got holds = subst (WorkKnows w.now.places (bucket_words w.now.places w.now.words) w.lists x.finding) holds (sound.rows actor x got)
+
+pub sound_spares : (w : IndexWorld) → IsSound w → SparesTold w
+sound_spares w sound actor x got rests = (sound.begun actor x got).its_spare rests ∙ sym (its_spare w.now.actors actor x got)
+
+pub sound_reads : (w : IndexWorld) → IsSound w → ReadsLoad w
+unfolding index_happens
+sound_reads w sound actor x got seeks read =
+    let loads = reads_load x.finding x.finding.step ((sound.begun actor x got).its_reading read).loads in
+    (loads, rw (got, seeks) (load_same w.now.words (find_ask x.finding) loads))

@@ -1,7 +1,10 @@
 -- What crates above may cite.
-pub use Rattle.fkv_index.proofs.Asks.{find_asks, next_fewer, publish_asks}
+pub use Rattle.fkv_index.proofs.Asks.{find_asks, next_fewer, find_counted, next_counted, publish_asks, publish_fewer, publish_counted, publish_next_counted}
+pub use Rattle.fkv_index.proofs.HomesThere.{homes_are_there}
+pub use Rattle.fkv_index.proofs.Begun.{IsReading, IsBegun}
 pub use Rattle.fkv_index.proofs.Rows.{Stands, SeekKnows, EnterKnows, WorkKnows}
-pub use Rattle.fkv_index.proofs.Runs.{IsSound, HasHappened, event_happened, run_sound, opening_sound, sound_answers, sound_slots}
+pub use Rattle.fkv_index.proofs.Runs.{IsSound, HasHappened, event_happened, run_sound, opening_sound, sound_answers, sound_spares, sound_reads, sound_slots}
 pub use Rattle.fkv_index.proofs.Losing.{sound_lost}
-pub use Rattle.fkv_index.proofs.EntrySteps.{sound_entries, event_entries}
+pub use Rattle.fkv_index.proofs.EntrySteps.{sound_entries, sound_publishes, event_entries}
+pub use Rattle.fkv_index.proofs.OrderSteps.{sound_filled, sound_tags, event_orders}
 pub use Rattle.fkv_index.proofs.Empty.{empty_is_index}

@@ -33,9 +33,9 @@ use Rattle.fkv_index.proofs.Rows.{Stands, SeekKnows, EnterKnows, WorkKnows, pass
 
 -- what a step leaves
 pub record Stepped (p : Places) (actor : ℕ) (words : List ℕ) (lists : ℕ → List ℕ) (spares : ℕ → ℕ) (here : IndexNear) (lists' : ℕ → List ℕ) : Type 0 where
-  pub its_index : (spares' : ℕ → ℕ) → SpareBecomes spares spares' actor here.actor.finding.spare → IsIndex p here.words lists' spares'
+  pub its_index : (spares' : ℕ → ℕ) → SpareBecomes spares spares' actor here.finding.spare → IsIndex p here.words lists' spares'
   pub its_grows : Grows p words here.words lists lists'
-  pub its_row : WorkKnows p (bucket_words p here.words) lists' here.actor.finding here.actor.work
+  pub its_row : WorkKnows p (bucket_words p here.words) lists' here.finding here.work
 
 pub becomes_same : (spares spares' : ℕ → ℕ) (actor number : ℕ) → SpareBecomes spares spares' actor number → spares actor ≡ number → (o : ℕ) → spares' o ≡ spares o
 becomes_same spares spares' actor number becomes its o = elim (same_or_not o actor) [

@@ -8,6 +8,7 @@ use Rattle.fkv_plane.specs.Places.{shared_place, bucket_place, frames_start}
 use Rattle.fkv_plane.specs.Asked.{word_at, words_after, reply_to}
 use Rattle.fkv_index.specs.declared.homes.Home.{Home}
 use Rattle.fkv_index.specs.declared.finding.Purpose.{Purpose}
+use Rattle.fkv_index.specs.declared.finding.Purpose.TheVariants.{Read}
 use Rattle.fkv_index.specs.declared.finding.Found.{Found}
 use Rattle.fkv_index.specs.declared.finding.Found.TheVariants.{Slot}
 use Rattle.fkv_index.specs.declared.finding.FindAnswer.{FindAnswer}
@@ -18,7 +19,7 @@ use Rattle.fkv_index.specs.declared.publishing.Publishing.{Publishing}
 use Rattle.fkv_index.specs.declared.publishing.Publishing.TheVariants as publish
 use Rattle.fkv_index.specs.Slots.{bucket_slots, entry_addr, link_of}
 use Rattle.fkv_index.specs.Finding.{rested, first_finding, find_ask, find_next, find_next_ask}
-use Rattle.fkv_index.specs.Publishing.{publish_ask, publish_next}
+use Rattle.fkv_index.specs.Publishing.{publish_first, publish_ask, publish_next}
 
 -- What an actor is about.
 pub data SlotWork : Type 0 where
@@ -32,6 +33,10 @@ pub data SlotWork : Type 0 where
 pub record IndexActor : Type 0 where
   pub finding : Finding
   pub work : SlotWork
+  -- what its last search was begun for
+  pub purpose : Purpose
+  -- the overflow bucket that it has to spare, as its last search answered, 0 where it has none
+  pub spare : ℕ
 
 -- What may happen next.
 pub data IndexEvent : Type 0 where
@@ -86,7 +91,7 @@ may_find p home x = nat_lt home.bucket p.buckets && nat_lt home.tag (2 ^ 15) && 
 
 abbrev pub find_begun : IndexNow → ℕ → Home → Purpose → Option IndexActor → IndexNow
 find_begun n actor home purpose None = n
-find_begun n actor home purpose (Some x) = if may_find n.places home x then with_actor n actor (record { finding = first_finding n.places home purpose x.finding.spare; work = Seeks }) else n
+find_begun n actor home purpose (Some x) = if may_find n.places home x then with_actor n actor (record x { finding = first_finding n.places home purpose x.spare; work = Seeks; purpose = purpose }) else n
 
 -- the address of an entry is above the one that it takes the place of
 abbrev pub may_publish : ℕ → ℕ → Bool
@@ -96,20 +101,21 @@ abbrev pub new_entry : ℕ → ℕ → ℕ
 new_entry addr tag = addr + tag * 2 ^ 48
 
 abbrev pub work_begun : Finding → ℕ → SlotWork → SlotWork
-work_begun f addr (Holds place word) = if may_publish word addr then Enters (publish.SwapsEntry place word (new_entry addr f.home.tag)) else Holds place word
+work_begun f addr (Holds place word) = if may_publish word addr then Enters (publish_first place word (new_entry addr f.home.tag)) else Holds place word
 work_begun f addr work = work
 
 abbrev pub publish_begun : IndexNow → ℕ → ℕ → Option IndexActor → IndexNow
 publish_begun n actor addr None = n
 publish_begun n actor addr (Some x) = with_actor n actor (record x { work = work_begun x.finding addr x.work })
 
--- an actor and the words that its step touches
+-- what a step leads to: the words, and how far its actor has come
 pub record IndexNear : Type 0 where
   pub words : List ℕ
-  pub actor : IndexActor
+  pub finding : Finding
+  pub work : SlotWork
 
 abbrev pub near : List ℕ → Finding → SlotWork → IndexNear
-near words f work = record { words = words; actor = record { finding = f; work = work } }
+near words f work = record { words = words; finding = f; work = work }
 
 abbrev pub found_work : Found → SlotWork
 found_work (Slot place word) = Holds place word
@@ -132,12 +138,22 @@ actor_step p words f Seeks = seek_step p words f
 actor_step p words f (Holds place word) = near words f (Holds place word)
 actor_step p words f (Enters step) = enter_step words f step
 
-abbrev pub put_near : IndexNow → ℕ → IndexNear → IndexNow
-put_near n actor here = record n { words = here.words; actors = slice_set n.actors actor here.actor }
+-- a search that ends tells its actor which bucket it has to spare
+abbrev pub spare_told : ℕ → Ask FindAnswer → ℕ
+spare_told spare (Done answer) = answer.spare
+spare_told spare ask = spare
+
+abbrev pub spare_by : Places → List ℕ → Finding → ℕ → SlotWork → ℕ
+spare_by p words f spare Seeks = spare_told spare (find_next_ask p f (reply_to words (find_ask f)))
+spare_by p words f spare work = spare
+
+abbrev pub actor_after : Places → List ℕ → IndexActor → SlotWork → IndexActor
+actor_after p words x work =
+    record x { finding = (actor_step p words x.finding work).finding; work = (actor_step p words x.finding work).work; spare = spare_by p words x.finding x.spare work }
 
 abbrev pub moved : IndexNow → ℕ → Option IndexActor → IndexNow
 moved n actor None = n
-moved n actor (Some x) = put_near n actor (actor_step n.places n.words x.finding x.work)
+moved n actor (Some x) = record n { words = (actor_step n.places n.words x.finding x.work).words; actors = slice_set n.actors actor (actor_after n.places n.words x x.work) }
 
 abbrev pub index_happens_now : IndexNow → IndexEvent → IndexNow
 index_happens_now n (BeginsFind actor home purpose) = find_begun n actor home purpose (slice_get n.actors actor)
@@ -174,6 +190,9 @@ unfoldable pub index_run : IndexWorld → List IndexEvent → IndexWorld
 index_run opening [] = opening
 index_run opening (event ∷ before) = index_happens (index_run opening before) event
 
+abbrev pub rested_actor : IndexActor
+rested_actor = record { finding = rested 0; work = Seeks; purpose = Read; spare = 0 }
+
 -- all actors at rest, and none has a bucket to spare
 abbrev pub index_opening : Places → List ℕ → (ℕ → List ℕ) → ℕ → IndexWorld
-index_opening p words lists actors = record { now = record { places = p; words = words; actors = replicate actors (record { finding = rested 0; work = Seeks }) }; lists = lists }
+index_opening p words lists actors = record { now = record { places = p; words = words; actors = replicate actors rested_actor }; lists = lists }

@@ -1,8 +1,10 @@
 pub mod Buckets
+pub mod Counted
 pub mod EighthEntry
 pub mod Entries
 pub mod Finding
 pub mod IndexWorld
 pub mod OneEntry
 pub mod Publishing
+pub mod SlotOrders
 pub mod Slots

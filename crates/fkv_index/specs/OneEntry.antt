@@ -1,11 +1,13 @@
 -- What holds of the index at every moment: its buckets in order, one entry for each home, and what searches have found.
-use Rattle.std.specs.Prelude.{◌≡◌, ℕ, ◌+◌, ◌^◌, ◌<◌, ◌≤◌, ◌⊎◌, List, ◌++◌, slice_get, length, Option, Some, None, ⊤}
+use Rattle.std.specs.Prelude.{◌≡◌, ℕ, ◌+◌, ◌^◌, ◌<◌, ◌≤◌, ◌⊎◌, List, [], ◌++◌, slice_get, length, Option, Some, None, ⊤}
+use Rattle.fkv_base.specs.declared.numbers.Key.{Key}
 use Rattle.fkv_plane.specs.declared.asks.Ask.{Ask}
-use Rattle.fkv_plane.specs.declared.asks.Ask.TheVariants.{Done}
+use Rattle.fkv_plane.specs.declared.asks.Ask.TheVariants.{Load, Done}
 use Rattle.fkv_plane.specs.declared.places.Places.{Places}
 use Rattle.fkv_plane.specs.Places.{bucket_place, frames_start}
 use Rattle.fkv_plane.specs.Asked.{word_at, reply_to}
 use Rattle.fkv_index.specs.declared.homes.Home.{Home}
+use Rattle.fkv_index.specs.declared.finding.Purpose.TheVariants.{Read}
 use Rattle.fkv_index.specs.declared.finding.Found.{Found}
 use Rattle.fkv_index.specs.declared.finding.Found.TheVariants.{Slot, NoSlot, Full, Contended}
 use Rattle.fkv_index.specs.declared.finding.FindAnswer.{FindAnswer}
@@ -13,10 +15,10 @@ use Rattle.fkv_index.specs.declared.finding.Linking.TheVariants.{Made}
 use Rattle.fkv_index.specs.declared.finding.FindStep.{FindStep}
 use Rattle.fkv_index.specs.declared.finding.FindStep.TheVariants.{AtRest, LoadsSlot, LoadsLink, LoadsTaken, TakesBucket, LinksBucket}
 use Rattle.fkv_index.specs.declared.finding.Finding.{Finding}
-use Rattle.fkv_index.specs.Slots.{bucket_slots, entry_addr, entry_tag, link_of}
+use Rattle.fkv_index.specs.Slots.{bucket_slots, home_of, entry_addr, entry_tag, link_of}
 use Rattle.fkv_index.specs.Finding.{find_ask, find_next_ask}
 use Rattle.fkv_index.specs.Buckets.{bucket_words, overflow_bucket, IsLinked, AreFilled, HasOneEntry, HasPassed, LacksTag, IsMember, IsOnce}
-use Rattle.fkv_index.specs.IndexWorld.{Seeks, Holds, IndexActor, IndexEvent, IndexWorld, taken_of, index_happens, index_run, index_opening}
+use Rattle.fkv_index.specs.IndexWorld.{Seeks, Holds, IndexActor, IndexEvent, Moves, IndexWorld, taken_of, index_happens, index_run, index_opening}
 
 -- Who has an overflow bucket: nobody while it isn't taken, then the session that took it, and then the bucket to which it was linked.
 pub data Owner : Type 0 where
@@ -58,6 +60,8 @@ pub record IsIndex (p : Places) (words : List ℕ) (lists : ℕ → List ℕ) (s
   pub linked : (bucket : ℕ) → bucket < p.buckets → IsLinked p.buckets (bucket_words p words) bucket (lists bucket)
   pub filled : (bucket : ℕ) → bucket < p.buckets → AreFilled p.buckets (bucket_words p words) bucket (lists bucket)
   pub one_entry : (bucket : ℕ) → bucket < p.buckets → HasOneEntry p.buckets (bucket_words p words) bucket (lists bucket)
+  -- no overflow bucket follows one that isn't there
+  pub no_others : (bucket : ℕ) → p.buckets ≤ bucket → lists bucket ≡ []
   pub entries : (m i : ℕ) → m < p.buckets + p.overflow → i < bucket_slots → IsSlotWord (bucket_words p words m i)
   pub owner : ℕ → Owner
   pub owned : AreOwned (taken_of words) lists spares owner
@@ -70,6 +74,10 @@ IsIndexAt w = IsIndex w.now.places w.now.words w.lists (spare_at w.now.actors)
 pub record IsHome (p : Places) (home : Home) : Type 0 where
   pub few : home.bucket < p.buckets
   pub fits : home.tag < 2 ^ 15
+
+-- each key has a home that there is, where there are 2^bits buckets
+abbrev pub HomesAreThere : Type 0
+HomesAreThere = (p : Places) (bits : ℕ) (key : Key) → p.buckets ≡ 2 ^ bits → IsHome p (home_of bits key)
 
 -- a slot that has held an entry of the tag, and has that entry now or a newer one of the same tag
 pub record HasHeld (tag word now : ℕ) : Type 0 where
@@ -123,6 +131,20 @@ abbrev pub ContendedHaveLost : IndexWorld → Type 0
 ContendedHaveLost w = (actor : ℕ) (x : IndexActor) (answer : FindAnswer) → slice_get w.now.actors actor ≡ Some x → x.work ≡ Seeks
     → find_next_ask w.now.places x.finding (reply_to w.now.words (find_ask x.finding)) ≡ Done answer → answer.found ≡ Contended → HasLost w.now.words x.finding x.finding.step
 
+-- the bucket that a search at rest has told its actor of is the one that it owns
+abbrev pub SparesTold : IndexWorld → Type 0
+SparesTold w = (actor : ℕ) (x : IndexActor) → slice_get w.now.actors actor ≡ Some x → x.finding.step ≡ AtRest → x.spare ≡ spare_at w.now.actors actor
+
+abbrev pub IsLoad : {A : Type 0} → Ask A → Type 0
+IsLoad (Load place) = ⊤
+IsLoad (Done answer) = ⊤
+IsLoad ask = ⊥
+
+-- a read asks for loads alone, and changes no word
+abbrev pub ReadsLoad : IndexWorld → Type 0
+ReadsLoad w = (actor : ℕ) (x : IndexActor) → slice_get w.now.actors actor ≡ Some x → x.work ≡ Seeks → x.purpose ≡ Read
+    → IsLoad (find_ask x.finding) × ((index_happens w (Moves actor)).now.words ≡ w.now.words)
+
 -- and what was found stays found until the entry is published, or another search begins
 abbrev pub HaveSlots : IndexWorld → Type 0
 HaveSlots w = (actor : ℕ) (x : IndexActor) (place word : ℕ) → slice_get w.now.actors actor ≡ Some x → x.work ≡ Holds place word
@@ -147,6 +169,6 @@ pub record Grows (p : Places) (words after : List ℕ) (lists lists_after : ℕ 
 abbrev pub AtEachMoment : (IndexWorld → Type 0) → Type 0
 AtEachMoment P = (p : Places) (words : List ℕ) (lists : ℕ → List ℕ) (actors : ℕ) (events : List IndexEvent) → IsIndexAt (index_opening p words lists actors) → P (index_run (index_opening p words lists actors) events)
 
--- each event lets the index grow, and nothing else
+-- each event keeps the tags of entries and lets lists and the count grow; what else it changes the laws on entries and orders say
 abbrev pub EachGrows : IndexWorld → Type 0
 EachGrows w = (event : IndexEvent) → Grows w.now.places w.now.words (index_happens w event).now.words w.lists (index_happens w event).lists

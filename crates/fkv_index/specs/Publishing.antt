@@ -10,6 +10,10 @@ use Rattle.fkv_index.specs.declared.publishing.Publishing.TheVariants.{AtRest, S
 pub record Publisher : Type 0 where
   pub step : Publishing
 
+-- a publish begins with the slot's place, the word that was found there, and the word of the new entry
+abbrev pub publish_first : ℕ → ℕ → ℕ → Publishing
+publish_first place word entry = SwapsEntry place word entry
+
 -- what each state asks
 unfoldable pub publish_ask : Publishing → Ask PublishAnswer
 publish_ask AtRest = Done Lost
@@ -28,3 +32,8 @@ published_where word found = if found == word then Won else Lost
 unfoldable pub publish_next_ask : Publishing → ℕ → Ask PublishAnswer
 publish_next_ask AtRest reply = Done Lost
 publish_next_ask (SwapsEntry place word entry) reply = Done (published_where word reply)
+
+-- how many asks a publish still makes
+unfoldable pub publish_asks_left : Publishing → ℕ
+publish_asks_left AtRest = 0
+publish_asks_left (SwapsEntry place word entry) = 1

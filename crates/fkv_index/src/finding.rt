@@ -2,6 +2,7 @@
 ghost use Rattle.std.specs.Prelude.{◌≡◌, ◌+◌, ◌*◌, ◌^◌, ◌<◌, ◌≤◌};
 ghost use Rattle.fkv_index.specs.Slots.{bucket_slots, slot_word, link_of, home_of};
 ghost use Rattle.fkv_index.specs.Finding.{rested, first_finding, linking_for, find_ask, find_next, find_next_ask, find_led, slot_led, slot_after, entered, ended_list, link_led, taken_led, took_led, linked_led, asks_left, IsInRange, IsLedInRange};
+ghost use Rattle.fkv_index.specs.Counted.{IsCounted};
 
 use crate::homes::{Home, home_of};
 use crate::slot_words::{SlotWord, slot_word};
@@ -125,6 +126,7 @@ impl Find {
         ensures next { self.new ≡ record self.old { finding = first_finding self.old.places (home_of self.old.bits key) purpose spare } }
         ensures ask { result ≡ find_ask (first_finding self.old.places (home_of self.old.bits key) purpose spare) }
         ensures bounded { asks_left self.new.finding ≤ 8 * (self.old.places.overflow + 1) + 3 }
+        ensures counted { IsCounted (asks_left self.new.finding) result }
     {
         let home = home_of(key, self.bits);
         let has_spare = spare <= self.places.overflow as u64;
@@ -144,6 +146,7 @@ impl Find {
         ensures next { self.new ≡ record self.old { finding = find_next self.old.places self.old.finding reply } }
         ensures ask { result ≡ find_next_ask self.old.places self.old.finding reply }
         ensures fewer { 0 < asks_left self.old.finding → asks_left self.new.finding < asks_left self.old.finding }
+        ensures counted { IsCounted (asks_left self.new.finding) result }
     {
         match find_led(&self.places, self.finding, reply) {
             Led::On(finding) => {
@@ -164,9 +167,10 @@ impl Find {
     }
 
     /// What it asks now.
-    #[tactic(auto, unfolding(crate::specs::Finding::find_step_ask))]
+    #[tactic(auto, unfolding(crate::specs::Finding::find_step_ask, crate::specs::Finding::step_asks_left))]
     pub fn ask(&self) -> Ask<FindAnswer>
-        ensures { result ≡ find_ask self.now.finding }
+        ensures ask { result ≡ find_ask self.now.finding }
+        ensures counted { IsCounted (asks_left self.now.finding) result }
     {
         let f = self.finding;
         match f.step {

@@ -1,6 +1,7 @@
 //! Where a key belongs in the index.
 ghost use Rattle.std.specs.Prelude.{◌≡◌, ◌≤◌};
 ghost use Rattle.fkv_base.specs.Limits.{max_bucket_bits};
+ghost use Rattle.fkv_words.specs.Home.{bucket_of, tag_of};
 ghost use Rattle.fkv_index.specs.Slots.{home_of};
 
 use fkv_base::Key;
@@ -15,7 +16,9 @@ pub struct Home {
 
 /// The home of the key where the index has 2^bits buckets.
 pub fn home_of(key: Key, bits: u64) -> Home
-    ensures { result ≡ home_of bits key }
+    ensures home { result ≡ home_of bits key }
+    ensures bucket { result.bucket ≡ bucket_of key bits }
+    ensures tag { result.tag ≡ tag_of key bits }
 {
     Home {
         bucket: bucket_of(key, bits) as usize,

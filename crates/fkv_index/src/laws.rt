@@ -1,25 +1,46 @@
 //! What holds of the index, over every list of events.
-ghost use Rattle.fkv_index.specs.OneEntry.{AtEachMoment, IsIndexAt, AnswersTrue, ContendedHaveLost, HaveSlots, EachGrows};
-ghost use Rattle.fkv_index.specs.Entries.{AnswersEntry, EachMovesEntries};
+ghost use Rattle.fkv_index.specs.OneEntry.{HomesAreThere, AtEachMoment, IsIndexAt, AnswersTrue, ContendedHaveLost, SparesTold, ReadsLoad, HaveSlots, EachGrows};
+ghost use Rattle.fkv_index.specs.Entries.{AnswersEntry, PublishesTrue, EachMovesEntries};
+ghost use Rattle.fkv_index.specs.SlotOrders.{OrdersFilled, OrdersHaveTagsOnce, EachMovesOrders};
 ghost use Rattle.fkv_index.specs.EighthEntry.{EmptyIsIndex, LinksOnce};
+
+/// The home of a key is one that the index has.
+pub fn law_homes()
+    ensures { HomesAreThere }
+{}
 
 /// Whatever the order of the steps of all that search and publish, and whatever others do to words that are not the index's,
 /// and to the upper bits of eighth words: the buckets are in order, each home has one entry at most, and each overflow bucket
 /// that is taken is in one list or is one session's spare. What a search comes to is so at the step that ends it, one that
-/// ends as contended has lost against another, and a slot that was found stays the home's. A slot that is not empty keeps its tag for good, and lists grow at their ends.
+/// ends as contended has lost against another, and a slot that was found stays the home's. The spare that a search answers is the
+/// one that its session owns, and a search that is a read changes no word. A slot that is not empty keeps its tag for good, and
+/// lists grow at their ends.
 pub fn law_one_entry()
     ensures index { AtEachMoment IsIndexAt }
     ensures answers { AtEachMoment AnswersTrue }
     ensures contended { AtEachMoment ContendedHaveLost }
+    ensures spares { AtEachMoment SparesTold }
+    ensures reads { AtEachMoment ReadsLoad }
     ensures slots { AtEachMoment HaveSlots }
     ensures grows { AtEachMoment EachGrows }
 {}
 
-/// Over the same runs: what a search comes to is the entry that its home has at that step. A publish that is won puts its entry
-/// in the place of the one that was found, and that is what its home had until then; no other step changes the entry of a home.
+/// Over the same runs: what a search comes to is the entry that its home has at that step. A publish is answered as won just where
+/// the word that was found stands in its slot, and puts its entry in the place of it then; that is what its home had until then.
+/// A publish that is answered as lost changes no word, and no other step changes the entry of a home.
 pub fn law_entries()
     ensures answers { AtEachMoment AnswersEntry }
+    ensures publishes { AtEachMoment PublishesTrue }
     ensures moves { AtEachMoment EachMovesEntries }
+{}
+
+/// Over the same runs, on the list of a bucket's slot words, the bucket and its overflow buckets one after another: the list is
+/// filled from the left, and no two of its words are entries of one tag. A publish that is won changes one word of one list, a link adds seven empty slots at the end of one, and
+/// nothing else changes any.
+pub fn law_orders()
+    ensures filled { AtEachMoment OrdersFilled }
+    ensures tags { AtEachMoment OrdersHaveTagsOnce }
+    ensures moves { AtEachMoment EachMovesOrders }
 {}
 
 /// An index without entries is in order, and a run that begins with one: seven entries fill a bucket, two sessions link at once,

@@ -10,7 +10,7 @@ mod slot_words;
 
 pub use finding::{Find, FindAnswer, Found, Purpose};
 pub use homes::{Home, home_of};
-pub use laws::{law_entries, law_of_the_eighth_entry, law_one_entry};
+pub use laws::{law_entries, law_homes, law_of_the_eighth_entry, law_one_entry, law_orders};
 pub use publishing::{Publish, PublishAnswer};
 
 #[cfg(test)]

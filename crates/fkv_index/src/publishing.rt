@@ -1,7 +1,8 @@
 //! How an entry is published.
-ghost use Rattle.std.specs.Prelude.{◌≡◌};
+ghost use Rattle.std.specs.Prelude.{◌≡◌, ◌<◌};
 ghost use Rattle.fkv_words.specs.Layout.{entry_word};
-ghost use Rattle.fkv_index.specs.Publishing.{publish_ask, publish_next, publish_next_ask, published_where};
+ghost use Rattle.fkv_index.specs.Publishing.{publish_first, publish_ask, publish_next, publish_next_ask, published_where, publish_asks_left};
+ghost use Rattle.fkv_index.specs.Counted.{IsCounted};
 
 use fkv_plane::Ask;
 use fkv_words::Entry;
@@ -38,7 +39,8 @@ impl Model for Publish {
 }
 
 impl Publish {
-    ghost use Rattle.fkv_index.specs.declared.publishing.Publishing.TheVariants.{AtRest, SwapsEntry};
+    ghost use Rattle.fkv_plane.specs.declared.asks.Ask.TheVariants.{Cas};
+    ghost use Rattle.fkv_index.specs.declared.publishing.Publishing.TheVariants.{AtRest};
 
     /// The machine at rest.
     pub fn new() -> Publish
@@ -50,20 +52,24 @@ impl Publish {
     }
 
     /// The first ask: to publish the entry in the slot at this place, where this word was found.
-    #[tactic(auto, unfolding(crate::specs::Publishing::publish_ask))]
+    #[tactic(auto, unfolding(crate::specs::Publishing::publish_ask, crate::specs::Publishing::publish_asks_left))]
     pub fn start(&mut self, place: usize, word: u64, entry: Entry) -> Ask<PublishAnswer>
-        ensures next { self.new ≡ record { step = SwapsEntry place word (entry_word entry) } }
-        ensures ask { result ≡ publish_ask (SwapsEntry place word (entry_word entry)) }
+        ensures next { self.new ≡ record { step = publish_first place word (entry_word entry) } }
+        ensures ask { result ≡ Cas place word (entry_word entry) }
+        ensures bounded { publish_asks_left self.new.step ≡ 1 }
+        ensures counted { IsCounted (publish_asks_left self.new.step) result }
     {
         self.step = Publishing::SwapsEntry(place, word, entry.pack());
         self.ask()
     }
 
     /// Goes on with the reply to its ask. At rest it stays where it is.
-    #[tactic(auto, unfolding(crate::specs::Publishing::publish_next, crate::specs::Publishing::publish_next_ask))]
+    #[tactic(auto, unfolding(crate::specs::Publishing::publish_next, crate::specs::Publishing::publish_next_ask, crate::specs::Publishing::publish_asks_left))]
     pub fn drive(&mut self, reply: u64) -> Ask<PublishAnswer>
         ensures next { self.new ≡ record { step = publish_next self.old.step reply } }
         ensures ask { result ≡ publish_next_ask self.old.step reply }
+        ensures fewer { 0 < publish_asks_left self.old.step → publish_asks_left self.new.step < publish_asks_left self.old.step }
+        ensures counted { IsCounted (publish_asks_left self.new.step) result }
     {
         let answer = match self.step {
             Publishing::AtRest => PublishAnswer::Lost,
@@ -74,9 +80,10 @@ impl Publish {
     }
 
     /// What it asks now.
-    #[tactic(auto, unfolding(crate::specs::Publishing::publish_ask))]
+    #[tactic(auto, unfolding(crate::specs::Publishing::publish_ask, crate::specs::Publishing::publish_asks_left))]
     pub fn ask(&self) -> Ask<PublishAnswer>
-        ensures { result ≡ publish_ask self.now.step }
+        ensures ask { result ≡ publish_ask self.now.step }
+        ensures counted { IsCounted (publish_asks_left self.now.step) result }
     {
         match self.step {
             Publishing::AtRest => Ask::Done(PublishAnswer::Lost),

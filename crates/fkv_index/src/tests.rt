@@ -1,6 +1,6 @@
 use crate::{
     Find, FindAnswer, Found, Home, Publish, PublishAnswer, Purpose, home_of, law_entries,
-    law_of_the_eighth_entry, law_one_entry,
+    law_homes, law_of_the_eighth_entry, law_one_entry, law_orders,
 };
 use fkv_base::{Addr, Key, Shape};
 use fkv_plane::{Ask, Places, PlainWords};
@@ -90,6 +90,16 @@ fn seven_entries_fill_a_bucket(rt: HostRuntime) -> Result<(), Fail> {
     assert_eq!(rt; publish(&mut plane, 58, 0, 6, 3), Some(PublishAnswer::Lost));
     assert_eq!(rt; plane.word(58), third);
     assert_eq!(rt;
+        publish(&mut plane, 58, third, 6, 3),
+        Some(PublishAnswer::Won)
+    );
+    assert_eq!(rt; plane.word(58), third + 1);
+    assert_eq!(rt;
+        publish(&mut plane, 58, third, 7, 3),
+        Some(PublishAnswer::Lost)
+    );
+    assert_eq!(rt; plane.word(58), third + 1);
+    assert_eq!(rt;
         find(&mut plane, &mut machine, 8, Purpose::Read, 0),
         Some((Found::NoSlot, 0))
     );
@@ -170,8 +180,10 @@ fn two_sessions_link_at_once(rt: HostRuntime) -> Result<(), Fail> {
         Some((Found::Slot(64, 0), 0))
     );
     assert_eq!(rt; (plane.word(63), plane.word(79), plane.word(10)), (2, 1, 2));
+    law_homes();
     law_one_entry();
     law_entries();
+    law_orders();
     law_of_the_eighth_entry();
     Ok(())
 }

@@ -1,6 +1,6 @@
 -- The index stays in order, and what is found is there.
 use Rattle.fkv_index.specs.IndexWorld.{index_run, index_opening}
-use Rattle.fkv_index.proofs.Runs.{run_sound, opening_sound, sound_answers, sound_slots, event_happened}
+use Rattle.fkv_index.proofs.Runs.{run_sound, opening_sound, sound_answers, sound_spares, sound_reads, sound_slots, event_happened}
 use Rattle.fkv_index.proofs.Losing.{sound_lost}
 use Rattle.fkv_index.proofs.laws.law_one_entry.Goals as goal
 
@@ -15,6 +15,14 @@ returns-clause-answers c = λ p words lists actors events index.
 pub returns-clause-contended : goal.returns-clause-contended
 returns-clause-contended c = λ p words lists actors events index.
     sound_lost (index_run (index_opening p words lists actors) events) (run_sound (index_opening p words lists actors) events (opening_sound p words lists actors index))
+
+pub returns-clause-spares : goal.returns-clause-spares
+returns-clause-spares c = λ p words lists actors events index.
+    sound_spares (index_run (index_opening p words lists actors) events) (run_sound (index_opening p words lists actors) events (opening_sound p words lists actors index))
+
+pub returns-clause-reads : goal.returns-clause-reads
+returns-clause-reads c = λ p words lists actors events index.
+    sound_reads (index_run (index_opening p words lists actors) events) (run_sound (index_opening p words lists actors) events (opening_sound p words lists actors index))
 
 pub returns-clause-slots : goal.returns-clause-slots
 returns-clause-slots c = λ p words lists actors events index.
