@@ -18,7 +18,7 @@ use Rattle.fkv_latch.proofs.Actors.{WorksOnLatch}
 use Rattle.fkv_latch.proofs.Sound.{IsSound, StandsAt, held_of, few_shares}
 
 -- one term is within the sum, and two are where they are two
-one_within : {X : Type 0} (f : X → ℕ) (xs : List X) (i : ℕ) (a : X) → slice_get xs i ≡ Some a → f a ≤ sum_by f xs
+pub one_within : {X : Type 0} (f : X → ℕ) (xs : List X) (i : ℕ) (a : X) → slice_get xs i ≡ Some a → f a ≤ sum_by f xs
 one_within f [] i a got = cc
 one_within f (x ∷ xs) zero a got = let same : x ≡ a = cc in let all = sum_by-cons f x xs in rw (← same) (omega (arith, all))
 one_within f (x ∷ xs) (suc i) a got = omega (arith, one_within f xs i a got, sum_by-cons f x xs)

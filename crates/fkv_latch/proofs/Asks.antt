@@ -8,7 +8,7 @@ use Rattle.fkv_latch.specs.declared.latching.LatchTask.{LatchTask}
 use Rattle.fkv_latch.specs.declared.latching.LatchTask.TheVariants.{TakeShared, DropShared, TakeExclusive, DropExclusive}
 use Rattle.fkv_latch.specs.declared.latching.Latching.{Latching}
 use Rattle.fkv_latch.specs.declared.latching.Latching.TheVariants.{AtRest, AddsShare, GivesBack, LoadsWord, SetsExclusive}
-use Rattle.fkv_latch.specs.Latching.{is_exclusive, is_free, latch_first, latch_ask, latch_next, latch_next_ask, asks_left}
+use Rattle.fkv_latch.specs.Latching.{is_exclusive, is_free, latch_first, latch_ask, latch_next, latch_next_ask, asks_left, AsksWhereLeft}
 
 pub latch_asks : (step : Latching) → (step ≡ AtRest) ⊎ (is_done (latch_ask step) ≡ false)
 unfolding latch_ask
@@ -68,3 +68,25 @@ latch_fewer (LoadsWord place) reply = tested (is_free reply)
     tested true = omega arith
     tested false = omega arith
 latch_fewer step reply = omega arith
+
+-- it asks just where it has asks left: as it stands, and behind each reply
+pub latch_ask_left : (step : Latching) → AsksWhereLeft step (latch_ask step)
+unfolding latch_ask asks_left
+latch_ask_left AtRest = ((λ e. cc), (λ some. absurd (omega (arith, some))))
+latch_ask_left (AddsShare place) = ((λ e. omega arith), (λ some. refl))
+latch_ask_left (LoadsWord place) = ((λ e. omega arith), (λ some. refl))
+latch_ask_left step = ((λ e. omega arith), (λ some. refl))
+
+pub latch_next_left : (step : Latching) (reply : ℕ) → AsksWhereLeft (latch_next step reply) (latch_next_ask step reply)
+unfolding latch_ask latch_next latch_next_ask asks_left
+latch_next_left (AddsShare place) reply = tested (is_exclusive reply)
+  where
+    tested : (b : Bool) → AsksWhereLeft (if b then GivesBack place else AtRest) (if b then latch_ask (GivesBack place) else Done Taken)
+    tested true = latch_ask_left (GivesBack place)
+    tested false = ((λ e. cc), (λ some. absurd (omega (arith, some))))
+latch_next_left (LoadsWord place) reply = tested (is_free reply)
+  where
+    tested : (b : Bool) → AsksWhereLeft (if b then SetsExclusive place reply else AtRest) (if b then latch_ask (SetsExclusive place reply) else Done Busy)
+    tested true = latch_ask_left (SetsExclusive place reply)
+    tested false = ((λ e. cc), (λ some. absurd (omega (arith, some))))
+latch_next_left step reply = ((λ e. cc), (λ some. absurd (omega (arith, some))))

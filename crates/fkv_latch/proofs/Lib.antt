@@ -7,4 +7,7 @@ pub mod Places
 pub mod Shown
 pub mod Sound
 pub mod Steps
+pub mod Tails
+pub mod Tasks
+pub mod TaskRuns
 pub mod Words

@@ -37,7 +37,7 @@ pub same_keeps : (place word word' : ℕ) (a b : LatchActor) → word' ≡ word 
 same_keeps place word word' a b e same shares bits held few within at =
     same_at word _ _ _ word' _ _ _ e (ap (λ n. n + shares) same.shares) (ap (λ n. n + bits) same.bits) (ap (λ n. n + held) same.held) at
 
-one_here : (q : ℕ) → bit_of (q == q) ≡ 1
+pub one_here : (q : ℕ) → bit_of (q == q) ≡ 1
 one_here q = elim (meets q q) [ Here same one ↦ one | There other none ↦ absurd (other refl) ]
 
 -- the ask at its own place

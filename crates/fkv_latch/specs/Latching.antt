@@ -1,7 +1,8 @@
 -- How a latch is taken and dropped, shared or exclusive: one try each, in the last word of its bucket.
-use Rattle.std.specs.Prelude.{ℕ, ◌+◌, ◌-◌, ◌^◌, ◌<◌, ◌==◌, nat_le, nat_lt, if◌then◌else◌, Bool, ⊤}
+use Rattle.std.specs.Prelude.{◌≡◌, ℕ, ◌+◌, ◌-◌, ◌^◌, ◌<◌, ◌==◌, ◌↔◌, nat_le, nat_lt, if◌then◌else◌, Bool, false, ⊤}
 use Rattle.fkv_plane.specs.declared.asks.Ask.{Ask}
 use Rattle.fkv_plane.specs.declared.asks.Ask.TheVariants.{Load, Cas, Add, Done}
+use Rattle.fkv_plane.specs.Passing.{is_done}
 use Rattle.fkv_latch.specs.declared.latching.LatchAnswer.{LatchAnswer}
 use Rattle.fkv_latch.specs.declared.latching.LatchAnswer.TheVariants.{Taken, Busy, Dropped}
 use Rattle.fkv_latch.specs.declared.latching.LatchTask.{LatchTask}
@@ -66,3 +67,7 @@ asks_left AtRest = 0
 asks_left (AddsShare place) = 2
 asks_left (LoadsWord place) = 2
 asks_left step = 1
+
+-- it asks for something just where it has asks left, and else is at its end
+abbrev pub AsksWhereLeft : Latching → Ask LatchAnswer → Type 0
+AsksWhereLeft step ask = (is_done ask ≡ false) ↔ (0 < asks_left step)

@@ -1,5 +1,5 @@
 //! How a latch is taken and dropped.
-ghost use Rattle.std.specs.Prelude.{◌≡◌, ◌≤◌, ◌-◌};
+ghost use Rattle.std.specs.Prelude.{◌≡◌, ◌<◌, ◌≤◌, ◌-◌};
 
 use fkv_plane::Ask;
 use std::marker::Model;
@@ -61,7 +61,7 @@ impl Model for Latch {
 }
 
 impl Latch {
-    ghost use Rattle.fkv_latch.specs.Latching.{latch_first, latch_ask, latch_next, latch_next_ask, asks_left};
+    ghost use Rattle.fkv_latch.specs.Latching.{latch_first, latch_ask, latch_next, latch_next_ask, asks_left, AsksWhereLeft};
     ghost use Rattle.fkv_latch.specs.declared.latching.Latching.TheVariants.{AtRest};
 
     /// The machine at rest.
@@ -74,9 +74,13 @@ impl Latch {
     }
 
     /// The first ask of this task, with the latch whose word is at this place.
+    #[tactic(auto, unfolding(crate::specs::Latching::asks_left))]
     pub fn start(&mut self, task: LatchTask, place: usize) -> Ask<LatchAnswer>
         ensures next { self.new ≡ latch_first task place }
         ensures ask { result ≡ latch_ask (latch_first task place) }
+        ensures asks { AsksWhereLeft self.new result }
+        ensures some { 0 < asks_left self.new }
+        ensures bounded { asks_left self.new ≤ 2 }
     {
         self.step = match task {
             LatchTask::TakeShared => Latching::AddsShare(place),
@@ -92,6 +96,7 @@ impl Latch {
     pub fn drive(&mut self, reply: u64) -> Ask<LatchAnswer>
         ensures next { self.new ≡ latch_next self.old reply }
         ensures ask { result ≡ latch_next_ask self.old reply }
+        ensures asks { AsksWhereLeft self.new result }
         ensures fewer { asks_left self.new ≤ asks_left self.old - 1 }
     {
         let step = self.step;
@@ -117,9 +122,10 @@ impl Latch {
     }
 
     /// What it asks now.
-    #[tactic(auto, unfolding(crate::specs::Latching::latch_ask))]
+    #[tactic(auto, unfolding(crate::specs::Latching::latch_ask, crate::specs::Latching::asks_left))]
     pub fn ask(&self) -> Ask<LatchAnswer>
-        ensures { result ≡ latch_ask self.now }
+        ensures ask { result ≡ latch_ask self.now }
+        ensures asks { AsksWhereLeft self.now result }
     {
         match self.step {
             Latching::AtRest => Ask::Done(LatchAnswer::Dropped),

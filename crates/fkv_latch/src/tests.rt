@@ -1,4 +1,4 @@
-use crate::{Latch, LatchAnswer, LatchTask, law_latched, law_of_a_meeting};
+use crate::{Latch, LatchAnswer, LatchTask, law_latched, law_of_a_meeting, law_tasks};
 use fkv_plane::{Ask, PlainWords};
 use fkv_words::BucketTail;
 use std::test::Fail;
@@ -86,6 +86,7 @@ fn one_alone_keeps_all_out(rt: HostRuntime) -> Result<(), Fail> {
     assert_eq!(rt; plane.word(PLACE), word(0, false));
     law_latched();
     law_of_a_meeting();
+    law_tasks();
     Ok(())
 }
 
