@@ -6,8 +6,8 @@ use fkv_base::{Addr, Version};
 use fkv_words::Header;
 
 /// What a header's word says.
-#[derive(Clone, Copy)]
-pub(crate) enum HeaderSaid {
+#[derive(Clone, Copy, Debug, PartialEq, Eq)]
+pub enum HeaderSaid {
     /// The record before it in its chain, and the version that wrote it.
     Says(Addr, Version),
     /// No header: no store writes such a word.
@@ -15,7 +15,7 @@ pub(crate) enum HeaderSaid {
 }
 
 /// What this word says as a header.
-pub(crate) fn header_said(word: u64) -> HeaderSaid
+pub fn header_said(word: u64) -> HeaderSaid
     ensures { result ≡ header_said word }
 {
     match Header::unpack(word) {

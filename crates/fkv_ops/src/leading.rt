@@ -260,8 +260,8 @@ fn is_above(first: Option<Version>, version: Version) -> bool
     first.is_some_and(|first| first > version)
 }
 
-/// What a read tells.
-fn told_value(value: Option<Value>) -> TryAnswer
+/// What a read tells of its key's value.
+pub fn told_value(value: Option<Value>) -> TryAnswer
     ensures { result ≡ told_value (as_number value) }
 {
     match value {

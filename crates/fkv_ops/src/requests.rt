@@ -32,6 +32,15 @@ pub struct Request {
     pub ghost version_fits: { version.0 < 2 ^ 13 },
 }
 
+impl Request {
+    /// Whether it is a read.
+    pub fn is_read(&self) -> bool
+        ensures { result ≡ is_read self.now.op }
+    {
+        is_read(self.op)
+    }
+}
+
 /// What a session loaded when it last refreshed or woke.
 #[derive(Clone, Copy, Debug, PartialEq, Eq)]
 pub struct Seen {

@@ -1,0 +1,2 @@
+mod Requests
+pub mod Shown

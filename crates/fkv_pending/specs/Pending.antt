@@ -1,0 +1,21 @@
+-- What changes of a request that waits.
+use Rattle.std.specs.Prelude.{Bool, Option}
+use Rattle.fkv_ops.specs.declared.answers.DiskRecord.{DiskRecord}
+use Rattle.fkv_ops.specs.declared.requests.HeldRecord.{HeldRecord}
+use Rattle.fkv_pending.specs.declared.pending_requests.PendingRequest.{PendingRequest}
+
+-- it awaits another record of the device
+unfoldable pub with_sought : PendingRequest → Option DiskRecord → PendingRequest
+with_sought pending sought = record pending { sought = sought }
+
+-- it holds another record
+unfoldable pub with_held : PendingRequest → Option HeldRecord → PendingRequest
+with_held pending held = record pending { request = record pending.request { held = held } }
+
+-- it shares the latch of its bucket, or no more
+unfoldable pub with_latch : PendingRequest → Bool → PendingRequest
+with_latch pending has_latch = record pending { request = record pending.request { has_latch = has_latch } }
+
+-- its address is in the mailbox, or no more
+unfoldable pub with_asked : PendingRequest → Bool → PendingRequest
+with_asked pending has_asked = record pending { has_asked = has_asked }

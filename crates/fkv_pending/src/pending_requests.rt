@@ -1,0 +1,84 @@
+//! A request that waits.
+ghost use Rattle.std.specs.Prelude.{◌≡◌};
+ghost use Rattle.fkv_pending.specs.Pending.{with_sought, with_held, with_latch, with_asked};
+
+use fkv_base::{Key, Serial, Version};
+use fkv_map::Op;
+use fkv_ops::{DiskRecord, HeldRecord, Request};
+
+/// The number of a read that went pending. Tickets of a session count from 1; after 2^64 - 1 comes 1.
+#[derive(Clone, Copy, Debug, PartialEq, Eq)]
+pub struct Ticket(pub u64);
+
+/// What a request is called by.
+#[derive(Clone, Copy, Debug, PartialEq, Eq)]
+pub enum RequestName {
+    Update(Serial),
+    Read(Ticket),
+}
+
+/// A request that waits, and what it waits for.
+#[derive(Clone, Copy, Debug, PartialEq, Eq)]
+pub struct PendingRequest {
+    pub name: RequestName,
+    pub request: Request,
+    /// The record of the device that it awaits.
+    pub sought: Option<DiskRecord>,
+    /// Whether its address is in the mailbox, so that the record which comes is for it.
+    pub has_asked: bool,
+}
+
+impl Default for PendingRequest {
+    /// A read of key 0 that awaits nothing.
+    fn default() -> PendingRequest {
+        PendingRequest {
+            name: RequestName::Read(Ticket(1)),
+            request: Request {
+                op: Op::Read(Key(0)),
+                version: Version(1),
+                has_latch: false,
+                held: None,
+            },
+            sought: None,
+            has_asked: false,
+        }
+    }
+}
+
+impl PendingRequest {
+    /// The same request, which awaits this record.
+    #[tactic(auto, unfolding(crate::specs::Pending::with_sought))]
+    pub(crate) fn with_sought(self, sought: Option<DiskRecord>) -> PendingRequest
+        ensures { result ≡ with_sought self sought }
+    {
+        PendingRequest { sought, ..self }
+    }
+
+    /// The same request, which holds this record.
+    #[tactic(auto, unfolding(crate::specs::Pending::with_held))]
+    pub(crate) fn with_held(self, held: Option<HeldRecord>) -> PendingRequest
+        ensures { result ≡ with_held self held }
+    {
+        let mut changed = self;
+        changed.request.held = held;
+        changed
+    }
+
+    /// The same request, which shares the latch of its bucket, or does not.
+    #[tactic(auto, unfolding(crate::specs::Pending::with_latch))]
+    pub(crate) fn with_latch(self, has_latch: bool) -> PendingRequest
+        ensures { result ≡ with_latch self has_latch }
+    {
+        let mut changed = self;
+        changed.request.has_latch = has_latch;
+        changed
+    }
+
+    /// The same request, which has asked for its record, or has not.
+    #[tactic(auto, unfolding(crate::specs::Pending::with_asked))]
+    pub(crate) fn with_asked(self, has_asked: bool) -> PendingRequest
+        ensures { result ≡ with_asked self has_asked }
+    {
+        PendingRequest { has_asked, ..self }
+    }
+}
