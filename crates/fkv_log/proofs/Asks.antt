@@ -51,7 +51,7 @@ pub truth : (b : Bool) → (b ≡ true) ⊎ (b ≡ false)
 truth true = inl refl
 truth false = inr refl
 
-never : {X : Type 0} → true ≡ false → X
+pub never : {X : Type 0} → true ≡ false → X
 never e = cc
 
 pub reserve_asks : (step : Reserving) → (step ≡ reserve.AtRest) ⊎ (is_done (reserve_ask step) ≡ false)

@@ -1,5 +1,5 @@
 -- A machine asks for something exactly where asks are left to it, and each reply leaves fewer.
-use Rattle.std.proofs.Common.{◌≡◌, ℕ, ◌-◌, ◌<◌, ◌≤◌, refl, arith, Bool, true, false}
+use Rattle.std.proofs.Common.{◌≡◌, ℕ, ◌+◌, ◌-◌, ◌<◌, ◌≤◌, refl, arith, Bool, true, false}
 use Rattle.std.specs.Prelude.{◌↔◌, nat_lt, if◌then◌else◌}
 use Rattle.fkv_plane.specs.declared.places.Places.{Places}
 use Rattle.fkv_plane.specs.Passing.{is_done}
@@ -14,12 +14,11 @@ use Rattle.fkv_log.specs.declared.loading.Loading.TheVariants as load
 use Rattle.fkv_log.specs.Reserving.{reserve_ask, reserve_next, reserve_next_ask, reserve_asks_left}
 use Rattle.fkv_log.specs.Filling.{fill_ask, fill_next, fill_asks_left}
 use Rattle.fkv_log.specs.Invalidating.{invalidate_ask, invalidate_next, invalidate_asks_left}
-use Rattle.fkv_log.specs.Loading.{load_ask, load_next, load_next_ask, load_asks_left}
+use Rattle.fkv_log.specs.Loading.{load_ask, load_next, load_next_ask, load_on, load_asks_left, load_asks_later}
+use Rattle.fkv_log.proofs.Asks.{never}
 
-never : {X : Type 0} → true ≡ false → X
-never e = cc
-
-none : {X : Type 0} → 0 < 0 → X
+-- less than none
+pub none : {X : Type 0} → 0 < 0 → X
 none h = let no : ⊥ = omega (arith, h) in absurd no
 
 pub reserve_left : (step : Reserving) → (is_done (reserve_ask step) ≡ false) ↔ (0 < reserve_asks_left step)
@@ -95,3 +94,14 @@ unfolding load_ask load_next load_next_ask load_asks_left
 load_falls places load.AtRest reply asks = never asks
 load_falls places (load.HasKey addr header key) reply asks = never asks
 load_falls places step reply asks = omega arith
+
+-- no more come later, and what its actor lets go on was to come later
+pub load_later : (step : Loading) (reply : ℕ) → load_asks_later (load_next step reply) ≤ load_asks_later step
+unfolding load_next load_asks_later
+load_later load.AtRest reply = omega arith
+load_later step reply = omega arith
+
+pub load_on_left : (step : Loading) → load_asks_left (load_on step) + load_asks_later (load_on step) ≤ load_asks_left step + load_asks_later step
+unfolding load_on load_asks_left load_asks_later
+load_on_left (load.HasKey addr header key) = omega arith
+load_on_left step = omega arith

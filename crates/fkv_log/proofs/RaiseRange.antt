@@ -1,4 +1,4 @@
--- A raise stays at one of the eight slots, and tells one of them.
+-- A raise stays at one of the eight slots, and tells one of them; and it asks next where its state asks.
 use Rattle.std.proofs.Common.{◌≡◌, ℕ, ◌+◌, ◌<◌, Bool, true, false, refl, arith}
 use Rattle.fkv_base.specs.Limits.{drain_slots, last_epoch}
 use Rattle.std.specs.Prelude.{◌==◌, nat_lt, nat_le, if◌then◌else◌}
@@ -10,6 +10,7 @@ use Rattle.fkv_epoch.specs.declared.raising.RaiseAnswer.TheVariants as answer
 use Rattle.fkv_epoch.specs.declared.raising.Raising.{Raising}
 use Rattle.fkv_epoch.specs.declared.raising.Raising.TheVariants.{AtRest, LoadsEpoch, MeetsSlot, HoldsSlot, HasSlot, RaisesEpoch}
 use Rattle.fkv_epoch.specs.Raising.{IsRaiseInRange, raise_ask, raise_next, raise_next_ask, raise_on, free_after}
+use Rattle.fkv_plane.specs.Passing.{is_done}
 use Rattle.fkv_log.specs.Moving.{HasSlotInRange}
 
 either : (b : Bool) (x y : Raising) → IsRaiseInRange x → IsRaiseInRange y → IsRaiseInRange (if b then x else y)
@@ -63,3 +64,12 @@ next_ask_in_range (MeetsSlot slot) reply h = ask_in_range (raise_next (MeetsSlot
 next_ask_in_range (HoldsSlot slot) reply h = ask_in_range (raise_next (HoldsSlot slot) reply)
 next_ask_in_range (HasSlot slot) reply h = ask_in_range (raise_next (HasSlot slot) reply)
 next_ask_in_range (RaisesEpoch slot) reply h = h
+
+pub next_ask_asks : (step : Raising) (reply : ℕ) → is_done (raise_next_ask step reply) ≡ is_done (raise_ask (raise_next step reply))
+unfolding raise_next_ask raise_next raise_ask
+next_ask_asks LoadsEpoch reply = tested (nat_le last_epoch reply)
+  where
+    tested : (b : Bool) → is_done (if b then Done answer.Spent else raise_ask (MeetsSlot 0)) ≡ is_done (raise_ask (if b then AtRest else MeetsSlot 0))
+    tested true = refl
+    tested false = refl
+next_ask_asks step reply = refl

@@ -49,6 +49,12 @@ load_asks_left (LoadsKey addr header) = 1
 load_asks_left (HasKey addr header key) = 0
 load_asks_left (LoadsValue addr header key) = 1
 
+-- how many come later, where its actor lets it go on
+unfoldable pub load_asks_later : Loading → ℕ
+load_asks_later AtRest = 0
+load_asks_later (LoadsValue addr header key) = 0
+load_asks_later step = 1
+
 -- where the load of an address is once these two words are replied
 abbrev pub load_met : Addr → ℕ → ℕ → Loading
 load_met addr header key = load_next (load_next (LoadsHeader addr) header) key

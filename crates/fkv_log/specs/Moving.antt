@@ -1,5 +1,5 @@
 -- How an offset is moved that the protected sessions have to see.
-use Rattle.std.specs.Prelude.{ℕ, ◌-◌, ◌^◌, ◌<◌, min, ⊤}
+use Rattle.std.specs.Prelude.{◌≡◌, ℕ, ◌+◌, ◌-◌, ◌*◌, ◌^◌, ◌<◌, min, false, ⊤}
 use Rattle.fkv_base.specs.Limits.{drain_slots}
 use Rattle.fkv_plane.specs.declared.actions.Action.{Action}
 use Rattle.fkv_plane.specs.declared.actions.Action.TheVariants.{SafeReadOnly, Close}
@@ -7,15 +7,15 @@ use Rattle.fkv_plane.specs.declared.asks.Ask.{Ask}
 use Rattle.fkv_plane.specs.declared.asks.Ask.TheVariants.{Max, Put, Done}
 use Rattle.fkv_plane.specs.declared.places.SharedWord.TheVariants as one
 use Rattle.fkv_plane.specs.Places.{shared_place}
-use Rattle.fkv_plane.specs.Passing.{passed}
+use Rattle.fkv_plane.specs.Passing.{passed, is_done}
 use Rattle.fkv_epoch.specs.declared.raising.RaiseAnswer.{RaiseAnswer}
 use Rattle.fkv_epoch.specs.declared.raising.RaiseAnswer.TheVariants as raised
 use Rattle.fkv_epoch.specs.declared.raising.Raising.{Raising}
 use Rattle.fkv_epoch.specs.declared.raising.Raising.TheVariants as raise
 use Rattle.fkv_epoch.specs.declared.arming.Arming.{Arming}
 use Rattle.fkv_epoch.specs.declared.arming.Arming.TheVariants as arm
-use Rattle.fkv_epoch.specs.Raising.{raise_ask, raise_next, raise_next_ask, raise_on}
-use Rattle.fkv_epoch.specs.Arming.{arm_ask, arm_next}
+use Rattle.fkv_epoch.specs.Raising.{raise_ask, raise_next, raise_next_ask, raise_on, raise_asks_left, raise_asks_later}
+use Rattle.fkv_epoch.specs.Arming.{arm_ask, arm_next, arm_asks_left}
 use Rattle.fkv_log.specs.declared.moving.MoveAnswer.{MoveAnswer}
 use Rattle.fkv_log.specs.declared.moving.MoveAnswer.TheVariants as answer
 use Rattle.fkv_log.specs.declared.moving.Offset.{Offset}
@@ -103,6 +103,30 @@ moving_next_ask step raising arming reply = move_ask (moving_next step raising a
 
 abbrev pub move_next_ask : Mover → ℕ → Ask MoveAnswer
 move_next_ask m reply = moving_next_ask m.step m.raising m.arming reply
+
+-- the raise inside asks while it is driven
+abbrev pub RaiseAsks : Moving → Raising → Type 0
+RaiseAsks (Raises target) raising = is_done (raise_ask raising) ≡ false
+RaiseAsks step raising = ⊤
+
+-- Asks up to where the slot is armed: those of the raise, of which the one that comes later has the offset's before it, and the two of the arming.
+abbrev pub armed_within : Raising → ℕ
+armed_within raising = raise_asks_left raising + 2 * raise_asks_later raising + 2
+
+-- how many asks it has left, at most
+unfoldable pub moving_asks_left : Moving → Raising → Arming → ℕ
+moving_asks_left AtRest raising arming = 0
+moving_asks_left (Raises target) raising arming = armed_within raising
+moving_asks_left (MovesOffset target) raising arming = armed_within (raise_on raising) + 1
+moving_asks_left (Puts target slot) raising arming = arm_asks_left (arm_next arming) + 1
+moving_asks_left Arms raising arming = arm_asks_left arming
+
+abbrev pub move_asks_left : Mover → ℕ
+move_asks_left m = moving_asks_left m.step m.raising m.arming
+
+-- how many a whole move makes, at most: one loads the epoch, two meet each slot; then come the offset's, the epoch's and the two of the arming
+abbrev pub move_asks_most : ℕ
+move_asks_most = 2 * drain_slots + 5
 
 -- a slot that the raise tells is one of the eight
 abbrev pub HasSlotInRange : Ask RaiseAnswer → Type 0

@@ -13,7 +13,7 @@ use Rattle.fkv_log.specs.declared.shifting.ShiftAnswer.{ShiftAnswer}
 use Rattle.fkv_log.specs.declared.shifting.ShiftAnswer.TheVariants as answer
 use Rattle.fkv_log.specs.declared.shifting.Shifting.{Shifting}
 use Rattle.fkv_log.specs.declared.shifting.Shifting.TheVariants.{AtRest, LoadsTail, LoadsReadOnly, Moves}
-use Rattle.fkv_log.specs.Moving.{Mover, move_at_rest, move_begun, move_ask, move_next, move_next_ask}
+use Rattle.fkv_log.specs.Moving.{Mover, move_at_rest, move_begun, move_ask, move_next, move_next_ask, move_asks_left, move_asks_most}
 
 -- its own step, and the move inside it
 pub record ShiftState : Type 0 where
@@ -80,6 +80,16 @@ shifting_next_ask shape step m reply = shift_ask (shifting_next shape step m rep
 
 abbrev pub shift_next_ask : Shape → ShiftState → ℕ → Ask ShiftAnswer
 shift_next_ask shape s reply = shifting_next_ask shape s.step s.mover reply
+
+-- how many asks it has left, at most: two loads, and those of a move
+unfoldable pub shifting_asks_left : Shifting → Mover → ℕ
+shifting_asks_left AtRest m = 0
+shifting_asks_left LoadsTail m = move_asks_most + 2
+shifting_asks_left (LoadsReadOnly tail) m = move_asks_most + 1
+shifting_asks_left (Moves tail) m = move_asks_left m
+
+abbrev pub shift_asks_left : ShiftState → ℕ
+shift_asks_left s = shifting_asks_left s.step s.mover
 
 -- A shift has loaded the tail first, and then the read-only offset. It is through where that is far enough, and else it moves it.
 pub record IsShiftBegun (shape : Shape) (tail read_only : ℕ) : Type 0 where

@@ -13,7 +13,7 @@ use Rattle.fkv_log.specs.declared.turning.TurnForm.{TurnForm}
 use Rattle.fkv_log.specs.declared.turning.TurnForm.TheVariants.{Whole, OpensOnly}
 use Rattle.fkv_log.specs.declared.turning.Turning.{Turning}
 use Rattle.fkv_log.specs.declared.turning.Turning.TheVariants.{AtRest, LoadsLimit, LoadsClosed, RaisesLimit, LoadsHead, LoadsFlushed, Moves}
-use Rattle.fkv_log.specs.Moving.{Mover, move_at_rest, move_begun, move_ask, move_next, move_next_ask}
+use Rattle.fkv_log.specs.Moving.{Mover, move_at_rest, move_begun, move_ask, move_next, move_next_ask, move_asks_left, move_asks_most}
 
 -- its own step, and the move inside it
 pub record TurnState : Type 0 where
@@ -98,6 +98,24 @@ turning_next_ask shape step m reply = turn_ask shape (turning_next shape step m 
 
 abbrev pub turn_next_ask : Shape → TurnState → ℕ → Ask MoveAnswer
 turn_next_ask shape s reply = turning_next_ask shape s.step s.mover reply
+
+-- how many asks come once the closed offset is loaded, at most: two loads and those of a move, or the one that raises the limit
+abbrev pub asks_past_closed : TurnForm → ℕ
+asks_past_closed Whole = move_asks_most + 2
+asks_past_closed OpensOnly = 1
+
+-- how many asks it has left, at most
+unfoldable pub turning_asks_left : Turning → Mover → ℕ
+turning_asks_left AtRest m = 0
+turning_asks_left (LoadsLimit form tail) m = asks_past_closed form + 2
+turning_asks_left (LoadsClosed form limit) m = asks_past_closed form + 1
+turning_asks_left (RaisesLimit limit) m = 1
+turning_asks_left (LoadsHead end) m = move_asks_most + 2
+turning_asks_left (LoadsFlushed end) m = move_asks_most + 1
+turning_asks_left Moves m = move_asks_left m
+
+abbrev pub turn_asks_left : TurnState → ℕ
+turn_asks_left s = turning_asks_left s.step s.mover
 
 -- the turn after these replies, of which the first was given first
 abbrev pub turn_after : Shape → TurnState → List ℕ → TurnState

@@ -42,7 +42,7 @@ impl Model for LoadRecord {
 }
 
 impl LoadRecord {
-    ghost use Rattle.fkv_log.specs.Loading.{load_ask, load_next, load_next_ask, load_on, load_asks_left};
+    ghost use Rattle.fkv_log.specs.Loading.{load_ask, load_next, load_next_ask, load_on, load_asks_left, load_asks_later};
     ghost use Rattle.fkv_log.specs.declared.loading.Loading.TheVariants.{AtRest, LoadsHeader};
 
     /// The machine of a store with these places, at rest.
@@ -56,22 +56,22 @@ impl LoadRecord {
     }
 
     /// The first ask, to load the record at the address.
-    #[tactic(auto, unfolding(crate::specs::Loading::load_asks_left))]
+    #[tactic(auto, unfolding(crate::specs::Loading::load_asks_left, crate::specs::Loading::load_asks_later))]
     pub fn start(&mut self, addr: Addr) -> Ask<LoadAnswer>
         ensures next { self.new ≡ record self.old { step = LoadsHeader addr } }
         ensures ask { result ≡ load_ask self.old.places (LoadsHeader addr) }
-        ensures bounded { load_asks_left self.new.step ≤ 2 }
+        ensures bounded { load_asks_left self.new.step + load_asks_later self.new.step ≤ 3 }
     {
         self.step = Loading::LoadsHeader(addr);
         self.ask()
     }
 
     /// Goes on to load the value, where header and key are loaded; else it stays where it is.
-    #[tactic(auto, unfolding(crate::specs::Loading::load_on, crate::specs::Loading::load_asks_left))]
+    #[tactic(auto, unfolding(crate::specs::Loading::load_on, crate::specs::Loading::load_asks_left, crate::specs::Loading::load_asks_later))]
     pub fn load_value(&mut self) -> Ask<LoadAnswer>
         ensures next { self.new ≡ record self.old { step = load_on self.old.step } }
         ensures ask { result ≡ load_ask self.old.places (load_on self.old.step) }
-        ensures bounded { load_asks_left self.new.step ≤ load_asks_left self.old.step + 1 }
+        ensures bounded { load_asks_left self.new.step + load_asks_later self.new.step ≤ load_asks_left self.old.step + load_asks_later self.old.step }
     {
         if let Loading::HasKey(addr, header, key) = self.step {
             self.step = Loading::LoadsValue(addr, header, key);
@@ -80,11 +80,12 @@ impl LoadRecord {
     }
 
     /// Goes on with the reply to its ask. At rest, and until `load_value` is called, it stays where it is.
-    #[tactic(auto, unfolding(crate::specs::Loading::load_next, crate::specs::Loading::load_next_ask, crate::specs::Loading::load_asks_left))]
+    #[tactic(auto, unfolding(crate::specs::Loading::load_next, crate::specs::Loading::load_next_ask, crate::specs::Loading::load_asks_left, crate::specs::Loading::load_asks_later))]
     pub fn drive(&mut self, reply: u64) -> Ask<LoadAnswer>
         ensures next { self.new ≡ record self.old { step = load_next self.old.step reply } }
         ensures ask { result ≡ load_next_ask self.old.places self.old.step reply }
         ensures fewer { load_asks_left self.new.step ≤ load_asks_left self.old.step - 1 }
+        ensures later { load_asks_later self.new.step ≤ load_asks_later self.old.step }
     {
         match self.step {
             Loading::LoadsHeader(addr) => self.step = Loading::LoadsKey(addr, reply),

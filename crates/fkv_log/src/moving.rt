@@ -1,6 +1,8 @@
 //! How an offset is moved that the protected sessions have to see.
-ghost use Rattle.std.specs.Prelude.{◌≡◌, ◌<◌, ◌-◌, ◌^◌, min};
-ghost use Rattle.fkv_log.specs.Moving.{move_at_rest, HasSlotInRange, move_ask, move_begun, move_next, move_next_ask, raise_led, raise_told, arm_led, offset_place, action_awaited};
+ghost use Rattle.std.specs.Prelude.{◌≡◌, ◌<◌, ◌≤◌, ◌-◌, ◌^◌, min};
+ghost use Rattle.fkv_plane.specs.Passing.{is_done};
+ghost use Rattle.fkv_epoch.specs.Raising.{raise_ask};
+ghost use Rattle.fkv_log.specs.Moving.{move_at_rest, HasSlotInRange, move_ask, move_begun, move_next, move_next_ask, raise_led, raise_told, arm_led, offset_place, action_awaited, move_asks_left, move_asks_most};
 
 use fkv_base::Addr;
 use fkv_epoch::{Arm, Raise, RaiseAnswer};
@@ -58,13 +60,13 @@ pub struct MoveOffset {
 
 impl Model for MoveOffset {
     ghost use Rattle.fkv_epoch.specs.Raising.{IsRaiseInRange};
-    ghost use Rattle.fkv_log.specs.Moving.{Mover};
+    ghost use Rattle.fkv_log.specs.Moving.{Mover, RaiseAsks};
 
     ghost Value = { Mover };
 
     ghost view = { λ m. record { step = m.step; raising = m.raise.step; arming = m.arm.step } };
 
-    ghost invariant = { λ m. IsRaiseInRange m.raise.step };
+    ghost invariant = { λ m. IsRaiseInRange m.raise.step × RaiseAsks m.step m.raise.step };
 }
 
 impl MoveOffset {
@@ -84,6 +86,7 @@ impl MoveOffset {
     pub fn start(&mut self, offset: Offset, to: Addr) -> Ask<MoveAnswer>
         ensures next { self.new ≡ move_begun self.old offset to.0 }
         ensures ask { result ≡ move_ask (move_begun self.old offset to.0) }
+        ensures bounded { move_asks_left self.new ≤ move_asks_most }
     {
         self.step = Moving::Raises(Target { offset, to: to.0 });
         passed(self.raise.start(), MoveAnswer::Through)
@@ -94,8 +97,12 @@ impl MoveOffset {
     pub fn drive(&mut self, reply: u64) -> Ask<MoveAnswer>
         ensures next { self.new ≡ move_next self.old reply }
         ensures ask { result ≡ move_next_ask self.old reply }
+        ensures fewer { move_asks_left self.new ≤ move_asks_left self.old - 1 }
     {
-        match self.step {
+        // In the step `Raises` the raise is under way, and the reply may end it: what it asks then sets the step.
+        let step = self.step;
+        self.step = Moving::AtRest;
+        match step {
             Moving::AtRest => self.ask(),
             Moving::Raises(target) => {
                 let ask = self.raise.drive(reply);
@@ -115,7 +122,8 @@ impl MoveOffset {
     /// Goes on by what the raise asks.
     #[tactic(auto, unfolding(crate::specs::Moving::raise_led, crate::specs::Moving::raise_told, crate::specs::Moving::moving_ask, fkv_plane::specs::Passing::passed))]
     fn after_raise(&mut self, target: Target, ask: Ask<RaiseAnswer>) -> Ask<MoveAnswer>
-        requires { HasSlotInRange ask }
+        requires in_range { HasSlotInRange ask }
+        requires asks { is_done ask ≡ is_done (raise_ask self.old.raising) }
         ensures next { self.new ≡ raise_led target self.old.raising self.old.arming ask }
         ensures ask { result ≡ raise_told ask self.new }
     {

@@ -1,7 +1,7 @@
 //! How the read-only offset is shifted as the tail goes on.
-ghost use Rattle.std.specs.Prelude.{◌≡◌};
-ghost use Rattle.fkv_log.specs.Moving.{move_at_rest};
-ghost use Rattle.fkv_log.specs.Shifting.{mutable_start, shift_answer, shift_at, shift_begun, shift_ask, shift_next, shift_next_ask, shift_led, move_told};
+ghost use Rattle.std.specs.Prelude.{◌≡◌, ◌≤◌, ◌+◌, ◌-◌};
+ghost use Rattle.fkv_log.specs.Moving.{move_at_rest, move_asks_left, move_asks_most};
+ghost use Rattle.fkv_log.specs.Shifting.{mutable_start, shift_answer, shift_at, shift_begun, shift_ask, shift_next, shift_next_ask, shift_led, move_told, shift_asks_left};
 ghost use Rattle.fkv_log.specs.declared.shifting.Shifting.TheVariants.{AtRest};
 
 use crate::moving::{MoveAnswer, MoveOffset, Offset};
@@ -60,9 +60,11 @@ impl ShiftReadOnly {
     }
 
     /// The first ask. The move inside is at rest then, whatever came before.
+    #[tactic(auto, unfolding(crate::specs::Shifting::shifting_asks_left))]
     pub fn start(&mut self) -> Ask<ShiftAnswer>
         ensures next { self.new ≡ record self.old { state = shift_begun } }
         ensures ask { result ≡ shift_ask shift_begun }
+        ensures bounded { shift_asks_left self.new.state ≤ move_asks_most + 2 }
     {
         self.step = Shifting::LoadsTail;
         self.mover = MoveOffset::new();
@@ -70,10 +72,11 @@ impl ShiftReadOnly {
     }
 
     /// Goes on with the reply to its ask.
-    #[tactic(auto, unfolding(crate::specs::Shifting::shifting_next, crate::specs::Shifting::shifting_next_ask))]
+    #[tactic(auto, unfolding(crate::specs::Shifting::shifting_next, crate::specs::Shifting::shifting_next_ask, crate::specs::Shifting::shifting_asks_left))]
     pub fn drive(&mut self, reply: u64) -> Ask<ShiftAnswer>
         ensures next { self.new ≡ record self.old { state = shift_next self.old.shape self.old.state reply } }
         ensures ask { result ≡ shift_next_ask self.old.shape self.old.state reply }
+        ensures fewer { shift_asks_left self.new.state ≤ shift_asks_left self.old.state - 1 }
     {
         match self.step {
             Shifting::AtRest => {}
@@ -96,10 +99,11 @@ impl ShiftReadOnly {
     }
 
     /// Goes on by what the move asks.
-    #[tactic(auto, unfolding(crate::specs::Shifting::shift_led, crate::specs::Shifting::move_told))]
+    #[tactic(auto, unfolding(crate::specs::Shifting::shift_led, crate::specs::Shifting::move_told, crate::specs::Shifting::shifting_asks_left))]
     fn after_move(&mut self, tail: u64, ask: Ask<MoveAnswer>) -> Ask<ShiftAnswer>
         ensures next { self.new ≡ record self.old { state = shift_led tail self.old.state.mover ask } }
         ensures ask { result ≡ move_told tail ask self.new.state }
+        ensures bounded { shift_asks_left self.new.state ≤ move_asks_left self.old.state.mover }
     {
         if let Ask::Done(answer) = ask {
             self.step = Shifting::AtRest;

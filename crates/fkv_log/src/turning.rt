@@ -1,7 +1,7 @@
 //! How pages are opened and closed as the tail goes on.
-ghost use Rattle.std.specs.Prelude.{◌≡◌, ◌<◌, ◌/◌, nat_lt, nat_le, if◌then◌else◌};
-ghost use Rattle.fkv_log.specs.Moving.{move_at_rest};
-ghost use Rattle.fkv_log.specs.Turning.{pages_wanted, limit_after, frame_end, frame_taken, turn_at, turn_begun, turn_ask, turn_next, turn_next_ask, turn_led, turn_told, IsTurnInRange};
+ghost use Rattle.std.specs.Prelude.{◌≡◌, ◌<◌, ◌≤◌, ◌+◌, ◌-◌, ◌/◌, nat_lt, nat_le, if◌then◌else◌};
+ghost use Rattle.fkv_log.specs.Moving.{move_at_rest, move_asks_left};
+ghost use Rattle.fkv_log.specs.Turning.{pages_wanted, limit_after, frame_end, frame_taken, turn_at, turn_begun, turn_ask, turn_next, turn_next_ask, turn_led, turn_told, asks_past_closed, turn_asks_left, IsTurnInRange};
 ghost use Rattle.fkv_log.specs.declared.turning.Turning.TheVariants.{AtRest, LoadsClosed, RaisesLimit};
 
 use crate::moving::{MoveAnswer, MoveOffset, Offset};
@@ -69,9 +69,11 @@ impl TurnPage {
 
     /// The first ask of a turn of this form. The tail is the one that its actor has loaded. The move inside is at rest
     /// then, whatever came before.
+    #[tactic(auto, unfolding(crate::specs::Turning::turning_asks_left))]
     pub fn start(&mut self, form: TurnForm, tail: Addr) -> Ask<MoveAnswer>
         ensures next { self.new ≡ record self.old { state = turn_begun form tail.0 } }
         ensures ask { result ≡ turn_ask self.old.shape (turn_begun form tail.0) }
+        ensures bounded { turn_asks_left self.new.state ≤ asks_past_closed form + 2 }
     {
         self.step = Turning::LoadsLimit(form, tail.0);
         self.mover = MoveOffset::new();
@@ -79,10 +81,11 @@ impl TurnPage {
     }
 
     /// Goes on with the reply to its ask.
-    #[tactic(auto, unfolding(crate::specs::Turning::turning_next, crate::specs::Turning::turning_next_ask))]
+    #[tactic(auto, unfolding(crate::specs::Turning::turning_next, crate::specs::Turning::turning_next_ask, crate::specs::Turning::turning_asks_left))]
     pub fn drive(&mut self, reply: u64) -> Ask<MoveAnswer>
         ensures next { self.new ≡ record self.old { state = turn_next self.old.shape self.old.state reply } }
         ensures ask { result ≡ turn_next_ask self.old.shape self.old.state reply }
+        ensures fewer { turn_asks_left self.new.state ≤ turn_asks_left self.old.state - 1 }
     {
         self.step = match self.step {
             Turning::AtRest | Turning::RaisesLimit(_) => Turning::AtRest,
@@ -112,10 +115,11 @@ impl TurnPage {
     }
 
     /// Goes on by what the move asks.
-    #[tactic(auto, unfolding(crate::specs::Turning::turn_led, crate::specs::Turning::turn_told))]
+    #[tactic(auto, unfolding(crate::specs::Turning::turn_led, crate::specs::Turning::turn_told, crate::specs::Turning::turning_asks_left))]
     fn after_move(&mut self, ask: Ask<MoveAnswer>) -> Ask<MoveAnswer>
         ensures next { self.new ≡ record self.old { state = turn_led self.old.state.mover ask } }
         ensures ask { result ≡ turn_told self.old.shape ask self.new.state }
+        ensures bounded { turn_asks_left self.new.state ≤ move_asks_left self.old.state.mover }
     {
         if let Ask::Done(answer) = ask {
             self.step = Turning::AtRest;
