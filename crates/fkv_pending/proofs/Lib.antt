@@ -1,2 +1,5 @@
+pub mod Boxes
+pub mod MailRuns
+pub mod MailSound
 mod Requests
 pub mod Shown

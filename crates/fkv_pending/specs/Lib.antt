@@ -1,3 +1,5 @@
 pub mod Attempting
+pub mod Mailbox
 pub mod Mailing
+pub mod MailWorld
 pub mod Pending
