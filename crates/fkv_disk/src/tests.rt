@@ -67,6 +67,11 @@ fn a_file_reads_back(rt: HostRuntime) -> Result<(), Fail> {
     let mut shut = FileDisk::new(std::fs::open(&rt, path)?);
     assert!(rt; shut.write(0, &[1]).is_err());
     assert!(rt; shut.failures() == 1);
+    // The system syncs no such file, and says so.
+    let mut endless = FileDisk::new(std::fs::open(&rt, "/dev/zero")?);
+    endless.read(0, &mut read)?;
+    assert!(rt; endless.sync().is_err());
+    assert!(rt; endless.failures() == 1);
     std::fs::remove_file(&rt, path)?;
     assert!(rt; open_file(&rt, path).is_err());
     Ok(())
