@@ -16,6 +16,7 @@ use Rattle.fkv_index.specs.declared.publishing.PublishAnswer.{PublishAnswer}
 use Rattle.fkv_index.specs.declared.publishing.PublishAnswer.TheVariants as publish
 use Rattle.fkv_index.specs.Publishing.{publish_ask, publish_next, publish_next_ask, publish_asks_left}
 use Rattle.fkv_index.proofs.Shown.{publish_counted, publish_fewer}
+use Rattle.fkv_ops.specs.declared.appending.AppendAnswer.{AppendAnswer}
 use Rattle.fkv_ops.specs.declared.appending.AppendAnswer.TheVariants as answer
 use Rattle.fkv_ops.specs.declared.appending.Appending.{Appending}
 use Rattle.fkv_ops.specs.declared.appending.Appending.TheVariants.{Ended, Reserves, Fills, Publishes, Invalidates}
@@ -93,3 +94,7 @@ appending_fewer p room a Invalidates reply at some =
 -- each reply leaves fewer
 pub append_fewer : (p : Places) (room : ℕ) (a : AppendState) (reply : ℕ) → 0 < append_asks_left a → append_asks_left (append_next p room a reply) < append_asks_left a
 append_fewer p room a reply some = appending_fewer p room a a.step reply refl some
+
+-- what it asks, wherever that is given
+pub asked_left : (p : Places) (a : AppendState) (ask : Ask AppendAnswer) → ask ≡ append_ask p a → AsksWhereLeft (append_asks_left a) ask
+asked_left p a ask e = rw e (append_left p a)

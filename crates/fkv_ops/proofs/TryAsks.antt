@@ -267,7 +267,11 @@ shared_dropped_fewer p t its old ask at fewer = rw at fewer
 
 -- where the walk has come to its end, the value is loaded by two asks at most
 value_few : (p : Places) (t : TryState) (reply : ℕ) → is_done (walk_ask p (walk_next p t.walk reply)) ≡ true → walk_asks_left p (walk_on (walk_next p t.walk reply)) ≤ 2
-value_few p t reply end = walk_on_left p (walk_next p t.walk reply) (none_left _ (walk_ask p (walk_next p t.walk reply)) (walk_left p (walk_next p t.walk reply)) end)
+value_few p t reply end =
+    let its = walk_next p t.walk reply in
+    let none = none_left (walk_asks_left p its) (walk_ask p its) (walk_left p its) end in
+    let few = walk_on_left p its in
+    omega (arith, none, few)
 
 latch_falls : (t : TryState) (reply : ℕ) → 0 < asks_left t.latching → asks_left (latch_next t.latching reply) < asks_left t.latching
 latch_falls t reply some = let fewer = latch_fewer t.latching reply in omega (arith, some, fewer)
@@ -306,3 +310,7 @@ effect_left p t step = refl
 -- each reply leaves fewer
 pub try_fewer : (p : Places) (room : ℕ) (t : TryState) (reply : ℕ) → 0 < try_asks_left p t → try_asks_left p (try_next p room t reply) < try_asks_left p t
 try_fewer p room t reply some = rw (sym (effect_left p t t.step)) (trying_fewer p room (record t { effect = None }) t.step reply refl (rw (effect_left p t t.step) some))
+
+-- what it asks, wherever that is given
+pub asked_left : (p : Places) (t : TryState) (ask : Ask TryAnswer) → ask ≡ try_ask p t → AsksWhereLeft (try_asks_left p t) ask
+asked_left p t ask e = rw e (try_left p t)

@@ -25,6 +25,7 @@ use Rattle.fkv_index.specs.Finding.{first_finding, find_ask, find_next, find_nex
 use Rattle.fkv_index.proofs.Shown.{find_counted, next_fewer}
 use Rattle.fkv_ops.specs.declared.header_words.HeaderSaid.{HeaderSaid}
 use Rattle.fkv_ops.specs.declared.header_words.HeaderSaid.TheVariants.{Says, Spoiled}
+use Rattle.fkv_ops.specs.declared.walking.WalkAnswer.{WalkAnswer}
 use Rattle.fkv_ops.specs.declared.walking.WalkAnswer.TheVariants as answer
 use Rattle.fkv_ops.specs.declared.walking.Walking.{Walking}
 use Rattle.fkv_ops.specs.declared.walking.Walking.TheVariants.{Ended, Finds, Meets, HasFound, LoadsValue}
@@ -141,11 +142,15 @@ load_few (loading.LoadsKey addr header) = omega arith
 load_few (loading.HasKey addr header key) = omega arith
 load_few (loading.LoadsValue addr header key) = omega arith
 
-walking_on_left : (p : Places) (w : WalkState) (step : Walking) → walk_asks_left p w ≡ 0 → walk_asks_left p (walking_on w step) ≤ 2
+walking_on_left : (p : Places) (w : WalkState) (step : Walking) → walk_asks_left p (walking_on w step) ≤ walk_asks_left p w + 2
 unfolding walking_on walking_asks_left
-walking_on_left p w (HasFound addr version) end = load_few (load_on w.loading)
-walking_on_left p w step end = omega (arith, end)
+walking_on_left p w (HasFound addr version) = let few = load_few (load_on w.loading) in omega (arith, few)
+walking_on_left p w step = omega arith
 
--- at its end it goes on to the value by two asks at most
-pub walk_on_left : (p : Places) (w : WalkState) → walk_asks_left p w ≡ 0 → walk_asks_left p (walk_on w) ≤ 2
-walk_on_left p w end = walking_on_left p w w.step end
+-- it goes on to the value by two asks at most, whatever the load had come to
+pub walk_on_left : (p : Places) (w : WalkState) → walk_asks_left p (walk_on w) ≤ walk_asks_left p w + 2
+walk_on_left p w = walking_on_left p w w.step
+
+-- what it asks, wherever that is given
+pub asked_left : (p : Places) (w : WalkState) (ask : Ask WalkAnswer) → ask ≡ walk_ask p w → AsksWhereLeft (walk_asks_left p w) ask
+asked_left p w ask e = rw e (walk_left p w)
