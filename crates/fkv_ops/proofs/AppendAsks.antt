@@ -1,5 +1,5 @@
 -- An append asks just where it has asks left, and each reply leaves fewer.
-use Rattle.std.proofs.Common.{◌≡◌, ℕ, ◌+◌, ◌-◌, ◌<◌, ◌≤◌, ◌^◌, refl, arith, Bool, true, false}
+use Rattle.std.proofs.Common.{◌≡◌, ℕ, ◌+◌, ◌<◌, ◌≤◌, ◌^◌, refl, arith, Bool, true, false}
 use Rattle.std.specs.Prelude.{◌&&◌, nat_lt, if◌then◌else◌}
 use Rattle.fkv_base.specs.declared.numbers.Addr.{Addr}
 use Rattle.fkv_plane.specs.declared.asks.Ask.{Ask}
@@ -10,7 +10,7 @@ use Rattle.fkv_log.specs.declared.reserving.ReserveAnswer.{ReserveAnswer}
 use Rattle.fkv_log.specs.declared.reserving.ReserveAnswer.TheVariants as reserve
 use Rattle.fkv_log.specs.Reserving.{reserve_ask, reserve_next, reserve_next_ask, reserve_asks_left}
 use Rattle.fkv_log.specs.Filling.{fill_begun, fill_ask, fill_next, fill_asks_left}
-use Rattle.fkv_log.specs.Invalidating.{invalidate_begun, invalidate_ask, invalidate_next, invalidate_asks_left}
+use Rattle.fkv_log.specs.Invalidating.{invalidate_ask, invalidate_next, invalidate_asks_left}
 use Rattle.fkv_log.proofs.Shown.{reserve_left, reserve_fewer, fill_left, fill_fewer, invalidate_left, invalidate_fewer}
 use Rattle.fkv_index.specs.declared.publishing.PublishAnswer.{PublishAnswer}
 use Rattle.fkv_index.specs.declared.publishing.PublishAnswer.TheVariants as publish
@@ -22,8 +22,8 @@ use Rattle.fkv_ops.specs.declared.appending.Appending.{Appending}
 use Rattle.fkv_ops.specs.declared.appending.Appending.TheVariants.{Ended, Reserves, Fills, Publishes, Invalidates}
 use Rattle.fkv_ops.specs.declared.appending.FoundSlot.{FoundSlot}
 use Rattle.fkv_ops.specs.Appending.{AppendState, append_begun, append_ended, appending_ask, append_ask, addr_reserved, reserve_ledto, fill_ledto, publish_ledto, invalidate_ledto, appending_next, append_next}
-use Rattle.fkv_ops.specs.AsksLeft.{AsksWhereLeft, left_with, appending_asks_left, append_asks_left}
-use Rattle.fkv_ops.proofs.AsksLeft.{none, done_left, counted_left, some_inside, passed_left, passed_same, with_fewer, behind_fewer}
+use Rattle.fkv_ops.specs.AsksLeft.{AsksWhereLeft, sum_left, appending_asks_left, append_asks_left}
+use Rattle.fkv_ops.proofs.AsksLeft.{none, done_left, counted_left, some_inside, passed_left, passed_same, inside_fewer, behind_fewer}
 
 pub appending_left : (p : Places) (a : AppendState) (step : Appending) → AsksWhereLeft (appending_asks_left a step) (appending_ask p a step)
 unfolding appending_ask appending_asks_left
@@ -38,35 +38,35 @@ pub append_left : (p : Places) (a : AppendState) → AsksWhereLeft (append_asks_
 append_left p a = appending_left p a a.step
 
 pub append_begun_left : (a : AppendState) (slot : FoundSlot) (its_words : RecordWords) → append_asks_left (append_begun a slot its_words) ≡ 8
-unfolding appending_asks_left left_with reserve_asks_left
+unfolding appending_asks_left sum_left reserve_asks_left
 append_begun_left a slot its_words = refl
 
 addr_reserved_left : (a : AppendState) (addr : Addr) → append_asks_left (addr_reserved a addr) ≤ 3 + 1 + 1
-unfolding appending_asks_left left_with fill_asks_left
+unfolding appending_asks_left sum_left fill_asks_left
 addr_reserved_left a addr = tested (nat_lt a.its_words.header.previous.0 addr.0 && nat_lt addr.0 (2 ^ 48))
   where
     tested : (b : Bool) → append_asks_left (if b then record a { filling = fill_begun addr a.its_words; step = Fills addr } else append_ended a answer.Contended) ≤ 3 + 1 + 1
     tested true = omega arith
     tested false = omega arith
 
-reserve_led_fewer : (a : AppendState) (old : ℕ) (ask : Ask ReserveAnswer) → a.step ≡ Reserves → reserve_asks_left a.reserving < old → append_asks_left (reserve_ledto a ask) < left_with old (3 + 1 + 1)
+reserve_led_fewer : (a : AppendState) (old : ℕ) (ask : Ask ReserveAnswer) → a.step ≡ Reserves → reserve_asks_left a.reserving < old → append_asks_left (reserve_ledto a ask) < sum_left old (3 + 1 + 1)
 unfolding reserve_ledto appending_asks_left
 reserve_led_fewer a old (Done (reserve.Reserved addr)) at fewer = behind_fewer _ old (3 + 1 + 1) (omega (arith, fewer)) (addr_reserved_left a addr)
 reserve_led_fewer a old (Done reserve.Full) at fewer = behind_fewer 0 old (3 + 1 + 1) (omega (arith, fewer)) (omega arith)
 reserve_led_fewer a old (Done reserve.NoRoom) at fewer = behind_fewer 0 old (3 + 1 + 1) (omega (arith, fewer)) (omega arith)
 reserve_led_fewer a old (Done reserve.Contended) at fewer = behind_fewer 0 old (3 + 1 + 1) (omega (arith, fewer)) (omega arith)
-reserve_led_fewer a old ask at fewer = rw at (with_fewer (reserve_asks_left a.reserving) old (3 + 1 + 1) fewer)
+reserve_led_fewer a old ask at fewer = rw at (inside_fewer (reserve_asks_left a.reserving) old (3 + 1 + 1) fewer)
 
-fill_led_fewer : (a : AppendState) (addr : Addr) (old : ℕ) (ask : Ask (Unit {0})) → a.step ≡ Fills addr → fill_asks_left a.filling < old → append_asks_left (fill_ledto a addr ask) < left_with old (1 + 1)
-unfolding fill_ledto appending_asks_left left_with publish_asks_left
+fill_led_fewer : (a : AppendState) (addr : Addr) (old : ℕ) (ask : Ask (Unit {0})) → a.step ≡ Fills addr → fill_asks_left a.filling < old → append_asks_left (fill_ledto a addr ask) < sum_left old (1 + 1)
+unfolding fill_ledto appending_asks_left sum_left publish_asks_left
 fill_led_fewer a addr old (Done its) at fewer = behind_fewer 2 old (1 + 1) (omega (arith, fewer)) (omega arith)
-fill_led_fewer a addr old ask at fewer = rw at (with_fewer (fill_asks_left a.filling) old (1 + 1) fewer)
+fill_led_fewer a addr old ask at fewer = rw at (inside_fewer (fill_asks_left a.filling) old (1 + 1) fewer)
 
-publish_led_fewer : (a : AppendState) (addr : Addr) (old : ℕ) (ask : Ask PublishAnswer) → a.step ≡ Publishes addr → publish_asks_left a.publishing < old → append_asks_left (publish_ledto a addr ask) < left_with old 1
+publish_led_fewer : (a : AppendState) (addr : Addr) (old : ℕ) (ask : Ask PublishAnswer) → a.step ≡ Publishes addr → publish_asks_left a.publishing < old → append_asks_left (publish_ledto a addr ask) < sum_left old 1
 unfolding publish_ledto appending_asks_left invalidate_asks_left
 publish_led_fewer a addr old (Done publish.Won) at fewer = behind_fewer 0 old 1 (omega (arith, fewer)) (omega arith)
 publish_led_fewer a addr old (Done publish.Lost) at fewer = behind_fewer 1 old 1 (omega (arith, fewer)) (omega arith)
-publish_led_fewer a addr old ask at fewer = rw at (with_fewer (publish_asks_left a.publishing) old 1 fewer)
+publish_led_fewer a addr old ask at fewer = rw at (inside_fewer (publish_asks_left a.publishing) old 1 fewer)
 
 invalidate_led_fewer : (a : AppendState) (old : ℕ) (ask : Ask (Unit {0})) → a.step ≡ Invalidates → invalidate_asks_left a.invalidating < old → append_asks_left (invalidate_ledto a ask) < old
 unfolding invalidate_ledto appending_asks_left

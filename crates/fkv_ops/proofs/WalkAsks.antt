@@ -1,6 +1,6 @@
 -- A walk asks just where it has asks left, and each reply leaves fewer.
-use Rattle.std.proofs.Common.{◌≡◌, ℕ, ◌+◌, ◌-◌, ◌*◌, ◌<◌, ◌≤◌, ◌⊎◌, refl, sym, ◌∙◌, ap, inl, inr, arith, Bool, true, false}
-use Rattle.std.specs.Prelude.{◌==◌, nat_lt, if◌then◌else◌, Some}
+use Rattle.std.proofs.Common.{◌≡◌, ℕ, ◌+◌, ◌-◌, ◌*◌, ◌<◌, ◌≤◌, refl, arith, Bool, true, false}
+use Rattle.std.specs.Prelude.{◌==◌, nat_lt, if◌then◌else◌}
 use Rattle.std.proofs.lemmas.Bool.Decides.{nat_tests}
 use Rattle.fkv_base.specs.declared.numbers.Addr.{Addr}
 use Rattle.fkv_base.specs.declared.numbers.Key.{Key}
@@ -19,7 +19,6 @@ use Rattle.fkv_index.specs.declared.finding.Purpose.TheVariants as purpose
 use Rattle.fkv_index.specs.declared.finding.Found.{Found}
 use Rattle.fkv_index.specs.declared.finding.Found.TheVariants as found
 use Rattle.fkv_index.specs.declared.finding.FindAnswer.{FindAnswer}
-use Rattle.fkv_index.specs.declared.finding.Finding.{Finding}
 use Rattle.fkv_index.specs.Slots.{entry_addr}
 use Rattle.fkv_index.specs.Finding.{first_finding, find_ask, find_next, find_next_ask, step_asks_left, asks_left}
 use Rattle.fkv_index.proofs.Shown.{find_counted, next_fewer}
@@ -31,8 +30,8 @@ use Rattle.fkv_ops.specs.declared.walking.Walking.{Walking}
 use Rattle.fkv_ops.specs.declared.walking.Walking.TheVariants.{Ended, Finds, Meets, HasFound, LoadsValue}
 use Rattle.fkv_ops.specs.HeaderWords.{header_said}
 use Rattle.fkv_ops.specs.Walking.{WalkState, walk_begun, walk_ended, walking_ask, walk_ask, reached, slot_found, find_ledto, first_met, record_met, load_ledto, value_ledto, walking_next, walk_next, walking_on, walk_on}
-use Rattle.fkv_ops.specs.AsksLeft.{AsksWhereLeft, left_with, walking_asks_left, walk_asks_left, most_of_walk}
-use Rattle.fkv_ops.proofs.AsksLeft.{none, done_left, counted_left, some_inside, passed_left, passed_same, with_most, with_fewer, behind_fewer}
+use Rattle.fkv_ops.specs.AsksLeft.{AsksWhereLeft, sum_left, walking_asks_left, walk_asks_left, most_walk_asks}
+use Rattle.fkv_ops.proofs.AsksLeft.{none, done_left, counted_left, some_inside, passed_left, passed_same, sum_most, inside_fewer, behind_fewer}
 
 pub walking_left : (p : Places) (w : WalkState) (step : Walking) → AsksWhereLeft (walking_asks_left p w step) (walking_ask p w step)
 unfolding walking_ask walking_asks_left
@@ -52,16 +51,16 @@ unfolding step_asks_left
 find_begun_left p home purpose.Read spare = omega arith
 find_begun_left p home purpose.Update spare = omega arith
 
-pub walk_begun_left : (p : Places) (home : Home) (w : WalkState) (key : Key) (purpose : Purpose) (head : Addr) (spare : ℕ) → walk_asks_left p (walk_begun p home w key purpose head spare) ≤ most_of_walk p
+pub walk_begun_left : (p : Places) (home : Home) (w : WalkState) (key : Key) (purpose : Purpose) (head : Addr) (spare : ℕ) → walk_asks_left p (walk_begun p home w key purpose head spare) ≤ most_walk_asks p
 unfolding walking_asks_left
 walk_begun_left p home w key purpose head spare =
     let few = find_begun_left p home purpose spare in
-    let both = with_most (asks_left (first_finding p home purpose spare)) (2 * p.ring) in
+    let both = sum_most (asks_left (first_finding p home purpose spare)) (2 * p.ring) in
     omega (arith, few, both)
 
 -- at an address of the chain, where what its records take is within a bound
 reached_left : (p : Places) (w : WalkState) (addr most : ℕ) → (w.head.0 ≤ addr → addr - w.head.0 < p.ring → 2 + 2 * (addr - w.head.0) ≤ most) → walk_asks_left p (reached p w addr) ≤ most
-unfolding walking_asks_left left_with load_asks_left
+unfolding walking_asks_left sum_left load_asks_left
 reached_left p w addr most within = tested (addr == 0) (nat_lt addr w.head.0) (nat_lt (addr - w.head.0) p.ring) refl refl
   where
     tested : (zero below near : Bool) → nat_lt addr w.head.0 ≡ below → nat_lt (addr - w.head.0) p.ring ≡ near
@@ -97,17 +96,17 @@ record_met_left p w addr key (Says previous version) = tested (nat_lt previous.0
         let less : previous.0 < addr.0 = grind (arith, nat_tests, e) in
         reached_left p (record w { first = first_met w.first version }) previous.0 (2 * (addr.0 - w.head.0)) (λ above near. omega (arith, less, above))
 
-find_led_fewer : (p : Places) (w : WalkState) (old : ℕ) (ask : Ask FindAnswer) → w.step ≡ Finds → asks_left w.finding < old → walk_asks_left p (find_ledto p w ask) < left_with old (2 * p.ring)
+find_led_fewer : (p : Places) (w : WalkState) (old : ℕ) (ask : Ask FindAnswer) → w.step ≡ Finds → asks_left w.finding < old → walk_asks_left p (find_ledto p w ask) < sum_left old (2 * p.ring)
 unfolding find_ledto walking_asks_left
 find_led_fewer p w old (Done its) at fewer = behind_fewer _ old (2 * p.ring) (omega (arith, fewer)) (slot_found_left p (record w { spare = its.spare }) its.found)
-find_led_fewer p w old ask at fewer = rw at (with_fewer (asks_left w.finding) old (2 * p.ring) fewer)
+find_led_fewer p w old ask at fewer = rw at (inside_fewer (asks_left w.finding) old (2 * p.ring) fewer)
 
 load_led_fewer : (p : Places) (w : WalkState) (addr : Addr) (old : ℕ) (ask : Ask LoadAnswer) → w.step ≡ Meets addr → load_asks_left w.loading < old
-    → walk_asks_left p (load_ledto p w addr ask) < left_with old (2 * (addr.0 - w.head.0))
+    → walk_asks_left p (load_ledto p w addr ask) < sum_left old (2 * (addr.0 - w.head.0))
 unfolding load_ledto walking_asks_left
 load_led_fewer p w addr old (Done (load.Met header key)) at fewer = behind_fewer _ old (2 * (addr.0 - w.head.0)) (omega (arith, fewer)) (record_met_left p w addr key (header_said header))
 load_led_fewer p w addr old (Done other) at fewer = behind_fewer 0 old (2 * (addr.0 - w.head.0)) (omega (arith, fewer)) (omega arith)
-load_led_fewer p w addr old ask at fewer = rw at (with_fewer (load_asks_left w.loading) old (2 * (addr.0 - w.head.0)) fewer)
+load_led_fewer p w addr old ask at fewer = rw at (inside_fewer (load_asks_left w.loading) old (2 * (addr.0 - w.head.0)) fewer)
 
 value_led_fewer : (p : Places) (w : WalkState) (old : ℕ) (ask : Ask LoadAnswer) → w.step ≡ LoadsValue → load_asks_left w.loading < old → walk_asks_left p (value_ledto w ask) < old
 unfolding value_ledto walking_asks_left

@@ -5,7 +5,7 @@ use Rattle.fkv_log.specs.Reserving.{reserve_ask, reserve_asks_left}
 use Rattle.fkv_log.proofs.Shown.{reserve_left}
 use Rattle.fkv_ops.specs.declared.appending.AppendAnswer.TheVariants.{Contended}
 use Rattle.fkv_ops.specs.AsksLeft.{appending_asks_left}
-use Rattle.fkv_ops.proofs.AsksLeft.{passed_left, with_most}
+use Rattle.fkv_ops.proofs.AsksLeft.{passed_left, sum_most}
 use Rattle.fkv_ops.proofs.appending.Append.start.Goals as goal
 
 pub returns-clause-asks : goal.returns-clause-asks
@@ -18,5 +18,5 @@ pub returns-clause-bounded : goal.returns-clause-bounded
 unfolding appending_asks_left
 returns-clause-bounded c =
     let few = c.start.ensures.bounded in
-    let both = with_most (reserve_asks_left c.start.new.self.step) (3 + 1 + 1) in
+    let both = sum_most (reserve_asks_left c.start.new.self.step) (3 + 1 + 1) in
     omega (arith, few, both)
