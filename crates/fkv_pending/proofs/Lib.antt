@@ -1,4 +1,7 @@
+pub mod AttemptAsks
+pub mod AttemptRests
 pub mod Boxes
+pub mod MailAsks
 pub mod MailRuns
 pub mod MailSound
 mod Requests

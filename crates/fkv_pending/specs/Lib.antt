@@ -1,3 +1,4 @@
+pub mod AsksLeft
 pub mod Attempting
 pub mod Mailbox
 pub mod Mailing
