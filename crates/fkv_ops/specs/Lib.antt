@@ -1,4 +1,5 @@
 pub mod Appending
+pub mod AsksLeft
 pub mod HeaderWords
 pub mod Requests
 pub mod Trying

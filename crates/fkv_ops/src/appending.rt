@@ -1,6 +1,7 @@
 //! How a record is appended to the log and published.
-ghost use Rattle.std.specs.Prelude.{◌≡◌, ◌<◌, ◌*◌, ◌^◌};
+ghost use Rattle.std.specs.Prelude.{◌≡◌, ◌<◌, ◌≤◌, ◌*◌, ◌^◌};
 ghost use Rattle.fkv_ops.specs.Appending.{append_begun, append_ask, append_next, addr_reserved, reserve_ledto, fill_ledto, publish_ledto, invalidate_ledto};
+ghost use Rattle.fkv_ops.specs.AsksLeft.{AsksWhereLeft, append_asks_left};
 
 use fkv_base::{Addr, Key, Shape, Version};
 use fkv_index::{Publish, PublishAnswer};
@@ -105,6 +106,8 @@ impl Append {
         requires tag { slot.tag < 2 ^ 15 }
         ensures next { self.new ≡ record self.old { state = append_begun self.old.state slot its_words } }
         ensures ask { result ≡ append_ask self.old.places self.new.state }
+        ensures asks { AsksWhereLeft (append_asks_left self.new.state) result }
+        ensures bounded { append_asks_left self.new.state ≤ 8 }
     {
         self.slot = slot;
         self.its_words = its_words;
@@ -117,6 +120,8 @@ impl Append {
     pub fn drive(&mut self, reply: u64) -> Ask<AppendAnswer>
         ensures next { self.new ≡ record self.old { state = append_next self.old.places self.old.room self.old.state reply } }
         ensures ask { result ≡ append_ask self.old.places self.new.state }
+        ensures asks { AsksWhereLeft (append_asks_left self.new.state) result }
+        ensures fewer { 0 < append_asks_left self.old.state → append_asks_left self.new.state < append_asks_left self.old.state }
     {
         match self.step {
             Appending::Ended(_) => {}
@@ -143,7 +148,8 @@ impl Append {
     /// What it asks now.
     #[tactic(auto, unfolding(crate::specs::Appending::appending_ask))]
     pub fn ask(&self) -> Ask<AppendAnswer>
-        ensures { result ≡ append_ask self.now.places self.now.state }
+        ensures ask { result ≡ append_ask self.now.places self.now.state }
+        ensures asks { AsksWhereLeft (append_asks_left self.now.state) result }
     {
         let inside = AppendAnswer::Contended;
         match self.step {

@@ -1,6 +1,7 @@
 //! One try of a request.
-ghost use Rattle.std.specs.Prelude.{◌≡◌, ◌*◌, ◌^◌};
+ghost use Rattle.std.specs.Prelude.{◌≡◌, ◌+◌, ◌*◌, ◌<◌, ◌≤◌, ◌^◌};
 ghost use Rattle.fkv_ops.specs.Trying.{try_begun, try_ask, try_next};
+ghost use Rattle.fkv_ops.specs.AsksLeft.{AsksWhereLeft, try_asks_left};
 
 use crate::answers::TryAnswer;
 use crate::appending::Append;
@@ -132,6 +133,8 @@ impl Try {
     ) -> Ask<TryAnswer>
         ensures next { self.new ≡ record self.old { state = try_begun self.old.places self.old.bits self.old.state request seen occasion spare } }
         ensures ask { result ≡ try_ask self.old.places self.new.state }
+        ensures asks { AsksWhereLeft (try_asks_left self.old.places self.new.state) result }
+        ensures bounded { try_asks_left self.old.places self.new.state ≤ 8 * (self.old.places.overflow + 1) + 2 * self.old.places.ring + 20 }
     {
         self.request = request;
         self.seen = seen;
@@ -154,6 +157,8 @@ impl Try {
     pub fn drive(&mut self, reply: u64) -> Ask<TryAnswer>
         ensures next { self.new ≡ record self.old { state = try_next self.old.places self.old.room self.old.state reply } }
         ensures ask { result ≡ try_ask self.old.places self.new.state }
+        ensures asks { AsksWhereLeft (try_asks_left self.old.places self.new.state) result }
+        ensures fewer { 0 < try_asks_left self.old.places self.old.state → try_asks_left self.old.places self.new.state < try_asks_left self.old.places self.old.state }
     {
         self.effect = None;
         match self.step {
@@ -204,7 +209,8 @@ impl Try {
     /// What it asks now.
     #[tactic(auto, unfolding(crate::specs::Trying::trying_ask))]
     pub fn ask(&self) -> Ask<TryAnswer>
-        ensures { result ≡ try_ask self.now.places self.now.state }
+        ensures ask { result ≡ try_ask self.now.places self.now.state }
+        ensures asks { AsksWhereLeft (try_asks_left self.now.places self.now.state) result }
     {
         match self.step {
             Trying::Ended(answer) => Ask::Done(answer),

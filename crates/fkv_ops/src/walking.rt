@@ -1,7 +1,8 @@
 //! How the chain of a key's home is walked.
-ghost use Rattle.std.specs.Prelude.{◌≡◌, ◌<◌, ◌^◌, None};
+ghost use Rattle.std.specs.Prelude.{◌≡◌, ◌+◌, ◌*◌, ◌<◌, ◌≤◌, ◌^◌, None};
 ghost use Rattle.fkv_index.specs.Slots.{home_of};
 ghost use Rattle.fkv_ops.specs.Walking.{walk_begun, walk_ask, walk_next, walk_on, reached, slot_found, find_ledto, record_met, first_met, load_ledto, value_ledto};
+ghost use Rattle.fkv_ops.specs.AsksLeft.{AsksWhereLeft, walk_asks_left};
 
 use crate::header_words::{HeaderSaid, header_said};
 use fkv_base::{Addr, Key, Version};
@@ -96,6 +97,8 @@ impl Walk {
     pub fn start(&mut self, key: Key, purpose: Purpose, head: Addr, spare: u64) -> Ask<WalkAnswer>
         ensures next { self.new ≡ record self.old { state = walk_begun self.old.places (home_of self.old.bits key) self.old.state key purpose head spare } }
         ensures ask { result ≡ walk_ask self.old.places self.new.state }
+        ensures asks { AsksWhereLeft (walk_asks_left self.old.places self.new.state) result }
+        ensures bounded { walk_asks_left self.old.places self.new.state ≤ 8 * (self.old.places.overflow + 1) + 3 + 2 * self.old.places.ring }
     {
         self.key = key;
         self.head = head;
@@ -112,6 +115,8 @@ impl Walk {
     pub fn drive(&mut self, reply: u64) -> Ask<WalkAnswer>
         ensures next { self.new ≡ record self.old { state = walk_next self.old.places self.old.state reply } }
         ensures ask { result ≡ walk_ask self.old.places self.new.state }
+        ensures asks { AsksWhereLeft (walk_asks_left self.old.places self.new.state) result }
+        ensures fewer { 0 < walk_asks_left self.old.places self.old.state → walk_asks_left self.old.places self.new.state < walk_asks_left self.old.places self.old.state }
     {
         match self.step {
             Walking::Ended(_) | Walking::HasFound(_, _) => {}
@@ -136,6 +141,8 @@ impl Walk {
     pub fn load_value(&mut self) -> Ask<WalkAnswer>
         ensures next { self.new ≡ record self.old { state = walk_on self.old.state } }
         ensures ask { result ≡ walk_ask self.old.places self.new.state }
+        ensures asks { AsksWhereLeft (walk_asks_left self.old.places self.new.state) result }
+        ensures bounded { walk_asks_left self.old.places self.new.state ≤ walk_asks_left self.old.places self.old.state + 2 }
     {
         if let Walking::HasFound(_, _) = self.step {
             self.load.load_value();
@@ -147,7 +154,8 @@ impl Walk {
     /// What it asks now.
     #[tactic(auto, unfolding(crate::specs::Walking::walking_ask))]
     pub fn ask(&self) -> Ask<WalkAnswer>
-        ensures { result ≡ walk_ask self.now.places self.now.state }
+        ensures ask { result ≡ walk_ask self.now.places self.now.state }
+        ensures asks { AsksWhereLeft (walk_asks_left self.now.places self.now.state) result }
     {
         match self.step {
             Walking::Ended(answer) => Ask::Done(answer),
