@@ -1,11 +1,12 @@
 //! The requests of a session that wait.
-ghost use Rattle.std.specs.Prelude.{◌≡◌, ◌<◌, ◌==◌, [], ◌∷◌, ◌++◌, length, slice_get, slice_set};
-ghost use Rattle.std.specs.List.{remove};
+ghost use Rattle.std.specs.Prelude.{◌≡◌, ◌<◌, ◌==◌, [], ◌∷◌, ◌++◌, length, slice_get, slice_set, count_by};
+ghost use Rattle.std.specs.List.{remove, position};
+ghost use Rattle.fkv_pending.specs.Pending.{is_unlatched, is_update_of};
 ghost use Rattle.fkv_base.specs.Limits.{max_pending};
 
 use crate::pending_requests::PendingRequest;
 use arrayvec::ArrayVec;
-use fkv_base::MAX_PENDING;
+use fkv_base::{MAX_PENDING, Version};
 use std::marker::Model;
 
 /// At most `MAX_PENDING` requests that wait, in the order in which they were accepted.
@@ -86,5 +87,26 @@ impl PendingList {
         ensures { self.new ≡ remove self.old index }
     {
         self.requests.pop_at(index);
+    }
+
+    /// The first update that doesn't share the latch of its bucket.
+    pub fn first_unlatched(&self) -> Option<usize>
+        ensures { result ≡ position is_unlatched self.now }
+    {
+        self.requests
+            .as_slice()
+            .iter()
+            .position(|request| request.is_unlatched())
+    }
+
+    /// How many updates of this version wait.
+    pub fn updates_of(&self, version: Version) -> usize
+        ensures { result ≡ count_by (is_update_of version) self.now }
+    {
+        self.requests
+            .as_slice()
+            .iter()
+            .filter(|request| request.is_update_of(version))
+            .count()
     }
 }
