@@ -1,0 +1,3 @@
+pub mod CatchingUp
+pub mod OwnTurns
+pub mod PhaseWords
