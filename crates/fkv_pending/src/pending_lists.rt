@@ -1,5 +1,5 @@
 //! The requests of a session that wait.
-ghost use Rattle.std.specs.Prelude.{◌≡◌, ◌<◌, ◌==◌, [], ◌∷◌, ◌++◌, length, slice_get, slice_set, count_by};
+ghost use Rattle.std.specs.Prelude.{◌≡◌, ◌<◌, ◌+◌, ◌==◌, [], ◌∷◌, ◌++◌, length, slice_get, slice_set, count_by, false};
 ghost use Rattle.std.specs.List.{remove, position};
 ghost use Rattle.fkv_pending.specs.Pending.{is_unlatched, is_update_of};
 ghost use Rattle.fkv_base.specs.Limits.{max_pending};
@@ -53,7 +53,8 @@ impl PendingList {
 
     /// Whether no further request can wait.
     pub fn is_full(&self) -> bool
-        ensures { result ≡ (length self.now == max_pending) }
+        ensures full { result ≡ (length self.now == max_pending) }
+        ensures room { result ≡ false → length self.now < max_pending }
     {
         self.requests.is_full()
     }
@@ -75,7 +76,8 @@ impl PendingList {
 
     /// The request at an index waits for something else.
     pub fn set(&mut self, index: usize, request: PendingRequest)
-        ensures { self.new ≡ slice_set self.old index request }
+        ensures set { self.new ≡ slice_set self.old index request }
+        ensures same_length { length self.new ≡ length self.old }
     {
         if let Some(place) = self.requests.get_mut(index) {
             *place = request;
@@ -84,7 +86,8 @@ impl PendingList {
 
     /// The request at an index is finished and leaves the list. The others stay as they are, in their order.
     pub fn remove(&mut self, index: usize)
-        ensures { self.new ≡ remove self.old index }
+        ensures rest { self.new ≡ remove self.old index }
+        ensures fewer { index < length self.old → length self.new + 1 ≡ length self.old }
     {
         self.requests.pop_at(index);
     }

@@ -5,9 +5,7 @@ use Rattle.std.specs.Prelude.{ℕ, ◌-◌, ◌%◌, ◌==◌, ◌&&◌, not, mi
 use Rattle.std.specs.List.{position, count_by}
 use Rattle.std.proofs.Common.{arith}
 use Rattle.fkv_base.specs.Limits.{last_serial, last_version}
-use Rattle.fkv_base.specs.declared.numbers.Serial.{Serial}
 use Rattle.fkv_base.specs.declared.numbers.Version.{Version}
-use Rattle.fkv_base.specs.declared.phases.Phase.{Phase}
 use Rattle.fkv_words.specs.Layout.{cut_word}
 use Rattle.fkv_map.specs.Keys.{key_of}
 use Rattle.fkv_plane.specs.declared.asks.Ask.{Ask}

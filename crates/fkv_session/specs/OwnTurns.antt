@@ -1,6 +1,6 @@
 -- The turn that a session makes where its log had no room: it scans, runs what is armed, shifts the read-only offset, and opens a page
 -- where the frame is free. The head stays with the keeper.
-use Rattle.std.specs.Prelude.{ℕ, Option, None}
+use Rattle.std.specs.Prelude.{ℕ, None}
 use Rattle.fkv_base.specs.declared.numbers.Addr.{Addr}
 use Rattle.fkv_base.specs.declared.shapes.Shape.{Shape}
 use Rattle.fkv_plane.specs.declared.actions.Action.{Action}

@@ -1,6 +1,5 @@
 -- What the phase word says.
-use Rattle.std.specs.Prelude.{ℕ, ◌/◌, ◌%◌, ◌^◌, ◌==◌, ◌&&◌, not, if◌then◌else◌, Bool, Option, Some, None}
-use Rattle.fkv_base.specs.declared.numbers.Version.{Version}
+use Rattle.std.specs.Prelude.{ℕ, ◌/◌, ◌%◌, ◌^◌, ◌==◌, ◌&&◌, if◌then◌else◌, Bool, Option, Some, None}
 use Rattle.fkv_base.specs.declared.phases.Phase.{Phase}
 use Rattle.fkv_base.specs.declared.phases.Phase.TheVariants as phase
 use Rattle.fkv_session.specs.declared.phase_words.PhaseSaid.{PhaseSaid}

@@ -1,11 +1,14 @@
 //! What a session answers.
-ghost use Rattle.std.specs.Prelude.{◌≡◌};
+ghost use Rattle.std.specs.Prelude.{◌≡◌, ◌≤◌, length};
+ghost use Rattle.fkv_base.specs.Limits.{max_pending};
+ghost use Rattle.fkv_session.specs.Answers.{IsAnswerTold, IsAnswered};
 
 use arrayvec::ArrayVec;
 use fkv_base::{Fault, MAX_PENDING, Phase, Serial, Value, Version};
 use fkv_map::Reply;
 use fkv_ops::Reason;
 use fkv_pending::Ticket;
+use fkv_plane::{Ask, passed};
 
 /// A request that a poll has finished.
 #[derive(Clone, Copy, Debug, PartialEq, Eq)]
@@ -63,4 +66,44 @@ pub enum Answer {
     /// The last serial of the session that a finished commit keeps.
     Durable(Serial),
     Refused(Fault),
+}
+
+/// The answer that was told, with what a poll has finished.
+pub(crate) fn answer_of(told: Told, finished: &[Finished]) -> Answer
+    requires { length finished.now ≤ max_pending }
+    ensures { IsAnswerTold told finished.now result }
+{
+    match told {
+        Told::Done(serial, reply) => Answer::Done(serial, reply),
+        Told::Pending(serial, reason) => Answer::Pending(serial, reason),
+        Told::Found(value) => Answer::Found(value),
+        Told::Absent => Answer::Absent,
+        Told::PendingRead(ticket) => Answer::PendingRead(ticket),
+        Told::Refreshed(phase, version) => Answer::Refreshed(phase, version),
+        Told::Woken(phase, version) => Answer::Woken(phase, version),
+        Told::Polled(left) => Answer::Polled(copied(finished), left),
+        Told::Slept => Answer::Slept,
+        Told::Durable(serial) => Answer::Durable(serial),
+        Told::Refused(why) => Answer::Refused(why),
+    }
+}
+
+/// An ask as it is, and at a call's end its answer.
+pub(crate) fn answered(ask: Ask<Told>, finished: &[Finished]) -> Ask<Answer>
+    requires { length finished.now ≤ max_pending }
+    ensures { IsAnswered ask finished.now result }
+{
+    match ask {
+        Ask::Done(told) => Ask::Done(answer_of(told, finished)),
+        other => passed(other, Answer::Slept),
+    }
+}
+
+fn copied(finished: &[Finished]) -> ArrayVec<Finished, MAX_PENDING>
+    requires { length finished.now ≤ max_pending }
+    ensures { result.items ≡ finished.now }
+{
+    let mut copies = ArrayVec::new();
+    let _ = copies.try_extend_from_slice(finished);
+    copies
 }

@@ -1,8 +1,8 @@
 //! How a session catches up with the store.
-ghost use Rattle.std.specs.Prelude.{◌≡◌, ◌<◌, ◌^◌, ◌-◌, Option, Bool, []};
+ghost use Rattle.std.specs.Prelude.{◌≡◌, ◌<◌, ◌^◌, ◌-◌, Option, Bool, [], length};
 ghost use Rattle.fkv_base.specs.Limits.{max_sessions};
 ghost use Rattle.fkv_pending.specs.declared.pending_requests.PendingRequest.{PendingRequest};
-ghost use Rattle.fkv_session.specs.CatchingUp.{refresh_begun, wake_begun, catch_ask, catch_next, catch_requests, cut_of, cut_at, seen_after, finishes, latch_wanted, latches, cuts, takes_up, enters_prepare, refresh_ledto, protect_ledto, latch_ledto, finish_ledto, latch_marked};
+ghost use Rattle.fkv_session.specs.CatchingUp.{refresh_begun, wake_begun, catch_ask, catch_next, catch_requests, cut_of, cut_at, seen_after, finishes, latch_wanted, latches, cuts, takes_up, enters_prepare, owing, refresh_ledto, protect_ledto, latch_ledto, finish_ledto, latch_marked};
 
 use crate::phase_words::{PhaseSaid, phase_said};
 use fkv_base::{Phase, Serial, Version};
@@ -128,6 +128,7 @@ impl CatchUp {
         ensures requests { requests.new ≡ catch_requests self.old.state requests.old reply }
         ensures next { self.new ≡ record self.old { state = catch_next self.old.places self.old.bits self.old.session self.old.state requests.old reply } }
         ensures ask { result ≡ catch_ask self.old.places self.old.session self.new.state requests.new }
+        ensures same_length { length requests.new ≡ length requests.old }
     {
         match self.step {
             Catching::Ended => {}
@@ -171,8 +172,8 @@ impl CatchUp {
                 )
             }
             Catching::StoresOwing => {
-                let owing = requests.updates_of(Version(self.version_before()));
-                Ask::Store(SessionWord::Owing.place(self.session), owing as u64)
+                let owing = owing(self.seen, requests);
+                Ask::Store(SessionWord::Owing.place(self.session), owing)
             }
             Catching::Latches(_) => passed(self.latch.ask(), ()),
         }
@@ -296,13 +297,22 @@ impl CatchUp {
 /// The request of which the latch is taken shares it from then on.
 #[tactic(auto, unfolding(crate::specs::CatchingUp::latch_marked))]
 fn mark_latched(requests: &mut PendingList, index: usize, ask: &Ask<LatchAnswer>)
-    ensures { requests.new ≡ latch_marked requests.old index ask.now }
+    ensures marked { requests.new ≡ latch_marked requests.old index ask.now }
+    ensures same_length { length requests.new ≡ length requests.old }
 {
     if let Ask::Done(LatchAnswer::Taken) = ask {
         if let Some(pending) = requests.get(index) {
             requests.set(index, pending.with_latch(true));
         }
     }
+}
+
+/// How many updates of the version before the session's wait.
+pub(crate) fn owing(seen: Seen, requests: &PendingList) -> u64
+    ensures { result ≡ owing seen requests.now }
+{
+    let before = Version(seen.version.0.saturating_sub(1));
+    requests.updates_of(before) as u64
 }
 
 /// The cut word of even versions, or of odd ones.

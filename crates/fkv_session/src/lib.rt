@@ -3,10 +3,15 @@
 #![tactic(auto)]
 
 mod answers;
+mod calls;
 mod catching_up;
+mod leading;
 mod own_turns;
 mod phase_words;
+mod polling;
+mod sessions;
 
 pub use answers::{Answer, Finished, Told};
 pub use catching_up::CatchUp;
 pub use own_turns::OwnTurn;
+pub use sessions::Session;

@@ -1,5 +1,5 @@
 -- What a phase word says is what is read where one is spelled.
-use Rattle.std.proofs.Common.{◌≡◌, ℕ, ◌+◌, ◌*◌, ◌<◌, ◌≤◌, ◌^◌, ◌%◌, ◌/◌, arith, refl, sym, ap, subst, ◌∙◌, Bool, true, false}
+use Rattle.std.proofs.Common.{◌≡◌, ℕ, ◌+◌, ◌*◌, ◌<◌, ◌^◌, ◌%◌, ◌/◌, arith, refl, subst, Bool, true, false}
 use Rattle.std.specs.Prelude.{◌==◌, ◌&&◌, if◌then◌else◌, Option, Some, None}
 use Rattle.std.proofs.lemmas.Bool.Decides.{nat_tests}
 use Rattle.fkv_base.specs.declared.phases.Phase.{Phase}
@@ -8,7 +8,7 @@ use Rattle.fkv_words.specs.declared.phase_word.PhaseWord.{PhaseWord}
 use Rattle.fkv_words.specs.Phases.{phase_number}
 use Rattle.fkv_words.specs.Layout.{phase_word}
 use Rattle.fkv_session.specs.declared.phase_words.PhaseSaid.TheVariants.{Says, Spoiled}
-use Rattle.fkv_session.specs.PhaseWords.{phase_numbered, phase_with, has_spare_bits, phase_said}
+use Rattle.fkv_session.specs.PhaseWords.{phase_numbered, phase_with, phase_said}
 use Rattle.fkv_session.proofs.phase_words.phase_said.Goals as goal
 
 numbered : (its : Phase) → phase_numbered (phase_number its) ≡ Some its
