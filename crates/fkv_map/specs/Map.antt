@@ -1,5 +1,5 @@
 -- The plain map from keys to values, and what each operation does to it.
-use Rattle.std.specs.Prelude.{◌≡◌, ℕ, ◌+◌, ◌<◌, min, max, Option, Some, None, List, map, length, slice_index}
+use Rattle.std.specs.Prelude.{◌≡◌, ℕ, ◌+◌, ◌<◌, ◌==◌, Bool, false, min, max, Option, Some, None, List, map, length, slice_index}
 use Rattle.std.specs.Ordering.{nat_cmp}
 use Rattle.std.specs.FinMap.{FinMap, get, insert, remove}
 use Rattle.fkv_base.specs.declared.numbers.Key.{Key}
@@ -58,6 +58,14 @@ IsReserved (Delete key) = ⊥
 IsReserved (Add key n) = n ≡ absent_word
 IsReserved (Max key n) = n ≡ absent_word
 IsReserved (Read key) = ⊥
+
+-- the same as a test
+abbrev pub is_reserved : Op → Bool
+is_reserved (Upsert key value) = value.0 == absent_word
+is_reserved (Delete key) = false
+is_reserved (Add key n) = n == absent_word
+is_reserved (Max key n) = n == absent_word
+is_reserved (Read key) = false
 
 -- the operation gives a value to a key that has none, so it takes memory
 abbrev pub PutsNewKey : Map → Op → Type 0

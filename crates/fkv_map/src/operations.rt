@@ -1,6 +1,6 @@
 //! What a session asks, and what it is told.
 ghost use Rattle.std.specs.Prelude.{◌≡◌, ◌↔◌, IsTrue};
-ghost use Rattle.fkv_map.specs.Map.{IsReserved, sum_with, greater_with};
+ghost use Rattle.fkv_map.specs.Map.{IsReserved, is_reserved, sum_with, greater_with};
 ghost use Rattle.fkv_map.specs.Keys.{key_of, value_applied, reply_from, as_number};
 
 use fkv_base::{Key, Value};
@@ -47,7 +47,8 @@ pub enum Reply {
 impl Op {
     /// Whether the operation brings 2^64 - 1, which is no value. Such an operation is refused.
     pub fn is_reserved(self) -> bool
-        ensures { IsTrue result ↔ IsReserved self }
+        ensures reserved { IsTrue result ↔ IsReserved self }
+        ensures tested { result ≡ is_reserved self }
     {
         match self {
             Op::Upsert(_, value) => value.0 == Value::ABSENT,

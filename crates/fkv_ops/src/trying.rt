@@ -242,6 +242,13 @@ impl Try {
         }
     }
 
+    /// Where the shared words of the store stand.
+    pub fn places(&self) -> Places
+        ensures { result ≡ self.now.places }
+    {
+        self.places
+    }
+
     /// What the update was told whose effect the last reply made, if it made one.
     pub fn effect(&self) -> Option<Reply>
         ensures { result ≡ self.now.state.effect }

@@ -1,5 +1,6 @@
 pub mod AttemptAsks
 pub mod AttemptRests
+pub mod AttemptRuns
 pub mod Boxes
 pub mod MailAsks
 pub mod MailRuns

@@ -1,5 +1,6 @@
 pub mod AsksLeft
 pub mod Attempting
+pub mod Attempts
 pub mod Mailbox
 pub mod Mailing
 pub mod MailWorld

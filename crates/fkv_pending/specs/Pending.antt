@@ -1,7 +1,9 @@
 -- What changes of a request that waits.
-use Rattle.std.specs.Prelude.{Bool, Option}
+use Rattle.std.specs.Prelude.{Bool, Option, ◌==◌, ◌&&◌, not}
+use Rattle.fkv_base.specs.declared.numbers.Version.{Version}
 use Rattle.fkv_ops.specs.declared.answers.DiskRecord.{DiskRecord}
 use Rattle.fkv_ops.specs.declared.requests.HeldRecord.{HeldRecord}
+use Rattle.fkv_ops.specs.Requests.{is_read}
 use Rattle.fkv_pending.specs.declared.pending_requests.PendingRequest.{PendingRequest}
 
 -- it awaits another record of the device
@@ -19,3 +21,11 @@ with_latch pending has_latch = record pending { request = record pending.request
 -- its address is in the mailbox, or no more
 unfoldable pub with_asked : PendingRequest → Bool → PendingRequest
 with_asked pending has_asked = record pending { has_asked = has_asked }
+
+-- an update that doesn't share the latch of its bucket
+abbrev pub is_unlatched : PendingRequest → Bool
+is_unlatched pending = not (is_read pending.request.op) && not pending.request.has_latch
+
+-- an update of this version
+abbrev pub is_update_of : Version → PendingRequest → Bool
+is_update_of version pending = not (is_read pending.request.op) && pending.request.version.0 == version.0

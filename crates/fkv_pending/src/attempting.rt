@@ -15,7 +15,7 @@ use fkv_ops::{
     DiskRecord, HeaderSaid, HeldRecord, Occasion, Reason, Seen, Try, TryAnswer, header_said,
     told_value, value_of_word,
 };
-use fkv_plane::{Ask, passed};
+use fkv_plane::{Ask, Places, passed};
 use std::marker::Model;
 
 /// How far the attempt has come. Its end is kept up to the next start.
@@ -159,6 +159,13 @@ impl Attempt {
             Attempting::Looks | Attempting::Puts => passed(self.mail.ask(), TryAnswer::Shift),
             Attempting::Tries => passed(self.trial.ask(), TryAnswer::Shift),
         }
+    }
+
+    /// Where the shared words of the store stand.
+    pub fn places(&self) -> Places
+        ensures { result ≡ self.now.places }
+    {
+        self.trial.places()
     }
 
     /// The request, and what it waits for by now.

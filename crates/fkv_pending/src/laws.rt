@@ -1,4 +1,5 @@
 //! What goes through a mailbox, over every list of events.
+ghost use Rattle.fkv_pending.specs.Attempts.{AttemptsTrue};
 ghost use Rattle.fkv_pending.specs.Mailbox.{AtEachMoment, NotesInTurn, ChangesAreKept, OthersStay, AnswersTrue, RestsBetweenTasks};
 
 /// Whatever the order of the steps of a session that begins tasks with its mailbox, one after another, and of a keeper who serves
@@ -12,4 +13,12 @@ pub fn law_mailbox()
     ensures others { AtEachMoment OthersStay }
     ensures answers { AtEachMoment AnswersTrue }
     ensures rest { AtEachMoment RestsBetweenTasks }
+{}
+
+/// Over every list of replies to the asks of an attempt, of any request: mail is for nobody just where it was so before, or where the
+/// request has finished while its mail is under way; a request that has asked in this attempt has asked for the record that it
+/// seeks; one that waits for the device has its mail under way, or has met an occupied mailbox; and what a request holds it held
+/// before, or it came by the mail that this attempt took, with the entry of the record that was sought.
+pub fn law_attempts()
+    ensures { AttemptsTrue }
 {}

@@ -9,7 +9,7 @@ mod pending_lists;
 mod pending_requests;
 
 pub use attempting::Attempt;
-pub use laws::law_mailbox;
+pub use laws::{law_attempts, law_mailbox};
 pub use mailing::{Mail, MailAnswer, MailRecord, MailTask};
 pub use pending_lists::PendingList;
 pub use pending_requests::{PendingRequest, RequestName, Ticket};

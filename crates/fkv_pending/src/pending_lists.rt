@@ -1,11 +1,12 @@
 //! The requests of a session that wait.
-ghost use Rattle.std.specs.Prelude.{◌≡◌, ◌<◌, ◌==◌, [], ◌∷◌, ◌++◌, length, slice_get, slice_set};
-ghost use Rattle.std.specs.List.{remove};
+ghost use Rattle.std.specs.Prelude.{◌≡◌, ◌<◌, ◌+◌, ◌==◌, [], ◌∷◌, ◌++◌, length, slice_get, slice_set, count_by, false};
+ghost use Rattle.std.specs.List.{remove, position};
+ghost use Rattle.fkv_pending.specs.Pending.{is_unlatched, is_update_of};
 ghost use Rattle.fkv_base.specs.Limits.{max_pending};
 
 use crate::pending_requests::PendingRequest;
 use arrayvec::ArrayVec;
-use fkv_base::MAX_PENDING;
+use fkv_base::{MAX_PENDING, Version};
 use std::marker::Model;
 
 /// At most `MAX_PENDING` requests that wait, in the order in which they were accepted.
@@ -52,7 +53,8 @@ impl PendingList {
 
     /// Whether no further request can wait.
     pub fn is_full(&self) -> bool
-        ensures { result ≡ (length self.now == max_pending) }
+        ensures full { result ≡ (length self.now == max_pending) }
+        ensures room { result ≡ false → length self.now < max_pending }
     {
         self.requests.is_full()
     }
@@ -74,7 +76,8 @@ impl PendingList {
 
     /// The request at an index waits for something else.
     pub fn set(&mut self, index: usize, request: PendingRequest)
-        ensures { self.new ≡ slice_set self.old index request }
+        ensures set { self.new ≡ slice_set self.old index request }
+        ensures same_length { length self.new ≡ length self.old }
     {
         if let Some(place) = self.requests.get_mut(index) {
             *place = request;
@@ -83,8 +86,30 @@ impl PendingList {
 
     /// The request at an index is finished and leaves the list. The others stay as they are, in their order.
     pub fn remove(&mut self, index: usize)
-        ensures { self.new ≡ remove self.old index }
+        ensures rest { self.new ≡ remove self.old index }
+        ensures fewer { index < length self.old → length self.new + 1 ≡ length self.old }
     {
         self.requests.pop_at(index);
+    }
+
+    /// The first update that doesn't share the latch of its bucket.
+    pub fn first_unlatched(&self) -> Option<usize>
+        ensures { result ≡ position is_unlatched self.now }
+    {
+        self.requests
+            .as_slice()
+            .iter()
+            .position(|request| request.is_unlatched())
+    }
+
+    /// How many updates of this version wait.
+    pub fn updates_of(&self, version: Version) -> usize
+        ensures { result ≡ count_by (is_update_of version) self.now }
+    {
+        self.requests
+            .as_slice()
+            .iter()
+            .filter(|request| request.is_update_of(version))
+            .count()
     }
 }

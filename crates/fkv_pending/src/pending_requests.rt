@@ -1,6 +1,6 @@
 //! A request that waits.
 ghost use Rattle.std.specs.Prelude.{◌≡◌};
-ghost use Rattle.fkv_pending.specs.Pending.{with_sought, with_held, with_latch, with_asked};
+ghost use Rattle.fkv_pending.specs.Pending.{with_sought, with_held, with_latch, with_asked, is_unlatched, is_update_of};
 
 use fkv_base::{Key, Serial, Version};
 use fkv_map::Op;
@@ -66,7 +66,7 @@ impl PendingRequest {
 
     /// The same request, which shares the latch of its bucket, or does not.
     #[tactic(auto, unfolding(crate::specs::Pending::with_latch))]
-    pub(crate) fn with_latch(self, has_latch: bool) -> PendingRequest
+    pub fn with_latch(self, has_latch: bool) -> PendingRequest
         ensures { result ≡ with_latch self has_latch }
     {
         let mut changed = self;
@@ -80,5 +80,19 @@ impl PendingRequest {
         ensures { result ≡ with_asked self has_asked }
     {
         PendingRequest { has_asked, ..self }
+    }
+
+    /// Whether it is an update that doesn't share the latch of its bucket.
+    pub fn is_unlatched(&self) -> bool
+        ensures { result ≡ is_unlatched self.now }
+    {
+        !self.request.is_read() && !self.request.has_latch
+    }
+
+    /// Whether it is an update of this version.
+    pub fn is_update_of(&self, version: Version) -> bool
+        ensures { result ≡ is_update_of version self.now }
+    {
+        !self.request.is_read() && self.request.version == version
     }
 }

@@ -2,13 +2,13 @@
 //! begins at place 40. The one bucket has the places 56 to 63, and eight places of records, three words each, come from 64 on.
 use crate::{
     Attempt, Mail, MailAnswer, MailRecord, MailTask, PendingList, PendingRequest, RequestName,
-    Ticket,
+    Ticket, law_attempts, law_mailbox,
 };
 use fkv_base::{Addr, Key, MAX_PENDING, Phase, Serial, Shape, Value, Version};
 use fkv_log::SeenOffsets;
 use fkv_map::{Op, Reply};
 use fkv_ops::{DiskRecord, HeldRecord, Occasion, Reason, Request, Seen, TryAnswer};
-use fkv_plane::{Ask, PlainWords};
+use fkv_plane::{Ask, Places, PlainWords};
 use std::process::Abort;
 use std::test::Fail;
 
@@ -95,7 +95,7 @@ fn mails(
     }
 }
 
-/// Moves an attempt, of a session whose seen head and read-only offset are 5, and tells what the request waits for then.
+/// Moves an attempt, of a session whose seen head and read-only offset are 5.
 fn attempts(
     rt: &impl Abort,
     plane: &mut PlainWords,
@@ -114,6 +114,7 @@ fn attempts(
     };
     let mut machine = Attempt::new(&shape, 1);
     assert_eq!(rt; machine.ask(), Ask::Done(TryAnswer::Shift));
+    assert_eq!(rt; machine.places(), Places::of(&shape));
     let mut ask = machine.start(pending, seen, occasion, 0, false);
     for (number, wanted) in asks.iter().enumerate() {
         assert_eq!(rt; ask, *wanted, "at ask {number}");
@@ -146,7 +147,15 @@ fn a_list_keeps_its_order(rt: HostRuntime) -> Result<(), Fail> {
         }
     }
     assert!(rt; list.is_full());
+    assert_eq!(rt; list.first_unlatched(), None);
     list.set(9, request(Op::Delete(KEY)));
+    list.set(11, request(Op::Delete(KEY)).with_latch(true));
+    assert_eq!(rt; list.first_unlatched(), Some(9));
+    assert_eq!(rt;
+        (list.updates_of(Version(2)), list.updates_of(Version(1))),
+        (2, 0)
+    );
+    list.set(11, numbered(11));
     list.remove(5);
     assert_eq!(rt; list.len(), 63);
     for index in 0..64_u64 {
@@ -219,6 +228,7 @@ fn a_record_comes_by_the_mailbox(rt: HostRuntime) -> Result<(), Fail> {
         Ask::Done(MailAnswer::Asked),
     ];
     mails(&rt, &mut plane, &mut machine, first, &put);
+    law_mailbox();
     Ok(())
 }
 
@@ -412,5 +422,6 @@ fn another_entry(rt: HostRuntime) -> Result<(), Fail> {
     ];
     let machine = attempts(&rt, &mut plane, awaits, Occasion::Poll, &asks)?;
     assert_eq!(rt; machine.pending().request.held, None);
+    law_attempts();
     Ok(())
 }

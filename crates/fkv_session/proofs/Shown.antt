@@ -1,0 +1,1 @@
+-- What crates above may cite.

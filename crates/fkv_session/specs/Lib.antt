@@ -1,0 +1,5 @@
+pub mod Answers
+pub mod CatchingUp
+pub mod OwnTurns
+pub mod PhaseWords
+pub mod Sessions

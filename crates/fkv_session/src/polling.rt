@@ -1,0 +1,146 @@
+//! How a session goes over its requests at a poll.
+ghost use Rattle.std.specs.Prelude.{◌≡◌, ◌<◌, ◌≤◌, ◌+◌, length, slice_get, Option};
+ghost use Rattle.fkv_base.specs.Limits.{max_pending};
+ghost use Rattle.fkv_pending.specs.declared.pending_requests.PendingRequest.{PendingRequest};
+ghost use Rattle.fkv_session.specs.Sessions.{poll_begun, polls_at, polls_request, clear_ledto, finished_of, is_finished, is_owed, request_finished, finishes_request, keeps_request, lacks_room, poll_ledto};
+
+use crate::answers::{Finished, Told};
+use crate::sessions::{Session, Sitting};
+use fkv_base::Value;
+use fkv_map::Reply;
+use fkv_ops::{Occasion, Reason, TryAnswer};
+use fkv_pending::{MailAnswer, MailTask, PendingRequest, RequestName};
+use fkv_plane::Ask;
+
+impl Session {
+    /// A record that nobody waits for any more is let go before the tries.
+    pub(crate) fn poll_begun(&mut self)
+        requires { length self.old.state.finished + length self.old.state.requests ≤ max_pending }
+        ensures { self.new ≡ record self.old { state = poll_begun self.old.seat self.old.state } }
+    {
+        if self.is_orphaned {
+            self.mail.start(MailTask::Clear);
+            self.step = Sitting::ClearsMail;
+        } else {
+            self.polls_at(0);
+        }
+    }
+
+    /// The request at an index is attempted, and past the last the poll is answered.
+    #[tactic(auto, unfolding(crate::specs::Sessions::polls_at))]
+    pub(crate) fn polls_at(&mut self, index: usize)
+        requires { length self.old.state.finished + length self.old.state.requests ≤ max_pending }
+        ensures { self.new ≡ record self.old { state = polls_at self.old.seat self.old.state index } }
+    {
+        match self.requests.get(index) {
+            None => {
+                let left = self.requests.len();
+                self.answers_after_turn(Told::Polled(left));
+            }
+            Some(pending) => {
+                let (seen, spare, is_orphaned) = (self.seen, self.spare, self.is_orphaned);
+                self.attempt
+                    .start(pending, seen, Occasion::Poll, spare, is_orphaned);
+                self.step = Sitting::Polls(index);
+            }
+        }
+    }
+
+    /// Goes on by what the letting go asks.
+    #[tactic(auto, unfolding(crate::specs::Sessions::clear_ledto))]
+    pub(crate) fn after_clear(&mut self, ask: Ask<MailAnswer>)
+        requires { length self.old.state.finished + length self.old.state.requests ≤ max_pending }
+        ensures { self.new ≡ record self.old { state = clear_ledto self.old.seat self.old.state ask } }
+    {
+        if let Ask::Done(answer) = ask {
+            if answer == MailAnswer::Cleared {
+                self.is_orphaned = false;
+            }
+            self.polls_at(0);
+        }
+    }
+
+    /// Goes on by what the attempt of the request at an index asks.
+    #[tactic(auto, unfolding(crate::specs::Sessions::poll_ledto))]
+    pub(crate) fn after_poll(&mut self, index: usize, ask: Ask<TryAnswer>)
+        requires few { length self.old.state.finished + length self.old.state.requests ≤ max_pending }
+        requires index { index < length self.old.state.requests }
+        ensures { self.new ≡ record self.old { state = poll_ledto self.old.seat self.old.state index ask } }
+    {
+        if let Ask::Done(answer) = ask {
+            self.attempt_left();
+            if is_finished(answer) {
+                self.finishes_request(index, answer);
+            } else {
+                self.keeps_request(index, answer);
+            }
+        }
+    }
+
+    /// The request leaves the list. What is owed of the version before the session's is stored anew.
+    #[tactic(auto, unfolding(crate::specs::Sessions::finishes_request))]
+    fn finishes_request(&mut self, index: usize, answer: TryAnswer)
+        requires few { length self.old.state.finished + length self.old.state.requests ≤ max_pending }
+        requires index { index < length self.old.state.requests }
+        ensures { self.new ≡ record self.old { state = finishes_request self.old.seat self.old.state index answer } }
+    {
+        let pending = self.attempt.pending();
+        self.finished.push(finished_of(pending.name, answer));
+        self.requests.remove(index);
+        self.step = Sitting::StoresOwing(index);
+        if !self.is_owed(pending) {
+            self.polls_at(index);
+        }
+    }
+
+    fn is_owed(&self, pending: PendingRequest) -> bool
+        requires { pending ≡ self.now.state.attempt.pending }
+        ensures { result ≡ is_owed self.now.state }
+    {
+        !pending.request.is_read() && pending.request.version < self.seen.version
+    }
+
+    /// The request goes on waiting.
+    #[tactic(auto, unfolding(crate::specs::Sessions::keeps_request))]
+    fn keeps_request(&mut self, index: usize, answer: TryAnswer)
+        requires few { length self.old.state.finished + length self.old.state.requests ≤ max_pending }
+        requires index { index < length self.old.state.requests }
+        ensures { self.new ≡ record self.old { state = keeps_request self.old.seat self.old.state index answer } }
+    {
+        self.requests.set(index, self.attempt.pending());
+        self.wants_turn = self.wants_turn || lacks_room(answer);
+        self.polls_at(index + 1);
+    }
+}
+
+/// What a poll tells of a request that is finished.
+fn finished_of(name: RequestName, answer: TryAnswer) -> Finished
+    ensures { result ≡ finished_of name answer }
+{
+    match (name, answer) {
+        (RequestName::Update(serial), TryAnswer::Done(reply)) => Finished::Update(serial, reply),
+        (RequestName::Update(serial), TryAnswer::Found(value)) => {
+            Finished::Update(serial, Reply::Found(value))
+        }
+        (RequestName::Update(serial), _) => Finished::Update(serial, Reply::Absent),
+        (RequestName::Read(ticket), TryAnswer::Found(value)) => {
+            Finished::Read(ticket, Some(value))
+        }
+        (RequestName::Read(ticket), _) => Finished::Read(ticket, None),
+    }
+}
+
+fn is_finished(answer: TryAnswer) -> bool
+    ensures { result ≡ is_finished answer }
+{
+    matches!(
+        answer,
+        TryAnswer::Done(_) | TryAnswer::Found(_) | TryAnswer::Absent
+    )
+}
+
+fn lacks_room(answer: TryAnswer) -> bool
+    ensures { result ≡ lacks_room answer }
+{
+    matches!(answer, TryAnswer::Wait(Reason::NoRoom))
+}
