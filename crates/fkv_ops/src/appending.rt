@@ -1,6 +1,6 @@
 //! How a record is appended to the log and published.
 ghost use Rattle.std.specs.Prelude.{◌≡◌, ◌<◌, ◌*◌, ◌^◌};
-ghost use Rattle.fkv_ops.specs.Appending.{append_begun, append_ask, append_next, addr_reserved, reserve_ledto, fill_ledto, publish_ledto, invalidate_ledto};
+ghost use Rattle.fkv_ops.specs.Appending.{IsAppendRested, append_begun, append_ask, append_next, addr_reserved, reserve_ledto, fill_ledto, publish_ledto, invalidate_ledto};
 
 use fkv_base::{Addr, Key, Shape, Version};
 use fkv_index::{Publish, PublishAnswer};
@@ -73,6 +73,7 @@ impl Append {
     pub fn new(places: Places, shape: &Shape) -> Append
         ensures places { result.places ≡ places }
         ensures room { result.room ≡ shape.now.disk_pages * shape.now.page }
+        ensures rest { IsAppendRested result.state }
     {
         let header = Header {
             previous: Addr(0),

@@ -1,6 +1,6 @@
 //! One try of a request.
 ghost use Rattle.std.specs.Prelude.{◌≡◌, ◌*◌, ◌^◌};
-ghost use Rattle.fkv_ops.specs.Trying.{try_begun, try_ask, try_next};
+ghost use Rattle.fkv_ops.specs.Trying.{IsTryRested, try_begun, try_ask, try_next};
 
 use crate::answers::TryAnswer;
 use crate::appending::Append;
@@ -89,6 +89,7 @@ impl Try {
         ensures ring { result.places.ring ≡ shape.now.frames * shape.now.page }
         ensures bits { result.bits ≡ shape.now.bucket_bits }
         ensures room { result.room ≡ shape.now.disk_pages * shape.now.page }
+        ensures rest { IsTryRested result.state }
     {
         let places = Places::of(shape);
         Try {

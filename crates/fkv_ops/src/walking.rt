@@ -1,7 +1,7 @@
 //! How the chain of a key's home is walked.
 ghost use Rattle.std.specs.Prelude.{◌≡◌, ◌<◌, ◌^◌, None};
 ghost use Rattle.fkv_index.specs.Slots.{home_of};
-ghost use Rattle.fkv_ops.specs.Walking.{walk_begun, walk_ask, walk_next, walk_on, reached, slot_found, find_ledto, record_met, first_met, load_ledto, value_ledto};
+ghost use Rattle.fkv_ops.specs.Walking.{walk_rested, walk_begun, walk_ask, walk_next, walk_on, reached, slot_found, find_ledto, record_met, first_met, load_ledto, value_ledto};
 
 use crate::header_words::{HeaderSaid, header_said};
 use fkv_base::{Addr, Key, Version};
@@ -75,6 +75,7 @@ impl Walk {
         requires buckets { places.buckets ≡ 2 ^ bits }
         ensures places { result.places ≡ places }
         ensures bits { result.bits ≡ bits }
+        ensures rest { result.state ≡ walk_rested }
     {
         Walk {
             places,
