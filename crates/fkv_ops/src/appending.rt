@@ -1,6 +1,6 @@
 //! How a record is appended to the log and published.
 ghost use Rattle.std.specs.Prelude.{◌≡◌, ◌<◌, ◌*◌, ◌^◌};
-ghost use Rattle.fkv_ops.specs.Appending.{IsAppendRested, append_begun, append_ask, append_next, addr_reserved, reserve_ledto, fill_ledto, publish_ledto, invalidate_ledto};
+ghost use Rattle.fkv_ops.specs.Appending.{append_begun, append_ask, append_next, addr_reserved, reserve_ledto, fill_ledto, publish_ledto, invalidate_ledto};
 
 use fkv_base::{Addr, Key, Shape, Version};
 use fkv_index::{Publish, PublishAnswer};
@@ -69,6 +69,8 @@ impl Model for Append {
 }
 
 impl Append {
+    ghost use Rattle.fkv_ops.specs.Appending.{IsAppendRested};
+
     /// The machine of a store of this shape, with these places, at rest.
     pub fn new(places: Places, shape: &Shape) -> Append
         ensures places { result.places ≡ places }

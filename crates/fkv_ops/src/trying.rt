@@ -1,6 +1,6 @@
 //! One try of a request.
 ghost use Rattle.std.specs.Prelude.{◌≡◌, ◌*◌, ◌^◌};
-ghost use Rattle.fkv_ops.specs.Trying.{IsTryRested, try_begun, try_ask, try_next};
+ghost use Rattle.fkv_ops.specs.Trying.{try_begun, try_ask, try_next};
 
 use crate::answers::TryAnswer;
 use crate::appending::Append;
@@ -81,6 +81,8 @@ impl Model for Try {
 }
 
 impl Try {
+    ghost use Rattle.fkv_ops.specs.Trying.{IsTryRested};
+
     /// The machine of a store of this shape, at rest.
     pub fn new(shape: &Shape) -> Try
         ensures sessions { result.places.sessions ≡ shape.now.sessions }

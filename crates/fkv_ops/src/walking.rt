@@ -1,7 +1,7 @@
 //! How the chain of a key's home is walked.
 ghost use Rattle.std.specs.Prelude.{◌≡◌, ◌<◌, ◌^◌, None};
 ghost use Rattle.fkv_index.specs.Slots.{home_of};
-ghost use Rattle.fkv_ops.specs.Walking.{walk_rested, walk_begun, walk_ask, walk_next, walk_on, reached, slot_found, find_ledto, record_met, first_met, load_ledto, value_ledto};
+ghost use Rattle.fkv_ops.specs.Walking.{walk_begun, walk_ask, walk_next, walk_on, reached, slot_found, find_ledto, record_met, first_met, load_ledto, value_ledto};
 
 use crate::header_words::{HeaderSaid, header_said};
 use fkv_base::{Addr, Key, Version};
@@ -69,6 +69,8 @@ impl Model for Walk {
 }
 
 impl Walk {
+    ghost use Rattle.fkv_ops.specs.Walking.{walk_rested};
+
     /// The machine of a store with these places, whose index has 2^bits buckets, at rest.
     pub fn new(places: Places, bits: u64) -> Walk
         requires few { bits < 64 }
