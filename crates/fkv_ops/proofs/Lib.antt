@@ -1,1 +1,4 @@
+mod BoolTests
+mod Searched
+mod Walked
 pub mod Shown

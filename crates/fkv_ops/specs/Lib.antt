@@ -1,6 +1,9 @@
 pub mod Appending
+pub mod Effects
 pub mod HeaderWords
+pub mod Reasons
 pub mod Requests
 pub mod Trying
+pub mod TryRun
 pub mod Values
 pub mod Walking
