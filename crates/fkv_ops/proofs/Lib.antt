@@ -1,3 +1,4 @@
+mod Appended
 mod BoolTests
 mod Searched
 mod Walked
