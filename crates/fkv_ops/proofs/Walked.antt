@@ -271,6 +271,18 @@ walk_on_loads c told w addr version at knows = by_step w.step at
     by_step (Meets a) e = cc
     by_step LoadsValue e = cc
 
+pub walk_on_found : (c : Trial) (told : Told) (w : WalkState) (addr : Addr) (version : Version) → w.step ≡ AtFound addr version → FoundKnows c told w addr version
+    → HasFound c told (walk_on w).place (walk_on w).entry addr.0 version.0
+unfolding walking_on
+walk_on_found c told w addr version at knows = by_step w.step at
+  where
+    by_step : (step : Walking) → step ≡ AtFound addr version → HasFound c told (walking_on w step).place (walking_on w step).entry addr.0 version.0
+    by_step (AtFound a v) e = knows.its_record
+    by_step (Ended its) e = cc
+    by_step Finds e = cc
+    by_step (Meets a) e = cc
+    by_step LoadsValue e = cc
+
 pub loads_place : (p : Places) (w : WalkState) (addr : Addr) → LoadsRecord w addr → passed (walk_ask p w) answer.Shift ≡ Load (record_place p addr.0 rec.Value)
 unfolding walking_ask load_ask passed
 loads_place p w addr loads = rw (loads.its_step, walking_ask, loads.its_loading, load_ask, passed) refl
