@@ -4,5 +4,7 @@ mod Copied
 mod Searched
 mod Tried
 mod TryRows
+mod TryRuns
+mod TrySteps
 mod Walked
 pub mod Shown

@@ -294,3 +294,8 @@ loads_asks p w addr loads = rw (loads.its_step, walking_ask, loads.its_loading, 
 pub loads_value : (p : Places) (w : WalkState) (addr : Addr) (reply : ℕ) → LoadsRecord w addr → walk_ask p (walk_next p w reply) ≡ Done (walk.Value reply)
 unfolding walking_ask walking_next load_next load_next_ask value_ledto
 loads_value p w addr reply loads = rw (loads.its_step, walking_next, loads.its_loading, load_next_ask, load_next, value_ledto) refl
+
+-- the slot stays as it was found
+pub loads_same : (p : Places) (w : WalkState) (addr : Addr) (reply : ℕ) → LoadsRecord w addr → ((walk_next p w reply).place ≡ w.place) × ((walk_next p w reply).entry ≡ w.entry)
+unfolding walking_next load_next load_next_ask value_ledto
+loads_same p w addr reply loads = (rw (loads.its_step, walking_next, loads.its_loading, load_next_ask, load_next, value_ledto) refl, rw (loads.its_step, walking_next, loads.its_loading, load_next_ask, load_next, value_ledto) refl)

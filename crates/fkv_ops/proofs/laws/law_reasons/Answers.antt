@@ -1,7 +1,12 @@
 -- What a try ends with was found by it.
-use Rattle.fkv_ops.proofs.Walked.{walk_true}
-use Rattle.fkv_ops.proofs.Tried.{walk_led_true}
+use Rattle.fkv_ops.proofs.TryRuns.{each_is_true, effects_once, latches_kept}
 use Rattle.fkv_ops.proofs.laws.law_reasons.Goals as goal
 
 pub returns-clause-reasons : goal.returns-clause-reasons
-returns-clause-reasons c = ?
+returns-clause-reasons c = each_is_true
+
+pub returns-clause-once : goal.returns-clause-once
+returns-clause-once c = effects_once
+
+pub returns-clause-latches : goal.returns-clause-latches
+returns-clause-latches c = latches_kept
