@@ -1,6 +1,7 @@
 mod Appended
 mod BoolTests
 mod Copied
+mod Effected
 mod Searched
 mod Tried
 mod TryRows

@@ -1,4 +1,5 @@
 -- What a try ends with was found by it.
+use Rattle.fkv_ops.proofs.Effected.{effects_true, shares_first}
 use Rattle.fkv_ops.proofs.TryRuns.{each_is_true, effects_once, latches_kept}
 use Rattle.fkv_ops.proofs.laws.law_reasons.Goals as goal
 
@@ -10,3 +11,9 @@ returns-clause-once c = effects_once
 
 pub returns-clause-latches : goal.returns-clause-latches
 returns-clause-latches c = latches_kept
+
+pub returns-clause-effects : goal.returns-clause-effects
+returns-clause-effects c = effects_true
+
+pub returns-clause-shares : goal.returns-clause-shares
+returns-clause-shares c = shares_first
