@@ -18,13 +18,14 @@ use Rattle.fkv_ops.specs.Reasons.{HasSlot}
 use Rattle.fkv_ops.specs.Effects.{IsMadeOf, OfRecord, CountsNot, needs_exclusive}
 use Rattle.fkv_ops.proofs.Walked.{walk_on_loads, walk_on_found}
 use Rattle.fkv_ops.proofs.Appended.{append_begun_true, append_begun_asks}
-use Rattle.fkv_ops.proofs.TryRows.{norm, Updates, OldRow, CopyRow, Alone, Comes}
+use Rattle.fkv_ops.proofs.TryRows.{norm, latch_held, Updates, OldRow, CopyRow, Alone, Comes}
 
 pub appends_true : (c : Trial) (told : Told) (t : TryState) (old : ℕ) (is_current : Bool) → t.effect ≡ None → Updates c told t → HasSlot c told t.walk.place t.walk.entry → IsMadeOf c told t.walk.place t.walk.entry (value_of old) is_current
-    → Alone c told is_current → Comes c told None [] (appends (norm c t) old)
+    → Alone c told is_current → Comes c told None [] (latch_held t) (appends (norm c t) old)
 unfolding appends
 appends_true c told t old is_current quiet updates slot made_of alone = record {
   same = refl;
+      owes = refl;
   its_effect = quiet;
   its_told = refl;
   row = record {
@@ -43,15 +44,16 @@ appends_true c told t old is_current quiet updates slot made_of alone = record {
 }
 
 copies_memory_true : (c : Trial) (told : Told) (t : TryState) (is_current : Bool) → t.effect ≡ None → Updates c told t → HasSlot c told t.walk.place t.walk.entry → CopyRow c told t.walk is_current → Alone c told is_current
-    → Comes c told None [] (copies_from (norm c t) InMemory)
+    → Comes c told None [] (latch_held t) (copies_from (norm c t) InMemory)
 unfolding copies_from
 copies_memory_true c told t is_current quiet updates slot copy alone = by_blind (is_blind c.request.op) refl
   where
-    by_blind : (b : Bool) → is_blind c.request.op ≡ b → Comes c told None [] (if b then appends (norm c t) absent_word else record (norm c t) { walk = walk_on t.walk; step = LoadsOld })
+    by_blind : (b : Bool) → is_blind c.request.op ≡ b → Comes c told None [] (latch_held t) (if b then appends (norm c t) absent_word else record (norm c t) { walk = walk_on t.walk; step = LoadsOld })
     by_blind true e = appends_true c told t absent_word is_current quiet updates slot
         (subst (IsMadeOf c told t.walk.place t.walk.entry (value_of absent_word)) copy.current (OfRecord copy.found.its.its_record copy.may (CountsNot e))) alone
     by_blind false e = record {
       same = refl;
+      owes = refl;
       its_effect = quiet;
       its_told = refl;
       row = record {
@@ -66,25 +68,26 @@ copies_memory_true c told t is_current quiet updates slot copy alone = by_blind 
     }
 
 pub copies_from_true : (c : Trial) (told : Told) (t : TryState) (old : OldValue) (is_current : Bool) → t.effect ≡ None → Updates c told t → HasSlot c told t.walk.place t.walk.entry → OldRow c told t.walk old is_current → Alone c told is_current
-    → Comes c told None [] (copies_from (norm c t) old)
+    → Comes c told None [] (latch_held t) (copies_from (norm c t) old)
 unfolding copies_from
 copies_from_true c told t (Known old) is_current quiet updates slot made_of alone = appends_true c told t old is_current quiet updates slot made_of alone
 copies_from_true c told t InMemory is_current quiet updates slot copy alone = copies_memory_true c told t is_current quiet updates slot copy alone
 
-pub copies_true : (c : Trial) (told : Told) (t : TryState) (old : OldValue) (is_current : Bool) → t.effect ≡ None → Updates c told t → HasSlot c told t.walk.place t.walk.entry → OldRow c told t.walk old is_current
-    → Comes c told None [] (copies c.places (norm c t) old is_current)
+pub copies_true : (c : Trial) (told : Told) (t : TryState) (old : OldValue) (is_current : Bool) → t.effect ≡ None → t.has_exclusive ≡ false → Updates c told t → HasSlot c told t.walk.place t.walk.entry → OldRow c told t.walk old is_current
+    → Comes c told None [] (latch_held t) (copies c.places (norm c t) old is_current)
 unfolding copies
-copies_true c told t old is_current quiet updates slot its_old = by_need (needs_exclusive c is_current) refl
+copies_true c told t old is_current quiet not_alone updates slot its_old = by_need (needs_exclusive c is_current) refl
   where
     no : {X : Type 0} → false ≡ true → X
     no f = cc
 
     by_need : (b : Bool) → needs_exclusive c is_current ≡ b
-        → Comes c told None [] (if b then with_latch c.places (norm c t) TakeExclusive (TakesExclusive old) else copies_from (norm c t) old)
+        → Comes c told None [] (latch_held t) (if b then with_latch c.places (norm c t) TakeExclusive (TakesExclusive old) else copies_from (norm c t) old)
     by_need true e = record {
       same = refl;
+      owes = refl;
       its_effect = quiet;
       its_told = refl;
-      row = record { updates = record { under = updates.under; update = updates.update }; slot = slot; is_current = is_current; its_old = its_old; its_latching = refl };
+      row = record { not_alone = not_alone; updates = record { under = updates.under; update = updates.update }; slot = slot; is_current = is_current; its_old = its_old; its_latching = refl };
     }
     by_need false e = copies_from_true c told t old is_current quiet updates slot its_old (λ need. no (sym e ∙ need))

@@ -44,8 +44,8 @@ use Rattle.fkv_ops.specs.Reasons.{latch_place, Won, HasSlot}
 use Rattle.fkv_ops.specs.Effects.{IsStored, MayChange, IsMadeOf, IsSwapped, IsChanged, IsPublished, IsEffect, BySwap, ByChange, ByRecord, EffectsAreTrue, shares_latch, HasShared, SharesBefore, SharesFirst, needs_exclusive, HasSetBit}
 use Rattle.fkv_ops.proofs.BoolTests.{eq_true, eq_false}
 use Rattle.fkv_ops.proofs.Appended.{IsReserved, IsFilled, is_publishing, AppendRow, AppendKnows, append_true, append_answers}
-use Rattle.fkv_ops.proofs.TryRows.{norm, Under, Updates, TryRow, told_at, Comes, AppendsKnow, takes_effect_true}
-use Rattle.fkv_ops.proofs.TrySteps.{makes_effect, Steps, Quietly, Effectively, quieted}
+use Rattle.fkv_ops.proofs.TryRows.{norm, Owed, Under, Updates, TryRow, told_at, Comes, AppendsKnow, takes_effect_true}
+use Rattle.fkv_ops.proofs.TrySteps.{makes_effect, Steps, Quietly, Effectively, owed_then, quieted}
 use Rattle.fkv_ops.proofs.TryRuns.{Known, quieted_ask, quieted_next, step_true, run_true, run_known}
 
 the_reply : (a b : Reply) → Some a ≡ Some b → a ≡ b
@@ -204,9 +204,9 @@ effect_row c told t (DropsExclusive it) reply its row any makes e = cc
 effect_row c told t (DropsShared it) reply its row any makes e = cc
 
 -- which steps make one
-makes : (c : Trial) (step : Trying) (t : TryState) (its : Reply) → Steps c anything step t → t.effect ≡ Some its → makes_effect step ≡ true
-makes c step t its (Quietly comes) e = none_told its (sym comes.its_effect ∙ e)
-makes c step t its (Effectively it made none comes) e = made
+makes : (c : Trial) (step : Trying) (owed : Owed) (t : TryState) (its : Reply) → Steps c anything step owed t → t.effect ≡ Some its → makes_effect step ≡ true
+makes c step owed t its (Quietly comes) e = none_told its (sym comes.its_effect ∙ e)
+makes c step owed t its (Effectively it made none comes) e = made
 
 any_known : (c : Trial) (before : TryState) (spare : ℕ) (replies : List ℕ) → Known c anything (effects_of c (trial_begun c before spare) replies) (try_run c (trial_begun c before spare) replies)
 any_known c before spare replies = run_true c anything before spare replies (λ ask reply among. tt)
@@ -214,7 +214,7 @@ any_known c before spare replies = run_true c anything before spare replies (λ 
 run_makes : (c : Trial) (before : TryState) (spare : ℕ) (replies : List ℕ) (reply : ℕ) (its : Reply) → (try_run c (trial_begun c before spare) (reply ∷ replies)).effect ≡ Some its
     → makes_effect (try_run c (trial_begun c before spare) replies).step ≡ true
 run_makes c before spare replies reply its e =
-    makes c (try_run c (trial_begun c before spare) replies).step (try_run c (trial_begun c before spare) (reply ∷ replies)) its
+    makes c (try_run c (trial_begun c before spare) replies).step (owed_then (try_run c (trial_begun c before spare) replies) (try_run c (trial_begun c before spare) replies).step reply) (try_run c (trial_begun c before spare) (reply ∷ replies)) its
     (step_true c anything (effects_of c (trial_begun c before spare) replies) (try_run c (trial_begun c before spare) replies) reply (any_known c before spare replies) tt) e
 
 pub effects_true : EffectsAreTrue

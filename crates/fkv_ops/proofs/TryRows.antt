@@ -3,6 +3,7 @@ use Rattle.std.proofs.Common.{◌≡◌, ℕ, ◌+◌, ◌<◌, ◌≤◌, ◌�
 use Rattle.std.specs.Prelude.{◌≢◌, ◌==◌, ◌&&◌, ◌||◌, not, nat_lt, nat_le, if◌then◌else◌, ⊤, Option, Some, None}
 use Rattle.fkv_base.specs.declared.numbers.Addr.{Addr}
 use Rattle.fkv_base.specs.declared.numbers.Version.{Version}
+use Rattle.fkv_words.specs.Fields.{bit_of}
 use Rattle.fkv_map.specs.declared.operations.Reply.{Reply}
 use Rattle.fkv_map.specs.Keys.{key_of, value_applied, reply_from}
 use Rattle.fkv_plane.specs.declared.asks.Ask.{Ask}
@@ -54,7 +55,7 @@ pub record Updates (c : Trial) (told : Told) (t : TryState) : Type 0 where
 -- how the latch is shared
 abbrev pub ShareRow : Trial → Told → Latching → Type 0
 ShareRow c told (latching.AddsShare place) = place ≡ latch_place c
-ShareRow c told (latching.GivesBack place) = OthersWentOn c told
+ShareRow c told (latching.GivesBack place) = (place ≡ latch_place c) × OthersWentOn c told
 ShareRow c told step = ⊥
 
 -- and taken alone
@@ -85,6 +86,7 @@ abbrev pub Alone : Trial → Told → Bool → Type 0
 Alone c told is_current = needs_exclusive c is_current ≡ true → HasSetBit c told
 
 pub record AloneKnows (c : Trial) (told : Told) (t : TryState) (old : OldValue) : Type 0 where
+  pub not_alone : t.has_exclusive ≡ false
   pub updates : Updates c told t
   pub slot : HasSlot c told t.walk.place t.walk.entry
   pub is_current : Bool
@@ -114,6 +116,7 @@ pub record AppendsKnow (c : Trial) (told : Told) (t : TryState) (its : Reply) : 
   pub asks : is_done (append_ask c.places t.append) ≡ false
 
 pub record SafeKnows (c : Trial) (told : Told) (t : TryState) (addr : Addr) (version : Version) : Type 0 where
+  pub not_alone : t.has_exclusive ≡ false
   pub updates : Updates c told t
   pub found : FoundRow c told t.walk addr version
   pub below : addr.0 < c.seen.offsets.read_only.0
@@ -127,11 +130,14 @@ pub record AnswerKnows (c : Trial) (told : Told) (t : TryState) : Type 0 where
   pub loads : LoadsRecord t.walk addr
 
 pub record ShareKnows (c : Trial) (told : Told) (t : TryState) : Type 0 where
+  pub not_alone : t.has_exclusive ≡ false
+  pub not_shared : t.has_shared ≡ false
   pub wants : shares_latch c ≡ true
   pub has_none : c.request.has_latch ≡ false
   pub its_latching : ShareRow c told t.latching
 
 pub record WalksKnow (c : Trial) (told : Told) (t : TryState) : Type 0 where
+  pub not_alone : t.has_exclusive ≡ false
   pub under : Under c told t.has_shared
   pub walks : WalkKnows c told t.walk
   pub asks : is_done (walk_ask c.places t.walk) ≡ false
@@ -146,13 +152,11 @@ pub record DropKnows (c : Trial) (told : Told) (t : TryState) (its : TryAnswer) 
   pub truth : IsTrue c told its
   pub not_alone : t.has_exclusive ≡ false
   pub shared : is_wait its ≡ true → t.has_shared ≡ shares c
-  pub place : ℕ
-  pub its_latching : t.latching ≡ latching.DropsExclusive place
+  pub its_latching : t.latching ≡ latching.DropsExclusive (latch_place c)
 
 pub record UnshareKnows (c : Trial) (told : Told) (t : TryState) (its : TryAnswer) : Type 0 where
   pub its_end : EndKnows c told t its
-  pub place : ℕ
-  pub its_latching : t.latching ≡ latching.DropsShare place
+  pub its_latching : t.latching ≡ latching.DropsShare (latch_place c)
 
 abbrev pub TryRow : Trial → Told → TryState → Trying → Type 0
 TryRow c told t (Ended its) = EndKnows c told t its
@@ -176,36 +180,56 @@ told_at (DropsExclusive its) = reply_told its
 told_at (DropsShared its) = reply_told its
 told_at step = []
 
+-- what a try has yet to do with the latch: shares to be taken off or kept, and bits to be cleared
+pub record Owed : Type 0 where
+  pub shares : ℕ
+  pub bits : ℕ
+
+abbrev pub latch_held : TryState → Owed
+latch_held t = record { shares = bit_of t.has_shared; bits = bit_of t.has_exclusive }
+
+abbrev pub giving : Latching → ℕ
+giving (latching.GivesBack place) = 1
+giving step = 0
+
+abbrev pub owed_at : TryState → Trying → Owed
+owed_at t TakesShared = record { shares = bit_of t.has_shared + giving t.latching; bits = bit_of t.has_exclusive }
+owed_at t (DropsExclusive its) = record { shares = bit_of t.has_shared; bits = bit_of t.has_exclusive + 1 }
+owed_at t (DropsShared its) = record { shares = bit_of t.has_shared + 1; bits = bit_of t.has_exclusive }
+owed_at t step = latch_held t
+
 -- a try has come to a state, by an effect or none
-pub record Comes (c : Trial) (told : Told) (effect : Option Reply) (its : List Reply) (t : TryState) : Type 0 where
+pub record Comes (c : Trial) (told : Told) (effect : Option Reply) (its : List Reply) (owed : Owed) (t : TryState) : Type 0 where
+  pub owes : owed_at t t.step ≡ owed
   pub same : t ≡ norm c t
   pub its_effect : t.effect ≡ effect
   pub its_told : told_at t.step ≡ its
   pub row : TryRow c told t t.step
 
-pub ended_without_true : (c : Trial) (told : Told) (t : TryState) (its : TryAnswer) → IsTrue c told its → t.has_exclusive ≡ false → (is_wait its ≡ true → t.has_shared ≡ shares c) → Comes c told t.effect (reply_told its) (ended_without c.places (norm c t) its)
+pub ended_without_true : (c : Trial) (told : Told) (t : TryState) (its : TryAnswer) → IsTrue c told its → t.has_exclusive ≡ false → (is_wait its ≡ true → t.has_shared ≡ shares c) → Comes c told t.effect (reply_told its) (latch_held t) (ended_without c.places (norm c t) its)
 ended_without_true c told t its truth not_alone kept = by_cases t.has_shared (is_wait its) refl refl
   where
     by_cases : (a b : Bool) → t.has_shared ≡ a → is_wait its ≡ b
-        → Comes c told t.effect (reply_told its) (if a && not b then with_latch c.places (record (norm c t) { has_shared = false }) DropShared (DropsShared its) else record (norm c t) { step = Ended its })
+        → Comes c told t.effect (reply_told its) (latch_held t) (if a && not b then with_latch c.places (record (norm c t) { has_shared = false }) DropShared (DropsShared its) else record (norm c t) { step = Ended its })
     by_cases true false d e = record {
       same = refl;
+      owes = rw d refl;
       its_effect = refl;
       its_told = refl;
-      row = record { its_end = record { truth = truth; not_alone = not_alone; shared = rw e refl }; place = latch_place c; its_latching = refl };
+      row = record { its_end = record { truth = truth; not_alone = not_alone; shared = rw e refl }; its_latching = refl };
     }
-    by_cases true true d e = record { same = refl; its_effect = refl; its_told = refl; row = record { truth = truth; not_alone = not_alone; shared = rw e (kept e) } }
-    by_cases false true d e = record { same = refl; its_effect = refl; its_told = refl; row = record { truth = truth; not_alone = not_alone; shared = rw e (kept e) } }
-    by_cases false false d e = record { same = refl; its_effect = refl; its_told = refl; row = record { truth = truth; not_alone = not_alone; shared = rw e d } }
+    by_cases true true d e = record { same = refl; owes = refl; its_effect = refl; its_told = refl; row = record { truth = truth; not_alone = not_alone; shared = rw e (kept e) } }
+    by_cases false true d e = record { same = refl; owes = refl; its_effect = refl; its_told = refl; row = record { truth = truth; not_alone = not_alone; shared = rw e (kept e) } }
+    by_cases false false d e = record { same = refl; owes = refl; its_effect = refl; its_told = refl; row = record { truth = truth; not_alone = not_alone; shared = rw e d } }
 
-pub ends_true : (c : Trial) (told : Told) (t : TryState) (its : TryAnswer) → IsTrue c told its → (is_wait its ≡ true → t.has_shared ≡ shares c) → Comes c told t.effect (reply_told its) (ends c.places (norm c t) its)
+pub ends_true : (c : Trial) (told : Told) (t : TryState) (its : TryAnswer) → IsTrue c told its → (is_wait its ≡ true → t.has_shared ≡ shares c) → Comes c told t.effect (reply_told its) (latch_held t) (ends c.places (norm c t) its)
 unfolding ends
 ends_true c told t its truth kept = by_alone t.has_exclusive refl
   where
     by_alone : (b : Bool) → t.has_exclusive ≡ b
-        → Comes c told t.effect (reply_told its) (if b then with_latch c.places (record (norm c t) { has_exclusive = false }) DropExclusive (DropsExclusive its) else ended_without c.places (norm c t) its)
-    by_alone true e = record { same = refl; its_effect = refl; its_told = refl; row = record { truth = truth; not_alone = refl; shared = kept; place = latch_place c; its_latching = refl } }
+        → Comes c told t.effect (reply_told its) (latch_held t) (if b then with_latch c.places (record (norm c t) { has_exclusive = false }) DropExclusive (DropsExclusive its) else ended_without c.places (norm c t) its)
+    by_alone true e = record { same = refl; owes = rw e refl; its_effect = refl; its_told = refl; row = record { truth = truth; not_alone = refl; shared = kept; its_latching = refl } }
     by_alone false e = ended_without_true c told t its truth e kept
 
-pub takes_effect_true : (c : Trial) (told : Told) (t : TryState) (its : Reply) → Updates c told t → Comes c told (Some its) (its ∷ []) (takes_effect c.places (norm c t) its)
+pub takes_effect_true : (c : Trial) (told : Told) (t : TryState) (its : Reply) → Updates c told t → Comes c told (Some its) (its ∷ []) (latch_held t) (takes_effect c.places (norm c t) its)
 takes_effect_true c told t its updates = ends_true c told (record t { effect = Some its }) (answer.Done its) updates.update (λ e. cc)

@@ -1,6 +1,7 @@
 -- Over every list of replies a try knows what its step has to, and what it was told is what is told at its end.
 use Rattle.std.proofs.Common.{◌≡◌, ℕ, ◌+◌, ◌<◌, ◌≤◌, ◌⊎◌, List, [], ◌∷◌, refl, inl, inr, arith, sym, ap, ◌∙◌, subst, Bool, true, false}
 use Rattle.std.specs.Prelude.{◌≢◌, ◌==◌, ◌&&◌, ◌||◌, not, if◌then◌else◌, ⊤, Option, Some, None}
+use Rattle.fkv_words.specs.Fields.{bit_of}
 use Rattle.fkv_map.specs.declared.operations.Reply.{Reply}
 use Rattle.fkv_plane.specs.declared.asks.Ask.{Ask}
 use Rattle.fkv_plane.specs.declared.asks.Ask.TheVariants.{Load, Swap, Cas, Add, Done}
@@ -19,12 +20,12 @@ use Rattle.fkv_ops.specs.Walking.{walk_ask}
 use Rattle.fkv_ops.specs.Appending.{append_ask}
 use Rattle.fkv_ops.specs.Trying.{TryState, trying_ask, try_ask, trying_next, try_next, with_latch, walks}
 use Rattle.fkv_ops.specs.TryRun.{Trial, home_at, trial_begun, try_run, Told, told_by, with_effect, effects_of, reply_told}
-use Rattle.fkv_ops.specs.Reasons.{EachIsTrue}
+use Rattle.fkv_ops.specs.Reasons.{latch_place, EachIsTrue}
 use Rattle.fkv_ops.specs.Effects.{EffectsAreOnce, LatchesAreKept, shares_latch}
 use Rattle.fkv_ops.proofs.BoolTests.{both}
 use Rattle.fkv_ops.proofs.Walked.{loads_asks}
-use Rattle.fkv_ops.proofs.TryRows.{norm, shares, Under, ShareRow, AloneRow, TryRow, told_at, Comes}
-use Rattle.fkv_ops.proofs.TrySteps.{Steps, Quietly, Effectively, quieted, walks_true, row_true}
+use Rattle.fkv_ops.proofs.TryRows.{norm, shares, Owed, Under, ShareRow, AloneRow, TryRow, told_at, Comes}
+use Rattle.fkv_ops.proofs.TrySteps.{Steps, Quietly, Effectively, owed_then, quieted, walks_true, row_true}
 
 -- what is known of a state, behind these effects
 pub record Known (c : Trial) (told : Told) (effects : List Reply) (t : TryState) : Type 0 where
@@ -36,7 +37,7 @@ no : {X : Type 0} → false ≡ true → X
 no e = cc
 
 -- as it begins
-pub begun_true : (c : Trial) (told : Told) (before : TryState) (spare : ℕ) → Comes c told None [] (trial_begun c before spare)
+pub begun_true : (c : Trial) (told : Told) (before : TryState) (spare : ℕ) → Comes c told None [] (record { shares = bit_of c.request.has_latch; bits = 0 }) (trial_begun c before spare)
 begun_true c told before spare = by_share (shares_latch c && not c.request.has_latch) refl
   where
     first : TryState
@@ -56,11 +57,18 @@ begun_true c told before spare = by_share (shares_latch c && not c.request.has_l
     wanted false true e f g = cc
     wanted false false e f g = cc
 
-    by_share : (b : Bool) → (shares_latch c && not c.request.has_latch) ≡ b → Comes c told None [] (if b then with_latch c.places (norm c first) TakeShared TakesShared else walks c.places (norm c first))
+    of_shares : ℕ → Owed
+    of_shares n = record { shares = n; bits = 0 }
+
+    none_given : (n : ℕ) → n + 0 ≡ n
+    none_given n = omega arith
+
+    by_share : (b : Bool) → (shares_latch c && not c.request.has_latch) ≡ b → Comes c told None [] (record { shares = bit_of c.request.has_latch; bits = 0 }) (if b then with_latch c.places (norm c first) TakeShared TakesShared else walks c.places (norm c first))
     by_share true e =
         let split = both (shares_latch c) (not c.request.has_latch) e in
-        record { same = refl; its_effect = refl; its_told = refl; row = record { wants = split.0; has_none = negated c.request.has_latch split.1; its_latching = refl } }
-    by_share false e = walks_true c told first refl (record { shared = kept c.request.has_latch (shares_latch c) e; has_added = λ wants none. absurd (wanted c.request.has_latch (shares_latch c) e wants none) })
+        let not_shared : c.request.has_latch ≡ false = negated c.request.has_latch split.1 in
+        record { same = refl; owes = ap of_shares (none_given (bit_of c.request.has_latch)); its_effect = refl; its_told = refl; row = record { not_alone = refl; not_shared = not_shared; wants = split.0; has_none = negated c.request.has_latch split.1; its_latching = refl } }
+    by_share false e = walks_true c told first refl refl (record { shared = kept c.request.has_latch (shares_latch c) e; has_added = λ wants none. absurd (wanted c.request.has_latch (shares_latch c) e wants none) })
 
 ask_same : (p : Places) (t : TryState) (step : Trying) → trying_ask p (record t { effect = None }) step ≡ trying_ask p t step
 unfolding trying_ask
@@ -86,13 +94,13 @@ pub quieted_next : (c : Trial) (t : TryState) (reply : ℕ) → t ≡ norm c t �
 quieted_next c t reply same = ap (λ x. trying_next c.places c.room (record x { effect = None }) t.step reply) (sym same)
 
 -- a step leads on
-pub step_true : (c : Trial) (told : Told) (effects : List Reply) (t : TryState) (reply : ℕ) → Known c told effects t → told (try_ask c.places t) reply → Steps c told t.step (try_next c.places c.room t reply)
+pub step_true : (c : Trial) (told : Told) (effects : List Reply) (t : TryState) (reply : ℕ) → Known c told effects t → told (try_ask c.places t) reply → Steps c told t.step (owed_then t t.step reply) (try_next c.places c.room t reply)
 step_true c told effects t reply known was =
-    subst (Steps c told t.step) (quieted_next c t reply known.same) (row_true c told t t.step reply refl known.row (subst (λ a. told a reply) (quieted_ask c t known.same) was))
+    subst (Steps c told t.step (owed_then t t.step reply)) (quieted_next c t reply known.same) (row_true c told t t.step reply refl known.row (subst (λ a. told a reply) (quieted_ask c t known.same) was))
 
-stepped : (c : Trial) (told : Told) (effects : List Reply) (step : Trying) (t : TryState) → told_at step ≡ effects → Steps c told step t → Known c told (with_effect t.effect effects) t
-stepped c told effects step t before (Quietly comes) = record { same = comes.same; its_told = comes.its_told ∙ before ∙ sym (ap (λ e. with_effect e effects) comes.its_effect); row = comes.row }
-stepped c told effects step t before (Effectively its makes none comes) =
+stepped : (c : Trial) (told : Told) (effects : List Reply) (step : Trying) (owed : Owed) (t : TryState) → told_at step ≡ effects → Steps c told step owed t → Known c told (with_effect t.effect effects) t
+stepped c told effects step owed t before (Quietly comes) = record { same = comes.same; its_told = comes.its_told ∙ before ∙ sym (ap (λ e. with_effect e effects) comes.its_effect); row = comes.row }
+stepped c told effects step owed t before (Effectively its makes none comes) =
     record { same = comes.same; its_told = comes.its_told ∙ ap (λ l. its ∷ l) (sym none ∙ before) ∙ sym (ap (λ e. with_effect e effects) comes.its_effect); row = comes.row }
 
 -- over a whole run
@@ -101,7 +109,7 @@ pub run_true : (c : Trial) (told : Told) (before : TryState) (spare : ℕ) (repl
 run_true c told before spare [] all = let its = begun_true c told before spare in record { same = its.same; its_told = its.its_told; row = its.row }
 run_true c told before spare (reply ∷ earlier) all =
     let known : Known c told (effects_of c (trial_begun c before spare) earlier) (try_run c (trial_begun c before spare) earlier) = run_true c told before spare earlier (λ ask it among. all ask it (inr among)) in
-    stepped c told (effects_of c (trial_begun c before spare) earlier) (try_run c (trial_begun c before spare) earlier).step (try_run c (trial_begun c before spare) (reply ∷ earlier)) known.its_told
+    stepped c told (effects_of c (trial_begun c before spare) earlier) (try_run c (trial_begun c before spare) earlier).step (owed_then (try_run c (trial_begun c before spare) earlier) (try_run c (trial_begun c before spare) earlier).step reply) (try_run c (trial_begun c before spare) (reply ∷ earlier)) known.its_told
     (step_true c told (effects_of c (trial_begun c before spare) earlier) (try_run c (trial_begun c before spare) earlier) reply known (all (try_ask c.places (try_run c (trial_begun c before spare) earlier)) reply (inl (refl, refl))))
 
 not_passed : {A B : Type 0} (ask : Ask A) (a b : B) → is_done ask ≡ false → passed ask a ≡ Done b → ⊥
@@ -143,8 +151,8 @@ row_ended c told t LoadsAnswer its row e = absurd (not_passed (walk_ask c.places
 row_ended c told t (TakesExclusive old) its row e = absurd (not_passed (latch_ask t.latching) answer.Shift its (alone_asks c told t.latching row.its_latching) e)
 row_ended c told t LoadsOld its row e = absurd (not_passed (walk_ask c.places t.walk) answer.Shift its (loads_asks c.places t.walk row.addr row.loads) e)
 row_ended c told t (Appends it) its row e = absurd (not_passed (append_ask c.places t.append) answer.Shift its row.asks e)
-row_ended c told t (DropsExclusive it) its row e = absurd (not_passed (latch_ask t.latching) it its (subst (λ x. is_done (latch_ask x) ≡ false) (sym row.its_latching) (drop_asks row.place)) e)
-row_ended c told t (DropsShared it) its row e = absurd (not_passed (latch_ask t.latching) it its (subst (λ x. is_done (latch_ask x) ≡ false) (sym row.its_latching) (unshare_asks row.place)) e)
+row_ended c told t (DropsExclusive it) its row e = absurd (not_passed (latch_ask t.latching) it its (subst (λ x. is_done (latch_ask x) ≡ false) (sym row.its_latching) (drop_asks (latch_place c))) e)
+row_ended c told t (DropsShared it) its row e = absurd (not_passed (latch_ask t.latching) it its (subst (λ x. is_done (latch_ask x) ≡ false) (sym row.its_latching) (unshare_asks (latch_place c))) e)
 
 -- what is known of a run by what was asked in it
 abbrev pub RunKnown : Trial → TryState → ℕ → List ℕ → Type 0

@@ -1,6 +1,7 @@
 pub mod Appending
 pub mod Effects
 pub mod HeaderWords
+pub mod LatchCounts
 pub mod Reasons
 pub mod Requests
 pub mod Trying
