@@ -46,6 +46,7 @@ use Rattle.fkv_ops.proofs.BoolTests.{lt_true, lt_false, eq_true, eq_false}
 pub record IsReserved (c : Trial) (told : Told) (slot : FoundSlot) (addr : Addr) : Type 0 where
   pub its_cas : Won told (shared_place one.Tail) addr.0 (addr.0 + 1)
   pub above : entry_addr slot.entry < addr.0
+  pub fits : addr.0 < 2 ^ 48
 
 abbrev ReserveRow : Trial → Told → Reserving → Type 0
 ReserveRow c told RestsReserving = ⊥
@@ -121,7 +122,7 @@ reserved_true c told slot words last a addr works won = by_range (nat_lt a.its_w
         → AppendKnows c told slot words last (if b && d then record a { filling = fill_begun addr a.its_words; step = Fills addr } else record a { step = Ended append.Contended })
     by_range true true e f =
         let low = lt_true a.its_words.header.previous.0 addr.0 e in
-        record { its_slot = works.its_slot; its_words = works.its_words; has_slot = works.has_slot; previous = works.previous; its_row = (record { its_cas = won; above = omega (arith, before, low) }, (refl, works.its_words)) }
+        record { its_slot = works.its_slot; its_words = works.its_words; has_slot = works.has_slot; previous = works.previous; its_row = (record { its_cas = won; above = omega (arith, before, low); fits = lt_true addr.0 (2 ^ 48) f }, (refl, works.its_words)) }
     by_range true false e f = record { its_slot = works.its_slot; its_words = works.its_words; has_slot = works.has_slot; previous = works.previous; its_row = lost (λ low. lt_false addr.0 (2 ^ 48) f) }
     by_range false d e f =
         let high = lt_false a.its_words.header.previous.0 addr.0 e in

@@ -170,7 +170,7 @@ published_effect c told place entry old is_current ask reply its by slot made_of
 }))
 
 -- any ask and any reply
-abbrev anything : Told
+abbrev pub anything : Told
 anything ask reply = ⊤
 
 appends_effect : (c : Trial) (told : Told) (t : TryState) (r : Reply) (reply : ℕ) (its : Reply) → AppendsKnow c told t r → AppendsKnow c anything t r
@@ -208,10 +208,10 @@ makes : (c : Trial) (step : Trying) (owed : Owed) (t : TryState) (its : Reply) �
 makes c step owed t its (Quietly comes) e = none_told its (sym comes.its_effect ∙ e)
 makes c step owed t its (Effectively it made none comes) e = made
 
-any_known : (c : Trial) (before : TryState) (spare : ℕ) (replies : List ℕ) → Known c anything (effects_of c (trial_begun c before spare) replies) (try_run c (trial_begun c before spare) replies)
+pub any_known : (c : Trial) (before : TryState) (spare : ℕ) (replies : List ℕ) → Known c anything (effects_of c (trial_begun c before spare) replies) (try_run c (trial_begun c before spare) replies)
 any_known c before spare replies = run_true c anything before spare replies (λ ask reply among. tt)
 
-run_makes : (c : Trial) (before : TryState) (spare : ℕ) (replies : List ℕ) (reply : ℕ) (its : Reply) → (try_run c (trial_begun c before spare) (reply ∷ replies)).effect ≡ Some its
+pub run_makes : (c : Trial) (before : TryState) (spare : ℕ) (replies : List ℕ) (reply : ℕ) (its : Reply) → (try_run c (trial_begun c before spare) (reply ∷ replies)).effect ≡ Some its
     → makes_effect (try_run c (trial_begun c before spare) replies).step ≡ true
 run_makes c before spare replies reply its e =
     makes c (try_run c (trial_begun c before spare) replies).step (owed_then (try_run c (trial_begun c before spare) replies) (try_run c (trial_begun c before spare) replies).step reply) (try_run c (trial_begun c before spare) (reply ∷ replies)) its

@@ -1,7 +1,9 @@
 mod Appended
+mod Balances
 mod BoolTests
 mod Copied
 mod Effected
+mod LatchRuns
 mod Searched
 mod Tried
 mod TryRows

@@ -161,7 +161,7 @@ RunKnown c before spare replies = Known c (told_by c (trial_begun c before spare
 pub run_known : (c : Trial) (before : TryState) (spare : ℕ) (replies : List ℕ) → RunKnown c before spare replies
 run_known c before spare replies = run_true c (told_by c (trial_begun c before spare) replies) before spare replies (λ ask reply among. among)
 
-at_end : (c : Trial) (told : Told) (effects : List Reply) (t : TryState) (its : TryAnswer) → Known c told effects t → try_ask c.places t ≡ Done its → t.step ≡ Ended its
+pub at_end : (c : Trial) (told : Told) (effects : List Reply) (t : TryState) (its : TryAnswer) → Known c told effects t → try_ask c.places t ≡ Done its → t.step ≡ Ended its
 at_end c told effects t its known e = row_ended c told t t.step its known.row e
 
 pub each_is_true : EachIsTrue

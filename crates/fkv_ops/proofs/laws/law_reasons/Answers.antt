@@ -1,4 +1,5 @@
 -- What a try ends with was found by it.
+use Rattle.fkv_ops.proofs.LatchRuns.{each_holds, each_leaves}
 use Rattle.fkv_ops.proofs.Effected.{effects_true, shares_first}
 use Rattle.fkv_ops.proofs.TryRuns.{each_is_true, effects_once, latches_kept}
 use Rattle.fkv_ops.proofs.laws.law_reasons.Goals as goal
@@ -17,3 +18,9 @@ returns-clause-effects c = effects_true
 
 pub returns-clause-shares : goal.returns-clause-shares
 returns-clause-shares c = shares_first
+
+pub returns-clause-holds : goal.returns-clause-holds
+returns-clause-holds c = each_holds
+
+pub returns-clause-leaves : goal.returns-clause-leaves
+returns-clause-leaves c = each_leaves
