@@ -1,35 +1,31 @@
 -- What an append knows at each of its steps, and what it has come to at its end.
-use Rattle.std.proofs.Common.{◌≡◌, ℕ, ◌+◌, ◌-◌, ◌<◌, ◌≤◌, ◌^◌, ◌⊎◌, refl, inl, inr, arith, sym, ap, ◌∙◌, subst, Bool, true, false}
-use Rattle.std.specs.Prelude.{◌≢◌, ◌==◌, ◌&&◌, nat_lt, nat_le, if◌then◌else◌, ⊤}
+use Rattle.std.proofs.Common.{◌≡◌, ℕ, ◌+◌, ◌<◌, ◌≤◌, ◌^◌, ◌⊎◌, refl, inl, inr, arith, sym, ap, ◌∙◌, subst, Bool, true, false}
+use Rattle.std.specs.Prelude.{◌≢◌, ◌==◌, ◌&&◌, nat_lt, if◌then◌else◌, ⊤}
 use Rattle.fkv_base.specs.declared.numbers.Addr.{Addr}
 use Rattle.fkv_words.specs.declared.headers.Header.{Header}
 use Rattle.fkv_words.specs.Layout.{header_word}
 use Rattle.fkv_plane.specs.declared.asks.Ask.{Ask}
-use Rattle.fkv_plane.specs.declared.asks.Ask.TheVariants.{Load, Store, Cas, Done}
+use Rattle.fkv_plane.specs.declared.asks.Ask.TheVariants.{Store, Cas, Done}
 use Rattle.fkv_plane.specs.declared.places.Places.{Places}
 use Rattle.fkv_plane.specs.declared.places.SharedWord.TheVariants as one
 use Rattle.fkv_plane.specs.declared.places.RecordWord.TheVariants as rec
 use Rattle.fkv_plane.specs.Places.{shared_place, record_place}
 use Rattle.fkv_plane.specs.Passing.{passed, is_done}
 use Rattle.fkv_log.specs.declared.record_words.RecordWords.{RecordWords}
-use Rattle.fkv_log.specs.declared.reserving.ReserveAnswer.{ReserveAnswer}
 use Rattle.fkv_log.specs.declared.reserving.ReserveAnswer.TheVariants as reserve
 use Rattle.fkv_log.specs.declared.reserving.Reserving.{Reserving}
 use Rattle.fkv_log.specs.declared.reserving.Reserving.TheVariants.{AtRest as RestsReserving, LoadsLimit, LoadsTail, TakesTail}
 use Rattle.fkv_log.specs.declared.filling.Filling.{Filling}
 use Rattle.fkv_log.specs.declared.filling.Filling.TheVariants.{AtRest as RestsFilling, StoresValue, StoresKey, StoresHeader}
-use Rattle.fkv_log.specs.declared.invalidating.Invalidating.{Invalidating}
 use Rattle.fkv_log.specs.declared.invalidating.Invalidating.TheVariants as invalidate
-use Rattle.fkv_log.specs.Reserving.{reserve_ask, reserve_next, reserve_next_ask, no_room_at, reserved_where}
+use Rattle.fkv_log.specs.Reserving.{reserve_ask, reserve_next, reserve_next_ask, no_room_at}
 use Rattle.fkv_log.specs.Filling.{fill_begun, fill_ask, fill_next}
-use Rattle.fkv_log.specs.Invalidating.{invalidate_begun, invalidate_ask, invalidate_next}
+use Rattle.fkv_log.specs.Invalidating.{invalidate_ask, invalidate_next}
 use Rattle.fkv_index.specs.declared.publishing.PublishAnswer.TheVariants as publish
-use Rattle.fkv_index.specs.declared.publishing.Publishing.{Publishing}
 use Rattle.fkv_index.specs.declared.publishing.Publishing.TheVariants.{SwapsEntry}
 use Rattle.fkv_index.specs.Slots.{entry_addr}
 use Rattle.fkv_index.specs.Publishing.{publish_ask, publish_next, publish_next_ask}
 use Rattle.fkv_index.specs.IndexWorld.{new_entry}
-use Rattle.fkv_ops.specs.declared.answers.TryAnswer.{TryAnswer}
 use Rattle.fkv_ops.specs.declared.answers.TryAnswer.TheVariants as answer
 use Rattle.fkv_ops.specs.declared.appending.FoundSlot.{FoundSlot}
 use Rattle.fkv_ops.specs.declared.appending.AppendAnswer.{AppendAnswer}
@@ -38,7 +34,7 @@ use Rattle.fkv_ops.specs.declared.appending.Appending.{Appending}
 use Rattle.fkv_ops.specs.declared.appending.Appending.TheVariants.{Ended, Reserves, Fills, Publishes, Invalidates}
 use Rattle.fkv_ops.specs.Appending.{AppendState, append_begun, appending_ask, append_ask, addr_reserved, reserve_ledto, fill_ledto, publish_ledto, invalidate_ledto, appending_next, append_next}
 use Rattle.fkv_ops.specs.TryRun.{Trial, Told}
-use Rattle.fkv_ops.specs.Reasons.{Loaded, Won, IsLost, HasSlot, HasNoRoom, IsContended, Loses, NoStore, NoAddress}
+use Rattle.fkv_ops.specs.Reasons.{Loaded, Won, IsLost, HasSlot, HasNoRoom, IsContended, TailLost, EntryLost, NoStore, NoAddress}
 use Rattle.fkv_ops.specs.Effects.{IsStored}
 use Rattle.fkv_ops.proofs.BoolTests.{lt_true, lt_false, eq_true, eq_false}
 
@@ -82,7 +78,7 @@ AppendRow c told slot words last a (Ended its) = AppendEnd c told last its
 AppendRow c told slot words last a Reserves = ReserveRow c told a.reserving
 AppendRow c told slot words last a (Fills addr) = IsReserved c told slot addr × FillRow c told words addr a.filling
 AppendRow c told slot words last a (Publishes addr) = IsReserved c told slot addr × IsFilled c told words addr × (a.publishing ≡ SwapsEntry slot.place slot.entry (new_entry addr.0 slot.tag))
-AppendRow c told slot words last a Invalidates = IsLost told slot.place × ((addr : Addr) × (header : Header) × (a.invalidating ≡ invalidate.StoresHeader addr header))
+AppendRow c told slot words last a Invalidates = ((new : ℕ) × IsLost told slot.place slot.entry new) × ((addr : Addr) × (header : Header) × (a.invalidating ≡ invalidate.StoresHeader addr header))
 
 pub record AppendKnows (c : Trial) (told : Told) (slot : FoundSlot) (words : RecordWords) (last : Appending) (a : AppendState) : Type 0 where
   pub its_slot : a.slot ≡ slot
@@ -158,7 +154,7 @@ reserve_true c told slot words last a (TakesTail tail) reply works at next row w
       its_words = works.its_words;
       has_slot = works.has_slot;
       previous = works.previous;
-      its_row = Loses (record { old = tail; new = tail + 1; found = reply; its_cas = was; another = eq_false reply tail e });
+      its_row = TailLost tail (record { found = reply; its_cas = was; another = eq_false reply tail e });
     }
 
 stored : (told : Told) (place word reply : ℕ) → told (Store place word) reply → IsStored told place word
@@ -203,13 +199,13 @@ publish_true c told slot words a addr new reply works was = by_word (reply == sl
       its_words = works.its_words;
       has_slot = works.has_slot;
       previous = works.previous;
-      its_row = (record { old = slot.entry; new = new; found = reply; its_cas = was; another = eq_false reply slot.entry e }, (addr, a.its_words.header, refl));
+      its_row = ((new, record { found = reply; its_cas = was; another = eq_false reply slot.entry e }), (addr, a.its_words.header, refl));
     }
 
-invalidated_true : (c : Trial) (told : Told) (slot : FoundSlot) (words : RecordWords) (a : AppendState) (addr : Addr) (header : Header) → Works c told slot words a → IsLost told slot.place
+invalidated_true : (c : Trial) (told : Told) (slot : FoundSlot) (words : RecordWords) (a : AppendState) (addr : Addr) (header : Header) → Works c told slot words a → ((new : ℕ) × IsLost told slot.place slot.entry new)
     → AppendKnows c told slot words Invalidates (invalidate_ledto (record a { invalidating = invalidate_next (invalidate.StoresHeader addr header) }) (invalidate_ask c.places (invalidate_next (invalidate.StoresHeader addr header))))
 unfolding invalidate_ledto invalidate_ask invalidate_next
-invalidated_true c told slot words a addr header works lost = record { its_slot = works.its_slot; its_words = works.its_words; has_slot = works.has_slot; previous = works.previous; its_row = Loses lost }
+invalidated_true c told slot words a addr header works lost = record { its_slot = works.its_slot; its_words = works.its_words; has_slot = works.has_slot; previous = works.previous; its_row = EntryLost lost.0 works.has_slot lost.1 }
 
 its_cas : (told : Told) (place entry new reply : ℕ) → told (passed (passed (publish_ask (SwapsEntry place entry new)) append.Contended) answer.Shift) reply → told (Cas place entry new) reply
 unfolding publish_ask passed

@@ -1,20 +1,17 @@
 -- Each ask changes the latch by just what the try owes to it then.
-use Rattle.std.proofs.Common.{◌≡◌, ℕ, ◌+◌, ◌-◌, ◌*◌, ◌/◌, ◌%◌, ◌<◌, ◌≤◌, ◌^◌, ◌⊎◌, List, [], ◌∷◌, refl, inl, inr, arith, sym, ap, ◌∙◌, subst, Bool, true, false}
-use Rattle.std.specs.Prelude.{◌≢◌, ◌==◌, ◌&&◌, ◌||◌, not, nat_lt, if◌then◌else◌, ⊤, Option, Some, None}
+use Rattle.std.proofs.Common.{◌≡◌, ℕ, ◌+◌, ◌-◌, ◌*◌, ◌/◌, ◌%◌, ◌<◌, ◌^◌, refl, arith, sym, subst, Bool, true, false}
+use Rattle.std.specs.Prelude.{◌==◌, ◌&&◌}
 use Rattle.std.proofs.lemmas.Bool.Decides.{nat_tests}
 use Rattle.std.proofs.lemmas.Nat.{pow_pos}
 use Rattle.std.proofs.Math.Nat.{mod-lt}
 use Rattle.fkv_base.specs.declared.numbers.Addr.{Addr}
-use Rattle.fkv_base.specs.Limits.{max_overflow}
 use Rattle.fkv_words.specs.Fields.{bit_of}
-use Rattle.fkv_words.specs.Home.{bucket_of, tag_of}
-use Rattle.fkv_map.specs.declared.operations.Reply.{Reply}
 use Rattle.fkv_map.specs.Keys.{key_of, value_applied}
 use Rattle.fkv_plane.specs.declared.asks.Ask.{Ask}
-use Rattle.fkv_plane.specs.declared.asks.Ask.TheVariants.{Load, Swap, Cas, Add, Done}
+use Rattle.fkv_plane.specs.declared.asks.Ask.TheVariants.{Load, Cas, Done}
 use Rattle.fkv_plane.specs.declared.places.RecordWord.TheVariants as rec
 use Rattle.fkv_plane.specs.Places.{record_place}
-use Rattle.fkv_plane.specs.Passing.{passed, is_done}
+use Rattle.fkv_plane.specs.Passing.{passed}
 use Rattle.fkv_log.specs.declared.filling.Filling.{Filling}
 use Rattle.fkv_log.specs.declared.filling.Filling.TheVariants as fill
 use Rattle.fkv_log.specs.declared.invalidating.Invalidating.{Invalidating}
@@ -33,7 +30,6 @@ use Rattle.fkv_latch.specs.Latching.{one_share, exclusive_bit, latch_ask}
 use Rattle.fkv_index.specs.declared.finding.FindStep.{FindStep}
 use Rattle.fkv_index.specs.declared.finding.FindStep.TheVariants as find
 use Rattle.fkv_index.specs.declared.finding.Finding.{Finding}
-use Rattle.fkv_index.specs.declared.publishing.Publishing.{Publishing}
 use Rattle.fkv_index.specs.declared.publishing.Publishing.TheVariants.{SwapsEntry}
 use Rattle.fkv_index.specs.Finding.{find_step_ask}
 use Rattle.fkv_index.specs.Publishing.{publish_ask}

@@ -1,19 +1,17 @@
 -- How a try goes on to a new record: with the exclusive latch where it needs it, and with the old value where that counts.
-use Rattle.std.proofs.Common.{◌≡◌, ℕ, ◌+◌, ◌<◌, ◌≤◌, ◌⊎◌, List, [], ◌∷◌, refl, inl, inr, arith, sym, ap, ◌∙◌, subst, Bool, true, false}
-use Rattle.std.specs.Prelude.{◌≢◌, ◌==◌, ◌&&◌, ◌||◌, not, nat_lt, nat_le, if◌then◌else◌, ⊤, Option, Some, None}
+use Rattle.std.proofs.Common.{◌≡◌, ℕ, [], refl, sym, ◌∙◌, subst, Bool, true, false}
+use Rattle.std.specs.Prelude.{if◌then◌else◌, None}
 use Rattle.fkv_map.specs.Map.{absent_word}
-use Rattle.fkv_map.specs.Keys.{reply_from}
-use Rattle.fkv_plane.specs.Passing.{is_done}
 use Rattle.fkv_latch.specs.declared.latching.LatchTask.TheVariants.{TakeExclusive}
 use Rattle.fkv_ops.specs.declared.appending.Appending.TheVariants.{Reserves}
 use Rattle.fkv_ops.specs.declared.trying.OldValue.{OldValue}
 use Rattle.fkv_ops.specs.declared.trying.OldValue.TheVariants.{InMemory, Known}
-use Rattle.fkv_ops.specs.declared.trying.Trying.TheVariants.{TakesExclusive, LoadsOld, Appends}
+use Rattle.fkv_ops.specs.declared.trying.Trying.TheVariants.{TakesExclusive, LoadsOld}
 use Rattle.fkv_ops.specs.Values.{value_of}
-use Rattle.fkv_ops.specs.Requests.{is_read, is_blind}
+use Rattle.fkv_ops.specs.Requests.{is_blind}
 use Rattle.fkv_ops.specs.Walking.{walk_on}
 use Rattle.fkv_ops.specs.Trying.{TryState, with_latch, appends, copies_from, copies, slot_of, words_of}
-use Rattle.fkv_ops.specs.TryRun.{Trial, home_at, Told}
+use Rattle.fkv_ops.specs.TryRun.{Trial, Told}
 use Rattle.fkv_ops.specs.Reasons.{HasSlot}
 use Rattle.fkv_ops.specs.Effects.{IsMadeOf, OfRecord, CountsNot, needs_exclusive}
 use Rattle.fkv_ops.proofs.Walked.{walk_on_loads, walk_on_found}
@@ -25,7 +23,7 @@ pub appends_true : (c : Trial) (told : Told) (t : TryState) (old : ℕ) (is_curr
 unfolding appends
 appends_true c told t old is_current quiet updates slot made_of alone = record {
   same = refl;
-      owes = refl;
+  owes = refl;
   its_effect = quiet;
   its_told = refl;
   row = record {

@@ -1,26 +1,23 @@
 -- The step that makes an effect is a Swap or a won Cas, and what it tells is true.
-use Rattle.std.proofs.Common.{◌≡◌, ℕ, ◌+◌, ◌*◌, ◌<◌, ◌≤◌, ◌^◌, ◌⊎◌, List, [], ◌∷◌, refl, inl, inr, arith, sym, ap, ◌∙◌, subst, Bool, true, false}
-use Rattle.std.specs.Prelude.{◌≢◌, ◌==◌, ◌&&◌, ◌||◌, not, if◌then◌else◌, ⊤, Option, Some, None}
+use Rattle.std.proofs.Common.{◌≡◌, ℕ, ◌+◌, ◌*◌, ◌^◌, List, ◌∷◌, refl, arith, sym, ap, ◌∙◌, subst, Bool, true, false}
+use Rattle.std.specs.Prelude.{◌==◌, ◌&&◌, not, if◌then◌else◌, ⊤, Option, Some, None}
 use Rattle.fkv_base.specs.declared.numbers.Addr.{Addr}
 use Rattle.fkv_words.specs.Fields.{bit_of}
-use Rattle.fkv_words.specs.Layout.{header_word}
 use Rattle.fkv_map.specs.declared.operations.Op.{Op}
 use Rattle.fkv_map.specs.declared.operations.Op.TheVariants.{Upsert, Delete, Add as Adds, Max as Maxes, Read}
 use Rattle.fkv_map.specs.declared.operations.Reply.{Reply}
-use Rattle.fkv_map.specs.Keys.{key_of, reply_from, value_applied}
+use Rattle.fkv_map.specs.Keys.{reply_from, value_applied}
 use Rattle.fkv_plane.specs.declared.asks.Ask.{Ask}
-use Rattle.fkv_plane.specs.declared.asks.Ask.TheVariants.{Load, Swap, Cas, Add, Done}
+use Rattle.fkv_plane.specs.declared.asks.Ask.TheVariants.{Swap, Cas, Add, Done}
 use Rattle.fkv_plane.specs.declared.places.Places.{Places}
-use Rattle.fkv_plane.specs.declared.places.SharedWord.TheVariants as one
 use Rattle.fkv_plane.specs.declared.places.RecordWord.TheVariants as rec
-use Rattle.fkv_plane.specs.Places.{shared_place, record_place}
-use Rattle.fkv_plane.specs.Passing.{passed, is_done}
+use Rattle.fkv_plane.specs.Places.{record_place}
+use Rattle.fkv_plane.specs.Passing.{passed}
 use Rattle.fkv_log.specs.declared.record_words.RecordWords.{RecordWords}
-use Rattle.fkv_log.specs.Invalidating.{invalidate_begun, invalidate_ask}
+use Rattle.fkv_log.specs.Invalidating.{invalidate_ask}
 use Rattle.fkv_latch.specs.declared.latching.LatchTask.TheVariants.{TakeShared, DropShared, DropExclusive}
 use Rattle.fkv_latch.specs.Latching.{one_share, latch_ask}
 use Rattle.fkv_index.specs.declared.publishing.PublishAnswer.TheVariants as publish
-use Rattle.fkv_index.specs.declared.publishing.Publishing.{Publishing}
 use Rattle.fkv_index.specs.declared.publishing.Publishing.TheVariants.{SwapsEntry}
 use Rattle.fkv_index.specs.Slots.{entry_addr}
 use Rattle.fkv_index.specs.Publishing.{publish_ask, publish_next, publish_next_ask}
@@ -36,15 +33,15 @@ use Rattle.fkv_ops.specs.declared.appending.Appending.TheVariants as appending
 use Rattle.fkv_ops.specs.declared.trying.Trying.{Trying}
 use Rattle.fkv_ops.specs.declared.trying.Trying.TheVariants.{Ended, TakesShared, Walks, LoadsSafe, SwapsValue, LoadsCurrent, ChangesValue, LoadsAnswer, TakesExclusive, LoadsOld, Appends, DropsExclusive, DropsShared}
 use Rattle.fkv_ops.specs.Values.{value_of, word_of}
-use Rattle.fkv_ops.specs.Requests.{is_read, is_blind}
+use Rattle.fkv_ops.specs.Requests.{is_blind}
 use Rattle.fkv_ops.specs.Appending.{AppendState, appending_ask, append_ask, publish_ledto, appending_next, append_next}
-use Rattle.fkv_ops.specs.Trying.{TryState, trying_ask, try_ask, trying_next, try_next, is_wait, with_latch, walks, ends, ended_without, takes_effect, full_at, value_changed, append_ledto, words_of}
+use Rattle.fkv_ops.specs.Trying.{TryState, trying_ask, try_ask, trying_next, is_wait, with_latch, walks, ends, ended_without, takes_effect, full_at, value_changed, append_ledto, words_of}
 use Rattle.fkv_ops.specs.TryRun.{Trial, home_at, trial_begun, try_run, Told, told_by, effects_of}
-use Rattle.fkv_ops.specs.Reasons.{latch_place, Won, HasSlot}
-use Rattle.fkv_ops.specs.Effects.{IsStored, MayChange, IsMadeOf, IsSwapped, IsChanged, IsPublished, IsEffect, BySwap, ByChange, ByRecord, EffectsAreTrue, shares_latch, HasShared, SharesBefore, SharesFirst, needs_exclusive, HasSetBit}
-use Rattle.fkv_ops.proofs.BoolTests.{eq_true, eq_false}
+use Rattle.fkv_ops.specs.Reasons.{latch_place, HasSlot}
+use Rattle.fkv_ops.specs.Effects.{IsStored, MayChange, IsMadeOf, IsPublished, IsEffect, BySwap, ByChange, ByRecord, EffectsAreTrue, shares_latch, SharesFirst, needs_exclusive, HasSetBit}
+use Rattle.fkv_ops.proofs.BoolTests.{eq_true}
 use Rattle.fkv_ops.proofs.Appended.{IsReserved, IsFilled, is_publishing, AppendRow, AppendKnows, append_true, append_answers}
-use Rattle.fkv_ops.proofs.TryRows.{norm, Owed, Under, Updates, TryRow, told_at, Comes, AppendsKnow, takes_effect_true}
+use Rattle.fkv_ops.proofs.TryRows.{norm, Owed, Under, TryRow, AppendsKnow}
 use Rattle.fkv_ops.proofs.TrySteps.{makes_effect, Steps, Quietly, Effectively, owed_then, quieted}
 use Rattle.fkv_ops.proofs.TryRuns.{Known, quieted_ask, quieted_next, step_true, run_true, run_known}
 
@@ -127,7 +124,7 @@ published_row c told slot words last a (appending.Publishes addr) reply row e f 
   addr = addr;
   its_ask = ap (λ x. passed (passed (publish_ask x) append.Contended) answer.Shift) row.2 ∙ swap_ask slot.place slot.entry (new_entry addr.0 slot.tag);
   won = swap_won c.places (record a { publishing = publish_next a.publishing reply }) addr slot.place slot.entry (new_entry addr.0 slot.tag) reply
-  (subst (λ x. append_ask c.places (publish_ledto (record a { publishing = publish_next a.publishing reply }) addr (publish_next_ask x reply)) ≡ Done append.Published) row.2 f);
+      (subst (λ x. append_ask c.places (publish_ledto (record a { publishing = publish_next a.publishing reply }) addr (publish_next_ask x reply)) ≡ Done append.Published) row.2 f);
   reserved = row.0;
   filled = row.1;
 }
@@ -179,9 +176,9 @@ appends_effect : (c : Trial) (told : Told) (t : TryState) (r : Reply) (reply : �
 appends_effect c told t r reply its row any e =
     let led = append_effect c.places (record (quieted c t) { append = append_next c.places c.room t.append reply }) r its (append_ask c.places (append_next c.places c.room t.append reply)) refl e in
     let behind : AppendKnows c anything (record { place = any.place; entry = any.entry; tag = (home_at c).tag }) (words_of c.request any.entry any.old) t.append.step (append_next c.places c.room t.append reply) =
-        append_true c anything (record { place = any.place; entry = any.entry; tag = (home_at c).tag }) (words_of c.request any.entry any.old) any.last t.append reply any.appends any.asks tt in
+    append_true c anything (record { place = any.place; entry = any.entry; tag = (home_at c).tag }) (words_of c.request any.entry any.old) any.last t.append reply any.appends any.asks tt in
     let publishes : is_publishing t.append.step ≡ true =
-        append_answers c anything (record { place = any.place; entry = any.entry; tag = (home_at c).tag }) (words_of c.request any.entry any.old) t.append.step (append_next c.places c.room t.append reply) append.Published behind led.0 in
+    append_answers c anything (record { place = any.place; entry = any.entry; tag = (home_at c).tag }) (words_of c.request any.entry any.old) t.append.step (append_next c.places c.room t.append reply) append.Published behind led.0 in
     published_effect c told row.place row.entry row.old row.is_current (passed (append_ask c.places t.append) answer.Shift) reply its
     (published_row c told (record { place = row.place; entry = row.entry; tag = (home_at c).tag }) (words_of c.request row.entry row.old) row.last t.append t.append.step reply row.appends.its_row publishes led.0)
     row.appends.has_slot row.made_of row.alone (sym led.1 ∙ row.its_reply)

@@ -1,10 +1,8 @@
 -- Over every list of replies the latch is changed by just what the try owes to it, and up to its effect nothing is given back.
-use Rattle.std.proofs.Common.{◌≡◌, ℕ, ◌+◌, ◌-◌, ◌<◌, ◌≤◌, ◌^◌, ◌⊎◌, List, [], ◌∷◌, refl, inl, inr, arith, sym, ap, ◌∙◌, subst, Bool, true, false}
-use Rattle.std.specs.Prelude.{◌≢◌, ◌==◌, ◌&&◌, ◌||◌, not, if◌then◌else◌, ⊤, Option, Some, None}
+use Rattle.std.proofs.Common.{◌≡◌, ℕ, ◌+◌, ◌-◌, ◌^◌, List, [], ◌∷◌, refl, arith, sym, ap, ◌∙◌, subst, Bool, true, false}
+use Rattle.std.specs.Prelude.{◌&&◌, not, if◌then◌else◌}
 use Rattle.fkv_words.specs.Fields.{bit_of}
-use Rattle.fkv_map.specs.declared.operations.Reply.{Reply}
 use Rattle.fkv_plane.specs.declared.asks.Ask.{Ask}
-use Rattle.fkv_plane.specs.declared.asks.Ask.TheVariants.{Load, Swap, Cas, Add, Done}
 use Rattle.fkv_plane.specs.declared.places.Places.{Places}
 use Rattle.fkv_plane.specs.Passing.{passed}
 use Rattle.fkv_latch.specs.declared.latching.LatchTask.TheVariants.{DropShared, DropExclusive}
@@ -18,14 +16,14 @@ use Rattle.fkv_ops.specs.declared.trying.Trying.TheVariants.{Ended, TakesShared,
 use Rattle.fkv_ops.specs.Trying.{TryState, trying_ask, try_ask, trying_next, try_next, is_wait, with_latch, ends, ended_without, shared_ledto, exclusive_dropped, shared_dropped, words_of}
 use Rattle.fkv_ops.specs.Walking.{walk_ask}
 use Rattle.fkv_ops.specs.Appending.{append_ask}
-use Rattle.fkv_ops.specs.TryRun.{Trial, trial_begun, try_run, Told, Exchange, exchanges, effects_of, told_by}
+use Rattle.fkv_ops.specs.TryRun.{Trial, trial_begun, try_run, Told, Exchange, exchanges, effects_of}
 use Rattle.fkv_ops.specs.Reasons.{latch_place}
-use Rattle.fkv_ops.specs.LatchCounts.{is_adding, is_setting, times_added, bits_set, shares_added, shares_dropped, bits_cleared, EachLeavesLatch, EachHoldsLatch}
+use Rattle.fkv_ops.specs.LatchCounts.{is_adding, bits_set, shares_added, shares_dropped, bits_cleared, EachLeavesLatch, EachHoldsLatch}
 use Rattle.fkv_ops.proofs.TryRows.{norm, shares, Owed, latch_held, owed_at, ShareRow, AloneRow, TryRow}
 use Rattle.fkv_ops.proofs.TrySteps.{makes_effect, Steps, Quietly, Effectively, owed_then, quieted}
-use Rattle.fkv_ops.proofs.TryRuns.{Known, begun_true, quieted_ask, quieted_next, step_true, at_end, run_known}
+use Rattle.fkv_ops.proofs.TryRuns.{begun_true, quieted_next, step_true, at_end}
 use Rattle.fkv_ops.proofs.Effected.{anything, any_known, run_makes}
-use Rattle.fkv_ops.proofs.Balances.{Balances, IsApart, row_balances, walk_apart, loads_apart, append_apart, value_apart, load_word_apart}
+use Rattle.fkv_ops.proofs.Balances.{Balances, IsApart, row_balances, walk_apart, loads_apart, append_apart}
 
 -- the steps before a try begins to give back what it holds
 abbrev is_early : Trying → Bool

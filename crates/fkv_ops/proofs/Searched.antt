@@ -1,9 +1,8 @@
 -- What a search knows at each of its steps, and what it has found at its end.
-use Rattle.std.proofs.Common.{◌≡◌, ℕ, ◌+◌, ◌-◌, ◌<◌, ◌≤◌, ◌⊎◌, refl, inl, inr, arith, sym, ap, ◌∙◌, subst, Bool, true, false}
-use Rattle.std.specs.Prelude.{◌≢◌, ◌==◌, ◌&&◌, nat_lt, nat_le, if◌then◌else◌, ⊤}
+use Rattle.std.proofs.Common.{◌≡◌, ℕ, ◌+◌, ◌<◌, ◌≤◌, refl, arith, sym, ap, ◌∙◌, subst, Bool, true, false}
+use Rattle.std.specs.Prelude.{◌==◌, nat_lt, nat_le, if◌then◌else◌, ⊤}
 use Rattle.fkv_plane.specs.declared.asks.Ask.{Ask}
-use Rattle.fkv_plane.specs.declared.asks.Ask.TheVariants.{Load, Cas, Done}
-use Rattle.fkv_plane.specs.declared.places.Places.{Places}
+use Rattle.fkv_plane.specs.declared.asks.Ask.TheVariants.{Cas, Done}
 use Rattle.fkv_plane.specs.declared.places.SharedWord.TheVariants as one
 use Rattle.fkv_plane.specs.Places.{shared_place, bucket_place, overflow_place}
 use Rattle.fkv_plane.specs.Passing.{passed, is_done}
@@ -18,13 +17,13 @@ use Rattle.fkv_index.specs.declared.finding.FindStep.TheVariants.{AtRest, LoadsS
 use Rattle.fkv_index.specs.declared.finding.Finding.{Finding}
 use Rattle.fkv_index.specs.declared.finding.FindAnswer.{FindAnswer}
 use Rattle.fkv_index.specs.Slots.{bucket_slots, slot_word, is_entry, entry_tag, link_of}
-use Rattle.fkv_index.specs.Finding.{find_step_ask, find_ask, find_led, slot_led, slot_after, entered, ended_list, link_led, taken_led, took_led, linked_led, led_to, led_ask, first_finding, linking_for, spare_of}
+use Rattle.fkv_index.specs.Finding.{find_step_ask, find_led, slot_led, entered, ended_list, link_led, taken_led, took_led, linked_led, led_to, led_ask, first_finding, linking_for, spare_of}
 use Rattle.fkv_ops.specs.declared.walking.WalkAnswer.TheVariants as walk
 use Rattle.fkv_ops.specs.declared.answers.TryAnswer.TheVariants as answer
 use Rattle.fkv_ops.specs.Requests.{is_read, purpose_of}
 use Rattle.fkv_ops.specs.TryRun.{Trial, home_at, Told}
-use Rattle.fkv_ops.specs.Reasons.{Loaded, Won, IsLost, ComesTo, AtHome, ByLink, ByOwn, HasSlot, HasEnd, IsIndexFull, IsSpoiled, NoSlot as SlotSpoiled, NoBucket, TooMany, IsContended, Loses, OwnIsFull, NoStore}
-use Rattle.fkv_ops.proofs.BoolTests.{lt_true, lt_false, le_true, le_false, eq_true, eq_false, some_where, both}
+use Rattle.fkv_ops.specs.Reasons.{Loaded, Won, ComesTo, AtHome, ByLink, ByOwn, HasSlot, HasEnd, IsIndexFull, NoSlot as SlotSpoiled, NoBucket, TooMany, IsContended, CountLost, LinkLost, OwnIsFull, NoStore}
+use Rattle.fkv_ops.proofs.BoolTests.{lt_true, lt_false, le_true, le_false, eq_true, eq_false}
 
 abbrev is_made : Linking → Bool
 is_made Made = true
@@ -155,7 +154,7 @@ took_true c told f word taken reply stands may few its_cas = by_count (reply == 
   where
     by_count : (b : Bool) → (reply == taken) ≡ b → Leads c told (led_ask (took_led f word taken reply)) (led_to (took_led f word taken reply))
     by_count true e = rw e (record { links = stands.links; its_bucket = stands.its_bucket; counted = stands.counted; few = omega (arith, few); reads = stands.reads }, may)
-    by_count false e = rw e (Loses (record { old = taken; new = taken + 1; found = reply; its_cas = its_cas; another = eq_false reply taken e }))
+    by_count false e = rw e (CountLost taken (record { found = reply; its_cas = its_cas; another = eq_false reply taken e }))
 
 once_reads : (linking : Linking) → linking ≡ Once → is_never linking ≡ false
 once_reads Never e = cc
@@ -173,7 +172,7 @@ linked_true c told f word reply stands may its_cas = by_word (reply == word) ref
         let few = stands.few in
         rw e (entered_true c told (record f { linking = Made; spare = 0 }) stands.links f.spare (ByOwn word f.spare stands.its_bucket won) stands.counted (omega arith) (sym (once_reads f.linking may.once) ∙ stands.reads)
         (λ high. absurd (omega (arith, high, few))))
-    by_word false e = rw e (Loses (record { old = word; new = word + f.spare; found = reply; its_cas = its_cas; another = eq_false reply word e }))
+    by_word false e = rw e (LinkLost word f.spare stands.its_bucket stands.few (record { found = reply; its_cas = its_cas; another = eq_false reply word e }))
 
 -- where a reply leads, what is known there is true
 pub search_true : (c : Trial) (told : Told) (f : Finding) (step : FindStep) (reply : ℕ) → StandsAt c told f → SearchStep c told f step
@@ -209,13 +208,16 @@ spare_few c spare = by_test (nat_le spare c.places.overflow) refl
 
 -- as it begins
 pub search_begun : (c : Trial) (told : Told) (spare : ℕ) → Searches c told (first_finding c.places (home_at c) (purpose_of c.request.op) spare)
-search_begun c told spare = (record {
-  links = 0;
-  its_bucket = subst (λ b. ComesTo c told 0 b (bucket_place c.places (home_at c).bucket 0)) (sym (none_made c.request.op)) AtHome;
-  counted = omega arith;
-  few = spare_few c spare;
-  reads = reads_so c.request.op;
-}, omega arith)
+search_begun c told spare = (
+  record {
+    links = 0;
+    its_bucket = subst (λ b. ComesTo c told 0 b (bucket_place c.places (home_at c).bucket 0)) (sym (none_made c.request.op)) AtHome;
+    counted = omega arith;
+    few = spare_few c spare;
+    reads = reads_so c.request.op;
+  },
+  omega arith,
+)
 
 -- and while it lasts it asks
 pub search_asks : (c : Trial) (told : Told) (f : Finding) (step : FindStep) → SearchStep c told f step → is_done (find_step_ask f step) ≡ false

@@ -1,17 +1,15 @@
 -- Where the walk's end leads a try, and each reply behind it.
-use Rattle.std.proofs.Common.{◌≡◌, ℕ, ◌+◌, ◌<◌, ◌≤◌, ◌⊎◌, List, [], ◌∷◌, refl, inl, inr, arith, sym, ap, ◌∙◌, subst, Bool, true, false}
-use Rattle.std.specs.Prelude.{◌≢◌, ◌==◌, ◌&&◌, ◌||◌, not, nat_lt, nat_le, if◌then◌else◌, ⊤, Option, Some, None}
+use Rattle.std.proofs.Common.{◌≡◌, ℕ, ◌<◌, ◌≤◌, ◌⊎◌, [], refl, inl, inr, arith, sym, ap, ◌∙◌, subst, Bool, true, false}
+use Rattle.std.specs.Prelude.{◌≢◌, ◌==◌, ◌&&◌, not, nat_lt, nat_le, if◌then◌else◌, Option, Some, None}
 use Rattle.fkv_base.specs.declared.numbers.Addr.{Addr}
 use Rattle.fkv_base.specs.declared.numbers.Version.{Version}
 use Rattle.fkv_map.specs.Map.{absent_word}
-use Rattle.fkv_map.specs.Keys.{key_of, reply_from, value_applied}
+use Rattle.fkv_map.specs.Keys.{key_of}
 use Rattle.fkv_plane.specs.declared.asks.Ask.{Ask}
-use Rattle.fkv_plane.specs.declared.asks.Ask.TheVariants.{Load, Swap, Cas, Add, Done}
-use Rattle.fkv_plane.specs.declared.places.RecordWord.TheVariants as rec
+use Rattle.fkv_plane.specs.declared.asks.Ask.TheVariants.{Done}
 use Rattle.fkv_plane.specs.declared.places.SharedWord.TheVariants as one
-use Rattle.fkv_plane.specs.Places.{shared_place, record_place}
+use Rattle.fkv_plane.specs.Places.{shared_place}
 use Rattle.fkv_plane.specs.Passing.{is_done}
-use Rattle.fkv_log.specs.declared.regions.Region.{Region}
 use Rattle.fkv_log.specs.declared.regions.Region.TheVariants as region
 use Rattle.fkv_ops.specs.declared.answers.Reason.TheVariants as reason
 use Rattle.fkv_ops.specs.declared.answers.TryAnswer.{TryAnswer}
@@ -20,19 +18,18 @@ use Rattle.fkv_ops.specs.declared.requests.HeldRecord.{HeldRecord}
 use Rattle.fkv_ops.specs.declared.requests.Occasion.{Occasion}
 use Rattle.fkv_ops.specs.declared.requests.Occasion.TheVariants.{Call, Poll}
 use Rattle.fkv_ops.specs.declared.trying.OldValue.TheVariants.{InMemory, Known}
-use Rattle.fkv_ops.specs.declared.trying.Trying.TheVariants.{Walks, LoadsSafe, SwapsValue, LoadsCurrent, ChangesValue, LoadsAnswer}
+use Rattle.fkv_ops.specs.declared.trying.Trying.TheVariants.{Walks, SwapsValue, LoadsCurrent, LoadsAnswer}
 use Rattle.fkv_ops.specs.declared.walking.WalkAnswer.{WalkAnswer}
 use Rattle.fkv_ops.specs.declared.walking.WalkAnswer.TheVariants as walk
-use Rattle.fkv_ops.specs.Values.{value_of, word_of}
 use Rattle.fkv_ops.specs.Requests.{is_read, is_blind}
 use Rattle.fkv_ops.specs.Walking.{WalkState, walk_ask, walk_on}
 use Rattle.fkv_ops.specs.Trying.{TryState, ends, full_at, is_prepare, is_above, must_shift, copies, awaits, held_used, met_nowhere, met_disk, changes, region_met, met_record, walked, has_walked, walk_ledto, safe_loaded}
-use Rattle.fkv_ops.specs.TryRun.{Trial, home_at, Told, reply_told}
-use Rattle.fkv_ops.specs.Reasons.{Loaded, HasSlot, WalksTo, HasFound, LeavesMemory, HasNone, AtItsEnd, WithoutSlot, IsFuzzy, HoldsFrom, IsOnDisk, BelowHead, BehindHeld, IsIndexFull, HasNoRoom, OthersWentOn, ByRecord, IsTrue, IsReason}
-use Rattle.fkv_ops.specs.Effects.{MayChange, OfAnother, BelowSafe, IsMadeOf, OfNone, OfAny, OfHeld, OfNoneBehind, shares_latch}
-use Rattle.fkv_ops.proofs.BoolTests.{lt_true, lt_false, le_true, le_false, eq_true, eq_false, some_where, both}
-use Rattle.fkv_ops.proofs.Walked.{HasFirst, FirstTrue, FoundKnows, NowhereTrue, WalkTrue, WalkKnows, walk_answers, walk_on_loads, walk_on_found}
-use Rattle.fkv_ops.proofs.TryRows.{norm, shares, latch_held, owed_at, Under, Updates, FoundRow, TryRow, told_at, Comes, ends_true}
+use Rattle.fkv_ops.specs.TryRun.{Trial, Told, reply_told}
+use Rattle.fkv_ops.specs.Reasons.{Loaded, WalksTo, HasFound, LeavesMemory, HasNone, AtItsEnd, WithoutSlot, HoldsFrom, IsOnDisk, BelowHead, BehindHeld, IsIndexFull, HasNoRoom, OthersWentOn, ByRecord, IsTrue}
+use Rattle.fkv_ops.specs.Effects.{MayChange, OfAnother, BelowSafe, OfNone, OfAny, OfHeld, OfNoneBehind}
+use Rattle.fkv_ops.proofs.BoolTests.{lt_true, le_true, le_false, eq_true, eq_false, some_where, both}
+use Rattle.fkv_ops.proofs.Walked.{FirstTrue, NowhereTrue, WalkTrue, WalkKnows, walk_answers, walk_on_loads, walk_on_found}
+use Rattle.fkv_ops.proofs.TryRows.{norm, latch_held, owed_at, Under, Updates, FoundRow, TryRow, told_at, Comes, ends_true}
 use Rattle.fkv_ops.proofs.Copied.{copies_true}
 
 -- the try comes to its end, without an effect

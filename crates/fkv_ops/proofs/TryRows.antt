@@ -1,21 +1,16 @@
 -- What a try knows at each of its steps, and how it comes to its end.
-use Rattle.std.proofs.Common.{◌≡◌, ℕ, ◌+◌, ◌<◌, ◌≤◌, ◌⊎◌, List, [], ◌∷◌, refl, inl, inr, arith, sym, ap, ◌∙◌, subst, Bool, true, false}
-use Rattle.std.specs.Prelude.{◌≢◌, ◌==◌, ◌&&◌, ◌||◌, not, nat_lt, nat_le, if◌then◌else◌, ⊤, Option, Some, None}
+use Rattle.std.proofs.Common.{◌≡◌, ℕ, ◌+◌, ◌<◌, List, [], ◌∷◌, refl, Bool, true, false}
+use Rattle.std.specs.Prelude.{◌==◌, ◌&&◌, ◌||◌, not, if◌then◌else◌, Option, Some}
 use Rattle.fkv_base.specs.declared.numbers.Addr.{Addr}
 use Rattle.fkv_base.specs.declared.numbers.Version.{Version}
 use Rattle.fkv_words.specs.Fields.{bit_of}
 use Rattle.fkv_map.specs.declared.operations.Reply.{Reply}
-use Rattle.fkv_map.specs.Keys.{key_of, value_applied, reply_from}
-use Rattle.fkv_plane.specs.declared.asks.Ask.{Ask}
-use Rattle.fkv_plane.specs.declared.asks.Ask.TheVariants.{Load, Swap, Cas, Add, Done}
-use Rattle.fkv_plane.specs.declared.places.Places.{Places}
-use Rattle.fkv_plane.specs.declared.places.RecordWord.TheVariants as rec
-use Rattle.fkv_plane.specs.Places.{record_place}
-use Rattle.fkv_plane.specs.Passing.{passed, is_done}
+use Rattle.fkv_map.specs.Keys.{reply_from}
+use Rattle.fkv_plane.specs.Passing.{is_done}
 use Rattle.fkv_latch.specs.declared.latching.LatchTask.TheVariants.{DropShared, DropExclusive}
 use Rattle.fkv_latch.specs.declared.latching.Latching.{Latching}
 use Rattle.fkv_latch.specs.declared.latching.Latching.TheVariants as latching
-use Rattle.fkv_latch.specs.Latching.{one_share, latch_ask}
+use Rattle.fkv_latch.specs.Latching.{one_share}
 use Rattle.fkv_ops.specs.declared.answers.TryAnswer.{TryAnswer}
 use Rattle.fkv_ops.specs.declared.answers.TryAnswer.TheVariants as answer
 use Rattle.fkv_ops.specs.declared.appending.Appending.{Appending}
@@ -24,13 +19,13 @@ use Rattle.fkv_ops.specs.declared.trying.OldValue.TheVariants.{InMemory, Known}
 use Rattle.fkv_ops.specs.declared.trying.Trying.{Trying}
 use Rattle.fkv_ops.specs.declared.trying.Trying.TheVariants.{Ended, TakesShared, Walks, LoadsSafe, SwapsValue, LoadsCurrent, ChangesValue, LoadsAnswer, TakesExclusive, LoadsOld, Appends, DropsExclusive, DropsShared}
 use Rattle.fkv_ops.specs.declared.walking.Walking.TheVariants.{HasFound as AtFound}
-use Rattle.fkv_ops.specs.Values.{value_of, word_of}
+use Rattle.fkv_ops.specs.Values.{value_of}
 use Rattle.fkv_ops.specs.Requests.{is_read, is_blind}
 use Rattle.fkv_ops.specs.Walking.{WalkState, walk_ask}
 use Rattle.fkv_ops.specs.Appending.{append_ask}
 use Rattle.fkv_ops.specs.Trying.{TryState, is_wait, with_latch, ended_without, ends, takes_effect, words_of}
 use Rattle.fkv_ops.specs.TryRun.{Trial, home_at, Told, reply_told}
-use Rattle.fkv_ops.specs.Reasons.{latch_place, Loaded, HasSlot, HasFound, OthersWentOn, IsTrue}
+use Rattle.fkv_ops.specs.Reasons.{latch_place, HasSlot, HasFound, OthersWentOn, IsTrue}
 use Rattle.fkv_ops.specs.Effects.{MayChange, MayCopy, IsMadeOf, HasSetBit, needs_exclusive, shares_latch, HasShared}
 use Rattle.fkv_ops.proofs.Walked.{FoundKnows, WalkKnows, LoadsRecord}
 use Rattle.fkv_ops.proofs.Appended.{AppendKnows}

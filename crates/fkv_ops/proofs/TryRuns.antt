@@ -1,30 +1,29 @@
 -- Over every list of replies a try knows what its step has to, and what it was told is what is told at its end.
-use Rattle.std.proofs.Common.{◌≡◌, ℕ, ◌+◌, ◌<◌, ◌≤◌, ◌⊎◌, List, [], ◌∷◌, refl, inl, inr, arith, sym, ap, ◌∙◌, subst, Bool, true, false}
-use Rattle.std.specs.Prelude.{◌≢◌, ◌==◌, ◌&&◌, ◌||◌, not, if◌then◌else◌, ⊤, Option, Some, None}
+use Rattle.std.proofs.Common.{◌≡◌, ℕ, ◌+◌, List, [], ◌∷◌, refl, inl, inr, arith, sym, ap, ◌∙◌, subst, Bool, true, false}
+use Rattle.std.specs.Prelude.{◌&&◌, ◌||◌, not, if◌then◌else◌, None}
 use Rattle.fkv_words.specs.Fields.{bit_of}
 use Rattle.fkv_map.specs.declared.operations.Reply.{Reply}
 use Rattle.fkv_plane.specs.declared.asks.Ask.{Ask}
-use Rattle.fkv_plane.specs.declared.asks.Ask.TheVariants.{Load, Swap, Cas, Add, Done}
+use Rattle.fkv_plane.specs.declared.asks.Ask.TheVariants.{Done}
 use Rattle.fkv_plane.specs.declared.places.Places.{Places}
 use Rattle.fkv_plane.specs.Passing.{passed, is_done}
 use Rattle.fkv_latch.specs.declared.latching.LatchTask.TheVariants.{TakeShared}
 use Rattle.fkv_latch.specs.declared.latching.Latching.{Latching}
 use Rattle.fkv_latch.specs.declared.latching.Latching.TheVariants as latching
-use Rattle.fkv_latch.specs.Latching.{one_share, latch_ask}
+use Rattle.fkv_latch.specs.Latching.{latch_ask}
 use Rattle.fkv_ops.specs.declared.answers.TryAnswer.{TryAnswer}
 use Rattle.fkv_ops.specs.declared.answers.TryAnswer.TheVariants as answer
 use Rattle.fkv_ops.specs.declared.trying.Trying.{Trying}
 use Rattle.fkv_ops.specs.declared.trying.Trying.TheVariants.{Ended, TakesShared, Walks, LoadsSafe, SwapsValue, LoadsCurrent, ChangesValue, LoadsAnswer, TakesExclusive, LoadsOld, Appends, DropsExclusive, DropsShared}
-use Rattle.fkv_ops.specs.Requests.{is_read}
 use Rattle.fkv_ops.specs.Walking.{walk_ask}
 use Rattle.fkv_ops.specs.Appending.{append_ask}
 use Rattle.fkv_ops.specs.Trying.{TryState, trying_ask, try_ask, trying_next, try_next, with_latch, walks}
-use Rattle.fkv_ops.specs.TryRun.{Trial, home_at, trial_begun, try_run, Told, told_by, with_effect, effects_of, reply_told}
+use Rattle.fkv_ops.specs.TryRun.{Trial, trial_begun, try_run, Told, told_by, with_effect, effects_of}
 use Rattle.fkv_ops.specs.Reasons.{latch_place, EachIsTrue}
 use Rattle.fkv_ops.specs.Effects.{EffectsAreOnce, LatchesAreKept, shares_latch}
 use Rattle.fkv_ops.proofs.BoolTests.{both}
 use Rattle.fkv_ops.proofs.Walked.{loads_asks}
-use Rattle.fkv_ops.proofs.TryRows.{norm, shares, Owed, Under, ShareRow, AloneRow, TryRow, told_at, Comes}
+use Rattle.fkv_ops.proofs.TryRows.{norm, Owed, ShareRow, AloneRow, TryRow, told_at, Comes}
 use Rattle.fkv_ops.proofs.TrySteps.{Steps, Quietly, Effectively, owed_then, quieted, walks_true, row_true}
 
 -- what is known of a state, behind these effects

@@ -1,14 +1,13 @@
 -- Each reply leads a try on to a state of which it knows what it has to.
-use Rattle.std.proofs.Common.{◌≡◌, ℕ, ◌+◌, ◌<◌, ◌≤◌, ◌⊎◌, List, [], ◌∷◌, refl, inl, inr, arith, sym, ap, ◌∙◌, subst, Bool, true, false}
-use Rattle.std.specs.Prelude.{◌≢◌, ◌==◌, ◌&&◌, ◌||◌, not, nat_lt, nat_le, if◌then◌else◌, ⊤, Option, Some, None}
+use Rattle.std.proofs.Common.{◌≡◌, ℕ, ◌+◌, ◌<◌, ◌≤◌, [], ◌∷◌, refl, inl, inr, sym, ap, ◌∙◌, subst, Bool, true, false}
+use Rattle.std.specs.Prelude.{◌==◌, ◌&&◌, ◌||◌, not, if◌then◌else◌, Option, Some, None}
 use Rattle.fkv_base.specs.declared.numbers.Addr.{Addr}
-use Rattle.fkv_base.specs.declared.numbers.Version.{Version}
 use Rattle.fkv_words.specs.Fields.{bit_of}
 use Rattle.fkv_map.specs.declared.operations.Reply.{Reply}
 use Rattle.fkv_map.specs.Map.{absent_word}
-use Rattle.fkv_map.specs.Keys.{key_of, reply_from, value_applied}
+use Rattle.fkv_map.specs.Keys.{reply_from, value_applied}
 use Rattle.fkv_plane.specs.declared.asks.Ask.{Ask}
-use Rattle.fkv_plane.specs.declared.asks.Ask.TheVariants.{Load, Swap, Cas, Add, Done}
+use Rattle.fkv_plane.specs.declared.asks.Ask.TheVariants.{Load, Cas, Add, Done}
 use Rattle.fkv_plane.specs.declared.places.RecordWord.TheVariants as rec
 use Rattle.fkv_plane.specs.Places.{record_place}
 use Rattle.fkv_plane.specs.Passing.{passed, is_done}
@@ -27,16 +26,16 @@ use Rattle.fkv_ops.specs.declared.trying.Trying.{Trying}
 use Rattle.fkv_ops.specs.declared.trying.Trying.TheVariants.{Ended, TakesShared, Walks, LoadsSafe, SwapsValue, LoadsCurrent, ChangesValue, LoadsAnswer, TakesExclusive, LoadsOld, Appends, DropsExclusive, DropsShared}
 use Rattle.fkv_ops.specs.declared.walking.WalkAnswer.TheVariants as walk
 use Rattle.fkv_ops.specs.Values.{value_of, word_of}
-use Rattle.fkv_ops.specs.Requests.{is_read, is_blind}
+use Rattle.fkv_ops.specs.Requests.{is_read}
 use Rattle.fkv_ops.specs.Walking.{walk_ask, walk_next}
 use Rattle.fkv_ops.specs.Appending.{append_ask, append_next}
-use Rattle.fkv_ops.specs.Trying.{TryState, trying_ask, is_wait, is_prepare, ends, takes_effect, walks, shared_ledto, current_ledto, value_changed, told_value, answer_ledto, exclusive_ledto, copies_from, old_ledto, append_ledto, exclusive_dropped, shared_dropped, trying_next, words_of}
+use Rattle.fkv_ops.specs.Trying.{TryState, trying_ask, is_wait, is_prepare, ends, takes_effect, walks, shared_ledto, current_ledto, value_changed, told_value, answer_ledto, exclusive_ledto, old_ledto, append_ledto, exclusive_dropped, shared_dropped, trying_next, words_of}
 use Rattle.fkv_ops.specs.TryRun.{Trial, home_at, Told, reply_told}
-use Rattle.fkv_ops.specs.Reasons.{latch_place, Loaded, IsLost, HasSlot, HasFound, HasMetLatch, Held, Quicker, OthersWentOn, ByLatch, MustShift, HasValue, ReadFinds, ReadMisses, Loses, IsTrue}
-use Rattle.fkv_ops.specs.Effects.{MayChange, IsMadeOf, OfRecord, IsLoaded, HasSetBit, shares_latch, HasShared}
+use Rattle.fkv_ops.specs.Reasons.{latch_place, HasSlot, Held, Quicker, OthersWentOn, ByLatch, HasValue, ValueLost, IsTrue}
+use Rattle.fkv_ops.specs.Effects.{MayChange, IsMadeOf, OfRecord, IsLoaded, shares_latch}
 use Rattle.fkv_ops.proofs.BoolTests.{lt_true, lt_false, le_true, le_false, eq_true, eq_false, both}
-use Rattle.fkv_ops.proofs.Walked.{walk_true, walk_begun_true, walk_begun_asks, LoadsRecord, loads_place, loads_value, loads_same}
-use Rattle.fkv_ops.proofs.Appended.{AppendKnows, AppendEnd, append_true, append_answers}
+use Rattle.fkv_ops.proofs.Walked.{walk_true, walk_begun_true, walk_begun_asks, loads_place, loads_value, loads_same}
+use Rattle.fkv_ops.proofs.Appended.{AppendKnows, append_true, append_answers}
 use Rattle.fkv_ops.proofs.TryRows.{norm, shares, Owed, latch_held, owed_at, Under, Updates, ShareRow, AloneRow, OldRow, Alone, TryRow, told_at, Comes, ended_without_true, ends_true, takes_effect_true}
 use Rattle.fkv_ops.proofs.Copied.{appends_true, copies_from_true}
 use Rattle.fkv_ops.proofs.Tried.{quiet_end, full_true, walk_led_true, safe_true}
@@ -140,7 +139,7 @@ alone_true c told t old (latching.LoadsWord place) reply is_current next quiet n
       its_effect = quiet;
       its_told = ap told_at at;
       row = subst (TryRow c told (norm c t)) (sym at)
-      (record { not_alone = not_alone; updates = record { under = updates.under; update = updates.update }; slot = slot; is_current = is_current; its_old = its_old; its_latching = subst (AloneRow c told) (sym its) (row, free) });
+          (record { not_alone = not_alone; updates = record { under = updates.under; update = updates.update }; slot = slot; is_current = is_current; its_old = its_old; its_latching = subst (AloneRow c told) (sym its) (row, free) });
     }
 
     by_word : (b : Bool) → is_free reply ≡ b
@@ -161,7 +160,7 @@ alone_true c told t old (latching.SetsExclusive place word) reply is_current nex
     by_word true e = copies_from_true c told (record t { has_exclusive = true }) old is_current quiet (record { under = updates.under; update = updates.update }) slot its_old
         (λ need. record { word = word; free = row.1; its_cas = subst (told (Cas (latch_place c) word (word + exclusive_bit))) (eq_true reply word e) its_cas })
     by_word false e = owing c told (latch_held t) (record { shares = bit_of t.has_shared; bits = 0 }) (ends c.places (norm c t) (answer.Wait reason.Latch)) none
-        (quiet_end c told t (answer.Wait reason.Latch) quiet updates.under refl (Quicker (record { old = word; new = word + exclusive_bit; found = reply; its_cas = its_cas; another = eq_false reply word e })))
+        (quiet_end c told t (answer.Wait reason.Latch) quiet updates.under refl (Quicker word row.1 (record { found = reply; its_cas = its_cas; another = eq_false reply word e })))
 alone_true c told t old step reply is_current next quiet not_alone at updates slot its_old row was = absurd row
 
 dropped_true : (c : Trial) (told : Told) (t : TryState) (its : TryAnswer) (place reply : ℕ) → IsTrue c told its → t.has_exclusive ≡ false → (is_wait its ≡ true → t.has_shared ≡ shares c)
@@ -191,15 +190,15 @@ old_true : (c : Trial) (told : Told) (t : TryState) (value : ℕ) (is_current : 
 unfolding old_ledto
 old_true c told t value is_current quiet updates slot made_of alone = appends_true c told t value is_current quiet updates slot made_of alone
 
-changed_true : (c : Trial) (told : Told) (t : TryState) (addr : Addr) (old reply : ℕ) → t.effect ≡ None → Updates c told t
+changed_true : (c : Trial) (told : Told) (t : TryState) (addr : Addr) (old reply : ℕ) → t.effect ≡ None → Updates c told t → MayChange c told addr.0
     → told (Cas (record_place c.places addr.0 rec.Value) old (word_of (value_applied (value_of old) c.request.op))) reply → Steps c told (ChangesValue addr old) (latch_held t) (value_changed c.places (norm c t) old reply)
-changed_true c told t addr old reply quiet updates was = by_word (reply == old) refl
+changed_true c told t addr old reply quiet updates may was = by_word (reply == old) refl
   where
     by_word : (b : Bool) → (reply == old) ≡ b
         → Steps c told (ChangesValue addr old) (latch_held t) (if b then takes_effect c.places (norm c t) (reply_from (value_of old) c.request.op) else ends c.places (norm c t) (answer.Wait reason.Contended))
     by_word true e = Effectively (reply_from (value_of old) c.request.op) refl refl (takes_effect_true c told t (reply_from (value_of old) c.request.op) updates)
     by_word false e = Quietly (quiet_end c told t (answer.Wait reason.Contended) quiet updates.under refl
-        (Loses (record { old = old; new = word_of (value_applied (value_of old) c.request.op); found = reply; its_cas = was; another = eq_false reply old e })))
+        (ValueLost old may.found (record { found = reply; its_cas = was; another = eq_false reply old e })))
 
 append_led_true : (c : Trial) (told : Told) (t : TryState) (its : Reply) (place entry : ℕ) (old : Option ℕ) (is_current : Bool) (last : Appending) (ask : Ask AppendAnswer) → t.effect ≡ None → t.step ≡ Appends its → Updates c told t
     → its ≡ reply_from old c.request.op → IsMadeOf c told place entry old is_current → Alone c told is_current
@@ -255,7 +254,7 @@ row_true c told t (SwapsValue addr) reply at row was =
 row_true c told t (LoadsCurrent addr) reply at row was =
     Quietly (subst (λ ask. Comes c told None [] (latch_held t) (current_ledto c.places (norm c (record t { effect = None; walk = walk_next c.places t.walk reply })) addr ask)) (sym (loads_value c.places t.walk addr reply row.2))
     (current_true c told (record t { effect = None; walk = walk_next c.places t.walk reply }) addr reply refl (record { under = row.0.under; update = row.0.update }) row.1))
-row_true c told t (ChangesValue addr old) reply at row was = changed_true c told (record t { effect = None }) addr old reply refl (record { under = row.0.under; update = row.0.update }) was
+row_true c told t (ChangesValue addr old) reply at row was = changed_true c told (record t { effect = None }) addr old reply refl (record { under = row.0.under; update = row.0.update }) row.1 was
 row_true c told t LoadsAnswer reply at row was =
     Quietly (subst (λ ask. Comes c told None [] (latch_held t) (answer_ledto c.places (norm c (record t { effect = None; walk = walk_next c.places t.walk reply })) ask)) (sym (loads_value c.places t.walk row.addr reply row.loads))
     (answer_true c told (record t { effect = None; walk = walk_next c.places t.walk reply }) reply refl row.under row.reads

@@ -1,8 +1,7 @@
 -- What a walk knows at each of its steps, up to where it ends or has found the record.
-use Rattle.std.proofs.Common.{◌≡◌, ℕ, ◌+◌, ◌-◌, ◌<◌, ◌≤◌, ◌⊎◌, refl, inl, inr, arith, sym, ap, ◌∙◌, subst, Bool, true, false}
-use Rattle.std.specs.Prelude.{◌≢◌, ◌==◌, ◌&&◌, nat_lt, nat_le, if◌then◌else◌, ⊤, Option, Some, None}
+use Rattle.std.proofs.Common.{◌≡◌, ℕ, ◌-◌, ◌<◌, ◌≤◌, ◌⊎◌, refl, inl, inr, arith, sym, ap, ◌∙◌, subst, Bool, true, false}
+use Rattle.std.specs.Prelude.{◌==◌, nat_lt, if◌then◌else◌, ⊤, Option, Some, None}
 use Rattle.fkv_base.specs.declared.numbers.Addr.{Addr}
-use Rattle.fkv_base.specs.declared.numbers.Key.{Key}
 use Rattle.fkv_base.specs.declared.numbers.Version.{Version}
 use Rattle.fkv_map.specs.Keys.{key_of}
 use Rattle.fkv_plane.specs.declared.asks.Ask.{Ask}
@@ -11,8 +10,6 @@ use Rattle.fkv_plane.specs.declared.places.Places.{Places}
 use Rattle.fkv_plane.specs.declared.places.RecordWord.TheVariants as rec
 use Rattle.fkv_plane.specs.Places.{record_place}
 use Rattle.fkv_plane.specs.Passing.{passed, is_done}
-use Rattle.fkv_log.specs.declared.loading.LoadAnswer.{LoadAnswer}
-use Rattle.fkv_log.specs.declared.loading.LoadAnswer.TheVariants as load
 use Rattle.fkv_log.specs.declared.loading.Loading.{Loading}
 use Rattle.fkv_log.specs.declared.loading.Loading.TheVariants.{LoadsHeader, LoadsKey, HasKey, LoadsValue as LoadsItsValue}
 use Rattle.fkv_log.specs.Loading.{load_ask, load_next, load_next_ask, load_on}
@@ -20,9 +17,8 @@ use Rattle.fkv_index.specs.declared.finding.Found.{Found}
 use Rattle.fkv_index.specs.declared.finding.Found.TheVariants as found
 use Rattle.fkv_index.specs.declared.finding.FindAnswer.{FindAnswer}
 use Rattle.fkv_index.specs.Slots.{entry_addr}
-use Rattle.fkv_index.specs.Finding.{find_step_ask, find_ask, find_next, find_next_ask, first_finding}
+use Rattle.fkv_index.specs.Finding.{find_step_ask, find_next, find_next_ask}
 use Rattle.fkv_ops.specs.declared.answers.TryAnswer.TheVariants as answer
-use Rattle.fkv_ops.specs.declared.header_words.HeaderSaid.{HeaderSaid}
 use Rattle.fkv_ops.specs.declared.header_words.HeaderSaid.TheVariants.{Says, Spoiled}
 use Rattle.fkv_ops.specs.declared.walking.WalkAnswer.{WalkAnswer}
 use Rattle.fkv_ops.specs.declared.walking.WalkAnswer.TheVariants as walk
@@ -32,8 +28,8 @@ use Rattle.fkv_ops.specs.HeaderWords.{previous_in, version_in, is_header, header
 use Rattle.fkv_ops.specs.Requests.{is_read, purpose_of}
 use Rattle.fkv_ops.specs.Walking.{WalkState, walk_begun, walking_ask, walk_ask, reached, slot_found, find_ledto, first_met, record_met, load_ledto, value_ledto, walking_next, walk_next, walking_on, walk_on}
 use Rattle.fkv_ops.specs.TryRun.{Trial, home_at, Told}
-use Rattle.fkv_ops.specs.Reasons.{Loaded, HasSlot, HasEnd, IsIndexFull, Reaches, AtEntry, Behind, WalksTo, HasFound, LeavesMemory, HasNone, AtItsEnd, WithoutSlot, IsContended, NoStore, NoHeader, NotBelow, PastRing}
-use Rattle.fkv_ops.proofs.BoolTests.{lt_true, lt_false, eq_true, eq_false, some_where}
+use Rattle.fkv_ops.specs.Reasons.{Loaded, HasSlot, HasEnd, IsIndexFull, AtEntry, Behind, WalksTo, HasFound, LeavesMemory, IsContended, NoStore, NoHeader, NotBelow, PastRing}
+use Rattle.fkv_ops.proofs.BoolTests.{lt_true, lt_false, eq_true, some_where}
 use Rattle.fkv_ops.proofs.Searched.{Searches, Leads, FindsTrue, search_true, search_begun, search_asks}
 
 -- the version of the chain's first record

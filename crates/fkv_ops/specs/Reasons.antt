@@ -1,10 +1,7 @@
 -- What a try's answer says, by what the try asked and was replied, and by no state of its machine.
-use Rattle.std.specs.Prelude.{◌≡◌, ◌≢◌, ℕ, ◌+◌, ◌-◌, ◌^◌, ◌<◌, ◌≤◌, ◌⊎◌, ◌==◌, ◌&&◌, ◌||◌, not, Bool, true, false, MatchBool, List, Option, Some, None, ⊤}
-use Rattle.fkv_base.specs.declared.numbers.Addr.{Addr}
-use Rattle.fkv_base.specs.declared.numbers.Value.{Value}
+use Rattle.std.specs.Prelude.{◌≡◌, ◌≢◌, ℕ, ◌+◌, ◌^◌, ◌<◌, ◌≤◌, ◌⊎◌, Bool, true, false, List, Some}
 use Rattle.fkv_map.specs.Map.{absent_word}
-use Rattle.fkv_map.specs.Keys.{key_of}
-use Rattle.fkv_plane.specs.declared.asks.Ask.{Ask}
+use Rattle.fkv_map.specs.Keys.{key_of, value_applied}
 use Rattle.fkv_plane.specs.declared.asks.Ask.TheVariants.{Load, Cas, Add, Done}
 use Rattle.fkv_plane.specs.declared.places.SharedWord.TheVariants as one
 use Rattle.fkv_plane.specs.declared.places.RecordWord.TheVariants as rec
@@ -18,6 +15,7 @@ use Rattle.fkv_ops.specs.declared.answers.TryAnswer.{TryAnswer}
 use Rattle.fkv_ops.specs.declared.answers.TryAnswer.TheVariants as answer
 use Rattle.fkv_ops.specs.declared.requests.HeldRecord.{HeldRecord}
 use Rattle.fkv_ops.specs.declared.requests.Occasion.TheVariants.{Call, Poll}
+use Rattle.fkv_ops.specs.Values.{value_of, word_of}
 use Rattle.fkv_ops.specs.Requests.{is_read, is_blind}
 use Rattle.fkv_ops.specs.HeaderWords.{previous_in, version_in, is_header}
 use Rattle.fkv_ops.specs.Trying.{is_prepare, TryState, try_ask}
@@ -34,9 +32,7 @@ Loaded told place word = told (Load place) word
 abbrev pub Won : Told → ℕ → ℕ → ℕ → Type 0
 Won told place old new = told (Cas place old new) old
 
-pub record IsLost (told : Told) (place : ℕ) : Type 0 where
-  pub old : ℕ
-  pub new : ℕ
+pub record IsLost (told : Told) (place old new : ℕ) : Type 0 where
   pub found : ℕ
   pub its_cas : told (Cas place old new) found
   pub another : found ≢ old
@@ -136,7 +132,7 @@ pub data IsOnDisk (c : Trial) (told : Told) (it : DiskRecord) : Type 0 where
 -- bit 63 or a count was met, or the Cas was lost
 pub data HasMetLatch (c : Trial) (told : Told) : Type 0 where
   Held : (word : ℕ) → Loaded told (latch_place c) word → one_share ≤ word → HasMetLatch c told
-  Quicker : IsLost told (latch_place c) → HasMetLatch c told
+  Quicker : (word : ℕ) → word < one_share → IsLost told (latch_place c) word (word + exclusive_bit) → HasMetLatch c told
 
 -- no limit was above the tail
 pub record HasNoRoom (told : Told) (tail : ℕ) : Type 0 where
@@ -193,9 +189,15 @@ pub data IsSpoiled (c : Trial) (told : Told) : Type 0 where
   PastRing : {place entry addr : ℕ} → WalksTo c told place entry addr → c.seen.offsets.head.0 + c.places.ring ≤ addr → IsSpoiled c told
   NoAddress : {place entry addr : ℕ} → HasSlot c told place entry → Won told (shared_place one.Tail) addr (addr + 1) → (addr ≤ entry_addr entry) ⊎ (2 ^ 48 ≤ addr) → IsSpoiled c told
 
--- a Cas was lost, others have filled the bucket that the try linked, or a reply is none that a store gives
+-- A Cas was lost: of the count of taken overflow buckets, of a link, of the tail, of the entry, or of the value that was to be changed in place.
+-- Or others have filled the bucket that the try linked, or a reply is none that a store gives.
 pub data IsContended (c : Trial) (told : Told) : Type 0 where
-  Loses : {place : ℕ} → IsLost told place → IsContended c told
+  CountLost : (taken : ℕ) → IsLost told (shared_place one.Taken) taken (taken + 1) → IsContended c told
+  LinkLost : {links : ℕ} {own : Bool} {base : ℕ} (word number : ℕ) → ComesTo c told links own base → number ≤ c.places.overflow → IsLost told (base + bucket_slots) word (word + number) → IsContended c told
+  TailLost : (tail : ℕ) → IsLost told (shared_place one.Tail) tail (tail + 1) → IsContended c told
+  EntryLost : {place entry : ℕ} (new : ℕ) → HasSlot c told place entry → IsLost told place entry new → IsContended c told
+  ValueLost : {place entry addr : ℕ} (old : ℕ) → HasFound c told place entry addr c.request.version.0 → IsLost told (record_place c.places addr rec.Value) old (word_of (value_applied (value_of old) c.request.op))
+      → IsContended c told
   OwnIsFull : HasEnd c told true → IsContended c told
   NoStore : IsSpoiled c told → IsContended c told
 
