@@ -34,7 +34,7 @@ use Rattle.fkv_ops.specs.declared.appending.Appending.{Appending}
 use Rattle.fkv_ops.specs.declared.appending.Appending.TheVariants.{Ended, Reserves, Fills, Publishes, Invalidates}
 use Rattle.fkv_ops.specs.Appending.{AppendState, append_begun, appending_ask, append_ask, addr_reserved, reserve_ledto, fill_ledto, publish_ledto, invalidate_ledto, appending_next, append_next}
 use Rattle.fkv_ops.specs.TryRun.{Trial, Told}
-use Rattle.fkv_ops.specs.Reasons.{Loaded, Won, IsLost, HasSlot, HasNoRoom, IsContended, TailLost, EntryLost, NoStore, NoAddress}
+use Rattle.fkv_ops.specs.Reasons.{Loaded, Won, IsLost, HasEntry, HasNoRoom, IsContended, TailLost, EntryLost, NoStore, NoAddress}
 use Rattle.fkv_ops.specs.Effects.{IsStored}
 use Rattle.fkv_ops.proofs.BoolTests.{lt_true, lt_false, eq_true, eq_false}
 
@@ -83,7 +83,7 @@ AppendRow c told slot words last a Invalidates = ((new : ℕ) × IsLost told slo
 pub record AppendKnows (c : Trial) (told : Told) (slot : FoundSlot) (words : RecordWords) (last : Appending) (a : AppendState) : Type 0 where
   pub its_slot : a.slot ≡ slot
   pub its_words : a.its_words ≡ words
-  pub has_slot : HasSlot c told slot.place slot.entry
+  pub has_slot : HasEntry c told slot.place slot.entry
   pub previous : words.header.previous.0 ≡ entry_addr slot.entry
   pub its_row : AppendRow c told slot words last a a.step
 
@@ -91,7 +91,7 @@ pub record AppendKnows (c : Trial) (told : Told) (slot : FoundSlot) (words : Rec
 record Works (c : Trial) (told : Told) (slot : FoundSlot) (words : RecordWords) (a : AppendState) : Type 0 where
   its_slot : a.slot ≡ slot
   its_words : a.its_words ≡ words
-  has_slot : HasSlot c told slot.place slot.entry
+  has_slot : HasEntry c told slot.place slot.entry
   previous : words.header.previous.0 ≡ entry_addr slot.entry
 
 with_row : (c : Trial) (told : Told) (slot : FoundSlot) (words : RecordWords) (last : Appending) (a : AppendState) → Works c told slot words a → AppendRow c told slot words last a a.step → AppendKnows c told slot words last a
@@ -241,7 +241,7 @@ append_true c told slot words last a reply knows asks was =
     append_row_true c told slot words last a a.step reply refl (record { its_slot = knows.its_slot; its_words = knows.its_words; has_slot = knows.has_slot; previous = knows.previous }) knows.its_row asks was
 
 -- as it begins, it asks
-pub append_begun_true : (c : Trial) (told : Told) (last : Appending) (a : AppendState) (slot : FoundSlot) (words : RecordWords) → HasSlot c told slot.place slot.entry → words.header.previous.0 ≡ entry_addr slot.entry
+pub append_begun_true : (c : Trial) (told : Told) (last : Appending) (a : AppendState) (slot : FoundSlot) (words : RecordWords) → HasEntry c told slot.place slot.entry → words.header.previous.0 ≡ entry_addr slot.entry
     → AppendKnows c told slot words last (append_begun a slot words)
 append_begun_true c told last a slot words has_slot previous = record { its_slot = refl; its_words = refl; has_slot = has_slot; previous = previous; its_row = tt }
 

@@ -12,13 +12,13 @@ use Rattle.fkv_ops.specs.Requests.{is_blind}
 use Rattle.fkv_ops.specs.Walking.{walk_on}
 use Rattle.fkv_ops.specs.Trying.{TryState, with_latch, appends, copies_from, copies, slot_of, words_of}
 use Rattle.fkv_ops.specs.TryRun.{Trial, Told}
-use Rattle.fkv_ops.specs.Reasons.{HasSlot}
+use Rattle.fkv_ops.specs.Reasons.{HasEntry}
 use Rattle.fkv_ops.specs.Effects.{IsMadeOf, OfRecord, CountsNot, needs_exclusive}
 use Rattle.fkv_ops.proofs.Walked.{walk_on_loads, walk_on_found}
 use Rattle.fkv_ops.proofs.Appended.{append_begun_true, append_begun_asks}
 use Rattle.fkv_ops.proofs.TryRows.{norm, latch_held, Updates, OldRow, CopyRow, Alone, Comes}
 
-pub appends_true : (c : Trial) (told : Told) (t : TryState) (old : ℕ) (is_current : Bool) → t.effect ≡ None → Updates c told t → HasSlot c told t.walk.place t.walk.entry → IsMadeOf c told t.walk.place t.walk.entry (value_of old) is_current
+pub appends_true : (c : Trial) (told : Told) (t : TryState) (old : ℕ) (is_current : Bool) → t.effect ≡ None → Updates c told t → HasEntry c told t.walk.place t.walk.entry → IsMadeOf c told t.walk.place t.walk.entry (value_of old) is_current
     → Alone c told is_current → Comes c told None [] (latch_held t) (appends (norm c t) old)
 unfolding appends
 appends_true c told t old is_current quiet updates slot made_of alone = record {
@@ -41,7 +41,7 @@ appends_true c told t old is_current quiet updates slot made_of alone = record {
   };
 }
 
-copies_memory_true : (c : Trial) (told : Told) (t : TryState) (is_current : Bool) → t.effect ≡ None → Updates c told t → HasSlot c told t.walk.place t.walk.entry → CopyRow c told t.walk is_current → Alone c told is_current
+copies_memory_true : (c : Trial) (told : Told) (t : TryState) (is_current : Bool) → t.effect ≡ None → Updates c told t → HasEntry c told t.walk.place t.walk.entry → CopyRow c told t.walk is_current → Alone c told is_current
     → Comes c told None [] (latch_held t) (copies_from (norm c t) InMemory)
 unfolding copies_from
 copies_memory_true c told t is_current quiet updates slot copy alone = by_blind (is_blind c.request.op) refl
@@ -65,13 +65,13 @@ copies_memory_true c told t is_current quiet updates slot copy alone = by_blind 
       };
     }
 
-pub copies_from_true : (c : Trial) (told : Told) (t : TryState) (old : OldValue) (is_current : Bool) → t.effect ≡ None → Updates c told t → HasSlot c told t.walk.place t.walk.entry → OldRow c told t.walk old is_current → Alone c told is_current
+pub copies_from_true : (c : Trial) (told : Told) (t : TryState) (old : OldValue) (is_current : Bool) → t.effect ≡ None → Updates c told t → HasEntry c told t.walk.place t.walk.entry → OldRow c told t.walk old is_current → Alone c told is_current
     → Comes c told None [] (latch_held t) (copies_from (norm c t) old)
 unfolding copies_from
 copies_from_true c told t (Known old) is_current quiet updates slot made_of alone = appends_true c told t old is_current quiet updates slot made_of alone
 copies_from_true c told t InMemory is_current quiet updates slot copy alone = copies_memory_true c told t is_current quiet updates slot copy alone
 
-pub copies_true : (c : Trial) (told : Told) (t : TryState) (old : OldValue) (is_current : Bool) → t.effect ≡ None → t.has_exclusive ≡ false → Updates c told t → HasSlot c told t.walk.place t.walk.entry → OldRow c told t.walk old is_current
+pub copies_true : (c : Trial) (told : Told) (t : TryState) (old : OldValue) (is_current : Bool) → t.effect ≡ None → t.has_exclusive ≡ false → Updates c told t → HasEntry c told t.walk.place t.walk.entry → OldRow c told t.walk old is_current
     → Comes c told None [] (latch_held t) (copies c.places (norm c t) old is_current)
 unfolding copies
 copies_true c told t old is_current quiet not_alone updates slot its_old = by_need (needs_exclusive c is_current) refl

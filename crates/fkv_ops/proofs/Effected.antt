@@ -37,7 +37,7 @@ use Rattle.fkv_ops.specs.Requests.{is_blind}
 use Rattle.fkv_ops.specs.Appending.{AppendState, appending_ask, append_ask, publish_ledto, appending_next, append_next}
 use Rattle.fkv_ops.specs.Trying.{TryState, trying_ask, try_ask, trying_next, is_wait, with_latch, walks, ends, ended_without, takes_effect, full_at, value_changed, append_ledto, words_of}
 use Rattle.fkv_ops.specs.TryRun.{Trial, home_at, trial_begun, try_run, Told, told_by, effects_of}
-use Rattle.fkv_ops.specs.Reasons.{latch_place, HasSlot}
+use Rattle.fkv_ops.specs.Reasons.{latch_place, HasEntry}
 use Rattle.fkv_ops.specs.Effects.{IsStored, MayChange, IsMadeOf, IsPublished, IsEffect, BySwap, ByChange, ByRecord, EffectsAreTrue, shares_latch, SharesFirst, needs_exclusive, HasSetBit}
 use Rattle.fkv_ops.proofs.BoolTests.{eq_true}
 use Rattle.fkv_ops.proofs.Appended.{IsReserved, IsFilled, is_publishing, AppendRow, AppendKnows, append_true, append_answers}
@@ -147,7 +147,7 @@ plain : (x y : ℕ) → x + y + bit_of false * 2 ^ 62 ≡ x + y
 plain x y = omega arith
 
 published_effect : (c : Trial) (told : Told) (place entry : ℕ) (old : Option ℕ) (is_current : Bool) (ask : Ask TryAnswer) (reply : ℕ) (its : Reply)
-    → PublishedBy c told (record { place = place; entry = entry; tag = (home_at c).tag }) (words_of c.request entry old) ask reply → HasSlot c told place entry → IsMadeOf c told place entry old is_current
+    → PublishedBy c told (record { place = place; entry = entry; tag = (home_at c).tag }) (words_of c.request entry old) ask reply → HasEntry c told place entry → IsMadeOf c told place entry old is_current
     → (needs_exclusive c is_current ≡ true → HasSetBit c told) → its ≡ reply_from old c.request.op → IsEffect c told ask reply its
 published_effect c told place entry old is_current ask reply its by slot made_of alone told_so = ByRecord (subst (λ r. IsPublished c told ask r its) (sym by.won) (record {
   place = place;

@@ -1,5 +1,5 @@
 -- What a search knows at each of its steps, and what it has found at its end.
-use Rattle.std.proofs.Common.{◌≡◌, ℕ, ◌+◌, ◌<◌, ◌≤◌, refl, arith, sym, ap, ◌∙◌, subst, Bool, true, false}
+use Rattle.std.proofs.Common.{◌≡◌, ℕ, ◌+◌, ◌<◌, ◌≤◌, refl, inl, inr, arith, sym, ap, ◌∙◌, subst, Bool, true, false}
 use Rattle.std.specs.Prelude.{◌==◌, nat_lt, nat_le, if◌then◌else◌, ⊤}
 use Rattle.fkv_plane.specs.declared.asks.Ask.{Ask}
 use Rattle.fkv_plane.specs.declared.asks.Ask.TheVariants.{Cas, Done}
@@ -8,6 +8,7 @@ use Rattle.fkv_plane.specs.Places.{shared_place, bucket_place, overflow_place}
 use Rattle.fkv_plane.specs.Passing.{passed, is_done}
 use Rattle.fkv_map.specs.declared.operations.Op.{Op}
 use Rattle.fkv_map.specs.declared.operations.Op.TheVariants.{Upsert, Delete, Add, Max, Read}
+use Rattle.fkv_index.specs.declared.homes.Home.{Home}
 use Rattle.fkv_index.specs.declared.finding.Linking.{Linking}
 use Rattle.fkv_index.specs.declared.finding.Linking.TheVariants.{Never, Once, Made}
 use Rattle.fkv_index.specs.declared.finding.Found.{Found}
@@ -22,7 +23,7 @@ use Rattle.fkv_ops.specs.declared.walking.WalkAnswer.TheVariants as walk
 use Rattle.fkv_ops.specs.declared.answers.TryAnswer.TheVariants as answer
 use Rattle.fkv_ops.specs.Requests.{is_read, purpose_of}
 use Rattle.fkv_ops.specs.TryRun.{Trial, home_at, Told}
-use Rattle.fkv_ops.specs.Reasons.{Loaded, Won, ComesTo, AtHome, ByLink, ByOwn, HasSlot, HasEnd, IsIndexFull, NoSlot as SlotSpoiled, NoBucket, TooMany, IsContended, CountLost, LinkLost, OwnIsFull, NoStore}
+use Rattle.fkv_ops.specs.Reasons.{Loaded, Won, ComesTo, AtHome, ByLink, ByOwn, HasSlot, HasEntry, HasEnd, IsIndexFull, NoSlot as SlotSpoiled, NoBucket, TooMany, IsContended, CountLost, LinkLost, OwnIsFull, NoStore}
 use Rattle.fkv_ops.proofs.BoolTests.{lt_true, lt_false, le_true, le_false, eq_true, eq_false}
 
 abbrev is_made : Linking → Bool
@@ -34,15 +35,16 @@ is_never Never = true
 is_never linking = false
 
 -- the bucket that the search is in, and how many links it may still follow
-pub record Stands (c : Trial) (told : Told) (base left : ℕ) (linking : Linking) (spare : ℕ) : Type 0 where
+pub record Stands (c : Trial) (told : Told) (home : Home) (base left : ℕ) (linking : Linking) (spare : ℕ) : Type 0 where
   pub links : ℕ
   pub its_bucket : ComesTo c told links (is_made linking) base
+  pub its_home : home ≡ home_at c
   pub counted : left + links ≡ c.places.overflow
   pub few : spare ≤ c.places.overflow
   pub reads : is_never linking ≡ is_read c.request.op
 
 abbrev pub StandsAt : Trial → Told → Finding → Type 0
-StandsAt c told f = Stands c told f.base f.links f.linking f.spare
+StandsAt c told f = Stands c told f.home f.base f.links f.linking f.spare
 
 -- the bucket's eighth word leads nowhere, and the search may still link one
 pub record MayLink (c : Trial) (told : Told) (base : ℕ) (linking : Linking) (word : ℕ) : Type 0 where
@@ -63,7 +65,7 @@ Searches c told f = StandsAt c told f × SearchStep c told f f.step
 
 -- what was found
 abbrev pub FindsTrue : Trial → Told → Found → Type 0
-FindsTrue c told (Slot place word) = HasSlot c told place word
+FindsTrue c told (Slot place word) = HasEntry c told place word
 FindsTrue c told NoSlot = (is_read c.request.op ≡ true) × HasEnd c told false
 FindsTrue c told Full = IsIndexFull c told
 FindsTrue c told Contended = IsContended c told
@@ -88,7 +90,7 @@ slot_true c told f slot reply stands few its_word = by_zero (reply == 0) refl
 
     by_tag : (b : Bool) → (entry_tag reply == f.home.tag) ≡ b → is_entry reply ≡ true → (reply == 0) ≡ false
         → Leads c told (led_ask (slot_led f slot reply (slot_word reply))) (led_to (slot_led f slot reply (slot_word reply)))
-    by_tag true e entry some = rw (some, entry, e) has
+    by_tag true e entry some = rw (some, entry, e) (record { its_slot = has; its_tag = inr (eq_true (entry_tag reply) f.home.tag e ∙ ap (λ h. h.tag) stands.its_home) })
     by_tag false e entry some = rw (some, entry, e) (goes_on (nat_lt (slot + 1) bucket_slots) refl)
 
     by_entry : (b : Bool) → is_entry reply ≡ b → (reply == 0) ≡ false → Leads c told (led_ask (slot_led f slot reply (slot_word reply))) (led_to (slot_led f slot reply (slot_word reply)))
@@ -96,18 +98,18 @@ slot_true c told f slot reply stands few its_word = by_zero (reply == 0) refl
     by_entry false e some = rw (some, e) (NoStore (SlotSpoiled has (eq_false reply 0 some) e))
 
     by_zero : (b : Bool) → (reply == 0) ≡ b → Leads c told (led_ask (slot_led f slot reply (slot_word reply))) (led_to (slot_led f slot reply (slot_word reply)))
-    by_zero true e = rw e (subst (HasSlot c told (f.base + slot)) (eq_true reply 0 e) has)
+    by_zero true e = rw e (record { its_slot = subst (HasSlot c told (f.base + slot)) (eq_true reply 0 e) has; its_tag = inl refl })
     by_zero false e = by_entry (is_entry reply) refl e
 
 -- from one bucket on to the next, by a link of either kind
-entered_true : (c : Trial) (told : Told) (f : Finding) (links number : ℕ) → ComesTo c told (links + 1) (is_made f.linking) (overflow_place c.places number 0) → f.links + links ≡ c.places.overflow
+entered_true : (c : Trial) (told : Told) (f : Finding) (links number : ℕ) → f.home ≡ home_at c → ComesTo c told (links + 1) (is_made f.linking) (overflow_place c.places number 0) → f.links + links ≡ c.places.overflow
     → f.spare ≤ c.places.overflow → is_never f.linking ≡ is_read c.request.op → (c.places.overflow < number → IsContended c told)
     → Leads c told (led_ask (entered c.places f number)) (led_to (entered c.places f number))
 unfolding find_step_ask
-entered_true c told f links number comes counted few reads high = by_links (nat_lt 0 f.links) (nat_le number c.places.overflow) refl refl
+entered_true c told f links number home comes counted few reads high = by_links (nat_lt 0 f.links) (nat_le number c.places.overflow) refl refl
   where
     by_links : (a b : Bool) → nat_lt 0 f.links ≡ a → nat_le number c.places.overflow ≡ b → Leads c told (led_ask (entered c.places f number)) (led_to (entered c.places f number))
-    by_links true true d e = let some = lt_true 0 f.links d in rw (d, e) (record { links = links + 1; its_bucket = comes; counted = omega (arith, some, counted); few = few; reads = reads }, omega arith)
+    by_links true true d e = let some = lt_true 0 f.links d in rw (d, e) (record { links = links + 1; its_bucket = comes; its_home = home; counted = omega (arith, some, counted); few = few; reads = reads }, omega arith)
     by_links true false d e = rw (d, e) (high (le_false number c.places.overflow e))
     by_links false b d e = let none = lt_false 0 f.links d in rw d (NoStore (TooMany comes (omega (arith, none, counted))))
 
@@ -127,7 +129,7 @@ link_true c told f reply stands its_word = by_link (link_of reply == 0) refl
 
     by_link : (b : Bool) → (link_of reply == 0) ≡ b → Leads c told (led_ask (link_led c.places f reply)) (led_to (link_led c.places f reply))
     by_link true e = rw e (ends f.linking refl (eq_true (link_of reply) 0 e))
-    by_link false e = rw e (entered_true c told f stands.links (link_of reply) (ByLink reply stands.its_bucket its_word) stands.counted stands.few stands.reads (λ high. NoStore (NoBucket stands.its_bucket its_word high)))
+    by_link false e = rw e (entered_true c told f stands.links (link_of reply) stands.its_home (ByLink reply stands.its_bucket its_word) stands.counted stands.few stands.reads (λ high. NoStore (NoBucket stands.its_bucket its_word high)))
 
 unmade : (linking : Linking) → linking ≡ Once → is_made linking ≡ false
 unmade Never e = refl
@@ -153,7 +155,7 @@ unfolding find_step_ask
 took_true c told f word taken reply stands may few its_cas = by_count (reply == taken) refl
   where
     by_count : (b : Bool) → (reply == taken) ≡ b → Leads c told (led_ask (took_led f word taken reply)) (led_to (took_led f word taken reply))
-    by_count true e = rw e (record { links = stands.links; its_bucket = stands.its_bucket; counted = stands.counted; few = omega (arith, few); reads = stands.reads }, may)
+    by_count true e = rw e (record { links = stands.links; its_bucket = stands.its_bucket; its_home = stands.its_home; counted = stands.counted; few = omega (arith, few); reads = stands.reads }, may)
     by_count false e = rw e (CountLost taken (record { found = reply; its_cas = its_cas; another = eq_false reply taken e }))
 
 once_reads : (linking : Linking) → linking ≡ Once → is_never linking ≡ false
@@ -170,7 +172,7 @@ linked_true c told f word reply stands may its_cas = by_word (reply == word) ref
     by_word true e =
         let won : Won told (f.base + bucket_slots) word (word + f.spare) = subst (told (Cas (f.base + bucket_slots) word (word + f.spare))) (eq_true reply word e) its_cas in
         let few = stands.few in
-        rw e (entered_true c told (record f { linking = Made; spare = 0 }) stands.links f.spare (ByOwn word f.spare stands.its_bucket won) stands.counted (omega arith) (sym (once_reads f.linking may.once) ∙ stands.reads)
+        rw e (entered_true c told (record f { linking = Made; spare = 0 }) stands.links f.spare stands.its_home (ByOwn word f.spare stands.its_bucket won) stands.counted (omega arith) (sym (once_reads f.linking may.once) ∙ stands.reads)
         (λ high. absurd (omega (arith, high, few))))
     by_word false e = rw e (LinkLost word f.spare stands.its_bucket stands.few (record { found = reply; its_cas = its_cas; another = eq_false reply word e }))
 
@@ -212,6 +214,7 @@ search_begun c told spare = (
   record {
     links = 0;
     its_bucket = subst (λ b. ComesTo c told 0 b (bucket_place c.places (home_at c).bucket 0)) (sym (none_made c.request.op)) AtHome;
+    its_home = refl;
     counted = omega arith;
     few = spare_few c spare;
     reads = reads_so c.request.op;

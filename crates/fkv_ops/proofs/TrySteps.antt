@@ -31,7 +31,7 @@ use Rattle.fkv_ops.specs.Walking.{walk_ask, walk_next}
 use Rattle.fkv_ops.specs.Appending.{append_ask, append_next}
 use Rattle.fkv_ops.specs.Trying.{TryState, trying_ask, is_wait, is_prepare, ends, takes_effect, walks, shared_ledto, current_ledto, value_changed, told_value, answer_ledto, exclusive_ledto, old_ledto, append_ledto, exclusive_dropped, shared_dropped, trying_next, words_of}
 use Rattle.fkv_ops.specs.TryRun.{Trial, home_at, Told, reply_told}
-use Rattle.fkv_ops.specs.Reasons.{latch_place, HasSlot, Held, Quicker, OthersWentOn, ByLatch, HasValue, ValueLost, IsTrue}
+use Rattle.fkv_ops.specs.Reasons.{latch_place, HasEntry, Held, Quicker, OthersWentOn, ByLatch, HasValue, ValueLost, IsTrue}
 use Rattle.fkv_ops.specs.Effects.{MayChange, IsMadeOf, OfRecord, IsLoaded, shares_latch}
 use Rattle.fkv_ops.proofs.BoolTests.{lt_true, lt_false, le_true, le_false, eq_true, eq_false, both}
 use Rattle.fkv_ops.proofs.Walked.{walk_true, walk_begun_true, walk_begun_asks, loads_place, loads_value, loads_same}
@@ -124,7 +124,7 @@ shared_true c told t (latching.GivesBack place) reply next quiet not_alone not_s
 shared_true c told t step reply next quiet not_alone not_shared at wants has_none row was = absurd row
 
 alone_true : (c : Trial) (told : Told) (t : TryState) (old : OldValue) (step : Latching) (reply : ℕ) (is_current : Bool) → t.latching ≡ latch_next step reply → t.effect ≡ None → t.has_exclusive ≡ false → t.step ≡ TakesExclusive old
-    → Updates c told t → HasSlot c told t.walk.place t.walk.entry → OldRow c told t.walk old is_current → AloneRow c told step → told (passed (latch_ask step) answer.Shift) reply
+    → Updates c told t → HasEntry c told t.walk.place t.walk.entry → OldRow c told t.walk old is_current → AloneRow c told step → told (passed (latch_ask step) answer.Shift) reply
     → Comes c told None [] (record { shares = bit_of t.has_shared; bits = taken_by step reply }) (exclusive_ledto c.places (norm c t) old (latch_next_ask step reply))
 unfolding exclusive_ledto latch_ask latch_next latch_next_ask passed
 alone_true c told t old (latching.LoadsWord place) reply is_current next quiet not_alone at updates slot its_old row was = by_word (is_free reply) refl
@@ -185,7 +185,7 @@ answer_true c told t value quiet under reads has = by_word (value == absent_word
     by_word true e = quiet_end c told t answer.Absent quiet under refl (record { reads = reads; none = inl (subst (HasValue c told) (eq_true value absent_word e) has) })
     by_word false e = quiet_end c told t (answer.Found (record { 0 = value })) quiet under refl (record { reads = reads; its_value = has; present = eq_false value absent_word e })
 
-old_true : (c : Trial) (told : Told) (t : TryState) (value : ℕ) (is_current : Bool) → t.effect ≡ None → Updates c told t → HasSlot c told t.walk.place t.walk.entry → IsMadeOf c told t.walk.place t.walk.entry (value_of value) is_current → Alone c told is_current
+old_true : (c : Trial) (told : Told) (t : TryState) (value : ℕ) (is_current : Bool) → t.effect ≡ None → Updates c told t → HasEntry c told t.walk.place t.walk.entry → IsMadeOf c told t.walk.place t.walk.entry (value_of value) is_current → Alone c told is_current
     → Comes c told None [] (latch_held t) (old_ledto c.places (norm c t) (Done (walk.Value value)))
 unfolding old_ledto
 old_true c told t value is_current quiet updates slot made_of alone = appends_true c told t value is_current quiet updates slot made_of alone
@@ -264,7 +264,7 @@ row_true c told t (TakesExclusive old) reply at row was =
 row_true c told t LoadsOld reply at row was =
     Quietly (subst (λ ask. Comes c told None [] (latch_held t) (old_ledto c.places (norm c (record t { effect = None; walk = walk_next c.places t.walk reply })) ask)) (sym (loads_value c.places t.walk row.addr reply row.loads))
     (old_true c told (record t { effect = None; walk = walk_next c.places t.walk reply }) reply (row.version == c.request.version.0) refl (record { under = row.updates.under; update = row.updates.update })
-    (subst (λ p. HasSlot c told p (walk_next c.places t.walk reply).entry) (sym same.0) (subst (λ e. HasSlot c told t.walk.place e) (sym same.1) row.found.walk.slot))
+    (subst (λ p. HasEntry c told p (walk_next c.places t.walk reply).entry) (sym same.0) (subst (λ e. HasEntry c told t.walk.place e) (sym same.1) row.found.walk.slot))
     (subst (λ p. IsMadeOf c told p (walk_next c.places t.walk reply).entry (value_of reply) (row.version == c.request.version.0)) (sym same.0)
     (subst (λ e. IsMadeOf c told t.walk.place e (value_of reply) (row.version == c.request.version.0)) (sym same.1) made)) row.alone))
   where

@@ -28,14 +28,14 @@ use Rattle.fkv_ops.specs.HeaderWords.{previous_in, version_in, is_header, header
 use Rattle.fkv_ops.specs.Requests.{is_read, purpose_of}
 use Rattle.fkv_ops.specs.Walking.{WalkState, walk_begun, walking_ask, walk_ask, reached, slot_found, find_ledto, first_met, record_met, load_ledto, value_ledto, walking_next, walk_next, walking_on, walk_on}
 use Rattle.fkv_ops.specs.TryRun.{Trial, home_at, Told}
-use Rattle.fkv_ops.specs.Reasons.{Loaded, HasSlot, HasEnd, IsIndexFull, AtEntry, Behind, WalksTo, HasFound, LeavesMemory, IsContended, NoStore, NoHeader, NotBelow, PastRing}
+use Rattle.fkv_ops.specs.Reasons.{Loaded, HasEntry, HasEnd, IsIndexFull, AtEntry, Behind, WalksTo, HasFound, LeavesMemory, IsContended, NoStore, NoHeader, NotBelow, PastRing}
 use Rattle.fkv_ops.proofs.BoolTests.{lt_true, lt_false, eq_true, some_where}
 use Rattle.fkv_ops.proofs.Searched.{Searches, Leads, FindsTrue, search_true, search_begun, search_asks}
 
 -- the version of the chain's first record
 pub record HasFirst (c : Trial) (told : Told) (place entry version : ℕ) : Type 0 where
   pub header : ℕ
-  pub slot : HasSlot c told place entry
+  pub slot : HasEntry c told place entry
   pub its_header : Loaded told (record_place c.places (entry_addr entry) rec.Header) header
   pub its_version : version_in header ≡ version
 

@@ -16,7 +16,7 @@ use Rattle.fkv_ops.specs.Values.{value_of, word_of}
 use Rattle.fkv_ops.specs.Requests.{is_read, is_blind}
 use Rattle.fkv_ops.specs.Trying.{is_prepare, is_moving_on, is_wait, TryState, try_ask}
 use Rattle.fkv_ops.specs.TryRun.{Trial, home_at, try_run, trial_begun, Told, told_by, effects_of, reply_told}
-use Rattle.fkv_ops.specs.Reasons.{latch_place, Loaded, Won, HasSlot, WalksTo, HasFound, LeavesMemory, HoldsFrom}
+use Rattle.fkv_ops.specs.Reasons.{latch_place, Loaded, Won, HasEntry, WalksTo, HasFound, LeavesMemory, HoldsFrom}
 
 pub record IsStored (told : Told) (place word : ℕ) : Type 0 where
   pub reply : ℕ
@@ -83,7 +83,7 @@ pub record IsPublished (c : Trial) (told : Told) (ask : Ask TryAnswer) (reply : 
   pub old : Option ℕ
   pub is_current : Bool
   pub its_ask : ask ≡ Cas place reply (new_entry addr (home_at c).tag)
-  pub slot : HasSlot c told place reply
+  pub slot : HasEntry c told place reply
   pub made_of : IsMadeOf c told place reply old is_current
   pub alone : needs_exclusive c is_current ≡ true → HasSetBit c told
   pub reserved : Won told (shared_place one.Tail) addr (addr + 1)

@@ -7,7 +7,7 @@ use Rattle.fkv_plane.specs.declared.places.SharedWord.TheVariants as one
 use Rattle.fkv_plane.specs.declared.places.RecordWord.TheVariants as rec
 use Rattle.fkv_plane.specs.Places.{shared_place, bucket_place, overflow_place, record_place}
 use Rattle.fkv_latch.specs.Latching.{one_share, exclusive_bit}
-use Rattle.fkv_index.specs.Slots.{bucket_slots, entry_addr, is_entry, link_of}
+use Rattle.fkv_index.specs.Slots.{bucket_slots, entry_addr, entry_tag, is_entry, link_of}
 use Rattle.fkv_ops.specs.declared.answers.DiskRecord.{DiskRecord}
 use Rattle.fkv_ops.specs.declared.answers.Reason.{Reason}
 use Rattle.fkv_ops.specs.declared.answers.Reason.TheVariants as reason
@@ -57,6 +57,11 @@ pub record HasSlot (c : Trial) (told : Told) (place word : ℕ) : Type 0 where
   pub its_place : place ≡ base + slot
   pub its_word : Loaded told place word
 
+-- the slot of the key's home: it was empty, or had an entry of the home's tag
+pub record HasEntry (c : Trial) (told : Told) (place word : ℕ) : Type 0 where
+  pub its_slot : HasSlot c told place word
+  pub its_tag : (word ≡ 0) ⊎ (entry_tag word ≡ (home_at c).tag)
+
 -- the last of the buckets, from which no link leads on
 pub record HasEnd (c : Trial) (told : Told) (own : Bool) : Type 0 where
   pub links : ℕ
@@ -73,7 +78,7 @@ pub data Reaches (c : Trial) (told : Told) (entry : ℕ) : ℕ → Type 0 where
 
 -- the walk comes to this address from the entry of a slot
 pub record WalksTo (c : Trial) (told : Told) (place entry addr : ℕ) : Type 0 where
-  pub slot : HasSlot c told place entry
+  pub slot : HasEntry c told place entry
   pub reached : Reaches c told entry addr
 
 -- the walk found the record of the request's key, in memory
@@ -151,7 +156,7 @@ pub record IsIndexFull (c : Trial) (told : Told) : Type 0 where
 -- another session has gone on to the next version: it holds the latch alone, or the first record of the chain is its own
 pub data OthersWentOn (c : Trial) (told : Told) : Type 0 where
   ByLatch : (word : ℕ) → told (Add (latch_place c) one_share) word → exclusive_bit ≤ word → OthersWentOn c told
-  ByRecord : {place entry : ℕ} (header : ℕ) → HasSlot c told place entry → Loaded told (record_place c.places (entry_addr entry) rec.Header) header
+  ByRecord : {place entry : ℕ} (header : ℕ) → HasEntry c told place entry → Loaded told (record_place c.places (entry_addr entry) rec.Header) header
       → c.request.version.0 < version_in header → OthersWentOn c told
 
 pub record MustShift (c : Trial) (told : Told) : Type 0 where
@@ -187,7 +192,7 @@ pub data IsSpoiled (c : Trial) (told : Told) : Type 0 where
   NoHeader : {place entry addr header : ℕ} → WalksTo c told place entry addr → Loaded told (record_place c.places addr rec.Header) header → is_header header ≡ false → IsSpoiled c told
   NotBelow : {place entry addr header : ℕ} → WalksTo c told place entry addr → Loaded told (record_place c.places addr rec.Header) header → addr ≤ previous_in header → IsSpoiled c told
   PastRing : {place entry addr : ℕ} → WalksTo c told place entry addr → c.seen.offsets.head.0 + c.places.ring ≤ addr → IsSpoiled c told
-  NoAddress : {place entry addr : ℕ} → HasSlot c told place entry → Won told (shared_place one.Tail) addr (addr + 1) → (addr ≤ entry_addr entry) ⊎ (2 ^ 48 ≤ addr) → IsSpoiled c told
+  NoAddress : {place entry addr : ℕ} → HasEntry c told place entry → Won told (shared_place one.Tail) addr (addr + 1) → (addr ≤ entry_addr entry) ⊎ (2 ^ 48 ≤ addr) → IsSpoiled c told
 
 -- A Cas was lost: of the count of taken overflow buckets, of a link, of the tail, of the entry, or of the value that was to be changed in place.
 -- Or others have filled the bucket that the try linked, or a reply is none that a store gives.
@@ -195,7 +200,7 @@ pub data IsContended (c : Trial) (told : Told) : Type 0 where
   CountLost : (taken : ℕ) → IsLost told (shared_place one.Taken) taken (taken + 1) → IsContended c told
   LinkLost : {links : ℕ} {own : Bool} {base : ℕ} (word number : ℕ) → ComesTo c told links own base → number ≤ c.places.overflow → IsLost told (base + bucket_slots) word (word + number) → IsContended c told
   TailLost : (tail : ℕ) → IsLost told (shared_place one.Tail) tail (tail + 1) → IsContended c told
-  EntryLost : {place entry : ℕ} (new : ℕ) → HasSlot c told place entry → IsLost told place entry new → IsContended c told
+  EntryLost : {place entry : ℕ} (new : ℕ) → HasEntry c told place entry → IsLost told place entry new → IsContended c told
   ValueLost : {place entry addr : ℕ} (old : ℕ) → HasFound c told place entry addr c.request.version.0 → IsLost told (record_place c.places addr rec.Value) old (word_of (value_applied (value_of old) c.request.op))
       → IsContended c told
   OwnIsFull : HasEnd c told true → IsContended c told
