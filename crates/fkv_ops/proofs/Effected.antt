@@ -6,7 +6,7 @@ use Rattle.fkv_words.specs.Fields.{bit_of}
 use Rattle.fkv_map.specs.declared.operations.Op.{Op}
 use Rattle.fkv_map.specs.declared.operations.Op.TheVariants.{Upsert, Delete, Add as Adds, Max as Maxes, Read}
 use Rattle.fkv_map.specs.declared.operations.Reply.{Reply}
-use Rattle.fkv_map.specs.Keys.{reply_from, value_applied}
+use Rattle.fkv_map.specs.Keys.{key_of, reply_from, value_applied}
 use Rattle.fkv_plane.specs.declared.asks.Ask.{Ask}
 use Rattle.fkv_plane.specs.declared.asks.Ask.TheVariants.{Swap, Cas, Add, Done}
 use Rattle.fkv_plane.specs.declared.places.Places.{Places}
@@ -33,12 +33,12 @@ use Rattle.fkv_ops.specs.declared.appending.Appending.TheVariants as appending
 use Rattle.fkv_ops.specs.declared.trying.Trying.{Trying}
 use Rattle.fkv_ops.specs.declared.trying.Trying.TheVariants.{Ended, TakesShared, Walks, LoadsSafe, SwapsValue, LoadsCurrent, ChangesValue, LoadsAnswer, TakesExclusive, LoadsOld, Appends, DropsExclusive, DropsShared}
 use Rattle.fkv_ops.specs.Values.{value_of, word_of}
-use Rattle.fkv_ops.specs.Requests.{is_blind}
+use Rattle.fkv_ops.specs.Requests.{is_read, is_blind}
 use Rattle.fkv_ops.specs.Appending.{AppendState, appending_ask, append_ask, publish_ledto, appending_next, append_next}
 use Rattle.fkv_ops.specs.Trying.{TryState, trying_ask, try_ask, trying_next, is_wait, with_latch, walks, ends, ended_without, takes_effect, full_at, value_changed, append_ledto, words_of}
 use Rattle.fkv_ops.specs.TryRun.{Trial, home_at, trial_begun, try_run, Told, told_by, effects_of}
 use Rattle.fkv_ops.specs.Reasons.{latch_place, HasEntry}
-use Rattle.fkv_ops.specs.Effects.{IsStored, MayChange, IsMadeOf, IsPublished, IsEffect, BySwap, ByChange, ByRecord, EffectsAreTrue, shares_latch, SharesFirst, needs_exclusive, HasSetBit}
+use Rattle.fkv_ops.specs.Effects.{IsStored, MayChange, IsMadeOf, IsPublished, IsEffect, BySwap, ByChange, ByRecord, EffectsAreTrue, AreKindsSo, shares_latch, SharesFirst, needs_exclusive, HasSetBit}
 use Rattle.fkv_ops.proofs.BoolTests.{eq_true}
 use Rattle.fkv_ops.proofs.Appended.{IsReserved, IsFilled, is_publishing, AppendRow, AppendKnows, append_true, append_answers}
 use Rattle.fkv_ops.proofs.TryRows.{norm, Owed, Under, TryRow, AppendsKnow}
@@ -259,3 +259,13 @@ shares_first c before spare wants none = record {
       let under = added c (told_by c (trial_begun c before spare) replies) t t.step known.row (run_makes c before spare replies reply its e) in
       under.has_added wants none;
 }
+
+reads_alone : (op : Op) → is_read op ≡ true → op ≡ Read (key_of op)
+reads_alone (Upsert key value) e = cc
+reads_alone (Delete key) e = cc
+reads_alone (Adds key n) e = cc
+reads_alone (Maxes key n) e = cc
+reads_alone (Read key) e = refl
+
+pub kinds_so : AreKindsSo
+kinds_so = record { reads = λ key. refl; reads_alone = reads_alone; same_value = λ op old e. sym (blind_same op old e).0; same_reply = λ op old e. sym (blind_same op old e).1 }

@@ -1,5 +1,8 @@
 -- The effect of a try, by what the try asked and was replied: one of three asks makes it, and what was done before shows that it may.
 use Rattle.std.specs.Prelude.{◌≡◌, ◌≢◌, ℕ, ◌+◌, ◌*◌, ◌^◌, ◌<◌, ◌≤◌, ◌==◌, ◌&&◌, ◌||◌, not, Bool, true, false, List, ◌∷◌, Option, Some, None}
+use Rattle.fkv_base.specs.declared.numbers.Key.{Key}
+use Rattle.fkv_map.specs.declared.operations.Op.{Op}
+use Rattle.fkv_map.specs.declared.operations.Op.TheVariants.{Read}
 use Rattle.fkv_map.specs.declared.operations.Reply.{Reply}
 use Rattle.fkv_map.specs.Keys.{key_of, value_applied, reply_from}
 use Rattle.fkv_plane.specs.declared.asks.Ask.{Ask}
@@ -134,3 +137,11 @@ pub record SharesBefore (c : Trial) (before : TryState) (spare : ℕ) : Type 0 w
 
 abbrev pub SharesFirst : Type 0
 SharesFirst = (c : Trial) (before : TryState) (spare : ℕ) → shares_latch c ≡ true → c.request.has_latch ≡ false → SharesBefore c before spare
+
+-- what the kinds of operations mean: a read is one, and no update is; and one whose old value doesn't count makes the same of every old value,
+-- and is told the same
+pub record AreKindsSo : Type 0 where
+  pub reads : (key : Key) → is_read (Read key) ≡ true
+  pub reads_alone : (op : Op) → is_read op ≡ true → op ≡ Read (key_of op)
+  pub same_value : (op : Op) (old : Option ℕ) → is_blind op ≡ true → value_applied old op ≡ value_applied None op
+  pub same_reply : (op : Op) (old : Option ℕ) → is_blind op ≡ true → reply_from old op ≡ reply_from None op

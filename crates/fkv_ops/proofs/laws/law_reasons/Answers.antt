@@ -1,8 +1,11 @@
 -- What a try ends with was found by it.
 use Rattle.fkv_ops.proofs.LatchRuns.{each_holds, each_leaves}
-use Rattle.fkv_ops.proofs.Effected.{effects_true, shares_first}
+use Rattle.fkv_ops.proofs.Effected.{effects_true, shares_first, kinds_so}
 use Rattle.fkv_ops.proofs.TryRuns.{each_is_true, effects_once, latches_kept}
 use Rattle.fkv_ops.proofs.laws.law_reasons.Goals as goal
+
+pub returns-clause-kinds : goal.returns-clause-kinds
+returns-clause-kinds c = kinds_so
 
 pub returns-clause-reasons : goal.returns-clause-reasons
 returns-clause-reasons c = each_is_true
