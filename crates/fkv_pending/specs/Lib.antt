@@ -1,3 +1,7 @@
+pub mod AsksLeft
 pub mod Attempting
+pub mod Attempts
+pub mod Mailbox
 pub mod Mailing
+pub mod MailWorld
 pub mod Pending

@@ -1,0 +1,128 @@
+-- What comes of an attempt, over every list of replies.
+use Rattle.std.specs.Prelude.{◌≡◌, ◌⊎◌, ℕ, ◌==◌, ◌&&◌, ◌||◌, if◌then◌else◌, Bool, true, false, List, [], ◌∷◌, Option, Some, None}
+use Rattle.fkv_base.specs.declared.numbers.Version.{Version}
+use Rattle.fkv_plane.specs.declared.asks.Ask.{Ask}
+use Rattle.fkv_plane.specs.declared.asks.Ask.TheVariants.{Store, Done}
+use Rattle.fkv_plane.specs.declared.places.Places.{Places}
+use Rattle.fkv_plane.specs.declared.places.SessionWord.TheVariants as own
+use Rattle.fkv_plane.specs.Places.{session_place}
+use Rattle.fkv_ops.specs.declared.answers.DiskRecord.{DiskRecord}
+use Rattle.fkv_ops.specs.declared.answers.Reason.TheVariants as reason
+use Rattle.fkv_ops.specs.declared.answers.TryAnswer.{TryAnswer}
+use Rattle.fkv_ops.specs.declared.answers.TryAnswer.TheVariants as answer
+use Rattle.fkv_ops.specs.declared.header_words.HeaderSaid.TheVariants.{Says}
+use Rattle.fkv_ops.specs.declared.requests.HeldRecord.{HeldRecord}
+use Rattle.fkv_ops.specs.declared.requests.Occasion.{Occasion}
+use Rattle.fkv_ops.specs.declared.requests.Seen.{Seen}
+use Rattle.fkv_ops.specs.HeaderWords.{header_said}
+use Rattle.fkv_ops.specs.Trying.{try_ask, try_next}
+use Rattle.fkv_pending.specs.declared.attempting.Attempting.{Attempting}
+use Rattle.fkv_pending.specs.declared.attempting.Attempting.TheVariants.{Ended, Looks, Tries, Puts}
+use Rattle.fkv_pending.specs.declared.mailing.MailAnswer.{MailAnswer}
+use Rattle.fkv_pending.specs.declared.mailing.MailAnswer.TheVariants as mail
+use Rattle.fkv_pending.specs.declared.mailing.MailRecord.{MailRecord}
+use Rattle.fkv_pending.specs.declared.pending_requests.PendingRequest.{PendingRequest}
+use Rattle.fkv_pending.specs.Mailing.{mail_ask, mail_next}
+use Rattle.fkv_pending.specs.Attempting.{AttemptState, attempt_ask, attempt_begun, attempt_next}
+
+-- What the run of an attempt has told so far.
+pub record AttemptPast : Type 0 where
+  -- the record that the look into the mailbox has taken
+  pub taken : Option MailRecord
+  -- what the try has come to
+  pub tried : Option TryAnswer
+  -- the address that was stored in the mailbox, and what putting it has come to
+  pub address : Option ℕ
+  pub put : Option MailAnswer
+
+abbrev pub look_told : Ask MailAnswer → AttemptPast → AttemptPast
+look_told (Done (mail.Taken its)) past = record past { taken = Some its }
+look_told ask past = past
+
+abbrev pub try_told : Ask TryAnswer → AttemptPast → AttemptPast
+try_told (Done its) past = record past { tried = Some its }
+try_told ask past = past
+
+abbrev pub address_told : ℕ → Ask MailAnswer → AttemptPast → AttemptPast
+address_told session (Store place word) past = if place == session_place session own.MailAddress then record past { address = Some word } else past
+address_told session ask past = past
+
+abbrev pub put_told : Ask MailAnswer → AttemptPast → AttemptPast
+put_told (Done its) past = record past { put = Some its }
+put_told ask past = past
+
+-- by the machine inside that is driven: what it asks, and what it asks behind the reply
+abbrev pub attempt_told : Places → ℕ → ℕ → AttemptState → Attempting → ℕ → AttemptPast → AttemptPast
+attempt_told p room session a (Ended its) reply past = past
+attempt_told p room session a Looks reply past = look_told (mail_ask session (mail_next a.mailing reply)) past
+attempt_told p room session a Tries reply past = try_told (try_ask p (try_next p room a.trial reply)) past
+attempt_told p room session a Puts reply past = put_told (mail_ask session (mail_next a.mailing reply)) (address_told session (mail_ask session a.mailing) past)
+
+-- an attempt, by the replies that it has met, the newest first
+unfoldable pub attempt_run : Places → ℕ → ℕ → ℕ → AttemptState → List ℕ → AttemptState
+attempt_run p bits room session begun [] = begun
+attempt_run p bits room session begun (reply ∷ before) = attempt_next p bits room session (attempt_run p bits room session begun before) reply
+
+unfoldable pub attempt_past : Places → ℕ → ℕ → ℕ → AttemptState → List ℕ → AttemptPast
+attempt_past p bits room session begun [] = record { taken = None; tried = None; address = None; put = None }
+attempt_past p bits room session begun (reply ∷ before) =
+    let a = attempt_run p bits room session begun before in
+    attempt_told p room session a a.step reply (attempt_past p bits room session begun before)
+
+-- a request has finished that is answered anything but that it has to wait
+abbrev pub is_finished : TryAnswer → Bool
+is_finished (answer.Wait its) = false
+is_finished its = true
+
+abbrev pub has_finished : Ask TryAnswer → Bool
+has_finished (Done its) = is_finished its
+has_finished ask = false
+
+-- its mail is under way where the put was answered so; and where it had asked before, as long as no record was taken
+abbrev pub is_under_way : Option MailAnswer → Option MailRecord → Bool → Bool
+is_under_way (Some mail.Asked) taken had_asked = true
+is_under_way put (Some its) had_asked = false
+is_under_way put None had_asked = had_asked
+
+-- a request that has asked in this attempt has asked for the record that it seeks
+pub record HasAskedForSought (sought : Option DiskRecord) (address : Option ℕ) : Type 0 where
+  pub record_sought : DiskRecord
+  pub its_sought : sought ≡ Some record_sought
+  pub its_address : address ≡ Some record_sought.addr.0
+
+-- what a request waits for that waits for the device: its mail is under way, or the mailbox was occupied. (Else its try has ended so by itself, which no
+-- try does, or it is a read that seeks nothing, as none is.)
+abbrev pub IsAwaiting : PendingRequest → AttemptPast → Type 0
+IsAwaiting pending past =
+    (pending.has_asked ≡ true)
+    ⊎ ((past.put ≡ Some mail.Occupied)
+    ⊎ ((past.tried ≡ Some (answer.Wait reason.Disk))
+    ⊎ (pending.sought ≡ None)))
+
+-- what is held came by the mail that was taken, with the entry of the record that was sought then
+pub record HasCome (sought : Option DiskRecord) (taken : Option MailRecord) (its : HeldRecord) : Type 0 where
+  pub record_sought : DiskRecord
+  pub its_sought : sought ≡ Some record_sought
+  pub mail : MailRecord
+  pub its_mail : taken ≡ Some mail
+  pub its_entry : its.entry ≡ record_sought.entry
+  pub its_key : its.key ≡ mail.key
+  pub its_value : its.value ≡ mail.value
+  pub version : Version
+  pub its_previous : header_said mail.header ≡ Says its.previous version
+
+-- What holds of an attempt of this request, at each moment: by the ask that it makes then.
+pub record IsAttemptTrue (pending : PendingRequest) (is_orphaned : Bool) (a : AttemptState) (past : AttemptPast) (ask : Ask TryAnswer) : Type 0 where
+  pub under_way : a.pending.has_asked ≡ is_under_way past.put past.taken pending.has_asked
+  -- mail is for nobody just where it was before, or where the request has finished while its mail is under way
+  pub orphaned : a.is_orphaned ≡ (is_orphaned || (has_finished ask && a.pending.has_asked))
+  pub asked : past.put ≡ Some mail.Asked → HasAskedForSought a.pending.sought past.address
+  pub awaits : ask ≡ Done (answer.Wait reason.Disk) → IsAwaiting a.pending past
+  pub held : (its : HeldRecord) → a.pending.request.held ≡ Some its → (pending.request.held ≡ Some its) ⊎ HasCome pending.sought past.taken its
+
+abbrev pub AttemptsTrue : Type 0
+AttemptsTrue =
+    (p : Places) (bits room session : ℕ) (a : AttemptState) (pending : PendingRequest) (seen : Seen) (occasion : Occasion) (spare : ℕ) (is_orphaned : Bool) (replies : List ℕ)
+    → let begun = attempt_begun p bits a pending seen occasion spare is_orphaned in
+    let its = attempt_run p bits room session begun replies in
+    IsAttemptTrue pending is_orphaned its (attempt_past p bits room session begun replies) (attempt_ask p session its)
