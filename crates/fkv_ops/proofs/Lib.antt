@@ -1,6 +1,18 @@
 pub mod AppendAsks
 pub mod AppendRests
 pub mod AsksLeft
+mod Appended
+mod Balances
+mod BoolTests
+mod Copied
+mod Effected
+mod LatchRuns
+mod Searched
+mod Tried
+mod TryRows
+mod TryRuns
+mod TrySteps
+mod Walked
 pub mod Shown
 pub mod TryAsks
 pub mod TryRests

@@ -1,6 +1,6 @@
 -- How a record is appended and published: its address is reserved, its words are written, and its entry takes the place of the one that
 -- was found. A record whose entry was not won is invalidated.
-use Rattle.std.specs.Prelude.{ℕ, ◌^◌, ◌<◌, ◌&&◌, nat_lt, if◌then◌else◌, ⊤}
+use Rattle.std.specs.Prelude.{◌≡◌, ℕ, ◌^◌, ◌<◌, ◌&&◌, nat_lt, if◌then◌else◌, ⊤}
 use Rattle.fkv_base.specs.declared.numbers.Addr.{Addr}
 use Rattle.fkv_plane.specs.declared.asks.Ask.{Ask}
 use Rattle.fkv_plane.specs.declared.asks.Ask.TheVariants.{Done}
@@ -43,6 +43,10 @@ pub record Appender : Type 0 where
   -- how many addresses the log has on the device
   pub room : ℕ
   pub state : AppendState
+
+-- before it first starts it is at its end
+abbrev pub IsAppendRested : AppendState → Type 0
+IsAppendRested a = a.step ≡ Ended answer.Contended
 
 abbrev pub append_begun : AppendState → FoundSlot → RecordWords → AppendState
 append_begun a slot its_words = record a { slot = slot; its_words = its_words; reserving = LoadsLimit; step = Reserves }

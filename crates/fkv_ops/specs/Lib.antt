@@ -1,7 +1,11 @@
 pub mod Appending
 pub mod AsksLeft
+pub mod Effects
 pub mod HeaderWords
+pub mod LatchCounts
+pub mod Reasons
 pub mod Requests
 pub mod Trying
+pub mod TryRun
 pub mod Values
 pub mod Walking

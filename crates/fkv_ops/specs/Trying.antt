@@ -1,5 +1,5 @@
 -- One try of a request: its latch, the walk to the record of its key, and then the change in place or the new record.
-use Rattle.std.specs.Prelude.{ℕ, ◌==◌, ◌&&◌, not, nat_lt, nat_le, if◌then◌else◌, Bool, true, false, Option, Some, None}
+use Rattle.std.specs.Prelude.{◌≡◌, ℕ, ◌==◌, ◌&&◌, not, nat_lt, nat_le, if◌then◌else◌, Bool, true, false, Option, Some, None}
 use Rattle.std.proofs.Common.{arith}
 use Rattle.fkv_base.specs.declared.numbers.Addr.{Addr}
 use Rattle.fkv_base.specs.declared.numbers.Version.{Version}
@@ -73,6 +73,10 @@ pub record Trier : Type 0 where
   -- how many addresses the log has on the device
   pub room : ℕ
   pub state : TryState
+
+-- before it first starts it is at its end, and has nothing
+abbrev pub IsTryRested : TryState → Type 0
+IsTryRested t = (t.step ≡ Ended answer.Shift) × (t.effect ≡ None) × (t.has_shared ≡ false) × (t.spare ≡ 0)
 
 -- what each state asks
 unfoldable pub trying_ask : Places → TryState → Trying → Ask TryAnswer

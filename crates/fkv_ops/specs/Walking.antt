@@ -11,7 +11,7 @@ use Rattle.fkv_plane.specs.Passing.{passed}
 use Rattle.fkv_log.specs.declared.loading.LoadAnswer.{LoadAnswer}
 use Rattle.fkv_log.specs.declared.loading.LoadAnswer.TheVariants as load
 use Rattle.fkv_log.specs.declared.loading.Loading.{Loading}
-use Rattle.fkv_log.specs.declared.loading.Loading.TheVariants.{LoadsHeader}
+use Rattle.fkv_log.specs.declared.loading.Loading.TheVariants.{AtRest, LoadsHeader}
 use Rattle.fkv_log.specs.Loading.{load_ask, load_next, load_next_ask, load_on}
 use Rattle.fkv_index.specs.declared.homes.Home.{Home}
 use Rattle.fkv_index.specs.declared.finding.Purpose.{Purpose}
@@ -20,7 +20,7 @@ use Rattle.fkv_index.specs.declared.finding.Found.TheVariants as found
 use Rattle.fkv_index.specs.declared.finding.FindAnswer.{FindAnswer}
 use Rattle.fkv_index.specs.declared.finding.Finding.{Finding}
 use Rattle.fkv_index.specs.Slots.{entry_addr}
-use Rattle.fkv_index.specs.Finding.{first_finding, find_ask, find_next, find_next_ask}
+use Rattle.fkv_index.specs.Finding.{rested, first_finding, find_ask, find_next, find_next_ask}
 use Rattle.fkv_ops.specs.declared.header_words.HeaderSaid.{HeaderSaid}
 use Rattle.fkv_ops.specs.declared.header_words.HeaderSaid.TheVariants.{Says, Spoiled}
 use Rattle.fkv_ops.specs.declared.walking.WalkAnswer.{WalkAnswer}
@@ -50,6 +50,10 @@ pub record Walker : Type 0 where
   -- the index has 2^bits buckets
   pub bits : ℕ
   pub state : WalkState
+
+-- before it first starts
+abbrev pub walk_rested : WalkState
+walk_rested = record { key = record { 0 = 0 }; head = record { 0 = 0 }; place = 0; entry = 0; first = None; spare = 0; finding = rested 0; loading = AtRest; step = Ended answer.Contended }
 
 abbrev pub walk_begun : Places → Home → WalkState → Key → Purpose → Addr → ℕ → WalkState
 walk_begun p home w key purpose head spare = record w { key = key; head = head; place = 0; entry = 0; first = None; spare = spare; finding = first_finding p home purpose spare; step = Finds }

@@ -70,10 +70,13 @@ impl Model for Append {
 }
 
 impl Append {
+    ghost use Rattle.fkv_ops.specs.Appending.{IsAppendRested};
+
     /// The machine of a store of this shape, with these places, at rest.
     pub fn new(places: Places, shape: &Shape) -> Append
         ensures places { result.places ≡ places }
         ensures room { result.room ≡ shape.now.disk_pages * shape.now.page }
+        ensures rest { IsAppendRested result.state }
     {
         let header = Header {
             previous: Addr(0),

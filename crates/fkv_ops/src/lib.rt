@@ -7,6 +7,7 @@ mod appending;
 mod copying;
 mod ending;
 mod header_words;
+mod laws;
 mod leading;
 mod requests;
 mod trying;
@@ -16,8 +17,12 @@ mod walking;
 pub use answers::{DiskRecord, Reason, TryAnswer};
 pub use appending::{Append, AppendAnswer, FoundSlot};
 pub use header_words::{HeaderSaid, header_said};
+pub use laws::law_reasons;
 pub use leading::told_value;
 pub use requests::{HeldRecord, Occasion, Request, Seen};
 pub use trying::Try;
 pub use values::{value_of_word, word_of_value};
 pub use walking::{Walk, WalkAnswer};
+
+#[cfg(test)]
+mod tests;

@@ -82,6 +82,8 @@ impl Model for Try {
 }
 
 impl Try {
+    ghost use Rattle.fkv_ops.specs.Trying.{IsTryRested};
+
     /// The machine of a store of this shape, at rest.
     pub fn new(shape: &Shape) -> Try
         ensures sessions { result.places.sessions ≡ shape.now.sessions }
@@ -90,6 +92,7 @@ impl Try {
         ensures ring { result.places.ring ≡ shape.now.frames * shape.now.page }
         ensures bits { result.bits ≡ shape.now.bucket_bits }
         ensures room { result.room ≡ shape.now.disk_pages * shape.now.page }
+        ensures rest { IsTryRested result.state }
     {
         let places = Places::of(shape);
         Try {

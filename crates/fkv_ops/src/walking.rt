@@ -70,12 +70,15 @@ impl Model for Walk {
 }
 
 impl Walk {
+    ghost use Rattle.fkv_ops.specs.Walking.{walk_rested};
+
     /// The machine of a store with these places, whose index has 2^bits buckets, at rest.
     pub fn new(places: Places, bits: u64) -> Walk
         requires few { bits < 64 }
         requires buckets { places.buckets ≡ 2 ^ bits }
         ensures places { result.places ≡ places }
         ensures bits { result.bits ≡ bits }
+        ensures rest { result.state ≡ walk_rested }
     {
         Walk {
             places,

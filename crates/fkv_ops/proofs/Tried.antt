@@ -1,0 +1,221 @@
+-- Where the walk's end leads a try, and each reply behind it.
+use Rattle.std.proofs.Common.{◌≡◌, ℕ, ◌<◌, ◌≤◌, ◌⊎◌, [], refl, inl, inr, arith, sym, ap, ◌∙◌, subst, Bool, true, false}
+use Rattle.std.specs.Prelude.{◌≢◌, ◌==◌, ◌&&◌, not, nat_lt, nat_le, if◌then◌else◌, Option, Some, None}
+use Rattle.fkv_base.specs.declared.numbers.Addr.{Addr}
+use Rattle.fkv_base.specs.declared.numbers.Version.{Version}
+use Rattle.fkv_map.specs.Map.{absent_word}
+use Rattle.fkv_map.specs.Keys.{key_of}
+use Rattle.fkv_plane.specs.declared.asks.Ask.{Ask}
+use Rattle.fkv_plane.specs.declared.asks.Ask.TheVariants.{Done}
+use Rattle.fkv_plane.specs.declared.places.SharedWord.TheVariants as one
+use Rattle.fkv_plane.specs.Places.{shared_place}
+use Rattle.fkv_plane.specs.Passing.{is_done}
+use Rattle.fkv_log.specs.declared.regions.Region.TheVariants as region
+use Rattle.fkv_ops.specs.declared.answers.Reason.TheVariants as reason
+use Rattle.fkv_ops.specs.declared.answers.TryAnswer.{TryAnswer}
+use Rattle.fkv_ops.specs.declared.answers.TryAnswer.TheVariants as answer
+use Rattle.fkv_ops.specs.declared.requests.HeldRecord.{HeldRecord}
+use Rattle.fkv_ops.specs.declared.requests.Occasion.{Occasion}
+use Rattle.fkv_ops.specs.declared.requests.Occasion.TheVariants.{Call, Poll}
+use Rattle.fkv_ops.specs.declared.trying.OldValue.TheVariants.{InMemory, Known}
+use Rattle.fkv_ops.specs.declared.trying.Trying.TheVariants.{Walks, SwapsValue, LoadsCurrent, LoadsAnswer}
+use Rattle.fkv_ops.specs.declared.walking.WalkAnswer.{WalkAnswer}
+use Rattle.fkv_ops.specs.declared.walking.WalkAnswer.TheVariants as walk
+use Rattle.fkv_ops.specs.Requests.{is_read, is_blind}
+use Rattle.fkv_ops.specs.Walking.{WalkState, walk_ask, walk_on}
+use Rattle.fkv_ops.specs.Trying.{TryState, ends, full_at, is_prepare, is_above, must_shift, copies, awaits, held_used, met_nowhere, met_disk, changes, region_met, met_record, walked, has_walked, walk_ledto, safe_loaded}
+use Rattle.fkv_ops.specs.TryRun.{Trial, Told, reply_told}
+use Rattle.fkv_ops.specs.Reasons.{Loaded, WalksTo, HasFound, LeavesMemory, HasNone, AtItsEnd, WithoutSlot, HoldsFrom, IsOnDisk, BelowHead, BehindHeld, IsIndexFull, HasNoRoom, OthersWentOn, ByRecord, IsTrue}
+use Rattle.fkv_ops.specs.Effects.{MayChange, OfAnother, BelowSafe, OfNone, OfAny, OfHeld, OfNoneBehind}
+use Rattle.fkv_ops.proofs.BoolTests.{lt_true, le_true, le_false, eq_true, eq_false, some_where, both}
+use Rattle.fkv_ops.proofs.Walked.{FirstTrue, NowhereTrue, WalkTrue, WalkKnows, walk_answers, walk_on_loads, walk_on_found}
+use Rattle.fkv_ops.proofs.TryRows.{norm, latch_held, owed_at, Under, Updates, FoundRow, TryRow, told_at, Comes, ends_true}
+use Rattle.fkv_ops.proofs.Copied.{copies_true}
+
+-- the try comes to its end, without an effect
+pub quiet_end : (c : Trial) (told : Told) (t : TryState) (its : TryAnswer) → t.effect ≡ None → Under c told t.has_shared → reply_told its ≡ [] → IsTrue c told its → Comes c told None [] (latch_held t) (ends c.places (norm c t) its)
+quiet_end c told t its quiet under none truth = subst (λ e. Comes c told e [] (latch_held t) (ends c.places (norm c t) its)) quiet (subst (λ l. Comes c told t.effect l (latch_held t) (ends c.places (norm c t) its)) none (ends_true c told t its truth (λ waits. under.shared)))
+
+pub full_true : (c : Trial) (told : Told) (t : TryState) (refused : TryAnswer) (full : IsIndexFull c told ⊎ HasNoRoom told c.room) → t.effect ≡ None → Under c told t.has_shared → reply_told refused ≡ [] → (c.occasion ≡ Call → IsTrue c told refused)
+    → Comes c told None [] (latch_held t) (ends c.places (norm c t) (full_at c.occasion refused))
+full_true c told t refused full quiet under none truth = by_occasion c.occasion refl
+  where
+    by_occasion : (o : Occasion) → c.occasion ≡ o → Comes c told None [] (latch_held t) (ends c.places (norm c t) (full_at o refused))
+    by_occasion Call e = quiet_end c told t refused quiet under none (truth e)
+    by_occasion Poll e = quiet_end c told t (answer.Wait reason.Full) quiet under refl (e, full)
+
+awaits_true : (c : Trial) (told : Told) (t : TryState) (addr : Addr) → t.effect ≡ None → Under c told t.has_shared → IsOnDisk c told (record { entry = t.walk.entry; addr = addr }) → Comes c told None [] (latch_held t) (awaits c.places (norm c t) addr)
+awaits_true c told t addr quiet under disk = quiet_end c told t (answer.AwaitsDisk (record { entry = t.walk.entry; addr = addr })) quiet under refl disk
+
+held_true : (c : Trial) (told : Told) (t : TryState) (addr : Addr) (its : Option HeldRecord) → t.effect ≡ None → t.has_exclusive ≡ false → Updates c told t → LeavesMemory c told t.walk.place t.walk.entry addr.0 → is_blind c.request.op ≡ false → c.request.held ≡ its
+    → Comes c told None [] (latch_held t) (held_used c.places (norm c t) addr its)
+unfolding held_used
+held_true c told t addr None quiet not_alone updates leaves counts holds = awaits_true c told t addr quiet updates.under (BelowHead leaves)
+held_true c told t addr (Some held) quiet not_alone updates leaves counts holds = by_entry (held.entry == t.walk.entry) refl
+  where
+    from : held.entry ≡ t.walk.entry → HoldsFrom c told t.walk.place held
+    from same = record { holds = holds; counts = counts; addr = addr.0; leaves = subst (λ e. LeavesMemory c told t.walk.place e addr.0) (sym same) leaves }
+
+    by_end : (b : Bool) → (held.previous.0 == 0) ≡ b → held.entry ≡ t.walk.entry → held.key.0 ≢ (key_of c.request.op).0
+        → Comes c told None [] (latch_held t) (if b then copies c.places (norm c t) (Known absent_word) false else awaits c.places (norm c t) held.previous)
+    by_end true e same other = copies_true c told t (Known absent_word) false quiet not_alone updates leaves.walk.slot (OfNoneBehind (from same) same other (eq_true held.previous.0 0 e))
+    by_end false e same other = awaits_true c told t held.previous quiet updates.under
+        (BehindHeld (record { place = t.walk.place; held = held; its_entry = sym same; its_addr = refl; holds = from same; another = other; some = some_where held.previous.0 e }))
+
+    by_key : (b : Bool) → (held.key.0 == (key_of c.request.op).0) ≡ b → held.entry ≡ t.walk.entry
+        → Comes c told None [] (latch_held t) (if b then copies c.places (norm c t) (Known held.value) false else if held.previous.0 == 0 then copies c.places (norm c t) (Known absent_word) false else awaits c.places (norm c t) held.previous)
+    by_key true e same = copies_true c told t (Known held.value) false quiet not_alone updates leaves.walk.slot (OfHeld (from same) same (eq_true held.key.0 (key_of c.request.op).0 e))
+    by_key false e same = by_end (held.previous.0 == 0) refl same (eq_false held.key.0 (key_of c.request.op).0 e)
+
+    by_entry : (b : Bool) → (held.entry == t.walk.entry) ≡ b
+        → Comes c told None [] (latch_held t) (if b then (if held.key.0 == (key_of c.request.op).0 then copies c.places (norm c t) (Known held.value) false else if held.previous.0 == 0 then copies c.places (norm c t) (Known absent_word) false else awaits c.places (norm c t) held.previous) else awaits c.places (norm c t) addr)
+    by_entry true e = by_key (held.key.0 == (key_of c.request.op).0) refl (eq_true held.entry t.walk.entry e)
+    by_entry false e = awaits_true c told t addr quiet updates.under (BelowHead leaves)
+
+none_read : (c : Trial) (told : Told) (w : WalkState) → NowhereTrue c told w → HasNone c told
+none_read c told w (inl at) = AtItsEnd at.0
+none_read c told w (inr without) = WithoutSlot without.1
+
+none_update : (c : Trial) (told : Told) (w : WalkState) → NowhereTrue c told w → is_read c.request.op ≡ false → WalksTo c told w.place w.entry 0
+none_update c told w (inl at) update = at.0
+none_update c told w (inr without) update = absurd (no (sym update ∙ without.0))
+  where
+    no : false ≡ true → ⊥
+    no e = cc
+
+nowhere_true : (c : Trial) (told : Told) (t : TryState) → t.effect ≡ None → t.has_exclusive ≡ false → Under c told t.has_shared → NowhereTrue c told t.walk → Comes c told None [] (latch_held t) (met_nowhere c.places (norm c t))
+nowhere_true c told t quiet not_alone under none = by_read (is_read c.request.op) refl
+  where
+    by_read : (b : Bool) → is_read c.request.op ≡ b → Comes c told None [] (latch_held t) (if b then ends c.places (norm c t) answer.Absent else copies c.places (norm c t) (Known absent_word) false)
+    by_read true e = quiet_end c told t answer.Absent quiet under refl (record { reads = e; none = inr (none_read c told t.walk none) })
+    by_read false e = let walks = none_update c told t.walk none e in copies_true c told t (Known absent_word) false quiet not_alone (record { under = under; update = e }) walks.slot (OfNone walks)
+
+disk_true : (c : Trial) (told : Told) (t : TryState) (addr : Addr) → t.effect ≡ None → t.has_exclusive ≡ false → Under c told t.has_shared → LeavesMemory c told t.walk.place t.walk.entry addr.0 → Comes c told None [] (latch_held t) (met_disk c.places (norm c t) addr)
+disk_true c told t addr quiet not_alone under leaves = by_read (is_read c.request.op) refl
+  where
+    by_blind : (b : Bool) → is_blind c.request.op ≡ b → is_read c.request.op ≡ false
+        → Comes c told None [] (latch_held t) (if b then copies c.places (norm c t) (Known absent_word) false else held_used c.places (norm c t) addr c.request.held)
+    by_blind true e update = copies_true c told t (Known absent_word) false quiet not_alone (record { under = under; update = update }) leaves.walk.slot (OfAny leaves e)
+    by_blind false e update = held_true c told t addr c.request.held quiet not_alone (record { under = under; update = update }) leaves e refl
+
+    by_read : (b : Bool) → is_read c.request.op ≡ b
+        → Comes c told None [] (latch_held t) (if b then awaits c.places (norm c t) addr else if is_blind c.request.op then copies c.places (norm c t) (Known absent_word) false else held_used c.places (norm c t) addr c.request.held)
+    by_read true e = awaits_true c told t addr quiet under (BelowHead leaves)
+    by_read false e = by_blind (is_blind c.request.op) refl e
+
+may_change : (c : Trial) (told : Told) (w : WalkState) (addr : Addr) (version : Version) → FoundRow c told w addr version → version.0 ≡ c.request.version.0 → c.seen.offsets.read_only.0 ≤ addr.0 → MayChange c told addr.0
+may_change c told w addr version found own mutable = record { place = w.place; entry = w.entry; found = subst (HasFound c told w.place w.entry addr.0) own found.its.its_record; mutable = mutable }
+
+changes_true : (c : Trial) (told : Told) (t : TryState) (addr : Addr) (version : Version) → t.effect ≡ None → Updates c told t → FoundRow c told t.walk addr version → MayChange c told addr.0 → Comes c told None [] (latch_held t) (changes (norm c t) addr)
+changes_true c told t addr version quiet updates found may = by_blind (is_blind c.request.op) refl
+  where
+    by_blind : (b : Bool) → is_blind c.request.op ≡ b → Comes c told None [] (latch_held t) (if b then record (norm c t) { step = SwapsValue addr } else record (norm c t) { walk = walk_on t.walk; step = LoadsCurrent addr })
+    by_blind true e = record { same = refl; owes = refl; its_effect = quiet; its_told = refl; row = (record { under = updates.under; update = updates.update }, may, e) }
+    by_blind false e = record {
+      same = refl;
+      owes = refl;
+      its_effect = quiet;
+      its_told = refl;
+      row = (record { under = updates.under; update = updates.update }, may, walk_on_loads c told t.walk addr version found.at found.its);
+    }
+
+region_true : (c : Trial) (told : Told) (t : TryState) (addr : Addr) (version : Version) → t.effect ≡ None → t.has_exclusive ≡ false → Updates c told t → FoundRow c told t.walk addr version
+    → Comes c told None [] (latch_held t) (region_met c.places (norm c t) addr version (if nat_lt addr.0 c.seen.offsets.head.0 then Some region.Disk else if nat_le c.seen.offsets.read_only.0 addr.0 then Some region.Mutable else None))
+region_true c told t addr version quiet not_alone updates found = by_head (nat_lt addr.0 c.seen.offsets.head.0) refl
+  where
+    by_version : (b : Bool) → (version.0 == c.request.version.0) ≡ b → c.seen.offsets.read_only.0 ≤ addr.0 → Comes c told None [] (latch_held t) (if b then changes (norm c t) addr else copies c.places (norm c t) InMemory false)
+    by_version true e mutable = changes_true c told t addr version quiet updates found (may_change c told t.walk addr version found (eq_true version.0 c.request.version.0 e) mutable)
+    by_version false e mutable = copies_true c told t InMemory false quiet not_alone updates found.its.its_record.walk.slot
+        (record { addr = addr; version = version; found = found; may = OfAnother mutable (eq_false version.0 c.request.version.0 e); current = e })
+
+    by_read_only : (b : Bool) → nat_le c.seen.offsets.read_only.0 addr.0 ≡ b → Comes c told None [] (latch_held t) (region_met c.places (norm c t) addr version (if b then Some region.Mutable else None))
+    by_read_only true e = by_version (version.0 == c.request.version.0) refl (le_true c.seen.offsets.read_only.0 addr.0 e)
+    by_read_only false e = record {
+      same = refl;
+      owes = refl;
+      its_effect = quiet;
+      its_told = refl;
+      row = record { not_alone = not_alone; updates = record { under = updates.under; update = updates.update }; found = found; below = le_false c.seen.offsets.read_only.0 addr.0 e };
+    }
+
+    by_head : (b : Bool) → nat_lt addr.0 c.seen.offsets.head.0 ≡ b
+        → Comes c told None [] (latch_held t) (region_met c.places (norm c t) addr version (if b then Some region.Disk else if nat_le c.seen.offsets.read_only.0 addr.0 then Some region.Mutable else None))
+    by_head true e = let low = lt_true addr.0 c.seen.offsets.head.0 e in let high = found.its.its_record.in_memory in absurd (omega (arith, low, high))
+    by_head false e = by_read_only (nat_le c.seen.offsets.read_only.0 addr.0) refl
+
+record_true : (c : Trial) (told : Told) (t : TryState) (addr : Addr) (version : Version) → t.effect ≡ None → t.has_exclusive ≡ false → Under c told t.has_shared → FoundRow c told t.walk addr version → Comes c told None [] (latch_held t) (met_record c.places (norm c t) addr version)
+record_true c told t addr version quiet not_alone under found = by_read (is_read c.request.op) refl
+  where
+    by_read : (b : Bool) → is_read c.request.op ≡ b
+        → Comes c told None [] (latch_held t) (if b then record (norm c t) { walk = walk_on t.walk; step = LoadsAnswer } else region_met c.places (norm c t) addr version (if nat_lt addr.0 c.seen.offsets.head.0 then Some region.Disk else if nat_le c.seen.offsets.read_only.0 addr.0 then Some region.Mutable else None))
+    by_read true e = record {
+      same = refl;
+      owes = refl;
+      its_effect = quiet;
+      its_told = refl;
+      row = record { under = under; reads = e; addr = addr; version = version.0; found = walk_on_found c told t.walk addr version found.at found.its; loads = walk_on_loads c told t.walk addr version found.at found.its };
+    }
+    by_read false e = region_true c told t addr version quiet not_alone (record { under = under; update = e }) found
+
+walked_true : (c : Trial) (told : Told) (t : TryState) (its : WalkAnswer) → t.effect ≡ None → t.has_exclusive ≡ false → Under c told t.has_shared → WalkTrue c told t.walk its → Comes c told None [] (latch_held t) (walked c.places (norm c t) its)
+walked_true c told t (walk.Found addr version) quiet not_alone under knows = record_true c told t addr version quiet not_alone under (record { at = knows.0; its = knows.1 })
+walked_true c told t walk.Nowhere quiet not_alone under knows = nowhere_true c told t quiet not_alone under knows
+walked_true c told t (walk.OnDisk addr) quiet not_alone under knows = disk_true c told t addr quiet not_alone under knows.0
+walked_true c told t (walk.Value value) quiet not_alone under knows = absurd knows
+walked_true c told t walk.Full quiet not_alone under knows = full_true c told t answer.IndexFull (inl knows) quiet under refl (λ at. (at, knows))
+walked_true c told t walk.Contended quiet not_alone under knows = quiet_end c told t (answer.Wait reason.Contended) quiet under refl knows
+
+first_known : (c : Trial) (told : Told) (w : WalkState) (its : WalkAnswer) → has_walked its ≡ true → WalkTrue c told w its → FirstTrue c told w.place w.entry w.first
+first_known c told w (walk.Found addr version) e knows = knows.1.first
+first_known c told w walk.Nowhere e (inl at) = at.1
+first_known c told w walk.Nowhere e (inr without) = subst (FirstTrue c told w.place w.entry) (sym without.2) tt
+first_known c told w (walk.OnDisk addr) e knows = knows.1
+first_known c told w (walk.Value value) e knows = cc
+first_known c told w walk.Full e knows = cc
+first_known c told w walk.Contended e knows = cc
+
+others_by_record : (c : Trial) (told : Told) (place entry : ℕ) (first : Option Version) → FirstTrue c told place entry first → is_above first c.request.version ≡ true → OthersWentOn c told
+others_by_record c told place entry None knows e = cc
+others_by_record c told place entry (Some version) knows e =
+    let high = lt_true c.request.version.0 version.0 e in
+    let its = knows.its_version in
+    ByRecord knows.header knows.slot knows.its_header (omega (arith, high, its))
+
+pub walk_led_true : (c : Trial) (told : Told) (t : TryState) (ask : Ask WalkAnswer) → t.effect ≡ None → t.has_exclusive ≡ false → t.step ≡ Walks → Under c told t.has_shared → WalkKnows c told t.walk → walk_ask c.places t.walk ≡ ask
+    → Comes c told None [] (latch_held t) (walk_ledto c.places (norm c t) ask)
+unfolding walk_ledto
+walk_led_true c told t (Done its) quiet not_alone at under knows asks = by_walked (has_walked its) (must_shift (norm c t)) refl refl
+  where
+    here : WalkTrue c told t.walk its
+    here = walk_answers c told t.walk its knows asks
+
+    by_walked : (a b : Bool) → has_walked its ≡ a → must_shift (norm c t) ≡ b
+        → Comes c told None [] (latch_held t) (if a && b then ends c.places (norm c (record t { spare = t.walk.spare })) answer.Shift else walked c.places (norm c (record t { spare = t.walk.spare })) its)
+    by_walked true true d e =
+        let split = both (is_prepare c.seen.phase && not (is_read c.request.op)) (is_above t.walk.first c.request.version) e in
+        let wants = both (is_prepare c.seen.phase) (not (is_read c.request.op)) split.0 in
+        quiet_end c told (record t { spare = t.walk.spare }) answer.Shift quiet under refl
+        (record { in_prepare = wants.0; update = negated (is_read c.request.op) wants.1; others = others_by_record c told t.walk.place t.walk.entry t.walk.first (first_known c told t.walk its d here) split.1 })
+      where
+        negated : (b : Bool) → not b ≡ true → b ≡ false
+        negated true e = cc
+        negated false e = refl
+    by_walked true false d e = walked_true c told (record t { spare = t.walk.spare }) its quiet not_alone under here
+    by_walked false b d e = walked_true c told (record t { spare = t.walk.spare }) its quiet not_alone under here
+walk_led_true c told t ask quiet not_alone at under knows asks = record {
+  same = refl;
+  owes = ap (owed_at t) at;
+  its_effect = quiet;
+  its_told = ap told_at at;
+  row = subst (TryRow c told (norm c t)) (sym at) (record { not_alone = not_alone; under = under; walks = knows; asks = ap is_done asks });
+}
+
+pub safe_true : (c : Trial) (told : Told) (t : TryState) (addr : Addr) (version : Version) (safe : ℕ) → t.effect ≡ None → t.has_exclusive ≡ false → Updates c told t → FoundRow c told t.walk addr version → addr.0 < c.seen.offsets.read_only.0
+    → Loaded told (shared_place one.SafeReadOnly) safe → Comes c told None [] (latch_held t) (safe_loaded c.places (norm c t) addr version safe)
+safe_true c told t addr version safe quiet not_alone updates found below was = by_safe (nat_le safe addr.0) refl
+  where
+    by_safe : (b : Bool) → nat_le safe addr.0 ≡ b → Comes c told None [] (latch_held t) (if b then ends c.places (norm c t) (answer.Wait reason.Fuzzy) else copies c.places (norm c t) InMemory (version.0 == c.request.version.0))
+    by_safe true e = quiet_end c told t (answer.Wait reason.Fuzzy) quiet updates.under refl
+        (record { place = t.walk.place; entry = t.walk.entry; addr = addr.0; version = version.0; safe = safe; found = found.its.its_record; below_seen = below; its_safe = was; above_safe = le_true safe addr.0 e })
+    by_safe false e = copies_true c told t InMemory (version.0 == c.request.version.0) quiet not_alone updates found.its.its_record.walk.slot
+        (record { addr = addr; version = version; found = found; may = BelowSafe safe below was (le_false safe addr.0 e); current = refl })

@@ -1,0 +1,147 @@
+-- The effect of a try, by what the try asked and was replied: one of three asks makes it, and what was done before shows that it may.
+use Rattle.std.specs.Prelude.{◌≡◌, ◌≢◌, ℕ, ◌+◌, ◌*◌, ◌^◌, ◌<◌, ◌≤◌, ◌==◌, ◌&&◌, ◌||◌, not, Bool, true, false, List, ◌∷◌, Option, Some, None}
+use Rattle.fkv_base.specs.declared.numbers.Key.{Key}
+use Rattle.fkv_map.specs.declared.operations.Op.{Op}
+use Rattle.fkv_map.specs.declared.operations.Op.TheVariants.{Read}
+use Rattle.fkv_map.specs.declared.operations.Reply.{Reply}
+use Rattle.fkv_map.specs.Keys.{key_of, value_applied, reply_from}
+use Rattle.fkv_plane.specs.declared.asks.Ask.{Ask}
+use Rattle.fkv_plane.specs.declared.asks.Ask.TheVariants.{Store, Swap, Cas, Add, Done}
+use Rattle.fkv_plane.specs.declared.places.SharedWord.TheVariants as one
+use Rattle.fkv_plane.specs.declared.places.RecordWord.TheVariants as rec
+use Rattle.fkv_plane.specs.Places.{shared_place, record_place}
+use Rattle.fkv_latch.specs.Latching.{one_share, exclusive_bit}
+use Rattle.fkv_index.specs.Slots.{entry_addr}
+use Rattle.fkv_index.specs.IndexWorld.{new_entry}
+use Rattle.fkv_ops.specs.declared.answers.TryAnswer.{TryAnswer}
+use Rattle.fkv_ops.specs.declared.requests.HeldRecord.{HeldRecord}
+use Rattle.fkv_ops.specs.Values.{value_of, word_of}
+use Rattle.fkv_ops.specs.Requests.{is_read, is_blind}
+use Rattle.fkv_ops.specs.Trying.{is_prepare, is_moving_on, is_wait, TryState, try_ask}
+use Rattle.fkv_ops.specs.TryRun.{Trial, home_at, try_run, trial_begun, Told, told_by, effects_of, reply_told}
+use Rattle.fkv_ops.specs.Reasons.{latch_place, Loaded, Won, HasEntry, WalksTo, HasFound, LeavesMemory, HoldsFrom}
+
+pub record IsStored (told : Told) (place word : ℕ) : Type 0 where
+  pub reply : ℕ
+  pub its_store : told (Store place word) reply
+
+-- a record of the request's version, at or above the read-only offset that the session has seen: such a one is changed in place
+pub record MayChange (c : Trial) (told : Told) (addr : ℕ) : Type 0 where
+  pub place : ℕ
+  pub entry : ℕ
+  pub found : HasFound c told place entry addr c.request.version.0
+  pub mutable : c.seen.offsets.read_only.0 ≤ addr
+
+-- one of another version there, or one below the safe read-only offset that was loaded: such a one is copied, and none that may be fuzzy
+pub data MayCopy (c : Trial) (told : Told) (addr version : ℕ) : Type 0 where
+  OfAnother : c.seen.offsets.read_only.0 ≤ addr → version ≢ c.request.version.0 → MayCopy c told addr version
+  BelowSafe : (safe : ℕ) → addr < c.seen.offsets.read_only.0 → Loaded told (shared_place one.SafeReadOnly) safe → addr < safe → MayCopy c told addr version
+
+-- the old value that a new record is made of: it is loaded where it counts
+pub data IsOld (c : Trial) (told : Told) (addr : ℕ) : Option ℕ → Type 0 where
+  CountsNot : {old : Option ℕ} → is_blind c.request.op ≡ true → IsOld c told addr old
+  IsLoaded : (word : ℕ) → Loaded told (record_place c.places addr rec.Value) word → IsOld c told addr (value_of word)
+
+-- What a new record is made of, and whether the walk found a record of the request's version: a record in memory that may be copied, none
+-- where the chain ends, any below the head where the old value doesn't count, and else the one that the request holds.
+pub data IsMadeOf (c : Trial) (told : Told) (place entry : ℕ) : Option ℕ → Bool → Type 0 where
+  OfRecord : {addr version : ℕ} {old : Option ℕ} → HasFound c told place entry addr version → MayCopy c told addr version → IsOld c told addr old
+      → IsMadeOf c told place entry old (version == c.request.version.0)
+  OfNone : WalksTo c told place entry 0 → IsMadeOf c told place entry None false
+  OfAny : {addr : ℕ} → LeavesMemory c told place entry addr → is_blind c.request.op ≡ true → IsMadeOf c told place entry None false
+  OfHeld : {held : HeldRecord} → HoldsFrom c told place held → held.entry ≡ entry → held.key.0 ≡ (key_of c.request.op).0 → IsMadeOf c told place entry (value_of held.value) false
+  OfNoneBehind : {held : HeldRecord} → HoldsFrom c told place held → held.entry ≡ entry → held.key.0 ≢ (key_of c.request.op).0 → held.previous.0 ≡ 0 → IsMadeOf c told place entry None false
+
+-- the try has set bit 63 of the bucket's eighth word, which had neither that nor a count
+pub record HasSetBit (c : Trial) (told : Told) : Type 0 where
+  pub word : ℕ
+  pub free : word < one_share
+  pub its_cas : Won told (latch_place c) word (word + exclusive_bit)
+
+-- while a commit's sessions go on, a record of their version is made under the exclusive latch, where none of it was found
+abbrev pub needs_exclusive : Trial → Bool → Bool
+needs_exclusive c is_current = is_moving_on c.seen.phase && c.request.version.0 == c.seen.version.0 && not is_current
+
+-- The value word of a record is swapped for that of a value which doesn't depend on the old one. The reply is the operation's on the value
+-- that was there.
+pub record IsSwapped (c : Trial) (told : Told) (ask : Ask TryAnswer) (reply : ℕ) (its : Reply) : Type 0 where
+  pub addr : ℕ
+  pub may : MayChange c told addr
+  pub blind : is_blind c.request.op ≡ true
+  pub its_ask : ask ≡ Swap (record_place c.places addr rec.Value) (word_of (value_applied (value_of reply) c.request.op))
+  pub its_reply : its ≡ reply_from (value_of reply) c.request.op
+
+-- the value word of a record is changed by a Cas that was won
+pub record IsChanged (c : Trial) (told : Told) (ask : Ask TryAnswer) (reply : ℕ) (its : Reply) : Type 0 where
+  pub addr : ℕ
+  pub may : MayChange c told addr
+  pub its_ask : ask ≡ Cas (record_place c.places addr rec.Value) reply (word_of (value_applied (value_of reply) c.request.op))
+  pub its_reply : its ≡ reply_from (value_of reply) c.request.op
+
+-- A new record takes the place of the entry that was found, by a Cas that was won. Its address was reserved, and value, key and header were
+-- stored before.
+pub record IsPublished (c : Trial) (told : Told) (ask : Ask TryAnswer) (reply : ℕ) (its : Reply) : Type 0 where
+  pub place : ℕ
+  pub addr : ℕ
+  pub old : Option ℕ
+  pub is_current : Bool
+  pub its_ask : ask ≡ Cas place reply (new_entry addr (home_at c).tag)
+  pub slot : HasEntry c told place reply
+  pub made_of : IsMadeOf c told place reply old is_current
+  pub alone : needs_exclusive c is_current ≡ true → HasSetBit c told
+  pub reserved : Won told (shared_place one.Tail) addr (addr + 1)
+  pub above : entry_addr reply < addr
+  pub its_value : IsStored told (record_place c.places addr rec.Value) (word_of (value_applied old c.request.op))
+  pub its_key : IsStored told (record_place c.places addr rec.Key) (key_of c.request.op).0
+  pub its_header : IsStored told (record_place c.places addr rec.Header) (entry_addr reply + c.request.version.0 * 2 ^ 48)
+  pub its_reply : its ≡ reply_from old c.request.op
+
+pub data IsEffect (c : Trial) (told : Told) (ask : Ask TryAnswer) (reply : ℕ) (its : Reply) : Type 0 where
+  BySwap : IsSwapped c told ask reply its → IsEffect c told ask reply its
+  ByChange : IsChanged c told ask reply its → IsEffect c told ask reply its
+  ByRecord : IsPublished c told ask reply its → IsEffect c told ask reply its
+
+-- over every list of replies: a step that makes an effect is one of these three, and what it tells is true
+abbrev pub EffectsAreTrue : Type 0
+EffectsAreTrue = (c : Trial) (before : TryState) (spare : ℕ) (replies : List ℕ) (reply : ℕ) (its : Reply) → (try_run c (trial_begun c before spare) (reply ∷ replies)).effect ≡ Some its
+    → IsEffect c (told_by c (trial_begun c before spare) replies) (try_ask c.places (try_run c (trial_begun c before spare) replies)) reply its
+
+-- a try that ends as done has made its effect at just one step, and tells what was told there; one that ends otherwise at none
+abbrev pub EffectsAreOnce : Type 0
+EffectsAreOnce = (c : Trial) (before : TryState) (spare : ℕ) (replies : List ℕ) (answer : TryAnswer) → try_ask c.places (try_run c (trial_begun c before spare) replies) ≡ Done answer
+    → effects_of c (trial_begun c before spare) replies ≡ reply_told answer
+
+-- an update of a session in prepare shares the latch
+abbrev pub shares_latch : Trial → Bool
+shares_latch c = is_prepare c.seen.phase && not (is_read c.request.op)
+
+-- at its end no try holds the latch alone; it shares the latch where its request has to wait, and shared it or is an update in prepare
+pub record IsLatchKept (c : Trial) (answer : TryAnswer) (t : TryState) : Type 0 where
+  pub not_alone : t.has_exclusive ≡ false
+  pub shares : t.has_shared ≡ (is_wait answer && (c.request.has_latch || shares_latch c))
+
+abbrev pub LatchesAreKept : Type 0
+LatchesAreKept = (c : Trial) (before : TryState) (spare : ℕ) (replies : List ℕ) (answer : TryAnswer) → try_ask c.places (try_run c (trial_begun c before spare) replies) ≡ Done answer
+    → IsLatchKept c answer (try_run c (trial_begun c before spare) replies)
+
+-- a share was added to a word without bit 63
+pub record HasShared (c : Trial) (told : Told) : Type 0 where
+  pub word : ℕ
+  pub its_add : told (Add (latch_place c) one_share) word
+  pub not_alone : word < exclusive_bit
+
+-- where an update in prepare doesn't share the latch yet, to share it is the first that the try asks, and it makes its effect only once it does
+pub record SharesBefore (c : Trial) (before : TryState) (spare : ℕ) : Type 0 where
+  pub first : try_ask c.places (trial_begun c before spare) ≡ Add (latch_place c) one_share
+  pub does : (replies : List ℕ) (reply : ℕ) (its : Reply) → (try_run c (trial_begun c before spare) (reply ∷ replies)).effect ≡ Some its → HasShared c (told_by c (trial_begun c before spare) replies)
+
+abbrev pub SharesFirst : Type 0
+SharesFirst = (c : Trial) (before : TryState) (spare : ℕ) → shares_latch c ≡ true → c.request.has_latch ≡ false → SharesBefore c before spare
+
+-- what the kinds of operations mean: a read is one, and no update is; and one whose old value doesn't count makes the same of every old value,
+-- and is told the same
+pub record AreKindsSo : Type 0 where
+  pub reads : (key : Key) → is_read (Read key) ≡ true
+  pub reads_alone : (op : Op) → is_read op ≡ true → op ≡ Read (key_of op)
+  pub same_value : (op : Op) (old : Option ℕ) → is_blind op ≡ true → value_applied old op ≡ value_applied None op
+  pub same_reply : (op : Op) (old : Option ℕ) → is_blind op ≡ true → reply_from old op ≡ reply_from None op
