@@ -1,2 +1,8 @@
+pub mod AttemptAsks
+pub mod AttemptRests
+pub mod Boxes
+pub mod MailAsks
+pub mod MailRuns
+pub mod MailSound
 mod Requests
 pub mod Shown

@@ -1,1 +1,5 @@
 -- What crates above may cite.
+pub use Rattle.fkv_pending.proofs.AttemptAsks.{attempt_left, attempt_begun_left, attempt_fewer}
+pub use Rattle.fkv_pending.proofs.AttemptRests.{is_attempt_end, AttemptAsksAt, AttemptRestsOrAsks, attempt_done, attempt_begun_rests, attempt_rests}
+pub use Rattle.fkv_pending.proofs.MailAsks.{mail_left, mail_done, mail_fewer}
+pub use Rattle.fkv_pending.proofs.MailRuns.{IsSound, happens_sound, opening_sound, run_sound}

@@ -1,7 +1,9 @@
 //! What is attempted for one request.
-ghost use Rattle.std.specs.Prelude.{◌≡◌, ◌<◌, ◌*◌, ◌^◌, Option};
+ghost use Rattle.std.specs.Prelude.{◌≡◌, ◌<◌, ◌≤◌, ◌+◌, ◌*◌, ◌^◌, Option};
 ghost use Rattle.fkv_base.specs.Limits.{max_sessions};
 ghost use Rattle.fkv_map.specs.Keys.{as_number};
+ghost use Rattle.fkv_ops.specs.AsksLeft.{AsksWhereLeft};
+ghost use Rattle.fkv_pending.specs.AsksLeft.{attempt_asks_left};
 ghost use Rattle.fkv_pending.specs.Attempting.{attempt_begun, attempt_ask, attempt_next, puts, tries, waits_for_disk, is_pending_read, goes_on, held_of, held_kept, moved_on, read_on, record_taken, not_ready, look_ledto, awaits_record, tried, try_ledto, put_ledto};
 
 use crate::mailing::{Mail, MailAnswer, MailRecord, MailTask};
@@ -99,6 +101,8 @@ impl Attempt {
     ) -> Ask<TryAnswer>
         ensures next { self.new ≡ record self.old { state = attempt_begun self.old.places self.old.bits self.old.state pending seen occasion spare is_orphaned } }
         ensures ask { result ≡ attempt_ask self.old.places self.old.session self.new.state }
+        ensures asks { AsksWhereLeft (attempt_asks_left self.old.places self.new.state) result }
+        ensures bounded { attempt_asks_left self.old.places self.new.state ≤ 8 * (self.old.places.overflow + 1) + 2 * self.old.places.ring + 28 }
     {
         self.pending = pending;
         self.seen = seen;
@@ -121,6 +125,8 @@ impl Attempt {
     pub fn drive(&mut self, reply: u64) -> Ask<TryAnswer>
         ensures next { self.new ≡ record self.old { state = attempt_next self.old.places self.old.bits self.old.room self.old.session self.old.state reply } }
         ensures ask { result ≡ attempt_ask self.old.places self.old.session self.new.state }
+        ensures asks { AsksWhereLeft (attempt_asks_left self.old.places self.new.state) result }
+        ensures fewer { 0 < attempt_asks_left self.old.places self.old.state → attempt_asks_left self.old.places self.new.state < attempt_asks_left self.old.places self.old.state }
     {
         self.effect = None;
         match self.step {
@@ -145,7 +151,8 @@ impl Attempt {
     /// What it asks now.
     #[tactic(auto, unfolding(crate::specs::Attempting::attempting_ask))]
     pub fn ask(&self) -> Ask<TryAnswer>
-        ensures { result ≡ attempt_ask self.now.places self.now.session self.now.state }
+        ensures ask { result ≡ attempt_ask self.now.places self.now.session self.now.state }
+        ensures asks { AsksWhereLeft (attempt_asks_left self.now.places self.now.state) result }
     {
         match self.step {
             Attempting::Ended(answer) => Ask::Done(answer),

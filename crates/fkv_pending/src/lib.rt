@@ -3,11 +3,16 @@
 #![tactic(auto)]
 
 mod attempting;
+mod laws;
 mod mailing;
 mod pending_lists;
 mod pending_requests;
 
 pub use attempting::Attempt;
+pub use laws::law_mailbox;
 pub use mailing::{Mail, MailAnswer, MailRecord, MailTask};
 pub use pending_lists::PendingList;
 pub use pending_requests::{PendingRequest, RequestName, Ticket};
+
+#[cfg(test)]
+mod tests;

@@ -1,6 +1,7 @@
 //! How a session asks for a record of the device.
 ghost use Rattle.std.specs.Prelude.{◌≡◌, ◌<◌, ◌≤◌, ◌-◌};
 ghost use Rattle.fkv_base.specs.Limits.{max_sessions};
+ghost use Rattle.fkv_ops.specs.AsksLeft.{AsksWhereLeft};
 ghost use Rattle.fkv_pending.specs.Mailing.{mail_ask, mail_next, mail_asks_left, task_asks_left, state_found};
 ghost use Rattle.fkv_pending.specs.declared.mailing.Mailing.TheVariants.{Ended, LoadsState, StoresAddress};
 ghost use Rattle.fkv_pending.specs.declared.mailing.MailAnswer.TheVariants.{NotReady};
@@ -101,6 +102,7 @@ impl Mail {
     pub fn start(&mut self, task: MailTask) -> Ask<MailAnswer>
         ensures next { self.new ≡ record self.old { step = LoadsState task } }
         ensures ask { result ≡ mail_ask self.old.session (LoadsState task) }
+        ensures asks { AsksWhereLeft (mail_asks_left self.new.step) result }
         ensures bounded { mail_asks_left self.new.step ≤ 5 }
     {
         self.step = Mailing::LoadsState(task);
@@ -112,6 +114,7 @@ impl Mail {
     pub fn put(&mut self, addr: Addr) -> Ask<MailAnswer>
         ensures next { self.new ≡ record self.old { step = StoresAddress addr } }
         ensures ask { result ≡ mail_ask self.old.session (StoresAddress addr) }
+        ensures asks { AsksWhereLeft (mail_asks_left self.new.step) result }
         ensures bounded { mail_asks_left self.new.step ≤ 2 }
     {
         self.step = Mailing::StoresAddress(addr);
@@ -123,6 +126,7 @@ impl Mail {
     pub fn drive(&mut self, reply: u64) -> Ask<MailAnswer>
         ensures next { self.new ≡ record self.old { step = mail_next self.old.step reply } }
         ensures ask { result ≡ mail_ask self.old.session (mail_next self.old.step reply) }
+        ensures asks { AsksWhereLeft (mail_asks_left self.new.step) result }
         ensures fewer { mail_asks_left self.new.step ≤ mail_asks_left self.old.step - 1 }
     {
         self.step = match self.step {
@@ -144,9 +148,10 @@ impl Mail {
     }
 
     /// What it asks now.
-    #[tactic(auto, unfolding(crate::specs::Mailing::mail_ask))]
+    #[tactic(auto, unfolding(crate::specs::Mailing::mail_ask, crate::specs::Mailing::mail_asks_left))]
     pub fn ask(&self) -> Ask<MailAnswer>
-        ensures { result ≡ mail_ask self.now.session self.now.step }
+        ensures ask { result ≡ mail_ask self.now.session self.now.step }
+        ensures asks { AsksWhereLeft (mail_asks_left self.now.step) result }
     {
         let session = self.session;
         match self.step {
