@@ -1,2 +1,6 @@
+mod CatchLeft
+mod OwnTurnLeft
 mod Ranges
+mod SessionLeft
 pub mod Shown
+mod Sums

@@ -1,4 +1,5 @@
 pub mod Answers
+pub mod AsksLeft
 pub mod CatchingUp
 pub mod OwnTurns
 pub mod PhaseWords
