@@ -501,7 +501,8 @@ fn mail_for_nobody_is_let_go(rt: HostRuntime) -> Result<(), Fail> {
 fn a_session_catches_up(rt: HostRuntime) -> Result<(), Fail> {
     let mut plane = words(rt.alloc())?;
     let mut requests = PendingList::new();
-    let mut machine = CatchUp::new(Places::of(&shape()?), 0, 0);
+    let shape = shape()?;
+    let mut machine = CatchUp::new(Places::of(&shape), shape.bucket_bits, 0);
     assert_eq!(rt; machine.ask(&requests), Ask::Done(()));
     let was = seen(Phase::Rest, 1, 1);
     let is = seen(Phase::Rest, 4, 8);
