@@ -370,3 +370,15 @@ IsStepInRange requests its op serial ClearsMail = length its + length requests �
 IsStepInRange requests its op serial (Polls index) = (length its + length requests ≤ max_pending) × (index < length requests)
 IsStepInRange requests its op serial (StoresOwing index) = length its + length requests ≤ max_pending
 IsStepInRange requests its op serial step = ⊤
+
+-- a session whose store was opened is awake, has nothing that waits and nothing to spare, and has no call in hand
+pub record IsOpened (s : SessionState) : Type 0 where
+  pub awake : s.is_awake ≡ true
+  pub none_wait : s.requests ≡ []
+  pub no_ticket : s.ticket ≡ 0
+  pub no_orphan : s.is_orphaned ≡ false
+  pub no_spare : s.spare ≡ 0
+  pub no_asks : s.asks ≡ 0
+  pub no_effect : s.effect ≡ None
+  pub none_finished : s.finished ≡ []
+  pub at_rest : is_busy s.step ≡ false

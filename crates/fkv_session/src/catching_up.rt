@@ -2,6 +2,7 @@
 ghost use Rattle.std.specs.Prelude.{◌≡◌, ◌<◌, ◌^◌, ◌-◌, Option, Bool, [], length};
 ghost use Rattle.fkv_base.specs.Limits.{max_sessions};
 ghost use Rattle.fkv_pending.specs.declared.pending_requests.PendingRequest.{PendingRequest};
+ghost use Rattle.fkv_session.specs.declared.catching_up.Catching.TheVariants.{Ended};
 ghost use Rattle.fkv_session.specs.CatchingUp.{refresh_begun, wake_begun, catch_ask, catch_next, catch_requests, cut_of, cut_at, seen_after, finishes, latch_wanted, latches, cuts, takes_up, enters_prepare, owing, refresh_ledto, protect_ledto, latch_ledto, finish_ledto, latch_marked};
 
 use crate::phase_words::{PhaseSaid, phase_said};
@@ -69,6 +70,7 @@ impl CatchUp {
         ensures places { result.places ≡ places }
         ensures bits { result.bits ≡ bits }
         ensures session { result.session ≡ session }
+        ensures rest { result.state.step ≡ Ended }
     {
         let nothing = fkv_base::Addr(0);
         CatchUp {

@@ -15,3 +15,6 @@ pub use answers::{Answer, Finished, Told};
 pub use catching_up::CatchUp;
 pub use own_turns::OwnTurn;
 pub use sessions::Session;
+
+#[cfg(test)]
+mod tests;

@@ -1,5 +1,6 @@
 //! The turn that a session makes where its log had no room.
 ghost use Rattle.std.specs.Prelude.{◌≡◌};
+ghost use Rattle.fkv_session.specs.declared.own_turns.OwnTurning.TheVariants.{Ended};
 ghost use Rattle.fkv_session.specs.OwnTurns.{own_turn_begun, own_turn_ask, own_turn_next, own_turn_given, scan_ledto, claim_ledto, shift_ledto, open_ledto, tail_told};
 
 use fkv_base::{Addr, Shape};
@@ -47,7 +48,8 @@ impl Model for OwnTurn {
 impl OwnTurn {
     /// The machine of a store of this shape, at rest.
     pub fn new(shape: Shape) -> OwnTurn
-        ensures { result.shape ≡ shape }
+        ensures shape { result.shape ≡ shape }
+        ensures rest { result.state.step ≡ Ended }
     {
         OwnTurn {
             shape,
