@@ -1,2 +1,7 @@
+-- What crates above may cite.
+mod AttemptKeeps
+mod Books
 mod Ranges
+mod Requests
 pub mod Shown
+mod Sound

@@ -1,5 +1,7 @@
+pub mod Accounts
 pub mod Answers
 pub mod CatchingUp
 pub mod OwnTurns
 pub mod PhaseWords
+pub mod SessionRun
 pub mod Sessions

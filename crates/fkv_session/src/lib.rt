@@ -5,6 +5,7 @@
 mod answers;
 mod calls;
 mod catching_up;
+mod laws;
 mod leading;
 mod own_turns;
 mod phase_words;
@@ -13,5 +14,6 @@ mod sessions;
 
 pub use answers::{Answer, Finished, Told};
 pub use catching_up::CatchUp;
+pub use laws::law_sessions;
 pub use own_turns::OwnTurn;
 pub use sessions::Session;
