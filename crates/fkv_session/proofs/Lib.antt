@@ -5,3 +5,4 @@ mod Ranges
 mod Requests
 pub mod Shown
 mod Sound
+mod Spared

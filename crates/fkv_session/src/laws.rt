@@ -1,6 +1,10 @@
 //! What a session owes for its calls, over every list of calls, replies and actions.
-ghost use Rattle.std.specs.Prelude.{List};
+ghost use Rattle.std.specs.Prelude.{◌≡◌, List};
+ghost use Rattle.fkv_base.specs.declared.faults.Fault.{Fault};
+ghost use Rattle.fkv_session.specs.declared.answers.Told.TheVariants.{Refused};
+ghost use Rattle.fkv_session.specs.declared.sessions.Sitting.TheVariants.{Idle};
 ghost use Rattle.fkv_session.specs.Accounts.{AreInTurn, AreAccountedFor, RiseWithin, names_of};
+ghost use Rattle.fkv_session.specs.Refused.{before_call, has_caught_up, IsRefusal};
 ghost use Rattle.fkv_session.specs.SessionRun.{SessionEvent, session_run, IsOpened, all_told, in_hand};
 ghost use Rattle.fkv_session.specs.Sessions.{Seat, SessionState};
 
@@ -14,4 +18,12 @@ pub fn law_sessions()
         → AreAccountedFor (all_told seat opening events) (names_of (session_run seat opening events).requests) (in_hand (session_run seat opening events).step (session_run seat opening events).finished) }
     ensures order { (seat : Seat) (opening : SessionState) (events : List SessionEvent) → IsOpened opening
         → RiseWithin opening.serial (session_run seat opening events).serial (names_of (session_run seat opening events).requests) }
+{}
+
+/// A call that is refused has taken no serial and no ticket, no request has come or gone by it, and what a poll has finished stays. What
+/// the session goes by and the latches that its requests share stay too, but where the call caught up with the store on its way.
+pub fn law_of_refusals()
+    ensures { (seat : Seat) (opening : SessionState) (events : List SessionEvent) (why : Fault) → IsOpened opening
+        → (session_run seat opening events).step ≡ Idle (Refused why)
+        → IsRefusal (before_call seat opening events) (session_run seat opening events) (has_caught_up seat opening events) }
 {}
