@@ -1,5 +1,5 @@
 -- What a session owes for the requests that it has accepted: the serials that it gave, and where each request is.
-use Rattle.std.specs.Prelude.{◌≡◌, ℕ, zero, suc, ◌+◌, ◌<◌, ◌≤◌, Bool, List, [], ◌∷◌, ◌++◌, length, map}
+use Rattle.std.specs.Prelude.{◌≡◌, ℕ, zero, suc, ◌+◌, ◌<◌, ◌≤◌, ◌==◌, Bool, false, List, [], ◌∷◌, ◌++◌, length, map}
 use Rattle.fkv_words.specs.Fields.{bit_of}
 use Rattle.fkv_pending.specs.declared.pending_requests.PendingRequest.{PendingRequest}
 use Rattle.fkv_pending.specs.declared.pending_requests.RequestName.{RequestName}
@@ -73,3 +73,20 @@ abbrev pub RiseWithin : ℕ → ℕ → List RequestName → Type 0
 RiseWithin low top [] = low ≤ top
 RiseWithin low top (Update serial ∷ rest) = (low < serial.0) × RiseWithin serial.0 top rest
 RiseWithin low top (Read ticket ∷ rest) = RiseWithin low top rest
+
+-- the serials of updates that were done at their calls
+abbrev pub done_before : Told → List ℕ → List ℕ
+done_before (told.Done serial its) serials = serial.0 ∷ serials
+done_before its serials = serials
+
+abbrev pub serials_done : List Telling → List ℕ
+serials_done [] = []
+serials_done (it ∷ before) = done_before it.its (serials_done before)
+
+abbrev pub is_update : ℕ → RequestName → Bool
+is_update n (Update serial) = serial.0 == n
+is_update n (Read ticket) = false
+
+-- An update of a serial is done at its call, or waits, or was told as finished by a poll: just one of these, and once.
+abbrev pub IsAnsweredOnce : List Telling → List RequestName → List Finished → ℕ → Type 0
+IsAnsweredOnce told waiting in_hand n = number_of (λ s. s == n) (serials_done told) + (number_of (is_update n) waiting + (number_of (is_update n) (polled told) + number_of (is_update n) (names_finished in_hand))) ≡ 1
