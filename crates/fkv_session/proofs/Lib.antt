@@ -1,6 +1,8 @@
 -- What crates above may cite.
 mod AttemptKeeps
 mod Books
+mod CatchKeeps
+mod CutsTold
 mod Made
 mod Once
 mod Ranges

@@ -35,18 +35,21 @@ use Rattle.fkv_session.specs.declared.sessions.CatchCause.{CatchCause}
 use Rattle.fkv_session.specs.declared.sessions.CatchCause.TheVariants.{Refreshes, Wakes, Shifts}
 use Rattle.fkv_session.specs.declared.sessions.Sitting.{Sitting}
 use Rattle.fkv_session.specs.declared.sessions.Sitting.TheVariants.{Idle, Attempts, CatchesUp, ClearsMail, Polls, StoresOwing, Turns, StoresCut, Leaves, LoadsDurable}
-use Rattle.fkv_session.specs.CatchingUp.{CatchState, latched, latch_marked, catching_requests}
+use Rattle.fkv_session.specs.CatchingUp.{refresh_begun, wake_begun, catching_ask, CatchState, latched, latch_marked, catching_requests}
 use Rattle.fkv_session.specs.OwnTurns.{own_turn_given}
 use Rattle.fkv_session.specs.Sessions.{SessionState, Seat, bits_of, is_busy, answers, answers_after_turn, ticket_after, name_of, request_in_hand, attempts, polls_request, polls_at, refusal_of, op_begun, refresh_call, poll_begun, poll_call, sleep_call, wake_call, call_begun, session_begun, attempt_left, serial_taken, update_done, is_no_room, with_request, accepts, shifts, attempted, attempt_ledto, caught_up, catch_ledto, clear_ledto, finished_of, is_finished, is_owed, request_finished, finishes_request, keeps_request, poll_ledto, turn_ledto, leave_ledto, attempt_moved, caught, own_turn_moved, sitting_next, sitting_given, asks_after, is_word_ask, session_ask}
 use Rattle.fkv_session.specs.SessionRun.{SessionEvent, Begins, Replies, Gets, begins, session_happens, session_run, IsOpened, Telling, telling, answered, is_calling, told_after, tellings, with_coming, in_hand}
 use Rattle.fkv_session.specs.Accounts.{names_of, name_finished}
+use Rattle.fkv_session.specs.Cuts.{IsCutTold, version_left}
 use Rattle.fkv_session.proofs.AttemptKeeps.{attempt_keeps, begun_same}
+use Rattle.fkv_session.proofs.CatchKeeps.{catch_serial}
 use Rattle.fkv_session.proofs.Books.{AreBooksKept, IsPlain, plain_kept, polled_kept, done_kept, update_kept, read_kept, finished_kept}
 
 -- what is attempted, by how far the call has come
 abbrev pub Knows : SessionState → Sitting → Type 0
 Knows s (Attempts has_shifted) = s.attempt.pending.name ≡ name_of s
 Knows s (Polls index) = slice_get (names_of s.requests) index ≡ Some s.attempt.pending.name
+Knows s (CatchesUp cause) = s.catching.serial ≡ s.serial
 Knows s step = Unit {0}
 
 -- the answers with the one that this state gives or has coming
@@ -158,7 +161,7 @@ accepts_held first before s why books its = accepts_either first before s why (i
 
 shifts_held : (first : ℕ) (before : List Telling) (s : SessionState) (has_shifted : Bool) → AreBooksKept first s.serial before (names_of s.requests) [] → s.attempt.pending.name ≡ name_of s → IsHeldAfter first before (shifts s has_shifted)
 unfolding shifts
-shifts_held first before s false books its = record { books = books; knows = tt }
+shifts_held first before s false books its = record { books = books; knows = refl }
 shifts_held first before s true books its = accepts_held first before s reason.Contended books its
 
 attempted_held : (first : ℕ) (before : List Telling) (s : SessionState) (has_shifted : Bool) (its : TryAnswer) → AreBooksKept first s.serial before (names_of s.requests) [] → s.attempt.pending.name ≡ name_of s
@@ -185,11 +188,11 @@ caught_up_held first before k s Refreshes books = plain_held first before s _ tt
 caught_up_held first before k s Wakes books = plain_held first before (record s { is_awake = true }) _ tt books
 caught_up_held first before k s Shifts books = attempts_held first before k s true books
 
-catch_held : (first : ℕ) (before : List Telling) (k : Seat) (s : SessionState) (cause : CatchCause) (ask : Ask (Unit {0})) → s.step ≡ CatchesUp cause → AreBooksKept first s.serial before (names_of s.requests) []
+catch_held : (first : ℕ) (before : List Telling) (k : Seat) (s : SessionState) (cause : CatchCause) (ask : Ask (Unit {0})) → s.step ≡ CatchesUp cause → s.catching.serial ≡ s.serial → AreBooksKept first s.serial before (names_of s.requests) []
     → IsHeldAfter first before (catch_ledto k s cause ask)
 unfolding catch_ledto
-catch_held first before k s cause (Done its) e books = caught_up_held first before k (record s { seen = s.catching.seen }) cause books
-catch_held first before k s cause ask e books = still first before s (CatchesUp cause) e (record { books = books; knows = tt })
+catch_held first before k s cause (Done its) e same books = caught_up_held first before k (record s { seen = s.catching.seen }) cause books
+catch_held first before k s cause ask e same books = still first before s (CatchesUp cause) e (record { books = books; knows = same })
 
 clear_held : (first : ℕ) (before : List Telling) (k : Seat) (s : SessionState) (ask : Ask MailAnswer) → s.step ≡ ClearsMail → AreBooksKept first s.serial before (names_of s.requests) s.finished
     → IsHeldAfter first before (clear_ledto k s ask)
@@ -255,7 +258,7 @@ unfolding sitting_next
 next_held first before k s (Idle its) reply e busy held = cc
 next_held first before k s (Attempts has_shifted) reply e busy held = attempt_held first before (attempt_moved k s reply) has_shifted _ e held.books (moved_name k s reply ∙ held.knows)
 next_held first before k s (CatchesUp cause) reply e busy held =
-    catch_held first before k (caught k s reply) cause _ e (subst (λ (names : List RequestName). AreBooksKept first s.serial before names []) (sym (caught_names s.catching s.requests s.catching.step reply)) held.books)
+    catch_held first before k (caught k s reply) cause _ e (catch_serial k.places (bits_of k) k.number s.catching s.requests reply ∙ held.knows) (subst (λ (names : List RequestName). AreBooksKept first s.serial before names []) (sym (caught_names s.catching s.requests s.catching.step reply)) held.books)
 next_held first before k s ClearsMail reply e busy held = clear_held first before k (record s { mailing = mail_next s.mailing reply }) _ e held.books
 next_held first before k s (Polls i) reply e busy held = poll_held first before k (attempt_moved k s reply) i _ e (held.knows ∙ ap Some (sym (moved_name k s reply))) held.books
 next_held first before k s (StoresOwing i) reply e busy held = polls_held first before k s i held.books
@@ -291,11 +294,11 @@ clears_held first before k s books = either_held s.is_orphaned first before _ (p
 pub call_held : (first : ℕ) (before : List Telling) (k : Seat) (s : SessionState) (its : Call) → AreBooksKept first s.serial before (names_of s.requests) [] → IsHeldAfter first before (call_begun k s its)
 unfolding refresh_call poll_call sleep_call wake_call
 call_held first before k s (call.Op op) books = op_held first before k s op (refusal_of s op) books
-call_held first before k s call.Refresh books = either_held s.is_awake first before _ _ (record { books = books; knows = tt }) (plain_held first before s _ tt books)
+call_held first before k s call.Refresh books = either_held s.is_awake first before (record s { catching = refresh_begun s.catching s.seen s.serial; step = CatchesUp Refreshes }) _ (record { books = books; knows = refl }) (plain_held first before s _ tt books)
 call_held first before k s call.Poll books = either_held s.is_awake first before _ _ (clears_held first before k (record s { finished = [] }) books) (plain_held first before s _ tt books)
 call_held first before k s call.Sleep books = either_held (not s.is_awake) first before _ _ (plain_held first before s _ tt books)
     (either_held (length s.requests == 0) first before _ _ (record { books = books; knows = tt }) (plain_held first before s _ tt books))
-call_held first before k s call.Wake books = either_held s.is_awake first before _ _ (plain_held first before s _ tt books) (record { books = books; knows = tt })
+call_held first before k s call.Wake books = either_held s.is_awake first before _ (record s { catching = wake_begun s.catching s.seen s.serial; step = CatchesUp Wakes }) (plain_held first before s _ tt books) (record { books = books; knows = refl })
 call_held first before k s call.Durable books = record { books = books; knows = tt }
 
 idle_hand : (step : Sitting) (finished : List Finished) → is_busy step ≡ false → in_hand step finished ≡ []

@@ -1,6 +1,7 @@
 pub mod Accounts
 pub mod Answers
 pub mod CatchingUp
+pub mod Cuts
 pub mod OwnTurns
 pub mod PhaseWords
 pub mod Refused

@@ -3,8 +3,10 @@ ghost use Rattle.std.specs.Prelude.{◌≡◌, ◌<◌, ◌≤◌, ℕ, List};
 ghost use Rattle.fkv_base.specs.declared.faults.Fault.{Fault};
 ghost use Rattle.fkv_map.specs.declared.operations.Call.{Call};
 ghost use Rattle.fkv_session.specs.declared.answers.Told.TheVariants.{Refused};
-ghost use Rattle.fkv_session.specs.declared.sessions.Sitting.TheVariants.{Idle};
+ghost use Rattle.fkv_session.specs.declared.sessions.Sitting.TheVariants.{Idle, CatchesUp};
 ghost use Rattle.fkv_session.specs.Accounts.{AreInTurn, AreAccountedFor, IsAnsweredOnce, RiseWithin, names_of};
+ghost use Rattle.fkv_session.specs.declared.sessions.CatchCause.{CatchCause};
+ghost use Rattle.fkv_session.specs.Cuts.{IsCutTold};
 ghost use Rattle.fkv_session.specs.Refused.{before_call, has_caught_up, IsRefusal, IsRefusedWhole};
 ghost use Rattle.fkv_session.specs.SessionRun.{SessionEvent, session_run, IsOpened, all_told, in_hand};
 ghost use Rattle.fkv_session.specs.Sessions.{Seat, SessionState};
@@ -31,4 +33,12 @@ pub fn law_of_refusals()
     ensures later { (seat : Seat) (opening : SessionState) (events : List SessionEvent) (why : Fault) → IsOpened opening
         → (session_run seat opening events).step ≡ Idle (Refused why)
         → IsRefusal (before_call seat opening events) (session_run seat opening events) (has_caught_up seat opening events) }
+{}
+
+/// Where a session leaves a version, the cut word that it stores tells the serial that it has then, and the owing word behind it how
+/// many of its requests are updates of that version.
+pub fn law_of_cuts()
+    ensures { (seat : Seat) (opening : SessionState) (events : List SessionEvent) (cause : CatchCause) → IsOpened opening
+        → (session_run seat opening events).step ≡ CatchesUp cause
+        → IsCutTold seat (session_run seat opening events) }
 {}

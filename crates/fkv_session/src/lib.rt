@@ -14,6 +14,6 @@ mod sessions;
 
 pub use answers::{Answer, Finished, Told};
 pub use catching_up::CatchUp;
-pub use laws::{law_of_refusals, law_sessions};
+pub use laws::{law_of_cuts, law_of_refusals, law_sessions};
 pub use own_turns::OwnTurn;
 pub use sessions::Session;
