@@ -1,1 +1,11 @@
 -- What crates above may cite.
+pub use Rattle.fkv_session.proofs.AttemptKeeps.{attempt_keeps}
+pub use Rattle.fkv_session.proofs.Books.{AreBooksKept}
+pub use Rattle.fkv_session.proofs.CatchKeeps.{catch_serial}
+pub use Rattle.fkv_session.proofs.CutsTold.{run_cuts}
+pub use Rattle.fkv_session.proofs.Made.{made_by, IsMade, try_made}
+pub use Rattle.fkv_session.proofs.Once.{answered_once}
+pub use Rattle.fkv_session.proofs.Requests.{IsSameRequest}
+pub use Rattle.fkv_session.proofs.Sound.{Knows, IsHeld, Holds, next_held, given_held, call_held, event_holds, run_holds}
+pub use Rattle.fkv_session.proofs.Spared.{run_refusal}
+pub use Rattle.fkv_session.proofs.Whole.{begun_whole}

@@ -343,7 +343,8 @@ given_holds first before k s step action true e busy held = after_holds first be
 given_holds first before k s (Idle its) action false e busy held = subst (λ (x : Sitting). IsHeld first (with_coming x s.finished before) s x) (sym e) held
 given_holds first before k s step action false e busy held = cc
 
-event_holds : (first : ℕ) (before : List Telling) (k : Seat) (s : SessionState) (event : SessionEvent) → Holds first before s
+-- an event keeps what holds
+pub event_holds : (first : ℕ) (before : List Telling) (k : Seat) (s : SessionState) (event : SessionEvent) → Holds first before s
     → Holds first (told_after (is_calling s event) (session_happens k s event) before) (session_happens k s event)
 unfolding session_happens
 event_holds first before k s (Begins its) held = begins_holds first before k s its (is_busy s.step) refl held

@@ -2,6 +2,7 @@
 ghost use Rattle.std.specs.Prelude.{◌≡◌, ◌<◌, ◌≤◌, length};
 ghost use Rattle.fkv_base.specs.Limits.{max_sessions, max_pending, last_serial};
 ghost use Rattle.fkv_session.specs.Answers.{IsAnswered};
+ghost use Rattle.fkv_session.specs.SessionRun.{IsOpened};
 ghost use Rattle.fkv_session.specs.Sessions.{session_begun, session_ask, session_next, session_given, call_begun, asks_after, is_word_ask, is_busy};
 
 use crate::answers::{Answer, Finished, Told, answered};
@@ -95,6 +96,7 @@ impl Session {
         ensures number { result.seat.number ≡ number }
         ensures seen { result.state.seen ≡ seen }
         ensures serial { result.state.serial ≡ serial.0 }
+        ensures opened { IsOpened result.state }
     {
         let attempt = Attempt::new(&shape, number);
         let places = attempt.places();
