@@ -1,20 +1,18 @@
 -- What a session that catches up stores of the version that it leaves.
-use Rattle.std.proofs.Common.{◌≡◌, ℕ, List, refl, ap, sym, subst, ◌∙◌}
-use Rattle.fkv_plane.specs.declared.asks.Ask.{Ask}
+use Rattle.std.proofs.Common.{◌≡◌, ℕ, List, refl, ap, subst, ◌∙◌}
 use Rattle.fkv_plane.specs.declared.asks.Ask.TheVariants.{Store}
 use Rattle.fkv_plane.specs.declared.places.SessionWord.TheVariants as own
 use Rattle.fkv_plane.specs.Places.{session_place}
 use Rattle.fkv_plane.specs.Passing.{passed}
-use Rattle.fkv_session.specs.declared.answers.Told.{Told}
 use Rattle.fkv_session.specs.declared.answers.Told.TheVariants as told
 use Rattle.fkv_session.specs.declared.catching_up.Catching.{Catching}
 use Rattle.fkv_session.specs.declared.catching_up.Catching.TheVariants as catching
 use Rattle.fkv_session.specs.declared.sessions.CatchCause.{CatchCause}
 use Rattle.fkv_session.specs.declared.sessions.Sitting.{Sitting}
 use Rattle.fkv_session.specs.declared.sessions.Sitting.TheVariants.{CatchesUp}
-use Rattle.fkv_session.specs.CatchingUp.{CatchState, catching_ask, catch_ask, cut_of, cut_at, owing, version_before}
+use Rattle.fkv_session.specs.CatchingUp.{catching_ask, cut_of, cut_at, owing}
 use Rattle.fkv_session.specs.Sessions.{SessionState, Seat, sitting_ask, session_ask}
-use Rattle.fkv_session.specs.SessionRun.{SessionEvent, session_run, IsOpened, tellings, with_coming}
+use Rattle.fkv_session.specs.SessionRun.{SessionEvent, session_run, IsOpened}
 use Rattle.fkv_session.specs.Cuts.{IsCutTold, version_left}
 use Rattle.fkv_session.proofs.Sound.{Knows, run_holds}
 

@@ -27,7 +27,7 @@ use Rattle.fkv_ops.specs.declared.walking.WalkAnswer.{WalkAnswer}
 use Rattle.fkv_ops.specs.declared.walking.WalkAnswer.TheVariants as walk
 use Rattle.fkv_ops.specs.Requests.{is_read, is_blind}
 use Rattle.fkv_ops.specs.Values.{value_of}
-use Rattle.fkv_ops.specs.Trying.{TryState, ends, ended_without, is_wait, takes_effect, full_at, walks, shared_ledto, wants_exclusive, copies_from, copies, appends, awaits, held_used, met_nowhere, met_disk, changes, is_own_version, region_met, met_record, walked, has_walked, must_shift, walk_ledto, safe_loaded, current_ledto, value_changed, told_value, answer_ledto, exclusive_ledto, old_ledto, append_ledto, exclusive_dropped, shared_dropped, trying_next, try_next}
+use Rattle.fkv_ops.specs.Trying.{TryState, ends, ended_without, is_wait, takes_effect, full_at, shared_ledto, wants_exclusive, copies_from, copies, appends, awaits, held_used, changes, is_own_version, region_met, walked, has_walked, must_shift, walk_ledto, safe_loaded, current_ledto, value_changed, told_value, answer_ledto, exclusive_ledto, old_ledto, append_ledto, exclusive_dropped, shared_dropped, trying_next, try_next}
 
 -- the reply of a try that has ended as done
 abbrev pub reply_of : TryAnswer → Option Reply

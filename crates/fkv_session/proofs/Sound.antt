@@ -35,12 +35,11 @@ use Rattle.fkv_session.specs.declared.sessions.CatchCause.{CatchCause}
 use Rattle.fkv_session.specs.declared.sessions.CatchCause.TheVariants.{Refreshes, Wakes, Shifts}
 use Rattle.fkv_session.specs.declared.sessions.Sitting.{Sitting}
 use Rattle.fkv_session.specs.declared.sessions.Sitting.TheVariants.{Idle, Attempts, CatchesUp, ClearsMail, Polls, StoresOwing, Turns, StoresCut, Leaves, LoadsDurable}
-use Rattle.fkv_session.specs.CatchingUp.{refresh_begun, wake_begun, catching_ask, CatchState, latched, latch_marked, catching_requests}
+use Rattle.fkv_session.specs.CatchingUp.{refresh_begun, wake_begun, CatchState, latched, latch_marked, catching_requests}
 use Rattle.fkv_session.specs.OwnTurns.{own_turn_given}
 use Rattle.fkv_session.specs.Sessions.{SessionState, Seat, bits_of, is_busy, answers, answers_after_turn, ticket_after, name_of, request_in_hand, attempts, polls_request, polls_at, refusal_of, op_begun, refresh_call, poll_begun, poll_call, sleep_call, wake_call, call_begun, session_begun, attempt_left, serial_taken, update_done, is_no_room, with_request, accepts, shifts, attempted, attempt_ledto, caught_up, catch_ledto, clear_ledto, finished_of, is_finished, is_owed, request_finished, finishes_request, keeps_request, poll_ledto, turn_ledto, leave_ledto, attempt_moved, caught, own_turn_moved, sitting_next, sitting_given, asks_after, is_word_ask, session_ask}
 use Rattle.fkv_session.specs.SessionRun.{SessionEvent, Begins, Replies, Gets, begins, session_happens, session_run, IsOpened, Telling, telling, answered, is_calling, told_after, tellings, with_coming, in_hand}
 use Rattle.fkv_session.specs.Accounts.{names_of, name_finished}
-use Rattle.fkv_session.specs.Cuts.{IsCutTold, version_left}
 use Rattle.fkv_session.proofs.AttemptKeeps.{attempt_keeps, begun_same}
 use Rattle.fkv_session.proofs.CatchKeeps.{catch_serial}
 use Rattle.fkv_session.proofs.Books.{AreBooksKept, IsPlain, plain_kept, polled_kept, done_kept, update_kept, read_kept, finished_kept}

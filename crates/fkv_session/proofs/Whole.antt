@@ -1,5 +1,5 @@
 -- A call that is refused before its first ask leaves all as it was.
-use Rattle.std.proofs.Common.{◌≡◌, ℕ, refl, ap, Bool, true, false, List, [], length}
+use Rattle.std.proofs.Common.{◌≡◌, ℕ, ap, Bool, true, false, [], length}
 use Rattle.std.specs.Prelude.{Option, Some, None, if◌then◌else◌, not, ◌==◌, slice_get}
 use Rattle.fkv_base.specs.declared.faults.Fault.{Fault}
 use Rattle.fkv_base.specs.declared.faults.Fault.TheVariants as fault
@@ -9,7 +9,7 @@ use Rattle.fkv_map.specs.declared.operations.Op.{Op}
 use Rattle.fkv_pending.specs.declared.pending_requests.PendingRequest.{PendingRequest}
 use Rattle.fkv_session.specs.declared.answers.Told.TheVariants as told
 use Rattle.fkv_session.specs.declared.sessions.Sitting.TheVariants.{Idle}
-use Rattle.fkv_session.specs.Sessions.{SessionState, Seat, answers, refuses, answers_after_turn, attempts, polls_request, polls_at, refusal_of, op_begun, refresh_call, poll_begun, poll_call, sleep_call, wake_call, call_begun, session_begun}
+use Rattle.fkv_session.specs.Sessions.{SessionState, Seat, answers, refuses, attempts, polls_request, polls_at, refusal_of, op_begun, refresh_call, poll_begun, poll_call, sleep_call, wake_call, call_begun}
 use Rattle.fkv_session.specs.Refused.{IsRefusedWhole}
 
 abbrev pub IsWhole : SessionState → Fault → SessionState → Type 0
