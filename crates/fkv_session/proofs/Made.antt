@@ -1,5 +1,5 @@
 -- An update whose effect a try has made is done, with the reply that was told at the effect, and no other is.
-use Rattle.std.proofs.Common.{◌≡◌, ℕ, refl, sym, subst, Bool, true, false}
+use Rattle.std.proofs.Common.{◌≡◌, ℕ, refl, sym, subst, Bool, true, false, ap}
 use Rattle.std.specs.Prelude.{Option, Some, None, if◌then◌else◌, ◌==◌, ◌&&◌, not, nat_le}
 use Rattle.fkv_base.specs.declared.numbers.Addr.{Addr}
 use Rattle.fkv_base.specs.declared.numbers.Version.{Version}
@@ -9,6 +9,7 @@ use Rattle.fkv_map.specs.Keys.{key_of}
 use Rattle.fkv_plane.specs.declared.asks.Ask.{Ask}
 use Rattle.fkv_plane.specs.declared.asks.Ask.TheVariants.{Done}
 use Rattle.fkv_plane.specs.declared.places.Places.{Places}
+use Rattle.fkv_plane.specs.Passing.{passed}
 use Rattle.fkv_latch.specs.declared.latching.LatchAnswer.{LatchAnswer}
 use Rattle.fkv_latch.specs.declared.latching.LatchAnswer.TheVariants as latch
 use Rattle.fkv_ops.specs.declared.answers.Reason.TheVariants as reason
@@ -27,7 +28,7 @@ use Rattle.fkv_ops.specs.declared.walking.WalkAnswer.{WalkAnswer}
 use Rattle.fkv_ops.specs.declared.walking.WalkAnswer.TheVariants as walk
 use Rattle.fkv_ops.specs.Requests.{is_read, is_blind}
 use Rattle.fkv_ops.specs.Values.{value_of}
-use Rattle.fkv_ops.specs.Trying.{TryState, ends, ended_without, is_wait, takes_effect, full_at, shared_ledto, wants_exclusive, copies_from, copies, appends, awaits, held_used, changes, is_own_version, region_met, walked, has_walked, must_shift, walk_ledto, safe_loaded, current_ledto, value_changed, told_value, answer_ledto, exclusive_ledto, old_ledto, append_ledto, exclusive_dropped, shared_dropped, trying_next, try_next}
+use Rattle.fkv_ops.specs.Trying.{TryState, ends, ended_without, is_wait, takes_effect, full_at, shared_ledto, wants_exclusive, copies_from, copies, appends, awaits, held_used, changes, is_own_version, region_met, walked, has_walked, must_shift, walk_ledto, safe_loaded, current_ledto, value_changed, told_value, answer_ledto, exclusive_ledto, old_ledto, append_ledto, exclusive_dropped, shared_dropped, trying_ask, try_ask, trying_next, try_next}
 
 -- the reply of a try that has ended as done
 abbrev pub reply_of : TryAnswer → Option Reply
@@ -203,3 +204,31 @@ step_made p room t (try.DropsShared its) reply e s = shared_left _ its _ e (subs
 -- what a reply to a try makes
 pub try_made : (p : Places) (room : ℕ) (t : TryState) (reply : ℕ) → IsMade (try_next p room t reply) (made_by t.step)
 try_made p room t reply = step_made p room (record t { effect = None }) t.step reply refl refl
+
+passed_same : {A : Type 0} (ask : Ask A) (its found : TryAnswer) → passed ask its ≡ Done found → found ≡ its
+unfolding passed
+passed_same (Done inner) its found e = cc
+passed_same ask its found e = cc
+
+passed_reply : {A : Type 0} (ask : Ask A) (its found : TryAnswer) → passed ask its ≡ Done found → reply_of its ≡ reply_of found
+passed_reply ask its found e = sym (ap reply_of (passed_same ask its found e))
+
+ended_reply : (p : Places) (t : TryState) (step : Trying) (its : TryAnswer) → trying_ask p t step ≡ Done its → made_by step ≡ reply_of its
+unfolding trying_ask
+ended_reply p t (try.Ended found) its e = let same : found ≡ its = cc in ap reply_of same
+ended_reply p t try.TakesShared its e = passed_reply _ answer.Shift its e
+ended_reply p t try.Walks its e = passed_reply _ answer.Shift its e
+ended_reply p t (try.LoadsSafe addr version) its e = cc
+ended_reply p t (try.SwapsValue addr) its e = cc
+ended_reply p t (try.LoadsCurrent addr) its e = passed_reply _ answer.Shift its e
+ended_reply p t (try.ChangesValue addr old) its e = cc
+ended_reply p t try.LoadsAnswer its e = passed_reply _ answer.Shift its e
+ended_reply p t (try.TakesExclusive old) its e = passed_reply _ answer.Shift its e
+ended_reply p t try.LoadsOld its e = passed_reply _ answer.Shift its e
+ended_reply p t (try.Appends found) its e = passed_reply _ answer.Shift its e
+ended_reply p t (try.DropsExclusive found) its e = passed_reply _ found its e
+ended_reply p t (try.DropsShared found) its e = passed_reply _ found its e
+
+-- a try that ends as done has made its effect, with the reply that it ends with, and one that ends else has made none
+pub try_ended : (p : Places) (t : TryState) (its : TryAnswer) → try_ask p t ≡ Done its → made_by t.step ≡ reply_of its
+try_ended p t its e = ended_reply p t t.step its e

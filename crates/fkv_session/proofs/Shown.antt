@@ -3,7 +3,7 @@ pub use Rattle.fkv_session.proofs.AttemptKeeps.{attempt_keeps}
 pub use Rattle.fkv_session.proofs.Books.{AreBooksKept}
 pub use Rattle.fkv_session.proofs.CatchKeeps.{catch_serial}
 pub use Rattle.fkv_session.proofs.CutsTold.{run_cuts}
-pub use Rattle.fkv_session.proofs.Made.{made_by, IsMade, try_made}
+pub use Rattle.fkv_session.proofs.Made.{made_by, IsMade, try_made, try_ended}
 pub use Rattle.fkv_session.proofs.Once.{answered_once}
 pub use Rattle.fkv_session.proofs.Requests.{IsSameRequest}
 pub use Rattle.fkv_session.proofs.Sound.{Knows, IsHeld, Holds, next_held, given_held, call_held, event_holds, run_holds}
