@@ -1,6 +1,10 @@
+pub mod Accounts
 pub mod Answers
 pub mod AsksLeft
 pub mod CatchingUp
+pub mod Cuts
 pub mod OwnTurns
 pub mod PhaseWords
+pub mod Refused
+pub mod SessionRun
 pub mod Sessions

@@ -381,4 +381,5 @@ pub record IsOpened (s : SessionState) : Type 0 where
   pub no_asks : s.asks ≡ 0
   pub no_effect : s.effect ≡ None
   pub none_finished : s.finished ≡ []
-  pub at_rest : is_busy s.step ≡ false
+  pub none_in_hand : is_busy s.step ≡ false
+  pub serial_fits : s.serial ≤ last_serial

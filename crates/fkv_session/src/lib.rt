@@ -5,6 +5,7 @@
 mod answers;
 mod calls;
 mod catching_up;
+mod laws;
 mod leading;
 mod own_turns;
 mod phase_words;
@@ -13,6 +14,7 @@ mod sessions;
 
 pub use answers::{Answer, Finished, Told};
 pub use catching_up::CatchUp;
+pub use laws::{law_of_cuts, law_of_refusals, law_sessions};
 pub use own_turns::OwnTurn;
 pub use sessions::Session;
 
