@@ -13,8 +13,10 @@ mod OrderLists
 mod OrderSteps
 mod Orders
 mod Owned
+mod Purposes
 mod Ranges
 mod Rows
 mod Runs
+mod Searches
 mod Steps
 pub mod Shown

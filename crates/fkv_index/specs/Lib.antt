@@ -6,5 +6,6 @@ pub mod Finding
 pub mod IndexWorld
 pub mod OneEntry
 pub mod Publishing
+pub mod Searches
 pub mod SlotOrders
 pub mod Slots

@@ -2,6 +2,7 @@
 ghost use Rattle.fkv_index.specs.OneEntry.{HomesAreThere, AtEachMoment, IsIndexAt, AnswersTrue, ContendedHaveLost, SparesTold, ReadsLoad, HaveSlots, EachGrows};
 ghost use Rattle.fkv_index.specs.Entries.{AnswersEntry, PublishesTrue, EachMovesEntries};
 ghost use Rattle.fkv_index.specs.SlotOrders.{OrdersFilled, OrdersHaveTagsOnce, EachMovesOrders};
+ghost use Rattle.fkv_index.specs.Searches.{SearchesWrite, AnswersPurpose, FullIsSo};
 ghost use Rattle.fkv_index.specs.EighthEntry.{EmptyIsIndex, LinksOnce};
 
 /// The home of a key is one that the index has.
@@ -41,6 +42,16 @@ pub fn law_orders()
     ensures filled { AtEachMoment OrdersFilled }
     ensures tags { AtEachMoment OrdersHaveTagsOnce }
     ensures moves { AtEachMoment EachMovesOrders }
+{}
+
+/// Over the same runs: a step of a search changes no word, or raises the count of taken buckets by one, or links the bucket that its session
+/// has to spare behind the last of its home's list, and then the upper bits of the word that leads there stay, and all other words.
+/// Only a search for a read comes to no slot, and only one for an update finds all overflow buckets taken;
+/// its session has none to spare then, and a bucket of the list is full of entries of other tags.
+pub fn law_searches()
+    ensures writes { AtEachMoment SearchesWrite }
+    ensures purposes { AtEachMoment AnswersPurpose }
+    ensures full { AtEachMoment FullIsSo }
 {}
 
 /// An index without entries is in order, and a run that begins with one: seven entries fill a bucket, two sessions link at once,
