@@ -1,6 +1,7 @@
 mod Asks
 mod Begun
 mod BucketWords
+mod Contended
 mod Distinct
 mod Empty
 mod EntryLists

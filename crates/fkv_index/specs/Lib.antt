@@ -1,4 +1,5 @@
 pub mod Buckets
+pub mod Contended
 pub mod Counted
 pub mod EighthEntry
 pub mod Entries
