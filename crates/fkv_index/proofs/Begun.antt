@@ -24,7 +24,7 @@ use Rattle.fkv_index.specs.IndexWorld.{SlotWork, Seeks, Holds, Enters, IndexActo
 use Rattle.fkv_index.specs.OneEntry.{IsLoad}
 
 -- neither a count nor a link is asked to change
-abbrev LoadsAlone : FindStep → Type 0
+abbrev pub LoadsAlone : FindStep → Type 0
 LoadsAlone (LoadsTaken word) = ⊥
 LoadsAlone (TakesBucket word taken) = ⊥
 LoadsAlone (LinksBucket word) = ⊥

@@ -1,6 +1,7 @@
 mod Asks
 mod Begun
 mod BucketWords
+mod Contended
 mod Distinct
 mod Empty
 mod EntryLists
@@ -13,8 +14,10 @@ mod OrderLists
 mod OrderSteps
 mod Orders
 mod Owned
+mod Purposes
 mod Ranges
 mod Rows
 mod Runs
+mod Searches
 mod Steps
 pub mod Shown

@@ -35,7 +35,7 @@ Loses lost (On f) = f.step ≡ AtRest → ⊥
 Loses lost (Ends f Contended) = lost
 Loses lost (Ends f found) = ⊤
 
-asks_on : (f : Finding) (step : FindStep) (answer : FindAnswer) → (step ≡ AtRest → ⊥) → find_step_ask f step ≡ Done answer → ⊥
+pub asks_on : (f : Finding) (step : FindStep) (answer : FindAnswer) → (step ≡ AtRest → ⊥) → find_step_ask f step ≡ Done answer → ⊥
 unfolding find_step_ask
 asks_on f AtRest answer under e = under refl
 asks_on f (LoadsSlot slot) answer under e = cc

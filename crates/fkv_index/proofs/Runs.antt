@@ -23,7 +23,7 @@ use Rattle.fkv_index.proofs.Begun.{IsBegun, at_rest, moved_begun, reads_load, lo
 use Rattle.fkv_index.proofs.Steps.{becomes_same, actor_stepped, seek_true}
 
 -- what holds of each item holds of each after one write of an item of which it holds
-each_set : {X : Type 0} (P : X → Type 0) (xs : List X) (i : ℕ) (x : X) → P x → ((j : ℕ) (y : X) → slice_get xs j ≡ Some y → P y) → (j : ℕ) (y : X) → slice_get (slice_set xs i x) j ≡ Some y → P y
+pub each_set : {X : Type 0} (P : X → Type 0) (xs : List X) (i : ℕ) (x : X) → P x → ((j : ℕ) (y : X) → slice_get xs j ≡ Some y → P y) → (j : ℕ) (y : X) → slice_get (slice_set xs i x) j ≡ Some y → P y
 each_set P [] i x p all j y e = all j y e
 each_set P (z ∷ zs) zero x p all zero y e = let same : y ≡ x = cc in rw same p
 each_set P (z ∷ zs) zero x p all (suc j) y e = all (suc j) y e

@@ -1,4 +1,5 @@
 pub mod Buckets
+pub mod Contended
 pub mod Counted
 pub mod EighthEntry
 pub mod Entries
@@ -6,5 +7,6 @@ pub mod Finding
 pub mod IndexWorld
 pub mod OneEntry
 pub mod Publishing
+pub mod Searches
 pub mod SlotOrders
 pub mod Slots

@@ -24,7 +24,8 @@ pub enum Found {
     Slot(usize, u64),
     /// Of a read: no slot has the home's entry, and none is empty.
     NoSlot,
-    /// No slot has the home's entry, none is empty, and all overflow buckets are taken.
+    /// Of an update: all overflow buckets are taken, the session has none to spare, and the last bucket that was searched is
+    /// full of other entries. Another may have linked a bucket behind that one since.
     Full,
     /// Another actor was first, or the machine is at rest.
     Contended,

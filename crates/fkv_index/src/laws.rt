@@ -2,6 +2,8 @@
 ghost use Rattle.fkv_index.specs.OneEntry.{HomesAreThere, AtEachMoment, IsIndexAt, AnswersTrue, ContendedHaveLost, SparesTold, ReadsLoad, HaveSlots, EachGrows};
 ghost use Rattle.fkv_index.specs.Entries.{AnswersEntry, PublishesTrue, EachMovesEntries};
 ghost use Rattle.fkv_index.specs.SlotOrders.{OrdersFilled, OrdersHaveTagsOnce, EachMovesOrders};
+ghost use Rattle.fkv_index.specs.Contended.{AtEachMet, ContendedHaveMet};
+ghost use Rattle.fkv_index.specs.Searches.{SearchesWrite, AnswersPurpose, FullIsSo};
 ghost use Rattle.fkv_index.specs.EighthEntry.{EmptyIsIndex, LinksOnce};
 
 /// The home of a key is one that the index has.
@@ -12,7 +14,7 @@ pub fn law_homes()
 /// Whatever the order of the steps of all that search and publish, and whatever others do to words that are not the index's,
 /// and to the upper bits of eighth words: the buckets are in order, each home has one entry at most, and each overflow bucket
 /// that is taken is in one list or is one session's spare. What a search comes to is so at the step that ends it, one that
-/// ends as contended has lost against another, and a slot that was found stays the home's. The spare that a search answers is the
+/// ends as contended has lost a Cas or what it linked, and a slot that was found stays the home's. The spare that a search answers is the
 /// one that its session owns, and a search that is a read changes no word. A slot that is not empty keeps its tag for good, and
 /// lists grow at their ends.
 pub fn law_one_entry()
@@ -41,6 +43,19 @@ pub fn law_orders()
     ensures filled { AtEachMoment OrdersFilled }
     ensures tags { AtEachMoment OrdersHaveTagsOnce }
     ensures moves { AtEachMoment EachMovesOrders }
+{}
+
+/// Over the same runs: a step of a search changes no word, or raises the count of taken buckets by one, or links the bucket that its session
+/// has to spare behind the last of its home's list, and then the upper bits of the word that leads there stay, and all other words.
+/// Only a search for a read comes to no slot, and only one for an update finds all overflow buckets taken;
+/// its session has none to spare then, and a bucket of the list is full of entries of other tags.
+/// A search ends as contended only where it meets another word at a place than it met last there, or where it has linked a bucket
+/// and all slots of its home have entries of other tags again.
+pub fn law_searches()
+    ensures writes { AtEachMoment SearchesWrite }
+    ensures purposes { AtEachMoment AnswersPurpose }
+    ensures full { AtEachMoment FullIsSo }
+    ensures contended { AtEachMet ContendedHaveMet }
 {}
 
 /// An index without entries is in order, and a run that begins with one: seven entries fill a bucket, two sessions link at once,

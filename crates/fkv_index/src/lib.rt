@@ -10,7 +10,9 @@ mod slot_words;
 
 pub use finding::{Find, FindAnswer, Found, Purpose};
 pub use homes::{Home, home_of};
-pub use laws::{law_entries, law_homes, law_of_the_eighth_entry, law_one_entry, law_orders};
+pub use laws::{
+    law_entries, law_homes, law_of_the_eighth_entry, law_one_entry, law_orders, law_searches,
+};
 pub use publishing::{Publish, PublishAnswer};
 
 #[cfg(test)]

@@ -1,6 +1,6 @@
 use crate::{
     Find, FindAnswer, Found, Home, Publish, PublishAnswer, Purpose, home_of, law_entries,
-    law_homes, law_of_the_eighth_entry, law_one_entry, law_orders,
+    law_homes, law_of_the_eighth_entry, law_one_entry, law_orders, law_searches,
 };
 use fkv_base::{Addr, Key, Shape};
 use fkv_plane::{Ask, Places, PlainWords};
@@ -185,6 +185,50 @@ fn two_sessions_link_at_once(rt: HostRuntime) -> Result<(), Fail> {
     law_entries();
     law_orders();
     law_of_the_eighth_entry();
+    law_searches();
+    Ok(())
+}
+
+/// A link leaves the latch in the word that leads there as it is: bit 63, and five shares above the low 48 bits.
+#[test]
+fn a_link_beside_a_latch(rt: HostRuntime) -> Result<(), Fail> {
+    let shape = Shape::new(1, 4, 2, 1, 2, 2, 64)?;
+    let mut plane = PlainWords::new(rt.alloc(), 128)?;
+    fill(&mut plane, 64, 1);
+    let latch = 9223372036854775808 + 5 * 281474976710656;
+    plane.perform(&Ask::<FindAnswer>::Store(71, latch));
+    let mut machine = Find::new(Places::of(&shape), shape.bucket_bits);
+    let mut ask = machine.start(Key(17), Purpose::Update, 0);
+    for _ in 0..10 {
+        ask = machine.drive(plane.perform(&ask));
+    }
+    assert_eq!(rt; ask, Ask::Cas(71, latch, latch + 1));
+    assert_eq!(rt;
+        go_on(&mut plane, &mut machine, ask),
+        Some((Found::Slot(72, 0), 0))
+    );
+    assert_eq!(rt; (plane.word(71), plane.word(10)), (latch + 1, 1));
+    Ok(())
+}
+
+/// Others fill the bucket that a search has linked: it ends there as contended, and links no second one.
+#[test]
+fn the_linked_bucket_is_filled_by_others(rt: HostRuntime) -> Result<(), Fail> {
+    let shape = Shape::new(0, 4, 2, 1, 2, 2, 64)?;
+    let mut plane = PlainWords::new(rt.alloc(), 128)?;
+    fill(&mut plane, 56, 1);
+    let mut machine = Find::new(Places::of(&shape), shape.bucket_bits);
+    let mut ask = machine.start(Key(15), Purpose::Update, 0);
+    for _ in 0..11 {
+        ask = machine.drive(plane.perform(&ask));
+    }
+    assert_eq!(rt; ask, Ask::Load(64));
+    fill(&mut plane, 64, 8);
+    assert_eq!(rt;
+        go_on(&mut plane, &mut machine, ask),
+        Some((Found::Contended, 0))
+    );
+    assert_eq!(rt; (plane.word(63), plane.word(71), plane.word(10)), (1, 0, 1));
     Ok(())
 }
 
