@@ -1,5 +1,5 @@
 -- What a search does to the words, and what it may answer, by what it was begun for.
-use Rattle.std.specs.Prelude.{◌≡◌, ℕ, ◌+◌, ◌/◌, ◌^◌, ◌⊎◌, List, [], ◌∷◌, ◌++◌, slice_get, slice_set, Some, ⊤}
+use Rattle.std.specs.Prelude.{◌≡◌, ◌≤◌, ◌<◌, ℕ, ◌+◌, ◌/◌, ◌^◌, ◌⊎◌, List, [], ◌∷◌, ◌++◌, slice_get, slice_set, Some, ⊤}
 use Rattle.fkv_plane.specs.declared.asks.Ask.TheVariants.{Done}
 use Rattle.fkv_plane.specs.declared.places.Places.{Places}
 use Rattle.fkv_plane.specs.declared.places.SharedWord.TheVariants as one
@@ -8,13 +8,15 @@ use Rattle.fkv_plane.specs.Asked.{word_at, reply_to}
 use Rattle.fkv_index.specs.declared.finding.Purpose.{Purpose}
 use Rattle.fkv_index.specs.declared.finding.Purpose.TheVariants.{Read, Update}
 use Rattle.fkv_index.specs.declared.finding.Found.{Found}
-use Rattle.fkv_index.specs.declared.finding.Found.TheVariants.{NoSlot, Full}
+use Rattle.fkv_index.specs.declared.finding.Found.TheVariants.{NoSlot, Full, Contended}
 use Rattle.fkv_index.specs.declared.finding.FindAnswer.{FindAnswer}
+use Rattle.fkv_index.specs.declared.finding.FindStep.TheVariants.{LoadsSlot, LoadsLink}
+use Rattle.fkv_index.specs.declared.finding.Finding.{Finding}
 use Rattle.fkv_index.specs.Slots.{bucket_slots, link_of}
 use Rattle.fkv_index.specs.Finding.{find_ask, find_next_ask}
 use Rattle.fkv_index.specs.Buckets.{bucket_words, IsAmong, AreOthers}
-use Rattle.fkv_index.specs.IndexWorld.{Seeks, IndexActor, Moves, IndexWorld, taken_of, index_happens}
-use Rattle.fkv_index.specs.OneEntry.{spare_at}
+use Rattle.fkv_index.specs.IndexWorld.{Seeks, IndexActor, IndexEvent, Moves, IndexWorld, taken_of, index_happens}
+use Rattle.fkv_index.specs.OneEntry.{spare_at, IsSlotWord}
 
 -- all words and lists are as they were
 pub record ChangesNothing (words after : List ℕ) (lists lists_after : ℕ → List ℕ) : Type 0 where
@@ -69,3 +71,25 @@ pub record IsFullThen (w : IndexWorld) (actor : ℕ) (x : IndexActor) : Type 0 w
 abbrev pub FullIsSo : IndexWorld → Type 0
 FullIsSo w = (actor : ℕ) (x : IndexActor) (answer : FindAnswer) → slice_get w.now.actors actor ≡ Some x → x.work ≡ Seeks
     → find_next_ask w.now.places x.finding (reply_to w.now.words (find_ask x.finding)) ≡ Done answer → answer.found ≡ Full → IsFullThen w actor x
+
+-- an event that is a step of a search, which links a bucket to one list and changes no other
+pub record IsLinkBy (w : IndexWorld) (event : IndexEvent) : Type 0 where
+  pub actor : ℕ
+  pub its_event : event ≡ Moves actor
+  pub x : IndexActor
+  pub got : slice_get w.now.actors actor ≡ Some x
+  pub seeks : x.work ≡ Seeks
+  pub links : LinksOne w.now.places w.now.words (index_happens w event).now.words w.lists (index_happens w event).lists x.finding.home.bucket (spare_at w.now.actors actor)
+
+-- no other event changes a list
+abbrev pub ListsMove : IndexWorld → Type 0
+ListsMove w = (event : IndexEvent) → ((index_happens w event).lists ≡ w.lists) ⊎ IsLinkBy w event
+
+-- whatever state a search is in, a reply that no store gives ends it as contended, with the spare that it had: a slot's word that is neither empty nor an entry, a link to no overflow bucket, and one link more than it may follow
+pub record EndsAtSpoiled (p : Places) (f : Finding) (reply : ℕ) : Type 0 where
+  pub slots : (slot : ℕ) → f.step ≡ LoadsSlot slot → (IsSlotWord reply → ⊥) → find_next_ask p f reply ≡ Done (record { found = Contended; spare = f.spare })
+  pub far_links : f.step ≡ LoadsLink → p.overflow < link_of reply → find_next_ask p f reply ≡ Done (record { found = Contended; spare = f.spare })
+  pub many_links : f.step ≡ LoadsLink → 1 ≤ link_of reply → f.links ≡ 0 → find_next_ask p f reply ≡ Done (record { found = Contended; spare = f.spare })
+
+abbrev pub SpoiledEnd : Type 0
+SpoiledEnd = (p : Places) (f : Finding) (reply : ℕ) → EndsAtSpoiled p f reply

@@ -3,7 +3,7 @@ ghost use Rattle.fkv_index.specs.OneEntry.{HomesAreThere, AtEachMoment, IsIndexA
 ghost use Rattle.fkv_index.specs.Entries.{AnswersEntry, PublishesTrue, EachMovesEntries};
 ghost use Rattle.fkv_index.specs.SlotOrders.{OrdersFilled, OrdersHaveTagsOnce, EachMovesOrders};
 ghost use Rattle.fkv_index.specs.Contended.{AtEachMet, ContendedHaveMet};
-ghost use Rattle.fkv_index.specs.Searches.{SearchesWrite, AnswersPurpose, FullIsSo};
+ghost use Rattle.fkv_index.specs.Searches.{SearchesWrite, ListsMove, AnswersPurpose, FullIsSo, SpoiledEnd};
 ghost use Rattle.fkv_index.specs.EighthEntry.{EmptyIsIndex, LinksOnce};
 
 /// The home of a key is one that the index has.
@@ -50,12 +50,15 @@ pub fn law_orders()
 /// Only a search for a read comes to no slot, and only one for an update finds all overflow buckets taken;
 /// its session has none to spare then, and a bucket of the list is full of entries of other tags.
 /// A search ends as contended only where it meets another word at a place than it met last there, or where it has linked a bucket
-/// and all slots of its home have entries of other tags again.
+/// and all slots of its home have entries of other tags again. No event but a link changes a list. And in any state, a reply that no
+/// store gives ends a search as contended.
 pub fn law_searches()
     ensures writes { AtEachMoment SearchesWrite }
+    ensures lists { AtEachMoment ListsMove }
     ensures purposes { AtEachMoment AnswersPurpose }
     ensures full { AtEachMoment FullIsSo }
     ensures contended { AtEachMet ContendedHaveMet }
+    ensures spoiled { SpoiledEnd }
 {}
 
 /// An index without entries is in order, and a run that begins with one: seven entries fill a bucket, two sessions link at once,

@@ -232,6 +232,33 @@ fn the_linked_bucket_is_filled_by_others(rt: HostRuntime) -> Result<(), Fail> {
     Ok(())
 }
 
+/// An entry is found in an overflow bucket; a link to no overflow bucket ends the search, and so does a link too many.
+#[test]
+fn links_that_are_followed(rt: HostRuntime) -> Result<(), Fail> {
+    let shape = Shape::new(0, 4, 2, 1, 2, 1, 64)?;
+    let mut plane = PlainWords::new(rt.alloc(), 128)?;
+    let mut machine = Find::new(Places::of(&shape), shape.bucket_bits);
+    fill(&mut plane, 56, 1);
+    fill(&mut plane, 64, 8);
+    plane.perform(&Ask::<FindAnswer>::Store(63, 1));
+    let ninth = 9 * 281474976710656 + 5;
+    assert_eq!(rt;
+        find(&mut plane, &mut machine, 9, Purpose::Read, 0),
+        Some((Found::Slot(65, ninth), 0))
+    );
+    plane.perform(&Ask::<FindAnswer>::Store(71, 1));
+    assert_eq!(rt;
+        find(&mut plane, &mut machine, 15, Purpose::Read, 0),
+        Some((Found::Contended, 0))
+    );
+    plane.perform(&Ask::<FindAnswer>::Store(63, 2));
+    assert_eq!(rt;
+        find(&mut plane, &mut machine, 9, Purpose::Read, 0),
+        Some((Found::Contended, 0))
+    );
+    Ok(())
+}
+
 /// A word that no store gives ends the search.
 #[test]
 fn words_that_no_store_gives(rt: HostRuntime) -> Result<(), Fail> {
