@@ -29,7 +29,7 @@ use Rattle.fkv_ops.specs.Requests.{is_read, purpose_of}
 use Rattle.fkv_ops.specs.Walking.{WalkState, walk_begun, walking_ask, walk_ask, reached, slot_found, find_ledto, first_met, record_met, load_ledto, value_ledto, walking_next, walk_next, walking_on, walk_on}
 use Rattle.fkv_ops.specs.TryRun.{Trial, home_at, Told}
 use Rattle.fkv_ops.specs.Reasons.{Loaded, HasEntry, HasEnd, IsIndexFull, AtEntry, Behind, WalksTo, HasFound, LeavesMemory, IsContended, NoStore, NoHeader, NotBelow, PastRing}
-use Rattle.fkv_ops.proofs.BoolTests.{lt_true, lt_false, eq_true, some_where}
+use Rattle.fkv_ops.proofs.BoolTests.{lt_true, lt_false, eq_true, eq_false, some_where}
 use Rattle.fkv_ops.proofs.Searched.{Searches, Leads, FindsTrue, search_true, search_begun, search_asks}
 
 -- the version of the chain's first record
@@ -162,7 +162,7 @@ record_true c told w addr header key its_key its_head walks in_memory first its_
         its_loading = loading;
       };
     }
-    by_key false e = reached_true c told (record w { first = first_met w.first version }) (previous_in header) its_key its_head (record { slot = walks.slot; reached = Behind header walks.reached its_header }) (first_at w.first (has_first w.first first))
+    by_key false e = reached_true c told (record w { first = first_met w.first version }) (previous_in header) its_key its_head (record { slot = walks.slot; reached = Behind header key walks.reached its_header has_key (λ same. eq_false key w.key.0 e (same ∙ sym (ap (λ k. k.0) its_key))) }) (first_at w.first (has_first w.first first))
 
     by_previous : (b : Bool) → nat_lt (previous_in header) addr.0 ≡ b
         → WalkKnows c told (if b then (if key == w.key.0 then record w { first = first_met w.first version; step = AtFound addr version } else reached c.places (record w { first = first_met w.first version }) (previous_in header)) else record w { step = Ended walk.Contended })

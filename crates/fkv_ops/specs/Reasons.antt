@@ -71,17 +71,19 @@ pub record HasEnd (c : Trial) (told : Told) (own : Bool) : Type 0 where
   pub its_word : Loaded told (base + bucket_slots) word
   pub no_link : link_of word ≡ 0
 
--- the addresses of the chain that an entry begins: the entry's own, and behind each record the one that its header names
+-- the addresses of the chain that an entry begins: the entry's own, and behind each record that is of another key the one that its header
+-- names. So a walk passes no record of the request's key
 pub data Reaches (c : Trial) (told : Told) (entry : ℕ) : ℕ → Type 0 where
   AtEntry : Reaches c told entry (entry_addr entry)
-  Behind : {addr : ℕ} (header : ℕ) → Reaches c told entry addr → Loaded told (record_place c.places addr rec.Header) header → Reaches c told entry (previous_in header)
+  Behind : {addr : ℕ} (header key : ℕ) → Reaches c told entry addr → Loaded told (record_place c.places addr rec.Header) header → Loaded told (record_place c.places addr rec.Key) key
+      → key ≢ (key_of c.request.op).0 → Reaches c told entry (previous_in header)
 
 -- the walk comes to this address from the entry of a slot
 pub record WalksTo (c : Trial) (told : Told) (place entry addr : ℕ) : Type 0 where
   pub slot : HasEntry c told place entry
   pub reached : Reaches c told entry addr
 
--- the walk found the record of the request's key, in memory
+-- the walk found a record of the request's key, in memory: the first one of its chain
 pub record HasFound (c : Trial) (told : Told) (place entry addr version : ℕ) : Type 0 where
   pub walk : WalksTo c told place entry addr
   pub header : ℕ
