@@ -48,7 +48,7 @@ abbrev ReserveRow : Trial → Told → Reserving → Type 0
 ReserveRow c told RestsReserving = ⊥
 ReserveRow c told LoadsLimit = ⊤
 ReserveRow c told (LoadsTail limit) = Loaded told (shared_place one.Limit) limit
-ReserveRow c told (TakesTail tail) = ⊤
+ReserveRow c told (TakesTail tail) = Loaded told (shared_place one.Tail) tail
 
 -- the words that are stored so far
 abbrev FillRow : Trial → Told → RecordWords → Addr → Filling → Type 0
@@ -140,7 +140,7 @@ reserve_true c told slot words last a (LoadsTail limit) reply works at next row 
     by_room false e high = record { its_slot = works.its_slot; its_words = works.its_words; has_slot = works.has_slot; previous = works.previous; its_row = (reply, room high, eq_false reply c.room e) }
 
     on : a.reserving ≡ TakesTail reply → AppendKnows c told slot words last a
-    on its = with_row c told slot words last a works (subst (AppendRow c told slot words last a) (sym at) (subst (ReserveRow c told) (sym its) tt))
+    on its = with_row c told slot words last a works (subst (AppendRow c told slot words last a) (sym at) (subst (ReserveRow c told) (sym its) was))
 
     by_limit : (b : Bool) → nat_lt reply limit ≡ b → AppendKnows c told slot words last (reserve_ledto a (if b then reserve_ask (TakesTail reply) else Done (no_room_at c.room reply)))
     by_limit true e = on (next ∙ rw e refl)
@@ -154,7 +154,7 @@ reserve_true c told slot words last a (TakesTail tail) reply works at next row w
       its_words = works.its_words;
       has_slot = works.has_slot;
       previous = works.previous;
-      its_row = TailLost tail (record { found = reply; its_cas = was; another = eq_false reply tail e });
+      its_row = TailLost tail row (record { found = reply; its_cas = was; another = eq_false reply tail e });
     }
 
 stored : (told : Told) (place word reply : ℕ) → told (Store place word) reply → IsStored told place word

@@ -37,7 +37,7 @@ use Rattle.fkv_ops.specs.Requests.{is_read, is_blind}
 use Rattle.fkv_ops.specs.Appending.{AppendState, appending_ask, append_ask, publish_ledto, appending_next, append_next}
 use Rattle.fkv_ops.specs.Trying.{TryState, trying_ask, try_ask, trying_next, is_wait, with_latch, walks, ends, ended_without, takes_effect, full_at, value_changed, append_ledto, words_of}
 use Rattle.fkv_ops.specs.TryRun.{Trial, home_at, trial_begun, try_run, Told, told_by, effects_of}
-use Rattle.fkv_ops.specs.Reasons.{latch_place, HasEntry}
+use Rattle.fkv_ops.specs.Reasons.{latch_place, Loaded, HasEntry}
 use Rattle.fkv_ops.specs.Effects.{IsStored, MayChange, IsMadeOf, IsPublished, IsEffect, BySwap, ByChange, ByRecord, EffectsAreTrue, AreKindsSo, shares_latch, SharesFirst, needs_exclusive, HasSetBit}
 use Rattle.fkv_ops.proofs.BoolTests.{eq_true}
 use Rattle.fkv_ops.proofs.Appended.{IsReserved, IsFilled, is_publishing, AppendRow, AppendKnows, append_true, append_answers}
@@ -82,9 +82,9 @@ swap_effect c told t addr reply its may blind e =
     let told_so = the_reply (reply_from None c.request.op) its (sym (ends_effect c.places (record (quieted c t) { effect = Some (reply_from None c.request.op) }) (answer.Done (reply_from None c.request.op))) ∙ e) in
     BySwap (record { addr = addr.0; may = may; blind = blind; its_ask = ap (λ v. Swap (record_place c.places addr.0 rec.Value) (word_of v)) same.0; its_reply = sym told_so ∙ same.1 })
 
-change_effect : (c : Trial) (told : Told) (t : TryState) (addr : Addr) (old reply : ℕ) (its : Reply) → MayChange c told addr.0 → (value_changed c.places (quieted c t) old reply).effect ≡ Some its
+change_effect : (c : Trial) (told : Told) (t : TryState) (addr : Addr) (old reply : ℕ) (its : Reply) → MayChange c told addr.0 → Loaded told (record_place c.places addr.0 rec.Value) old → (value_changed c.places (quieted c t) old reply).effect ≡ Some its
     → IsEffect c told (Cas (record_place c.places addr.0 rec.Value) old (word_of (value_applied (value_of old) c.request.op))) reply its
-change_effect c told t addr old reply its may = by_word (reply == old) refl
+change_effect c told t addr old reply its may loaded = by_word (reply == old) refl
   where
     new : ℕ → ℕ
     new word = word_of (value_applied (value_of word) c.request.op)
@@ -94,7 +94,7 @@ change_effect c told t addr old reply its may = by_word (reply == old) refl
     by_word true d e =
         let same : old ≡ reply = sym (eq_true reply old d) in
         let told_so = the_reply (reply_from (value_of old) c.request.op) its (sym (ends_effect c.places (record (quieted c t) { effect = Some (reply_from (value_of old) c.request.op) }) (answer.Done (reply_from (value_of old) c.request.op))) ∙ e) in
-        ByChange (record { addr = addr.0; may = may; its_ask = ap (λ w. Cas (record_place c.places addr.0 rec.Value) w (new w)) same; its_reply = sym told_so ∙ ap (λ w. reply_from (value_of w) c.request.op) same })
+        ByChange (record { addr = addr.0; may = may; its_old = subst (Loaded told (record_place c.places addr.0 rec.Value)) same loaded; its_ask = ap (λ w. Cas (record_place c.places addr.0 rec.Value) w (new w)) same; its_reply = sym told_so ∙ ap (λ w. reply_from (value_of w) c.request.op) same })
     by_word false d e = none_told its (sym (ends_effect c.places (quieted c t) (answer.Wait reason.Contended)) ∙ e)
 
 -- the Cas by which a record was published
@@ -187,7 +187,7 @@ effect_row : (c : Trial) (told : Told) (t : TryState) (step : Trying) (reply : �
     → IsEffect c told (trying_ask c.places (quieted c t) step) reply its
 unfolding trying_ask trying_next
 effect_row c told t (SwapsValue addr) reply its row any makes e = swap_effect c told t addr reply its row.1 row.2 e
-effect_row c told t (ChangesValue addr old) reply its row any makes e = change_effect c told t addr old reply its row.1 e
+effect_row c told t (ChangesValue addr old) reply its row any makes e = change_effect c told t addr old reply its row.1 row.2 e
 effect_row c told t (Appends r) reply its row any makes e = appends_effect c told t r reply its row any e
 effect_row c told t (Ended it) reply its row any makes e = cc
 effect_row c told t TakesShared reply its row any makes e = cc

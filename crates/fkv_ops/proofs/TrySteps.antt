@@ -31,7 +31,7 @@ use Rattle.fkv_ops.specs.Walking.{walk_ask, walk_next}
 use Rattle.fkv_ops.specs.Appending.{append_ask, append_next}
 use Rattle.fkv_ops.specs.Trying.{TryState, trying_ask, is_wait, is_prepare, ends, takes_effect, walks, shared_ledto, current_ledto, value_changed, told_value, answer_ledto, exclusive_ledto, old_ledto, append_ledto, exclusive_dropped, shared_dropped, trying_next, words_of}
 use Rattle.fkv_ops.specs.TryRun.{Trial, home_at, Told, reply_told}
-use Rattle.fkv_ops.specs.Reasons.{latch_place, HasEntry, Held, Quicker, OthersWentOn, ByLatch, HasValue, ValueLost, IsTrue}
+use Rattle.fkv_ops.specs.Reasons.{latch_place, Loaded, HasEntry, Held, Quicker, OthersWentOn, ByLatch, HasValue, ValueLost, IsTrue}
 use Rattle.fkv_ops.specs.Effects.{MayChange, IsMadeOf, OfRecord, IsLoaded, shares_latch}
 use Rattle.fkv_ops.proofs.BoolTests.{lt_true, lt_false, le_true, le_false, eq_true, eq_false, both}
 use Rattle.fkv_ops.proofs.Walked.{walk_true, walk_begun_true, walk_begun_asks, loads_place, loads_value, loads_same}
@@ -139,7 +139,7 @@ alone_true c told t old (latching.LoadsWord place) reply is_current next quiet n
       its_effect = quiet;
       its_told = ap told_at at;
       row = subst (TryRow c told (norm c t)) (sym at)
-          (record { not_alone = not_alone; updates = record { under = updates.under; update = updates.update }; slot = slot; is_current = is_current; its_old = its_old; its_latching = subst (AloneRow c told) (sym its) (row, free) });
+          (record { not_alone = not_alone; updates = record { under = updates.under; update = updates.update }; slot = slot; is_current = is_current; its_old = its_old; its_latching = subst (AloneRow c told) (sym its) (row, free, subst (λ p. told (Load p) reply) row was) });
     }
 
     by_word : (b : Bool) → is_free reply ≡ b
@@ -160,7 +160,7 @@ alone_true c told t old (latching.SetsExclusive place word) reply is_current nex
     by_word true e = copies_from_true c told (record t { has_exclusive = true }) old is_current quiet (record { under = updates.under; update = updates.update }) slot its_old
         (λ need. record { word = word; free = row.1; its_cas = subst (told (Cas (latch_place c) word (word + exclusive_bit))) (eq_true reply word e) its_cas })
     by_word false e = owing c told (latch_held t) (record { shares = bit_of t.has_shared; bits = 0 }) (ends c.places (norm c t) (answer.Wait reason.Latch)) none
-        (quiet_end c told t (answer.Wait reason.Latch) quiet updates.under refl (Quicker word row.1 (record { found = reply; its_cas = its_cas; another = eq_false reply word e })))
+        (quiet_end c told t (answer.Wait reason.Latch) quiet updates.under refl (Quicker word row.1 row.2 (record { found = reply; its_cas = its_cas; another = eq_false reply word e })))
 alone_true c told t old step reply is_current next quiet not_alone at updates slot its_old row was = absurd row
 
 dropped_true : (c : Trial) (told : Told) (t : TryState) (its : TryAnswer) (place reply : ℕ) → IsTrue c told its → t.has_exclusive ≡ false → (is_wait its ≡ true → t.has_shared ≡ shares c)
@@ -173,9 +173,9 @@ unshared_true : (c : Trial) (told : Told) (t : TryState) (its : TryAnswer) (plac
 unfolding shared_dropped latch_next_ask
 unshared_true c told t its place reply truth not_alone kept = record { same = refl; owes = refl; its_effect = refl; its_told = refl; row = record { truth = truth; not_alone = not_alone; shared = kept } }
 
-current_true : (c : Trial) (told : Told) (t : TryState) (addr : Addr) (value : ℕ) → t.effect ≡ None → Updates c told t → MayChange c told addr.0 → Comes c told None [] (latch_held t) (current_ledto c.places (norm c t) addr (Done (walk.Value value)))
+current_true : (c : Trial) (told : Told) (t : TryState) (addr : Addr) (value : ℕ) → t.effect ≡ None → Updates c told t → MayChange c told addr.0 → Loaded told (record_place c.places addr.0 rec.Value) value → Comes c told None [] (latch_held t) (current_ledto c.places (norm c t) addr (Done (walk.Value value)))
 unfolding current_ledto
-current_true c told t addr value quiet updates may = record { same = refl; owes = refl; its_effect = quiet; its_told = refl; row = (record { under = updates.under; update = updates.update }, may) }
+current_true c told t addr value quiet updates may loaded = record { same = refl; owes = refl; its_effect = quiet; its_told = refl; row = (record { under = updates.under; update = updates.update }, may, loaded) }
 
 answer_true : (c : Trial) (told : Told) (t : TryState) (value : ℕ) → t.effect ≡ None → Under c told t.has_shared → is_read c.request.op ≡ true → HasValue c told value → Comes c told None [] (latch_held t) (answer_ledto c.places (norm c t) (Done (walk.Value value)))
 unfolding answer_ledto
@@ -190,15 +190,15 @@ old_true : (c : Trial) (told : Told) (t : TryState) (value : ℕ) (is_current : 
 unfolding old_ledto
 old_true c told t value is_current quiet updates slot made_of alone = appends_true c told t value is_current quiet updates slot made_of alone
 
-changed_true : (c : Trial) (told : Told) (t : TryState) (addr : Addr) (old reply : ℕ) → t.effect ≡ None → Updates c told t → MayChange c told addr.0
+changed_true : (c : Trial) (told : Told) (t : TryState) (addr : Addr) (old reply : ℕ) → t.effect ≡ None → Updates c told t → MayChange c told addr.0 → Loaded told (record_place c.places addr.0 rec.Value) old
     → told (Cas (record_place c.places addr.0 rec.Value) old (word_of (value_applied (value_of old) c.request.op))) reply → Steps c told (ChangesValue addr old) (latch_held t) (value_changed c.places (norm c t) old reply)
-changed_true c told t addr old reply quiet updates may was = by_word (reply == old) refl
+changed_true c told t addr old reply quiet updates may loaded was = by_word (reply == old) refl
   where
     by_word : (b : Bool) → (reply == old) ≡ b
         → Steps c told (ChangesValue addr old) (latch_held t) (if b then takes_effect c.places (norm c t) (reply_from (value_of old) c.request.op) else ends c.places (norm c t) (answer.Wait reason.Contended))
     by_word true e = Effectively (reply_from (value_of old) c.request.op) refl refl (takes_effect_true c told t (reply_from (value_of old) c.request.op) updates)
     by_word false e = Quietly (quiet_end c told t (answer.Wait reason.Contended) quiet updates.under refl
-        (ValueLost old may.found (record { found = reply; its_cas = was; another = eq_false reply old e })))
+        (ValueLost old may.found loaded (record { found = reply; its_cas = was; another = eq_false reply old e })))
 
 append_led_true : (c : Trial) (told : Told) (t : TryState) (its : Reply) (place entry : ℕ) (old : Option ℕ) (is_current : Bool) (last : Appending) (ask : Ask AppendAnswer) → t.effect ≡ None → t.step ≡ Appends its → Updates c told t
     → its ≡ reply_from old c.request.op → IsMadeOf c told place entry old is_current → Alone c told is_current
@@ -253,8 +253,8 @@ row_true c told t (SwapsValue addr) reply at row was =
     Effectively (reply_from None c.request.op) refl refl (takes_effect_true c told (record t { effect = None }) (reply_from None c.request.op) (record { under = row.0.under; update = row.0.update }))
 row_true c told t (LoadsCurrent addr) reply at row was =
     Quietly (subst (λ ask. Comes c told None [] (latch_held t) (current_ledto c.places (norm c (record t { effect = None; walk = walk_next c.places t.walk reply })) addr ask)) (sym (loads_value c.places t.walk addr reply row.2))
-    (current_true c told (record t { effect = None; walk = walk_next c.places t.walk reply }) addr reply refl (record { under = row.0.under; update = row.0.update }) row.1))
-row_true c told t (ChangesValue addr old) reply at row was = changed_true c told (record t { effect = None }) addr old reply refl (record { under = row.0.under; update = row.0.update }) row.1 was
+    (current_true c told (record t { effect = None; walk = walk_next c.places t.walk reply }) addr reply refl (record { under = row.0.under; update = row.0.update }) row.1 (subst (λ a. told a reply) (loads_place c.places t.walk addr row.2) was)))
+row_true c told t (ChangesValue addr old) reply at row was = changed_true c told (record t { effect = None }) addr old reply refl (record { under = row.0.under; update = row.0.update }) row.1 row.2 was
 row_true c told t LoadsAnswer reply at row was =
     Quietly (subst (λ ask. Comes c told None [] (latch_held t) (answer_ledto c.places (norm c (record t { effect = None; walk = walk_next c.places t.walk reply })) ask)) (sym (loads_value c.places t.walk row.addr reply row.loads))
     (answer_true c told (record t { effect = None; walk = walk_next c.places t.walk reply }) reply refl row.under row.reads

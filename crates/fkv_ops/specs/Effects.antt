@@ -71,10 +71,11 @@ pub record IsSwapped (c : Trial) (told : Told) (ask : Ask TryAnswer) (reply : �
   pub its_ask : ask ≡ Swap (record_place c.places addr rec.Value) (word_of (value_applied (value_of reply) c.request.op))
   pub its_reply : its ≡ reply_from (value_of reply) c.request.op
 
--- the value word of a record is changed by a Cas that was won
+-- the value word of a record is changed from the word that was loaded there, by a Cas that was won
 pub record IsChanged (c : Trial) (told : Told) (ask : Ask TryAnswer) (reply : ℕ) (its : Reply) : Type 0 where
   pub addr : ℕ
   pub may : MayChange c told addr
+  pub its_old : Loaded told (record_place c.places addr rec.Value) reply
   pub its_ask : ask ≡ Cas (record_place c.places addr rec.Value) reply (word_of (value_applied (value_of reply) c.request.op))
   pub its_reply : its ≡ reply_from (value_of reply) c.request.op
 

@@ -136,10 +136,10 @@ pub data IsOnDisk (c : Trial) (told : Told) (it : DiskRecord) : Type 0 where
   BelowHead : {place : ℕ} → LeavesMemory c told place it.entry it.addr.0 → IsOnDisk c told it
   BehindHeld : IsBehindHeld c told it → IsOnDisk c told it
 
--- bit 63 or a count was met, or the Cas was lost
+-- bit 63 or a count was met, or the Cas from a free word that was loaded was lost
 pub data HasMetLatch (c : Trial) (told : Told) : Type 0 where
   Held : (word : ℕ) → Loaded told (latch_place c) word → one_share ≤ word → HasMetLatch c told
-  Quicker : (word : ℕ) → word < one_share → IsLost told (latch_place c) word (word + exclusive_bit) → HasMetLatch c told
+  Quicker : (word : ℕ) → word < one_share → Loaded told (latch_place c) word → IsLost told (latch_place c) word (word + exclusive_bit) → HasMetLatch c told
 
 -- no limit was above the tail
 pub record HasNoRoom (told : Told) (tail : ℕ) : Type 0 where
@@ -197,13 +197,14 @@ pub data IsSpoiled (c : Trial) (told : Told) : Type 0 where
   NoAddress : {place entry addr : ℕ} → HasEntry c told place entry → Won told (shared_place one.Tail) addr (addr + 1) → (addr ≤ entry_addr entry) ⊎ (2 ^ 48 ≤ addr) → IsSpoiled c told
 
 -- A Cas was lost: of the count of taken overflow buckets, of a link, of the tail, of the entry, or of the value that was to be changed in place.
--- Or others have filled the bucket that the try linked, or a reply is none that a store gives.
+-- What such a Cas expects was loaded there. Or others have filled the bucket that the try linked, or a reply is none that a store gives.
 pub data IsContended (c : Trial) (told : Told) : Type 0 where
-  CountLost : (taken : ℕ) → IsLost told (shared_place one.Taken) taken (taken + 1) → IsContended c told
-  LinkLost : {links : ℕ} {own : Bool} {base : ℕ} (word number : ℕ) → ComesTo c told links own base → number ≤ c.places.overflow → IsLost told (base + bucket_slots) word (word + number) → IsContended c told
-  TailLost : (tail : ℕ) → IsLost told (shared_place one.Tail) tail (tail + 1) → IsContended c told
+  CountLost : (taken : ℕ) → Loaded told (shared_place one.Taken) taken → IsLost told (shared_place one.Taken) taken (taken + 1) → IsContended c told
+  LinkLost : {links : ℕ} {own : Bool} {base : ℕ} (word number : ℕ) → ComesTo c told links own base → number ≤ c.places.overflow → Loaded told (base + bucket_slots) word → IsLost told (base + bucket_slots) word (word + number) → IsContended c told
+  TailLost : (tail : ℕ) → Loaded told (shared_place one.Tail) tail → IsLost told (shared_place one.Tail) tail (tail + 1) → IsContended c told
   EntryLost : {place entry : ℕ} (new : ℕ) → HasEntry c told place entry → IsLost told place entry new → IsContended c told
-  ValueLost : {place entry addr : ℕ} (old : ℕ) → HasFound c told place entry addr c.request.version.0 → IsLost told (record_place c.places addr rec.Value) old (word_of (value_applied (value_of old) c.request.op))
+  ValueLost : {place entry addr : ℕ} (old : ℕ) → HasFound c told place entry addr c.request.version.0 → Loaded told (record_place c.places addr rec.Value) old
+      → IsLost told (record_place c.places addr rec.Value) old (word_of (value_applied (value_of old) c.request.op))
       → IsContended c told
   OwnIsFull : HasEnd c told true → IsContended c told
   NoStore : IsSpoiled c told → IsContended c told
