@@ -12,8 +12,8 @@ use Rattle.fkv_ops.specs.Requests.{is_blind}
 use Rattle.fkv_ops.specs.Walking.{walk_on}
 use Rattle.fkv_ops.specs.Trying.{TryState, with_latch, appends, copies_from, copies, slot_of, words_of}
 use Rattle.fkv_ops.specs.TryRun.{Trial, Told}
-use Rattle.fkv_ops.specs.Reasons.{HasEntry}
-use Rattle.fkv_ops.specs.Effects.{IsMadeOf, OfRecord, CountsNot, needs_exclusive}
+use Rattle.fkv_ops.specs.Reasons.{HasEntry, needs_exclusive}
+use Rattle.fkv_ops.specs.Effects.{IsMadeOf, OfRecord, CountsNot}
 use Rattle.fkv_ops.proofs.Walked.{walk_on_loads, walk_on_found}
 use Rattle.fkv_ops.proofs.Appended.{append_begun_true, append_begun_asks}
 use Rattle.fkv_ops.proofs.TryRows.{norm, latch_held, Updates, OldRow, CopyRow, Alone, Comes}
@@ -86,6 +86,6 @@ copies_true c told t old is_current quiet not_alone updates slot its_old = by_ne
       owes = refl;
       its_effect = quiet;
       its_told = refl;
-      row = record { not_alone = not_alone; updates = record { under = updates.under; update = updates.update }; slot = slot; is_current = is_current; its_old = its_old; its_latching = refl };
+      row = record { not_alone = not_alone; updates = record { under = updates.under; update = updates.update }; slot = slot; is_current = is_current; its_old = its_old; need = e; its_latching = refl };
     }
     by_need false e = copies_from_true c told t old is_current quiet updates slot its_old (λ need. no (sym e ∙ need))

@@ -27,8 +27,8 @@ use Rattle.fkv_ops.specs.Walking.{WalkState, walk_ask}
 use Rattle.fkv_ops.specs.Appending.{append_ask}
 use Rattle.fkv_ops.specs.Trying.{TryState, is_wait, with_latch, ended_without, ends, takes_effect, words_of}
 use Rattle.fkv_ops.specs.TryRun.{Trial, home_at, Told, reply_told}
-use Rattle.fkv_ops.specs.Reasons.{latch_place, Loaded, HasEntry, HasFound, OthersWentOn, IsTrue}
-use Rattle.fkv_ops.specs.Effects.{MayChange, MayCopy, IsMadeOf, HasSetBit, needs_exclusive, shares_latch, HasShared}
+use Rattle.fkv_ops.specs.Reasons.{latch_place, Loaded, HasEntry, HasFound, needs_exclusive, OthersWentOn, IsTrue}
+use Rattle.fkv_ops.specs.Effects.{MayChange, MayCopy, IsMadeOf, HasSetBit, shares_latch, HasShared}
 use Rattle.fkv_ops.proofs.Walked.{FoundKnows, WalkKnows, LoadsRecord}
 use Rattle.fkv_ops.proofs.Appended.{AppendKnows}
 
@@ -88,6 +88,7 @@ pub record AloneKnows (c : Trial) (told : Told) (t : TryState) (old : OldValue) 
   pub slot : HasEntry c told t.walk.place t.walk.entry
   pub is_current : Bool
   pub its_old : OldRow c told t.walk old is_current
+  pub need : needs_exclusive c is_current ≡ true
   pub its_latching : AloneRow c told t.latching
 
 pub record OldKnows (c : Trial) (told : Told) (t : TryState) : Type 0 where

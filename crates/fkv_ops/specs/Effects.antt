@@ -17,9 +17,9 @@ use Rattle.fkv_ops.specs.declared.answers.TryAnswer.{TryAnswer}
 use Rattle.fkv_ops.specs.declared.requests.HeldRecord.{HeldRecord}
 use Rattle.fkv_ops.specs.Values.{value_of, word_of}
 use Rattle.fkv_ops.specs.Requests.{is_read, is_blind}
-use Rattle.fkv_ops.specs.Trying.{is_prepare, is_moving_on, is_wait, TryState, try_ask}
+use Rattle.fkv_ops.specs.Trying.{is_prepare, is_wait, TryState, try_ask}
 use Rattle.fkv_ops.specs.TryRun.{Trial, home_at, try_run, trial_begun, Told, told_by, effects_of, reply_told}
-use Rattle.fkv_ops.specs.Reasons.{latch_place, Loaded, Won, HasEntry, WalksTo, HasFound, LeavesMemory, HoldsFrom}
+use Rattle.fkv_ops.specs.Reasons.{latch_place, Loaded, Won, HasEntry, WalksTo, HasFound, LeavesMemory, HoldsFrom, needs_exclusive}
 
 pub record IsStored (told : Told) (place word : ℕ) : Type 0 where
   pub reply : ℕ
@@ -57,10 +57,6 @@ pub record HasSetBit (c : Trial) (told : Told) : Type 0 where
   pub word : ℕ
   pub free : word < one_share
   pub its_cas : Won told (latch_place c) word (word + exclusive_bit)
-
--- while a commit's sessions go on, a record of their version is made under the exclusive latch, where none of it was found
-abbrev pub needs_exclusive : Trial → Bool → Bool
-needs_exclusive c is_current = is_moving_on c.seen.phase && c.request.version.0 == c.seen.version.0 && not is_current
 
 -- The value word of a record is swapped for that of a value which doesn't depend on the old one. The reply is the operation's on the value
 -- that was there.

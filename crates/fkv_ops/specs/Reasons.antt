@@ -1,5 +1,5 @@
 -- What a try's answer says, by what the try asked and was replied, and by no state of its machine.
-use Rattle.std.specs.Prelude.{◌≡◌, ◌≢◌, ℕ, ◌+◌, ◌^◌, ◌<◌, ◌≤◌, ◌⊎◌, Bool, true, false, List, Some}
+use Rattle.std.specs.Prelude.{◌≡◌, ◌≢◌, ℕ, ◌+◌, ◌^◌, ◌<◌, ◌≤◌, ◌⊎◌, ◌==◌, ◌&&◌, not, Bool, true, false, List, Some}
 use Rattle.fkv_map.specs.Map.{absent_word}
 use Rattle.fkv_map.specs.Keys.{key_of, value_applied}
 use Rattle.fkv_plane.specs.declared.asks.Ask.TheVariants.{Load, Cas, Add, Done}
@@ -18,7 +18,7 @@ use Rattle.fkv_ops.specs.declared.requests.Occasion.TheVariants.{Call, Poll}
 use Rattle.fkv_ops.specs.Values.{value_of, word_of}
 use Rattle.fkv_ops.specs.Requests.{is_read, is_blind}
 use Rattle.fkv_ops.specs.HeaderWords.{previous_in, version_in, is_header}
-use Rattle.fkv_ops.specs.Trying.{is_prepare, TryState, try_ask}
+use Rattle.fkv_ops.specs.Trying.{is_prepare, is_moving_on, TryState, try_ask}
 use Rattle.fkv_ops.specs.TryRun.{Trial, home_at, try_run, trial_begun, Told, told_by}
 
 -- the eighth word of the key's bucket, which has its latch
@@ -141,6 +141,23 @@ pub data HasMetLatch (c : Trial) (told : Told) : Type 0 where
   Held : (word : ℕ) → Loaded told (latch_place c) word → one_share ≤ word → HasMetLatch c told
   Quicker : (word : ℕ) → word < one_share → Loaded told (latch_place c) word → IsLost told (latch_place c) word (word + exclusive_bit) → HasMetLatch c told
 
+-- while a commit's sessions go on, a record of their version is made under the exclusive latch, where none of it was found
+abbrev pub needs_exclusive : Trial → Bool → Bool
+needs_exclusive c is_current = is_moving_on c.seen.phase && c.request.version.0 == c.seen.version.0 && not is_current
+
+-- the walk found no record of the request's version: one of another version, or none, or it left memory
+pub data HasNoneOfVersion (c : Trial) (told : Told) : Type 0 where
+  FoundAnother : {place entry addr version : ℕ} → HasFound c told place entry addr version → version ≢ c.request.version.0 → HasNoneOfVersion c told
+  FoundNone : {place entry : ℕ} → WalksTo c told place entry 0 → HasNoneOfVersion c told
+  FoundBelow : {place entry addr : ℕ} → LeavesMemory c told place entry addr → HasNoneOfVersion c told
+
+-- an update that has to make its record under the exclusive latch has met the latch
+pub record WaitsForLatch (c : Trial) (told : Told) : Type 0 where
+  pub update : is_read c.request.op ≡ false
+  pub needed : needs_exclusive c false ≡ true
+  pub none : HasNoneOfVersion c told
+  pub met : HasMetLatch c told
+
 -- no limit was above the tail
 pub record HasNoRoom (told : Told) (tail : ℕ) : Type 0 where
   pub limit : ℕ
@@ -213,7 +230,7 @@ pub data IsContended (c : Trial) (told : Told) : Type 0 where
 abbrev pub IsReason : Trial → Told → Reason → Type 0
 IsReason c told reason.Fuzzy = IsFuzzy c told
 IsReason c told reason.Disk = ⊥
-IsReason c told reason.Latch = HasMetLatch c told
+IsReason c told reason.Latch = WaitsForLatch c told
 IsReason c told reason.Contended = IsContended c told
 IsReason c told reason.NoRoom = (tail : ℕ) × HasNoRoom told tail × (tail ≢ c.room)
 IsReason c told reason.Full = (c.occasion ≡ Poll) × (IsIndexFull c told ⊎ HasNoRoom told c.room)
