@@ -37,8 +37,8 @@ use Rattle.fkv_ops.specs.Requests.{is_read, is_blind}
 use Rattle.fkv_ops.specs.Appending.{AppendState, appending_ask, append_ask, publish_ledto, appending_next, append_next}
 use Rattle.fkv_ops.specs.Trying.{TryState, trying_ask, try_ask, trying_next, is_wait, with_latch, walks, ends, ended_without, takes_effect, full_at, value_changed, append_ledto, words_of}
 use Rattle.fkv_ops.specs.TryRun.{Trial, home_at, trial_begun, try_run, Told, told_by, effects_of}
-use Rattle.fkv_ops.specs.Reasons.{latch_place, Loaded, HasEntry, needs_exclusive}
-use Rattle.fkv_ops.specs.Effects.{IsStored, MayChange, IsMadeOf, IsPublished, IsEffect, BySwap, ByChange, ByRecord, EffectsAreTrue, AreKindsSo, shares_latch, SharesFirst, HasSetBit}
+use Rattle.fkv_ops.specs.Reasons.{latch_place, Loaded, IsStored, HasEntry, needs_exclusive}
+use Rattle.fkv_ops.specs.Effects.{MayChange, IsMadeOf, IsPublished, IsEffect, BySwap, ByChange, ByRecord, EffectsAreTrue, AreKindsSo, shares_latch, SharesFirst, HasSetBit}
 use Rattle.fkv_ops.proofs.BoolTests.{eq_true}
 use Rattle.fkv_ops.proofs.Appended.{IsReserved, IsFilled, is_publishing, AppendRow, AppendKnows, append_true, append_answers}
 use Rattle.fkv_ops.proofs.TryRows.{norm, Owed, Under, TryRow, AppendsKnow}

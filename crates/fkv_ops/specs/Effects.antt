@@ -6,7 +6,7 @@ use Rattle.fkv_map.specs.declared.operations.Op.TheVariants.{Read}
 use Rattle.fkv_map.specs.declared.operations.Reply.{Reply}
 use Rattle.fkv_map.specs.Keys.{key_of, value_applied, reply_from}
 use Rattle.fkv_plane.specs.declared.asks.Ask.{Ask}
-use Rattle.fkv_plane.specs.declared.asks.Ask.TheVariants.{Store, Swap, Cas, Add, Done}
+use Rattle.fkv_plane.specs.declared.asks.Ask.TheVariants.{Swap, Cas, Add, Done}
 use Rattle.fkv_plane.specs.declared.places.SharedWord.TheVariants as one
 use Rattle.fkv_plane.specs.declared.places.RecordWord.TheVariants as rec
 use Rattle.fkv_plane.specs.Places.{shared_place, record_place}
@@ -19,11 +19,7 @@ use Rattle.fkv_ops.specs.Values.{value_of, word_of}
 use Rattle.fkv_ops.specs.Requests.{is_read, is_blind}
 use Rattle.fkv_ops.specs.Trying.{is_prepare, is_wait, TryState, try_ask}
 use Rattle.fkv_ops.specs.TryRun.{Trial, home_at, try_run, trial_begun, Told, told_by, effects_of, reply_told}
-use Rattle.fkv_ops.specs.Reasons.{latch_place, Loaded, Won, HasEntry, WalksTo, HasFound, LeavesMemory, HoldsFrom, needs_exclusive}
-
-pub record IsStored (told : Told) (place word : ℕ) : Type 0 where
-  pub reply : ℕ
-  pub its_store : told (Store place word) reply
+use Rattle.fkv_ops.specs.Reasons.{latch_place, Loaded, IsStored, Won, HasEntry, WalksTo, HasFound, LeavesMemory, HoldsFrom, needs_exclusive}
 
 -- a record of the request's version, at or above the read-only offset that the session has seen: such a one is changed in place
 pub record MayChange (c : Trial) (told : Told) (addr : ℕ) : Type 0 where

@@ -1,13 +1,14 @@
 -- What a try's answer says, by what the try asked and was replied, and by no state of its machine.
-use Rattle.std.specs.Prelude.{◌≡◌, ◌≢◌, ℕ, ◌+◌, ◌^◌, ◌<◌, ◌≤◌, ◌⊎◌, ◌==◌, ◌&&◌, not, Bool, true, false, List, Some}
+use Rattle.std.specs.Prelude.{◌≡◌, ◌≢◌, ℕ, ◌+◌, ◌*◌, ◌^◌, ◌<◌, ◌≤◌, ◌⊎◌, ◌==◌, ◌&&◌, not, Bool, true, false, List, Some}
 use Rattle.fkv_map.specs.Map.{absent_word}
 use Rattle.fkv_map.specs.Keys.{key_of, value_applied}
-use Rattle.fkv_plane.specs.declared.asks.Ask.TheVariants.{Load, Cas, Add, Done}
+use Rattle.fkv_plane.specs.declared.asks.Ask.TheVariants.{Load, Store, Cas, Add, Done}
 use Rattle.fkv_plane.specs.declared.places.SharedWord.TheVariants as one
 use Rattle.fkv_plane.specs.declared.places.RecordWord.TheVariants as rec
 use Rattle.fkv_plane.specs.Places.{shared_place, bucket_place, overflow_place, record_place}
 use Rattle.fkv_latch.specs.Latching.{one_share, exclusive_bit}
 use Rattle.fkv_index.specs.Slots.{bucket_slots, entry_addr, entry_tag, is_entry, link_of}
+use Rattle.fkv_index.specs.IndexWorld.{new_entry}
 use Rattle.fkv_ops.specs.declared.answers.DiskRecord.{DiskRecord}
 use Rattle.fkv_ops.specs.declared.answers.Reason.{Reason}
 use Rattle.fkv_ops.specs.declared.answers.Reason.TheVariants as reason
@@ -27,6 +28,10 @@ latch_place c = bucket_place c.places (home_at c).bucket 7
 
 abbrev pub Loaded : Told → ℕ → ℕ → Type 0
 Loaded told place word = told (Load place) word
+
+pub record IsStored (told : Told) (place word : ℕ) : Type 0 where
+  pub reply : ℕ
+  pub its_store : told (Store place word) reply
 
 -- a Cas is won where it is replied the word that it expects
 abbrev pub Won : Told → ℕ → ℕ → ℕ → Type 0
@@ -213,13 +218,24 @@ pub data IsSpoiled (c : Trial) (told : Told) : Type 0 where
   PastRing : {place entry addr : ℕ} → WalksTo c told place entry addr → c.seen.offsets.head.0 + c.places.ring ≤ addr → IsSpoiled c told
   NoAddress : {place entry addr : ℕ} → HasEntry c told place entry → Won told (shared_place one.Tail) addr (addr + 1) → (addr ≤ entry_addr entry) ⊎ (2 ^ 48 ≤ addr) → IsSpoiled c told
 
+-- The Cas that was to publish a record was lost, and the record is invalidated: at the address that was reserved for it its header is stored
+-- with bit 62.
+pub record LosesEntry (c : Trial) (told : Told) : Type 0 where
+  pub place : ℕ
+  pub entry : ℕ
+  pub addr : ℕ
+  pub slot : HasEntry c told place entry
+  pub reserved : Won told (shared_place one.Tail) addr (addr + 1)
+  pub its_cas : IsLost told place entry (new_entry addr (home_at c).tag)
+  pub its_header : IsStored told (record_place c.places addr rec.Header) (entry_addr entry + c.request.version.0 * 2 ^ 48 + 2 ^ 62)
+
 -- A Cas was lost: of the count of taken overflow buckets, of a link, of the tail, of the entry, or of the value that was to be changed in place.
 -- What such a Cas expects was loaded there. Or others have filled the bucket that the try linked, or a reply is none that a store gives.
 pub data IsContended (c : Trial) (told : Told) : Type 0 where
   CountLost : (taken : ℕ) → Loaded told (shared_place one.Taken) taken → IsLost told (shared_place one.Taken) taken (taken + 1) → IsContended c told
   LinkLost : {links : ℕ} {own : Bool} {base : ℕ} (word number : ℕ) → ComesTo c told links own base → number ≤ c.places.overflow → Loaded told (base + bucket_slots) word → IsLost told (base + bucket_slots) word (word + number) → IsContended c told
   TailLost : (tail : ℕ) → Loaded told (shared_place one.Tail) tail → IsLost told (shared_place one.Tail) tail (tail + 1) → IsContended c told
-  EntryLost : {place entry : ℕ} (new : ℕ) → HasEntry c told place entry → IsLost told place entry new → IsContended c told
+  EntryLost : LosesEntry c told → IsContended c told
   ValueLost : {place entry addr : ℕ} (old : ℕ) → HasFound c told place entry addr c.request.version.0 → Loaded told (record_place c.places addr rec.Value) old
       → IsLost told (record_place c.places addr rec.Value) old (word_of (value_applied (value_of old) c.request.op))
       → IsContended c told
