@@ -44,14 +44,14 @@ pub record IsReserved (c : Trial) (told : Told) (slot : FoundSlot) (addr : Addr)
   pub above : entry_addr slot.entry < addr.0
   pub fits : addr.0 < 2 ^ 48
 
-abbrev ReserveRow : Trial → Told → Reserving → Type 0
+abbrev pub ReserveRow : Trial → Told → Reserving → Type 0
 ReserveRow c told RestsReserving = ⊥
 ReserveRow c told LoadsLimit = ⊤
 ReserveRow c told (LoadsTail limit) = Loaded told (shared_place one.Limit) limit
 ReserveRow c told (TakesTail tail) = Loaded told (shared_place one.Tail) tail
 
 -- the words that are stored so far
-abbrev FillRow : Trial → Told → RecordWords → Addr → Filling → Type 0
+abbrev pub FillRow : Trial → Told → RecordWords → Addr → Filling → Type 0
 FillRow c told words addr RestsFilling = ⊥
 FillRow c told words addr (StoresValue at its) = (at ≡ addr) × (its ≡ words)
 FillRow c told words addr (StoresKey at its) = (at ≡ addr) × (its ≡ words) × IsStored told (record_place c.places addr.0 rec.Value) words.value

@@ -59,7 +59,7 @@ without_effect p t its = by_test (t.has_shared && not (is_wait its))
     by_test true = refl
     by_test false = refl
 
-ends_effect : (p : Places) (t : TryState) (its : TryAnswer) → (ends p t its).effect ≡ t.effect
+pub ends_effect : (p : Places) (t : TryState) (its : TryAnswer) → (ends p t its).effect ≡ t.effect
 unfolding ends
 ends_effect p t its = by_test t.has_exclusive
   where
@@ -143,7 +143,7 @@ append_effect p t its it (Done append.Contended) quiet e = none_told it (sym qui
 append_effect p t its it ask quiet e = none_told it (sym quiet ∙ e)
 
 -- the word of a header that isn't invalid
-plain : (x y : ℕ) → x + y + bit_of false * 2 ^ 62 ≡ x + y
+pub plain : (x y : ℕ) → x + y + bit_of false * 2 ^ 62 ≡ x + y
 plain x y = omega arith
 
 published_effect : (c : Trial) (told : Told) (place entry : ℕ) (old : Option ℕ) (is_current : Bool) (ask : Ask TryAnswer) (reply : ℕ) (its : Reply)

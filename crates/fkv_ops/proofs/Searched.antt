@@ -26,7 +26,7 @@ use Rattle.fkv_ops.specs.TryRun.{Trial, home_at, Told}
 use Rattle.fkv_ops.specs.Reasons.{Loaded, Won, ComesTo, AtHome, ByLink, ByOwn, HasSlot, HasEntry, HasEnd, IsIndexFull, NoSlot as SlotSpoiled, NoBucket, TooMany, IsContended, CountLost, LinkLost, OwnIsFull, NoStore}
 use Rattle.fkv_ops.proofs.BoolTests.{lt_true, lt_false, le_true, le_false, eq_true, eq_false}
 
-abbrev is_made : Linking → Bool
+abbrev pub is_made : Linking → Bool
 is_made Made = true
 is_made linking = false
 
@@ -131,7 +131,7 @@ link_true c told f reply stands its_word = by_link (link_of reply == 0) refl
     by_link true e = rw e (ends f.linking refl (eq_true (link_of reply) 0 e))
     by_link false e = rw e (entered_true c told f stands.links (link_of reply) stands.its_home (ByLink reply stands.its_bucket its_word) stands.counted stands.few stands.reads (λ high. NoStore (NoBucket stands.its_bucket its_word high)))
 
-unmade : (linking : Linking) → linking ≡ Once → is_made linking ≡ false
+pub unmade : (linking : Linking) → linking ≡ Once → is_made linking ≡ false
 unmade Never e = refl
 unmade Once e = refl
 unmade Made e = cc

@@ -2,6 +2,7 @@
 use Rattle.fkv_ops.proofs.LatchRuns.{each_holds, each_leaves}
 use Rattle.fkv_ops.proofs.Effected.{effects_true, shares_first, kinds_so}
 use Rattle.fkv_ops.proofs.TryRuns.{each_is_true, effects_once, latches_kept}
+use Rattle.fkv_ops.proofs.EachAsk.{each_ask}
 use Rattle.fkv_ops.proofs.laws.law_reasons.Goals as goal
 
 pub returns-clause-kinds : goal.returns-clause-kinds
@@ -27,3 +28,6 @@ returns-clause-holds c = each_holds
 
 pub returns-clause-leaves : goal.returns-clause-leaves
 returns-clause-leaves c = each_leaves
+
+pub returns-clause-asks : goal.returns-clause-asks
+returns-clause-asks c = each_ask
