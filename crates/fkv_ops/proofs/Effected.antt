@@ -38,10 +38,10 @@ use Rattle.fkv_ops.specs.Appending.{AppendState, appending_ask, append_ask, publ
 use Rattle.fkv_ops.specs.Trying.{TryState, trying_ask, try_ask, trying_next, is_wait, with_latch, walks, ends, ended_without, takes_effect, full_at, value_changed, append_ledto, words_of}
 use Rattle.fkv_ops.specs.TryRun.{Trial, home_at, trial_begun, try_run, Told, told_by, effects_of}
 use Rattle.fkv_ops.specs.Reasons.{latch_place, Loaded, IsStored, HasEntry, needs_exclusive}
-use Rattle.fkv_ops.specs.Effects.{MayChange, IsMadeOf, IsPublished, IsEffect, BySwap, ByChange, ByRecord, EffectsAreTrue, AreKindsSo, shares_latch, SharesFirst, HasSetBit}
+use Rattle.fkv_ops.specs.Effects.{MayChange, IsMadeOf, IsPublished, IsEffect, BySwap, ByChange, ByRecord, EffectsAreTrue, AreKindsSo, shares_latch, SharesFirst, EachMayStay, HasSetBit}
 use Rattle.fkv_ops.proofs.BoolTests.{eq_true}
 use Rattle.fkv_ops.proofs.Appended.{IsReserved, IsFilled, is_publishing, AppendRow, AppendKnows, append_true, append_answers}
-use Rattle.fkv_ops.proofs.TryRows.{norm, Owed, Under, TryRow, AppendsKnow}
+use Rattle.fkv_ops.proofs.TryRows.{norm, Owed, Under, Stays, TryRow, AppendsKnow}
 use Rattle.fkv_ops.proofs.TrySteps.{makes_effect, Steps, Quietly, Effectively, owed_then, quieted}
 use Rattle.fkv_ops.proofs.TryRuns.{Known, quieted_ask, quieted_next, step_true, run_true, run_known}
 
@@ -237,6 +237,28 @@ added c told t (TakesExclusive old) row e = cc
 added c told t LoadsOld row e = cc
 added c told t (DropsExclusive it) row e = cc
 added c told t (DropsShared it) row e = cc
+
+-- and seen that its session may stay
+stayed : (c : Trial) (told : Told) (t : TryState) (step : Trying) → TryRow c told t step → makes_effect step ≡ true → Stays c told
+stayed c told t (SwapsValue addr) row e = row.0.stays
+stayed c told t (ChangesValue addr old) row e = row.0.stays
+stayed c told t (Appends its) row e = row.updates.stays
+stayed c told t (Ended it) row e = cc
+stayed c told t TakesShared row e = cc
+stayed c told t Walks row e = cc
+stayed c told t (LoadsSafe addr version) row e = cc
+stayed c told t (LoadsCurrent addr) row e = cc
+stayed c told t LoadsAnswer row e = cc
+stayed c told t (TakesExclusive old) row e = cc
+stayed c told t LoadsOld row e = cc
+stayed c told t (DropsExclusive it) row e = cc
+stayed c told t (DropsShared it) row e = cc
+
+pub each_may_stay : EachMayStay
+each_may_stay c before spare replies reply its wants e =
+    let known = run_known c before spare replies in
+    let t : TryState = try_run c (trial_begun c before spare) replies in
+    stayed c (told_by c (trial_begun c before spare) replies) t t.step known.row (run_makes c before spare replies reply its e) wants
 
 share_first : (c : Trial) (before : TryState) (spare : ℕ) (b : Bool) → b ≡ true
     → try_ask c.places (if b then with_latch c.places (norm c (record before { has_shared = c.request.has_latch; has_exclusive = false; effect = None; spare = spare })) TakeShared TakesShared

@@ -28,7 +28,7 @@ use Rattle.fkv_ops.specs.Appending.{append_ask}
 use Rattle.fkv_ops.specs.Trying.{TryState, is_wait, with_latch, ended_without, ends, takes_effect, words_of}
 use Rattle.fkv_ops.specs.TryRun.{Trial, home_at, Told, reply_told}
 use Rattle.fkv_ops.specs.Reasons.{latch_place, Loaded, HasEntry, HasFound, needs_exclusive, OthersWentOn, IsTrue}
-use Rattle.fkv_ops.specs.Effects.{MayChange, MayCopy, IsMadeOf, HasSetBit, shares_latch, HasShared}
+use Rattle.fkv_ops.specs.Effects.{MayChange, MayCopy, IsMadeOf, HasSetBit, shares_latch, HasShared, MayStay}
 use Rattle.fkv_ops.proofs.Walked.{FoundKnows, WalkKnows, LoadsRecord}
 use Rattle.fkv_ops.proofs.Appended.{AppendKnows}
 
@@ -44,10 +44,15 @@ pub record Under (c : Trial) (told : Told) (has_shared : Bool) : Type 0 where
   pub shared : has_shared ≡ shares c
   pub has_added : shares_latch c ≡ true → c.request.has_latch ≡ false → HasShared c told
 
+-- an update in prepare has seen that its session may stay
+abbrev pub Stays : Trial → Told → Type 0
+Stays c told = shares_latch c ≡ true → MayStay c told
+
 -- the same of an update that has found its slot
 pub record Updates (c : Trial) (told : Told) (t : TryState) : Type 0 where
   pub under : Under c told t.has_shared
   pub update : is_read c.request.op ≡ false
+  pub stays : Stays c told
 
 -- how the latch is shared
 abbrev pub ShareRow : Trial → Told → Latching → Type 0

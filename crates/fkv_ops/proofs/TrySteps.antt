@@ -158,7 +158,7 @@ alone_true c told t old (latching.LoadsWord place) reply is_current next quiet n
       its_effect = quiet;
       its_told = ap told_at at;
       row = subst (TryRow c told (norm c t)) (sym at)
-          (record { not_alone = not_alone; updates = record { under = updates.under; update = updates.update }; slot = slot; is_current = is_current; its_old = its_old; need = need; its_latching = subst (AloneRow c told) (sym its) (row, free, subst (λ p. told (Load p) reply) row was) });
+          (record { not_alone = not_alone; updates = record { under = updates.under; update = updates.update; stays = updates.stays }; slot = slot; is_current = is_current; its_old = its_old; need = need; its_latching = subst (AloneRow c told) (sym its) (row, free, subst (λ p. told (Load p) reply) row was) });
     }
 
     by_word : (b : Bool) → is_free reply ≡ b
@@ -176,7 +176,7 @@ alone_true c told t old (latching.SetsExclusive place word) reply is_current nex
 
     by_word : (b : Bool) → (reply == word) ≡ b
         → Comes c told None [] (record { shares = bit_of t.has_shared; bits = bit_of b }) (exclusive_ledto c.places (norm c t) old (Done (if b then latch.Taken else latch.Busy)))
-    by_word true e = copies_from_true c told (record t { has_exclusive = true }) old is_current quiet (record { under = updates.under; update = updates.update }) slot its_old
+    by_word true e = copies_from_true c told (record t { has_exclusive = true }) old is_current quiet (record { under = updates.under; update = updates.update; stays = updates.stays }) slot its_old
         (λ need. record { word = word; free = row.1; its_cas = subst (told (Cas (latch_place c) word (word + exclusive_bit))) (eq_true reply word e) its_cas })
     by_word false e = owing c told (latch_held t) (record { shares = bit_of t.has_shared; bits = 0 }) (ends c.places (norm c t) (answer.Wait reason.Latch)) none
         (quiet_end c told t (answer.Wait reason.Latch) quiet updates.under refl (waits_for_latch c told t old is_current updates its_old need (Quicker word row.1 row.2 (record { found = reply; its_cas = its_cas; another = eq_false reply word e }))))
@@ -194,7 +194,7 @@ unshared_true c told t its place reply truth not_alone kept = record { same = re
 
 current_true : (c : Trial) (told : Told) (t : TryState) (addr : Addr) (value : ℕ) → t.effect ≡ None → Updates c told t → MayChange c told addr.0 → Loaded told (record_place c.places addr.0 rec.Value) value → Comes c told None [] (latch_held t) (current_ledto c.places (norm c t) addr (Done (walk.Value value)))
 unfolding current_ledto
-current_true c told t addr value quiet updates may loaded = record { same = refl; owes = refl; its_effect = quiet; its_told = refl; row = (record { under = updates.under; update = updates.update }, may, loaded) }
+current_true c told t addr value quiet updates may loaded = record { same = refl; owes = refl; its_effect = quiet; its_told = refl; row = (record { under = updates.under; update = updates.update; stays = updates.stays }, may, loaded) }
 
 answer_true : (c : Trial) (told : Told) (t : TryState) (value : ℕ) → t.effect ≡ None → Under c told t.has_shared → is_read c.request.op ≡ true → HasValue c told value → Comes c told None [] (latch_held t) (answer_ledto c.places (norm c t) (Done (walk.Value value)))
 unfolding answer_ledto
@@ -238,7 +238,7 @@ append_led_true c told t its place entry old is_current last ask quiet at update
   its_effect = quiet;
   its_told = ap told_at at;
   row = subst (TryRow c told (norm c t)) (sym at) (record {
-    updates = record { under = updates.under; update = updates.update };
+    updates = record { under = updates.under; update = updates.update; stays = updates.stays };
     place = place;
     entry = entry;
     old = old;
@@ -267,22 +267,22 @@ row_true c told t TakesShared reply at row was =
 row_true c told t Walks reply at row was =
     Quietly (walk_led_true c told (record t { effect = None; walk = walk_next c.places t.walk reply }) (walk_ask c.places (walk_next c.places t.walk reply)) refl row.not_alone at row.under (walk_true c told t.walk reply row.walks was) refl)
 row_true c told t (LoadsSafe addr version) reply at row was =
-    Quietly (safe_true c told (record t { effect = None }) addr version reply refl row.not_alone (record { under = row.updates.under; update = row.updates.update }) row.found row.below was)
+    Quietly (safe_true c told (record t { effect = None }) addr version reply refl row.not_alone (record { under = row.updates.under; update = row.updates.update; stays = row.updates.stays }) row.found row.below was)
 row_true c told t (SwapsValue addr) reply at row was =
-    Effectively (reply_from None c.request.op) refl refl (takes_effect_true c told (record t { effect = None }) (reply_from None c.request.op) (record { under = row.0.under; update = row.0.update }))
+    Effectively (reply_from None c.request.op) refl refl (takes_effect_true c told (record t { effect = None }) (reply_from None c.request.op) (record { under = row.0.under; update = row.0.update; stays = row.0.stays }))
 row_true c told t (LoadsCurrent addr) reply at row was =
     Quietly (subst (λ ask. Comes c told None [] (latch_held t) (current_ledto c.places (norm c (record t { effect = None; walk = walk_next c.places t.walk reply })) addr ask)) (sym (loads_value c.places t.walk addr reply row.2))
-    (current_true c told (record t { effect = None; walk = walk_next c.places t.walk reply }) addr reply refl (record { under = row.0.under; update = row.0.update }) row.1 (subst (λ a. told a reply) (loads_place c.places t.walk addr row.2) was)))
-row_true c told t (ChangesValue addr old) reply at row was = changed_true c told (record t { effect = None }) addr old reply refl (record { under = row.0.under; update = row.0.update }) row.1 row.2 was
+    (current_true c told (record t { effect = None; walk = walk_next c.places t.walk reply }) addr reply refl (record { under = row.0.under; update = row.0.update; stays = row.0.stays }) row.1 (subst (λ a. told a reply) (loads_place c.places t.walk addr row.2) was)))
+row_true c told t (ChangesValue addr old) reply at row was = changed_true c told (record t { effect = None }) addr old reply refl (record { under = row.0.under; update = row.0.update; stays = row.0.stays }) row.1 row.2 was
 row_true c told t LoadsAnswer reply at row was =
     Quietly (subst (λ ask. Comes c told None [] (latch_held t) (answer_ledto c.places (norm c (record t { effect = None; walk = walk_next c.places t.walk reply })) ask)) (sym (loads_value c.places t.walk row.addr reply row.loads))
     (answer_true c told (record t { effect = None; walk = walk_next c.places t.walk reply }) reply refl row.under row.reads
     (record { place = t.walk.place; entry = t.walk.entry; addr = row.addr.0; version = row.version; found = row.found; its_value = subst (λ a. told a reply) (loads_place c.places t.walk row.addr row.loads) was })))
 row_true c told t (TakesExclusive old) reply at row was =
-    Quietly (alone_true c told (record t { effect = None; latching = latch_next t.latching reply }) old t.latching reply row.is_current refl refl row.not_alone at (record { under = row.updates.under; update = row.updates.update }) row.slot row.its_old row.need row.its_latching was)
+    Quietly (alone_true c told (record t { effect = None; latching = latch_next t.latching reply }) old t.latching reply row.is_current refl refl row.not_alone at (record { under = row.updates.under; update = row.updates.update; stays = row.updates.stays }) row.slot row.its_old row.need row.its_latching was)
 row_true c told t LoadsOld reply at row was =
     Quietly (subst (λ ask. Comes c told None [] (latch_held t) (old_ledto c.places (norm c (record t { effect = None; walk = walk_next c.places t.walk reply })) ask)) (sym (loads_value c.places t.walk row.addr reply row.loads))
-    (old_true c told (record t { effect = None; walk = walk_next c.places t.walk reply }) reply (row.version == c.request.version.0) refl (record { under = row.updates.under; update = row.updates.update })
+    (old_true c told (record t { effect = None; walk = walk_next c.places t.walk reply }) reply (row.version == c.request.version.0) refl (record { under = row.updates.under; update = row.updates.update; stays = row.updates.stays })
     (subst (λ p. HasEntry c told p (walk_next c.places t.walk reply).entry) (sym same.0) (subst (λ e. HasEntry c told t.walk.place e) (sym same.1) row.found.walk.slot))
     (subst (λ p. IsMadeOf c told p (walk_next c.places t.walk reply).entry (value_of reply) (row.version == c.request.version.0)) (sym same.0)
     (subst (λ e. IsMadeOf c told t.walk.place e (value_of reply) (row.version == c.request.version.0)) (sym same.1) made)) row.alone))
@@ -294,7 +294,7 @@ row_true c told t LoadsOld reply at row was =
     made = OfRecord row.found row.may (IsLoaded reply (subst (λ a. told a reply) (loads_place c.places t.walk row.addr row.loads) was))
 row_true c told t (Appends its) reply at row was =
     append_led_true c told (record t { effect = None; append = append_next c.places c.room t.append reply }) its row.place row.entry row.old row.is_current t.append.step (append_ask c.places (append_next c.places c.room t.append reply)) refl at
-    (record { under = row.updates.under; update = row.updates.update }) row.its_reply row.made_of row.alone
+    (record { under = row.updates.under; update = row.updates.update; stays = row.updates.stays }) row.its_reply row.made_of row.alone
     (append_true c told (record { place = row.place; entry = row.entry; tag = (home_at c).tag }) (words_of c.request row.entry row.old) row.last t.append reply row.appends row.asks was) refl
 row_true c told t (DropsExclusive its) reply at row was =
     Quietly (subst (λ x. Comes c told None (reply_told its) (latch_held t) (exclusive_dropped c.places (norm c (record t { effect = None; latching = latch_next t.latching reply })) its (latch_next_ask x reply))) (sym row.its_latching)

@@ -16,6 +16,7 @@ use Rattle.fkv_index.specs.IndexWorld.{new_entry}
 use Rattle.fkv_ops.specs.declared.answers.TryAnswer.{TryAnswer}
 use Rattle.fkv_ops.specs.declared.requests.HeldRecord.{HeldRecord}
 use Rattle.fkv_ops.specs.Values.{value_of, word_of}
+use Rattle.fkv_ops.specs.HeaderWords.{version_in}
 use Rattle.fkv_ops.specs.Requests.{is_read, is_blind}
 use Rattle.fkv_ops.specs.Trying.{is_prepare, is_wait, TryState, try_ask}
 use Rattle.fkv_ops.specs.TryRun.{Trial, home_at, try_run, trial_begun, Told, told_by, effects_of, reply_told}
@@ -130,6 +131,23 @@ pub record SharesBefore (c : Trial) (before : TryState) (spare : ℕ) : Type 0 w
 
 abbrev pub SharesFirst : Type 0
 SharesFirst = (c : Trial) (before : TryState) (spare : ℕ) → shares_latch c ≡ true → c.request.has_latch ≡ false → SharesBefore c before spare
+
+-- the first record of the chain is of no version above the request's, by its header, or it isn't in memory
+pub data FirstIsNotAbove (c : Trial) (told : Told) (entry : ℕ) : Type 0 where
+  FirstInMemory : (header : ℕ) → Loaded told (record_place c.places (entry_addr entry) rec.Header) header → version_in header ≤ c.request.version.0 → FirstIsNotAbove c told entry
+  FirstBelowHead : entry_addr entry < c.seen.offsets.head.0 → FirstIsNotAbove c told entry
+  FirstNowhere : entry_addr entry ≡ 0 → FirstIsNotAbove c told entry
+
+pub record MayStay (c : Trial) (told : Told) : Type 0 where
+  pub place : ℕ
+  pub entry : ℕ
+  pub slot : HasEntry c told place entry
+  pub its_first : FirstIsNotAbove c told entry
+
+-- an update in prepare makes its effect only where it has seen that its session may stay at its version
+abbrev pub EachMayStay : Type 0
+EachMayStay = (c : Trial) (before : TryState) (spare : ℕ) (replies : List ℕ) (reply : ℕ) (its : Reply) → shares_latch c ≡ true → (try_run c (trial_begun c before spare) (reply ∷ replies)).effect ≡ Some its
+    → MayStay c (told_by c (trial_begun c before spare) replies)
 
 -- what the kinds of operations mean: a read is one, and no update is; and one whose old value doesn't count makes the same of every old value,
 -- and is told the same

@@ -1,6 +1,6 @@
 //! What holds of a try, over every list of replies.
 ghost use Rattle.fkv_ops.specs.Reasons.{EachIsTrue};
-ghost use Rattle.fkv_ops.specs.Effects.{AreKindsSo, EffectsAreOnce, EffectsAreTrue, LatchesAreKept, SharesFirst};
+ghost use Rattle.fkv_ops.specs.Effects.{AreKindsSo, EffectsAreOnce, EffectsAreTrue, EachMayStay, LatchesAreKept, SharesFirst};
 ghost use Rattle.fkv_ops.specs.EachAsk.{EachAskIsSo};
 ghost use Rattle.fkv_ops.specs.LatchCounts.{EachHoldsLatch, EachLeavesLatch};
 
@@ -14,6 +14,7 @@ pub fn law_reasons()
     ensures effects { EffectsAreTrue }
     ensures latches { LatchesAreKept }
     ensures shares { SharesFirst }
+    ensures stays { EachMayStay }
     ensures holds { EachHoldsLatch }
     ensures leaves { EachLeavesLatch }
     ensures asks { EachAskIsSo }
