@@ -3,6 +3,8 @@ use Rattle.std.proofs.Common.{◌≡◌, ℕ, ◌<◌, ◌≤◌, ◌⊎◌, [],
 use Rattle.std.specs.Prelude.{◌≢◌, ◌==◌, ◌&&◌, not, nat_lt, nat_le, if◌then◌else◌, Option, Some, None}
 use Rattle.fkv_base.specs.declared.numbers.Addr.{Addr}
 use Rattle.fkv_base.specs.declared.numbers.Version.{Version}
+use Rattle.fkv_map.specs.declared.operations.Op.{Op}
+use Rattle.fkv_map.specs.declared.operations.Op.TheVariants.{Upsert, Delete, Add as Adds, Max as Maxes, Read}
 use Rattle.fkv_map.specs.Map.{absent_word}
 use Rattle.fkv_map.specs.Keys.{key_of}
 use Rattle.fkv_plane.specs.declared.asks.Ask.{Ask}
@@ -25,7 +27,7 @@ use Rattle.fkv_ops.specs.Requests.{is_read, is_blind}
 use Rattle.fkv_ops.specs.Walking.{WalkState, walk_ask, walk_on}
 use Rattle.fkv_ops.specs.Trying.{TryState, ends, full_at, is_prepare, is_above, must_shift, copies, awaits, held_used, met_nowhere, met_disk, changes, region_met, met_record, walked, has_walked, walk_ledto, safe_loaded}
 use Rattle.fkv_ops.specs.TryRun.{Trial, Told, reply_told}
-use Rattle.fkv_ops.specs.Reasons.{Loaded, HasEntry, WalksTo, HasFound, LeavesMemory, HasNone, AtItsEnd, WithoutSlot, HoldsFrom, IsOnDisk, BelowHead, BehindHeld, IsIndexFull, HasNoRoom, OthersWentOn, ByRecord, IsTrue}
+use Rattle.fkv_ops.specs.Reasons.{Loaded, HasEntry, WalksTo, HasFound, LeavesMemory, HasNone, AtItsEnd, WithoutSlot, HoldsFrom, IsOnDisk, AsRead, WithoutHeld, FromAnother, BelowHead, BehindHeld, IsIndexFull, HasNoRoom, OthersWentOn, ByRecord, IsTrue}
 use Rattle.fkv_ops.specs.Effects.{MayChange, MayStay, FirstInMemory, FirstBelowHead, FirstNowhere, OfAnother, BelowSafe, OfNone, OfAny, OfHeld, OfNoneBehind}
 use Rattle.fkv_ops.proofs.BoolTests.{lt_true, lt_false, le_true, le_false, eq_true, eq_false, some_where, both}
 use Rattle.fkv_ops.proofs.Walked.{HasFirst, FirstTrue, FirstSome, FirstAt, first_true, NowhereTrue, WalkTrue, WalkKnows, walk_answers, walk_on_loads, walk_on_found}
@@ -50,7 +52,7 @@ awaits_true c told t addr quiet under disk = quiet_end c told t (answer.AwaitsDi
 held_true : (c : Trial) (told : Told) (t : TryState) (addr : Addr) (its : Option HeldRecord) → t.effect ≡ None → t.has_exclusive ≡ false → Updates c told t → LeavesMemory c told t.walk.place t.walk.entry addr.0 → is_blind c.request.op ≡ false → c.request.held ≡ its
     → Comes c told None [] (latch_held t) (held_used c.places (norm c t) addr its)
 unfolding held_used
-held_true c told t addr None quiet not_alone updates leaves counts holds = awaits_true c told t addr quiet updates.under (BelowHead leaves)
+held_true c told t addr None quiet not_alone updates leaves counts holds = awaits_true c told t addr quiet updates.under (BelowHead leaves counts (WithoutHeld holds))
 held_true c told t addr (Some held) quiet not_alone updates leaves counts holds = by_entry (held.entry == t.walk.entry) refl
   where
     from : held.entry ≡ t.walk.entry → HoldsFrom c told t.walk.place held
@@ -60,7 +62,7 @@ held_true c told t addr (Some held) quiet not_alone updates leaves counts holds 
         → Comes c told None [] (latch_held t) (if b then copies c.places (norm c t) (Known absent_word) false else awaits c.places (norm c t) held.previous)
     by_end true e same other = copies_true c told t (Known absent_word) false quiet not_alone updates leaves.walk.slot (OfNoneBehind (from same) same other (eq_true held.previous.0 0 e))
     by_end false e same other = awaits_true c told t held.previous quiet updates.under
-        (BehindHeld (record { place = t.walk.place; held = held; its_entry = sym same; its_addr = refl; holds = from same; another = other; some = some_where held.previous.0 e }))
+        (BehindHeld (record { update = updates.update; place = t.walk.place; held = held; its_entry = sym same; its_addr = refl; holds = from same; another = other; some = some_where held.previous.0 e }))
 
     by_key : (b : Bool) → (held.key.0 == (key_of c.request.op).0) ≡ b → held.entry ≡ t.walk.entry
         → Comes c told None [] (latch_held t) (if b then copies c.places (norm c t) (Known held.value) false else if held.previous.0 == 0 then copies c.places (norm c t) (Known absent_word) false else awaits c.places (norm c t) held.previous)
@@ -70,7 +72,7 @@ held_true c told t addr (Some held) quiet not_alone updates leaves counts holds 
     by_entry : (b : Bool) → (held.entry == t.walk.entry) ≡ b
         → Comes c told None [] (latch_held t) (if b then (if held.key.0 == (key_of c.request.op).0 then copies c.places (norm c t) (Known held.value) false else if held.previous.0 == 0 then copies c.places (norm c t) (Known absent_word) false else awaits c.places (norm c t) held.previous) else awaits c.places (norm c t) addr)
     by_entry true e = by_key (held.key.0 == (key_of c.request.op).0) refl (eq_true held.entry t.walk.entry e)
-    by_entry false e = awaits_true c told t addr quiet updates.under (BelowHead leaves)
+    by_entry false e = awaits_true c told t addr quiet updates.under (BelowHead leaves counts (FromAnother holds (eq_false held.entry t.walk.entry e)))
 
 none_read : (c : Trial) (told : Told) (w : WalkState) → NowhereTrue c told w → HasNone c told
 none_read c told w (inl at) = AtItsEnd at.0
@@ -90,6 +92,14 @@ nowhere_true c told t quiet not_alone under stays none = by_read (is_read c.requ
     by_read true e = quiet_end c told t answer.Absent quiet under refl (record { reads = e; none = inr (none_read c told t.walk none) })
     by_read false e = let walks = none_update c told t.walk none e in copies_true c told t (Known absent_word) false quiet not_alone (record { under = under; update = e; stays = stays }) walks.slot (OfNone walks)
 
+-- a read's value counts
+read_counts : (op : Op) → is_read op ≡ true → is_blind op ≡ false
+read_counts (Upsert key value) e = cc
+read_counts (Delete key) e = cc
+read_counts (Adds key n) e = cc
+read_counts (Maxes key n) e = cc
+read_counts (Read key) e = refl
+
 disk_true : (c : Trial) (told : Told) (t : TryState) (addr : Addr) → t.effect ≡ None → t.has_exclusive ≡ false → Under c told t.has_shared → Stays c told → LeavesMemory c told t.walk.place t.walk.entry addr.0 → Comes c told None [] (latch_held t) (met_disk c.places (norm c t) addr)
 disk_true c told t addr quiet not_alone under stays leaves = by_read (is_read c.request.op) refl
   where
@@ -100,7 +110,7 @@ disk_true c told t addr quiet not_alone under stays leaves = by_read (is_read c.
 
     by_read : (b : Bool) → is_read c.request.op ≡ b
         → Comes c told None [] (latch_held t) (if b then awaits c.places (norm c t) addr else if is_blind c.request.op then copies c.places (norm c t) (Known absent_word) false else held_used c.places (norm c t) addr c.request.held)
-    by_read true e = awaits_true c told t addr quiet under (BelowHead leaves)
+    by_read true e = awaits_true c told t addr quiet under (BelowHead leaves (read_counts c.request.op e) (AsRead e))
     by_read false e = by_blind (is_blind c.request.op) refl e
 
 may_change : (c : Trial) (told : Told) (w : WalkState) (addr : Addr) (version : Version) → FoundRow c told w addr version → version.0 ≡ c.request.version.0 → c.seen.offsets.read_only.0 ≤ addr.0 → MayChange c told addr.0

@@ -1,5 +1,5 @@
 -- What a try's answer says, by what the try asked and was replied, and by no state of its machine.
-use Rattle.std.specs.Prelude.{◌≡◌, ◌≢◌, ℕ, ◌+◌, ◌*◌, ◌^◌, ◌<◌, ◌≤◌, ◌⊎◌, ◌==◌, ◌&&◌, not, Bool, true, false, List, Some}
+use Rattle.std.specs.Prelude.{◌≡◌, ◌≢◌, ℕ, ◌+◌, ◌*◌, ◌^◌, ◌<◌, ◌≤◌, ◌⊎◌, ◌==◌, ◌&&◌, not, Bool, true, false, List, Some, None}
 use Rattle.fkv_map.specs.Map.{absent_word}
 use Rattle.fkv_map.specs.Keys.{key_of, value_applied}
 use Rattle.fkv_plane.specs.declared.asks.Ask.TheVariants.{Load, Store, Cas, Add, Done}
@@ -127,8 +127,15 @@ pub record HoldsFrom (c : Trial) (told : Told) (place : ℕ) (held : HeldRecord)
   pub addr : ℕ
   pub leaves : LeavesMemory c told place held.entry addr
 
+-- the request holds no record that was read along a walk from this entry; a read goes by none
+pub data HoldsNone (c : Trial) (entry : ℕ) : Type 0 where
+  AsRead : is_read c.request.op ≡ true → HoldsNone c entry
+  WithoutHeld : c.request.held ≡ None → HoldsNone c entry
+  FromAnother : {held : HeldRecord} → c.request.held ≡ Some held → held.entry ≢ entry → HoldsNone c entry
+
 -- the record behind the one that the request holds, which is of another key
 pub record IsBehindHeld (c : Trial) (told : Told) (it : DiskRecord) : Type 0 where
+  pub update : is_read c.request.op ≡ false
   pub place : ℕ
   pub held : HeldRecord
   pub its_entry : it.entry ≡ held.entry
@@ -137,8 +144,9 @@ pub record IsBehindHeld (c : Trial) (told : Told) (it : DiskRecord) : Type 0 whe
   pub another : held.key.0 ≢ (key_of c.request.op).0
   pub some : 0 < it.addr.0
 
+-- the old value counts, and what the request holds doesn't tell it
 pub data IsOnDisk (c : Trial) (told : Told) (it : DiskRecord) : Type 0 where
-  BelowHead : {place : ℕ} → LeavesMemory c told place it.entry it.addr.0 → IsOnDisk c told it
+  BelowHead : {place : ℕ} → LeavesMemory c told place it.entry it.addr.0 → is_blind c.request.op ≡ false → HoldsNone c it.entry → IsOnDisk c told it
   BehindHeld : IsBehindHeld c told it → IsOnDisk c told it
 
 -- bit 63 or a count was met, or the Cas from a free word that was loaded was lost
