@@ -37,11 +37,11 @@ use Rattle.fkv_ops.specs.Requests.{is_read, is_blind}
 use Rattle.fkv_ops.specs.Appending.{AppendState, appending_ask, append_ask, publish_ledto, appending_next, append_next}
 use Rattle.fkv_ops.specs.Trying.{TryState, trying_ask, try_ask, trying_next, is_wait, with_latch, walks, ends, ended_without, takes_effect, full_at, value_changed, append_ledto, words_of}
 use Rattle.fkv_ops.specs.TryRun.{Trial, home_at, trial_begun, try_run, Told, told_by, effects_of}
-use Rattle.fkv_ops.specs.Reasons.{latch_place, HasEntry}
-use Rattle.fkv_ops.specs.Effects.{IsStored, MayChange, IsMadeOf, IsPublished, IsEffect, BySwap, ByChange, ByRecord, EffectsAreTrue, AreKindsSo, shares_latch, SharesFirst, needs_exclusive, HasSetBit}
+use Rattle.fkv_ops.specs.Reasons.{latch_place, Loaded, IsStored, HasEntry, needs_exclusive}
+use Rattle.fkv_ops.specs.Effects.{MayChange, IsMadeOf, IsPublished, IsEffect, BySwap, ByChange, ByRecord, EffectsAreTrue, AreKindsSo, shares_latch, SharesFirst, EachMayStay, HasSetBit}
 use Rattle.fkv_ops.proofs.BoolTests.{eq_true}
 use Rattle.fkv_ops.proofs.Appended.{IsReserved, IsFilled, is_publishing, AppendRow, AppendKnows, append_true, append_answers}
-use Rattle.fkv_ops.proofs.TryRows.{norm, Owed, Under, TryRow, AppendsKnow}
+use Rattle.fkv_ops.proofs.TryRows.{norm, Owed, Under, Stays, TryRow, AppendsKnow}
 use Rattle.fkv_ops.proofs.TrySteps.{makes_effect, Steps, Quietly, Effectively, owed_then, quieted}
 use Rattle.fkv_ops.proofs.TryRuns.{Known, quieted_ask, quieted_next, step_true, run_true, run_known}
 
@@ -59,7 +59,7 @@ without_effect p t its = by_test (t.has_shared && not (is_wait its))
     by_test true = refl
     by_test false = refl
 
-ends_effect : (p : Places) (t : TryState) (its : TryAnswer) → (ends p t its).effect ≡ t.effect
+pub ends_effect : (p : Places) (t : TryState) (its : TryAnswer) → (ends p t its).effect ≡ t.effect
 unfolding ends
 ends_effect p t its = by_test t.has_exclusive
   where
@@ -82,9 +82,9 @@ swap_effect c told t addr reply its may blind e =
     let told_so = the_reply (reply_from None c.request.op) its (sym (ends_effect c.places (record (quieted c t) { effect = Some (reply_from None c.request.op) }) (answer.Done (reply_from None c.request.op))) ∙ e) in
     BySwap (record { addr = addr.0; may = may; blind = blind; its_ask = ap (λ v. Swap (record_place c.places addr.0 rec.Value) (word_of v)) same.0; its_reply = sym told_so ∙ same.1 })
 
-change_effect : (c : Trial) (told : Told) (t : TryState) (addr : Addr) (old reply : ℕ) (its : Reply) → MayChange c told addr.0 → (value_changed c.places (quieted c t) old reply).effect ≡ Some its
+change_effect : (c : Trial) (told : Told) (t : TryState) (addr : Addr) (old reply : ℕ) (its : Reply) → MayChange c told addr.0 → Loaded told (record_place c.places addr.0 rec.Value) old → (value_changed c.places (quieted c t) old reply).effect ≡ Some its
     → IsEffect c told (Cas (record_place c.places addr.0 rec.Value) old (word_of (value_applied (value_of old) c.request.op))) reply its
-change_effect c told t addr old reply its may = by_word (reply == old) refl
+change_effect c told t addr old reply its may loaded = by_word (reply == old) refl
   where
     new : ℕ → ℕ
     new word = word_of (value_applied (value_of word) c.request.op)
@@ -94,7 +94,7 @@ change_effect c told t addr old reply its may = by_word (reply == old) refl
     by_word true d e =
         let same : old ≡ reply = sym (eq_true reply old d) in
         let told_so = the_reply (reply_from (value_of old) c.request.op) its (sym (ends_effect c.places (record (quieted c t) { effect = Some (reply_from (value_of old) c.request.op) }) (answer.Done (reply_from (value_of old) c.request.op))) ∙ e) in
-        ByChange (record { addr = addr.0; may = may; its_ask = ap (λ w. Cas (record_place c.places addr.0 rec.Value) w (new w)) same; its_reply = sym told_so ∙ ap (λ w. reply_from (value_of w) c.request.op) same })
+        ByChange (record { addr = addr.0; may = may; its_old = subst (Loaded told (record_place c.places addr.0 rec.Value)) same loaded; its_ask = ap (λ w. Cas (record_place c.places addr.0 rec.Value) w (new w)) same; its_reply = sym told_so ∙ ap (λ w. reply_from (value_of w) c.request.op) same })
     by_word false d e = none_told its (sym (ends_effect c.places (quieted c t) (answer.Wait reason.Contended)) ∙ e)
 
 -- the Cas by which a record was published
@@ -143,7 +143,7 @@ append_effect p t its it (Done append.Contended) quiet e = none_told it (sym qui
 append_effect p t its it ask quiet e = none_told it (sym quiet ∙ e)
 
 -- the word of a header that isn't invalid
-plain : (x y : ℕ) → x + y + bit_of false * 2 ^ 62 ≡ x + y
+pub plain : (x y : ℕ) → x + y + bit_of false * 2 ^ 62 ≡ x + y
 plain x y = omega arith
 
 published_effect : (c : Trial) (told : Told) (place entry : ℕ) (old : Option ℕ) (is_current : Bool) (ask : Ask TryAnswer) (reply : ℕ) (its : Reply)
@@ -187,7 +187,7 @@ effect_row : (c : Trial) (told : Told) (t : TryState) (step : Trying) (reply : �
     → IsEffect c told (trying_ask c.places (quieted c t) step) reply its
 unfolding trying_ask trying_next
 effect_row c told t (SwapsValue addr) reply its row any makes e = swap_effect c told t addr reply its row.1 row.2 e
-effect_row c told t (ChangesValue addr old) reply its row any makes e = change_effect c told t addr old reply its row.1 e
+effect_row c told t (ChangesValue addr old) reply its row any makes e = change_effect c told t addr old reply its row.1 row.2 e
 effect_row c told t (Appends r) reply its row any makes e = appends_effect c told t r reply its row any e
 effect_row c told t (Ended it) reply its row any makes e = cc
 effect_row c told t TakesShared reply its row any makes e = cc
@@ -237,6 +237,28 @@ added c told t (TakesExclusive old) row e = cc
 added c told t LoadsOld row e = cc
 added c told t (DropsExclusive it) row e = cc
 added c told t (DropsShared it) row e = cc
+
+-- and seen that its session may stay
+stayed : (c : Trial) (told : Told) (t : TryState) (step : Trying) → TryRow c told t step → makes_effect step ≡ true → Stays c told
+stayed c told t (SwapsValue addr) row e = row.0.stays
+stayed c told t (ChangesValue addr old) row e = row.0.stays
+stayed c told t (Appends its) row e = row.updates.stays
+stayed c told t (Ended it) row e = cc
+stayed c told t TakesShared row e = cc
+stayed c told t Walks row e = cc
+stayed c told t (LoadsSafe addr version) row e = cc
+stayed c told t (LoadsCurrent addr) row e = cc
+stayed c told t LoadsAnswer row e = cc
+stayed c told t (TakesExclusive old) row e = cc
+stayed c told t LoadsOld row e = cc
+stayed c told t (DropsExclusive it) row e = cc
+stayed c told t (DropsShared it) row e = cc
+
+pub each_may_stay : EachMayStay
+each_may_stay c before spare replies reply its wants e =
+    let known = run_known c before spare replies in
+    let t : TryState = try_run c (trial_begun c before spare) replies in
+    stayed c (told_by c (trial_begun c before spare) replies) t t.step known.row (run_makes c before spare replies reply its e) wants
 
 share_first : (c : Trial) (before : TryState) (spare : ℕ) (b : Bool) → b ≡ true
     → try_ask c.places (if b then with_latch c.places (norm c (record before { has_shared = c.request.has_latch; has_exclusive = false; effect = None; spare = spare })) TakeShared TakesShared

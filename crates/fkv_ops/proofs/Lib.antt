@@ -5,6 +5,7 @@ mod Appended
 mod Balances
 mod BoolTests
 mod Copied
+mod EachAsk
 mod Effected
 mod LatchRuns
 mod Searched

@@ -26,7 +26,7 @@ use Rattle.fkv_ops.specs.TryRun.{Trial, home_at, Told}
 use Rattle.fkv_ops.specs.Reasons.{Loaded, Won, ComesTo, AtHome, ByLink, ByOwn, HasSlot, HasEntry, HasEnd, IsIndexFull, NoSlot as SlotSpoiled, NoBucket, TooMany, IsContended, CountLost, LinkLost, OwnIsFull, NoStore}
 use Rattle.fkv_ops.proofs.BoolTests.{lt_true, lt_false, le_true, le_false, eq_true, eq_false}
 
-abbrev is_made : Linking → Bool
+abbrev pub is_made : Linking → Bool
 is_made Made = true
 is_made linking = false
 
@@ -57,7 +57,7 @@ SearchStep c told f AtRest = ⊥
 SearchStep c told f (LoadsSlot slot) = slot < bucket_slots
 SearchStep c told f LoadsLink = ⊤
 SearchStep c told f (LoadsTaken word) = MayLink c told f.base f.linking word
-SearchStep c told f (TakesBucket word taken) = MayLink c told f.base f.linking word × (taken < c.places.overflow)
+SearchStep c told f (TakesBucket word taken) = MayLink c told f.base f.linking word × (taken < c.places.overflow) × Loaded told (shared_place one.Taken) taken
 SearchStep c told f (LinksBucket word) = MayLink c told f.base f.linking word
 
 abbrev pub Searches : Trial → Told → Finding → Type 0
@@ -131,7 +131,7 @@ link_true c told f reply stands its_word = by_link (link_of reply == 0) refl
     by_link true e = rw e (ends f.linking refl (eq_true (link_of reply) 0 e))
     by_link false e = rw e (entered_true c told f stands.links (link_of reply) stands.its_home (ByLink reply stands.its_bucket its_word) stands.counted stands.few stands.reads (λ high. NoStore (NoBucket stands.its_bucket its_word high)))
 
-unmade : (linking : Linking) → linking ≡ Once → is_made linking ≡ false
+pub unmade : (linking : Linking) → linking ≡ Once → is_made linking ≡ false
 unmade Never e = refl
 unmade Once e = refl
 unmade Made e = cc
@@ -141,7 +141,7 @@ unfolding find_step_ask
 taken_true c told f word reply stands may its_count = by_count (nat_lt reply c.places.overflow) refl
   where
     by_count : (b : Bool) → nat_lt reply c.places.overflow ≡ b → Leads c told (led_ask (taken_led c.places f word reply)) (led_to (taken_led c.places f word reply))
-    by_count true e = rw e (stands, (may, lt_true reply c.places.overflow e))
+    by_count true e = rw e (stands, (may, lt_true reply c.places.overflow e, its_count))
     by_count false e = rw e (record {
       ends = record { links = stands.links; base = f.base; word = word; its_bucket = subst (λ b. ComesTo c told stands.links b f.base) (unmade f.linking may.once) stands.its_bucket; its_word = may.its_word; no_link = may.no_link };
       taken = reply;
@@ -149,14 +149,14 @@ taken_true c told f word reply stands may its_count = by_count (nat_lt reply c.p
       all = lt_false reply c.places.overflow e;
     })
 
-took_true : (c : Trial) (told : Told) (f : Finding) (word taken reply : ℕ) → StandsAt c told f → MayLink c told f.base f.linking word → taken < c.places.overflow → told (Cas (shared_place one.Taken) taken (taken + 1)) reply
+took_true : (c : Trial) (told : Told) (f : Finding) (word taken reply : ℕ) → StandsAt c told f → MayLink c told f.base f.linking word → taken < c.places.overflow → Loaded told (shared_place one.Taken) taken → told (Cas (shared_place one.Taken) taken (taken + 1)) reply
     → Leads c told (led_ask (took_led f word taken reply)) (led_to (took_led f word taken reply))
 unfolding find_step_ask
-took_true c told f word taken reply stands may few its_cas = by_count (reply == taken) refl
+took_true c told f word taken reply stands may few its_count its_cas = by_count (reply == taken) refl
   where
     by_count : (b : Bool) → (reply == taken) ≡ b → Leads c told (led_ask (took_led f word taken reply)) (led_to (took_led f word taken reply))
     by_count true e = rw e (record { links = stands.links; its_bucket = stands.its_bucket; its_home = stands.its_home; counted = stands.counted; few = omega (arith, few); reads = stands.reads }, may)
-    by_count false e = rw e (CountLost taken (record { found = reply; its_cas = its_cas; another = eq_false reply taken e }))
+    by_count false e = rw e (CountLost taken its_count (record { found = reply; its_cas = its_cas; another = eq_false reply taken e }))
 
 once_reads : (linking : Linking) → linking ≡ Once → is_never linking ≡ false
 once_reads Never e = cc
@@ -174,7 +174,7 @@ linked_true c told f word reply stands may its_cas = by_word (reply == word) ref
         let few = stands.few in
         rw e (entered_true c told (record f { linking = Made; spare = 0 }) stands.links f.spare stands.its_home (ByOwn word f.spare stands.its_bucket won) stands.counted (omega arith) (sym (once_reads f.linking may.once) ∙ stands.reads)
         (λ high. absurd (omega (arith, high, few))))
-    by_word false e = rw e (LinkLost word f.spare stands.its_bucket stands.few (record { found = reply; its_cas = its_cas; another = eq_false reply word e }))
+    by_word false e = rw e (LinkLost word f.spare stands.its_bucket stands.few may.its_word (record { found = reply; its_cas = its_cas; another = eq_false reply word e }))
 
 -- where a reply leads, what is known there is true
 pub search_true : (c : Trial) (told : Told) (f : Finding) (step : FindStep) (reply : ℕ) → StandsAt c told f → SearchStep c told f step
@@ -184,7 +184,7 @@ search_true c told f AtRest reply stands knows its = absurd knows
 search_true c told f (LoadsSlot slot) reply stands knows its = slot_true c told f slot reply stands knows its
 search_true c told f LoadsLink reply stands knows its = link_true c told f reply stands its
 search_true c told f (LoadsTaken word) reply stands knows its = taken_true c told f word reply stands knows its
-search_true c told f (TakesBucket word taken) reply stands knows its = took_true c told f word taken reply stands knows.0 knows.1 its
+search_true c told f (TakesBucket word taken) reply stands knows its = took_true c told f word taken reply stands knows.0 knows.1 knows.2 its
 search_true c told f (LinksBucket word) reply stands knows its = linked_true c told f word reply stands knows its
 
 reads_so : (op : Op) → is_never (linking_for (purpose_of op)) ≡ is_read op

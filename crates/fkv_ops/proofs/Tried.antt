@@ -3,6 +3,8 @@ use Rattle.std.proofs.Common.{◌≡◌, ℕ, ◌<◌, ◌≤◌, ◌⊎◌, [],
 use Rattle.std.specs.Prelude.{◌≢◌, ◌==◌, ◌&&◌, not, nat_lt, nat_le, if◌then◌else◌, Option, Some, None}
 use Rattle.fkv_base.specs.declared.numbers.Addr.{Addr}
 use Rattle.fkv_base.specs.declared.numbers.Version.{Version}
+use Rattle.fkv_map.specs.declared.operations.Op.{Op}
+use Rattle.fkv_map.specs.declared.operations.Op.TheVariants.{Upsert, Delete, Add as Adds, Max as Maxes, Read}
 use Rattle.fkv_map.specs.Map.{absent_word}
 use Rattle.fkv_map.specs.Keys.{key_of}
 use Rattle.fkv_plane.specs.declared.asks.Ask.{Ask}
@@ -25,11 +27,11 @@ use Rattle.fkv_ops.specs.Requests.{is_read, is_blind}
 use Rattle.fkv_ops.specs.Walking.{WalkState, walk_ask, walk_on}
 use Rattle.fkv_ops.specs.Trying.{TryState, ends, full_at, is_prepare, is_above, must_shift, copies, awaits, held_used, met_nowhere, met_disk, changes, region_met, met_record, walked, has_walked, walk_ledto, safe_loaded}
 use Rattle.fkv_ops.specs.TryRun.{Trial, Told, reply_told}
-use Rattle.fkv_ops.specs.Reasons.{Loaded, WalksTo, HasFound, LeavesMemory, HasNone, AtItsEnd, WithoutSlot, HoldsFrom, IsOnDisk, BelowHead, BehindHeld, IsIndexFull, HasNoRoom, OthersWentOn, ByRecord, IsTrue}
-use Rattle.fkv_ops.specs.Effects.{MayChange, OfAnother, BelowSafe, OfNone, OfAny, OfHeld, OfNoneBehind}
-use Rattle.fkv_ops.proofs.BoolTests.{lt_true, le_true, le_false, eq_true, eq_false, some_where, both}
-use Rattle.fkv_ops.proofs.Walked.{FirstTrue, NowhereTrue, WalkTrue, WalkKnows, walk_answers, walk_on_loads, walk_on_found}
-use Rattle.fkv_ops.proofs.TryRows.{norm, latch_held, owed_at, Under, Updates, FoundRow, TryRow, told_at, Comes, ends_true}
+use Rattle.fkv_ops.specs.Reasons.{Loaded, HasEntry, WalksTo, HasFound, LeavesMemory, HasNone, AtItsEnd, WithoutSlot, HoldsFrom, IsOnDisk, AsRead, WithoutHeld, FromAnother, BelowHead, BehindHeld, IsIndexFull, HasNoRoom, OthersWentOn, ByRecord, IsTrue}
+use Rattle.fkv_ops.specs.Effects.{MayChange, MayStay, FirstInMemory, FirstBelowHead, FirstNowhere, OfAnother, BelowSafe, OfNone, OfAny, OfHeld, OfNoneBehind}
+use Rattle.fkv_ops.proofs.BoolTests.{lt_true, lt_false, le_true, le_false, eq_true, eq_false, some_where, both}
+use Rattle.fkv_ops.proofs.Walked.{HasFirst, FirstTrue, FirstSome, FirstAt, first_true, NowhereTrue, WalkTrue, WalkKnows, walk_answers, walk_on_loads, walk_on_found}
+use Rattle.fkv_ops.proofs.TryRows.{norm, latch_held, owed_at, Under, Stays, Updates, FoundRow, TryRow, told_at, Comes, ends_true}
 use Rattle.fkv_ops.proofs.Copied.{copies_true}
 
 -- the try comes to its end, without an effect
@@ -50,7 +52,7 @@ awaits_true c told t addr quiet under disk = quiet_end c told t (answer.AwaitsDi
 held_true : (c : Trial) (told : Told) (t : TryState) (addr : Addr) (its : Option HeldRecord) → t.effect ≡ None → t.has_exclusive ≡ false → Updates c told t → LeavesMemory c told t.walk.place t.walk.entry addr.0 → is_blind c.request.op ≡ false → c.request.held ≡ its
     → Comes c told None [] (latch_held t) (held_used c.places (norm c t) addr its)
 unfolding held_used
-held_true c told t addr None quiet not_alone updates leaves counts holds = awaits_true c told t addr quiet updates.under (BelowHead leaves)
+held_true c told t addr None quiet not_alone updates leaves counts holds = awaits_true c told t addr quiet updates.under (BelowHead leaves counts (WithoutHeld holds))
 held_true c told t addr (Some held) quiet not_alone updates leaves counts holds = by_entry (held.entry == t.walk.entry) refl
   where
     from : held.entry ≡ t.walk.entry → HoldsFrom c told t.walk.place held
@@ -60,7 +62,7 @@ held_true c told t addr (Some held) quiet not_alone updates leaves counts holds 
         → Comes c told None [] (latch_held t) (if b then copies c.places (norm c t) (Known absent_word) false else awaits c.places (norm c t) held.previous)
     by_end true e same other = copies_true c told t (Known absent_word) false quiet not_alone updates leaves.walk.slot (OfNoneBehind (from same) same other (eq_true held.previous.0 0 e))
     by_end false e same other = awaits_true c told t held.previous quiet updates.under
-        (BehindHeld (record { place = t.walk.place; held = held; its_entry = sym same; its_addr = refl; holds = from same; another = other; some = some_where held.previous.0 e }))
+        (BehindHeld (record { update = updates.update; place = t.walk.place; held = held; its_entry = sym same; its_addr = refl; holds = from same; another = other; some = some_where held.previous.0 e }))
 
     by_key : (b : Bool) → (held.key.0 == (key_of c.request.op).0) ≡ b → held.entry ≡ t.walk.entry
         → Comes c told None [] (latch_held t) (if b then copies c.places (norm c t) (Known held.value) false else if held.previous.0 == 0 then copies c.places (norm c t) (Known absent_word) false else awaits c.places (norm c t) held.previous)
@@ -70,7 +72,7 @@ held_true c told t addr (Some held) quiet not_alone updates leaves counts holds 
     by_entry : (b : Bool) → (held.entry == t.walk.entry) ≡ b
         → Comes c told None [] (latch_held t) (if b then (if held.key.0 == (key_of c.request.op).0 then copies c.places (norm c t) (Known held.value) false else if held.previous.0 == 0 then copies c.places (norm c t) (Known absent_word) false else awaits c.places (norm c t) held.previous) else awaits c.places (norm c t) addr)
     by_entry true e = by_key (held.key.0 == (key_of c.request.op).0) refl (eq_true held.entry t.walk.entry e)
-    by_entry false e = awaits_true c told t addr quiet updates.under (BelowHead leaves)
+    by_entry false e = awaits_true c told t addr quiet updates.under (BelowHead leaves counts (FromAnother holds (eq_false held.entry t.walk.entry e)))
 
 none_read : (c : Trial) (told : Told) (w : WalkState) → NowhereTrue c told w → HasNone c told
 none_read c told w (inl at) = AtItsEnd at.0
@@ -83,24 +85,32 @@ none_update c told w (inr without) update = absurd (no (sym update ∙ without.0
     no : false ≡ true → ⊥
     no e = cc
 
-nowhere_true : (c : Trial) (told : Told) (t : TryState) → t.effect ≡ None → t.has_exclusive ≡ false → Under c told t.has_shared → NowhereTrue c told t.walk → Comes c told None [] (latch_held t) (met_nowhere c.places (norm c t))
-nowhere_true c told t quiet not_alone under none = by_read (is_read c.request.op) refl
+nowhere_true : (c : Trial) (told : Told) (t : TryState) → t.effect ≡ None → t.has_exclusive ≡ false → Under c told t.has_shared → Stays c told → NowhereTrue c told t.walk → Comes c told None [] (latch_held t) (met_nowhere c.places (norm c t))
+nowhere_true c told t quiet not_alone under stays none = by_read (is_read c.request.op) refl
   where
     by_read : (b : Bool) → is_read c.request.op ≡ b → Comes c told None [] (latch_held t) (if b then ends c.places (norm c t) answer.Absent else copies c.places (norm c t) (Known absent_word) false)
     by_read true e = quiet_end c told t answer.Absent quiet under refl (record { reads = e; none = inr (none_read c told t.walk none) })
-    by_read false e = let walks = none_update c told t.walk none e in copies_true c told t (Known absent_word) false quiet not_alone (record { under = under; update = e }) walks.slot (OfNone walks)
+    by_read false e = let walks = none_update c told t.walk none e in copies_true c told t (Known absent_word) false quiet not_alone (record { under = under; update = e; stays = stays }) walks.slot (OfNone walks)
 
-disk_true : (c : Trial) (told : Told) (t : TryState) (addr : Addr) → t.effect ≡ None → t.has_exclusive ≡ false → Under c told t.has_shared → LeavesMemory c told t.walk.place t.walk.entry addr.0 → Comes c told None [] (latch_held t) (met_disk c.places (norm c t) addr)
-disk_true c told t addr quiet not_alone under leaves = by_read (is_read c.request.op) refl
+-- a read's value counts
+read_counts : (op : Op) → is_read op ≡ true → is_blind op ≡ false
+read_counts (Upsert key value) e = cc
+read_counts (Delete key) e = cc
+read_counts (Adds key n) e = cc
+read_counts (Maxes key n) e = cc
+read_counts (Read key) e = refl
+
+disk_true : (c : Trial) (told : Told) (t : TryState) (addr : Addr) → t.effect ≡ None → t.has_exclusive ≡ false → Under c told t.has_shared → Stays c told → LeavesMemory c told t.walk.place t.walk.entry addr.0 → Comes c told None [] (latch_held t) (met_disk c.places (norm c t) addr)
+disk_true c told t addr quiet not_alone under stays leaves = by_read (is_read c.request.op) refl
   where
     by_blind : (b : Bool) → is_blind c.request.op ≡ b → is_read c.request.op ≡ false
         → Comes c told None [] (latch_held t) (if b then copies c.places (norm c t) (Known absent_word) false else held_used c.places (norm c t) addr c.request.held)
-    by_blind true e update = copies_true c told t (Known absent_word) false quiet not_alone (record { under = under; update = update }) leaves.walk.slot (OfAny leaves e)
-    by_blind false e update = held_true c told t addr c.request.held quiet not_alone (record { under = under; update = update }) leaves e refl
+    by_blind true e update = copies_true c told t (Known absent_word) false quiet not_alone (record { under = under; update = update; stays = stays }) leaves.walk.slot (OfAny leaves e)
+    by_blind false e update = held_true c told t addr c.request.held quiet not_alone (record { under = under; update = update; stays = stays }) leaves e refl
 
     by_read : (b : Bool) → is_read c.request.op ≡ b
         → Comes c told None [] (latch_held t) (if b then awaits c.places (norm c t) addr else if is_blind c.request.op then copies c.places (norm c t) (Known absent_word) false else held_used c.places (norm c t) addr c.request.held)
-    by_read true e = awaits_true c told t addr quiet under (BelowHead leaves)
+    by_read true e = awaits_true c told t addr quiet under (BelowHead leaves (read_counts c.request.op e) (AsRead e))
     by_read false e = by_blind (is_blind c.request.op) refl e
 
 may_change : (c : Trial) (told : Told) (w : WalkState) (addr : Addr) (version : Version) → FoundRow c told w addr version → version.0 ≡ c.request.version.0 → c.seen.offsets.read_only.0 ≤ addr.0 → MayChange c told addr.0
@@ -110,13 +120,13 @@ changes_true : (c : Trial) (told : Told) (t : TryState) (addr : Addr) (version :
 changes_true c told t addr version quiet updates found may = by_blind (is_blind c.request.op) refl
   where
     by_blind : (b : Bool) → is_blind c.request.op ≡ b → Comes c told None [] (latch_held t) (if b then record (norm c t) { step = SwapsValue addr } else record (norm c t) { walk = walk_on t.walk; step = LoadsCurrent addr })
-    by_blind true e = record { same = refl; owes = refl; its_effect = quiet; its_told = refl; row = (record { under = updates.under; update = updates.update }, may, e) }
+    by_blind true e = record { same = refl; owes = refl; its_effect = quiet; its_told = refl; row = (record { under = updates.under; update = updates.update; stays = updates.stays }, may, e) }
     by_blind false e = record {
       same = refl;
       owes = refl;
       its_effect = quiet;
       its_told = refl;
-      row = (record { under = updates.under; update = updates.update }, may, walk_on_loads c told t.walk addr version found.at found.its);
+      row = (record { under = updates.under; update = updates.update; stays = updates.stays }, may, walk_on_loads c told t.walk addr version found.at found.its);
     }
 
 region_true : (c : Trial) (told : Told) (t : TryState) (addr : Addr) (version : Version) → t.effect ≡ None → t.has_exclusive ≡ false → Updates c told t → FoundRow c told t.walk addr version
@@ -135,7 +145,7 @@ region_true c told t addr version quiet not_alone updates found = by_head (nat_l
       owes = refl;
       its_effect = quiet;
       its_told = refl;
-      row = record { not_alone = not_alone; updates = record { under = updates.under; update = updates.update }; found = found; below = le_false c.seen.offsets.read_only.0 addr.0 e };
+      row = record { not_alone = not_alone; updates = record { under = updates.under; update = updates.update; stays = updates.stays }; found = found; below = le_false c.seen.offsets.read_only.0 addr.0 e };
     }
 
     by_head : (b : Bool) → nat_lt addr.0 c.seen.offsets.head.0 ≡ b
@@ -143,8 +153,8 @@ region_true c told t addr version quiet not_alone updates found = by_head (nat_l
     by_head true e = let low = lt_true addr.0 c.seen.offsets.head.0 e in let high = found.its.its_record.in_memory in absurd (omega (arith, low, high))
     by_head false e = by_read_only (nat_le c.seen.offsets.read_only.0 addr.0) refl
 
-record_true : (c : Trial) (told : Told) (t : TryState) (addr : Addr) (version : Version) → t.effect ≡ None → t.has_exclusive ≡ false → Under c told t.has_shared → FoundRow c told t.walk addr version → Comes c told None [] (latch_held t) (met_record c.places (norm c t) addr version)
-record_true c told t addr version quiet not_alone under found = by_read (is_read c.request.op) refl
+record_true : (c : Trial) (told : Told) (t : TryState) (addr : Addr) (version : Version) → t.effect ≡ None → t.has_exclusive ≡ false → Under c told t.has_shared → Stays c told → FoundRow c told t.walk addr version → Comes c told None [] (latch_held t) (met_record c.places (norm c t) addr version)
+record_true c told t addr version quiet not_alone under stays found = by_read (is_read c.request.op) refl
   where
     by_read : (b : Bool) → is_read c.request.op ≡ b
         → Comes c told None [] (latch_held t) (if b then record (norm c t) { walk = walk_on t.walk; step = LoadsAnswer } else region_met c.places (norm c t) addr version (if nat_lt addr.0 c.seen.offsets.head.0 then Some region.Disk else if nat_le c.seen.offsets.read_only.0 addr.0 then Some region.Mutable else None))
@@ -155,21 +165,70 @@ record_true c told t addr version quiet not_alone under found = by_read (is_read
       its_told = refl;
       row = record { under = under; reads = e; addr = addr; version = version.0; found = walk_on_found c told t.walk addr version found.at found.its; loads = walk_on_loads c told t.walk addr version found.at found.its };
     }
-    by_read false e = region_true c told t addr version quiet not_alone (record { under = under; update = e }) found
+    by_read false e = region_true c told t addr version quiet not_alone (record { under = under; update = e; stays = stays }) found
 
-walked_true : (c : Trial) (told : Told) (t : TryState) (its : WalkAnswer) → t.effect ≡ None → t.has_exclusive ≡ false → Under c told t.has_shared → WalkTrue c told t.walk its → Comes c told None [] (latch_held t) (walked c.places (norm c t) its)
-walked_true c told t (walk.Found addr version) quiet not_alone under knows = record_true c told t addr version quiet not_alone under (record { at = knows.0; its = knows.1 })
-walked_true c told t walk.Nowhere quiet not_alone under knows = nowhere_true c told t quiet not_alone under knows
-walked_true c told t (walk.OnDisk addr) quiet not_alone under knows = disk_true c told t addr quiet not_alone under knows.0
-walked_true c told t (walk.Value value) quiet not_alone under knows = absurd knows
-walked_true c told t walk.Full quiet not_alone under knows = full_true c told t answer.IndexFull (inl knows) quiet under refl (λ at. (at, knows))
-walked_true c told t walk.Contended quiet not_alone under knows = quiet_end c told t (answer.Wait reason.Contended) quiet under refl knows
+walked_true : (c : Trial) (told : Told) (t : TryState) (its : WalkAnswer) → t.effect ≡ None → t.has_exclusive ≡ false → Under c told t.has_shared → (has_walked its ≡ true → Stays c told) → WalkTrue c told t.walk its → Comes c told None [] (latch_held t) (walked c.places (norm c t) its)
+walked_true c told t (walk.Found addr version) quiet not_alone under stays knows = record_true c told t addr version quiet not_alone under (stays refl) (record { at = knows.0; its = knows.1 })
+walked_true c told t walk.Nowhere quiet not_alone under stays knows = nowhere_true c told t quiet not_alone under (stays refl) knows
+walked_true c told t (walk.OnDisk addr) quiet not_alone under stays knows = disk_true c told t addr quiet not_alone under (stays refl) knows.0
+walked_true c told t (walk.Value value) quiet not_alone under stays knows = absurd knows
+walked_true c told t walk.Full quiet not_alone under stays knows = full_true c told t answer.IndexFull (inl knows) quiet under refl (λ at. (at, knows))
+walked_true c told t walk.Contended quiet not_alone under stays knows = quiet_end c told t (answer.Wait reason.Contended) quiet under refl knows
+
+first_some : (c : Trial) (told : Told) (place entry : ℕ) (first : Option Version) → FirstSome c told place entry first → FirstTrue c told place entry first
+first_some c told place entry None knows = absurd knows
+first_some c told place entry (Some version) knows = knows
+
+-- the first record that was met is of no version above
+some_stays : (c : Trial) (told : Told) (place entry : ℕ) (version : Version) → HasFirst c told place entry version.0 → is_above (Some version) c.request.version ≡ false → MayStay c told
+some_stays c told place entry version knows e =
+    let low = lt_false c.request.version.0 version.0 e in
+    let its = knows.its_version in
+    record { place = place; entry = entry; slot = knows.slot; its_first = FirstInMemory knows.header knows.its_header (omega (arith, low, its)) }
+
+found_stays : (c : Trial) (told : Told) (place entry : ℕ) (first : Option Version) → FirstSome c told place entry first → is_above first c.request.version ≡ false → MayStay c told
+found_stays c told place entry None knows e = absurd knows
+found_stays c told place entry (Some version) knows e = some_stays c told place entry version knows e
+
+-- or none was met, as the entry leads out of memory at once
+nowhere_stays : (c : Trial) (told : Told) (place entry : ℕ) (first : Option Version) → HasEntry c told place entry → FirstAt c told place entry 0 first → is_above first c.request.version ≡ false → MayStay c told
+nowhere_stays c told place entry None slot at e = record { place = place; entry = entry; slot = slot; its_first = FirstNowhere (sym at) }
+nowhere_stays c told place entry (Some version) slot at e = some_stays c told place entry version at e
+
+below_stays : (c : Trial) (told : Told) (place entry addr : ℕ) (first : Option Version) → HasEntry c told place entry → addr < c.seen.offsets.head.0 → FirstAt c told place entry addr first → is_above first c.request.version ≡ false → MayStay c told
+below_stays c told place entry addr None slot low at e = record { place = place; entry = entry; slot = slot; its_first = FirstBelowHead (subst (λ a. a < c.seen.offsets.head.0) at low) }
+below_stays c told place entry addr (Some version) slot low at e = some_stays c told place entry version at e
+
+stays_known : (c : Trial) (told : Told) (w : WalkState) (its : WalkAnswer) → has_walked its ≡ true → is_read c.request.op ≡ false → WalkTrue c told w its → is_above w.first c.request.version ≡ false → MayStay c told
+stays_known c told w (walk.Found addr version) e update knows low = found_stays c told w.place w.entry w.first knows.1.first low
+stays_known c told w walk.Nowhere e update (inl at) low = nowhere_stays c told w.place w.entry w.first at.0.slot at.1 low
+stays_known c told w walk.Nowhere e update (inr without) low = absurd (no (sym update ∙ without.0))
+  where
+    no : false ≡ true → ⊥
+    no f = cc
+stays_known c told w (walk.OnDisk addr) e update knows low = below_stays c told w.place w.entry addr.0 w.first knows.0.walk.slot knows.0.below knows.1 low
+stays_known c told w (walk.Value value) e update knows low = cc
+stays_known c told w walk.Full e update knows low = cc
+stays_known c told w walk.Contended e update knows low = cc
+
+without_shift : (a b : Bool) → (a && b) ≡ false → a ≡ true → b ≡ false
+without_shift true b e f = e
+without_shift false b e f = cc
+
+update_shares : (a b : Bool) → (a && not b) ≡ true → b ≡ false
+update_shares true true e = cc
+update_shares true false e = refl
+update_shares false b e = cc
+
+not_walked : {X : Type 0} (b : Bool) → b ≡ false → b ≡ true → X
+not_walked true e f = cc
+not_walked false e f = cc
 
 first_known : (c : Trial) (told : Told) (w : WalkState) (its : WalkAnswer) → has_walked its ≡ true → WalkTrue c told w its → FirstTrue c told w.place w.entry w.first
-first_known c told w (walk.Found addr version) e knows = knows.1.first
-first_known c told w walk.Nowhere e (inl at) = at.1
+first_known c told w (walk.Found addr version) e knows = first_some c told w.place w.entry w.first knows.1.first
+first_known c told w walk.Nowhere e (inl at) = first_true c told w.place w.entry 0 w.first at.1
 first_known c told w walk.Nowhere e (inr without) = subst (FirstTrue c told w.place w.entry) (sym without.2) tt
-first_known c told w (walk.OnDisk addr) e knows = knows.1
+first_known c told w (walk.OnDisk addr) e knows = first_true c told w.place w.entry addr.0 w.first knows.1
 first_known c told w (walk.Value value) e knows = cc
 first_known c told w walk.Full e knows = cc
 first_known c told w walk.Contended e knows = cc
@@ -200,8 +259,9 @@ walk_led_true c told t (Done its) quiet not_alone at under knows asks = by_walke
         negated : (b : Bool) → not b ≡ true → b ≡ false
         negated true e = cc
         negated false e = refl
-    by_walked true false d e = walked_true c told (record t { spare = t.walk.spare }) its quiet not_alone under here
-    by_walked false b d e = walked_true c told (record t { spare = t.walk.spare }) its quiet not_alone under here
+    by_walked true false d e = walked_true c told (record t { spare = t.walk.spare }) its quiet not_alone under
+        (λ met wants. stays_known c told t.walk its d (update_shares (is_prepare c.seen.phase) (is_read c.request.op) wants) here (without_shift (is_prepare c.seen.phase && not (is_read c.request.op)) (is_above t.walk.first c.request.version) e wants)) here
+    by_walked false b d e = walked_true c told (record t { spare = t.walk.spare }) its quiet not_alone under (λ met. not_walked (has_walked its) d met) here
 walk_led_true c told t ask quiet not_alone at under knows asks = record {
   same = refl;
   owes = ap (owed_at t) at;

@@ -6,6 +6,8 @@ use Rattle.fkv_base.specs.declared.numbers.Version.{Version}
 use Rattle.fkv_words.specs.Fields.{bit_of}
 use Rattle.fkv_map.specs.declared.operations.Reply.{Reply}
 use Rattle.fkv_map.specs.Keys.{reply_from}
+use Rattle.fkv_plane.specs.declared.places.RecordWord.TheVariants as rec
+use Rattle.fkv_plane.specs.Places.{record_place}
 use Rattle.fkv_plane.specs.Passing.{is_done}
 use Rattle.fkv_latch.specs.declared.latching.LatchTask.TheVariants.{DropShared, DropExclusive}
 use Rattle.fkv_latch.specs.declared.latching.Latching.{Latching}
@@ -25,8 +27,8 @@ use Rattle.fkv_ops.specs.Walking.{WalkState, walk_ask}
 use Rattle.fkv_ops.specs.Appending.{append_ask}
 use Rattle.fkv_ops.specs.Trying.{TryState, is_wait, with_latch, ended_without, ends, takes_effect, words_of}
 use Rattle.fkv_ops.specs.TryRun.{Trial, home_at, Told, reply_told}
-use Rattle.fkv_ops.specs.Reasons.{latch_place, HasEntry, HasFound, OthersWentOn, IsTrue}
-use Rattle.fkv_ops.specs.Effects.{MayChange, MayCopy, IsMadeOf, HasSetBit, needs_exclusive, shares_latch, HasShared}
+use Rattle.fkv_ops.specs.Reasons.{latch_place, Loaded, HasEntry, HasFound, needs_exclusive, OthersWentOn, IsTrue}
+use Rattle.fkv_ops.specs.Effects.{MayChange, MayCopy, IsMadeOf, HasSetBit, shares_latch, HasShared, MayStay}
 use Rattle.fkv_ops.proofs.Walked.{FoundKnows, WalkKnows, LoadsRecord}
 use Rattle.fkv_ops.proofs.Appended.{AppendKnows}
 
@@ -42,10 +44,15 @@ pub record Under (c : Trial) (told : Told) (has_shared : Bool) : Type 0 where
   pub shared : has_shared ≡ shares c
   pub has_added : shares_latch c ≡ true → c.request.has_latch ≡ false → HasShared c told
 
+-- an update in prepare has seen that its session may stay
+abbrev pub Stays : Trial → Told → Type 0
+Stays c told = shares_latch c ≡ true → MayStay c told
+
 -- the same of an update that has found its slot
 pub record Updates (c : Trial) (told : Told) (t : TryState) : Type 0 where
   pub under : Under c told t.has_shared
   pub update : is_read c.request.op ≡ false
+  pub stays : Stays c told
 
 -- how the latch is shared
 abbrev pub ShareRow : Trial → Told → Latching → Type 0
@@ -56,7 +63,7 @@ ShareRow c told step = ⊥
 -- and taken alone
 abbrev pub AloneRow : Trial → Told → Latching → Type 0
 AloneRow c told (latching.LoadsWord place) = place ≡ latch_place c
-AloneRow c told (latching.SetsExclusive place word) = (place ≡ latch_place c) × (word < one_share)
+AloneRow c told (latching.SetsExclusive place word) = (place ≡ latch_place c) × (word < one_share) × Loaded told (latch_place c) word
 AloneRow c told step = ⊥
 
 pub record FoundRow (c : Trial) (told : Told) (w : WalkState) (addr : Addr) (version : Version) : Type 0 where
@@ -86,6 +93,7 @@ pub record AloneKnows (c : Trial) (told : Told) (t : TryState) (old : OldValue) 
   pub slot : HasEntry c told t.walk.place t.walk.entry
   pub is_current : Bool
   pub its_old : OldRow c told t.walk old is_current
+  pub need : needs_exclusive c is_current ≡ true
   pub its_latching : AloneRow c told t.latching
 
 pub record OldKnows (c : Trial) (told : Told) (t : TryState) : Type 0 where
@@ -160,7 +168,7 @@ TryRow c told t Walks = WalksKnow c told t
 TryRow c told t (LoadsSafe addr version) = SafeKnows c told t addr version
 TryRow c told t (SwapsValue addr) = Updates c told t × MayChange c told addr.0 × (is_blind c.request.op ≡ true)
 TryRow c told t (LoadsCurrent addr) = Updates c told t × MayChange c told addr.0 × LoadsRecord t.walk addr
-TryRow c told t (ChangesValue addr old) = Updates c told t × MayChange c told addr.0
+TryRow c told t (ChangesValue addr old) = Updates c told t × MayChange c told addr.0 × Loaded told (record_place c.places addr.0 rec.Value) old
 TryRow c told t LoadsAnswer = AnswerKnows c told t
 TryRow c told t (TakesExclusive old) = AloneKnows c told t old
 TryRow c told t LoadsOld = OldKnows c told t

@@ -22,17 +22,18 @@ use Rattle.fkv_ops.specs.declared.appending.AppendAnswer.{AppendAnswer}
 use Rattle.fkv_ops.specs.declared.appending.AppendAnswer.TheVariants as append
 use Rattle.fkv_ops.specs.declared.appending.Appending.{Appending}
 use Rattle.fkv_ops.specs.declared.trying.OldValue.{OldValue}
+use Rattle.fkv_ops.specs.declared.trying.OldValue.TheVariants.{InMemory, Known}
 use Rattle.fkv_ops.specs.declared.trying.Trying.{Trying}
 use Rattle.fkv_ops.specs.declared.trying.Trying.TheVariants.{Ended, TakesShared, Walks, LoadsSafe, SwapsValue, LoadsCurrent, ChangesValue, LoadsAnswer, TakesExclusive, LoadsOld, Appends, DropsExclusive, DropsShared}
 use Rattle.fkv_ops.specs.declared.walking.WalkAnswer.TheVariants as walk
 use Rattle.fkv_ops.specs.Values.{value_of, word_of}
 use Rattle.fkv_ops.specs.Requests.{is_read}
-use Rattle.fkv_ops.specs.Walking.{walk_ask, walk_next}
+use Rattle.fkv_ops.specs.Walking.{WalkState, walk_ask, walk_next}
 use Rattle.fkv_ops.specs.Appending.{append_ask, append_next}
-use Rattle.fkv_ops.specs.Trying.{TryState, trying_ask, is_wait, is_prepare, ends, takes_effect, walks, shared_ledto, current_ledto, value_changed, told_value, answer_ledto, exclusive_ledto, old_ledto, append_ledto, exclusive_dropped, shared_dropped, trying_next, words_of}
+use Rattle.fkv_ops.specs.Trying.{TryState, trying_ask, is_wait, is_prepare, is_moving_on, ends, takes_effect, walks, shared_ledto, current_ledto, value_changed, told_value, answer_ledto, exclusive_ledto, old_ledto, append_ledto, exclusive_dropped, shared_dropped, trying_next, words_of}
 use Rattle.fkv_ops.specs.TryRun.{Trial, home_at, Told, reply_told}
-use Rattle.fkv_ops.specs.Reasons.{latch_place, HasEntry, Held, Quicker, OthersWentOn, ByLatch, HasValue, ValueLost, IsTrue}
-use Rattle.fkv_ops.specs.Effects.{MayChange, IsMadeOf, OfRecord, IsLoaded, shares_latch}
+use Rattle.fkv_ops.specs.Reasons.{latch_place, Loaded, HasEntry, Held, Quicker, HasMetLatch, needs_exclusive, HasNoneOfVersion, FoundAnother, FoundNone, FoundBelow, OthersWentOn, ByLatch, HasValue, ValueLost, IsTrue}
+use Rattle.fkv_ops.specs.Effects.{MayChange, IsMadeOf, OfRecord, OfNone, OfAny, OfHeld, OfNoneBehind, IsLoaded, shares_latch}
 use Rattle.fkv_ops.proofs.BoolTests.{lt_true, lt_false, le_true, le_false, eq_true, eq_false, both}
 use Rattle.fkv_ops.proofs.Walked.{walk_true, walk_begun_true, walk_begun_asks, loads_place, loads_value, loads_same}
 use Rattle.fkv_ops.proofs.Appended.{AppendKnows, append_true, append_answers}
@@ -123,11 +124,29 @@ shared_true c told t (latching.GivesBack place) reply next quiet not_alone not_s
     owing c told (latch_held t) (record { shares = 0; bits = bit_of t.has_exclusive }) (ends c.places (norm c t) answer.Shift) (ap (λ b. record { shares = bit_of b; bits = bit_of t.has_exclusive }) not_shared) (shift_true c told t quiet wants row.1)
 shared_true c told t step reply next quiet not_alone not_shared at wants has_none row was = absurd row
 
+-- what is made of no record of the request's version
+made_of_none : (c : Trial) (told : Told) (place entry : ℕ) (old : Option ℕ) (is_current : Bool) → IsMadeOf c told place entry old is_current → is_current ≡ false → HasNoneOfVersion c told
+made_of_none c told place entry old is_current (OfRecord {version = version} found may its_old) e = FoundAnother found (eq_false version c.request.version.0 e)
+made_of_none c told place entry old is_current (OfNone walks) e = FoundNone walks
+made_of_none c told place entry old is_current (OfAny leaves blind) e = FoundBelow leaves
+made_of_none c told place entry old is_current (OfHeld holds same its_key) e = FoundBelow holds.leaves
+made_of_none c told place entry old is_current (OfNoneBehind holds same other none) e = FoundBelow holds.leaves
+
+none_of_version : (c : Trial) (told : Told) (w : WalkState) (old : OldValue) (is_current : Bool) → OldRow c told w old is_current → is_current ≡ false → HasNoneOfVersion c told
+none_of_version c told w InMemory is_current row e = FoundAnother row.found.its.its_record (eq_false row.version.0 c.request.version.0 (row.current ∙ e))
+none_of_version c told w (Known word) is_current row e = made_of_none c told w.place w.entry (value_of word) is_current row e
+
+waits_for_latch : (c : Trial) (told : Told) (t : TryState) (old : OldValue) (is_current : Bool) → Updates c told t → OldRow c told t.walk old is_current → needs_exclusive c is_current ≡ true → HasMetLatch c told → IsTrue c told (answer.Wait reason.Latch)
+waits_for_latch c told t old is_current updates its_old need met =
+    let split = both (is_moving_on c.seen.phase && c.request.version.0 == c.seen.version.0) (not is_current) need in
+    let other : is_current ≡ false = negated is_current split.1 in
+    record { update = updates.update; needed = subst (λ b. needs_exclusive c b ≡ true) other need; none = none_of_version c told t.walk old is_current its_old other; met = met }
+
 alone_true : (c : Trial) (told : Told) (t : TryState) (old : OldValue) (step : Latching) (reply : ℕ) (is_current : Bool) → t.latching ≡ latch_next step reply → t.effect ≡ None → t.has_exclusive ≡ false → t.step ≡ TakesExclusive old
-    → Updates c told t → HasEntry c told t.walk.place t.walk.entry → OldRow c told t.walk old is_current → AloneRow c told step → told (passed (latch_ask step) answer.Shift) reply
+    → Updates c told t → HasEntry c told t.walk.place t.walk.entry → OldRow c told t.walk old is_current → needs_exclusive c is_current ≡ true → AloneRow c told step → told (passed (latch_ask step) answer.Shift) reply
     → Comes c told None [] (record { shares = bit_of t.has_shared; bits = taken_by step reply }) (exclusive_ledto c.places (norm c t) old (latch_next_ask step reply))
 unfolding exclusive_ledto latch_ask latch_next latch_next_ask passed
-alone_true c told t old (latching.LoadsWord place) reply is_current next quiet not_alone at updates slot its_old row was = by_word (is_free reply) refl
+alone_true c told t old (latching.LoadsWord place) reply is_current next quiet not_alone at updates slot its_old need row was = by_word (is_free reply) refl
   where
     none : latch_held t ≡ record { shares = bit_of t.has_shared; bits = 0 }
     none = ap (λ b. record { shares = bit_of t.has_shared; bits = bit_of b }) not_alone
@@ -139,15 +158,15 @@ alone_true c told t old (latching.LoadsWord place) reply is_current next quiet n
       its_effect = quiet;
       its_told = ap told_at at;
       row = subst (TryRow c told (norm c t)) (sym at)
-          (record { not_alone = not_alone; updates = record { under = updates.under; update = updates.update }; slot = slot; is_current = is_current; its_old = its_old; its_latching = subst (AloneRow c told) (sym its) (row, free) });
+          (record { not_alone = not_alone; updates = record { under = updates.under; update = updates.update; stays = updates.stays }; slot = slot; is_current = is_current; its_old = its_old; need = need; its_latching = subst (AloneRow c told) (sym its) (row, free, subst (λ p. told (Load p) reply) row was) });
     }
 
     by_word : (b : Bool) → is_free reply ≡ b
         → Comes c told None [] (record { shares = bit_of t.has_shared; bits = 0 }) (exclusive_ledto c.places (norm c t) old (if b then latch_ask (latching.SetsExclusive place reply) else Done latch.Busy))
     by_word true e = stays (next ∙ rw e refl) (lt_true reply one_share e)
     by_word false e = owing c told (latch_held t) (record { shares = bit_of t.has_shared; bits = 0 }) (ends c.places (norm c t) (answer.Wait reason.Latch)) none
-        (quiet_end c told t (answer.Wait reason.Latch) quiet updates.under refl (Held reply (subst (λ p. told (Load p) reply) row was) (lt_false reply one_share e)))
-alone_true c told t old (latching.SetsExclusive place word) reply is_current next quiet not_alone at updates slot its_old row was = by_word (reply == word) refl
+        (quiet_end c told t (answer.Wait reason.Latch) quiet updates.under refl (waits_for_latch c told t old is_current updates its_old need (Held reply (subst (λ p. told (Load p) reply) row was) (lt_false reply one_share e))))
+alone_true c told t old (latching.SetsExclusive place word) reply is_current next quiet not_alone at updates slot its_old need row was = by_word (reply == word) refl
   where
     none : latch_held t ≡ record { shares = bit_of t.has_shared; bits = 0 }
     none = ap (λ b. record { shares = bit_of t.has_shared; bits = bit_of b }) not_alone
@@ -157,11 +176,11 @@ alone_true c told t old (latching.SetsExclusive place word) reply is_current nex
 
     by_word : (b : Bool) → (reply == word) ≡ b
         → Comes c told None [] (record { shares = bit_of t.has_shared; bits = bit_of b }) (exclusive_ledto c.places (norm c t) old (Done (if b then latch.Taken else latch.Busy)))
-    by_word true e = copies_from_true c told (record t { has_exclusive = true }) old is_current quiet (record { under = updates.under; update = updates.update }) slot its_old
+    by_word true e = copies_from_true c told (record t { has_exclusive = true }) old is_current quiet (record { under = updates.under; update = updates.update; stays = updates.stays }) slot its_old
         (λ need. record { word = word; free = row.1; its_cas = subst (told (Cas (latch_place c) word (word + exclusive_bit))) (eq_true reply word e) its_cas })
     by_word false e = owing c told (latch_held t) (record { shares = bit_of t.has_shared; bits = 0 }) (ends c.places (norm c t) (answer.Wait reason.Latch)) none
-        (quiet_end c told t (answer.Wait reason.Latch) quiet updates.under refl (Quicker word row.1 (record { found = reply; its_cas = its_cas; another = eq_false reply word e })))
-alone_true c told t old step reply is_current next quiet not_alone at updates slot its_old row was = absurd row
+        (quiet_end c told t (answer.Wait reason.Latch) quiet updates.under refl (waits_for_latch c told t old is_current updates its_old need (Quicker word row.1 row.2 (record { found = reply; its_cas = its_cas; another = eq_false reply word e }))))
+alone_true c told t old step reply is_current next quiet not_alone at updates slot its_old need row was = absurd row
 
 dropped_true : (c : Trial) (told : Told) (t : TryState) (its : TryAnswer) (place reply : ℕ) → IsTrue c told its → t.has_exclusive ≡ false → (is_wait its ≡ true → t.has_shared ≡ shares c)
     → Comes c told t.effect (reply_told its) (latch_held t) (exclusive_dropped c.places (norm c t) its (latch_next_ask (latching.DropsExclusive place) reply))
@@ -173,9 +192,9 @@ unshared_true : (c : Trial) (told : Told) (t : TryState) (its : TryAnswer) (plac
 unfolding shared_dropped latch_next_ask
 unshared_true c told t its place reply truth not_alone kept = record { same = refl; owes = refl; its_effect = refl; its_told = refl; row = record { truth = truth; not_alone = not_alone; shared = kept } }
 
-current_true : (c : Trial) (told : Told) (t : TryState) (addr : Addr) (value : ℕ) → t.effect ≡ None → Updates c told t → MayChange c told addr.0 → Comes c told None [] (latch_held t) (current_ledto c.places (norm c t) addr (Done (walk.Value value)))
+current_true : (c : Trial) (told : Told) (t : TryState) (addr : Addr) (value : ℕ) → t.effect ≡ None → Updates c told t → MayChange c told addr.0 → Loaded told (record_place c.places addr.0 rec.Value) value → Comes c told None [] (latch_held t) (current_ledto c.places (norm c t) addr (Done (walk.Value value)))
 unfolding current_ledto
-current_true c told t addr value quiet updates may = record { same = refl; owes = refl; its_effect = quiet; its_told = refl; row = (record { under = updates.under; update = updates.update }, may) }
+current_true c told t addr value quiet updates may loaded = record { same = refl; owes = refl; its_effect = quiet; its_told = refl; row = (record { under = updates.under; update = updates.update; stays = updates.stays }, may, loaded) }
 
 answer_true : (c : Trial) (told : Told) (t : TryState) (value : ℕ) → t.effect ≡ None → Under c told t.has_shared → is_read c.request.op ≡ true → HasValue c told value → Comes c told None [] (latch_held t) (answer_ledto c.places (norm c t) (Done (walk.Value value)))
 unfolding answer_ledto
@@ -190,15 +209,15 @@ old_true : (c : Trial) (told : Told) (t : TryState) (value : ℕ) (is_current : 
 unfolding old_ledto
 old_true c told t value is_current quiet updates slot made_of alone = appends_true c told t value is_current quiet updates slot made_of alone
 
-changed_true : (c : Trial) (told : Told) (t : TryState) (addr : Addr) (old reply : ℕ) → t.effect ≡ None → Updates c told t → MayChange c told addr.0
+changed_true : (c : Trial) (told : Told) (t : TryState) (addr : Addr) (old reply : ℕ) → t.effect ≡ None → Updates c told t → MayChange c told addr.0 → Loaded told (record_place c.places addr.0 rec.Value) old
     → told (Cas (record_place c.places addr.0 rec.Value) old (word_of (value_applied (value_of old) c.request.op))) reply → Steps c told (ChangesValue addr old) (latch_held t) (value_changed c.places (norm c t) old reply)
-changed_true c told t addr old reply quiet updates may was = by_word (reply == old) refl
+changed_true c told t addr old reply quiet updates may loaded was = by_word (reply == old) refl
   where
     by_word : (b : Bool) → (reply == old) ≡ b
         → Steps c told (ChangesValue addr old) (latch_held t) (if b then takes_effect c.places (norm c t) (reply_from (value_of old) c.request.op) else ends c.places (norm c t) (answer.Wait reason.Contended))
     by_word true e = Effectively (reply_from (value_of old) c.request.op) refl refl (takes_effect_true c told t (reply_from (value_of old) c.request.op) updates)
     by_word false e = Quietly (quiet_end c told t (answer.Wait reason.Contended) quiet updates.under refl
-        (ValueLost old may.found (record { found = reply; its_cas = was; another = eq_false reply old e })))
+        (ValueLost old may.found loaded (record { found = reply; its_cas = was; another = eq_false reply old e })))
 
 append_led_true : (c : Trial) (told : Told) (t : TryState) (its : Reply) (place entry : ℕ) (old : Option ℕ) (is_current : Bool) (last : Appending) (ask : Ask AppendAnswer) → t.effect ≡ None → t.step ≡ Appends its → Updates c told t
     → its ≡ reply_from old c.request.op → IsMadeOf c told place entry old is_current → Alone c told is_current
@@ -219,7 +238,7 @@ append_led_true c told t its place entry old is_current last ask quiet at update
   its_effect = quiet;
   its_told = ap told_at at;
   row = subst (TryRow c told (norm c t)) (sym at) (record {
-    updates = record { under = updates.under; update = updates.update };
+    updates = record { under = updates.under; update = updates.update; stays = updates.stays };
     place = place;
     entry = entry;
     old = old;
@@ -248,22 +267,22 @@ row_true c told t TakesShared reply at row was =
 row_true c told t Walks reply at row was =
     Quietly (walk_led_true c told (record t { effect = None; walk = walk_next c.places t.walk reply }) (walk_ask c.places (walk_next c.places t.walk reply)) refl row.not_alone at row.under (walk_true c told t.walk reply row.walks was) refl)
 row_true c told t (LoadsSafe addr version) reply at row was =
-    Quietly (safe_true c told (record t { effect = None }) addr version reply refl row.not_alone (record { under = row.updates.under; update = row.updates.update }) row.found row.below was)
+    Quietly (safe_true c told (record t { effect = None }) addr version reply refl row.not_alone (record { under = row.updates.under; update = row.updates.update; stays = row.updates.stays }) row.found row.below was)
 row_true c told t (SwapsValue addr) reply at row was =
-    Effectively (reply_from None c.request.op) refl refl (takes_effect_true c told (record t { effect = None }) (reply_from None c.request.op) (record { under = row.0.under; update = row.0.update }))
+    Effectively (reply_from None c.request.op) refl refl (takes_effect_true c told (record t { effect = None }) (reply_from None c.request.op) (record { under = row.0.under; update = row.0.update; stays = row.0.stays }))
 row_true c told t (LoadsCurrent addr) reply at row was =
     Quietly (subst (λ ask. Comes c told None [] (latch_held t) (current_ledto c.places (norm c (record t { effect = None; walk = walk_next c.places t.walk reply })) addr ask)) (sym (loads_value c.places t.walk addr reply row.2))
-    (current_true c told (record t { effect = None; walk = walk_next c.places t.walk reply }) addr reply refl (record { under = row.0.under; update = row.0.update }) row.1))
-row_true c told t (ChangesValue addr old) reply at row was = changed_true c told (record t { effect = None }) addr old reply refl (record { under = row.0.under; update = row.0.update }) row.1 was
+    (current_true c told (record t { effect = None; walk = walk_next c.places t.walk reply }) addr reply refl (record { under = row.0.under; update = row.0.update; stays = row.0.stays }) row.1 (subst (λ a. told a reply) (loads_place c.places t.walk addr row.2) was)))
+row_true c told t (ChangesValue addr old) reply at row was = changed_true c told (record t { effect = None }) addr old reply refl (record { under = row.0.under; update = row.0.update; stays = row.0.stays }) row.1 row.2 was
 row_true c told t LoadsAnswer reply at row was =
     Quietly (subst (λ ask. Comes c told None [] (latch_held t) (answer_ledto c.places (norm c (record t { effect = None; walk = walk_next c.places t.walk reply })) ask)) (sym (loads_value c.places t.walk row.addr reply row.loads))
     (answer_true c told (record t { effect = None; walk = walk_next c.places t.walk reply }) reply refl row.under row.reads
     (record { place = t.walk.place; entry = t.walk.entry; addr = row.addr.0; version = row.version; found = row.found; its_value = subst (λ a. told a reply) (loads_place c.places t.walk row.addr row.loads) was })))
 row_true c told t (TakesExclusive old) reply at row was =
-    Quietly (alone_true c told (record t { effect = None; latching = latch_next t.latching reply }) old t.latching reply row.is_current refl refl row.not_alone at (record { under = row.updates.under; update = row.updates.update }) row.slot row.its_old row.its_latching was)
+    Quietly (alone_true c told (record t { effect = None; latching = latch_next t.latching reply }) old t.latching reply row.is_current refl refl row.not_alone at (record { under = row.updates.under; update = row.updates.update; stays = row.updates.stays }) row.slot row.its_old row.need row.its_latching was)
 row_true c told t LoadsOld reply at row was =
     Quietly (subst (λ ask. Comes c told None [] (latch_held t) (old_ledto c.places (norm c (record t { effect = None; walk = walk_next c.places t.walk reply })) ask)) (sym (loads_value c.places t.walk row.addr reply row.loads))
-    (old_true c told (record t { effect = None; walk = walk_next c.places t.walk reply }) reply (row.version == c.request.version.0) refl (record { under = row.updates.under; update = row.updates.update })
+    (old_true c told (record t { effect = None; walk = walk_next c.places t.walk reply }) reply (row.version == c.request.version.0) refl (record { under = row.updates.under; update = row.updates.update; stays = row.updates.stays })
     (subst (λ p. HasEntry c told p (walk_next c.places t.walk reply).entry) (sym same.0) (subst (λ e. HasEntry c told t.walk.place e) (sym same.1) row.found.walk.slot))
     (subst (λ p. IsMadeOf c told p (walk_next c.places t.walk reply).entry (value_of reply) (row.version == c.request.version.0)) (sym same.0)
     (subst (λ e. IsMadeOf c told t.walk.place e (value_of reply) (row.version == c.request.version.0)) (sym same.1) made)) row.alone))
@@ -275,7 +294,7 @@ row_true c told t LoadsOld reply at row was =
     made = OfRecord row.found row.may (IsLoaded reply (subst (λ a. told a reply) (loads_place c.places t.walk row.addr row.loads) was))
 row_true c told t (Appends its) reply at row was =
     append_led_true c told (record t { effect = None; append = append_next c.places c.room t.append reply }) its row.place row.entry row.old row.is_current t.append.step (append_ask c.places (append_next c.places c.room t.append reply)) refl at
-    (record { under = row.updates.under; update = row.updates.update }) row.its_reply row.made_of row.alone
+    (record { under = row.updates.under; update = row.updates.update; stays = row.updates.stays }) row.its_reply row.made_of row.alone
     (append_true c told (record { place = row.place; entry = row.entry; tag = (home_at c).tag }) (words_of c.request row.entry row.old) row.last t.append reply row.appends row.asks was) refl
 row_true c told t (DropsExclusive its) reply at row was =
     Quietly (subst (λ x. Comes c told None (reply_told its) (latch_held t) (exclusive_dropped c.places (norm c (record t { effect = None; latching = latch_next t.latching reply })) its (latch_next_ask x reply))) (sym row.its_latching)

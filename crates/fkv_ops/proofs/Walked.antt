@@ -29,7 +29,7 @@ use Rattle.fkv_ops.specs.Requests.{is_read, purpose_of}
 use Rattle.fkv_ops.specs.Walking.{WalkState, walk_begun, walking_ask, walk_ask, reached, slot_found, find_ledto, first_met, record_met, load_ledto, value_ledto, walking_next, walk_next, walking_on, walk_on}
 use Rattle.fkv_ops.specs.TryRun.{Trial, home_at, Told}
 use Rattle.fkv_ops.specs.Reasons.{Loaded, HasEntry, HasEnd, IsIndexFull, AtEntry, Behind, WalksTo, HasFound, LeavesMemory, IsContended, NoStore, NoHeader, NotBelow, PastRing}
-use Rattle.fkv_ops.proofs.BoolTests.{lt_true, lt_false, eq_true, some_where}
+use Rattle.fkv_ops.proofs.BoolTests.{lt_true, lt_false, eq_true, eq_false, some_where}
 use Rattle.fkv_ops.proofs.Searched.{Searches, Leads, FindsTrue, search_true, search_begun, search_asks}
 
 -- the version of the chain's first record
@@ -42,6 +42,11 @@ pub record HasFirst (c : Trial) (told : Told) (place entry version : ℕ) : Type
 abbrev pub FirstTrue : Trial → Told → ℕ → ℕ → Option Version → Type 0
 FirstTrue c told place entry None = ⊤
 FirstTrue c told place entry (Some version) = HasFirst c told place entry version.0
+
+-- one was met
+abbrev pub FirstSome : Trial → Told → ℕ → ℕ → Option Version → Type 0
+FirstSome c told place entry None = ⊥
+FirstSome c told place entry (Some version) = HasFirst c told place entry version.0
 
 -- where none was met the address is the entry's own
 abbrev pub FirstAt : Trial → Told → ℕ → ℕ → ℕ → Option Version → Type 0
@@ -56,7 +61,7 @@ LoadRow c told addr loading = ⊥
 -- the record of the key was found, and its value can be loaded
 pub record FoundKnows (c : Trial) (told : Told) (w : WalkState) (addr : Addr) (version : Version) : Type 0 where
   pub its_record : HasFound c told w.place w.entry addr.0 version.0
-  pub first : FirstTrue c told w.place w.entry w.first
+  pub first : FirstSome c told w.place w.entry w.first
   pub header : ℕ
   pub key : ℕ
   pub its_loading : w.loading ≡ HasKey addr header key
@@ -69,12 +74,12 @@ pub record MeetKnows (c : Trial) (told : Told) (w : WalkState) (addr : Addr) : T
 
 -- the chain has no record of the key
 abbrev pub NowhereTrue : Trial → Told → WalkState → Type 0
-NowhereTrue c told w = (WalksTo c told w.place w.entry 0 × FirstTrue c told w.place w.entry w.first) ⊎ ((is_read c.request.op ≡ true) × HasEnd c told false × (w.first ≡ None))
+NowhereTrue c told w = (WalksTo c told w.place w.entry 0 × FirstAt c told w.place w.entry 0 w.first) ⊎ ((is_read c.request.op ≡ true) × HasEnd c told false × (w.first ≡ None))
 
 abbrev pub WalkEnd : Trial → Told → WalkState → WalkAnswer → Type 0
 WalkEnd c told w (walk.Found addr version) = ⊥
 WalkEnd c told w walk.Nowhere = NowhereTrue c told w
-WalkEnd c told w (walk.OnDisk addr) = LeavesMemory c told w.place w.entry addr.0 × FirstTrue c told w.place w.entry w.first
+WalkEnd c told w (walk.OnDisk addr) = LeavesMemory c told w.place w.entry addr.0 × FirstAt c told w.place w.entry addr.0 w.first
 WalkEnd c told w (walk.Value value) = ⊥
 WalkEnd c told w walk.Full = IsIndexFull c told
 WalkEnd c told w walk.Contended = IsContended c told
@@ -91,7 +96,7 @@ pub record WalkKnows (c : Trial) (told : Told) (w : WalkState) : Type 0 where
   pub its_head : w.head ≡ c.seen.offsets.head
   pub its_row : WalkRow c told w w.step
 
-first_true : (c : Trial) (told : Told) (place entry addr : ℕ) (first : Option Version) → FirstAt c told place entry addr first → FirstTrue c told place entry first
+pub first_true : (c : Trial) (told : Told) (place entry addr : ℕ) (first : Option Version) → FirstAt c told place entry addr first → FirstTrue c told place entry first
 first_true c told place entry addr None knows = tt
 first_true c told place entry addr (Some version) knows = knows
 
@@ -113,11 +118,11 @@ reached_true c told w addr its_key its_head walks first = by_zero (addr == 0) re
         → WalkKnows c told (if b then record w { step = Ended (walk.OnDisk (record { 0 = addr })) } else if nat_lt (addr - w.head.0) c.places.ring then record w { loading = LoadsHeader (record { 0 = addr }); step = Meets (record { 0 = addr }) } else record w { step = Ended walk.Contended })
     by_head true e some =
         let low = lt_true addr w.head.0 e in
-        record { its_key = its_key; its_head = its_head; its_row = (record { walk = walks; some = some; below = omega (arith, same, low) }, first_true c told w.place w.entry addr w.first first) }
+        record { its_key = its_key; its_head = its_head; its_row = (record { walk = walks; some = some; below = omega (arith, same, low) }, first) }
     by_head false e some = by_ring (nat_lt (addr - w.head.0) c.places.ring) refl (lt_false addr w.head.0 e)
 
     by_zero : (b : Bool) → (addr == 0) ≡ b → WalkKnows c told (if b then record w { step = Ended walk.Nowhere } else if nat_lt addr w.head.0 then record w { step = Ended (walk.OnDisk (record { 0 = addr })) } else if nat_lt (addr - w.head.0) c.places.ring then record w { loading = LoadsHeader (record { 0 = addr }); step = Meets (record { 0 = addr }) } else record w { step = Ended walk.Contended })
-    by_zero true e = record { its_key = its_key; its_head = its_head; its_row = inl (subst (WalksTo c told w.place w.entry) (eq_true addr 0 e) walks, first_true c told w.place w.entry addr w.first first) }
+    by_zero true e = record { its_key = its_key; its_head = its_head; its_row = inl (subst (WalksTo c told w.place w.entry) (eq_true addr 0 e) walks, subst (λ a. FirstAt c told w.place w.entry a w.first) (eq_true addr 0 e) first) }
     by_zero false e = by_head (nat_lt addr w.head.0) refl (some_where addr e)
 
 slot_found_true : (c : Trial) (told : Told) (w : WalkState) (its : Found) → w.key ≡ key_of c.request.op → w.head ≡ c.seen.offsets.head → w.first ≡ None → FindsTrue c told its → WalkKnows c told (slot_found c.places w its)
@@ -141,11 +146,11 @@ record_true c told w addr header key its_key its_head walks in_memory first its_
     version : Version
     version = record { 0 = version_in header }
 
-    has_first : (its : Option Version) → FirstAt c told w.place w.entry addr.0 its → FirstTrue c told w.place w.entry (first_met its version)
+    has_first : (its : Option Version) → FirstAt c told w.place w.entry addr.0 its → FirstSome c told w.place w.entry (first_met its version)
     has_first None at = record { header = header; slot = walks.slot; its_header = subst (λ a. Loaded told (record_place c.places a rec.Header) header) at its_header; its_version = refl }
     has_first (Some its) at = at
 
-    first_at : (its : Option Version) → FirstTrue c told w.place w.entry (first_met its version) → FirstAt c told w.place w.entry (previous_in header) (first_met its version)
+    first_at : (its : Option Version) → FirstSome c told w.place w.entry (first_met its version) → FirstAt c told w.place w.entry (previous_in header) (first_met its version)
     first_at None at = at
     first_at (Some its) at = at
 
@@ -162,7 +167,7 @@ record_true c told w addr header key its_key its_head walks in_memory first its_
         its_loading = loading;
       };
     }
-    by_key false e = reached_true c told (record w { first = first_met w.first version }) (previous_in header) its_key its_head (record { slot = walks.slot; reached = Behind header walks.reached its_header }) (first_at w.first (has_first w.first first))
+    by_key false e = reached_true c told (record w { first = first_met w.first version }) (previous_in header) its_key its_head (record { slot = walks.slot; reached = Behind header key walks.reached its_header has_key (λ same. eq_false key w.key.0 e (same ∙ sym (ap (λ k. k.0) its_key))) }) (first_at w.first (has_first w.first first))
 
     by_previous : (b : Bool) → nat_lt (previous_in header) addr.0 ≡ b
         → WalkKnows c told (if b then (if key == w.key.0 then record w { first = first_met w.first version; step = AtFound addr version } else reached c.places (record w { first = first_met w.first version }) (previous_in header)) else record w { step = Ended walk.Contended })

@@ -6,7 +6,7 @@ use Rattle.fkv_map.specs.declared.operations.Op.TheVariants.{Read}
 use Rattle.fkv_map.specs.declared.operations.Reply.{Reply}
 use Rattle.fkv_map.specs.Keys.{key_of, value_applied, reply_from}
 use Rattle.fkv_plane.specs.declared.asks.Ask.{Ask}
-use Rattle.fkv_plane.specs.declared.asks.Ask.TheVariants.{Store, Swap, Cas, Add, Done}
+use Rattle.fkv_plane.specs.declared.asks.Ask.TheVariants.{Swap, Cas, Add, Done}
 use Rattle.fkv_plane.specs.declared.places.SharedWord.TheVariants as one
 use Rattle.fkv_plane.specs.declared.places.RecordWord.TheVariants as rec
 use Rattle.fkv_plane.specs.Places.{shared_place, record_place}
@@ -16,14 +16,11 @@ use Rattle.fkv_index.specs.IndexWorld.{new_entry}
 use Rattle.fkv_ops.specs.declared.answers.TryAnswer.{TryAnswer}
 use Rattle.fkv_ops.specs.declared.requests.HeldRecord.{HeldRecord}
 use Rattle.fkv_ops.specs.Values.{value_of, word_of}
+use Rattle.fkv_ops.specs.HeaderWords.{version_in}
 use Rattle.fkv_ops.specs.Requests.{is_read, is_blind}
-use Rattle.fkv_ops.specs.Trying.{is_prepare, is_moving_on, is_wait, TryState, try_ask}
+use Rattle.fkv_ops.specs.Trying.{is_prepare, is_wait, TryState, try_ask}
 use Rattle.fkv_ops.specs.TryRun.{Trial, home_at, try_run, trial_begun, Told, told_by, effects_of, reply_told}
-use Rattle.fkv_ops.specs.Reasons.{latch_place, Loaded, Won, HasEntry, WalksTo, HasFound, LeavesMemory, HoldsFrom}
-
-pub record IsStored (told : Told) (place word : ℕ) : Type 0 where
-  pub reply : ℕ
-  pub its_store : told (Store place word) reply
+use Rattle.fkv_ops.specs.Reasons.{latch_place, Loaded, IsStored, Won, HasEntry, WalksTo, HasFound, LeavesMemory, HoldsFrom, needs_exclusive}
 
 -- a record of the request's version, at or above the read-only offset that the session has seen: such a one is changed in place
 pub record MayChange (c : Trial) (told : Told) (addr : ℕ) : Type 0 where
@@ -58,10 +55,6 @@ pub record HasSetBit (c : Trial) (told : Told) : Type 0 where
   pub free : word < one_share
   pub its_cas : Won told (latch_place c) word (word + exclusive_bit)
 
--- while a commit's sessions go on, a record of their version is made under the exclusive latch, where none of it was found
-abbrev pub needs_exclusive : Trial → Bool → Bool
-needs_exclusive c is_current = is_moving_on c.seen.phase && c.request.version.0 == c.seen.version.0 && not is_current
-
 -- The value word of a record is swapped for that of a value which doesn't depend on the old one. The reply is the operation's on the value
 -- that was there.
 pub record IsSwapped (c : Trial) (told : Told) (ask : Ask TryAnswer) (reply : ℕ) (its : Reply) : Type 0 where
@@ -71,10 +64,11 @@ pub record IsSwapped (c : Trial) (told : Told) (ask : Ask TryAnswer) (reply : �
   pub its_ask : ask ≡ Swap (record_place c.places addr rec.Value) (word_of (value_applied (value_of reply) c.request.op))
   pub its_reply : its ≡ reply_from (value_of reply) c.request.op
 
--- the value word of a record is changed by a Cas that was won
+-- the value word of a record is changed from the word that was loaded there, by a Cas that was won
 pub record IsChanged (c : Trial) (told : Told) (ask : Ask TryAnswer) (reply : ℕ) (its : Reply) : Type 0 where
   pub addr : ℕ
   pub may : MayChange c told addr
+  pub its_old : Loaded told (record_place c.places addr rec.Value) reply
   pub its_ask : ask ≡ Cas (record_place c.places addr rec.Value) reply (word_of (value_applied (value_of reply) c.request.op))
   pub its_reply : its ≡ reply_from (value_of reply) c.request.op
 
@@ -137,6 +131,23 @@ pub record SharesBefore (c : Trial) (before : TryState) (spare : ℕ) : Type 0 w
 
 abbrev pub SharesFirst : Type 0
 SharesFirst = (c : Trial) (before : TryState) (spare : ℕ) → shares_latch c ≡ true → c.request.has_latch ≡ false → SharesBefore c before spare
+
+-- the first record of the chain is of no version above the request's, by its header, or it isn't in memory
+pub data FirstIsNotAbove (c : Trial) (told : Told) (entry : ℕ) : Type 0 where
+  FirstInMemory : (header : ℕ) → Loaded told (record_place c.places (entry_addr entry) rec.Header) header → version_in header ≤ c.request.version.0 → FirstIsNotAbove c told entry
+  FirstBelowHead : entry_addr entry < c.seen.offsets.head.0 → FirstIsNotAbove c told entry
+  FirstNowhere : entry_addr entry ≡ 0 → FirstIsNotAbove c told entry
+
+pub record MayStay (c : Trial) (told : Told) : Type 0 where
+  pub place : ℕ
+  pub entry : ℕ
+  pub slot : HasEntry c told place entry
+  pub its_first : FirstIsNotAbove c told entry
+
+-- an update in prepare makes its effect only where it has seen that its session may stay at its version
+abbrev pub EachMayStay : Type 0
+EachMayStay = (c : Trial) (before : TryState) (spare : ℕ) (replies : List ℕ) (reply : ℕ) (its : Reply) → shares_latch c ≡ true → (try_run c (trial_begun c before spare) (reply ∷ replies)).effect ≡ Some its
+    → MayStay c (told_by c (trial_begun c before spare) replies)
 
 -- what the kinds of operations mean: a read is one, and no update is; and one whose old value doesn't count makes the same of every old value,
 -- and is told the same

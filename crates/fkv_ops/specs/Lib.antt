@@ -1,5 +1,6 @@
 pub mod Appending
 pub mod AsksLeft
+pub mod EachAsk
 pub mod Effects
 pub mod HeaderWords
 pub mod LatchCounts

@@ -1,13 +1,14 @@
 -- What a try's answer says, by what the try asked and was replied, and by no state of its machine.
-use Rattle.std.specs.Prelude.{◌≡◌, ◌≢◌, ℕ, ◌+◌, ◌^◌, ◌<◌, ◌≤◌, ◌⊎◌, Bool, true, false, List, Some}
+use Rattle.std.specs.Prelude.{◌≡◌, ◌≢◌, ℕ, ◌+◌, ◌*◌, ◌^◌, ◌<◌, ◌≤◌, ◌⊎◌, ◌==◌, ◌&&◌, not, Bool, true, false, List, Some, None}
 use Rattle.fkv_map.specs.Map.{absent_word}
 use Rattle.fkv_map.specs.Keys.{key_of, value_applied}
-use Rattle.fkv_plane.specs.declared.asks.Ask.TheVariants.{Load, Cas, Add, Done}
+use Rattle.fkv_plane.specs.declared.asks.Ask.TheVariants.{Load, Store, Cas, Add, Done}
 use Rattle.fkv_plane.specs.declared.places.SharedWord.TheVariants as one
 use Rattle.fkv_plane.specs.declared.places.RecordWord.TheVariants as rec
 use Rattle.fkv_plane.specs.Places.{shared_place, bucket_place, overflow_place, record_place}
 use Rattle.fkv_latch.specs.Latching.{one_share, exclusive_bit}
 use Rattle.fkv_index.specs.Slots.{bucket_slots, entry_addr, entry_tag, is_entry, link_of}
+use Rattle.fkv_index.specs.IndexWorld.{new_entry}
 use Rattle.fkv_ops.specs.declared.answers.DiskRecord.{DiskRecord}
 use Rattle.fkv_ops.specs.declared.answers.Reason.{Reason}
 use Rattle.fkv_ops.specs.declared.answers.Reason.TheVariants as reason
@@ -18,7 +19,7 @@ use Rattle.fkv_ops.specs.declared.requests.Occasion.TheVariants.{Call, Poll}
 use Rattle.fkv_ops.specs.Values.{value_of, word_of}
 use Rattle.fkv_ops.specs.Requests.{is_read, is_blind}
 use Rattle.fkv_ops.specs.HeaderWords.{previous_in, version_in, is_header}
-use Rattle.fkv_ops.specs.Trying.{is_prepare, TryState, try_ask}
+use Rattle.fkv_ops.specs.Trying.{is_prepare, is_moving_on, TryState, try_ask}
 use Rattle.fkv_ops.specs.TryRun.{Trial, home_at, try_run, trial_begun, Told, told_by}
 
 -- the eighth word of the key's bucket, which has its latch
@@ -27,6 +28,10 @@ latch_place c = bucket_place c.places (home_at c).bucket 7
 
 abbrev pub Loaded : Told → ℕ → ℕ → Type 0
 Loaded told place word = told (Load place) word
+
+pub record IsStored (told : Told) (place word : ℕ) : Type 0 where
+  pub reply : ℕ
+  pub its_store : told (Store place word) reply
 
 -- a Cas is won where it is replied the word that it expects
 abbrev pub Won : Told → ℕ → ℕ → ℕ → Type 0
@@ -71,17 +76,19 @@ pub record HasEnd (c : Trial) (told : Told) (own : Bool) : Type 0 where
   pub its_word : Loaded told (base + bucket_slots) word
   pub no_link : link_of word ≡ 0
 
--- the addresses of the chain that an entry begins: the entry's own, and behind each record the one that its header names
+-- the addresses of the chain that an entry begins: the entry's own, and behind each record that is of another key the one that its header
+-- names. So a walk passes no record of the request's key
 pub data Reaches (c : Trial) (told : Told) (entry : ℕ) : ℕ → Type 0 where
   AtEntry : Reaches c told entry (entry_addr entry)
-  Behind : {addr : ℕ} (header : ℕ) → Reaches c told entry addr → Loaded told (record_place c.places addr rec.Header) header → Reaches c told entry (previous_in header)
+  Behind : {addr : ℕ} (header key : ℕ) → Reaches c told entry addr → Loaded told (record_place c.places addr rec.Header) header → Loaded told (record_place c.places addr rec.Key) key
+      → key ≢ (key_of c.request.op).0 → Reaches c told entry (previous_in header)
 
 -- the walk comes to this address from the entry of a slot
 pub record WalksTo (c : Trial) (told : Told) (place entry addr : ℕ) : Type 0 where
   pub slot : HasEntry c told place entry
   pub reached : Reaches c told entry addr
 
--- the walk found the record of the request's key, in memory
+-- the walk found a record of the request's key, in memory: the first one of its chain
 pub record HasFound (c : Trial) (told : Told) (place entry addr version : ℕ) : Type 0 where
   pub walk : WalksTo c told place entry addr
   pub header : ℕ
@@ -120,8 +127,15 @@ pub record HoldsFrom (c : Trial) (told : Told) (place : ℕ) (held : HeldRecord)
   pub addr : ℕ
   pub leaves : LeavesMemory c told place held.entry addr
 
+-- the request holds no record that was read along a walk from this entry; a read goes by none
+pub data HoldsNone (c : Trial) (entry : ℕ) : Type 0 where
+  AsRead : is_read c.request.op ≡ true → HoldsNone c entry
+  WithoutHeld : c.request.held ≡ None → HoldsNone c entry
+  FromAnother : {held : HeldRecord} → c.request.held ≡ Some held → held.entry ≢ entry → HoldsNone c entry
+
 -- the record behind the one that the request holds, which is of another key
 pub record IsBehindHeld (c : Trial) (told : Told) (it : DiskRecord) : Type 0 where
+  pub update : is_read c.request.op ≡ false
   pub place : ℕ
   pub held : HeldRecord
   pub its_entry : it.entry ≡ held.entry
@@ -130,14 +144,32 @@ pub record IsBehindHeld (c : Trial) (told : Told) (it : DiskRecord) : Type 0 whe
   pub another : held.key.0 ≢ (key_of c.request.op).0
   pub some : 0 < it.addr.0
 
+-- the old value counts, and what the request holds doesn't tell it
 pub data IsOnDisk (c : Trial) (told : Told) (it : DiskRecord) : Type 0 where
-  BelowHead : {place : ℕ} → LeavesMemory c told place it.entry it.addr.0 → IsOnDisk c told it
+  BelowHead : {place : ℕ} → LeavesMemory c told place it.entry it.addr.0 → is_blind c.request.op ≡ false → HoldsNone c it.entry → IsOnDisk c told it
   BehindHeld : IsBehindHeld c told it → IsOnDisk c told it
 
--- bit 63 or a count was met, or the Cas was lost
+-- bit 63 or a count was met, or the Cas from a free word that was loaded was lost
 pub data HasMetLatch (c : Trial) (told : Told) : Type 0 where
   Held : (word : ℕ) → Loaded told (latch_place c) word → one_share ≤ word → HasMetLatch c told
-  Quicker : (word : ℕ) → word < one_share → IsLost told (latch_place c) word (word + exclusive_bit) → HasMetLatch c told
+  Quicker : (word : ℕ) → word < one_share → Loaded told (latch_place c) word → IsLost told (latch_place c) word (word + exclusive_bit) → HasMetLatch c told
+
+-- while a commit's sessions go on, a record of their version is made under the exclusive latch, where none of it was found
+abbrev pub needs_exclusive : Trial → Bool → Bool
+needs_exclusive c is_current = is_moving_on c.seen.phase && c.request.version.0 == c.seen.version.0 && not is_current
+
+-- the walk found no record of the request's version: one of another version, or none, or it left memory
+pub data HasNoneOfVersion (c : Trial) (told : Told) : Type 0 where
+  FoundAnother : {place entry addr version : ℕ} → HasFound c told place entry addr version → version ≢ c.request.version.0 → HasNoneOfVersion c told
+  FoundNone : {place entry : ℕ} → WalksTo c told place entry 0 → HasNoneOfVersion c told
+  FoundBelow : {place entry addr : ℕ} → LeavesMemory c told place entry addr → HasNoneOfVersion c told
+
+-- an update that has to make its record under the exclusive latch has met the latch
+pub record WaitsForLatch (c : Trial) (told : Told) : Type 0 where
+  pub update : is_read c.request.op ≡ false
+  pub needed : needs_exclusive c false ≡ true
+  pub none : HasNoneOfVersion c told
+  pub met : HasMetLatch c told
 
 -- no limit was above the tail
 pub record HasNoRoom (told : Told) (tail : ℕ) : Type 0 where
@@ -194,14 +226,26 @@ pub data IsSpoiled (c : Trial) (told : Told) : Type 0 where
   PastRing : {place entry addr : ℕ} → WalksTo c told place entry addr → c.seen.offsets.head.0 + c.places.ring ≤ addr → IsSpoiled c told
   NoAddress : {place entry addr : ℕ} → HasEntry c told place entry → Won told (shared_place one.Tail) addr (addr + 1) → (addr ≤ entry_addr entry) ⊎ (2 ^ 48 ≤ addr) → IsSpoiled c told
 
+-- The Cas that was to publish a record was lost, and the record is invalidated: at the address that was reserved for it its header is stored
+-- with bit 62.
+pub record LosesEntry (c : Trial) (told : Told) : Type 0 where
+  pub place : ℕ
+  pub entry : ℕ
+  pub addr : ℕ
+  pub slot : HasEntry c told place entry
+  pub reserved : Won told (shared_place one.Tail) addr (addr + 1)
+  pub its_cas : IsLost told place entry (new_entry addr (home_at c).tag)
+  pub its_header : IsStored told (record_place c.places addr rec.Header) (entry_addr entry + c.request.version.0 * 2 ^ 48 + 2 ^ 62)
+
 -- A Cas was lost: of the count of taken overflow buckets, of a link, of the tail, of the entry, or of the value that was to be changed in place.
--- Or others have filled the bucket that the try linked, or a reply is none that a store gives.
+-- What such a Cas expects was loaded there. Or others have filled the bucket that the try linked, or a reply is none that a store gives.
 pub data IsContended (c : Trial) (told : Told) : Type 0 where
-  CountLost : (taken : ℕ) → IsLost told (shared_place one.Taken) taken (taken + 1) → IsContended c told
-  LinkLost : {links : ℕ} {own : Bool} {base : ℕ} (word number : ℕ) → ComesTo c told links own base → number ≤ c.places.overflow → IsLost told (base + bucket_slots) word (word + number) → IsContended c told
-  TailLost : (tail : ℕ) → IsLost told (shared_place one.Tail) tail (tail + 1) → IsContended c told
-  EntryLost : {place entry : ℕ} (new : ℕ) → HasEntry c told place entry → IsLost told place entry new → IsContended c told
-  ValueLost : {place entry addr : ℕ} (old : ℕ) → HasFound c told place entry addr c.request.version.0 → IsLost told (record_place c.places addr rec.Value) old (word_of (value_applied (value_of old) c.request.op))
+  CountLost : (taken : ℕ) → Loaded told (shared_place one.Taken) taken → IsLost told (shared_place one.Taken) taken (taken + 1) → IsContended c told
+  LinkLost : {links : ℕ} {own : Bool} {base : ℕ} (word number : ℕ) → ComesTo c told links own base → number ≤ c.places.overflow → Loaded told (base + bucket_slots) word → IsLost told (base + bucket_slots) word (word + number) → IsContended c told
+  TailLost : (tail : ℕ) → Loaded told (shared_place one.Tail) tail → IsLost told (shared_place one.Tail) tail (tail + 1) → IsContended c told
+  EntryLost : LosesEntry c told → IsContended c told
+  ValueLost : {place entry addr : ℕ} (old : ℕ) → HasFound c told place entry addr c.request.version.0 → Loaded told (record_place c.places addr rec.Value) old
+      → IsLost told (record_place c.places addr rec.Value) old (word_of (value_applied (value_of old) c.request.op))
       → IsContended c told
   OwnIsFull : HasEnd c told true → IsContended c told
   NoStore : IsSpoiled c told → IsContended c told
@@ -210,7 +254,7 @@ pub data IsContended (c : Trial) (told : Told) : Type 0 where
 abbrev pub IsReason : Trial → Told → Reason → Type 0
 IsReason c told reason.Fuzzy = IsFuzzy c told
 IsReason c told reason.Disk = ⊥
-IsReason c told reason.Latch = HasMetLatch c told
+IsReason c told reason.Latch = WaitsForLatch c told
 IsReason c told reason.Contended = IsContended c told
 IsReason c told reason.NoRoom = (tail : ℕ) × HasNoRoom told tail × (tail ≢ c.room)
 IsReason c told reason.Full = (c.occasion ≡ Poll) × (IsIndexFull c told ⊎ HasNoRoom told c.room)

@@ -1,7 +1,8 @@
 -- What a try ends with was found by it.
 use Rattle.fkv_ops.proofs.LatchRuns.{each_holds, each_leaves}
-use Rattle.fkv_ops.proofs.Effected.{effects_true, shares_first, kinds_so}
+use Rattle.fkv_ops.proofs.Effected.{effects_true, each_may_stay, shares_first, kinds_so}
 use Rattle.fkv_ops.proofs.TryRuns.{each_is_true, effects_once, latches_kept}
+use Rattle.fkv_ops.proofs.EachAsk.{each_ask}
 use Rattle.fkv_ops.proofs.laws.law_reasons.Goals as goal
 
 pub returns-clause-kinds : goal.returns-clause-kinds
@@ -22,8 +23,14 @@ returns-clause-effects c = effects_true
 pub returns-clause-shares : goal.returns-clause-shares
 returns-clause-shares c = shares_first
 
+pub returns-clause-stays : goal.returns-clause-stays
+returns-clause-stays c = each_may_stay
+
 pub returns-clause-holds : goal.returns-clause-holds
 returns-clause-holds c = each_holds
 
 pub returns-clause-leaves : goal.returns-clause-leaves
 returns-clause-leaves c = each_leaves
+
+pub returns-clause-asks : goal.returns-clause-asks
+returns-clause-asks c = each_ask
