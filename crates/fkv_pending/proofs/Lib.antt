@@ -1,4 +1,5 @@
 pub mod AttemptAsks
+pub mod AttemptEffects
 pub mod AttemptRests
 pub mod AttemptRuns
 pub mod Boxes

@@ -1,5 +1,6 @@
 -- What crates above may cite.
 pub use Rattle.fkv_pending.proofs.AttemptAsks.{attempt_left, attempt_begun_left, attempt_fewer}
+pub use Rattle.fkv_pending.proofs.AttemptEffects.{effects_told}
 pub use Rattle.fkv_pending.proofs.AttemptRests.{is_attempt_end, AttemptAsksAt, AttemptRestsOrAsks, attempt_done, attempt_begun_rests, attempt_rests}
 pub use Rattle.fkv_pending.proofs.AttemptRuns.{run_true}
 pub use Rattle.fkv_pending.proofs.Boxes.{box_moved, moved_box, spared_box, reply_in, replied_in}

@@ -1,6 +1,7 @@
 -- What comes of an attempt, over every list of replies.
 use Rattle.std.specs.Prelude.{◌≡◌, ◌⊎◌, ℕ, ◌==◌, ◌&&◌, ◌||◌, if◌then◌else◌, Bool, true, false, List, [], ◌∷◌, Option, Some, None}
 use Rattle.fkv_base.specs.declared.numbers.Version.{Version}
+use Rattle.fkv_map.specs.declared.operations.Reply.{Reply}
 use Rattle.fkv_plane.specs.declared.asks.Ask.{Ask}
 use Rattle.fkv_plane.specs.declared.asks.Ask.TheVariants.{Store, Done}
 use Rattle.fkv_plane.specs.declared.places.Places.{Places}
@@ -126,3 +127,39 @@ AttemptsTrue =
     → let begun = attempt_begun p bits a pending seen occasion spare is_orphaned in
     let its = attempt_run p bits room session begun replies in
     IsAttemptTrue pending is_orphaned its (attempt_past p bits room session begun replies) (attempt_ask p session its)
+
+-- What an attempt is given.
+pub record AttemptGiven : Type 0 where
+  pub places : Places
+  -- the index has 2^bits buckets
+  pub bits : ℕ
+  -- how many addresses the log has on the device
+  pub room : ℕ
+  -- whose mailbox it is
+  pub session : ℕ
+  pub pending : PendingRequest
+  -- what the session has seen
+  pub seen : Seen
+  pub occasion : Occasion
+  -- the overflow bucket that the session has taken and not linked
+  pub spare : ℕ
+  pub is_orphaned : Bool
+
+-- it begins, whatever the machine did before
+abbrev pub begun_by : AttemptGiven → AttemptState → AttemptState
+begun_by c before = attempt_begun c.places c.bits before c.pending c.seen c.occasion c.spare c.is_orphaned
+
+abbrev pub run_by : AttemptGiven → AttemptState → List ℕ → AttemptState
+run_by c before replies = attempt_run c.places c.bits c.room c.session (begun_by c before) replies
+
+-- The effect that an attempt tells is the one that its try told at that step; the mailbox makes none.
+abbrev pub effect_of_try : AttemptGiven → AttemptState → Attempting → ℕ → Option Reply
+effect_of_try c a Tries reply = (try_next c.places c.room a.trial reply).effect
+effect_of_try c a step reply = None
+
+abbrev pub told_effect : AttemptGiven → AttemptState → List ℕ → Option Reply
+told_effect c before [] = None
+told_effect c before (reply ∷ others) = effect_of_try c (run_by c before others) (run_by c before others).step reply
+
+abbrev pub EffectsTold : Type 0
+EffectsTold = (c : AttemptGiven) (before : AttemptState) (replies : List ℕ) → (run_by c before replies).effect ≡ told_effect c before replies

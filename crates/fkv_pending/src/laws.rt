@@ -1,5 +1,5 @@
 //! What goes through a mailbox, over every list of events.
-ghost use Rattle.fkv_pending.specs.Attempts.{AttemptsTrue};
+ghost use Rattle.fkv_pending.specs.Attempts.{AttemptsTrue, EffectsTold};
 ghost use Rattle.fkv_pending.specs.Mailbox.{AtEachMoment, NotesInTurn, ChangesAreKept, OthersStay, AnswersTrue, RestsBetweenTasks};
 
 /// Whatever the order of the steps of a session that begins tasks with its mailbox, one after another, and of a keeper who serves
@@ -18,7 +18,9 @@ pub fn law_mailbox()
 /// Over every list of replies to the asks of an attempt, of any request: mail is for nobody just where it was so before, or where the
 /// request has finished while its mail is under way; a request that has asked in this attempt has asked for the record that it
 /// seeks; one that waits for the device has its mail under way, or has met an occupied mailbox; and what a request holds it held
-/// before, or it came by the mail that this attempt took, with the entry of the record that was sought.
+/// before, or it came by the mail that this attempt took, with the entry of the record that was sought. The effect that it tells is the
+/// one that its try told at that step.
 pub fn law_attempts()
-    ensures { AttemptsTrue }
+    ensures mail { AttemptsTrue }
+    ensures effects { EffectsTold }
 {}

@@ -1,6 +1,10 @@
 -- The law, by what each run tells.
+use Rattle.fkv_pending.proofs.AttemptEffects.{effects_told}
 use Rattle.fkv_pending.proofs.AttemptRuns.{run_true}
 use Rattle.fkv_pending.proofs.laws.law_attempts.Goals as goal
 
-pub returns : goal.returns
-returns c = run_true
+pub returns-clause-mail : goal.returns-clause-mail
+returns-clause-mail c = run_true
+
+pub returns-clause-effects : goal.returns-clause-effects
+returns-clause-effects c = effects_told
