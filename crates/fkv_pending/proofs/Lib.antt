@@ -2,6 +2,7 @@ pub mod AttemptAsks
 pub mod AttemptEffects
 pub mod AttemptRests
 pub mod AttemptRuns
+pub mod AttemptTries
 pub mod Boxes
 pub mod MailAsks
 pub mod MailRuns

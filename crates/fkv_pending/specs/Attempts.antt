@@ -1,5 +1,5 @@
 -- What comes of an attempt, over every list of replies.
-use Rattle.std.specs.Prelude.{◌≡◌, ◌⊎◌, ℕ, ◌==◌, ◌&&◌, ◌||◌, if◌then◌else◌, Bool, true, false, List, [], ◌∷◌, Option, Some, None}
+use Rattle.std.specs.Prelude.{◌≡◌, ◌⊎◌, ℕ, ◌^◌, ◌==◌, ◌&&◌, ◌||◌, if◌then◌else◌, Bool, true, false, List, [], ◌∷◌, Option, Some, None}
 use Rattle.fkv_base.specs.declared.numbers.Version.{Version}
 use Rattle.fkv_map.specs.declared.operations.Reply.{Reply}
 use Rattle.fkv_plane.specs.declared.asks.Ask.{Ask}
@@ -11,12 +11,17 @@ use Rattle.fkv_ops.specs.declared.answers.DiskRecord.{DiskRecord}
 use Rattle.fkv_ops.specs.declared.answers.Reason.TheVariants as reason
 use Rattle.fkv_ops.specs.declared.answers.TryAnswer.{TryAnswer}
 use Rattle.fkv_ops.specs.declared.answers.TryAnswer.TheVariants as answer
+use Rattle.fkv_ops.specs.declared.header_words.HeaderSaid.{HeaderSaid}
 use Rattle.fkv_ops.specs.declared.header_words.HeaderSaid.TheVariants.{Says}
 use Rattle.fkv_ops.specs.declared.requests.HeldRecord.{HeldRecord}
 use Rattle.fkv_ops.specs.declared.requests.Occasion.{Occasion}
+use Rattle.fkv_ops.specs.declared.requests.Occasion.TheVariants.{Poll}
+use Rattle.fkv_ops.specs.declared.requests.Request.{Request}
 use Rattle.fkv_ops.specs.declared.requests.Seen.{Seen}
 use Rattle.fkv_ops.specs.HeaderWords.{header_said}
-use Rattle.fkv_ops.specs.Trying.{try_ask, try_next}
+use Rattle.fkv_ops.specs.Requests.{is_read}
+use Rattle.fkv_ops.specs.Trying.{TryState, try_ask, try_next}
+use Rattle.fkv_ops.specs.TryRun.{Trial, try_run, trial_begun}
 use Rattle.fkv_pending.specs.declared.attempting.Attempting.{Attempting}
 use Rattle.fkv_pending.specs.declared.attempting.Attempting.TheVariants.{Ended, Looks, Tries, Puts}
 use Rattle.fkv_pending.specs.declared.mailing.MailAnswer.{MailAnswer}
@@ -133,6 +138,7 @@ pub record AttemptGiven : Type 0 where
   pub places : Places
   -- the index has 2^bits buckets
   pub bits : ℕ
+  pub its_buckets : places.buckets ≡ 2 ^ bits
   -- how many addresses the log has on the device
   pub room : ℕ
   -- whose mailbox it is
@@ -163,3 +169,68 @@ told_effect c before (reply ∷ others) = effect_of_try c (run_by c before other
 
 abbrev pub EffectsTold : Type 0
 EffectsTold = (c : AttemptGiven) (before : AttemptState) (replies : List ℕ) → (run_by c before replies).effect ≡ told_effect c before replies
+
+abbrev pub past_by : AttemptGiven → AttemptState → List ℕ → AttemptPast
+past_by c before replies = attempt_past c.places c.bits c.room c.session (begun_by c before) replies
+
+-- the replies that the try has met, the newest first
+abbrev pub try_reply : Attempting → ℕ → List ℕ → List ℕ
+try_reply Tries reply its = reply ∷ its
+try_reply step reply its = its
+
+abbrev pub try_replies : AttemptGiven → AttemptState → List ℕ → List ℕ
+try_replies c before [] = []
+try_replies c before (reply ∷ others) = try_reply (run_by c before others).step reply (try_replies c before others)
+
+-- what its try is given: this request, what the session has seen, and the attempt's own occasion
+abbrev pub trial_of : AttemptGiven → Request → Trial
+trial_of c request = record { places = c.places; bits = c.bits; its_buckets = c.its_buckets; room = c.room; request = request; seen = c.seen; occasion = c.occasion }
+
+-- what the try holds: the record that was taken, with the entry of the record that was sought; and without one what was held
+abbrev pub HoldsMail : Option DiskRecord → MailRecord → HeaderSaid → Option HeldRecord → Type 0
+HoldsMail (Some sought) its (Says previous version) held = held ≡ Some (record { entry = sought.entry; previous = previous; key = its.key; value = its.value })
+HoldsMail sought its said held = held ≡ None
+
+abbrev pub HoldsSo : PendingRequest → Option MailRecord → Option HeldRecord → Type 0
+HoldsSo first None held = held ≡ first.request.held
+HoldsSo first (Some its) held = HoldsMail first.sought its (header_said its.header) held
+
+-- The try of an attempt is one of the request that waits, with its latch, at the attempt's own occasion, with the session's spare bucket;
+-- and it has met these replies.
+pub record IsItsTry (c : AttemptGiven) (taken : Option MailRecord) (trial : TryState) (replies : List ℕ) : Type 0 where
+  pub request : Request
+  pub its_op : request.op ≡ c.pending.request.op
+  pub its_version : request.version ≡ c.pending.request.version
+  pub its_latch : request.has_latch ≡ c.pending.request.has_latch
+  pub its_held : HoldsSo c.pending taken request.held
+  pub before : TryState
+  pub its_run : trial ≡ try_run (trial_of c request) (trial_begun (trial_of c request) before c.spare) replies
+
+-- How far the try has come, and whether the request shares its latch then, and what the session's spare bucket is: as they were given, up to
+-- the try's end, and from there on as the try has left them.
+pub data TryStands (c : AttemptGiven) (has_latch : Bool) (spare : ℕ) (trial : TryState) (taken : Option MailRecord) (tried : Option TryAnswer) (replies : List ℕ) : Type 0 where
+  NotTried : replies ≡ [] → tried ≡ None → has_latch ≡ c.pending.request.has_latch → spare ≡ c.spare → TryStands c has_latch spare trial taken tried replies
+  UnderWay : IsItsTry c taken trial replies → tried ≡ None → has_latch ≡ c.pending.request.has_latch → spare ≡ c.spare → TryStands c has_latch spare trial taken tried replies
+  HasEnded : (its : TryAnswer) → IsItsTry c taken trial replies → try_ask c.places trial ≡ Done its → tried ≡ Some its → has_latch ≡ trial.has_shared → spare ≡ trial.spare
+      → TryStands c has_latch spare trial taken tried replies
+
+-- Name, operation and version stay.
+pub record IsSameRequest (first its : PendingRequest) : Type 0 where
+  pub name : its.name ≡ first.name
+  pub op : its.request.op ≡ first.request.op
+  pub version : its.request.version ≡ first.request.version
+
+-- what is held when a record of the device is awaited was read from the same entry
+abbrev pub HoldsFromEntry : Option TryAnswer → Option HeldRecord → Type 0
+HoldsFromEntry tried held = (sought : DiskRecord) → tried ≡ Some (answer.AwaitsDisk sought) → (its : HeldRecord) → held ≡ Some its → its.entry ≡ sought.entry
+
+-- What holds of the try of an attempt, at each moment.
+pub record IsTryKept (c : AttemptGiven) (a : AttemptState) (past : AttemptPast) (replies : List ℕ) : Type 0 where
+  pub same : IsSameRequest c.pending a.pending
+  pub stands : TryStands c a.pending.request.has_latch a.spare a.trial past.taken past.tried replies
+  -- a read that is pending is not tried at a poll
+  pub reads : c.occasion ≡ Poll → is_read c.pending.request.op ≡ true → replies ≡ []
+  pub held : HoldsFromEntry past.tried a.pending.request.held
+
+abbrev pub TriesKept : Type 0
+TriesKept = (c : AttemptGiven) (before : AttemptState) (replies : List ℕ) → IsTryKept c (run_by c before replies) (past_by c before replies) (try_replies c before replies)

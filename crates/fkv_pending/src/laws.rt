@@ -1,5 +1,5 @@
 //! What goes through a mailbox, over every list of events.
-ghost use Rattle.fkv_pending.specs.Attempts.{AttemptsTrue, EffectsTold};
+ghost use Rattle.fkv_pending.specs.Attempts.{AttemptsTrue, EffectsTold, TriesKept};
 ghost use Rattle.fkv_pending.specs.Mailbox.{AtEachMoment, NotesInTurn, ChangesAreKept, OthersStay, AnswersTrue, RestsBetweenTasks};
 
 /// Whatever the order of the steps of a session that begins tasks with its mailbox, one after another, and of a keeper who serves
@@ -19,8 +19,11 @@ pub fn law_mailbox()
 /// request has finished while its mail is under way; a request that has asked in this attempt has asked for the record that it
 /// seeks; one that waits for the device has its mail under way, or has met an occupied mailbox; and what a request holds it held
 /// before, or it came by the mail that this attempt took, with the entry of the record that was sought. The effect that it tells is the
-/// one that its try told at that step.
+/// one that its try told at that step. Its try is one of the request that waits, at the attempt's own occasion and with the spare
+/// bucket of the session, and whether the request shares its latch, and the spare bucket, stay as that try has left them; name,
+/// operation and version stay; a read is not tried at a poll; and what is held where a record is awaited was read from the same entry.
 pub fn law_attempts()
     ensures mail { AttemptsTrue }
     ensures effects { EffectsTold }
+    ensures tries { TriesKept }
 {}

@@ -1,6 +1,7 @@
 -- The law, by what each run tells.
 use Rattle.fkv_pending.proofs.AttemptEffects.{effects_told}
 use Rattle.fkv_pending.proofs.AttemptRuns.{run_true}
+use Rattle.fkv_pending.proofs.AttemptTries.{tries_are_kept}
 use Rattle.fkv_pending.proofs.laws.law_attempts.Goals as goal
 
 pub returns-clause-mail : goal.returns-clause-mail
@@ -8,3 +9,6 @@ returns-clause-mail c = run_true
 
 pub returns-clause-effects : goal.returns-clause-effects
 returns-clause-effects c = effects_told
+
+pub returns-clause-tries : goal.returns-clause-tries
+returns-clause-tries c = tries_are_kept
