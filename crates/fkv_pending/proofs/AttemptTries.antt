@@ -306,11 +306,11 @@ moved_try c a past replies reply its = record {
 }
 
 -- the put
-put_same : (ask : Ask MailAnswer) (past : AttemptPast) → ((put_told ask past).taken ≡ past.taken) × ((put_told ask past).tried ≡ past.tried)
+pub put_same : (ask : Ask MailAnswer) (past : AttemptPast) → ((put_told ask past).taken ≡ past.taken) × ((put_told ask past).tried ≡ past.tried)
 put_same (Done its) past = (refl, refl)
 put_same ask past = (refl, refl)
 
-address_same : (session : ℕ) (ask : Ask MailAnswer) (past : AttemptPast) → ((address_told session ask past).taken ≡ past.taken) × ((address_told session ask past).tried ≡ past.tried)
+pub address_same : (session : ℕ) (ask : Ask MailAnswer) (past : AttemptPast) → ((address_told session ask past).taken ≡ past.taken) × ((address_told session ask past).tried ≡ past.tried)
 address_same session (Store place word) past = tested (place == session_place session own.MailAddress)
   where
     tested : (b : Bool) → ((if b then record past { address = Some word } else past).taken ≡ past.taken) × ((if b then record past { address = Some word } else past).tried ≡ past.tried)
@@ -354,7 +354,7 @@ effect_kept c a past replies Looks kept = record { request = kept.request; seen 
 effect_kept c a past replies Tries kept = record { same = kept.same; its_try = kept.its_try; none_tried = kept.none_tried; latch = kept.latch; spare = kept.spare; no_read = kept.no_read }
 effect_kept c a past replies Puts kept = kept
 
-same_told : (c : AttemptGiven) (a : AttemptState) (step : Attempting) (reply : ℕ) (past : AttemptPast)
+pub same_told : (c : AttemptGiven) (a : AttemptState) (step : Attempting) (reply : ℕ) (past : AttemptPast)
     → attempt_told c.places c.room c.session (record a { effect = None }) step reply past ≡ attempt_told c.places c.room c.session a step reply past
 same_told c a (Ended its) reply past = refl
 same_told c a Looks reply past = refl

@@ -1,3 +1,4 @@
+pub mod AttemptAnswers
 pub mod AttemptAsks
 pub mod AttemptEffects
 pub mod AttemptRests

@@ -1,4 +1,5 @@
 -- What crates above may cite.
+pub use Rattle.fkv_pending.proofs.AttemptAnswers.{answers_so}
 pub use Rattle.fkv_pending.proofs.AttemptAsks.{attempt_left, attempt_begun_left, attempt_fewer}
 pub use Rattle.fkv_pending.proofs.AttemptEffects.{effects_told}
 pub use Rattle.fkv_pending.proofs.AttemptRests.{is_attempt_end, AttemptAsksAt, AttemptRestsOrAsks, attempt_done, attempt_begun_rests, attempt_rests}

@@ -1,7 +1,9 @@
 -- What comes of an attempt, over every list of replies.
-use Rattle.std.specs.Prelude.{◌≡◌, ◌⊎◌, ℕ, ◌^◌, ◌==◌, ◌&&◌, ◌||◌, if◌then◌else◌, Bool, true, false, List, [], ◌∷◌, Option, Some, None}
+use Rattle.std.specs.Prelude.{◌≡◌, ◌≢◌, ◌⊎◌, ℕ, ◌^◌, ◌==◌, ◌&&◌, ◌||◌, if◌then◌else◌, Bool, true, false, List, [], ◌∷◌, Option, Some, None, ⊤}
+use Rattle.fkv_base.specs.declared.numbers.Addr.{Addr}
 use Rattle.fkv_base.specs.declared.numbers.Version.{Version}
 use Rattle.fkv_map.specs.declared.operations.Reply.{Reply}
+use Rattle.fkv_map.specs.Keys.{key_of}
 use Rattle.fkv_plane.specs.declared.asks.Ask.{Ask}
 use Rattle.fkv_plane.specs.declared.asks.Ask.TheVariants.{Store, Done}
 use Rattle.fkv_plane.specs.declared.places.Places.{Places}
@@ -12,14 +14,15 @@ use Rattle.fkv_ops.specs.declared.answers.Reason.TheVariants as reason
 use Rattle.fkv_ops.specs.declared.answers.TryAnswer.{TryAnswer}
 use Rattle.fkv_ops.specs.declared.answers.TryAnswer.TheVariants as answer
 use Rattle.fkv_ops.specs.declared.header_words.HeaderSaid.{HeaderSaid}
-use Rattle.fkv_ops.specs.declared.header_words.HeaderSaid.TheVariants.{Says}
+use Rattle.fkv_ops.specs.declared.header_words.HeaderSaid.TheVariants.{Says, Spoiled}
 use Rattle.fkv_ops.specs.declared.requests.HeldRecord.{HeldRecord}
 use Rattle.fkv_ops.specs.declared.requests.Occasion.{Occasion}
-use Rattle.fkv_ops.specs.declared.requests.Occasion.TheVariants.{Poll}
+use Rattle.fkv_ops.specs.declared.requests.Occasion.TheVariants.{Call, Poll}
 use Rattle.fkv_ops.specs.declared.requests.Request.{Request}
 use Rattle.fkv_ops.specs.declared.requests.Seen.{Seen}
 use Rattle.fkv_ops.specs.HeaderWords.{header_said}
 use Rattle.fkv_ops.specs.Requests.{is_read}
+use Rattle.fkv_ops.specs.Values.{value_of}
 use Rattle.fkv_ops.specs.Trying.{TryState, try_ask, try_next}
 use Rattle.fkv_ops.specs.TryRun.{Trial, try_run, trial_begun}
 use Rattle.fkv_pending.specs.declared.attempting.Attempting.{Attempting}
@@ -234,3 +237,62 @@ pub record IsTryKept (c : AttemptGiven) (a : AttemptState) (past : AttemptPast) 
 
 abbrev pub TriesKept : Type 0
 TriesKept = (c : AttemptGiven) (before : AttemptState) (replies : List ℕ) → IsTryKept c (run_by c before replies) (past_by c before replies) (try_replies c before replies)
+
+-- What a read at a poll is answered by the record that was taken: that record's value, where it has the read's key; that the key is absent,
+-- where it has that key without a value, or is another's and the last of its chain; and else, or where it is spoiled, that it has to wait.
+abbrev pub IsReadBy : PendingRequest → MailRecord → HeaderSaid → TryAnswer → Type 0
+IsReadBy first its (Says previous version) (answer.Found value) = (its.key.0 ≡ (key_of first.request.op).0) × (value_of its.value ≡ Some value.0)
+IsReadBy first its (Says previous version) answer.Absent =
+    ((its.key.0 ≡ (key_of first.request.op).0) × (value_of its.value ≡ None)) ⊎ ((its.key.0 ≢ (key_of first.request.op).0) × (previous.0 ≡ 0))
+IsReadBy first its (Says previous version) (answer.Wait reason.Disk) = (its.key.0 ≢ (key_of first.request.op).0) × (previous.0 ≢ 0)
+IsReadBy first its Spoiled (answer.Wait reason.Disk) = ⊤
+IsReadBy first its said told = ⊥
+
+-- without a record it has to wait
+abbrev pub IsReadEnd : PendingRequest → Option MailRecord → TryAnswer → Type 0
+IsReadEnd first None told = told ≡ answer.Wait reason.Disk
+IsReadEnd first (Some its) told = IsReadBy first its (header_said its.header) told
+
+-- any other request is answered what its try has come to; one whose try awaits a record has to wait
+abbrev pub IsTryEnd : Option TryAnswer → TryAnswer → Type 0
+IsTryEnd None told = ⊥
+IsTryEnd (Some (answer.AwaitsDisk sought)) told = told ≡ answer.Wait reason.Disk
+IsTryEnd (Some its) told = told ≡ its
+
+-- A read at a poll seeks the record before the one that was taken, along the walk from the same entry, where that one is another key's and
+-- not the last of its chain; and else what it sought.
+abbrev pub IsBefore : Option DiskRecord → Addr → Option DiskRecord → Type 0
+IsBefore None previous sought = sought ≡ None
+IsBefore (Some its) previous sought = sought ≡ Some (record { entry = its.entry; addr = previous })
+
+pub record SeeksBefore (first : PendingRequest) (its : MailRecord) (previous : Addr) (sought : Option DiskRecord) : Type 0 where
+  pub goes_on : its.key.0 ≢ (key_of first.request.op).0 → previous.0 ≢ 0 → IsBefore first.sought previous sought
+  pub stays : (its.key.0 ≡ (key_of first.request.op).0) ⊎ (previous.0 ≡ 0) → sought ≡ first.sought
+
+abbrev pub ReadSeeksBy : PendingRequest → MailRecord → HeaderSaid → Option DiskRecord → Type 0
+ReadSeeksBy first its Spoiled sought = sought ≡ first.sought
+ReadSeeksBy first its (Says previous version) sought = SeeksBefore first its previous sought
+
+abbrev pub ReadSeeks : PendingRequest → Option MailRecord → Option DiskRecord → Type 0
+ReadSeeks first None sought = sought ≡ first.sought
+ReadSeeks first (Some its) sought = ReadSeeksBy first its (header_said its.header) sought
+
+-- Any other request seeks the record that its try awaits, but where its mail is under way: then, and where its try awaits none, it seeks what
+-- it sought.
+abbrev pub TrySeeks : PendingRequest → Option MailRecord → Option TryAnswer → Option DiskRecord → Type 0
+TrySeeks first taken (Some (answer.AwaitsDisk its)) sought = sought ≡ (if is_under_way None taken first.has_asked then first.sought else Some its)
+TrySeeks first taken tried sought = sought ≡ first.sought
+
+-- an update, or a read at its call
+abbrev pub IsToBeTried : AttemptGiven → Type 0
+IsToBeTried c = (c.occasion ≡ Call) ⊎ (is_read c.pending.request.op ≡ false)
+
+-- What an attempt is answered, and what its request seeks then.
+pub record IsAnswered (c : AttemptGiven) (a : AttemptState) (past : AttemptPast) (ask : Ask TryAnswer) : Type 0 where
+  pub read_end : c.occasion ≡ Poll → is_read c.pending.request.op ≡ true → (its : TryAnswer) → ask ≡ Done its → IsReadEnd c.pending past.taken its
+  pub read_seeks : c.occasion ≡ Poll → is_read c.pending.request.op ≡ true → ReadSeeks c.pending past.taken a.pending.sought
+  pub try_end : IsToBeTried c → (its : TryAnswer) → ask ≡ Done its → IsTryEnd past.tried its
+  pub try_seeks : IsToBeTried c → TrySeeks c.pending past.taken past.tried a.pending.sought
+
+abbrev pub AnswersSo : Type 0
+AnswersSo = (c : AttemptGiven) (before : AttemptState) (replies : List ℕ) → IsAnswered c (run_by c before replies) (past_by c before replies) (attempt_ask c.places c.session (run_by c before replies))

@@ -1,4 +1,5 @@
 -- The law, by what each run tells.
+use Rattle.fkv_pending.proofs.AttemptAnswers.{answers_so}
 use Rattle.fkv_pending.proofs.AttemptEffects.{effects_told}
 use Rattle.fkv_pending.proofs.AttemptRuns.{run_true}
 use Rattle.fkv_pending.proofs.AttemptTries.{tries_are_kept}
@@ -12,3 +13,6 @@ returns-clause-effects c = effects_told
 
 pub returns-clause-tries : goal.returns-clause-tries
 returns-clause-tries c = tries_are_kept
+
+pub returns-clause-answers : goal.returns-clause-answers
+returns-clause-answers c = answers_so
