@@ -1,6 +1,7 @@
 pub mod AttemptAnswers
 pub mod AttemptAsks
 pub mod AttemptEffects
+pub mod AttemptPuts
 pub mod AttemptRests
 pub mod AttemptRuns
 pub mod AttemptTries

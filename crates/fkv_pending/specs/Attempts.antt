@@ -5,7 +5,7 @@ use Rattle.fkv_base.specs.declared.numbers.Version.{Version}
 use Rattle.fkv_map.specs.declared.operations.Reply.{Reply}
 use Rattle.fkv_map.specs.Keys.{key_of}
 use Rattle.fkv_plane.specs.declared.asks.Ask.{Ask}
-use Rattle.fkv_plane.specs.declared.asks.Ask.TheVariants.{Store, Done}
+use Rattle.fkv_plane.specs.declared.asks.Ask.TheVariants.{Load, Store, Done}
 use Rattle.fkv_plane.specs.declared.places.Places.{Places}
 use Rattle.fkv_plane.specs.declared.places.SessionWord.TheVariants as own
 use Rattle.fkv_plane.specs.Places.{session_place}
@@ -31,7 +31,7 @@ use Rattle.fkv_pending.specs.declared.mailing.MailAnswer.{MailAnswer}
 use Rattle.fkv_pending.specs.declared.mailing.MailAnswer.TheVariants as mail
 use Rattle.fkv_pending.specs.declared.mailing.MailRecord.{MailRecord}
 use Rattle.fkv_pending.specs.declared.pending_requests.PendingRequest.{PendingRequest}
-use Rattle.fkv_pending.specs.Mailing.{mail_ask, mail_next}
+use Rattle.fkv_pending.specs.Mailing.{mail_empty, mail_ask, mail_next}
 use Rattle.fkv_pending.specs.Attempting.{AttemptState, attempt_ask, attempt_begun, attempt_next}
 
 -- What the run of an attempt has told so far.
@@ -296,3 +296,24 @@ pub record IsAnswered (c : AttemptGiven) (a : AttemptState) (past : AttemptPast)
 
 abbrev pub AnswersSo : Type 0
 AnswersSo = (c : AttemptGiven) (before : AttemptState) (replies : List ℕ) → IsAnswered c (run_by c before replies) (past_by c before replies) (attempt_ask c.places c.session (run_by c before replies))
+
+-- the state of the mailbox that was loaded last to put an address there
+abbrev pub state_met : AttemptGiven → Ask MailAnswer → ℕ → Option ℕ → Option ℕ
+state_met c (Load place) reply met = if place == session_place c.session own.MailState then Some reply else met
+state_met c ask reply met = met
+
+abbrev pub state_of_put : AttemptGiven → AttemptState → Attempting → ℕ → Option ℕ → Option ℕ
+state_of_put c a Puts reply met = state_met c (mail_ask c.session a.mailing) reply met
+state_of_put c a step reply met = met
+
+abbrev pub met_state : AttemptGiven → AttemptState → List ℕ → Option ℕ
+met_state c before [] = None
+met_state c before (reply ∷ others) = state_of_put c (run_by c before others) (run_by c before others).step reply (met_state c before others)
+
+-- An address is stored only where the mailbox was found empty, or where this attempt has emptied it by taking a record.
+pub data IsFree (met : Option ℕ) (taken : Option MailRecord) : Type 0 where
+  WasEmpty : met ≡ Some mail_empty → IsFree met taken
+  WasTaken : (its : MailRecord) → taken ≡ Some its → IsFree met taken
+
+abbrev pub PutsWhereFree : Type 0
+PutsWhereFree = (c : AttemptGiven) (before : AttemptState) (replies : List ℕ) (word : ℕ) → (past_by c before replies).address ≡ Some word → IsFree (met_state c before replies) (past_by c before replies).taken

@@ -1,5 +1,5 @@
 //! What goes through a mailbox, over every list of events.
-ghost use Rattle.fkv_pending.specs.Attempts.{AnswersSo, AttemptsTrue, EffectsTold, TriesKept};
+ghost use Rattle.fkv_pending.specs.Attempts.{AnswersSo, AttemptsTrue, EffectsTold, PutsWhereFree, TriesKept};
 ghost use Rattle.fkv_pending.specs.Mailbox.{AtEachMoment, NotesInTurn, ChangesAreKept, OthersStay, AnswersTrue, RestsBetweenTasks};
 
 /// Whatever the order of the steps of a session that begins tasks with its mailbox, one after another, and of a keeper who serves
@@ -24,10 +24,11 @@ pub fn law_mailbox()
 /// operation and version stay; a read is not tried at a poll; and what is held where a record is awaited was read from the same entry.
 /// A read at a poll is answered by the record that was taken, where that has its key or is the last of its chain, and else it waits and
 /// seeks the record before. Any other request is answered what its try has come to, and seeks the record that its try awaits, but where
-/// its mail is under way.
+/// its mail is under way. An address is stored only where the attempt has found the mailbox empty, or has emptied it by taking a record.
 pub fn law_attempts()
     ensures mail { AttemptsTrue }
     ensures effects { EffectsTold }
     ensures tries { TriesKept }
     ensures answers { AnswersSo }
+    ensures puts { PutsWhereFree }
 {}

@@ -1,6 +1,7 @@
 -- The law, by what each run tells.
 use Rattle.fkv_pending.proofs.AttemptAnswers.{answers_so}
 use Rattle.fkv_pending.proofs.AttemptEffects.{effects_told}
+use Rattle.fkv_pending.proofs.AttemptPuts.{puts_where_free}
 use Rattle.fkv_pending.proofs.AttemptRuns.{run_true}
 use Rattle.fkv_pending.proofs.AttemptTries.{tries_are_kept}
 use Rattle.fkv_pending.proofs.laws.law_attempts.Goals as goal
@@ -16,3 +17,6 @@ returns-clause-tries c = tries_are_kept
 
 pub returns-clause-answers : goal.returns-clause-answers
 returns-clause-answers c = answers_so
+
+pub returns-clause-puts : goal.returns-clause-puts
+returns-clause-puts c = puts_where_free
