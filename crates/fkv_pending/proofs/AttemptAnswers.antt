@@ -175,9 +175,6 @@ not_ready_answered p bits a = tested (is_pending_read a) refl
     tested true e = OfRead e refl refl
     tested false e = record { no_read = e; sought = refl; under_way = refl; none_met = refl }
 
-abbrev nothing : AttemptPast
-nothing = record { taken = None; tried = None; address = None; put = None }
-
 look_answered : (p : Places) (bits : ℕ) (a : AttemptState) (ask : Ask MailAnswer) (past : AttemptPast) → a.step ≡ Looks → past.taken ≡ None → past.tried ≡ None
     → Answered a.pending (is_pending_read a) (look_ledto p bits a ask) (look_told ask past).taken (look_told ask past).tried
 unfolding look_ledto

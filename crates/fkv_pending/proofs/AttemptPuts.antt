@@ -29,7 +29,7 @@ use Rattle.fkv_pending.specs.Pending.{with_sought, with_held, with_latch, with_a
 use Rattle.fkv_pending.specs.Attempting.{AttemptState, attempt_ended, waits_for_disk, puts_addr, puts, tries, is_pending_read, goes_on, held_of, moved_on, read_on, record_taken, not_ready, look_ledto, held_kept, awaits_record, tried, try_ledto, put_ledto, mail_moved, try_moved, attempting_next, attempt_next}
 use Rattle.fkv_pending.specs.Attempts.{AttemptPast, look_told, try_told, address_told, put_told, attempt_told, attempt_run, attempt_past, AttemptGiven, begun_by, run_by, past_by, state_met, state_of_put, met_state, IsFree, WasEmpty, WasTaken}
 use Rattle.fkv_pending.proofs.AttemptRuns.{same_place, state_apart}
-use Rattle.fkv_pending.proofs.AttemptTries.{same_told}
+use Rattle.fkv_pending.proofs.AttemptTries.{nothing, same_told}
 
 -- nothing was stored, and where this attempt has emptied the mailbox it has taken a record
 record IsOpen (is_emptied : Bool) (past : AttemptPast) (met : Option ℕ) : Type 0 where
@@ -68,9 +68,6 @@ puts_addr_free a past met (Some sought) its = tested a.is_emptied refl
 
 puts_free : (a : AttemptState) (past : AttemptPast) (met : Option ℕ) → IsOpen a.is_emptied past met → Free (puts a) past met
 puts_free a past met its = puts_addr_free a past met a.pending.sought its
-
-abbrev nothing : AttemptPast
-nothing = record { taken = None; tried = None; address = None; put = None }
 
 none_emptied : (is_emptied : Bool) (past : AttemptPast) (met : Option ℕ) → is_emptied ≡ false → past.address ≡ None → IsOpen is_emptied past met
 none_emptied is_emptied past met none stored = record { none_stored = stored; free = λ e. absurd (never (sym e ∙ none)) }

@@ -122,7 +122,8 @@ untried_behind c a past its = record {
   held = λ sought e held is. let none = its.none_tried in cc;
 }
 
-abbrev nothing : AttemptPast
+-- nothing is told
+abbrev pub nothing : AttemptPast
 nothing = record { taken = None; tried = None; address = None; put = None }
 
 begun_kept : (c : AttemptGiven) (before : AttemptState) → Kept c (begun_by c before) nothing []
@@ -263,10 +264,6 @@ awaits_kept c a past replies sought is same stands reads = tested a.pending.has_
     tested true = record { same = record { name = same.name; op = same.op; version = same.version }; stands = stands; reads = reads; held = held }
     tested false = puts_kept c (record its { pending = with_sought its.pending (Some sought) }) past replies
         (record { same = record { name = same.name; op = same.op; version = same.version }; stands = stands; reads = reads; held = held })
-
-abbrev is_await : TryAnswer → Bool
-is_await (answer.AwaitsDisk sought) = true
-is_await its = false
 
 tried_kept : (c : AttemptGiven) (a : AttemptState) (past : AttemptPast) (replies : List ℕ) (its : TryAnswer) → past.tried ≡ Some its → IsSameRequest c.pending a.pending
     → TryStands c a.pending.request.has_latch a.spare a.trial past.taken past.tried replies → ReadsSo c replies → Kept c (tried a its) past replies
