@@ -266,10 +266,10 @@ try_led first was a past (Done its) at base =
 try_led first was a past ask at base = rw at base
 
 -- the put
-same_place : (n : ℕ) → (n == n) ≡ true
+pub same_place : (n : ℕ) → (n == n) ≡ true
 same_place n = grind (arith, nat_tests)
 
-state_apart : (session : ℕ) → (session_place session own.MailState == session_place session own.MailAddress) ≡ false
+pub state_apart : (session : ℕ) → (session_place session own.MailState == session_place session own.MailAddress) ≡ false
 state_apart session = grind (arith, nat_tests)
 
 occupied_same : (taken : Option MailRecord) (had : Bool) → is_under_way (Some mail.Occupied) taken had ≡ is_under_way None taken had

@@ -1,6 +1,10 @@
+pub mod AttemptAnswers
 pub mod AttemptAsks
+pub mod AttemptEffects
+pub mod AttemptPuts
 pub mod AttemptRests
 pub mod AttemptRuns
+pub mod AttemptTries
 pub mod Boxes
 pub mod MailAsks
 pub mod MailRuns

@@ -1,8 +1,11 @@
 -- What comes of an attempt, over every list of replies.
-use Rattle.std.specs.Prelude.{◌≡◌, ◌⊎◌, ℕ, ◌==◌, ◌&&◌, ◌||◌, if◌then◌else◌, Bool, true, false, List, [], ◌∷◌, Option, Some, None}
+use Rattle.std.specs.Prelude.{◌≡◌, ◌≢◌, ◌⊎◌, ℕ, ◌^◌, ◌==◌, ◌&&◌, ◌||◌, if◌then◌else◌, Bool, true, false, List, [], ◌∷◌, Option, Some, None, ⊤}
+use Rattle.fkv_base.specs.declared.numbers.Addr.{Addr}
 use Rattle.fkv_base.specs.declared.numbers.Version.{Version}
+use Rattle.fkv_map.specs.declared.operations.Reply.{Reply}
+use Rattle.fkv_map.specs.Keys.{key_of}
 use Rattle.fkv_plane.specs.declared.asks.Ask.{Ask}
-use Rattle.fkv_plane.specs.declared.asks.Ask.TheVariants.{Store, Done}
+use Rattle.fkv_plane.specs.declared.asks.Ask.TheVariants.{Load, Store, Done}
 use Rattle.fkv_plane.specs.declared.places.Places.{Places}
 use Rattle.fkv_plane.specs.declared.places.SessionWord.TheVariants as own
 use Rattle.fkv_plane.specs.Places.{session_place}
@@ -10,19 +13,25 @@ use Rattle.fkv_ops.specs.declared.answers.DiskRecord.{DiskRecord}
 use Rattle.fkv_ops.specs.declared.answers.Reason.TheVariants as reason
 use Rattle.fkv_ops.specs.declared.answers.TryAnswer.{TryAnswer}
 use Rattle.fkv_ops.specs.declared.answers.TryAnswer.TheVariants as answer
-use Rattle.fkv_ops.specs.declared.header_words.HeaderSaid.TheVariants.{Says}
+use Rattle.fkv_ops.specs.declared.header_words.HeaderSaid.{HeaderSaid}
+use Rattle.fkv_ops.specs.declared.header_words.HeaderSaid.TheVariants.{Says, Spoiled}
 use Rattle.fkv_ops.specs.declared.requests.HeldRecord.{HeldRecord}
 use Rattle.fkv_ops.specs.declared.requests.Occasion.{Occasion}
+use Rattle.fkv_ops.specs.declared.requests.Occasion.TheVariants.{Call, Poll}
+use Rattle.fkv_ops.specs.declared.requests.Request.{Request}
 use Rattle.fkv_ops.specs.declared.requests.Seen.{Seen}
 use Rattle.fkv_ops.specs.HeaderWords.{header_said}
-use Rattle.fkv_ops.specs.Trying.{try_ask, try_next}
+use Rattle.fkv_ops.specs.Requests.{is_read}
+use Rattle.fkv_ops.specs.Values.{value_of}
+use Rattle.fkv_ops.specs.Trying.{TryState, try_ask, try_next}
+use Rattle.fkv_ops.specs.TryRun.{Trial, try_run, trial_begun}
 use Rattle.fkv_pending.specs.declared.attempting.Attempting.{Attempting}
 use Rattle.fkv_pending.specs.declared.attempting.Attempting.TheVariants.{Ended, Looks, Tries, Puts}
 use Rattle.fkv_pending.specs.declared.mailing.MailAnswer.{MailAnswer}
 use Rattle.fkv_pending.specs.declared.mailing.MailAnswer.TheVariants as mail
 use Rattle.fkv_pending.specs.declared.mailing.MailRecord.{MailRecord}
 use Rattle.fkv_pending.specs.declared.pending_requests.PendingRequest.{PendingRequest}
-use Rattle.fkv_pending.specs.Mailing.{mail_ask, mail_next}
+use Rattle.fkv_pending.specs.Mailing.{mail_empty, mail_ask, mail_next}
 use Rattle.fkv_pending.specs.Attempting.{AttemptState, attempt_ask, attempt_begun, attempt_next}
 
 -- What the run of an attempt has told so far.
@@ -126,3 +135,185 @@ AttemptsTrue =
     → let begun = attempt_begun p bits a pending seen occasion spare is_orphaned in
     let its = attempt_run p bits room session begun replies in
     IsAttemptTrue pending is_orphaned its (attempt_past p bits room session begun replies) (attempt_ask p session its)
+
+-- What an attempt is given.
+pub record AttemptGiven : Type 0 where
+  pub places : Places
+  -- the index has 2^bits buckets
+  pub bits : ℕ
+  pub its_buckets : places.buckets ≡ 2 ^ bits
+  -- how many addresses the log has on the device
+  pub room : ℕ
+  -- whose mailbox it is
+  pub session : ℕ
+  pub pending : PendingRequest
+  -- what the session has seen
+  pub seen : Seen
+  pub occasion : Occasion
+  -- the overflow bucket that the session has taken and not linked
+  pub spare : ℕ
+  pub is_orphaned : Bool
+
+-- it begins, whatever the machine did before
+abbrev pub begun_by : AttemptGiven → AttemptState → AttemptState
+begun_by c before = attempt_begun c.places c.bits before c.pending c.seen c.occasion c.spare c.is_orphaned
+
+abbrev pub run_by : AttemptGiven → AttemptState → List ℕ → AttemptState
+run_by c before replies = attempt_run c.places c.bits c.room c.session (begun_by c before) replies
+
+-- The effect that an attempt tells is the one that its try told at that step; the mailbox makes none.
+abbrev pub effect_of_try : AttemptGiven → AttemptState → Attempting → ℕ → Option Reply
+effect_of_try c a Tries reply = (try_next c.places c.room a.trial reply).effect
+effect_of_try c a step reply = None
+
+abbrev pub told_effect : AttemptGiven → AttemptState → List ℕ → Option Reply
+told_effect c before [] = None
+told_effect c before (reply ∷ others) = effect_of_try c (run_by c before others) (run_by c before others).step reply
+
+abbrev pub EffectsTold : Type 0
+EffectsTold = (c : AttemptGiven) (before : AttemptState) (replies : List ℕ) → (run_by c before replies).effect ≡ told_effect c before replies
+
+abbrev pub past_by : AttemptGiven → AttemptState → List ℕ → AttemptPast
+past_by c before replies = attempt_past c.places c.bits c.room c.session (begun_by c before) replies
+
+-- the replies that the try has met, the newest first
+abbrev pub try_reply : Attempting → ℕ → List ℕ → List ℕ
+try_reply Tries reply its = reply ∷ its
+try_reply step reply its = its
+
+abbrev pub try_replies : AttemptGiven → AttemptState → List ℕ → List ℕ
+try_replies c before [] = []
+try_replies c before (reply ∷ others) = try_reply (run_by c before others).step reply (try_replies c before others)
+
+-- what its try is given: this request, what the session has seen, and the attempt's own occasion
+abbrev pub trial_of : AttemptGiven → Request → Trial
+trial_of c request = record { places = c.places; bits = c.bits; its_buckets = c.its_buckets; room = c.room; request = request; seen = c.seen; occasion = c.occasion }
+
+-- what the try holds: the record that was taken, with the entry of the record that was sought; and without one what was held
+abbrev pub HoldsMail : Option DiskRecord → MailRecord → HeaderSaid → Option HeldRecord → Type 0
+HoldsMail (Some sought) its (Says previous version) held = held ≡ Some (record { entry = sought.entry; previous = previous; key = its.key; value = its.value })
+HoldsMail sought its said held = held ≡ None
+
+abbrev pub HoldsSo : PendingRequest → Option MailRecord → Option HeldRecord → Type 0
+HoldsSo first None held = held ≡ first.request.held
+HoldsSo first (Some its) held = HoldsMail first.sought its (header_said its.header) held
+
+-- The try of an attempt is one of the request that waits, with its latch, at the attempt's own occasion, with the session's spare bucket;
+-- and it has met these replies.
+pub record IsItsTry (c : AttemptGiven) (taken : Option MailRecord) (trial : TryState) (replies : List ℕ) : Type 0 where
+  pub request : Request
+  pub its_op : request.op ≡ c.pending.request.op
+  pub its_version : request.version ≡ c.pending.request.version
+  pub its_latch : request.has_latch ≡ c.pending.request.has_latch
+  pub its_held : HoldsSo c.pending taken request.held
+  pub before : TryState
+  pub its_run : trial ≡ try_run (trial_of c request) (trial_begun (trial_of c request) before c.spare) replies
+
+-- How far the try has come, and whether the request shares its latch then, and what the session's spare bucket is: as they were given, up to
+-- the try's end, and from there on as the try has left them.
+pub data TryStands (c : AttemptGiven) (has_latch : Bool) (spare : ℕ) (trial : TryState) (taken : Option MailRecord) (tried : Option TryAnswer) (replies : List ℕ) : Type 0 where
+  NotTried : replies ≡ [] → tried ≡ None → has_latch ≡ c.pending.request.has_latch → spare ≡ c.spare → TryStands c has_latch spare trial taken tried replies
+  UnderWay : IsItsTry c taken trial replies → tried ≡ None → has_latch ≡ c.pending.request.has_latch → spare ≡ c.spare → TryStands c has_latch spare trial taken tried replies
+  HasEnded : (its : TryAnswer) → IsItsTry c taken trial replies → try_ask c.places trial ≡ Done its → tried ≡ Some its → has_latch ≡ trial.has_shared → spare ≡ trial.spare
+      → TryStands c has_latch spare trial taken tried replies
+
+-- Name, operation and version stay.
+pub record IsSameRequest (first its : PendingRequest) : Type 0 where
+  pub name : its.name ≡ first.name
+  pub op : its.request.op ≡ first.request.op
+  pub version : its.request.version ≡ first.request.version
+
+-- what is held when a record of the device is awaited was read from the same entry
+abbrev pub HoldsFromEntry : Option TryAnswer → Option HeldRecord → Type 0
+HoldsFromEntry tried held = (sought : DiskRecord) → tried ≡ Some (answer.AwaitsDisk sought) → (its : HeldRecord) → held ≡ Some its → its.entry ≡ sought.entry
+
+-- What holds of the try of an attempt, at each moment.
+pub record IsTryKept (c : AttemptGiven) (a : AttemptState) (past : AttemptPast) (replies : List ℕ) : Type 0 where
+  pub same : IsSameRequest c.pending a.pending
+  pub stands : TryStands c a.pending.request.has_latch a.spare a.trial past.taken past.tried replies
+  -- a read that is pending is not tried at a poll
+  pub reads : c.occasion ≡ Poll → is_read c.pending.request.op ≡ true → replies ≡ []
+  pub held : HoldsFromEntry past.tried a.pending.request.held
+
+abbrev pub TriesKept : Type 0
+TriesKept = (c : AttemptGiven) (before : AttemptState) (replies : List ℕ) → IsTryKept c (run_by c before replies) (past_by c before replies) (try_replies c before replies)
+
+-- What a read at a poll is answered by the record that was taken: that record's value, where it has the read's key; that the key is absent,
+-- where it has that key without a value, or is another's and the last of its chain; and else, or where it is spoiled, that it has to wait.
+abbrev pub IsReadBy : PendingRequest → MailRecord → HeaderSaid → TryAnswer → Type 0
+IsReadBy first its (Says previous version) (answer.Found value) = (its.key.0 ≡ (key_of first.request.op).0) × (value_of its.value ≡ Some value.0)
+IsReadBy first its (Says previous version) answer.Absent =
+    ((its.key.0 ≡ (key_of first.request.op).0) × (value_of its.value ≡ None)) ⊎ ((its.key.0 ≢ (key_of first.request.op).0) × (previous.0 ≡ 0))
+IsReadBy first its (Says previous version) (answer.Wait reason.Disk) = (its.key.0 ≢ (key_of first.request.op).0) × (previous.0 ≢ 0)
+IsReadBy first its Spoiled (answer.Wait reason.Disk) = ⊤
+IsReadBy first its said told = ⊥
+
+-- without a record it has to wait
+abbrev pub IsReadEnd : PendingRequest → Option MailRecord → TryAnswer → Type 0
+IsReadEnd first None told = told ≡ answer.Wait reason.Disk
+IsReadEnd first (Some its) told = IsReadBy first its (header_said its.header) told
+
+-- any other request is answered what its try has come to; one whose try awaits a record has to wait
+abbrev pub IsTryEnd : Option TryAnswer → TryAnswer → Type 0
+IsTryEnd None told = ⊥
+IsTryEnd (Some (answer.AwaitsDisk sought)) told = told ≡ answer.Wait reason.Disk
+IsTryEnd (Some its) told = told ≡ its
+
+-- A read at a poll seeks the record before the one that was taken, along the walk from the same entry, where that one is another key's and
+-- not the last of its chain; and else what it sought.
+abbrev pub IsBefore : Option DiskRecord → Addr → Option DiskRecord → Type 0
+IsBefore None previous sought = sought ≡ None
+IsBefore (Some its) previous sought = sought ≡ Some (record { entry = its.entry; addr = previous })
+
+pub record SeeksBefore (first : PendingRequest) (its : MailRecord) (previous : Addr) (sought : Option DiskRecord) : Type 0 where
+  pub goes_on : its.key.0 ≢ (key_of first.request.op).0 → previous.0 ≢ 0 → IsBefore first.sought previous sought
+  pub stays : (its.key.0 ≡ (key_of first.request.op).0) ⊎ (previous.0 ≡ 0) → sought ≡ first.sought
+
+abbrev pub ReadSeeksBy : PendingRequest → MailRecord → HeaderSaid → Option DiskRecord → Type 0
+ReadSeeksBy first its Spoiled sought = sought ≡ first.sought
+ReadSeeksBy first its (Says previous version) sought = SeeksBefore first its previous sought
+
+abbrev pub ReadSeeks : PendingRequest → Option MailRecord → Option DiskRecord → Type 0
+ReadSeeks first None sought = sought ≡ first.sought
+ReadSeeks first (Some its) sought = ReadSeeksBy first its (header_said its.header) sought
+
+-- Any other request seeks the record that its try awaits, but where its mail is under way: then, and where its try awaits none, it seeks what
+-- it sought.
+abbrev pub TrySeeks : PendingRequest → Option MailRecord → Option TryAnswer → Option DiskRecord → Type 0
+TrySeeks first taken (Some (answer.AwaitsDisk its)) sought = sought ≡ (if is_under_way None taken first.has_asked then first.sought else Some its)
+TrySeeks first taken tried sought = sought ≡ first.sought
+
+-- an update, or a read at its call
+abbrev pub IsToBeTried : AttemptGiven → Type 0
+IsToBeTried c = (c.occasion ≡ Call) ⊎ (is_read c.pending.request.op ≡ false)
+
+-- What an attempt is answered, and what its request seeks then.
+pub record IsAnswered (c : AttemptGiven) (a : AttemptState) (past : AttemptPast) (ask : Ask TryAnswer) : Type 0 where
+  pub read_end : c.occasion ≡ Poll → is_read c.pending.request.op ≡ true → (its : TryAnswer) → ask ≡ Done its → IsReadEnd c.pending past.taken its
+  pub read_seeks : c.occasion ≡ Poll → is_read c.pending.request.op ≡ true → ReadSeeks c.pending past.taken a.pending.sought
+  pub try_end : IsToBeTried c → (its : TryAnswer) → ask ≡ Done its → IsTryEnd past.tried its
+  pub try_seeks : IsToBeTried c → TrySeeks c.pending past.taken past.tried a.pending.sought
+
+abbrev pub AnswersSo : Type 0
+AnswersSo = (c : AttemptGiven) (before : AttemptState) (replies : List ℕ) → IsAnswered c (run_by c before replies) (past_by c before replies) (attempt_ask c.places c.session (run_by c before replies))
+
+-- the state of the mailbox that was loaded last to put an address there
+abbrev pub state_met : AttemptGiven → Ask MailAnswer → ℕ → Option ℕ → Option ℕ
+state_met c (Load place) reply met = if place == session_place c.session own.MailState then Some reply else met
+state_met c ask reply met = met
+
+abbrev pub state_of_put : AttemptGiven → AttemptState → Attempting → ℕ → Option ℕ → Option ℕ
+state_of_put c a Puts reply met = state_met c (mail_ask c.session a.mailing) reply met
+state_of_put c a step reply met = met
+
+abbrev pub met_state : AttemptGiven → AttemptState → List ℕ → Option ℕ
+met_state c before [] = None
+met_state c before (reply ∷ others) = state_of_put c (run_by c before others) (run_by c before others).step reply (met_state c before others)
+
+-- An address is stored only where the mailbox was found empty, or where this attempt has emptied it by taking a record.
+pub data IsFree (met : Option ℕ) (taken : Option MailRecord) : Type 0 where
+  WasEmpty : met ≡ Some mail_empty → IsFree met taken
+  WasTaken : (its : MailRecord) → taken ≡ Some its → IsFree met taken
+
+abbrev pub PutsWhereFree : Type 0
+PutsWhereFree = (c : AttemptGiven) (before : AttemptState) (replies : List ℕ) (word : ℕ) → (past_by c before replies).address ≡ Some word → IsFree (met_state c before replies) (past_by c before replies).taken

@@ -1,5 +1,5 @@
 //! What goes through a mailbox, over every list of events.
-ghost use Rattle.fkv_pending.specs.Attempts.{AttemptsTrue};
+ghost use Rattle.fkv_pending.specs.Attempts.{AnswersSo, AttemptsTrue, EffectsTold, PutsWhereFree, TriesKept};
 ghost use Rattle.fkv_pending.specs.Mailbox.{AtEachMoment, NotesInTurn, ChangesAreKept, OthersStay, AnswersTrue, RestsBetweenTasks};
 
 /// Whatever the order of the steps of a session that begins tasks with its mailbox, one after another, and of a keeper who serves
@@ -18,7 +18,17 @@ pub fn law_mailbox()
 /// Over every list of replies to the asks of an attempt, of any request: mail is for nobody just where it was so before, or where the
 /// request has finished while its mail is under way; a request that has asked in this attempt has asked for the record that it
 /// seeks; one that waits for the device has its mail under way, or has met an occupied mailbox; and what a request holds it held
-/// before, or it came by the mail that this attempt took, with the entry of the record that was sought.
+/// before, or it came by the mail that this attempt took, with the entry of the record that was sought. The effect that it tells is the
+/// one that its try told at that step. Its try is one of the request that waits, at the attempt's own occasion and with the spare
+/// bucket of the session, and whether the request shares its latch, and the spare bucket, stay as that try has left them; name,
+/// operation and version stay; a read is not tried at a poll; and what is held where a record is awaited was read from the same entry.
+/// A read at a poll is answered by the record that was taken, where that has its key or is the last of its chain, and else it waits and
+/// seeks the record before. Any other request is answered what its try has come to, and seeks the record that its try awaits, but where
+/// its mail is under way. An address is stored only where the attempt has found the mailbox empty, or has emptied it by taking a record.
 pub fn law_attempts()
-    ensures { AttemptsTrue }
+    ensures mail { AttemptsTrue }
+    ensures effects { EffectsTold }
+    ensures tries { TriesKept }
+    ensures answers { AnswersSo }
+    ensures puts { PutsWhereFree }
 {}

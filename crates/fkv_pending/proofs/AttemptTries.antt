@@ -1,0 +1,392 @@
+-- The try of an attempt is its request's own, and what it leaves is kept.
+use Rattle.std.proofs.Common.{◌≡◌, ℕ, List, [], ◌∷◌, arith, refl, sym, ap, subst, ◌∙◌, Bool, true, false}
+use Rattle.std.specs.Prelude.{◌==◌, ◌&&◌, if◌then◌else◌, Option, Some, None}
+use Rattle.std.proofs.lemmas.Bool.Decides.{nat_tests}
+use Rattle.fkv_map.specs.Keys.{key_of}
+use Rattle.fkv_plane.specs.declared.asks.Ask.{Ask}
+use Rattle.fkv_plane.specs.declared.asks.Ask.TheVariants.{Store, Done}
+use Rattle.fkv_plane.specs.declared.places.SessionWord.TheVariants as own
+use Rattle.fkv_plane.specs.Places.{session_place}
+use Rattle.fkv_ops.specs.declared.answers.DiskRecord.{DiskRecord}
+use Rattle.fkv_ops.specs.declared.answers.TryAnswer.{TryAnswer}
+use Rattle.fkv_ops.specs.declared.answers.TryAnswer.TheVariants as answer
+use Rattle.fkv_ops.specs.declared.header_words.HeaderSaid.{HeaderSaid}
+use Rattle.fkv_ops.specs.declared.header_words.HeaderSaid.TheVariants.{Says, Spoiled}
+use Rattle.fkv_ops.specs.declared.requests.HeldRecord.{HeldRecord}
+use Rattle.fkv_ops.specs.declared.requests.Occasion.TheVariants.{Poll}
+use Rattle.fkv_ops.specs.HeaderWords.{header_said}
+use Rattle.fkv_ops.specs.Requests.{is_read}
+use Rattle.fkv_ops.specs.Values.{value_of}
+use Rattle.fkv_ops.specs.Trying.{TryState, told_value, try_ask, try_next}
+use Rattle.fkv_pending.specs.declared.attempting.Attempting.{Attempting}
+use Rattle.fkv_pending.specs.declared.attempting.Attempting.TheVariants.{Ended, Looks, Tries, Puts}
+use Rattle.fkv_pending.specs.declared.mailing.MailAnswer.{MailAnswer}
+use Rattle.fkv_pending.specs.declared.mailing.MailAnswer.TheVariants as mail
+use Rattle.fkv_pending.specs.declared.mailing.MailRecord.{MailRecord}
+use Rattle.fkv_pending.specs.declared.mailing.MailTask.TheVariants.{Take}
+use Rattle.fkv_pending.specs.declared.mailing.Mailing.TheVariants.{LoadsState}
+use Rattle.fkv_pending.specs.declared.pending_requests.PendingRequest.{PendingRequest}
+use Rattle.fkv_pending.specs.Mailing.{mail_ask, mail_next}
+use Rattle.fkv_pending.specs.Pending.{with_sought, with_held, with_latch, with_asked}
+use Rattle.fkv_pending.specs.Attempting.{AttemptState, attempt_ended, waits_for_disk, puts_addr, puts, tries, is_poll, is_pending_read, goes_on, held_of, moved_on, read_on, record_taken, not_ready, look_ledto, held_kept, awaits_record, tried, try_ledto, put_ledto, mail_moved, try_moved, attempting_next, attempt_next}
+use Rattle.fkv_pending.specs.Attempts.{AttemptPast, look_told, try_told, address_told, put_told, attempt_told, attempt_run, attempt_past, AttemptGiven, begun_by, run_by, past_by, try_reply, try_replies, HoldsMail, HoldsSo, IsItsTry, TryStands, NotTried, UnderWay, HasEnded, IsSameRequest, HoldsFromEntry, IsTryKept}
+
+-- a read at a poll
+abbrev pub is_read_on : AttemptGiven → Bool
+is_read_on c = is_poll c.occasion && is_read c.pending.request.op
+
+abbrev ReadsSo : AttemptGiven → List ℕ → Type 0
+ReadsSo c replies = c.occasion ≡ Poll → is_read c.pending.request.op ≡ true → replies ≡ []
+
+-- behind the look of a read, or behind the try
+record IsBehind (c : AttemptGiven) (pending : PendingRequest) (spare : ℕ) (trial : TryState) (past : AttemptPast) (replies : List ℕ) : Type 0 where
+  same : IsSameRequest c.pending pending
+  stands : TryStands c pending.request.has_latch spare trial past.taken past.tried replies
+  reads : ReadsSo c replies
+  held : HoldsFromEntry past.tried pending.request.held
+
+record IsLooking (c : AttemptGiven) (a : AttemptState) (past : AttemptPast) (replies : List ℕ) : Type 0 where
+  request : a.pending ≡ c.pending
+  seen : a.seen ≡ c.seen
+  occasion : a.occasion ≡ c.occasion
+  spare : a.spare ≡ c.spare
+  none_taken : past.taken ≡ None
+  none_tried : past.tried ≡ None
+  none_met : replies ≡ []
+
+record IsTrying (c : AttemptGiven) (a : AttemptState) (past : AttemptPast) (replies : List ℕ) : Type 0 where
+  same : IsSameRequest c.pending a.pending
+  its_try : IsItsTry c past.taken a.trial replies
+  none_tried : past.tried ≡ None
+  latch : a.pending.request.has_latch ≡ c.pending.request.has_latch
+  spare : a.spare ≡ c.spare
+  no_read : is_read_on c ≡ false
+
+abbrev KeptAt : AttemptGiven → AttemptState → AttemptPast → List ℕ → Attempting → Type 0
+KeptAt c a past replies (Ended its) = IsBehind c a.pending a.spare a.trial past replies
+KeptAt c a past replies Looks = IsLooking c a past replies
+KeptAt c a past replies Tries = IsTrying c a past replies
+KeptAt c a past replies Puts = IsBehind c a.pending a.spare a.trial past replies
+
+abbrev Kept : AttemptGiven → AttemptState → AttemptPast → List ℕ → Type 0
+Kept c a past replies = KeptAt c a past replies a.step
+
+never : true ≡ false → ⊥
+never e = cc
+
+reads_no : (c : AttemptGiven) (replies : List ℕ) → is_read_on c ≡ false → ReadsSo c replies
+reads_no c replies other poll read = absurd (never (sym both ∙ other))
+  where
+    both : is_read_on c ≡ true
+    both = rw (poll, read) refl
+
+puts_addr_kept : (c : AttemptGiven) (a : AttemptState) (past : AttemptPast) (replies : List ℕ) (found : Option DiskRecord) → IsBehind c a.pending a.spare a.trial past replies → Kept c (puts_addr a found) past replies
+puts_addr_kept c a past replies None its = its
+puts_addr_kept c a past replies (Some sought) its = its
+
+puts_kept : (c : AttemptGiven) (a : AttemptState) (past : AttemptPast) (replies : List ℕ) → IsBehind c a.pending a.spare a.trial past replies → Kept c (puts a) past replies
+puts_kept c a past replies its = puts_addr_kept c a past replies a.pending.sought its
+
+-- what an attempt has before its try
+record IsUntried (c : AttemptGiven) (a : AttemptState) (past : AttemptPast) : Type 0 where
+  same : IsSameRequest c.pending a.pending
+  seen : a.seen ≡ c.seen
+  occasion : a.occasion ≡ c.occasion
+  latch : a.pending.request.has_latch ≡ c.pending.request.has_latch
+  spare : a.spare ≡ c.spare
+  none_tried : past.tried ≡ None
+
+tries_kept : (c : AttemptGiven) (a : AttemptState) (past : AttemptPast) → IsUntried c a past → is_pending_read a ≡ false → HoldsSo c.pending past.taken a.pending.request.held → Kept c (tries c.places c.bits a) past []
+tries_kept c a past its other held = record {
+  same = its.same;
+  its_try = record {
+    request = a.pending.request;
+    its_op = its.same.op;
+    its_version = its.same.version;
+    its_latch = its.latch;
+    its_held = held;
+    before = a.trial;
+    its_run = rw (its.seen, its.occasion, its.spare) refl;
+  };
+  none_tried = its.none_tried;
+  latch = its.latch;
+  spare = its.spare;
+  no_read = let occasion = its.occasion in let op = its.same.op in rw (sym occasion, sym op) other;
+}
+
+untried_behind : (c : AttemptGiven) (a : AttemptState) (past : AttemptPast) → IsUntried c a past → IsBehind c a.pending a.spare a.trial past []
+untried_behind c a past its = record {
+  same = its.same;
+  stands = NotTried refl its.none_tried its.latch its.spare;
+  reads = λ poll read. refl;
+  held = λ sought e held is. let none = its.none_tried in cc;
+}
+
+-- nothing is told
+abbrev pub nothing : AttemptPast
+nothing = record { taken = None; tried = None; address = None; put = None }
+
+begun_kept : (c : AttemptGiven) (before : AttemptState) → Kept c (begun_by c before) nothing []
+begun_kept c before = tested c.pending.has_asked
+  where
+    its : AttemptState
+    its = record before { pending = c.pending; seen = c.seen; occasion = c.occasion; spare = c.spare; is_orphaned = c.is_orphaned; is_emptied = false; effect = None }
+
+    untried : IsUntried c its nothing
+    untried = record { same = record { name = refl; op = refl; version = refl }; seen = refl; occasion = refl; latch = refl; spare = refl; none_tried = refl }
+
+    goes : (b : Bool) → is_pending_read its ≡ b → Kept c (if b then puts its else tries c.places c.bits its) nothing []
+    goes true e = puts_kept c its nothing [] (untried_behind c its nothing untried)
+    goes false e = tries_kept c its nothing untried e refl
+
+    tested : (b : Bool) → Kept c (if b then record its { mailing = LoadsState Take; step = Looks } else goes_on c.places c.bits its) nothing []
+    tested true = record { request = refl; seen = refl; occasion = refl; spare = refl; none_taken = refl; none_tried = refl; none_met = refl }
+    tested false = goes (is_pending_read its) refl
+
+-- the look
+read_on_kept : (c : AttemptGiven) (a : AttemptState) (past : AttemptPast) (its : MailRecord) (said : HeaderSaid) → IsBehind c a.pending a.spare a.trial past [] → Kept c (read_on a its said) past []
+unfolding with_sought
+read_on_kept c a past its Spoiled behind = puts_kept c a past [] behind
+read_on_kept c a past its (Says previous version) behind = tested (its.key.0 == (key_of a.pending.request.op).0) (previous.0 == 0)
+  where
+    on : AttemptState
+    on = record a { pending = with_sought a.pending (moved_on a.pending.sought previous) }
+
+    same : IsSameRequest c.pending on.pending
+    same = record { name = behind.same.name; op = behind.same.op; version = behind.same.version }
+
+    tested : (b e : Bool) → Kept c (if b then attempt_ended a (told_value (value_of its.value)) else if e then attempt_ended a answer.Absent else puts on) past []
+    tested true e = behind
+    tested false true = behind
+    tested false false = puts_kept c on past [] (record { same = same; stands = behind.stands; reads = behind.reads; held = behind.held })
+
+holds_mail : (sought : Option DiskRecord) (its : MailRecord) (said : HeaderSaid) → HoldsMail sought its said (held_of sought its said)
+holds_mail None its said = refl
+holds_mail (Some sought) its Spoiled = refl
+holds_mail (Some sought) its (Says previous version) = refl
+
+taken_kept : (c : AttemptGiven) (a : AttemptState) (past : AttemptPast) (its : MailRecord) → IsLooking c a past []
+    → Kept c (record_taken c.places c.bits (record a { is_emptied = true; pending = with_asked a.pending false }) its (header_said its.header)) (record past { taken = Some its }) []
+unfolding with_asked with_held
+taken_kept c a past its looking = tested (is_pending_read b) refl
+  where
+    b : AttemptState
+    b = record a { is_emptied = true; pending = with_asked a.pending false }
+
+    then_past : AttemptPast
+    then_past = record past { taken = Some its }
+
+    untried : IsUntried c b then_past
+    untried = record {
+      same = record {
+        name = ap (λ (pending : PendingRequest). pending.name) looking.request;
+        op = ap (λ (pending : PendingRequest). pending.request.op) looking.request;
+        version = ap (λ (pending : PendingRequest). pending.request.version) looking.request;
+      };
+      seen = looking.seen;
+      occasion = looking.occasion;
+      latch = ap (λ (pending : PendingRequest). pending.request.has_latch) looking.request;
+      spare = looking.spare;
+      none_tried = looking.none_tried;
+    }
+
+    held : AttemptState
+    held = record b { pending = with_held b.pending (held_of b.pending.sought its (header_said its.header)) }
+
+    held_untried : IsUntried c held then_past
+    held_untried = record {
+      same = record { name = untried.same.name; op = untried.same.op; version = untried.same.version };
+      seen = untried.seen;
+      occasion = untried.occasion;
+      latch = untried.latch;
+      spare = untried.spare;
+      none_tried = untried.none_tried;
+    }
+
+    holds : HoldsSo c.pending (Some its) held.pending.request.held
+    holds = subst (λ (pending : PendingRequest). HoldsSo pending (Some its) held.pending.request.held) looking.request (holds_mail a.pending.sought its (header_said its.header))
+
+    tested : (e : Bool) → is_pending_read b ≡ e → Kept c (if e then read_on b its (header_said its.header) else tries c.places c.bits held) then_past []
+    tested true e = read_on_kept c b then_past its (header_said its.header) (untried_behind c b then_past untried)
+    tested false e = tries_kept c held then_past held_untried e holds
+
+not_ready_kept : (c : AttemptGiven) (a : AttemptState) (past : AttemptPast) → IsLooking c a past [] → Kept c (not_ready c.places c.bits a) past []
+not_ready_kept c a past looking = tested (is_pending_read a) refl
+  where
+    untried : IsUntried c a past
+    untried = record {
+      same = record {
+        name = ap (λ (pending : PendingRequest). pending.name) looking.request;
+        op = ap (λ (pending : PendingRequest). pending.request.op) looking.request;
+        version = ap (λ (pending : PendingRequest). pending.request.version) looking.request;
+      };
+      seen = looking.seen;
+      occasion = looking.occasion;
+      latch = ap (λ (pending : PendingRequest). pending.request.has_latch) looking.request;
+      spare = looking.spare;
+      none_tried = looking.none_tried;
+    }
+
+    holds : HoldsSo c.pending past.taken a.pending.request.held
+    holds = rw looking.none_taken (ap (λ (pending : PendingRequest). pending.request.held) looking.request)
+
+    tested : (b : Bool) → is_pending_read a ≡ b → Kept c (if b then waits_for_disk a else tries c.places c.bits a) past []
+    tested true e = untried_behind c a past untried
+    tested false e = tries_kept c a past untried e holds
+
+look_kept : (c : AttemptGiven) (a : AttemptState) (past : AttemptPast) (ask : Ask MailAnswer) → a.step ≡ Looks → IsLooking c a past [] → Kept c (look_ledto c.places c.bits a ask) (look_told ask past) []
+unfolding look_ledto
+look_kept c a past (Done (mail.Taken its)) at looking = taken_kept c a past its looking
+look_kept c a past (Done other) at looking = not_ready_kept c a past looking
+look_kept c a past ask at looking = subst (λ (step : Attempting). KeptAt c a past [] step) (sym at) looking
+
+-- the try
+kept_entry : (held : Option HeldRecord) (entry : ℕ) (its : HeldRecord) → held_kept held entry ≡ Some its → its.entry ≡ entry
+kept_entry None entry its e = cc
+kept_entry (Some held) entry its e = tested (held.entry == entry) refl e
+  where
+    tested : (b : Bool) → (held.entry == entry) ≡ b → (if b then Some held else None) ≡ Some its → its.entry ≡ entry
+    tested true same is = let one : held ≡ its = cc in subst (λ (it : HeldRecord). it.entry ≡ entry) one (grind (arith, nat_tests))
+    tested false same is = cc
+
+awaits_kept : (c : AttemptGiven) (a : AttemptState) (past : AttemptPast) (replies : List ℕ) (sought : DiskRecord) → past.tried ≡ Some (answer.AwaitsDisk sought) → IsSameRequest c.pending a.pending
+    → TryStands c a.pending.request.has_latch a.spare a.trial past.taken past.tried replies → ReadsSo c replies → Kept c (awaits_record a sought) past replies
+unfolding with_held with_sought
+awaits_kept c a past replies sought is same stands reads = tested a.pending.has_asked
+  where
+    its : AttemptState
+    its = record a { pending = with_held a.pending (held_kept a.pending.request.held sought.entry) }
+
+    held : HoldsFromEntry past.tried (held_kept a.pending.request.held sought.entry)
+    held = λ other e its was. let one : sought ≡ other = cc in subst (λ (it : DiskRecord). its.entry ≡ it.entry) one (kept_entry a.pending.request.held sought.entry its was)
+
+    tested : (b : Bool) → Kept c (if b then waits_for_disk its else puts (record its { pending = with_sought its.pending (Some sought) })) past replies
+    tested true = record { same = record { name = same.name; op = same.op; version = same.version }; stands = stands; reads = reads; held = held }
+    tested false = puts_kept c (record its { pending = with_sought its.pending (Some sought) }) past replies
+        (record { same = record { name = same.name; op = same.op; version = same.version }; stands = stands; reads = reads; held = held })
+
+tried_kept : (c : AttemptGiven) (a : AttemptState) (past : AttemptPast) (replies : List ℕ) (its : TryAnswer) → past.tried ≡ Some its → IsSameRequest c.pending a.pending
+    → TryStands c a.pending.request.has_latch a.spare a.trial past.taken past.tried replies → ReadsSo c replies → Kept c (tried a its) past replies
+tried_kept c a past replies (answer.AwaitsDisk sought) is same stands reads = awaits_kept c a past replies sought is same stands reads
+tried_kept c a past replies (answer.Wait why) is same stands reads = record { same = same; stands = stands; reads = reads; held = λ sought e held was. cc }
+tried_kept c a past replies (answer.Done its) is same stands reads = record { same = same; stands = stands; reads = reads; held = λ sought e held was. cc }
+tried_kept c a past replies (answer.Found its) is same stands reads = record { same = same; stands = stands; reads = reads; held = λ sought e held was. cc }
+tried_kept c a past replies answer.Absent is same stands reads = record { same = same; stands = stands; reads = reads; held = λ sought e held was. cc }
+tried_kept c a past replies answer.Shift is same stands reads = record { same = same; stands = stands; reads = reads; held = λ sought e held was. cc }
+tried_kept c a past replies answer.IndexFull is same stands reads = record { same = same; stands = stands; reads = reads; held = λ sought e held was. cc }
+tried_kept c a past replies answer.LogFull is same stands reads = record { same = same; stands = stands; reads = reads; held = λ sought e held was. cc }
+
+try_kept : (c : AttemptGiven) (a : AttemptState) (past : AttemptPast) (replies : List ℕ) (ask : Ask TryAnswer) → a.step ≡ Tries → try_ask c.places a.trial ≡ ask → IsTrying c a past replies
+    → Kept c (try_ledto a ask) (try_told ask past) replies
+unfolding try_ledto with_latch
+try_kept c a past replies (Done its) at e trying =
+    tried_kept c (record a { spare = a.trial.spare; pending = with_latch a.pending a.trial.has_shared }) (record past { tried = Some its }) replies its refl
+    (record { name = trying.same.name; op = trying.same.op; version = trying.same.version }) (HasEnded its trying.its_try e refl refl refl) (reads_no c replies trying.no_read)
+try_kept c a past replies ask at e trying = subst (λ (step : Attempting). KeptAt c a past replies step) (sym at) trying
+
+moved_try : (c : AttemptGiven) (a : AttemptState) (past : AttemptPast) (replies : List ℕ) (reply : ℕ) → IsTrying c a past replies → IsTrying c (try_moved c.places c.room a reply) past (reply ∷ replies)
+moved_try c a past replies reply its = record {
+  same = its.same;
+  its_try = record {
+    request = its.its_try.request;
+    its_op = its.its_try.its_op;
+    its_version = its.its_try.its_version;
+    its_latch = its.its_try.its_latch;
+    its_held = its.its_try.its_held;
+    before = its.its_try.before;
+    its_run = ap (λ (t : TryState). try_next c.places c.room t reply) its.its_try.its_run;
+  };
+  none_tried = its.none_tried;
+  latch = its.latch;
+  spare = its.spare;
+  no_read = its.no_read;
+}
+
+-- the put
+pub put_same : (ask : Ask MailAnswer) (past : AttemptPast) → ((put_told ask past).taken ≡ past.taken) × ((put_told ask past).tried ≡ past.tried)
+put_same (Done its) past = (refl, refl)
+put_same ask past = (refl, refl)
+
+pub address_same : (session : ℕ) (ask : Ask MailAnswer) (past : AttemptPast) → ((address_told session ask past).taken ≡ past.taken) × ((address_told session ask past).tried ≡ past.tried)
+address_same session (Store place word) past = tested (place == session_place session own.MailAddress)
+  where
+    tested : (b : Bool) → ((if b then record past { address = Some word } else past).taken ≡ past.taken) × ((if b then record past { address = Some word } else past).tried ≡ past.tried)
+    tested true = (refl, refl)
+    tested false = (refl, refl)
+address_same session ask past = (refl, refl)
+
+put_kept : (c : AttemptGiven) (a : AttemptState) (past : AttemptPast) (replies : List ℕ) (ask : Ask MailAnswer) → a.step ≡ Puts → IsBehind c a.pending a.spare a.trial past replies → Kept c (put_ledto a ask) past replies
+unfolding put_ledto with_asked
+put_kept c a past replies (Done mail.Asked) at its =
+    record { same = record { name = its.same.name; op = its.same.op; version = its.same.version }; stands = its.stands; reads = its.reads; held = its.held }
+put_kept c a past replies (Done other) at its = its
+put_kept c a past replies ask at its = subst (λ (step : Attempting). KeptAt c a past replies step) (sym at) its
+
+other_past : (c : AttemptGiven) (pending : PendingRequest) (spare : ℕ) (trial : TryState) (past then_past : AttemptPast) (replies : List ℕ) → then_past.taken ≡ past.taken → then_past.tried ≡ past.tried
+    → IsBehind c pending spare trial past replies → IsBehind c pending spare trial then_past replies
+other_past c pending spare trial past then_past replies taken tried its = record { same = its.same; stands = rw (taken, tried) its.stands; reads = its.reads; held = rw tried its.held }
+
+-- each reply
+next_kept : (c : AttemptGiven) (a : AttemptState) (past : AttemptPast) (replies : List ℕ) (step : Attempting) (reply : ℕ) → a.step ≡ step → KeptAt c a past replies step
+    → Kept c (attempting_next c.places c.bits c.room c.session a step reply) (attempt_told c.places c.room c.session a step reply past) (try_reply step reply replies)
+unfolding attempting_next
+next_kept c a past replies (Ended its) reply at kept = rw at kept
+next_kept c a past replies Looks reply at kept =
+    subst (λ (met : List ℕ). Kept c (attempting_next c.places c.bits c.room c.session a Looks reply) (attempt_told c.places c.room c.session a Looks reply past) met) (sym kept.none_met)
+    (look_kept c (mail_moved a reply) past (mail_ask c.session (mail_next a.mailing reply)) at
+    (record { request = kept.request; seen = kept.seen; occasion = kept.occasion; spare = kept.spare; none_taken = kept.none_taken; none_tried = kept.none_tried; none_met = refl }))
+next_kept c a past replies Tries reply at kept =
+    try_kept c (try_moved c.places c.room a reply) past (reply ∷ replies) (try_ask c.places (try_next c.places c.room a.trial reply)) at refl (moved_try c a past replies reply kept)
+next_kept c a past replies Puts reply at kept =
+    let asked = mail_ask c.session a.mailing in
+    let then_asks = mail_ask c.session (mail_next a.mailing reply) in
+    let first = address_same c.session asked past in
+    let then_same = put_same then_asks (address_told c.session asked past) in
+    put_kept c (mail_moved a reply) (put_told then_asks (address_told c.session asked past)) replies then_asks at
+    (other_past c a.pending a.spare a.trial past (put_told then_asks (address_told c.session asked past)) replies (then_same.0 ∙ first.0) (then_same.1 ∙ first.1) kept)
+
+effect_kept : (c : AttemptGiven) (a : AttemptState) (past : AttemptPast) (replies : List ℕ) (step : Attempting) → KeptAt c a past replies step → KeptAt c (record a { effect = None }) past replies step
+effect_kept c a past replies (Ended its) kept = kept
+effect_kept c a past replies Looks kept = record { request = kept.request; seen = kept.seen; occasion = kept.occasion; spare = kept.spare; none_taken = kept.none_taken; none_tried = kept.none_tried; none_met = kept.none_met }
+effect_kept c a past replies Tries kept = record { same = kept.same; its_try = kept.its_try; none_tried = kept.none_tried; latch = kept.latch; spare = kept.spare; no_read = kept.no_read }
+effect_kept c a past replies Puts kept = kept
+
+pub same_told : (c : AttemptGiven) (a : AttemptState) (step : Attempting) (reply : ℕ) (past : AttemptPast)
+    → attempt_told c.places c.room c.session (record a { effect = None }) step reply past ≡ attempt_told c.places c.room c.session a step reply past
+same_told c a (Ended its) reply past = refl
+same_told c a Looks reply past = refl
+same_told c a Tries reply past = refl
+same_told c a Puts reply past = refl
+
+run_kept : (c : AttemptGiven) (before : AttemptState) (replies : List ℕ) → Kept c (run_by c before replies) (past_by c before replies) (try_replies c before replies)
+unfolding attempt_run attempt_past
+run_kept c before [] = begun_kept c before
+run_kept c before (reply ∷ others) =
+    let a = run_by c before others in
+    let past = past_by c before others in
+    let met = try_replies c before others in
+    subst (λ (then_past : AttemptPast). Kept c (attempt_next c.places c.bits c.room c.session a reply) then_past (try_reply a.step reply met)) (same_told c a a.step reply past)
+    (next_kept c (record a { effect = None }) past met a.step reply refl (effect_kept c a past met a.step (run_kept c before others)))
+
+kept_so : (c : AttemptGiven) (a : AttemptState) (past : AttemptPast) (replies : List ℕ) (step : Attempting) → KeptAt c a past replies step → IsTryKept c a past replies
+kept_so c a past replies (Ended its) kept = record { same = kept.same; stands = kept.stands; reads = kept.reads; held = kept.held }
+kept_so c a past replies Looks kept = record {
+  same = record {
+    name = ap (λ (pending : PendingRequest). pending.name) kept.request;
+    op = ap (λ (pending : PendingRequest). pending.request.op) kept.request;
+    version = ap (λ (pending : PendingRequest). pending.request.version) kept.request;
+  };
+  stands = NotTried kept.none_met kept.none_tried (ap (λ (pending : PendingRequest). pending.request.has_latch) kept.request) kept.spare;
+  reads = λ poll read. kept.none_met;
+  held = λ sought e held is. let none = kept.none_tried in cc;
+}
+kept_so c a past replies Tries kept = record {
+  same = kept.same;
+  stands = UnderWay kept.its_try kept.none_tried kept.latch kept.spare;
+  reads = reads_no c replies kept.no_read;
+  held = λ sought e held is. let none = kept.none_tried in cc;
+}
+kept_so c a past replies Puts kept = record { same = kept.same; stands = kept.stands; reads = kept.reads; held = kept.held }
+
+pub tries_are_kept : (c : AttemptGiven) (before : AttemptState) (replies : List ℕ) → IsTryKept c (run_by c before replies) (past_by c before replies) (try_replies c before replies)
+tries_are_kept c before replies = kept_so c (run_by c before replies) (past_by c before replies) (try_replies c before replies) (run_by c before replies).step (run_kept c before replies)
