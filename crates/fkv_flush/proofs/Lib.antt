@@ -1,5 +1,6 @@
 mod Armings
 mod Asks
+mod AsksLeft
 mod Calm
 mod FlushKnows
 mod Follows

@@ -1,5 +1,6 @@
 -- What crates above may cite.
 pub use Rattle.fkv_flush.proofs.Asks.{flush_asks, serve_asks}
+pub use Rattle.fkv_flush.proofs.AsksLeft.{flush_most, flush_left, flush_fewer, flush_ends, flush_done_fewer, flush_failed_none, serve_left, serve_begun_left, serve_fewer, serve_read_fewer}
 pub use Rattle.fkv_flush.proofs.Guard.{Known, Fresh, Guard, SeesOn}
 pub use Rattle.fkv_flush.proofs.GuardSound.{IsAhead, RaiseKnows, MoveKnows, Waits, ShiftKnows, TurnKnows, Knows, IsSound, Awake, machine_of, machine_at}
 pub use Rattle.fkv_flush.proofs.GuardLaw.{happens_sound, run_sound, opening_sound, covered, undecided_fresh}

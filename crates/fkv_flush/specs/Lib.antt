@@ -1,3 +1,4 @@
+pub mod AsksLeft
 pub mod Devices
 pub mod Flushing
 pub mod GuardAsks

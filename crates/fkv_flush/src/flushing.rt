@@ -1,10 +1,11 @@
 //! How records that nobody writes any more get to the device.
-ghost use Rattle.std.specs.Prelude.{◌≡◌, ◌<◌, ◌≤◌, ◌^◌, ◌↔◌, [], true, is_ok, vec_len, IfOk, OnErr, Err};
+ghost use Rattle.std.specs.Prelude.{◌≡◌, ◌<◌, ◌≤◌, ◌-◌, ◌^◌, ◌↔◌, [], true, is_ok, vec_len, IfOk, OnOk, OnErr, Err};
 ghost use Rattle.std.specs.Vec.{vec_capacity};
 ghost use Rattle.fkv_base.specs.Limits.{max_page};
 ghost use Rattle.fkv_base.specs.declared.faults.Fault.TheVariants.{Memory};
 ghost use Rattle.fkv_disk.specs.Device.{Elapses, HasCause, MakesCalls};
 ghost use Rattle.fkv_flush.specs.Flushing.{flush_ask, flush_next, bytes_next, flush_calls, flush_done, bytes_done, part_begun, record_after, count_next, count_done, HasRoom, IsWithin};
+ghost use Rattle.fkv_flush.specs.AsksLeft.{flush_asks_left, most_flush_asks, EndsWithin, GoesOnWhereLeft};
 ghost use Rattle.fkv_flush.specs.Devices.{Adds, calls_asked};
 ghost use Rattle.fkv_flush.specs.declared.flushing.Flushing.TheVariants.{AtRest, LoadsFlushed};
 ghost use Rattle.fkv_plane.specs.declared.places.Places.{Places};
@@ -80,10 +81,12 @@ impl Flush {
     }
 
     /// The first ask.
-    #[tactic(auto, unfolding(crate::specs::Flushing::flush_ask))]
+    #[tactic(auto, unfolding(crate::specs::Flushing::flush_ask, crate::specs::AsksLeft::flush_asks_left))]
     pub fn start(&mut self) -> Ask<DeviceAnswer>
         ensures next { self.new ≡ record self.old { bytes = []; step = LoadsFlushed } }
         ensures ask { result ≡ flush_ask self.old.places LoadsFlushed }
+        ensures left { GoesOnWhereLeft (flush_asks_left self.new.step) result }
+        ensures bounded { flush_asks_left self.new.step ≤ most_flush_asks }
     {
         self.bytes.clear();
         self.step = Flushing::LoadsFlushed;
@@ -94,6 +97,9 @@ impl Flush {
     pub fn drive(&mut self, reply: u64) -> Ask<DeviceAnswer>
         ensures next { self.new ≡ record self.old { bytes = bytes_next self.old.step self.old.bytes reply; step = flush_next self.old.shape.page self.old.step reply } }
         ensures ask { result ≡ flush_ask self.old.places (flush_next self.old.shape.page self.old.step reply) }
+        ensures left { GoesOnWhereLeft (flush_asks_left self.new.step) result }
+        ensures fewer { calls_asked (flush_ask self.old.places self.old.step) ≡ 0 → flush_asks_left self.new.step ≤ flush_asks_left self.old.step - 1 }
+        ensures bounded { EndsWithin self.old.step reply self.new.step }
     {
         keep_word(&mut self.bytes, self.step, reply);
         self.step = step_after(self.shape.page, self.step, reply);
@@ -105,6 +111,9 @@ impl Flush {
     pub fn device_step<D: Device>(&mut self, d: &mut D) -> Result<Ask<DeviceAnswer>, Fault>
         ensures next { self.new ≡ record self.old { bytes = bytes_done self.old.step self.old.bytes; step = flush_done self.old.shape.page self.old.step (is_ok result) } }
         ensures ask { IfOk result (λ ask. ask ≡ flush_ask self.old.places (flush_done self.old.shape.page self.old.step true)) }
+        ensures left { IfOk result (λ ask. GoesOnWhereLeft (flush_asks_left self.new.step) ask) }
+        ensures fewer { flush_asks_left self.new.step ≤ flush_asks_left self.old.step - calls_asked (flush_ask self.old.places self.old.step) }
+        ensures none { OnErr result (flush_asks_left self.new.step ≡ 0) }
         ensures cause { HasCause (D.failed d.old) (D.failed d.new) result }
         ensures counted { MakesCalls (calls_asked (flush_ask self.old.places self.old.step)) (D.refuses d.old) (D.refuses d.new) result }
         ensures honest { D.honest d.old ↔ D.honest d.new }
@@ -215,6 +224,7 @@ fn call_device<D: Device>(
 ) -> Result<(), Fault>
     requires { IsWithin step }
     ensures cause { HasCause (D.failed d.old) (D.failed d.new) result }
+    ensures called { (places : Places) → OnErr result (0 < calls_asked (flush_ask places step)) }
     ensures counted { (places : Places) → MakesCalls (calls_asked (flush_ask places step)) (D.refuses d.old) (D.refuses d.new) result }
     ensures honest { D.honest d.old ↔ D.honest d.new }
     ensures calls { D.honest d.old → Adds (flush_calls shape bytes.now step (is_ok result)) (D.seen d.old) (D.seen d.new) (D.may_leave d.old) (D.may_leave d.new) }

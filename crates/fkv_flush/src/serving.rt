@@ -1,7 +1,8 @@
 //! How the sessions' mailboxes are served.
-ghost use Rattle.std.specs.Prelude.{◌≡◌, ◌+◌, ◌<◌, ◌≤◌, ◌↔◌, ℕ, List, length, IfOk, OnOk, OnErr};
+ghost use Rattle.std.specs.Prelude.{◌≡◌, ◌+◌, ◌-◌, ◌<◌, ◌≤◌, ◌↔◌, ℕ, List, length, IfOk, OnOk, OnErr};
 ghost use Rattle.fkv_disk.specs.Bytes.{bytes_at};
 ghost use Rattle.fkv_disk.specs.Device.{LeavesNoMore, Elapses, HasCause, MakesCalls};
+ghost use Rattle.fkv_flush.specs.AsksLeft.{serve_asks_left, most_serve_asks, GoesOnWhereLeft};
 ghost use Rattle.fkv_flush.specs.Devices.{calls_asked};
 ghost use Rattle.fkv_record.specs.Places.{number_at};
 ghost use Rattle.fkv_flush.specs.Serving.{serve_ask, serve_next, serve_read, mailbox_from, mail_place, mail_of, IsServeInRange};
@@ -71,9 +72,12 @@ impl Serve {
     }
 
     /// The first ask.
+    #[tactic(auto, using(crate::proofs::AsksLeft::serve_begun_left, crate::proofs::AsksLeft::serve_asked))]
     pub fn start(&mut self) -> Ask<DeviceAnswer>
         ensures next { self.new ≡ record self.old { step = mailbox_from self.old.shape.sessions 0 } }
         ensures ask { result ≡ serve_ask (mailbox_from self.old.shape.sessions 0) }
+        ensures left { GoesOnWhereLeft (serve_asks_left self.old.shape.sessions self.new.step) result }
+        ensures bounded { serve_asks_left self.old.shape.sessions self.new.step ≤ most_serve_asks self.old.shape.sessions }
     {
         self.step = mailbox_from(&self.shape, 0);
         self.ask()
@@ -84,6 +88,8 @@ impl Serve {
     pub fn drive(&mut self, reply: u64) -> Ask<DeviceAnswer>
         ensures next { self.new ≡ record self.old { step = serve_next self.old.shape.sessions self.old.step reply } }
         ensures ask { result ≡ serve_ask (serve_next self.old.shape.sessions self.old.step reply) }
+        ensures left { GoesOnWhereLeft (serve_asks_left self.old.shape.sessions self.new.step) result }
+        ensures fewer { calls_asked (serve_ask self.old.step) ≡ 0 → serve_asks_left self.old.shape.sessions self.new.step ≤ serve_asks_left self.old.shape.sessions self.old.step - 1 }
     {
         self.step = match self.step {
             Serving::AtRest => Serving::AtRest,
@@ -118,6 +124,9 @@ impl Serve {
         ensures read { D.honest d.old → OnOk result (self.new ≡ record self.old { step = serve_read self.old.step (bytes_at (D.seen d.old) (mail_place self.old.shape self.old.step) 24) }) }
         ensures ask { IfOk result (λ ask. ask ≡ serve_ask self.new.step) }
         ensures failed { OnErr result (self.new ≡ record self.old { step = AtRest }) }
+        ensures left { IfOk result (λ ask. GoesOnWhereLeft (serve_asks_left self.old.shape.sessions self.new.step) ask) }
+        ensures fewer { serve_asks_left self.old.shape.sessions self.new.step ≤ serve_asks_left self.old.shape.sessions self.old.step - calls_asked (serve_ask self.old.step) }
+        ensures none { OnErr result (serve_asks_left self.old.shape.sessions self.new.step ≡ 0) }
         ensures cause { HasCause (D.failed d.old) (D.failed d.new) result }
         ensures counted { MakesCalls (calls_asked (serve_ask self.old.step)) (D.refuses d.old) (D.refuses d.new) result }
         ensures honest { D.honest d.old ↔ D.honest d.new }

@@ -69,7 +69,7 @@ search_so c told f find.LoadsLink reply effect stands knows = tt
 search_so c told f (find.LoadsTaken word) reply effect stands knows = tt
 search_so c told f (find.TakesBucket word taken) reply effect stands knows = record { its_old = knows.2; may = Takes refl refl }
 search_so c told f (find.LinksBucket word) reply effect stands knows =
-    record { its_old = knows.its_word; may = Links f.spare (subst (λ b. ComesTo c told stands.links b f.base) (unmade f.linking knows.once) stands.its_bucket) refl knows.no_link stands.few refl }
+    record { its_old = knows.0.its_word; may = Links f.spare (subst (λ b. ComesTo c told stands.links b f.base) (unmade f.linking knows.0.once) stands.its_bucket) refl knows.0.no_link knows.1 stands.few refl }
 
 load_so : (c : Trial) (told : Told) (addr : Addr) (loading : Loading) (reply : ℕ) (effect : Option Reply) → LoadRow c told addr loading → AskIsSo c told (passed (passed (load_ask c.places loading) walk.Contended) answer.Shift) reply effect
 unfolding load_ask passed
@@ -184,7 +184,7 @@ changed_tells p t old reply won = by_word (reply == old) refl
     by_word false e = absurd (eq_false reply old e won)
 
 -- each step
-row_so : (c : Trial) (told : Told) (t : TryState) (step : Trying) (reply : ℕ) → TryRow c told t step → AskIsSo c told (trying_ask c.places (quieted c t) step) reply (trying_next c.places c.room (quieted c t) step reply).effect
+pub row_so : (c : Trial) (told : Told) (t : TryState) (step : Trying) (reply : ℕ) → TryRow c told t step → AskIsSo c told (trying_ask c.places (quieted c t) step) reply (trying_next c.places c.room (quieted c t) step reply).effect
 unfolding trying_ask trying_next
 row_so c told t (Ended its) reply row = tt
 row_so c told t TakesShared reply row = share_so c told t.latching reply (trying_next c.places c.room (quieted c t) TakesShared reply).effect row.its_latching

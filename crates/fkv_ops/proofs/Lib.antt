@@ -7,8 +7,12 @@ mod BoolTests
 mod Copied
 mod EachAsk
 mod Effected
+mod GivenBack
 mod LatchRuns
+mod LatchShares
 mod Searched
+mod SpareAsks
+mod SpareRuns
 mod Tried
 mod TryRows
 mod TryRuns

@@ -24,7 +24,7 @@ use Rattle.fkv_ops.specs.declared.answers.TryAnswer.TheVariants as answer
 use Rattle.fkv_ops.specs.Requests.{is_read, purpose_of}
 use Rattle.fkv_ops.specs.TryRun.{Trial, home_at, Told}
 use Rattle.fkv_ops.specs.Reasons.{Loaded, Won, ComesTo, AtHome, ByLink, ByOwn, HasSlot, HasEntry, HasEnd, IsIndexFull, NoSlot as SlotSpoiled, NoBucket, TooMany, IsContended, CountLost, LinkLost, OwnIsFull, NoStore}
-use Rattle.fkv_ops.proofs.BoolTests.{lt_true, lt_false, le_true, le_false, eq_true, eq_false}
+use Rattle.fkv_ops.proofs.BoolTests.{lt_true, lt_false, le_true, le_false, eq_true, eq_false, some_where}
 
 abbrev pub is_made : Linking → Bool
 is_made Made = true
@@ -56,9 +56,9 @@ abbrev pub SearchStep : Trial → Told → Finding → FindStep → Type 0
 SearchStep c told f AtRest = ⊥
 SearchStep c told f (LoadsSlot slot) = slot < bucket_slots
 SearchStep c told f LoadsLink = ⊤
-SearchStep c told f (LoadsTaken word) = MayLink c told f.base f.linking word
-SearchStep c told f (TakesBucket word taken) = MayLink c told f.base f.linking word × (taken < c.places.overflow) × Loaded told (shared_place one.Taken) taken
-SearchStep c told f (LinksBucket word) = MayLink c told f.base f.linking word
+SearchStep c told f (LoadsTaken word) = MayLink c told f.base f.linking word × (f.spare ≡ 0)
+SearchStep c told f (TakesBucket word taken) = MayLink c told f.base f.linking word × (taken < c.places.overflow) × Loaded told (shared_place one.Taken) taken × (f.spare ≡ 0)
+SearchStep c told f (LinksBucket word) = MayLink c told f.base f.linking word × (0 < f.spare)
 
 abbrev pub Searches : Trial → Told → Finding → Type 0
 Searches c told f = StandsAt c told f × SearchStep c told f f.step
@@ -102,46 +102,47 @@ slot_true c told f slot reply stands few its_word = by_zero (reply == 0) refl
     by_zero false e = by_entry (is_entry reply) refl e
 
 -- from one bucket on to the next, by a link of either kind
-entered_true : (c : Trial) (told : Told) (f : Finding) (links number : ℕ) → f.home ≡ home_at c → ComesTo c told (links + 1) (is_made f.linking) (overflow_place c.places number 0) → f.links + links ≡ c.places.overflow
+entered_true : (c : Trial) (told : Told) (f : Finding) (links number : ℕ) → f.home ≡ home_at c → (number ≤ c.places.overflow → ComesTo c told (links + 1) (is_made f.linking) (overflow_place c.places number 0)) → f.links + links ≡ c.places.overflow
     → f.spare ≤ c.places.overflow → is_never f.linking ≡ is_read c.request.op → (c.places.overflow < number → IsContended c told)
     → Leads c told (led_ask (entered c.places f number)) (led_to (entered c.places f number))
 unfolding find_step_ask
 entered_true c told f links number home comes counted few reads high = by_links (nat_lt 0 f.links) (nat_le number c.places.overflow) refl refl
   where
     by_links : (a b : Bool) → nat_lt 0 f.links ≡ a → nat_le number c.places.overflow ≡ b → Leads c told (led_ask (entered c.places f number)) (led_to (entered c.places f number))
-    by_links true true d e = let some = lt_true 0 f.links d in rw (d, e) (record { links = links + 1; its_bucket = comes; its_home = home; counted = omega (arith, some, counted); few = few; reads = reads }, omega arith)
+    by_links true true d e = let some = lt_true 0 f.links d in rw (d, e) (record { links = links + 1; its_bucket = comes (le_true number c.places.overflow e); its_home = home; counted = omega (arith, some, counted); few = few; reads = reads }, omega arith)
     by_links true false d e = rw (d, e) (high (le_false number c.places.overflow e))
-    by_links false b d e = let none = lt_false 0 f.links d in rw d (NoStore (TooMany comes (omega (arith, none, counted))))
+    by_links false true d e = let none = lt_false 0 f.links d in rw d (NoStore (TooMany (comes (le_true number c.places.overflow e)) (omega (arith, none, counted))))
+    by_links false false d e = rw d (high (le_false number c.places.overflow e))
 
 link_true : (c : Trial) (told : Told) (f : Finding) (reply : ℕ) → StandsAt c told f → Loaded told (f.base + bucket_slots) reply → Leads c told (led_ask (link_led c.places f reply)) (led_to (link_led c.places f reply))
 unfolding find_step_ask
 link_true c told f reply stands its_word = by_link (link_of reply == 0) refl
   where
-    links : (b : Bool) → f.linking ≡ Once → link_of reply ≡ 0
+    links : (b : Bool) → (f.spare == 0) ≡ b → f.linking ≡ Once → link_of reply ≡ 0
         → Leads c told (find_step_ask f (if b then LoadsTaken reply else LinksBucket reply)) (record f { step = if b then LoadsTaken reply else LinksBucket reply })
-    links true once none = (stands, record { once = once; its_word = its_word; no_link = none })
-    links false once none = (stands, record { once = once; its_word = its_word; no_link = none })
+    links true e once none = (stands, (record { once = once; its_word = its_word; no_link = none }, eq_true f.spare 0 e))
+    links false e once none = (stands, (record { once = once; its_word = its_word; no_link = none }, some_where f.spare e))
 
     ends : (linking : Linking) → f.linking ≡ linking → link_of reply ≡ 0 → Leads c told (led_ask (ended_list f reply linking)) (led_to (ended_list f reply linking))
     ends Never e none = (sym stands.reads ∙ ap is_never e, record { links = stands.links; base = f.base; word = reply; its_bucket = subst (λ b. ComesTo c told stands.links b f.base) (ap is_made e) stands.its_bucket; its_word = its_word; no_link = none })
-    ends Once e none = links (f.spare == 0) e none
+    ends Once e none = links (f.spare == 0) refl e none
     ends Made e none = OwnIsFull (record { links = stands.links; base = f.base; word = reply; its_bucket = subst (λ b. ComesTo c told stands.links b f.base) (ap is_made e) stands.its_bucket; its_word = its_word; no_link = none })
 
     by_link : (b : Bool) → (link_of reply == 0) ≡ b → Leads c told (led_ask (link_led c.places f reply)) (led_to (link_led c.places f reply))
     by_link true e = rw e (ends f.linking refl (eq_true (link_of reply) 0 e))
-    by_link false e = rw e (entered_true c told f stands.links (link_of reply) stands.its_home (ByLink reply stands.its_bucket its_word) stands.counted stands.few stands.reads (λ high. NoStore (NoBucket stands.its_bucket its_word high)))
+    by_link false e = rw e (entered_true c told f stands.links (link_of reply) stands.its_home (λ few. ByLink reply stands.its_bucket its_word (some_where (link_of reply) e) few) stands.counted stands.few stands.reads (λ high. NoStore (NoBucket stands.its_bucket its_word high)))
 
 pub unmade : (linking : Linking) → linking ≡ Once → is_made linking ≡ false
 unmade Never e = refl
 unmade Once e = refl
 unmade Made e = cc
 
-taken_true : (c : Trial) (told : Told) (f : Finding) (word reply : ℕ) → StandsAt c told f → MayLink c told f.base f.linking word → Loaded told (shared_place one.Taken) reply → Leads c told (led_ask (taken_led c.places f word reply)) (led_to (taken_led c.places f word reply))
+taken_true : (c : Trial) (told : Told) (f : Finding) (word reply : ℕ) → StandsAt c told f → MayLink c told f.base f.linking word → f.spare ≡ 0 → Loaded told (shared_place one.Taken) reply → Leads c told (led_ask (taken_led c.places f word reply)) (led_to (taken_led c.places f word reply))
 unfolding find_step_ask
-taken_true c told f word reply stands may its_count = by_count (nat_lt reply c.places.overflow) refl
+taken_true c told f word reply stands may none its_count = by_count (nat_lt reply c.places.overflow) refl
   where
     by_count : (b : Bool) → nat_lt reply c.places.overflow ≡ b → Leads c told (led_ask (taken_led c.places f word reply)) (led_to (taken_led c.places f word reply))
-    by_count true e = rw e (stands, (may, lt_true reply c.places.overflow e, its_count))
+    by_count true e = rw e (stands, (may, lt_true reply c.places.overflow e, its_count, none))
     by_count false e = rw e (record {
       ends = record { links = stands.links; base = f.base; word = word; its_bucket = subst (λ b. ComesTo c told stands.links b f.base) (unmade f.linking may.once) stands.its_bucket; its_word = may.its_word; no_link = may.no_link };
       taken = reply;
@@ -155,7 +156,7 @@ unfolding find_step_ask
 took_true c told f word taken reply stands may few its_count its_cas = by_count (reply == taken) refl
   where
     by_count : (b : Bool) → (reply == taken) ≡ b → Leads c told (led_ask (took_led f word taken reply)) (led_to (took_led f word taken reply))
-    by_count true e = rw e (record { links = stands.links; its_bucket = stands.its_bucket; its_home = stands.its_home; counted = stands.counted; few = omega (arith, few); reads = stands.reads }, may)
+    by_count true e = rw e (record { links = stands.links; its_bucket = stands.its_bucket; its_home = stands.its_home; counted = stands.counted; few = omega (arith, few); reads = stands.reads }, (may, omega arith))
     by_count false e = rw e (CountLost taken its_count (record { found = reply; its_cas = its_cas; another = eq_false reply taken e }))
 
 once_reads : (linking : Linking) → linking ≡ Once → is_never linking ≡ false
@@ -163,16 +164,16 @@ once_reads Never e = cc
 once_reads Once e = refl
 once_reads Made e = cc
 
-linked_true : (c : Trial) (told : Told) (f : Finding) (word reply : ℕ) → StandsAt c told f → MayLink c told f.base f.linking word → told (Cas (f.base + bucket_slots) word (word + f.spare)) reply
+linked_true : (c : Trial) (told : Told) (f : Finding) (word reply : ℕ) → StandsAt c told f → MayLink c told f.base f.linking word → 0 < f.spare → told (Cas (f.base + bucket_slots) word (word + f.spare)) reply
     → Leads c told (led_ask (linked_led c.places f word reply)) (led_to (linked_led c.places f word reply))
 unfolding find_step_ask
-linked_true c told f word reply stands may its_cas = by_word (reply == word) refl
+linked_true c told f word reply stands may some its_cas = by_word (reply == word) refl
   where
     by_word : (b : Bool) → (reply == word) ≡ b → Leads c told (led_ask (linked_led c.places f word reply)) (led_to (linked_led c.places f word reply))
     by_word true e =
         let won : Won told (f.base + bucket_slots) word (word + f.spare) = subst (told (Cas (f.base + bucket_slots) word (word + f.spare))) (eq_true reply word e) its_cas in
         let few = stands.few in
-        rw e (entered_true c told (record f { linking = Made; spare = 0 }) stands.links f.spare stands.its_home (ByOwn word f.spare stands.its_bucket won) stands.counted (omega arith) (sym (once_reads f.linking may.once) ∙ stands.reads)
+        rw e (entered_true c told (record f { linking = Made; spare = 0 }) stands.links f.spare stands.its_home (λ there. ByOwn word f.spare stands.its_bucket won some there) stands.counted (omega arith) (sym (once_reads f.linking may.once) ∙ stands.reads)
         (λ high. absurd (omega (arith, high, few))))
     by_word false e = rw e (LinkLost word f.spare stands.its_bucket stands.few may.its_word (record { found = reply; its_cas = its_cas; another = eq_false reply word e }))
 
@@ -183,9 +184,9 @@ unfolding find_step_ask find_led passed
 search_true c told f AtRest reply stands knows its = absurd knows
 search_true c told f (LoadsSlot slot) reply stands knows its = slot_true c told f slot reply stands knows its
 search_true c told f LoadsLink reply stands knows its = link_true c told f reply stands its
-search_true c told f (LoadsTaken word) reply stands knows its = taken_true c told f word reply stands knows its
+search_true c told f (LoadsTaken word) reply stands knows its = taken_true c told f word reply stands knows.0 knows.1 its
 search_true c told f (TakesBucket word taken) reply stands knows its = took_true c told f word taken reply stands knows.0 knows.1 knows.2 its
-search_true c told f (LinksBucket word) reply stands knows its = linked_true c told f word reply stands knows its
+search_true c told f (LinksBucket word) reply stands knows its = linked_true c told f word reply stands knows.0 knows.1 its
 
 reads_so : (op : Op) → is_never (linking_for (purpose_of op)) ≡ is_read op
 reads_so (Upsert key value) = refl
@@ -201,7 +202,7 @@ none_made (Add key n) = refl
 none_made (Max key n) = refl
 none_made (Read key) = refl
 
-spare_few : (c : Trial) (spare : ℕ) → spare_of c.places spare ≤ c.places.overflow
+pub spare_few : (c : Trial) (spare : ℕ) → spare_of c.places spare ≤ c.places.overflow
 spare_few c spare = by_test (nat_le spare c.places.overflow) refl
   where
     by_test : (b : Bool) → nat_le spare c.places.overflow ≡ b → (if b then spare else 0) ≤ c.places.overflow

@@ -10,3 +10,6 @@ pub use Rattle.fkv_ops.proofs.TryRuns.{each_is_true, effects_once, latches_kept}
 pub use Rattle.fkv_ops.proofs.Effected.{effects_true, each_may_stay, shares_first, kinds_so}
 pub use Rattle.fkv_ops.proofs.EachAsk.{each_ask}
 pub use Rattle.fkv_ops.proofs.LatchRuns.{each_holds, each_leaves}
+pub use Rattle.fkv_ops.proofs.GivenBack.{given_back}
+pub use Rattle.fkv_ops.proofs.LatchShares.{IsTrying, shares_owed, begun_trying, begun_owes, next_trying, next_owes, AddsThere, adds_there, KeepsShare, ended_keeps}
+pub use Rattle.fkv_ops.proofs.SpareRuns.{each_tells_spare, each_uses_spare}

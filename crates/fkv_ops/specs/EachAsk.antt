@@ -42,7 +42,7 @@ pub data CasMay (c : Trial) (told : Told) (place old new reply : ℕ) (effect : 
   SetsBit : place ≡ latch_place c → old < one_share → new ≡ old + exclusive_bit → CasMay c told place old new reply effect
   Reserves : place ≡ shared_place one.Tail → new ≡ old + 1 → CasMay c told place old new reply effect
   Takes : place ≡ shared_place one.Taken → new ≡ old + 1 → CasMay c told place old new reply effect
-  Links : {links base : ℕ} (number : ℕ) → ComesTo c told links false base → place ≡ base + bucket_slots → link_of old ≡ 0 → number ≤ c.places.overflow → new ≡ old + number → CasMay c told place old new reply effect
+  Links : {links base : ℕ} (number : ℕ) → ComesTo c told links false base → place ≡ base + bucket_slots → link_of old ≡ 0 → 0 < number → number ≤ c.places.overflow → new ≡ old + number → CasMay c told place old new reply effect
   Publishes : (reply ≡ old → TellsEffect effect) → CasMay c told place old new reply effect
 
 -- what it expects was loaded there

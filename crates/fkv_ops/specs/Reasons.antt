@@ -42,14 +42,14 @@ pub record IsLost (told : Told) (place old new : ℕ) : Type 0 where
   pub its_cas : told (Cas place old new) found
   pub another : found ≢ old
 
--- Where a search comes to, bucket by bucket: the home's first, and from each the one that its eighth word leads to, or the one that the
--- try has linked there itself. How many links that were, and whether one was its own.
+-- Where a search comes to, bucket by bucket: the home's first, and from each the overflow bucket that its eighth word leads to, or the one
+-- that the try has linked there itself. How many links that were, and whether one was its own.
 pub data ComesTo (c : Trial) (told : Told) : ℕ → Bool → ℕ → Type 0 where
   AtHome : ComesTo c told 0 false (bucket_place c.places (home_at c).bucket 0)
   ByLink : {links : ℕ} {own : Bool} {base : ℕ} (word : ℕ) → ComesTo c told links own base → Loaded told (base + bucket_slots) word
-      → ComesTo c told (links + 1) own (overflow_place c.places (link_of word) 0)
+      → 0 < link_of word → link_of word ≤ c.places.overflow → ComesTo c told (links + 1) own (overflow_place c.places (link_of word) 0)
   ByOwn : {links : ℕ} {own : Bool} {base : ℕ} (word number : ℕ) → ComesTo c told links own base → Won told (base + bucket_slots) word (word + number)
-      → ComesTo c told (links + 1) true (overflow_place c.places number 0)
+      → 0 < number → number ≤ c.places.overflow → ComesTo c told (links + 1) true (overflow_place c.places number 0)
 
 -- a slot of such a bucket had this word
 pub record HasSlot (c : Trial) (told : Told) (place word : ℕ) : Type 0 where

@@ -1,6 +1,9 @@
 //! Where a try goes on by what the machines inside it ask.
 ghost use Rattle.std.specs.Prelude.{◌≡◌, Option};
-ghost use Rattle.fkv_ops.specs.Trying.{wants_shared, must_shift, is_prepare, is_above, shared_ledto, walk_ledto, walked, has_walked, met_nowhere, met_disk, met_record, region_met, changes, is_own_version, safe_loaded, current_ledto, value_changed, answer_ledto, told_value, exclusive_ledto, old_ledto, append_ledto, exclusive_dropped, shared_dropped};
+ghost use Rattle.fkv_ops.specs.Trying.{wants_shared, must_shift, is_prepare, is_above, shared_ledto, walk_ledto, walked, has_walked, met_nowhere, met_disk, met_record, region_met, changes, is_own_version, safe_loaded, current_ledto, value_changed, answer_ledto, told_value, exclusive_ledto, old_ledto, append_ledto, exclusive_dropped, shared_dropped, latch_moved, walk_moved};
+ghost use Rattle.fkv_ops.specs.Walking.{walk_ask, walk_next};
+ghost use Rattle.fkv_ops.specs.Appending.{append_ask, append_next};
+ghost use Rattle.fkv_latch.specs.Latching.{latch_next_ask};
 ghost use Rattle.fkv_map.specs.Keys.{as_number};
 
 use crate::answers::{Reason, TryAnswer};
@@ -25,10 +28,10 @@ impl Try {
 
     /// Where one holds the latch alone, that one is of the next version already.
     #[tactic(auto, unfolding(crate::specs::Trying::shared_ledto))]
-    pub(crate) fn after_shared(&mut self, ask: Ask<LatchAnswer>)
-        ensures { self.new ≡ record self.old { state = shared_ledto self.old.places self.old.state ask } }
+    pub(crate) fn after_shared(&mut self, reply: u64)
+        ensures { self.new ≡ record self.old { state = shared_ledto self.old.places (latch_moved self.old.state reply) (latch_next_ask self.old.state.latching reply) } }
     {
-        match ask {
+        match self.latch.drive(reply) {
             Ask::Done(LatchAnswer::Taken) => {
                 self.has_shared = true;
                 self.walks();
@@ -40,10 +43,10 @@ impl Try {
 
     /// Where the walk has ended.
     #[tactic(auto, unfolding(crate::specs::Trying::walk_ledto))]
-    pub(crate) fn after_walk(&mut self, ask: Ask<WalkAnswer>)
-        ensures { self.new ≡ record self.old { state = walk_ledto self.old.places self.old.state ask } }
+    pub(crate) fn after_walk(&mut self, reply: u64)
+        ensures { self.new ≡ record self.old { state = walk_ledto self.old.places (walk_moved self.old.places self.old.state reply) (walk_ask self.old.places (walk_next self.old.places self.old.state.walk reply)) } }
     {
-        if let Ask::Done(answer) = ask {
+        if let Ask::Done(answer) = self.walk.drive(reply) {
             self.spare = self.walk.spare();
             if has_walked(answer) && self.must_shift() {
                 self.ends(TryAnswer::Shift);
@@ -149,10 +152,10 @@ impl Try {
 
     /// The value that is changed in place is loaded.
     #[tactic(auto, unfolding(crate::specs::Trying::current_ledto))]
-    pub(crate) fn after_current(&mut self, addr: Addr, ask: Ask<WalkAnswer>)
-        ensures { self.new ≡ record self.old { state = current_ledto self.old.places self.old.state addr ask } }
+    pub(crate) fn after_current(&mut self, addr: Addr, reply: u64)
+        ensures { self.new ≡ record self.old { state = current_ledto self.old.places (walk_moved self.old.places self.old.state reply) addr (walk_ask self.old.places (walk_next self.old.places self.old.state.walk reply)) } }
     {
-        match ask {
+        match self.walk.drive(reply) {
             Ask::Done(WalkAnswer::Value(old)) => self.step = Trying::ChangesValue(addr, old),
             Ask::Done(_) => self.ends(TryAnswer::Wait(Reason::Contended)),
             _ => {}
@@ -172,10 +175,10 @@ impl Try {
 
     /// The value that a read is told is loaded.
     #[tactic(auto, unfolding(crate::specs::Trying::answer_ledto))]
-    pub(crate) fn after_answer(&mut self, ask: Ask<WalkAnswer>)
-        ensures { self.new ≡ record self.old { state = answer_ledto self.old.places self.old.state ask } }
+    pub(crate) fn after_answer(&mut self, reply: u64)
+        ensures { self.new ≡ record self.old { state = answer_ledto self.old.places (walk_moved self.old.places self.old.state reply) (walk_ask self.old.places (walk_next self.old.places self.old.state.walk reply)) } }
     {
-        match ask {
+        match self.walk.drive(reply) {
             Ask::Done(WalkAnswer::Value(word)) => self.ends(told_value(value_of_word(word))),
             Ask::Done(_) => self.ends(TryAnswer::Wait(Reason::Contended)),
             _ => {}
@@ -184,10 +187,10 @@ impl Try {
 
     /// The exclusive latch is held, or another session was quicker.
     #[tactic(auto, unfolding(crate::specs::Trying::exclusive_ledto))]
-    pub(crate) fn after_exclusive(&mut self, old: OldValue, ask: Ask<LatchAnswer>)
-        ensures { self.new ≡ record self.old { state = exclusive_ledto self.old.places self.old.state old ask } }
+    pub(crate) fn after_exclusive(&mut self, old: OldValue, reply: u64)
+        ensures { self.new ≡ record self.old { state = exclusive_ledto self.old.places (latch_moved self.old.state reply) old (latch_next_ask self.old.state.latching reply) } }
     {
-        match ask {
+        match self.latch.drive(reply) {
             Ask::Done(LatchAnswer::Taken) => {
                 self.has_exclusive = true;
                 self.copies_from(old);
@@ -199,10 +202,10 @@ impl Try {
 
     /// The value is loaded of which a copy is made.
     #[tactic(auto, unfolding(crate::specs::Trying::old_ledto))]
-    pub(crate) fn after_old(&mut self, ask: Ask<WalkAnswer>)
-        ensures { self.new ≡ record self.old { state = old_ledto self.old.places self.old.state ask } }
+    pub(crate) fn after_old(&mut self, reply: u64)
+        ensures { self.new ≡ record self.old { state = old_ledto self.old.places (walk_moved self.old.places self.old.state reply) (walk_ask self.old.places (walk_next self.old.places self.old.state.walk reply)) } }
     {
-        match ask {
+        match self.walk.drive(reply) {
             Ask::Done(WalkAnswer::Value(word)) => self.appends(word),
             Ask::Done(_) => self.ends(TryAnswer::Wait(Reason::Contended)),
             _ => {}
@@ -211,10 +214,10 @@ impl Try {
 
     /// The new record is published, or none could be.
     #[tactic(auto, unfolding(crate::specs::Trying::append_ledto))]
-    pub(crate) fn after_append(&mut self, told: Reply, ask: Ask<AppendAnswer>)
-        ensures { self.new ≡ record self.old { state = append_ledto self.old.places self.old.state told ask } }
+    pub(crate) fn after_append(&mut self, told: Reply, reply: u64)
+        ensures { self.new ≡ record self.old { state = append_ledto self.old.places (record self.old.state { append = append_next self.old.places self.old.room self.old.state.append reply }) told (append_ask self.old.places (append_next self.old.places self.old.room self.old.state.append reply)) } }
     {
-        match ask {
+        match self.append.drive(reply) {
             Ask::Done(AppendAnswer::Published) => self.takes_effect(told),
             Ask::Done(AppendAnswer::Full) => self.full(TryAnswer::LogFull),
             Ask::Done(AppendAnswer::NoRoom) => self.ends(TryAnswer::Wait(Reason::NoRoom)),
@@ -225,20 +228,20 @@ impl Try {
 
     /// The exclusive latch is dropped.
     #[tactic(auto, unfolding(crate::specs::Trying::exclusive_dropped))]
-    pub(crate) fn after_exclusive_drop(&mut self, answer: TryAnswer, ask: Ask<LatchAnswer>)
-        ensures { self.new ≡ record self.old { state = exclusive_dropped self.old.places self.old.state answer ask } }
+    pub(crate) fn after_exclusive_drop(&mut self, answer: TryAnswer, reply: u64)
+        ensures { self.new ≡ record self.old { state = exclusive_dropped self.old.places (latch_moved self.old.state reply) answer (latch_next_ask self.old.state.latching reply) } }
     {
-        if let Ask::Done(_) = ask {
+        if let Ask::Done(_) = self.latch.drive(reply) {
             self.ended_without(answer);
         }
     }
 
     /// The shared latch is dropped.
     #[tactic(auto, unfolding(crate::specs::Trying::shared_dropped))]
-    pub(crate) fn after_shared_drop(&mut self, answer: TryAnswer, ask: Ask<LatchAnswer>)
-        ensures { self.new ≡ record self.old { state = shared_dropped self.old.state answer ask } }
+    pub(crate) fn after_shared_drop(&mut self, answer: TryAnswer, reply: u64)
+        ensures { self.new ≡ record self.old { state = shared_dropped (latch_moved self.old.state reply) answer (latch_next_ask self.old.state.latching reply) } }
     {
-        if let Ask::Done(_) = ask {
+        if let Ask::Done(_) = self.latch.drive(reply) {
             self.step = Trying::Ended(answer);
         }
     }

@@ -2,7 +2,7 @@
 //! eight places of records, three words each, from 64 on.
 use crate::{
     Append, AppendAnswer, DiskRecord, FoundSlot, HeldRecord, Occasion, Reason, Request, Seen, Try,
-    TryAnswer, Walk, WalkAnswer, value_of_word, word_of_value,
+    TryAnswer, Walk, WalkAnswer, law_reasons, value_of_word, word_of_value,
 };
 use fkv_base::{Addr, Key, Phase, Shape, Value, Version};
 use fkv_index::Purpose;
@@ -732,5 +732,11 @@ fn appends_a_record(rt: HostRuntime) -> Result<(), Fail> {
     );
     assert_eq!(rt; word_of_value(value_of_word(11)), 11);
     assert_eq!(rt; value_of_word(word_of_value(None)), None);
+    Ok(())
+}
+
+#[test]
+fn calls_its_law(_rt: HostRuntime) -> Result<(), Fail> {
+    law_reasons();
     Ok(())
 }

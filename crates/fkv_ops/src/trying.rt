@@ -166,45 +166,18 @@ impl Try {
         self.effect = None;
         match self.step {
             Trying::Ended(_) => {}
-            Trying::TakesShared => {
-                let ask = self.latch.drive(reply);
-                self.after_shared(ask);
-            }
-            Trying::Walks => {
-                let ask = self.walk.drive(reply);
-                self.after_walk(ask);
-            }
+            Trying::TakesShared => self.after_shared(reply),
+            Trying::Walks => self.after_walk(reply),
             Trying::LoadsSafe(addr, version) => self.after_safe(addr, version, reply),
             Trying::SwapsValue(_) => self.takes_effect(self.request.op.reply_from(None)),
-            Trying::LoadsCurrent(addr) => {
-                let ask = self.walk.drive(reply);
-                self.after_current(addr, ask);
-            }
+            Trying::LoadsCurrent(addr) => self.after_current(addr, reply),
             Trying::ChangesValue(_, old) => self.after_change(old, reply),
-            Trying::LoadsAnswer => {
-                let ask = self.walk.drive(reply);
-                self.after_answer(ask);
-            }
-            Trying::TakesExclusive(old) => {
-                let ask = self.latch.drive(reply);
-                self.after_exclusive(old, ask);
-            }
-            Trying::LoadsOld => {
-                let ask = self.walk.drive(reply);
-                self.after_old(ask);
-            }
-            Trying::Appends(told) => {
-                let ask = self.append.drive(reply);
-                self.after_append(told, ask);
-            }
-            Trying::DropsExclusive(answer) => {
-                let ask = self.latch.drive(reply);
-                self.after_exclusive_drop(answer, ask);
-            }
-            Trying::DropsShared(answer) => {
-                let ask = self.latch.drive(reply);
-                self.after_shared_drop(answer, ask);
-            }
+            Trying::LoadsAnswer => self.after_answer(reply),
+            Trying::TakesExclusive(old) => self.after_exclusive(old, reply),
+            Trying::LoadsOld => self.after_old(reply),
+            Trying::Appends(told) => self.after_append(told, reply),
+            Trying::DropsExclusive(answer) => self.after_exclusive_drop(answer, reply),
+            Trying::DropsShared(answer) => self.after_shared_drop(answer, reply),
         }
         self.ask()
     }

@@ -1,5 +1,5 @@
 -- The try of an attempt is its request's own, and what it leaves is kept.
-use Rattle.std.proofs.Common.{◌≡◌, ℕ, List, [], ◌∷◌, arith, refl, sym, ap, subst, ◌∙◌, Bool, true, false}
+use Rattle.std.proofs.Common.{◌≡◌, ℕ, List, [], ◌∷◌, arith, refl, sym, ap, subst, ◌∙◌, inl, inr, Bool, true, false}
 use Rattle.std.specs.Prelude.{◌==◌, ◌&&◌, if◌then◌else◌, Option, Some, None}
 use Rattle.std.proofs.lemmas.Bool.Decides.{nat_tests}
 use Rattle.fkv_map.specs.Keys.{key_of}
@@ -29,7 +29,7 @@ use Rattle.fkv_pending.specs.declared.pending_requests.PendingRequest.{PendingRe
 use Rattle.fkv_pending.specs.Mailing.{mail_ask, mail_next}
 use Rattle.fkv_pending.specs.Pending.{with_sought, with_held, with_latch, with_asked}
 use Rattle.fkv_pending.specs.Attempting.{AttemptState, attempt_ended, waits_for_disk, puts_addr, puts, tries, is_poll, is_pending_read, goes_on, held_of, moved_on, read_on, record_taken, not_ready, look_ledto, held_kept, awaits_record, tried, try_ledto, put_ledto, mail_moved, try_moved, attempting_next, attempt_next}
-use Rattle.fkv_pending.specs.Attempts.{AttemptPast, look_told, try_told, address_told, put_told, attempt_told, attempt_run, attempt_past, AttemptGiven, begun_by, run_by, past_by, try_reply, try_replies, HoldsMail, HoldsSo, IsItsTry, TryStands, NotTried, UnderWay, HasEnded, IsSameRequest, HoldsFromEntry, IsTryKept}
+use Rattle.fkv_pending.specs.Attempts.{AttemptPast, look_told, try_told, address_told, put_told, attempt_told, attempt_run, attempt_past, AttemptGiven, begun_by, run_by, past_by, try_reply, try_replies, HoldsMail, HoldsSo, IsItsTry, TryStands, NotTried, UnderWay, HasEnded, IsSameRequest, HoldsFromEntry, IsTryKept, IsToBeTried, HoldsBehind, IsHeldKept, HeldKept}
 
 -- a read at a poll
 abbrev pub is_read_on : AttemptGiven → Bool
@@ -38,12 +38,18 @@ is_read_on c = is_poll c.occasion && is_read c.pending.request.op
 abbrev ReadsSo : AttemptGiven → List ℕ → Type 0
 ReadsSo c replies = c.occasion ≡ Poll → is_read c.pending.request.op ≡ true → replies ≡ []
 
+-- what is held: a read at a poll keeps what it held
+abbrev HeldAt : AttemptGiven → Bool → Option MailRecord → Option TryAnswer → Option HeldRecord → Type 0
+HeldAt c true taken tried held = held ≡ c.pending.request.held
+HeldAt c false taken tried held = HoldsBehind c.pending taken tried held
+
 -- behind the look of a read, or behind the try
 record IsBehind (c : AttemptGiven) (pending : PendingRequest) (spare : ℕ) (trial : TryState) (past : AttemptPast) (replies : List ℕ) : Type 0 where
   same : IsSameRequest c.pending pending
   stands : TryStands c pending.request.has_latch spare trial past.taken past.tried replies
   reads : ReadsSo c replies
   held : HoldsFromEntry past.tried pending.request.held
+  came : HeldAt c (is_read_on c) past.taken past.tried pending.request.held
 
 record IsLooking (c : AttemptGiven) (a : AttemptState) (past : AttemptPast) (replies : List ℕ) : Type 0 where
   request : a.pending ≡ c.pending
@@ -61,6 +67,7 @@ record IsTrying (c : AttemptGiven) (a : AttemptState) (past : AttemptPast) (repl
   latch : a.pending.request.has_latch ≡ c.pending.request.has_latch
   spare : a.spare ≡ c.spare
   no_read : is_read_on c ≡ false
+  came : HoldsSo c.pending past.taken a.pending.request.held
 
 abbrev KeptAt : AttemptGiven → AttemptState → AttemptPast → List ℕ → Attempting → Type 0
 KeptAt c a past replies (Ended its) = IsBehind c a.pending a.spare a.trial past replies
@@ -87,6 +94,9 @@ puts_addr_kept c a past replies (Some sought) its = its
 puts_kept : (c : AttemptGiven) (a : AttemptState) (past : AttemptPast) (replies : List ℕ) → IsBehind c a.pending a.spare a.trial past replies → Kept c (puts a) past replies
 puts_kept c a past replies its = puts_addr_kept c a past replies a.pending.sought its
 
+held_at : (c : AttemptGiven) (taken : Option MailRecord) (tried : Option TryAnswer) (held : Option HeldRecord) → is_read_on c ≡ false → HoldsBehind c.pending taken tried held → HeldAt c (is_read_on c) taken tried held
+held_at c taken tried held no_read behind = subst (λ (b : Bool). HeldAt c b taken tried held) (sym no_read) behind
+
 -- what an attempt has before its try
 record IsUntried (c : AttemptGiven) (a : AttemptState) (past : AttemptPast) : Type 0 where
   same : IsSameRequest c.pending a.pending
@@ -112,15 +122,20 @@ tries_kept c a past its other held = record {
   latch = its.latch;
   spare = its.spare;
   no_read = let occasion = its.occasion in let op = its.same.op in rw (sym occasion, sym op) other;
+  came = held;
 }
 
-untried_behind : (c : AttemptGiven) (a : AttemptState) (past : AttemptPast) → IsUntried c a past → IsBehind c a.pending a.spare a.trial past []
-untried_behind c a past its = record {
+untried_behind : (c : AttemptGiven) (a : AttemptState) (past : AttemptPast) → IsUntried c a past → is_pending_read a ≡ true → a.pending.request.held ≡ c.pending.request.held → IsBehind c a.pending a.spare a.trial past []
+untried_behind c a past its read had = record {
   same = its.same;
   stands = NotTried refl its.none_tried its.latch its.spare;
   reads = λ poll read. refl;
   held = λ sought e held is. let none = its.none_tried in cc;
+  came = subst (λ (b : Bool). HeldAt c b past.taken past.tried a.pending.request.held) (sym reads) had;
 }
+  where
+    reads : is_read_on c ≡ true
+    reads = let occasion = its.occasion in let op = its.same.op in rw (sym occasion, sym op) read
 
 -- nothing is told
 abbrev pub nothing : AttemptPast
@@ -136,7 +151,7 @@ begun_kept c before = tested c.pending.has_asked
     untried = record { same = record { name = refl; op = refl; version = refl }; seen = refl; occasion = refl; latch = refl; spare = refl; none_tried = refl }
 
     goes : (b : Bool) → is_pending_read its ≡ b → Kept c (if b then puts its else tries c.places c.bits its) nothing []
-    goes true e = puts_kept c its nothing [] (untried_behind c its nothing untried)
+    goes true e = puts_kept c its nothing [] (untried_behind c its nothing untried e refl)
     goes false e = tries_kept c its nothing untried e refl
 
     tested : (b : Bool) → Kept c (if b then record its { mailing = LoadsState Take; step = Looks } else goes_on c.places c.bits its) nothing []
@@ -158,7 +173,7 @@ read_on_kept c a past its (Says previous version) behind = tested (its.key.0 == 
     tested : (b e : Bool) → Kept c (if b then attempt_ended a (told_value (value_of its.value)) else if e then attempt_ended a answer.Absent else puts on) past []
     tested true e = behind
     tested false true = behind
-    tested false false = puts_kept c on past [] (record { same = same; stands = behind.stands; reads = behind.reads; held = behind.held })
+    tested false false = puts_kept c on past [] (record { same = same; stands = behind.stands; reads = behind.reads; held = behind.held; came = behind.came })
 
 holds_mail : (sought : Option DiskRecord) (its : MailRecord) (said : HeaderSaid) → HoldsMail sought its said (held_of sought its said)
 holds_mail None its said = refl
@@ -207,7 +222,7 @@ taken_kept c a past its looking = tested (is_pending_read b) refl
     holds = subst (λ (pending : PendingRequest). HoldsSo pending (Some its) held.pending.request.held) looking.request (holds_mail a.pending.sought its (header_said its.header))
 
     tested : (e : Bool) → is_pending_read b ≡ e → Kept c (if e then read_on b its (header_said its.header) else tries c.places c.bits held) then_past []
-    tested true e = read_on_kept c b then_past its (header_said its.header) (untried_behind c b then_past untried)
+    tested true e = read_on_kept c b then_past its (header_said its.header) (untried_behind c b then_past untried e (ap (λ (pending : PendingRequest). pending.request.held) looking.request))
     tested false e = tries_kept c held then_past held_untried e holds
 
 not_ready_kept : (c : AttemptGiven) (a : AttemptState) (past : AttemptPast) → IsLooking c a past [] → Kept c (not_ready c.places c.bits a) past []
@@ -231,7 +246,7 @@ not_ready_kept c a past looking = tested (is_pending_read a) refl
     holds = rw looking.none_taken (ap (λ (pending : PendingRequest). pending.request.held) looking.request)
 
     tested : (b : Bool) → is_pending_read a ≡ b → Kept c (if b then waits_for_disk a else tries c.places c.bits a) past []
-    tested true e = untried_behind c a past untried
+    tested true e = untried_behind c a past untried e (ap (λ (pending : PendingRequest). pending.request.held) looking.request)
     tested false e = tries_kept c a past untried e holds
 
 look_kept : (c : AttemptGiven) (a : AttemptState) (past : AttemptPast) (ask : Ask MailAnswer) → a.step ≡ Looks → IsLooking c a past [] → Kept c (look_ledto c.places c.bits a ask) (look_told ask past) []
@@ -250,9 +265,9 @@ kept_entry (Some held) entry its e = tested (held.entry == entry) refl e
     tested false same is = cc
 
 awaits_kept : (c : AttemptGiven) (a : AttemptState) (past : AttemptPast) (replies : List ℕ) (sought : DiskRecord) → past.tried ≡ Some (answer.AwaitsDisk sought) → IsSameRequest c.pending a.pending
-    → TryStands c a.pending.request.has_latch a.spare a.trial past.taken past.tried replies → ReadsSo c replies → Kept c (awaits_record a sought) past replies
+    → TryStands c a.pending.request.has_latch a.spare a.trial past.taken past.tried replies → is_read_on c ≡ false → HoldsSo c.pending past.taken a.pending.request.held → Kept c (awaits_record a sought) past replies
 unfolding with_held with_sought
-awaits_kept c a past replies sought is same stands reads = tested a.pending.has_asked
+awaits_kept c a past replies sought is same stands no_read holds = tested a.pending.has_asked
   where
     its : AttemptState
     its = record a { pending = with_held a.pending (held_kept a.pending.request.held sought.entry) }
@@ -260,28 +275,47 @@ awaits_kept c a past replies sought is same stands reads = tested a.pending.has_
     held : HoldsFromEntry past.tried (held_kept a.pending.request.held sought.entry)
     held = λ other e its was. let one : sought ≡ other = cc in subst (λ (it : DiskRecord). its.entry ≡ it.entry) one (kept_entry a.pending.request.held sought.entry its was)
 
+    came : HeldAt c (is_read_on c) past.taken past.tried (held_kept a.pending.request.held sought.entry)
+    came = held_at c past.taken past.tried (held_kept a.pending.request.held sought.entry) no_read
+        (subst (λ (its : Option TryAnswer). HoldsBehind c.pending past.taken its (held_kept a.pending.request.held sought.entry)) (sym is) (record { had = a.pending.request.held; came = holds; its_held = refl }))
+
+    reads : ReadsSo c replies
+    reads = reads_no c replies no_read
+
     tested : (b : Bool) → Kept c (if b then waits_for_disk its else puts (record its { pending = with_sought its.pending (Some sought) })) past replies
-    tested true = record { same = record { name = same.name; op = same.op; version = same.version }; stands = stands; reads = reads; held = held }
+    tested true = record { same = record { name = same.name; op = same.op; version = same.version }; stands = stands; reads = reads; held = held; came = came }
     tested false = puts_kept c (record its { pending = with_sought its.pending (Some sought) }) past replies
-        (record { same = record { name = same.name; op = same.op; version = same.version }; stands = stands; reads = reads; held = held })
+        (record { same = record { name = same.name; op = same.op; version = same.version }; stands = stands; reads = reads; held = held; came = came })
+
+-- a try that has ended otherwise
+ended_kept : (c : AttemptGiven) (a : AttemptState) (past : AttemptPast) (replies : List ℕ) (its : TryAnswer) → past.tried ≡ Some its → IsSameRequest c.pending a.pending
+    → TryStands c a.pending.request.has_latch a.spare a.trial past.taken past.tried replies → is_read_on c ≡ false → HoldsSo c.pending past.taken a.pending.request.held
+    → HoldsBehind c.pending past.taken (Some its) a.pending.request.held → ((sought : DiskRecord) → its ≡ answer.AwaitsDisk sought → ⊥) → IsBehind c a.pending a.spare a.trial past replies
+ended_kept c a past replies its is same stands no_read holds behind none = record {
+  same = same;
+  stands = stands;
+  reads = reads_no c replies no_read;
+  held = λ sought e held was. absurd (none sought (let one : its ≡ answer.AwaitsDisk sought = cc in one));
+  came = held_at c past.taken past.tried a.pending.request.held no_read (subst (λ (it : Option TryAnswer). HoldsBehind c.pending past.taken it a.pending.request.held) (sym is) behind);
+}
 
 tried_kept : (c : AttemptGiven) (a : AttemptState) (past : AttemptPast) (replies : List ℕ) (its : TryAnswer) → past.tried ≡ Some its → IsSameRequest c.pending a.pending
-    → TryStands c a.pending.request.has_latch a.spare a.trial past.taken past.tried replies → ReadsSo c replies → Kept c (tried a its) past replies
-tried_kept c a past replies (answer.AwaitsDisk sought) is same stands reads = awaits_kept c a past replies sought is same stands reads
-tried_kept c a past replies (answer.Wait why) is same stands reads = record { same = same; stands = stands; reads = reads; held = λ sought e held was. cc }
-tried_kept c a past replies (answer.Done its) is same stands reads = record { same = same; stands = stands; reads = reads; held = λ sought e held was. cc }
-tried_kept c a past replies (answer.Found its) is same stands reads = record { same = same; stands = stands; reads = reads; held = λ sought e held was. cc }
-tried_kept c a past replies answer.Absent is same stands reads = record { same = same; stands = stands; reads = reads; held = λ sought e held was. cc }
-tried_kept c a past replies answer.Shift is same stands reads = record { same = same; stands = stands; reads = reads; held = λ sought e held was. cc }
-tried_kept c a past replies answer.IndexFull is same stands reads = record { same = same; stands = stands; reads = reads; held = λ sought e held was. cc }
-tried_kept c a past replies answer.LogFull is same stands reads = record { same = same; stands = stands; reads = reads; held = λ sought e held was. cc }
+    → TryStands c a.pending.request.has_latch a.spare a.trial past.taken past.tried replies → is_read_on c ≡ false → HoldsSo c.pending past.taken a.pending.request.held → Kept c (tried a its) past replies
+tried_kept c a past replies (answer.AwaitsDisk sought) is same stands no_read holds = awaits_kept c a past replies sought is same stands no_read holds
+tried_kept c a past replies (answer.Wait why) is same stands no_read holds = ended_kept c a past replies (answer.Wait why) is same stands no_read holds holds (λ sought e. cc)
+tried_kept c a past replies (answer.Done its) is same stands no_read holds = ended_kept c a past replies (answer.Done its) is same stands no_read holds holds (λ sought e. cc)
+tried_kept c a past replies (answer.Found its) is same stands no_read holds = ended_kept c a past replies (answer.Found its) is same stands no_read holds holds (λ sought e. cc)
+tried_kept c a past replies answer.Absent is same stands no_read holds = ended_kept c a past replies answer.Absent is same stands no_read holds holds (λ sought e. cc)
+tried_kept c a past replies answer.Shift is same stands no_read holds = ended_kept c a past replies answer.Shift is same stands no_read holds holds (λ sought e. cc)
+tried_kept c a past replies answer.IndexFull is same stands no_read holds = ended_kept c a past replies answer.IndexFull is same stands no_read holds holds (λ sought e. cc)
+tried_kept c a past replies answer.LogFull is same stands no_read holds = ended_kept c a past replies answer.LogFull is same stands no_read holds holds (λ sought e. cc)
 
 try_kept : (c : AttemptGiven) (a : AttemptState) (past : AttemptPast) (replies : List ℕ) (ask : Ask TryAnswer) → a.step ≡ Tries → try_ask c.places a.trial ≡ ask → IsTrying c a past replies
     → Kept c (try_ledto a ask) (try_told ask past) replies
 unfolding try_ledto with_latch
 try_kept c a past replies (Done its) at e trying =
     tried_kept c (record a { spare = a.trial.spare; pending = with_latch a.pending a.trial.has_shared }) (record past { tried = Some its }) replies its refl
-    (record { name = trying.same.name; op = trying.same.op; version = trying.same.version }) (HasEnded its trying.its_try e refl refl refl) (reads_no c replies trying.no_read)
+    (record { name = trying.same.name; op = trying.same.op; version = trying.same.version }) (HasEnded its trying.its_try e refl refl refl) trying.no_read trying.came
 try_kept c a past replies ask at e trying = subst (λ (step : Attempting). KeptAt c a past replies step) (sym at) trying
 
 moved_try : (c : AttemptGiven) (a : AttemptState) (past : AttemptPast) (replies : List ℕ) (reply : ℕ) → IsTrying c a past replies → IsTrying c (try_moved c.places c.room a reply) past (reply ∷ replies)
@@ -300,6 +334,7 @@ moved_try c a past replies reply its = record {
   latch = its.latch;
   spare = its.spare;
   no_read = its.no_read;
+  came = its.came;
 }
 
 -- the put
@@ -318,13 +353,13 @@ address_same session ask past = (refl, refl)
 put_kept : (c : AttemptGiven) (a : AttemptState) (past : AttemptPast) (replies : List ℕ) (ask : Ask MailAnswer) → a.step ≡ Puts → IsBehind c a.pending a.spare a.trial past replies → Kept c (put_ledto a ask) past replies
 unfolding put_ledto with_asked
 put_kept c a past replies (Done mail.Asked) at its =
-    record { same = record { name = its.same.name; op = its.same.op; version = its.same.version }; stands = its.stands; reads = its.reads; held = its.held }
+    record { same = record { name = its.same.name; op = its.same.op; version = its.same.version }; stands = its.stands; reads = its.reads; held = its.held; came = its.came }
 put_kept c a past replies (Done other) at its = its
 put_kept c a past replies ask at its = subst (λ (step : Attempting). KeptAt c a past replies step) (sym at) its
 
 other_past : (c : AttemptGiven) (pending : PendingRequest) (spare : ℕ) (trial : TryState) (past then_past : AttemptPast) (replies : List ℕ) → then_past.taken ≡ past.taken → then_past.tried ≡ past.tried
     → IsBehind c pending spare trial past replies → IsBehind c pending spare trial then_past replies
-other_past c pending spare trial past then_past replies taken tried its = record { same = its.same; stands = rw (taken, tried) its.stands; reads = its.reads; held = rw tried its.held }
+other_past c pending spare trial past then_past replies taken tried its = record { same = its.same; stands = rw (taken, tried) its.stands; reads = its.reads; held = rw tried its.held; came = rw (taken, tried) its.came }
 
 -- each reply
 next_kept : (c : AttemptGiven) (a : AttemptState) (past : AttemptPast) (replies : List ℕ) (step : Attempting) (reply : ℕ) → a.step ≡ step → KeptAt c a past replies step
@@ -348,7 +383,7 @@ next_kept c a past replies Puts reply at kept =
 effect_kept : (c : AttemptGiven) (a : AttemptState) (past : AttemptPast) (replies : List ℕ) (step : Attempting) → KeptAt c a past replies step → KeptAt c (record a { effect = None }) past replies step
 effect_kept c a past replies (Ended its) kept = kept
 effect_kept c a past replies Looks kept = record { request = kept.request; seen = kept.seen; occasion = kept.occasion; spare = kept.spare; none_taken = kept.none_taken; none_tried = kept.none_tried; none_met = kept.none_met }
-effect_kept c a past replies Tries kept = record { same = kept.same; its_try = kept.its_try; none_tried = kept.none_tried; latch = kept.latch; spare = kept.spare; no_read = kept.no_read }
+effect_kept c a past replies Tries kept = record { same = kept.same; its_try = kept.its_try; none_tried = kept.none_tried; latch = kept.latch; spare = kept.spare; no_read = kept.no_read; came = kept.came }
 effect_kept c a past replies Puts kept = kept
 
 pub same_told : (c : AttemptGiven) (a : AttemptState) (step : Attempting) (reply : ℕ) (past : AttemptPast)
@@ -390,3 +425,35 @@ kept_so c a past replies Puts kept = record { same = kept.same; stands = kept.st
 
 pub tries_are_kept : (c : AttemptGiven) (before : AttemptState) (replies : List ℕ) → IsTryKept c (run_by c before replies) (past_by c before replies) (try_replies c before replies)
 tries_are_kept c before replies = kept_so c (run_by c before replies) (past_by c before replies) (try_replies c before replies) (run_by c before replies).step (run_kept c before replies)
+
+is_tried : (c : AttemptGiven) → IsToBeTried c → is_read_on c ≡ false
+is_tried c (inl call) = rw call refl
+is_tried c (inr update) = rw update (none (is_poll c.occasion))
+  where
+    none : (b : Bool) → (b && false) ≡ false
+    none true = refl
+    none false = refl
+
+is_read_then : (c : AttemptGiven) → c.occasion ≡ Poll → is_read c.pending.request.op ≡ true → is_read_on c ≡ true
+is_read_then c poll read = rw (poll, read) refl
+
+at_held : (c : AttemptGiven) (past : AttemptPast) (held : Option HeldRecord) → HeldAt c (is_read_on c) past.taken past.tried held → IsHeldKept c past held
+at_held c past held came = record {
+  read = λ poll read. subst (λ (b : Bool). HeldAt c b past.taken past.tried held) (is_read_then c poll read) came;
+  other = λ its. subst (λ (b : Bool). HeldAt c b past.taken past.tried held) (is_tried c its) came;
+}
+
+held_so : (c : AttemptGiven) (a : AttemptState) (past : AttemptPast) (replies : List ℕ) (step : Attempting) → KeptAt c a past replies step → IsHeldKept c past a.pending.request.held
+held_so c a past replies (Ended its) kept = at_held c past a.pending.request.held kept.came
+held_so c a past replies Looks kept = record { read = λ poll read. same; other = λ its. rw (kept.none_tried, kept.none_taken) same }
+  where
+    same : a.pending.request.held ≡ c.pending.request.held
+    same = ap (λ (pending : PendingRequest). pending.request.held) kept.request
+held_so c a past replies Tries kept = record {
+  read = λ poll read. absurd (never (sym (is_read_then c poll read) ∙ kept.no_read));
+  other = λ its. rw kept.none_tried kept.came;
+}
+held_so c a past replies Puts kept = at_held c past a.pending.request.held kept.came
+
+pub held_is_kept : HeldKept
+held_is_kept c before replies = held_so c (run_by c before replies) (past_by c before replies) (try_replies c before replies) (run_by c before replies).step (run_kept c before replies)

@@ -4,6 +4,7 @@ pub mod AttemptEffects
 pub mod AttemptPuts
 pub mod AttemptRests
 pub mod AttemptRuns
+pub mod AttemptSpares
 pub mod AttemptTries
 pub mod Boxes
 pub mod MailAsks

@@ -1,5 +1,5 @@
 -- What comes of an attempt, over every list of replies.
-use Rattle.std.specs.Prelude.{◌≡◌, ◌≢◌, ◌⊎◌, ℕ, ◌^◌, ◌==◌, ◌&&◌, ◌||◌, if◌then◌else◌, Bool, true, false, List, [], ◌∷◌, Option, Some, None, ⊤}
+use Rattle.std.specs.Prelude.{◌≡◌, ◌≢◌, ◌⊎◌, ℕ, ◌^◌, ◌≤◌, ◌==◌, ◌&&◌, ◌||◌, if◌then◌else◌, Bool, true, false, List, [], ◌∷◌, Option, Some, None, ⊤}
 use Rattle.fkv_base.specs.declared.numbers.Addr.{Addr}
 use Rattle.fkv_base.specs.declared.numbers.Version.{Version}
 use Rattle.fkv_map.specs.declared.operations.Reply.{Reply}
@@ -24,7 +24,8 @@ use Rattle.fkv_ops.specs.HeaderWords.{header_said}
 use Rattle.fkv_ops.specs.Requests.{is_read}
 use Rattle.fkv_ops.specs.Values.{value_of}
 use Rattle.fkv_ops.specs.Trying.{TryState, try_ask, try_next}
-use Rattle.fkv_ops.specs.TryRun.{Trial, try_run, trial_begun}
+use Rattle.fkv_ops.specs.TryRun.{Trial, try_run, trial_begun, Exchange}
+use Rattle.fkv_ops.specs.Spares.{spare_told}
 use Rattle.fkv_pending.specs.declared.attempting.Attempting.{Attempting}
 use Rattle.fkv_pending.specs.declared.attempting.Attempting.TheVariants.{Ended, Looks, Tries, Puts}
 use Rattle.fkv_pending.specs.declared.mailing.MailAnswer.{MailAnswer}
@@ -32,7 +33,7 @@ use Rattle.fkv_pending.specs.declared.mailing.MailAnswer.TheVariants as mail
 use Rattle.fkv_pending.specs.declared.mailing.MailRecord.{MailRecord}
 use Rattle.fkv_pending.specs.declared.pending_requests.PendingRequest.{PendingRequest}
 use Rattle.fkv_pending.specs.Mailing.{mail_empty, mail_ask, mail_next}
-use Rattle.fkv_pending.specs.Attempting.{AttemptState, attempt_ask, attempt_begun, attempt_next}
+use Rattle.fkv_pending.specs.Attempting.{AttemptState, attempt_ask, attempt_begun, attempt_next, held_kept}
 
 -- What the run of an attempt has told so far.
 pub record AttemptPast : Type 0 where
@@ -317,3 +318,39 @@ pub data IsFree (met : Option ℕ) (taken : Option MailRecord) : Type 0 where
 
 abbrev pub PutsWhereFree : Type 0
 PutsWhereFree = (c : AttemptGiven) (before : AttemptState) (replies : List ℕ) (word : ℕ) → (past_by c before replies).address ≡ Some word → IsFree (met_state c before replies) (past_by c before replies).taken
+
+-- What is left of a record that the request had when its try came to await one: it stays where it was read from the entry of that one, and
+-- goes where it was read from another.
+pub record HoldsOfEntry (first : PendingRequest) (taken : Option MailRecord) (entry : ℕ) (held : Option HeldRecord) : Type 0 where
+  pub had : Option HeldRecord
+  pub came : HoldsSo first taken had
+  pub its_held : held ≡ held_kept had entry
+
+-- However else its try ends, and as long as it has not ended, the record that was taken stays, or what was held where none was.
+abbrev pub HoldsBehind : PendingRequest → Option MailRecord → Option TryAnswer → Option HeldRecord → Type 0
+HoldsBehind first taken (Some (answer.AwaitsDisk sought)) held = HoldsOfEntry first taken sought.entry held
+HoldsBehind first taken tried held = HoldsSo first taken held
+
+-- What a request holds, at each moment. A read at a poll holds what it held.
+pub record IsHeldKept (c : AttemptGiven) (past : AttemptPast) (held : Option HeldRecord) : Type 0 where
+  pub read : c.occasion ≡ Poll → is_read c.pending.request.op ≡ true → held ≡ c.pending.request.held
+  pub other : IsToBeTried c → HoldsBehind c.pending past.taken past.tried held
+
+abbrev pub HeldKept : Type 0
+HeldKept = (c : AttemptGiven) (before : AttemptState) (replies : List ℕ) → IsHeldKept c (past_by c before replies) (run_by c before replies).pending.request.held
+
+-- what an attempt has asked, each with its reply, the newest first
+abbrev pub attempt_exchanges : AttemptGiven → AttemptState → List ℕ → List Exchange
+attempt_exchanges c before [] = []
+attempt_exchanges c before (reply ∷ others) = record { ask = attempt_ask c.places c.session (run_by c before others); reply = reply } ∷ attempt_exchanges c before others
+
+-- The session's spare bucket: as it was given up to the end of the try, and from there on the one that all asks of the attempt tell. It is
+-- an overflow bucket that there is, or 0.
+pub record IsSpareKept (c : AttemptGiven) (past : AttemptPast) (spare told : ℕ) : Type 0 where
+  pub given : past.tried ≡ None → spare ≡ c.spare
+  pub its_asks : (its : TryAnswer) → past.tried ≡ Some its → spare ≡ told
+  pub few : spare ≤ c.places.overflow
+
+abbrev pub SpareKept : Type 0
+SpareKept = (c : AttemptGiven) (before : AttemptState) (replies : List ℕ) → c.spare ≤ c.places.overflow
+    → IsSpareKept c (past_by c before replies) (run_by c before replies).spare (spare_told c.places c.spare (attempt_exchanges c before replies))

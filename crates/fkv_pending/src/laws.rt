@@ -1,5 +1,5 @@
 //! What goes through a mailbox, over every list of events.
-ghost use Rattle.fkv_pending.specs.Attempts.{AnswersSo, AttemptsTrue, EffectsTold, PutsWhereFree, TriesKept};
+ghost use Rattle.fkv_pending.specs.Attempts.{AnswersSo, AttemptsTrue, EffectsTold, HeldKept, PutsWhereFree, SpareKept, TriesKept};
 ghost use Rattle.fkv_pending.specs.Mailbox.{AtEachMoment, NotesInTurn, ChangesAreKept, OthersStay, AnswersTrue, RestsBetweenTasks};
 
 /// Whatever the order of the steps of a session that begins tasks with its mailbox, one after another, and of a keeper who serves
@@ -25,10 +25,14 @@ pub fn law_mailbox()
 /// A read at a poll is answered by the record that was taken, where that has its key or is the last of its chain, and else it waits and
 /// seeks the record before. Any other request is answered what its try has come to, and seeks the record that its try awaits, but where
 /// its mail is under way. An address is stored only where the attempt has found the mailbox empty, or has emptied it by taking a record.
+/// A record that is held stays, but where the try awaits one and it was read from another entry than that: then it goes. The spare
+/// bucket that the attempt leaves is the one that its asks tell.
 pub fn law_attempts()
     ensures mail { AttemptsTrue }
     ensures effects { EffectsTold }
     ensures tries { TriesKept }
     ensures answers { AnswersSo }
     ensures puts { PutsWhereFree }
+    ensures held { HeldKept }
+    ensures spare { SpareKept }
 {}

@@ -1,4 +1,9 @@
+mod ManifestApart
+mod ManifestBytes
+mod ManifestSections
 mod PointApart
+mod PointPlaces
+mod RangePlaces
 mod RecordApart
 mod ShapeApart
 mod SlotApart

@@ -1,5 +1,5 @@
 -- Points and their numbers.
-use Rattle.std.proofs.Common.{◌≡◌, ℕ, zero, suc, ◌+◌, ◌-◌, ◌<◌, ◌≤◌, List, [], ◌∷◌, ◌++◌, length, All, take, drop, replicate, get_or, set, Some, None, refl, sym, ap, ◌∙◌, arith}
+use Rattle.std.proofs.Common.{◌≡◌, ℕ, zero, suc, ◌+◌, ◌-◌, ◌<◌, ◌≤◌, List, [], ◌∷◌, ◌++◌, length, All, take, drop, replicate, get_or, set, Some, refl, sym, ap, ◌∙◌, arith}
 use Rattle.std.proofs.Math.Bridge.{le_prop}
 use Rattle.std.proofs.lemmas.List.{take_at, drop_at, take-append-drop, length-append, length-replicate, length-map, length-take-le, append_assoc, map-append}
 use Rattle.std.proofs.Math.Seq.{take-suc, set-append_seam}
@@ -14,7 +14,7 @@ use Rattle.fkv_record.specs.Points.{serial_numbers}
 use Rattle.fkv_record.proofs.Spelling.{AreWords, words_append}
 
 -- how many points there are, the points, and zeros
-point_parts : (x : Points) → point_numbers x ≡ length x.serials.items ∷ (serial_numbers x.serials.items ++ replicate (57 - length x.serials.items) 0)
+pub point_parts : (x : Points) → point_numbers x ≡ length x.serials.items ∷ (serial_numbers x.serials.items ++ replicate (57 - length x.serials.items) 0)
 unfolding point_numbers
 point_parts x =
     let left : 58 - suc (length (serial_numbers x.serials.items)) ≡ 57 - length x.serials.items = omega (arith, length-map {A = Serial} {B = ℕ} x.serials.items (λ s. s.0)) in
@@ -45,7 +45,7 @@ filled x sessions places f =
     let whole : serial_numbers x.serials.items ++ replicate (57 - length x.serials.items) 0 ≡ places = rw (count, ← f.used, ← f.unused) (take-append-drop sessions places) in
     cc
 
-serials_apart : (xs ys : List Serial) → serial_numbers xs ≡ serial_numbers ys → xs ≡ ys
+pub serials_apart : (xs ys : List Serial) → serial_numbers xs ≡ serial_numbers ys → xs ≡ ys
 serials_apart [] [] e = refl
 serials_apart [] (y ∷ ys) e = let never : ⊥ = cc in absurd never
 serials_apart (x ∷ xs) [] e = let never : ⊥ = cc in absurd never
@@ -56,7 +56,7 @@ serials_apart (x ∷ xs) (y ∷ ys) e =
     let others = serials_apart xs ys tails in
     cc
 
-points_same : (x y : Points) → x.serials.items ≡ y.serials.items → x ≡ y
+pub points_same : (x y : Points) → x.serials.items ≡ y.serials.items → x ≡ y
 points_same x y e =
     same_made {A = List Serial} {P = λ p. (0 < length p) × (length p ≤ max_sessions) × All (λ s. s.0 ≤ last_serial) p}
     (λ p h. record { serials = record { items = p }; some_session = h.0; few_sessions = h.1; serials_fit = h.2 })
@@ -72,23 +72,19 @@ points_apart x y e =
 pub points_read : (x : Points) (sessions : ℕ) (places : List ℕ) → Fills x sessions places → Reads point_numbers (sessions ∷ places) (Some x)
 points_read x sessions places f = reads_made point_numbers points_apart x (sessions ∷ places) (filled x sessions places f)
 
-pub points_none : (sessions : ℕ) (places : List ℕ) → ((x : Points) → Fills x sessions places → ⊥) → Reads point_numbers (sessions ∷ places) None
-points_none sessions places none x =
-    (λ s. let never : ⊥ = cc in absurd never, λ e. absurd (none x (fills x sessions places e)))
-
 -- the numbers of serials that fit do
 pub numbers_fit : (xs : List Serial) → All (λ s. s.0 ≤ last_serial) xs → All (λ n. n ≤ last_serial) (serial_numbers xs)
 numbers_fit [] fits k d lt = absurd (omega arith)
 numbers_fit (x ∷ xs) fits zero d lt = fits zero (record { 0 = d }) (omega arith)
 numbers_fit (x ∷ xs) fits (suc k) d lt = numbers_fit xs (λ j e j-lt. fits (suc j) e (omega arith)) k d (omega arith)
 
-serial_words : (xs : List Serial) → All (λ s. s.0 ≤ last_serial) xs → AreWords (serial_numbers xs)
+pub serial_words : (xs : List Serial) → All (λ s. s.0 ≤ last_serial) xs → AreWords (serial_numbers xs)
 serial_words [] fits = tt
 serial_words (x ∷ xs) fits =
     let first : x.0 ≤ last_serial = fits zero x (omega arith) in
     (omega arith, serial_words xs (λ j e j-lt. fits (suc j) e (omega arith)))
 
-zero_words : (n : ℕ) → AreWords (replicate n 0)
+pub zero_words : (n : ℕ) → AreWords (replicate n 0)
 zero_words zero = tt
 zero_words (suc n) = (omega arith, zero_words n)
 

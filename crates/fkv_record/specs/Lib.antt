@@ -1,4 +1,9 @@
+pub mod FirstFormat
+pub mod Formats
 pub mod Layout
+pub mod Lost
+pub mod Manifest
 pub mod Numbers
 pub mod Places
 pub mod Points
+pub mod Sections

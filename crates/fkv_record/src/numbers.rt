@@ -1,5 +1,5 @@
 //! Numbers of eight bytes, the lowest first.
-ghost use Rattle.std.specs.Prelude.{◌≡◌, ℕ, ◌+◌, ◌*◌, ◌^◌, ◌<◌, ◌≤◌, ◌++◌, length, slice_index, take, drop};
+ghost use Rattle.std.specs.Prelude.{◌≡◌, ℕ, ◌+◌, ◌*◌, ◌^◌, ◌<◌, ◌≤◌, ◌++◌, ◌↔◌, IsTrue, length, replicate, slice_index, take, drop};
 ghost use Rattle.std.specs.Int.{w64, to_le_bytes};
 ghost use Rattle.fkv_record.specs.Numbers.{spelled};
 ghost use Rattle.fkv_record.specs.Places.{number_at};
@@ -33,6 +33,13 @@ pub(crate) fn numbers<const N: usize>(bytes: &[u8]) -> [u64; N]
         numbers[i] = number_at(bytes, 8 * i);
     }
     numbers
+}
+
+/// Whether no number stands in the places.
+pub(crate) fn are_zero(places: &[u64]) -> bool
+    ensures { IsTrue result ↔ (places.now ≡ replicate (length places.now) 0) }
+{
+    places.iter().all(|place| *place == 0)
 }
 
 /// Writes a number at a place.

@@ -1,20 +1,21 @@
 //! Points as numbers.
-ghost use Rattle.std.specs.Prelude.{◌≡◌, ◌∷◌, ◌≤◌, ◌↔◌, All, length, replicate, IsTrue, IfSome, IfNone};
+ghost use Rattle.std.specs.Prelude.{◌≡◌, ◌∷◌, ◌≤◌, All, length, replicate, IfSome, IfNone};
 ghost use Rattle.fkv_base.specs.Limits.{max_sessions, last_serial};
 ghost use Rattle.fkv_words.specs.Fields.{Reads};
 ghost use Rattle.fkv_record.specs.Layout.{point_numbers};
 ghost use Rattle.fkv_record.specs.Points.{serial_numbers};
+ghost use Rattle.fkv_record.specs.Sections.{points_in};
 
+use crate::numbers::are_zero;
 use crate::points::{MAX_POINTS, Points};
 use arrayvec::ArrayVec;
 use fkv_base::{MAX_SESSIONS, Serial};
 
-/// The points that stand in the places, if there are so many, and zeros after them.
+/// The points that stand in so many places, if there are as many as are said, and zeros after them.
 pub(crate) fn points_of(sessions: u64, places: &[u64]) -> Option<Points>
-    requires { length places.now ≡ 57 }
-    ensures { Reads point_numbers (sessions ∷ places.now) result }
+    ensures { Reads (points_in (length places.now)) (sessions ∷ places.now) result }
 {
-    if sessions == 0 || sessions > MAX_SESSIONS {
+    if sessions == 0 || sessions > MAX_SESSIONS || sessions > places.len() as u64 {
         return None;
     }
     let (used, unused) = places.split_at(sessions as usize);
@@ -23,13 +24,6 @@ pub(crate) fn points_of(sessions: u64, places: &[u64]) -> Option<Points>
     }
     let serials = serials_of(used)?;
     Some(Points { serials })
-}
-
-/// Whether no place is used.
-fn are_zero(places: &[u64]) -> bool
-    ensures { IsTrue result ↔ (places.now ≡ replicate (length places.now) 0) }
-{
-    places.iter().all(|place| *place == 0)
 }
 
 /// The serials with the numbers, if all of them are serials.

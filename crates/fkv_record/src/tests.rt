@@ -12,7 +12,7 @@ type Numbers<'a> = &'a [(usize, u64)];
 /// Asserts that the numbers stand at their places.
 fn assert_numbers(rt: &impl Abort, bytes: &[u8], numbers: Numbers<'_>) {
     for (at, number) in numbers {
-        assert!(rt; *at < 504 && *at + 8 <= bytes.len());
+        assert!(rt; *at <= 504 && *at + 8 <= bytes.len());
         assert_eq!(rt; LittleEndian::read_u64(&bytes[*at..]), *number);
     }
 }
@@ -175,6 +175,162 @@ fn what_is_no_slot_is_refused(rt: HostRuntime) {
         LittleEndian::write_u64(&mut other[at..], number);
         assert_eq!(rt; read_slot(&other), None);
     }
+}
+
+/// 512 bytes with these numbers at their places, and zeros elsewhere.
+fn bytes_with(rt: &impl Abort, numbers: Numbers<'_>) -> [u8; 512] {
+    let mut bytes = [0; 512];
+    for (at, number) in numbers {
+        assert!(rt; *at <= 504);
+        LittleEndian::write_u64(&mut bytes[*at..], *number);
+    }
+    bytes
+}
+
+/// The bytes with another number at a place.
+fn changed(rt: &impl Abort, bytes: &[u8; 512], at: usize, number: u64) -> [u8; 512] {
+    assert!(rt; at <= 504);
+    let mut other = *bytes;
+    LittleEndian::write_u64(&mut other[at..], number);
+    other
+}
+
+/// Asserts that eight points are read, and nine are no slot.
+fn assert_eight_points(rt: &impl Abort, bytes: &[u8; 512]) {
+    let eight = read_manifest_slot(&changed(rt, bytes, 48, 8));
+    assert_eq!(rt; eight.map(|(_, slot)| slot.points.serials.len()), Some(8));
+    assert_eq!(rt; read_manifest_slot(&changed(rt, bytes, 48, 9)), None);
+}
+
+/// The slot of a second commit that uses the first one's checkpoint, with a range of records that were lost between them.
+fn sample_manifest() -> ManifestSlot {
+    let mut serials = ArrayVec::new();
+    serials.push(Serial(3));
+    let mut ranges = ArrayVec::new();
+    ranges.push(LostRange {
+        to: Addr(5),
+        version: Version(2),
+    });
+    ManifestSlot {
+        number: 2,
+        first: Addr(3),
+        end: Addr(6),
+        triples: 1,
+        area: 1,
+        points: Points { serials },
+        checkpoint: 1,
+        lost: LostRanges { ranges },
+    }
+}
+
+/// What every format has of it.
+const FRONT: [(usize, u64); 8] = [
+    (0, 0xa5),
+    (8, 2),
+    (16, 3),
+    (24, 6),
+    (32, 1),
+    (40, 1),
+    (48, 1),
+    (56, 3),
+];
+
+/// Those numbers and five more.
+fn with_front(more: [(usize, u64); 5]) -> [(usize, u64); 13] {
+    let mut numbers = [(0, 0); 13];
+    numbers[..8].copy_from_slice(&FRONT);
+    numbers[8..].copy_from_slice(&more);
+    numbers
+}
+
+#[test]
+fn a_slot_of_the_third_format_has_its_bytes(rt: HostRuntime) {
+    let slot = sample_manifest();
+    let numbers = with_front([(312, 1), (320, 1), (328, 5), (336, 2), (504, 3)]);
+    let bytes = bytes_with(&rt, &numbers);
+    assert_eq!(rt; write_newest_slot(&slot), bytes);
+    assert_eq!(rt; write_manifest_slot(&slot, Format::Third), Some(bytes));
+    assert_eq!(rt; read_manifest_slot(&bytes), Some((Format::Third, slot)));
+}
+
+#[test]
+fn a_slot_of_the_second_format_has_its_bytes(rt: HostRuntime) {
+    let slot = sample_manifest();
+    let numbers = with_front([(120, 1), (128, 1), (136, 5), (144, 2), (504, 2)]);
+    let bytes = bytes_with(&rt, &numbers);
+    assert_eq!(rt; write_manifest_slot(&slot, Format::Second), Some(bytes));
+    // The first format has no place for another commit's checkpoint, nor for a range.
+    assert_eq!(rt; write_manifest_slot(&slot, Format::First), None);
+    assert_eq!(rt; read_manifest_slot(&bytes), Some((Format::Second, slot)));
+}
+
+#[test]
+fn a_slot_of_the_first_format_is_its_own_checkpoint(rt: HostRuntime) {
+    let bytes = write_slot(&sample_slot());
+    let read = read_manifest_slot(&bytes);
+    let said = read.as_ref().map(|(format, slot)| {
+        let lost = slot.lost.ranges.len();
+        (*format, slot.number, slot.checkpoint, lost)
+    });
+    assert_eq!(rt; said, Some((Format::First, 1, 1, 0)));
+    let written = read.and_then(|(format, slot)| write_manifest_slot(&slot, format));
+    assert_eq!(rt; written, Some(bytes));
+}
+
+#[test]
+fn the_third_format_has_places_for_32_points(rt: HostRuntime) {
+    let mut bytes = write_newest_slot(&sample_manifest());
+    for (at, number) in [(48, 32), (304, 7)] {
+        LittleEndian::write_u64(&mut bytes[at..], number);
+    }
+    let read = read_manifest_slot(&bytes);
+    let counts = read.as_ref().map(|(format, slot)| {
+        let points = slot.points.serials.len();
+        (*format, points, slot.checkpoint)
+    });
+    assert_eq!(rt; counts, Some((Format::Third, 32, 1)));
+    let slot = read.map(|(_, slot)| slot);
+    assert_eq!(rt; slot.as_ref().map(write_newest_slot), Some(bytes));
+    let second = slot.and_then(|slot| write_manifest_slot(&slot, Format::Second));
+    assert_eq!(rt; second, None);
+}
+
+#[test]
+fn what_is_no_manifest_slot_is_refused(rt: HostRuntime) {
+    let third = write_newest_slot(&sample_manifest());
+    // A closed gate, byte 1, no point, too many, a place behind the points, too many ranges, one too few, a number behind the
+    // ranges, and formats that there are not or that have other places.
+    let changes = [
+        (0, 0),
+        (0, 0x1a5),
+        (48, 0),
+        (48, 33),
+        (64, 1),
+        (320, 9),
+        (320, 0),
+        (344, 1),
+        (504, 0),
+        (504, 1),
+        (504, 2),
+        (504, 4),
+    ];
+    for (at, number) in changes {
+        let other = changed(&rt, &third, at, number);
+        assert_eq!(rt; read_manifest_slot(&other), None);
+    }
+}
+
+#[test]
+fn early_formats_have_eight_points(rt: HostRuntime) {
+    let first = write_slot(&sample_slot());
+    let second = changed(&rt, &first, 504, 2);
+    assert_eight_points(&rt, &first);
+    assert_eight_points(&rt, &second);
+    // In the first format nothing stands in the place of the checkpoint's number.
+    let other = changed(&rt, &first, 120, 1);
+    assert_eq!(rt; read_manifest_slot(&other), None);
+    law_formats_apart();
+    law_first_format();
 }
 
 #[test]

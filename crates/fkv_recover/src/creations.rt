@@ -1,5 +1,5 @@
 //! Creating a store.
-ghost use Rattle.std.specs.Prelude.{◌≡◌, ℕ, ◌+◌, ◌*◌, ◌<◌, ◌≤◌, ◌↔◌, ◌∷◌, [], length, slice_index, IfOk, IfErr, OnOk, OnErr, Err, List};
+ghost use Rattle.std.specs.Prelude.{◌≡◌, ℕ, ◌+◌, ◌*◌, ◌<◌, ◌≤◌, ◌↔◌, ◌∷◌, [], length, drop, slice_index, IfOk, IfErr, OnOk, OnErr, Err, List};
 ghost use Rattle.fkv_base.specs.declared.faults.Fault.TheVariants.{Memory};
 ghost use Rattle.fkv_disk.specs.Bytes.{written};
 ghost use Rattle.fkv_disk.specs.Device.{LeavesOnly};
@@ -12,6 +12,7 @@ use crate::opened_store::Opened;
 use crate::openings::points_of;
 use fkv_base::{Addr, Fault, Shape, Version};
 use fkv_disk::Device;
+use fkv_manifest::put_slot;
 use fkv_record::OPEN;
 use std::alloc::Global;
 
@@ -72,18 +73,31 @@ fn zeros(alloc: Global, n: usize) -> Result<Vec<u8>, Fault>
     Ok(bytes)
 }
 
-/// Zeros over the head, the shape block, slot 0 behind its gate, and then the gate.
-fn write_four<D: Device>(d: &mut D, zeros: &[u8], block: &[u8], slot: &[u8]) -> Result<(), Fault>
-    ensures seen { D.honest d.old → OnOk result (D.seen d.new ≡ laid_bytes (D.seen d.old) zeros.now block.now slot.now) }
+/// A slot with these bytes behind its gate and the seven zeros after it, which stand on the device already.
+fn slot_with(body: &[u8]) -> [u8; 512]
+    requires { length body.now ≡ 504 }
+    ensures { drop 8 result ≡ body.now }
+{
+    let mut slot = [0; 512];
+    slot[8..].copy_from_slice(body);
+    slot
+}
+
+/// Zeros over the head, the shape block, and then slot 0, which is put in force behind its gate.
+fn write_four<D: Device>(
+    d: &mut D,
+    zeros: &[u8],
+    block: &[u8],
+    slot: [u8; 512],
+) -> Result<(), Fault>
+    ensures seen { D.honest d.old → OnOk result (D.seen d.new ≡ laid_bytes (D.seen d.old) zeros.now block.now (drop 8 slot)) }
     ensures synced { D.honest d.old → OnOk result (LeavesOnly (D.seen d.new) (D.may_leave d.new)) }
     ensures honest { D.honest d.old ↔ D.honest d.new }
     ensures err { IfErr result (IsHindrance (D.failed d.old) (D.failed d.new)) }
 {
     write_synced(d, 0, zeros)?;
     write_synced(d, 0, block)?;
-    write_synced(d, 520, slot)?;
-    write_synced(d, 512, &[OPEN])?;
-    Ok(())
+    put_slot(d, 512, 8, slot, false)
 }
 
 /// Writes a head.
@@ -97,8 +111,8 @@ fn lay<D: Device>(alloc: Global, d: &mut D, head: &[u64]) -> Result<(), Fault>
 {
     let zeros = zeros(alloc, 1536)?;
     let block = bytes_of(alloc, &head[0..8])?;
-    let slot = bytes_of(alloc, &head[65..128])?;
-    write_four(d, &zeros, &block, &slot)?;
+    let body = bytes_of(alloc, &head[65..128])?;
+    write_four(d, &zeros, &block, slot_with(&body))?;
     Ok(())
 }
 

@@ -1,7 +1,7 @@
 -- A session that catches up asks just where it has asks left, and each reply leaves fewer.
-use Rattle.std.proofs.Common.{◌≡◌, ℕ, zero, suc, ◌+◌, ◌<◌, ◌≤◌, ◌∙◌, refl, sym, ap, arith, Bool, true, false, cond, List, length}
+use Rattle.std.proofs.Common.{◌≡◌, ℕ, ◌+◌, ◌<◌, ◌≤◌, ◌∙◌, refl, sym, ap, arith, Bool, true, false, cond, List, [], length}
 use Rattle.std.specs.Prelude.{◌==◌, ◌&&◌, not, if◌then◌else◌, Option, Some, None, slice_get, slice_set, get_or}
-use Rattle.std.specs.List.{position, count_by, sum_by}
+use Rattle.std.specs.List.{position}
 use Rattle.std.proofs.lemmas.List.Sums.{sum_by-set, count_by-le-length}
 use Rattle.std.proofs.lemmas.List.Quantifiers.{position-Some}
 use Rattle.fkv_ops.specs.Requests.{is_read}
@@ -29,7 +29,7 @@ use Rattle.fkv_pending.specs.declared.pending_requests.PendingRequest.{PendingRe
 use Rattle.fkv_pending.specs.Pending.{with_latch, is_unlatched}
 use Rattle.fkv_session.specs.declared.catching_up.Catching.{Catching}
 use Rattle.fkv_session.specs.declared.catching_up.Catching.TheVariants as catch
-use Rattle.fkv_session.specs.PhaseWords.{phase_said}
+use Rattle.fkv_words.specs.PhaseWords.{phase_said}
 use Rattle.fkv_session.specs.CatchingUp.{CatchState, refresh_begun, wake_begun, catching_ask, catch_ask, catching_next, catch_next, catching_requests, catch_requests, finishes, latch_begun, latch_wanted, latches, cuts, takes_up, seen_after, is_same_version, enters_prepare, refresh_ledto, protect_ledto, latch_ledto, finish_ledto, latched, latch_marked}
 use Rattle.fkv_session.specs.AsksLeft.{unlatched, unlatched_besides, share_asks_left, finish_asks_left, catching_asks_left, catch_asks_left, most_catch_asks}
 use Rattle.fkv_session.proofs.Sums.{passed_left, some_inside, inside_fewer, behind_fewer, sum_most, sum_whole, never, none}
@@ -160,6 +160,29 @@ catch_left p session c requests = catching_left p session c requests c.step
 pub catch_asked_left : (p : Places) (session : ℕ) (c : CatchState) (requests : List PendingRequest) (ask : Ask (Unit {0})) → ask ≡ catch_ask p session c requests → AsksWhereLeft (catch_asks_left c requests) ask
 catch_asked_left p session c requests ask e = rw e (catch_left p session c requests)
 
+-- as it begins it asks the same, whatever requests wait
+refresh_begun_asked : (p : Places) (session : ℕ) (c : CatchState) (seen : Seen) (serial : ℕ) (requests : List PendingRequest) (ask : Ask (Unit {0})) → ask ≡ catch_ask p session (refresh_begun c seen serial) []
+    → AsksWhereLeft (catch_asks_left (refresh_begun c seen serial) requests) ask
+unfolding catching_ask
+refresh_begun_asked p session c seen serial requests ask e = catch_asked_left p session (refresh_begun c seen serial) requests ask e
+
+pub refresh_begun_asks : (p : Places) (session : ℕ) (c : CatchState) (seen : Seen) (serial : ℕ) (begun : CatchState) (ask : Ask (Unit {0})) → begun ≡ refresh_begun c seen serial → ask ≡ catch_ask p session begun []
+    → (requests : List PendingRequest) → AsksWhereLeft (catch_asks_left begun requests) ask
+refresh_begun_asks p session c seen serial begun ask begins e requests =
+    let same : ask ≡ catch_ask p session (refresh_begun c seen serial) [] = e ∙ ap (λ (its : CatchState). catch_ask p session its []) begins in
+    rw begins (refresh_begun_asked p session c seen serial requests ask same)
+
+wake_begun_asked : (p : Places) (session : ℕ) (c : CatchState) (seen : Seen) (serial : ℕ) (requests : List PendingRequest) (ask : Ask (Unit {0})) → ask ≡ catch_ask p session (wake_begun c seen serial) []
+    → AsksWhereLeft (catch_asks_left (wake_begun c seen serial) requests) ask
+unfolding catching_ask
+wake_begun_asked p session c seen serial requests ask e = catch_asked_left p session (wake_begun c seen serial) requests ask e
+
+pub wake_begun_asks : (p : Places) (session : ℕ) (c : CatchState) (seen : Seen) (serial : ℕ) (begun : CatchState) (ask : Ask (Unit {0})) → begun ≡ wake_begun c seen serial → ask ≡ catch_ask p session begun []
+    → (requests : List PendingRequest) → AsksWhereLeft (catch_asks_left begun requests) ask
+wake_begun_asks p session c seen serial begun ask begins e requests =
+    let same : ask ≡ catch_ask p session (wake_begun c seen serial) [] = e ∙ ap (λ (its : CatchState). catch_ask p session its []) begins in
+    rw begins (wake_begun_asked p session c seen serial requests ask same)
+
 -- all of it
 
 pub refresh_begun_left : (c : CatchState) (seen : Seen) (serial : ℕ) (requests : List PendingRequest) → catch_asks_left (refresh_begun c seen serial) requests ≤ most_catch_asks requests
@@ -169,6 +192,12 @@ refresh_begun_left c seen serial requests = let most = sum_most 4 (unlatched req
 pub wake_begun_left : (c : CatchState) (seen : Seen) (serial : ℕ) (requests : List PendingRequest) → catch_asks_left (wake_begun c seen serial) requests ≤ most_catch_asks requests
 unfolding catching_asks_left protect_asks_left
 wake_begun_left c seen serial requests = let most = sum_most 5 (unlatched requests + 0 + 3) in omega (arith, most)
+
+pub refresh_begun_most : (c : CatchState) (seen : Seen) (serial : ℕ) (begun : CatchState) → begun ≡ refresh_begun c seen serial → (requests : List PendingRequest) → catch_asks_left begun requests ≤ most_catch_asks requests
+refresh_begun_most c seen serial begun begins requests = rw begins (refresh_begun_left c seen serial requests)
+
+pub wake_begun_most : (c : CatchState) (seen : Seen) (serial : ℕ) (begun : CatchState) → begun ≡ wake_begun c seen serial → (requests : List PendingRequest) → catch_asks_left begun requests ≤ most_catch_asks requests
+wake_begun_most c seen serial begun begins requests = rw begins (wake_begun_left c seen serial requests)
 
 pub catch_most : (requests : List PendingRequest) → most_catch_asks requests ≤ length requests + 8
 catch_most requests = let few = count_by-le-length is_unlatched requests in omega (arith, few)
@@ -265,3 +294,8 @@ catching_fewer p bits session c requests catch.Finishes reply at some =
 pub catch_fewer : (p : Places) (bits session : ℕ) (c : CatchState) (requests : List PendingRequest) (reply : ℕ) → 0 < catch_asks_left c requests
     → catch_asks_left (catch_next p bits session c requests reply) (catch_requests c requests reply) < catch_asks_left c requests
 catch_fewer p bits session c requests reply some = catching_fewer p bits session c requests c.step reply refl some
+
+-- so it does wherever state and requests are those behind the reply
+pub catch_stays_fewer : (p : Places) (bits session : ℕ) (c : CatchState) (requests : List PendingRequest) (reply : ℕ) (next : CatchState) (marked : List PendingRequest) → next ≡ catch_next p bits session c requests reply
+    → marked ≡ catch_requests c requests reply → 0 < catch_asks_left c requests → catch_asks_left next marked < catch_asks_left c requests
+catch_stays_fewer p bits session c requests reply next marked e same some = rw e (rw same (catch_fewer p bits session c requests reply some))

@@ -1,8 +1,9 @@
 -- A turn that a session makes itself asks just where it has asks left, and each reply leaves fewer.
-use Rattle.std.proofs.Common.{◌≡◌, ℕ, ◌+◌, ◌-◌, ◌*◌, ◌<◌, ◌≤◌, ◌∙◌, refl, sym, arith, Bool, true, false}
-use Rattle.std.specs.Prelude.{if◌then◌else◌, Some, None}
+use Rattle.std.proofs.Common.{◌≡◌, ℕ, ◌+◌, ◌<◌, ◌≤◌, ◌∙◌, refl, sym, ap, arith, Bool, true, false}
+use Rattle.std.specs.Prelude.{if◌then◌else◌, None}
 use Rattle.fkv_base.specs.declared.shapes.Shape.{Shape}
 use Rattle.fkv_plane.specs.declared.actions.Action.{Action}
+use Rattle.fkv_plane.specs.declared.actions.Action.TheVariants as act
 use Rattle.fkv_plane.specs.declared.asks.Ask.{Ask}
 use Rattle.fkv_plane.specs.declared.asks.Ask.TheVariants.{Load, Store, Swap, Cas, Add, Max, Put, Take, Done}
 use Rattle.fkv_plane.specs.Passing.{is_done, passed}
@@ -40,7 +41,7 @@ use Rattle.fkv_session.specs.declared.own_turns.OwnTurning.{OwnTurning}
 use Rattle.fkv_session.specs.declared.own_turns.OwnTurning.TheVariants.{Ended, Scans, Claims, Shifts, Opens}
 use Rattle.fkv_session.specs.OwnTurns.{OwnTurnState, own_turn_begun, own_turning_ask, own_turn_ask, scan_ledto, claim_ledto, shift_ledto, open_ledto, tail_told, own_turning_next, own_turn_next, own_turning_given, own_turn_given}
 use Rattle.fkv_session.specs.AsksLeft.{most_opening_asks, most_shift_asks, most_claim_asks, most_own_turn_asks, own_turning_asks_left, own_turn_asks_left}
-use Rattle.fkv_session.proofs.Sums.{passed_left, some_inside, inside_fewer, behind_fewer, sum_most, sum_whole, never, none}
+use Rattle.fkv_session.proofs.Sums.{passed_left, some_inside, inside_fewer, behind_fewer, sum_most, never, none}
 
 if_most : (b : Bool) (n : ℕ) → (if b then 0 else n) ≤ n
 if_most true n = omega arith
@@ -78,6 +79,9 @@ own_turn_asked_left shape o ask e = rw e (own_turn_left shape o)
 pub own_turn_begun_left : (shape : Shape) (o : OwnTurnState) → own_turn_asks_left shape (own_turn_begun o) ≤ most_own_turn_asks shape
 unfolding own_turning_asks_left scan_asks_left
 own_turn_begun_left shape o = let most = sum_most (shape.sessions + 2) (most_claim_asks + (most_shift_asks + most_opening_asks)) in omega (arith, most)
+
+pub own_turn_begun_most : (shape : Shape) (o begun : OwnTurnState) → begun ≡ own_turn_begun o → own_turn_asks_left shape begun ≤ most_own_turn_asks shape
+own_turn_begun_most shape o begun begins = rw begins (own_turn_begun_left shape o)
 
 pub own_turn_most : (shape : Shape) → most_own_turn_asks shape ≤ 101
 own_turn_most shape = let few = shape.limits.few_sessions in omega (arith, few)
@@ -245,3 +249,47 @@ own_turning_given_fewer shape o Opens action at takes = never (sym takes ∙ pas
 
 pub own_turn_given_fewer : (shape : Shape) (o : OwnTurnState) (action : Action) → takes_action (own_turn_ask shape o) ≡ true → own_turn_asks_left shape (own_turn_given o action) < own_turn_asks_left shape o
 own_turn_given_fewer shape o action takes = own_turning_given_fewer shape o o.step action refl takes
+
+-- a reply that comes in place of an action leaves the turn as it is, and so does an action that comes in place of a reply
+
+claim_waits : (step : Claiming) (reply : ℕ) → takes_action (claim_ask step) ≡ true → claim_next step reply ≡ step
+unfolding claim_ask claim_next
+claim_waits (claim.Receives slot epoch safe) reply takes = refl
+claim_waits (claim.Runs slot epoch safe (act.SafeReadOnly addr)) reply takes = cc
+claim_waits (claim.Runs slot epoch safe (act.Close addr)) reply takes = cc
+claim_waits (claim.Runs slot epoch safe (act.Phase phase version)) reply takes = cc
+claim_waits step reply takes = cc
+
+claim_spared : (step : Claiming) (action : Action) → takes_action (claim_ask step) ≡ false → claim_given step action ≡ step
+unfolding claim_ask claim_given
+claim_spared (claim.Receives slot epoch safe) action takes = cc
+claim_spared step action takes = refl
+
+claim_stays : (o : OwnTurnState) (ask : Ask (Unit {0})) → is_done ask ≡ false → claim_ledto o ask ≡ o
+unfolding claim_ledto
+claim_stays o (Done its) asks = cc
+claim_stays o ask asks = refl
+
+own_turning_waits : (shape : Shape) (o : OwnTurnState) (step : OwnTurning) (reply : ℕ) → takes_action (own_turning_ask shape o step) ≡ true → own_turning_next shape o step reply ≡ o
+unfolding own_turning_ask own_turning_next
+own_turning_waits shape o Ended reply takes = cc
+own_turning_waits shape o Scans reply takes = never (sym takes ∙ passed_takes (scan_ask o.scanning) (tt {0}) ∙ scan_takes o.scanning)
+own_turning_waits shape o Claims reply takes =
+    let its = sym (passed_takes (claim_ask o.claiming) (tt {0})) ∙ takes in
+    ap (λ (step : Claiming). claim_ledto (record o { claiming = step }) (claim_ask step)) (claim_waits o.claiming reply its) ∙ claim_stays o (claim_ask o.claiming) (taking_asks (claim_ask o.claiming) its)
+own_turning_waits shape o Shifts reply takes = never (sym takes ∙ passed_takes (shift_ask o.shift) (tt {0}) ∙ shifting_takes o.shift.step o.shift.mover)
+own_turning_waits shape o Opens reply takes = never (sym takes ∙ passed_takes (turn_ask shape o.turn) (tt {0}) ∙ turning_takes shape o.turn.step o.turn.mover)
+
+pub own_turn_waits : (shape : Shape) (o : OwnTurnState) (reply : ℕ) → takes_action (own_turn_ask shape o) ≡ true → own_turn_next shape o reply ≡ o
+own_turn_waits shape o reply takes = own_turning_waits shape o o.step reply takes
+
+own_turning_spared : (shape : Shape) (o : OwnTurnState) (step : OwnTurning) (action : Action) → is_done (own_turning_ask shape o step) ≡ false → takes_action (own_turning_ask shape o step) ≡ false
+    → own_turning_given o step action ≡ o
+unfolding own_turning_ask own_turning_given
+own_turning_spared shape o Claims action asks takes =
+    let still = claim_spared o.claiming action (sym (passed_takes (claim_ask o.claiming) (tt {0})) ∙ takes) in
+    ap (λ (step : Claiming). claim_ledto (record o { claiming = step }) (claim_ask step)) still ∙ claim_stays o (claim_ask o.claiming) (sym (passed_done (claim_ask o.claiming) (tt {0})) ∙ asks)
+own_turning_spared shape o step action asks takes = refl
+
+pub own_turn_spared : (shape : Shape) (o : OwnTurnState) (action : Action) → is_done (own_turn_ask shape o) ≡ false → takes_action (own_turn_ask shape o) ≡ false → own_turn_given o action ≡ o
+own_turn_spared shape o action asks takes = own_turning_spared shape o o.step action asks takes

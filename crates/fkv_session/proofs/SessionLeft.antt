@@ -1,6 +1,6 @@
 -- A session asks just where it has asks left, each reply leaves fewer, and a call begins with so many as its bound allows.
-use Rattle.std.proofs.Common.{◌≡◌, ℕ, zero, suc, ◌+◌, ◌-◌, ◌*◌, ◌<◌, ◌≤◌, ◌∙◌, refl, sym, ap, arith, Bool, true, false, List, [], ◌∷◌, ◌++◌, length}
-use Rattle.std.specs.Prelude.{◌==◌, ◌&&◌, ◌||◌, not, if◌then◌else◌, Option, Some, None, slice_get, slice_set}
+use Rattle.std.proofs.Common.{◌≡◌, ℕ, zero, suc, ◌+◌, ◌-◌, ◌*◌, ◌<◌, ◌≤◌, ◌∙◌, refl, sym, ap, subst, arith, Bool, true, false, List, [], ◌∷◌, length}
+use Rattle.std.specs.Prelude.{⊤, ◌==◌, ◌||◌, not, if◌then◌else◌, Option, Some, None, slice_get, slice_set}
 use Rattle.std.specs.List.{remove}
 use Rattle.std.proofs.lemmas.List.{length-set}
 use Rattle.std.proofs.lemmas.Option.{slice_get_within}
@@ -13,9 +13,9 @@ use Rattle.fkv_map.specs.declared.operations.Op.{Op}
 use Rattle.fkv_plane.specs.declared.actions.Action.{Action}
 use Rattle.fkv_plane.specs.declared.asks.Ask.{Ask}
 use Rattle.fkv_plane.specs.declared.asks.Ask.TheVariants.{Done}
+use Rattle.fkv_plane.specs.declared.places.Places.{Places}
 use Rattle.fkv_plane.specs.Passing.{is_done, passed}
 use Rattle.fkv_plane.proofs.Shown.{passed_done}
-use Rattle.fkv_epoch.specs.declared.leaving.Leaving.TheVariants.{StoresZero}
 use Rattle.fkv_epoch.specs.Claiming.{takes_action}
 use Rattle.fkv_epoch.specs.Leaving.{leave_ask, leave_next, leave_asks_left}
 use Rattle.fkv_epoch.proofs.Shown.{leave_left, leave_fewer}
@@ -33,20 +33,19 @@ use Rattle.fkv_pending.specs.declared.mailing.Mailing.TheVariants.{LoadsState}
 use Rattle.fkv_pending.specs.declared.pending_requests.PendingRequest.{PendingRequest}
 use Rattle.fkv_pending.specs.AsksLeft.{attempt_asks_left}
 use Rattle.fkv_pending.specs.Mailing.{mail_ask, mail_next, mail_asks_left}
-use Rattle.fkv_pending.specs.Attempting.{attempt_ask, attempt_next}
+use Rattle.fkv_pending.specs.Attempting.{attempt_ask}
 use Rattle.fkv_pending.proofs.Shown.{attempt_left, attempt_begun_left, attempt_fewer, mail_left, mail_fewer}
 use Rattle.fkv_session.specs.declared.answers.Told.{Told}
 use Rattle.fkv_session.specs.declared.answers.Told.TheVariants as told
-use Rattle.fkv_session.specs.declared.sessions.CatchCause.{CatchCause}
 use Rattle.fkv_session.specs.declared.sessions.CatchCause.TheVariants.{Refreshes, Wakes, Shifts}
 use Rattle.fkv_session.specs.declared.sessions.Sitting.{Sitting}
 use Rattle.fkv_session.specs.declared.sessions.Sitting.TheVariants.{Idle, Attempts, CatchesUp, ClearsMail, Polls, StoresOwing, Turns, StoresCut, Leaves, LoadsDurable}
 use Rattle.fkv_session.specs.CatchingUp.{catch_ask, refresh_begun, wake_begun}
-use Rattle.fkv_session.specs.OwnTurns.{own_turn_ask, own_turn_next, own_turn_begun, own_turn_given}
-use Rattle.fkv_session.specs.Sessions.{Seat, SessionState, bits_of, room_of, sitting_ask, session_ask, answers, refuses, answers_after_turn, request_in_hand, attempts, polls_request, polls_at, refusal_of, op_begun, refresh_call, poll_begun, poll_call, sleep_call, wake_call, call_begun, session_begun, attempt_left as left_behind, serial_taken, is_no_room, with_request, ticket_after, accepts, shifts, attempted, attempt_ledto, caught_up, catch_ledto, clear_ledto, finished_of, is_finished, is_owed, request_finished, finishes_request, lacks_room, keeps_request, poll_ledto, turn_ledto, leave_ledto, attempt_moved, caught, own_turn_moved, sitting_next, session_next, sitting_given, session_given, asks_after, is_word_ask}
-use Rattle.fkv_session.specs.AsksLeft.{catch_asks_left, most_catch_asks, own_turn_asks_left, most_own_turn_asks, most_attempt_asks, most_poll_asks, sitting_asks_left, session_asks_left, try_bound, call_bound}
+use Rattle.fkv_session.specs.OwnTurns.{OwnTurnState, own_turn_ask, own_turn_next, own_turn_begun, own_turn_given}
+use Rattle.fkv_session.specs.Sessions.{Seat, SessionState, bits_of, room_of, sitting_ask, session_ask, answers, refuses, answers_after_turn, request_in_hand, attempts, polls_request, polls_at, refusal_of, op_begun, refresh_call, poll_begun, poll_call, sleep_call, wake_call, call_begun, session_begun, attempt_left as left_behind, serial_taken, is_no_room, with_request, ticket_after, accepts, shifts, attempted, attempt_ledto, catch_ledto, clear_ledto, is_finished, is_owed, request_finished, finishes_request, lacks_room, keeps_request, poll_ledto, turn_ledto, leave_ledto, attempt_moved, caught, own_turn_moved, sitting_next, session_next, sitting_given, session_given, asks_after, is_word_ask}
+use Rattle.fkv_session.specs.AsksLeft.{catch_asks_left, most_catch_asks, own_turn_asks_left, most_own_turn_asks, most_attempt_asks, most_poll_asks, sitting_asks_left, session_asks_left, IsOfShape, try_bound, call_bound}
 use Rattle.fkv_session.proofs.CatchLeft.{catch_left, catch_fewer, catch_most, refresh_begun_left, wake_begun_left}
-use Rattle.fkv_session.proofs.OwnTurnLeft.{own_turn_left, own_turn_begun_left, own_turn_fewer, own_turn_given_fewer, own_turn_most, passed_takes}
+use Rattle.fkv_session.proofs.OwnTurnLeft.{own_turn_left, own_turn_begun_left, own_turn_fewer, own_turn_given_fewer, own_turn_waits, own_turn_spared, own_turn_most, passed_takes}
 use Rattle.fkv_session.proofs.Sums.{passed_left, some_inside, inside_fewer, behind_fewer, sum_most, never, none}
 
 -- it asks just where it has asks left
@@ -286,9 +285,19 @@ unfolding leave_ledto sitting_asks_left
 leave_led k s old (Done its) at fewer = omega (arith, fewer)
 leave_led k s old ask at fewer = rw at fewer
 
-sitting_fewer : (k : Seat) (s : SessionState) (step : Sitting) (reply : ℕ) → s.step ≡ step → takes_action (sitting_ask k s step) ≡ false → 0 < sitting_asks_left k s step
+-- a turn waits for no action
+abbrev NoClaim : Seat → SessionState → Sitting → Type 0
+NoClaim k s (Turns its) = takes_action (own_turn_ask k.shape s.own_turn) ≡ false
+NoClaim k s step = ⊤
+
+no_claim : (k : Seat) (s : SessionState) (step : Sitting) → takes_action (sitting_ask k s step) ≡ false → NoClaim k s step
+unfolding sitting_ask
+no_claim k s (Turns its) takes = sym (passed_takes (own_turn_ask k.shape s.own_turn) its) ∙ takes
+no_claim k s step takes = tt
+
+sitting_fewer : (k : Seat) (s : SessionState) (step : Sitting) (reply : ℕ) → s.step ≡ step → NoClaim k s step → 0 < sitting_asks_left k s step
     → session_asks_left k (sitting_next k s step reply) < sitting_asks_left k s step
-unfolding sitting_ask sitting_next sitting_asks_left leave_asks_left
+unfolding sitting_next sitting_asks_left leave_asks_left
 sitting_fewer k s (Idle its) reply at takes some = none some
 sitting_fewer k s (Attempts false) reply at takes some =
     let inside = some_inside (attempt_asks_left k.places s.attempt) (behind k s false) some in
@@ -312,7 +321,7 @@ sitting_fewer k s (Polls index) reply at takes some =
     poll_led k (attempt_moved k s reply) index (attempt_asks_left k.places s.attempt) (attempt_ask k.places k.number (attempt_moved k s reply).attempt) at inside (attempt_fewer k.places (bits_of k) (room_of k) k.number s.attempt reply inside)
 sitting_fewer k s (StoresOwing index) reply at takes some = let few = polls_left k s index in omega (arith, few)
 sitting_fewer k s (Turns its) reply at takes some =
-    turn_led k (own_turn_moved k s reply) its (own_turn_asks_left k.shape s.own_turn) (own_turn_ask k.shape (own_turn_moved k s reply).own_turn) at (own_turn_fewer k.shape s.own_turn reply (sym (passed_takes (own_turn_ask k.shape s.own_turn) its) ∙ takes) some)
+    turn_led k (own_turn_moved k s reply) its (own_turn_asks_left k.shape s.own_turn) (own_turn_ask k.shape (own_turn_moved k s reply).own_turn) at (own_turn_fewer k.shape s.own_turn reply takes some)
 sitting_fewer k s StoresCut reply at takes some = omega arith
 sitting_fewer k s Leaves reply at takes some =
     let fewer = leave_fewer s.leaving in
@@ -342,15 +351,59 @@ session_fewer k s reply takes some =
     let now : SessionState = record s { asks = asks_after s.asks (is_word_ask (session_ask k s)); effect = None } in
     let asked : sitting_ask k now s.step ≡ sitting_ask k s s.step = counted_ask k s s.step in
     let left : sitting_asks_left k now s.step ≡ sitting_asks_left k s s.step = counted_left k s s.step in
-    let fewer = sitting_fewer k now s.step reply refl (ap (λ (ask : Ask Told). takes_action ask) asked ∙ takes) (omega (arith, left, some)) in
+    let fewer = sitting_fewer k now s.step reply refl (no_claim k now s.step (ap (λ (ask : Ask Told). takes_action ask) asked ∙ takes)) (omega (arith, left, some)) in
     omega (arith, fewer, left)
+
+-- a turn that waits for an action goes on waiting for it
+turn_stays : (s : SessionState) (its : Told) (ask : Ask (Unit {0})) → is_done ask ≡ false → turn_ledto s its ask ≡ s
+unfolding turn_ledto
+turn_stays s its (Done through) asks = cc
+turn_stays s its ask asks = refl
+
+turned_stays : (k : Seat) (s : SessionState) (its : Told) (after : OwnTurnState) → after ≡ s.own_turn → is_done (own_turn_ask k.shape s.own_turn) ≡ false
+    → turn_ledto (record s { own_turn = after }) its (own_turn_ask k.shape after) ≡ s
+turned_stays k s its after same asks =
+    ap (λ (o : OwnTurnState). turn_ledto (record s { own_turn = o }) its (own_turn_ask k.shape o)) same ∙ turn_stays s its (own_turn_ask k.shape s.own_turn) asks
+
+sitting_no_more : (k : Seat) (s : SessionState) (step : Sitting) (reply : ℕ) → s.step ≡ step → 0 < sitting_asks_left k s step → session_asks_left k (sitting_next k s step reply) ≤ sitting_asks_left k s step
+unfolding sitting_next sitting_asks_left
+sitting_no_more k s (Turns its) reply at some = tested (takes_action (own_turn_ask k.shape s.own_turn)) refl
+  where
+    asks : is_done (own_turn_ask k.shape s.own_turn) ≡ false
+    asks = (own_turn_left k.shape s.own_turn).1 some
+
+    tested : (b : Bool) → takes_action (own_turn_ask k.shape s.own_turn) ≡ b → session_asks_left k (sitting_next k s (Turns its) reply) ≤ own_turn_asks_left k.shape s.own_turn
+    tested true takes =
+        let same = turned_stays k s its (own_turn_next k.shape s.own_turn reply) (own_turn_waits k.shape s.own_turn reply takes) asks in
+        let left = ap (λ (t : SessionState). session_asks_left k t) same in
+        let stands = ap (λ (step : Sitting). sitting_asks_left k s step) at in
+        omega (arith, left, stands)
+    tested false takes = let fewer = sitting_fewer k s (Turns its) reply at takes some in omega (arith, fewer)
+sitting_no_more k s step reply at some = let fewer = sitting_fewer k s step reply at tt some in omega (arith, fewer)
+
+-- no reply to what it asks leaves more
+pub session_no_more : (k : Seat) (s : SessionState) (reply : ℕ) → 0 < session_asks_left k s → session_asks_left k (session_next k s reply) ≤ session_asks_left k s
+session_no_more k s reply some =
+    let now : SessionState = record s { asks = asks_after s.asks (is_word_ask (session_ask k s)); effect = None } in
+    let left : sitting_asks_left k now s.step ≡ sitting_asks_left k s s.step = counted_left k s s.step in
+    let few = sitting_no_more k now s.step reply refl (omega (arith, left, some)) in
+    omega (arith, few, left)
 
 -- a call begins with so many as its bound allows, at most
 
 refused_left : (k : Seat) (s : SessionState) (why : Fault) → session_asks_left k (refuses s why) ≡ 0
 refused_left k s why = answers_left k s (told.Refused why)
 
-op_left : (k : Seat) (s : SessionState) (op : Op) (refusal : Option Fault) → length s.requests ≤ max_pending → session_asks_left k (op_begun k s op refusal) ≤ 2 * try_bound k.places + 128
+-- the bounds by the words that there are
+abbrev places_bound : Places → ℕ
+places_bound p = 8 * (p.overflow + 1) + 2 * p.ring + 64
+
+abbrev places_call_bound : Places → Call → ℕ
+places_call_bound p (call.Op op) = 2 * places_bound p + 128
+places_call_bound p call.Poll = max_pending * places_bound p + 128
+places_call_bound p its = 128
+
+op_left : (k : Seat) (s : SessionState) (op : Op) (refusal : Option Fault) → length s.requests ≤ max_pending → session_asks_left k (op_begun k s op refusal) ≤ 2 * places_bound k.places + 128
 unfolding op_begun
 op_left k s op (Some why) few = let no = refused_left k s why in omega (arith, no)
 op_left k s op None few =
@@ -359,24 +412,24 @@ op_left k s op None few =
     let most = catch_most s.requests in
     omega (arith, first, turn, most, few)
 
-poll_most : (k : Seat) (s : SessionState) → length s.requests ≤ max_pending → most_poll_asks k s.requests 0 + 2 ≤ max_pending * try_bound k.places + 128
+poll_most : (k : Seat) (s : SessionState) → length s.requests ≤ max_pending → most_poll_asks k s.requests 0 + 2 ≤ max_pending * places_bound k.places + 128
 poll_most k s few =
     let turn = own_turn_most k.shape in
     let times = times_few (most_attempt_asks k.places + 1) (length s.requests - 0) max_pending (omega (arith, few)) in
     omega (arith, turn, times)
 
-poll_left : (k : Seat) (s : SessionState) → length s.requests ≤ max_pending → session_asks_left k (poll_call k s) ≤ max_pending * try_bound k.places + 128
+poll_left : (k : Seat) (s : SessionState) → length s.requests ≤ max_pending → session_asks_left k (poll_call k s) ≤ max_pending * places_bound k.places + 128
 unfolding poll_call sitting_asks_left mail_asks_left
 poll_left k s few = tested s.is_awake
   where
     its : SessionState
     its = record s { finished = [] }
 
-    begun : (b : Bool) → session_asks_left k (if b then record its { mailing = LoadsState Clear; step = ClearsMail } else polls_at k its 0) ≤ max_pending * try_bound k.places + 128
+    begun : (b : Bool) → session_asks_left k (if b then record its { mailing = LoadsState Clear; step = ClearsMail } else polls_at k its 0) ≤ max_pending * places_bound k.places + 128
     begun true = let most = poll_most k s few in let sum = sum_most 2 (most_poll_asks k s.requests 0) in omega (arith, most, sum)
     begun false = let most = poll_most k s few in let polls = polls_left k its 0 in omega (arith, most, polls)
 
-    tested : (b : Bool) → session_asks_left k (if b then poll_begun k its else refuses s fault.Asleep) ≤ max_pending * try_bound k.places + 128
+    tested : (b : Bool) → session_asks_left k (if b then poll_begun k its else refuses s fault.Asleep) ≤ max_pending * places_bound k.places + 128
     tested true = begun s.is_orphaned
     tested false = let no = refused_left k s fault.Asleep in omega (arith, no)
 
@@ -405,7 +458,7 @@ sleep_call_left k s = tested s.is_awake (length s.requests == 0)
     tested true true = omega arith
     tested true false = omega arith
 
-call_left : (k : Seat) (s : SessionState) (its : Call) → length s.requests ≤ max_pending → session_asks_left k (call_begun k s its) ≤ call_bound k.places its
+call_left : (k : Seat) (s : SessionState) (its : Call) → length s.requests ≤ max_pending → session_asks_left k (call_begun k s its) ≤ places_call_bound k.places its
 unfolding sitting_asks_left
 call_left k s (call.Op op) few = op_left k s op (refusal_of s op) few
 call_left k s call.Refresh few = refresh_call_left k s few
@@ -414,8 +467,24 @@ call_left k s call.Sleep few = sleep_call_left k s
 call_left k s call.Wake few = wake_call_left k s few
 call_left k s call.Durable few = omega arith
 
-pub session_begun_left : (k : Seat) (s : SessionState) (its : Call) → length s.requests ≤ max_pending → session_asks_left k (session_begun k s its) ≤ call_bound k.places its
-session_begun_left k s its few = call_left k (record s { asks = 0; effect = None; wants_turn = false }) its few
+-- and by the sizes of the shape
+same_bound : (k : Seat) → IsOfShape k → places_bound k.places ≡ try_bound k.shape
+same_bound k of = ap (λ (n : ℕ). 8 * (n + 1) + 2 * k.places.ring + 64) of.overflow ∙ ap (λ (n : ℕ). 8 * (k.shape.overflow + 1) + 2 * n + 64) of.ring
+
+same_call_bound : (k : Seat) (its : Call) → IsOfShape k → places_call_bound k.places its ≡ call_bound k.shape its
+same_call_bound k (call.Op op) of = ap (λ (n : ℕ). 2 * n + 128) (same_bound k of)
+same_call_bound k call.Poll of = ap (λ (n : ℕ). max_pending * n + 128) (same_bound k of)
+same_call_bound k call.Refresh of = refl
+same_call_bound k call.Sleep of = refl
+same_call_bound k call.Wake of = refl
+same_call_bound k call.Durable of = refl
+
+pub session_begun_left : (k : Seat) (s : SessionState) (its : Call) → IsOfShape k → length s.requests ≤ max_pending → session_asks_left k (session_begun k s its) ≤ call_bound k.shape its
+session_begun_left k s its of few =
+    subst (λ (bound : ℕ). session_asks_left k (session_begun k s its) ≤ bound) (same_call_bound k its of) (call_left k (record s { asks = 0; effect = None; wants_turn = false }) its few)
+
+pub session_begun_most : (k : Seat) (s : SessionState) (its : Call) (begun : SessionState) → begun ≡ session_begun k s its → IsOfShape k → length s.requests ≤ max_pending → session_asks_left k begun ≤ call_bound k.shape its
+session_begun_most k s its begun e of few = rw e (session_begun_left k s its of few)
 
 turning_given_fewer : (k : Seat) (s : SessionState) (its : Told) (action : Action) → s.step ≡ Turns its → takes_action (own_turn_ask k.shape s.own_turn) ≡ true
     → session_asks_left k (sitting_given k s (Turns its) action) < sitting_asks_left k s (Turns its)
@@ -431,3 +500,23 @@ session_given_fewer k s its action at takes =
     let next = ap (λ (step : Sitting). session_asks_left k (sitting_given k s step action)) at in
     let fewer = turning_given_fewer k s its action at takes in
     omega (arith, now, next, fewer)
+
+turns_take : (k : Seat) (s : SessionState) (its : Told) (step : Sitting) → step ≡ Turns its → takes_action (sitting_ask k s step) ≡ true → takes_action (own_turn_ask k.shape s.own_turn) ≡ true
+unfolding sitting_ask
+turns_take k s its (Turns told) at takes = sym (passed_takes (own_turn_ask k.shape s.own_turn) told) ∙ takes
+turns_take k s its step at takes = cc
+
+pub session_taken_fewer : (k : Seat) (s : SessionState) (its : Told) (action : Action) → s.step ≡ Turns its → takes_action (session_ask k s) ≡ true → session_asks_left k (session_given k s action) < session_asks_left k s
+session_taken_fewer k s its action at takes = session_given_fewer k s its action at (turns_take k s its s.step at takes)
+
+sitting_spared : (k : Seat) (s : SessionState) (step : Sitting) (action : Action) → is_done (sitting_ask k s step) ≡ false → takes_action (sitting_ask k s step) ≡ false → sitting_given k s step action ≡ s
+unfolding sitting_ask sitting_given
+sitting_spared k s (Turns its) action asks takes =
+    let ask = own_turn_ask k.shape s.own_turn in
+    let its_own = sym (passed_done ask its) ∙ asks in
+    turned_stays k s its (own_turn_given s.own_turn action) (own_turn_spared k.shape s.own_turn action its_own (sym (passed_takes ask its) ∙ takes)) its_own
+sitting_spared k s step action asks takes = refl
+
+-- an action that it does not wait for leaves all as it is
+pub session_spared : (k : Seat) (s : SessionState) (action : Action) → is_done (session_ask k s) ≡ false → takes_action (session_ask k s) ≡ false → session_given k s action ≡ s
+session_spared k s action asks takes = sitting_spared k s s.step action asks takes

@@ -1,6 +1,6 @@
 -- How many asks a session's machines have left, at most: the sum of those of the machine inside that is under way, and of what may come
 -- behind it. The puts and takes of actions count with them.
-use Rattle.std.specs.Prelude.{ℕ, ◌+◌, ◌-◌, ◌*◌, Bool, true, false, if◌then◌else◌, List, length, slice_get}
+use Rattle.std.specs.Prelude.{◌≡◌, ℕ, ◌+◌, ◌-◌, ◌*◌, true, false, if◌then◌else◌, List, length, slice_get}
 use Rattle.std.specs.List.{count_by}
 use Rattle.fkv_base.specs.Limits.{drain_slots, max_pending}
 use Rattle.fkv_base.specs.declared.shapes.Shape.{Shape}
@@ -18,7 +18,7 @@ use Rattle.fkv_log.specs.Shifting.{shift_ask, shift_asks_left}
 use Rattle.fkv_log.specs.Turning.{turn_ask, turn_asks_left, asks_past_closed}
 use Rattle.fkv_log.specs.declared.turning.TurnForm.TheVariants.{OpensOnly}
 use Rattle.fkv_latch.specs.declared.latching.Latching.{Latching}
-use Rattle.fkv_latch.specs.declared.latching.Latching.TheVariants.{AtRest, AddsShare, GivesBack, LoadsWord, SetsExclusive, DropsShare, DropsExclusive}
+use Rattle.fkv_latch.specs.declared.latching.Latching.TheVariants.{AtRest, AddsShare, LoadsWord, SetsExclusive}
 use Rattle.fkv_ops.specs.AsksLeft.{sum_left}
 use Rattle.fkv_pending.specs.declared.pending_requests.PendingRequest.{PendingRequest}
 use Rattle.fkv_pending.specs.AsksLeft.{attempt_asks_left}
@@ -122,12 +122,17 @@ sitting_asks_left k s sitting.LoadsDurable = 1
 abbrev pub session_asks_left : Seat → SessionState → ℕ
 session_asks_left k s = sitting_asks_left k s s.step
 
+-- the words that its seat has are those of a store of its shape
+pub record IsOfShape (k : Seat) : Type 0 where
+  pub overflow : k.places.overflow ≡ k.shape.overflow
+  pub ring : k.places.ring ≡ k.shape.frames * k.shape.page
+
 -- eight words of each bucket of a chain, two of each record of the ring, and 64
-abbrev pub try_bound : Places → ℕ
-try_bound p = 8 * (p.overflow + 1) + 2 * p.ring + 64
+abbrev pub try_bound : Shape → ℕ
+try_bound shape = 8 * (shape.overflow + 1) + 2 * (shape.frames * shape.page) + 64
 
 -- an operation is tried twice at most, a poll tries each request once, and no other call tries any
-abbrev pub call_bound : Places → Call → ℕ
-call_bound p (call.Op op) = 2 * try_bound p + 128
-call_bound p call.Poll = max_pending * try_bound p + 128
-call_bound p its = 128
+abbrev pub call_bound : Shape → Call → ℕ
+call_bound shape (call.Op op) = 2 * try_bound shape + 128
+call_bound shape call.Poll = max_pending * try_bound shape + 128
+call_bound shape its = 128

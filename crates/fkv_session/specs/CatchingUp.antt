@@ -36,9 +36,9 @@ use Rattle.fkv_pending.specs.declared.pending_requests.PendingRequest.{PendingRe
 use Rattle.fkv_pending.specs.Pending.{with_latch, is_unlatched, is_update_of}
 use Rattle.fkv_session.specs.declared.catching_up.Catching.{Catching}
 use Rattle.fkv_session.specs.declared.catching_up.Catching.TheVariants.{Ended, Refreshes, Protects, StoresCut, StoresOwing, Latches, Finishes}
-use Rattle.fkv_session.specs.declared.phase_words.PhaseSaid.{PhaseSaid}
-use Rattle.fkv_session.specs.declared.phase_words.PhaseSaid.TheVariants.{Says, Spoiled}
-use Rattle.fkv_session.specs.PhaseWords.{phase_said}
+use Rattle.fkv_words.specs.declared.phase_words.PhaseSaid.{PhaseSaid}
+use Rattle.fkv_words.specs.declared.phase_words.PhaseSaid.TheVariants.{Says, Spoiled}
+use Rattle.fkv_words.specs.PhaseWords.{phase_said}
 
 pub record CatchState : Type 0 where
   -- what the session goes by: what it loaded last, as soon as all of it is loaded

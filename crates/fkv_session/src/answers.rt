@@ -1,6 +1,7 @@
 //! What a session answers.
-ghost use Rattle.std.specs.Prelude.{◌≡◌, ◌≤◌, length};
+ghost use Rattle.std.specs.Prelude.{◌≡◌, ◌≤◌, None, length};
 ghost use Rattle.fkv_base.specs.Limits.{max_pending};
+ghost use Rattle.fkv_session.specs.declared.answers.Finished.TheVariants.{Read};
 ghost use Rattle.fkv_session.specs.Answers.{IsAnswerTold, IsAnswered};
 
 use arrayvec::ArrayVec;
@@ -21,7 +22,9 @@ pub enum Finished {
 
 impl Default for Finished {
     /// A read that found no value.
-    fn default() -> Finished {
+    fn default() -> Finished
+        ensures { result ≡ Read (record { 0 = 0 }) None }
+    {
         Finished::Read(Ticket(0), None)
     }
 }

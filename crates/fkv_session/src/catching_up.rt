@@ -1,11 +1,12 @@
 //! How a session catches up with the store.
-ghost use Rattle.std.specs.Prelude.{◌≡◌, ◌<◌, ◌^◌, ◌-◌, Option, Bool, [], length};
+ghost use Rattle.std.specs.Prelude.{◌≡◌, ◌<◌, ◌≤◌, ◌^◌, ◌-◌, Option, Bool, List, [], length};
 ghost use Rattle.fkv_base.specs.Limits.{max_sessions};
+ghost use Rattle.fkv_ops.specs.AsksLeft.{AsksWhereLeft};
 ghost use Rattle.fkv_pending.specs.declared.pending_requests.PendingRequest.{PendingRequest};
 ghost use Rattle.fkv_session.specs.declared.catching_up.Catching.TheVariants.{Ended};
+ghost use Rattle.fkv_session.specs.AsksLeft.{catch_asks_left, most_catch_asks};
 ghost use Rattle.fkv_session.specs.CatchingUp.{refresh_begun, wake_begun, catch_ask, catch_next, catch_requests, cut_of, cut_at, seen_after, finishes, latch_wanted, latches, cuts, takes_up, enters_prepare, owing, refresh_ledto, protect_ledto, latch_ledto, finish_ledto, latch_marked};
 
-use crate::phase_words::{PhaseSaid, phase_said};
 use fkv_base::{Phase, Serial, Version};
 use fkv_epoch::{Protect, Refresh, RefreshAnswer, Seen as LoadedValues};
 use fkv_index::home_of;
@@ -14,7 +15,7 @@ use fkv_log::SeenOffsets;
 use fkv_ops::Seen;
 use fkv_pending::PendingList;
 use fkv_plane::{Ask, Places, SessionWord, passed};
-use fkv_words::CutWord;
+use fkv_words::{CutWord, PhaseSaid, phase_said};
 use std::marker::Model;
 
 /// How far the machine has come.
@@ -100,6 +101,8 @@ impl CatchUp {
     pub fn refresh(&mut self, seen: Seen, serial: Serial) -> Ask<()>
         ensures next { self.new ≡ record self.old { state = refresh_begun self.old.state seen serial.0 } }
         ensures ask { result ≡ catch_ask self.old.places self.old.session self.new.state [] }
+        ensures asks { (requests : List PendingRequest) → AsksWhereLeft (catch_asks_left self.new.state requests) result }
+        ensures bounded { (requests : List PendingRequest) → catch_asks_left self.new.state requests ≤ most_catch_asks requests }
     {
         self.seen = seen;
         self.serial = serial.0;
@@ -114,6 +117,8 @@ impl CatchUp {
     pub fn wake(&mut self, seen: Seen, serial: Serial) -> Ask<()>
         ensures next { self.new ≡ record self.old { state = wake_begun self.old.state seen serial.0 } }
         ensures ask { result ≡ catch_ask self.old.places self.old.session self.new.state [] }
+        ensures asks { (requests : List PendingRequest) → AsksWhereLeft (catch_asks_left self.new.state requests) result }
+        ensures bounded { (requests : List PendingRequest) → catch_asks_left self.new.state requests ≤ most_catch_asks requests }
     {
         self.seen = seen;
         self.serial = serial.0;
@@ -130,6 +135,8 @@ impl CatchUp {
         ensures requests { requests.new ≡ catch_requests self.old.state requests.old reply }
         ensures next { self.new ≡ record self.old { state = catch_next self.old.places self.old.bits self.old.session self.old.state requests.old reply } }
         ensures ask { result ≡ catch_ask self.old.places self.old.session self.new.state requests.new }
+        ensures asks { AsksWhereLeft (catch_asks_left self.new.state requests.new) result }
+        ensures fewer { 0 < catch_asks_left self.old.state requests.old → catch_asks_left self.new.state requests.new < catch_asks_left self.old.state requests.old }
         ensures same_length { length requests.new ≡ length requests.old }
     {
         match self.step {
@@ -160,7 +167,8 @@ impl CatchUp {
     /// What it asks now, with these requests that wait.
     #[tactic(auto, unfolding(crate::specs::CatchingUp::catching_ask))]
     pub fn ask(&self, requests: &PendingList) -> Ask<()>
-        ensures { result ≡ catch_ask self.now.places self.now.session self.now.state requests.now }
+        ensures ask { result ≡ catch_ask self.now.places self.now.session self.now.state requests.now }
+        ensures asks { AsksWhereLeft (catch_asks_left self.now.state requests.now) result }
     {
         match self.step {
             Catching::Ended => Ask::Done(()),

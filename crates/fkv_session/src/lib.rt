@@ -3,20 +3,22 @@
 #![tactic(auto)]
 
 mod answers;
+mod bounds;
 mod calls;
 mod catching_up;
 mod laws;
 mod leading;
 mod own_turns;
-mod phase_words;
 mod polling;
+mod request_laws;
 mod sessions;
 
 pub use answers::{Answer, Finished, Told};
+pub use bounds::law_of_asks;
 pub use catching_up::CatchUp;
-pub use laws::{law_of_cuts, law_of_refusals, law_sessions};
+pub use laws::{
+    law_of_cuts, law_of_latches, law_of_reads, law_of_refusals, law_of_replies, law_sessions,
+};
 pub use own_turns::OwnTurn;
+pub use request_laws::law_of_requests;
 pub use sessions::Session;
-
-#[cfg(test)]
-mod tests;

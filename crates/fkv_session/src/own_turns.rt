@@ -1,6 +1,9 @@
 //! The turn that a session makes where its log had no room.
-ghost use Rattle.std.specs.Prelude.{◌≡◌};
+ghost use Rattle.std.specs.Prelude.{◌≡◌, ◌<◌, ◌≤◌, true, false};
+ghost use Rattle.fkv_epoch.specs.Claiming.{takes_action};
+ghost use Rattle.fkv_ops.specs.AsksLeft.{AsksWhereLeft};
 ghost use Rattle.fkv_session.specs.declared.own_turns.OwnTurning.TheVariants.{Ended};
+ghost use Rattle.fkv_session.specs.AsksLeft.{own_turn_asks_left, most_own_turn_asks};
 ghost use Rattle.fkv_session.specs.OwnTurns.{own_turn_begun, own_turn_ask, own_turn_next, own_turn_given, scan_ledto, claim_ledto, shift_ledto, open_ledto, tail_told};
 
 use fkv_base::{Addr, Shape};
@@ -66,6 +69,8 @@ impl OwnTurn {
     pub fn start(&mut self) -> Ask<()>
         ensures next { self.new ≡ record self.old { state = own_turn_begun self.old.state } }
         ensures ask { result ≡ own_turn_ask self.old.shape self.new.state }
+        ensures asks { AsksWhereLeft (own_turn_asks_left self.old.shape self.new.state) result }
+        ensures bounded { own_turn_asks_left self.old.shape self.new.state ≤ most_own_turn_asks self.old.shape }
     {
         self.step = OwnTurning::Scans;
         passed(self.scan.start(), ())
@@ -76,6 +81,8 @@ impl OwnTurn {
     pub fn drive(&mut self, reply: u64) -> Ask<()>
         ensures next { self.new ≡ record self.old { state = own_turn_next self.old.shape self.old.state reply } }
         ensures ask { result ≡ own_turn_ask self.old.shape self.new.state }
+        ensures asks { AsksWhereLeft (own_turn_asks_left self.old.shape self.new.state) result }
+        ensures fewer { takes_action (own_turn_ask self.old.shape self.old.state) ≡ false → 0 < own_turn_asks_left self.old.shape self.old.state → own_turn_asks_left self.old.shape self.new.state < own_turn_asks_left self.old.shape self.old.state }
     {
         match self.step {
             OwnTurning::Ended => {}
@@ -104,6 +111,8 @@ impl OwnTurn {
     pub fn given(&mut self, action: Action) -> Ask<()>
         ensures next { self.new ≡ record self.old { state = own_turn_given self.old.state action } }
         ensures ask { result ≡ own_turn_ask self.old.shape self.new.state }
+        ensures asks { AsksWhereLeft (own_turn_asks_left self.old.shape self.new.state) result }
+        ensures fewer { takes_action (own_turn_ask self.old.shape self.old.state) ≡ true → own_turn_asks_left self.old.shape self.new.state < own_turn_asks_left self.old.shape self.old.state }
     {
         if let OwnTurning::Claims = self.step {
             let ask = self.claim.given(action);
@@ -115,7 +124,8 @@ impl OwnTurn {
     /// What it asks now.
     #[tactic(auto, unfolding(crate::specs::OwnTurns::own_turning_ask))]
     pub fn ask(&self) -> Ask<()>
-        ensures { result ≡ own_turn_ask self.now.shape self.now.state }
+        ensures ask { result ≡ own_turn_ask self.now.shape self.now.state }
+        ensures asks { AsksWhereLeft (own_turn_asks_left self.now.shape self.now.state) result }
     {
         match self.step {
             OwnTurning::Ended => Ask::Done(()),

@@ -1,7 +1,12 @@
 //! A session's calls.
-ghost use Rattle.std.specs.Prelude.{◌≡◌, ◌<◌, ◌≤◌, length};
+ghost use Rattle.std.specs.Prelude.{◌≡◌, ◌<◌, ◌≤◌, ◌*◌, ◌^◌, true, false, length};
 ghost use Rattle.fkv_base.specs.Limits.{max_sessions, max_pending, last_serial};
+ghost use Rattle.fkv_epoch.specs.Claiming.{takes_action};
+ghost use Rattle.fkv_ops.specs.AsksLeft.{AsksWhereLeft};
+ghost use Rattle.fkv_session.specs.declared.answers.Told.{Told};
+ghost use Rattle.fkv_session.specs.declared.sessions.Sitting.TheVariants.{Turns};
 ghost use Rattle.fkv_session.specs.Answers.{IsAnswered};
+ghost use Rattle.fkv_session.specs.AsksLeft.{session_asks_left, call_bound};
 ghost use Rattle.fkv_session.specs.Sessions.{session_begun, session_ask, session_next, session_given, call_begun, asks_after, is_word_ask, is_busy, IsOpened};
 
 use crate::answers::{Answer, Finished, Told, answered};
@@ -82,7 +87,7 @@ impl Model for Session {
 
     ghost view = { λ m. record { seat = record { places = m.places; shape = m.shape; number = m.number }; state = record { seen = m.seen; serial = m.serial; ticket = m.ticket; requests = m.requests; is_orphaned = m.is_orphaned; spare = m.spare; is_awake = m.is_awake; wants_turn = m.wants_turn; asks = m.asks; effect = m.effect; finished = m.finished.items; op = m.op; catching = m.catch.state; mailing = m.mail.step; attempt = m.attempt.state; leaving = m.leave.step; own_turn = m.own_turn.state; step = m.step } } };
 
-    ghost invariant = { λ m. (m.number < max_sessions) × (m.catch.places ≡ m.places) × (m.catch.bits ≡ m.shape.bucket_bits) × (m.catch.session ≡ m.number) × (m.mail.session ≡ m.number) × (m.attempt.places ≡ m.places) × (m.attempt.bits ≡ m.shape.bucket_bits) × (m.attempt.room ≡ m.shape.disk_pages * m.shape.page) × (m.attempt.session ≡ m.number) × (m.leave.session ≡ m.number) × (m.own_turn.shape ≡ m.shape) × (m.serial ≤ last_serial) × (length m.requests ≤ max_pending) × IsStepInRange m.requests m.finished.items m.op m.serial m.step };
+    ghost invariant = { λ m. (m.number < max_sessions) × (m.catch.places ≡ m.places) × (m.catch.bits ≡ m.shape.bucket_bits) × (m.catch.session ≡ m.number) × (m.mail.session ≡ m.number) × (m.attempt.places ≡ m.places) × (m.attempt.bits ≡ m.shape.bucket_bits) × (m.attempt.room ≡ m.shape.disk_pages * m.shape.page) × (m.attempt.session ≡ m.number) × (m.leave.session ≡ m.number) × (m.own_turn.shape ≡ m.shape) × (m.places.overflow ≡ m.shape.overflow) × (m.places.ring ≡ m.shape.frames * m.shape.page) × (m.serial ≤ last_serial) × (length m.requests ≤ max_pending) × IsStepInRange m.requests m.finished.items m.op m.serial m.step };
 }
 
 impl Session {
@@ -93,6 +98,10 @@ impl Session {
         requires serial { serial.0 ≤ last_serial }
         ensures shape { result.seat.shape ≡ shape }
         ensures number { result.seat.number ≡ number }
+        ensures sessions { result.seat.places.sessions ≡ shape.sessions }
+        ensures buckets { result.seat.places.buckets ≡ 2 ^ shape.bucket_bits }
+        ensures overflow { result.seat.places.overflow ≡ shape.overflow }
+        ensures ring { result.seat.places.ring ≡ shape.frames * shape.page }
         ensures seen { result.state.seen ≡ seen }
         ensures serial { result.state.serial ≡ serial.0 }
         ensures opened { IsOpened result.state }
@@ -128,6 +137,8 @@ impl Session {
     pub fn start(&mut self, call: Call) -> Ask<Answer>
         ensures next { self.new ≡ record self.old { state = session_begun self.old.seat self.old.state call } }
         ensures ask { IsAnswered (session_ask self.old.seat self.new.state) self.new.state.finished result }
+        ensures asks { AsksWhereLeft (session_asks_left self.old.seat self.new.state) result }
+        ensures bounded { session_asks_left self.old.seat self.new.state ≤ call_bound self.old.seat.shape call }
     {
         let ask = self.begin(call);
         answered(ask, self.finished())
@@ -137,6 +148,8 @@ impl Session {
     pub fn drive(&mut self, reply: u64) -> Ask<Answer>
         ensures next { self.new ≡ record self.old { state = session_next self.old.seat self.old.state reply } }
         ensures ask { IsAnswered (session_ask self.old.seat self.new.state) self.new.state.finished result }
+        ensures asks { AsksWhereLeft (session_asks_left self.old.seat self.new.state) result }
+        ensures fewer { takes_action (session_ask self.old.seat self.old.state) ≡ false → 0 < session_asks_left self.old.seat self.old.state → session_asks_left self.old.seat self.new.state < session_asks_left self.old.seat self.old.state }
     {
         let ask = self.go_on(reply);
         answered(ask, self.finished())
@@ -146,6 +159,8 @@ impl Session {
     pub fn given(&mut self, action: Action) -> Ask<Answer>
         ensures next { self.new ≡ record self.old { state = session_given self.old.seat self.old.state action } }
         ensures ask { IsAnswered (session_ask self.old.seat self.new.state) self.new.state.finished result }
+        ensures asks { AsksWhereLeft (session_asks_left self.old.seat self.new.state) result }
+        ensures fewer { (its : Told) → self.old.state.step ≡ Turns its → takes_action (session_ask self.old.seat self.old.state) ≡ true → session_asks_left self.old.seat self.new.state < session_asks_left self.old.seat self.old.state }
     {
         let ask = self.take(action);
         answered(ask, self.finished())
@@ -156,6 +171,8 @@ impl Session {
     pub fn begin(&mut self, call: Call) -> Ask<Told>
         ensures next { self.new ≡ record self.old { state = session_begun self.old.seat self.old.state call } }
         ensures ask { result ≡ session_ask self.old.seat self.new.state }
+        ensures asks { AsksWhereLeft (session_asks_left self.old.seat self.new.state) result }
+        ensures bounded { session_asks_left self.old.seat self.new.state ≤ call_bound self.old.seat.shape call }
     {
         self.asks = 0;
         self.effect = None;
@@ -169,6 +186,8 @@ impl Session {
     pub fn go_on(&mut self, reply: u64) -> Ask<Told>
         ensures next { self.new ≡ record self.old { state = session_next self.old.seat self.old.state reply } }
         ensures ask { result ≡ session_ask self.old.seat self.new.state }
+        ensures asks { AsksWhereLeft (session_asks_left self.old.seat self.new.state) result }
+        ensures fewer { takes_action (session_ask self.old.seat self.old.state) ≡ false → 0 < session_asks_left self.old.seat self.old.state → session_asks_left self.old.seat self.new.state < session_asks_left self.old.seat self.old.state }
     {
         self.count_ask();
         self.effect = None;
@@ -213,6 +232,8 @@ impl Session {
     pub fn take(&mut self, action: Action) -> Ask<Told>
         ensures next { self.new ≡ record self.old { state = session_given self.old.seat self.old.state action } }
         ensures ask { result ≡ session_ask self.old.seat self.new.state }
+        ensures asks { AsksWhereLeft (session_asks_left self.old.seat self.new.state) result }
+        ensures fewer { (its : Told) → self.old.state.step ≡ Turns its → takes_action (session_ask self.old.seat self.old.state) ≡ true → session_asks_left self.old.seat self.new.state < session_asks_left self.old.seat self.old.state }
     {
         if let Sitting::Turns(told) = self.step {
             let ask = self.own_turn.given(action);
@@ -224,7 +245,8 @@ impl Session {
     /// What it asks now.
     #[tactic(auto, unfolding(crate::specs::Sessions::sitting_ask))]
     pub fn ask(&self) -> Ask<Told>
-        ensures { result ≡ session_ask self.now.seat self.now.state }
+        ensures ask { result ≡ session_ask self.now.seat self.now.state }
+        ensures asks { AsksWhereLeft (session_asks_left self.now.seat self.now.state) result }
     {
         match self.step {
             Sitting::Idle(told) => Ask::Done(told),

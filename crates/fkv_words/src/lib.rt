@@ -10,6 +10,7 @@ mod home;
 mod laws;
 mod phase_number;
 mod phase_word;
+mod phase_words;
 
 pub use bucket_tail::BucketTail;
 pub use cut_word::CutWord;
@@ -18,6 +19,7 @@ pub use headers::Header;
 pub use home::{bucket_of, tag_of};
 pub use laws::law_words_apart;
 pub use phase_word::PhaseWord;
+pub use phase_words::{PhaseSaid, phase_said};
 
 #[cfg(test)]
 mod tests;

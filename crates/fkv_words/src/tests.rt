@@ -55,6 +55,29 @@ fn tails_have_their_words(rt: HostRuntime) {
 }
 
 #[test]
+fn a_word_says_a_phase_or_is_spoiled(rt: HostRuntime) {
+    let word = PhaseWord {
+        version: Version(7),
+        phase: Phase::WaitPending,
+    }
+    .pack();
+    assert!(rt;
+        matches!(
+            phase_said(word),
+            PhaseSaid::Says(Phase::WaitPending, Version(7))
+        )
+    );
+    assert!(rt;
+        matches!(phase_said(word + 8192), PhaseSaid::Spoiled),
+        "bit 13"
+    );
+    assert!(rt;
+        matches!(phase_said(65536), PhaseSaid::Spoiled),
+        "version 0"
+    );
+}
+
+#[test]
 fn phases_have_their_words(rt: HostRuntime) {
     let wait = PhaseWord {
         version: Version(7),

@@ -3,6 +3,7 @@ use Rattle.fkv_ops.proofs.LatchRuns.{each_holds, each_leaves}
 use Rattle.fkv_ops.proofs.Effected.{effects_true, each_may_stay, shares_first, kinds_so}
 use Rattle.fkv_ops.proofs.TryRuns.{each_is_true, effects_once, latches_kept}
 use Rattle.fkv_ops.proofs.EachAsk.{each_ask}
+use Rattle.fkv_ops.proofs.SpareRuns.{each_tells_spare, each_uses_spare}
 use Rattle.fkv_ops.proofs.laws.law_reasons.Goals as goal
 
 pub returns-clause-kinds : goal.returns-clause-kinds
@@ -34,3 +35,9 @@ returns-clause-leaves c = each_leaves
 
 pub returns-clause-asks : goal.returns-clause-asks
 returns-clause-asks c = each_ask
+
+pub returns-clause-spare : goal.returns-clause-spare
+returns-clause-spare c = each_tells_spare
+
+pub returns-clause-links : goal.returns-clause-links
+returns-clause-links c = each_uses_spare

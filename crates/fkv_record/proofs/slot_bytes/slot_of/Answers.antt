@@ -1,5 +1,6 @@
-use Rattle.std.proofs.Common.{refl}
+use Rattle.std.proofs.Common.{refl, arith}
 use Rattle.fkv_record.proofs.SlotApart.{parted_at, slot_read, slot_closed, slot_pointless}
+use Rattle.fkv_record.proofs.PointPlaces.{points_first}
 use Rattle.fkv_record.proofs.slot_bytes.slot_of.Goals as goal
 
 pub returns-then-front-ne-OPEN : goal.returns-then-front-ne-OPEN
@@ -10,7 +11,7 @@ returns-then-front-ne-OPEN c =
 pub returns-in_err-points : goal.returns-in_err-points
 returns-in_err-points c =
     let parts = parted_at c.args.numbers.now c.split_at.result.0.now c.split_at.result.1.now c.split_at.ensures.front_len c.split_at.ensures.front c.split_at.ensures.back in
-    rw c.from_residual.ensures (slot_pointless c.args.numbers.now c.split_at.result.0.now c.split_at.result.1.now parts c.in_err-points.ensures)
+    rw c.from_residual.ensures (slot_pointless c.args.numbers.now c.split_at.result.0.now c.split_at.result.1.now parts (points_first _ _ _ (omega (arith, c.split_at.ensures.back_len)) c.in_err-points.ensures))
 
 pub returns : goal.returns
 returns c =
@@ -22,5 +23,5 @@ returns c =
       end = refl;
       triples = refl;
       area = refl;
-      points = (c.in_ok-points.ensures c.in_ok-points.points).0 refl;
+      points = (points_first _ _ _ (omega (arith, c.split_at.ensures.back_len)) c.in_ok-points.ensures c.in_ok-points.points).0 refl;
     })

@@ -1,15 +1,16 @@
-use Rattle.std.proofs.Common.{◌∷◌, [], ◌∙◌, ap}
+use Rattle.std.proofs.Common.{◌≡◌, false, ◌∙◌, ap, subst}
+use Rattle.std.specs.Prelude.{OnOk}
 use Rattle.fkv_disk.specs.Bytes.{written}
+use Rattle.fkv_manifest.specs.Gating.{gate_leads, gate_start}
 use Rattle.fkv_recover.specs.Created.{laid_bytes}
 use Rattle.fkv_recover.proofs.creations.write_four.Goals as goal
 
 pub returns-clause-seen : goal.returns-clause-seen
-unfolding laid_bytes
+unfolding laid_bytes gate_leads
 returns-clause-seen g c = λ claim.
+    let old = g.D.Device.seen c.args.d.now in
     let claim1 = c.in_ok-write_synced.ensures.honest.0 claim in
     let claim2 = c.in_ok-write_synced-2.ensures.honest.0 claim1 in
-    let claim3 = c.in_ok-write_synced-3.ensures.honest.0 claim2 in
-    c.in_ok-write_synced-4.ensures.seen claim3
-    ∙ ap (λ s. written s 512 (165 ∷ [])) (c.in_ok-write_synced-3.ensures.seen claim2)
-    ∙ ap (λ s. written (written s 520 c.args.slot.now) 512 (165 ∷ [])) (c.in_ok-write_synced-2.ensures.seen claim1)
-    ∙ ap (λ s. written (written (written s 0 c.args.block.now) 520 c.args.slot.now) 512 (165 ∷ [])) (c.in_ok-write_synced.ensures.seen claim)
+    let behind : g.D.Device.seen c.write_synced-2.new.d ≡ written (written old 0 c.args.zeros.now) 0 c.args.block.now =
+    c.in_ok-write_synced-2.ensures.seen claim1 ∙ ap (λ s. written s 0 c.args.block.now) (c.in_ok-write_synced.ensures.seen claim) in
+    subst (λ s. OnOk c.put_slot.result (g.D.Device.seen c.put_slot.new.d ≡ gate_leads 512 8 c.args.slot (gate_start false) s)) behind (c.put_slot.ensures.seen claim2)

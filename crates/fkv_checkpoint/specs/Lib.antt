@@ -1,0 +1,6 @@
+pub mod Copied
+pub mod CopyWorld
+pub mod Copying
+pub mod Fuzzy
+pub mod FuzzyRun
+pub mod Triples

@@ -1,0 +1,219 @@
+//! How the index is copied into triples.
+ghost use Rattle.std.specs.Prelude.{◌≡◌, ◌+◌, ◌-◌, ◌*◌, ◌<◌, ◌≤◌, ◌^◌, length, IfOk, OnErr, Err};
+ghost use Rattle.fkv_base.specs.declared.faults.Fault.TheVariants.{Memory};
+ghost use Rattle.fkv_index.specs.Slots.{bucket_slots};
+ghost use Rattle.fkv_index.specs.Counted.{IsCounted};
+ghost use Rattle.fkv_checkpoint.specs.Triples.{copied_list, all_bytes};
+ghost use Rattle.fkv_checkpoint.specs.Copying.{copy_begun, bucket_entered, copy_ask, slot_after, link_led, copy_next, slot_copied, copied_at, copy_after, copy_asks_left, IsCopyingInRange};
+
+use crate::triple_buffers::TripleBuffer;
+use fkv_base::Fault;
+use fkv_plane::{Ask, Places};
+use fkv_record::Triple;
+use fkv_words::Entry;
+use std::alloc::Global;
+use std::marker::Model;
+
+/// How far the copy has come in its bucket. Its end is kept.
+#[derive(Clone, Copy)]
+pub(crate) enum CopyStep {
+    Ended,
+    LoadsSlot(usize),
+    LoadsLink,
+}
+
+/// How far the copy has come.
+#[derive(Clone, Copy)]
+pub(crate) struct Copying {
+    /// The bucket whose entries are copied, with those of the overflow buckets that follow it.
+    pub bucket: usize,
+    /// The place of the first word of the one whose slots are loaded.
+    pub base: usize,
+    /// How many links may still be followed, in all buckets together.
+    pub links: usize,
+    pub step: CopyStep,
+}
+
+/// Copies the entries of the index into triples, one load at a time, while others go on.
+#[derive(Drop)]
+pub struct IndexCopy {
+    places: Places,
+    copying: Copying,
+    triples: TripleBuffer,
+}
+
+impl Model for IndexCopy {
+    ghost use Rattle.std.specs.Prelude.{length};
+    ghost use Rattle.fkv_checkpoint.specs.Copying.{Copier, IsCopyInRange};
+
+    ghost Value = { Copier };
+
+    ghost view = { λ m. record { places = m.places; copying = m.copying; triples = m.triples.entries } };
+
+    ghost invariant = { λ m. IsCopyInRange m.places m.copying m.triples.space (length m.triples.entries) };
+}
+
+/// The slots of a bucket; its last word leads on.
+const BUCKET_SLOTS: usize = 7;
+
+impl IndexCopy {
+    /// A copy that is to begin, of a store with these places. Where memory for all triples that there can be is refused, none begins.
+    pub fn begin(alloc: Global, places: Places) -> Result<IndexCopy, Fault>
+        ensures made { IfOk result (λ copy. copy ≡ copy_begun places) }
+        ensures bounded { copy_asks_left places (copy_begun places).copying ≤ 8 * (places.buckets + places.overflow) }
+        ensures err { OnErr result (result ≡ Err Memory) }
+    {
+        let triples = TripleBuffer::new(alloc, BUCKET_SLOTS * (places.buckets + places.overflow))?;
+        let unbegun = Copying {
+            bucket: 0,
+            base: 0,
+            links: places.overflow,
+            step: CopyStep::Ended,
+        };
+        let copying = bucket_entered(&places, unbegun, 0);
+        Ok(IndexCopy {
+            places,
+            copying,
+            triples,
+        })
+    }
+
+    /// Goes on with the reply to its ask. At its end it stays where it is.
+    pub fn drive(&mut self, reply: u64) -> Ask<()>
+        ensures next { self.new ≡ copy_after self.old reply }
+        ensures ask { result ≡ copy_ask (copy_next self.old.places self.old.copying reply) }
+        ensures asks { IsCounted (copy_asks_left self.new.places self.new.copying) result }
+        ensures fewer { copy_asks_left self.new.places self.new.copying ≤ copy_asks_left self.old.places self.old.copying - 1 }
+    {
+        let triple = copied_at(self.copying, reply);
+        self.triples.put(triple);
+        self.copying = copy_next(&self.places, self.copying, reply);
+        self.ask()
+    }
+
+    /// What it asks now.
+    #[tactic(auto, unfolding(crate::specs::Copying::copy_step_ask, crate::specs::Copying::step_asks_left))]
+    pub fn ask(&self) -> Ask<()>
+        ensures ask { result ≡ copy_ask self.now.copying }
+        ensures asks { IsCounted (copy_asks_left self.now.places self.now.copying) result }
+    {
+        let c = self.copying;
+        match c.step {
+            CopyStep::Ended => Ask::Done(()),
+            CopyStep::LoadsSlot(slot) => Ask::Load(c.base + slot),
+            CopyStep::LoadsLink => Ask::Load(c.base + BUCKET_SLOTS),
+        }
+    }
+
+    /// How many triples were copied so far.
+    pub fn triples(&self) -> u64
+        ensures { result ≡ length self.now.triples }
+    {
+        self.triples.count() as u64
+    }
+
+    /// The bytes of the triples that were copied, for good.
+    pub fn into_bytes(self) -> Vec<u8>
+        ensures { result.items ≡ all_bytes self.triples }
+    {
+        self.triples.into_bytes()
+    }
+
+    /// The bytes of the triples that were copied so far.
+    pub fn bytes(&self) -> &[u8]
+        ensures { result.now ≡ all_bytes self.now.triples }
+    {
+        self.triples.bytes()
+    }
+}
+
+/// What a reply gives to copy: the triple of an entry, where a slot was loaded that has one.
+#[tactic(auto, unfolding(crate::specs::Copying::copied_at))]
+fn copied_at(copying: Copying, reply: u64) -> Option<Triple>
+    requires { copying.bucket < 2 ^ 32 }
+    ensures { copied_list result ≡ copied_at copying copying.step reply }
+{
+    match copying.step {
+        CopyStep::LoadsSlot(_) => slot_copied(copying.bucket, reply),
+        CopyStep::LoadsLink | CopyStep::Ended => None,
+    }
+}
+
+/// The triple of the entry that a slot of this bucket has, if it has one.
+fn slot_copied(bucket: usize, word: u64) -> Option<Triple>
+    requires { bucket < 2 ^ 32 }
+    ensures { copied_list result ≡ slot_copied bucket word }
+{
+    let entry = Entry::unpack(word)?;
+    Some(Triple {
+        bucket: bucket as u32,
+        tag: entry.tag,
+        addr: entry.addr,
+    })
+}
+
+/// Where the reply leads.
+#[tactic(auto, unfolding(crate::specs::Copying::copy_step_next))]
+fn copy_next(places: &Places, copying: Copying, reply: u64) -> Copying
+    requires { IsCopyingInRange places.now copying }
+    ensures next { result ≡ copy_next places.now copying reply }
+    ensures range { IsCopyingInRange places.now result }
+{
+    match copying.step {
+        CopyStep::Ended => copying,
+        CopyStep::LoadsSlot(slot) => Copying {
+            step: slot_after(slot),
+            ..copying
+        },
+        CopyStep::LoadsLink => link_led(places, copying, reply & (1 << 48) - 1),
+    }
+}
+
+/// The next slot, or the link behind the last.
+fn slot_after(slot: usize) -> CopyStep
+    requires { slot < bucket_slots }
+    ensures { result ≡ slot_after slot }
+{
+    if slot + 1 < BUCKET_SLOTS {
+        CopyStep::LoadsSlot(slot + 1)
+    } else {
+        CopyStep::LoadsLink
+    }
+}
+
+/// The first slot of the overflow bucket that follows, or the next bucket.
+fn link_led(places: &Places, copying: Copying, number: u64) -> Copying
+    requires bucket { copying.bucket < places.now.buckets }
+    requires base { copying.base < 2 ^ 32 }
+    ensures { result ≡ link_led places.now copying number }
+{
+    if number > 0 && number <= places.overflow as u64 && copying.links > 0 {
+        Copying {
+            base: places.overflow(number as usize, 0),
+            links: copying.links - 1,
+            step: CopyStep::LoadsSlot(0),
+            ..copying
+        }
+    } else {
+        bucket_entered(places, copying, copying.bucket + 1)
+    }
+}
+
+/// The first slot of a bucket, or the end.
+fn bucket_entered(places: &Places, copying: Copying, bucket: usize) -> Copying
+    ensures { result ≡ bucket_entered places.now copying bucket }
+{
+    if bucket < places.buckets {
+        Copying {
+            bucket,
+            base: places.bucket(bucket, 0),
+            step: CopyStep::LoadsSlot(0),
+            ..copying
+        }
+    } else {
+        Copying {
+            step: CopyStep::Ended,
+            ..copying
+        }
+    }
+}

@@ -1,0 +1,26 @@
+//! What holds of every copy.
+ghost use Rattle.fkv_checkpoint.specs.Copied.{CopiesAllTold, CopyEnds, CopiesTriples, CopyFits};
+ghost use Rattle.fkv_checkpoint.specs.Fuzzy.{AtEachCopy, CopiedHaveStood, HomesOnce, NoneLeftOut};
+ghost use Rattle.fkv_checkpoint.specs.FuzzyRun.{FuzzyRun};
+
+/// Whatever the replies: a copy has one triple for each entry that a load of a slot was told, in the order of the loads, and no
+/// others, seven for each bucket at most, and it ends after eight replies for each bucket at the latest.
+pub fn law_copied()
+    ensures told { CopiesAllTold }
+    ensures ends { CopyEnds }
+    ensures triples { CopiesTriples }
+    ensures fits { CopyFits }
+{}
+
+/// Whatever others do to the index meanwhile: each entry that was copied stood in the index at a step of the copy, and no home was
+/// copied twice. At the end of the copy each home that had an entry when it began was copied, with that entry or a newer one.
+pub fn law_fuzzy_copy()
+    ensures stood { AtEachCopy CopiedHaveStood }
+    ensures once { AtEachCopy HomesOnce }
+    ensures whole { AtEachCopy NoneLeftOut }
+{}
+
+/// A copy while entries are published: the one in front of it is copied, and the one behind it isn't.
+pub fn law_of_a_fuzzy_copy()
+    ensures { FuzzyRun }
+{}

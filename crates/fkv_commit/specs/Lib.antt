@@ -1,0 +1,12 @@
+pub mod AsksLeft
+pub mod Commits
+pub mod Cuts
+pub mod Deferring
+pub mod Entering
+pub mod Exchanges
+pub mod Finishing
+pub mod Phases
+pub mod Points
+pub mod Seeking
+pub mod Starting
+pub mod Waiting

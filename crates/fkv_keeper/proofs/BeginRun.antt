@@ -1,0 +1,110 @@
+-- A commit that begins: as long as it asks nothing is begun, and at its end the commit in hand is the one that has begun, or the one of before.
+use Rattle.std.proofs.Common.{◌≡◌, ◌∙◌, ℕ, refl, sym, subst, Bool, true, false}
+use Rattle.std.specs.Prelude.{Option, Some, if◌then◌else◌, Result}
+use Rattle.fkv_base.specs.declared.faults.Fault.{Fault}
+use Rattle.fkv_base.specs.declared.faults.Fault.TheVariants as fault
+use Rattle.fkv_base.specs.declared.numbers.Version.{Version}
+use Rattle.fkv_base.specs.declared.shapes.Shape.{Shape}
+use Rattle.fkv_plane.specs.declared.asks.Ask.{Ask}
+use Rattle.fkv_plane.specs.declared.asks.Ask.TheVariants.{Load, Store, Swap, Cas, Add, Max, Put, Take, Done}
+use Rattle.fkv_plane.specs.declared.places.Places.{Places}
+use Rattle.fkv_plane.specs.Passing.{is_done, passed}
+use Rattle.fkv_commit.specs.declared.commits.Commit.{Commit}
+use Rattle.fkv_commit.specs.declared.commits.CommitKind.{CommitKind}
+use Rattle.fkv_commit.specs.declared.starting.StartAnswer.{StartAnswer}
+use Rattle.fkv_commit.specs.declared.starting.StartAnswer.TheVariants as start
+use Rattle.fkv_commit.specs.Starting.{start_ask, start_next}
+use Rattle.fkv_manifest.specs.Committing.{CommitWriter}
+use Rattle.fkv_keeper.specs.declared.answers.KeeperTold.{KeeperTold}
+use Rattle.fkv_keeper.specs.declared.answers.KeeperTold.TheVariants.{Begun, CommitRefused}
+use Rattle.fkv_keeper.specs.declared.keepers.Keeping.{Keeping}
+use Rattle.fkv_keeper.specs.declared.keepers.Keeping.TheVariants.{Ended, Starts}
+use Rattle.fkv_keeper.specs.Keeping.{KeeperState, keeping_ask, keeper_ask, start_ledto, keeping_next, keeper_next, commit_asked}
+use Rattle.fkv_keeper.specs.Running.{IsBeginTold, IsCommitBegun}
+use Rattle.fkv_keeper.proofs.KeeperLeft.{never}
+
+abbrev pub Begins : Option Commit → KeeperState → Keeping → Type 0
+Begins before s Starts = s.commit ≡ before
+Begins before s (Ended (Begun number)) = (c : Commit) × (s.commit ≡ Some c) × (c.number ≡ number)
+Begins before s (Ended (CommitRefused why)) = s.commit ≡ before
+Begins before s step = ⊥
+
+pub begins_first : (s : KeeperState) (kind : CommitKind) → Begins s.commit (commit_asked s kind) (commit_asked s kind).step
+begins_first s kind = cases s.is_broken
+  where
+    first : KeeperState
+    first = record s { start = (commit_asked (record s { is_broken = false }) kind).start; step = Starts }
+
+    cases : (b : Bool) → Begins s.commit (if b then record s { step = Ended (CommitRefused fault.Broken) } else first) (if b then record s { step = Ended (CommitRefused fault.Broken) } else first).step
+    cases true = refl
+    cases false = refl
+
+inside : (before : Option Commit) (s : KeeperState) → s.step ≡ Starts → s.commit ≡ before → Begins before s s.step
+inside before s at same = rw at same
+
+start_led : (before : Option Commit) (s : KeeperState) (ask : Ask StartAnswer) → s.step ≡ Starts → s.commit ≡ before → Begins before (start_ledto s ask) (start_ledto s ask).step
+unfolding start_ledto
+start_led before s (Done (start.Begun number first)) at same = (_, refl, refl)
+start_led before s (Done (start.Refused why)) at same = same
+start_led before s (Done start.Idle) at same = same
+start_led before s ask at same = inside before s at same
+
+begins_step : (before : Option Commit) (shape : Shape) (p : Places) (s : KeeperState) (step : Keeping) (reply : ℕ) (granted : Bool) (writes : CommitWriter) → s.step ≡ step → Begins before s step → is_done (keeping_ask shape p s step) ≡ false
+    → Begins before (keeping_next shape p s step reply granted writes) (keeping_next shape p s step reply granted writes).step
+unfolding keeping_ask keeping_next
+begins_step before shape p s Starts reply granted writes at begins asks = start_led before (record s { start = start_next s.start reply }) (start_ask (start_next s.start reply)) at begins
+begins_step before shape p s (Ended its) reply granted writes at begins asks = never asks
+begins_step before shape p s step reply granted writes at begins asks = absurd begins
+
+pub begins_next : (before : Option Commit) (shape : Shape) (p : Places) (s : KeeperState) (reply : ℕ) (granted : Bool) (writes : CommitWriter) → Begins before s s.step → is_done (keeper_ask shape p s) ≡ false
+    → Begins before (keeper_next shape p s reply granted writes) (keeper_next shape p s reply granted writes).step
+begins_next before shape p s reply granted writes begins asks = begins_step before shape p s s.step reply granted writes refl begins asks
+
+-- at its end
+passed_end : (before now : Option Commit) (ask : Ask StartAnswer) (told : KeeperTold) (result : Result Version Fault) → passed ask (CommitRefused fault.CommitRunning) ≡ Done told → IsBeginTold (Done told) result → now ≡ before → IsCommitBegun before now result
+unfolding passed
+passed_end before now (Done its) told result e ends same = let last : IsBeginTold (Done (CommitRefused fault.CommitRunning)) result = subst (λ (a : Ask KeeperTold). IsBeginTold a result) (sym e) ends in rw last same
+passed_end before now (Load place) told result e ends same = cc
+passed_end before now (Store place new) told result e ends same = cc
+passed_end before now (Swap place new) told result e ends same = cc
+passed_end before now (Cas place old new) told result e ends same = cc
+passed_end before now (Add place k) told result e ends same = cc
+passed_end before now (Max place k) told result e ends same = cc
+passed_end before now (Put slot action) told result e ends same = cc
+passed_end before now (Take slot) told result e ends same = cc
+
+step_ends : (before : Option Commit) (shape : Shape) (p : Places) (s : KeeperState) (step : Keeping) (told : KeeperTold) (result : Result Version Fault) → Begins before s step → keeping_ask shape p s step ≡ Done told → IsBeginTold (Done told) result
+    → IsCommitBegun before s.commit result
+unfolding keeping_ask
+step_ends before shape p s Starts told result begins e ends = passed_end before s.commit (start_ask s.start) told result e ends begins
+step_ends before shape p s (Ended (Begun number)) told result begins e ends =
+    let last : IsBeginTold (Done (Begun number)) result = subst (λ (a : Ask KeeperTold). IsBeginTold a result) (sym e) ends in rw last begins
+step_ends before shape p s (Ended (CommitRefused why)) told result begins e ends =
+    let last : IsBeginTold (Done (CommitRefused why)) result = subst (λ (a : Ask KeeperTold). IsBeginTold a result) (sym e) ends in rw last begins
+step_ends before shape p s step told result begins e ends = absurd begins
+
+pub begin_ends : (before : Option Commit) (shape : Shape) (p : Places) (s : KeeperState) (told : KeeperTold) (result : Result Version Fault) → Begins before s s.step → keeper_ask shape p s ≡ Done told → IsBeginTold (Done told) result
+    → IsCommitBegun before s.commit result
+begin_ends before shape p s told result begins e ends = step_ends before shape p s s.step told result begins e ends
+
+step_stops : (before : Option Commit) (shape : Shape) (p : Places) (s : KeeperState) (step : Keeping) → Begins before s step → is_done (keeping_ask shape p s step) ≡ false → s.commit ≡ before
+unfolding keeping_ask
+step_stops before shape p s Starts begins asks = begins
+step_stops before shape p s (Ended its) begins asks = never asks
+step_stops before shape p s step begins asks = absurd begins
+
+pub begin_stops : (before : Option Commit) (shape : Shape) (p : Places) (s : KeeperState) → Begins before s s.step → is_done (keeper_ask shape p s) ≡ false → s.commit ≡ before
+begin_stops before shape p s begins asks = step_stops before shape p s s.step begins asks
+
+-- where the device has failed in an earlier call
+pub broken_begun : (shape : Shape) (p : Places) (s : KeeperState) (kind : CommitKind) → (commit_asked s kind).is_broken ≡ true
+    → (keeper_ask shape p (commit_asked s kind) ≡ Done (CommitRefused fault.Broken)) × ((commit_asked s kind).commit ≡ s.commit)
+unfolding keeping_ask
+broken_begun shape p s kind broken = cases s.is_broken refl broken
+  where
+    asked : Bool → KeeperState
+    asked b = if b then record s { step = Ended (CommitRefused fault.Broken) } else record s { start = (commit_asked (record s { is_broken = false }) kind).start; step = Starts }
+
+    cases : (b : Bool) → s.is_broken ≡ b → (asked b).is_broken ≡ true → (keeper_ask shape p (asked b) ≡ Done (CommitRefused fault.Broken)) × ((asked b).commit ≡ s.commit)
+    cases true at broken = (refl, refl)
+    cases false at broken = never (sym broken ∙ at)

@@ -1,0 +1,12 @@
+mod BeginRun
+mod KeeperBegun
+mod KeeperDevice
+mod KeeperFewer
+mod KeeperLeft
+mod KeeperRuns
+mod KeeperSound
+mod KeeperTakes
+mod MaintainLeft
+mod PointsWritten
+mod TakesNone
+mod TurnRun

@@ -1,0 +1,18 @@
+-- The law, by what holds at every moment.
+use Rattle.fkv_keeper.proofs.KeeperRuns.{copy_again, run_broken, run_finished, run_memory, run_number}
+use Rattle.fkv_keeper.proofs.laws.law_of_the_keeper.Goals as goal
+
+pub returns-clause-broken : goal.returns-clause-broken
+returns-clause-broken c = λ shape p opening events opened right failed. run_broken shape p opening events opened right failed
+
+pub returns-clause-finished : goal.returns-clause-finished
+returns-clause-finished c = λ shape p opening events opened right finishes. run_finished shape p opening events opened right finishes
+
+pub returns-clause-memory : goal.returns-clause-memory
+returns-clause-memory c = λ shape p opening events event opened right calling ends. run_memory shape p opening events event opened right calling ends
+
+pub returns-clause-number : goal.returns-clause-number
+returns-clause-number c = λ shape p opening events event full opened right calling ends. run_number shape p opening events event full opened right calling ends
+
+pub returns-clause-again : goal.returns-clause-again
+returns-clause-again c = λ shape p s. copy_again shape p s

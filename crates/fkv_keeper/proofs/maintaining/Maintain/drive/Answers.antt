@@ -1,0 +1,21 @@
+-- It asks or calls where some are left, and fewer are.
+use Rattle.std.proofs.Common.{rules, ◌≡◌}
+use Rattle.fkv_keeper.specs.Maintaining.{maintaining_next, maintain_ask, maintain_next}
+use Rattle.fkv_keeper.proofs.MaintainLeft.{maintain_asked, maintain_fewer}
+use Rattle.fkv_keeper.proofs.maintaining.Maintain.drive.Goals as goal
+
+pub returns-clause-left : goal.returns-clause-left
+unfolding maintaining_next
+returns-clause-left c =
+    let before = c.args.self.now in
+    let next = maintain_next before.shape before.places before.state c.args.reply in
+    let its : c.match-self.self ≡ record before { state = next } = search rules in
+    let asked : c.ask.result ≡ maintain_ask before.shape before.places next = rw its at c.ask.ensures in
+    rw its (maintain_asked before.shape before.places next c.ask.result asked)
+
+pub returns-clause-fewer : goal.returns-clause-fewer
+unfolding maintaining_next
+returns-clause-fewer c =
+    let before = c.args.self.now in
+    let its : c.match-self.self ≡ record before { state = maintain_next before.shape before.places before.state c.args.reply } = search rules in
+    rw its (maintain_fewer before.shape before.places before.state c.args.reply)

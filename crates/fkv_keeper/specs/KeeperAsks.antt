@@ -1,0 +1,118 @@
+-- What the keeper makes of the device, and how many asks and calls of the device a call in hand has left.
+use Rattle.std.specs.Prelude.{◌≡◌, ℕ, ◌+◌, ◌*◌, ◌<◌, ◌↔◌, List, [], Bool, true, Option, Some, None, Result, is_ok}
+use Rattle.fkv_base.specs.Limits.{drain_slots}
+use Rattle.fkv_base.specs.declared.faults.Fault.{Fault}
+use Rattle.fkv_base.specs.declared.shapes.Shape.{Shape}
+use Rattle.fkv_disk.specs.Bytes.{bytes_at}
+use Rattle.fkv_disk.specs.Calls.{Call}
+use Rattle.fkv_disk.specs.Device.{HasCause, MakesCalls}
+use Rattle.fkv_plane.specs.declared.asks.Ask.{Ask}
+use Rattle.fkv_plane.specs.declared.asks.Ask.TheVariants.{Done}
+use Rattle.fkv_plane.specs.declared.places.Places.{Places}
+use Rattle.fkv_checkpoint.specs.Copying.{Copier, copy_asks_left}
+use Rattle.fkv_commit.specs.AsksLeft.{sum_left, start_asks_left, enter_asks_left, seek_asks_left, wait_asks_left, finish_asks_left}
+use Rattle.fkv_flush.specs.Devices.{Adds}
+use Rattle.fkv_flush.specs.Serving.{mail_place}
+use Rattle.fkv_manifest.specs.declared.commits.Committing.{Committing}
+use Rattle.fkv_manifest.specs.declared.commits.Committing.TheVariants as writing
+use Rattle.fkv_manifest.specs.Committing.{CommitWriter, commit_answer, commit_call}
+use Rattle.fkv_manifest.specs.Gating.{GateWriter, gate_calls_left}
+use Rattle.fkv_manifest.specs.Devices.{calls_next}
+use Rattle.fkv_manifest.specs.Made.{with_call}
+use Rattle.fkv_keeper.specs.declared.answers.KeeperTold.{KeeperTold}
+use Rattle.fkv_keeper.specs.declared.answers.KeeperTold.TheVariants.{Device}
+use Rattle.fkv_keeper.specs.declared.keepers.Keeping.{Keeping}
+use Rattle.fkv_keeper.specs.declared.keepers.Keeping.TheVariants.{Ended, Starts, Maintains, LoadsPhase, Enters, Copies, Seeks, Waits, Writes, Finishes}
+use Rattle.fkv_keeper.specs.Answers.{is_busy}
+use Rattle.fkv_keeper.specs.AsksLeft.{maintain_asks_left, most_maintain_asks}
+use Rattle.fkv_keeper.specs.Keeping.{KeeperModel, KeeperState, keeper_called}
+use Rattle.fkv_keeper.specs.Maintaining.{maintain_calls, maintain_made}
+
+-- how many calls of the device it makes
+unfoldable pub keeping_made : Places → KeeperState → Keeping → ℕ
+keeping_made p s Maintains = maintain_made p s.maintain
+keeping_made p s Writes = calls_next (commit_answer s.writes)
+keeping_made p s step = 0
+
+abbrev pub keeper_made : Places → KeeperState → ℕ
+keeper_made p s = keeping_made p s s.step
+
+-- one where it asks for one, and else none
+abbrev pub keeper_calls_asked : Ask KeeperTold → ℕ
+keeper_calls_asked (Done Device) = 1
+keeper_calls_asked ask = 0
+
+-- the write or sync that it makes of the device, and whether it succeeded
+unfoldable pub keeping_calls : Shape → KeeperState → Keeping → Bool → List Call
+keeping_calls shape s Maintains done = maintain_calls shape s.maintain done
+keeping_calls shape s Writes done = with_call (commit_call s.writes done) []
+keeping_calls shape s step done = []
+
+abbrev pub keeper_calls : Shape → KeeperState → Bool → List Call
+keeper_calls shape s done = keeping_calls shape s s.step done
+
+-- what a device of these bytes gives for the address of the mailbox that is served
+abbrev pub keeper_read : KeeperModel → List ℕ → List ℕ
+keeper_read k seen = bytes_at seen (mail_place k.shape k.state.maintain.serving) 24
+
+-- A step at the device: it was called, and what the device counts and refuses says with what result; by this the keeper went on. An honest
+-- device took what the keeper writes, and gave what it reads as.
+pub record IsDeviceStep (k : KeeperModel) (honest : Type 0) (failed failed' : ℕ) (refuses refuses' : ℕ → Bool) (seen seen' : List ℕ) (may_leave may_leave' : List ℕ → Type 0) (next : KeeperModel) : Type 0 where
+  pub called : Result (Ask KeeperTold) Fault
+  pub bytes : List ℕ
+  pub went_on : next ≡ record k { state = keeper_called k.shape k.places k.state (is_ok called) bytes }
+  pub cause : HasCause failed failed' called
+  pub counted : MakesCalls (keeper_made k.places k.state) refuses refuses' called
+  pub read : honest → next ≡ record k { state = keeper_called k.shape k.places k.state (is_ok called) (keeper_read k seen) }
+  pub wrote : honest → Adds (keeper_calls k.shape k.state (is_ok called)) seen seen' may_leave may_leave'
+
+-- the calls that the writes of a commit have left, at most: two for the triples, and those of the slot
+abbrev pub committing_calls_left : GateWriter → Committing → ℕ
+committing_calls_left gate writing.WritesTriples = gate_calls_left gate.step + 2
+committing_calls_left gate writing.SyncsTriples = gate_calls_left gate.step + 1
+committing_calls_left gate writing.PutsSlot = gate_calls_left gate.step
+committing_calls_left gate (writing.Broken why) = 0
+
+abbrev pub writes_left : CommitWriter → ℕ
+writes_left w = committing_calls_left w.gate w.step
+
+abbrev pub copy_left : Option Copier → ℕ
+copy_left None = 0
+copy_left (Some m) = copy_asks_left m.places m.copying
+
+-- behind the wait come eight calls, the durable words and rest
+abbrev pub most_write_asks : ℕ → ℕ
+most_write_asks sessions = 8 + (sessions + 1)
+
+-- what is done for the commit in hand, whichever part it is: wait-pending is deferred, the index is copied, the points are sought, or the commit
+-- waits and is written
+abbrev pub most_part_asks : Places → ℕ → ℕ → ℕ
+most_part_asks p seeks finishes = (2 * drain_slots + 4) + 8 * (p.buckets + p.overflow) + (4 * seeks + 2 * drain_slots + 7) + (2 + most_write_asks finishes)
+
+-- The asks and calls that are left, at most: those of the machine inside that is under way, and of what may come behind it. A machine that is at its
+-- end asks for nothing, and nothing comes behind it.
+unfoldable pub keeping_asks_left : Shape → Places → KeeperState → Keeping → ℕ
+keeping_asks_left shape p s (Ended its) = 0
+keeping_asks_left shape p s Starts = start_asks_left s.start
+keeping_asks_left shape p s Maintains = sum_left (maintain_asks_left shape s.maintain) (most_part_asks p s.seek.sessions s.finish.sessions + 1)
+keeping_asks_left shape p s LoadsPhase = most_part_asks p s.seek.sessions s.finish.sessions + 1
+keeping_asks_left shape p s Enters = enter_asks_left s.enter
+keeping_asks_left shape p s Copies = copy_left s.copy
+keeping_asks_left shape p s Seeks = seek_asks_left s.seek
+keeping_asks_left shape p s Waits = sum_left (wait_asks_left s.wait) (most_write_asks s.finish.sessions)
+keeping_asks_left shape p s Writes = sum_left (writes_left s.writes) (s.finish.sessions + 1)
+keeping_asks_left shape p s Finishes = finish_asks_left s.finish
+
+abbrev pub keeper_asks_left : Shape → Places → KeeperState → ℕ
+keeper_asks_left shape p s = keeping_asks_left shape p s s.step
+
+-- a commit's beginning, and a turn
+abbrev pub most_begin_asks : ℕ
+most_begin_asks = 2 * drain_slots + 7
+
+abbrev pub most_turn_asks : Shape → Places → ℕ
+most_turn_asks shape p = most_maintain_asks shape + (most_part_asks p shape.sessions shape.sessions + 1)
+
+-- a call is in hand just where some are left
+abbrev pub IsBusyWhereLeft : ℕ → Ask KeeperTold → Type 0
+IsBusyWhereLeft left ask = (is_busy ask ≡ true) ↔ (0 < left)

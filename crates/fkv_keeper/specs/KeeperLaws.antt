@@ -1,0 +1,83 @@
+-- What holds of a keeper at every moment of a run.
+use Rattle.std.specs.Prelude.{◌≡◌, ℕ, ⊤, true, false, Option, Some, None}
+use Rattle.fkv_base.specs.declared.faults.Fault.TheVariants as fault
+use Rattle.fkv_base.specs.declared.shapes.Shape.{Shape}
+use Rattle.fkv_record.specs.Places.{area_place}
+use Rattle.fkv_plane.specs.declared.asks.Ask.TheVariants.{Done}
+use Rattle.fkv_plane.specs.declared.places.Places.{Places}
+use Rattle.fkv_base.specs.declared.phases.Phase.TheVariants as phase
+use Rattle.fkv_words.specs.declared.phase_words.PhaseSaid.TheVariants.{Says}
+use Rattle.fkv_words.specs.PhaseWords.{phase_said}
+use Rattle.fkv_checkpoint.specs.Copying.{copy_begun}
+use Rattle.fkv_commit.specs.declared.commits.Commit.{Commit}
+use Rattle.fkv_commit.specs.declared.commits.CommitKind.{CommitKind}
+use Rattle.fkv_manifest.specs.declared.answers.WriteAnswer.TheVariants as write
+use Rattle.fkv_manifest.specs.Committing.{CommitWriter, commit_start, commit_answer}
+use Rattle.fkv_manifest.specs.Made.{commit_run}
+use Rattle.fkv_keeper.specs.declared.answers.KeeperTold.{KeeperTold}
+use Rattle.fkv_keeper.specs.declared.answers.KeeperTold.TheVariants.{TurnRefused, CommitRefused}
+use Rattle.fkv_keeper.specs.declared.keepers.Keeping.{Keeping}
+use Rattle.fkv_keeper.specs.declared.keepers.Keeping.TheVariants.{Ended, Maintains, LoadsPhase, Copies, Finishes}
+use Rattle.fkv_base.specs.declared.numbers.Version.{Version}
+use Rattle.fkv_keeper.specs.LastCommits.{area_number}
+use Rattle.fkv_keeper.specs.Keeping.{KeeperState, AreGateWritesOf, ended, turn_asked, commit_asked, keeper_ask, keeper_next}
+use Rattle.fkv_keeper.specs.KeeperRun.{KeeperEvent, Writing, keeper_happens}
+
+-- a refusal of a turn, or of a commit
+abbrev pub IsRefusal : KeeperTold → Type 0
+IsRefusal (TurnRefused why) = ⊤
+IsRefusal (CommitRefused why) = ⊤
+IsRefusal told = ⊥
+
+-- The last call was refused, nothing is asked for any more, and each turn and each commit that is begun is refused.
+pub record IsBrokenForGood (shape : Shape) (p : Places) (s : KeeperState) : Type 0 where
+  pub told : KeeperTold
+  pub refused : IsRefusal told
+  pub asks_nothing : keeper_ask shape p s ≡ Done told
+  pub no_turn : keeper_ask shape p (turn_asked s) ≡ Done (TurnRefused fault.Broken)
+  pub no_commit : (kind : CommitKind) → keeper_ask shape p (commit_asked s kind) ≡ Done (CommitRefused fault.Broken)
+
+-- These are the writes of the commit, with the triples of the checkpoint that it uses, as they begin.
+pub record AreWritesOfCommit (shape : Shape) (s : KeeperState) (c : Commit) (first : CommitWriter) : Type 0 where
+  pub area : first.area ≡ area_place shape (area_number s.used.area)
+  pub step : first.step ≡ commit_start first.triples
+  pub gate : AreGateWritesOf shape s c s.used first.gate
+
+-- All writes of the commit in hand were made, and each call of the device since they began has succeeded: the last sync has answered.
+pub record IsWritten (shape : Shape) (s : KeeperState) (w : Writing) : Type 0 where
+  pub commit : Commit
+  pub in_hand : s.commit ≡ Some commit
+  pub writes : AreWritesOfCommit shape s commit w.first
+  pub answered : commit_answer (commit_run w.first w.answers) ≡ write.Written
+
+-- Nothing but this has changed: the turn has ended, and memory was refused. A commit is in hand that isn't copied.
+pub record IsMemoryRefused (s after : KeeperState) : Type 0 where
+  pub commit : Commit
+  pub in_hand : s.commit ≡ Some commit
+  pub not_copied : commit.is_copied ≡ false
+  pub same : after ≡ ended (record s { is_granted = false }) (TurnRefused fault.Memory)
+
+-- the number of the commit in hand
+abbrev pub number_in_hand : Option Commit → Option Version
+number_in_hand None = None
+number_in_hand (Some c) = Some c.number
+
+-- A turn that tells a commit as finished has stored the last of its words, and the commit's number is the one that is open.
+pub record IsFinishOfBegun (number : Option Version) (s after : KeeperState) : Type 0 where
+  pub finishes : s.step ≡ Finishes
+  pub its_number : number ≡ Some after.last.number
+  pub told : after.has_finished ≡ true
+
+-- no call is in hand, or a turn has not come to its part for the commit
+abbrev pub IsBeforePhase : Keeping → Type 0
+IsBeforePhase (Ended its) = ⊤
+IsBeforePhase Maintains = ⊤
+IsBeforePhase step = ⊥
+
+-- A turn keeps the commit up to its part for it. There, where the commit isn't copied in wait-pending, the copy begins from its first slot where
+-- memory is granted.
+pub record CopiesAgain (shape : Shape) (p : Places) (s : KeeperState) : Type 0 where
+  pub kept : (event : KeeperEvent) → IsBeforePhase s.step → (keeper_happens shape p s event).commit ≡ s.commit
+  pub begins : (c : Commit) (reply : ℕ) (writes : CommitWriter) (version : Version) → s.step ≡ LoadsPhase → s.commit ≡ Some c → c.is_copied ≡ false
+      → phase_said reply ≡ Says phase.WaitPending version
+      → keeper_next shape p s reply true writes ≡ record s { copy = Some (copy_begun p); is_granted = true; step = Copies }

@@ -1,0 +1,344 @@
+-- What the keeper does: it begins commits, and makes turns, in each of which it does what every turn does and then at most one thing for the
+-- commit in hand.
+use Rattle.std.specs.Prelude.{◌≡◌, ℕ, List, [], length, Bool, true, false, if◌then◌else◌, Option, Some, None, ⊤}
+use Rattle.fkv_base.specs.declared.faults.Fault.TheVariants as fault
+use Rattle.fkv_base.specs.declared.numbers.Addr.{Addr}
+use Rattle.fkv_base.specs.declared.numbers.Serial.{Serial}
+use Rattle.fkv_base.specs.declared.numbers.Version.{Version}
+use Rattle.fkv_base.specs.declared.phases.Phase.TheVariants as phase
+use Rattle.fkv_base.specs.declared.shapes.Shape.{Shape}
+use Rattle.fkv_words.specs.declared.phase_words.PhaseSaid.{PhaseSaid}
+use Rattle.fkv_words.specs.declared.phase_words.PhaseSaid.TheVariants.{Says}
+use Rattle.fkv_words.specs.PhaseWords.{phase_said}
+use Rattle.fkv_record.specs.declared.lost_ranges.LostRange.{LostRange}
+use Rattle.fkv_record.specs.Places.{area_place}
+use Rattle.fkv_plane.specs.declared.actions.Action.{Action}
+use Rattle.fkv_plane.specs.declared.asks.Ask.{Ask}
+use Rattle.fkv_plane.specs.declared.asks.Ask.TheVariants.{Load, Done}
+use Rattle.fkv_plane.specs.declared.places.Places.{Places}
+use Rattle.fkv_plane.specs.declared.places.SharedWord.TheVariants as one
+use Rattle.fkv_plane.specs.Passing.{passed}
+use Rattle.fkv_plane.specs.Places.{shared_place}
+use Rattle.fkv_checkpoint.specs.Copying.{Copier, copy_begun, copy_ask, copy_after}
+use Rattle.fkv_checkpoint.specs.Triples.{all_bytes}
+use Rattle.fkv_commit.specs.declared.commits.Commit.{Commit}
+use Rattle.fkv_commit.specs.declared.commits.CommitKind.{CommitKind}
+use Rattle.fkv_commit.specs.declared.commits.CommitKind.TheVariants.{Full, Log}
+use Rattle.fkv_commit.specs.declared.entering.EnterAnswer.{EnterAnswer}
+use Rattle.fkv_commit.specs.declared.entering.EnterAnswer.TheVariants as enter
+use Rattle.fkv_commit.specs.declared.finishing.FinishAnswer.{FinishAnswer}
+use Rattle.fkv_commit.specs.declared.seeking.SeekAnswer.{SeekAnswer}
+use Rattle.fkv_commit.specs.declared.seeking.SeekAnswer.TheVariants as seek
+use Rattle.fkv_commit.specs.declared.starting.StartAnswer.{StartAnswer}
+use Rattle.fkv_commit.specs.declared.starting.StartAnswer.TheVariants as start
+use Rattle.fkv_commit.specs.declared.waiting.WaitAnswer.{WaitAnswer}
+use Rattle.fkv_commit.specs.declared.waiting.WaitAnswer.TheVariants as wait
+use Rattle.fkv_commit.specs.Commits.{commit_begun}
+use Rattle.fkv_commit.specs.Entering.{EnterState, enter_begun, enter_ask, enter_next}
+use Rattle.fkv_commit.specs.Finishing.{FinishState, finish_begun, finish_ask, finish_next}
+use Rattle.fkv_commit.specs.Seeking.{SeekState, seek_begun, seek_ask, seek_next}
+use Rattle.fkv_commit.specs.Starting.{StartState, start_begun, start_ask, start_next}
+use Rattle.fkv_commit.specs.Waiting.{WaitState, wait_begun, wait_ask, wait_next}
+use Rattle.fkv_manifest.specs.declared.answers.WriteAnswer.{WriteAnswer}
+use Rattle.fkv_manifest.specs.declared.answers.WriteAnswer.TheVariants as write
+use Rattle.fkv_manifest.specs.Committing.{CommitWriter, commit_start, commit_next, commit_answer}
+use Rattle.fkv_manifest.specs.Gating.{GateWriter, gate_start}
+use Rattle.fkv_keeper.specs.declared.answers.KeeperTold.{KeeperTold}
+use Rattle.fkv_keeper.specs.declared.answers.KeeperTold.TheVariants.{Device, Turned, TurnRefused, Begun, CommitRefused}
+use Rattle.fkv_keeper.specs.declared.keepers.Keeping.{Keeping}
+use Rattle.fkv_keeper.specs.declared.keepers.Keeping.TheVariants.{Ended, Starts, Maintains, LoadsPhase, Enters, Copies, Seeks, Waits, Writes, Finishes}
+use Rattle.fkv_keeper.specs.declared.last_commits.Checkpoint.{Checkpoint}
+use Rattle.fkv_keeper.specs.declared.maintaining.MaintainAnswer.{MaintainAnswer}
+use Rattle.fkv_keeper.specs.declared.maintaining.MaintainAnswer.TheVariants as maintain
+use Rattle.fkv_keeper.specs.LastCommits.{other_area, area_number, is_gate_open, gate_opened, slot_place, IsWritten}
+use Rattle.fkv_keeper.specs.Maintaining.{MaintainState, maintain_begun, maintain_ask, maintain_next, maintain_given, maintain_called}
+
+-- a finished commit
+pub record Finality : Type 0 where
+  pub number : Version
+  pub points : List Serial
+  pub checkpoint : Checkpoint
+  pub gates : Bool × Bool
+
+pub record KeeperState : Type 0 where
+  pub maintain : MaintainState
+  pub start : StartState
+  pub enter : EnterState
+  -- the copy of the index, from its beginning up to where it is written
+  pub copy : Option Copier
+  pub seek : SeekState
+  pub wait : WaitState
+  pub writes : CommitWriter
+  pub finish : FinishState
+  -- the commit in hand
+  pub commit : Option Commit
+  -- wait-pending was deferred
+  pub has_entered : Bool
+  -- its points were taken
+  pub has_points : Bool
+  -- the memory that was asked for last was granted
+  pub is_granted : Bool
+  -- the device has failed
+  pub is_broken : Bool
+  -- a part of this turn was left out, since no drain slot was free
+  pub is_drain_full : Bool
+  -- a commit was finished since the store was opened
+  pub has_finished : Bool
+  -- the checkpoint that the commit uses whose writes are under way
+  pub used : Checkpoint
+  -- the newest finished commit
+  pub last : Finality
+  -- lost ranges in hand
+  pub lost : List LostRange
+  pub step : Keeping
+
+pub record KeeperModel : Type 0 where
+  pub shape : Shape
+  pub places : Places
+  pub state : KeeperState
+
+-- what the copy asks for, where there is one
+abbrev pub copy_asked : Option Copier → Ask (Unit {0})
+copy_asked None = Done tt
+copy_asked (Some m) = copy_ask m.copying
+
+-- The call of the device that a part of every turn needs is the keeper's. A part's other end, which is never met here, would be the call's.
+unfoldable pub device_passed : Ask MaintainAnswer → KeeperTold → Ask KeeperTold
+device_passed (Done maintain.Device) told = Done Device
+device_passed ask told = passed ask told
+
+-- so is the one that the writes of a commit need
+abbrev pub write_asked : WriteAnswer → KeeperTold → Ask KeeperTold
+write_asked write.Device told = Done Device
+write_asked answer told = Done told
+
+-- a call that is at its end needs no device
+abbrev pub end_told : KeeperTold → KeeperTold → KeeperTold
+end_told Device told = told
+end_told its told = its
+
+-- how a turn ends that finishes no commit
+abbrev pub turn_over : KeeperState → KeeperTold
+turn_over s = Turned false s.is_drain_full
+
+-- what each state asks
+unfoldable pub keeping_ask : Shape → Places → KeeperState → Keeping → Ask KeeperTold
+keeping_ask shape p s (Ended its) = Done (end_told its (turn_over s))
+keeping_ask shape p s Starts = passed (start_ask s.start) (CommitRefused fault.CommitRunning)
+keeping_ask shape p s Maintains = device_passed (maintain_ask shape p s.maintain) (turn_over s)
+keeping_ask shape p s LoadsPhase = Load (shared_place one.Phase)
+keeping_ask shape p s Enters = passed (enter_ask s.enter) (turn_over s)
+keeping_ask shape p s Copies = passed (copy_asked s.copy) (turn_over s)
+keeping_ask shape p s Seeks = passed (seek_ask s.seek) (turn_over s)
+keeping_ask shape p s Waits = passed (wait_ask s.wait) (turn_over s)
+keeping_ask shape p s Writes = write_asked (commit_answer s.writes) (turn_over s)
+keeping_ask shape p s Finishes = passed (finish_ask s.seek.points s.finish) (turn_over s)
+
+abbrev pub keeper_ask : Shape → Places → KeeperState → Ask KeeperTold
+keeper_ask shape p s = keeping_ask shape p s s.step
+
+abbrev pub ended : KeeperState → KeeperTold → KeeperState
+ended s told = record s { step = Ended told }
+
+-- the turn is over
+abbrev pub turned : KeeperState → KeeperState
+turned s = ended s (turn_over s)
+
+-- it is over, and a part of it was left out
+abbrev pub turned_full : KeeperState → KeeperState
+turned_full s = ended (record s { is_drain_full = true }) (Turned false true)
+
+-- a commit begins, of this kind; a device that has failed is never used again
+abbrev pub commit_asked : KeeperState → CommitKind → KeeperState
+commit_asked s kind = if s.is_broken then ended s (CommitRefused fault.Broken) else record s { start = start_begun s.start kind (length s.lost); step = Starts }
+
+abbrev pub turn_asked : KeeperState → KeeperState
+turn_asked s = if s.is_broken then ended s (TurnRefused fault.Broken) else record s { maintain = maintain_begun s.maintain; is_drain_full = false; step = Maintains }
+
+-- by what the machines inside ask next
+unfoldable pub start_ledto : KeeperState → Ask StartAnswer → KeeperState
+start_ledto s (Done (start.Begun number first)) =
+    ended (record s { commit = Some (commit_begun number s.start.kind first); has_entered = false; has_points = false }) (Begun number)
+start_ledto s (Done (start.Refused why)) = ended s (CommitRefused why)
+start_ledto s (Done start.Idle) = ended s (CommitRefused fault.CommitRunning)
+start_ledto s ask = s
+
+unfoldable pub maintain_ledto : KeeperState → Ask MaintainAnswer → KeeperState
+maintain_ledto s (Done maintain.Through) = record s { is_drain_full = s.maintain.is_drain_full; step = LoadsPhase }
+maintain_ledto s (Done maintain.Spent) = ended s (TurnRefused fault.EpochsSpent)
+maintain_ledto s (Done maintain.Broken) = ended (record s { is_broken = true }) (TurnRefused fault.Device)
+maintain_ledto s ask = s
+
+-- the copy begins where memory is granted for it
+abbrev pub copies : Places → KeeperState → Bool → KeeperState
+copies p s granted = if granted then record s { copy = Some (copy_begun p); is_granted = true; step = Copies } else ended (record s { is_granted = false }) (TurnRefused fault.Memory)
+
+abbrev pub copies_next : Places → KeeperState → Commit → Bool → KeeperState → KeeperState
+copies_next p s c granted else_next = if c.is_copied then else_next else copies p s granted
+
+-- what the phase calls for
+abbrev pub part_begun : Places → KeeperState → Commit → PhaseSaid → Bool → KeeperState
+part_begun p s c (Says phase.InProgress version) granted =
+    if s.has_entered then copies_next p s c granted (turned s) else record s { enter = enter_begun s.enter c.number; step = Enters }
+part_begun p s c (Says phase.WaitPending version) granted = copies_next p s c granted (record s { seek = seek_begun s.seek c.number; step = Seeks })
+part_begun p s c (Says phase.WaitFlush version) granted = if s.has_points then record s { wait = wait_begun c.end c.epoch; step = Waits } else turned s
+part_begun p s c said granted = turned s
+
+unfoldable pub phase_ledto : Places → KeeperState → Option Commit → PhaseSaid → Bool → KeeperState
+phase_ledto p s None said granted = turned s
+phase_ledto p s (Some c) said granted = part_begun p s c said granted
+
+unfoldable pub enter_ledto : KeeperState → Ask EnterAnswer → KeeperState
+enter_ledto s (Done enter.Entered) = turned (record s { has_entered = true })
+enter_ledto s (Done enter.DrainFull) = turned_full s
+enter_ledto s (Done enter.EpochsSpent) = ended s (TurnRefused fault.EpochsSpent)
+enter_ledto s (Done enter.Idle) = turned s
+enter_ledto s ask = s
+
+abbrev pub copied : Option Commit → Option Commit
+copied None = None
+copied (Some c) = Some (record c { is_copied = true })
+
+unfoldable pub copy_ledto : KeeperState → Ask (Unit {0}) → KeeperState
+copy_ledto s (Done its) = turned (record s { commit = copied s.commit })
+copy_ledto s ask = s
+
+abbrev pub points_known : Option Commit → Addr → ℕ → Option Commit
+points_known None end epoch = None
+points_known (Some c) end epoch = Some (record c { end = end; epoch = epoch })
+
+unfoldable pub seek_ledto : KeeperState → Ask SeekAnswer → KeeperState
+seek_ledto s (Done (seek.Taken end epoch)) = turned (record s { commit = points_known s.commit end epoch; has_points = true })
+seek_ledto s (Done seek.DrainFull) = turned_full s
+seek_ledto s (Done seek.EpochsSpent) = ended s (TurnRefused fault.EpochsSpent)
+seek_ledto s (Done seek.Owing) = turned s
+seek_ledto s (Done seek.Idle) = turned s
+seek_ledto s ask = s
+
+-- how many triples were copied
+abbrev pub triples_copied : Option Copier → ℕ
+triples_copied None = 0
+triples_copied (Some m) = length m.triples
+
+abbrev pub bytes_copied : Option Copier → List ℕ
+bytes_copied None = []
+bytes_copied (Some m) = all_bytes m.triples
+
+-- a full commit uses the checkpoint that it has made, in the area that the newest finished commit doesn't use, and a log commit that of the newest
+abbrev pub checkpoint_used : Commit → CommitKind → Finality → Option Copier → Checkpoint
+checkpoint_used c Full last copy = record { number = c.number; first = c.first; triples = triples_copied copy; area = other_area last.checkpoint.area }
+checkpoint_used c Log last copy = last.checkpoint
+
+-- a log commit writes no triples
+abbrev pub triples_written : CommitKind → Option Copier → List ℕ
+triples_written Full copy = bytes_copied copy
+triples_written Log copy = []
+
+-- the lost ranges lie behind a log commit's checkpoint still, and behind a full one's no more
+abbrev pub lost_left : CommitKind → List LostRange → List LostRange
+lost_left Full lost = []
+lost_left Log lost = lost
+
+-- The writes of the slot of a commit that uses this checkpoint: in its place, behind a gate that may stand open.
+pub record AreGateWritesOf (shape : Shape) (s : KeeperState) (c : Commit) (used : Checkpoint) (gate : GateWriter) : Type 0 where
+  pub place : gate.place ≡ slot_place c.number
+  pub start : gate.start ≡ 1
+  pub step : gate.step ≡ gate_start (is_gate_open s.last.gates c.number)
+  pub slot : IsWritten shape.sessions c.number c.end used s.seek.points (lost_left c.kind s.lost) gate.slot
+
+-- What a commit writes: its triples into their area, and its slot.
+pub record AreWritesOf (shape : Shape) (s : KeeperState) (c : Commit) (writes : CommitWriter) : Type 0 where
+  pub area : writes.area ≡ area_place shape (area_number (checkpoint_used c c.kind s.last s.copy).area)
+  pub triples : writes.triples ≡ triples_written c.kind s.copy
+  pub step : writes.step ≡ commit_start writes.triples
+  pub gate : AreGateWritesOf shape s c (checkpoint_used c c.kind s.last s.copy) writes.gate
+
+-- it writes these
+abbrev pub writes_begun : KeeperState → Option Commit → CommitWriter → KeeperState
+writes_begun s None writes = turned s
+writes_begun s (Some c) writes = record s { writes = writes; used = checkpoint_used c c.kind s.last s.copy; copy = None; step = Writes }
+
+-- where the log is flushed up to the commit's end, what is written are the writes of the commit in hand
+abbrev pub AreWritesFor : Shape → KeeperState → Option Commit → CommitWriter → Type 0
+AreWritesFor shape s None writes = ⊤
+AreWritesFor shape s (Some c) writes = AreWritesOf shape s c writes
+
+abbrev pub IsFlushedNow : Ask WaitAnswer → Type 0
+IsFlushedNow ask = ask ≡ Done wait.Flushed
+
+unfoldable pub wait_ledto : KeeperState → Ask WaitAnswer → CommitWriter → KeeperState
+wait_ledto s (Done wait.Flushed) writes = writes_begun s s.commit writes
+wait_ledto s (Done wait.NotYet) writes = turned s
+wait_ledto s (Done wait.Idle) writes = turned s
+wait_ledto s ask writes = s
+
+-- the commit is finished
+abbrev pub finality_of : KeeperState → Commit → Finality
+finality_of s c = record { number = c.number; points = s.seek.points; checkpoint = s.used; gates = gate_opened s.last.gates c.number }
+
+abbrev pub finished : KeeperState → Option Commit → KeeperState
+finished s None = turned s
+finished s (Some c) = ended (record s { commit = None; last = finality_of s c; lost = lost_left c.kind s.lost; has_finished = true }) (Turned true s.is_drain_full)
+
+unfoldable pub finish_ledto : KeeperState → Ask FinishAnswer → KeeperState
+finish_ledto s (Done its) = finished s s.commit
+finish_ledto s ask = s
+
+-- the copy after a reply
+abbrev pub copy_driven : Option Copier → ℕ → Option Copier
+copy_driven None reply = None
+copy_driven (Some m) reply = Some (copy_after m reply)
+
+-- Where the reply leads. Where a copy begins it goes by whether memory was granted for it, and where the writes begin by what they are.
+unfoldable pub keeping_next : Shape → Places → KeeperState → Keeping → ℕ → Bool → CommitWriter → KeeperState
+keeping_next shape p s (Ended its) reply granted writes = s
+keeping_next shape p s Starts reply granted writes = start_ledto (record s { start = start_next s.start reply }) (start_ask (start_next s.start reply))
+keeping_next shape p s Maintains reply granted writes = maintain_ledto (record s { maintain = maintain_next shape p s.maintain reply }) (maintain_ask shape p (maintain_next shape p s.maintain reply))
+keeping_next shape p s LoadsPhase reply granted writes = phase_ledto p s s.commit (phase_said reply) granted
+keeping_next shape p s Enters reply granted writes = enter_ledto (record s { enter = enter_next s.enter reply }) (enter_ask (enter_next s.enter reply))
+keeping_next shape p s Copies reply granted writes = copy_ledto (record s { copy = copy_driven s.copy reply }) (copy_asked (copy_driven s.copy reply))
+keeping_next shape p s Seeks reply granted writes = seek_ledto (record s { seek = seek_next s.seek reply }) (seek_ask (seek_next s.seek reply))
+keeping_next shape p s Waits reply granted writes = wait_ledto (record s { wait = wait_next s.wait reply }) (wait_ask (wait_next s.wait reply)) writes
+keeping_next shape p s Writes reply granted writes = s
+keeping_next shape p s Finishes reply granted writes = finish_ledto (record s { finish = finish_next s.finish reply }) (finish_ask s.seek.points (finish_next s.finish reply))
+
+abbrev pub keeper_next : Shape → Places → KeeperState → ℕ → Bool → CommitWriter → KeeperState
+keeper_next shape p s reply granted writes = keeping_next shape p s s.step reply granted writes
+
+-- what the action of a claimed slot leads to
+unfoldable pub keeping_given : Shape → Places → KeeperState → Keeping → Action → KeeperState
+keeping_given shape p s Maintains action = maintain_ledto (record s { maintain = maintain_given s.maintain action }) (maintain_ask shape p (maintain_given s.maintain action))
+keeping_given shape p s step action = s
+
+abbrev pub keeper_given : Shape → Places → KeeperState → Action → KeeperState
+keeper_given shape p s action = keeping_given shape p s s.step action
+
+-- behind the last sync the commit finishes
+unfoldable pub write_ledto : KeeperState → Option Commit → WriteAnswer → KeeperState
+write_ledto s None answer = turned s
+write_ledto s (Some c) write.Written = record s { finish = finish_begun s.finish c.number; step = Finishes }
+write_ledto s (Some c) write.Device = s
+write_ledto s (Some c) (write.Broken why) = s
+
+-- where a call of the device leads that a part of every turn makes
+abbrev pub turn_called : Shape → Places → KeeperState → Bool → List ℕ → KeeperState
+turn_called shape p s done bytes =
+    maintain_ledto (record s { maintain = maintain_called shape p s.maintain done bytes }) (maintain_ask shape p (maintain_called shape p s.maintain done bytes))
+
+-- where one leads that the writes of a commit make
+abbrev pub writes_called : KeeperState → Bool → KeeperState
+writes_called s true = write_ledto (record s { writes = commit_next s.writes true }) s.commit (commit_answer (commit_next s.writes true))
+writes_called s false = ended (record s { writes = commit_next s.writes false; is_broken = true }) (TurnRefused fault.Device)
+
+-- where a call of the device leads, whether it succeeded, and what it read
+unfoldable pub keeping_called : Shape → Places → KeeperState → Keeping → Bool → List ℕ → KeeperState
+keeping_called shape p s Maintains done bytes = turn_called shape p s done bytes
+keeping_called shape p s Writes done bytes = writes_called s done
+keeping_called shape p s step done bytes = s
+
+abbrev pub keeper_called : Shape → Places → KeeperState → Bool → List ℕ → KeeperState
+keeper_called shape p s done bytes = keeping_called shape p s s.step done bytes
+
+-- the writes that a reply begins
+abbrev pub AreWritesBegun : Shape → KeeperState → ℕ → CommitWriter → Type 0
+AreWritesBegun shape s reply writes = s.step ≡ Waits → IsFlushedNow (wait_ask (wait_next s.wait reply)) → AreWritesFor shape s s.commit writes

@@ -1,0 +1,329 @@
+//! The keeper: its turns and its commits.
+ghost use Rattle.std.specs.Prelude.{◌≡◌, ◌<◌, ◌≤◌, ◌↔◌, ℕ, Bool, List, [], is_ok, true, false, IfOk, OnErr, Err, None};
+ghost use Rattle.fkv_manifest.specs.Committing.{commit_answer, commit_call};
+ghost use Rattle.fkv_manifest.specs.Devices.{calls_next};
+ghost use Rattle.fkv_manifest.specs.Made.{with_call};
+ghost use Rattle.fkv_keeper.specs.Maintaining.{maintain_calls, maintain_made};
+ghost use Rattle.fkv_base.specs.declared.faults.Fault.TheVariants.{Memory, Device as Failed};
+ghost use Rattle.fkv_epoch.specs.Claiming.{takes_action};
+ghost use Rattle.fkv_plane.specs.declared.asks.Ask.TheVariants.{Done};
+ghost use Rattle.fkv_plane.specs.Passing.{is_done};
+ghost use Rattle.fkv_keeper.specs.declared.answers.KeeperTold.TheVariants.{Device as AtDevice, TurnRefused};
+ghost use Rattle.fkv_disk.specs.Device.{Elapses, HasCause, MakesCalls};
+ghost use Rattle.fkv_flush.specs.Devices.{Adds};
+ghost use Rattle.fkv_keeper.specs.KeeperAsks.{IsBusyWhereLeft, keeper_asks_left, most_begin_asks, most_turn_asks, keeper_calls, keeper_calls_asked, keeper_made, keeper_read};
+ghost use Rattle.fkv_keeper.specs.Keeping.{commit_asked, turn_asked, keeper_ask, keeper_next, keeper_given, keeper_called, turn_called, writes_called, AreWritesBegun};
+ghost use Rattle.fkv_keeper.specs.declared.keepers.Keeping.TheVariants.{Ended};
+
+use crate::answers::KeeperTold;
+use crate::last_commits::{Checkpoint, LastCommit};
+use crate::leading::{copy_driven, device_passed, end_told, write_asked};
+use crate::maintaining::Maintain;
+use arrayvec::ArrayVec;
+use fkv_base::{Fault, Shape};
+use fkv_checkpoint::IndexCopy;
+use fkv_commit::{
+    Commit, CommitKind, EnterWaitPending, FinishCommit, SeekPoints, StartCommit, WaitFlush,
+};
+use fkv_disk::Device;
+use fkv_manifest::{CommitWrites, GateWrites};
+use fkv_plane::{Action, Ask, Places, SharedWord, passed};
+use fkv_record::LostRange;
+use fkv_words::phase_said;
+use std::alloc::Global;
+use std::marker::Model;
+
+/// Lost ranges in hand, at most: those of a slot, and one more that the recovery of an opened store has found.
+pub const MAX_LOST_IN_HAND: usize = 9;
+
+/// How far the call in hand has come. What the last call was told is kept up to the next one.
+#[derive(Clone, Copy, Debug, PartialEq, Eq)]
+pub(crate) enum Keeping {
+    Ended(KeeperTold),
+    /// A commit starts.
+    Starts,
+    /// What every turn does.
+    Maintains,
+    /// The phase is loaded, which says what comes next of the commit in hand.
+    LoadsPhase,
+    /// Wait-pending is deferred.
+    Enters,
+    /// The index is copied.
+    Copies,
+    /// The points are sought.
+    Seeks,
+    /// Whether the log is flushed up to the commit's end is tested.
+    Waits,
+    /// The triples and the slot are written.
+    Writes,
+    /// The durable words and rest are stored.
+    Finishes,
+}
+
+/// The background actor: it makes turns, begins commits, and makes every call of the device that there is. In a turn it does
+/// what every turn does, and then at most one thing for the commit in hand.
+#[derive(Drop)]
+pub struct Keeper {
+    pub(crate) alloc: Global,
+    pub(crate) shape: Shape,
+    pub(crate) places: Places,
+    pub(crate) maintain: Maintain,
+    pub(crate) start: StartCommit,
+    pub(crate) enter: EnterWaitPending,
+    pub(crate) copy: Option<IndexCopy>,
+    pub(crate) seek: SeekPoints,
+    pub(crate) wait: WaitFlush,
+    pub(crate) writes: CommitWrites,
+    pub(crate) finish: FinishCommit,
+    pub(crate) commit: Option<Commit>,
+    pub(crate) has_entered: bool,
+    pub(crate) has_points: bool,
+    pub(crate) is_granted: bool,
+    pub(crate) is_broken: bool,
+    pub(crate) is_drain_full: bool,
+    pub(crate) has_finished: bool,
+    pub(crate) used: Checkpoint,
+    pub(crate) last: LastCommit,
+    pub(crate) lost: ArrayVec<LostRange, MAX_LOST_IN_HAND>,
+    pub(crate) step: Keeping,
+}
+
+impl Model for Keeper {
+    ghost use Rattle.std.specs.Prelude.{◌≡◌};
+    ghost use Rattle.fkv_keeper.specs.Keeping.{KeeperModel};
+
+    ghost Value = { KeeperModel };
+
+    ghost view = { λ m. record { shape = m.shape; places = m.places; state = record { maintain = m.maintain.state; start = m.start; enter = m.enter; copy = m.copy; seek = m.seek; wait = m.wait; writes = m.writes; finish = m.finish; commit = m.commit; has_entered = m.has_entered; has_points = m.has_points; is_granted = m.is_granted; is_broken = m.is_broken; is_drain_full = m.is_drain_full; has_finished = m.has_finished; used = m.used; last = record { number = m.last.number; points = m.last.points.items; checkpoint = m.last.checkpoint; gates = m.last.gates }; lost = m.lost.items; step = m.step } } };
+
+    ghost invariant = { λ m. (m.maintain.shape ≡ m.shape) × (m.maintain.places ≡ m.places) × (m.seek.sessions ≡ m.shape.sessions) × (m.finish.sessions ≡ m.shape.sessions) };
+}
+
+impl Keeper {
+    /// The keeper of a store that was opened, with room for the bytes of one page. `Fault::Memory` where memory is refused for it;
+    /// later only the copy of a commit takes some.
+    pub fn new(
+        alloc: Global,
+        shape: Shape,
+        last: LastCommit,
+        lost: ArrayVec<LostRange, MAX_LOST_IN_HAND>,
+    ) -> Result<Keeper, Fault>
+        ensures shape { IfOk result (λ keeper. keeper.shape ≡ shape) }
+        ensures err { OnErr result (result ≡ Err Memory) }
+    {
+        let places = Places::of(&shape);
+        let maintain = Maintain::new(alloc, shape, places)?;
+        let used = last.checkpoint;
+        Ok(Keeper {
+            alloc,
+            shape,
+            places,
+            maintain,
+            start: StartCommit::new(),
+            enter: EnterWaitPending::new(),
+            copy: None,
+            seek: SeekPoints::new(shape.sessions as usize),
+            wait: WaitFlush::new(),
+            writes: CommitWrites::new(0, Vec::new(alloc), GateWrites::new(0, 0, [0; 512], false)),
+            finish: FinishCommit::new(shape.sessions as usize),
+            commit: None,
+            has_entered: false,
+            has_points: false,
+            is_granted: true,
+            is_broken: false,
+            is_drain_full: false,
+            has_finished: false,
+            used,
+            last,
+            lost,
+            step: Keeping::Ended(KeeperTold::Turned(false, false)),
+        })
+    }
+
+    /// Begins a commit and gives its first ask, or its refusal where there is none.
+    #[tactic(auto, unfolding(crate::specs::Keeping::keeping_ask))]
+    pub fn begin_commit(&mut self, kind: CommitKind) -> Ask<KeeperTold>
+        ensures next { self.new ≡ record self.old { state = commit_asked self.old.state kind } }
+        ensures ask { result ≡ keeper_ask self.old.shape self.old.places self.new.state }
+        ensures left { IsBusyWhereLeft (keeper_asks_left self.old.shape self.old.places self.new.state) result }
+        ensures bounded { keeper_asks_left self.old.shape self.old.places self.new.state ≤ most_begin_asks }
+    {
+        if self.is_broken {
+            self.step = Keeping::Ended(KeeperTold::CommitRefused(Fault::Broken));
+        } else {
+            self.start.start(kind, self.lost.len());
+            self.step = Keeping::Starts;
+        }
+        self.ask()
+    }
+
+    /// Begins a turn and gives its first ask, or its refusal where there is none.
+    #[tactic(auto, unfolding(crate::specs::Keeping::keeping_ask))]
+    pub fn begin_turn(&mut self) -> Ask<KeeperTold>
+        ensures next { self.new ≡ record self.old { state = turn_asked self.old.state } }
+        ensures ask { result ≡ keeper_ask self.old.shape self.old.places self.new.state }
+        ensures left { IsBusyWhereLeft (keeper_asks_left self.old.shape self.old.places self.new.state) result }
+        ensures bounded { keeper_asks_left self.old.shape self.old.places self.new.state ≤ most_turn_asks self.old.shape self.old.places }
+    {
+        if self.is_broken {
+            self.step = Keeping::Ended(KeeperTold::TurnRefused(Fault::Broken));
+        } else {
+            self.is_drain_full = false;
+            self.maintain.start();
+            self.step = Keeping::Maintains;
+        }
+        self.ask()
+    }
+
+    /// Goes on with the reply to its ask. At a call's end, and where it needs the device, it stays where it is.
+    #[tactic(auto, using(fkv_commit::proofs::Shown::seek_keeps), unfolding(crate::specs::Keeping::keeping_next))]
+    pub fn go_on(&mut self, reply: u64) -> Ask<KeeperTold>
+        ensures next { self.new ≡ record self.old { state = keeper_next self.old.shape self.old.places self.old.state reply self.new.state.is_granted self.new.state.writes } }
+        ensures writes { AreWritesBegun self.old.shape self.old.state reply self.new.state.writes }
+        ensures ask { result ≡ keeper_ask self.old.shape self.old.places self.new.state }
+        ensures left { IsBusyWhereLeft (keeper_asks_left self.old.shape self.old.places self.new.state) result }
+        ensures fewer { is_done (keeper_ask self.old.shape self.old.places self.old.state) ≡ false → takes_action (keeper_ask self.old.shape self.old.places self.old.state) ≡ false → keeper_asks_left self.old.shape self.old.places self.new.state < keeper_asks_left self.old.shape self.old.places self.old.state }
+    {
+        match self.step {
+            Keeping::Ended(_) | Keeping::Writes => {}
+            Keeping::Starts => {
+                let ask = self.start.drive(reply);
+                self.after_start(ask);
+            }
+            Keeping::Maintains => {
+                let ask = self.maintain.drive(reply);
+                self.after_maintain(ask);
+            }
+            Keeping::LoadsPhase => self.after_phase(phase_said(reply)),
+            Keeping::Enters => {
+                let ask = self.enter.drive(reply);
+                self.after_enter(ask);
+            }
+            Keeping::Copies => {
+                let ask = copy_driven(&mut self.copy, reply);
+                self.after_copy(ask);
+            }
+            Keeping::Seeks => {
+                let ask = self.seek.drive(reply);
+                self.after_seek(ask);
+            }
+            Keeping::Waits => {
+                let ask = self.wait.drive(reply);
+                self.after_wait(ask);
+            }
+            Keeping::Finishes => {
+                let ask = self.finish.drive(self.seek.points(), reply);
+                self.after_finish(ask);
+            }
+        }
+        self.ask()
+    }
+
+    /// Gets the action of the slot that it claimed.
+    #[tactic(auto, unfolding(crate::specs::Keeping::keeping_given))]
+    pub fn take(&mut self, action: Action) -> Ask<KeeperTold>
+        ensures next { self.new ≡ record self.old { state = keeper_given self.old.shape self.old.places self.old.state action } }
+        ensures ask { result ≡ keeper_ask self.old.shape self.old.places self.new.state }
+        ensures left { IsBusyWhereLeft (keeper_asks_left self.old.shape self.old.places self.new.state) result }
+        ensures fewer { takes_action (keeper_ask self.old.shape self.old.places self.old.state) ≡ true → keeper_asks_left self.old.shape self.old.places self.new.state < keeper_asks_left self.old.shape self.old.places self.old.state }
+    {
+        if let Keeping::Maintains = self.step {
+            let ask = self.maintain.given(action);
+            self.after_maintain(ask);
+        }
+        self.ask()
+    }
+
+    /// Makes the one call of the device that it needs, and goes on. Where it needs none it makes none, and stays where it is.
+    /// Where the device fails the turn ends, and no other call of the device is ever made.
+    #[tactic(auto, using(crate::proofs::KeeperDevice::keeper_asked_calls), unfolding(crate::specs::Keeping::keeping_called, crate::specs::KeeperAsks::keeping_made, crate::specs::KeeperAsks::keeping_calls))]
+    pub fn call_device<D: Device>(&mut self, d: &mut D) -> Result<Ask<KeeperTold>, Fault>
+        ensures next { (bytes : List ℕ) × (self.new ≡ record self.old { state = keeper_called self.old.shape self.old.places self.old.state (is_ok result) bytes }) }
+        ensures ask { IfOk result (λ ask. ask ≡ keeper_ask self.old.shape self.old.places self.new.state) }
+        ensures left { IfOk result (λ ask. IsBusyWhereLeft (keeper_asks_left self.old.shape self.old.places self.new.state) ask) }
+        ensures fewer { keeper_ask self.old.shape self.old.places self.old.state ≡ Done AtDevice → keeper_asks_left self.old.shape self.old.places self.new.state < keeper_asks_left self.old.shape self.old.places self.old.state }
+        ensures refused { OnErr result (self.new.state.step ≡ Ended (TurnRefused Failed)) }
+        ensures none { OnErr result (keeper_asks_left self.old.shape self.old.places self.new.state ≡ 0) }
+        ensures cause { HasCause (D.failed d.old) (D.failed d.new) result }
+        ensures counted { MakesCalls (keeper_made self.old.places self.old.state) (D.refuses d.old) (D.refuses d.new) result }
+        ensures asked { keeper_made self.old.places self.old.state ≡ keeper_calls_asked (keeper_ask self.old.shape self.old.places self.old.state) }
+        ensures honest { D.honest d.old ↔ D.honest d.new }
+        ensures read { D.honest d.old → self.new ≡ record self.old { state = keeper_called self.old.shape self.old.places self.old.state (is_ok result) (keeper_read self.old (D.seen d.old)) } }
+        ensures calls { D.honest d.old → Adds (keeper_calls self.old.shape self.old.state (is_ok result)) (D.seen d.old) (D.seen d.new) (D.may_leave d.old) (D.may_leave d.new) }
+        ensures time { D.honest d.old → Elapses (D.moment d.old) (D.moment d.new) (D.left_since d.old) (D.left_since d.new) (D.may_leave d.new) }
+    {
+        match self.step {
+            Keeping::Maintains => return self.call_for_turn(d),
+            Keeping::Writes => return self.call_for_commit(d),
+            _ => {}
+        }
+        Ok(self.ask())
+    }
+
+    /// The call of the device that a part of every turn makes.
+    fn call_for_turn<D: Device>(&mut self, d: &mut D) -> Result<Ask<KeeperTold>, Fault>
+        ensures next { (bytes : List ℕ) × (self.new ≡ record self.old { state = turn_called self.old.shape self.old.places self.old.state (is_ok result) bytes }) }
+        ensures ask { IfOk result (λ ask. ask ≡ keeper_ask self.old.shape self.old.places self.new.state) }
+        ensures refused { OnErr result (self.new.state.step ≡ Ended (TurnRefused Failed)) }
+        ensures cause { HasCause (D.failed d.old) (D.failed d.new) result }
+        ensures counted { MakesCalls (maintain_made self.old.places self.old.state.maintain) (D.refuses d.old) (D.refuses d.new) result }
+        ensures honest { D.honest d.old ↔ D.honest d.new }
+        ensures read { D.honest d.old → self.new ≡ record self.old { state = turn_called self.old.shape self.old.places self.old.state (is_ok result) (keeper_read self.old (D.seen d.old)) } }
+        ensures calls { D.honest d.old → Adds (maintain_calls self.old.shape self.old.state.maintain (is_ok result)) (D.seen d.old) (D.seen d.new) (D.may_leave d.old) (D.may_leave d.new) }
+        ensures time { D.honest d.old → Elapses (D.moment d.old) (D.moment d.new) (D.left_since d.old) (D.left_since d.new) (D.may_leave d.new) }
+    {
+        let called = self.maintain.device_step(d);
+        let ask = self.maintain.ask();
+        self.after_maintain(ask);
+        match called {
+            Ok(_) => Ok(self.ask()),
+            Err(fault) => Err(fault),
+        }
+    }
+
+    /// The call of the device that the writes of a commit make.
+    fn call_for_commit<D: Device>(&mut self, d: &mut D) -> Result<Ask<KeeperTold>, Fault>
+        ensures next { self.new ≡ record self.old { state = writes_called self.old.state (is_ok result) } }
+        ensures ask { IfOk result (λ ask. ask ≡ keeper_ask self.old.shape self.old.places self.new.state) }
+        ensures refused { OnErr result (self.new.state.step ≡ Ended (TurnRefused Failed)) }
+        ensures cause { HasCause (D.failed d.old) (D.failed d.new) result }
+        ensures counted { MakesCalls (calls_next (commit_answer self.old.state.writes)) (D.refuses d.old) (D.refuses d.new) result }
+        ensures honest { D.honest d.old ↔ D.honest d.new }
+        ensures calls { D.honest d.old → Adds (with_call (commit_call self.old.state.writes (is_ok result)) []) (D.seen d.old) (D.seen d.new) (D.may_leave d.old) (D.may_leave d.new) }
+        ensures time { D.honest d.old → Elapses (D.moment d.old) (D.moment d.new) (D.left_since d.old) (D.left_since d.new) (D.may_leave d.new) }
+    {
+        match self.writes.device_step(d) {
+            Ok(()) => {
+                self.after_write();
+                Ok(self.ask())
+            }
+            Err(fault) => {
+                self.breaks();
+                Err(fault)
+            }
+        }
+    }
+
+    /// What it asks now.
+    #[tactic(auto, unfolding(crate::specs::Keeping::keeping_ask))]
+    pub fn ask(&self) -> Ask<KeeperTold>
+        ensures { result ≡ keeper_ask self.now.shape self.now.places self.now.state }
+    {
+        let over = KeeperTold::Turned(false, self.is_drain_full);
+        match self.step {
+            Keeping::Ended(told) => Ask::Done(end_told(told, over)),
+            Keeping::Starts => passed(
+                self.start.ask(),
+                KeeperTold::CommitRefused(Fault::CommitRunning),
+            ),
+            Keeping::Maintains => device_passed(self.maintain.ask(), over),
+            Keeping::LoadsPhase => Ask::Load(SharedWord::Phase.place()),
+            Keeping::Enters => passed(self.enter.ask(), over),
+            Keeping::Copies => passed(self.copy_ask(), over),
+            Keeping::Seeks => passed(self.seek.ask(), over),
+            Keeping::Waits => passed(self.wait.ask(), over),
+            Keeping::Writes => write_asked(self.writes.answer(), over),
+            Keeping::Finishes => passed(self.finish.ask(self.seek.points()), over),
+        }
+    }
+}

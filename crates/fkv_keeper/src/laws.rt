@@ -1,0 +1,33 @@
+//! What a keeper does over every list of turns, commits, replies, actions and calls of the device.
+ghost use Rattle.std.specs.Prelude.{◌≡◌, ◌∷◌, Bool, List, true, Some};
+ghost use Rattle.fkv_base.specs.declared.faults.Fault.TheVariants.{Memory};
+ghost use Rattle.fkv_base.specs.declared.shapes.Shape.{Shape};
+ghost use Rattle.fkv_plane.specs.declared.places.Places.{Places};
+ghost use Rattle.fkv_keeper.specs.declared.answers.KeeperTold.TheVariants.{Turned, TurnRefused};
+ghost use Rattle.fkv_keeper.specs.declared.keepers.Keeping.TheVariants.{Ended, Finishes};
+ghost use Rattle.fkv_keeper.specs.Keeping.{KeeperState};
+ghost use Rattle.fkv_keeper.specs.KeeperLaws.{CopiesAgain, IsBrokenForGood, IsFinishOfBegun, IsMemoryRefused, IsWritten};
+ghost use Rattle.fkv_keeper.specs.KeeperRun.{AreWritesOfRun, IsOpened, KeeperEvent, has_failed, is_calling, keeper_run, number_open, writing};
+
+/// Whatever turns and commits are begun, and whatever the replies, the actions and the answers of the device are: once a call of the
+/// device has failed, nothing is asked any more, and each turn and each commit is refused as broken. The durable words and rest are
+/// stored only where all writes of the commit in hand have succeeded, to the last sync. Where memory is refused the turn ends and
+/// nothing else changes, so the commit isn't copied still; the next turn keeps it up to its part for it, where the copy begins again. A commit that is told as finished has the number that was told as begun last,
+/// and no number is told as finished again without being told as begun again.
+pub fn law_of_the_keeper()
+    ensures broken { (shape : Shape) (p : Places) (opening : KeeperState) (events : List KeeperEvent) → IsOpened opening → AreWritesOfRun shape p opening events
+        → has_failed shape p opening events ≡ true
+        → IsBrokenForGood shape p (keeper_run shape p opening events) }
+    ensures finished { (shape : Shape) (p : Places) (opening : KeeperState) (events : List KeeperEvent) → IsOpened opening → AreWritesOfRun shape p opening events
+        → (keeper_run shape p opening events).step ≡ Finishes
+        → IsWritten shape (keeper_run shape p opening events) (writing shape p opening events) }
+    ensures memory { (shape : Shape) (p : Places) (opening : KeeperState) (events : List KeeperEvent) (event : KeeperEvent) → IsOpened opening → AreWritesOfRun shape p opening (event ∷ events)
+        → is_calling (keeper_run shape p opening events).step event ≡ true
+        → (keeper_run shape p opening (event ∷ events)).step ≡ Ended (TurnRefused Memory)
+        → IsMemoryRefused (keeper_run shape p opening events) (keeper_run shape p opening (event ∷ events)) }
+    ensures again { (shape : Shape) (p : Places) (s : KeeperState) → CopiesAgain shape p s }
+    ensures number { (shape : Shape) (p : Places) (opening : KeeperState) (events : List KeeperEvent) (event : KeeperEvent) (full : Bool) → IsOpened opening → AreWritesOfRun shape p opening (event ∷ events)
+        → is_calling (keeper_run shape p opening events).step event ≡ true
+        → (keeper_run shape p opening (event ∷ events)).step ≡ Ended (Turned true full)
+        → IsFinishOfBegun (number_open shape p opening events) (keeper_run shape p opening events) (keeper_run shape p opening (event ∷ events)) }
+{}

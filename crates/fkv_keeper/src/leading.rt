@@ -1,0 +1,384 @@
+//! Where the keeper goes on by what the machines inside it come to.
+ghost use Rattle.std.specs.Prelude.{◌≡◌, true, None, Some};
+ghost use Rattle.fkv_manifest.specs.Committing.{commit_answer};
+ghost use Rattle.fkv_base.specs.declared.faults.Fault.TheVariants as fault;
+ghost use Rattle.fkv_keeper.specs.Keeping.{device_passed, end_told, write_asked, copy_asked, copy_driven, points_known, IsFlushedNow, AreWritesFor, ended, turned, turned_full, start_ledto, maintain_ledto, phase_ledto, part_begun, copies_next, copies, enter_ledto, copy_ledto, seek_ledto, wait_ledto, writes_begun, AreWritesOf, AreGateWritesOf, AreWritesBegun, write_ledto, finish_ledto, finished, checkpoint_used, triples_written, lost_left};
+ghost use Rattle.fkv_keeper.specs.declared.answers.KeeperTold.TheVariants.{TurnRefused};
+
+use crate::answers::KeeperTold;
+use crate::keepers::{Keeper, Keeping};
+use crate::last_commits::Checkpoint;
+use crate::maintaining::MaintainAnswer;
+use crate::manifests::{slot_place, slot_written};
+use fkv_base::{Addr, Fault, Phase};
+use fkv_checkpoint::IndexCopy;
+use fkv_commit::{
+    Commit, CommitKind, EnterAnswer, FinishAnswer, SeekAnswer, StartAnswer, WaitAnswer,
+};
+use fkv_manifest::{CommitWrites, GateWrites, WriteAnswer};
+use fkv_plane::{Ask, passed};
+use fkv_record::{LostRange, area_place};
+use fkv_words::PhaseSaid;
+
+/// Drives the copy with the reply to its ask, where there is one.
+pub(crate) fn copy_driven(copy: &mut Option<IndexCopy>, reply: u64) -> Ask<()>
+    ensures next { copy.new ≡ copy_driven copy.old reply }
+    ensures ask { result ≡ copy_asked copy.new }
+{
+    match copy {
+        Some(copy) => copy.drive(reply),
+        None => Ask::Done(()),
+    }
+}
+
+/// What a part of every turn asks, passed on; its call of the device is the keeper's.
+#[tactic(auto, unfolding(crate::specs::Keeping::device_passed))]
+pub(crate) fn device_passed(ask: Ask<MaintainAnswer>, told: KeeperTold) -> Ask<KeeperTold>
+    ensures { result ≡ device_passed ask told }
+{
+    match ask {
+        Ask::Done(MaintainAnswer::Device) => Ask::Done(KeeperTold::Device),
+        other => passed(other, told),
+    }
+}
+
+/// What the writes of a commit need.
+pub(crate) fn write_asked(answer: WriteAnswer, told: KeeperTold) -> Ask<KeeperTold>
+    ensures { result ≡ write_asked answer told }
+{
+    match answer {
+        WriteAnswer::Device => Ask::Done(KeeperTold::Device),
+        _ => Ask::Done(told),
+    }
+}
+
+/// How a call has ended, which needs no device any more.
+pub(crate) fn end_told(its: KeeperTold, told: KeeperTold) -> KeeperTold
+    ensures { result ≡ end_told its told }
+{
+    match its {
+        KeeperTold::Device => told,
+        other => other,
+    }
+}
+
+impl Keeper {
+    /// What the copy asks, where there is one.
+    pub(crate) fn copy_ask(&self) -> Ask<()>
+        ensures { result ≡ copy_asked self.now.state.copy }
+    {
+        match &self.copy {
+            Some(copy) => copy.ask(),
+            None => Ask::Done(()),
+        }
+    }
+
+    fn ends(&mut self, told: KeeperTold)
+        ensures { self.new ≡ record self.old { state = ended self.old.state told } }
+    {
+        self.step = Keeping::Ended(told);
+    }
+
+    /// The turn is over.
+    fn turns(&mut self)
+        ensures { self.new ≡ record self.old { state = turned self.old.state } }
+    {
+        self.ends(KeeperTold::Turned(false, self.is_drain_full));
+    }
+
+    /// The turn is over, and a part of it was left out.
+    fn turns_full(&mut self)
+        ensures { self.new ≡ record self.old { state = turned_full self.old.state } }
+    {
+        self.is_drain_full = true;
+        self.ends(KeeperTold::Turned(false, true));
+    }
+
+    /// The device has failed.
+    pub(crate) fn breaks(&mut self)
+        ensures { self.new ≡ record self.old { state = ended (record self.old.state { is_broken = true }) (TurnRefused fault.Device) } }
+    {
+        self.is_broken = true;
+        self.ends(KeeperTold::TurnRefused(Fault::Device));
+    }
+
+    #[tactic(auto, unfolding(crate::specs::Keeping::start_ledto))]
+    pub(crate) fn after_start(&mut self, ask: Ask<StartAnswer>)
+        ensures { self.new ≡ record self.old { state = start_ledto self.old.state ask } }
+    {
+        if let Ask::Done(answer) = ask {
+            match answer {
+                StartAnswer::Begun(number, first) => {
+                    self.commit = Some(Commit::begun(number, self.start.kind(), first));
+                    self.has_entered = false;
+                    self.has_points = false;
+                    self.ends(KeeperTold::Begun(number));
+                }
+                StartAnswer::Refused(why) => self.ends(KeeperTold::CommitRefused(why)),
+                StartAnswer::Idle => self.ends(KeeperTold::CommitRefused(Fault::CommitRunning)),
+            }
+        }
+    }
+
+    #[tactic(auto, unfolding(crate::specs::Keeping::maintain_ledto))]
+    pub(crate) fn after_maintain(&mut self, ask: Ask<MaintainAnswer>)
+        ensures { self.new ≡ record self.old { state = maintain_ledto self.old.state ask } }
+    {
+        if let Ask::Done(answer) = ask {
+            match answer {
+                MaintainAnswer::Device => {}
+                MaintainAnswer::Through => {
+                    self.is_drain_full = self.maintain.is_drain_full();
+                    self.step = Keeping::LoadsPhase;
+                }
+                MaintainAnswer::Spent => self.ends(KeeperTold::TurnRefused(Fault::EpochsSpent)),
+                MaintainAnswer::Broken => self.breaks(),
+            }
+        }
+    }
+
+    /// Goes on by what the phase word says.
+    #[tactic(auto, unfolding(crate::specs::Keeping::phase_ledto))]
+    pub(crate) fn after_phase(&mut self, said: PhaseSaid)
+        ensures { self.new ≡ record self.old { state = phase_ledto self.old.places self.old.state self.old.state.commit said self.new.state.is_granted } }
+    {
+        match self.commit {
+            None => self.turns(),
+            Some(commit) => self.begins_part(commit, said),
+        }
+    }
+
+    /// Begins what the phase calls for.
+    fn begins_part(&mut self, commit: Commit, said: PhaseSaid)
+        ensures { self.new ≡ record self.old { state = part_begun self.old.places self.old.state commit said self.new.state.is_granted } }
+    {
+        match said {
+            PhaseSaid::Says(Phase::InProgress, _) => {
+                if !self.has_entered {
+                    self.enter.start(commit.number);
+                    self.step = Keeping::Enters;
+                } else if commit.is_copied {
+                    self.turns();
+                } else {
+                    self.copies();
+                }
+            }
+            PhaseSaid::Says(Phase::WaitPending, _) => {
+                if commit.is_copied {
+                    self.seek.start(commit.number);
+                    self.step = Keeping::Seeks;
+                } else {
+                    self.copies();
+                }
+            }
+            PhaseSaid::Says(Phase::WaitFlush, _) if self.has_points => {
+                self.wait.start(commit.end, commit.epoch);
+                self.step = Keeping::Waits;
+            }
+            _ => self.turns(),
+        }
+    }
+
+    /// The copy begins, where memory is granted for it.
+    fn copies(&mut self)
+        ensures { self.new ≡ record self.old { state = copies self.old.places self.old.state self.new.state.is_granted } }
+    {
+        match IndexCopy::begin(self.alloc, self.places) {
+            Ok(copy) => {
+                self.copy = Some(copy);
+                self.is_granted = true;
+                self.step = Keeping::Copies;
+            }
+            Err(why) => {
+                self.is_granted = false;
+                self.ends(KeeperTold::TurnRefused(why));
+            }
+        }
+    }
+
+    #[tactic(auto, unfolding(crate::specs::Keeping::enter_ledto))]
+    pub(crate) fn after_enter(&mut self, ask: Ask<EnterAnswer>)
+        ensures { self.new ≡ record self.old { state = enter_ledto self.old.state ask } }
+    {
+        if let Ask::Done(answer) = ask {
+            match answer {
+                EnterAnswer::Entered => {
+                    self.has_entered = true;
+                    self.turns();
+                }
+                EnterAnswer::DrainFull => self.turns_full(),
+                EnterAnswer::EpochsSpent => self.ends(KeeperTold::TurnRefused(Fault::EpochsSpent)),
+                EnterAnswer::Idle => self.turns(),
+            }
+        }
+    }
+
+    #[tactic(auto, unfolding(crate::specs::Keeping::copy_ledto))]
+    pub(crate) fn after_copy(&mut self, ask: Ask<()>)
+        ensures { self.new ≡ record self.old { state = copy_ledto self.old.state ask } }
+    {
+        if let Ask::Done(()) = ask {
+            if let Some(commit) = self.commit {
+                self.commit = Some(Commit {
+                    is_copied: true,
+                    ..commit
+                });
+            }
+            self.turns();
+        }
+    }
+
+    #[tactic(auto, unfolding(crate::specs::Keeping::seek_ledto))]
+    pub(crate) fn after_seek(&mut self, ask: Ask<SeekAnswer>)
+        ensures { self.new ≡ record self.old { state = seek_ledto self.old.state ask } }
+    {
+        if let Ask::Done(answer) = ask {
+            match answer {
+                SeekAnswer::Taken(end, epoch) => {
+                    self.knows_points(end, epoch);
+                    self.turns();
+                }
+                SeekAnswer::DrainFull => self.turns_full(),
+                SeekAnswer::EpochsSpent => self.ends(KeeperTold::TurnRefused(Fault::EpochsSpent)),
+                SeekAnswer::Owing | SeekAnswer::Idle => self.turns(),
+            }
+        }
+    }
+
+    /// The points were taken.
+    fn knows_points(&mut self, end: Addr, epoch: u64)
+        ensures { self.new ≡ record self.old { state = record self.old.state { commit = points_known self.old.state.commit end epoch; has_points = true } } }
+    {
+        if let Some(commit) = self.commit {
+            self.commit = Some(Commit {
+                end,
+                epoch,
+                ..commit
+            });
+        }
+        self.has_points = true;
+    }
+
+    #[tactic(auto, unfolding(crate::specs::Keeping::wait_ledto))]
+    pub(crate) fn after_wait(&mut self, ask: Ask<WaitAnswer>)
+        ensures next { self.new ≡ record self.old { state = wait_ledto self.old.state ask self.new.state.writes } }
+        ensures writes { IsFlushedNow ask → AreWritesFor self.old.shape self.old.state self.old.state.commit self.new.state.writes }
+    {
+        if let Ask::Done(answer) = ask {
+            match (answer, self.commit) {
+                (WaitAnswer::Flushed, Some(commit)) => self.writes(commit),
+                _ => self.turns(),
+            }
+        }
+    }
+
+    /// Begins to write the commit.
+    fn writes(&mut self, commit: Commit)
+        ensures next { self.new ≡ record self.old { state = writes_begun self.old.state (Some commit) self.new.state.writes } }
+        ensures writes { AreWritesOf self.old.shape self.old.state commit self.new.state.writes }
+    {
+        self.used = self.checkpoint_used(commit);
+        let gate = self.gate_writes(commit);
+        let area = area_place(self.shape, self.used.area.number());
+        let triples = self.triples_written(commit.kind);
+        self.writes = CommitWrites::new(area, triples, gate);
+        self.step = Keeping::Writes;
+    }
+
+    /// The writes of the commit's slot, for the checkpoint that it uses.
+    fn gate_writes(&self, commit: Commit) -> GateWrites
+        ensures { AreGateWritesOf self.now.shape self.now.state commit self.now.state.used result }
+    {
+        let slot = slot_written(
+            self.shape.sessions,
+            commit.number,
+            commit.end,
+            &self.used,
+            self.seek.points(),
+            self.lost_left(commit.kind),
+        );
+        let is_open = self.last.is_gate_open(commit.number);
+        GateWrites::new(slot_place(commit.number), 1, slot, is_open)
+    }
+
+    /// The lost ranges that lie behind the checkpoint of a commit.
+    fn lost_left(&self, kind: CommitKind) -> &[LostRange]
+        ensures { result.now ≡ lost_left kind self.now.state.lost }
+    {
+        match kind {
+            CommitKind::Full => &self.lost[..0],
+            CommitKind::Log => self.lost.as_slice(),
+        }
+    }
+
+    /// The checkpoint that the commit uses.
+    fn checkpoint_used(&self, commit: Commit) -> Checkpoint
+        ensures { result ≡ checkpoint_used commit commit.kind self.now.state.last self.now.state.copy }
+    {
+        match commit.kind {
+            CommitKind::Full => Checkpoint {
+                number: commit.number,
+                first: commit.first,
+                triples: self.copy.as_ref().map_or(0, |copy| copy.triples()),
+                area: self.last.checkpoint.area.other(),
+            },
+            CommitKind::Log => self.last.checkpoint,
+        }
+    }
+
+    /// Gives up the copy for what it has copied, where the commit writes that.
+    fn triples_written(&mut self, kind: CommitKind) -> Vec<u8>
+        ensures next { self.new ≡ record self.old { state = record self.old.state { copy = None } } }
+        ensures bytes { result.items ≡ triples_written kind self.old.state.copy }
+    {
+        let copy = self.copy.take();
+        match (kind, copy) {
+            (CommitKind::Full, Some(copy)) => copy.into_bytes(),
+            _ => Vec::new(self.alloc),
+        }
+    }
+
+    #[tactic(auto, unfolding(crate::specs::Keeping::write_ledto))]
+    pub(crate) fn after_write(&mut self)
+        ensures { self.new ≡ record self.old { state = write_ledto self.old.state self.old.state.commit (commit_answer self.old.state.writes) } }
+    {
+        match self.commit {
+            None => self.turns(),
+            Some(commit) => {
+                if let WriteAnswer::Written = self.writes.answer() {
+                    self.finish.start(self.seek.points(), commit.number);
+                    self.step = Keeping::Finishes;
+                }
+            }
+        }
+    }
+
+    #[tactic(auto, unfolding(crate::specs::Keeping::finish_ledto))]
+    pub(crate) fn after_finish(&mut self, ask: Ask<FinishAnswer>)
+        ensures { self.new ≡ record self.old { state = finish_ledto self.old.state ask } }
+    {
+        if let Ask::Done(_) = ask {
+            match self.commit {
+                None => self.turns(),
+                Some(commit) => self.finishes(commit),
+            }
+        }
+    }
+
+    /// The commit is finished.
+    fn finishes(&mut self, commit: Commit)
+        ensures { self.new ≡ record self.old { state = finished self.old.state (Some commit) } }
+    {
+        self.commit = None;
+        self.last.number = commit.number;
+        self.last.points.clear();
+        let _ = self.last.points.try_extend_from_slice(self.seek.points());
+        self.last.checkpoint = self.used;
+        self.last.opens_gate(commit.number);
+        if commit.kind == CommitKind::Full {
+            self.lost.clear();
+        }
+        self.has_finished = true;
+        self.ends(KeeperTold::Turned(true, self.is_drain_full));
+    }
+}

@@ -1,0 +1,334 @@
+//! What a turn of the keeper does whether a commit is in hand or not.
+ghost use Rattle.std.specs.Prelude.{◌≡◌, ◌<◌, ◌≤◌, ◌↔◌, ℕ, List, [], is_ok, true, false, IfOk, OnOk, OnErr, Err};
+ghost use Rattle.fkv_base.specs.declared.faults.Fault.TheVariants.{Memory};
+ghost use Rattle.fkv_disk.specs.Bytes.{bytes_at};
+ghost use Rattle.fkv_disk.specs.Device.{Elapses, HasCause, MakesCalls};
+ghost use Rattle.fkv_epoch.specs.Claiming.{takes_action};
+ghost use Rattle.fkv_flush.specs.Devices.{Adds};
+ghost use Rattle.fkv_flush.specs.Serving.{mail_place};
+ghost use Rattle.fkv_keeper.specs.AsksLeft.{maintain_asks_left, most_maintain_asks, GoesOnWhereLeft};
+ghost use Rattle.fkv_keeper.specs.declared.maintaining.MaintainAnswer.TheVariants.{Device as AtDevice};
+ghost use Rattle.fkv_keeper.specs.declared.maintaining.Maintaining.TheVariants.{Through, Broken};
+ghost use Rattle.fkv_plane.specs.Passing.{is_done};
+ghost use Rattle.fkv_plane.specs.declared.asks.Ask.TheVariants.{Done};
+ghost use Rattle.fkv_keeper.specs.Maintaining.{maintain_begun, maintain_ask, maintain_next, maintain_given, maintain_called, maintain_calls, maintain_calls_asked, maintain_made, device_asked, scan_ledto, claim_ledto, flush_ledto, shift_ledto, turn_ledto, serve_begun, serve_ledto, turn_form};
+
+use fkv_base::{Addr, Fault, Shape};
+use fkv_disk::Device;
+use fkv_epoch::{Claim, Scan};
+use fkv_flush::{DeviceAnswer, Flush, Serve};
+use fkv_log::{MoveAnswer, ShiftAnswer, ShiftReadOnly, TurnForm, TurnPage};
+use fkv_plane::{Action, Ask, Places, passed};
+use std::alloc::Global;
+use std::marker::Model;
+
+/// What the machine has come to.
+#[derive(Clone, Copy, Debug, PartialEq, Eq)]
+pub enum MaintainAnswer {
+    /// Its next step is one call of the device, which `device_step` makes.
+    Device,
+    Through,
+    /// The epoch is at its last: nobody raises it any more.
+    Spent,
+    /// The device failed.
+    Broken,
+}
+
+/// How far the machine has come. At rest it says how the last turn ended.
+#[derive(Clone, Copy, Debug, PartialEq, Eq)]
+pub(crate) enum Maintaining {
+    Through,
+    Spent,
+    Broken,
+    Scans,
+    /// What is armed and safe is run.
+    Claims,
+    /// The log is flushed up to the safe read-only offset.
+    Flushes,
+    /// The read-only offset is shifted.
+    Shifts,
+    /// A page is opened, or the head is moved for it.
+    Turns,
+    /// The sessions' mailboxes are served.
+    Serves,
+}
+
+/// Finds the safe epoch, runs the actions whose epoch is safe, flushes the log, shifts the read-only offset, opens a page or moves
+/// the head for it, and serves the mailboxes.
+#[derive(Drop)]
+pub struct Maintain {
+    shape: Shape,
+    places: Places,
+    scan: Scan,
+    claim: Claim,
+    flush: Flush,
+    shift: ShiftReadOnly,
+    turn: TurnPage,
+    serve: Serve,
+    is_drain_full: bool,
+    step: Maintaining,
+}
+
+impl Model for Maintain {
+    ghost use Rattle.std.specs.Prelude.{◌≡◌};
+    ghost use Rattle.fkv_keeper.specs.Maintaining.{Maintainer, MaintainState};
+
+    ghost Value = { Maintainer };
+
+    ghost view = { λ m. record { shape = m.shape; places = m.places; state = record { scanning = m.scan.step; claiming = m.claim.step; bytes = m.flush.bytes; flushing = m.flush.step; shift = m.shift.state; turn = m.turn.state; serving = m.serve.step; is_drain_full = m.is_drain_full; step = m.step } } };
+
+    ghost invariant = { λ m. (m.scan.sessions ≡ m.shape.sessions) × (m.flush.shape ≡ m.shape) × (m.flush.places ≡ m.places) × (m.shift.shape ≡ m.shape) × (m.turn.shape ≡ m.shape) × (m.serve.shape ≡ m.shape) };
+}
+
+impl Maintain {
+    /// The machine of a store of this shape, at rest, with room for the bytes of one page. `Fault::Memory` where memory is refused
+    /// for it; later no more is taken.
+    pub fn new(alloc: Global, shape: Shape, places: Places) -> Result<Maintain, Fault>
+        ensures shape { IfOk result (λ made. made.shape ≡ shape) }
+        ensures places { IfOk result (λ made. made.places ≡ places) }
+        ensures rest { IfOk result (λ made. made.state.step ≡ Through) }
+        ensures err { OnErr result (result ≡ Err Memory) }
+    {
+        let flush = Flush::new(alloc, shape, places)?;
+        Ok(Maintain {
+            shape,
+            places,
+            scan: Scan::new(shape.sessions as usize),
+            claim: Claim::new(),
+            flush,
+            shift: ShiftReadOnly::new(shape),
+            turn: TurnPage::new(shape),
+            serve: Serve::new(shape),
+            is_drain_full: false,
+            step: Maintaining::Through,
+        })
+    }
+
+    /// The first ask.
+    pub fn start(&mut self) -> Ask<MaintainAnswer>
+        ensures next { self.new ≡ record self.old { state = maintain_begun self.old.state } }
+        ensures ask { result ≡ maintain_ask self.old.shape self.old.places self.new.state }
+        ensures left { GoesOnWhereLeft (maintain_asks_left self.old.shape self.new.state) result }
+        ensures bounded { maintain_asks_left self.old.shape self.new.state ≤ most_maintain_asks self.old.shape }
+    {
+        self.is_drain_full = false;
+        self.step = Maintaining::Scans;
+        self.scan.start();
+        self.ask()
+    }
+
+    /// Goes on with the reply to its ask. At its end, and where it needs the device, it stays where it is.
+    #[tactic(auto, unfolding(crate::specs::Maintaining::maintaining_next))]
+    pub fn drive(&mut self, reply: u64) -> Ask<MaintainAnswer>
+        ensures next { self.new ≡ record self.old { state = maintain_next self.old.shape self.old.places self.old.state reply } }
+        ensures ask { result ≡ maintain_ask self.old.shape self.old.places self.new.state }
+        ensures left { GoesOnWhereLeft (maintain_asks_left self.old.shape self.new.state) result }
+        ensures fewer { is_done (maintain_ask self.old.shape self.old.places self.old.state) ≡ false → takes_action (maintain_ask self.old.shape self.old.places self.old.state) ≡ false → maintain_asks_left self.old.shape self.new.state < maintain_asks_left self.old.shape self.old.state }
+    {
+        match self.step {
+            Maintaining::Through | Maintaining::Spent | Maintaining::Broken => {}
+            Maintaining::Scans => {
+                let ask = self.scan.drive(reply);
+                self.after_scan(ask);
+            }
+            Maintaining::Claims => {
+                let ask = self.claim.drive(reply);
+                self.after_claim(ask);
+            }
+            Maintaining::Flushes => {
+                let ask = self.flush.drive(reply);
+                self.after_flush(ask);
+            }
+            Maintaining::Shifts => {
+                let ask = self.shift.drive(reply);
+                self.after_shift(ask);
+            }
+            Maintaining::Turns => {
+                let ask = self.turn.drive(reply);
+                self.after_turn(ask);
+            }
+            Maintaining::Serves => {
+                let ask = self.serve.drive(reply);
+                self.after_serve(ask);
+            }
+        }
+        self.ask()
+    }
+
+    /// Gets the action of the slot that it claimed.
+    #[tactic(auto, unfolding(crate::specs::Maintaining::maintaining_given))]
+    pub fn given(&mut self, action: Action) -> Ask<MaintainAnswer>
+        ensures next { self.new ≡ record self.old { state = maintain_given self.old.state action } }
+        ensures ask { result ≡ maintain_ask self.old.shape self.old.places self.new.state }
+        ensures left { GoesOnWhereLeft (maintain_asks_left self.old.shape self.new.state) result }
+        ensures fewer { takes_action (maintain_ask self.old.shape self.old.places self.old.state) ≡ true → maintain_asks_left self.old.shape self.new.state < maintain_asks_left self.old.shape self.old.state }
+    {
+        if let Maintaining::Claims = self.step {
+            let ask = self.claim.given(action);
+            self.after_claim(ask);
+        }
+        self.ask()
+    }
+
+    /// Makes the one call of the device that it needs, and goes on. Where it needs none it makes none, and stays where it is.
+    /// Where the device failed it ends as broken.
+    #[tactic(auto, unfolding(crate::specs::Maintaining::maintaining_called, crate::specs::Maintaining::maintaining_made, crate::specs::Maintaining::maintaining_calls))]
+    pub fn device_step<D: Device>(&mut self, d: &mut D) -> Result<Ask<MaintainAnswer>, Fault>
+        ensures next { (bytes : List ℕ) × (self.new ≡ record self.old { state = maintain_called self.old.shape self.old.places self.old.state (is_ok result) bytes }) }
+        ensures ask { IfOk result (λ ask. ask ≡ maintain_ask self.old.shape self.old.places self.new.state) }
+        ensures left { IfOk result (λ ask. GoesOnWhereLeft (maintain_asks_left self.old.shape self.new.state) ask) }
+        ensures fewer { maintain_ask self.old.shape self.old.places self.old.state ≡ Done AtDevice → maintain_asks_left self.old.shape self.new.state < maintain_asks_left self.old.shape self.old.state }
+        ensures broken { OnErr result (self.new.state.step ≡ Broken) }
+        ensures none { OnErr result (maintain_asks_left self.old.shape self.new.state ≡ 0) }
+        ensures cause { HasCause (D.failed d.old) (D.failed d.new) result }
+        ensures counted { MakesCalls (maintain_made self.old.places self.old.state) (D.refuses d.old) (D.refuses d.new) result }
+        ensures asked { maintain_made self.old.places self.old.state ≡ maintain_calls_asked (maintain_ask self.old.shape self.old.places self.old.state) }
+        ensures honest { D.honest d.old ↔ D.honest d.new }
+        ensures read { D.honest d.old → self.new ≡ record self.old { state = maintain_called self.old.shape self.old.places self.old.state (is_ok result) (bytes_at (D.seen d.old) (mail_place self.old.shape self.old.state.serving) 24) } }
+        ensures calls { D.honest d.old → Adds (maintain_calls self.old.shape self.old.state (is_ok result)) (D.seen d.old) (D.seen d.new) (D.may_leave d.old) (D.may_leave d.new) }
+        ensures time { D.honest d.old → Elapses (D.moment d.old) (D.moment d.new) (D.left_since d.old) (D.left_since d.new) (D.may_leave d.new) }
+    {
+        match self.step {
+            Maintaining::Flushes => match self.flush.device_step(d) {
+                Ok(ask) => self.after_flush(ask),
+                Err(fault) => return self.breaks(fault),
+            },
+            Maintaining::Serves => match self.serve.device_step(d) {
+                Ok(ask) => self.after_serve(ask),
+                Err(fault) => return self.breaks(fault),
+            },
+            _ => {}
+        }
+        Ok(self.ask())
+    }
+
+    /// What it asks now.
+    #[tactic(auto, unfolding(crate::specs::Maintaining::maintaining_ask))]
+    pub fn ask(&self) -> Ask<MaintainAnswer>
+        ensures { result ≡ maintain_ask self.now.shape self.now.places self.now.state }
+    {
+        match self.step {
+            Maintaining::Through => Ask::Done(MaintainAnswer::Through),
+            Maintaining::Spent => Ask::Done(MaintainAnswer::Spent),
+            Maintaining::Broken => Ask::Done(MaintainAnswer::Broken),
+            Maintaining::Scans => passed(self.scan.ask(), MaintainAnswer::Through),
+            Maintaining::Claims => passed(self.claim.ask(), MaintainAnswer::Through),
+            Maintaining::Flushes => device_asked(self.flush.ask()),
+            Maintaining::Shifts => passed(self.shift.ask(), MaintainAnswer::Through),
+            Maintaining::Turns => passed(self.turn.ask(), MaintainAnswer::Through),
+            Maintaining::Serves => device_asked(self.serve.ask()),
+        }
+    }
+
+    /// Whether a part was left out in this turn because no drain slot was free.
+    pub fn is_drain_full(&self) -> bool
+        ensures { result ≡ self.now.state.is_drain_full }
+    {
+        self.is_drain_full
+    }
+
+    fn breaks(&mut self, fault: Fault) -> Result<Ask<MaintainAnswer>, Fault>
+        ensures next { self.new ≡ record self.old { state = record self.old.state { step = Broken } } }
+        ensures told { result ≡ Err fault }
+    {
+        self.step = Maintaining::Broken;
+        Err(fault)
+    }
+
+    #[tactic(auto, unfolding(crate::specs::Maintaining::scan_ledto))]
+    fn after_scan(&mut self, ask: Ask<()>)
+        ensures { self.new ≡ record self.old { state = scan_ledto self.old.state ask } }
+    {
+        if let Ask::Done(()) = ask {
+            self.claim.start();
+            self.step = Maintaining::Claims;
+        }
+    }
+
+    #[tactic(auto, unfolding(crate::specs::Maintaining::claim_ledto))]
+    fn after_claim(&mut self, ask: Ask<()>)
+        ensures { self.new ≡ record self.old { state = claim_ledto self.old.state ask } }
+    {
+        if let Ask::Done(()) = ask {
+            self.flush.start();
+            self.step = Maintaining::Flushes;
+        }
+    }
+
+    #[tactic(auto, unfolding(crate::specs::Maintaining::flush_ledto))]
+    fn after_flush(&mut self, ask: Ask<DeviceAnswer>)
+        ensures { self.new ≡ record self.old { state = flush_ledto self.old.state ask } }
+    {
+        if let Ask::Done(DeviceAnswer::Through) = ask {
+            self.shift.start();
+            self.step = Maintaining::Shifts;
+        }
+    }
+
+    #[tactic(auto, unfolding(crate::specs::Maintaining::shift_ledto))]
+    fn after_shift(&mut self, ask: Ask<ShiftAnswer>)
+        ensures { self.new ≡ record self.old { state = shift_ledto self.old.state ask } }
+    {
+        if let Ask::Done(answer) = ask {
+            match answer {
+                ShiftAnswer::Through(tail) => self.turns(tail),
+                ShiftAnswer::NoSlot(tail) => {
+                    self.is_drain_full = true;
+                    self.turns(tail);
+                }
+                ShiftAnswer::Spent(_) => self.step = Maintaining::Spent,
+            }
+        }
+    }
+
+    fn turns(&mut self, tail: Addr)
+        ensures { self.new ≡ record self.old { state = turn_form self.old.state tail } }
+    {
+        self.turn.start(TurnForm::Whole, tail);
+        self.step = Maintaining::Turns;
+    }
+
+    #[tactic(auto, unfolding(crate::specs::Maintaining::turn_ledto))]
+    fn after_turn(&mut self, ask: Ask<MoveAnswer>)
+        ensures { self.new ≡ record self.old { state = turn_ledto self.old.shape self.old.state ask } }
+    {
+        if let Ask::Done(answer) = ask {
+            match answer {
+                MoveAnswer::Through => self.serves(),
+                MoveAnswer::NoSlot => {
+                    self.is_drain_full = true;
+                    self.serves();
+                }
+                MoveAnswer::Spent => self.step = Maintaining::Spent,
+            }
+        }
+    }
+
+    fn serves(&mut self)
+        ensures { self.new ≡ record self.old { state = serve_begun self.old.shape self.old.state } }
+    {
+        self.step = Maintaining::Serves;
+        let ask = self.serve.start();
+        self.after_serve(ask);
+    }
+
+    #[tactic(auto, unfolding(crate::specs::Maintaining::serve_ledto))]
+    fn after_serve(&mut self, ask: Ask<DeviceAnswer>)
+        ensures { self.new ≡ record self.old { state = serve_ledto self.old.state ask } }
+    {
+        if let Ask::Done(DeviceAnswer::Through) = ask {
+            self.step = Maintaining::Through;
+        }
+    }
+}
+
+/// What a flush or a serving asks, passed on.
+#[tactic(auto, unfolding(crate::specs::Maintaining::device_asked))]
+fn device_asked(ask: Ask<DeviceAnswer>) -> Ask<MaintainAnswer>
+    ensures { result ≡ device_asked ask }
+{
+    match ask {
+        Ask::Done(DeviceAnswer::Device) => Ask::Done(MaintainAnswer::Device),
+        other => passed(other, MaintainAnswer::Through),
+    }
+}

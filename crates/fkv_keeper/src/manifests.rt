@@ -1,0 +1,92 @@
+//! The slot that a commit writes.
+ghost use Rattle.std.specs.Prelude.{◌≡◌, ◌<◌, ◌≤◌, length, Some};
+ghost use Rattle.fkv_record.specs.Manifest.{manifest_bytes};
+ghost use Rattle.fkv_record.specs.declared.formats.Format.TheVariants.{Third};
+ghost use Rattle.fkv_base.specs.Limits.{max_sessions};
+ghost use Rattle.fkv_keeper.specs.LastCommits.{ArePointsOf, IsWritten, lost_written, point_written, slot_place};
+
+use crate::last_commits::Checkpoint;
+use arrayvec::ArrayVec;
+use fkv_base::{Addr, Serial, Version};
+use fkv_record::{
+    Format, LostRange, LostRanges, MAX_LOST, ManifestSlot, Points, SLOT_PLACES, write_manifest_slot,
+};
+
+/// The bytes of the slot of a commit, in the newest format.
+pub(crate) fn slot_written(
+    sessions: u64,
+    number: Version,
+    end: Addr,
+    checkpoint: &Checkpoint,
+    points: &[Serial],
+    lost: &[LostRange],
+) -> [u8; 512]
+    requires some_session { 0 < sessions }
+    requires few_sessions { sessions ≤ max_sessions }
+    ensures { IsWritten sessions number end checkpoint.now points.now lost.now result }
+{
+    let points = points_written(sessions, points);
+    let lost = lost_written(lost);
+    let (number, end) = (number.0, end.0);
+    let (maker, first, triples) = (checkpoint.number.0, checkpoint.first.0, checkpoint.triples);
+    let slot = ManifestSlot {
+        number,
+        first: Addr(first),
+        end: Addr(end),
+        triples,
+        area: checkpoint.area.number(),
+        points,
+        checkpoint: maker,
+        lost,
+    };
+    write_newest(&slot)
+}
+
+/// The bytes of the slot, in the newest format, which holds every slot.
+#[tactic(auto, unfolding(fkv_record::specs::Manifest::manifest_bytes))]
+fn write_newest(slot: &ManifestSlot) -> [u8; 512]
+    ensures { manifest_bytes (Third, slot.now) ≡ Some result }
+{
+    write_manifest_slot(slot, Format::Third).unwrap()
+}
+
+/// A point for each session.
+#[tactic(auto, using(crate::proofs::PointsWritten::one_more))]
+fn points_written(sessions: u64, points: &[Serial]) -> Points
+    requires some_session { 0 < sessions }
+    requires few_sessions { sessions ≤ max_sessions }
+    ensures { ArePointsOf sessions points.now result.serials.items }
+{
+    let mut serials = ArrayVec::new();
+    for session in 0..sessions as usize {
+        serials.push(point_written(points, session));
+    }
+    Points { serials }
+}
+
+/// The point of a session, within the limit of serials; 0 where it has none.
+fn point_written(points: &[Serial], session: usize) -> Serial
+    ensures { result ≡ point_written points.now session }
+{
+    match points.get(session) {
+        Some(point) => Serial(point.0.min(Serial::LAST)),
+        None => Serial(0),
+    }
+}
+
+/// The ranges that a slot has a place for.
+fn lost_written(lost: &[LostRange]) -> LostRanges
+    ensures { result.ranges.items ≡ lost_written lost.now }
+{
+    let mut ranges = ArrayVec::new();
+    let count = lost.len().min(MAX_LOST);
+    let _ = ranges.try_extend_from_slice(&lost[..count]);
+    LostRanges { ranges }
+}
+
+/// Where the slot of a commit of this number lies.
+pub(crate) fn slot_place(number: Version) -> u64
+    ensures { result ≡ slot_place number }
+{
+    SLOT_PLACES[(number.0 % 2) as usize]
+}

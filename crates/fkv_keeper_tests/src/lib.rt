@@ -1,0 +1,8 @@
+//! Tests of the keeper: its turns, and whole commits on a device in memory. They stand in a crate of their own, since a crate with
+//! tests is proved twice.
+#![tactic(auto)]
+
+#[cfg(test)]
+mod commits;
+#[cfg(test)]
+mod turns;

@@ -1,0 +1,11 @@
+mod Along
+mod Carried
+mod Elsewhere
+mod Following
+mod NewestSlot
+mod Order
+mod Putting
+mod Settled
+pub mod Shown
+mod Spelled
+mod Stages

@@ -1,0 +1,139 @@
+-- The numbers of a manifest slot, part by part, alike in every format.
+use Rattle.std.proofs.Common.{◌≡◌, ℕ, ◌+◌, ◌-◌, ◌≤◌, List, [], ◌∷◌, ◌++◌, length, replicate, true, refl, sym, ap, ◌∙◌, arith}
+use Rattle.std.proofs.lemmas.List.{append_assoc, length-append, length-replicate, length-map, nil_from_length, replicate-append-replicate}
+use Rattle.std.proofs.lemmas.Bool.Decides.{nat_tests}
+use Rattle.fkv_base.specs.declared.numbers.Serial.{Serial}
+use Rattle.fkv_record.specs.declared.formats.Format.{Format}
+use Rattle.fkv_record.specs.declared.formats.Format.TheVariants.{First, Second, Third}
+use Rattle.fkv_record.specs.declared.lost_ranges.LostRange.{LostRange}
+use Rattle.fkv_record.specs.declared.manifest_slots.ManifestSlot.{ManifestSlot}
+use Rattle.fkv_record.specs.Formats.{format_number, point_places}
+use Rattle.fkv_record.specs.Manifest.{range_numbers, is_held, layout, first_numbers, second_numbers, third_numbers, named_checkpoint, front_numbers}
+use Rattle.fkv_record.specs.Numbers.{padded}
+use Rattle.fkv_record.specs.Points.{serial_numbers}
+use Rattle.fkv_record.proofs.RangePlaces.{length-range_numbers}
+
+-- padding begins behind the first numbers
+padded_behind : (xs ys : List ℕ) (n m : ℕ) → length xs ≡ n → padded (n + m) (xs ++ ys) ≡ xs ++ padded m ys
+padded_behind xs ys n m len =
+    let left : n + m - length (xs ++ ys) ≡ m - length ys = omega (arith, length-append xs ys) in
+    ap (λ (k : ℕ). (xs ++ ys) ++ replicate k 0) left ∙ append_assoc xs ys (replicate (m - length ys) 0)
+
+pub length-padded : (n : ℕ) (xs : List ℕ) → length xs ≤ n → length (padded n xs) ≡ n
+length-padded n xs le = omega (arith, length-append xs (replicate (n - length xs) 0), length-replicate {A = ℕ} (n - length xs) 0)
+
+-- the seven numbers before the points
+abbrev pub head_numbers : ManifestSlot → List ℕ
+head_numbers x = 165 ∷ x.number ∷ x.first.0 ∷ x.end.0 ∷ x.triples ∷ x.area ∷ length x.points.serials.items ∷ []
+
+-- what stands behind the places of the points
+abbrev pub tail_numbers : Format → ManifestSlot → List ℕ
+tail_numbers f x = named_checkpoint f x ∷ length x.lost.ranges.items ∷ (padded (54 - point_places f) (range_numbers x.lost.ranges.items) ++ format_number f ∷ [])
+
+abbrev pub sections : Format → ManifestSlot → List ℕ
+sections f x = head_numbers x ++ (padded (point_places f) (serial_numbers x.points.serials.items) ++ tail_numbers f x)
+
+-- zeros behind a number of places are zeros behind fewer, and so many more
+padded_more : (n m : ℕ) (xs : List ℕ) → length xs ≤ n → padded (n + m) xs ≡ padded n xs ++ replicate m 0
+padded_more n m xs le =
+    let left : n + m - length xs ≡ n - length xs + m = omega arith in
+    rw (left, ← (replicate-append-replicate {A = ℕ} (n - length xs) m 0)) (sym (append_assoc xs (replicate (n - length xs) 0) (replicate m 0)))
+
+-- a later layout: a head of seven numbers, points in so many places, two numbers, ranges, and the format
+later : (head points two ranges : List ℕ) (places left format : ℕ) → length head ≡ 7 → length points ≤ places → length two ≡ 2 → places + left ≡ 54
+    → padded 63 (padded (7 + places) (head ++ points) ++ (two ++ ranges)) ++ format ∷ [] ≡ head ++ (padded places points ++ (two ++ (padded left ranges ++ format ∷ [])))
+later head points two ranges places left format head-len fit two-len all =
+    let front : padded (7 + places) (head ++ points) ≡ head ++ padded places points = padded_behind head points 7 places head-len in
+    let front-len : length (head ++ padded places points) ≡ 7 + places = omega (arith, length-append head (padded places points), length-padded places points fit) in
+    let behind : 63 ≡ 7 + places + (2 + left) = omega arith in
+    ap (λ (l : List ℕ). padded 63 (l ++ (two ++ ranges)) ++ format ∷ []) front
+    ∙ ap (λ (k : ℕ). padded k ((head ++ padded places points) ++ (two ++ ranges)) ++ format ∷ []) behind
+    ∙ ap (λ (l : List ℕ). l ++ format ∷ []) (padded_behind (head ++ padded places points) (two ++ ranges) (7 + places) (2 + left) front-len)
+    ∙ ap (λ (l : List ℕ). ((head ++ padded places points) ++ l) ++ format ∷ []) (padded_behind two ranges 2 left two-len)
+    ∙ append_assoc (head ++ padded places points) (two ++ padded left ranges) (format ∷ [])
+    ∙ append_assoc head (padded places points) ((two ++ padded left ranges) ++ format ∷ [])
+    ∙ ap (λ (l : List ℕ). head ++ (padded places points ++ l)) (append_assoc two (padded left ranges) (format ∷ []))
+
+-- the slot has no more points than there are places
+pub points_fit : (f : Format) (x : ManifestSlot) → is_held f x ≡ true → length (serial_numbers x.points.serials.items) ≤ point_places f
+points_fit First x held = let len = length-map {A = Serial} {B = ℕ} x.points.serials.items (λ s. s.0) in grind (arith, nat_tests, len, held)
+points_fit Second x held = let len = length-map {A = Serial} {B = ℕ} x.points.serials.items (λ s. s.0) in grind (arith, nat_tests, len, held)
+points_fit Third x held = let few = x.points.few_sessions in omega (arith, length-map {A = Serial} {B = ℕ} x.points.serials.items (λ s. s.0))
+
+-- nor more lost ranges
+pub ranges_fit : (f : Format) (x : ManifestSlot) → length (range_numbers x.lost.ranges.items) ≤ 54 - point_places f
+ranges_fit First x = let few = x.lost.few_ranges in omega (arith, length-range_numbers x.lost.ranges.items)
+ranges_fit Second x = let few = x.lost.few_ranges in omega (arith, length-range_numbers x.lost.ranges.items)
+ranges_fit Third x = let few = x.lost.few_ranges in omega (arith, length-range_numbers x.lost.ranges.items)
+
+no_ranges : (x : ManifestSlot) → is_held First x ≡ true → x.lost.ranges.items ≡ []
+no_ranges x held = nil_from_length x.lost.ranges.items (grind (arith, nat_tests, held))
+
+pub own_checkpoint : (x : ManifestSlot) → is_held First x ≡ true → x.checkpoint ≡ x.number
+own_checkpoint x held = grind (arith, nat_tests, held)
+
+first_sections : (x : ManifestSlot) → is_held First x ≡ true → first_numbers x ≡ sections First x
+unfolding first_numbers
+first_sections x held =
+    let points = serial_numbers x.points.serials.items in
+    padded_behind (head_numbers x) points 7 57 refl
+    ∙ ap (λ (l : List ℕ). head_numbers x ++ l) (padded_more 8 49 points (points_fit First x held))
+    ∙ ap (λ (l : List LostRange). head_numbers x ++ (padded 8 points ++ 0 ∷ length l ∷ (padded 46 (range_numbers l) ++ 0 ∷ []))) (sym (no_ranges x held))
+
+second_sections : (x : ManifestSlot) → is_held Second x ≡ true → second_numbers x ≡ sections Second x
+unfolding second_numbers
+second_sections x held =
+    later (head_numbers x) (serial_numbers x.points.serials.items) (x.checkpoint ∷ length x.lost.ranges.items ∷ []) (range_numbers x.lost.ranges.items) 8 46 2
+    refl (points_fit Second x held) refl refl
+
+third_sections : (x : ManifestSlot) → third_numbers x ≡ sections Third x
+unfolding third_numbers
+third_sections x =
+    later (head_numbers x) (serial_numbers x.points.serials.items) (x.checkpoint ∷ length x.lost.ranges.items ∷ []) (range_numbers x.lost.ranges.items) 32 22 3
+    refl (points_fit Third x refl) refl refl
+
+-- what a format can hold has these parts in it
+pub sectioned : (f : Format) (x : ManifestSlot) → is_held f x ≡ true → layout f x ≡ sections f x
+sectioned First x held = first_sections x held
+sectioned Second x held = second_sections x held
+sectioned Third x held = third_sections x
+
+-- the numbers before the last zeros and the format, as they are put together
+abbrev pub built : Format → ManifestSlot → List ℕ
+built f x = ((padded (7 + point_places f) (front_numbers x) ++ named_checkpoint f x ∷ []) ++ length x.lost.ranges.items ∷ []) ++ range_numbers x.lost.ranges.items
+
+pub places_within : (f : Format) → point_places f ≤ 54
+places_within First = omega arith
+places_within Second = omega arith
+places_within Third = omega arith
+
+built_parts : (f : Format) (x : ManifestSlot) → built f x ≡ padded (7 + point_places f) (head_numbers x ++ serial_numbers x.points.serials.items) ++ ((named_checkpoint f x ∷ length x.lost.ranges.items ∷ []) ++ range_numbers x.lost.ranges.items)
+built_parts f x =
+    let points = padded (7 + point_places f) (front_numbers x) in
+    ap (λ (l : List ℕ). l ++ range_numbers x.lost.ranges.items) (append_assoc points (named_checkpoint f x ∷ []) (length x.lost.ranges.items ∷ []))
+    ∙ append_assoc points (named_checkpoint f x ∷ length x.lost.ranges.items ∷ []) (range_numbers x.lost.ranges.items)
+
+pub length-front : (f : Format) (x : ManifestSlot) → is_held f x ≡ true → length (front_numbers x) ≤ 7 + point_places f
+length-front f x held = omega (arith, points_fit f x held)
+
+pub length-built : (f : Format) (x : ManifestSlot) → is_held f x ≡ true → length (built f x) ≤ 63
+length-built f x held =
+    let points = padded (7 + point_places f) (front_numbers x) in
+    let ranges = range_numbers x.lost.ranges.items in
+    let points-len = length-padded (7 + point_places f) (front_numbers x) (length-front f x held) in
+    let one = length-append points (named_checkpoint f x ∷ []) in
+    let two = length-append (points ++ named_checkpoint f x ∷ []) (length x.lost.ranges.items ∷ []) in
+    let all = length-append ((points ++ named_checkpoint f x ∷ []) ++ length x.lost.ranges.items ∷ []) ranges in
+    omega (arith, points-len, one, two, all, ranges_fit f x, places_within f)
+
+-- with those zeros and the format they are the layout
+pub whole : (f : Format) (x : ManifestSlot) → is_held f x ≡ true → padded 63 (built f x) ++ format_number f ∷ [] ≡ layout f x
+whole f x held =
+    ap (λ (l : List ℕ). padded 63 l ++ format_number f ∷ []) (built_parts f x)
+    ∙ later (head_numbers x) (serial_numbers x.points.serials.items) (named_checkpoint f x ∷ length x.lost.ranges.items ∷ []) (range_numbers x.lost.ranges.items) (point_places f) (54 - point_places f) (format_number f)
+    refl (points_fit f x held) refl (omega (arith, places_within f))
+    ∙ sym (sectioned f x held)
+
+pub length-layout : (f : Format) (x : ManifestSlot) → is_held f x ≡ true → length (layout f x) ≡ 64
+length-layout f x held =
+    omega (arith, ap length (whole f x held), length-append (padded 63 (built f x)) (format_number f ∷ []), length-padded 63 (built f x) (length-built f x held))

@@ -1,0 +1,66 @@
+-- Which bytes spell a manifest slot in each format.
+use Rattle.std.specs.Prelude.{ℕ, List, [], ◌∷◌, ◌++◌, length, Bool, true, ◌&&◌, nat_le, ◌==◌, Option, Some, None, if◌then◌else◌, ◌≡◌, IsSome}
+use Rattle.std.specs.List.{flat_map}
+use Rattle.fkv_record.specs.declared.formats.Format.{Format}
+use Rattle.fkv_record.specs.declared.formats.Format.TheVariants.{First, Second, Third}
+use Rattle.fkv_record.specs.declared.lost_ranges.LostRange.{LostRange}
+use Rattle.fkv_record.specs.declared.manifest_slots.ManifestSlot.{ManifestSlot}
+use Rattle.fkv_record.specs.Numbers.{spelled, padded}
+use Rattle.fkv_record.specs.Points.{serial_numbers}
+
+-- two numbers for each lost range: where it ends, and its version
+abbrev pub range_numbers : List LostRange → List ℕ
+range_numbers ranges = flat_map (λ range. range.to.0 ∷ range.version.0 ∷ []) ranges
+
+-- What every format begins with. At byte 0 the gate, whose byte 165 says that the slot is open, and seven zero bytes; at 8 the
+-- number, at 16 the first address, at 24 the end, at 32 how many triples, at 40 their area, at 48 how many points, and from 56
+-- on the points.
+abbrev pub front_numbers : ManifestSlot → List ℕ
+front_numbers x = 165 ∷ x.number ∷ x.first.0 ∷ x.end.0 ∷ x.triples ∷ x.area ∷ length x.points.serials.items ∷ serial_numbers x.points.serials.items
+
+-- what the later formats have behind the places of the points: whose checkpoint it is, how many lost ranges, and the ranges
+abbrev pub lost_numbers : ManifestSlot → List ℕ
+lost_numbers x = x.checkpoint ∷ length x.lost.ranges.items ∷ range_numbers x.lost.ranges.items
+
+-- Each layout has 64 numbers. The first format: zeros behind the points.
+unfoldable pub first_numbers : ManifestSlot → List ℕ
+first_numbers x = padded 64 (front_numbers x)
+
+-- the second: places for eight points, at byte 120 (the 15th number) the checkpoint and the lost ranges, and at 504 the format
+unfoldable pub second_numbers : ManifestSlot → List ℕ
+second_numbers x = padded 63 (padded 15 (front_numbers x) ++ lost_numbers x) ++ 2 ∷ []
+
+-- the third: places for 32 points, at byte 312 (the 39th number) the checkpoint and the lost ranges, and at 504 the format
+unfoldable pub third_numbers : ManifestSlot → List ℕ
+third_numbers x = padded 63 (padded 39 (front_numbers x) ++ lost_numbers x) ++ 3 ∷ []
+
+-- Which slots a format can hold: the first two have places for eight points, and a slot of the first names no lost range and
+-- no checkpoint but its own commit's.
+abbrev pub is_held : Format → ManifestSlot → Bool
+is_held First x = nat_le (length x.points.serials.items) 8 && x.checkpoint == x.number && length x.lost.ranges.items == 0
+is_held Second x = nat_le (length x.points.serials.items) 8
+is_held Third x = true
+
+-- what stands in the place of the checkpoint's number: nothing in the first format, which has no such place
+abbrev pub named_checkpoint : Format → ManifestSlot → ℕ
+named_checkpoint First x = 0
+named_checkpoint Second x = x.checkpoint
+named_checkpoint Third x = x.checkpoint
+
+-- the layout of a format
+abbrev pub layout : Format → ManifestSlot → List ℕ
+layout First x = first_numbers x
+layout Second x = second_numbers x
+layout Third x = third_numbers x
+
+-- the numbers of a slot in a format, if that format can hold it
+unfoldable pub manifest_numbers : Format × ManifestSlot → Option (List ℕ)
+manifest_numbers x = if is_held x.0 x.1 then Some (layout x.0 x.1) else None
+
+-- the bytes of a slot in a format, if that format can hold it
+unfoldable pub manifest_bytes : Format × ManifestSlot → Option (List ℕ)
+manifest_bytes x = if is_held x.0 x.1 then Some (spelled (layout x.0 x.1)) else None
+
+-- no bytes are a slot of two formats, nor two slots of one
+abbrev pub SpelledOnce : {A B : Type 0} → (A → Option B) → Type 0
+SpelledOnce {A} spelling = (x y : A) → IsSome (spelling x) → spelling x ≡ spelling y → x ≡ y
