@@ -19,7 +19,7 @@ use Rattle.fkv_commit.specs.declared.deferring.Deferring.{Deferring}
 use Rattle.fkv_commit.specs.declared.deferring.Deferring.TheVariants as defer
 use Rattle.fkv_commit.specs.Deferring.{DeferState, defer_begun, action_of, armed_epoch, defer_ask, deferring_ask, defer_next, deferring_next, defer_on, deferring_on, seek_ledto, raise_ledto, arm_ledto}
 use Rattle.fkv_commit.specs.Exchanges.{Exchange, exchange, exchanged, AreIdle, HoldsSlot, WasTaken, WereTaken, WasEpochLast, WasEpochBelow, MeetsSlot, AreSlotsBehind, IsDeferred}
-use Rattle.fkv_commit.proofs.Left.{never}
+use Rattle.fkv_plane.proofs.Shown.{never}
 
 pub truth : (b : Bool) → (b ≡ true) ⊎ (b ≡ false)
 truth true = inl refl

@@ -12,8 +12,9 @@ use Rattle.fkv_commit.specs.declared.finishing.Finishing.{Finishing}
 use Rattle.fkv_commit.specs.declared.finishing.Finishing.TheVariants as finish
 use Rattle.fkv_commit.specs.Waiting.{WaitState, waiting_ask, wait_ask, waiting_next, wait_next}
 use Rattle.fkv_commit.specs.Finishing.{FinishState, finish_begun, durable_from, finishing_ask, finish_ask, finishing_next, finish_next}
-use Rattle.fkv_commit.specs.AsksLeft.{AsksWhereLeft, waiting_asks_left, wait_asks_left, finishing_asks_left, finish_asks_left}
-use Rattle.fkv_commit.proofs.Left.{never, none}
+use Rattle.fkv_plane.specs.AsksLeft.{AsksWhereLeft}
+use Rattle.fkv_commit.specs.AsksLeft.{waiting_asks_left, wait_asks_left, finishing_asks_left, finish_asks_left}
+use Rattle.fkv_plane.proofs.Shown.{never, none}
 
 waiting_left : (step : Waiting) → AsksWhereLeft (waiting_asks_left step) (waiting_ask step)
 unfolding waiting_asks_left waiting_ask

@@ -15,8 +15,10 @@ use Rattle.fkv_commit.specs.declared.entering.EnterAnswer.TheVariants.{Idle}
 use Rattle.fkv_commit.specs.Commits.{version_after}
 use Rattle.fkv_commit.specs.Deferring.{defer_ask, defer_next}
 use Rattle.fkv_commit.specs.Entering.{EnterState, enter_begun, entering_ask, enter_ask, entering_next, enter_next, seek_led, defer_led}
-use Rattle.fkv_commit.specs.AsksLeft.{AsksWhereLeft, sum_left, deferring_asks_left, defer_asks_left, defer_asks_later, most_raise_asks, entering_asks_left, enter_asks_left}
-use Rattle.fkv_commit.proofs.Left.{never, none, some_inside, sum_most, sum_whole, passed_left, passed_alone, defer_left, defer_fewer, defer_on_left, defer_held}
+use Rattle.fkv_plane.specs.AsksLeft.{AsksWhereLeft, sum_left}
+use Rattle.fkv_commit.specs.AsksLeft.{deferring_asks_left, defer_asks_left, defer_asks_later, most_raise_asks, entering_asks_left, enter_asks_left}
+use Rattle.fkv_plane.proofs.Shown.{never, none, some_inside, sum_most, sum_whole, passed_left, passed_alone}
+use Rattle.fkv_commit.proofs.Left.{defer_left, defer_fewer, defer_on_left, defer_held}
 
 entering_left : (s : EnterState) (step : Entering) → AsksWhereLeft (entering_asks_left s step) (entering_ask s step)
 unfolding entering_asks_left entering_ask

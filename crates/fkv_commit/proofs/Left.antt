@@ -5,7 +5,7 @@ use Rattle.fkv_base.specs.Limits.{drain_slots, last_epoch}
 use Rattle.fkv_plane.specs.declared.asks.Ask.{Ask}
 use Rattle.fkv_plane.specs.declared.asks.Ask.TheVariants.{Done}
 use Rattle.fkv_plane.specs.Passing.{passed}
-use Rattle.fkv_plane.proofs.Shown.{passed_done}
+use Rattle.fkv_plane.proofs.Shown.{never, none, some_inside, passed_left, passed_alone, sum_most, sum_whole}
 use Rattle.fkv_epoch.specs.declared.raising.RaiseAnswer.{RaiseAnswer}
 use Rattle.fkv_epoch.specs.declared.raising.RaiseAnswer.TheVariants as raised
 use Rattle.fkv_epoch.specs.declared.raising.Raising.{Raising}
@@ -20,41 +20,8 @@ use Rattle.fkv_commit.specs.declared.deferring.DeferAnswer.TheVariants as answer
 use Rattle.fkv_commit.specs.declared.deferring.Deferring.{Deferring}
 use Rattle.fkv_commit.specs.declared.deferring.Deferring.TheVariants as defer
 use Rattle.fkv_commit.specs.Deferring.{DeferState, defer_ask, deferring_ask, defer_next, deferring_next, defer_on, deferring_on, seek_ledto, raise_ledto, arm_ledto}
-use Rattle.fkv_commit.specs.AsksLeft.{AsksWhereLeft, sum_left, arms_left, deferring_asks_left, defer_asks_left, deferring_asks_later, defer_asks_later}
-
-pub never : {X : Type 0} → true ≡ false → X
-never e = cc
-
-pub none : {X : Type 0} → 0 < 0 → X
-none h = let no : ⊥ = omega (arith, h) in absurd no
-
-pub some_inside : (inside behind : ℕ) → 0 < sum_left inside behind → 0 < inside
-unfolding sum_left
-some_inside zero behind some = some
-some_inside (suc inside) behind some = omega arith
-
-some_sum : (inside behind : ℕ) → 0 < inside → 0 < sum_left inside behind
-unfolding sum_left
-some_sum zero behind some = some
-some_sum (suc inside) behind some = omega arith
-
-pub sum_most : (inside behind : ℕ) → sum_left inside behind ≤ inside + behind
-unfolding sum_left
-sum_most zero behind = omega arith
-sum_most (suc inside) behind = omega arith
-
-pub sum_whole : (inside behind : ℕ) → 0 < inside → sum_left inside behind ≡ inside + behind
-unfolding sum_left
-sum_whole zero behind some = none some
-sum_whole (suc inside) behind some = refl
-
--- it asks just where the machine inside does
-pub passed_left : {A B : Type 0} (inside behind : ℕ) (ask : Ask A) (told : B) → AsksWhereLeft inside ask → AsksWhereLeft (sum_left inside behind) (passed ask told)
-passed_left inside behind ask told its =
-    (λ e. some_sum inside behind (its.0 (sym (passed_done ask told) ∙ e)), λ some. passed_done ask told ∙ its.1 (some_inside inside behind some))
-
-pub passed_alone : {A B : Type 0} (left : ℕ) (ask : Ask A) (told : B) → AsksWhereLeft left ask → AsksWhereLeft left (passed ask told)
-passed_alone left ask told its = (λ e. its.0 (sym (passed_done ask told) ∙ e), λ some. passed_done ask told ∙ its.1 some)
+use Rattle.fkv_plane.specs.AsksLeft.{AsksWhereLeft, sum_left}
+use Rattle.fkv_commit.specs.AsksLeft.{arms_left, deferring_asks_left, defer_asks_left, deferring_asks_later, defer_asks_later}
 
 -- one that is deferred
 

@@ -18,8 +18,10 @@ use Rattle.fkv_commit.specs.declared.seeking.SeekAnswer.TheVariants.{Idle, Owing
 use Rattle.fkv_commit.specs.Cuts.{serial_said, version_said}
 use Rattle.fkv_commit.specs.Deferring.{defer_begun, defer_ask, defer_next}
 use Rattle.fkv_commit.specs.Seeking.{SeekState, seek_begun, owing_from, seeking_ask, seek_ask, seeking_next, seek_next, points_from, point_taken, slot_led, defer_led}
-use Rattle.fkv_commit.specs.AsksLeft.{AsksWhereLeft, sum_left, deferring_asks_left, defer_asks_left, defer_asks_later, most_slot_asks, most_raise_asks, points_left, seeking_asks_left, seek_asks_left}
-use Rattle.fkv_commit.proofs.Left.{never, none, some_inside, sum_most, sum_whole, passed_left, passed_alone, defer_left, defer_fewer, defer_on_left, defer_held}
+use Rattle.fkv_plane.specs.AsksLeft.{AsksWhereLeft, sum_left}
+use Rattle.fkv_commit.specs.AsksLeft.{deferring_asks_left, defer_asks_left, defer_asks_later, most_slot_asks, most_raise_asks, points_left, seeking_asks_left, seek_asks_left}
+use Rattle.fkv_plane.proofs.Shown.{never, none, some_inside, sum_most, sum_whole, passed_left, passed_alone}
+use Rattle.fkv_commit.proofs.Left.{defer_left, defer_fewer, defer_on_left, defer_held}
 
 seeking_left : (s : SeekState) (step : Seeking) → AsksWhereLeft (seeking_asks_left s step) (seeking_ask s step)
 unfolding seeking_asks_left seeking_ask

@@ -26,7 +26,7 @@ use Rattle.fkv_commit.specs.Deferring.{defer_ask, defer_next, action_of}
 use Rattle.fkv_commit.specs.Seeking.{SeekState, seek_begun, owing_from, seeking_ask, seek_ask, seeking_next, seek_next, points_from, point_taken, slot_led, defer_led}
 use Rattle.fkv_commit.specs.Exchanges.{Exchange, exchange, exchanged, AreIdle, AreSlotsBehind, HoldsSlot, IsDeferred}
 use Rattle.fkv_commit.specs.Points.{CutsMet, First, Both, Again, IsPointShown, ArePointsShown, first_met, other_met, loads_of, all_loads, NoneOwes, ArePointsRight, AllAreTaken, IsSeekEnd, sought, seek_told, PointsAreRight, SeeksEndRight}
-use Rattle.fkv_commit.proofs.Left.{never}
+use Rattle.fkv_plane.proofs.Shown.{never}
 use Rattle.fkv_commit.proofs.Replies.{by_replies, passed_exchanged, stays_among}
 use Rattle.fkv_commit.proofs.DeferTold.{truth, IsSeeking, IsHolding, SeekOutcome, SeeksOn, HasHeld, HasNone, IsSpent, seek_step, begins_seeking, IsDeferring, Raises, Puts, Arms, DeferOutcome, DefersOn, HasArmed, defer_step, goes_on_deferring, none_met, seek_behind, defer_behind}
 

@@ -1,9 +1,8 @@
 -- How many asks a machine has left, at most: those of the machine inside that is under way, and of what may come behind it. The put of an
 -- action counts with them.
-use Rattle.std.specs.Prelude.{◌≡◌, ℕ, zero, suc, ◌+◌, ◌-◌, ◌*◌, ◌<◌, ◌↔◌, false, length}
+use Rattle.std.specs.Prelude.{ℕ, ◌+◌, ◌-◌, ◌*◌, length}
 use Rattle.fkv_base.specs.Limits.{drain_slots}
-use Rattle.fkv_plane.specs.declared.asks.Ask.{Ask}
-use Rattle.fkv_plane.specs.Passing.{is_done}
+use Rattle.fkv_plane.specs.AsksLeft.{sum_left}
 use Rattle.fkv_epoch.specs.declared.arming.Arming.{Arming}
 use Rattle.fkv_epoch.specs.declared.arming.Arming.TheVariants as arm
 use Rattle.fkv_epoch.specs.Raising.{raise_on, raise_asks_left}
@@ -25,15 +24,6 @@ use Rattle.fkv_commit.specs.Entering.{EnterState}
 use Rattle.fkv_commit.specs.Seeking.{SeekState}
 use Rattle.fkv_commit.specs.Waiting.{WaitState}
 use Rattle.fkv_commit.specs.Finishing.{FinishState}
-
--- a machine asks for something just where it has asks left
-abbrev pub AsksWhereLeft : {A : Type 0} → ℕ → Ask A → Type 0
-AsksWhereLeft left ask = (is_done ask ≡ false) ↔ (0 < left)
-
--- what the machine inside has left, and what may come behind its end. Where it is at its end already nothing is asked, and none are left
-unfoldable pub sum_left : ℕ → ℕ → ℕ
-sum_left zero behind = 0
-sum_left (suc inside) behind = suc inside + behind
 
 -- the put of an action is no ask of the arming's, which goes on by its reply
 unfoldable pub arms_left : Arming → ℕ

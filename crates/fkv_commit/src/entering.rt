@@ -1,7 +1,8 @@
 //! How a commit goes on to wait-pending.
 ghost use Rattle.std.specs.Prelude.{◌≡◌, ◌≤◌, ◌<◌, ◌+◌, ◌*◌};
 ghost use Rattle.fkv_base.specs.Limits.{drain_slots};
-ghost use Rattle.fkv_commit.specs.AsksLeft.{AsksWhereLeft, enter_asks_left};
+ghost use Rattle.fkv_plane.specs.AsksLeft.{AsksWhereLeft};
+ghost use Rattle.fkv_commit.specs.AsksLeft.{enter_asks_left};
 ghost use Rattle.fkv_commit.specs.Entering.{enter_begun, enter_ask, enter_next, seek_led, defer_led};
 ghost use Rattle.fkv_commit.specs.declared.entering.Entering.TheVariants.{Ended};
 ghost use Rattle.fkv_commit.specs.declared.entering.EnterAnswer.TheVariants.{Idle};

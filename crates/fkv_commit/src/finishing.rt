@@ -1,7 +1,8 @@
 //! How a commit finishes once its manifest is written.
 ghost use Rattle.std.specs.Prelude.{◌≡◌, ◌≤◌, ◌<◌, ◌+◌, slice_get};
 ghost use Rattle.fkv_base.specs.Limits.{max_sessions};
-ghost use Rattle.fkv_commit.specs.AsksLeft.{AsksWhereLeft, finish_asks_left};
+ghost use Rattle.fkv_plane.specs.AsksLeft.{AsksWhereLeft};
+ghost use Rattle.fkv_commit.specs.AsksLeft.{finish_asks_left};
 ghost use Rattle.fkv_commit.specs.Finishing.{finish_begun, finish_ask, finish_next, durable_from, point_of, IsFinishInRange};
 ghost use Rattle.fkv_commit.specs.declared.finishing.Finishing.TheVariants.{Ended};
 ghost use Rattle.fkv_commit.specs.declared.finishing.FinishAnswer.TheVariants.{Idle};

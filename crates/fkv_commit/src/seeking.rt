@@ -1,7 +1,8 @@
 //! How a commit finds each session's point.
 ghost use Rattle.std.specs.Prelude.{◌≡◌, ◌≤◌, ◌<◌, ◌+◌, ◌*◌, length};
 ghost use Rattle.fkv_base.specs.Limits.{max_sessions, drain_slots};
-ghost use Rattle.fkv_commit.specs.AsksLeft.{AsksWhereLeft, seek_asks_left};
+ghost use Rattle.fkv_plane.specs.AsksLeft.{AsksWhereLeft};
+ghost use Rattle.fkv_commit.specs.AsksLeft.{seek_asks_left};
 ghost use Rattle.fkv_commit.specs.Seeking.{IsSeekInRange, seek_begun, seek_ask, seek_next, owing_from, points_from, point_taken, cut_met, other_met, slot_led, defer_led};
 ghost use Rattle.fkv_commit.specs.declared.seeking.Seeking.TheVariants.{Ended};
 ghost use Rattle.fkv_commit.specs.declared.seeking.SeekAnswer.TheVariants.{Idle};

@@ -1,7 +1,8 @@
 //! How a commit starts.
 ghost use Rattle.std.specs.Prelude.{◌≡◌, ◌≤◌, ◌<◌, ◌+◌, ◌*◌};
 ghost use Rattle.fkv_base.specs.Limits.{drain_slots};
-ghost use Rattle.fkv_commit.specs.AsksLeft.{AsksWhereLeft, start_asks_left};
+ghost use Rattle.fkv_plane.specs.AsksLeft.{AsksWhereLeft};
+ghost use Rattle.fkv_commit.specs.AsksLeft.{start_asks_left};
 ghost use Rattle.fkv_commit.specs.Starting.{is_lost_full, start_begun, start_ask, start_next, phase_found, seek_led, defer_led};
 ghost use Rattle.fkv_commit.specs.declared.starting.Starting.TheVariants.{Ended};
 ghost use Rattle.fkv_commit.specs.declared.starting.StartAnswer.TheVariants.{Idle, Refused};

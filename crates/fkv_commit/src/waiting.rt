@@ -1,6 +1,7 @@
 //! How a commit waits until it may write its manifest.
 ghost use Rattle.std.specs.Prelude.{◌≡◌, ◌≤◌, ◌<◌};
-ghost use Rattle.fkv_commit.specs.AsksLeft.{AsksWhereLeft, wait_asks_left};
+ghost use Rattle.fkv_plane.specs.AsksLeft.{AsksWhereLeft};
+ghost use Rattle.fkv_commit.specs.AsksLeft.{wait_asks_left};
 ghost use Rattle.fkv_commit.specs.Waiting.{wait_begun, wait_ask, wait_next};
 ghost use Rattle.fkv_commit.specs.declared.waiting.Waiting.TheVariants.{Ended};
 ghost use Rattle.fkv_commit.specs.declared.waiting.WaitAnswer.TheVariants.{Idle};

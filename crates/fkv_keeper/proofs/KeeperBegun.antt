@@ -5,11 +5,12 @@ use Rattle.fkv_base.specs.declared.shapes.Shape.{Shape}
 use Rattle.fkv_plane.specs.declared.places.Places.{Places}
 use Rattle.fkv_commit.specs.declared.commits.CommitKind.{CommitKind}
 use Rattle.fkv_commit.specs.AsksLeft.{starting_asks_left}
-use Rattle.fkv_keeper.specs.AsksLeft.{maintain_asks_left}
+use Rattle.fkv_maintain.specs.AsksLeft.{maintain_asks_left}
 use Rattle.fkv_keeper.specs.KeeperAsks.{most_part_asks, most_begin_asks, most_turn_asks, keeping_asks_left, keeper_asks_left}
 use Rattle.fkv_keeper.specs.Keeping.{KeeperState, commit_asked, turn_asked}
-use Rattle.fkv_keeper.specs.Maintaining.{maintain_begun}
-use Rattle.fkv_keeper.proofs.MaintainLeft.{maintain_begun_left, sum_most}
+use Rattle.fkv_maintain.specs.Maintaining.{maintain_begun}
+use Rattle.fkv_plane.proofs.Shown.{sum_most}
+use Rattle.fkv_maintain.proofs.Shown.{maintain_begun_left}
 
 either : (shape : Shape) (p : Places) (b : Bool) (x y : KeeperState) (n : ℕ) → keeper_asks_left shape p x ≤ n → keeper_asks_left shape p y ≤ n → keeper_asks_left shape p (if b then x else y) ≤ n
 either shape p true x y n first second = first

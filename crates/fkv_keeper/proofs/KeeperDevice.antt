@@ -24,12 +24,12 @@ use Rattle.fkv_keeper.specs.declared.answers.KeeperTold.{KeeperTold}
 use Rattle.fkv_keeper.specs.declared.answers.KeeperTold.TheVariants.{Device, Turned, TurnRefused, Begun, CommitRefused}
 use Rattle.fkv_keeper.specs.declared.keepers.Keeping.{Keeping}
 use Rattle.fkv_keeper.specs.declared.keepers.Keeping.TheVariants.{Ended, Starts, Maintains, LoadsPhase, Enters, Copies, Seeks, Waits, Writes, Finishes}
-use Rattle.fkv_keeper.specs.declared.maintaining.MaintainAnswer.{MaintainAnswer}
-use Rattle.fkv_keeper.specs.declared.maintaining.MaintainAnswer.TheVariants as maintain
+use Rattle.fkv_maintain.specs.declared.maintaining.MaintainAnswer.{MaintainAnswer}
+use Rattle.fkv_maintain.specs.declared.maintaining.MaintainAnswer.TheVariants as maintain
 use Rattle.fkv_keeper.specs.Keeping.{KeeperState, device_passed, end_told, write_asked, turn_over, copy_asked, keeping_ask, keeper_ask}
 use Rattle.fkv_keeper.specs.KeeperAsks.{keeping_made, keeper_made, keeper_calls_asked}
-use Rattle.fkv_keeper.specs.Maintaining.{maintain_ask, maintain_calls_asked}
-use Rattle.fkv_keeper.proofs.MaintainLeft.{maintain_asked_calls}
+use Rattle.fkv_maintain.specs.Maintaining.{maintain_ask, maintain_calls_asked}
+use Rattle.fkv_maintain.proofs.Shown.{maintain_asked_calls}
 
 passed_calls : {A : Type 0} (ask : Ask A) (told : KeeperTold) → 0 ≡ keeper_calls_asked (Done told) → 0 ≡ keeper_calls_asked (passed ask told)
 unfolding passed

@@ -45,18 +45,19 @@ use Rattle.fkv_keeper.specs.declared.answers.KeeperTold.{KeeperTold}
 use Rattle.fkv_keeper.specs.declared.answers.KeeperTold.TheVariants.{Device, Turned, TurnRefused, CommitRefused}
 use Rattle.fkv_keeper.specs.declared.keepers.Keeping.{Keeping}
 use Rattle.fkv_keeper.specs.declared.keepers.Keeping.TheVariants.{Ended, Starts, Maintains, LoadsPhase, Enters, Copies, Seeks, Waits, Writes, Finishes}
-use Rattle.fkv_keeper.specs.declared.maintaining.MaintainAnswer.{MaintainAnswer}
-use Rattle.fkv_keeper.specs.declared.maintaining.MaintainAnswer.TheVariants as maintain
-use Rattle.fkv_keeper.specs.AsksLeft.{maintain_asks_left}
+use Rattle.fkv_maintain.specs.declared.maintaining.MaintainAnswer.{MaintainAnswer}
+use Rattle.fkv_maintain.specs.declared.maintaining.MaintainAnswer.TheVariants as maintain
+use Rattle.fkv_maintain.specs.AsksLeft.{maintain_asks_left}
 use Rattle.fkv_keeper.specs.KeeperAsks.{committing_calls_left, writes_left, copy_left, most_write_asks, most_part_asks, keeping_asks_left, keeper_asks_left, keeping_made, keeper_calls_asked}
 use Rattle.fkv_keeper.specs.Keeping.{KeeperState, device_passed, write_asked, turn_over, copy_asked, copy_driven, keeping_ask, keeper_ask, ended, start_ledto, maintain_ledto, copies, part_begun, phase_ledto, enter_ledto, copy_ledto, seek_ledto, writes_begun, wait_ledto, finished, finish_ledto, keeping_next, keeper_next, keeping_given, keeper_given, write_ledto, keeping_called, keeper_called}
-use Rattle.fkv_keeper.specs.declared.maintaining.Maintaining.TheVariants.{Broken}
-use Rattle.fkv_keeper.specs.Maintaining.{MaintainState, maintaining_ask, maintain_ask, maintain_next, maintain_given, maintain_called}
+use Rattle.fkv_maintain.specs.declared.maintaining.Maintaining.TheVariants.{Broken}
+use Rattle.fkv_maintain.specs.Maintaining.{MaintainState, maintaining_ask, maintain_ask, maintain_next, maintain_given, maintain_called}
 use Rattle.fkv_keeper.proofs.KeeperDevice.{keeper_asked_calls}
 use Rattle.fkv_keeper.proofs.KeeperLeft.{never, nor, copy_where, write_busy}
 use Rattle.fkv_keeper.proofs.KeeperTakes.{starting_takes, entering_takes, copy_takes, seeking_takes, waiting_takes, finishing_takes}
-use Rattle.fkv_keeper.proofs.TakesNone.{passed_takes}
-use Rattle.fkv_keeper.proofs.MaintainLeft.{maintain_fewer, maintain_given_fewer, maintain_called_fewer, sum_some, sum_most, sum_whole}
+use Rattle.fkv_maintain.proofs.Shown.{passed_takes}
+use Rattle.fkv_plane.proofs.Shown.{some_sum, sum_most, sum_whole}
+use Rattle.fkv_maintain.proofs.Shown.{maintain_fewer, maintain_given_fewer, maintain_called_fewer}
 
 write_done : (answer : WriteAnswer) (told : KeeperTold) → is_done (write_asked answer told) ≡ true
 write_done write.Device told = refl
@@ -405,7 +406,7 @@ keeping_called_fewer shape p s Writes true bytes at asks one =
     let led = write_led shape p (record s { writes = next }) s.commit (commit_answer next) (writes_left s.writes) at fewer in
     omega (arith, whole, led)
 keeping_called_fewer shape p s Writes false bytes at asks one =
-    sum_some (writes_left s.writes) (s.finish.sessions + 1) ((write_busy s.writes s.is_drain_full).0 (rw asks refl))
+    some_sum (writes_left s.writes) (s.finish.sessions + 1) ((write_busy s.writes s.is_drain_full).0 (rw asks refl))
 keeping_called_fewer shape p s step done bytes at asks one = cc
 
 pub keeper_called_fewer : (shape : Shape) (p : Places) (s : KeeperState) (done : Bool) (bytes : List ℕ) → keeper_ask shape p s ≡ Done Device

@@ -11,7 +11,8 @@ use Rattle.fkv_checkpoint.specs.declared.copying.CopyStep.{CopyStep}
 use Rattle.fkv_checkpoint.specs.declared.copying.CopyStep.TheVariants as copying
 use Rattle.fkv_checkpoint.specs.declared.copying.Copying.{Copying}
 use Rattle.fkv_checkpoint.specs.Copying.{Copier, copy_step_ask, step_asks_left}
-use Rattle.fkv_commit.specs.AsksLeft.{AsksWhereLeft, sum_left, start_asks_left, enter_asks_left, seek_asks_left, wait_asks_left, finish_asks_left}
+use Rattle.fkv_plane.specs.AsksLeft.{AsksWhereLeft, sum_left}
+use Rattle.fkv_commit.specs.AsksLeft.{start_asks_left, enter_asks_left, seek_asks_left, wait_asks_left, finish_asks_left}
 use Rattle.fkv_commit.specs.Entering.{enter_ask}
 use Rattle.fkv_commit.specs.Finishing.{finish_ask}
 use Rattle.fkv_commit.specs.Seeking.{seek_ask}
@@ -28,14 +29,15 @@ use Rattle.fkv_keeper.specs.declared.answers.KeeperTold.{KeeperTold}
 use Rattle.fkv_keeper.specs.declared.answers.KeeperTold.TheVariants.{Device, Turned, TurnRefused, Begun, CommitRefused}
 use Rattle.fkv_keeper.specs.declared.keepers.Keeping.{Keeping}
 use Rattle.fkv_keeper.specs.declared.keepers.Keeping.TheVariants.{Ended, Starts, Maintains, LoadsPhase, Enters, Copies, Seeks, Waits, Writes, Finishes}
-use Rattle.fkv_keeper.specs.declared.maintaining.MaintainAnswer.{MaintainAnswer}
-use Rattle.fkv_keeper.specs.declared.maintaining.MaintainAnswer.TheVariants as maintain
+use Rattle.fkv_maintain.specs.declared.maintaining.MaintainAnswer.{MaintainAnswer}
+use Rattle.fkv_maintain.specs.declared.maintaining.MaintainAnswer.TheVariants as maintain
 use Rattle.fkv_keeper.specs.Answers.{is_busy}
-use Rattle.fkv_keeper.specs.AsksLeft.{GoesOnWhereLeft, maintain_asks_left}
+use Rattle.fkv_maintain.specs.AsksLeft.{GoesOnWhereLeft, maintain_asks_left}
 use Rattle.fkv_keeper.specs.KeeperAsks.{committing_calls_left, writes_left, copy_left, most_write_asks, most_part_asks, keeping_asks_left, keeper_asks_left, IsBusyWhereLeft}
 use Rattle.fkv_keeper.specs.Keeping.{KeeperState, device_passed, end_told, write_asked, turn_over, copy_asked, keeping_ask, keeper_ask, finished}
-use Rattle.fkv_keeper.specs.Maintaining.{maintain_ask}
-use Rattle.fkv_keeper.proofs.MaintainLeft.{maintain_left, sum_some, some_inside}
+use Rattle.fkv_maintain.specs.Maintaining.{maintain_ask}
+use Rattle.fkv_plane.proofs.Shown.{some_sum, some_inside}
+use Rattle.fkv_maintain.proofs.Shown.{maintain_left}
 
 pub never : {X : Type 0} → true ≡ false → X
 never e = cc
@@ -76,7 +78,7 @@ device_busy (Put slot action) full left where_left = (λ busy. where_left.0 refl
 device_busy (Take slot) full left where_left = (λ busy. where_left.0 refl, λ some. refl)
 
 sum_where : (ask : Ask KeeperTold) (inside behind : ℕ) → IsBusyWhereLeft inside ask → IsBusyWhereLeft (sum_left inside behind) ask
-sum_where ask inside behind its = (λ busy. sum_some inside behind (its.0 busy), λ some. its.1 (some_inside inside behind some))
+sum_where ask inside behind its = (λ busy. some_sum inside behind (its.0 busy), λ some. its.1 (some_inside inside behind some))
 
 end_idle : (told : KeeperTold) (full : Bool) → IsBusyWhereLeft 0 (Done (end_told told (Turned false full)))
 end_idle Device full = (nor, none)

@@ -18,11 +18,11 @@ use Rattle.fkv_keeper.specs.declared.answers.KeeperTold.{KeeperTold}
 use Rattle.fkv_keeper.specs.declared.answers.KeeperTold.TheVariants.{Device, Turned, TurnRefused, CommitRefused}
 use Rattle.fkv_keeper.specs.declared.keepers.Keeping.{Keeping}
 use Rattle.fkv_keeper.specs.declared.keepers.Keeping.TheVariants.{Ended, Starts, Maintains, LoadsPhase, Enters, Copies, Seeks, Waits, Writes, Finishes}
-use Rattle.fkv_keeper.specs.declared.maintaining.Maintaining.{Maintaining}
-use Rattle.fkv_keeper.specs.declared.maintaining.Maintaining.TheVariants as part
-use Rattle.fkv_keeper.specs.declared.maintaining.MaintainAnswer.{MaintainAnswer}
-use Rattle.fkv_keeper.specs.declared.maintaining.MaintainAnswer.TheVariants as maintain
-use Rattle.fkv_keeper.specs.Maintaining.{MaintainState, maintain_next, maintain_given, maintain_ask, maintaining_ask, maintain_called, maintaining_called, maintaining_made}
+use Rattle.fkv_maintain.specs.declared.maintaining.Maintaining.{Maintaining}
+use Rattle.fkv_maintain.specs.declared.maintaining.Maintaining.TheVariants as part
+use Rattle.fkv_maintain.specs.declared.maintaining.MaintainAnswer.{MaintainAnswer}
+use Rattle.fkv_maintain.specs.declared.maintaining.MaintainAnswer.TheVariants as maintain
+use Rattle.fkv_maintain.specs.Maintaining.{MaintainState, maintain_next, maintain_given, maintain_ask, maintaining_ask, maintain_called, maintaining_called, maintaining_made}
 use Rattle.fkv_commit.specs.declared.commits.Commit.{Commit}
 use Rattle.fkv_commit.specs.Seeking.{seek_begun}
 use Rattle.fkv_keeper.specs.Keeping.{KeeperState, copies, part_begun, phase_ledto, keeper_ask, keeping_ask, commit_asked, turn_asked, maintain_ledto, keeping_next, keeping_given, keeping_called}

@@ -37,9 +37,9 @@ use Rattle.fkv_keeper.specs.declared.answers.KeeperTold.{KeeperTold}
 use Rattle.fkv_keeper.specs.declared.answers.KeeperTold.TheVariants.{Turned, TurnRefused, CommitRefused}
 use Rattle.fkv_keeper.specs.declared.keepers.Keeping.{Keeping}
 use Rattle.fkv_keeper.specs.declared.keepers.Keeping.TheVariants.{Ended, Starts, Maintains, LoadsPhase, Enters, Copies, Seeks, Waits, Writes, Finishes}
-use Rattle.fkv_keeper.specs.declared.maintaining.MaintainAnswer.{MaintainAnswer}
-use Rattle.fkv_keeper.specs.declared.maintaining.MaintainAnswer.TheVariants as maintain
-use Rattle.fkv_keeper.specs.Maintaining.{maintain_begun, maintain_ask, maintain_next, maintain_given, maintain_called}
+use Rattle.fkv_maintain.specs.declared.maintaining.MaintainAnswer.{MaintainAnswer}
+use Rattle.fkv_maintain.specs.declared.maintaining.MaintainAnswer.TheVariants as maintain
+use Rattle.fkv_maintain.specs.Maintaining.{maintain_begun, maintain_ask, maintain_next, maintain_given, maintain_called}
 use Rattle.fkv_keeper.specs.Keeping.{KeeperState, AreGateWritesOf, AreWritesFor, AreWritesBegun, IsFlushedNow, copy_asked, copy_driven, copied, points_known, ended, turned, start_ledto, maintain_ledto, copies, part_begun, phase_ledto, enter_ledto, copy_ledto, seek_ledto, writes_begun, wait_ledto, finished, finish_ledto, keeping_next, keeping_given, write_ledto, writes_called, keeping_called}
 use Rattle.fkv_keeper.specs.KeeperRun.{Replies, Gets, Calls, Writing, writing_after, open_after}
 use Rattle.fkv_keeper.specs.KeeperLaws.{IsRefusal, AreWritesOfCommit, IsWritten, IsMemoryRefused, number_in_hand, IsFinishOfBegun}

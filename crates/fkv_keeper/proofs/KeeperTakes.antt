@@ -31,7 +31,7 @@ use Rattle.fkv_commit.specs.Waiting.{WaitState, waiting_ask, wait_ask}
 use Rattle.fkv_epoch.specs.Arming.{arm_ask}
 use Rattle.fkv_epoch.specs.Raising.{raise_ask}
 use Rattle.fkv_keeper.specs.Keeping.{copy_asked}
-use Rattle.fkv_keeper.proofs.TakesNone.{passed_takes, raise_takes, arm_takes}
+use Rattle.fkv_maintain.proofs.Shown.{passed_takes, raise_takes, arm_takes}
 
 deferring_takes : (d : DeferState) (step : Deferring) → takes_action (deferring_ask d step) ≡ false
 unfolding deferring_ask

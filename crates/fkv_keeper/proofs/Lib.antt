@@ -6,7 +6,5 @@ mod KeeperLeft
 mod KeeperRuns
 mod KeeperSound
 mod KeeperTakes
-mod MaintainLeft
 mod PointsWritten
-mod TakesNone
 mod TurnRun

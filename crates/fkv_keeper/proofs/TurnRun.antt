@@ -35,10 +35,10 @@ use Rattle.fkv_keeper.specs.declared.answers.KeeperTold.{KeeperTold}
 use Rattle.fkv_keeper.specs.declared.answers.KeeperTold.TheVariants.{Device, Turned, TurnRefused, Begun, CommitRefused}
 use Rattle.fkv_keeper.specs.declared.keepers.Keeping.{Keeping}
 use Rattle.fkv_keeper.specs.declared.keepers.Keeping.TheVariants.{Ended, Starts, Maintains, LoadsPhase, Enters, Copies, Seeks, Waits, Writes, Finishes}
-use Rattle.fkv_keeper.specs.declared.maintaining.MaintainAnswer.{MaintainAnswer}
-use Rattle.fkv_keeper.specs.declared.maintaining.MaintainAnswer.TheVariants as maintain
+use Rattle.fkv_maintain.specs.declared.maintaining.MaintainAnswer.{MaintainAnswer}
+use Rattle.fkv_maintain.specs.declared.maintaining.MaintainAnswer.TheVariants as maintain
 use Rattle.fkv_keeper.specs.Keeping.{KeeperState, device_passed, write_asked, copy_asked, copy_driven, keeping_ask, keeper_ask, ended, maintain_ledto, copies, part_begun, phase_ledto, enter_ledto, copy_ledto, seek_ledto, writes_begun, wait_ledto, finished, finish_ledto, keeping_next, keeper_next, keeping_given, keeper_given, write_ledto, copied, points_known, turn_asked, Finality, keeping_called, keeper_called}
-use Rattle.fkv_keeper.specs.Maintaining.{maintain_begun, maintain_ask, maintain_next, maintain_given, maintain_called}
+use Rattle.fkv_maintain.specs.Maintaining.{maintain_begun, maintain_ask, maintain_next, maintain_given, maintain_called}
 use Rattle.fkv_keeper.proofs.KeeperLeft.{never, nor}
 
 abbrev pub TurnRuns : KeeperState → KeeperState → Keeping → Type 0

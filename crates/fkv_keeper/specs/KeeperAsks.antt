@@ -10,7 +10,8 @@ use Rattle.fkv_plane.specs.declared.asks.Ask.{Ask}
 use Rattle.fkv_plane.specs.declared.asks.Ask.TheVariants.{Done}
 use Rattle.fkv_plane.specs.declared.places.Places.{Places}
 use Rattle.fkv_checkpoint.specs.Copying.{Copier, copy_asks_left}
-use Rattle.fkv_commit.specs.AsksLeft.{sum_left, start_asks_left, enter_asks_left, seek_asks_left, wait_asks_left, finish_asks_left}
+use Rattle.fkv_plane.specs.AsksLeft.{sum_left}
+use Rattle.fkv_commit.specs.AsksLeft.{start_asks_left, enter_asks_left, seek_asks_left, wait_asks_left, finish_asks_left}
 use Rattle.fkv_flush.specs.Devices.{Adds}
 use Rattle.fkv_flush.specs.Serving.{mail_place}
 use Rattle.fkv_manifest.specs.declared.commits.Committing.{Committing}
@@ -24,9 +25,9 @@ use Rattle.fkv_keeper.specs.declared.answers.KeeperTold.TheVariants.{Device}
 use Rattle.fkv_keeper.specs.declared.keepers.Keeping.{Keeping}
 use Rattle.fkv_keeper.specs.declared.keepers.Keeping.TheVariants.{Ended, Starts, Maintains, LoadsPhase, Enters, Copies, Seeks, Waits, Writes, Finishes}
 use Rattle.fkv_keeper.specs.Answers.{is_busy}
-use Rattle.fkv_keeper.specs.AsksLeft.{maintain_asks_left, most_maintain_asks}
+use Rattle.fkv_maintain.specs.AsksLeft.{maintain_asks_left, most_maintain_asks}
 use Rattle.fkv_keeper.specs.Keeping.{KeeperModel, KeeperState, keeper_called}
-use Rattle.fkv_keeper.specs.Maintaining.{maintain_calls, maintain_made}
+use Rattle.fkv_maintain.specs.Maintaining.{maintain_calls, maintain_made}
 
 -- how many calls of the device it makes
 unfoldable pub keeping_made : Places → KeeperState → Keeping → ℕ

@@ -1,9 +1,7 @@
 pub mod Answers
-pub mod AsksLeft
 pub mod KeeperAsks
 pub mod KeeperLaws
 pub mod KeeperRun
 pub mod Keeping
 pub mod LastCommits
-pub mod Maintaining
 pub mod Running

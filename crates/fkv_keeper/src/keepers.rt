@@ -3,7 +3,7 @@ ghost use Rattle.std.specs.Prelude.{◌≡◌, ◌<◌, ◌≤◌, ◌↔◌, �
 ghost use Rattle.fkv_manifest.specs.Committing.{commit_answer, commit_call};
 ghost use Rattle.fkv_manifest.specs.Devices.{calls_next};
 ghost use Rattle.fkv_manifest.specs.Made.{with_call};
-ghost use Rattle.fkv_keeper.specs.Maintaining.{maintain_calls, maintain_made};
+ghost use Rattle.fkv_maintain.specs.Maintaining.{maintain_calls, maintain_made};
 ghost use Rattle.fkv_base.specs.declared.faults.Fault.TheVariants.{Memory, Device as Failed};
 ghost use Rattle.fkv_epoch.specs.Claiming.{takes_action};
 ghost use Rattle.fkv_plane.specs.declared.asks.Ask.TheVariants.{Done};
@@ -18,7 +18,7 @@ ghost use Rattle.fkv_keeper.specs.declared.keepers.Keeping.TheVariants.{Ended};
 use crate::answers::KeeperTold;
 use crate::last_commits::{Checkpoint, LastCommit};
 use crate::leading::{copy_driven, device_passed, end_told, write_asked};
-use crate::maintaining::Maintain;
+use fkv_maintain::Maintain;
 use arrayvec::ArrayVec;
 use fkv_base::{Fault, Shape};
 use fkv_checkpoint::IndexCopy;

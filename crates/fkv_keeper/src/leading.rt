@@ -8,7 +8,7 @@ ghost use Rattle.fkv_keeper.specs.declared.answers.KeeperTold.TheVariants.{TurnR
 use crate::answers::KeeperTold;
 use crate::keepers::{Keeper, Keeping};
 use crate::last_commits::Checkpoint;
-use crate::maintaining::MaintainAnswer;
+use fkv_maintain::MaintainAnswer;
 use crate::manifests::{slot_place, slot_written};
 use fkv_base::{Addr, Fault, Phase};
 use fkv_checkpoint::IndexCopy;

@@ -7,7 +7,6 @@ mod keepers;
 mod last_commits;
 mod laws;
 mod leading;
-mod maintaining;
 mod manifests;
 mod running;
 
@@ -15,4 +14,3 @@ pub use answers::{Finished, KeeperAsk, KeeperTold, MAX_POINTS, Turn};
 pub use keepers::{Keeper, MAX_LOST_IN_HAND};
 pub use last_commits::{Area, Checkpoint, LastCommit};
 pub use laws::law_of_the_keeper;
-pub use maintaining::{Maintain, MaintainAnswer};

@@ -22,8 +22,10 @@ use Rattle.fkv_ops.specs.declared.appending.Appending.{Appending}
 use Rattle.fkv_ops.specs.declared.appending.Appending.TheVariants.{Ended, Reserves, Fills, Publishes, Invalidates}
 use Rattle.fkv_ops.specs.declared.appending.FoundSlot.{FoundSlot}
 use Rattle.fkv_ops.specs.Appending.{AppendState, append_begun, append_ended, appending_ask, append_ask, addr_reserved, reserve_ledto, fill_ledto, publish_ledto, invalidate_ledto, appending_next, append_next}
-use Rattle.fkv_ops.specs.AsksLeft.{AsksWhereLeft, sum_left, appending_asks_left, append_asks_left}
-use Rattle.fkv_ops.proofs.AsksLeft.{none, done_left, counted_left, some_inside, passed_left, passed_same, inside_fewer, behind_fewer}
+use Rattle.fkv_plane.specs.AsksLeft.{AsksWhereLeft, sum_left}
+use Rattle.fkv_ops.specs.AsksLeft.{appending_asks_left, append_asks_left}
+use Rattle.fkv_plane.proofs.Shown.{none, done_left, some_inside, passed_left, passed_alone, inside_fewer, behind_fewer}
+use Rattle.fkv_ops.proofs.AsksLeft.{counted_left}
 
 pub appending_left : (p : Places) (a : AppendState) (step : Appending) → AsksWhereLeft (appending_asks_left a step) (appending_ask p a step)
 unfolding appending_ask appending_asks_left
@@ -31,7 +33,7 @@ appending_left p a (Ended its) = done_left its
 appending_left p a Reserves = passed_left (reserve_asks_left a.reserving) _ (reserve_ask a.reserving) answer.Contended (reserve_left a.reserving)
 appending_left p a (Fills addr) = passed_left (fill_asks_left a.filling) _ (fill_ask p a.filling) answer.Contended (fill_left p a.filling)
 appending_left p a (Publishes addr) = passed_left (publish_asks_left a.publishing) 1 (publish_ask a.publishing) answer.Contended (counted_left (publish_asks_left a.publishing) (publish_ask a.publishing) (publish_counted a.publishing))
-appending_left p a Invalidates = passed_same (invalidate_asks_left a.invalidating) (invalidate_ask p a.invalidating) answer.Contended (invalidate_left p a.invalidating)
+appending_left p a Invalidates = passed_alone (invalidate_asks_left a.invalidating) (invalidate_ask p a.invalidating) answer.Contended (invalidate_left p a.invalidating)
 
 -- it asks just where it has asks left
 pub append_left : (p : Places) (a : AppendState) → AsksWhereLeft (append_asks_left a) (append_ask p a)

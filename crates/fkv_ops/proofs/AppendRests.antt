@@ -24,8 +24,10 @@ use Rattle.fkv_ops.specs.declared.appending.Appending.{Appending}
 use Rattle.fkv_ops.specs.declared.appending.Appending.TheVariants.{Ended, Reserves, Fills, Publishes, Invalidates}
 use Rattle.fkv_ops.specs.declared.appending.FoundSlot.{FoundSlot}
 use Rattle.fkv_ops.specs.Appending.{AppendState, append_begun, append_ended, appending_ask, append_ask, addr_reserved, reserve_ledto, fill_ledto, publish_ledto, invalidate_ledto, appending_next, append_next}
-use Rattle.fkv_ops.specs.AsksLeft.{AsksWhereLeft, appending_asks_left}
-use Rattle.fkv_ops.proofs.AsksLeft.{never, counted_left, some_sum}
+use Rattle.fkv_plane.specs.AsksLeft.{AsksWhereLeft}
+use Rattle.fkv_ops.specs.AsksLeft.{appending_asks_left}
+use Rattle.fkv_plane.proofs.Shown.{never, some_sum}
+use Rattle.fkv_ops.proofs.AsksLeft.{counted_left}
 use Rattle.fkv_ops.proofs.AppendAsks.{appending_left}
 
 abbrev pub is_append_end : Appending → Bool

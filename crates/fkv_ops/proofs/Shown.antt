@@ -1,7 +1,6 @@
 -- What crates above may cite.
 pub use Rattle.fkv_ops.proofs.AppendAsks.{append_left, append_begun_left, append_fewer}
 pub use Rattle.fkv_ops.proofs.AppendRests.{is_append_end, AppendRestsOrAsks, IsAppendUnderWay, append_done, append_begun_under_way, append_begun_asks, append_rests, append_goes_on}
-pub use Rattle.fkv_ops.proofs.AsksLeft.{none_left}
 pub use Rattle.fkv_ops.proofs.TryAsks.{try_left, try_begun_left, try_fewer}
 pub use Rattle.fkv_ops.proofs.TryRests.{is_try_end, TryRestsOrAsks, try_done, try_begun_rests, try_begun_asks, try_rests}
 pub use Rattle.fkv_ops.proofs.WalkAsks.{walk_left, walk_begun_left, walk_fewer, walk_on_left}

@@ -38,8 +38,9 @@ use Rattle.fkv_ops.specs.Requests.{purpose_of, is_read, is_blind}
 use Rattle.fkv_ops.specs.Walking.{walk_ask, walk_next, walk_on}
 use Rattle.fkv_ops.specs.Appending.{append_ask, append_next}
 use Rattle.fkv_ops.specs.Trying.{TryState, trying_ask, try_ask, with_latch, is_wait, ended_without, ends, takes_effect, full_at, walks, wants_shared, try_begun, shared_ledto, must_shift, wants_exclusive, words_of, slot_of, appends, copies_from, copies, awaits, held_used, met_nowhere, met_disk, changes, is_own_version, region_met, met_record, walked, has_walked, walk_ledto, safe_loaded, current_ledto, value_changed, told_value, answer_ledto, exclusive_ledto, old_ledto, append_ledto, exclusive_dropped, shared_dropped, latch_moved, walk_moved, trying_next, try_next}
-use Rattle.fkv_ops.specs.AsksLeft.{AsksWhereLeft, sum_left, walk_asks_left, most_walk_asks, append_asks_left, most_drop_asks, most_append_asks, most_copy_asks, most_asks_behind_walk, trying_asks_left, try_asks_left}
-use Rattle.fkv_ops.proofs.AsksLeft.{none, done_left, none_left, some_inside, passed_left, passed_same, sum_most, inside_fewer, behind_fewer}
+use Rattle.fkv_plane.specs.AsksLeft.{AsksWhereLeft, sum_left}
+use Rattle.fkv_ops.specs.AsksLeft.{walk_asks_left, most_walk_asks, append_asks_left, most_drop_asks, most_append_asks, most_copy_asks, most_asks_behind_walk, trying_asks_left, try_asks_left}
+use Rattle.fkv_plane.proofs.Shown.{none, done_left, none_left, some_inside, passed_left, passed_alone, sum_most, inside_fewer, behind_fewer}
 use Rattle.fkv_ops.proofs.WalkAsks.{walk_left, walk_begun_left, walk_fewer, walk_on_left}
 use Rattle.fkv_ops.proofs.AppendAsks.{append_left, append_begun_left, append_fewer}
 
@@ -57,7 +58,7 @@ trying_left p t (TakesExclusive old) = passed_left (asks_left t.latching) (walk_
 trying_left p t LoadsOld = passed_left (walk_asks_left p t.walk) most_append_asks (walk_ask p t.walk) answer.Shift (walk_left p t.walk)
 trying_left p t (Appends its) = passed_left (append_asks_left t.append) most_drop_asks (append_ask p t.append) answer.Shift (append_left p t.append)
 trying_left p t (DropsExclusive its) = passed_left (asks_left t.latching) 1 (latch_ask t.latching) its (latch_ask_left t.latching)
-trying_left p t (DropsShared its) = passed_same (asks_left t.latching) (latch_ask t.latching) its (latch_ask_left t.latching)
+trying_left p t (DropsShared its) = passed_alone (asks_left t.latching) (latch_ask t.latching) its (latch_ask_left t.latching)
 
 -- it asks just where it has asks left
 pub try_left : (p : Places) (t : TryState) → AsksWhereLeft (try_asks_left p t) (try_ask p t)

@@ -30,8 +30,10 @@ use Rattle.fkv_ops.specs.declared.walking.Walking.{Walking}
 use Rattle.fkv_ops.specs.declared.walking.Walking.TheVariants.{Ended, Finds, Meets, HasFound, LoadsValue}
 use Rattle.fkv_ops.specs.HeaderWords.{header_said}
 use Rattle.fkv_ops.specs.Walking.{WalkState, walk_begun, walk_ended, walking_ask, walk_ask, reached, slot_found, find_ledto, first_met, record_met, load_ledto, value_ledto, walking_next, walk_next, walking_on, walk_on}
-use Rattle.fkv_ops.specs.AsksLeft.{AsksWhereLeft, sum_left, walking_asks_left, walk_asks_left, most_walk_asks}
-use Rattle.fkv_ops.proofs.AsksLeft.{none, done_left, counted_left, some_inside, passed_left, passed_same, sum_most, inside_fewer, behind_fewer}
+use Rattle.fkv_plane.specs.AsksLeft.{AsksWhereLeft, sum_left}
+use Rattle.fkv_ops.specs.AsksLeft.{walking_asks_left, walk_asks_left, most_walk_asks}
+use Rattle.fkv_plane.proofs.Shown.{none, done_left, some_inside, passed_left, passed_alone, sum_most, inside_fewer, behind_fewer}
+use Rattle.fkv_ops.proofs.AsksLeft.{counted_left}
 
 pub walking_left : (p : Places) (w : WalkState) (step : Walking) → AsksWhereLeft (walking_asks_left p w step) (walking_ask p w step)
 unfolding walking_ask walking_asks_left
@@ -39,7 +41,7 @@ walking_left p w (Ended its) = done_left its
 walking_left p w Finds = passed_left (asks_left w.finding) (2 * p.ring) (find_ask w.finding) answer.Contended (counted_left (asks_left w.finding) (find_ask w.finding) (find_counted w.finding w.finding.step))
 walking_left p w (Meets addr) = passed_left (load_asks_left w.loading) (2 * (addr.0 - w.head.0)) _ answer.Contended (load_left p w.loading)
 walking_left p w (HasFound addr version) = done_left (answer.Found addr version)
-walking_left p w LoadsValue = passed_same (load_asks_left w.loading) _ answer.Contended (load_left p w.loading)
+walking_left p w LoadsValue = passed_alone (load_asks_left w.loading) _ answer.Contended (load_left p w.loading)
 
 -- it asks just where it has asks left
 pub walk_left : (p : Places) (w : WalkState) → AsksWhereLeft (walk_asks_left p w) (walk_ask p w)

@@ -29,8 +29,10 @@ use Rattle.fkv_ops.specs.declared.walking.Walking.{Walking}
 use Rattle.fkv_ops.specs.declared.walking.Walking.TheVariants.{Ended, Finds, Meets, HasFound, LoadsValue}
 use Rattle.fkv_ops.specs.HeaderWords.{header_said}
 use Rattle.fkv_ops.specs.Walking.{WalkState, walk_begun, walk_ended, walking_ask, walk_ask, reached, slot_found, find_ledto, first_met, record_met, load_ledto, value_ledto, walking_next, walk_next, walking_on, walk_on}
-use Rattle.fkv_ops.specs.AsksLeft.{AsksWhereLeft, walking_asks_left}
-use Rattle.fkv_ops.proofs.AsksLeft.{never, counted_left, some_sum}
+use Rattle.fkv_plane.specs.AsksLeft.{AsksWhereLeft}
+use Rattle.fkv_ops.specs.AsksLeft.{walking_asks_left}
+use Rattle.fkv_plane.proofs.Shown.{never, some_sum}
+use Rattle.fkv_ops.proofs.AsksLeft.{counted_left}
 use Rattle.fkv_ops.proofs.WalkAsks.{walking_left}
 
 abbrev pub is_walk_end : Walking → Bool

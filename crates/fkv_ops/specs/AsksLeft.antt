@@ -1,9 +1,8 @@
 -- How many asks a walk, an append and a try have left, at most: the sum of those of the machine inside that is under way, and of what
 -- may come behind it.
-use Rattle.std.specs.Prelude.{◌≡◌, ℕ, zero, suc, ◌+◌, ◌-◌, ◌*◌, ◌<◌, ◌↔◌, false}
-use Rattle.fkv_plane.specs.declared.asks.Ask.{Ask}
+use Rattle.std.specs.Prelude.{ℕ, ◌+◌, ◌-◌, ◌*◌}
 use Rattle.fkv_plane.specs.declared.places.Places.{Places}
-use Rattle.fkv_plane.specs.Passing.{is_done}
+use Rattle.fkv_plane.specs.AsksLeft.{sum_left}
 use Rattle.fkv_log.specs.Loading.{load_asks_left}
 use Rattle.fkv_log.specs.Reserving.{reserve_asks_left}
 use Rattle.fkv_log.specs.Filling.{fill_asks_left}
@@ -20,15 +19,6 @@ use Rattle.fkv_ops.specs.declared.walking.Walking.TheVariants as walk
 use Rattle.fkv_ops.specs.Walking.{WalkState, walk_on}
 use Rattle.fkv_ops.specs.Appending.{AppendState}
 use Rattle.fkv_ops.specs.Trying.{TryState}
-
--- a machine asks for something just where it has asks left
-abbrev pub AsksWhereLeft : {A : Type 0} → ℕ → Ask A → Type 0
-AsksWhereLeft left ask = (is_done ask ≡ false) ↔ (0 < left)
-
--- what the machine inside has left, and what may come behind its end. Where it is at its end already nothing is asked, and none are left
-unfoldable pub sum_left : ℕ → ℕ → ℕ
-sum_left zero behind = 0
-sum_left (suc inside) behind = suc inside + behind
 
 -- Two asks meet a record. Each one that is met lies below the one before it, and less than a ring above the head
 unfoldable pub walking_asks_left : Places → WalkState → Walking → ℕ

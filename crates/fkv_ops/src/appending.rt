@@ -1,7 +1,8 @@
 //! How a record is appended to the log and published.
 ghost use Rattle.std.specs.Prelude.{◌≡◌, ◌<◌, ◌≤◌, ◌*◌, ◌^◌};
 ghost use Rattle.fkv_ops.specs.Appending.{append_begun, append_ask, append_next, addr_reserved, reserve_ledto, fill_ledto, publish_ledto, invalidate_ledto};
-ghost use Rattle.fkv_ops.specs.AsksLeft.{AsksWhereLeft, append_asks_left};
+ghost use Rattle.fkv_plane.specs.AsksLeft.{AsksWhereLeft};
+ghost use Rattle.fkv_ops.specs.AsksLeft.{append_asks_left};
 
 use fkv_base::{Addr, Key, Shape, Version};
 use fkv_index::{Publish, PublishAnswer};

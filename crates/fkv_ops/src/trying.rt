@@ -1,7 +1,8 @@
 //! One try of a request.
 ghost use Rattle.std.specs.Prelude.{◌≡◌, ◌+◌, ◌*◌, ◌<◌, ◌≤◌, ◌^◌};
 ghost use Rattle.fkv_ops.specs.Trying.{try_begun, try_ask, try_next};
-ghost use Rattle.fkv_ops.specs.AsksLeft.{AsksWhereLeft, try_asks_left};
+ghost use Rattle.fkv_plane.specs.AsksLeft.{AsksWhereLeft};
+ghost use Rattle.fkv_ops.specs.AsksLeft.{try_asks_left};
 
 use crate::answers::TryAnswer;
 use crate::appending::Append;

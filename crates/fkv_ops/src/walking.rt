@@ -2,7 +2,8 @@
 ghost use Rattle.std.specs.Prelude.{◌≡◌, ◌+◌, ◌*◌, ◌<◌, ◌≤◌, ◌^◌, None};
 ghost use Rattle.fkv_index.specs.Slots.{home_of};
 ghost use Rattle.fkv_ops.specs.Walking.{walk_begun, walk_ask, walk_next, walk_on, reached, slot_found, find_ledto, record_met, first_met, load_ledto, value_ledto};
-ghost use Rattle.fkv_ops.specs.AsksLeft.{AsksWhereLeft, walk_asks_left};
+ghost use Rattle.fkv_plane.specs.AsksLeft.{AsksWhereLeft};
+ghost use Rattle.fkv_ops.specs.AsksLeft.{walk_asks_left};
 
 use crate::header_words::{HeaderSaid, header_said};
 use fkv_base::{Addr, Key, Version};

@@ -6,7 +6,7 @@ use Rattle.fkv_plane.specs.declared.asks.Ask.{Ask}
 use Rattle.fkv_plane.specs.declared.asks.Ask.TheVariants.{Done}
 use Rattle.fkv_plane.specs.declared.places.Places.{Places}
 use Rattle.fkv_plane.specs.Passing.{passed}
-use Rattle.fkv_plane.proofs.Shown.{passed_done}
+use Rattle.fkv_plane.proofs.Shown.{passed_done, none, some_inside, passed_left, sum_most, inside_fewer, behind_fewer}
 use Rattle.fkv_ops.specs.declared.answers.DiskRecord.{DiskRecord}
 use Rattle.fkv_ops.specs.declared.answers.Reason.TheVariants as reason
 use Rattle.fkv_ops.specs.declared.answers.TryAnswer.{TryAnswer}
@@ -18,7 +18,8 @@ use Rattle.fkv_ops.specs.declared.requests.Seen.{Seen}
 use Rattle.fkv_ops.specs.HeaderWords.{header_said}
 use Rattle.fkv_ops.specs.Values.{value_of}
 use Rattle.fkv_ops.specs.Trying.{told_value, try_ask, try_next}
-use Rattle.fkv_ops.specs.AsksLeft.{AsksWhereLeft, sum_left, try_asks_left}
+use Rattle.fkv_plane.specs.AsksLeft.{AsksWhereLeft, sum_left}
+use Rattle.fkv_ops.specs.AsksLeft.{try_asks_left}
 use Rattle.fkv_ops.proofs.Shown.{try_left, try_begun_left, try_fewer}
 use Rattle.fkv_pending.specs.declared.attempting.Attempting.{Attempting}
 use Rattle.fkv_pending.specs.declared.attempting.Attempting.TheVariants.{Ended, Looks, Tries, Puts}
@@ -33,36 +34,6 @@ use Rattle.fkv_pending.specs.Pending.{with_sought, with_held, with_latch, with_a
 use Rattle.fkv_pending.specs.Attempting.{AttemptState, attempting_ask, attempt_ask, attempt_ended, waits_for_disk, puts_addr, puts, tries, is_pending_read, goes_on, attempt_begun, held_of, moved_on, read_on, record_taken, not_ready, look_ledto, held_kept, awaits_record, tried, try_ledto, put_ledto, mail_moved, try_moved, attempting_next, attempt_next}
 use Rattle.fkv_pending.specs.AsksLeft.{most_look_asks, most_try_asks, most_put_asks, attempting_asks_left, attempt_asks_left}
 use Rattle.fkv_pending.proofs.MailAsks.{mail_left, mail_fewer}
-
-some_inside : (inside behind : ℕ) → 0 < sum_left inside behind → 0 < inside
-unfolding sum_left
-some_inside zero behind some = some
-some_inside (suc inside) behind some = omega arith
-
-some_sum : (inside behind : ℕ) → 0 < inside → 0 < sum_left inside behind
-unfolding sum_left
-some_sum zero behind some = some
-some_sum (suc inside) behind some = omega arith
-
-sum_most : (inside behind : ℕ) → sum_left inside behind ≤ inside + behind
-unfolding sum_left
-sum_most zero behind = omega arith
-sum_most (suc inside) behind = omega arith
-
-inside_fewer : (inside old behind : ℕ) → inside < old → sum_left inside behind < sum_left old behind
-unfolding sum_left
-inside_fewer inside zero behind fewer = omega (arith, fewer)
-inside_fewer zero (suc old) behind fewer = omega arith
-inside_fewer (suc inside) (suc old) behind fewer = omega (arith, fewer)
-
-behind_fewer : (left old behind : ℕ) → 0 < old → left ≤ behind → left < sum_left old behind
-unfolding sum_left
-behind_fewer left zero behind some few = omega (arith, some)
-behind_fewer left (suc old) behind some few = omega (arith, few)
-
-passed_left : {A B : Type 0} (inside behind : ℕ) (ask : Ask A) (told : B) → AsksWhereLeft inside ask → AsksWhereLeft (sum_left inside behind) (passed ask told)
-passed_left inside behind ask told its =
-    (λ e. some_sum inside behind (its.0 (sym (passed_done ask told) ∙ e)), λ some. passed_done ask told ∙ its.1 (some_inside inside behind some))
 
 attempting_left : (p : Places) (session : ℕ) (a : AttemptState) (step : Attempting) → AsksWhereLeft (attempting_asks_left p a step) (attempting_ask p session a step)
 unfolding attempting_ask attempting_asks_left

@@ -3,7 +3,7 @@ use Rattle.std.proofs.Common.{◌≡◌, ℕ, ◌-◌, ◌≤◌, refl, arith, B
 use Rattle.std.specs.Prelude.{◌==◌, if◌then◌else◌}
 use Rattle.fkv_plane.specs.declared.asks.Ask.{Ask}
 use Rattle.fkv_plane.specs.Passing.{is_done}
-use Rattle.fkv_ops.specs.AsksLeft.{AsksWhereLeft}
+use Rattle.fkv_plane.specs.AsksLeft.{AsksWhereLeft}
 use Rattle.fkv_pending.specs.declared.mailing.MailAnswer.{MailAnswer}
 use Rattle.fkv_pending.specs.declared.mailing.MailAnswer.TheVariants as answer
 use Rattle.fkv_pending.specs.declared.mailing.MailTask.TheVariants.{Clear, Take, Put}

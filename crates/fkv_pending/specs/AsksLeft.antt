@@ -1,7 +1,8 @@
 -- How many asks an attempt has left, at most: the sum of those of the machine inside that is under way, and of what may come behind it.
 use Rattle.std.specs.Prelude.{ℕ, ◌+◌, ◌*◌}
 use Rattle.fkv_plane.specs.declared.places.Places.{Places}
-use Rattle.fkv_ops.specs.AsksLeft.{sum_left, try_asks_left}
+use Rattle.fkv_plane.specs.AsksLeft.{sum_left}
+use Rattle.fkv_ops.specs.AsksLeft.{try_asks_left}
 use Rattle.fkv_pending.specs.declared.attempting.Attempting.{Attempting}
 use Rattle.fkv_pending.specs.declared.attempting.Attempting.TheVariants.{Ended, Looks, Tries, Puts}
 use Rattle.fkv_pending.specs.Mailing.{mail_asks_left}

@@ -2,7 +2,7 @@
 ghost use Rattle.std.specs.Prelude.{◌≡◌, ◌<◌, ◌≤◌, ◌+◌, ◌*◌, ◌^◌, Option};
 ghost use Rattle.fkv_base.specs.Limits.{max_sessions};
 ghost use Rattle.fkv_map.specs.Keys.{as_number};
-ghost use Rattle.fkv_ops.specs.AsksLeft.{AsksWhereLeft};
+ghost use Rattle.fkv_plane.specs.AsksLeft.{AsksWhereLeft};
 ghost use Rattle.fkv_pending.specs.AsksLeft.{attempt_asks_left};
 ghost use Rattle.fkv_pending.specs.Attempting.{attempt_begun, attempt_ask, attempt_next, puts, tries, waits_for_disk, is_pending_read, goes_on, held_of, held_kept, moved_on, read_on, record_taken, not_ready, look_ledto, awaits_record, tried, try_ledto, put_ledto};
 

@@ -1,7 +1,7 @@
 //! How a session asks for a record of the device.
 ghost use Rattle.std.specs.Prelude.{◌≡◌, ◌<◌, ◌≤◌, ◌-◌};
 ghost use Rattle.fkv_base.specs.Limits.{max_sessions};
-ghost use Rattle.fkv_ops.specs.AsksLeft.{AsksWhereLeft};
+ghost use Rattle.fkv_plane.specs.AsksLeft.{AsksWhereLeft};
 ghost use Rattle.fkv_pending.specs.Mailing.{mail_ask, mail_next, mail_asks_left, task_asks_left, state_found};
 ghost use Rattle.fkv_pending.specs.declared.mailing.Mailing.TheVariants.{Ended, LoadsState, StoresAddress};
 ghost use Rattle.fkv_pending.specs.declared.mailing.MailAnswer.TheVariants.{NotReady};

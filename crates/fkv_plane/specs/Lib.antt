@@ -1,3 +1,4 @@
+pub mod AsksLeft
 pub mod Asked
 pub mod Passing
 pub mod Places

@@ -4,7 +4,7 @@ use Rattle.fkv_plane.specs.declared.asks.Ask.{Ask}
 use Rattle.fkv_plane.specs.declared.asks.Ask.TheVariants.{Done}
 use Rattle.fkv_plane.specs.Passing.{is_done, passed}
 use Rattle.fkv_plane.proofs.Shown.{passed_done}
-use Rattle.fkv_ops.specs.AsksLeft.{AsksWhereLeft}
+use Rattle.fkv_plane.specs.AsksLeft.{AsksWhereLeft}
 use Rattle.fkv_session.specs.declared.answers.Answer.{Answer}
 use Rattle.fkv_session.specs.declared.answers.Answer.TheVariants as answer
 use Rattle.fkv_session.specs.declared.answers.Finished.{Finished}

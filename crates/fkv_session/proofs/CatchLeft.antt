@@ -5,7 +5,7 @@ use Rattle.std.specs.List.{position}
 use Rattle.std.proofs.lemmas.List.Sums.{sum_by-set, count_by-le-length}
 use Rattle.std.proofs.lemmas.List.Quantifiers.{position-Some}
 use Rattle.fkv_ops.specs.Requests.{is_read}
-use Rattle.fkv_ops.specs.AsksLeft.{AsksWhereLeft, sum_left}
+use Rattle.fkv_plane.specs.AsksLeft.{AsksWhereLeft, sum_left}
 use Rattle.fkv_ops.specs.declared.requests.Seen.{Seen}
 use Rattle.fkv_plane.specs.declared.asks.Ask.{Ask}
 use Rattle.fkv_plane.specs.declared.asks.Ask.TheVariants.{Done}
@@ -32,7 +32,7 @@ use Rattle.fkv_session.specs.declared.catching_up.Catching.TheVariants as catch
 use Rattle.fkv_words.specs.PhaseWords.{phase_said}
 use Rattle.fkv_session.specs.CatchingUp.{CatchState, refresh_begun, wake_begun, catching_ask, catch_ask, catching_next, catch_next, catching_requests, catch_requests, finishes, latch_begun, latch_wanted, latches, cuts, takes_up, seen_after, is_same_version, enters_prepare, refresh_ledto, protect_ledto, latch_ledto, finish_ledto, latched, latch_marked}
 use Rattle.fkv_session.specs.AsksLeft.{unlatched, unlatched_besides, share_asks_left, finish_asks_left, catching_asks_left, catch_asks_left, most_catch_asks}
-use Rattle.fkv_session.proofs.Sums.{passed_left, some_inside, inside_fewer, behind_fewer, sum_most, sum_whole, never, none}
+use Rattle.fkv_plane.proofs.Shown.{passed_left, some_inside, inside_fewer, behind_fewer, sum_most, sum_whole, never, none}
 
 -- a latch asks just where it has asks left
 

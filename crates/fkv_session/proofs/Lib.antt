@@ -10,7 +10,6 @@ mod Ranges
 mod RoomKept
 mod SessionLeft
 pub mod Shown
-mod Sums
 mod Ticketed
 mod VersionFits
 mod Versioned

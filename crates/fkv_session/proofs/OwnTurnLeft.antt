@@ -36,12 +36,12 @@ use Rattle.fkv_log.specs.declared.turning.TurnForm.TheVariants.{OpensOnly}
 use Rattle.fkv_log.specs.Shifting.{shift_begun, shifting_ask, shift_ask, shift_next, shift_next_ask, shift_asks_left}
 use Rattle.fkv_log.specs.Turning.{turn_begun, turning_ask, turn_ask, turn_next, turn_next_ask, turn_asks_left}
 use Rattle.fkv_log.proofs.Shown.{shift_fewer, shift_begun_left, turn_fewer, turn_begun_left}
-use Rattle.fkv_ops.specs.AsksLeft.{AsksWhereLeft, sum_left}
+use Rattle.fkv_plane.specs.AsksLeft.{AsksWhereLeft, sum_left}
 use Rattle.fkv_session.specs.declared.own_turns.OwnTurning.{OwnTurning}
 use Rattle.fkv_session.specs.declared.own_turns.OwnTurning.TheVariants.{Ended, Scans, Claims, Shifts, Opens}
 use Rattle.fkv_session.specs.OwnTurns.{OwnTurnState, own_turn_begun, own_turning_ask, own_turn_ask, scan_ledto, claim_ledto, shift_ledto, open_ledto, tail_told, own_turning_next, own_turn_next, own_turning_given, own_turn_given}
 use Rattle.fkv_session.specs.AsksLeft.{most_opening_asks, most_shift_asks, most_claim_asks, most_own_turn_asks, own_turning_asks_left, own_turn_asks_left}
-use Rattle.fkv_session.proofs.Sums.{passed_left, some_inside, inside_fewer, behind_fewer, sum_most, never, none}
+use Rattle.fkv_plane.proofs.Shown.{passed_left, some_inside, inside_fewer, behind_fewer, sum_most, never, none}
 
 if_most : (b : Bool) (n : ℕ) → (if b then 0 else n) ≤ n
 if_most true n = omega arith

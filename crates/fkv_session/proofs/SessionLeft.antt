@@ -25,7 +25,7 @@ use Rattle.fkv_ops.specs.declared.answers.TryAnswer.{TryAnswer}
 use Rattle.fkv_ops.specs.declared.answers.TryAnswer.TheVariants as tried
 use Rattle.fkv_ops.specs.declared.requests.Occasion.TheVariants.{Call as AtCall, Poll as AtPoll}
 use Rattle.fkv_ops.specs.Requests.{is_read}
-use Rattle.fkv_ops.specs.AsksLeft.{AsksWhereLeft, sum_left}
+use Rattle.fkv_plane.specs.AsksLeft.{AsksWhereLeft, sum_left}
 use Rattle.fkv_pending.specs.declared.mailing.MailAnswer.{MailAnswer}
 use Rattle.fkv_pending.specs.declared.mailing.MailAnswer.TheVariants.{Cleared}
 use Rattle.fkv_pending.specs.declared.mailing.MailTask.TheVariants.{Clear}
@@ -46,7 +46,7 @@ use Rattle.fkv_session.specs.Sessions.{Seat, SessionState, bits_of, room_of, sit
 use Rattle.fkv_session.specs.AsksLeft.{catch_asks_left, most_catch_asks, own_turn_asks_left, most_own_turn_asks, most_attempt_asks, most_poll_asks, sitting_asks_left, session_asks_left, IsOfShape, try_bound, call_bound}
 use Rattle.fkv_session.proofs.CatchLeft.{catch_left, catch_fewer, catch_most, refresh_begun_left, wake_begun_left}
 use Rattle.fkv_session.proofs.OwnTurnLeft.{own_turn_left, own_turn_begun_left, own_turn_fewer, own_turn_given_fewer, own_turn_waits, own_turn_spared, own_turn_most, passed_takes}
-use Rattle.fkv_session.proofs.Sums.{passed_left, some_inside, inside_fewer, behind_fewer, sum_most, never, none}
+use Rattle.fkv_plane.proofs.Shown.{passed_left, some_inside, inside_fewer, behind_fewer, sum_most, never, none}
 
 -- it asks just where it has asks left
 

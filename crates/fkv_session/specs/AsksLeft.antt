@@ -19,7 +19,7 @@ use Rattle.fkv_log.specs.Turning.{turn_ask, turn_asks_left, asks_past_closed}
 use Rattle.fkv_log.specs.declared.turning.TurnForm.TheVariants.{OpensOnly}
 use Rattle.fkv_latch.specs.declared.latching.Latching.{Latching}
 use Rattle.fkv_latch.specs.declared.latching.Latching.TheVariants.{AtRest, AddsShare, LoadsWord, SetsExclusive}
-use Rattle.fkv_ops.specs.AsksLeft.{sum_left}
+use Rattle.fkv_plane.specs.AsksLeft.{sum_left}
 use Rattle.fkv_pending.specs.declared.pending_requests.PendingRequest.{PendingRequest}
 use Rattle.fkv_pending.specs.AsksLeft.{attempt_asks_left}
 use Rattle.fkv_pending.specs.Mailing.{mail_asks_left}

@@ -1,7 +1,7 @@
 //! How a session catches up with the store.
 ghost use Rattle.std.specs.Prelude.{◌≡◌, ◌<◌, ◌≤◌, ◌^◌, ◌-◌, Option, Bool, List, [], length};
 ghost use Rattle.fkv_base.specs.Limits.{max_sessions};
-ghost use Rattle.fkv_ops.specs.AsksLeft.{AsksWhereLeft};
+ghost use Rattle.fkv_plane.specs.AsksLeft.{AsksWhereLeft};
 ghost use Rattle.fkv_pending.specs.declared.pending_requests.PendingRequest.{PendingRequest};
 ghost use Rattle.fkv_session.specs.declared.catching_up.Catching.TheVariants.{Ended};
 ghost use Rattle.fkv_session.specs.AsksLeft.{catch_asks_left, most_catch_asks};

@@ -1,7 +1,7 @@
 //! The turn that a session makes where its log had no room.
 ghost use Rattle.std.specs.Prelude.{◌≡◌, ◌<◌, ◌≤◌, true, false};
 ghost use Rattle.fkv_epoch.specs.Claiming.{takes_action};
-ghost use Rattle.fkv_ops.specs.AsksLeft.{AsksWhereLeft};
+ghost use Rattle.fkv_plane.specs.AsksLeft.{AsksWhereLeft};
 ghost use Rattle.fkv_session.specs.declared.own_turns.OwnTurning.TheVariants.{Ended};
 ghost use Rattle.fkv_session.specs.AsksLeft.{own_turn_asks_left, most_own_turn_asks};
 ghost use Rattle.fkv_session.specs.OwnTurns.{own_turn_begun, own_turn_ask, own_turn_next, own_turn_given, scan_ledto, claim_ledto, shift_ledto, open_ledto, tail_told};

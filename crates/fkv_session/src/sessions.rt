@@ -2,7 +2,7 @@
 ghost use Rattle.std.specs.Prelude.{◌≡◌, ◌<◌, ◌≤◌, ◌*◌, ◌^◌, true, false, length};
 ghost use Rattle.fkv_base.specs.Limits.{max_sessions, max_pending, last_serial};
 ghost use Rattle.fkv_epoch.specs.Claiming.{takes_action};
-ghost use Rattle.fkv_ops.specs.AsksLeft.{AsksWhereLeft};
+ghost use Rattle.fkv_plane.specs.AsksLeft.{AsksWhereLeft};
 ghost use Rattle.fkv_session.specs.declared.answers.Told.{Told};
 ghost use Rattle.fkv_session.specs.declared.sessions.Sitting.TheVariants.{Turns};
 ghost use Rattle.fkv_session.specs.Answers.{IsAnswered};

@@ -5,7 +5,7 @@ use Rattle.fkv_log.specs.Reserving.{reserve_ask, reserve_asks_left}
 use Rattle.fkv_log.proofs.Shown.{reserve_left}
 use Rattle.fkv_ops.specs.declared.appending.AppendAnswer.TheVariants.{Contended}
 use Rattle.fkv_ops.specs.AsksLeft.{appending_asks_left}
-use Rattle.fkv_ops.proofs.AsksLeft.{passed_left, sum_most}
+use Rattle.fkv_plane.proofs.Shown.{passed_left, sum_most}
 use Rattle.fkv_ops.proofs.appending.Append.start.Goals as goal
 
 pub returns-clause-asks : goal.returns-clause-asks

@@ -3,7 +3,8 @@ use Rattle.std.proofs.Common.{◌*◌, arith}
 use Rattle.fkv_index.specs.Finding.{asks_left}
 use Rattle.fkv_ops.specs.declared.walking.WalkAnswer.TheVariants.{Contended}
 use Rattle.fkv_ops.specs.AsksLeft.{walking_asks_left}
-use Rattle.fkv_ops.proofs.AsksLeft.{counted_left, passed_left, sum_most}
+use Rattle.fkv_plane.proofs.Shown.{passed_left, sum_most}
+use Rattle.fkv_ops.proofs.AsksLeft.{counted_left}
 use Rattle.fkv_ops.proofs.walking.Walk.start.Goals as goal
 
 pub returns-clause-asks : goal.returns-clause-asks

@@ -13,12 +13,12 @@ use Rattle.fkv_log.specs.Shifting.{shift_ask, shift_asks_left}
 use Rattle.fkv_log.specs.Turning.{turn_ask, turn_asks_left, asks_past_closed}
 use Rattle.fkv_log.specs.declared.turning.TurnForm.TheVariants.{Whole}
 use Rattle.fkv_flush.specs.AsksLeft.{flush_asks_left, most_flush_asks, serve_asks_left, most_serve_asks}
-use Rattle.fkv_commit.specs.AsksLeft.{sum_left}
-use Rattle.fkv_keeper.specs.declared.maintaining.MaintainAnswer.{MaintainAnswer}
-use Rattle.fkv_keeper.specs.declared.maintaining.MaintainAnswer.TheVariants as answer
-use Rattle.fkv_keeper.specs.declared.maintaining.Maintaining.{Maintaining}
-use Rattle.fkv_keeper.specs.declared.maintaining.Maintaining.TheVariants.{Scans, Claims, Flushes, Shifts, Turns, Serves}
-use Rattle.fkv_keeper.specs.Maintaining.{MaintainState}
+use Rattle.fkv_plane.specs.AsksLeft.{sum_left}
+use Rattle.fkv_maintain.specs.declared.maintaining.MaintainAnswer.{MaintainAnswer}
+use Rattle.fkv_maintain.specs.declared.maintaining.MaintainAnswer.TheVariants as answer
+use Rattle.fkv_maintain.specs.declared.maintaining.Maintaining.{Maintaining}
+use Rattle.fkv_maintain.specs.declared.maintaining.Maintaining.TheVariants.{Scans, Claims, Flushes, Shifts, Turns, Serves}
+use Rattle.fkv_maintain.specs.Maintaining.{MaintainState}
 
 -- a turn is at its end, and neither about to ask for something nor to call the device
 abbrev pub is_ended : Ask MaintainAnswer → Bool

@@ -31,10 +31,10 @@ use Rattle.fkv_flush.specs.declared.serving.Serving.TheVariants as serving
 use Rattle.fkv_flush.specs.Devices.{calls_asked}
 use Rattle.fkv_flush.specs.Flushing.{flush_ask, flush_next, flush_done, flush_calls, bytes_next, bytes_done}
 use Rattle.fkv_flush.specs.Serving.{serve_ask, serve_next, serve_read, mailbox_from}
-use Rattle.fkv_keeper.specs.declared.maintaining.MaintainAnswer.{MaintainAnswer}
-use Rattle.fkv_keeper.specs.declared.maintaining.MaintainAnswer.TheVariants as answer
-use Rattle.fkv_keeper.specs.declared.maintaining.Maintaining.{Maintaining}
-use Rattle.fkv_keeper.specs.declared.maintaining.Maintaining.TheVariants.{Through, Spent, Broken, Scans, Claims, Flushes, Shifts, Turns, Serves}
+use Rattle.fkv_maintain.specs.declared.maintaining.MaintainAnswer.{MaintainAnswer}
+use Rattle.fkv_maintain.specs.declared.maintaining.MaintainAnswer.TheVariants as answer
+use Rattle.fkv_maintain.specs.declared.maintaining.Maintaining.{Maintaining}
+use Rattle.fkv_maintain.specs.declared.maintaining.Maintaining.TheVariants.{Through, Spent, Broken, Scans, Claims, Flushes, Shifts, Turns, Serves}
 
 pub record MaintainState : Type 0 where
   pub scanning : Scanning

@@ -1,8 +1,8 @@
 -- It asks or calls where some are left, and fewer are.
 use Rattle.std.proofs.Common.{rules, ◌≡◌}
-use Rattle.fkv_keeper.specs.Maintaining.{maintaining_next, maintain_ask, maintain_next}
-use Rattle.fkv_keeper.proofs.MaintainLeft.{maintain_asked, maintain_fewer}
-use Rattle.fkv_keeper.proofs.maintaining.Maintain.drive.Goals as goal
+use Rattle.fkv_maintain.specs.Maintaining.{maintaining_next, maintain_ask, maintain_next}
+use Rattle.fkv_maintain.proofs.MaintainLeft.{maintain_asked, maintain_fewer}
+use Rattle.fkv_maintain.proofs.maintaining.Maintain.drive.Goals as goal
 
 pub returns-clause-left : goal.returns-clause-left
 unfolding maintaining_next

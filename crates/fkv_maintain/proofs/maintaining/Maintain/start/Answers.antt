@@ -1,7 +1,7 @@
 -- It asks or calls where some are left, and all of them are.
 use Rattle.std.proofs.Common.{refl}
-use Rattle.fkv_keeper.proofs.MaintainLeft.{maintain_asked, maintain_begun_left}
-use Rattle.fkv_keeper.proofs.maintaining.Maintain.start.Goals as goal
+use Rattle.fkv_maintain.proofs.MaintainLeft.{maintain_asked, maintain_begun_left}
+use Rattle.fkv_maintain.proofs.maintaining.Maintain.start.Goals as goal
 
 pub returns-clause-left : goal.returns-clause-left
 returns-clause-left c = rw (← c.self.view_is) (maintain_asked c.self.inside.shape c.self.inside.places _ c.ask.result c.ask.ensures)

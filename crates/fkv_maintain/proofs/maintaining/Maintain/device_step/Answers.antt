@@ -1,8 +1,8 @@
 -- It asks or calls where some are left, fewer are, and none where the device failed.
 use Rattle.std.proofs.Common.{refl, rules, ◌≡◌, ℕ, List, true}
-use Rattle.fkv_keeper.specs.Maintaining.{maintaining_called, maintain_ask, maintain_called}
-use Rattle.fkv_keeper.proofs.MaintainLeft.{maintain_asked, maintain_asked_calls, maintain_called_fewer, broken_none, broken_fewer}
-use Rattle.fkv_keeper.proofs.maintaining.Maintain.device_step.Goals as goal
+use Rattle.fkv_maintain.specs.Maintaining.{maintaining_called, maintain_ask, maintain_called}
+use Rattle.fkv_maintain.proofs.MaintainLeft.{maintain_asked, maintain_asked_calls, maintain_called_fewer, broken_none, broken_fewer}
+use Rattle.fkv_maintain.proofs.maintaining.Maintain.device_step.Goals as goal
 
 pub returns-in-Err-clause-fewer : goal.returns-in-Err-clause-fewer
 returns-in-Err-clause-fewer g c = rw c.breaks.ensures.next (broken_fewer c.args.self.now.shape c.args.self.now.places c.args.self.now.state _ refl)

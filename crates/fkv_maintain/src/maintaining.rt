@@ -6,12 +6,12 @@ ghost use Rattle.fkv_disk.specs.Device.{Elapses, HasCause, MakesCalls};
 ghost use Rattle.fkv_epoch.specs.Claiming.{takes_action};
 ghost use Rattle.fkv_flush.specs.Devices.{Adds};
 ghost use Rattle.fkv_flush.specs.Serving.{mail_place};
-ghost use Rattle.fkv_keeper.specs.AsksLeft.{maintain_asks_left, most_maintain_asks, GoesOnWhereLeft};
-ghost use Rattle.fkv_keeper.specs.declared.maintaining.MaintainAnswer.TheVariants.{Device as AtDevice};
-ghost use Rattle.fkv_keeper.specs.declared.maintaining.Maintaining.TheVariants.{Through, Broken};
+ghost use Rattle.fkv_maintain.specs.AsksLeft.{maintain_asks_left, most_maintain_asks, GoesOnWhereLeft};
+ghost use Rattle.fkv_maintain.specs.declared.maintaining.MaintainAnswer.TheVariants.{Device as AtDevice};
+ghost use Rattle.fkv_maintain.specs.declared.maintaining.Maintaining.TheVariants.{Through, Broken};
 ghost use Rattle.fkv_plane.specs.Passing.{is_done};
 ghost use Rattle.fkv_plane.specs.declared.asks.Ask.TheVariants.{Done};
-ghost use Rattle.fkv_keeper.specs.Maintaining.{maintain_begun, maintain_ask, maintain_next, maintain_given, maintain_called, maintain_calls, maintain_calls_asked, maintain_made, device_asked, scan_ledto, claim_ledto, flush_ledto, shift_ledto, turn_ledto, serve_begun, serve_ledto, turn_form};
+ghost use Rattle.fkv_maintain.specs.Maintaining.{maintain_begun, maintain_ask, maintain_next, maintain_given, maintain_called, maintain_calls, maintain_calls_asked, maintain_made, device_asked, scan_ledto, claim_ledto, flush_ledto, shift_ledto, turn_ledto, serve_begun, serve_ledto, turn_form};
 
 use fkv_base::{Addr, Fault, Shape};
 use fkv_disk::Device;
@@ -71,7 +71,7 @@ pub struct Maintain {
 
 impl Model for Maintain {
     ghost use Rattle.std.specs.Prelude.{◌≡◌};
-    ghost use Rattle.fkv_keeper.specs.Maintaining.{Maintainer, MaintainState};
+    ghost use Rattle.fkv_maintain.specs.Maintaining.{Maintainer, MaintainState};
 
     ghost Value = { Maintainer };
 

@@ -1,8 +1,8 @@
 -- It asks or calls where some are left, and fewer are.
 use Rattle.std.proofs.Common.{rules, ◌≡◌}
-use Rattle.fkv_keeper.specs.Maintaining.{maintaining_given, maintain_ask, maintain_given}
-use Rattle.fkv_keeper.proofs.MaintainLeft.{maintain_asked, maintain_given_fewer}
-use Rattle.fkv_keeper.proofs.maintaining.Maintain.given.Goals as goal
+use Rattle.fkv_maintain.specs.Maintaining.{maintaining_given, maintain_ask, maintain_given}
+use Rattle.fkv_maintain.proofs.MaintainLeft.{maintain_asked, maintain_given_fewer}
+use Rattle.fkv_maintain.proofs.maintaining.Maintain.given.Goals as goal
 
 pub returns-clause-left : goal.returns-clause-left
 unfolding maintaining_given

@@ -10,7 +10,7 @@ use Rattle.fkv_plane.specs.declared.asks.Ask.{Ask}
 use Rattle.fkv_plane.specs.declared.asks.Ask.TheVariants.{Load, Store, Swap, Cas, Add, Max, Put, Take, Done}
 use Rattle.fkv_plane.specs.declared.places.Places.{Places}
 use Rattle.fkv_plane.specs.Passing.{is_done, passed}
-use Rattle.fkv_plane.proofs.Shown.{passed_done}
+use Rattle.fkv_plane.proofs.Shown.{passed_done, never, none, some_inside, some_sum, sum_most, sum_whole}
 use Rattle.fkv_epoch.specs.declared.scanning.Scanning.TheVariants as scan
 use Rattle.fkv_epoch.specs.declared.claiming.Claiming.TheVariants as claim
 use Rattle.fkv_epoch.specs.Scanning.{scan_ask, scan_next, scan_asks_left}
@@ -34,21 +34,15 @@ use Rattle.fkv_flush.specs.Flushing.{flush_ask, flush_next, flush_done, bytes_ne
 use Rattle.fkv_flush.specs.Serving.{serve_ask, serve_next, serve_read, mailbox_from}
 use Rattle.fkv_flush.specs.AsksLeft.{is_through, flush_asks_left, serve_asks_left, most_serve_asks}
 use Rattle.fkv_flush.specs.AsksLeft.{GoesOnWhereLeft as LeftBelow}
-use Rattle.fkv_commit.specs.AsksLeft.{sum_left}
+use Rattle.fkv_plane.specs.AsksLeft.{sum_left}
 use Rattle.fkv_flush.proofs.Shown.{flush_most, flush_left, flush_fewer, flush_done_fewer, serve_left, serve_begun_left, serve_fewer, serve_read_fewer}
-use Rattle.fkv_keeper.proofs.TakesNone.{passed_takes, taking_asks, scan_takes, shift_takes, turn_takes, flush_takes, serve_takes}
-use Rattle.fkv_keeper.specs.declared.maintaining.MaintainAnswer.{MaintainAnswer}
-use Rattle.fkv_keeper.specs.declared.maintaining.MaintainAnswer.TheVariants as answer
-use Rattle.fkv_keeper.specs.declared.maintaining.Maintaining.{Maintaining}
-use Rattle.fkv_keeper.specs.declared.maintaining.Maintaining.TheVariants.{Through, Spent, Broken, Scans, Claims, Flushes, Shifts, Turns, Serves}
-use Rattle.fkv_keeper.specs.Maintaining.{MaintainState, device_asked, maintaining_made, maintain_made, maintain_calls_asked, maintaining_ask, maintain_ask, scan_ledto, claim_ledto, flush_ledto, turn_form, shift_ledto, serve_ledto, serve_begun, turn_ledto, maintaining_next, maintain_next, maintaining_given, maintain_given, maintaining_called, maintain_called}
-use Rattle.fkv_keeper.specs.AsksLeft.{is_ended, GoesOnWhereLeft, from_mailboxes, from_page, from_shift, from_flush, from_claims, most_maintain_asks, unless_done, maintaining_asks_left, maintain_asks_left}
-
-never : {X : Type 0} → true ≡ false → X
-never e = cc
-
-none : {X : Type 0} → 0 < 0 → X
-none h = let no : ⊥ = omega (arith, h) in absurd no
+use Rattle.fkv_maintain.proofs.TakesNone.{passed_takes, taking_asks, scan_takes, shift_takes, turn_takes, flush_takes, serve_takes}
+use Rattle.fkv_maintain.specs.declared.maintaining.MaintainAnswer.{MaintainAnswer}
+use Rattle.fkv_maintain.specs.declared.maintaining.MaintainAnswer.TheVariants as answer
+use Rattle.fkv_maintain.specs.declared.maintaining.Maintaining.{Maintaining}
+use Rattle.fkv_maintain.specs.declared.maintaining.Maintaining.TheVariants.{Through, Spent, Broken, Scans, Claims, Flushes, Shifts, Turns, Serves}
+use Rattle.fkv_maintain.specs.Maintaining.{MaintainState, device_asked, maintaining_made, maintain_made, maintain_calls_asked, maintaining_ask, maintain_ask, scan_ledto, claim_ledto, flush_ledto, turn_form, shift_ledto, serve_ledto, serve_begun, turn_ledto, maintaining_next, maintain_next, maintaining_given, maintain_given, maintaining_called, maintain_called}
+use Rattle.fkv_maintain.specs.AsksLeft.{is_ended, GoesOnWhereLeft, from_mailboxes, from_page, from_shift, from_flush, from_claims, most_maintain_asks, unless_done, maintaining_asks_left, maintain_asks_left}
 
 if_most : (b : Bool) (n : ℕ) → (if b then 0 else n) ≤ n
 if_most true n = omega arith
@@ -71,27 +65,6 @@ inside_goes (Add place k) left some = (λ asks. some, λ left. refl)
 inside_goes (Max place k) left some = (λ asks. some, λ left. refl)
 inside_goes (Put slot action) left some = (λ asks. some, λ left. refl)
 inside_goes (Take slot) left some = (λ asks. some, λ left. refl)
-
--- what a machine below a sum has left
-pub sum_some : (inside behind : ℕ) → 0 < inside → 0 < sum_left inside behind
-unfolding sum_left
-sum_some zero behind some = none some
-sum_some (suc inside) behind some = omega arith
-
-pub some_inside : (inside behind : ℕ) → 0 < sum_left inside behind → 0 < inside
-unfolding sum_left
-some_inside zero behind some = none some
-some_inside (suc inside) behind some = omega arith
-
-pub sum_most : (inside behind : ℕ) → sum_left inside behind ≤ inside + behind
-unfolding sum_left
-sum_most zero behind = omega arith
-sum_most (suc inside) behind = omega arith
-
-pub sum_whole : (inside behind : ℕ) → 0 < inside → sum_left inside behind ≡ inside + behind
-unfolding sum_left
-sum_whole zero behind some = none some
-sum_whole (suc inside) behind some = refl
 
 device_ended : (ask : Ask DeviceAnswer) → is_ended (device_asked ask) ≡ is_through ask
 unfolding device_asked passed
@@ -136,7 +109,7 @@ device_goes : (ask : Ask DeviceAnswer) (left : ℕ) → LeftBelow left ask → G
 device_goes ask left its = (λ e. its.0 (sym (device_ended ask) ∙ e), λ some. device_ended ask ∙ its.1 some)
 
 sum_goes : (ask : Ask DeviceAnswer) (inside behind : ℕ) → LeftBelow inside ask → LeftBelow (sum_left inside behind) ask
-sum_goes ask inside behind its = (λ e. sum_some inside behind (its.0 e), λ some. its.1 (some_inside inside behind some))
+sum_goes ask inside behind its = (λ e. some_sum inside behind (its.0 e), λ some. its.1 (some_inside inside behind some))
 
 -- a turn that calls the device asks for it
 device_calls : (ask : Ask DeviceAnswer) → calls_asked ask ≡ maintain_calls_asked (device_asked ask)
@@ -457,7 +430,7 @@ maintaining_called_fewer shape p s Claims done bytes at asks = absurd (ends_no_p
 maintaining_called_fewer shape p s Flushes true bytes at asks =
     flush_called shape p s (bytes_done s.flushing s.bytes) s.flushing at asks
 maintaining_called_fewer shape p s Flushes false bytes at asks =
-    sum_some (flush_asks_left s.flushing) (from_shift shape) ((flush_left p s.flushing).0 (sym (device_ended (flush_ask p s.flushing)) ∙ ap is_ended asks))
+    some_sum (flush_asks_left s.flushing) (from_shift shape) ((flush_left p s.flushing).0 (sym (device_ended (flush_ask p s.flushing)) ∙ ap is_ended asks))
 maintaining_called_fewer shape p s Shifts done bytes at asks = absurd (ends_no_part (shift_ask s.shift) asks)
 maintaining_called_fewer shape p s Turns done bytes at asks = absurd (ends_no_part (turn_ask shape s.turn) asks)
 maintaining_called_fewer shape p s Serves true bytes at asks =

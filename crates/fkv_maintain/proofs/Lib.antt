@@ -1,0 +1,3 @@
+mod MaintainLeft
+pub mod Shown
+mod TakesNone

@@ -1,0 +1,3 @@
+-- What the crates above may cite of these proofs.
+pub use Rattle.fkv_maintain.proofs.MaintainLeft.{maintain_asked_calls, maintain_left, maintain_begun_left, maintain_fewer, maintain_given_fewer, maintain_called_fewer}
+pub use Rattle.fkv_maintain.proofs.TakesNone.{passed_takes, raise_takes, arm_takes}

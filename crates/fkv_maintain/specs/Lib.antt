@@ -1,0 +1,2 @@
+pub mod AsksLeft
+pub mod Maintaining
