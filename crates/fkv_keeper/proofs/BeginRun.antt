@@ -21,7 +21,11 @@ use Rattle.fkv_keeper.specs.declared.keepers.Keeping.{Keeping}
 use Rattle.fkv_keeper.specs.declared.keepers.Keeping.TheVariants.{Ended, Starts}
 use Rattle.fkv_keeper.specs.Keeping.{KeeperState, keeping_ask, keeper_ask, start_ledto, keeping_next, keeper_next, commit_asked}
 use Rattle.fkv_keeper.specs.Running.{IsBeginTold, IsCommitBegun}
+use Rattle.fkv_epoch.specs.Claiming.{takes_action}
+use Rattle.fkv_keeper.specs.Answers.{is_busy}
+use Rattle.fkv_maintain.proofs.Shown.{passed_takes}
 use Rattle.fkv_keeper.proofs.KeeperLeft.{never}
+use Rattle.fkv_keeper.proofs.KeeperTakes.{starting_takes}
 
 abbrev pub Begins : Option Commit → KeeperState → Keeping → Type 0
 Begins before s Starts = s.commit ≡ before
@@ -108,3 +112,36 @@ broken_begun shape p s kind broken = cases s.is_broken refl broken
     cases : (b : Bool) → s.is_broken ≡ b → (asked b).is_broken ≡ true → (keeper_ask shape p (asked b) ≡ Done (CommitRefused fault.Broken)) × ((asked b).commit ≡ s.commit)
     cases true at broken = (refl, refl)
     cases false at broken = never (sym broken ∙ at)
+
+-- it asks for words and slots alone, and at its end for nothing
+
+passed_idle : (ask : Ask StartAnswer) (told : KeeperTold) → passed ask (CommitRefused fault.CommitRunning) ≡ Done told → is_busy (passed ask (CommitRefused fault.CommitRunning)) ≡ false
+unfolding passed
+passed_idle (Done its) told e = refl
+passed_idle (Load place) told e = cc
+passed_idle (Store place new) told e = cc
+passed_idle (Swap place new) told e = cc
+passed_idle (Cas place old new) told e = cc
+passed_idle (Add place k) told e = cc
+passed_idle (Max place k) told e = cc
+passed_idle (Put slot action) told e = cc
+passed_idle (Take slot) told e = cc
+
+step_idle : (before : Option Commit) (shape : Shape) (p : Places) (s : KeeperState) (step : Keeping) (told : KeeperTold) → Begins before s step → keeping_ask shape p s step ≡ Done told → is_busy (keeping_ask shape p s step) ≡ false
+unfolding keeping_ask
+step_idle before shape p s Starts told begins e = passed_idle (start_ask s.start) told e
+step_idle before shape p s (Ended (Begun number)) told begins e = refl
+step_idle before shape p s (Ended (CommitRefused why)) told begins e = refl
+step_idle before shape p s step told begins e = absurd begins
+
+pub begin_idle : (before : Option Commit) (shape : Shape) (p : Places) (s : KeeperState) (told : KeeperTold) → Begins before s s.step → keeper_ask shape p s ≡ Done told → is_busy (keeper_ask shape p s) ≡ false
+begin_idle before shape p s told begins e = step_idle before shape p s s.step told begins e
+
+step_takes : (before : Option Commit) (shape : Shape) (p : Places) (s : KeeperState) (step : Keeping) → Begins before s step → takes_action (keeping_ask shape p s step) ≡ false
+unfolding keeping_ask
+step_takes before shape p s Starts begins = passed_takes (start_ask s.start) (CommitRefused fault.CommitRunning) ∙ starting_takes s.start
+step_takes before shape p s (Ended its) begins = refl
+step_takes before shape p s step begins = absurd begins
+
+pub begin_takes : (before : Option Commit) (shape : Shape) (p : Places) (s : KeeperState) → Begins before s s.step → takes_action (keeper_ask shape p s) ≡ false
+begin_takes before shape p s begins = step_takes before shape p s s.step begins

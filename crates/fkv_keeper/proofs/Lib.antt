@@ -6,5 +6,8 @@ mod KeeperLeft
 mod KeeperRuns
 mod KeeperSound
 mod KeeperTakes
+mod NewKeepers
 mod PointsWritten
+pub mod Shown
 mod TurnRun
+mod WholeCalls

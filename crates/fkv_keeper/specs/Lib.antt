@@ -4,4 +4,6 @@ pub mod KeeperLaws
 pub mod KeeperRun
 pub mod Keeping
 pub mod LastCommits
+pub mod NewKeepers
 pub mod Running
+pub mod WholeCalls

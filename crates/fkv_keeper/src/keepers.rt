@@ -13,6 +13,8 @@ ghost use Rattle.fkv_disk.specs.Device.{Elapses, HasCause, MakesCalls};
 ghost use Rattle.fkv_flush.specs.Devices.{Adds};
 ghost use Rattle.fkv_keeper.specs.KeeperAsks.{IsBusyWhereLeft, keeper_asks_left, most_begin_asks, most_turn_asks, keeper_calls, keeper_calls_asked, keeper_made, keeper_read};
 ghost use Rattle.fkv_keeper.specs.Keeping.{commit_asked, turn_asked, keeper_ask, keeper_next, keeper_given, keeper_called, turn_called, writes_called};
+ghost use Rattle.fkv_keeper.specs.KeeperRun.{IsOpened};
+ghost use Rattle.fkv_keeper.specs.NewKeepers.{IsNewKeeper};
 ghost use Rattle.fkv_keeper.specs.declared.keepers.Keeping.TheVariants.{Ended};
 
 use crate::answers::KeeperTold;
@@ -108,7 +110,8 @@ impl Keeper {
         last: LastCommit,
         lost: ArrayVec<LostRange, MAX_LOST_IN_HAND>,
     ) -> Result<Keeper, Fault>
-        ensures shape { IfOk result (λ keeper. keeper.shape ≡ shape) }
+        ensures made { IfOk result (λ keeper. IsNewKeeper shape (record { number = last.number; points = last.points.items; checkpoint = last.checkpoint; gates = last.gates }) lost.items keeper) }
+        ensures opened { IfOk result (λ keeper. IsOpened keeper.state) }
         ensures err { OnErr result (result ≡ Err Memory) }
     {
         let places = Places::of(&shape);

@@ -1,9 +1,11 @@
 //! Whole calls of the keeper over plain words.
-ghost use Rattle.std.specs.Prelude.{◌≡◌, ◌↔◌, Err, true};
+ghost use Rattle.std.specs.Prelude.{◌≡◌, ◌↔◌, Err, false, true};
 ghost use Rattle.fkv_base.specs.declared.faults.Fault.TheVariants.{Broken};
 ghost use Rattle.fkv_plane.specs.declared.asks.Ask.TheVariants.{Done};
-ghost use Rattle.fkv_keeper.specs.Keeping.{keeper_ask};
+ghost use Rattle.fkv_keeper.specs.Answers.{is_busy};
+ghost use Rattle.fkv_keeper.specs.Keeping.{commit_asked, keeper_ask, turn_asked};
 ghost use Rattle.fkv_keeper.specs.Running.{IsBeginTold, IsTurnTold, IsTurnMade, IsCommitBegun};
+ghost use Rattle.fkv_keeper.specs.WholeCalls.{HasStopped, IsCallSoFar, IsHonestTurnSoFar, IsTurnSoFar};
 
 use crate::answers::{KeeperAsk, KeeperTold, Turn};
 use crate::keepers::Keeper;
@@ -17,6 +19,8 @@ impl Keeper {
     /// the contract leaves to the machine's tables; where the device has failed in an earlier call nothing is stored.
     pub fn ask_commit(&mut self, plane: &mut PlainWords, kind: CommitKind) -> Result<Version, Fault>
         ensures told { IsBeginTold (keeper_ask self.old.shape self.old.places self.new.state) result }
+        ensures ended { is_busy (keeper_ask self.old.shape self.old.places self.new.state) ≡ false }
+        ensures asked { IsCallSoFar self.old.shape self.old.places (commit_asked self.old.state kind) plane.old self.new.state plane.new }
         ensures begun { IsCommitBegun self.old.state.commit self.new.state.commit result }
         ensures broken { self.old.state.is_broken ≡ true → (result ≡ Err Broken) × (plane.new ≡ plane.old) }
     {

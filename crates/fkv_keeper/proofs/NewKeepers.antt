@@ -1,0 +1,10 @@
+-- A new keeper is where a run begins.
+use Rattle.std.proofs.Common.{◌≡◌, ◌∙◌, ap, List, false}
+use Rattle.fkv_base.specs.declared.shapes.Shape.{Shape}
+use Rattle.fkv_record.specs.declared.lost_ranges.LostRange.{LostRange}
+use Rattle.fkv_keeper.specs.Keeping.{Finality, KeeperModel}
+use Rattle.fkv_keeper.specs.KeeperRun.{IsOpened, is_in_hand}
+use Rattle.fkv_keeper.specs.NewKeepers.{IsNewKeeper}
+
+pub new_is_opened : (shape : Shape) (last : Finality) (lost : List LostRange) (k : KeeperModel) → IsNewKeeper shape last lost k → IsOpened k.state
+new_is_opened shape last lost k its = record { none_in_hand = ap is_in_hand its.no_call; no_commit = its.no_commit; works = its.works }
