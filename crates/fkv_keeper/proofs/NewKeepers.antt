@@ -1,5 +1,5 @@
 -- A new keeper is where a run begins.
-use Rattle.std.proofs.Common.{◌≡◌, ◌∙◌, ap, List, false}
+use Rattle.std.proofs.Common.{ap, List}
 use Rattle.fkv_base.specs.declared.shapes.Shape.{Shape}
 use Rattle.fkv_record.specs.declared.lost_ranges.LostRange.{LostRange}
 use Rattle.fkv_keeper.specs.Keeping.{Finality, KeeperModel}

@@ -1,6 +1,6 @@
 -- Whole calls go on answer by answer.
 use Rattle.std.proofs.Common.{◌≡◌, ◌∙◌, ℕ, zero, suc, ◌+◌, refl, sym, ap, subst, arith, List, [], ◌∷◌, ◌++◌, Bool, true, false}
-use Rattle.std.specs.Prelude.{⊤, Option, Some, None, slice_set, Result, Ok, Err, IsErr}
+use Rattle.std.specs.Prelude.{⊤, not, ◌||◌, Option, Some, None, slice_set, Result, Ok, Err, IsErr}
 use Rattle.std.specs.Result.{is_ok}
 use Rattle.std.proofs.lemmas.List.{append_assoc}
 use Rattle.fkv_base.specs.declared.faults.Fault.{Fault}
@@ -17,11 +17,11 @@ use Rattle.fkv_plane.specs.Plane.{Plane, action_at}
 use Rattle.fkv_flush.specs.Devices.{Adds}
 use Rattle.fkv_keeper.specs.declared.answers.KeeperTold.{KeeperTold}
 use Rattle.fkv_keeper.specs.declared.answers.KeeperTold.TheVariants.{Device, Turned, TurnRefused, Begun, CommitRefused}
-use Rattle.fkv_keeper.specs.Answers.{is_busy}
 use Rattle.fkv_keeper.specs.Keeping.{KeeperState, keeper_ask, keeper_next, keeper_given, keeper_called}
 use Rattle.fkv_keeper.specs.KeeperAsks.{keeper_calls, keeper_read}
-use Rattle.fkv_keeper.specs.KeeperRun.{KeeperEvent, BeginsTurn, BeginsCommit, Replies, Gets, Calls, keeper_happens, keeper_run, has_failed}
-use Rattle.fkv_keeper.specs.WholeCalls.{IsAnswered, actions_after, plane_asked, plane_after, AreAnswered, IsCallBy, IsCallSoFar, HasStopped, device_calls, calls_told, AreCounted, IsTurnSoFar, calls_made, AreRead, AreHonest, IsHonestTurnSoFar}
+use Rattle.fkv_keeper.specs.KeeperRun.{KeeperEvent, BeginsTurn, BeginsCommit, Replies, Gets, Calls, keeper_happens, keeper_run, is_failure, has_failed}
+use Rattle.fkv_keeper.specs.WholeCalls.{IsAnswered, plane_asked, plane_after, AreAnswered, IsCallBy, IsCallSoFar, HasStopped, device_calls, calls_told, AreCounted, IsTurnSoFar, calls_made, AreRead, AreHonest, IsHonestTurnSoFar}
+use Rattle.fkv_keeper.proofs.KeeperLeft.{nor}
 
 -- one answer
 
@@ -96,10 +96,121 @@ pub so_far : (shape : Shape) (p : Places) (begun : KeeperState) (plane : Plane) 
 so_far shape p begun plane event now now' left left' its step = (event ∷ its.0, call_next shape p begun plane its.0 event now now' left left' its.1 step)
 
 -- the same store under another name
+
+pub of_store : (P : Shape → Places → Type 0) (shape shape' : Shape) (p p' : Places) → shape ≡ shape' → p ≡ p' → P shape p → P shape' p'
+of_store P shape shape' p p' shapes places its = subst (λ (at : Places). P shape' at) places (subst (λ (store : Shape). P store p) shapes its)
+
 pub call_of : (shape shape' : Shape) (p p' : Places) (begun begun' : KeeperState) (plane : Plane) (now : KeeperState) (left : Plane) → shape ≡ shape' → p ≡ p' → begun ≡ begun' → IsCallSoFar shape p begun plane now left → IsCallSoFar shape' p' begun' plane now left
 call_of shape shape' p p' begun begun' plane now left shapes places states its =
     subst (λ (s : KeeperState). IsCallSoFar shape' p' s plane now left) states
     (subst (λ (at : Places). IsCallSoFar shape' at begun plane now left) places (subst (λ (its : Shape). IsCallSoFar its p begun plane now left) shapes its))
+
+-- what else is said of a turn holds behind an answer that is not the device's
+
+abbrev pub IsOfWords : KeeperEvent → Type 0
+IsOfWords (Calls done bytes) = ⊥
+IsOfWords event = ⊤
+
+counted_by_words : (shape : Shape) (p : Places) (begun : KeeperState) (events : List KeeperEvent) (event : KeeperEvent) (failed failed' : ℕ) (refuses refuses' : ℕ → Bool) → IsOfWords event
+    → AreCounted shape p begun events failed failed' refuses refuses' → AreCounted shape p begun (event ∷ events) failed failed' refuses refuses'
+unfolding device_calls has_failed
+counted_by_words shape p begun events BeginsTurn failed failed' refuses refuses' words its = record { counted = its.counted; cause = its.cause }
+counted_by_words shape p begun events (BeginsCommit kind) failed failed' refuses refuses' words its = record { counted = its.counted; cause = its.cause }
+counted_by_words shape p begun events (Replies reply granted) failed failed' refuses refuses' words its = record { counted = its.counted; cause = its.cause }
+counted_by_words shape p begun events (Gets action) failed failed' refuses refuses' words its = record { counted = its.counted; cause = its.cause }
+counted_by_words shape p begun events (Calls done bytes) failed failed' refuses refuses' words its = absurd words
+
+honest_by_words : (shape : Shape) (p : Places) (begun : KeeperState) (events : List KeeperEvent) (event : KeeperEvent) (seen seen' : List ℕ) (may_leave may_leave' : List ℕ → Type 0) → IsOfWords event
+    → AreHonest shape p begun events seen seen' may_leave may_leave' → AreHonest shape p begun (event ∷ events) seen seen' may_leave may_leave'
+unfolding calls_made AreRead
+honest_by_words shape p begun events BeginsTurn seen seen' may_leave may_leave' words its = record { made = its.made; read = λ opening calls was. (tt, its.read opening calls was) }
+honest_by_words shape p begun events (BeginsCommit kind) seen seen' may_leave may_leave' words its = record { made = its.made; read = λ opening calls was. (tt, its.read opening calls was) }
+honest_by_words shape p begun events (Replies reply granted) seen seen' may_leave may_leave' words its = record { made = its.made; read = λ opening calls was. (tt, its.read opening calls was) }
+honest_by_words shape p begun events (Gets action) seen seen' may_leave may_leave' words its = record { made = its.made; read = λ opening calls was. (tt, its.read opening calls was) }
+honest_by_words shape p begun events (Calls done bytes) seen seen' may_leave may_leave' words its = absurd words
+
+pub turn_by_words : (shape : Shape) (p : Places) (begun : KeeperState) (plane : Plane) (event : KeeperEvent) (now now' : KeeperState) (left left' : Plane) (failed failed' : ℕ) (refuses refuses' : ℕ → Bool) → IsOfWords event
+    → IsTurnSoFar shape p begun plane now left failed failed' refuses refuses' → IsStep shape p now left event now' left' → IsTurnSoFar shape p begun plane now' left' failed failed' refuses refuses'
+turn_by_words shape p begun plane event now now' left left' failed failed' refuses refuses' words its step =
+    (event ∷ its.0, call_next shape p begun plane its.0 event now now' left left' its.1 step, counted_by_words shape p begun its.0 event failed failed' refuses refuses' words its.2)
+
+pub honest_turn_by_words : (shape : Shape) (p : Places) (begun : KeeperState) (plane : Plane) (event : KeeperEvent) (now now' : KeeperState) (left left' : Plane) (seen seen' : List ℕ) (may_leave may_leave' : List ℕ → Type 0) → IsOfWords event
+    → IsHonestTurnSoFar shape p begun plane now left seen seen' may_leave may_leave' → IsStep shape p now left event now' left' → IsHonestTurnSoFar shape p begun plane now' left' seen seen' may_leave may_leave'
+honest_turn_by_words shape p begun plane event now now' left left' seen seen' may_leave may_leave' words its step =
+    (event ∷ its.0, call_next shape p begun plane its.0 event now now' left left' its.1 step, honest_by_words shape p begun its.0 event seen seen' may_leave may_leave' words its.2)
+
+-- and behind a call of the device
+
+first_failed : {T : Type 0} (result : Result T Fault) (before : Bool) → IsErr result → IsErr (calls_told ((not (is_ok result)) || before))
+first_failed (Ok value) before err = nor err
+first_failed (Err why) before err = refl
+
+earlier_failed : {T : Type 0} (result : Result T Fault) (before : Bool) → IsErr (calls_told before) → IsErr (calls_told ((not (is_ok result)) || before))
+earlier_failed (Ok value) before err = err
+earlier_failed (Err why) before err = refl
+
+causes_first : {T : Type 0} (result : Result T Fault) (before : Bool) (failed mid failed' : ℕ) → HasCause failed mid (calls_told before) → HasCause mid failed' result → HasCause failed failed' (calls_told ((not (is_ok result)) || before))
+causes_first (Ok value) true failed mid failed' early late = record { later = omega (arith, early.later, late.later); rose = omega (arith, early.rose, late.later); named = refl }
+causes_first (Ok value) false failed mid failed' early late = record { later = omega (arith, early.later, late.later); rose = tt; named = tt }
+causes_first (Err why) before failed mid failed' early late = record { later = omega (arith, early.later, late.later); rose = omega (arith, early.later, late.rose); named = refl }
+
+failure_is : {T : Type 0} (ask : Ask KeeperTold) (result : Result T Fault) (bytes : List ℕ) → ask ≡ Done Device → not (is_ok result) ≡ is_failure (Calls (is_ok result) bytes) ask
+failure_is ask (Ok value) bytes asks = refl
+failure_is ask (Err why) bytes asks = rw asks refl
+
+pub counted_by_device : {T : Type 0} (shape : Shape) (p : Places) (begun now : KeeperState) (events : List KeeperEvent) (result : Result T Fault) (bytes : List ℕ) (failed mid failed' : ℕ) (refuses between refuses' : ℕ → Bool)
+    → now ≡ keeper_run shape p begun events → keeper_ask shape p now ≡ Done Device → AreCounted shape p begun events failed mid refuses between → HasCause mid failed' result → MakesCalls 1 between refuses' result
+    → AreCounted shape p begun (Calls (is_ok result) bytes ∷ events) failed failed' refuses refuses'
+unfolding device_calls has_failed
+counted_by_device shape p begun now events result bytes failed mid failed' refuses between refuses' at asks its cause counted =
+    let before = has_failed shape p begun events in
+    let ask = keeper_ask shape p (keeper_run shape p begun events) in
+    let is : not (is_ok result) ≡ is_failure (Calls (is_ok result) bytes) ask = failure_is ask result bytes (ap (λ (s : KeeperState). keeper_ask shape p s) (sym at) ∙ asks) in
+    let all = calls_told ((not (is_ok result)) || before) in
+    let late : MakesCalls 1 between refuses' all = record { counted = counted.counted; refused = λ i below refused. first_failed result before (counted.refused i below refused) } in
+    record {
+      counted = subst (λ (b : Bool). MakesCalls (device_calls events + 1) refuses refuses' (calls_told (b || before))) is (more_calls (device_calls events) 1 refuses between refuses' (calls_told before) all its.counted (earlier_failed result before) late);
+      cause = subst (λ (b : Bool). HasCause failed failed' (calls_told (b || before))) is (causes_first result before failed mid failed' its.cause cause);
+    }
+
+honest_by_device : (shape : Shape) (p : Places) (begun now : KeeperState) (events : List KeeperEvent) (done : Bool) (seen mid seen' : List ℕ) (may_leave may_mid may_leave' : List ℕ → Type 0) → now ≡ keeper_run shape p begun events
+    → AreHonest shape p begun events seen mid may_leave may_mid → Adds (keeper_calls shape now done) mid seen' may_mid may_leave'
+    → AreHonest shape p begun (Calls done (keeper_read (record { shape = shape; places = p; state = now }) mid) ∷ events) seen seen' may_leave may_leave'
+unfolding calls_made AreRead
+honest_by_device shape p begun now events done seen mid seen' may_leave may_mid may_leave' at its adds = record {
+  made = λ opening calls was. subst (λ (s : KeeperState). IsAfter opening ((keeper_calls shape s done ++ calls_made shape p begun events) ++ calls) seen' may_leave') at
+      (subst (λ (all : List Call). IsAfter opening all seen' may_leave') (sym (append_assoc (keeper_calls shape now done) (calls_made shape p begun events) calls)) (adds opening (calls_made shape p begun events ++ calls) (its.made opening calls was)));
+  read = λ opening calls was. ((mid, (its.made opening calls was).reads, ap (λ (s : KeeperState). keeper_read (record { shape = shape; places = p; state = s }) mid) at), its.read opening calls was);
+}
+
+pub turn_by_device : {T : Type 0} (shape : Shape) (p : Places) (begun : KeeperState) (plane : Plane) (now now' : KeeperState) (left : Plane) (result : Result T Fault) (bytes : List ℕ) (failed mid failed' : ℕ) (refuses between refuses' : ℕ → Bool)
+    → IsTurnSoFar shape p begun plane now left failed mid refuses between → keeper_ask shape p now ≡ Done Device → now' ≡ keeper_called shape p now (is_ok result) bytes → HasCause mid failed' result → MakesCalls 1 between refuses' result
+    → IsTurnSoFar shape p begun plane now' left failed failed' refuses refuses'
+turn_by_device shape p begun plane now now' left result bytes failed mid failed' refuses between refuses' its asks went cause counted = (
+  Calls (is_ok result) bytes ∷ its.0,
+  call_next shape p begun plane its.0 (Calls (is_ok result) bytes) now now' left left its.1 (device_steps shape p now now' left (is_ok result) bytes asks went),
+  counted_by_device shape p begun now its.0 result bytes failed mid failed' refuses between refuses' its.1.state asks its.2 cause counted,
+)
+
+pub honest_turn_by_device : (shape : Shape) (p : Places) (begun : KeeperState) (plane : Plane) (now now' : KeeperState) (left : Plane) (done : Bool) (seen mid seen' : List ℕ) (may_leave may_mid may_leave' : List ℕ → Type 0)
+    → IsHonestTurnSoFar shape p begun plane now left seen mid may_leave may_mid → keeper_ask shape p now ≡ Done Device → now' ≡ keeper_called shape p now done (keeper_read (record { shape = shape; places = p; state = now }) mid)
+    → Adds (keeper_calls shape now done) mid seen' may_mid may_leave' → IsHonestTurnSoFar shape p begun plane now' left seen seen' may_leave may_leave'
+honest_turn_by_device shape p begun plane now now' left done seen mid seen' may_leave may_mid may_leave' its asks went adds =
+    let bytes = keeper_read (record { shape = shape; places = p; state = now }) mid in (
+      Calls done bytes ∷ its.0,
+      call_next shape p begun plane its.0 (Calls done bytes) now now' left left its.1 (device_steps shape p now now' left done bytes asks went),
+      honest_by_device shape p begun now its.0 done seen mid seen' may_leave may_mid may_leave' its.1.state its.2 adds,
+    )
+
+-- at the beginning
+
+pub turn_first : (shape : Shape) (p : Places) (begun : KeeperState) (plane : Plane) (failed : ℕ) (refuses : ℕ → Bool) → IsTurnSoFar shape p begun plane begun plane failed failed refuses refuses
+unfolding device_calls has_failed
+turn_first shape p begun plane failed refuses = ([], call_first shape p begun plane, record { counted = no_call refuses (calls_told false); cause = record { later = omega arith; rose = tt; named = tt } })
+
+pub honest_turn_first : (shape : Shape) (p : Places) (begun : KeeperState) (plane : Plane) (seen : List ℕ) (may_leave : List ℕ → Type 0) → IsHonestTurnSoFar shape p begun plane begun plane seen seen may_leave may_leave
+unfolding calls_made AreRead
+honest_turn_first shape p begun plane seen may_leave = ([], call_first shape p begun plane, record { made = λ opening calls was. was; read = λ opening calls was. tt })
 
 -- a call stops
 
@@ -110,9 +221,15 @@ ended_stops plane (TurnRefused why) other = refl
 ended_stops plane (Begun number) other = refl
 ended_stops plane (CommitRefused why) other = refl
 
+pub none_stops : (plane plane' : Plane) (ask : Ask KeeperTold) (slot : ℕ) → ask ≡ Take slot → action_at plane.actions slot ≡ None → plane' ≡ plane → HasStopped plane' ask
+none_stops plane plane' ask slot is none same = rw (is, same) none
+
 -- nothing is taken out of a slot without an action
 pub none_taken : (actions : List (Option Action)) (slot : ℕ) → action_at actions slot ≡ None → slice_set actions slot None ≡ actions
 none_taken [] slot none = refl
 none_taken (None ∷ rest) zero none = refl
 none_taken (Some action ∷ rest) zero none = cc
 none_taken (first ∷ rest) (suc slot) none = ap (λ (more : List (Option Action)). first ∷ more) (none_taken rest slot none)
+
+pub none_same : (plane plane' : Plane) (slot : ℕ) → action_at plane.actions slot ≡ None → plane' ≡ record plane { actions = slice_set plane.actions slot None } → plane' ≡ plane
+none_same plane plane' slot none after = after ∙ ap (λ (actions : List (Option Action)). record plane { actions = actions }) (none_taken plane.actions slot none)

@@ -50,15 +50,20 @@ impl Keeper {
     pub fn turn<D: Device>(&mut self, plane: &mut PlainWords, d: &mut D) -> Result<Turn, Fault>
         ensures told { IsTurnTold self.new.state.last (keeper_ask self.old.shape self.old.places self.new.state) result }
         ensures made { IsTurnMade self.old.state self.new.state result }
+        ensures stopped { HasStopped plane.new (keeper_ask self.old.shape self.old.places self.new.state) }
+        ensures asked { IsTurnSoFar self.old.shape self.old.places (turn_asked self.old.state) plane.old self.new.state plane.new (D.failed d.old) (D.failed d.new) (D.refuses d.old) (D.refuses d.new) }
+        ensures device { D.honest d.old → IsHonestTurnSoFar self.old.shape self.old.places (turn_asked self.old.state) plane.old self.new.state plane.new (D.seen d.old) (D.seen d.new) (D.may_leave d.old) (D.may_leave d.new) }
         ensures honest { D.honest d.old ↔ D.honest d.new }
     {
         self.begin_turn();
         'asks: loop {
             match self.ask() {
-                Ask::Done(KeeperTold::Device) => {
-                    let _ = self.call_device(d);
-                }
-                Ask::Done(told) => return self.turn_told(told),
+                Ask::Done(told) => match told {
+                    KeeperTold::Device => {
+                        let _ = self.call_device(d);
+                    }
+                    end => return self.turn_told(end),
+                },
                 Ask::Take(slot) => match plane.take(slot) {
                     Some(action) => {
                         self.take(action);
