@@ -1,9 +1,9 @@
 //! Turns of the keeper by hand over plain words and a device in memory. The log is a ring of two frames of four records each, on
 //! a device of eight pages, and there is one session.
-use fkv_keeper::{Maintain, MaintainAnswer};
 use fkv_base::{Addr, DRAIN_SLOTS, Fault, Key, LAST_EPOCH, Phase, Shape, Version};
 use fkv_disk::{Device, Fuse, MemDisk, Once};
 use fkv_log::{Fill, RecordWords, Reserve, ReserveAnswer};
+use fkv_maintain::{Maintain, MaintainAnswer};
 use fkv_plane::{Action, Ask, Places, PlainWords, SessionWord, SharedWord, drain_place};
 use fkv_words::Header;
 use std::alloc::Global;

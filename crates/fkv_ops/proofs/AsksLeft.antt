@@ -10,4 +10,3 @@ use Rattle.fkv_plane.specs.AsksLeft.{AsksWhereLeft, sum_left}
 pub counted_left : {A : Type 0} (left : ℕ) (ask : Ask A) → IsCounted left ask → AsksWhereLeft left ask
 counted_left left (Done answer) counted = (never, λ some. let no : ⊥ = omega (arith, some, counted) in absurd no)
 counted_left left ask counted = (λ e. counted, λ some. refl)
-
