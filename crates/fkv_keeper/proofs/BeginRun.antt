@@ -49,16 +49,16 @@ start_led before s (Done (start.Refused why)) at same = same
 start_led before s (Done start.Idle) at same = same
 start_led before s ask at same = inside before s at same
 
-begins_step : (before : Option Commit) (shape : Shape) (p : Places) (s : KeeperState) (step : Keeping) (reply : ℕ) (granted : Bool) (writes : CommitWriter) → s.step ≡ step → Begins before s step → is_done (keeping_ask shape p s step) ≡ false
-    → Begins before (keeping_next shape p s step reply granted writes) (keeping_next shape p s step reply granted writes).step
+begins_step : (before : Option Commit) (shape : Shape) (p : Places) (s : KeeperState) (step : Keeping) (reply : ℕ) (granted : Bool) → s.step ≡ step → Begins before s step → is_done (keeping_ask shape p s step) ≡ false
+    → Begins before (keeping_next shape p s step reply granted) (keeping_next shape p s step reply granted).step
 unfolding keeping_ask keeping_next
-begins_step before shape p s Starts reply granted writes at begins asks = start_led before (record s { start = start_next s.start reply }) (start_ask (start_next s.start reply)) at begins
-begins_step before shape p s (Ended its) reply granted writes at begins asks = never asks
-begins_step before shape p s step reply granted writes at begins asks = absurd begins
+begins_step before shape p s Starts reply granted at begins asks = start_led before (record s { start = start_next s.start reply }) (start_ask (start_next s.start reply)) at begins
+begins_step before shape p s (Ended its) reply granted at begins asks = never asks
+begins_step before shape p s step reply granted at begins asks = absurd begins
 
-pub begins_next : (before : Option Commit) (shape : Shape) (p : Places) (s : KeeperState) (reply : ℕ) (granted : Bool) (writes : CommitWriter) → Begins before s s.step → is_done (keeper_ask shape p s) ≡ false
-    → Begins before (keeper_next shape p s reply granted writes) (keeper_next shape p s reply granted writes).step
-begins_next before shape p s reply granted writes begins asks = begins_step before shape p s s.step reply granted writes refl begins asks
+pub begins_next : (before : Option Commit) (shape : Shape) (p : Places) (s : KeeperState) (reply : ℕ) (granted : Bool) → Begins before s s.step → is_done (keeper_ask shape p s) ≡ false
+    → Begins before (keeper_next shape p s reply granted) (keeper_next shape p s reply granted).step
+begins_next before shape p s reply granted begins asks = begins_step before shape p s s.step reply granted refl begins asks
 
 -- at its end
 passed_end : (before now : Option Commit) (ask : Ask StartAnswer) (told : KeeperTold) (result : Result Version Fault) → passed ask (CommitRefused fault.CommitRunning) ≡ Done told → IsBeginTold (Done told) result → now ≡ before → IsCommitBegun before now result

@@ -49,7 +49,7 @@ use Rattle.fkv_maintain.specs.declared.maintaining.MaintainAnswer.{MaintainAnswe
 use Rattle.fkv_maintain.specs.declared.maintaining.MaintainAnswer.TheVariants as maintain
 use Rattle.fkv_maintain.specs.AsksLeft.{maintain_asks_left}
 use Rattle.fkv_keeper.specs.KeeperAsks.{committing_calls_left, writes_left, copy_left, most_write_asks, most_part_asks, keeping_asks_left, keeper_asks_left, keeping_made, keeper_calls_asked}
-use Rattle.fkv_keeper.specs.Keeping.{KeeperState, device_passed, write_asked, turn_over, copy_asked, copy_driven, keeping_ask, keeper_ask, ended, start_ledto, maintain_ledto, copies, part_begun, phase_ledto, enter_ledto, copy_ledto, seek_ledto, writes_begun, wait_ledto, finished, finish_ledto, keeping_next, keeper_next, keeping_given, keeper_given, write_ledto, keeping_called, keeper_called}
+use Rattle.fkv_keeper.specs.Keeping.{KeeperState, device_passed, write_asked, turn_over, copy_asked, copy_driven, keeping_ask, keeper_ask, ended, start_ledto, maintain_ledto, copies, part_begun, phase_ledto, enter_ledto, copy_ledto, seek_ledto, writes_begun, wait_ledto, finished, finish_ledto, keeping_next, keeper_next, keeping_given, keeper_given, write_ledto, keeping_called, keeper_called, writes_of, checkpoint_used}
 use Rattle.fkv_maintain.specs.declared.maintaining.Maintaining.TheVariants.{Broken}
 use Rattle.fkv_maintain.specs.Maintaining.{MaintainState, maintaining_ask, maintain_ask, maintain_next, maintain_given, maintain_called}
 use Rattle.fkv_keeper.proofs.KeeperDevice.{keeper_asked_calls}
@@ -233,11 +233,12 @@ writing_most its writing.SyncsTriples = let most = gate_most its.step in omega (
 writing_most its writing.PutsSlot = let most = gate_most its.step in omega (arith, most)
 writing_most its (writing.Broken why) = omega arith
 
-writes_left_begun : (shape : Shape) (p : Places) (s : KeeperState) (commit : Option Commit) (writes : CommitWriter) (old : ℕ) → 0 < old
-    → keeper_asks_left shape p (writes_begun s commit writes) < old + most_write_asks s.finish.sessions
+writes_left_begun : (shape : Shape) (p : Places) (s : KeeperState) (commit : Option Commit) (old : ℕ) → 0 < old
+    → keeper_asks_left shape p (writes_begun shape s commit) < old + most_write_asks s.finish.sessions
 unfolding keeping_asks_left
-writes_left_begun shape p s None writes old some = omega arith
-writes_left_begun shape p s (Some c) writes old some =
+writes_left_begun shape p s None old some = omega arith
+writes_left_begun shape p s (Some c) old some =
+    let writes = writes_of shape s c (checkpoint_used c c.kind s.last s.copy) in
     let most = writing_most writes.gate writes.step in
     let sum = sum_most (writes_left writes) (s.finish.sessions + 1) in
     omega (arith, most, sum, some)
@@ -246,13 +247,13 @@ inside_wait : (shape : Shape) (p : Places) (s : KeeperState) (old : ℕ) → s.s
 unfolding keeping_asks_left
 inside_wait shape p s old at fewer = let most = sum_most (wait_asks_left s.wait) (most_write_asks s.finish.sessions) in rw at (omega (arith, most, fewer))
 
-wait_led : (shape : Shape) (p : Places) (s : KeeperState) (old : ℕ) (ask : Ask WaitAnswer) (writes : CommitWriter) → s.step ≡ Waits → wait_asks_left s.wait < old
-    → keeper_asks_left shape p (wait_ledto s ask writes) < old + most_write_asks s.finish.sessions
+wait_led : (shape : Shape) (p : Places) (s : KeeperState) (old : ℕ) (ask : Ask WaitAnswer) → s.step ≡ Waits → wait_asks_left s.wait < old
+    → keeper_asks_left shape p (wait_ledto shape s ask) < old + most_write_asks s.finish.sessions
 unfolding wait_ledto keeping_asks_left
-wait_led shape p s old (Done wait.Flushed) writes at fewer = writes_left_begun shape p s s.commit writes old (some_below (wait_asks_left s.wait) old fewer)
-wait_led shape p s old (Done wait.NotYet) writes at fewer = omega arith
-wait_led shape p s old (Done wait.Idle) writes at fewer = omega arith
-wait_led shape p s old ask writes at fewer = inside_wait shape p s old at fewer
+wait_led shape p s old (Done wait.Flushed) at fewer = writes_left_begun shape p s s.commit old (some_below (wait_asks_left s.wait) old fewer)
+wait_led shape p s old (Done wait.NotYet) at fewer = omega arith
+wait_led shape p s old (Done wait.Idle) at fewer = omega arith
+wait_led shape p s old ask at fewer = inside_wait shape p s old at fewer
 
 finished_over : (shape : Shape) (p : Places) (s : KeeperState) (commit : Option Commit) (n : ℕ) → 0 < n → keeper_asks_left shape p (finished s commit) < n
 unfolding keeping_asks_left
@@ -270,15 +271,15 @@ finish_led shape p s old ask at fewer = inside_finish shape p s old at fewer
 
 -- each reply leaves fewer, where a word is asked for
 
-keeping_fewer : (shape : Shape) (p : Places) (s : KeeperState) (step : Keeping) (reply : ℕ) (granted : Bool) (writes : CommitWriter) → s.step ≡ step → is_done (keeping_ask shape p s step) ≡ false
-    → takes_action (keeping_ask shape p s step) ≡ false → keeper_asks_left shape p (keeping_next shape p s step reply granted writes) < keeping_asks_left shape p s step
+keeping_fewer : (shape : Shape) (p : Places) (s : KeeperState) (step : Keeping) (reply : ℕ) (granted : Bool) → s.step ≡ step → is_done (keeping_ask shape p s step) ≡ false
+    → takes_action (keeping_ask shape p s step) ≡ false → keeper_asks_left shape p (keeping_next shape p s step reply granted) < keeping_asks_left shape p s step
 unfolding keeping_ask keeping_next keeping_asks_left
-keeping_fewer shape p s (Ended its) reply granted writes at asks takes = never asks
-keeping_fewer shape p s Starts reply granted writes at asks takes =
+keeping_fewer shape p s (Ended its) reply granted at asks takes = never asks
+keeping_fewer shape p s Starts reply granted at asks takes =
     let inside : is_done (start_ask s.start) ≡ false = sym (passed_done (start_ask s.start) (CommitRefused fault.CommitRunning)) ∙ asks in
     let fewer = start_fewer s.start reply ((start_left s.start).0 inside) in
     start_led shape p (record s { start = start_next s.start reply }) (start_asks_left s.start) (start_ask (start_next s.start reply)) at fewer
-keeping_fewer shape p s Maintains reply granted writes at asks takes =
+keeping_fewer shape p s Maintains reply granted at asks takes =
     let ask = maintain_ask shape p s.maintain in
     let next = maintain_next shape p s.maintain reply in
     let inside : is_done ask ≡ false = sym (device_done ask (turn_over s)) ∙ asks in
@@ -286,35 +287,35 @@ keeping_fewer shape p s Maintains reply granted writes at asks takes =
     let whole = sum_whole (maintain_asks_left shape s.maintain) (most_part_asks p s.seek.sessions s.finish.sessions + 1) (some_below (maintain_asks_left shape next) (maintain_asks_left shape s.maintain) fewer) in
     let led = maintain_led shape p (record s { maintain = next }) (maintain_asks_left shape s.maintain) (maintain_ask shape p next) at fewer in
     omega (arith, whole, led)
-keeping_fewer shape p s LoadsPhase reply granted writes at asks takes = phase_led shape p s s.commit (phase_said reply) granted
-keeping_fewer shape p s Enters reply granted writes at asks takes =
+keeping_fewer shape p s LoadsPhase reply granted at asks takes = phase_led shape p s s.commit (phase_said reply) granted
+keeping_fewer shape p s Enters reply granted at asks takes =
     let inside : is_done (enter_ask s.enter) ≡ false = sym (passed_done (enter_ask s.enter) (turn_over s)) ∙ asks in
     let fewer = enter_fewer s.enter reply ((enter_left s.enter).0 inside) in
     enter_led shape p (record s { enter = enter_next s.enter reply }) (enter_asks_left s.enter) (enter_ask (enter_next s.enter reply)) at fewer
-keeping_fewer shape p s Copies reply granted writes at asks takes =
+keeping_fewer shape p s Copies reply granted at asks takes =
     let inside : is_done (copy_asked s.copy) ≡ false = sym (passed_done (copy_asked s.copy) (turn_over s)) ∙ asks in
     let fewer = copy_falls s.copy reply ((copy_where s.copy).0 inside) in
     copy_led shape p (record s { copy = copy_driven s.copy reply }) (copy_left s.copy) (copy_asked (copy_driven s.copy reply)) at fewer
-keeping_fewer shape p s Seeks reply granted writes at asks takes =
+keeping_fewer shape p s Seeks reply granted at asks takes =
     let inside : is_done (seek_ask s.seek) ≡ false = sym (passed_done (seek_ask s.seek) (turn_over s)) ∙ asks in
     let fewer = seek_fewer s.seek reply ((seek_left s.seek).0 inside) in
     seek_led shape p (record s { seek = seek_next s.seek reply }) (seek_asks_left s.seek) (seek_ask (seek_next s.seek reply)) at fewer
-keeping_fewer shape p s Waits reply granted writes at asks takes =
+keeping_fewer shape p s Waits reply granted at asks takes =
     let inside : is_done (wait_ask s.wait) ≡ false = sym (passed_done (wait_ask s.wait) (turn_over s)) ∙ asks in
     let some = (wait_left s.wait).0 inside in
     let fewer = wait_fewer s.wait reply some in
     let whole = sum_whole (wait_asks_left s.wait) (most_write_asks s.finish.sessions) some in
-    let led = wait_led shape p (record s { wait = wait_next s.wait reply }) (wait_asks_left s.wait) (wait_ask (wait_next s.wait reply)) writes at fewer in
+    let led = wait_led shape p (record s { wait = wait_next s.wait reply }) (wait_asks_left s.wait) (wait_ask (wait_next s.wait reply)) at fewer in
     omega (arith, whole, led)
-keeping_fewer shape p s Writes reply granted writes at asks takes = never_done (write_asked (commit_answer s.writes) (turn_over s)) (write_done (commit_answer s.writes) (turn_over s)) asks
-keeping_fewer shape p s Finishes reply granted writes at asks takes =
+keeping_fewer shape p s Writes reply granted at asks takes = never_done (write_asked (commit_answer s.writes) (turn_over s)) (write_done (commit_answer s.writes) (turn_over s)) asks
+keeping_fewer shape p s Finishes reply granted at asks takes =
     let inside : is_done (finish_ask s.seek.points s.finish) ≡ false = sym (passed_done (finish_ask s.seek.points s.finish) (turn_over s)) ∙ asks in
     let fewer = finish_fewer s.finish reply ((finish_left s.seek.points s.finish).0 inside) in
     finish_led shape p (record s { finish = finish_next s.finish reply }) (finish_asks_left s.finish) (finish_ask s.seek.points (finish_next s.finish reply)) at fewer
 
-pub keeper_fewer : (shape : Shape) (p : Places) (s : KeeperState) (reply : ℕ) (granted : Bool) (writes : CommitWriter) → is_done (keeper_ask shape p s) ≡ false → takes_action (keeper_ask shape p s) ≡ false
-    → keeper_asks_left shape p (keeper_next shape p s reply granted writes) < keeper_asks_left shape p s
-keeper_fewer shape p s reply granted writes asks takes = keeping_fewer shape p s s.step reply granted writes refl asks takes
+pub keeper_fewer : (shape : Shape) (p : Places) (s : KeeperState) (reply : ℕ) (granted : Bool) → is_done (keeper_ask shape p s) ≡ false → takes_action (keeper_ask shape p s) ≡ false
+    → keeper_asks_left shape p (keeper_next shape p s reply granted) < keeper_asks_left shape p s
+keeper_fewer shape p s reply granted asks takes = keeping_fewer shape p s s.step reply granted refl asks takes
 
 -- and each action that it waits for
 

@@ -26,7 +26,7 @@ use Rattle.fkv_maintain.specs.Maintaining.{MaintainState, maintain_next, maintai
 use Rattle.fkv_commit.specs.declared.commits.Commit.{Commit}
 use Rattle.fkv_commit.specs.Seeking.{seek_begun}
 use Rattle.fkv_keeper.specs.Keeping.{KeeperState, copies, part_begun, phase_ledto, keeper_ask, keeping_ask, commit_asked, turn_asked, maintain_ledto, keeping_next, keeping_given, keeping_called}
-use Rattle.fkv_keeper.specs.KeeperRun.{KeeperEvent, BeginsTurn, BeginsCommit, Replies, Gets, Calls, is_in_hand, begins, keeper_happens, keeper_run, IsOpened, AreWritesRight, AreWritesOfRun, is_failure, has_failed, Writing, writing_after, writing, is_calling, open_after, open_told, number_open}
+use Rattle.fkv_keeper.specs.KeeperRun.{KeeperEvent, BeginsTurn, BeginsCommit, Replies, Gets, Calls, is_in_hand, begins, keeper_happens, keeper_run, IsOpened, is_failure, has_failed, Writing, writing_after, writing, is_calling, open_after, open_told, number_open}
 use Rattle.fkv_keeper.specs.KeeperAsks.{keeping_made, keeper_made, keeper_calls_asked}
 use Rattle.fkv_keeper.specs.KeeperLaws.{CopiesAgain, IsBeforePhase, IsBrokenForGood, IsWritten, IsMemoryRefused, number_in_hand, IsFinishOfBegun}
 use Rattle.fkv_keeper.proofs.KeeperDevice.{keeper_asked_calls}
@@ -52,21 +52,21 @@ begins_step shape w s begun Waits e known its_step = stays shape w s Waits tt e 
 begins_step shape w s begun Writes e known its_step = stays shape w s Writes tt e known
 begins_step shape w s begun Finishes e known its_step = stays shape w s Finishes tt e known
 
-unwritten : (step : Keeping) (w : Writing) → writing_after step BeginsTurn w ≡ w
-unwritten Waits w = refl
-unwritten Writes w = refl
-unwritten step w = refl
+unwritten : (step : Keeping) (after : KeeperState) (w : Writing) → writing_after step BeginsTurn after w ≡ w
+unwritten Waits after w = refl
+unwritten Writes after w = refl
+unwritten step after w = refl
 
-unwritten_commit : (step : Keeping) (kind : CommitKind) (w : Writing) → writing_after step (BeginsCommit kind) w ≡ w
-unwritten_commit Waits kind w = refl
-unwritten_commit Writes kind w = refl
-unwritten_commit step kind w = refl
+unwritten_commit : (step : Keeping) (kind : CommitKind) (after : KeeperState) (w : Writing) → writing_after step (BeginsCommit kind) after w ≡ w
+unwritten_commit Waits kind after w = refl
+unwritten_commit Writes kind after w = refl
+unwritten_commit step kind after w = refl
 
 -- the state with its step told beside it, so that tables by step compute
 abbrev happens_at : Shape → Places → KeeperState → Keeping → KeeperEvent → KeeperState
 happens_at shape p s step BeginsTurn = begins s (is_in_hand step) (turn_asked s)
 happens_at shape p s step (BeginsCommit kind) = begins s (is_in_hand step) (commit_asked s kind)
-happens_at shape p s step (Replies reply granted writes) = keeping_next shape p s step reply granted writes
+happens_at shape p s step (Replies reply granted) = keeping_next shape p s step reply granted
 happens_at shape p s step (Gets action) = keeping_given shape p s step action
 happens_at shape p s step (Calls done bytes) = keeping_called shape p s step done bytes
 
@@ -74,13 +74,13 @@ happens_so : (shape : Shape) (p : Places) (s : KeeperState) (event : KeeperEvent
 unfolding keeper_happens
 happens_so shape p s BeginsTurn = refl
 happens_so shape p s (BeginsCommit kind) = refl
-happens_so shape p s (Replies reply granted writes) = refl
+happens_so shape p s (Replies reply granted) = refl
 happens_so shape p s (Gets action) = refl
 happens_so shape p s (Calls done bytes) = refl
 
-reply_going : (step : Keeping) (reply : ℕ) (granted : Bool) (writes : CommitWriter) → is_calling step (Replies reply granted writes) ≡ true → IsGoing step
-reply_going (Ended its) reply granted writes calling = cc
-reply_going step reply granted writes calling = tt
+reply_going : (step : Keeping) (reply : ℕ) (granted : Bool) → is_calling step (Replies reply granted) ≡ true → IsGoing step
+reply_going (Ended its) reply granted calling = cc
+reply_going step reply granted calling = tt
 
 given_going : (step : Keeping) (action : Action) → is_calling step (Gets action) ≡ true → IsGoing step
 given_going (Ended its) action calling = cc
@@ -90,21 +90,21 @@ called_going : (step : Keeping) (done : Bool) (bytes : List ℕ) → is_calling 
 called_going (Ended its) done bytes calling = cc
 called_going step done bytes calling = tt
 
-happens_step : (shape : Shape) (p : Places) (w : Writing) (s : KeeperState) (step : Keeping) (event : KeeperEvent) → s.step ≡ step → Knows shape s w step → AreWritesRight shape s event → is_calling step event ≡ true → IsStep shape (writing_after step event w) s (happens_at shape p s step event)
-happens_step shape p w s step BeginsTurn e known right calling =
-    subst (λ (x : Writing). IsStep shape x s (happens_at shape p s step BeginsTurn)) (sym (unwritten step w)) (begins_step shape w s (turn_asked s) step e known (turn_step shape w s s.is_broken refl))
-happens_step shape p w s step (BeginsCommit kind) e known right calling =
-    subst (λ (x : Writing). IsStep shape x s (happens_at shape p s step (BeginsCommit kind))) (sym (unwritten_commit step kind w)) (begins_step shape w s (commit_asked s kind) step e known (commit_step shape w s kind s.is_broken refl))
-happens_step shape p w s step (Replies reply granted writes) e known right calling = reply_step shape p w s step reply granted writes (reply_going step reply granted writes calling) e known right
-happens_step shape p w s step (Gets action) e known right calling = given_step shape p w s step action (given_going step action calling) e known
-happens_step shape p w s step (Calls done bytes) e known right calling = called_step shape p w s step done bytes (called_going step done bytes calling) e known
+happens_step : (shape : Shape) (p : Places) (w : Writing) (s : KeeperState) (step : Keeping) (event : KeeperEvent) → s.step ≡ step → Knows shape s w step → is_calling step event ≡ true → IsStep shape (writing_after step event (happens_at shape p s step event) w) s (happens_at shape p s step event)
+happens_step shape p w s step BeginsTurn e known calling =
+    subst (λ (x : Writing). IsStep shape x s (happens_at shape p s step BeginsTurn)) (sym (unwritten step (happens_at shape p s step BeginsTurn) w)) (begins_step shape w s (turn_asked s) step e known (turn_step shape w s s.is_broken refl))
+happens_step shape p w s step (BeginsCommit kind) e known calling =
+    subst (λ (x : Writing). IsStep shape x s (happens_at shape p s step (BeginsCommit kind))) (sym (unwritten_commit step kind (happens_at shape p s step (BeginsCommit kind)) w)) (begins_step shape w s (commit_asked s kind) step e known (commit_step shape w s kind s.is_broken refl))
+happens_step shape p w s step (Replies reply granted) e known calling = reply_step shape p w s step reply granted (reply_going step reply granted calling) e known
+happens_step shape p w s step (Gets action) e known calling = given_step shape p w s step action (given_going step action calling) e known
+happens_step shape p w s step (Calls done bytes) e known calling = called_step shape p w s step done bytes (called_going step done bytes calling) e known
 
 -- where no call is in hand, and none is begun, nothing happens
-idle : (shape : Shape) (p : Places) (w : Writing) (s : KeeperState) (step : Keeping) (event : KeeperEvent) → is_calling step event ≡ false → (happens_at shape p s step event ≡ s) × (writing_after step event w ≡ w)
+idle : (shape : Shape) (p : Places) (w : Writing) (s : KeeperState) (step : Keeping) (event : KeeperEvent) → is_calling step event ≡ false → (happens_at shape p s step event ≡ s) × (writing_after step event (happens_at shape p s step event) w ≡ w)
 unfolding keeping_next keeping_given keeping_called
 idle shape p w s (Ended its) BeginsTurn idles = cc
 idle shape p w s (Ended its) (BeginsCommit kind) idles = cc
-idle shape p w s (Ended its) (Replies reply granted writes) idles = (refl, refl)
+idle shape p w s (Ended its) (Replies reply granted) idles = (refl, refl)
 idle shape p w s (Ended its) (Gets action) idles = (refl, refl)
 idle shape p w s (Ended its) (Calls done bytes) idles = (refl, refl)
 idle shape p w s step event idles = cc
@@ -114,7 +114,7 @@ refused_kept : (shape : Shape) (p : Places) (s : KeeperState) (step : Keeping) (
 unfolding keeping_next keeping_given keeping_called
 refused_kept shape p s (Ended its) BeginsTurn refused broken = rw broken refl
 refused_kept shape p s (Ended its) (BeginsCommit kind) refused broken = rw broken refl
-refused_kept shape p s (Ended its) (Replies reply granted writes) refused broken = broken
+refused_kept shape p s (Ended its) (Replies reply granted) refused broken = broken
 refused_kept shape p s (Ended its) (Gets action) refused broken = broken
 refused_kept shape p s (Ended its) (Calls done bytes) refused broken = broken
 refused_kept shape p s step event refused broken = absurd refused
@@ -150,18 +150,18 @@ fails_after shape p s event failed true e was refused now = breaks shape p s eve
 fails_after shape p s event failed false e was refused now = refused_kept shape p s s.step event (refused (was now)) (was now)
 
 -- one event
-event_sound : (shape : Shape) (p : Places) (failed : Bool) (w : Writing) (number : Option Version) (s : KeeperState) (event : KeeperEvent) (calling : Bool) → is_calling s.step event ≡ calling → AreWritesRight shape s event → IsSound shape failed w number s
-    → IsSound shape (is_failure event (keeper_ask shape p s) || failed) (writing_after s.step event w) (open_told calling (happens_at shape p s s.step event).step number) (happens_at shape p s s.step event)
-event_sound shape p failed w number s event true e right sound = record {
+event_sound : (shape : Shape) (p : Places) (failed : Bool) (w : Writing) (number : Option Version) (s : KeeperState) (event : KeeperEvent) (calling : Bool) → is_calling s.step event ≡ calling → IsSound shape failed w number s
+    → IsSound shape (is_failure event (keeper_ask shape p s) || failed) (writing_after s.step event (happens_at shape p s s.step event) w) (open_told calling (happens_at shape p s s.step event).step number) (happens_at shape p s s.step event)
+event_sound shape p failed w number s event true e sound = record {
   fails = fails_after shape p s event failed (is_failure event (keeper_ask shape p s)) refl sound.fails sound.broken;
   broken = its.broken;
   knows = its.knows;
   number = its.number ∙ ap (open_after (happens_at shape p s s.step event).step) sound.number;
 }
   where
-    its : IsStep shape (writing_after s.step event w) s (happens_at shape p s s.step event)
-    its = happens_step shape p w s s.step event refl sound.knows right e
-event_sound shape p failed w number s event false e right sound = record {
+    its : IsStep shape (writing_after s.step event (happens_at shape p s s.step event) w) s (happens_at shape p s s.step event)
+    its = happens_step shape p w s s.step event refl sound.knows e
+event_sound shape p failed w number s event false e sound = record {
   fails = fails_after shape p s event failed (is_failure event (keeper_ask shape p s)) refl sound.fails sound.broken;
   broken = λ broken. subst (λ (x : KeeperState). IsRefused x.step) (sym same) (sound.broken (ap (λ (x : KeeperState). x.is_broken) (sym same) ∙ broken));
   knows = subst (λ (x : Writing). Knows shape a x a.step) (sym unwritten_so) (subst (λ (x : KeeperState). Knows shape x w x.step) (sym same) sound.knows);
@@ -174,7 +174,7 @@ event_sound shape p failed w number s event false e right sound = record {
     same : a ≡ s
     same = (idle shape p w s s.step event e).0
 
-    unwritten_so : writing_after s.step event w ≡ w
+    unwritten_so : writing_after s.step event (happens_at shape p s s.step event) w ≡ w
     unwritten_so = (idle shape p w s s.step event e).1
 
 opening_sound : (shape : Shape) (w : Writing) (s : KeeperState) → IsOpened s → IsSound shape false w None s
@@ -189,13 +189,13 @@ opening_sound shape w s opened = record {
     rests (Ended its) e = tt
     rests step e = cc
 
-pub run_sound : (shape : Shape) (p : Places) (opening : KeeperState) (events : List KeeperEvent) → IsOpened opening → AreWritesOfRun shape p opening events
+pub run_sound : (shape : Shape) (p : Places) (opening : KeeperState) (events : List KeeperEvent) → IsOpened opening
     → IsSound shape (has_failed shape p opening events) (writing shape p opening events) (number_open shape p opening events) (keeper_run shape p opening events)
-unfolding keeper_run has_failed writing number_open AreWritesOfRun
-run_sound shape p opening [] opened right = opening_sound shape (record { first = opening.writes; answers = [] }) opening opened
-run_sound shape p opening (event ∷ before) opened right =
-    subst (λ (x : KeeperState). IsSound shape failed written (open_told calling x.step (number_open shape p opening before)) x) (happens_so shape p s event)
-    (event_sound shape p (has_failed shape p opening before) (writing shape p opening before) (number_open shape p opening before) s event calling refl right.0 (run_sound shape p opening before opened right.1))
+unfolding keeper_run has_failed writing number_open
+run_sound shape p opening [] opened = opening_sound shape (record { first = opening.writes; answers = [] }) opening opened
+run_sound shape p opening (event ∷ before) opened =
+    subst (λ (x : KeeperState). IsSound shape failed (writing_after s.step event x (writing shape p opening before)) (open_told calling x.step (number_open shape p opening before)) x) (happens_so shape p s event)
+    (event_sound shape p (has_failed shape p opening before) (writing shape p opening before) (number_open shape p opening before) s event calling refl (run_sound shape p opening before opened))
   where
     s : KeeperState
     s = keeper_run shape p opening before
@@ -205,9 +205,6 @@ run_sound shape p opening (event ∷ before) opened right =
 
     failed : Bool
     failed = is_failure event (keeper_ask shape p s) || has_failed shape p opening before
-
-    written : Writing
-    written = writing_after s.step event (writing shape p opening before)
 
 -- what the law says of it
 broken_for_good : (shape : Shape) (p : Places) (s : KeeperState) (step : Keeping) → s.step ≡ step → s.is_broken ≡ true → IsRefused step → IsBrokenForGood shape p s
@@ -228,47 +225,46 @@ broken_for_good shape p s (Ended (CommitRefused why)) e broken refused = record 
 }
 broken_for_good shape p s step e broken refused = absurd refused
 
-pub run_broken : (shape : Shape) (p : Places) (opening : KeeperState) (events : List KeeperEvent) → IsOpened opening → AreWritesOfRun shape p opening events → has_failed shape p opening events ≡ true → IsBrokenForGood shape p (keeper_run shape p opening events)
-run_broken shape p opening events opened right failed = broken_for_good shape p s s.step refl broken (sound.broken broken)
+pub run_broken : (shape : Shape) (p : Places) (opening : KeeperState) (events : List KeeperEvent) → IsOpened opening → has_failed shape p opening events ≡ true → IsBrokenForGood shape p (keeper_run shape p opening events)
+run_broken shape p opening events opened failed = broken_for_good shape p s s.step refl broken (sound.broken broken)
   where
     s : KeeperState
     s = keeper_run shape p opening events
 
     sound : IsSound shape (has_failed shape p opening events) (writing shape p opening events) (number_open shape p opening events) s
-    sound = run_sound shape p opening events opened right
+    sound = run_sound shape p opening events opened
 
     broken : s.is_broken ≡ true
     broken = sound.fails failed
 
-pub run_finished : (shape : Shape) (p : Places) (opening : KeeperState) (events : List KeeperEvent) → IsOpened opening → AreWritesOfRun shape p opening events → (keeper_run shape p opening events).step ≡ Finishes → IsWritten shape (keeper_run shape p opening events) (writing shape p opening events)
-run_finished shape p opening events opened right e =
-    (subst (λ (x : Keeping). Knows shape (keeper_run shape p opening events) (writing shape p opening events) x) e (run_sound shape p opening events opened right).knows).1
+pub run_finished : (shape : Shape) (p : Places) (opening : KeeperState) (events : List KeeperEvent) → IsOpened opening → (keeper_run shape p opening events).step ≡ Finishes → IsWritten shape (keeper_run shape p opening events) (writing shape p opening events)
+run_finished shape p opening events opened e =
+    (subst (λ (x : Keeping). Knows shape (keeper_run shape p opening events) (writing shape p opening events) x) e (run_sound shape p opening events opened).knows).1
 
-run_step : (shape : Shape) (p : Places) (opening : KeeperState) (events : List KeeperEvent) (event : KeeperEvent) → IsOpened opening → AreWritesOfRun shape p opening (event ∷ events)
+run_step : (shape : Shape) (p : Places) (opening : KeeperState) (events : List KeeperEvent) (event : KeeperEvent) → IsOpened opening
     → is_calling (keeper_run shape p opening events).step event ≡ true
-    → IsStep shape (writing_after (keeper_run shape p opening events).step event (writing shape p opening events)) (keeper_run shape p opening events) (keeper_run shape p opening (event ∷ events))
-unfolding keeper_run AreWritesOfRun
-run_step shape p opening events event opened right calling =
-    subst (λ (x : KeeperState). IsStep shape (writing_after s.step event (writing shape p opening events)) s x) (happens_so shape p s event)
-    (happens_step shape p (writing shape p opening events) s s.step event refl (run_sound shape p opening events opened right.1).knows right.0 calling)
+    → IsStep shape (writing_after (keeper_run shape p opening events).step event (keeper_run shape p opening (event ∷ events)) (writing shape p opening events)) (keeper_run shape p opening events) (keeper_run shape p opening (event ∷ events))
+unfolding keeper_run
+run_step shape p opening events event opened calling =
+    subst (λ (x : KeeperState). IsStep shape (writing_after s.step event x (writing shape p opening events)) s x) (happens_so shape p s event)
+    (happens_step shape p (writing shape p opening events) s s.step event refl (run_sound shape p opening events opened).knows calling)
   where
     s : KeeperState
     s = keeper_run shape p opening events
 
-pub run_memory : (shape : Shape) (p : Places) (opening : KeeperState) (events : List KeeperEvent) (event : KeeperEvent) → IsOpened opening → AreWritesOfRun shape p opening (event ∷ events)
+pub run_memory : (shape : Shape) (p : Places) (opening : KeeperState) (events : List KeeperEvent) (event : KeeperEvent) → IsOpened opening
     → is_calling (keeper_run shape p opening events).step event ≡ true → (keeper_run shape p opening (event ∷ events)).step ≡ Ended (TurnRefused fault.Memory)
     → IsMemoryRefused (keeper_run shape p opening events) (keeper_run shape p opening (event ∷ events))
-run_memory shape p opening events event opened right calling ends = (run_step shape p opening events event opened right calling).memory ends
+run_memory shape p opening events event opened calling ends = (run_step shape p opening events event opened calling).memory ends
 
 finish_of : (s a : KeeperState) (number was : Option Version) → was ≡ number → IsFinishOfBegun was s a → IsFinishOfBegun number s a
 finish_of s a number was same its = subst (λ (x : Option Version). IsFinishOfBegun x s a) same its
 
-pub run_number : (shape : Shape) (p : Places) (opening : KeeperState) (events : List KeeperEvent) (event : KeeperEvent) (full : Bool) → IsOpened opening → AreWritesOfRun shape p opening (event ∷ events)
+pub run_number : (shape : Shape) (p : Places) (opening : KeeperState) (events : List KeeperEvent) (event : KeeperEvent) (full : Bool) → IsOpened opening
     → is_calling (keeper_run shape p opening events).step event ≡ true → (keeper_run shape p opening (event ∷ events)).step ≡ Ended (Turned true full)
     → IsFinishOfBegun (number_open shape p opening events) (keeper_run shape p opening events) (keeper_run shape p opening (event ∷ events))
-unfolding AreWritesOfRun
-run_number shape p opening events event full opened right calling ends =
-    finish_of _ _ _ _ (run_sound shape p opening events opened right.1).number ((run_step shape p opening events event opened right calling).told full ends)
+run_number shape p opening events event full opened calling ends =
+    finish_of _ _ _ _ (run_sound shape p opening events opened).number ((run_step shape p opening events event opened calling).told full ends)
 
 -- a copy that was refused begins again
 maintain_commit : (s : KeeperState) (ask : Ask MaintainAnswer) → (maintain_ledto s ask).commit ≡ s.commit
@@ -286,12 +282,12 @@ turn_commit : (shape : Shape) (p : Places) (s : KeeperState) (step : Keeping) (e
 unfolding keeping_next keeping_given keeping_called
 turn_commit shape p s (Ended its) BeginsTurn before = either_commit s.is_broken s _ _ refl refl
 turn_commit shape p s (Ended its) (BeginsCommit kind) before = either_commit s.is_broken s _ _ refl refl
-turn_commit shape p s (Ended its) (Replies reply granted writes) before = refl
+turn_commit shape p s (Ended its) (Replies reply granted) before = refl
 turn_commit shape p s (Ended its) (Gets action) before = refl
 turn_commit shape p s (Ended its) (Calls done bytes) before = refl
 turn_commit shape p s Maintains BeginsTurn before = refl
 turn_commit shape p s Maintains (BeginsCommit kind) before = refl
-turn_commit shape p s Maintains (Replies reply granted writes) before = maintain_commit _ (maintain_ask shape p (maintain_next shape p s.maintain reply))
+turn_commit shape p s Maintains (Replies reply granted) before = maintain_commit _ (maintain_ask shape p (maintain_next shape p s.maintain reply))
 turn_commit shape p s Maintains (Gets action) before = maintain_commit _ (maintain_ask shape p (maintain_given s.maintain action))
 turn_commit shape p s Maintains (Calls done bytes) before = maintain_commit _ (maintain_ask shape p (maintain_called shape p s.maintain done bytes))
 turn_commit shape p s step event before = absurd before
@@ -311,5 +307,5 @@ pub copy_again : (shape : Shape) (p : Places) (s : KeeperState) → CopiesAgain 
 unfolding keeper_happens keeping_next
 copy_again shape p s = record {
   kept = λ event before. ap (λ (x : KeeperState). x.commit) (sym (happens_so shape p s event)) ∙ turn_commit shape p s s.step event before;
-  begins = λ c reply writes version e in_hand not_copied says. ap (λ (x : Keeping). keeping_next shape p s x reply true writes) e ∙ copies_found p s s.commit c (phase_said reply) version in_hand not_copied says;
+  begins = λ c reply version e in_hand not_copied says. ap (λ (x : Keeping). keeping_next shape p s x reply true) e ∙ copies_found p s s.commit c (phase_said reply) version in_hand not_copied says;
 }

@@ -40,7 +40,7 @@ use Rattle.fkv_keeper.specs.declared.keepers.Keeping.TheVariants.{Ended, Starts,
 use Rattle.fkv_maintain.specs.declared.maintaining.MaintainAnswer.{MaintainAnswer}
 use Rattle.fkv_maintain.specs.declared.maintaining.MaintainAnswer.TheVariants as maintain
 use Rattle.fkv_maintain.specs.Maintaining.{maintain_begun, maintain_ask, maintain_next, maintain_given, maintain_called}
-use Rattle.fkv_keeper.specs.Keeping.{KeeperState, AreGateWritesOf, AreWritesFor, AreWritesBegun, IsFlushedNow, copy_asked, copy_driven, copied, points_known, ended, turned, start_ledto, maintain_ledto, copies, part_begun, phase_ledto, enter_ledto, copy_ledto, seek_ledto, writes_begun, wait_ledto, finished, finish_ledto, keeping_next, keeping_given, write_ledto, writes_called, keeping_called}
+use Rattle.fkv_keeper.specs.Keeping.{KeeperState, copy_asked, copy_driven, copied, points_known, ended, turned, start_ledto, maintain_ledto, copies, part_begun, phase_ledto, enter_ledto, copy_ledto, seek_ledto, writes_begun, wait_ledto, finished, finish_ledto, keeping_next, keeping_given, write_ledto, writes_called, keeping_called}
 use Rattle.fkv_keeper.specs.KeeperRun.{Replies, Gets, Calls, Writing, writing_after, open_after}
 use Rattle.fkv_keeper.specs.KeeperLaws.{IsRefusal, AreWritesOfCommit, IsWritten, IsMemoryRefused, number_in_hand, IsFinishOfBegun}
 
@@ -176,37 +176,25 @@ ran : (w : Writing) → w.answers ≡ [] → w.first ≡ commit_run w.first w.an
 unfolding commit_run
 ran w none = sym (ap (commit_run w.first) none)
 
-begun_step : (shape : Shape) (w : Writing) (s t : KeeperState) (found : Option Commit) → t.is_broken ≡ false → t.commit ≡ found → t.commit ≡ s.commit → AreWritesFor shape t found w.first → w.answers ≡ [] → IsStep shape w s (writes_begun t found w.first)
-begun_step shape w s t None works in_hand same writes none = turns shape w s t t.is_drain_full works (ap number_in_hand same)
-begun_step shape w s t (Some c) works in_hand same writes none = going shape w s a Writes tt refl works (ap number_in_hand same) (works, known)
+begun_step : (shape : Shape) (w : Writing) (s t : KeeperState) (found : Option Commit) → t.is_broken ≡ false → t.commit ≡ found → t.commit ≡ s.commit → w.first ≡ (writes_begun shape t found).writes → w.answers ≡ [] → IsStep shape w s (writes_begun shape t found)
+begun_step shape w s t None works in_hand same first none = turns shape w s t t.is_drain_full works (ap number_in_hand same)
+begun_step shape w s t (Some c) works in_hand same first none = going shape w s a Writes tt refl works (ap number_in_hand same) (works, known)
   where
     a : KeeperState
-    a = writes_begun t (Some c) w.first
-
-    gate : AreGateWritesOf shape a c a.used w.first.gate
-    gate = record { place = writes.gate.place; start = writes.gate.start; step = writes.gate.step; slot = writes.gate.slot }
+    a = writes_begun shape t (Some c)
 
     its : AreWritesOfCommit shape a c w.first
-    its = record { area = writes.area; step = writes.step; gate = gate }
+    its = record { area = ap (λ (x : CommitWriter). x.area) first; step = rw first refl; gate = ap (λ (x : CommitWriter). x.gate) first }
 
     known : KnowsWrites shape a w
-    known = record { commit = c; in_hand = in_hand; writes = its; run = ran w none }
+    known = record { commit = c; in_hand = in_hand; writes = its; run = sym first ∙ ran w none }
 
-writes_for : (shape : Shape) (s : KeeperState) (reply : ℕ) (found : Option Commit) (writes : CommitWriter) → AreWritesFor shape s found writes → AreWritesFor shape (record s { wait = wait_next s.wait reply }) found writes
-writes_for shape s reply None writes its = tt
-writes_for shape s reply (Some c) writes its = record {
-  area = its.area;
-  triples = its.triples;
-  step = its.step;
-  gate = record { place = its.gate.place; start = its.gate.start; step = its.gate.step; slot = its.gate.slot };
-}
-
-wait_step : (shape : Shape) (w : Writing) (s t : KeeperState) (ask : Ask WaitAnswer) → t.step ≡ Waits → t.is_broken ≡ false → t.commit ≡ s.commit → (IsFlushedNow ask → AreWritesFor shape t t.commit w.first) → w.answers ≡ [] → IsStep shape w s (wait_ledto t ask w.first)
+wait_step : (shape : Shape) (w : Writing) (s t : KeeperState) (ask : Ask WaitAnswer) → t.step ≡ Waits → t.is_broken ≡ false → t.commit ≡ s.commit → w.first ≡ (wait_ledto shape t ask).writes → w.answers ≡ [] → IsStep shape w s (wait_ledto shape t ask)
 unfolding wait_ledto
-wait_step shape w s t (Done wait.Flushed) e works same writes none = begun_step shape w s t t.commit works refl same (writes refl) none
-wait_step shape w s t (Done wait.NotYet) e works same writes none = turns shape w s t t.is_drain_full works (ap number_in_hand same)
-wait_step shape w s t (Done wait.Idle) e works same writes none = turns shape w s t t.is_drain_full works (ap number_in_hand same)
-wait_step shape w s t ask e works same writes none = going shape w s t Waits tt e works (ap number_in_hand same) works
+wait_step shape w s t (Done wait.Flushed) e works same first none = begun_step shape w s t t.commit works refl same first none
+wait_step shape w s t (Done wait.NotYet) e works same first none = turns shape w s t t.is_drain_full works (ap number_in_hand same)
+wait_step shape w s t (Done wait.Idle) e works same first none = turns shape w s t t.is_drain_full works (ap number_in_hand same)
+wait_step shape w s t ask e works same first none = going shape w s t Waits tt e works (ap number_in_hand same) works
 
 -- a call of the writes
 write_step : (shape : Shape) (w : Writing) (s t : KeeperState) (found : Option Commit) (answer : WriteAnswer) → t.step ≡ Writes → t.is_broken ≡ false → t.commit ≡ s.commit → commit_answer t.writes ≡ answer → KnowsWrites shape t w → IsStep shape w s (write_ledto t found answer)
@@ -221,7 +209,7 @@ write_step shape w s t (Some c) write.Written e works same its known = going sha
     writes = record {
       area = known.writes.area;
       step = known.writes.step;
-      gate = record { place = known.writes.gate.place; start = known.writes.gate.start; step = known.writes.gate.step; slot = known.writes.gate.slot };
+      gate = known.writes.gate;
     }
 
     whole : IsWritten shape a w
@@ -240,7 +228,7 @@ call_step shape w s true e works known = write_step shape (record w { answers = 
     writes = record {
       area = known.writes.area;
       step = known.writes.step;
-      gate = record { place = known.writes.gate.place; start = known.writes.gate.start; step = known.writes.gate.step; slot = known.writes.gate.slot };
+      gate = known.writes.gate;
     }
 
     after : KnowsWrites shape t (record w { answers = true ∷ w.answers })
@@ -270,26 +258,27 @@ finish_step shape w s reply ask e works known = going shape w s t Finishes tt e 
     writes = record {
       area = known.writes.area;
       step = known.writes.step;
-      gate = record { place = known.writes.gate.place; start = known.writes.gate.start; step = known.writes.gate.step; slot = known.writes.gate.slot };
+      gate = known.writes.gate;
     }
 
     after : IsWritten shape t w
     after = record { commit = known.commit; in_hand = known.in_hand; writes = writes; answered = known.answered }
 
 -- a reply, an action, and a call of the device, where a call is in hand
-pub reply_step : (shape : Shape) (p : Places) (w : Writing) (s : KeeperState) (step : Keeping) (reply : ℕ) (granted : Bool) (writes : CommitWriter) → IsGoing step → s.step ≡ step → Knows shape s w step → AreWritesBegun shape s reply writes → IsStep shape (writing_after step (Replies reply granted writes) w) s (keeping_next shape p s step reply granted writes)
+pub reply_step : (shape : Shape) (p : Places) (w : Writing) (s : KeeperState) (step : Keeping) (reply : ℕ) (granted : Bool) → IsGoing step → s.step ≡ step → Knows shape s w step → IsStep shape (writing_after step (Replies reply granted) (keeping_next shape p s step reply granted) w) s (keeping_next shape p s step reply granted)
 unfolding keeping_next
-reply_step shape p w s (Ended its) reply granted writes goes e known right = absurd goes
-reply_step shape p w s Starts reply granted writes goes e known right = start_step shape w s _ (start_ask (start_next s.start reply)) e known refl
-reply_step shape p w s Maintains reply granted writes goes e known right = maintain_step shape w s _ (maintain_ask shape p (maintain_next shape p s.maintain reply)) e known refl
-reply_step shape p w s LoadsPhase reply granted writes goes e known right = phase_step shape p w s s.commit (phase_said reply) granted known refl
-reply_step shape p w s Enters reply granted writes goes e known right = enter_step shape w s _ (enter_ask (enter_next s.enter reply)) e known refl
-reply_step shape p w s Copies reply granted writes goes e known right = copy_step shape w s _ (copy_asked (copy_driven s.copy reply)) e known refl
-reply_step shape p w s Seeks reply granted writes goes e known right = seek_step shape w s _ (seek_ask (seek_next s.seek reply)) e known refl
-reply_step shape p w s Waits reply granted writes goes e known right =
-    wait_step shape (record { first = writes; answers = [] }) s _ (wait_ask (wait_next s.wait reply)) e known refl (λ flushed. writes_for shape s reply s.commit writes (right e flushed)) refl
-reply_step shape p w s Writes reply granted writes goes e known right = going shape w s s Writes tt e known.0 refl known
-reply_step shape p w s Finishes reply granted writes goes e known right = finish_step shape w s reply (finish_ask s.seek.points (finish_next s.finish reply)) e known.0 known.1
+reply_step shape p w s (Ended its) reply granted goes e known = absurd goes
+reply_step shape p w s Starts reply granted goes e known = start_step shape w s _ (start_ask (start_next s.start reply)) e known refl
+reply_step shape p w s Maintains reply granted goes e known = maintain_step shape w s _ (maintain_ask shape p (maintain_next shape p s.maintain reply)) e known refl
+reply_step shape p w s LoadsPhase reply granted goes e known = phase_step shape p w s s.commit (phase_said reply) granted known refl
+reply_step shape p w s Enters reply granted goes e known = enter_step shape w s _ (enter_ask (enter_next s.enter reply)) e known refl
+reply_step shape p w s Copies reply granted goes e known = copy_step shape w s _ (copy_asked (copy_driven s.copy reply)) e known refl
+reply_step shape p w s Seeks reply granted goes e known = seek_step shape w s _ (seek_ask (seek_next s.seek reply)) e known refl
+reply_step shape p w s Waits reply granted goes e known =
+    let t = record s { wait = wait_next s.wait reply } in
+    wait_step shape (record { first = (wait_ledto shape t (wait_ask (wait_next s.wait reply))).writes; answers = [] }) s t (wait_ask (wait_next s.wait reply)) e known refl refl refl
+reply_step shape p w s Writes reply granted goes e known = going shape w s s Writes tt e known.0 refl known
+reply_step shape p w s Finishes reply granted goes e known = finish_step shape w s reply (finish_ask s.seek.points (finish_next s.finish reply)) e known.0 known.1
 
 -- where nothing happens
 pub stays : (shape : Shape) (w : Writing) (s : KeeperState) (step : Keeping) → IsGoing step → s.step ≡ step → Knows shape s w step → IsStep shape w s s
@@ -304,12 +293,12 @@ stays shape w s Copies goes e known = going shape w s s Copies tt e known refl k
 stays shape w s Seeks goes e known = going shape w s s Seeks tt e known refl known
 stays shape w s Waits goes e known = going shape w s s Waits tt e known refl known
 
-pub given_step : (shape : Shape) (p : Places) (w : Writing) (s : KeeperState) (step : Keeping) (action : Action) → IsGoing step → s.step ≡ step → Knows shape s w step → IsStep shape (writing_after step (Gets action) w) s (keeping_given shape p s step action)
+pub given_step : (shape : Shape) (p : Places) (w : Writing) (s : KeeperState) (step : Keeping) (action : Action) → IsGoing step → s.step ≡ step → Knows shape s w step → IsStep shape (writing_after step (Gets action) (keeping_given shape p s step action) w) s (keeping_given shape p s step action)
 unfolding keeping_given
 given_step shape p w s Maintains action goes e known = maintain_step shape w s _ (maintain_ask shape p (maintain_given s.maintain action)) e known refl
 given_step shape p w s step action goes e known = stays shape w s step goes e known
 
-pub called_step : (shape : Shape) (p : Places) (w : Writing) (s : KeeperState) (step : Keeping) (done : Bool) (bytes : List ℕ) → IsGoing step → s.step ≡ step → Knows shape s w step → IsStep shape (writing_after step (Calls done bytes) w) s (keeping_called shape p s step done bytes)
+pub called_step : (shape : Shape) (p : Places) (w : Writing) (s : KeeperState) (step : Keeping) (done : Bool) (bytes : List ℕ) → IsGoing step → s.step ≡ step → Knows shape s w step → IsStep shape (writing_after step (Calls done bytes) (keeping_called shape p s step done bytes) w) s (keeping_called shape p s step done bytes)
 unfolding keeping_called
 called_step shape p w s Maintains done bytes goes e known = maintain_step shape w s _ (maintain_ask shape p (maintain_called shape p s.maintain done bytes)) e known refl
 called_step shape p w s Writes done bytes goes e known = call_step shape w s done e known.0 known.1

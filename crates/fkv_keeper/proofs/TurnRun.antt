@@ -114,16 +114,16 @@ seek_led before s (Done seek.Owing) at kept = kept
 seek_led before s (Done seek.Idle) at kept = kept
 seek_led before s ask at kept = rw at kept
 
-writes_led : (before s : KeeperState) (commit : Option Commit) (writes : CommitWriter) → IsCommitKept before s → TurnRuns before (writes_begun s commit writes) (writes_begun s commit writes).step
-writes_led before s None writes kept = kept
-writes_led before s (Some c) writes kept = kept
+writes_led : (before s : KeeperState) (shape : Shape) (commit : Option Commit) → IsCommitKept before s → TurnRuns before (writes_begun shape s commit) (writes_begun shape s commit).step
+writes_led before s shape None kept = kept
+writes_led before s shape (Some c) kept = kept
 
-wait_led : (before s : KeeperState) (ask : Ask WaitAnswer) (writes : CommitWriter) → s.step ≡ Waits → IsCommitKept before s → TurnRuns before (wait_ledto s ask writes) (wait_ledto s ask writes).step
+wait_led : (before s : KeeperState) (shape : Shape) (ask : Ask WaitAnswer) → s.step ≡ Waits → IsCommitKept before s → TurnRuns before (wait_ledto shape s ask) (wait_ledto shape s ask).step
 unfolding wait_ledto
-wait_led before s (Done wait.Flushed) writes at kept = writes_led before s s.commit writes kept
-wait_led before s (Done wait.NotYet) writes at kept = kept
-wait_led before s (Done wait.Idle) writes at kept = kept
-wait_led before s ask writes at kept = rw at kept
+wait_led before s shape (Done wait.Flushed) at kept = writes_led before s shape s.commit kept
+wait_led before s shape (Done wait.NotYet) at kept = kept
+wait_led before s shape (Done wait.Idle) at kept = kept
+wait_led before s shape ask at kept = rw at kept
 
 write_led : (before s : KeeperState) (commit : Option Commit) (answer : WriteAnswer) → s.step ≡ Writes → IsCommitKept before s → TurnRuns before (write_ledto s commit answer) (write_ledto s commit answer).step
 unfolding write_ledto
@@ -141,23 +141,23 @@ unfolding finish_ledto
 finish_led before s (Done its) at kept = finished_led before s s.commit refl kept
 finish_led before s ask at kept = rw at kept
 
-step_runs : (before s : KeeperState) (shape : Shape) (p : Places) (step : Keeping) (reply : ℕ) (granted : Bool) (writes : CommitWriter) → s.step ≡ step → TurnRuns before s step → is_done (keeping_ask shape p s step) ≡ false
-    → TurnRuns before (keeping_next shape p s step reply granted writes) (keeping_next shape p s step reply granted writes).step
+step_runs : (before s : KeeperState) (shape : Shape) (p : Places) (step : Keeping) (reply : ℕ) (granted : Bool) → s.step ≡ step → TurnRuns before s step → is_done (keeping_ask shape p s step) ≡ false
+    → TurnRuns before (keeping_next shape p s step reply granted) (keeping_next shape p s step reply granted).step
 unfolding keeping_ask keeping_next
-step_runs before s shape p (Ended its) reply granted writes at runs asks = never asks
-step_runs before s shape p Starts reply granted writes at runs asks = absurd runs
-step_runs before s shape p Maintains reply granted writes at runs asks = maintain_led before (record s { maintain = maintain_next shape p s.maintain reply }) _ at runs
-step_runs before s shape p LoadsPhase reply granted writes at runs asks = phase_led before s p s.commit (phase_said reply) granted runs
-step_runs before s shape p Enters reply granted writes at runs asks = enter_led before (record s { enter = enter_next s.enter reply }) _ at runs
-step_runs before s shape p Copies reply granted writes at runs asks = copy_led before (record s { copy = copy_driven s.copy reply }) _ at runs
-step_runs before s shape p Seeks reply granted writes at runs asks = seek_led before (record s { seek = seek_next s.seek reply }) _ at runs
-step_runs before s shape p Waits reply granted writes at runs asks = wait_led before (record s { wait = wait_next s.wait reply }) _ writes at runs
-step_runs before s shape p Writes reply granted writes at runs asks = rw at runs
-step_runs before s shape p Finishes reply granted writes at runs asks = finish_led before (record s { finish = finish_next s.finish reply }) _ at runs
+step_runs before s shape p (Ended its) reply granted at runs asks = never asks
+step_runs before s shape p Starts reply granted at runs asks = absurd runs
+step_runs before s shape p Maintains reply granted at runs asks = maintain_led before (record s { maintain = maintain_next shape p s.maintain reply }) _ at runs
+step_runs before s shape p LoadsPhase reply granted at runs asks = phase_led before s p s.commit (phase_said reply) granted runs
+step_runs before s shape p Enters reply granted at runs asks = enter_led before (record s { enter = enter_next s.enter reply }) _ at runs
+step_runs before s shape p Copies reply granted at runs asks = copy_led before (record s { copy = copy_driven s.copy reply }) _ at runs
+step_runs before s shape p Seeks reply granted at runs asks = seek_led before (record s { seek = seek_next s.seek reply }) _ at runs
+step_runs before s shape p Waits reply granted at runs asks = wait_led before (record s { wait = wait_next s.wait reply }) shape _ at runs
+step_runs before s shape p Writes reply granted at runs asks = rw at runs
+step_runs before s shape p Finishes reply granted at runs asks = finish_led before (record s { finish = finish_next s.finish reply }) _ at runs
 
-pub runs_next : (before s : KeeperState) (shape : Shape) (p : Places) (reply : ℕ) (granted : Bool) (writes : CommitWriter) → TurnRuns before s s.step → is_done (keeper_ask shape p s) ≡ false
-    → TurnRuns before (keeper_next shape p s reply granted writes) (keeper_next shape p s reply granted writes).step
-runs_next before s shape p reply granted writes runs asks = step_runs before s shape p s.step reply granted writes refl runs asks
+pub runs_next : (before s : KeeperState) (shape : Shape) (p : Places) (reply : ℕ) (granted : Bool) → TurnRuns before s s.step → is_done (keeper_ask shape p s) ≡ false
+    → TurnRuns before (keeper_next shape p s reply granted) (keeper_next shape p s reply granted).step
+runs_next before s shape p reply granted runs asks = step_runs before s shape p s.step reply granted refl runs asks
 
 step_given : (before s : KeeperState) (shape : Shape) (p : Places) (step : Keeping) (action : Action) → s.step ≡ step → TurnRuns before s step → TurnRuns before (keeping_given shape p s step action) (keeping_given shape p s step action).step
 unfolding keeping_given

@@ -20,7 +20,7 @@ use Rattle.fkv_keeper.specs.declared.keepers.Keeping.{Keeping}
 use Rattle.fkv_keeper.specs.declared.keepers.Keeping.TheVariants.{Ended, Maintains, LoadsPhase, Copies, Finishes}
 use Rattle.fkv_base.specs.declared.numbers.Version.{Version}
 use Rattle.fkv_keeper.specs.LastCommits.{area_number}
-use Rattle.fkv_keeper.specs.Keeping.{KeeperState, AreGateWritesOf, ended, turn_asked, commit_asked, keeper_ask, keeper_next}
+use Rattle.fkv_keeper.specs.Keeping.{KeeperState, gate_writes_of, ended, turn_asked, commit_asked, keeper_ask, keeper_next}
 use Rattle.fkv_keeper.specs.KeeperRun.{KeeperEvent, Writing, keeper_happens}
 
 -- a refusal of a turn, or of a commit
@@ -37,11 +37,11 @@ pub record IsBrokenForGood (shape : Shape) (p : Places) (s : KeeperState) : Type
   pub no_turn : keeper_ask shape p (turn_asked s) ≡ Done (TurnRefused fault.Broken)
   pub no_commit : (kind : CommitKind) → keeper_ask shape p (commit_asked s kind) ≡ Done (CommitRefused fault.Broken)
 
--- These are the writes of the commit, with the triples of the checkpoint that it uses, as they begin.
+-- These are the writes of the commit, with the checkpoint that it uses and the triples that it writes, as they begin.
 pub record AreWritesOfCommit (shape : Shape) (s : KeeperState) (c : Commit) (first : CommitWriter) : Type 0 where
   pub area : first.area ≡ area_place shape (area_number s.used.area)
   pub step : first.step ≡ commit_start first.triples
-  pub gate : AreGateWritesOf shape s c s.used first.gate
+  pub gate : first.gate ≡ gate_writes_of shape s c s.used
 
 -- All writes of the commit in hand were made, and each call of the device since they began has succeeded: the last sync has answered.
 pub record IsWritten (shape : Shape) (s : KeeperState) (w : Writing) : Type 0 where
@@ -78,6 +78,6 @@ IsBeforePhase step = ⊥
 -- memory is granted.
 pub record CopiesAgain (shape : Shape) (p : Places) (s : KeeperState) : Type 0 where
   pub kept : (event : KeeperEvent) → IsBeforePhase s.step → (keeper_happens shape p s event).commit ≡ s.commit
-  pub begins : (c : Commit) (reply : ℕ) (writes : CommitWriter) (version : Version) → s.step ≡ LoadsPhase → s.commit ≡ Some c → c.is_copied ≡ false
+  pub begins : (c : Commit) (reply : ℕ) (version : Version) → s.step ≡ LoadsPhase → s.commit ≡ Some c → c.is_copied ≡ false
       → phase_said reply ≡ Says phase.WaitPending version
-      → keeper_next shape p s reply true writes ≡ record s { copy = Some (copy_begun p); is_granted = true; step = Copies }
+      → keeper_next shape p s reply true ≡ record s { copy = Some (copy_begun p); is_granted = true; step = Copies }

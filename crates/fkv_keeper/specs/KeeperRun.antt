@@ -1,5 +1,5 @@
 -- A keeper's run: turns and commits that are begun, replies, actions and calls of the device, in any order, and what they tell.
-use Rattle.std.specs.Prelude.{◌≡◌, ℕ, List, [], ◌∷◌, Bool, true, false, ◌||◌, Option, Some, None, ⊤}
+use Rattle.std.specs.Prelude.{◌≡◌, ℕ, List, [], ◌∷◌, Bool, true, false, ◌||◌, Option, Some, None}
 use Rattle.fkv_base.specs.declared.numbers.Version.{Version}
 use Rattle.fkv_base.specs.declared.shapes.Shape.{Shape}
 use Rattle.fkv_plane.specs.declared.actions.Action.{Action}
@@ -12,15 +12,15 @@ use Rattle.fkv_keeper.specs.declared.answers.KeeperTold.{KeeperTold}
 use Rattle.fkv_keeper.specs.declared.answers.KeeperTold.TheVariants.{Device, Turned, Begun}
 use Rattle.fkv_keeper.specs.declared.keepers.Keeping.{Keeping}
 use Rattle.fkv_keeper.specs.declared.keepers.Keeping.TheVariants.{Ended, Waits, Writes}
-use Rattle.fkv_keeper.specs.Keeping.{KeeperState, commit_asked, turn_asked, keeper_ask, keeper_next, keeper_given, keeper_called, AreWritesBegun}
+use Rattle.fkv_keeper.specs.Keeping.{KeeperState, commit_asked, turn_asked, keeper_ask, keeper_next, keeper_given, keeper_called}
 
 -- what may happen next
 pub data KeeperEvent : Type 0 where
   -- a turn is begun, or a commit of a kind, where no call is in hand
   BeginsTurn : KeeperEvent
   BeginsCommit : CommitKind → KeeperEvent
-  -- its ask is replied to; whether memory is granted, and what is written, where the reply leads to that
-  Replies : ℕ → Bool → CommitWriter → KeeperEvent
+  -- its ask is replied to, and whether memory is granted where the reply leads to a copy
+  Replies : ℕ → Bool → KeeperEvent
   -- it gets the action of a drain slot
   Gets : Action → KeeperEvent
   -- it calls the device: whether the call succeeded, and what it read
@@ -38,7 +38,7 @@ begins s false begun = begun
 unfoldable pub keeper_happens : Shape → Places → KeeperState → KeeperEvent → KeeperState
 keeper_happens shape p s BeginsTurn = begins s (is_in_hand s.step) (turn_asked s)
 keeper_happens shape p s (BeginsCommit kind) = begins s (is_in_hand s.step) (commit_asked s kind)
-keeper_happens shape p s (Replies reply granted writes) = keeper_next shape p s reply granted writes
+keeper_happens shape p s (Replies reply granted) = keeper_next shape p s reply granted
 keeper_happens shape p s (Gets action) = keeper_given shape p s action
 keeper_happens shape p s (Calls done bytes) = keeper_called shape p s done bytes
 
@@ -52,15 +52,6 @@ pub record IsOpened (s : KeeperState) : Type 0 where
   pub none_in_hand : is_in_hand s.step ≡ false
   pub no_commit : s.commit ≡ None
   pub works : s.is_broken ≡ false
-
--- what is written is what the reply begins
-abbrev pub AreWritesRight : Shape → KeeperState → KeeperEvent → Type 0
-AreWritesRight shape s (Replies reply granted writes) = AreWritesBegun shape s reply writes
-AreWritesRight shape s event = ⊤
-
-unfoldable pub AreWritesOfRun : Shape → Places → KeeperState → List KeeperEvent → Type 0
-AreWritesOfRun shape p opening [] = ⊤
-AreWritesOfRun shape p opening (event ∷ before) = AreWritesRight shape (keeper_run shape p opening before) event × AreWritesOfRun shape p opening before
 
 -- it asks for the device, and the call fails
 abbrev pub is_failure : KeeperEvent → Ask KeeperTold → Bool
@@ -77,14 +68,14 @@ pub record Writing : Type 0 where
   pub first : CommitWriter
   pub answers : List Bool
 
-abbrev pub writing_after : Keeping → KeeperEvent → Writing → Writing
-writing_after Waits (Replies reply granted writes) w = record { first = writes; answers = [] }
-writing_after Writes (Calls done bytes) w = record w { answers = done ∷ w.answers }
-writing_after step event w = w
+abbrev pub writing_after : Keeping → KeeperEvent → KeeperState → Writing → Writing
+writing_after Waits (Replies reply granted) after w = record { first = after.writes; answers = [] }
+writing_after Writes (Calls done bytes) after w = record w { answers = done ∷ w.answers }
+writing_after step event after w = w
 
 unfoldable pub writing : Shape → Places → KeeperState → List KeeperEvent → Writing
 writing shape p opening [] = record { first = opening.writes; answers = [] }
-writing shape p opening (event ∷ before) = writing_after (keeper_run shape p opening before).step event (writing shape p opening before)
+writing shape p opening (event ∷ before) = writing_after (keeper_run shape p opening before).step event (keeper_run shape p opening (event ∷ before)) (writing shape p opening before)
 
 -- an event ends a call, or goes on with it, where one was in hand, or where it begins one
 abbrev pub is_calling : Keeping → KeeperEvent → Bool

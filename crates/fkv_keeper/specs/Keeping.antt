@@ -1,6 +1,6 @@
 -- What the keeper does: it begins commits, and makes turns, in each of which it does what every turn does and then at most one thing for the
 -- commit in hand.
-use Rattle.std.specs.Prelude.{◌≡◌, ℕ, List, [], length, Bool, true, false, if◌then◌else◌, Option, Some, None, ⊤}
+use Rattle.std.specs.Prelude.{ℕ, List, [], length, Bool, true, false, if◌then◌else◌, Option, Some, None}
 use Rattle.fkv_base.specs.declared.faults.Fault.TheVariants as fault
 use Rattle.fkv_base.specs.declared.numbers.Addr.{Addr}
 use Rattle.fkv_base.specs.declared.numbers.Serial.{Serial}
@@ -50,7 +50,7 @@ use Rattle.fkv_keeper.specs.declared.keepers.Keeping.TheVariants.{Ended, Starts,
 use Rattle.fkv_keeper.specs.declared.last_commits.Checkpoint.{Checkpoint}
 use Rattle.fkv_maintain.specs.declared.maintaining.MaintainAnswer.{MaintainAnswer}
 use Rattle.fkv_maintain.specs.declared.maintaining.MaintainAnswer.TheVariants as maintain
-use Rattle.fkv_keeper.specs.LastCommits.{other_area, area_number, is_gate_open, gate_opened, slot_place, IsWritten}
+use Rattle.fkv_keeper.specs.LastCommits.{other_area, area_number, is_gate_open, gate_opened, slot_place, slot_written}
 use Rattle.fkv_maintain.specs.Maintaining.{MaintainState, maintain_begun, maintain_ask, maintain_next, maintain_given, maintain_called}
 
 -- a finished commit
@@ -240,37 +240,38 @@ lost_left Full lost = []
 lost_left Log lost = lost
 
 -- The writes of the slot of a commit that uses this checkpoint: in its place, behind a gate that may stand open.
-pub record AreGateWritesOf (shape : Shape) (s : KeeperState) (c : Commit) (used : Checkpoint) (gate : GateWriter) : Type 0 where
-  pub place : gate.place ≡ slot_place c.number
-  pub start : gate.start ≡ 1
-  pub step : gate.step ≡ gate_start (is_gate_open s.last.gates c.number)
-  pub slot : IsWritten shape.sessions c.number c.end used s.seek.points (lost_left c.kind s.lost) gate.slot
+abbrev pub gate_writes_of : Shape → KeeperState → Commit → Checkpoint → GateWriter
+gate_writes_of shape s c used = record {
+  place = slot_place c.number;
+  start = 1;
+  slot = slot_written shape.sessions c.number c.end used s.seek.points (lost_left c.kind s.lost);
+  step = gate_start (is_gate_open s.last.gates c.number);
+}
 
 -- What a commit writes: its triples into their area, and its slot.
-pub record AreWritesOf (shape : Shape) (s : KeeperState) (c : Commit) (writes : CommitWriter) : Type 0 where
-  pub area : writes.area ≡ area_place shape (area_number (checkpoint_used c c.kind s.last s.copy).area)
-  pub triples : writes.triples ≡ triples_written c.kind s.copy
-  pub step : writes.step ≡ commit_start writes.triples
-  pub gate : AreGateWritesOf shape s c (checkpoint_used c c.kind s.last s.copy) writes.gate
+abbrev pub writes_of : Shape → KeeperState → Commit → Checkpoint → CommitWriter
+writes_of shape s c used = record {
+  area = area_place shape (area_number used.area);
+  triples = triples_written c.kind s.copy;
+  gate = gate_writes_of shape s c used;
+  step = commit_start (triples_written c.kind s.copy);
+}
 
--- it writes these
-abbrev pub writes_begun : KeeperState → Option Commit → CommitWriter → KeeperState
-writes_begun s None writes = turned s
-writes_begun s (Some c) writes = record s { writes = writes; used = checkpoint_used c c.kind s.last s.copy; copy = None; step = Writes }
+-- where the log is flushed up to the commit's end, the commit in hand is written
+abbrev pub writes_begun : Shape → KeeperState → Option Commit → KeeperState
+writes_begun shape s None = turned s
+writes_begun shape s (Some c) = record s {
+  writes = writes_of shape s c (checkpoint_used c c.kind s.last s.copy);
+  used = checkpoint_used c c.kind s.last s.copy;
+  copy = None;
+  step = Writes;
+}
 
--- where the log is flushed up to the commit's end, what is written are the writes of the commit in hand
-abbrev pub AreWritesFor : Shape → KeeperState → Option Commit → CommitWriter → Type 0
-AreWritesFor shape s None writes = ⊤
-AreWritesFor shape s (Some c) writes = AreWritesOf shape s c writes
-
-abbrev pub IsFlushedNow : Ask WaitAnswer → Type 0
-IsFlushedNow ask = ask ≡ Done wait.Flushed
-
-unfoldable pub wait_ledto : KeeperState → Ask WaitAnswer → CommitWriter → KeeperState
-wait_ledto s (Done wait.Flushed) writes = writes_begun s s.commit writes
-wait_ledto s (Done wait.NotYet) writes = turned s
-wait_ledto s (Done wait.Idle) writes = turned s
-wait_ledto s ask writes = s
+unfoldable pub wait_ledto : Shape → KeeperState → Ask WaitAnswer → KeeperState
+wait_ledto shape s (Done wait.Flushed) = writes_begun shape s s.commit
+wait_ledto shape s (Done wait.NotYet) = turned s
+wait_ledto shape s (Done wait.Idle) = turned s
+wait_ledto shape s ask = s
 
 -- the commit is finished
 abbrev pub finality_of : KeeperState → Commit → Finality
@@ -289,21 +290,21 @@ abbrev pub copy_driven : Option Copier → ℕ → Option Copier
 copy_driven None reply = None
 copy_driven (Some m) reply = Some (copy_after m reply)
 
--- Where the reply leads. Where a copy begins it goes by whether memory was granted for it, and where the writes begin by what they are.
-unfoldable pub keeping_next : Shape → Places → KeeperState → Keeping → ℕ → Bool → CommitWriter → KeeperState
-keeping_next shape p s (Ended its) reply granted writes = s
-keeping_next shape p s Starts reply granted writes = start_ledto (record s { start = start_next s.start reply }) (start_ask (start_next s.start reply))
-keeping_next shape p s Maintains reply granted writes = maintain_ledto (record s { maintain = maintain_next shape p s.maintain reply }) (maintain_ask shape p (maintain_next shape p s.maintain reply))
-keeping_next shape p s LoadsPhase reply granted writes = phase_ledto p s s.commit (phase_said reply) granted
-keeping_next shape p s Enters reply granted writes = enter_ledto (record s { enter = enter_next s.enter reply }) (enter_ask (enter_next s.enter reply))
-keeping_next shape p s Copies reply granted writes = copy_ledto (record s { copy = copy_driven s.copy reply }) (copy_asked (copy_driven s.copy reply))
-keeping_next shape p s Seeks reply granted writes = seek_ledto (record s { seek = seek_next s.seek reply }) (seek_ask (seek_next s.seek reply))
-keeping_next shape p s Waits reply granted writes = wait_ledto (record s { wait = wait_next s.wait reply }) (wait_ask (wait_next s.wait reply)) writes
-keeping_next shape p s Writes reply granted writes = s
-keeping_next shape p s Finishes reply granted writes = finish_ledto (record s { finish = finish_next s.finish reply }) (finish_ask s.seek.points (finish_next s.finish reply))
+-- Where the reply leads. Where a copy begins it goes by whether memory was granted for it.
+unfoldable pub keeping_next : Shape → Places → KeeperState → Keeping → ℕ → Bool → KeeperState
+keeping_next shape p s (Ended its) reply granted = s
+keeping_next shape p s Starts reply granted = start_ledto (record s { start = start_next s.start reply }) (start_ask (start_next s.start reply))
+keeping_next shape p s Maintains reply granted = maintain_ledto (record s { maintain = maintain_next shape p s.maintain reply }) (maintain_ask shape p (maintain_next shape p s.maintain reply))
+keeping_next shape p s LoadsPhase reply granted = phase_ledto p s s.commit (phase_said reply) granted
+keeping_next shape p s Enters reply granted = enter_ledto (record s { enter = enter_next s.enter reply }) (enter_ask (enter_next s.enter reply))
+keeping_next shape p s Copies reply granted = copy_ledto (record s { copy = copy_driven s.copy reply }) (copy_asked (copy_driven s.copy reply))
+keeping_next shape p s Seeks reply granted = seek_ledto (record s { seek = seek_next s.seek reply }) (seek_ask (seek_next s.seek reply))
+keeping_next shape p s Waits reply granted = wait_ledto shape (record s { wait = wait_next s.wait reply }) (wait_ask (wait_next s.wait reply))
+keeping_next shape p s Writes reply granted = s
+keeping_next shape p s Finishes reply granted = finish_ledto (record s { finish = finish_next s.finish reply }) (finish_ask s.seek.points (finish_next s.finish reply))
 
-abbrev pub keeper_next : Shape → Places → KeeperState → ℕ → Bool → CommitWriter → KeeperState
-keeper_next shape p s reply granted writes = keeping_next shape p s s.step reply granted writes
+abbrev pub keeper_next : Shape → Places → KeeperState → ℕ → Bool → KeeperState
+keeper_next shape p s reply granted = keeping_next shape p s s.step reply granted
 
 -- what the action of a claimed slot leads to
 unfoldable pub keeping_given : Shape → Places → KeeperState → Keeping → Action → KeeperState
@@ -338,7 +339,3 @@ keeping_called shape p s step done bytes = s
 
 abbrev pub keeper_called : Shape → Places → KeeperState → Bool → List ℕ → KeeperState
 keeper_called shape p s done bytes = keeping_called shape p s s.step done bytes
-
--- the writes that a reply begins
-abbrev pub AreWritesBegun : Shape → KeeperState → ℕ → CommitWriter → Type 0
-AreWritesBegun shape s reply writes = s.step ≡ Waits → IsFlushedNow (wait_ask (wait_next s.wait reply)) → AreWritesFor shape s s.commit writes

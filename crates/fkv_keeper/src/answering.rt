@@ -7,7 +7,7 @@ ghost use Rattle.fkv_epoch.specs.Claiming.{takes_action};
 ghost use Rattle.fkv_plane.specs.declared.asks.Ask.TheVariants.{Done};
 ghost use Rattle.fkv_plane.specs.Passing.{is_done};
 ghost use Rattle.fkv_keeper.specs.declared.answers.KeeperTold.TheVariants.{Device as AtDevice};
-ghost use Rattle.fkv_keeper.specs.Keeping.{commit_asked, turn_asked, keeper_ask, keeper_next, keeper_given, AreWritesBegun};
+ghost use Rattle.fkv_keeper.specs.Keeping.{commit_asked, turn_asked, keeper_ask, keeper_next, keeper_given};
 
 use crate::answers::{Finished, KeeperAsk, KeeperTold, Turn};
 use crate::keepers::Keeper;
@@ -41,8 +41,7 @@ impl Keeper {
 
     /// Goes on with the reply to its ask.
     pub fn drive(&mut self, reply: u64) -> KeeperAsk
-        ensures next { self.new ≡ record self.old { state = keeper_next self.old.shape self.old.places self.old.state reply self.new.state.is_granted self.new.state.writes } }
-        ensures writes { AreWritesBegun self.old.shape self.old.state reply self.new.state.writes }
+        ensures next { self.new ≡ record self.old { state = keeper_next self.old.shape self.old.places self.old.state reply self.new.state.is_granted } }
         ensures ask { IsAsked self.new.state.last (keeper_ask self.old.shape self.old.places self.new.state) result }
         ensures fewer { is_done (keeper_ask self.old.shape self.old.places self.old.state) ≡ false → takes_action (keeper_ask self.old.shape self.old.places self.old.state) ≡ false → keeper_asks_left self.old.shape self.old.places self.new.state < keeper_asks_left self.old.shape self.old.places self.old.state }
     {

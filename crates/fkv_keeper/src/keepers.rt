@@ -12,7 +12,7 @@ ghost use Rattle.fkv_keeper.specs.declared.answers.KeeperTold.TheVariants.{Devic
 ghost use Rattle.fkv_disk.specs.Device.{Elapses, HasCause, MakesCalls};
 ghost use Rattle.fkv_flush.specs.Devices.{Adds};
 ghost use Rattle.fkv_keeper.specs.KeeperAsks.{IsBusyWhereLeft, keeper_asks_left, most_begin_asks, most_turn_asks, keeper_calls, keeper_calls_asked, keeper_made, keeper_read};
-ghost use Rattle.fkv_keeper.specs.Keeping.{commit_asked, turn_asked, keeper_ask, keeper_next, keeper_given, keeper_called, turn_called, writes_called, AreWritesBegun};
+ghost use Rattle.fkv_keeper.specs.Keeping.{commit_asked, turn_asked, keeper_ask, keeper_next, keeper_given, keeper_called, turn_called, writes_called};
 ghost use Rattle.fkv_keeper.specs.declared.keepers.Keeping.TheVariants.{Ended};
 
 use crate::answers::KeeperTold;
@@ -178,8 +178,7 @@ impl Keeper {
     /// Goes on with the reply to its ask. At a call's end, and where it needs the device, it stays where it is.
     #[tactic(auto, using(fkv_commit::proofs::Shown::seek_keeps), unfolding(crate::specs::Keeping::keeping_next))]
     pub fn go_on(&mut self, reply: u64) -> Ask<KeeperTold>
-        ensures next { self.new ≡ record self.old { state = keeper_next self.old.shape self.old.places self.old.state reply self.new.state.is_granted self.new.state.writes } }
-        ensures writes { AreWritesBegun self.old.shape self.old.state reply self.new.state.writes }
+        ensures next { self.new ≡ record self.old { state = keeper_next self.old.shape self.old.places self.old.state reply self.new.state.is_granted } }
         ensures ask { result ≡ keeper_ask self.old.shape self.old.places self.new.state }
         ensures left { IsBusyWhereLeft (keeper_asks_left self.old.shape self.old.places self.new.state) result }
         ensures fewer { is_done (keeper_ask self.old.shape self.old.places self.old.state) ≡ false → takes_action (keeper_ask self.old.shape self.old.places self.old.state) ≡ false → keeper_asks_left self.old.shape self.old.places self.new.state < keeper_asks_left self.old.shape self.old.places self.old.state }

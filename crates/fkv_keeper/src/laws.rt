@@ -7,7 +7,7 @@ ghost use Rattle.fkv_keeper.specs.declared.answers.KeeperTold.TheVariants.{Turne
 ghost use Rattle.fkv_keeper.specs.declared.keepers.Keeping.TheVariants.{Ended, Finishes};
 ghost use Rattle.fkv_keeper.specs.Keeping.{KeeperState};
 ghost use Rattle.fkv_keeper.specs.KeeperLaws.{CopiesAgain, IsBrokenForGood, IsFinishOfBegun, IsMemoryRefused, IsWritten};
-ghost use Rattle.fkv_keeper.specs.KeeperRun.{AreWritesOfRun, IsOpened, KeeperEvent, has_failed, is_calling, keeper_run, number_open, writing};
+ghost use Rattle.fkv_keeper.specs.KeeperRun.{IsOpened, KeeperEvent, has_failed, is_calling, keeper_run, number_open, writing};
 
 /// Whatever turns and commits are begun, and whatever the replies, the actions and the answers of the device are: once a call of the
 /// device has failed, nothing is asked any more, and each turn and each commit is refused as broken. The durable words and rest are
@@ -15,18 +15,18 @@ ghost use Rattle.fkv_keeper.specs.KeeperRun.{AreWritesOfRun, IsOpened, KeeperEve
 /// nothing else changes, so the commit isn't copied still; the next turn keeps it up to its part for it, where the copy begins again. A commit that is told as finished has the number that was told as begun last,
 /// and no number is told as finished again without being told as begun again.
 pub fn law_of_the_keeper()
-    ensures broken { (shape : Shape) (p : Places) (opening : KeeperState) (events : List KeeperEvent) → IsOpened opening → AreWritesOfRun shape p opening events
+    ensures broken { (shape : Shape) (p : Places) (opening : KeeperState) (events : List KeeperEvent) → IsOpened opening
         → has_failed shape p opening events ≡ true
         → IsBrokenForGood shape p (keeper_run shape p opening events) }
-    ensures finished { (shape : Shape) (p : Places) (opening : KeeperState) (events : List KeeperEvent) → IsOpened opening → AreWritesOfRun shape p opening events
+    ensures finished { (shape : Shape) (p : Places) (opening : KeeperState) (events : List KeeperEvent) → IsOpened opening
         → (keeper_run shape p opening events).step ≡ Finishes
         → IsWritten shape (keeper_run shape p opening events) (writing shape p opening events) }
-    ensures memory { (shape : Shape) (p : Places) (opening : KeeperState) (events : List KeeperEvent) (event : KeeperEvent) → IsOpened opening → AreWritesOfRun shape p opening (event ∷ events)
+    ensures memory { (shape : Shape) (p : Places) (opening : KeeperState) (events : List KeeperEvent) (event : KeeperEvent) → IsOpened opening
         → is_calling (keeper_run shape p opening events).step event ≡ true
         → (keeper_run shape p opening (event ∷ events)).step ≡ Ended (TurnRefused Memory)
         → IsMemoryRefused (keeper_run shape p opening events) (keeper_run shape p opening (event ∷ events)) }
     ensures again { (shape : Shape) (p : Places) (s : KeeperState) → CopiesAgain shape p s }
-    ensures number { (shape : Shape) (p : Places) (opening : KeeperState) (events : List KeeperEvent) (event : KeeperEvent) (full : Bool) → IsOpened opening → AreWritesOfRun shape p opening (event ∷ events)
+    ensures number { (shape : Shape) (p : Places) (opening : KeeperState) (events : List KeeperEvent) (event : KeeperEvent) (full : Bool) → IsOpened opening
         → is_calling (keeper_run shape p opening events).step event ≡ true
         → (keeper_run shape p opening (event ∷ events)).step ≡ Ended (Turned true full)
         → IsFinishOfBegun (number_open shape p opening events) (keeper_run shape p opening events) (keeper_run shape p opening (event ∷ events)) }

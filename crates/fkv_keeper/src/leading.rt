@@ -2,7 +2,7 @@
 ghost use Rattle.std.specs.Prelude.{◌≡◌, true, None, Some};
 ghost use Rattle.fkv_manifest.specs.Committing.{commit_answer};
 ghost use Rattle.fkv_base.specs.declared.faults.Fault.TheVariants as fault;
-ghost use Rattle.fkv_keeper.specs.Keeping.{device_passed, end_told, write_asked, copy_asked, copy_driven, points_known, IsFlushedNow, AreWritesFor, ended, turned, turned_full, start_ledto, maintain_ledto, phase_ledto, part_begun, copies_next, copies, enter_ledto, copy_ledto, seek_ledto, wait_ledto, writes_begun, AreWritesOf, AreGateWritesOf, AreWritesBegun, write_ledto, finish_ledto, finished, checkpoint_used, triples_written, lost_left};
+ghost use Rattle.fkv_keeper.specs.Keeping.{device_passed, end_told, write_asked, copy_asked, copy_driven, points_known, ended, turned, turned_full, start_ledto, maintain_ledto, phase_ledto, part_begun, copies_next, copies, enter_ledto, copy_ledto, seek_ledto, wait_ledto, writes_begun, gate_writes_of, write_ledto, finish_ledto, finished, checkpoint_used, triples_written, lost_left};
 ghost use Rattle.fkv_keeper.specs.declared.answers.KeeperTold.TheVariants.{TurnRefused};
 
 use crate::answers::KeeperTold;
@@ -261,8 +261,7 @@ impl Keeper {
 
     #[tactic(auto, unfolding(crate::specs::Keeping::wait_ledto))]
     pub(crate) fn after_wait(&mut self, ask: Ask<WaitAnswer>)
-        ensures next { self.new ≡ record self.old { state = wait_ledto self.old.state ask self.new.state.writes } }
-        ensures writes { IsFlushedNow ask → AreWritesFor self.old.shape self.old.state self.old.state.commit self.new.state.writes }
+        ensures { self.new ≡ record self.old { state = wait_ledto self.old.shape self.old.state ask } }
     {
         if let Ask::Done(answer) = ask {
             match (answer, self.commit) {
@@ -274,8 +273,7 @@ impl Keeper {
 
     /// Begins to write the commit.
     fn writes(&mut self, commit: Commit)
-        ensures next { self.new ≡ record self.old { state = writes_begun self.old.state (Some commit) self.new.state.writes } }
-        ensures writes { AreWritesOf self.old.shape self.old.state commit self.new.state.writes }
+        ensures { self.new ≡ record self.old { state = writes_begun self.old.shape self.old.state (Some commit) } }
     {
         self.used = self.checkpoint_used(commit);
         let gate = self.gate_writes(commit);
@@ -287,7 +285,7 @@ impl Keeper {
 
     /// The writes of the commit's slot, for the checkpoint that it uses.
     fn gate_writes(&self, commit: Commit) -> GateWrites
-        ensures { AreGateWritesOf self.now.shape self.now.state commit self.now.state.used result }
+        ensures { result ≡ gate_writes_of self.now.shape self.now.state commit self.now.state.used }
     {
         let slot = slot_written(
             self.shape.sessions,

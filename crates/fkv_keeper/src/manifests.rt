@@ -1,15 +1,13 @@
 //! The slot that a commit writes.
 ghost use Rattle.std.specs.Prelude.{◌≡◌, ◌<◌, ◌≤◌, length, Some};
-ghost use Rattle.fkv_record.specs.Manifest.{manifest_bytes};
-ghost use Rattle.fkv_record.specs.declared.formats.Format.TheVariants.{Third};
 ghost use Rattle.fkv_base.specs.Limits.{max_sessions};
-ghost use Rattle.fkv_keeper.specs.LastCommits.{ArePointsOf, IsWritten, lost_written, point_written, slot_place};
+ghost use Rattle.fkv_keeper.specs.LastCommits.{lost_written, point_written, points_written, slot_place, slot_written};
 
 use crate::last_commits::Checkpoint;
 use arrayvec::ArrayVec;
 use fkv_base::{Addr, Serial, Version};
 use fkv_record::{
-    Format, LostRange, LostRanges, MAX_LOST, ManifestSlot, Points, SLOT_PLACES, write_manifest_slot,
+    LostRange, LostRanges, MAX_LOST, ManifestSlot, Points, SLOT_PLACES, write_newest_slot,
 };
 
 /// The bytes of the slot of a commit, in the newest format.
@@ -23,7 +21,7 @@ pub(crate) fn slot_written(
 ) -> [u8; 512]
     requires some_session { 0 < sessions }
     requires few_sessions { sessions ≤ max_sessions }
-    ensures { IsWritten sessions number end checkpoint.now points.now lost.now result }
+    ensures { result ≡ slot_written sessions number end checkpoint.now points.now lost.now }
 {
     let points = points_written(sessions, points);
     let lost = lost_written(lost);
@@ -39,15 +37,7 @@ pub(crate) fn slot_written(
         checkpoint: maker,
         lost,
     };
-    write_newest(&slot)
-}
-
-/// The bytes of the slot, in the newest format, which holds every slot.
-#[tactic(auto, unfolding(fkv_record::specs::Manifest::manifest_bytes))]
-fn write_newest(slot: &ManifestSlot) -> [u8; 512]
-    ensures { manifest_bytes (Third, slot.now) ≡ Some result }
-{
-    write_manifest_slot(slot, Format::Third).unwrap()
+    write_newest_slot(&slot)
 }
 
 /// A point for each session.
@@ -55,7 +45,7 @@ fn write_newest(slot: &ManifestSlot) -> [u8; 512]
 fn points_written(sessions: u64, points: &[Serial]) -> Points
     requires some_session { 0 < sessions }
     requires few_sessions { sessions ≤ max_sessions }
-    ensures { ArePointsOf sessions points.now result.serials.items }
+    ensures { result.serials.items ≡ points_written sessions points.now }
 {
     let mut serials = ArrayVec::new();
     for session in 0..sessions as usize {

@@ -1,6 +1,8 @@
 -- Which bytes spell a manifest slot in each format.
 use Rattle.std.specs.Prelude.{ℕ, List, [], ◌∷◌, ◌++◌, length, Bool, true, ◌&&◌, nat_le, ◌==◌, Option, Some, None, if◌then◌else◌, ◌≡◌, IsSome}
 use Rattle.std.specs.List.{flat_map}
+use Rattle.fkv_base.specs.declared.numbers.Addr.{Addr}
+use Rattle.fkv_base.specs.declared.numbers.Serial.{Serial}
 use Rattle.fkv_record.specs.declared.formats.Format.{Format}
 use Rattle.fkv_record.specs.declared.formats.Format.TheVariants.{First, Second, Third}
 use Rattle.fkv_record.specs.declared.lost_ranges.LostRange.{LostRange}
@@ -12,15 +14,36 @@ use Rattle.fkv_record.specs.Points.{serial_numbers}
 abbrev pub range_numbers : List LostRange → List ℕ
 range_numbers ranges = flat_map (λ range. range.to.0 ∷ range.version.0 ∷ []) ranges
 
+-- What a slot says, as plain numbers: its commit's number, where recovery's scan begins and the commit's log ends, how many triples in which area, the
+-- points, whose checkpoint it is, and the lost ranges.
+pub record SlotSaid : Type 0 where
+  pub number : ℕ
+  pub first : Addr
+  pub end : Addr
+  pub triples : ℕ
+  pub area : ℕ
+  pub points : List Serial
+  pub checkpoint : ℕ
+  pub lost : List LostRange
+
+abbrev pub said_in : ManifestSlot → SlotSaid
+said_in x = record { number = x.number; first = x.first; end = x.end; triples = x.triples; area = x.area; points = x.points.serials.items; checkpoint = x.checkpoint; lost = x.lost.ranges.items }
+
 -- What every format begins with. At byte 0 the gate, whose byte 165 says that the slot is open, and seven zero bytes; at 8 the
 -- number, at 16 the first address, at 24 the end, at 32 how many triples, at 40 their area, at 48 how many points, and from 56
 -- on the points.
+abbrev pub front_said : SlotSaid → List ℕ
+front_said s = 165 ∷ s.number ∷ s.first.0 ∷ s.end.0 ∷ s.triples ∷ s.area ∷ length s.points ∷ serial_numbers s.points
+
 abbrev pub front_numbers : ManifestSlot → List ℕ
-front_numbers x = 165 ∷ x.number ∷ x.first.0 ∷ x.end.0 ∷ x.triples ∷ x.area ∷ length x.points.serials.items ∷ serial_numbers x.points.serials.items
+front_numbers x = front_said (said_in x)
 
 -- what the later formats have behind the places of the points: whose checkpoint it is, how many lost ranges, and the ranges
+abbrev pub lost_said : SlotSaid → List ℕ
+lost_said s = s.checkpoint ∷ length s.lost ∷ range_numbers s.lost
+
 abbrev pub lost_numbers : ManifestSlot → List ℕ
-lost_numbers x = x.checkpoint ∷ length x.lost.ranges.items ∷ range_numbers x.lost.ranges.items
+lost_numbers x = lost_said (said_in x)
 
 -- Each layout has 64 numbers. The first format: zeros behind the points.
 unfoldable pub first_numbers : ManifestSlot → List ℕ
@@ -30,9 +53,16 @@ first_numbers x = padded 64 (front_numbers x)
 unfoldable pub second_numbers : ManifestSlot → List ℕ
 second_numbers x = padded 63 (padded 15 (front_numbers x) ++ lost_numbers x) ++ 2 ∷ []
 
--- the third: places for 32 points, at byte 312 (the 39th number) the checkpoint and the lost ranges, and at 504 the format
+-- the third, which is the newest: places for 32 points, at byte 312 (the 39th number) the checkpoint and the lost ranges, and at 504 the format
+abbrev pub newest_numbers : SlotSaid → List ℕ
+newest_numbers s = padded 63 (padded 39 (front_said s) ++ lost_said s) ++ 3 ∷ []
+
 unfoldable pub third_numbers : ManifestSlot → List ℕ
-third_numbers x = padded 63 (padded 39 (front_numbers x) ++ lost_numbers x) ++ 3 ∷ []
+third_numbers x = newest_numbers (said_in x)
+
+-- the bytes of a slot of the newest format that says this
+unfoldable pub newest_bytes : SlotSaid → List ℕ
+newest_bytes s = spelled (newest_numbers s)
 
 -- Which slots a format can hold: the first two have places for eight points, and a slot of the first names no lost range and
 -- no checkpoint but its own commit's.

@@ -2,7 +2,7 @@
 ghost use Rattle.std.specs.Prelude.{◌≡◌, ◌+◌, ◌*◌, ◌≤◌, ◌++◌, [], ◌∷◌, length, Some, IsTrue};
 ghost use Rattle.fkv_words.specs.Fields.{Reads};
 ghost use Rattle.fkv_record.specs.declared.formats.Format.TheVariants.{Third};
-ghost use Rattle.fkv_record.specs.Manifest.{is_held, layout, named_checkpoint, front_numbers, range_numbers, manifest_numbers, manifest_bytes};
+ghost use Rattle.fkv_record.specs.Manifest.{is_held, layout, named_checkpoint, front_numbers, range_numbers, manifest_numbers, manifest_bytes, newest_bytes, said_in};
 ghost use Rattle.fkv_record.specs.Numbers.{padded};
 ghost use Rattle.fkv_record.specs.Points.{serial_numbers};
 ghost use Rattle.fkv_record.specs.Sections.{checkpoint_of};
@@ -71,7 +71,8 @@ fn checkpoint_of(format: Format, own: u64, named: u64) -> u64
 
 /// The bytes of the slot in the newest format, the third, which can hold every slot.
 pub fn write_newest_slot(slot: &ManifestSlot) -> [u8; 512]
-    ensures { Some result ≡ manifest_bytes (Third, slot.now) }
+    ensures spelled { Some result ≡ manifest_bytes (Third, slot.now) }
+    ensures said { result ≡ newest_bytes (said_in slot.now) }
 {
     spell(&numbers_of(Format::Third, slot))
 }

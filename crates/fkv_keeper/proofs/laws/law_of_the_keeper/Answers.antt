@@ -3,16 +3,16 @@ use Rattle.fkv_keeper.proofs.KeeperRuns.{copy_again, run_broken, run_finished, r
 use Rattle.fkv_keeper.proofs.laws.law_of_the_keeper.Goals as goal
 
 pub returns-clause-broken : goal.returns-clause-broken
-returns-clause-broken c = λ shape p opening events opened right failed. run_broken shape p opening events opened right failed
+returns-clause-broken c = λ shape p opening events opened failed. run_broken shape p opening events opened failed
 
 pub returns-clause-finished : goal.returns-clause-finished
-returns-clause-finished c = λ shape p opening events opened right finishes. run_finished shape p opening events opened right finishes
+returns-clause-finished c = λ shape p opening events opened finishes. run_finished shape p opening events opened finishes
 
 pub returns-clause-memory : goal.returns-clause-memory
-returns-clause-memory c = λ shape p opening events event opened right calling ends. run_memory shape p opening events event opened right calling ends
+returns-clause-memory c = λ shape p opening events event opened calling ends. run_memory shape p opening events event opened calling ends
 
 pub returns-clause-number : goal.returns-clause-number
-returns-clause-number c = λ shape p opening events event full opened right calling ends. run_number shape p opening events event full opened right calling ends
+returns-clause-number c = λ shape p opening events event full opened calling ends. run_number shape p opening events event full opened calling ends
 
 pub returns-clause-again : goal.returns-clause-again
 returns-clause-again c = λ shape p s. copy_again shape p s

@@ -40,7 +40,7 @@ asks-preserved-in-Put c =
     record {
       shape = ap (λ (k : KeeperModel). k.shape) c.go_on.ensures.next ∙ c.asks.invariant.shape;
       places = ap (λ (k : KeeperModel). k.places) c.go_on.ensures.next ∙ c.asks.invariant.places;
-      begins = subst (λ (s : KeeperState). Begins c.begin_commit.new.self.state.commit s s.step) (sym next) (begins_next _ now.shape now.places now.state _ _ _ c.asks.invariant.begins (ap is_done (sym c.ask.ensures ∙ c.in-Put.is)));
+      begins = subst (λ (s : KeeperState). Begins c.begin_commit.new.self.state.commit s s.step) (sym next) (begins_next _ now.shape now.places now.state _ _ c.asks.invariant.begins (ap is_done (sym c.ask.ensures ∙ c.in-Put.is)));
     }
 
 pub asks-preserved : goal.asks-preserved
@@ -51,5 +51,5 @@ asks-preserved c =
     record {
       shape = ap (λ (k : KeeperModel). k.shape) c.go_on-in_default.ensures.next ∙ c.asks.invariant.shape;
       places = ap (λ (k : KeeperModel). k.places) c.go_on-in_default.ensures.next ∙ c.asks.invariant.places;
-      begins = subst (λ (s : KeeperState). Begins c.begin_commit.new.self.state.commit s s.step) (sym next) (begins_next _ now.shape now.places now.state _ _ _ c.asks.invariant.begins asks);
+      begins = subst (λ (s : KeeperState). Begins c.begin_commit.new.self.state.commit s s.step) (sym next) (begins_next _ now.shape now.places now.state _ _ c.asks.invariant.begins asks);
     }

@@ -11,7 +11,7 @@ unfolding keeping_next
 returns-clause-left c =
     let before = c.args.self.now in
     let after = c.match-self.self in
-    let next = keeper_next before.shape before.places before.state c.args.reply after.state.is_granted after.state.writes in
+    let next = keeper_next before.shape before.places before.state c.args.reply after.state.is_granted in
     let its : after ≡ record before { state = next } = search rules in
     let asked : c.ask.result ≡ keeper_ask before.shape before.places after.state = search rules in
     keeper_asked before.shape before.places after.state c.ask.result asked
@@ -21,7 +21,7 @@ unfolding keeping_next
 returns-clause-fewer c =
     let before = c.args.self.now in
     let after = c.match-self.self in
-    let its : after ≡ record before { state = keeper_next before.shape before.places before.state c.args.reply after.state.is_granted after.state.writes } = search rules in
+    let its : after ≡ record before { state = keeper_next before.shape before.places before.state c.args.reply after.state.is_granted } = search rules in
     let state = ap (λ (k : KeeperModel). k.state) its in
     λ asks takes. subst (λ (s : KeeperState). keeper_asks_left before.shape before.places s < keeper_asks_left before.shape before.places before.state) (sym state)
-    (keeper_fewer before.shape before.places before.state c.args.reply after.state.is_granted after.state.writes asks takes)
+    (keeper_fewer before.shape before.places before.state c.args.reply after.state.is_granted asks takes)

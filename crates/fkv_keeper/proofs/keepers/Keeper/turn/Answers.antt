@@ -52,7 +52,7 @@ asks-preserved-in-Put g c =
     record {
       shape = ap (λ (k : KeeperModel). k.shape) its ∙ c.asks.invariant.shape;
       places = ap (λ (k : KeeperModel). k.places) its ∙ c.asks.invariant.places;
-      runs = subst (λ (s : KeeperState). TurnRuns c.args.self.now.state s s.step) (sym (ap (λ (k : KeeperModel). k.state) its)) (runs_next c.args.self.now.state now.state now.shape now.places _ _ _ c.asks.invariant.runs (ap is_done (sym c.ask.ensures ∙ c.in-Put.is)));
+      runs = subst (λ (s : KeeperState). TurnRuns c.args.self.now.state s s.step) (sym (ap (λ (k : KeeperModel). k.state) its)) (runs_next c.args.self.now.state now.state now.shape now.places _ _ c.asks.invariant.runs (ap is_done (sym c.ask.ensures ∙ c.in-Put.is)));
       honest = c.asks.invariant.honest;
     }
 
@@ -64,6 +64,6 @@ asks-preserved g c =
     record {
       shape = ap (λ (k : KeeperModel). k.shape) its ∙ c.asks.invariant.shape;
       places = ap (λ (k : KeeperModel). k.places) its ∙ c.asks.invariant.places;
-      runs = subst (λ (s : KeeperState). TurnRuns c.args.self.now.state s s.step) (sym (ap (λ (k : KeeperModel). k.state) its)) (runs_next c.args.self.now.state now.state now.shape now.places _ _ _ c.asks.invariant.runs asks);
+      runs = subst (λ (s : KeeperState). TurnRuns c.args.self.now.state s s.step) (sym (ap (λ (k : KeeperModel). k.state) its)) (runs_next c.args.self.now.state now.state now.shape now.places _ _ c.asks.invariant.runs asks);
       honest = c.asks.invariant.honest;
     }
