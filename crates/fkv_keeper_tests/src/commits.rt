@@ -13,7 +13,7 @@ use std::alloc::Global;
 use std::test::Fail;
 
 /// The word of version 1 and of prepare.
-const PREPARE: u64 = 65537;
+pub(crate) const PREPARE: u64 = 65537;
 
 /// The word of version 2 and of in-progress.
 const IN_PROGRESS: u64 = 131074;
@@ -25,13 +25,13 @@ const WAIT_PENDING: u64 = 196610;
 const WAIT_FLUSH: u64 = 262146;
 
 /// The header of a record of version 1 that is the first of its home.
-const FIRST_HEADER: u64 = 281474976710656;
+pub(crate) const FIRST_HEADER: u64 = 281474976710656;
 
 /// The entry of key 1 whose newest record is the first; those of later records are as much greater as their addresses.
-const FIRST_ENTRY: u64 = 281474976710657;
+pub(crate) const FIRST_ENTRY: u64 = 281474976710657;
 
 /// What a new store's image holds: the shape, and the open slot of commit 0.
-const CREATED: [(usize, u8); 18] = [
+pub(crate) const CREATED: [(usize, u8); 18] = [
     (0, 70),
     (1, 75),
     (2, 86),
@@ -114,9 +114,9 @@ const LOG_COMMIT: [(usize, u8); 17] = [
 
 /// A store in memory.
 #[derive(Drop)]
-struct SmallStore {
-    plane: PlainWords,
-    keeper: Keeper,
+pub(crate) struct SmallStore {
+    pub(crate) plane: PlainWords,
+    pub(crate) keeper: Keeper,
 }
 
 fn small_shape() -> Result<Shape, Fault> {
@@ -127,7 +127,7 @@ fn store(plane: &mut PlainWords, word: SharedWord, number: u64) {
     plane.perform::<()>(&Ask::Store(word.place(), number));
 }
 
-fn store_own(plane: &mut PlainWords, word: SessionWord, number: u64) {
+pub(crate) fn store_own(plane: &mut PlainWords, word: SessionWord, number: u64) {
     plane.perform::<()>(&Ask::Store(word.place(0), number));
 }
 
@@ -187,7 +187,7 @@ fn first_commit() -> LastCommit {
 }
 
 /// A new store.
-fn new_store(alloc: Global) -> Result<SmallStore, Fault> {
+pub(crate) fn new_store(alloc: Global) -> Result<SmallStore, Fault> {
     let shape = small_shape()?;
     let plane = opened_words(alloc, &shape, 1, 1)?;
     let keeper = Keeper::new(alloc, shape, created_commit(), no_lost())?;
@@ -195,7 +195,7 @@ fn new_store(alloc: Global) -> Result<SmallStore, Fault> {
 }
 
 /// Writes the record of key 1 with this header and value at the tail, and makes it the entry of its home.
-fn append(plane: &mut PlainWords, header: u64, value: u64) {
+pub(crate) fn append(plane: &mut PlainWords, header: u64, value: u64) {
     let tail = plane.perform::<()>(&Ask::Add(SharedWord::Tail.place(), 1));
     let frame = 48 + tail as usize % 8 * 3;
     plane.perform::<()>(&Ask::Store(frame, header));
@@ -206,7 +206,11 @@ fn append(plane: &mut PlainWords, header: u64, value: u64) {
 }
 
 /// An image of so many bytes: zeros, and then the bytes at their places, those of later lists over those of earlier ones.
-fn image(alloc: Global, length: usize, lists: &[&[(usize, u8)]]) -> Result<Vec<u8>, Fault> {
+pub(crate) fn image(
+    alloc: Global,
+    length: usize,
+    lists: &[&[(usize, u8)]],
+) -> Result<Vec<u8>, Fault> {
     let mut bytes = vec![in alloc; 0u8; length]?;
     for list in lists {
         for (place, byte) in *list {
@@ -219,7 +223,7 @@ fn image(alloc: Global, length: usize, lists: &[&[(usize, u8)]]) -> Result<Vec<u
 }
 
 /// The session has seen the epoch and what was stored before it.
-fn sees(plane: &mut PlainWords) {
+pub(crate) fn sees(plane: &mut PlainWords) {
     let epoch = plane.word(SharedWord::Epoch.place());
     store_own(plane, SessionWord::Epoch, epoch);
 }
@@ -285,7 +289,7 @@ fn turned() -> KeeperAsk {
 }
 
 /// A commit of this number, with one point.
-fn finished(number: u64, point: u64) -> Option<Finished> {
+pub(crate) fn finished(number: u64, point: u64) -> Option<Finished> {
     let mut points = ArrayVec::new();
     let _ = points.try_push(Serial(point));
     Some(Finished {
@@ -325,11 +329,11 @@ fn waiting_store(alloc: Global, disk: &mut MemDisk) -> Result<SmallStore, Fault>
     Ok(own)
 }
 
-fn phase(own: &SmallStore) -> u64 {
+pub(crate) fn phase(own: &SmallStore) -> u64 {
     own.plane.word(SharedWord::Phase.place())
 }
 
-fn durable(own: &SmallStore) -> u64 {
+pub(crate) fn durable(own: &SmallStore) -> u64 {
     own.plane.word(SessionWord::Durable.place(0))
 }
 

@@ -6,3 +6,5 @@
 mod commits;
 #[cfg(test)]
 mod turns;
+#[cfg(test)]
+mod whole_calls;
