@@ -4,3 +4,4 @@ pub use Rattle.fkv_keeper.proofs.KeeperDevice.{keeper_asked_calls}
 pub use Rattle.fkv_keeper.proofs.KeeperFewer.{keeper_fewer, keeper_given_fewer, keeper_called_fewer, ended_none}
 pub use Rattle.fkv_keeper.proofs.KeeperLeft.{keeper_left}
 pub use Rattle.fkv_keeper.proofs.NewKeepers.{new_is_opened}
+pub use Rattle.fkv_keeper.proofs.WholeCalls.{run_joins}

@@ -233,3 +233,9 @@ none_taken (first ∷ rest) (suc slot) none = ap (λ (more : List (Option Action
 
 pub none_same : (plane plane' : Plane) (slot : ℕ) → action_at plane.actions slot ≡ None → plane' ≡ record plane { actions = slice_set plane.actions slot None } → plane' ≡ plane
 none_same plane plane' slot none after = after ∙ ap (λ (actions : List (Option Action)). record plane { actions = actions }) (none_taken plane.actions slot none)
+
+-- a call's answers come behind the events before it
+pub run_joins : (shape : Shape) (p : Places) (opening : KeeperState) (before events : List KeeperEvent) → keeper_run shape p (keeper_run shape p opening before) events ≡ keeper_run shape p opening (events ++ before)
+unfolding keeper_run
+run_joins shape p opening before [] = refl
+run_joins shape p opening before (event ∷ events) = ap (λ (s : KeeperState). keeper_happens shape p s event) (run_joins shape p opening before events)
