@@ -1,4 +1,5 @@
 mod BeginRun
+mod CheckpointMoves
 mod KeeperBegun
 mod KeeperDevice
 mod KeeperFewer
