@@ -1,5 +1,6 @@
 mod BeginRun
 mod CheckpointMoves
+mod CheckpointRuns
 mod KeeperBegun
 mod KeeperDevice
 mod KeeperFewer

@@ -1,5 +1,6 @@
 -- The law, by what one event does, and by what holds at every moment.
 use Rattle.fkv_keeper.proofs.CheckpointMoves.{each_move}
+use Rattle.fkv_keeper.proofs.CheckpointRuns.{IsSound}
 use Rattle.fkv_keeper.proofs.laws.law_of_checkpoints.Goals as goal
 
 pub returns-clause-copies : goal.returns-clause-copies
