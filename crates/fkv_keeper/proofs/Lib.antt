@@ -1,6 +1,7 @@
 mod BeginRun
 mod CheckpointMoves
 mod CheckpointRuns
+mod CheckpointWrites
 mod KeeperBegun
 mod KeeperDevice
 mod KeeperFewer

@@ -1,7 +1,13 @@
 -- The law, by what one event does, and by what holds at every moment.
 use Rattle.fkv_keeper.proofs.CheckpointMoves.{each_move}
-use Rattle.fkv_keeper.proofs.CheckpointRuns.{IsSound}
+use Rattle.fkv_keeper.proofs.CheckpointWrites.{run_holds, run_writes}
 use Rattle.fkv_keeper.proofs.laws.law_of_checkpoints.Goals as goal
+
+pub returns-clause-copied : goal.returns-clause-copied
+returns-clause-copied c = λ shape p opening events opened. run_holds shape p opening events opened
+
+pub returns-clause-writes : goal.returns-clause-writes
+returns-clause-writes c = λ shape p opening events event opened waits writes. run_writes shape p opening events event opened waits writes
 
 pub returns-clause-copies : goal.returns-clause-copies
 returns-clause-copies c = λ shape p s event. (each_move shape p s event).copies
