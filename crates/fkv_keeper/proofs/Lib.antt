@@ -1,5 +1,7 @@
 mod BeginRun
+mod CheckpointAsks
 mod CheckpointMoves
+mod CheckpointRanges
 mod CheckpointRuns
 mod CheckpointWrites
 mod KeeperBegun

@@ -1,7 +1,9 @@
 -- What holds of a keeper's commits at each moment of a run, and of each of its steps.
-use Rattle.std.specs.Prelude.{◌≡◌, ℕ, ⊤, ◌⊎◌, false, true, List, [], ◌∷◌, length, Option, Some, None}
+use Rattle.std.specs.Prelude.{◌≡◌, ◌≢◌, ℕ, ◌<◌, ⊤, ◌⊎◌, false, true, List, [], ◌∷◌, length, Option, Some, None}
+use Rattle.fkv_base.specs.Limits.{drain_slots}
 use Rattle.fkv_base.specs.declared.numbers.Addr.{Addr}
 use Rattle.fkv_base.specs.declared.numbers.Version.{Version}
+use Rattle.fkv_base.specs.declared.phases.Phase.{Phase}
 use Rattle.fkv_base.specs.declared.phases.Phase.TheVariants as phase
 use Rattle.fkv_base.specs.declared.shapes.Shape.{Shape}
 use Rattle.fkv_words.specs.declared.phase_words.PhaseSaid.{PhaseSaid}
@@ -9,8 +11,15 @@ use Rattle.fkv_words.specs.declared.phase_words.PhaseSaid.TheVariants.{Says}
 use Rattle.fkv_words.specs.PhaseWords.{phase_said}
 use Rattle.fkv_record.specs.Places.{area_place}
 use Rattle.fkv_plane.specs.declared.asks.Ask.{Ask}
-use Rattle.fkv_plane.specs.declared.asks.Ask.TheVariants.{Done}
+use Rattle.fkv_plane.specs.declared.actions.Action.TheVariants as act
+use Rattle.fkv_plane.specs.declared.asks.Ask.TheVariants.{Load, Store, Swap, Cas, Add, Max, Done}
 use Rattle.fkv_plane.specs.declared.places.Places.{Places}
+use Rattle.fkv_plane.specs.declared.places.SessionWord.TheVariants as own
+use Rattle.fkv_plane.specs.declared.places.SharedWord.TheVariants as one
+use Rattle.fkv_plane.specs.Asked.{asked_place}
+use Rattle.fkv_plane.specs.Places.{Name, Shared, Drain, Session, shared_place, session_place, place as place_of}
+use Rattle.fkv_epoch.specs.declared.claiming.Claiming.TheVariants as claim
+use Rattle.fkv_epoch.specs.Claiming.{phase_stored}
 use Rattle.fkv_checkpoint.specs.Copied.{copying_after, copied_after}
 use Rattle.fkv_checkpoint.specs.Copying.{Copier, copy_begun, copy_ask}
 use Rattle.fkv_checkpoint.specs.Triples.{all_bytes}
@@ -24,8 +33,10 @@ use Rattle.fkv_commit.specs.Starting.{start_ask}
 use Rattle.fkv_keeper.specs.declared.answers.KeeperTold.TheVariants.{Turned, Begun}
 use Rattle.fkv_keeper.specs.declared.keepers.Keeping.{Keeping}
 use Rattle.fkv_keeper.specs.declared.keepers.Keeping.TheVariants.{Ended, Starts, Maintains, LoadsPhase, Enters, Copies, Seeks, Waits, Writes, Finishes}
+use Rattle.fkv_maintain.specs.declared.maintaining.Maintaining.TheVariants.{Claims}
+use Rattle.fkv_maintain.specs.Maintaining.{MaintainState}
 use Rattle.fkv_keeper.specs.LastCommits.{other_area, area_number, gate_opened, slot_written}
-use Rattle.fkv_keeper.specs.Keeping.{KeeperState, lost_left}
+use Rattle.fkv_keeper.specs.Keeping.{KeeperState, lost_left, keeper_ask}
 use Rattle.fkv_keeper.specs.KeeperRun.{KeeperEvent, BeginsCommit, Replies, keeper_run}
 
 -- the replies to the copy that began last, the newest first
@@ -197,3 +208,74 @@ IsPhaseLoaded step event = ⊥
 pub record DoesOneThing (s : KeeperState) (event : KeeperEvent) (a : KeeperState) : Type 0 where
   pub follows : MayFollow s.step a.step
   pub once : IsPhaseLoaded s.step event → a.step ≡ LoadsPhase → ⊥
+
+-- Which words a step may change: no step but a finish changes a session's durable word, and of a session only what its mailbox tells.
+abbrev pub MayChange : Keeping → Name → Type 0
+MayChange Starts (Shared one.Epoch) = ⊤
+MayChange Starts (Drain slot) = slot < drain_slots
+MayChange Maintains (Shared one.Epoch) = ⊤
+MayChange Maintains (Shared one.SafeEpoch) = ⊤
+MayChange Maintains (Shared one.Limit) = ⊤
+MayChange Maintains (Shared one.ReadOnly) = ⊤
+MayChange Maintains (Shared one.SafeReadOnly) = ⊤
+MayChange Maintains (Shared one.Flushed) = ⊤
+MayChange Maintains (Shared one.Head) = ⊤
+MayChange Maintains (Shared one.Closed) = ⊤
+MayChange Maintains (Drain slot) = slot < drain_slots
+MayChange Maintains (Session session own.MailState) = ⊤
+MayChange Maintains (Session session own.MailHeader) = ⊤
+MayChange Maintains (Session session own.MailKey) = ⊤
+MayChange Maintains (Session session own.MailValue) = ⊤
+MayChange Enters (Shared one.Epoch) = ⊤
+MayChange Enters (Drain slot) = slot < drain_slots
+MayChange Seeks (Shared one.Epoch) = ⊤
+MayChange Seeks (Shared one.ReadOnly) = ⊤
+MayChange Seeks (Drain slot) = slot < drain_slots
+MayChange Finishes (Session session own.Durable) = ⊤
+MayChange step name = ⊥
+
+-- A turn stores the phase that an action says which it has claimed.
+pub record IsClaimed (s : MaintainState) (its : Phase) (version : Version) : Type 0 where
+  pub slot : ℕ
+  pub epoch : ℕ
+  pub safe : ℕ
+  pub claims : s.step ≡ Claims
+  pub runs : s.claiming ≡ claim.Runs slot epoch safe (act.Phase its version)
+
+-- which phases a step may store: prepare as a commit starts, wait-flush where its points are taken, rest as it is finished, and what is claimed
+abbrev pub MayStore : KeeperState → Keeping → Phase → Version → Type 0
+MayStore s Starts phase.Prepare version = ⊤
+MayStore s Maintains its version = IsClaimed s.maintain its version
+MayStore s Seeks phase.WaitFlush version = ⊤
+MayStore s Finishes phase.Rest version = ⊤
+MayStore s step its version = ⊥
+
+-- the place is that of such a word
+abbrev pub IsPlaceOf : (Name → Type 0) → Places → ℕ → Type 0
+IsPlaceOf words p place = (name : Name) × words name × (place ≡ place_of p name)
+
+-- the phase word becomes such a phase's
+abbrev pub IsPhaseStore : (Phase → Version → Type 0) → ℕ → ℕ → Type 0
+IsPhaseStore phases place new = (its : Phase) × (version : Version) × phases its version × (place ≡ shared_place one.Phase) × (new ≡ phase_stored its version)
+
+-- an ask changes one of these words, stores one of these phases, or changes no word
+abbrev pub ChangesOnly : {A : Type 0} → (Name → Type 0) → (Phase → Version → Type 0) → Places → Ask A → Type 0
+ChangesOnly words phases p (Store place new) = IsPlaceOf words p place ⊎ IsPhaseStore phases place new
+ChangesOnly words phases p (Swap place new) = IsPlaceOf words p place
+ChangesOnly words phases p (Cas place old new) = IsPlaceOf words p place
+ChangesOnly words phases p (Add place k) = IsPlaceOf words p place
+ChangesOnly words phases p (Max place k) = IsPlaceOf words p place
+ChangesOnly words phases p ask = ⊤
+
+-- What a keeper asks for changes only the words, and stores only the phases, of its step.
+abbrev pub ChangesItsWords : Shape → Places → KeeperState → Type 0
+ChangesItsWords shape p s = ChangesOnly (MayChange s.step) (MayStore s s.step) p (keeper_ask shape p s)
+
+-- an ask that may change a word is of another one
+abbrev pub SparesWord : {A : Type 0} → ℕ → Ask A → Type 0
+SparesWord word (Load place) = ⊤
+SparesWord word ask = asked_place ask ≢ Some word
+
+-- Outside of a finish no session's durable word is changed.
+abbrev pub SparesDurable : Shape → Places → KeeperState → Type 0
+SparesDurable shape p s = (session : ℕ) → s.step ≢ Finishes → SparesWord (session_place session own.Durable) (keeper_ask shape p s)
