@@ -1,5 +1,5 @@
 -- The drain slot of each machine inside the keeper is one of the eight, whatever the replies.
-use Rattle.std.proofs.Common.{◌≡◌, ℕ, ◌+◌, ◌<◌, List, refl, ap, sym, subst, arith, Bool, true, false}
+use Rattle.std.proofs.Common.{◌≡◌, ℕ, ◌+◌, ◌-◌, ◌/◌, ◌<◌, List, refl, ap, sym, subst, arith, Bool, true, false}
 use Rattle.std.specs.Prelude.{Option, Some, None, ⊤, nat_lt, nat_le, ◌==◌, if◌then◌else◌, length}
 use Rattle.std.proofs.lemmas.Bool.Decides.{nat_tests}
 use Rattle.fkv_base.specs.Limits.{drain_slots, last_version}
@@ -36,7 +36,9 @@ use Rattle.fkv_log.specs.declared.turning.Turning.{Turning}
 use Rattle.fkv_log.specs.declared.turning.Turning.TheVariants as turn
 use Rattle.fkv_log.specs.Moving.{Mover, move_begun, raise_led, arm_led, moving_next, move_next, move_next_ask}
 use Rattle.fkv_log.specs.Shifting.{ShiftState, shift_at, mutable_start, shift_led, shifting_next}
-use Rattle.fkv_log.specs.Turning.{TurnState, turn_at, turn_led, turning_next}
+use Rattle.fkv_log.specs.declared.turning.TurnForm.{TurnForm}
+use Rattle.fkv_log.specs.declared.turning.TurnForm.TheVariants.{Whole, OpensOnly}
+use Rattle.fkv_log.specs.Turning.{TurnState, turn_at, turn_led, turning_next, pages_wanted, frame_end, frame_taken}
 use Rattle.fkv_commit.specs.declared.deferring.DeferAnswer.{DeferAnswer}
 use Rattle.fkv_commit.specs.declared.deferring.DeferAnswer.TheVariants as deferred
 use Rattle.fkv_commit.specs.declared.deferring.Deferred.{Deferred}
@@ -169,3 +171,62 @@ unfolding turn_led
 turn_led_in m (Done its) fits = tt
 turn_led_in m ask fits = fits
 
+either_turning : (b : Bool) (x y : Turning) (m : Mover) → IsTurnIn x m → IsTurnIn y m → IsTurnIn (if b then x else y) m
+either_turning true x y m one other = one
+either_turning false x y m one other = other
+
+either_turn : (b : Bool) (x y : TurnState) → IsTurnedIn x → IsTurnedIn y → IsTurnedIn (if b then x else y)
+either_turn true x y one other = one
+either_turn false x y one other = other
+
+frame_in : (form : TurnForm) (end : ℕ) (m : Mover) → IsTurnIn (frame_taken form end) m
+frame_in Whole end m = tt
+frame_in OpensOnly end m = tt
+
+pub turn_in : (shape : Shape) (step : Turning) (m : Mover) (reply : ℕ) → IsTurnIn step m → IsTurnedIn (turning_next shape step m reply)
+unfolding turning_next
+turn_in shape turn.AtRest m reply fits = tt
+turn_in shape (turn.LoadsLimit form tail) m reply fits = either_turning (nat_lt (reply / shape.page) (pages_wanted shape tail)) _ _ m tt tt
+turn_in shape (turn.LoadsClosed form limit) m reply fits = either_turning (nat_le (frame_end shape limit) reply) _ _ m tt (frame_in form (frame_end shape limit) m)
+turn_in shape (turn.RaisesLimit limit) m reply fits = tt
+turn_in shape (turn.LoadsHead end) m reply fits = either_turning (nat_lt reply end) _ _ m tt tt
+turn_in shape (turn.LoadsFlushed end) m reply fits = either_turn (nat_le end reply) _ _ tt tt
+turn_in shape turn.Moves m reply fits = turn_led_in (move_next m reply) (move_next_ask m reply) (move_in m reply fits)
+
+-- the claims
+either_claim : (b : Bool) (x y : Claiming) → IsClaimInRange x → IsClaimInRange y → IsClaimInRange (if b then x else y)
+either_claim true x y one other = one
+either_claim false x y one other = other
+
+after_where : (slot : ℕ) (safe : Option ℕ) (b : Bool) → nat_lt (slot + 1) drain_slots ≡ b → IsClaimInRange (if b then claim.MeetsSlot (slot + 1) safe else claim.AtRest)
+after_where slot safe true e = let below : slot + 1 < drain_slots = grind (arith, nat_tests, e) in below
+after_where slot safe false e = tt
+
+after_in : (slot : ℕ) (safe : Option ℕ) → IsClaimInRange (slot_after slot safe)
+unfolding slot_after
+after_in slot safe = after_where slot safe (nat_lt (slot + 1) drain_slots) refl
+
+armed_slot_in : (slot word safe : ℕ) → slot < drain_slots → IsClaimInRange (slot_armed slot word safe)
+unfolding slot_armed
+armed_slot_in slot word safe fits = either_claim (nat_le (word - 2) safe) _ _ fits (after_in slot (Some safe))
+
+pub claim_in : (m : Claiming) (reply : ℕ) → IsClaimInRange m → IsClaimInRange (claim_next m reply)
+unfolding claim_next
+claim_in claim.AtRest reply fits = tt
+claim_in (claim.MeetsSlot slot None) reply fits = either_claim (nat_lt reply 2) _ _ (after_in slot None) fits
+claim_in (claim.MeetsSlot slot (Some safe)) reply fits = either_claim (nat_lt reply 2) _ _ (after_in slot (Some safe)) (armed_slot_in slot reply safe fits)
+claim_in (claim.LoadsSafe slot word) reply fits = armed_slot_in slot word reply fits
+claim_in (claim.TakesSlot slot word safe) reply fits = either_claim (reply == word) _ _ fits (after_in slot (Some safe))
+claim_in (claim.Receives slot epoch safe) reply fits = fits
+claim_in (claim.Runs slot epoch safe action) reply fits = fits
+claim_in (claim.FreesSlot slot safe) reply fits = after_in slot (Some safe)
+
+pub given_in : (m : Claiming) (action : Action) → IsClaimInRange m → IsClaimInRange (claim_given m action)
+unfolding claim_given
+given_in (claim.Receives slot epoch safe) action fits = fits
+given_in claim.AtRest action fits = tt
+given_in (claim.MeetsSlot slot safe) action fits = fits
+given_in (claim.LoadsSafe slot word) action fits = fits
+given_in (claim.TakesSlot slot word safe) action fits = fits
+given_in (claim.Runs slot epoch safe other) action fits = fits
+given_in (claim.FreesSlot slot safe) action fits = fits

@@ -1,8 +1,11 @@
 mod BeginRun
 mod CheckpointAsks
 mod CheckpointMoves
+mod CheckpointParts
 mod CheckpointRanges
 mod CheckpointRuns
+mod CheckpointStores
+mod CheckpointTurns
 mod CheckpointWrites
 mod KeeperBegun
 mod KeeperDevice

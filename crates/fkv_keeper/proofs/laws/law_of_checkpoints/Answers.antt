@@ -1,6 +1,7 @@
 -- The law, by what one event does, and by what holds at every moment.
 use Rattle.fkv_keeper.proofs.CheckpointAsks.{serve_changes}
-use Rattle.fkv_keeper.proofs.CheckpointRanges.{shift_in}
+use Rattle.fkv_keeper.proofs.CheckpointStores.{run_stores}
+use Rattle.fkv_keeper.proofs.CheckpointRanges.{claim_in}
 use Rattle.fkv_keeper.proofs.CheckpointMoves.{each_move}
 use Rattle.fkv_keeper.proofs.CheckpointWrites.{run_holds, run_writes}
 use Rattle.fkv_keeper.proofs.laws.law_of_checkpoints.Goals as goal
