@@ -10,9 +10,12 @@ use Rattle.fkv_base.specs.declared.shapes.Shape.{Shape}
 use Rattle.fkv_plane.specs.declared.asks.Ask.{Ask}
 use Rattle.fkv_plane.specs.declared.asks.Ask.TheVariants.{Load, Store, Swap, Cas, Add, Max, Put, Take, Done}
 use Rattle.fkv_plane.specs.declared.places.Places.{Places}
+use Rattle.fkv_plane.specs.declared.places.RecordWord.{RecordWord}
+use Rattle.fkv_plane.specs.declared.places.SessionWord.{SessionWord}
 use Rattle.fkv_plane.specs.declared.places.SessionWord.TheVariants as own
+use Rattle.fkv_plane.specs.declared.places.SharedWord.{SharedWord}
 use Rattle.fkv_plane.specs.declared.places.SharedWord.TheVariants as one
-use Rattle.fkv_plane.specs.Places.{Name, Shared, Drain, Session, shared_place, session_place, place as place_of}
+use Rattle.fkv_plane.specs.Places.{Name, Shared, Drain, Session, Bucket, Overflow, Record, shared_place, session_place, place as place_of}
 use Rattle.fkv_checkpoint.specs.declared.copying.CopyStep.{CopyStep}
 use Rattle.fkv_checkpoint.specs.declared.copying.CopyStep.TheVariants as copy
 use Rattle.fkv_checkpoint.specs.Copying.{Copier, copy_step_ask}
@@ -181,3 +184,75 @@ low_not place session low e = omega (arith, low, e)
 
 mail_not : (other number session : ℕ) → 5 ≤ number → number < 16 → 24 + 16 * other + number ≡ session_place session own.Durable → ⊥
 mail_not other number session from to e = omega (arith, from, to, e)
+
+shared_low : (word : SharedWord) → shared_place word < 24
+shared_low one.Epoch = omega arith
+shared_low one.SafeEpoch = omega arith
+shared_low one.Phase = omega arith
+shared_low one.Tail = omega arith
+shared_low one.Limit = omega arith
+shared_low one.ReadOnly = omega arith
+shared_low one.SafeReadOnly = omega arith
+shared_low one.Flushed = omega arith
+shared_low one.Head = omega arith
+shared_low one.Closed = omega arith
+shared_low one.Taken = omega arith
+
+drain_fits : (step : Keeping) (slot : ℕ) → MayChange step (Drain slot) → slot < drain_slots
+drain_fits Starts slot its = its
+drain_fits Maintains slot its = its
+drain_fits Enters slot its = its
+drain_fits Seeks slot its = its
+drain_fits step slot its = absurd its
+
+drain_low : (slot : ℕ) → slot < drain_slots → 16 + slot < 24
+drain_low slot fits = omega (arith, fits)
+
+session_not : (step : Keeping) (other : ℕ) (word : SessionWord) (session : ℕ) → step ≢ Finishes → MayChange step (Session other word) → session_place other word ≡ session_place session own.Durable → ⊥
+session_not Maintains other own.MailState session unfinished its e = mail_not other 5 session (omega arith) (omega arith) e
+session_not Maintains other own.MailHeader session unfinished its e = mail_not other 7 session (omega arith) (omega arith) e
+session_not Maintains other own.MailKey session unfinished its e = mail_not other 8 session (omega arith) (omega arith) e
+session_not Maintains other own.MailValue session unfinished its e = mail_not other 9 session (omega arith) (omega arith) e
+session_not Finishes other word session unfinished its e = absurd (unfinished refl)
+session_not step other word session unfinished its e = absurd its
+
+no_bucket : (step : Keeping) (bucket word : ℕ) → MayChange step (Bucket bucket word) → ⊥
+no_bucket (Ended told) bucket word its = its
+no_bucket step bucket word its = its
+
+no_overflow : (step : Keeping) (number word : ℕ) → MayChange step (Overflow number word) → ⊥
+no_overflow (Ended told) number word its = its
+no_overflow step number word its = its
+
+no_record : (step : Keeping) (index : ℕ) (word : RecordWord) → MayChange step (Record index word) → ⊥
+no_record (Ended told) index word its = its
+no_record step index word its = its
+
+name_not : (p : Places) (step : Keeping) (name : Name) (session : ℕ) → step ≢ Finishes → MayChange step name → place_of p name ≡ session_place session own.Durable → ⊥
+name_not p step (Shared word) session unfinished its e = low_not (shared_place word) session (shared_low word) e
+name_not p step (Drain slot) session unfinished its e = low_not (16 + slot) session (drain_low slot (drain_fits step slot its)) e
+name_not p step (Session other word) session unfinished its e = session_not step other word session unfinished its e
+name_not p step (Bucket bucket word) session unfinished its e = no_bucket step bucket word its
+name_not p step (Overflow number word) session unfinished its e = no_overflow step number word its
+name_not p step (Record index word) session unfinished its e = no_record step index word its
+
+same_place : (place word : ℕ) → Some place ≡ Some word → place ≡ word
+same_place place word e = cc
+
+spares : (words : Name → Type 0) (phases : Phase → Version → Type 0) (p : Places) (word : ℕ) (ask : Ask KeeperTold) → ((name : Name) → words name → place_of p name ≡ word → ⊥) → (shared_place one.Phase ≡ word → ⊥) → ChangesOnly words phases p ask → SparesWord word ask
+spares words phases p word (Load place) others phase_not its = tt
+spares words phases p word (Store place new) others phase_not (inl found) = λ e. others found.0 found.1 (sym found.2 ∙ same_place place word e)
+spares words phases p word (Store place new) others phase_not (inr stored) = λ e. phase_not (sym stored.3 ∙ same_place place word e)
+spares words phases p word (Swap place new) others phase_not found = λ e. others found.0 found.1 (sym found.2 ∙ same_place place word e)
+spares words phases p word (Cas place old new) others phase_not found = λ e. others found.0 found.1 (sym found.2 ∙ same_place place word e)
+spares words phases p word (Add place k) others phase_not found = λ e. others found.0 found.1 (sym found.2 ∙ same_place place word e)
+spares words phases p word (Max place k) others phase_not found = λ e. others found.0 found.1 (sym found.2 ∙ same_place place word e)
+spares words phases p word (Put slot action) others phase_not its = λ e. cc
+spares words phases p word (Take slot) others phase_not its = λ e. cc
+spares words phases p word (Done told) others phase_not its = λ e. cc
+
+pub run_spares : (shape : Shape) (p : Places) (opening : KeeperState) (events : List KeeperEvent) → IsOpened opening → SparesDurable shape p (keeper_run shape p opening events)
+run_spares shape p opening events opened = λ session unfinished.
+    let s = keeper_run shape p opening events in
+    spares (MayChange s.step) (MayStore s s.step) p (session_place session own.Durable) (keeper_ask shape p s)
+    (λ name its e. name_not p s.step name session unfinished its e) (λ e. low_not (shared_place one.Phase) session (shared_low one.Phase) e) (run_stores shape p opening events opened)

@@ -6,7 +6,7 @@ ghost use Rattle.fkv_plane.specs.declared.places.Places.{Places};
 ghost use Rattle.fkv_keeper.specs.declared.answers.KeeperTold.TheVariants.{Turned, TurnRefused};
 ghost use Rattle.fkv_keeper.specs.declared.keepers.Keeping.TheVariants.{Ended, Finishes};
 ghost use Rattle.fkv_keeper.specs.declared.keepers.Keeping.TheVariants.{Waits, Writes};
-ghost use Rattle.fkv_keeper.specs.CheckpointLaws.{AreWritesBegun, CopiesOnce, DoesOneThing, HoldsCopy, KeepsLists, begun_with, copy_replies};
+ghost use Rattle.fkv_keeper.specs.CheckpointLaws.{AreWritesBegun, ChangesItsWords, CopiesOnce, DoesOneThing, HoldsCopy, KeepsLists, SparesDurable, begun_with, copy_replies};
 ghost use Rattle.fkv_keeper.specs.Keeping.{KeeperState};
 ghost use Rattle.fkv_keeper.specs.KeeperLaws.{CopiesAgain, IsBrokenForGood, IsFinishOfBegun, IsMemoryRefused, IsWritten};
 ghost use Rattle.fkv_keeper.specs.KeeperRun.{IsOpened, KeeperEvent, has_failed, is_calling, keeper_happens, keeper_run, number_open, writing};
@@ -40,7 +40,8 @@ pub fn law_of_the_keeper()
 /// that the newest finished commit's checkpoint doesn't use; a log commit uses that checkpoint and names the first eight lost ranges in
 /// hand. At each step: a copy begins only where the phase says so and a commit in hand isn't copied, and once copied it is so until it
 /// is finished; the newest finished commit and the lost ranges change at its finish alone; and in a turn at most one thing is done for
-/// the commit in hand.
+/// the commit in hand. A step changes no words but its own: the durable words and rest are stored by a finish alone, but that a turn
+/// stores the phase that an action says which it has claimed.
 pub fn law_of_checkpoints()
     ensures copied { (shape : Shape) (p : Places) (opening : KeeperState) (events : List KeeperEvent) → IsOpened opening
         → HoldsCopy p (copy_replies shape p opening events) (keeper_run shape p opening events) }
@@ -51,4 +52,8 @@ pub fn law_of_checkpoints()
     ensures copies { (shape : Shape) (p : Places) (s : KeeperState) (event : KeeperEvent) → CopiesOnce p s event (keeper_happens shape p s event) }
     ensures lists { (shape : Shape) (p : Places) (s : KeeperState) (event : KeeperEvent) → KeepsLists s (keeper_happens shape p s event) }
     ensures parts { (shape : Shape) (p : Places) (s : KeeperState) (event : KeeperEvent) → DoesOneThing s event (keeper_happens shape p s event) }
+    ensures stores { (shape : Shape) (p : Places) (opening : KeeperState) (events : List KeeperEvent) → IsOpened opening
+        → ChangesItsWords shape p (keeper_run shape p opening events) }
+    ensures durable { (shape : Shape) (p : Places) (opening : KeeperState) (events : List KeeperEvent) → IsOpened opening
+        → SparesDurable shape p (keeper_run shape p opening events) }
 {}

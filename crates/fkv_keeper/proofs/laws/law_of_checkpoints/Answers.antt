@@ -1,8 +1,6 @@
 -- The law, by what one event does, and by what holds at every moment.
-use Rattle.fkv_keeper.proofs.CheckpointAsks.{serve_changes}
-use Rattle.fkv_keeper.proofs.CheckpointStores.{run_stores}
-use Rattle.fkv_keeper.proofs.CheckpointRanges.{claim_in}
 use Rattle.fkv_keeper.proofs.CheckpointMoves.{each_move}
+use Rattle.fkv_keeper.proofs.CheckpointStores.{run_spares, run_stores}
 use Rattle.fkv_keeper.proofs.CheckpointWrites.{run_holds, run_writes}
 use Rattle.fkv_keeper.proofs.laws.law_of_checkpoints.Goals as goal
 
@@ -20,3 +18,9 @@ returns-clause-lists c = λ shape p s event. (each_move shape p s event).lists
 
 pub returns-clause-parts : goal.returns-clause-parts
 returns-clause-parts c = λ shape p s event. (each_move shape p s event).one
+
+pub returns-clause-stores : goal.returns-clause-stores
+returns-clause-stores c = λ shape p opening events opened. run_stores shape p opening events opened
+
+pub returns-clause-durable : goal.returns-clause-durable
+returns-clause-durable c = λ shape p opening events opened. run_spares shape p opening events opened
