@@ -1,5 +1,5 @@
 -- A machine asks for something just where asks are left to it, and each reply leaves fewer.
-use Rattle.std.proofs.Common.{◌≡◌, ℕ, zero, suc, ◌+◌, ◌<◌, ◌≤◌, ◌∙◌, refl, sym, arith, Bool, true, false}
+use Rattle.std.proofs.Common.{◌≡◌, ℕ, ◌+◌, ◌<◌, ◌≤◌, refl, arith, Bool, true, false}
 use Rattle.std.specs.Prelude.{◌==◌, nat_lt, nat_le, if◌then◌else◌}
 use Rattle.fkv_base.specs.Limits.{drain_slots, last_epoch}
 use Rattle.fkv_plane.specs.declared.asks.Ask.{Ask}

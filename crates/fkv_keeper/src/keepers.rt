@@ -18,7 +18,6 @@ ghost use Rattle.fkv_keeper.specs.declared.keepers.Keeping.TheVariants.{Ended};
 use crate::answers::KeeperTold;
 use crate::last_commits::{Checkpoint, LastCommit};
 use crate::leading::{copy_driven, device_passed, end_told, write_asked};
-use fkv_maintain::Maintain;
 use arrayvec::ArrayVec;
 use fkv_base::{Fault, Shape};
 use fkv_checkpoint::IndexCopy;
@@ -26,6 +25,7 @@ use fkv_commit::{
     Commit, CommitKind, EnterWaitPending, FinishCommit, SeekPoints, StartCommit, WaitFlush,
 };
 use fkv_disk::Device;
+use fkv_maintain::Maintain;
 use fkv_manifest::{CommitWrites, GateWrites};
 use fkv_plane::{Action, Ask, Places, SharedWord, passed};
 use fkv_record::LostRange;

@@ -8,13 +8,13 @@ ghost use Rattle.fkv_keeper.specs.declared.answers.KeeperTold.TheVariants.{TurnR
 use crate::answers::KeeperTold;
 use crate::keepers::{Keeper, Keeping};
 use crate::last_commits::Checkpoint;
-use fkv_maintain::MaintainAnswer;
 use crate::manifests::{slot_place, slot_written};
 use fkv_base::{Addr, Fault, Phase};
 use fkv_checkpoint::IndexCopy;
 use fkv_commit::{
     Commit, CommitKind, EnterAnswer, FinishAnswer, SeekAnswer, StartAnswer, WaitAnswer,
 };
+use fkv_maintain::MaintainAnswer;
 use fkv_manifest::{CommitWrites, GateWrites, WriteAnswer};
 use fkv_plane::{Ask, passed};
 use fkv_record::{LostRange, area_place};

@@ -1,6 +1,6 @@
 -- A turn of the keeper asks or calls the device just where it has some left, and each reply, action and call leaves fewer.
 use Rattle.std.proofs.Common.{◌≡◌, ℕ, ◌+◌, ◌-◌, ◌*◌, ◌<◌, ◌≤◌, ◌∙◌, refl, sym, ap, arith, List, [], Bool, true, false}
-use Rattle.std.specs.Prelude.{zero, suc, if◌then◌else◌, None}
+use Rattle.std.specs.Prelude.{if◌then◌else◌, None}
 use Rattle.fkv_base.specs.Limits.{min_page, max_page, drain_slots}
 use Rattle.fkv_base.specs.declared.numbers.Addr.{Addr}
 use Rattle.fkv_base.specs.declared.shapes.Shape.{Shape}

@@ -5,7 +5,6 @@ use Rattle.std.proofs.lemmas.Bool.Decides.{nat_tests}
 use Rattle.fkv_plane.specs.declared.asks.Ask.{Ask}
 use Rattle.fkv_plane.specs.declared.asks.Ask.TheVariants.{Add, Done}
 use Rattle.fkv_plane.specs.Passing.{passed}
-use Rattle.fkv_latch.specs.declared.latching.LatchAnswer.{LatchAnswer}
 use Rattle.fkv_latch.specs.declared.latching.LatchAnswer.TheVariants.{Taken}
 use Rattle.fkv_latch.specs.declared.latching.Latching.{Latching}
 use Rattle.fkv_latch.specs.declared.latching.Latching.TheVariants as latching
@@ -19,7 +18,7 @@ use Rattle.fkv_ops.specs.TryRun.{Trial, Told}
 use Rattle.fkv_ops.specs.Reasons.{latch_place}
 use Rattle.fkv_ops.specs.Walking.{walk_ask}
 use Rattle.fkv_ops.specs.Appending.{append_ask}
-use Rattle.fkv_ops.proofs.TryRows.{norm, ShareRow, AloneRow, TryRow}
+use Rattle.fkv_ops.proofs.TryRows.{ShareRow, AloneRow, TryRow}
 use Rattle.fkv_ops.proofs.Effected.{anything}
 use Rattle.fkv_ops.proofs.Balances.{IsApart, walk_apart, loads_apart, append_apart}
 use Rattle.fkv_ops.proofs.LatchShares.{IsTrying, AddsThere, adds_there}

@@ -1,18 +1,16 @@
 -- A share that has met bit 63 is given back by the session's next ask.
-use Rattle.std.proofs.Common.{◌≡◌, ℕ, ◌-◌, ◌^◌, refl, arith, sym, ap, ◌∙◌, subst, Bool, true, false, List, [], ◌∷◌}
+use Rattle.std.proofs.Common.{◌≡◌, ℕ, ◌-◌, ◌^◌, refl, arith, ap, ◌∙◌, subst, Bool, true, false, List, ◌∷◌}
 use Rattle.std.specs.Prelude.{◌==◌, if◌then◌else◌, None}
-use Rattle.fkv_map.specs.declared.operations.Op.{Op}
 use Rattle.fkv_plane.specs.declared.asks.Ask.{Ask}
 use Rattle.fkv_plane.specs.declared.asks.Ask.TheVariants.{Add, Done}
 use Rattle.fkv_plane.specs.Passing.{passed}
 use Rattle.fkv_latch.specs.Latching.{one_share, is_exclusive}
 use Rattle.fkv_ops.specs.declared.answers.TryAnswer.{TryAnswer}
 use Rattle.fkv_ops.specs.declared.answers.TryAnswer.TheVariants as answer
-use Rattle.fkv_ops.specs.Trying.{TryState, try_ask, try_next}
+use Rattle.fkv_ops.specs.Trying.{try_ask, try_next}
 use Rattle.fkv_ops.proofs.Shown.{given_back}
 use Rattle.fkv_pending.specs.declared.attempting.Attempting.{Attempting}
 use Rattle.fkv_pending.specs.declared.attempting.Attempting.TheVariants.{Ended, Looks, Tries, Puts}
-use Rattle.fkv_pending.specs.Mailing.{mail_ask}
 use Rattle.fkv_pending.specs.Attempting.{AttemptState, try_ledto, try_moved, attempting_ask, attempt_ask, attempting_next, attempt_next}
 use Rattle.fkv_latch.specs.declared.latching.LatchAnswer.TheVariants.{Taken}
 use Rattle.fkv_latch.specs.declared.latching.Latching.{Latching}
@@ -30,8 +28,8 @@ use Rattle.fkv_session.specs.SessionRun.{SessionEvent, Replies, session_happens,
 use Rattle.fkv_session.specs.Sessions.{SessionState, Seat, IsOpened, bits_of, room_of, attempt_ledto, catch_ledto, poll_ledto, attempt_moved, caught, sitting_ask, session_ask, sitting_next, asks_after, is_word_ask}
 use Rattle.fkv_session.proofs.CatchShares.{LatchesSo, KnowsCatch}
 use Rattle.fkv_session.proofs.Shared.{Book, StepShares, book_of, run_shares}
-use Rattle.fkv_session.specs.Shares.{HasItsBuckets, added_by}
-use Rattle.fkv_session.proofs.AttemptShares.{IsTryOf, KnowsShare, trial_at}
+use Rattle.fkv_session.specs.Shares.{HasItsBuckets}
+use Rattle.fkv_session.proofs.AttemptShares.{KnowsShare, trial_at}
 use Rattle.fkv_session.proofs.SharesSpared.{SharesNone, passed_none, mail_none, refresh_none, protect_none, leave_none, own_turn_none}
 
 passed_add : {A B : Type 0} (ask : Ask A) (its : B) (place number : ℕ) → passed ask its ≡ Add place number → ask ≡ Add place number

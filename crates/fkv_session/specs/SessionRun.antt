@@ -1,6 +1,5 @@
 -- A session's run: calls that it begins, replies and actions that it gets, in any order, and what it tells.
-use Rattle.std.specs.Prelude.{◌≡◌, ℕ, ◌≤◌, if◌then◌else◌, Bool, true, false, List, [], ◌∷◌}
-use Rattle.fkv_base.specs.Limits.{last_serial}
+use Rattle.std.specs.Prelude.{ℕ, if◌then◌else◌, Bool, true, false, List, [], ◌∷◌}
 use Rattle.fkv_map.specs.declared.operations.Call.{Call}
 use Rattle.fkv_plane.specs.declared.actions.Action.{Action}
 use Rattle.fkv_session.specs.declared.answers.Finished.{Finished}

@@ -11,8 +11,8 @@ invariant_of-result c = record {
   some_session = omega (arith, many, c.loop-session-test.false, c.requires.some_session);
   few_sessions = omega (arith, many, within, c.requires.few_sessions);
   serials_fit = λ k d low.
-    let at = ap (λ l. slice_index_or l k d) c.loop-session.invariant.so_far ∙ get_or-map-range_with_len (λ session. point_written c.args.points.now session) 0 c.loop-session.session k k d (omega (arith, many, low)) (omega arith) in
-    subst (λ (x : Serial). x.0 ≤ last_serial) (sym at) (omega arith);
+      let at = ap (λ l. slice_index_or l k d) c.loop-session.invariant.so_far ∙ get_or-map-range_with_len (λ session. point_written c.args.points.now session) 0 c.loop-session.session k k d (omega (arith, many, low)) (omega arith) in
+      subst (λ (x : Serial). x.0 ≤ last_serial) (sym at) (omega arith);
 }
   where
     many : length c.loop-session.serials.items ≡ c.loop-session.session

@@ -1,0 +1,4 @@
+pub mod Moves
+pub mod Past
+pub mod Runs
+pub mod World

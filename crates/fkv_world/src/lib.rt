@@ -1,0 +1,6 @@
+//! The engine's world: sessions, the keeper, the shared words and the device put together, and a life of it, event by event.
+#![tactic(auto)]
+
+mod laws;
+
+pub use laws::law_of_lives;
