@@ -6,6 +6,7 @@ mod CheckpointRanges
 mod CheckpointRuns
 mod CheckpointStores
 mod CheckpointTurns
+mod CheckpointUsed
 mod CheckpointWrites
 mod KeeperBegun
 mod KeeperDevice

@@ -37,7 +37,7 @@ use Rattle.fkv_maintain.specs.declared.maintaining.Maintaining.TheVariants.{Clai
 use Rattle.fkv_maintain.specs.Maintaining.{MaintainState}
 use Rattle.fkv_keeper.specs.LastCommits.{other_area, area_number, gate_opened, slot_written}
 use Rattle.fkv_keeper.specs.Keeping.{KeeperState, lost_left, keeper_ask}
-use Rattle.fkv_keeper.specs.KeeperRun.{KeeperEvent, BeginsCommit, Replies, keeper_run}
+use Rattle.fkv_keeper.specs.KeeperRun.{KeeperEvent, Replies, keeper_run, Writing}
 
 -- the replies to the copy that began last, the newest first
 abbrev pub replies_after : Keeping → KeeperEvent → Keeping → List ℕ → List ℕ
@@ -115,6 +115,34 @@ pub record AreWritesBegun (shape : Shape) (p : Places) (replies : List ℕ) (tol
   pub begun : told ≡ Some (record { number = commit.number; first = commit.first })
   pub copied : commit.is_copied ≡ true
   pub written : IsWrittenAs commit.kind shape p replies s a commit
+
+-- a commit's writes have begun
+abbrev pub IsBehindWait : Keeping → Type 0
+IsBehindWait Writes = ⊤
+IsBehindWait Finishes = ⊤
+IsBehindWait step = ⊥
+
+-- A full commit uses its own checkpoint, and all triples of its finished copy are what is written.
+pub record UsesItsCopy (p : Places) (replies : List ℕ) (w : Writing) (s : KeeperState) (c : Commit) : Type 0 where
+  pub finished : copy_ask (copying_after p replies) ≡ Done tt
+  pub used : s.used ≡ record { number = c.number; first = c.first; triples = length (copied_after p replies); area = other_area s.last.checkpoint.area }
+  pub triples : w.first.triples ≡ all_bytes (copied_after p replies)
+
+-- A log commit uses the checkpoint of the newest finished commit, and writes no triples.
+pub record UsesNewest (w : Writing) (s : KeeperState) : Type 0 where
+  pub used : s.used ≡ s.last.checkpoint
+  pub triples : w.first.triples ≡ []
+
+abbrev pub UsesAs : CommitKind → Places → List ℕ → Writing → KeeperState → Commit → Type 0
+UsesAs Full p replies w s c = UsesItsCopy p replies w s c
+UsesAs Log p replies w s c = UsesNewest w s
+
+-- The commit in hand is being written: it is the one of which its start has told, and it uses its checkpoint.
+pub record IsBeingWritten (p : Places) (replies : List ℕ) (told : Option BegunWith) (w : Writing) (s : KeeperState) : Type 0 where
+  pub commit : Commit
+  pub in_hand : s.commit ≡ Some commit
+  pub begun : told ≡ Some (record { number = commit.number; first = commit.first })
+  pub uses : UsesAs commit.kind p replies w s commit
 
 -- the phases in which the index is copied
 abbrev pub IsCopyPhase : PhaseSaid → Type 0

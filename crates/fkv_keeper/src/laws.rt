@@ -6,7 +6,7 @@ ghost use Rattle.fkv_plane.specs.declared.places.Places.{Places};
 ghost use Rattle.fkv_keeper.specs.declared.answers.KeeperTold.TheVariants.{Turned, TurnRefused};
 ghost use Rattle.fkv_keeper.specs.declared.keepers.Keeping.TheVariants.{Ended, Finishes};
 ghost use Rattle.fkv_keeper.specs.declared.keepers.Keeping.TheVariants.{Waits, Writes};
-ghost use Rattle.fkv_keeper.specs.CheckpointLaws.{AreWritesBegun, ChangesItsWords, CopiesOnce, DoesOneThing, HoldsCopy, KeepsLists, SparesDurable, begun_with, copy_replies};
+ghost use Rattle.fkv_keeper.specs.CheckpointLaws.{AreWritesBegun, ChangesItsWords, CopiesOnce, DoesOneThing, HoldsCopy, IsBehindWait, IsBeingWritten, KeepsLists, SparesDurable, begun_with, copy_replies};
 ghost use Rattle.fkv_keeper.specs.Keeping.{KeeperState};
 ghost use Rattle.fkv_keeper.specs.KeeperLaws.{CopiesAgain, IsBrokenForGood, IsFinishOfBegun, IsMemoryRefused, IsWritten};
 ghost use Rattle.fkv_keeper.specs.KeeperRun.{IsOpened, KeeperEvent, has_failed, is_calling, keeper_happens, keeper_run, number_open, writing};
@@ -49,6 +49,9 @@ pub fn law_of_checkpoints()
         → (keeper_run shape p opening events).step ≡ Waits
         → (keeper_run shape p opening (event ∷ events)).step ≡ Writes
         → AreWritesBegun shape p (copy_replies shape p opening events) (begun_with shape p opening events) (keeper_run shape p opening events) (keeper_run shape p opening (event ∷ events)) }
+    ensures used { (shape : Shape) (p : Places) (opening : KeeperState) (events : List KeeperEvent) → IsOpened opening
+        → IsBehindWait (keeper_run shape p opening events).step
+        → IsBeingWritten p (copy_replies shape p opening events) (begun_with shape p opening events) (writing shape p opening events) (keeper_run shape p opening events) }
     ensures copies { (shape : Shape) (p : Places) (s : KeeperState) (event : KeeperEvent) → CopiesOnce p s event (keeper_happens shape p s event) }
     ensures lists { (shape : Shape) (p : Places) (s : KeeperState) (event : KeeperEvent) → KeepsLists s (keeper_happens shape p s event) }
     ensures parts { (shape : Shape) (p : Places) (s : KeeperState) (event : KeeperEvent) → DoesOneThing s event (keeper_happens shape p s event) }
