@@ -15,7 +15,7 @@ use Rattle.fkv_keeper.specs.declared.last_commits.Checkpoint.{Checkpoint}
 use Rattle.fkv_keeper.specs.LastCommits.{other_area}
 use Rattle.fkv_keeper.specs.Keeping.{KeeperState, Finality, keeping_given, keeping_called}
 use Rattle.fkv_keeper.specs.KeeperRun.{KeeperEvent, BeginsTurn, BeginsCommit, Replies, Gets, Calls, is_in_hand, keeper_happens, keeper_run, IsOpened, Writing, writing_after, writing}
-use Rattle.fkv_keeper.specs.CheckpointLaws.{replies_after, copy_replies, BegunWith, begun_after, begun_with, HasCopied, IsFullWritten, IsLogWritten, IsWrittenAs, AreWritesBegun, IsBehindWait, UsesItsCopy, UsesNewest, UsesAs, IsBeingWritten, IsFinished, IsBegun, GoesOn, IsCommitAfter, KeepsLists, MayFollow}
+use Rattle.fkv_keeper.specs.CheckpointLaws.{replies_after, copy_replies, BegunWith, LastBegin, last_begin_after, last_begin, begun_with, HasCopied, IsFullWritten, IsLogWritten, IsWrittenAs, AreWritesBegun, IsBehindWait, UsesItsCopy, UsesNewest, UsesAs, IsBeingWritten, IsFinished, IsBegun, GoesOn, IsCommitAfter, KeepsLists, MayFollow}
 use Rattle.fkv_keeper.proofs.KeeperRuns.{happens_at, happens_so}
 use Rattle.fkv_keeper.proofs.CheckpointMoves.{IsMove, each_move}
 use Rattle.fkv_keeper.proofs.CheckpointWrites.{run_writes}
@@ -46,7 +46,9 @@ same_replies Copies event after was (inl behind) = absurd behind
 same_replies Copies event after was (inr waits) = cc
 same_replies step event after was here = refl
 
-same_told : (step : Keeping) (event : KeeperEvent) (after : KeeperState) (was : Option BegunWith) → IsBehindWait step ⊎ (step ≡ Waits) → begun_after step event after was ≡ was
+same_told : (step : Keeping) (event : KeeperEvent) (after : KeeperState) (was : LastBegin) → IsBehindWait step ⊎ (step ≡ Waits) → last_begin_after step event after was ≡ was
+same_told (Ended its) event after was (inl behind) = absurd behind
+same_told (Ended its) event after was (inr waits) = cc
 same_told Starts event after was (inl behind) = absurd behind
 same_told Starts event after was (inr waits) = cc
 same_told step event after was here = refl
@@ -82,14 +84,14 @@ used_as Full Log p replies w v s a c d e number first used last same its = cc
 used_as Log Full p replies w v s a c d e number first used last same its = cc
 
 goes_on : (p : Places) (replies : List ℕ) (told : Option BegunWith) (w v : Writing) (s a : KeeperState) (c : Commit) → IsBehindWait s.step → IsBehindWait a.step → s.commit ≡ Some c → IsCommitAfter (Some c) s a → KeepsLists s a → v.first ≡ w.first
-    → told ≡ Some (record { number = c.number; first = c.first }) → UsesAs c.kind p replies w s c → IsBeingWritten p replies told v a
+    → told ≡ Some (record { kind = c.kind; number = c.number; first = c.first }) → UsesAs c.kind p replies w s c → IsBeingWritten p replies told v a
 goes_on p replies told w v s a c behind still in_hand (inl same) lists first begun uses = by_lists lists.lists
   where
     by_lists : ((a.last ≡ s.last) × (a.lost ≡ s.lost)) ⊎ ((x : Commit) × (s.commit ≡ Some x) × IsFinished s a x) → IsBeingWritten p replies told v a
     by_lists (inl kept) = record {
       commit = same.commit;
       in_hand = same.in_hand;
-      begun = begun ∙ rw same.number (rw same.first refl);
+      begun = begun ∙ rw same.kind (rw same.number (rw same.first refl));
       uses = used_as c.kind same.commit.kind p replies w v s a c same.commit same.kind same.number same.first (lists.used (not_waits s.step behind)) kept.0 first uses;
     }
     by_lists (inr finish) = absurd (not_ended a.step _ finish.2.told still)
@@ -109,11 +111,11 @@ has_begun shape p replies told v s a waits writes first lists its = by_lists lis
     by_lists (inr finish) = let clash : Writes ≡ Ended _ = sym writes ∙ finish.2.told in cc
 
 -- the lists beside a run are as they were
-as_before : (p : Places) (replies : List ℕ) (told : Option BegunWith) (v : Writing) (s a : KeeperState) (event : KeeperEvent) → IsBehindWait s.step ⊎ (s.step ≡ Waits) → IsBeingWritten p replies told v a
-    → IsBeingWritten p (replies_after s.step event a.step replies) (begun_after s.step event a told) v a
+as_before : (p : Places) (replies : List ℕ) (told : LastBegin) (v : Writing) (s a : KeeperState) (event : KeeperEvent) → IsBehindWait s.step ⊎ (s.step ≡ Waits) → IsBeingWritten p replies told.begun v a
+    → IsBeingWritten p (replies_after s.step event a.step replies) (last_begin_after s.step event a told).begun v a
 as_before p replies told v s a event here its =
-    subst (λ (x : List ℕ). IsBeingWritten p x (begun_after s.step event a told) v a) (sym (same_replies s.step event a.step replies here))
-    (subst (λ (x : Option BegunWith). IsBeingWritten p replies x v a) (sym (same_told s.step event a told here)) its)
+    subst (λ (x : List ℕ). IsBeingWritten p x (last_begin_after s.step event a told).begun v a) (sym (same_replies s.step event a.step replies here))
+    (subst (λ (x : LastBegin). IsBeingWritten p replies x.begun v a) (sym (same_told s.step event a told here)) its)
 
 no_start : (s : KeeperState) (step : Keeping) → s.step ≡ step → IsOpened s → IsBehindWait step → ⊥
 no_start s (Ended its) e opened behind = behind
@@ -130,7 +132,7 @@ first_written shape p s event w waits writes =
 
 pub run_used : (shape : Shape) (p : Places) (opening : KeeperState) (events : List KeeperEvent) → IsOpened opening → IsBehindWait (keeper_run shape p opening events).step
     → IsBeingWritten p (copy_replies shape p opening events) (begun_with shape p opening events) (writing shape p opening events) (keeper_run shape p opening events)
-unfolding keeper_run copy_replies begun_with writing
+unfolding keeper_run copy_replies last_begin writing
 run_used shape p opening [] opened behind = absurd (no_start opening opening.step refl opened behind)
 run_used shape p opening (event ∷ before) opened behind = by_step (λ goes. run_used shape p opening before opened goes) (before_it s.step a.step move.one.follows behind)
   where
@@ -143,8 +145,8 @@ run_used shape p opening (event ∷ before) opened behind = by_step (λ goes. ru
     replies : List ℕ
     replies = copy_replies shape p opening before
 
-    told : Option BegunWith
-    told = begun_with shape p opening before
+    told : LastBegin
+    told = last_begin shape p opening before
 
     w : Writing
     w = writing shape p opening before
@@ -152,11 +154,11 @@ run_used shape p opening (event ∷ before) opened behind = by_step (λ goes. ru
     move : IsMove p s event a
     move = each_move shape p s event
 
-    by_step : (IsBehindWait s.step → IsBeingWritten p replies told w s) → ((s.step ≡ Waits) × (a.step ≡ Writes)) ⊎ IsBehindWait s.step → IsBeingWritten p (replies_after s.step event a.step replies) (begun_after s.step event a told) (writing_after s.step event a w) a
+    by_step : (IsBehindWait s.step → IsBeingWritten p replies told.begun w s) → ((s.step ≡ Waits) × (a.step ≡ Writes)) ⊎ IsBehindWait s.step → IsBeingWritten p (replies_after s.step event a.step replies) (last_begin_after s.step event a told).begun (writing_after s.step event a w) a
     by_step been (inl begins) =
         as_before p replies told _ s a event (inr begins.0)
-        (has_begun shape p replies told _ s a begins.0 begins.1 (first_written shape p s event w begins.0 begins.1) move.lists (run_writes shape p opening before event opened begins.0 begins.1))
+        (has_begun shape p replies told.begun _ s a begins.0 begins.1 (first_written shape p s event w begins.0 begins.1) move.lists (run_writes shape p opening before event opened begins.0 begins.1))
     by_step been (inr goes) =
         let its = been goes in
         as_before p replies told _ s a event (inl goes)
-        (goes_on p replies told w _ s a its.commit goes behind its.in_hand (subst (λ (x : Option Commit). IsCommitAfter x s a) its.in_hand move.copies.commit) move.lists (same_first s.step event a w goes) its.begun its.uses)
+        (goes_on p replies told.begun w _ s a its.commit goes behind its.in_hand (subst (λ (x : Option Commit). IsCommitAfter x s a) its.in_hand move.copies.commit) move.lists (same_first s.step event a w goes) its.begun its.uses)

@@ -21,7 +21,7 @@ use Rattle.fkv_keeper.specs.declared.last_commits.Checkpoint.{Checkpoint}
 use Rattle.fkv_keeper.specs.LastCommits.{other_area, area_number, slot_written}
 use Rattle.fkv_keeper.specs.Keeping.{KeeperState, bytes_copied, checkpoint_used, triples_written, lost_left, writes_begun, wait_ledto, keeping_next, keeping_given, keeping_called}
 use Rattle.fkv_keeper.specs.KeeperRun.{KeeperEvent, BeginsTurn, BeginsCommit, Replies, Gets, Calls, Writing, has_failed, writing, number_open, keeper_run, IsOpened}
-use Rattle.fkv_keeper.specs.CheckpointLaws.{copy_replies, BegunWith, begun_with, HasCopied, HoldsCopy, IsFullWritten, IsLogWritten, IsWrittenAs, AreWritesBegun}
+use Rattle.fkv_keeper.specs.CheckpointLaws.{copy_replies, LastBegin, last_begin, begun_with, HasCopied, HoldsCopy, IsFullWritten, IsLogWritten, IsWrittenAs, AreWritesBegun}
 use Rattle.fkv_keeper.proofs.KeeperSound.{Knows}
 use Rattle.fkv_keeper.proofs.KeeperRuns.{happens_at, happens_so, IsSound as IsRunSound, run_sound}
 use Rattle.fkv_keeper.proofs.CheckpointRuns.{IsSound, run_copied}
@@ -51,8 +51,8 @@ written_as shape p replies s w c Log log holds = record {
   slot = ap (λ (k : CommitKind). slot_written shape.sessions c.number c.end (checkpoint_used c c.kind s.last s.copy) s.seek.points (lost_left k s.lost)) log;
 }
 
-begun_writes : (shape : Shape) (p : Places) (replies : List ℕ) (told : Option BegunWith) (s : KeeperState) (w : WaitState) (found : Option Commit) → s.commit ≡ found → s.is_broken ≡ false → IsSound p replies told s Waits
-    → (writes_begun shape (record s { wait = w }) found).step ≡ Writes → AreWritesBegun shape p replies told s (writes_begun shape (record s { wait = w }) found)
+begun_writes : (shape : Shape) (p : Places) (replies : List ℕ) (told : LastBegin) (s : KeeperState) (w : WaitState) (found : Option Commit) → s.commit ≡ found → s.is_broken ≡ false → IsSound p replies told s Waits
+    → (writes_begun shape (record s { wait = w }) found).step ≡ Writes → AreWritesBegun shape p replies told.begun s (writes_begun shape (record s { wait = w }) found)
 begun_writes shape p replies told s w None in_hand works sound writes = cc
 begun_writes shape p replies told s w (Some c) in_hand works sound writes = record {
   commit = c;
@@ -66,16 +66,16 @@ begun_writes shape p replies told s w (Some c) in_hand works sound writes = reco
 not_writing : (step : Keeping) → step ≡ Waits → step ≡ Writes → ⊥
 not_writing step waits writes = let clash : Waits ≡ Writes = sym waits ∙ writes in cc
 
-wait_writes : (shape : Shape) (p : Places) (replies : List ℕ) (told : Option BegunWith) (s : KeeperState) (w : WaitState) (ask : Ask WaitAnswer) → s.step ≡ Waits → s.is_broken ≡ false → IsSound p replies told s Waits
-    → (wait_ledto shape (record s { wait = w }) ask).step ≡ Writes → AreWritesBegun shape p replies told s (wait_ledto shape (record s { wait = w }) ask)
+wait_writes : (shape : Shape) (p : Places) (replies : List ℕ) (told : LastBegin) (s : KeeperState) (w : WaitState) (ask : Ask WaitAnswer) → s.step ≡ Waits → s.is_broken ≡ false → IsSound p replies told s Waits
+    → (wait_ledto shape (record s { wait = w }) ask).step ≡ Writes → AreWritesBegun shape p replies told.begun s (wait_ledto shape (record s { wait = w }) ask)
 unfolding wait_ledto
 wait_writes shape p replies told s w (Done wait.Flushed) e works sound writes = begun_writes shape p replies told s w s.commit refl works sound writes
 wait_writes shape p replies told s w (Done wait.NotYet) e works sound writes = cc
 wait_writes shape p replies told s w (Done wait.Idle) e works sound writes = cc
 wait_writes shape p replies told s w ask e works sound writes = absurd (not_writing s.step e writes)
 
-event_writes : (shape : Shape) (p : Places) (replies : List ℕ) (told : Option BegunWith) (s : KeeperState) (event : KeeperEvent) → s.step ≡ Waits → s.is_broken ≡ false → IsSound p replies told s Waits
-    → (happens_at shape p s Waits event).step ≡ Writes → AreWritesBegun shape p replies told s (happens_at shape p s Waits event)
+event_writes : (shape : Shape) (p : Places) (replies : List ℕ) (told : LastBegin) (s : KeeperState) (event : KeeperEvent) → s.step ≡ Waits → s.is_broken ≡ false → IsSound p replies told s Waits
+    → (happens_at shape p s Waits event).step ≡ Writes → AreWritesBegun shape p replies told.begun s (happens_at shape p s Waits event)
 unfolding keeping_next keeping_given keeping_called
 event_writes shape p replies told s (Replies reply granted) e works sound writes = wait_writes shape p replies told s (wait_next s.wait reply) (wait_ask (wait_next s.wait reply)) e works sound writes
 event_writes shape p replies told s event e works sound writes = absurd (not_writing s.step e writes)
@@ -86,7 +86,7 @@ pub run_writes : (shape : Shape) (p : Places) (opening : KeeperState) (events : 
 unfolding keeper_run
 run_writes shape p opening events event opened waits writes =
     subst (λ (x : KeeperState). AreWritesBegun shape p (copy_replies shape p opening events) (begun_with shape p opening events) s x) same
-    (event_writes shape p (copy_replies shape p opening events) (begun_with shape p opening events) s event waits works sound (ap (λ (x : KeeperState). x.step) same ∙ writes))
+    (event_writes shape p (copy_replies shape p opening events) (last_begin shape p opening events) s event waits works sound (ap (λ (x : KeeperState). x.step) same ∙ writes))
   where
     s : KeeperState
     s = keeper_run shape p opening events
@@ -100,5 +100,5 @@ run_writes shape p opening events event opened waits writes =
     works : s.is_broken ≡ false
     works = knows
 
-    sound : IsSound p (copy_replies shape p opening events) (begun_with shape p opening events) s Waits
-    sound = subst (λ (x : Keeping). IsSound p (copy_replies shape p opening events) (begun_with shape p opening events) s x) waits (run_copied shape p opening events opened)
+    sound : IsSound p (copy_replies shape p opening events) (last_begin shape p opening events) s Waits
+    sound = subst (λ (x : Keeping). IsSound p (copy_replies shape p opening events) (last_begin shape p opening events) s x) waits (run_copied shape p opening events opened)

@@ -37,7 +37,7 @@ use Rattle.fkv_maintain.specs.declared.maintaining.Maintaining.TheVariants.{Clai
 use Rattle.fkv_maintain.specs.Maintaining.{MaintainState}
 use Rattle.fkv_keeper.specs.LastCommits.{other_area, area_number, gate_opened, slot_written}
 use Rattle.fkv_keeper.specs.Keeping.{KeeperState, lost_left, keeper_ask}
-use Rattle.fkv_keeper.specs.KeeperRun.{KeeperEvent, Replies, keeper_run, Writing}
+use Rattle.fkv_keeper.specs.KeeperRun.{KeeperEvent, BeginsCommit, Replies, keeper_run, Writing}
 
 -- the replies to the copy that began last, the newest first
 abbrev pub replies_after : Keeping → KeeperEvent → Keeping → List ℕ → List ℕ
@@ -50,23 +50,38 @@ copy_replies shape p opening [] = []
 copy_replies shape p opening (event ∷ before) =
     replies_after (keeper_run shape p opening before).step event (keeper_run shape p opening (event ∷ before)).step (copy_replies shape p opening before)
 
--- the number and the first address of a commit, as its start has told them
+-- the kind of a commit as it was asked for, and its number and first address as its start has told them
 pub record BegunWith : Type 0 where
+  pub kind : CommitKind
   pub number : Version
   pub first : Addr
 
-abbrev pub begun_by : Ask StartAnswer → Option BegunWith → Option BegunWith
-begun_by (Done (start.Begun number first)) was = Some (record { number = number; first = first })
+abbrev pub begun_of : Option CommitKind → Version → Addr → Option BegunWith
+begun_of None number first = None
+begun_of (Some kind) number first = Some (record { kind = kind; number = number; first = first })
+
+-- the kind that was asked for last, and the commit that has begun last
+pub record LastBegin : Type 0 where
+  pub asked : Option CommitKind
+  pub begun : Option BegunWith
+
+abbrev pub begun_by : Ask StartAnswer → LastBegin → LastBegin
+begun_by (Done (start.Begun number first)) was = record was { begun = begun_of was.asked number first }
 begun_by ask was = was
 
-abbrev pub begun_after : Keeping → KeeperEvent → KeeperState → Option BegunWith → Option BegunWith
-begun_after Starts (Replies reply granted) after was = begun_by (start_ask after.start) was
-begun_after step event after was = was
+abbrev pub last_begin_after : Keeping → KeeperEvent → KeeperState → LastBegin → LastBegin
+last_begin_after (Ended its) (BeginsCommit kind) after was = record was { asked = Some kind }
+last_begin_after Starts (Replies reply granted) after was = begun_by (start_ask after.start) was
+last_begin_after step event after was = was
 
--- what the start of a commit has told last
-unfoldable pub begun_with : Shape → Places → KeeperState → List KeeperEvent → Option BegunWith
-begun_with shape p opening [] = None
-begun_with shape p opening (event ∷ before) = begun_after (keeper_run shape p opening before).step event (keeper_run shape p opening (event ∷ before)) (begun_with shape p opening before)
+unfoldable pub last_begin : Shape → Places → KeeperState → List KeeperEvent → LastBegin
+last_begin shape p opening [] = record { asked = None; begun = None }
+last_begin shape p opening (event ∷ before) =
+    last_begin_after (keeper_run shape p opening before).step event (keeper_run shape p opening (event ∷ before)) (last_begin shape p opening before)
+
+-- what was told of the commit that has begun last
+abbrev pub begun_with : Shape → Places → KeeperState → List KeeperEvent → Option BegunWith
+begun_with shape p opening events = (last_begin shape p opening events).begun
 
 -- the copy that began with no triple and has had these replies
 abbrev pub copy_by : Places → List ℕ → Copier
@@ -107,12 +122,13 @@ abbrev pub IsWrittenAs : CommitKind → Shape → Places → List ℕ → Keeper
 IsWrittenAs Full shape p replies s a c = IsFullWritten shape p replies s a c
 IsWrittenAs Log shape p replies s a c = IsLogWritten shape s a c
 
--- The writes begin of the commit in hand, which is copied, and has the number and the first address that its start has told.
+-- The writes begin of the commit in hand, which is copied: it is of the kind that was asked for, and has the number and the
+-- first address that its start has told.
 pub record AreWritesBegun (shape : Shape) (p : Places) (replies : List ℕ) (told : Option BegunWith) (s a : KeeperState) : Type 0 where
   pub commit : Commit
   pub in_hand : s.commit ≡ Some commit
   pub stays : a.commit ≡ Some commit
-  pub begun : told ≡ Some (record { number = commit.number; first = commit.first })
+  pub begun : told ≡ Some (record { kind = commit.kind; number = commit.number; first = commit.first })
   pub copied : commit.is_copied ≡ true
   pub written : IsWrittenAs commit.kind shape p replies s a commit
 
@@ -141,7 +157,7 @@ UsesAs Log p replies w s c = UsesNewest w s
 pub record IsBeingWritten (p : Places) (replies : List ℕ) (told : Option BegunWith) (w : Writing) (s : KeeperState) : Type 0 where
   pub commit : Commit
   pub in_hand : s.commit ≡ Some commit
-  pub begun : told ≡ Some (record { number = commit.number; first = commit.first })
+  pub begun : told ≡ Some (record { kind = commit.kind; number = commit.number; first = commit.first })
   pub uses : UsesAs commit.kind p replies w s commit
 
 -- the phases in which the index is copied
