@@ -1,13 +1,10 @@
 -- Which words each machine inside the keeper changes, where its drain slot is one of the eight.
-use Rattle.std.proofs.Common.{◌≡◌, ◌≢◌, ℕ, ◌+◌, ◌<◌, ◌⊎◌, inl, inr, List, refl, ap, sym, subst, arith, Bool, true, false}
-use Rattle.std.specs.Prelude.{Option, Some, None, ⊤}
+use Rattle.std.proofs.Common.{◌≡◌, ℕ, ◌<◌, inl, inr, refl}
+use Rattle.std.specs.Prelude.{⊤}
 use Rattle.fkv_base.specs.Limits.{drain_slots}
-use Rattle.fkv_base.specs.declared.numbers.Serial.{Serial}
 use Rattle.fkv_base.specs.declared.numbers.Version.{Version}
 use Rattle.fkv_base.specs.declared.phases.Phase.{Phase}
-use Rattle.fkv_base.specs.declared.phases.Phase.TheVariants as phase
 use Rattle.fkv_base.specs.declared.shapes.Shape.{Shape}
-use Rattle.fkv_plane.specs.declared.actions.Action.{Action}
 use Rattle.fkv_plane.specs.declared.actions.Action.TheVariants as act
 use Rattle.fkv_plane.specs.declared.asks.Ask.{Ask}
 use Rattle.fkv_plane.specs.declared.asks.Ask.TheVariants.{Load, Store, Swap, Cas, Add, Max, Put, Take, Done}
@@ -39,8 +36,6 @@ use Rattle.fkv_log.specs.declared.turning.Turning.TheVariants as turn
 use Rattle.fkv_log.specs.Moving.{Mover, moving_ask, offset_place}
 use Rattle.fkv_log.specs.Shifting.{shifting_ask}
 use Rattle.fkv_log.specs.Turning.{turning_ask}
-use Rattle.fkv_flush.specs.declared.answers.DeviceAnswer.{DeviceAnswer}
-use Rattle.fkv_flush.specs.declared.answers.DeviceAnswer.TheVariants as device
 use Rattle.fkv_flush.specs.declared.flushing.Flushing.{Flushing}
 use Rattle.fkv_flush.specs.declared.flushing.Flushing.TheVariants as flush
 use Rattle.fkv_flush.specs.declared.serving.Serving.{Serving}

@@ -1,7 +1,6 @@
 -- What one event leaves of the commit in hand, of the lists, and which step follows.
 use Rattle.std.proofs.Common.{◌≡◌, ℕ, ◌∙◌, ◌⊎◌, inl, inr, List, refl, ap, sym, subst, Bool, true, false}
-use Rattle.std.specs.Prelude.{Option, Some, None, if◌then◌else◌, length, ⊤}
-use Rattle.fkv_base.specs.declared.faults.Fault.TheVariants as fault
+use Rattle.std.specs.Prelude.{Option, Some, None, if◌then◌else◌}
 use Rattle.fkv_base.specs.declared.numbers.Addr.{Addr}
 use Rattle.fkv_base.specs.declared.phases.Phase.TheVariants as phase
 use Rattle.fkv_base.specs.declared.shapes.Shape.{Shape}
@@ -25,21 +24,21 @@ use Rattle.fkv_commit.specs.declared.waiting.WaitAnswer.{WaitAnswer}
 use Rattle.fkv_commit.specs.declared.waiting.WaitAnswer.TheVariants as wait
 use Rattle.fkv_commit.specs.Entering.{enter_ask, enter_next}
 use Rattle.fkv_commit.specs.Finishing.{finish_ask, finish_next}
-use Rattle.fkv_commit.specs.Seeking.{SeekState, seek_begun, seek_ask, seek_next}
-use Rattle.fkv_commit.specs.Starting.{start_begun, start_ask, start_next}
+use Rattle.fkv_commit.specs.Seeking.{seek_begun, seek_ask, seek_next}
+use Rattle.fkv_commit.specs.Starting.{start_ask, start_next}
 use Rattle.fkv_commit.specs.Waiting.{wait_ask, wait_next}
 use Rattle.fkv_manifest.specs.declared.answers.WriteAnswer.{WriteAnswer}
 use Rattle.fkv_manifest.specs.declared.answers.WriteAnswer.TheVariants as write
 use Rattle.fkv_manifest.specs.Committing.{commit_next, commit_answer}
 use Rattle.fkv_maintain.specs.declared.maintaining.MaintainAnswer.{MaintainAnswer}
 use Rattle.fkv_maintain.specs.declared.maintaining.MaintainAnswer.TheVariants as maintain
-use Rattle.fkv_maintain.specs.Maintaining.{maintain_begun, maintain_ask, maintain_next, maintain_given, maintain_called}
+use Rattle.fkv_maintain.specs.Maintaining.{maintain_ask, maintain_next, maintain_given, maintain_called}
 use Rattle.fkv_keeper.specs.declared.answers.KeeperTold.{KeeperTold}
 use Rattle.fkv_keeper.specs.declared.keepers.Keeping.{Keeping}
 use Rattle.fkv_keeper.specs.declared.keepers.Keeping.TheVariants.{Ended, Starts, Maintains, LoadsPhase, Enters, Copies, Seeks, Waits, Writes, Finishes}
 use Rattle.fkv_keeper.specs.Keeping.{KeeperState, copy_asked, copy_driven, copied, points_known, ended, turned, turn_asked, commit_asked, start_ledto, maintain_ledto, copies, part_begun, phase_ledto, enter_ledto, copy_ledto, seek_ledto, writes_begun, wait_ledto, finished, finish_ledto, keeping_next, keeping_given, write_ledto, writes_called, keeping_called}
-use Rattle.fkv_keeper.specs.KeeperRun.{KeeperEvent, BeginsTurn, BeginsCommit, Replies, Gets, Calls, is_in_hand, begins, keeper_happens}
-use Rattle.fkv_keeper.specs.CheckpointLaws.{IsCopyPhase, IsCopyBegun, IsBegun, IsFinished, GoesOn, IsCommitAfter, CopiesOnce, KeepsLists, MayFollow, IsPhaseLoaded, DoesOneThing}
+use Rattle.fkv_keeper.specs.KeeperRun.{KeeperEvent, BeginsTurn, BeginsCommit, Replies, Gets, Calls, begins, keeper_happens}
+use Rattle.fkv_keeper.specs.CheckpointLaws.{IsCopyPhase, IsCopyBegun, IsBegun, IsFinished, IsCommitAfter, CopiesOnce, KeepsLists, MayFollow, IsPhaseLoaded, DoesOneThing}
 use Rattle.fkv_keeper.proofs.KeeperRuns.{happens_at, happens_so}
 
 -- all that one event is said to do

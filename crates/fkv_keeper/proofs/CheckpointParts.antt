@@ -1,12 +1,10 @@
 -- The drain slots of the parts of a commit are among the eight, whatever the replies.
-use Rattle.std.proofs.Common.{◌≡◌, ◌≢◌, ℕ, ◌+◌, ◌*◌, ◌<◌, ◌∙◌, ◌⊎◌, inl, inr, List, [], ◌∷◌, refl, ap, sym, subst, arith, Bool, true, false}
-use Rattle.std.specs.Prelude.{Option, Some, None, ⊤, nat_lt, nat_le, ◌==◌, if◌then◌else◌, length, max, ◌++◌}
-use Rattle.fkv_base.specs.Limits.{drain_slots, last_version}
-use Rattle.fkv_base.specs.declared.faults.Fault.TheVariants as fault
+use Rattle.std.proofs.Common.{◌≡◌, ℕ, ◌+◌, [], ◌∷◌, sym, subst, Bool, true, false}
+use Rattle.std.specs.Prelude.{⊤, nat_lt, nat_le, ◌==◌, if◌then◌else◌, length, max, ◌++◌}
+use Rattle.fkv_base.specs.Limits.{last_version}
 use Rattle.fkv_base.specs.declared.numbers.Addr.{Addr}
 use Rattle.fkv_base.specs.declared.numbers.Version.{Version}
 use Rattle.fkv_base.specs.declared.phases.Phase.TheVariants as phase
-use Rattle.fkv_base.specs.declared.shapes.Shape.{Shape}
 use Rattle.fkv_words.specs.declared.phase_words.PhaseSaid.{PhaseSaid}
 use Rattle.fkv_words.specs.declared.phase_words.PhaseSaid.TheVariants.{Says}
 use Rattle.fkv_words.specs.PhaseWords.{phase_said}
@@ -21,10 +19,10 @@ use Rattle.fkv_commit.specs.declared.seeking.Seeking.TheVariants as seeks
 use Rattle.fkv_commit.specs.declared.starting.Starting.{Starting}
 use Rattle.fkv_commit.specs.declared.starting.Starting.TheVariants as starts
 use Rattle.fkv_commit.specs.Cuts.{version_said, serial_said}
-use Rattle.fkv_commit.specs.Deferring.{DeferState, defer_begun, defer_ask, defer_next}
-use Rattle.fkv_commit.specs.Entering.{EnterState, entering_next, enter_begun, seek_led as enter_sought, defer_led as enter_deferred}
-use Rattle.fkv_commit.specs.Seeking.{SeekState, seeking_next, seek_begun, owing_from, points_from, point_taken, slot_led, cut_met, other_met, defer_led as seek_deferred}
-use Rattle.fkv_commit.specs.Starting.{StartState, start_begun, starting_next, phase_found, refused, is_lost_full, seek_led as start_sought, defer_led as start_deferred}
+use Rattle.fkv_commit.specs.Deferring.{defer_ask, defer_next}
+use Rattle.fkv_commit.specs.Entering.{EnterState, entering_next, seek_led as enter_sought, defer_led as enter_deferred}
+use Rattle.fkv_commit.specs.Seeking.{SeekState, seeking_next, seek_begun, owing_from, points_from, point_taken, slot_led, defer_led as seek_deferred}
+use Rattle.fkv_commit.specs.Starting.{StartState, starting_next, phase_found, is_lost_full, seek_led as start_sought, defer_led as start_deferred}
 use Rattle.fkv_keeper.proofs.CheckpointRanges.{IsDeferredIn, defer_in, defer_on_in}
 
 -- the start of a commit

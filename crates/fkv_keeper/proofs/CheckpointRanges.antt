@@ -1,16 +1,9 @@
 -- The drain slot of each machine inside the keeper is one of the eight, whatever the replies.
-use Rattle.std.proofs.Common.{◌≡◌, ℕ, ◌+◌, ◌-◌, ◌/◌, ◌<◌, List, refl, ap, sym, subst, arith, Bool, true, false}
-use Rattle.std.specs.Prelude.{Option, Some, None, ⊤, nat_lt, nat_le, ◌==◌, if◌then◌else◌, length}
+use Rattle.std.proofs.Common.{◌≡◌, ℕ, ◌+◌, ◌-◌, ◌/◌, ◌<◌, refl, sym, subst, arith, Bool, true, false}
+use Rattle.std.specs.Prelude.{Option, Some, None, nat_lt, nat_le, ◌==◌, if◌then◌else◌}
 use Rattle.std.proofs.lemmas.Bool.Decides.{nat_tests}
-use Rattle.fkv_base.specs.Limits.{drain_slots, last_version}
-use Rattle.fkv_base.specs.declared.numbers.Addr.{Addr}
-use Rattle.fkv_base.specs.declared.numbers.Serial.{Serial}
-use Rattle.fkv_base.specs.declared.numbers.Version.{Version}
-use Rattle.fkv_base.specs.declared.phases.Phase.TheVariants as phase
+use Rattle.fkv_base.specs.Limits.{drain_slots}
 use Rattle.fkv_base.specs.declared.shapes.Shape.{Shape}
-use Rattle.fkv_words.specs.declared.phase_words.PhaseSaid.{PhaseSaid}
-use Rattle.fkv_words.specs.declared.phase_words.PhaseSaid.TheVariants.{Says}
-use Rattle.fkv_words.specs.PhaseWords.{phase_said}
 use Rattle.fkv_plane.specs.declared.actions.Action.{Action}
 use Rattle.fkv_plane.specs.declared.asks.Ask.{Ask}
 use Rattle.fkv_plane.specs.declared.asks.Ask.TheVariants.{Done}
@@ -28,23 +21,20 @@ use Rattle.fkv_epoch.specs.Raising.{IsRaiseInRange, raise_ask, raise_next, raise
 use Rattle.fkv_log.specs.declared.moving.MoveAnswer.{MoveAnswer}
 use Rattle.fkv_log.specs.declared.moving.Moving.{Moving}
 use Rattle.fkv_log.specs.declared.moving.Moving.TheVariants as move
-use Rattle.fkv_log.specs.declared.moving.Offset.TheVariants.{ReadOnly, Head}
 use Rattle.fkv_log.specs.declared.moving.Target.{Target}
 use Rattle.fkv_log.specs.declared.shifting.Shifting.{Shifting}
 use Rattle.fkv_log.specs.declared.shifting.Shifting.TheVariants as shift
 use Rattle.fkv_log.specs.declared.turning.Turning.{Turning}
 use Rattle.fkv_log.specs.declared.turning.Turning.TheVariants as turn
-use Rattle.fkv_log.specs.Moving.{Mover, move_begun, raise_led, arm_led, moving_next, move_next, move_next_ask}
-use Rattle.fkv_log.specs.Shifting.{ShiftState, shift_at, mutable_start, shift_led, shifting_next}
+use Rattle.fkv_log.specs.Moving.{Mover, raise_led, arm_led, moving_next, move_next, move_next_ask}
+use Rattle.fkv_log.specs.Shifting.{ShiftState, mutable_start, shift_led, shifting_next}
 use Rattle.fkv_log.specs.declared.turning.TurnForm.{TurnForm}
 use Rattle.fkv_log.specs.declared.turning.TurnForm.TheVariants.{Whole, OpensOnly}
-use Rattle.fkv_log.specs.Turning.{TurnState, turn_at, turn_led, turning_next, pages_wanted, frame_end, frame_taken}
-use Rattle.fkv_commit.specs.declared.deferring.DeferAnswer.{DeferAnswer}
-use Rattle.fkv_commit.specs.declared.deferring.DeferAnswer.TheVariants as deferred
+use Rattle.fkv_log.specs.Turning.{TurnState, turn_led, turning_next, pages_wanted, frame_end, frame_taken}
 use Rattle.fkv_commit.specs.declared.deferring.Deferred.{Deferred}
 use Rattle.fkv_commit.specs.declared.deferring.Deferring.{Deferring}
 use Rattle.fkv_commit.specs.declared.deferring.Deferring.TheVariants as defer
-use Rattle.fkv_commit.specs.Deferring.{HasSlotInRange, DeferState, defer_begun, defer_ask, seek_ledto, raise_ledto, arm_ledto, deferring_next, defer_next, deferring_on, defer_on}
+use Rattle.fkv_commit.specs.Deferring.{HasSlotInRange, DeferState, seek_ledto, raise_ledto, arm_ledto, deferring_next, defer_next, deferring_on, defer_on}
 use Rattle.fkv_commit.proofs.Shown.{next_in_range, on_in_range, next_ask_in_range}
 use Rattle.fkv_keeper.proofs.CheckpointAsks.{IsArmIn, IsMoveIn, IsMoverIn, IsShiftIn, IsTurnIn, IsDeferIn}
 

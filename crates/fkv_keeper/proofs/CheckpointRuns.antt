@@ -9,13 +9,12 @@ use Rattle.fkv_base.specs.declared.shapes.Shape.{Shape}
 use Rattle.fkv_words.specs.declared.phase_words.PhaseSaid.{PhaseSaid}
 use Rattle.fkv_words.specs.declared.phase_words.PhaseSaid.TheVariants.{Says}
 use Rattle.fkv_words.specs.PhaseWords.{phase_said}
-use Rattle.fkv_record.specs.Places.{area_place}
 use Rattle.fkv_plane.specs.declared.actions.Action.{Action}
 use Rattle.fkv_plane.specs.declared.asks.Ask.{Ask}
 use Rattle.fkv_plane.specs.declared.asks.Ask.TheVariants.{Done}
 use Rattle.fkv_plane.specs.declared.places.Places.{Places}
 use Rattle.fkv_checkpoint.specs.Copied.{copying_after, copied_after}
-use Rattle.fkv_checkpoint.specs.Copying.{Copier, copy_ask}
+use Rattle.fkv_checkpoint.specs.Copying.{Copier}
 use Rattle.fkv_commit.specs.declared.commits.Commit.{Commit}
 use Rattle.fkv_commit.specs.declared.commits.CommitKind.{CommitKind}
 use Rattle.fkv_commit.specs.declared.commits.CommitKind.TheVariants.{Full, Log}
@@ -38,7 +37,7 @@ use Rattle.fkv_commit.specs.declared.starting.Starting.{Starting as StartStep}
 use Rattle.fkv_commit.specs.declared.starting.Starting.TheVariants as start_step
 use Rattle.fkv_commit.specs.Deferring.{defer_ask, defer_next}
 use Rattle.fkv_commit.specs.Starting.{StartState, start_begun, start_ask, start_next, starting_next, phase_found, is_lost_full, seek_led, defer_led}
-use Rattle.fkv_commit.specs.Waiting.{WaitState, wait_ask, wait_next}
+use Rattle.fkv_commit.specs.Waiting.{wait_ask, wait_next}
 use Rattle.fkv_manifest.specs.declared.answers.WriteAnswer.{WriteAnswer}
 use Rattle.fkv_manifest.specs.declared.answers.WriteAnswer.TheVariants as write
 use Rattle.fkv_manifest.specs.Committing.{commit_next, commit_answer}
@@ -49,11 +48,10 @@ use Rattle.fkv_keeper.specs.declared.answers.KeeperTold.{KeeperTold}
 use Rattle.fkv_keeper.specs.declared.answers.KeeperTold.TheVariants.{TurnRefused, CommitRefused}
 use Rattle.fkv_keeper.specs.declared.keepers.Keeping.{Keeping}
 use Rattle.fkv_keeper.specs.declared.keepers.Keeping.TheVariants.{Ended, Starts, Maintains, LoadsPhase, Enters, Copies, Seeks, Waits, Writes, Finishes}
-use Rattle.fkv_keeper.specs.LastCommits.{area_number, slot_written}
-use Rattle.fkv_keeper.specs.Keeping.{KeeperState, copy_asked, copy_driven, copied, points_known, ended, turned, turn_asked, commit_asked, start_ledto, maintain_ledto, copies, part_begun, phase_ledto, enter_ledto, copy_ledto, seek_ledto, bytes_copied, checkpoint_used, triples_written, lost_left, writes_begun, wait_ledto, finished, finish_ledto, keeping_next, keeping_given, write_ledto, writes_called, keeping_called}
-use Rattle.fkv_keeper.specs.KeeperRun.{KeeperEvent, BeginsTurn, BeginsCommit, Replies, Gets, Calls, is_in_hand, begins, keeper_happens, keeper_run, IsOpened}
-use Rattle.fkv_keeper.specs.CheckpointLaws.{replies_after, copy_replies, LastBegin, begun_of, begun_by, last_begin_after, last_begin, copy_by, HasCopied, IsBeforeWrites, HoldsCopy, IsFullWritten, IsLogWritten, IsWrittenAs, AreWritesBegun}
-use Rattle.fkv_keeper.proofs.KeeperRuns.{happens_at, happens_so, run_sound}
+use Rattle.fkv_keeper.specs.Keeping.{KeeperState, copy_asked, copy_driven, copied, points_known, ended, turned, turn_asked, commit_asked, start_ledto, maintain_ledto, copies, part_begun, phase_ledto, enter_ledto, copy_ledto, seek_ledto, writes_begun, wait_ledto, finished, finish_ledto, keeping_next, keeping_given, write_ledto, writes_called, keeping_called}
+use Rattle.fkv_keeper.specs.KeeperRun.{KeeperEvent, BeginsTurn, BeginsCommit, Replies, Gets, Calls, is_in_hand, begins, keeper_run, IsOpened}
+use Rattle.fkv_keeper.specs.CheckpointLaws.{replies_after, copy_replies, LastBegin, begun_of, begun_by, last_begin_after, last_begin, copy_by, HasCopied, IsBeforeWrites}
+use Rattle.fkv_keeper.proofs.KeeperRuns.{happens_at, happens_so}
 
 -- what is known by how far the call has come
 abbrev pub Here : Places → List ℕ → LastBegin → KeeperState → Keeping → Type 0

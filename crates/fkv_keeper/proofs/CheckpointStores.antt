@@ -1,6 +1,6 @@
 -- Each step changes only its words, and no step but a finish a session's durable word.
-use Rattle.std.proofs.Common.{◌≡◌, ◌≢◌, ℕ, ◌+◌, ◌*◌, ◌<◌, ◌≤◌, ◌∙◌, ◌⊎◌, inl, inr, List, refl, ap, sym, subst, arith, Bool, true, false}
-use Rattle.std.specs.Prelude.{Option, Some, None, ⊤}
+use Rattle.std.proofs.Common.{◌≡◌, ◌≢◌, ℕ, ◌+◌, ◌*◌, ◌<◌, ◌≤◌, ◌∙◌, inl, inr, List, refl, sym, arith}
+use Rattle.std.specs.Prelude.{Option, Some, None}
 use Rattle.fkv_base.specs.Limits.{drain_slots}
 use Rattle.fkv_base.specs.declared.numbers.Serial.{Serial}
 use Rattle.fkv_base.specs.declared.numbers.Version.{Version}
@@ -38,7 +38,7 @@ use Rattle.fkv_commit.specs.declared.starting.Starting.TheVariants as starts
 use Rattle.fkv_commit.specs.declared.waiting.Waiting.{Waiting}
 use Rattle.fkv_commit.specs.declared.waiting.Waiting.TheVariants as waits
 use Rattle.fkv_commit.specs.Commits.{version_after}
-use Rattle.fkv_commit.specs.Deferring.{DeferState, defer_ask}
+use Rattle.fkv_commit.specs.Deferring.{defer_ask}
 use Rattle.fkv_commit.specs.Entering.{EnterState, entering_ask, enter_ask}
 use Rattle.fkv_commit.specs.Finishing.{FinishState, finishing_ask, finish_ask}
 use Rattle.fkv_commit.specs.Seeking.{SeekState, seeking_ask, seek_ask}
@@ -51,14 +51,14 @@ use Rattle.fkv_maintain.specs.declared.maintaining.MaintainAnswer.{MaintainAnswe
 use Rattle.fkv_maintain.specs.declared.maintaining.MaintainAnswer.TheVariants as maintain
 use Rattle.fkv_maintain.specs.declared.maintaining.Maintaining.{Maintaining}
 use Rattle.fkv_maintain.specs.declared.maintaining.Maintaining.TheVariants as part
-use Rattle.fkv_maintain.specs.Maintaining.{MaintainState, device_asked, maintaining_ask, maintain_ask}
+use Rattle.fkv_maintain.specs.Maintaining.{device_asked, maintaining_ask, maintain_ask}
 use Rattle.fkv_keeper.specs.declared.answers.KeeperTold.{KeeperTold}
 use Rattle.fkv_keeper.specs.declared.keepers.Keeping.{Keeping}
 use Rattle.fkv_keeper.specs.declared.keepers.Keeping.TheVariants.{Ended, Starts, Maintains, LoadsPhase, Enters, Copies, Seeks, Waits, Writes, Finishes}
 use Rattle.fkv_keeper.specs.Keeping.{KeeperState, copy_asked, device_passed, write_asked, keeping_ask, keeper_ask}
 use Rattle.fkv_keeper.specs.KeeperRun.{KeeperEvent, keeper_run, IsOpened}
-use Rattle.fkv_keeper.specs.CheckpointLaws.{MayChange, MayStore, IsClaimed, IsPlaceOf, ChangesOnly, ChangesItsWords, SparesWord, SparesDurable}
-use Rattle.fkv_keeper.proofs.CheckpointAsks.{HasDrain, HasOffsets, HasActions, HasMail, passed_changes, defer_changes, shift_changes, turn_changes, scan_changes, claim_changes, flush_changes, serve_changes}
+use Rattle.fkv_keeper.specs.CheckpointLaws.{MayChange, MayStore, ChangesOnly, ChangesItsWords, SparesWord, SparesDurable}
+use Rattle.fkv_keeper.proofs.CheckpointAsks.{HasDrain, HasOffsets, passed_changes, defer_changes, shift_changes, turn_changes, scan_changes, claim_changes, flush_changes, serve_changes}
 use Rattle.fkv_keeper.proofs.CheckpointParts.{IsStartAt, IsEnterAt, IsSeekAt}
 use Rattle.fkv_keeper.proofs.CheckpointTurns.{IsMaintainAt, IsKeepingIn, run_in}
 

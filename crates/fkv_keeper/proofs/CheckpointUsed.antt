@@ -1,21 +1,18 @@
 -- While a commit is written and finished it uses the checkpoint with which its writes have begun.
-use Rattle.std.proofs.Common.{◌≡◌, ◌≢◌, ℕ, ◌∙◌, ◌⊎◌, inl, inr, List, [], ◌∷◌, refl, ap, sym, subst, Bool, true, false}
-use Rattle.std.specs.Prelude.{Option, Some, None, ⊤, length}
+use Rattle.std.proofs.Common.{◌≡◌, ℕ, ◌∙◌, ◌⊎◌, inl, inr, List, [], ◌∷◌, refl, ap, sym, subst, true, false}
+use Rattle.std.specs.Prelude.{Option, Some}
 use Rattle.fkv_base.specs.declared.shapes.Shape.{Shape}
 use Rattle.fkv_plane.specs.declared.places.Places.{Places}
-use Rattle.fkv_checkpoint.specs.Copied.{copied_after}
 use Rattle.fkv_commit.specs.declared.commits.Commit.{Commit}
 use Rattle.fkv_commit.specs.declared.commits.CommitKind.{CommitKind}
 use Rattle.fkv_commit.specs.declared.commits.CommitKind.TheVariants.{Full, Log}
 use Rattle.fkv_manifest.specs.Committing.{CommitWriter}
 use Rattle.fkv_keeper.specs.declared.answers.KeeperTold.{KeeperTold}
 use Rattle.fkv_keeper.specs.declared.keepers.Keeping.{Keeping}
-use Rattle.fkv_keeper.specs.declared.keepers.Keeping.TheVariants.{Ended, Starts, Maintains, LoadsPhase, Enters, Copies, Seeks, Waits, Writes, Finishes}
-use Rattle.fkv_keeper.specs.declared.last_commits.Checkpoint.{Checkpoint}
-use Rattle.fkv_keeper.specs.LastCommits.{other_area}
+use Rattle.fkv_keeper.specs.declared.keepers.Keeping.TheVariants.{Ended, Starts, LoadsPhase, Copies, Waits, Writes, Finishes}
 use Rattle.fkv_keeper.specs.Keeping.{KeeperState, Finality, keeping_given, keeping_called}
 use Rattle.fkv_keeper.specs.KeeperRun.{KeeperEvent, BeginsTurn, BeginsCommit, Replies, Gets, Calls, is_in_hand, keeper_happens, keeper_run, IsOpened, Writing, writing_after, writing}
-use Rattle.fkv_keeper.specs.CheckpointLaws.{replies_after, copy_replies, BegunWith, LastBegin, last_begin_after, last_begin, begun_with, HasCopied, IsFullWritten, IsLogWritten, IsWrittenAs, AreWritesBegun, IsBehindWait, UsesItsCopy, UsesNewest, UsesAs, IsBeingWritten, IsFinished, IsBegun, GoesOn, IsCommitAfter, KeepsLists, MayFollow}
+use Rattle.fkv_keeper.specs.CheckpointLaws.{replies_after, copy_replies, BegunWith, LastBegin, last_begin_after, last_begin, begun_with, IsWrittenAs, AreWritesBegun, IsBehindWait, UsesAs, IsBeingWritten, IsFinished, IsCommitAfter, KeepsLists, MayFollow}
 use Rattle.fkv_keeper.proofs.KeeperRuns.{happens_at, happens_so}
 use Rattle.fkv_keeper.proofs.CheckpointMoves.{IsMove, each_move}
 use Rattle.fkv_keeper.proofs.CheckpointWrites.{run_writes}

@@ -1,9 +1,8 @@
 -- What is written as the writes of a commit begin, and the clauses of the law over runs.
-use Rattle.std.proofs.Common.{◌≡◌, ℕ, ◌∙◌, List, [], ◌∷◌, refl, ap, sym, subst, Bool, true, false}
-use Rattle.std.specs.Prelude.{Option, Some, None, if◌then◌else◌, length, ⊤}
+use Rattle.std.proofs.Common.{◌≡◌, ℕ, ◌∙◌, List, ◌∷◌, refl, ap, sym, subst, false}
+use Rattle.std.specs.Prelude.{Option, Some, None, length}
 use Rattle.fkv_base.specs.declared.shapes.Shape.{Shape}
 use Rattle.fkv_record.specs.Places.{area_place}
-use Rattle.fkv_plane.specs.declared.actions.Action.{Action}
 use Rattle.fkv_plane.specs.declared.asks.Ask.{Ask}
 use Rattle.fkv_plane.specs.declared.asks.Ask.TheVariants.{Done}
 use Rattle.fkv_plane.specs.declared.places.Places.{Places}
@@ -20,10 +19,10 @@ use Rattle.fkv_keeper.specs.declared.keepers.Keeping.TheVariants.{Waits, Writes}
 use Rattle.fkv_keeper.specs.declared.last_commits.Checkpoint.{Checkpoint}
 use Rattle.fkv_keeper.specs.LastCommits.{other_area, area_number, slot_written}
 use Rattle.fkv_keeper.specs.Keeping.{KeeperState, bytes_copied, checkpoint_used, triples_written, lost_left, writes_begun, wait_ledto, keeping_next, keeping_given, keeping_called}
-use Rattle.fkv_keeper.specs.KeeperRun.{KeeperEvent, BeginsTurn, BeginsCommit, Replies, Gets, Calls, Writing, has_failed, writing, number_open, keeper_run, IsOpened}
-use Rattle.fkv_keeper.specs.CheckpointLaws.{copy_replies, LastBegin, last_begin, begun_with, HasCopied, HoldsCopy, IsFullWritten, IsLogWritten, IsWrittenAs, AreWritesBegun}
+use Rattle.fkv_keeper.specs.KeeperRun.{KeeperEvent, Replies, writing, keeper_run, IsOpened}
+use Rattle.fkv_keeper.specs.CheckpointLaws.{copy_replies, LastBegin, last_begin, begun_with, HasCopied, HoldsCopy, IsWrittenAs, AreWritesBegun}
 use Rattle.fkv_keeper.proofs.KeeperSound.{Knows}
-use Rattle.fkv_keeper.proofs.KeeperRuns.{happens_at, happens_so, IsSound as IsRunSound, run_sound}
+use Rattle.fkv_keeper.proofs.KeeperRuns.{happens_at, happens_so, run_sound}
 use Rattle.fkv_keeper.proofs.CheckpointRuns.{IsSound, run_copied}
 
 pub run_holds : (shape : Shape) (p : Places) (opening : KeeperState) (events : List KeeperEvent) → IsOpened opening → HoldsCopy p (copy_replies shape p opening events) (keeper_run shape p opening events)

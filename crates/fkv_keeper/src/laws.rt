@@ -4,8 +4,7 @@ ghost use Rattle.fkv_base.specs.declared.faults.Fault.TheVariants.{Memory};
 ghost use Rattle.fkv_base.specs.declared.shapes.Shape.{Shape};
 ghost use Rattle.fkv_plane.specs.declared.places.Places.{Places};
 ghost use Rattle.fkv_keeper.specs.declared.answers.KeeperTold.TheVariants.{Turned, TurnRefused};
-ghost use Rattle.fkv_keeper.specs.declared.keepers.Keeping.TheVariants.{Ended, Finishes};
-ghost use Rattle.fkv_keeper.specs.declared.keepers.Keeping.TheVariants.{Waits, Writes};
+ghost use Rattle.fkv_keeper.specs.declared.keepers.Keeping.TheVariants.{Ended, Finishes, Waits, Writes};
 ghost use Rattle.fkv_keeper.specs.CheckpointLaws.{AreWritesBegun, ChangesItsWords, CopiesOnce, DoesOneThing, HoldsCopy, IsBehindWait, IsBeingWritten, KeepsLists, SparesDurable, begun_with, copy_replies};
 ghost use Rattle.fkv_keeper.specs.Keeping.{KeeperState};
 ghost use Rattle.fkv_keeper.specs.KeeperLaws.{CopiesAgain, IsBrokenForGood, IsFinishOfBegun, IsMemoryRefused, IsWritten};
@@ -38,7 +37,7 @@ pub fn law_of_the_keeper()
 /// where a full commit counts as copied, and its writes have not begun, the keeper holds the finished copy of the index, by the replies
 /// that the copy had. What it writes is that copy, with the commit's own number and first address as its start has told them, in the area
 /// that the newest finished commit's checkpoint doesn't use; a log commit uses that checkpoint and names the first eight lost ranges in
-/// hand. At each step: a copy begins only where the phase says so and a commit in hand isn't copied, and once copied it is so until it
+/// hand; and that is so until the commit is finished. At each step: a copy begins only where the phase says so and a commit in hand isn't copied, and once copied it is so until it
 /// is finished; the newest finished commit and the lost ranges change at its finish alone; and in a turn at most one thing is done for
 /// the commit in hand. A step changes no words but its own: the durable words and rest are stored by a finish alone, but that a turn
 /// stores the phase that an action says which it has claimed.
