@@ -185,8 +185,8 @@ pub record IsBegun (s a : KeeperState) : Type 0 where
   pub copied : commit.is_copied ≡ is_log commit.kind
   pub told : a.step ≡ Ended (Begun commit.number)
 
--- The commit in hand is finished: it is the newest finished one now, with its points, its checkpoint and the gate that it opened. What a full
--- one's copy has is behind no lost range any more.
+-- The commit in hand is finished: it is the newest finished one now, with its points, its checkpoint and the gate that it opened. A full one
+-- leaves no lost range, and a log commit leaves all.
 pub record IsFinished (s a : KeeperState) (c : Commit) : Type 0 where
   pub finishes : s.step ≡ Finishes
   pub none_in_hand : a.commit ≡ None
