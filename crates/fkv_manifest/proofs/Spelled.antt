@@ -9,7 +9,6 @@ use Rattle.fkv_record.specs.Layout.{first_layout, slot_bytes, point_numbers}
 use Rattle.fkv_record.specs.Manifest.{SlotSaid, front_said, lost_said, range_numbers, newest_numbers, newest_bytes}
 use Rattle.fkv_record.specs.Numbers.{spelled, padded}
 use Rattle.fkv_record.specs.Places.{number_at}
-use Rattle.fkv_record.specs.Points.{serial_numbers}
 use Rattle.fkv_record.specs.declared.lost_ranges.LostRange.{LostRange}
 use Rattle.fkv_record.specs.declared.slots.Slot.{Slot}
 use Rattle.fkv_record.proofs.Shown.{slot_numbered, length-spelled}

@@ -1,0 +1,15 @@
+-- The law, by what holds at every moment.
+use Rattle.fkv_standing.proofs.Runs.{run_begins, run_stands, run_written}
+use Rattle.fkv_standing.proofs.laws.law_one_commit_stands.Goals as goal
+
+pub returns-clause-begins : goal.returns-clause-begins
+returns-clause-begins c = λ shape p opened opening events event told turns waits writes. run_begins shape p opened opening told events event turns waits writes
+
+pub returns-clause-stands : goal.returns-clause-stands
+returns-clause-stands c = λ shape p opened opening events image told turns left. (run_stands shape p opened opening told events image turns left).0
+
+pub returns-clause-written : goal.returns-clause-written
+returns-clause-written c = λ shape p opened opening events image told turns left finishes. run_written shape p opened opening told events image turns left finishes
+
+pub returns-clause-triples : goal.returns-clause-triples
+returns-clause-triples c = λ shape p opened opening events image told turns left. (run_stands shape p opened opening told events image turns left).1
