@@ -21,7 +21,7 @@ use Rattle.fkv_keeper.specs.declared.keepers.Keeping.TheVariants.{Ended, Maintai
 use Rattle.fkv_keeper.specs.Keeping.{Finality, KeeperState}
 use Rattle.fkv_keeper.specs.KeeperLaws.{IsRefusal}
 use Rattle.fkv_keeper.specs.KeeperRun.{Writing}
-use Rattle.fkv_standing.specs.Standing.{Standing, IsOneInForce, triples_in, writing_goes_on}
+use Rattle.fkv_standing.specs.Standing.{Standing, is_at_writes, IsOneInForce, triples_in, is_writing_after}
 use Rattle.fkv_standing.proofs.Fronts.{Has}
 use Rattle.fkv_standing.proofs.Flushed.{IsCalm, IsFlushing, calm_flushes, calm_left, flushing_left}
 use Rattle.fkv_standing.proofs.Written.{IsNext, IsUnderWay}
@@ -30,12 +30,6 @@ use Rattle.fkv_standing.proofs.Written.{IsNext, IsUnderWay}
 abbrev pub IsRefused : Keeping → Type 0
 IsRefused (Ended told) = IsRefusal told
 IsRefused step = ⊥
-
--- a commit is written
-abbrev pub is_at_writes : Keeping → Bool
-is_at_writes Writes = true
-is_at_writes Finishes = true
-is_at_writes step = false
 
 -- neither a commit is written, nor the log flushed
 abbrev pub IsPlain : Keeping → Type 0
@@ -105,7 +99,7 @@ module _ (shape : Shape) (p : Places) (opened : List ℕ) where
 
   -- what an event leads to
   abbrev pub GoesTo : Bool → Standing → Writing → List Call → KeeperState → Type 0
-  GoesTo was its w calls after = IsSound after (writing_goes_on after.step was) its w calls
+  GoesTo was its w calls after = IsSound after (is_writing_after after.step was) its w calls
 
   -- at a step while no commit is written, and the device works
   pub record IsAt (s : KeeperState) (is_written : Bool) (step : Keeping) : Type 0 where
@@ -143,7 +137,7 @@ module _ (shape : Shape) (p : Places) (opened : List ℕ) where
   plain_knows s its w calls Finishes plain calm = absurd plain
   plain_knows s its w calls step plain calm = calm
 
-  pub plain_unwritten : (step : Keeping) (was : Bool) → IsPlain step → was ≡ false → writing_goes_on step was ≡ is_at_writes step
+  pub plain_unwritten : (step : Keeping) (was : Bool) → IsPlain step → was ≡ false → is_writing_after step was ≡ is_at_writes step
   plain_unwritten Maintains was plain e = absurd plain
   plain_unwritten Writes was plain e = absurd plain
   plain_unwritten Finishes was plain e = absurd plain
@@ -158,8 +152,8 @@ module _ (shape : Shape) (p : Places) (opened : List ℕ) where
     commit = subst (λ (f : Finality). CommitKnown f after.commit) (sym same) commit;
     copy = copy;
     along =
-        subst (λ (b : Bool). Along after (writing_goes_on after.step was) its w calls b) (sym works)
-        (subst (λ (k : Keeping). (writing_goes_on k was ≡ is_at_writes k) × Knows after its w calls k) (sym e)
+        subst (λ (b : Bool). Along after (is_writing_after after.step was) its w calls b) (sym works)
+        (subst (λ (k : Keeping). (is_writing_after k was ≡ is_at_writes k) × Knows after its w calls k) (sym e)
         (plain_unwritten to was plain now.unwritten, plain_knows after its w calls to plain (subst (λ (f : Finality). IsCalm shape opened f its calls) (sym same) calm)));
   }
 
@@ -170,8 +164,8 @@ module _ (shape : Shape) (p : Places) (opened : List ℕ) where
     commit = commit;
     copy = copy;
     along =
-        subst (λ (b : Bool). Along after (writing_goes_on after.step was) its w calls b) (sym works)
-        (subst (λ (k : Keeping). (writing_goes_on k was ≡ is_at_writes k) × Knows after its w calls k) (sym e) (unwritten, knows));
+        subst (λ (b : Bool). Along after (is_writing_after after.step was) its w calls b) (sym works)
+        (subst (λ (k : Keeping). (is_writing_after k was ≡ is_at_writes k) × Knows after its w calls k) (sym e) (unwritten, knows));
   }
 
   -- a failure of a call that isn't one of a commit's writes

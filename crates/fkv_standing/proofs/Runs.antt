@@ -31,10 +31,10 @@ use Rattle.fkv_keeper.specs.KeeperRun.{KeeperEvent, BeginsTurn, BeginsCommit, Re
 use Rattle.fkv_keeper.specs.LastCommits.{slot_place}
 use Rattle.fkv_standing.specs.CallsMade.{calls_of, calls_made}
 use Rattle.fkv_standing.specs.Opening.{IsToldBy, IsNumberInTurn, AreNumbersInTurn}
-use Rattle.fkv_standing.specs.Standing.{Standing, IsOneInForce, triples_in, standing_opened, standing_after, standing, writing_goes_on, is_writing}
+use Rattle.fkv_standing.specs.Standing.{Standing, is_at_writes, IsOneInForce, triples_in, standing_opened, standing_after, standing, is_writing_after, is_writing}
 use Rattle.fkv_standing.proofs.Fronts.{Has}
 use Rattle.fkv_standing.proofs.Flushed.{IsCalm, calm_left}
-use Rattle.fkv_standing.proofs.Moments.{IsRefused, is_at_writes, CopyKnown, CommitKnown, MaintainKnows, IsWritingNow, IsWrittenNow, IsBrokenNow, Along, Knows, IsSound, GoesTo, IsAt, maintain_left, goes_plain, goes_maintains, goes_broken}
+use Rattle.fkv_standing.proofs.Moments.{IsRefused, CopyKnown, CommitKnown, MaintainKnows, IsWritingNow, IsWrittenNow, IsBrokenNow, Along, Knows, IsSound, GoesTo, IsAt, maintain_left, goes_plain, goes_maintains, goes_broken}
 use Rattle.fkv_standing.proofs.Stepped.{maintain_on, start_on, phase_on, enter_on, copy_on, seek_on}
 use Rattle.fkv_standing.proofs.Turned.{replied, given, called, failed}
 use Rattle.fkv_standing.proofs.Written.{under_way_stands, under_way_triples, written_stands}
@@ -71,10 +71,10 @@ module _ (shape : Shape) (p : Places) (opened : List ℕ) (buckets : p.buckets �
   module _ (s : KeeperState) (was : Bool) (its : Standing) (w : Writing) (calls : List Call) (is : IsSound shape p opened s was its w calls) where
     -- what is to be shown of an event at a step
     abbrev Shows : Keeping → KeeperState → Writing → List Call → Type 0
-    Shows step after w' calls' = IsSound shape p opened after (writing_goes_on after.step was) (standing_after step after.step s.commit w.first its) w' calls'
+    Shows step after w' calls' = IsSound shape p opened after (is_writing_after after.step was) (standing_after step after.step s.commit w.first its) w' calls'
 
     -- where nothing happens
-    goes_on_same : (step : Keeping) → writing_goes_on step (is_at_writes step) ≡ is_at_writes step
+    goes_on_same : (step : Keeping) → is_writing_after step (is_at_writes step) ≡ is_at_writes step
     goes_on_same (Ended (Turned true full)) = refl
     goes_on_same (Ended told) = refl
     goes_on_same Starts = refl
@@ -87,19 +87,19 @@ module _ (shape : Shape) (p : Places) (opened : List ℕ) (buckets : p.buckets �
     goes_on_same Writes = refl
     goes_on_same Finishes = refl
 
-    refused_same : (step : Keeping) → IsRefused step → writing_goes_on step was ≡ was
+    refused_same : (step : Keeping) → IsRefused step → is_writing_after step was ≡ was
     refused_same (Ended (TurnRefused why)) refused = refl
     refused_same (Ended (CommitRefused why)) refused = refl
     refused_same (Ended (Turned true full)) refused = absurd refused
     refused_same (Ended (Turned false full)) refused = refl
     refused_same step refused = absurd refused
 
-    still : writing_goes_on s.step was ≡ was
+    still : is_writing_after s.step was ≡ was
     still = by_broken s.is_broken is.along
       where
-        by_broken : (b : Bool) → Along shape p opened s was its w calls b → writing_goes_on s.step was ≡ was
+        by_broken : (b : Bool) → Along shape p opened s was its w calls b → is_writing_after s.step was ≡ was
         by_broken true broken = refused_same s.step broken.refused
-        by_broken false along = ap (λ (b : Bool). writing_goes_on s.step b) along.0 ∙ goes_on_same s.step ∙ sym along.0
+        by_broken false along = ap (λ (b : Bool). is_writing_after s.step b) along.0 ∙ goes_on_same s.step ∙ sym along.0
 
     same_standing : (step : Keeping) → standing_after step step s.commit w.first its ≡ its
     same_standing (Ended told) = refl
@@ -115,7 +115,7 @@ module _ (shape : Shape) (p : Places) (opened : List ℕ) (buckets : p.buckets �
 
     stays : (step : Keeping) → s.step ≡ step → Shows step s w calls
     stays step e =
-        subst (λ (k : Keeping). IsSound shape p opened s (writing_goes_on s.step was) (standing_after k s.step s.commit w.first its) w calls) e
+        subst (λ (k : Keeping). IsSound shape p opened s (is_writing_after s.step was) (standing_after k s.step s.commit w.first its) w calls) e
         (subst (λ (b : Bool). IsSound shape p opened s b (standing_after s.step s.step s.commit w.first its) w calls) (sym still)
         (subst (λ (x : Standing). IsSound shape p opened s was x w calls) (sym (same_standing s.step)) is))
 
@@ -215,11 +215,11 @@ module _ (shape : Shape) (p : Places) (opened : List ℕ) (buckets : p.buckets �
       broken_now : IsBrokenNow shape p opened s was its w calls
       broken_now = subst (λ (b : Bool). Along shape p opened s was its w calls b) broken is.along
 
-      refuses : (told : KeeperTold) → IsRefusal told → writing_goes_on (Ended told) was ≡ was → GoesTo shape p opened was its w calls (ended s told)
+      refuses : (told : KeeperTold) → IsRefusal told → is_writing_after (Ended told) was ≡ was → GoesTo shape p opened was its w calls (ended s told)
       refuses told refusal same = record {
         commit = is.commit;
         copy = is.copy;
-        along = subst (λ (b : Bool). Along shape p opened (ended s told) (writing_goes_on (Ended told) was) its w calls b) (sym broken)
+        along = subst (λ (b : Bool). Along shape p opened (ended s told) (is_writing_after (Ended told) was) its w calls b) (sym broken)
             (subst (λ (b : Bool). IsBrokenNow shape p opened (ended s told) b its w calls) (sym same) (record { refused = refusal; stands = broken_now.stands; triples = broken_now.triples }));
       }
 
@@ -270,6 +270,9 @@ module _ (shape : Shape) (p : Places) (opened : List ℕ) (buckets : p.buckets �
         by_broken : (b : Bool) → Along shape p opened s was its w calls b → IsOneInForce was s.last its w.first image × (triples_in shape image s.last.checkpoint ≡ its.triples)
         by_broken true broken = (broken.stands image left, broken.triples image left)
         by_broken false along = by_step s.step along.0 along.1
+
+    pub sound_at : s.is_broken ≡ false → was ≡ is_at_writes s.step
+    sound_at works = (along works).0
 
     pub sound_written : s.step ≡ Finishes → (image : List ℕ) → MayLeave opened calls image → NewStands w.first image
     sound_written e image left = by_broken s.is_broken is.along
@@ -333,7 +336,7 @@ module _ (shape : Shape) (p : Places) (opened : List ℕ) (opening : KeeperState
   unfolding keeper_run is_writing standing writing calls_made AreNumbersInTurn
   run_sound [] turns = opening_sound
   run_sound (event ∷ before) turns =
-      subst (λ (after : KeeperState). IsSound shape p opened after (writing_goes_on after.step was) (standing_after s.step after.step s.commit w.first its) (writing_after s.step event after w) (calls_of shape s event ++ calls)) (happens_so shape p s event)
+      subst (λ (after : KeeperState). IsSound shape p opened after (is_writing_after after.step was) (standing_after s.step after.step s.commit w.first its) (writing_after s.step event after w) (calls_of shape s event ++ calls)) (happens_so shape p s event)
       (subst (λ (made : List Call). Shown_after (happens_at shape p s s.step event) (made ++ calls)) (calls_so shape s event)
       (event_on shape p opened told.buckets told.overflow s was its w calls (run_sound before turns.1) event
       (subst (λ (after : KeeperState). IsNumberInTurn s.last.number s.step after.step) (sym (happens_so shape p s event)) turns.0)))
@@ -354,7 +357,7 @@ module _ (shape : Shape) (p : Places) (opened : List ℕ) (opening : KeeperState
       calls = calls_made shape p opening before
 
       Shown_after : KeeperState → List Call → Type 0
-      Shown_after after made = IsSound shape p opened after (writing_goes_on after.step was) (standing_after s.step after.step s.commit w.first its) (writing_after s.step event after w) made
+      Shown_after after made = IsSound shape p opened after (is_writing_after after.step was) (standing_after s.step after.step s.commit w.first its) (writing_after s.step event after w) made
 
   -- what a crash leaves after these events
   pub run_stands : (events : List KeeperEvent) (image : List ℕ) → AreNumbersInTurn shape p opening events → MayLeave opened (calls_made shape p opening events) image
@@ -363,6 +366,11 @@ module _ (shape : Shape) (p : Places) (opened : List ℕ) (opening : KeeperState
   run_stands events image turns left =
       sound_stands shape p opened told.buckets told.overflow (keeper_run shape p opening events) (is_writing shape p opening events) (standing shape p opened opening events) (writing shape p opening events) (calls_made shape p opening events)
       (run_sound events turns) image left
+
+  pub run_at : (events : List KeeperEvent) → AreNumbersInTurn shape p opening events → (keeper_run shape p opening events).is_broken ≡ false → is_writing shape p opening events ≡ is_at_writes (keeper_run shape p opening events).step
+  run_at events turns works =
+      sound_at shape p opened told.buckets told.overflow (keeper_run shape p opening events) (is_writing shape p opening events) (standing shape p opened opening events) (writing shape p opening events) (calls_made shape p opening events)
+      (run_sound events turns) works
 
   pub run_written : (events : List KeeperEvent) (image : List ℕ) → AreNumbersInTurn shape p opening events → MayLeave opened (calls_made shape p opening events) image → (keeper_run shape p opening events).step ≡ Finishes
       → NewStands (writing shape p opening events).first image

@@ -31,9 +31,9 @@ use Rattle.fkv_keeper.specs.declared.keepers.Keeping.TheVariants.{Ended, Waits, 
 use Rattle.fkv_keeper.specs.declared.last_commits.Checkpoint.{Checkpoint}
 use Rattle.fkv_keeper.specs.Keeping.{Finality, KeeperState, triples_copied, bytes_copied, checkpoint_used, triples_written, writes_of, writes_begun, wait_ledto, finished, finish_ledto, write_ledto, writes_called, lost_left}
 use Rattle.fkv_keeper.specs.KeeperRun.{Writing}
-use Rattle.fkv_standing.specs.Standing.{Standing, IsOneInForce, standing_after, writing_goes_on}
+use Rattle.fkv_standing.specs.Standing.{Standing, is_at_writes, IsOneInForce, standing_after, is_writing_after}
 use Rattle.fkv_standing.proofs.Flushed.{IsCalm}
-use Rattle.fkv_standing.proofs.Moments.{is_at_writes, CopyKnown, CommitKnown, IsWritingNow, IsWrittenNow, Along, Knows, IsSound, GoesTo, IsAt, goes_plain}
+use Rattle.fkv_standing.proofs.Moments.{CopyKnown, CommitKnown, IsWritingNow, IsWrittenNow, Along, Knows, IsSound, GoesTo, IsAt, goes_plain}
 use Rattle.fkv_standing.proofs.Written.{IsNext, Lies, IsUnderWay, slot_names, writes_begin, under_way_stands, under_way_triples, finished_calm}
 
 -- sixteen bytes for each triple
@@ -152,12 +152,12 @@ module _ (shape : Shape) (p : Places) (opened : List ℕ) (buckets : p.buckets �
     written_on known (Some c) write.Device e in_hand its_answer = record {
       commit = commit;
       copy = copy;
-      along = subst (λ (b : Bool). Along shape p opened s (writing_goes_on s.step was) its w calls b) (sym works) (subst (λ (k : Keeping). (writing_goes_on k was ≡ is_at_writes k) × Knows shape p opened s its w calls k) (sym e) (refl, known));
+      along = subst (λ (b : Bool). Along shape p opened s (is_writing_after s.step was) its w calls b) (sym works) (subst (λ (k : Keeping). (is_writing_after k was ≡ is_at_writes k) × Knows shape p opened s its w calls k) (sym e) (refl, known));
     }
     written_on known (Some c) (write.Broken why) e in_hand its_answer = record {
       commit = commit;
       copy = copy;
-      along = subst (λ (b : Bool). Along shape p opened s (writing_goes_on s.step was) its w calls b) (sym works) (subst (λ (k : Keeping). (writing_goes_on k was ≡ is_at_writes k) × Knows shape p opened s its w calls k) (sym e) (refl, known));
+      along = subst (λ (b : Bool). Along shape p opened s (is_writing_after s.step was) its w calls b) (sym works) (subst (λ (k : Keeping). (is_writing_after k was ≡ is_at_writes k) × Knows shape p opened s its w calls k) (sym e) (refl, known));
     }
 
   module _ (s : KeeperState) (was : Bool) (its : Standing) (w : Writing) (calls : List Call) (copy : CopyKnown shape p opened s.copy) (commit : CommitKnown shape p opened s.last s.commit) (works : s.is_broken ≡ false) where
@@ -199,7 +199,7 @@ module _ (shape : Shape) (p : Places) (opened : List ℕ) (buckets : p.buckets �
 
     -- the commit is finished
     finished_on : (x : FinishState) (found : Option Commit) → s.commit ≡ found → s.step ≡ Finishes → IsWrittenNow shape p opened s its w calls
-        → IsSound shape p opened (finished (record s { finish = x }) found) (writing_goes_on (finished (record s { finish = x }) found).step was) (standing_after Finishes (finished (record s { finish = x }) found).step found w.first its) w calls
+        → IsSound shape p opened (finished (record s { finish = x }) found) (is_writing_after (finished (record s { finish = x }) found).step was) (standing_after Finishes (finished (record s { finish = x }) found).step found w.first its) w calls
     finished_on x None in_hand e known = let clash : None ≡ Some known.commit = sym in_hand ∙ known.in_hand in absurd (cc)
     finished_on x (Some c) in_hand e known = record {
       commit = tt;
@@ -220,14 +220,14 @@ module _ (shape : Shape) (p : Places) (opened : List ℕ) (buckets : p.buckets �
         calm = finished_calm shape opened s.last its c s.used w calls under_way known.answered s.seek.points
 
     pub finish_on : (x : FinishState) (ask : Ask FinishAnswer) → s.step ≡ Finishes → was ≡ true → IsWrittenNow shape p opened s its w calls
-        → IsSound shape p opened (finish_ledto (record s { finish = x }) ask) (writing_goes_on (finish_ledto (record s { finish = x }) ask).step was) (standing_after Finishes (finish_ledto (record s { finish = x }) ask).step s.commit w.first its) w calls
+        → IsSound shape p opened (finish_ledto (record s { finish = x }) ask) (is_writing_after (finish_ledto (record s { finish = x }) ask).step was) (standing_after Finishes (finish_ledto (record s { finish = x }) ask).step s.commit w.first its) w calls
     unfolding finish_ledto
     finish_on x (Done end) e writes known = finished_on x s.commit refl e known
     finish_on x ask e writes known = record {
       commit = commit;
       copy = copy;
-      along = subst (λ (b : Bool). Along shape p opened (record s { finish = x }) (writing_goes_on s.step was) (standing_after Finishes s.step s.commit w.first its) w calls b) (sym works)
-          (subst (λ (k : Keeping). (writing_goes_on k was ≡ is_at_writes k) × Knows shape p opened (record s { finish = x }) (standing_after Finishes k s.commit w.first its) w calls k) (sym e) (refl, now));
+      along = subst (λ (b : Bool). Along shape p opened (record s { finish = x }) (is_writing_after s.step was) (standing_after Finishes s.step s.commit w.first its) w calls b) (sym works)
+          (subst (λ (k : Keeping). (is_writing_after k was ≡ is_at_writes k) × Knows shape p opened (record s { finish = x }) (standing_after Finishes k s.commit w.first its) w calls k) (sym e) (refl, now));
     }
       where
         now : IsWrittenNow shape p opened (record s { finish = x }) its w calls

@@ -52,15 +52,21 @@ standing shape p opened opening (event ∷ before) =
     standing_after (keeper_run shape p opening before).step (keeper_run shape p opening (event ∷ before)).step (keeper_run shape p opening before).commit (writing shape p opening before).first (standing shape p opened opening before)
 
 -- the writes of a commit are under way from their start until it is finished, and for good where a call of them fails
-abbrev pub writing_goes_on : Keeping → Bool → Bool
-writing_goes_on Writes was = true
-writing_goes_on Finishes was = true
-writing_goes_on (Ended (Turned true full)) was = false
-writing_goes_on step was = was
+abbrev pub is_writing_after : Keeping → Bool → Bool
+is_writing_after Writes was = true
+is_writing_after Finishes was = true
+is_writing_after (Ended (Turned true full)) was = false
+is_writing_after step was = was
 
 unfoldable pub is_writing : Shape → Places → KeeperState → List KeeperEvent → Bool
 is_writing shape p opening [] = false
-is_writing shape p opening (event ∷ before) = writing_goes_on (keeper_run shape p opening (event ∷ before)).step (is_writing shape p opening before)
+is_writing shape p opening (event ∷ before) = is_writing_after (keeper_run shape p opening (event ∷ before)).step (is_writing shape p opening before)
+
+-- as long as no call has failed they are under way at these steps, and at no others
+abbrev pub is_at_writes : Keeping → Bool
+is_at_writes Writes = true
+is_at_writes Finishes = true
+is_at_writes step = false
 
 -- the newest finished commit is in force, and its slot is as it was written
 pub record IsInForce (last : Finality) (its : Standing) (image : List ℕ) : Type 0 where
