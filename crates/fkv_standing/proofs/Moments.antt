@@ -2,6 +2,7 @@
 use Rattle.std.proofs.Common.{◌≡◌, ℕ, List, Bool, true, false, refl, sym, subst}
 use Rattle.std.specs.Prelude.{⊤, Option, Some, None}
 use Rattle.fkv_base.specs.declared.shapes.Shape.{Shape}
+use Rattle.fkv_record.specs.Places.{number_at}
 use Rattle.fkv_disk.specs.Calls.{Call, MayLeave}
 use Rattle.fkv_plane.specs.declared.places.Places.{Places}
 use Rattle.fkv_checkpoint.specs.Copying.{Copier}
@@ -21,7 +22,7 @@ use Rattle.fkv_keeper.specs.declared.keepers.Keeping.TheVariants.{Ended, Maintai
 use Rattle.fkv_keeper.specs.Keeping.{Finality, KeeperState}
 use Rattle.fkv_keeper.specs.KeeperLaws.{IsRefusal}
 use Rattle.fkv_keeper.specs.KeeperRun.{Writing}
-use Rattle.fkv_standing.specs.Standing.{Standing, is_at_writes, IsOneInForce, triples_in, is_writing_after}
+use Rattle.fkv_standing.specs.Standing.{Standing, is_at_writes, IsOneInForce, TriplesStand, is_writing_after}
 use Rattle.fkv_standing.proofs.Fronts.{Has}
 use Rattle.fkv_standing.proofs.Flushed.{IsCalm, IsFlushing, calm_flushes, calm_left, flushing_left}
 use Rattle.fkv_standing.proofs.Written.{IsNext, IsUnderWay}
@@ -86,7 +87,8 @@ module _ (shape : Shape) (p : Places) (opened : List ℕ) where
   pub record IsBrokenNow (s : KeeperState) (is_written : Bool) (its : Standing) (w : Writing) (calls : List Call) : Type 0 where
     pub refused : IsRefused s.step
     pub stands : (image : List ℕ) → MayLeave opened calls image → IsOneInForce is_written s.last its w.first image
-    pub triples : (image : List ℕ) → MayLeave opened calls image → triples_in shape image s.last.checkpoint ≡ its.triples
+    pub triples : (image : List ℕ) → MayLeave opened calls image → TriplesStand shape s.last.checkpoint its image
+    pub named : number_at its.slot 8 ≡ s.last.number.0
 
   abbrev pub Along : KeeperState → Bool → Standing → Writing → List Call → Bool → Type 0
   Along s is_written its w calls true = IsBrokenNow s is_written its w calls
@@ -131,6 +133,17 @@ module _ (shape : Shape) (p : Places) (opened : List ℕ) where
   maintain_left last its calls part.Flushes flushing image is left = flush_left last its calls flushing image is left
   maintain_left last its calls step flushing image is left = calm_left shape opened last its calls image is left
 
+  -- the slot that stands names the newest finished commit
+  flush_named : (last : Finality) (its : Standing) (calls : List Call) (step : Flushing) → FlushKnows last its calls step → number_at its.slot 8 ≡ last.number.0
+  flush_named last its calls (flush.LoadsWord its_part addr word) is = is.has.named
+  flush_named last its calls (flush.WritesPart its_part) is = is.has.named
+  flush_named last its calls (flush.Syncs end) is = is.has.named
+  flush_named last its calls step is = is.has.named
+
+  pub maintain_named : (last : Finality) (its : Standing) (calls : List Call) (step : Maintaining) (flushing : Flushing) → MaintainKnows last its calls step flushing → number_at its.slot 8 ≡ last.number.0
+  maintain_named last its calls part.Flushes flushing is = flush_named last its calls flushing is
+  maintain_named last its calls step flushing is = is.has.named
+
   pub plain_knows : (s : KeeperState) (its : Standing) (w : Writing) (calls : List Call) (step : Keeping) → IsPlain step → IsCalm shape opened s.last its calls → Knows s its w calls step
   plain_knows s its w calls Maintains plain calm = absurd plain
   plain_knows s its w calls Writes plain calm = absurd plain
@@ -170,13 +183,14 @@ module _ (shape : Shape) (p : Places) (opened : List ℕ) where
 
   -- a failure of a call that isn't one of a commit's writes
   pub goes_broken : (after : KeeperState) (was : Bool) (its : Standing) (w : Writing) (calls : List Call) (told : KeeperTold) → was ≡ false → after.step ≡ Ended told → IsRefusal told → after.is_broken ≡ true → CommitKnown after.last after.commit → CopyKnown after.copy
-      → ((image : List ℕ) → MayLeave opened calls image → Has shape after.last its image) → IsSound after was its w calls
-  goes_broken after was its w calls told unwritten e refusal broken commit copy left = record {
+      → number_at its.slot 8 ≡ after.last.number.0 → ((image : List ℕ) → MayLeave opened calls image → Has shape after.last its image) → IsSound after was its w calls
+  goes_broken after was its w calls told unwritten e refusal broken commit copy named left = record {
     commit = commit;
     copy = copy;
     along = subst (λ (b : Bool). Along after was its w calls b) (sym broken) (record {
       refused = subst (λ (k : Keeping). IsRefused k) (sym e) refusal;
       stands = λ image may. subst (λ (b : Bool). IsOneInForce b after.last its w.first image) (sym unwritten) (left image may).stands;
-      triples = λ image may. (left image may).triples;
+      triples = λ image may. record { same = (left image may).triples; fit = (left image may).fit; long = (left image may).long };
+      named = named;
     });
   }

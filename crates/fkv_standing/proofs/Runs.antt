@@ -4,6 +4,7 @@ use Rattle.std.specs.Prelude.{if◌then◌else◌, length, Option}
 use Rattle.fkv_base.specs.declared.faults.Fault.TheVariants as fault
 use Rattle.fkv_base.specs.declared.shapes.Shape.{Shape}
 use Rattle.fkv_words.specs.PhaseWords.{phase_said}
+use Rattle.fkv_record.specs.Places.{number_at}
 use Rattle.fkv_disk.specs.Calls.{Call, MayLeave}
 use Rattle.fkv_plane.specs.declared.actions.Action.{Action}
 use Rattle.fkv_plane.specs.declared.places.Places.{Places}
@@ -31,10 +32,10 @@ use Rattle.fkv_keeper.specs.KeeperRun.{KeeperEvent, BeginsTurn, BeginsCommit, Re
 use Rattle.fkv_keeper.specs.LastCommits.{slot_place}
 use Rattle.fkv_standing.specs.CallsMade.{calls_of, calls_made}
 use Rattle.fkv_standing.specs.Opening.{IsToldBy, IsNumberInTurn, AreNumbersInTurn}
-use Rattle.fkv_standing.specs.Standing.{Standing, is_at_writes, IsOneInForce, triples_in, standing_opened, standing_after, standing, is_writing_after, is_writing}
+use Rattle.fkv_standing.specs.Standing.{Standing, is_at_writes, IsOneInForce, TriplesStand, standing_opened, standing_after, standing, is_writing_after, is_writing}
 use Rattle.fkv_standing.proofs.Fronts.{Has}
 use Rattle.fkv_standing.proofs.Flushed.{IsCalm, calm_left}
-use Rattle.fkv_standing.proofs.Moments.{IsRefused, CopyKnown, CommitKnown, MaintainKnows, IsWritingNow, IsWrittenNow, IsBrokenNow, Along, Knows, IsSound, GoesTo, IsAt, maintain_left, goes_plain, goes_maintains, goes_broken}
+use Rattle.fkv_standing.proofs.Moments.{IsRefused, CopyKnown, CommitKnown, MaintainKnows, IsWritingNow, IsWrittenNow, IsBrokenNow, Along, Knows, IsSound, GoesTo, IsAt, maintain_left, maintain_named, goes_plain, goes_maintains, goes_broken}
 use Rattle.fkv_standing.proofs.Stepped.{maintain_on, start_on, phase_on, enter_on, copy_on, seek_on}
 use Rattle.fkv_standing.proofs.Turned.{replied, given, called, failed}
 use Rattle.fkv_standing.proofs.Written.{under_way_stands, under_way_triples, written_stands}
@@ -162,9 +163,9 @@ module _ (shape : Shape) (p : Places) (opened : List ℕ) (buckets : p.buckets �
           → GoesTo shape p opened was its w (maintaining_calls shape s.maintain step done ++ calls) (maintain_ledto (record s { maintain = maintaining_called shape p s.maintain step done bytes }) (maintain_ask shape p (maintaining_called shape p s.maintain step done bytes)))
       unfolding maintaining_called maintaining_calls maintaining_ask maintain_ledto
       turn_call part.Flushes false bytes e m knows =
-          goes_broken shape p opened _ was its w _ (TurnRefused fault.Device) ((knows_at Maintains e).0) refl tt refl is.commit is.copy (λ image left. failed shape p opened s.last its calls s.maintain part.Flushes image knows left)
+          goes_broken shape p opened _ was its w _ (TurnRefused fault.Device) ((knows_at Maintains e).0) refl tt refl is.commit is.copy (maintain_named shape p opened s.last its calls part.Flushes s.maintain.flushing knows) (λ image left. failed shape p opened s.last its calls s.maintain part.Flushes image knows left)
       turn_call part.Serves false bytes e m knows =
-          goes_broken shape p opened _ was its w _ (TurnRefused fault.Device) ((knows_at Maintains e).0) refl tt refl is.commit is.copy (λ image left. failed shape p opened s.last its calls s.maintain part.Serves image knows left)
+          goes_broken shape p opened _ was its w _ (TurnRefused fault.Device) ((knows_at Maintains e).0) refl tt refl is.commit is.copy (maintain_named shape p opened s.last its calls part.Serves s.maintain.flushing knows) (λ image left. failed shape p opened s.last its calls s.maintain part.Serves image knows left)
       turn_call step true bytes e m knows =
           maintain_on shape p opened s was its w (maintaining_calls shape s.maintain step true ++ calls) Maintains (at Maintains e refl) (maintaining_called shape p s.maintain step true bytes) (maintain_ask shape p (maintaining_called shape p s.maintain step true bytes)) refl
           (called shape p opened s.last its calls s.maintain step bytes m knows) refl
@@ -220,7 +221,7 @@ module _ (shape : Shape) (p : Places) (opened : List ℕ) (buckets : p.buckets �
         commit = is.commit;
         copy = is.copy;
         along = subst (λ (b : Bool). Along shape p opened (ended s told) (is_writing_after (Ended told) was) its w calls b) (sym broken)
-            (subst (λ (b : Bool). IsBrokenNow shape p opened (ended s told) b its w calls) (sym same) (record { refused = refusal; stands = broken_now.stands; triples = broken_now.triples }));
+            (subst (λ (b : Bool). IsBrokenNow shape p opened (ended s told) b its w calls) (sym same) (record { refused = refusal; stands = broken_now.stands; triples = broken_now.triples; named = broken_now.named }));
       }
 
       refuses_turn : (b : Bool) → s.is_broken ≡ b → GoesTo shape p opened was its w calls (if b then ended s (TurnRefused fault.Broken) else record s { maintain = maintain_begun s.maintain; is_drain_full = false; step = Maintains })
@@ -249,13 +250,13 @@ module _ (shape : Shape) (p : Places) (opened : List ℕ) (buckets : p.buckets �
         by_broken false works = works_on works s.step event refl turn
 
     -- what a crash leaves at each moment
-    pub sound_stands : (image : List ℕ) → MayLeave opened calls image → IsOneInForce was s.last its w.first image × (triples_in shape image s.last.checkpoint ≡ its.triples)
+    pub sound_stands : (image : List ℕ) → MayLeave opened calls image → IsOneInForce was s.last its w.first image × TriplesStand shape s.last.checkpoint its image
     sound_stands image left = by_broken s.is_broken is.along
       where
-        has_it : Has shape s.last its image → was ≡ false → IsOneInForce was s.last its w.first image × (triples_in shape image s.last.checkpoint ≡ its.triples)
-        has_it has e = (subst (λ (b : Bool). IsOneInForce b s.last its w.first image) (sym e) has.stands, has.triples)
+        has_it : Has shape s.last its image → was ≡ false → IsOneInForce was s.last its w.first image × TriplesStand shape s.last.checkpoint its image
+        has_it has e = (subst (λ (b : Bool). IsOneInForce b s.last its w.first image) (sym e) has.stands, record { same = has.triples; fit = has.fit; long = has.long })
 
-        by_step : (step : Keeping) → was ≡ is_at_writes step → Knows shape p opened s its w calls step → IsOneInForce was s.last its w.first image × (triples_in shape image s.last.checkpoint ≡ its.triples)
+        by_step : (step : Keeping) → was ≡ is_at_writes step → Knows shape p opened s its w calls step → IsOneInForce was s.last its w.first image × TriplesStand shape s.last.checkpoint its image
         by_step Maintains e knows = has_it (maintain_left shape p opened s.last its calls s.maintain.step s.maintain.flushing image knows left) e
         by_step Writes e knows = (
           subst (λ (b : Bool). IsOneInForce b s.last its w.first image) (sym e) (under_way_stands shape opened s.last its knows.commit s.used w calls knows.under_way image left),
@@ -267,9 +268,22 @@ module _ (shape : Shape) (p : Places) (opened : List ℕ) (buckets : p.buckets �
         )
         by_step step e knows = has_it (calm_left shape opened s.last its calls image knows left) e
 
-        by_broken : (b : Bool) → Along shape p opened s was its w calls b → IsOneInForce was s.last its w.first image × (triples_in shape image s.last.checkpoint ≡ its.triples)
+        by_broken : (b : Bool) → Along shape p opened s was its w calls b → IsOneInForce was s.last its w.first image × TriplesStand shape s.last.checkpoint its image
         by_broken true broken = (broken.stands image left, broken.triples image left)
         by_broken false along = by_step s.step along.0 along.1
+
+    pub sound_named : number_at its.slot 8 ≡ s.last.number.0
+    sound_named = by_broken s.is_broken is.along
+      where
+        by_step : (step : Keeping) → Knows shape p opened s its w calls step → number_at its.slot 8 ≡ s.last.number.0
+        by_step Maintains knows = maintain_named shape p opened s.last its calls s.maintain.step s.maintain.flushing knows
+        by_step Writes knows = knows.under_way.has.named
+        by_step Finishes knows = knows.under_way.has.named
+        by_step step knows = knows.has.named
+
+        by_broken : (b : Bool) → Along shape p opened s was its w calls b → number_at its.slot 8 ≡ s.last.number.0
+        by_broken true broken = broken.named
+        by_broken false along = by_step s.step along.1
 
     pub sound_at : s.is_broken ≡ false → was ≡ is_at_writes s.step
     sound_at works = (along works).0
@@ -362,10 +376,15 @@ module _ (shape : Shape) (p : Places) (opened : List ℕ) (opening : KeeperState
   -- what a crash leaves after these events
   pub run_stands : (events : List KeeperEvent) (image : List ℕ) → AreNumbersInTurn shape p opening events → MayLeave opened (calls_made shape p opening events) image
       → IsOneInForce (is_writing shape p opening events) (keeper_run shape p opening events).last (standing shape p opened opening events) (writing shape p opening events).first image
-      × (triples_in shape image (keeper_run shape p opening events).last.checkpoint ≡ (standing shape p opened opening events).triples)
+      × TriplesStand shape (keeper_run shape p opening events).last.checkpoint (standing shape p opened opening events) image
   run_stands events image turns left =
       sound_stands shape p opened told.buckets told.overflow (keeper_run shape p opening events) (is_writing shape p opening events) (standing shape p opened opening events) (writing shape p opening events) (calls_made shape p opening events)
       (run_sound events turns) image left
+
+  pub run_named : (events : List KeeperEvent) → AreNumbersInTurn shape p opening events → number_at (standing shape p opened opening events).slot 8 ≡ (keeper_run shape p opening events).last.number.0
+  run_named events turns =
+      sound_named shape p opened told.buckets told.overflow (keeper_run shape p opening events) (is_writing shape p opening events) (standing shape p opened opening events) (writing shape p opening events) (calls_made shape p opening events)
+      (run_sound events turns)
 
   pub run_at : (events : List KeeperEvent) → AreNumbersInTurn shape p opening events → (keeper_run shape p opening events).is_broken ≡ false → is_writing shape p opening events ≡ is_at_writes (keeper_run shape p opening events).step
   run_at events turns works =

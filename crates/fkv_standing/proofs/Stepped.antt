@@ -61,6 +61,7 @@ module _ (shape : Shape) (p : Places) (opened : List ℕ) where
         goes_plain shape p opened s _ was its w calls step (Ended (TurnRefused fault.EpochsSpent)) now (calm_at_end shape p opened s.last its calls m (Done maintain.Spent) is asks (λ on. on)) tt refl now.works refl now.commit now.copy
     maintain_on m (Done maintain.Broken) e is asks =
         goes_broken shape p opened _ was its w calls (TurnRefused fault.Device) now.unwritten refl tt refl now.commit now.copy
+        (calm_at_end shape p opened s.last its calls m (Done maintain.Broken) is asks (λ on. on)).has.named
         (λ image left. calm_left shape opened s.last its calls image (calm_at_end shape p opened s.last its calls m (Done maintain.Broken) is asks (λ on. on)) left)
     maintain_on m ask e is asks = goes_maintains shape p opened s (record s { maintain = m }) was its w calls now.unwritten (now.at ∙ e) now.works now.commit now.copy is
 

@@ -188,6 +188,7 @@ module _ (shape : Shape) (p : Places) (opened : List ℕ) (buckets : p.buckets �
         refused = tt;
         stands = λ image left. subst (λ (b : Bool). IsOneInForce b s.last its w.first image) (sym writes) (under_way_stands shape opened s.last its known.commit s.used (called false) after now image left);
         triples = λ image left. under_way_triples shape opened s.last its known.commit s.used (called false) after now image left;
+        named = known.under_way.has.named;
       };
     }
       where

@@ -27,8 +27,8 @@ use Rattle.fkv_keeper.specs.declared.last_commits.Checkpoint.{Checkpoint}
 use Rattle.fkv_keeper.specs.Keeping.{Finality, KeeperState, writes_of, lost_left}
 use Rattle.fkv_keeper.specs.KeeperRun.{Writing}
 use Rattle.fkv_keeper.specs.LastCommits.{other_area, area_number, is_gate_open, gate_opened, slot_place, slot_said, slot_written, point_written}
-use Rattle.fkv_standing.specs.Standing.{Standing, IsInForce, triples_in, triples_used}
-use Rattle.fkv_standing.proofs.Fronts.{Has, area_low, same_at, slot_byte, gate_same, gate_told}
+use Rattle.fkv_standing.specs.Standing.{Standing, IsInForce, TriplesStand, triples_in, triples_used}
+use Rattle.fkv_standing.proofs.Fronts.{Has, farther, area_low, same_at, slot_byte, gate_same, gate_told}
 use Rattle.fkv_standing.proofs.Flushed.{IsCalm}
 
 -- slots take turns
@@ -144,8 +144,12 @@ module _ (shape : Shape) (opened : List ℕ) (last : Finality) (its : Standing) 
         ∙ is.has.triples
 
     -- the triples stand, and one commit does
-    pub under_way_triples : (image : List ℕ) → MayLeave opened calls image → triples_in shape image last.checkpoint ≡ its.triples
-    under_way_triples image left = triples_spared image (outcome image left).0
+    pub under_way_triples : (image : List ℕ) → MayLeave opened calls image → TriplesStand shape last.checkpoint its image
+    under_way_triples image left = record {
+      same = triples_spared image (outcome image left).0;
+      fit = is.has.fit;
+      long = farther shape last.checkpoint (length base) (length image) is.has.long (outcome image left).0.no_shorter;
+    }
 
     pub under_way_stands : (image : List ℕ) → MayLeave opened calls image → IsInForce last its image ⊎ NewStands w.first image
     under_way_stands image left = either (outcome image left).1

@@ -1,7 +1,7 @@
 -- What an image has of the newest finished commit, and of the one that is written.
-use Rattle.std.specs.Prelude.{◌≡◌, ◌⊎◌, ℕ, ◌*◌, List, [], ◌∷◌, Bool, true, false, Option, Some, None}
+use Rattle.std.specs.Prelude.{◌≡◌, ◌⊎◌, ℕ, ◌*◌, ◌≤◌, List, length, [], ◌∷◌, Bool, true, false, Option, Some, None}
 use Rattle.fkv_base.specs.declared.shapes.Shape.{Shape}
-use Rattle.fkv_record.specs.Places.{area_place}
+use Rattle.fkv_record.specs.Places.{most_triples, area_place}
 use Rattle.fkv_disk.specs.Bytes.{bytes_at}
 use Rattle.fkv_plane.specs.declared.places.Places.{Places}
 use Rattle.fkv_commit.specs.declared.commits.Commit.{Commit}
@@ -17,6 +17,7 @@ use Rattle.fkv_keeper.specs.declared.last_commits.Checkpoint.{Checkpoint}
 use Rattle.fkv_keeper.specs.Keeping.{Finality, KeeperState}
 use Rattle.fkv_keeper.specs.KeeperRun.{KeeperEvent, keeper_run, writing}
 use Rattle.fkv_keeper.specs.LastCommits.{area_number, slot_place}
+use Rattle.fkv_standing.specs.Opening.{IsBehind}
 
 -- the bytes of a finished commit's slot, and those of the triples of the checkpoint that it uses
 pub record Standing : Type 0 where
@@ -77,3 +78,9 @@ pub record IsInForce (last : Finality) (its : Standing) (image : List ℕ) : Typ
 abbrev pub IsOneInForce : Bool → Finality → Standing → CommitWriter → List ℕ → Type 0
 IsOneInForce false last its new image = IsInForce last its image
 IsOneInForce true last its new image = IsInForce last its image ⊎ NewStands new image
+
+-- the triples of a checkpoint stand, fit into their area, and the image reaches up to them
+pub record TriplesStand (shape : Shape) (checkpoint : Checkpoint) (its : Standing) (image : List ℕ) : Type 0 where
+  pub same : triples_in shape image checkpoint ≡ its.triples
+  pub fit : checkpoint.triples ≤ most_triples shape
+  pub long : IsBehind shape checkpoint (length image)

@@ -1,5 +1,5 @@
 -- The law, by what holds at every moment.
-use Rattle.fkv_standing.proofs.Runs.{run_at, run_begins, run_stands, run_written}
+use Rattle.fkv_standing.proofs.Runs.{run_at, run_begins, run_named, run_stands, run_written}
 use Rattle.fkv_standing.proofs.laws.law_one_commit_stands.Goals as goal
 
 pub returns-clause-begins : goal.returns-clause-begins
@@ -7,6 +7,9 @@ returns-clause-begins c = λ shape p opened opening events event told turns wait
 
 pub returns-clause-stands : goal.returns-clause-stands
 returns-clause-stands c = λ shape p opened opening events image told turns left. (run_stands shape p opened opening told events image turns left).0
+
+pub returns-clause-named : goal.returns-clause-named
+returns-clause-named c = λ shape p opened opening events told turns. run_named shape p opened opening told events turns
 
 pub returns-clause-writes : goal.returns-clause-writes
 returns-clause-writes c = λ shape p opened opening events told turns works. run_at shape p opened opening told events turns works
