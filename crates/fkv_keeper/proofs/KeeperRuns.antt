@@ -63,14 +63,14 @@ unwritten_commit Writes kind after w = refl
 unwritten_commit step kind after w = refl
 
 -- the state with its step told beside it, so that tables by step compute
-abbrev happens_at : Shape → Places → KeeperState → Keeping → KeeperEvent → KeeperState
+abbrev pub happens_at : Shape → Places → KeeperState → Keeping → KeeperEvent → KeeperState
 happens_at shape p s step BeginsTurn = begins s (is_in_hand step) (turn_asked s)
 happens_at shape p s step (BeginsCommit kind) = begins s (is_in_hand step) (commit_asked s kind)
 happens_at shape p s step (Replies reply granted) = keeping_next shape p s step reply granted
 happens_at shape p s step (Gets action) = keeping_given shape p s step action
 happens_at shape p s step (Calls done bytes) = keeping_called shape p s step done bytes
 
-happens_so : (shape : Shape) (p : Places) (s : KeeperState) (event : KeeperEvent) → happens_at shape p s s.step event ≡ keeper_happens shape p s event
+pub happens_so : (shape : Shape) (p : Places) (s : KeeperState) (event : KeeperEvent) → happens_at shape p s s.step event ≡ keeper_happens shape p s event
 unfolding keeper_happens
 happens_so shape p s BeginsTurn = refl
 happens_so shape p s (BeginsCommit kind) = refl

@@ -1,4 +1,13 @@
 mod BeginRun
+mod CheckpointAsks
+mod CheckpointMoves
+mod CheckpointParts
+mod CheckpointRanges
+mod CheckpointRuns
+mod CheckpointStores
+mod CheckpointTurns
+mod CheckpointUsed
+mod CheckpointWrites
 mod KeeperBegun
 mod KeeperDevice
 mod KeeperFewer

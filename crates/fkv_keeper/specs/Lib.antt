@@ -1,4 +1,5 @@
 pub mod Answers
+pub mod CheckpointLaws
 pub mod KeeperAsks
 pub mod KeeperLaws
 pub mod KeeperRun

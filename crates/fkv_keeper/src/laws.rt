@@ -4,10 +4,11 @@ ghost use Rattle.fkv_base.specs.declared.faults.Fault.TheVariants.{Memory};
 ghost use Rattle.fkv_base.specs.declared.shapes.Shape.{Shape};
 ghost use Rattle.fkv_plane.specs.declared.places.Places.{Places};
 ghost use Rattle.fkv_keeper.specs.declared.answers.KeeperTold.TheVariants.{Turned, TurnRefused};
-ghost use Rattle.fkv_keeper.specs.declared.keepers.Keeping.TheVariants.{Ended, Finishes};
+ghost use Rattle.fkv_keeper.specs.declared.keepers.Keeping.TheVariants.{Ended, Finishes, Waits, Writes};
+ghost use Rattle.fkv_keeper.specs.CheckpointLaws.{AreWritesBegun, ChangesItsWords, CopiesOnce, DoesOneThing, HoldsCopy, IsBehindWait, IsBeingWritten, KeepsLists, SparesDurable, begun_with, copy_replies};
 ghost use Rattle.fkv_keeper.specs.Keeping.{KeeperState};
 ghost use Rattle.fkv_keeper.specs.KeeperLaws.{CopiesAgain, IsBrokenForGood, IsFinishOfBegun, IsMemoryRefused, IsWritten};
-ghost use Rattle.fkv_keeper.specs.KeeperRun.{IsOpened, KeeperEvent, has_failed, is_calling, keeper_run, number_open, writing};
+ghost use Rattle.fkv_keeper.specs.KeeperRun.{IsOpened, KeeperEvent, has_failed, is_calling, keeper_happens, keeper_run, number_open, writing};
 
 /// Whatever turns and commits are begun, and whatever the replies, the actions and the answers of the device are: once a call of the
 /// device has failed, nothing is asked any more, and each turn and each commit is refused as broken. The durable words and rest are
@@ -30,4 +31,31 @@ pub fn law_of_the_keeper()
         → is_calling (keeper_run shape p opening events).step event ≡ true
         → (keeper_run shape p opening (event ∷ events)).step ≡ Ended (Turned true full)
         → IsFinishOfBegun (number_open shape p opening events) (keeper_run shape p opening events) (keeper_run shape p opening (event ∷ events)) }
+{}
+
+/// Whatever turns and commits are begun, and whatever the replies, the actions, the answers of the device and the grants of memory are:
+/// where a full commit counts as copied, and its writes have not begun, the keeper holds the finished copy of the index, by the replies
+/// that the copy had. What it writes is that copy, with the commit's own number and first address as its start has told them, in the area
+/// that the newest finished commit's checkpoint doesn't use; a log commit uses that checkpoint and names the first eight lost ranges in
+/// hand; and that is so until the commit is finished. At each step: a copy begins only where the phase says so and a commit in hand isn't copied, and once copied it is so until it
+/// is finished; the newest finished commit and the lost ranges change at its finish alone; and in a turn at most one thing is done for
+/// the commit in hand. A step changes no words but its own: the durable words and rest are stored by a finish alone, but that a turn
+/// stores the phase that an action says which it has claimed.
+pub fn law_of_checkpoints()
+    ensures copied { (shape : Shape) (p : Places) (opening : KeeperState) (events : List KeeperEvent) → IsOpened opening
+        → HoldsCopy p (copy_replies shape p opening events) (keeper_run shape p opening events) }
+    ensures writes { (shape : Shape) (p : Places) (opening : KeeperState) (events : List KeeperEvent) (event : KeeperEvent) → IsOpened opening
+        → (keeper_run shape p opening events).step ≡ Waits
+        → (keeper_run shape p opening (event ∷ events)).step ≡ Writes
+        → AreWritesBegun shape p (copy_replies shape p opening events) (begun_with shape p opening events) (keeper_run shape p opening events) (keeper_run shape p opening (event ∷ events)) }
+    ensures used { (shape : Shape) (p : Places) (opening : KeeperState) (events : List KeeperEvent) → IsOpened opening
+        → IsBehindWait (keeper_run shape p opening events).step
+        → IsBeingWritten p (copy_replies shape p opening events) (begun_with shape p opening events) (writing shape p opening events) (keeper_run shape p opening events) }
+    ensures copies { (shape : Shape) (p : Places) (s : KeeperState) (event : KeeperEvent) → CopiesOnce p s event (keeper_happens shape p s event) }
+    ensures lists { (shape : Shape) (p : Places) (s : KeeperState) (event : KeeperEvent) → KeepsLists s (keeper_happens shape p s event) }
+    ensures parts { (shape : Shape) (p : Places) (s : KeeperState) (event : KeeperEvent) → DoesOneThing s event (keeper_happens shape p s event) }
+    ensures stores { (shape : Shape) (p : Places) (opening : KeeperState) (events : List KeeperEvent) → IsOpened opening
+        → ChangesItsWords shape p (keeper_run shape p opening events) }
+    ensures durable { (shape : Shape) (p : Places) (opening : KeeperState) (events : List KeeperEvent) → IsOpened opening
+        → SparesDurable shape p (keeper_run shape p opening events) }
 {}

@@ -99,7 +99,7 @@ begun_all w gate before [] all = all
 begun_all w gate before (b ∷ rest) all = all
 
 -- what is settled may be left
-may_be_left : (opened : List ℕ) (calls : List Call) (bytes : List ℕ) → IsSettled opened calls bytes → MayLeave opened calls bytes
+pub may_be_left : (opened : List ℕ) (calls : List Call) (bytes : List ℕ) → IsSettled opened calls bytes → MayLeave opened calls bytes
 may_be_left opened calls bytes is = record {
   no_shorter = omega (arith, is.end);
   no_longer = omega (arith, is.far);

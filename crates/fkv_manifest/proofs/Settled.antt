@@ -20,7 +20,8 @@ if_same : (b : Bool) (c : Bool) → c ≡ true → (if b then true else c) ≡ t
 if_same true c is = refl
 if_same false c is = is
 
-sure_all : (calls : List Call) (i : ℕ) → AllDone calls → is_sure calls i ≡ true
+-- where no call has failed each byte is known
+pub sure_all : (calls : List Call) (i : ℕ) → AllDone calls → is_sure calls i ≡ true
 sure_all [] i all = refl
 sure_all (Write at bytes true ∷ before) i all = if_same (covers at (length bytes) i) (is_sure before i) (sure_all before i all)
 sure_all (Write at bytes false ∷ before) i all = absurd all

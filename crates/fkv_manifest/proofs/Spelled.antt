@@ -1,12 +1,15 @@
 -- The bytes that spell a slot are those of an open one that names its commit.
-use Rattle.std.proofs.Common.{◌≡◌, ℕ, ◌*◌, List, ◌∷◌, ◌++◌, length, take, refl, ◌∙◌, ap, arith}
+use Rattle.std.proofs.Common.{◌≡◌, ℕ, ◌-◌, ◌*◌, ◌<◌, ◌≤◌, ◌^◌, List, [], ◌∷◌, ◌++◌, length, replicate, take, drop, refl, ◌∙◌, ap, arith}
 use Rattle.std.specs.Int.{w64, to_le_bytes, from_le_bytes}
-use Rattle.std.proofs.lemmas.List.{take_at, drop_at, get_or_append_left}
+use Rattle.std.proofs.lemmas.List.{take_at, drop_at, get_or_append_left, length-append, length-map, length-replicate}
 use Rattle.std.proofs.lemmas.List.Concat.{flat_map-cons}
 use Rattle.std.proofs.lemmas.Nat.{from_le_bytes-to_le_bytes_8}
+use Rattle.fkv_base.specs.declared.numbers.Serial.{Serial}
 use Rattle.fkv_record.specs.Layout.{first_layout, slot_bytes, point_numbers}
-use Rattle.fkv_record.specs.Numbers.{spelled}
+use Rattle.fkv_record.specs.Manifest.{SlotSaid, front_said, lost_said, range_numbers, newest_numbers, newest_bytes}
+use Rattle.fkv_record.specs.Numbers.{spelled, padded}
 use Rattle.fkv_record.specs.Places.{number_at}
+use Rattle.fkv_record.specs.declared.lost_ranges.LostRange.{LostRange}
 use Rattle.fkv_record.specs.declared.slots.Slot.{Slot}
 use Rattle.fkv_record.proofs.Shown.{slot_numbered, length-spelled}
 use Rattle.fkv_disk.specs.Bytes.{byte_at}
@@ -35,3 +38,43 @@ slot_spelled x = record {
       ∙ ap (λ (s : List ℕ). from_le_bytes w64 s) (take_at (to_le_bytes w64 x.number) (spelled (rest_of x)) 8 refl)
       ∙ from_le_bytes-to_le_bytes_8 x.number x.number_fits;
 }
+
+-- numbers that spell a whole slot, the first of them the byte of an open gate and the second the commit's number
+whole_spelled : (number : ℕ) (rest : List ℕ) → number < 2 ^ 64 → length rest ≡ 62 → IsSlotOf number (spelled (165 ∷ number ∷ rest))
+whole_spelled number rest fits size = record {
+  whole = length-spelled (165 ∷ number ∷ rest) ∙ (let count : 8 * length (165 ∷ number ∷ rest) ≡ 512 = omega (arith, size) in count);
+  is_open = ap (λ (s : List ℕ). byte_at s 0) split ∙ get_or_append_left (to_le_bytes w64 165) (to_le_bytes w64 number ++ spelled rest) 0 0 (omega arith) ∙ refl;
+  names =
+      ap (λ (s : List ℕ). number_at s 8) split
+      ∙ ap (λ (s : List ℕ). from_le_bytes w64 (take 8 s)) (drop_at (to_le_bytes w64 165) (to_le_bytes w64 number ++ spelled rest) 8 refl)
+      ∙ ap (λ (s : List ℕ). from_le_bytes w64 s) (take_at (to_le_bytes w64 number) (spelled rest) 8 refl)
+      ∙ from_le_bytes-to_le_bytes_8 number fits;
+}
+  where
+    split : spelled (165 ∷ number ∷ rest) ≡ to_le_bytes w64 165 ++ (to_le_bytes w64 number ++ spelled rest)
+    split = flat_map-cons (to_le_bytes w64) 165 (number ∷ rest) ∙ ap (λ (s : List ℕ). to_le_bytes w64 165 ++ s) (flat_map-cons (to_le_bytes w64) number rest)
+
+-- the numbers of the newest format behind the first two
+newest_rest : SlotSaid → List ℕ
+newest_rest s = drop 2 (newest_numbers s)
+
+length-padded : (n : ℕ) (xs : List ℕ) → length xs ≤ n → length (padded n xs) ≡ n
+length-padded n xs le = omega (arith, length-append xs (replicate (n - length xs) 0), length-replicate {A = ℕ} (n - length xs) 0)
+
+length-ranges : (ranges : List LostRange) → length (range_numbers ranges) ≡ 2 * length ranges
+length-ranges [] = refl
+length-ranges (range ∷ ranges) = let rest = length-ranges ranges in omega (arith, rest)
+
+length-newest : (s : SlotSaid) → length s.points ≤ 32 → length s.lost ≤ 8 → length (newest_numbers s) ≡ 64
+length-newest s points lost =
+    let points_len = length-map {A = Serial} {B = ℕ} s.points (λ p. p.0) in
+    let front : length (padded 39 (front_said s)) ≡ 39 = length-padded 39 (front_said s) (omega (arith, points, points_len)) in
+    let behind : length (lost_said s) ≤ 18 = omega (arith, length-ranges s.lost, lost) in
+    let both : length (padded 39 (front_said s) ++ lost_said s) ≤ 63 = omega (arith, length-append (padded 39 (front_said s)) (lost_said s), front, behind) in
+    let body : length (padded 63 (padded 39 (front_said s) ++ lost_said s)) ≡ 63 = length-padded 63 (padded 39 (front_said s) ++ lost_said s) both in
+    omega (arith, length-append (padded 63 (padded 39 (front_said s) ++ lost_said s)) (3 ∷ []), body)
+
+-- and so are those of the newest format
+pub newest_spelled : (s : SlotSaid) → s.number < 2 ^ 64 → length s.points ≤ 32 → length s.lost ≤ 8 → IsSlotOf s.number (newest_bytes s)
+unfolding newest_bytes newest_rest
+newest_spelled s fits points lost = whole_spelled s.number (newest_rest s) fits (omega (arith, length-newest s points lost))

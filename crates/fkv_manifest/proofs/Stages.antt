@@ -153,6 +153,7 @@ module _ (w : CommitWriter) (base : List ℕ) (other : ℕ) (ready : IsReady w b
         newest_by w.gate.place other image ready.slots (Some (number_at w.gate.slot 8)) (Some (number_at (slot_in base other) 8)) (ap (λ (s : List ℕ). open_number s) whole ∙ number_told w.gate.slot ready.is_open) (other_told image spares)
         ∙ chosen_greater w.gate.place other ready.slots (number_at w.gate.slot 8) (number_at (slot_in base other) 8) ready.greater;
     slot = whole;
+    reaches = triples.reaches;
     triples = sym (is_listed w.triples (length w.triples) (λ k. byte_at image (w.area + k)) refl (λ k below. sym (triples.whole k below)));
   }
     where

@@ -54,10 +54,11 @@ pub record LastStands (bytes : List ℕ) (other : ℕ) (image : List ℕ) : Type
   pub in_force : newest image ≡ Some other
   pub slot : slot_in image other ≡ slot_in bytes other
 
--- the new commit is in force, its slot is whole, and so are its triples
+-- the new commit is in force, its slot is whole, and so are its triples, up to which the image reaches
 pub record NewStands (w : CommitWriter) (image : List ℕ) : Type 0 where
   pub in_force : newest image ≡ Some w.gate.place
   pub slot : slot_in image w.gate.place ≡ w.gate.slot
+  pub reaches : (k : ℕ) → k < length w.triples → w.area + k < length image
   pub triples : bytes_at image w.area (length w.triples) ≡ w.triples
 
 -- Each call of the device has succeeded and the newest was a sync, as where it began, and it reads with the new commit in force: the next one may begin.

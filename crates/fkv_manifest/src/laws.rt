@@ -1,7 +1,8 @@
 //! That one commit stands whole, whatever a crash leaves of the writes of the next one.
-ghost use Rattle.std.specs.Prelude.{◌≡◌, ◌⊎◌, ◌++◌, ◌∷◌, [], ℕ, ◌+◌, List, Bool, Some, true, false, replicate};
+ghost use Rattle.std.specs.Prelude.{◌≡◌, ◌⊎◌, ◌++◌, ◌∷◌, [], ℕ, ◌+◌, ◌^◌, ◌<◌, ◌≤◌, List, length, Bool, Some, true, false, replicate};
 ghost use Rattle.fkv_base.specs.declared.shapes.Shape.{Shape};
 ghost use Rattle.fkv_record.specs.Layout.{slot_bytes};
+ghost use Rattle.fkv_record.specs.Manifest.{SlotSaid, newest_bytes};
 ghost use Rattle.fkv_record.specs.declared.slots.Slot.{Slot};
 ghost use Rattle.fkv_disk.specs.Bytes.{byte_at};
 ghost use Rattle.fkv_disk.specs.Calls.{Call, Write, MayLeave, reads_as};
@@ -57,7 +58,9 @@ pub fn law_commits_follow()
         → IsFinished w opened (commit_made w steps ++ before) }
 {}
 
-/// The bytes that spell a slot are 512, with an open gate, and name its commit's number.
+/// The bytes that spell a slot are 512, with an open gate, and name its commit's number, in the first format and in the newest,
+/// which holds 32 points and eight lost ranges at most.
 pub fn law_slots_are_named()
-    ensures { (slot : Slot) → IsSlotOf slot.number (slot_bytes slot) }
+    ensures first { (slot : Slot) → IsSlotOf slot.number (slot_bytes slot) }
+    ensures newest { (said : SlotSaid) → said.number < 2 ^ 64 → length said.points ≤ 32 → length said.lost ≤ 8 → IsSlotOf said.number (newest_bytes said) }
 {}

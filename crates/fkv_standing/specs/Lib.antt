@@ -1,0 +1,3 @@
+pub mod CallsMade
+pub mod Opening
+pub mod Standing
