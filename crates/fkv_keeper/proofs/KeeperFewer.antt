@@ -39,7 +39,7 @@ use Rattle.fkv_manifest.specs.declared.commits.Committing.{Committing}
 use Rattle.fkv_manifest.specs.declared.commits.Committing.TheVariants as writing
 use Rattle.fkv_manifest.specs.declared.gates.Gating.{Gating}
 use Rattle.fkv_manifest.specs.declared.gates.Gating.TheVariants as gate
-use Rattle.fkv_manifest.specs.Committing.{CommitWriter, commit_step_next, commit_step_answer, commit_answer, commit_next, gate_after}
+use Rattle.fkv_manifest.specs.Committing.{commit_step_next, commit_step_answer, commit_answer, commit_next, gate_after}
 use Rattle.fkv_manifest.specs.Gating.{GateWriter, gate_answer, gate_next, gate_calls_left}
 use Rattle.fkv_keeper.specs.declared.answers.KeeperTold.{KeeperTold}
 use Rattle.fkv_keeper.specs.declared.answers.KeeperTold.TheVariants.{Device, Turned, TurnRefused, CommitRefused}
