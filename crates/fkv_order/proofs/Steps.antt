@@ -1,0 +1,78 @@
+-- Each class of steps keeps what holds of a log, and leaves to others what Grows says.
+use Rattle.std.proofs.Common.{◌≡◌, ◌≢◌, ◌⊎◌, inl, inr, ℕ, ◌<◌, ◌≤◌, ◌∙◌, Bool, true, false, cond, Option, Some, None, List, [], ◌∷◌, ◌++◌, refl, sym, ap, subst, arith, true≢false}
+use Rattle.std.specs.Prelude.{nat_eq}
+use Rattle.fkv_map.specs.declared.history.HistoryEntry.{HistoryEntry}
+use Rattle.fkv_map.specs.Map.{Map}
+use Rattle.fkv_map.specs.History.{IsLegal}
+use Rattle.fkv_map.specs.Keys.{key_of, value_applied, reply_from, is_on}
+use Rattle.fkv_map.proofs.Shown.{content_one_more, legal_one_more}
+use Rattle.fkv_order.specs.Trace.{Effect, history_of, value_in, IsIn}
+use Rattle.fkv_order.specs.Chains.{Cell, Logged, Unborn, Reserved, Published, Dropped, value_at, has_key, head_of, chain_from, first_of_key, IsWithin}
+use Rattle.fkv_order.specs.Ghosts.{Log, set_at, first_from, newest_of, shown, effect_of, changed_by}
+use Rattle.fkv_order.specs.Owed.{AreChains, IsFixed, IsMade, IsOfHome, IsLinked, previous_of}
+use Rattle.fkv_order.proofs.Chains.{set_there, set_else, same_or_other, own_number, other_number, from_head, from_else, first_same, first_is, IsFirst, first_else, first_there}
+use Rattle.fkv_order.proofs.Held.{Held, Grows, StaysPublished, not_reserved, not_unborn, key_there, first_along, value_along, made_stays}
+
+-- ---- steps that change neither a chain nor a published record nor the history
+pub record IsQuiet (home : ℕ → ℕ) (log : Log) (cells : ℕ → Logged) (fixed : ℕ) : Type 0 where
+  pub stays : (a : ℕ) (cell : Cell) → log.cells a ≡ Published cell → cells a ≡ Published cell
+  pub none_new : (a : ℕ) (cell : Cell) → cells a ≡ Published cell → log.cells a ≡ Published cell
+  pub none : cells 0 ≡ Unborn
+  pub rises : log.fixed ≤ fixed
+  pub made : (a : ℕ) (entry : HistoryEntry) (cell : Cell) → cells a ≡ Reserved entry cell → (cell.previous < a) × IsMade home log entry cell
+
+abbrev pub quiet_log : Log → (ℕ → Logged) → ℕ → Log
+quiet_log log cells fixed = record log { cells = cells; fixed = fixed }
+
+pub quiet_grows : (home : ℕ → ℕ) (m : Map) (log : Log) (cells : ℕ → Logged) (fixed : ℕ) → IsQuiet home log cells fixed → Grows home m log (quiet_log log cells fixed)
+quiet_grows home m log cells fixed quiet = record {
+  published = λ a cell is. record { value = cell.value; still = quiet.stays a cell is; kept = inl refl };
+  none = quiet.none;
+  chains = λ h a within. (refl, within);
+  fixed = quiet.rises;
+  newer = [];
+  longer = refl;
+}
+
+linked_quietly : (cells cells' : ℕ → Logged) (chain : List ℕ) → ((a : ℕ) → IsIn a chain → previous_of (cells' a) ≡ previous_of (cells a)) → IsLinked cells chain → IsLinked cells' chain
+linked_quietly cells cells' [] same linked = tt
+linked_quietly cells cells' (a ∷ older) same linked = (same a (inl refl) ∙ linked.0, linked.1, linked_quietly cells cells' older (λ b is_in. same b (inr is_in)) linked.2)
+
+pub held_quietly : (home : ℕ → ℕ) (m : Map) (log : Log) (cells : ℕ → Logged) (fixed : ℕ) → Held home m log → IsQuiet home log cells fixed → Held home m (quiet_log log cells fixed)
+held_quietly home m log cells fixed held quiet =
+    let log' = quiet_log log cells fixed in
+    let grows = quiet_grows home m log cells fixed quiet in
+    let its_newest : (key : ℕ) → newest_of home log' key ≡ newest_of home log key =
+        λ key. first_along home m log log' held.chains grows key (log.chains (home key)) (λ a is_in. is_in) in
+    record {
+      chains = record {
+        in_chain = λ h a is_in. let its = held.chains.in_chain h a is_in in record { cell = its.cell; its = quiet.stays a its.cell its.its; its_home = its.its_home };
+        its_chain = λ a cell is. held.chains.its_chain a cell (quiet.none_new a cell is);
+        linked = λ h. linked_quietly log.cells cells (log.chains h)
+          (λ a is_in. let its = held.chains.in_chain h a is_in in ap previous_of (quiet.stays a its.cell its.its) ∙ sym (ap previous_of its.its)) (held.chains.linked h);
+      };
+      none = quiet.none;
+      some_fixed = above log.fixed fixed held.some_fixed quiet.rises;
+      newest = λ a cell is. elim (held.newest a cell (quiet.none_new a cell is)) [
+        | inl first ↦ inl (its_newest cell.key ∙ first)
+        | inr below ↦ inr (still_below a log.fixed fixed below quiet.rises)
+      ];
+      shows = λ key. ap (λ i. value_at (cells i)) (its_newest key)
+          ∙ value_quietly home m log cells fixed held quiet key (newest_of home log key) (first_is log.cells key (log.chains (home key))) ∙ held.shows key;
+      legal = held.legal;
+      made = λ a entry cell is. let its = quiet.made a entry cell is in (its.0, made_stays home m log log' held.chains held.none grows entry cell its.1);
+    }
+  where
+    above : (a b : ℕ) → 0 < a → a ≤ b → 0 < b
+    above a b low high = omega (arith, low, high)
+
+    still_below : (a b c : ℕ) → a < b → b ≤ c → a < c
+    still_below a b c low high = omega (arith, low, high)
+
+    value_quietly : (home : ℕ → ℕ) (m : Map) (log : Log) (cells : ℕ → Logged) (fixed : ℕ) → Held home m log → IsQuiet home log cells fixed → (key a : ℕ) → IsFirst log.cells key (log.chains (home key)) a
+        → value_at (cells a) ≡ value_at (log.cells a)
+    value_quietly home m log cells fixed held quiet key a (inl zero_is) =
+        ap (λ i. value_at (cells i)) zero_is ∙ ap value_at quiet.none ∙ sym (ap value_at held.none) ∙ ap (λ i. value_at (log.cells i)) (sym zero_is)
+    value_quietly home m log cells fixed held quiet key a (inr some) =
+        let its = held.chains.in_chain (home key) a some.0 in
+        ap value_at (quiet.stays a its.cell its.its) ∙ sym (ap value_at its.its)

@@ -1,0 +1,50 @@
+-- Records by their addresses, and the chains in which the records of a home stand.
+use Rattle.std.specs.Prelude.{◌≡◌, ℕ, ◌⊎◌, Bool, false, nat_eq, cond, Option, None, List, [], ◌∷◌}
+use Rattle.fkv_map.specs.declared.history.HistoryEntry.{HistoryEntry}
+use Rattle.fkv_order.specs.Trace.{IsIn}
+
+-- a record: its key, the key's value, the version that it was made in, and the address of the record behind it, 0 for none
+pub record Cell : Type 0 where
+  pub key : ℕ
+  pub value : Option ℕ
+  pub version : ℕ
+  pub previous : ℕ
+
+-- What an address of the log has.
+pub data Logged : Type 0 where
+  Unborn : Logged
+  -- one has taken it for this record, by which this update would take effect
+  Reserved : HistoryEntry → Cell → Logged
+  -- the record stands in its chain
+  Published : Cell → Logged
+  -- another was published first, and the record counts for nothing
+  Dropped : Cell → Logged
+
+-- the value that a record shows
+abbrev pub value_at : Logged → Option ℕ
+value_at (Published cell) = cell.value
+value_at logged = None
+
+-- a published record has this key
+abbrev pub has_key : ℕ → Logged → Bool
+has_key key (Published cell) = nat_eq cell.key key
+has_key key logged = false
+
+-- A chain is a list of addresses, the newest first; this is where it begins, 0 where it is empty.
+abbrev pub head_of : List ℕ → ℕ
+head_of [] = 0
+head_of (a ∷ older) = a
+
+-- the chain from an address on
+abbrev pub chain_from : ℕ → List ℕ → List ℕ
+chain_from a [] = []
+chain_from a (b ∷ older) = cond (nat_eq b a) (b ∷ older) (chain_from a older)
+
+-- the first address of a chain with a record of this key, 0 where there is none
+abbrev pub first_of_key : (ℕ → Logged) → ℕ → List ℕ → ℕ
+first_of_key cells key [] = 0
+first_of_key cells key (a ∷ older) = cond (has_key key (cells a)) a (first_of_key cells key older)
+
+-- one may go down a chain from here: the address stands in it, or is 0
+abbrev pub IsWithin : ℕ → List ℕ → Type 0
+IsWithin a chain = (a ≡ 0) ⊎ IsIn a chain

@@ -1,0 +1,5 @@
+pub mod Chains
+pub mod Ghosts
+pub mod Laws
+pub mod Owed
+pub mod Trace

@@ -1,0 +1,6 @@
+//! The order of effects over a log of cells and chains, with no words, frames or machines.
+#![tactic(auto)]
+
+mod laws;
+
+pub use laws::law_history;
