@@ -1,5 +1,5 @@
 -- Chains as lists: where they begin, the first record of a key, and how both stay as a chain grows.
-use Rattle.std.proofs.Common.{◌≡◌, ◌≢◌, ◌⊎◌, inl, inr, ℕ, ◌<◌, ◌≤◌, ◌∙◌, Bool, true, false, cond, List, [], ◌∷◌, refl, sym, ap, subst, arith}
+use Rattle.std.proofs.Common.{◌≡◌, ◌≢◌, ◌⊎◌, inl, inr, ℕ, ◌<◌, ◌≤◌, ◌∙◌, Bool, true, false, cond, List, [], ◌∷◌, refl, sym, ap, arith}
 use Rattle.std.specs.Prelude.{nat_eq}
 use Rattle.std.proofs.lemmas.Bool.Decides.{nat_tests}
 use Rattle.fkv_order.specs.Trace.{IsIn}
@@ -81,3 +81,10 @@ first_else cells key a chain other = rw other refl
 
 pub first_there : (cells : ℕ → Logged) (key a : ℕ) (chain : List ℕ) → has_key key (cells a) ≡ true → first_of_key cells key (a ∷ chain) ≡ a
 first_there cells key a chain own = rw own refl
+
+-- at each place it is the new one there, or the old one
+pub at_one : {X : Type 0} → (f : ℕ → X) (i : ℕ) (x : X) (j : ℕ) → ((j ≡ i) × (set_at f i x j ≡ x)) ⊎ ((j ≢ i) × (set_at f i x j ≡ f j))
+at_one f i x j = elim (same_or_other j i) [
+  | inl same ↦ inl (same, ap (set_at f i x) same ∙ set_there f i x)
+  | inr other ↦ inr (other, set_else f i x j other)
+]

@@ -1,3 +1,6 @@
 mod Chains
+mod Changed
 mod Held
+mod LogSteps
+mod Published
 mod Steps

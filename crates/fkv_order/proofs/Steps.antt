@@ -10,7 +10,7 @@ use Rattle.fkv_order.specs.Trace.{Effect, history_of, value_in, IsIn}
 use Rattle.fkv_order.specs.Chains.{Cell, Logged, Unborn, Reserved, Published, Dropped, value_at, has_key, head_of, chain_from, first_of_key, IsWithin}
 use Rattle.fkv_order.specs.Ghosts.{Log, set_at, first_from, newest_of, shown, effect_of, changed_by}
 use Rattle.fkv_order.specs.Owed.{AreChains, IsFixed, IsMade, IsOfHome, IsLinked, previous_of}
-use Rattle.fkv_order.proofs.Chains.{set_there, set_else, same_or_other, own_number, other_number, from_head, from_else, first_same, first_is, IsFirst, first_else, first_there}
+use Rattle.fkv_order.proofs.Chains.{set_there, set_else, at_one, same_or_other, own_number, other_number, from_head, from_else, first_same, first_is, IsFirst, first_else, first_there}
 use Rattle.fkv_order.proofs.Held.{Held, Grows, StaysPublished, not_reserved, not_unborn, key_there, first_along, value_along, made_stays}
 
 -- ---- steps that change neither a chain nor a published record nor the history
@@ -34,7 +34,7 @@ quiet_grows home m log cells fixed quiet = record {
   longer = refl;
 }
 
-linked_quietly : (cells cells' : ℕ → Logged) (chain : List ℕ) → ((a : ℕ) → IsIn a chain → previous_of (cells' a) ≡ previous_of (cells a)) → IsLinked cells chain → IsLinked cells' chain
+pub linked_quietly : (cells cells' : ℕ → Logged) (chain : List ℕ) → ((a : ℕ) → IsIn a chain → previous_of (cells' a) ≡ previous_of (cells a)) → IsLinked cells chain → IsLinked cells' chain
 linked_quietly cells cells' [] same linked = tt
 linked_quietly cells cells' (a ∷ older) same linked = (same a (inl refl) ∙ linked.0, linked.1, linked_quietly cells cells' older (λ b is_in. same b (inr is_in)) linked.2)
 
@@ -76,3 +76,67 @@ held_quietly home m log cells fixed held quiet =
     value_quietly home m log cells fixed held quiet key a (inr some) =
         let its = held.chains.in_chain (home key) a some.0 in
         ap value_at (quiet.stays a its.cell its.its) ∙ sym (ap value_at its.its)
+
+-- ---- the quiet steps
+same_made : (entry entry' : HistoryEntry) (cell cell' : Cell) → Reserved entry cell ≡ Reserved entry' cell' → (entry ≡ entry') × (cell ≡ cell')
+same_made entry entry' cell cell' same = (cc, cc)
+
+pub above_none : (low a : ℕ) → low < a → 0 ≢ a
+above_none low a above = omega (arith, above)
+
+pub fixes_quietly : (home : ℕ → ℕ) (m : Map) (log : Log) (fixed : ℕ) → Held home m log → log.fixed ≤ fixed → IsQuiet home log log.cells fixed
+fixes_quietly home m log fixed held rises = record {
+  stays = λ a cell is. is;
+  none_new = λ a cell is. is;
+  none = held.none;
+  rises = rises;
+  made = held.made;
+}
+
+pub reserves_quietly : (home : ℕ → ℕ) (m : Map) (log : Log) (a : ℕ) (entry : HistoryEntry) (cell : Cell) → Held home m log → log.cells a ≡ Unborn → cell.previous < a → IsMade home log entry cell
+    → IsQuiet home log (set_at log.cells a (Reserved entry cell)) log.fixed
+reserves_quietly home m log a entry cell held free below made = record {
+  stays = λ b its is. elim (at_one log.cells a (Reserved entry cell) b) [
+    | inl here ↦ absurd (not_unborn (log.cells b) its is (ap log.cells here.0 ∙ free))
+    | inr else_ ↦ else_.1 ∙ is
+  ];
+  none_new = λ b its is. elim (at_one log.cells a (Reserved entry cell) b) [
+    | inl here ↦ absurd (not_reserved (set_at log.cells a (Reserved entry cell) b) its cell entry is here.1)
+    | inr else_ ↦ sym else_.1 ∙ is
+  ];
+  none = set_else log.cells a (Reserved entry cell) 0 (above_none cell.previous a below) ∙ held.none;
+  rises = stays log.fixed;
+  made = λ b entry' its is. elim (at_one log.cells a (Reserved entry cell) b) [
+    | inl here ↦ let same = same_made entry entry' cell its (sym here.1 ∙ is) in
+        (subst (λ c. c.previous < b) same.1 (subst (λ i. cell.previous < i) (sym here.0) below), subst (λ e. IsMade home log e its) same.0 (subst (λ c. IsMade home log entry c) same.1 made))
+    | inr else_ ↦ held.made b entry' its (sym else_.1 ∙ is)
+  ];
+}
+  where
+    stays : (n : ℕ) → n ≤ n
+    stays n = omega arith
+
+drop_is_none : (logged : Logged) (cell other : Cell) (entry : HistoryEntry) → logged ≡ Dropped cell → (logged ≡ Published other → ⊥) × (logged ≡ Reserved entry other → ⊥)
+drop_is_none logged cell other entry is = (λ was. grind (arith, is, was), λ was. grind (arith, is, was))
+
+pub drops_quietly : (home : ℕ → ℕ) (m : Map) (log : Log) (a : ℕ) (entry : HistoryEntry) (cell : Cell) → Held home m log → log.cells a ≡ Reserved entry cell
+    → IsQuiet home log (set_at log.cells a (Dropped cell)) log.fixed
+drops_quietly home m log a entry cell held was = record {
+  stays = λ b its is. elim (at_one log.cells a (Dropped cell) b) [
+    | inl here ↦ absurd (not_reserved (log.cells b) its cell entry is (ap log.cells here.0 ∙ was))
+    | inr else_ ↦ else_.1 ∙ is
+  ];
+  none_new = λ b its is. elim (at_one log.cells a (Dropped cell) b) [
+    | inl here ↦ absurd ((drop_is_none (set_at log.cells a (Dropped cell) b) cell its entry here.1).0 is)
+    | inr else_ ↦ sym else_.1 ∙ is
+  ];
+  none = set_else log.cells a (Dropped cell) 0 (above_none cell.previous a (held.made a entry cell was).0) ∙ held.none;
+  rises = stays log.fixed;
+  made = λ b entry' its is. elim (at_one log.cells a (Dropped cell) b) [
+    | inl here ↦ absurd ((drop_is_none (set_at log.cells a (Dropped cell) b) cell its entry' here.1).1 is)
+    | inr else_ ↦ held.made b entry' its (sym else_.1 ∙ is)
+  ];
+}
+  where
+    stays : (n : ℕ) → n ≤ n
+    stays n = omega arith

@@ -3,4 +3,4 @@
 
 mod laws;
 
-pub use laws::law_history;
+pub use laws::law_chains_show_content;
