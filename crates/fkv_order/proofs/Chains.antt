@@ -1,9 +1,9 @@
 -- Chains as lists: where they begin, the first record of a key, and how both stay as a chain grows.
-use Rattle.std.proofs.Common.{◌≡◌, ◌≢◌, ◌⊎◌, inl, inr, ℕ, ◌<◌, ◌≤◌, ◌∙◌, Bool, true, false, cond, List, [], ◌∷◌, refl, sym, ap, arith}
+use Rattle.std.proofs.Common.{◌≡◌, ◌≢◌, ◌⊎◌, inl, inr, ℕ, ◌∙◌, Bool, true, false, cond, List, [], ◌∷◌, refl, ap, arith}
 use Rattle.std.specs.Prelude.{nat_eq}
 use Rattle.std.proofs.lemmas.Bool.Decides.{nat_tests}
 use Rattle.fkv_order.specs.Trace.{IsIn}
-use Rattle.fkv_order.specs.Chains.{Cell, Logged, Published, has_key, head_of, chain_from, first_of_key, IsWithin}
+use Rattle.fkv_order.specs.Chains.{Logged, has_key, head_of, chain_from, first_of_key, IsWithin}
 use Rattle.fkv_order.specs.Ghosts.{set_at}
 
 pub own_number : (n : ℕ) → nat_eq n n ≡ true

@@ -1,14 +1,14 @@
 -- A change in place keeps what holds of a log: the record is its key's newest, so its value is the content's.
-use Rattle.std.proofs.Common.{◌≡◌, ◌≢◌, ◌⊎◌, inl, inr, ℕ, ◌<◌, ◌≤◌, ◌∙◌, Bool, true, false, cond, Option, Some, None, List, [], ◌∷◌, ◌++◌, refl, sym, ap, subst, arith}
+use Rattle.std.proofs.Common.{◌≡◌, ◌≢◌, inl, inr, ℕ, ◌<◌, ◌≤◌, ◌∙◌, cond, List, [], ◌∷◌, refl, sym, ap, subst, arith}
 use Rattle.std.specs.Prelude.{nat_eq}
 use Rattle.fkv_map.specs.declared.history.HistoryEntry.{HistoryEntry}
 use Rattle.fkv_map.specs.Map.{Map}
-use Rattle.fkv_map.specs.Keys.{key_of, value_applied, reply_from, is_on}
+use Rattle.fkv_map.specs.Keys.{key_of, value_applied, reply_from}
 use Rattle.fkv_map.proofs.Shown.{content_one_more, legal_one_more}
 use Rattle.fkv_order.specs.Trace.{Effect, history_of, value_in, IsIn}
-use Rattle.fkv_order.specs.Chains.{Cell, Logged, Unborn, Reserved, Published, value_at, has_key, first_of_key}
+use Rattle.fkv_order.specs.Chains.{Cell, Unborn, Published, value_at}
 use Rattle.fkv_order.specs.Ghosts.{Log, set_at, newest_of, shown, effect_of, changed_by}
-use Rattle.fkv_order.specs.Owed.{IsFixed, previous_of}
+use Rattle.fkv_order.specs.Owed.{previous_of}
 use Rattle.fkv_order.proofs.Chains.{set_there, set_else, at_one, same_or_other, own_number, other_number, first_is, IsFirst}
 use Rattle.fkv_order.proofs.Held.{Held, Grows, not_reserved, not_unborn, key_there, first_along, made_stays}
 use Rattle.fkv_order.proofs.Steps.{linked_quietly}
@@ -60,13 +60,13 @@ pub changed_grows : (home : ℕ → ℕ) (m : Map) (log : Log) (a : ℕ) (entry 
 changed_grows home m log a entry cell held change = record {
   published = λ b its is. elim (at_one log.cells a (Published (changed_by entry cell)) b) [
     | inl here ↦ let same = same_cell cell its (sym change.its ∙ ap log.cells (sym here.0) ∙ is) in record {
-        value = value_applied its.value entry.op;
-        still = here.1 ∙ ap (λ c. Published (changed_by entry c)) same;
-        kept = inr (
-          subst (λ i. log.fixed ≤ i) (sym here.0) change.may,
-          subst (λ c. value_applied c.value entry.op ≡ value_in m (effect_of entry cell ∷ log.history) c.key) same (value_then home m log a entry cell held change),
-        );
-      }
+      value = value_applied its.value entry.op;
+      still = here.1 ∙ ap (λ c. Published (changed_by entry c)) same;
+      kept = inr (
+        subst (λ i. log.fixed ≤ i) (sym here.0) change.may,
+        subst (λ c. value_applied c.value entry.op ≡ value_in m (effect_of entry cell ∷ log.history) c.key) same (value_then home m log a entry cell held change),
+      );
+    }
     | inr else_ ↦ record { value = its.value; still = else_.1 ∙ is; kept = inl refl }
   ];
   none = set_else log.cells a (Published (changed_by entry cell)) 0 (λ zero_is. not_unborn (log.cells 0) cell (ap log.cells zero_is ∙ change.its) held.none) ∙ held.none;
@@ -90,18 +90,18 @@ held_changed home m log a entry cell held change =
     let new = Published (changed_by entry cell) in
     let grows = changed_grows home m log a entry cell held change in
     let newest_same : (key : ℕ) → newest_of home log' key ≡ newest_of home log key =
-        λ key. first_along home m log log' held.chains grows key (log.chains (home key)) (λ b is_in. is_in) in
+    λ key. first_along home m log log' held.chains grows key (log.chains (home key)) (λ b is_in. is_in) in
     let newest_own : newest_of home log' cell.key ≡ a = newest_same cell.key ∙ is_newest home m log a entry cell held change in
     let shows_own : shown home log' cell.key ≡ value_in m log'.history cell.key =
-        ap (λ i. value_at (log'.cells i)) newest_own ∙ ap value_at (set_there log.cells a new) ∙ value_then home m log a entry cell held change in
+    ap (λ i. value_at (log'.cells i)) newest_own ∙ ap value_at (set_there log.cells a new) ∙ value_then home m log a entry cell held change in
     record {
       chains = record {
         in_chain = λ h b is_in. let its = held.chains.in_chain h b is_in in elim (at_one log.cells a new b) [
           | inl here ↦ record {
-              cell = changed_by entry cell;
-              its = here.1;
-              its_home = ap (λ c. home c.key) (same_cell cell its.cell (sym change.its ∙ ap log.cells (sym here.0) ∙ its.its)) ∙ its.its_home;
-            }
+            cell = changed_by entry cell;
+            its = here.1;
+            its_home = ap (λ c. home c.key) (same_cell cell its.cell (sym change.its ∙ ap log.cells (sym here.0) ∙ its.its)) ∙ its.its_home;
+          }
           | inr else_ ↦ record { cell = its.cell; its = else_.1 ∙ its.its; its_home = its.its_home }
         ];
         its_chain = λ b its is. elim (at_one log.cells a new b) [
@@ -110,19 +110,19 @@ held_changed home m log a entry cell held change =
           | inr else_ ↦ held.chains.its_chain b its (sym else_.1 ∙ is)
         ];
         linked = λ h. linked_quietly log.cells log'.cells (log.chains h)
-          (λ b is_in. elim (at_one log.cells a new b) [
-            | inl here ↦ ap previous_of here.1 ∙ sym (ap previous_of (ap log.cells here.0 ∙ change.its))
-            | inr else_ ↦ ap previous_of else_.1
-          ]) (held.chains.linked h);
+            (λ b is_in. elim (at_one log.cells a new b) [
+              | inl here ↦ ap previous_of here.1 ∙ sym (ap previous_of (ap log.cells here.0 ∙ change.its))
+              | inr else_ ↦ ap previous_of else_.1
+            ]) (held.chains.linked h);
       };
       none = grows.none;
       some_fixed = held.some_fixed;
       newest = λ b its is. elim (at_one log.cells a new b) [
         | inl here ↦ inl (ap (λ c. newest_of home log' c.key) (sym (same_cell (changed_by entry cell) its (sym here.1 ∙ is))) ∙ newest_own ∙ sym here.0)
         | inr else_ ↦ elim (held.newest b its (sym else_.1 ∙ is)) [
-            | inl first ↦ inl (newest_same its.key ∙ first)
-            | inr below ↦ inr below
-          ]
+          | inl first ↦ inl (newest_same its.key ∙ first)
+          | inr below ↦ inr below
+        ]
       ];
       shows = λ key. elim (same_or_other cell.key key) [
         | inl same ↦ subst (λ k. shown home log' k ≡ value_in m log'.history k) same shows_own

@@ -1,14 +1,13 @@
 -- What holds of a log at each moment, what a step leaves to others (Grows), and the facts that it keeps.
-use Rattle.std.proofs.Common.{◌≡◌, ◌≢◌, ◌⊎◌, inl, inr, ℕ, ◌<◌, ◌≤◌, ◌∙◌, Bool, true, false, Option, Some, None, List, [], ◌∷◌, ◌++◌, refl, sym, ap, subst, arith, true≢false}
-use Rattle.std.specs.Prelude.{nat_eq}
+use Rattle.std.proofs.Common.{◌≡◌, ◌⊎◌, inl, inr, ℕ, ◌<◌, ◌≤◌, ◌∙◌, Bool, true, false, Option, List, ◌++◌, sym, ap, subst, arith, true≢false}
 use Rattle.fkv_map.specs.declared.history.HistoryEntry.{HistoryEntry}
 use Rattle.fkv_map.specs.Map.{Map}
 use Rattle.fkv_map.specs.History.{IsLegal}
 use Rattle.fkv_map.specs.Keys.{value_applied, reply_from}
 use Rattle.fkv_order.specs.Trace.{Effect, history_of, value_in, IsIn}
-use Rattle.fkv_order.specs.Chains.{Cell, Logged, Unborn, Reserved, Published, Dropped, value_at, has_key, head_of, chain_from, first_of_key, IsWithin}
+use Rattle.fkv_order.specs.Chains.{Cell, Logged, Unborn, Reserved, Published, value_at, has_key, chain_from, first_of_key, IsWithin}
 use Rattle.fkv_order.specs.Ghosts.{Log, first_from, newest_of, shown}
-use Rattle.fkv_order.specs.Owed.{AreChains, IsFixed, IsMade, IsOfHome}
+use Rattle.fkv_order.specs.Owed.{AreChains, IsFixed, IsMade}
 use Rattle.fkv_order.proofs.Chains.{first_same, first_is, IsFirst, in_from, same_number}
 
 -- ---- what holds of a log
@@ -111,10 +110,10 @@ made_stays home m log log' chains none grows entry cell made =
     let fixed = made.is_fixed in
     let more = grows.fixed in
     let same : value_at (log'.cells (first_from home log' cell.key cell.previous)) ≡ value_at (log.cells (first_from home log cell.key cell.previous)) =
-        elim (shown_stays home m log log' chains none grows cell.key cell.previous made.leads) [
-          | inl kept ↦ kept
-          | inr now ↦ absurd (not_both (first_from home log cell.key cell.previous) log.fixed now.0 fixed)
-        ]
+    elim (shown_stays home m log log' chains none grows cell.key cell.previous made.leads) [
+      | inl kept ↦ kept
+      | inr now ↦ absurd (not_both (first_from home log cell.key cell.previous) log.fixed now.0 fixed)
+    ]
     in record {
       its_key = made.its_key;
       leads = (grows.chains (home cell.key) cell.previous made.leads).1;

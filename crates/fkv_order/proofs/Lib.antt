@@ -1,6 +1,10 @@
+mod Calls
 mod Chains
 mod Changed
 mod Held
+mod Lists
 mod LogSteps
 mod Published
+mod Readings
+mod Sound
 mod Steps

@@ -1,11 +1,10 @@
 -- Each event keeps what holds of a log, and so does each run.
-use Rattle.std.proofs.Common.{◌≡◌, ◌⊎◌, inl, inr, ℕ, ◌<◌, ◌≤◌, ◌∙◌, max, Option, List, [], ◌∷◌, refl, sym, ap, subst, arith}
-use Rattle.std.specs.FinMap.{get}
+use Rattle.std.proofs.Common.{◌≡◌, inr, ℕ, ◌≤◌, ◌∙◌, max, List, [], ◌∷◌, refl, sym, ap, subst, arith}
 use Rattle.fkv_map.specs.declared.history.HistoryEntry.{HistoryEntry}
 use Rattle.fkv_map.specs.Map.{Map}
 use Rattle.fkv_map.specs.History.{IsLegal}
-use Rattle.fkv_order.specs.Trace.{Effect, history_of, value_in}
-use Rattle.fkv_order.specs.Chains.{Cell, Logged, Unborn, Reserved, Published, Dropped}
+use Rattle.fkv_order.specs.Trace.{history_of, value_in}
+use Rattle.fkv_order.specs.Chains.{Logged, Unborn, Reserved, Published, Dropped}
 use Rattle.fkv_order.specs.Ghosts.{Log, Ghosts, GhostEvent, Tells, FindsEntry, TakesValue, Reserves, Publishes, Drops, Changes, Fixes, published, dropped, changed, log_after, ghosts_after, ghost_run}
 use Rattle.fkv_order.specs.Owed.{Owes, OwesPublish, OwesChange, AreOwed, IsOpened}
 use Rattle.fkv_order.proofs.Held.{Held, Grows}

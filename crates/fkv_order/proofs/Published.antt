@@ -1,14 +1,13 @@
 -- A record that is published at the head that it leads to keeps what holds of a log: what it was made of still is its key's newest, and the content's value.
-use Rattle.std.proofs.Common.{◌≡◌, ◌≢◌, ◌⊎◌, inl, inr, ℕ, ◌<◌, ◌≤◌, ◌∙◌, Bool, true, false, Option, Some, None, List, [], ◌∷◌, ◌++◌, refl, sym, ap, subst, arith}
-use Rattle.std.specs.Prelude.{nat_eq}
+use Rattle.std.proofs.Common.{◌≡◌, ◌≢◌, ◌⊎◌, inl, inr, ℕ, ◌<◌, ◌≤◌, ◌∙◌, Some, List, [], ◌∷◌, refl, sym, ap, subst, arith}
 use Rattle.fkv_map.specs.declared.history.HistoryEntry.{HistoryEntry}
 use Rattle.fkv_map.specs.Map.{Map}
-use Rattle.fkv_map.specs.Keys.{key_of, value_applied, reply_from}
+use Rattle.fkv_map.specs.Keys.{value_applied, reply_from}
 use Rattle.fkv_map.proofs.Shown.{legal_one_more}
-use Rattle.fkv_order.specs.Trace.{Effect, history_of, value_in, IsIn}
-use Rattle.fkv_order.specs.Chains.{Cell, Logged, Unborn, Reserved, Published, value_at, has_key, head_of, chain_from, first_of_key, IsWithin}
+use Rattle.fkv_order.specs.Trace.{history_of, value_in, IsIn}
+use Rattle.fkv_order.specs.Chains.{Cell, Reserved, Published, value_at, has_key, head_of, chain_from, first_of_key, IsWithin}
 use Rattle.fkv_order.specs.Ghosts.{Log, set_at, first_from, newest_of, shown, effect_of}
-use Rattle.fkv_order.specs.Owed.{IsFixed, IsLinked, IsOfHome, IsMade, previous_of}
+use Rattle.fkv_order.specs.Owed.{IsFixed, IsLinked, IsOfHome, previous_of}
 use Rattle.fkv_order.proofs.Chains.{set_there, set_else, at_one, same_or_other, own_number, other_number, from_head, from_else, first_is, IsFirst, first_else, first_there}
 use Rattle.fkv_order.proofs.Held.{Held, Grows, not_reserved, first_along, made_stays}
 use Rattle.fkv_order.proofs.Steps.{linked_quietly, above_none}
@@ -62,9 +61,9 @@ published_grows home m log a entry cell held publish = record {
   none = set_else log.cells a (Published cell) 0 (is_some home m log a entry cell held publish) ∙ held.none;
   chains = λ h b within. elim (at_one log.chains (home cell.key) (longer_chain home log a cell) h) [
     | inl here ↦ (
-        ap (chain_from b) here.1 ∙ from_else b a (log.chains (home cell.key)) (apart h b within) ∙ ap (λ i. chain_from b (log.chains i)) (sym here.0),
-        subst (IsWithin b) (sym here.1) (more b (log.chains (home cell.key)) (subst (λ i. IsWithin b (log.chains i)) here.0 within)),
-      )
+      ap (chain_from b) here.1 ∙ from_else b a (log.chains (home cell.key)) (apart h b within) ∙ ap (λ i. chain_from b (log.chains i)) (sym here.0),
+      subst (IsWithin b) (sym here.1) (more b (log.chains (home cell.key)) (subst (λ i. IsWithin b (log.chains i)) here.0 within)),
+    )
     | inr else_ ↦ (ap (chain_from b) else_.1, subst (IsWithin b) (sym else_.1) within)
   ];
   fixed = stays log.fixed;
@@ -114,12 +113,12 @@ held_published home m log a entry cell held publish =
     let there : log'.cells a ≡ Published cell = set_there log.cells a (Published cell) in
     let old = old_now home m log a entry cell held publish in
     let else_at : (h b : ℕ) → IsIn b (log.chains h) → log'.cells b ≡ log.cells b =
-        λ h b is_in. set_else log.cells a (Published cell) b (not_yet home m log a entry cell held publish h b is_in) in
+    λ h b is_in. set_else log.cells a (Published cell) b (not_yet home m log a entry cell held publish h b is_in) in
     let shows_own : shown home log' cell.key ≡ value_in m log'.history cell.key =
-        ap (λ i. value_at (log'.cells i)) (newest_own home log a entry cell) ∙ ap value_at there
-        ∙ made.1.its_value ∙ ap (λ v. value_applied v entry.op) old ∙ sym (value_more_own m log.history (effect_of entry cell) cell.key made.1.its_key) in
+    ap (λ i. value_at (log'.cells i)) (newest_own home log a entry cell) ∙ ap value_at there
+    ∙ made.1.its_value ∙ ap (λ v. value_applied v entry.op) old ∙ sym (value_more_own m log.history (effect_of entry cell) cell.key made.1.its_key) in
     let linked_else : (h : ℕ) → IsLinked log'.cells (log.chains h) =
-        λ h. linked_quietly log.cells log'.cells (log.chains h) (λ b is_in. ap previous_of (else_at h b is_in)) (held.chains.linked h) in
+    λ h. linked_quietly log.cells log'.cells (log.chains h) (λ b is_in. ap previous_of (else_at h b is_in)) (held.chains.linked h) in
     record {
       chains = record {
         in_chain = λ h b is_in. elim (at_one log.chains (home cell.key) chain h) [
@@ -133,10 +132,10 @@ held_published home m log a entry cell held publish =
         ];
         linked = λ h. elim (at_one log.chains (home cell.key) chain h) [
           | inl here ↦ subst (IsLinked log'.cells) (sym here.1) (
-              ap previous_of there ∙ ap (λ e. Some e) (sym publish.its_head),
-              subst (λ e. e < a) (sym publish.its_head) made.0,
-              linked_else (home cell.key),
-            )
+            ap previous_of there ∙ ap (λ e. Some e) (sym publish.its_head),
+            subst (λ e. e < a) (sym publish.its_head) made.0,
+            linked_else (home cell.key),
+          )
           | inr else_ ↦ subst (IsLinked log'.cells) (sym else_.1) (linked_else h)
         ];
       };
@@ -182,9 +181,9 @@ held_published home m log a entry cell held publish =
     newest_older : (b : ℕ) (its : Cell) → log.cells b ≡ Published its → (newest_of home (published_log home log a entry cell) its.key ≡ b) ⊎ IsFixed log b
     newest_older b its is = elim (held.newest b its is) [
       | inl first ↦ elim (same_or_other cell.key its.key) [
-          | inl same ↦ inr (subst (λ i. i < log.fixed) (ap (newest_of home log) same ∙ first) (old_fixed home m log a entry cell held publish))
-          | inr other ↦ inl (newest_else home m log a entry cell held publish its.key other ∙ first)
-        ]
+        | inl same ↦ inr (subst (λ i. i < log.fixed) (ap (newest_of home log) same ∙ first) (old_fixed home m log a entry cell held publish))
+        | inr other ↦ inl (newest_else home m log a entry cell held publish its.key other ∙ first)
+      ]
       | inr below ↦ inr below
     ]
 

@@ -1,17 +1,13 @@
 -- Each class of steps keeps what holds of a log, and leaves to others what Grows says.
-use Rattle.std.proofs.Common.{◌≡◌, ◌≢◌, ◌⊎◌, inl, inr, ℕ, ◌<◌, ◌≤◌, ◌∙◌, Bool, true, false, cond, Option, Some, None, List, [], ◌∷◌, ◌++◌, refl, sym, ap, subst, arith, true≢false}
-use Rattle.std.specs.Prelude.{nat_eq}
+use Rattle.std.proofs.Common.{◌≡◌, ◌≢◌, inl, inr, ℕ, ◌<◌, ◌≤◌, ◌∙◌, List, [], ◌∷◌, refl, sym, ap, subst, arith}
 use Rattle.fkv_map.specs.declared.history.HistoryEntry.{HistoryEntry}
 use Rattle.fkv_map.specs.Map.{Map}
-use Rattle.fkv_map.specs.History.{IsLegal}
-use Rattle.fkv_map.specs.Keys.{key_of, value_applied, reply_from, is_on}
-use Rattle.fkv_map.proofs.Shown.{content_one_more, legal_one_more}
-use Rattle.fkv_order.specs.Trace.{Effect, history_of, value_in, IsIn}
-use Rattle.fkv_order.specs.Chains.{Cell, Logged, Unborn, Reserved, Published, Dropped, value_at, has_key, head_of, chain_from, first_of_key, IsWithin}
-use Rattle.fkv_order.specs.Ghosts.{Log, set_at, first_from, newest_of, shown, effect_of, changed_by}
-use Rattle.fkv_order.specs.Owed.{AreChains, IsFixed, IsMade, IsOfHome, IsLinked, previous_of}
-use Rattle.fkv_order.proofs.Chains.{set_there, set_else, at_one, same_or_other, own_number, other_number, from_head, from_else, first_same, first_is, IsFirst, first_else, first_there}
-use Rattle.fkv_order.proofs.Held.{Held, Grows, StaysPublished, not_reserved, not_unborn, key_there, first_along, value_along, made_stays}
+use Rattle.fkv_order.specs.Trace.{IsIn}
+use Rattle.fkv_order.specs.Chains.{Cell, Logged, Unborn, Reserved, Published, Dropped, value_at}
+use Rattle.fkv_order.specs.Ghosts.{Log, set_at, newest_of}
+use Rattle.fkv_order.specs.Owed.{IsMade, IsLinked, previous_of}
+use Rattle.fkv_order.proofs.Chains.{set_else, at_one, first_is, IsFirst}
+use Rattle.fkv_order.proofs.Held.{Held, Grows, not_reserved, not_unborn, first_along, made_stays}
 
 -- ---- steps that change neither a chain nor a published record nor the history
 pub record IsQuiet (home : ℕ → ℕ) (log : Log) (cells : ℕ → Logged) (fixed : ℕ) : Type 0 where
@@ -43,13 +39,13 @@ held_quietly home m log cells fixed held quiet =
     let log' = quiet_log log cells fixed in
     let grows = quiet_grows home m log cells fixed quiet in
     let its_newest : (key : ℕ) → newest_of home log' key ≡ newest_of home log key =
-        λ key. first_along home m log log' held.chains grows key (log.chains (home key)) (λ a is_in. is_in) in
+    λ key. first_along home m log log' held.chains grows key (log.chains (home key)) (λ a is_in. is_in) in
     record {
       chains = record {
         in_chain = λ h a is_in. let its = held.chains.in_chain h a is_in in record { cell = its.cell; its = quiet.stays a its.cell its.its; its_home = its.its_home };
         its_chain = λ a cell is. held.chains.its_chain a cell (quiet.none_new a cell is);
         linked = λ h. linked_quietly log.cells cells (log.chains h)
-          (λ a is_in. let its = held.chains.in_chain h a is_in in ap previous_of (quiet.stays a its.cell its.its) ∙ sym (ap previous_of its.its)) (held.chains.linked h);
+            (λ a is_in. let its = held.chains.in_chain h a is_in in ap previous_of (quiet.stays a its.cell its.its) ∙ sym (ap previous_of its.its)) (held.chains.linked h);
       };
       none = quiet.none;
       some_fixed = above log.fixed fixed held.some_fixed quiet.rises;

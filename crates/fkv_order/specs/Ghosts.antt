@@ -1,10 +1,9 @@
 -- A log of cells and chains, and how events change it, its history and what is told.
-use Rattle.std.specs.Prelude.{ℕ, max, Bool, nat_eq, cond, Option, List, [], ◌∷◌}
+use Rattle.std.specs.Prelude.{ℕ, max, nat_eq, cond, Option, List, [], ◌∷◌}
 use Rattle.fkv_map.specs.declared.history.HistoryEntry.{HistoryEntry}
-use Rattle.fkv_map.specs.declared.operations.Reply.{Reply}
-use Rattle.fkv_map.specs.Keys.{key_of, value_applied}
-use Rattle.fkv_order.specs.Trace.{Effect, TraceLine, CallsUpdate, RefusesUpdate, GivesResult, CallsRead, AnswersRead}
-use Rattle.fkv_order.specs.Chains.{Cell, Logged, Unborn, Reserved, Published, Dropped, value_at, head_of, chain_from, first_of_key}
+use Rattle.fkv_map.specs.Keys.{value_applied}
+use Rattle.fkv_order.specs.Trace.{Effect, TraceLine, CallsRead}
+use Rattle.fkv_order.specs.Chains.{Cell, Logged, Reserved, Published, Dropped, value_at, head_of, chain_from, first_of_key}
 
 pub record Log : Type 0 where
   pub cells : ℕ → Logged

@@ -1,5 +1,5 @@
 -- What took effect, and what calls were told, as plain data.
-use Rattle.std.specs.Prelude.{◌≡◌, ℕ, ◌⊎◌, ⊤, ◌&&◌, nat_eq, cond, Option, Some, None, List, [], ◌∷◌, ◌++◌}
+use Rattle.std.specs.Prelude.{◌≡◌, ℕ, ◌⊎◌, ◌&&◌, nat_eq, cond, Option, Some, None, List, [], ◌∷◌, ◌++◌}
 use Rattle.std.specs.FinMap.{get}
 use Rattle.fkv_map.specs.declared.operations.Op.{Op}
 use Rattle.fkv_map.specs.declared.operations.Reply.{Reply}
@@ -84,5 +84,5 @@ pub record IsFresh (m : Map) (effects : List Effect) (key : ℕ) (reply : Reply)
 -- Each read that was answered had been called, and gives its key's value at some moment between.
 pub record ReadsAreFresh (m : Map) (effects : List Effect) (trace : List TraceLine) : Type 0 where
   pub called : (later before : List TraceLine) (reader : ℕ) (reply : Reply) → trace ≡ later ++ AnswersRead reader reply ∷ before → (key : ℕ) × IsIn (CallsRead reader key) before
-  pub fresh : (later between earlier : List TraceLine) (reader key : ℕ) (reply : Reply) → trace ≡ later ++ AnswersRead reader reply ∷ between ++ CallsRead reader key ∷ earlier
+  pub fresh : (later between earlier : List TraceLine) (reader key : ℕ) (reply : Reply) → trace ≡ later ++ AnswersRead reader reply ∷ (between ++ CallsRead reader key ∷ earlier)
       → IsFresh m effects key reply earlier later

@@ -1,10 +1,19 @@
 //! The laws of a log of cells and chains. These functions do nothing: what they promise holds of every list of events.
-ghost use Rattle.fkv_order.specs.Laws.{AtEachMoment, HistoryIsLegal, ChainsShowContent};
+ghost use Rattle.fkv_order.specs.Laws.{AtEachMoment, HistoryIsLegal, ChainsShowContent, CallsAreOrdered, ReadsGiveContent};
 
-/// Over every list of events in which each event owes nothing: the newest record of a key in the chain of its home shows the
+/// Over every list of events, each of which keeps to its rule: the newest record of a key in the chain of its home shows the
 /// key's value after the updates that have taken effect so far, and each of these was told the reply that the map gives at
 /// its place.
 pub fn law_chains_show_content()
     ensures content { AtEachMoment ChainsShowContent }
     ensures legal { AtEachMoment HistoryIsLegal }
+{}
+
+/// Over the same lists: each update whose result was given took effect once, with that reply, and none but those that were
+/// called; one whose result was given before another was called took effect before it. A read's answer is its key's value
+/// after some beginning of the history, in which each update stands whose result had been given at the read's call, and none
+/// that was called behind its answer.
+pub fn law_calls_in_order()
+    ensures orders { AtEachMoment CallsAreOrdered }
+    ensures fresh { AtEachMoment ReadsGiveContent }
 {}
