@@ -3,7 +3,7 @@ use Rattle.std.proofs.Common.{◌≡◌, ◌≢◌, ◌⊎◌, inl, inr, ℕ, �
 use Rattle.std.specs.Prelude.{nat_eq}
 use Rattle.std.proofs.lemmas.Bool.Decides.{nat_tests}
 use Rattle.fkv_order.specs.Trace.{IsIn}
-use Rattle.fkv_order.specs.Chains.{Logged, has_key, head_of, chain_from, first_of_key, IsWithin}
+use Rattle.fkv_order.specs.Chains.{Logged, head_of, chain_from, first_such, IsWithin}
 use Rattle.fkv_order.specs.Ghosts.{set_at}
 
 pub own_number : (n : ℕ) → nat_eq n n ≡ true
@@ -54,33 +54,31 @@ pub head_within : (chain : List ℕ) → IsWithin (head_of chain) chain
 head_within [] = inl refl
 head_within (a ∷ older) = inr (inl refl)
 
--- ---- the first record of a key
--- it is none, or one of the chain that has the key
-abbrev pub IsFirst : (ℕ → Logged) → ℕ → List ℕ → ℕ → Type 0
-IsFirst cells key chain a = (a ≡ 0) ⊎ (IsIn a chain × (has_key key (cells a) ≡ true))
+-- ---- the first record that passes a test
+-- it is none, or one of the chain that passes
+abbrev pub IsFirst : (Logged → Bool) → (ℕ → Logged) → List ℕ → ℕ → Type 0
+IsFirst test cells chain a = (a ≡ 0) ⊎ (IsIn a chain × (test (cells a) ≡ true))
 
-pub first_is : (cells : ℕ → Logged) (key : ℕ) (chain : List ℕ) → IsFirst cells key chain (first_of_key cells key chain)
-first_is cells key [] = inl refl
-first_is cells key (a ∷ older) = by_test (has_key key (cells a)) refl (first_is cells key older)
+pub first_is : (test : Logged → Bool) (cells : ℕ → Logged) (chain : List ℕ) → IsFirst test cells chain (first_such test cells chain)
+first_is test cells [] = inl refl
+first_is test cells (a ∷ older) = by_test (test (cells a)) refl (first_is test cells older)
   where
-    by_test : (t : Bool) → has_key key (cells a) ≡ t → IsFirst cells key older (first_of_key cells key older) → IsFirst cells key (a ∷ older) (cond t a (first_of_key cells key older))
+    by_test : (t : Bool) → test (cells a) ≡ t → IsFirst test cells older (first_such test cells older) → IsFirst test cells (a ∷ older) (cond t a (first_such test cells older))
     by_test true is rest = inr (inl refl, is)
     by_test false is (inl none) = inl none
     by_test false is (inr some) = inr (inr some.0, some.1)
 
--- where the records of a chain have the keys that they had
-pub first_same : (cells cells' : ℕ → Logged) (key : ℕ) (chain : List ℕ) → ((a : ℕ) → IsIn a chain → has_key key (cells' a) ≡ has_key key (cells a))
-    → first_of_key cells' key chain ≡ first_of_key cells key chain
-first_same cells cells' key [] same = refl
-first_same cells cells' key (a ∷ older) same =
-    rw (same a (inl refl), first_same cells cells' key older (λ b is_in. same b (inr is_in))) refl
+-- where the records of a chain pass as they did
+pub first_same : (test : Logged → Bool) (cells cells' : ℕ → Logged) (chain : List ℕ) → ((a : ℕ) → IsIn a chain → test (cells' a) ≡ test (cells a)) → first_such test cells' chain ≡ first_such test cells chain
+first_same test cells cells' [] same = refl
+first_same test cells cells' (a ∷ older) same = rw (same a (inl refl), first_same test cells cells' older (λ b is_in. same b (inr is_in))) refl
 
--- a record of another key stands in the way of none
-pub first_else : (cells : ℕ → Logged) (key a : ℕ) (chain : List ℕ) → has_key key (cells a) ≡ false → first_of_key cells key (a ∷ chain) ≡ first_of_key cells key chain
-first_else cells key a chain other = rw other refl
+-- a record that doesn't pass stands in the way of none
+pub first_else : (test : Logged → Bool) (cells : ℕ → Logged) (a : ℕ) (chain : List ℕ) → test (cells a) ≡ false → first_such test cells (a ∷ chain) ≡ first_such test cells chain
+first_else test cells a chain other = rw other refl
 
-pub first_there : (cells : ℕ → Logged) (key a : ℕ) (chain : List ℕ) → has_key key (cells a) ≡ true → first_of_key cells key (a ∷ chain) ≡ a
-first_there cells key a chain own = rw own refl
+pub first_there : (test : Logged → Bool) (cells : ℕ → Logged) (a : ℕ) (chain : List ℕ) → test (cells a) ≡ true → first_such test cells (a ∷ chain) ≡ a
+first_there test cells a chain own = rw own refl
 
 -- at each place it is the new one there, or the old one
 pub at_one : {X : Type 0} → (f : ℕ → X) (i : ℕ) (x : X) (j : ℕ) → ((j ≡ i) × (set_at f i x j ≡ x)) ⊎ ((j ≢ i) × (set_at f i x j ≡ f j))

@@ -1,16 +1,17 @@
 -- A change in place keeps what holds of a log: the record is its key's newest, so its value is the content's.
-use Rattle.std.proofs.Common.{◌≡◌, ◌≢◌, inl, inr, ℕ, ◌<◌, ◌≤◌, ◌∙◌, cond, List, [], ◌∷◌, refl, sym, ap, subst, arith}
+use Rattle.std.proofs.Common.{◌≡◌, ◌≢◌, inl, inr, ℕ, ◌<◌, ◌≤◌, ◌∙◌, Bool, true, false, true≢false, cond, List, [], ◌∷◌, refl, sym, ap, subst, arith}
 use Rattle.std.specs.Prelude.{nat_eq}
 use Rattle.fkv_map.specs.declared.history.HistoryEntry.{HistoryEntry}
 use Rattle.fkv_map.specs.Map.{Map}
 use Rattle.fkv_map.specs.Keys.{key_of, value_applied, reply_from}
 use Rattle.fkv_map.proofs.Shown.{content_one_more, legal_one_more}
 use Rattle.fkv_order.specs.Trace.{Effect, history_of, value_in, IsIn}
-use Rattle.fkv_order.specs.Chains.{Cell, Unborn, Published, value_at}
-use Rattle.fkv_order.specs.Ghosts.{Log, set_at, newest_of, shown, effect_of, changed_by}
-use Rattle.fkv_order.specs.Owed.{previous_of}
+use Rattle.fkv_order.specs.Chains.{Cell, Logged, Unborn, Reserved, Published, value_at, version_at, has_key, has_key_in}
+use Rattle.fkv_order.specs.Ghosts.{Log, set_at, first_from, newest_of, newest_in, shown, effect_of, changed_by}
+use Rattle.fkv_order.specs.Owed.{IsMade, IsChange, previous_of}
 use Rattle.fkv_order.proofs.Chains.{set_there, set_else, at_one, same_or_other, own_number, other_number, first_is, IsFirst}
-use Rattle.fkv_order.proofs.Held.{Held, Grows, not_reserved, not_unborn, key_there, first_along, made_stays}
+use Rattle.fkv_order.proofs.Versions.{in_has, latest_is_first}
+use Rattle.fkv_order.proofs.Held.{Held, Grows, not_reserved, not_unborn, first_along, falls_along, made_stays}
 use Rattle.fkv_order.proofs.Steps.{linked_quietly}
 
 -- ---- what one more effect makes of a key's value
@@ -31,39 +32,41 @@ abbrev pub changed_log : Log → ℕ → HistoryEntry → Cell → Log
 changed_log log a entry cell = record log { cells = set_at log.cells a (Published (changed_by entry cell)); history = effect_of entry cell ∷ log.history }
 
 -- what a change in place meets
-pub record IsChange (log : Log) (a : ℕ) (entry : HistoryEntry) (cell : Cell) : Type 0 where
+pub record MeetsChange (home : ℕ → ℕ) (log : Log) (a : ℕ) (entry : HistoryEntry) (cell : Cell) : Type 0 where
   pub its : log.cells a ≡ Published cell
-  pub may : log.fixed ≤ a
-  pub its_key : cell.key ≡ (key_of entry.op).0
-  pub its_reply : entry.reply ≡ reply_from cell.value entry.op
+  pub may : IsChange home log a entry cell
 
-is_newest : (home : ℕ → ℕ) (m : Map) (log : Log) (a : ℕ) (entry : HistoryEntry) (cell : Cell) → Held home m log → IsChange log a entry cell → newest_of home log cell.key ≡ a
+-- the record is the newest of its key: of its version, and none is later
+pub is_newest : (home : ℕ → ℕ) (m : Map) (log : Log) (a : ℕ) (entry : HistoryEntry) (cell : Cell) → Held home m log → MeetsChange home log a entry cell → newest_of home log cell.key ≡ a
 is_newest home m log a entry cell held change = elim (held.newest a cell change.its) [
-  | inl newest ↦ newest
-  | inr below ↦ absurd (not_both a log.fixed below change.may)
+  | inl newest ↦ sym (latest_is_first cell.version cell.key a log.cells (log.chains (home cell.key)) change.may.none_above (held.falls (home cell.key)) (held.chains.its_chain a cell change.its) its_own) ∙ newest
+  | inr below ↦ absurd (not_both a log.fixed below change.may.not_fixed)
 ]
   where
     not_both : (a b : ℕ) → a < b → b ≤ a → ⊥
     not_both a b low high = omega (arith, low, high)
 
+    its_own : has_key_in cell.version cell.key (log.cells a) ≡ true
+    its_own = in_has cell.version cell.key (log.cells a) (ap (has_key cell.key) change.its ∙ own_number cell.key) (ap version_at change.its)
+
 -- its value is the content's
-value_now : (home : ℕ → ℕ) (m : Map) (log : Log) (a : ℕ) (entry : HistoryEntry) (cell : Cell) → Held home m log → IsChange log a entry cell → cell.value ≡ value_in m log.history cell.key
+value_now : (home : ℕ → ℕ) (m : Map) (log : Log) (a : ℕ) (entry : HistoryEntry) (cell : Cell) → Held home m log → MeetsChange home log a entry cell → cell.value ≡ value_in m log.history cell.key
 value_now home m log a entry cell held change =
     sym (ap value_at change.its) ∙ ap (λ i. value_at (log.cells i)) (sym (is_newest home m log a entry cell held change)) ∙ held.shows cell.key
 
-value_then : (home : ℕ → ℕ) (m : Map) (log : Log) (a : ℕ) (entry : HistoryEntry) (cell : Cell) → Held home m log → IsChange log a entry cell
+value_then : (home : ℕ → ℕ) (m : Map) (log : Log) (a : ℕ) (entry : HistoryEntry) (cell : Cell) → Held home m log → MeetsChange home log a entry cell
     → value_applied cell.value entry.op ≡ value_in m (effect_of entry cell ∷ log.history) cell.key
 value_then home m log a entry cell held change =
-    ap (λ v. value_applied v entry.op) (value_now home m log a entry cell held change) ∙ sym (value_more_own m log.history (effect_of entry cell) cell.key change.its_key)
+    ap (λ v. value_applied v entry.op) (value_now home m log a entry cell held change) ∙ sym (value_more_own m log.history (effect_of entry cell) cell.key change.may.its_key)
 
-pub changed_grows : (home : ℕ → ℕ) (m : Map) (log : Log) (a : ℕ) (entry : HistoryEntry) (cell : Cell) → Held home m log → IsChange log a entry cell → Grows home m log (changed_log log a entry cell)
+pub changed_grows : (home : ℕ → ℕ) (m : Map) (log : Log) (a : ℕ) (entry : HistoryEntry) (cell : Cell) → Held home m log → MeetsChange home log a entry cell → Grows home m log (changed_log log a entry cell)
 changed_grows home m log a entry cell held change = record {
   published = λ b its is. elim (at_one log.cells a (Published (changed_by entry cell)) b) [
     | inl here ↦ let same = same_cell cell its (sym change.its ∙ ap log.cells (sym here.0) ∙ is) in record {
       value = value_applied its.value entry.op;
       still = here.1 ∙ ap (λ c. Published (changed_by entry c)) same;
       kept = inr (
-        subst (λ i. log.fixed ≤ i) (sym here.0) change.may,
+        subst (λ i. log.fixed ≤ i) (sym here.0) change.may.not_fixed,
         subst (λ c. value_applied c.value entry.op ≡ value_in m (effect_of entry cell ∷ log.history) c.key) same (value_then home m log a entry cell held change),
       );
     }
@@ -79,18 +82,31 @@ changed_grows home m log a entry cell held change = record {
     stays : (n : ℕ) → n ≤ n
     stays n = omega arith
 
--- the newest of another key is another record
-other_first : (log : Log) (a key : ℕ) (cell : Cell) (chain : List ℕ) (x : ℕ) → log.cells a ≡ Published cell → log.cells 0 ≡ Unborn → cell.key ≢ key → IsFirst log.cells key chain x → x ≢ a
-other_first log a key cell chain x its none other (inl zero_is) = λ same. not_unborn (log.cells a) cell its (ap log.cells (sym same ∙ zero_is) ∙ none)
-other_first log a key cell chain x its none other (inr some) = λ same. other (key_there key (log.cells x) cell (ap log.cells same ∙ its) some.1)
+-- the first that passes a test is another record than one that doesn't
+pub first_not : (log : Log) (a : ℕ) (cell : Cell) → log.cells a ≡ Published cell → log.cells 0 ≡ Unborn → (test : Logged → Bool) → test (Published cell) ≡ false → (chain : List ℕ) (x : ℕ) → IsFirst test log.cells chain x → x ≢ a
+first_not log a cell its none test fails chain x (inl zero_is) = λ same. not_unborn (log.cells a) cell its (ap log.cells (sym same ∙ zero_is) ∙ none)
+first_not log a cell its none test fails chain x (inr some) = λ same. true≢false (sym some.1 ∙ ap test (ap log.cells same ∙ its) ∙ fails)
 
-pub held_changed : (home : ℕ → ℕ) (m : Map) (log : Log) (a : ℕ) (entry : HistoryEntry) (cell : Cell) → Held home m log → IsChange log a entry cell → Held home m (changed_log log a entry cell)
+-- what others make a record of is another one
+not_copied : (home : ℕ → ℕ) (m : Map) (log : Log) (a : ℕ) (entry : HistoryEntry) (cell : Cell) → MeetsChange home log a entry cell → (b : ℕ) (entry' : HistoryEntry) (its : Cell) → log.cells b ≡ Reserved entry' its → IsMade home log entry' its
+    → first_from home log its.key its.previous ≢ a
+not_copied home m log a entry cell change b entry' its is made = elim made.still [
+  | inl fixed ↦ λ same. not_both a log.fixed (subst (λ i. i < log.fixed) same fixed) change.may.not_fixed
+  | inr older ↦ λ same. change.may.no_copies b entry' its is (subst (λ v. v < its.version) (ap version_at (ap log.cells same ∙ change.its)) older) same
+]
+  where
+    not_both : (a b : ℕ) → a < b → b ≤ a → ⊥
+    not_both a b low high = omega (arith, low, high)
+
+pub held_changed : (home : ℕ → ℕ) (m : Map) (log : Log) (a : ℕ) (entry : HistoryEntry) (cell : Cell) → Held home m log → MeetsChange home log a entry cell → Held home m (changed_log log a entry cell)
 held_changed home m log a entry cell held change =
     let log' = changed_log log a entry cell in
     let new = Published (changed_by entry cell) in
     let grows = changed_grows home m log a entry cell held change in
     let newest_same : (key : ℕ) → newest_of home log' key ≡ newest_of home log key =
-    λ key. first_along home m log log' held.chains grows key (log.chains (home key)) (λ b is_in. is_in) in
+    λ key. first_along home m log log' held.chains grows (has_key key) (λ c value. refl) (home key) (log.chains (home key)) (λ b is_in. is_in) in
+    let newest_in_same : (version key : ℕ) → newest_in home log' version key ≡ newest_in home log version key =
+    λ version key. first_along home m log log' held.chains grows (has_key_in version key) (λ c value. refl) (home key) (log.chains (home key)) (λ b is_in. is_in) in
     let newest_own : newest_of home log' cell.key ≡ a = newest_same cell.key ∙ is_newest home m log a entry cell held change in
     let shows_own : shown home log' cell.key ≡ value_in m log'.history cell.key =
     ap (λ i. value_at (log'.cells i)) newest_own ∙ ap value_at (set_there log.cells a new) ∙ value_then home m log a entry cell held change in
@@ -117,23 +133,32 @@ held_changed home m log a entry cell held change =
       };
       none = grows.none;
       some_fixed = held.some_fixed;
+      falls = λ h. falls_along home m log log' held.chains grows h (held.falls h);
       newest = λ b its is. elim (at_one log.cells a new b) [
-        | inl here ↦ inl (ap (λ c. newest_of home log' c.key) (sym (same_cell (changed_by entry cell) its (sym here.1 ∙ is))) ∙ newest_own ∙ sym here.0)
+        | inl here ↦ elim (held.newest a cell change.its) [
+          | inl first ↦ inl (ap (λ c. newest_in home log' c.version c.key) (sym (same_cell (changed_by entry cell) its (sym here.1 ∙ is))) ∙ newest_in_same cell.version cell.key ∙ first ∙ sym here.0)
+          | inr below ↦ inr (subst (λ i. i < log.fixed) (sym here.0) below)
+        ]
         | inr else_ ↦ elim (held.newest b its (sym else_.1 ∙ is)) [
-          | inl first ↦ inl (newest_same its.key ∙ first)
+          | inl first ↦ inl (newest_in_same its.version its.key ∙ first)
           | inr below ↦ inr below
         ]
       ];
       shows = λ key. elim (same_or_other cell.key key) [
         | inl same ↦ subst (λ k. shown home log' k ≡ value_in m log'.history k) same shows_own
         | inr other ↦ ap (λ i. value_at (log'.cells i)) (newest_same key)
-            ∙ ap value_at (set_else log.cells a new (newest_of home log key) (other_first log a key cell (log.chains (home key)) (newest_of home log key) change.its held.none other (first_is log.cells key (log.chains (home key)))))
-            ∙ held.shows key ∙ sym (value_more_else m log.history (effect_of entry cell) key (λ is. other (change.its_key ∙ is)))
+            ∙ ap value_at (set_else log.cells a new (newest_of home log key)
+            (first_not log a cell change.its held.none (has_key key) (other_number cell.key key other) (log.chains (home key)) (newest_of home log key) (first_is (has_key key) log.cells (log.chains (home key)))))
+            ∙ held.shows key ∙ sym (value_more_else m log.history (effect_of entry cell) key (λ is. other (change.may.its_key ∙ is)))
       ];
       legal = legal_one_more m (history_of log.history) entry held.legal
-          (change.its_reply ∙ ap (λ v. reply_from v entry.op) (value_now home m log a entry cell held change ∙ ap (value_in m log.history) change.its_key));
+          (change.may.its_reply ∙ ap (λ v. reply_from v entry.op) (value_now home m log a entry cell held change ∙ ap (value_in m log.history) change.may.its_key));
       made = λ b entry' its is. elim (at_one log.cells a new b) [
         | inl here ↦ absurd (not_reserved (log'.cells b) (changed_by entry cell) its entry' here.1 is)
-        | inr else_ ↦ let made = held.made b entry' its (sym else_.1 ∙ is) in (made.0, made_stays home m log log' held.chains held.none grows entry' its made.1)
+        | inr else_ ↦ let was = sym else_.1 ∙ is in let made = held.made b entry' its was in (
+          made.0,
+          made_stays home m log log' held.chains held.none grows entry' its
+              (ap value_at (set_else log.cells a new (first_from home log its.key its.previous) (not_copied home m log a entry cell change b entry' its was made.1))) made.1,
+        )
       ];
     }

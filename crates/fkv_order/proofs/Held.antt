@@ -1,13 +1,14 @@
 -- What holds of a log at each moment, what a step leaves to others (Grows), and the facts that it keeps.
-use Rattle.std.proofs.Common.{◌≡◌, ◌⊎◌, inl, inr, ℕ, ◌<◌, ◌≤◌, ◌∙◌, Bool, true, false, Option, List, ◌++◌, sym, ap, subst, arith, true≢false}
+use Rattle.std.proofs.Common.{◌≡◌, ◌⊎◌, inl, inr, ℕ, ◌<◌, ◌≤◌, ◌∙◌, Bool, true, false, Option, List, ◌++◌, refl, sym, ap, subst, arith, true≢false}
 use Rattle.fkv_map.specs.declared.history.HistoryEntry.{HistoryEntry}
 use Rattle.fkv_map.specs.Map.{Map}
 use Rattle.fkv_map.specs.History.{IsLegal}
 use Rattle.fkv_map.specs.Keys.{value_applied, reply_from}
 use Rattle.fkv_order.specs.Trace.{Effect, history_of, value_in, IsIn}
-use Rattle.fkv_order.specs.Chains.{Cell, Logged, Unborn, Reserved, Published, value_at, has_key, chain_from, first_of_key, IsWithin}
-use Rattle.fkv_order.specs.Ghosts.{Log, first_from, newest_of, shown}
-use Rattle.fkv_order.specs.Owed.{AreChains, IsFixed, IsMade}
+use Rattle.fkv_order.specs.Chains.{Cell, Logged, Unborn, Reserved, Published, value_at, version_at, has_key, chain_from, first_such, IsWithin, VersionsFall}
+use Rattle.fkv_order.specs.Ghosts.{Log, first_from, newest_in, shown}
+use Rattle.fkv_order.specs.Owed.{AreChains, IsFixed, StandsStill, IsMade}
+use Rattle.fkv_order.proofs.Versions.{falls_same}
 use Rattle.fkv_order.proofs.Chains.{first_same, first_is, IsFirst, in_from, same_number}
 
 -- ---- what holds of a log
@@ -15,8 +16,9 @@ pub record Held (home : ℕ → ℕ) (m : Map) (log : Log) : Type 0 where
   pub chains : AreChains home log
   pub none : log.cells 0 ≡ Unborn
   pub some_fixed : 0 < log.fixed
-  -- a record that may still change in place is the newest of its key
-  pub newest : (a : ℕ) (cell : Cell) → log.cells a ≡ Published cell → (newest_of home log cell.key ≡ a) ⊎ IsFixed log a
+  pub falls : (h : ℕ) → VersionsFall log.cells (log.chains h)
+  -- a record that may still change in place is the newest of its key and its version
+  pub newest : (a : ℕ) (cell : Cell) → log.cells a ≡ Published cell → (newest_in home log cell.version cell.key ≡ a) ⊎ IsFixed log a
   pub shows : (key : ℕ) → shown home log key ≡ value_in m log.history key
   pub legal : IsLegal m (history_of log.history)
   pub made : (a : ℕ) (entry : HistoryEntry) (cell : Cell) → log.cells a ≡ Reserved entry cell → (cell.previous < a) × IsMade home log entry cell
@@ -53,26 +55,39 @@ pub key_there : (key : ℕ) (logged : Logged) (cell : Cell) → logged ≡ Publi
 key_there key logged cell is has = same_number cell.key key (sym (ap (has_key key) is) ∙ has)
 
 -- ---- what a step keeps
--- a record of a chain has the key that it had
-pub key_stays : (home : ℕ → ℕ) (m : Map) (log log' : Log) → AreChains home log → Grows home m log log' → (h a key : ℕ) → IsIn a (log.chains h) → has_key key (log'.cells a) ≡ has_key key (log.cells a)
-key_stays home m log log' chains grows h a key is_in =
+-- a test that doesn't look at values
+abbrev pub IsBlind : (Logged → Bool) → Type 0
+IsBlind test = (cell : Cell) (value : Option ℕ) → test (Published (record cell { value = value })) ≡ test (Published cell)
+
+-- a record of a chain passes it as before, and has the version that it had
+pub test_stays : (home : ℕ → ℕ) (m : Map) (log log' : Log) → AreChains home log → Grows home m log log' → (test : Logged → Bool) → IsBlind test → (h a : ℕ) → IsIn a (log.chains h)
+    → test (log'.cells a) ≡ test (log.cells a)
+test_stays home m log log' chains grows test blind h a is_in =
     let its = chains.in_chain h a is_in in
     let stays = grows.published a its.cell its.its in
-    ap (has_key key) stays.still ∙ sym (ap (has_key key) its.its)
+    ap test stays.still ∙ blind its.cell stays.value ∙ sym (ap test its.its)
 
-abbrev pub ArePartOf : (ℕ → ℕ) → Log → ℕ → List ℕ → Type 0
-ArePartOf home log key chain = (a : ℕ) → IsIn a chain → IsIn a (log.chains (home key))
+pub version_stays : (home : ℕ → ℕ) (m : Map) (log log' : Log) → AreChains home log → Grows home m log log' → (h a : ℕ) → IsIn a (log.chains h) → version_at (log'.cells a) ≡ version_at (log.cells a)
+version_stays home m log log' chains grows h a is_in =
+    let its = chains.in_chain h a is_in in
+    ap version_at (grows.published a its.cell its.its).still ∙ sym (ap version_at its.its)
 
-pub first_along : (home : ℕ → ℕ) (m : Map) (log log' : Log) → AreChains home log → Grows home m log log' → (key : ℕ) (chain : List ℕ) → ArePartOf home log key chain
-    → first_of_key log'.cells key chain ≡ first_of_key log.cells key chain
-first_along home m log log' chains grows key chain part =
-    first_same log.cells log'.cells key chain (λ a is_in. key_stays home m log log' chains grows (home key) a key (part a is_in))
+pub falls_along : (home : ℕ → ℕ) (m : Map) (log log' : Log) → AreChains home log → Grows home m log log' → (h : ℕ) → VersionsFall log.cells (log.chains h) → VersionsFall log'.cells (log.chains h)
+falls_along home m log log' chains grows h falls = falls_same log.cells log'.cells (log.chains h) (λ a is_in. version_stays home m log log' chains grows h a is_in) falls
+
+abbrev pub ArePartOf : Log → ℕ → List ℕ → Type 0
+ArePartOf log h chain = (a : ℕ) → IsIn a chain → IsIn a (log.chains h)
+
+pub first_along : (home : ℕ → ℕ) (m : Map) (log log' : Log) → AreChains home log → Grows home m log log' → (test : Logged → Bool) → IsBlind test → (h : ℕ) (chain : List ℕ) → ArePartOf log h chain
+    → first_such test log'.cells chain ≡ first_such test log.cells chain
+first_along home m log log' chains grows test blind h chain part =
+    first_same test log.cells log'.cells chain (λ a is_in. test_stays home m log log' chains grows test blind h a (part a is_in))
 
 -- the value at a place stays, or is the content's now, where it isn't fixed
 abbrev pub KeepsValue : Map → Log → Log → ℕ → ℕ → Type 0
 KeepsValue m log log' key a = (value_at (log'.cells a) ≡ value_at (log.cells a)) ⊎ ((log.fixed ≤ a) × (value_at (log'.cells a) ≡ value_in m log'.history key))
 
-pub value_along : (home : ℕ → ℕ) (m : Map) (log log' : Log) → AreChains home log → log.cells 0 ≡ Unborn → Grows home m log log' → (key : ℕ) (chain : List ℕ) (a : ℕ) → ArePartOf home log key chain → IsFirst log.cells key chain a
+pub value_along : (home : ℕ → ℕ) (m : Map) (log log' : Log) → AreChains home log → log.cells 0 ≡ Unborn → Grows home m log log' → (key : ℕ) (chain : List ℕ) (a : ℕ) → ArePartOf log (home key) chain → IsFirst (has_key key) log.cells chain a
     → KeepsValue m log log' key a
 value_along home m log log' chains none grows key chain a part (inl zero_is) =
     inl (ap (λ i. value_at (log'.cells i)) zero_is ∙ ap value_at grows.none ∙ sym (ap value_at none) ∙ ap (λ i. value_at (log.cells i)) (sym zero_is))
@@ -85,13 +100,13 @@ value_along home m log log' chains none grows key chain a part (inr some) =
       | inr now ↦ inr (now.0, ap value_at stays.still ∙ now.1 ∙ ap (λ k. value_in m log'.history k) its_key)
     ]
 
-part_from : (home : ℕ → ℕ) (log : Log) (key a : ℕ) → ArePartOf home log key (chain_from a (log.chains (home key)))
+part_from : (home : ℕ → ℕ) (log : Log) (key a : ℕ) → ArePartOf log (home key) (chain_from a (log.chains (home key)))
 part_from home log key a b is_in = in_from a b (log.chains (home key)) is_in
 
 pub first_stays : (home : ℕ → ℕ) (m : Map) (log log' : Log) → AreChains home log → Grows home m log log' → (key a : ℕ) → IsWithin a (log.chains (home key)) → first_from home log' key a ≡ first_from home log key a
 first_stays home m log log' chains grows key a within =
-    ap (first_of_key log'.cells key) (grows.chains (home key) a within).0
-    ∙ first_along home m log log' chains grows key (chain_from a (log.chains (home key))) (part_from home log key a)
+    ap (first_such (has_key key) log'.cells) (grows.chains (home key) a within).0
+    ∙ first_along home m log log' chains grows (has_key key) (λ cell value. refl) (home key) (chain_from a (log.chains (home key))) (part_from home log key a)
 
 -- what is shown from an address on stays, or is the content's now
 pub shown_stays : (home : ℕ → ℕ) (m : Map) (log log' : Log) → AreChains home log → log.cells 0 ≡ Unborn → Grows home m log log' → (key a : ℕ) → IsWithin a (log.chains (home key))
@@ -99,31 +114,45 @@ pub shown_stays : (home : ℕ → ℕ) (m : Map) (log log' : Log) → AreChains 
     ⊎ ((log.fixed ≤ first_from home log key a) × (value_at (log'.cells (first_from home log' key a)) ≡ value_in m log'.history key))
 shown_stays home m log log' chains none grows key a within =
     let same = ap (λ i. value_at (log'.cells i)) (first_stays home m log log' chains grows key a within) in
-    elim (value_along home m log log' chains none grows key (chain_from a (log.chains (home key))) (first_from home log key a) (part_from home log key a) (first_is log.cells key (chain_from a (log.chains (home key))))) [
+    elim (value_along home m log log' chains none grows key (chain_from a (log.chains (home key))) (first_from home log key a) (part_from home log key a) (first_is (has_key key) log.cells (chain_from a (log.chains (home key))))) [
       | inl kept ↦ inl (same ∙ kept)
       | inr now ↦ inr (now.0, same ∙ now.1)
     ]
 
-pub made_stays : (home : ℕ → ℕ) (m : Map) (log log' : Log) → AreChains home log → log.cells 0 ≡ Unborn → Grows home m log log' → (entry : HistoryEntry) (cell : Cell) → IsMade home log entry cell → IsMade home log' entry cell
-made_stays home m log log' chains none grows entry cell made =
-    let stays = first_stays home m log log' chains grows cell.key cell.previous made.leads in
-    let fixed = made.is_fixed in
-    let more = grows.fixed in
-    let same : value_at (log'.cells (first_from home log' cell.key cell.previous)) ≡ value_at (log.cells (first_from home log cell.key cell.previous)) =
-    elim (shown_stays home m log log' chains none grows cell.key cell.previous made.leads) [
-      | inl kept ↦ kept
-      | inr now ↦ absurd (not_both (first_from home log cell.key cell.previous) log.fixed now.0 fixed)
-    ]
-    in record {
-      its_key = made.its_key;
-      leads = (grows.chains (home cell.key) cell.previous made.leads).1;
-      is_fixed = subst (λ a. a < log'.fixed) (sym stays) (below (first_from home log cell.key cell.previous) log.fixed log'.fixed fixed more);
-      its_value = made.its_value ∙ ap (λ v. value_applied v entry.op) (sym same);
-      its_reply = made.its_reply ∙ ap (λ v. reply_from v entry.op) (sym same);
-    }
+-- what is fixed keeps its value
+pub fixed_stays : (home : ℕ → ℕ) (m : Map) (log log' : Log) → AreChains home log → log.cells 0 ≡ Unborn → Grows home m log log' → (key a : ℕ) → IsWithin a (log.chains (home key)) → IsFixed log (first_from home log key a)
+    → value_at (log'.cells (first_from home log' key a)) ≡ value_at (log.cells (first_from home log key a))
+fixed_stays home m log log' chains none grows key a within fixed = elim (shown_stays home m log log' chains none grows key a within) [
+  | inl kept ↦ kept
+  | inr now ↦ absurd (not_both (first_from home log key a) log.fixed now.0 fixed)
+]
   where
     not_both : (a b : ℕ) → b ≤ a → a < b → ⊥
     not_both a b high low = omega (arith, high, low)
 
+-- what a record is made of stays, where the value stays that it was made of
+pub made_stays : (home : ℕ → ℕ) (m : Map) (log log' : Log) → AreChains home log → log.cells 0 ≡ Unborn → Grows home m log log' → (entry : HistoryEntry) (cell : Cell)
+    → value_at (log'.cells (first_from home log cell.key cell.previous)) ≡ value_at (log.cells (first_from home log cell.key cell.previous)) → IsMade home log entry cell → IsMade home log' entry cell
+made_stays home m log log' chains none grows entry cell kept made =
+    let chain = chain_from cell.previous (log.chains (home cell.key)) in
+    let x = first_from home log cell.key cell.previous in
+    let stays = first_stays home m log log' chains grows cell.key cell.previous made.leads in
+    let same : value_at (log'.cells (first_from home log' cell.key cell.previous)) ≡ value_at (log.cells x) = ap (λ i. value_at (log'.cells i)) stays ∙ kept in
+    record {
+      its_key = made.its_key;
+      leads = (grows.chains (home cell.key) cell.previous made.leads).1;
+      still = subst (λ a. StandsStill log' a cell.version) (sym stays) (elim made.still [
+        | inl fixed ↦ inl (below x log.fixed log'.fixed fixed grows.fixed)
+        | inr older ↦ inr (subst (λ v. v < cell.version) (sym (version_of_first x (part_from home log cell.key cell.previous) (first_is (has_key cell.key) log.cells chain))) older)
+      ]);
+      its_value = made.its_value ∙ ap (λ v. value_applied v entry.op) (sym same);
+      its_reply = made.its_reply ∙ ap (λ v. reply_from v entry.op) (sym same);
+    }
+  where
     below : (a b c : ℕ) → a < b → b ≤ c → a < c
     below a b c low high = omega (arith, low, high)
+
+    version_of_first : (a : ℕ) → ArePartOf log (home cell.key) (chain_from cell.previous (log.chains (home cell.key))) → IsFirst (has_key cell.key) log.cells (chain_from cell.previous (log.chains (home cell.key))) a
+        → version_at (log'.cells a) ≡ version_at (log.cells a)
+    version_of_first a part (inl zero_is) = ap (λ i. version_at (log'.cells i)) zero_is ∙ ap version_at grows.none ∙ sym (ap version_at none) ∙ ap (λ i. version_at (log.cells i)) (sym zero_is)
+    version_of_first a part (inr some) = version_stays home m log log' chains grows (home cell.key) a (part a some.0)

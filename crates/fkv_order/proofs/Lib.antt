@@ -8,3 +8,5 @@ mod Published
 mod Readings
 mod Sound
 mod Steps
+mod Upto
+mod Versions

@@ -2,7 +2,7 @@
 use Rattle.std.proofs.Common.{◌≡◌, inl, inr, ℕ, ◌∙◌, append_assoc, Option, List, [], ◌∷◌, ◌++◌, refl, sym, ap, subst}
 use Rattle.fkv_map.specs.Map.{Map}
 use Rattle.fkv_order.specs.Trace.{Effect, TraceLine, GivesResult, CallsRead, IsIn, value_in, HaveTakenEffect, OrdersCalls}
-use Rattle.fkv_order.specs.Chains.{value_at, first_of_key, IsWithin}
+use Rattle.fkv_order.specs.Chains.{value_at, first_such, has_key, IsWithin}
 use Rattle.fkv_order.specs.Ghosts.{Log, Reading, NotCalled, Called, Walks, HasValue, first_from, found, took}
 use Rattle.fkv_order.proofs.Lists.{in_place, place_of}
 use Rattle.fkv_order.proofs.Chains.{from_head, head_within}
@@ -72,7 +72,7 @@ finds_knows home m log trace reader (Called key seen) held knows =
     let chain = log.chains (home key) in (
       knows.0,
       head_within chain,
-      has_now m log.history seen key _ knows.1 (ap (λ c. value_at (log.cells (first_of_key log.cells key c))) (from_head chain) ∙ held.shows key),
+      has_now m log.history seen key _ knows.1 (ap (λ c. value_at (log.cells (first_such (has_key key) log.cells c))) (from_head chain) ∙ held.shows key),
     )
 finds_knows home m log trace reader (Walks key seen a) held knows = knows
 finds_knows home m log trace reader (HasValue key seen value) held knows = knows

@@ -30,16 +30,16 @@ abbrev pub AddsOneOrNone : Ghosts → Log → Type 0
 AddsOneOrNone g log' = (log'.history ≡ g.log.history) ⊎ AddsEffect g log'
 
 publish_adds : (home : ℕ → ℕ) (g : Ghosts) (a : ℕ) (logged : Logged) → OwesPublish home g logged → AddsOneOrNone g (published home g.log a logged)
-publish_adds home g a (Reserved entry cell) owed = inr (record { effect = record { entry = entry; version = cell.version }; longer = refl; in_hand = owed.1 })
+publish_adds home g a (Reserved entry cell) owed = inr (record { effect = record { entry = entry; version = cell.version }; longer = refl; in_hand = owed.2 })
 publish_adds home g a Unborn owed = inl refl
 publish_adds home g a (Published cell) owed = inl refl
 publish_adds home g a (Dropped cell) owed = inl refl
 
-change_adds : (g : Ghosts) (a : ℕ) (entry : HistoryEntry) (logged : Logged) → OwesChange g a entry logged → AddsOneOrNone g (changed g.log a entry logged)
-change_adds g a entry (Published cell) owed = inr (record { effect = record { entry = entry; version = cell.version }; longer = refl; in_hand = owed.3 })
-change_adds g a entry Unborn owed = inl refl
-change_adds g a entry (Reserved other cell) owed = inl refl
-change_adds g a entry (Dropped cell) owed = inl refl
+change_adds : (home : ℕ → ℕ) (g : Ghosts) (a : ℕ) (entry : HistoryEntry) (logged : Logged) → OwesChange home g a entry logged → AddsOneOrNone g (changed g.log a entry logged)
+change_adds home g a entry (Published cell) owed = inr (record { effect = record { entry = entry; version = cell.version }; longer = refl; in_hand = owed.1 })
+change_adds home g a entry Unborn owed = inl refl
+change_adds home g a entry (Reserved other cell) owed = inl refl
+change_adds home g a entry (Dropped cell) owed = inl refl
 
 orders_adds : (g : Ghosts) (log' : Log) → OrdersCalls g.log.history g.trace → AddsOneOrNone g log' → OrdersCalls log'.history g.trace
 orders_adds g log' orders (inl same) = subst (λ h. OrdersCalls h g.trace) (sym same) orders
@@ -179,13 +179,13 @@ event_sound home m g (Drops a) sound owed = log_sound home m g _ sound (log_step
     drop_adds Unborn = inl refl
     drop_adds (Published cell) = inl refl
     drop_adds (Dropped cell) = inl refl
-event_sound home m g (Changes a entry) sound owed = log_sound home m g _ sound (log_steps home m g (Changes a entry) sound.held owed) (change_adds g a entry (g.log.cells a) owed)
+event_sound home m g (Changes a entry) sound owed = log_sound home m g _ sound (log_steps home m g (Changes a entry) sound.held owed) (change_adds home g a entry (g.log.cells a) owed)
 event_sound home m g (Fixes a) sound owed = log_sound home m g _ sound (log_steps home m g (Fixes a) sound.held owed) (inl refl)
 
 -- ---- a whole run
-pub opening_sound : (home : ℕ → ℕ) (m : Map) (opening : Ghosts) → IsOpened home m opening → IsSound home m opening
-opening_sound home m opening opened = record {
-  held = opening_held home m opening opened;
+pub opening_sound : (home : ℕ → ℕ) (m : Map) (version : ℕ) (opening : Ghosts) → IsOpened home m version opening → IsSound home m opening
+opening_sound home m version opening opened = record {
+  held = opening_held home m version opening opened;
   orders = record {
     given = λ session serial reply is_in. absurd (subst (IsIn (GivesResult session serial reply)) opened.no_trace is_in);
     once = λ newer older effect is has. no_place effect newer older (sym opened.no_history ∙ is);
@@ -199,8 +199,8 @@ opening_sound home m opening opened = record {
   };
 }
 
-pub run_sound : (home : ℕ → ℕ) (m : Map) (opening : Ghosts) (events : List GhostEvent) → IsOpened home m opening → AreOwed home opening events → IsSound home m (ghost_run home opening events)
+pub run_sound : (home : ℕ → ℕ) (m : Map) (version : ℕ) (opening : Ghosts) (events : List GhostEvent) → IsOpened home m version opening → AreOwed home opening events → IsSound home m (ghost_run home opening events)
 unfolding ghost_run AreOwed
-run_sound home m opening [] opened owed = opening_sound home m opening opened
-run_sound home m opening (event ∷ before) opened owed =
-    event_sound home m (ghost_run home opening before) event (run_sound home m opening before opened owed.0) owed.1
+run_sound home m version opening [] opened owed = opening_sound home m version opening opened
+run_sound home m version opening (event ∷ before) opened owed =
+    event_sound home m (ghost_run home opening before) event (run_sound home m version opening before opened owed.0) owed.1

@@ -1,13 +1,13 @@
 -- Each class of steps keeps what holds of a log, and leaves to others what Grows says.
-use Rattle.std.proofs.Common.{◌≡◌, ◌≢◌, inl, inr, ℕ, ◌<◌, ◌≤◌, ◌∙◌, List, [], ◌∷◌, refl, sym, ap, subst, arith}
+use Rattle.std.proofs.Common.{◌≡◌, ◌≢◌, inl, inr, ℕ, Bool, ◌<◌, ◌≤◌, ◌∙◌, List, [], ◌∷◌, refl, sym, ap, subst, arith}
 use Rattle.fkv_map.specs.declared.history.HistoryEntry.{HistoryEntry}
 use Rattle.fkv_map.specs.Map.{Map}
 use Rattle.fkv_order.specs.Trace.{IsIn}
-use Rattle.fkv_order.specs.Chains.{Cell, Logged, Unborn, Reserved, Published, Dropped, value_at}
-use Rattle.fkv_order.specs.Ghosts.{Log, set_at, newest_of}
+use Rattle.fkv_order.specs.Chains.{Cell, Logged, Unborn, Reserved, Published, Dropped, value_at, has_key, has_key_in, chain_from, first_such}
+use Rattle.fkv_order.specs.Ghosts.{Log, set_at, first_from}
 use Rattle.fkv_order.specs.Owed.{IsMade, IsLinked, previous_of}
-use Rattle.fkv_order.proofs.Chains.{set_else, at_one, first_is, IsFirst}
-use Rattle.fkv_order.proofs.Held.{Held, Grows, not_reserved, not_unborn, first_along, made_stays}
+use Rattle.fkv_order.proofs.Chains.{set_else, at_one, first_is, IsFirst, in_from}
+use Rattle.fkv_order.proofs.Held.{Held, Grows, IsBlind, ArePartOf, not_reserved, not_unborn, first_along, falls_along, made_stays}
 
 -- ---- steps that change neither a chain nor a published record nor the history
 pub record IsQuiet (home : ℕ → ℕ) (log : Log) (cells : ℕ → Logged) (fixed : ℕ) : Type 0 where
@@ -34,12 +34,26 @@ pub linked_quietly : (cells cells' : ℕ → Logged) (chain : List ℕ) → ((a 
 linked_quietly cells cells' [] same linked = tt
 linked_quietly cells cells' (a ∷ older) same linked = (same a (inl refl) ∙ linked.0, linked.1, linked_quietly cells cells' older (λ b is_in. same b (inr is_in)) linked.2)
 
+-- in a chain, and so for what a record was made of, values stay
+value_quietly : (home : ℕ → ℕ) (m : Map) (log : Log) (cells : ℕ → Logged) (fixed : ℕ) → Held home m log → IsQuiet home log cells fixed → (test : Logged → Bool) (h a : ℕ) (chain : List ℕ) → ArePartOf log h chain → IsFirst test log.cells chain a
+    → value_at (cells a) ≡ value_at (log.cells a)
+value_quietly home m log cells fixed held quiet test h a chain part (inl zero_is) =
+    ap (λ i. value_at (cells i)) zero_is ∙ ap value_at quiet.none ∙ sym (ap value_at held.none) ∙ ap (λ i. value_at (log.cells i)) (sym zero_is)
+value_quietly home m log cells fixed held quiet test h a chain part (inr some) =
+    let its = held.chains.in_chain h a (part a some.0) in
+    ap value_at (quiet.stays a its.cell its.its) ∙ sym (ap value_at its.its)
+
+pub first_quietly : (home : ℕ → ℕ) (m : Map) (log : Log) (cells : ℕ → Logged) (fixed : ℕ) → Held home m log → IsQuiet home log cells fixed → (test : Logged → Bool) → IsBlind test → (h : ℕ)
+    → value_at (cells (first_such test cells (log.chains h))) ≡ value_at (log.cells (first_such test log.cells (log.chains h)))
+first_quietly home m log cells fixed held quiet test blind h =
+    let chain = log.chains h in
+    ap (λ i. value_at (cells i)) (first_along home m log (quiet_log log cells fixed) held.chains (quiet_grows home m log cells fixed quiet) test blind h chain (λ a is_in. is_in))
+    ∙ value_quietly home m log cells fixed held quiet test h (first_such test log.cells chain) chain (λ a is_in. is_in) (first_is test log.cells chain)
+
 pub held_quietly : (home : ℕ → ℕ) (m : Map) (log : Log) (cells : ℕ → Logged) (fixed : ℕ) → Held home m log → IsQuiet home log cells fixed → Held home m (quiet_log log cells fixed)
 held_quietly home m log cells fixed held quiet =
     let log' = quiet_log log cells fixed in
     let grows = quiet_grows home m log cells fixed quiet in
-    let its_newest : (key : ℕ) → newest_of home log' key ≡ newest_of home log key =
-    λ key. first_along home m log log' held.chains grows key (log.chains (home key)) (λ a is_in. is_in) in
     record {
       chains = record {
         in_chain = λ h a is_in. let its = held.chains.in_chain h a is_in in record { cell = its.cell; its = quiet.stays a its.cell its.its; its_home = its.its_home };
@@ -49,14 +63,15 @@ held_quietly home m log cells fixed held quiet =
       };
       none = quiet.none;
       some_fixed = above log.fixed fixed held.some_fixed quiet.rises;
+      falls = λ h. falls_along home m log log' held.chains grows h (held.falls h);
       newest = λ a cell is. elim (held.newest a cell (quiet.none_new a cell is)) [
-        | inl first ↦ inl (its_newest cell.key ∙ first)
+        | inl first ↦ inl (first_along home m log log' held.chains grows (has_key_in cell.version cell.key) (λ c value. refl) (home cell.key) (log.chains (home cell.key)) (λ b is_in. is_in) ∙ first)
         | inr below ↦ inr (still_below a log.fixed fixed below quiet.rises)
       ];
-      shows = λ key. ap (λ i. value_at (cells i)) (its_newest key)
-          ∙ value_quietly home m log cells fixed held quiet key (newest_of home log key) (first_is log.cells key (log.chains (home key))) ∙ held.shows key;
+      shows = λ key. first_quietly home m log cells fixed held quiet (has_key key) (λ c value. refl) (home key) ∙ held.shows key;
       legal = held.legal;
-      made = λ a entry cell is. let its = quiet.made a entry cell is in (its.0, made_stays home m log log' held.chains held.none grows entry cell its.1);
+      made = λ a entry cell is. let its = quiet.made a entry cell is in
+          (its.0, made_stays home m log log' held.chains held.none grows entry cell (kept entry cell its.1) its.1);
     }
   where
     above : (a b : ℕ) → 0 < a → a ≤ b → 0 < b
@@ -65,13 +80,11 @@ held_quietly home m log cells fixed held quiet =
     still_below : (a b c : ℕ) → a < b → b ≤ c → a < c
     still_below a b c low high = omega (arith, low, high)
 
-    value_quietly : (home : ℕ → ℕ) (m : Map) (log : Log) (cells : ℕ → Logged) (fixed : ℕ) → Held home m log → IsQuiet home log cells fixed → (key a : ℕ) → IsFirst log.cells key (log.chains (home key)) a
-        → value_at (cells a) ≡ value_at (log.cells a)
-    value_quietly home m log cells fixed held quiet key a (inl zero_is) =
-        ap (λ i. value_at (cells i)) zero_is ∙ ap value_at quiet.none ∙ sym (ap value_at held.none) ∙ ap (λ i. value_at (log.cells i)) (sym zero_is)
-    value_quietly home m log cells fixed held quiet key a (inr some) =
-        let its = held.chains.in_chain (home key) a some.0 in
-        ap value_at (quiet.stays a its.cell its.its) ∙ sym (ap value_at its.its)
+    kept : (entry : HistoryEntry) (cell : Cell) → IsMade home log entry cell → value_at (cells (first_from home log cell.key cell.previous)) ≡ value_at (log.cells (first_from home log cell.key cell.previous))
+    kept entry cell made =
+        let chain = chain_from cell.previous (log.chains (home cell.key)) in
+        value_quietly home m log cells fixed held quiet (has_key cell.key) (home cell.key) (first_from home log cell.key cell.previous) chain (λ b is_in. in_from cell.previous b (log.chains (home cell.key)) is_in)
+        (first_is (has_key cell.key) log.cells chain)
 
 -- ---- the quiet steps
 same_made : (entry entry' : HistoryEntry) (cell cell' : Cell) → Reserved entry cell ≡ Reserved entry' cell' → (entry ≡ entry') × (cell ≡ cell')

@@ -3,7 +3,7 @@ use Rattle.std.specs.Prelude.{ℕ, max, nat_eq, cond, Option, List, [], ◌∷�
 use Rattle.fkv_map.specs.declared.history.HistoryEntry.{HistoryEntry}
 use Rattle.fkv_map.specs.Keys.{value_applied}
 use Rattle.fkv_order.specs.Trace.{Effect, TraceLine, CallsRead}
-use Rattle.fkv_order.specs.Chains.{Cell, Logged, Reserved, Published, Dropped, value_at, head_of, chain_from, first_of_key}
+use Rattle.fkv_order.specs.Chains.{Cell, Logged, Reserved, Published, Dropped, value_at, head_of, chain_from, first_such, has_key, has_key_in, has_key_upto}
 
 pub record Log : Type 0 where
   pub cells : ℕ → Logged
@@ -51,15 +51,26 @@ pub data GhostEvent : Type 0 where
 unfoldable pub set_at : {X : Type 0} → (ℕ → X) → ℕ → X → ℕ → X
 set_at f i x j = cond (nat_eq j i) x (f j)
 
--- the record of a key that the chain of its home shows first, and the value that it shows
+-- the first record of a key down its home's chain from an address
 abbrev pub first_from : (ℕ → ℕ) → Log → ℕ → ℕ → ℕ
-first_from home log key a = first_of_key log.cells key (chain_from a (log.chains (home key)))
+first_from home log key a = first_such (has_key key) log.cells (chain_from a (log.chains (home key)))
 
+-- its newest record, and the value that this shows
 abbrev pub newest_of : (ℕ → ℕ) → Log → ℕ → ℕ
-newest_of home log key = first_of_key log.cells key (log.chains (home key))
+newest_of home log key = first_such (has_key key) log.cells (log.chains (home key))
 
 abbrev pub shown : (ℕ → ℕ) → Log → ℕ → Option ℕ
 shown home log key = value_at (log.cells (newest_of home log key))
+
+-- the newest one of a version, and of the versions up to one
+abbrev pub newest_in : (ℕ → ℕ) → Log → ℕ → ℕ → ℕ
+newest_in home log version key = first_such (has_key_in version key) log.cells (log.chains (home key))
+
+abbrev pub newest_upto : (ℕ → ℕ) → Log → ℕ → ℕ → ℕ
+newest_upto home log version key = first_such (has_key_upto version key) log.cells (log.chains (home key))
+
+abbrev pub shown_upto : (ℕ → ℕ) → Log → ℕ → ℕ → Option ℕ
+shown_upto home log version key = value_at (log.cells (newest_upto home log version key))
 
 -- ---- how an event changes the log
 abbrev pub effect_of : HistoryEntry → Cell → Effect

@@ -1,25 +1,34 @@
 -- The laws of a log of cells and chains, over every list of events that owe nothing.
-use Rattle.std.specs.Prelude.{◌≡◌, ℕ, List}
+use Rattle.std.specs.Prelude.{◌≡◌, ◌≤◌, ℕ, List}
 use Rattle.fkv_map.specs.Map.{Map}
 use Rattle.fkv_map.specs.History.{IsLegal}
-use Rattle.fkv_order.specs.Trace.{history_of, value_in, OrdersCalls, ReadsAreFresh}
-use Rattle.fkv_order.specs.Ghosts.{Ghosts, GhostEvent, shown, ghost_run}
+use Rattle.fkv_order.specs.Trace.{history_of, value_in, upto, OrdersCalls, ReadsAreFresh}
+use Rattle.fkv_order.specs.Ghosts.{Ghosts, GhostEvent, shown, shown_upto, ghost_run}
 use Rattle.fkv_order.specs.Owed.{AreOwed, IsOpened}
 
--- what holds after each list of events that met what they owe
-abbrev pub AtEachMoment : ((ℕ → ℕ) → Map → Ghosts → Type 0) → Type 0
-AtEachMoment P = (home : ℕ → ℕ) (m : Map) (opening : Ghosts) (events : List GhostEvent) → IsOpened home m opening → AreOwed home opening events → P home m (ghost_run home opening events)
+-- what holds after each list of events that keep to their rules, of a log that was opened with a map and a version
+abbrev pub AtEachMoment : ((ℕ → ℕ) → Map → ℕ → Ghosts → Type 0) → Type 0
+AtEachMoment P =
+    (home : ℕ → ℕ) (m : Map) (version : ℕ) (opening : Ghosts) (events : List GhostEvent) → IsOpened home m version opening → AreOwed home opening events
+    → P home m version (ghost_run home opening events)
 
 -- the history is legal from the opening map
-abbrev pub HistoryIsLegal : (ℕ → ℕ) → Map → Ghosts → Type 0
-HistoryIsLegal home m g = IsLegal m (history_of g.log.history)
+abbrev pub HistoryIsLegal : (ℕ → ℕ) → Map → ℕ → Ghosts → Type 0
+HistoryIsLegal home m version g = IsLegal m (history_of g.log.history)
 
 -- for each key the newest record of its home's chain shows its value in the content
-abbrev pub ChainsShowContent : (ℕ → ℕ) → Map → Ghosts → Type 0
-ChainsShowContent home m g = (key : ℕ) → shown home g.log key ≡ value_in m g.log.history key
+abbrev pub ChainsShowContent : (ℕ → ℕ) → Map → ℕ → Ghosts → Type 0
+ChainsShowContent home m version g = (key : ℕ) → shown home g.log key ≡ value_in m g.log.history key
 
-abbrev pub CallsAreOrdered : (ℕ → ℕ) → Map → Ghosts → Type 0
-CallsAreOrdered home m g = OrdersCalls g.log.history g.trace
+-- the same, for each version from the opening's on, of the effects and records of versions up to it
+abbrev pub VersionsAreLegal : (ℕ → ℕ) → Map → ℕ → Ghosts → Type 0
+VersionsAreLegal home m version g = (n : ℕ) → version ≤ n → IsLegal m (history_of (upto n g.log.history))
 
-abbrev pub ReadsGiveContent : (ℕ → ℕ) → Map → Ghosts → Type 0
-ReadsGiveContent home m g = ReadsAreFresh m g.log.history g.trace
+abbrev pub ChainsShowVersions : (ℕ → ℕ) → Map → ℕ → Ghosts → Type 0
+ChainsShowVersions home m version g = (n key : ℕ) → version ≤ n → shown_upto home g.log n key ≡ value_in m (upto n g.log.history) key
+
+abbrev pub CallsAreOrdered : (ℕ → ℕ) → Map → ℕ → Ghosts → Type 0
+CallsAreOrdered home m version g = OrdersCalls g.log.history g.trace
+
+abbrev pub ReadsGiveContent : (ℕ → ℕ) → Map → ℕ → Ghosts → Type 0
+ReadsGiveContent home m version g = ReadsAreFresh m g.log.history g.trace

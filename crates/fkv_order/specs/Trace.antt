@@ -1,5 +1,5 @@
 -- What took effect, and what calls were told, as plain data.
-use Rattle.std.specs.Prelude.{◌≡◌, ℕ, ◌⊎◌, ◌&&◌, nat_eq, cond, Option, Some, None, List, [], ◌∷◌, ◌++◌}
+use Rattle.std.specs.Prelude.{◌≡◌, ℕ, ◌⊎◌, ◌&&◌, nat_eq, nat_le, cond, Option, Some, None, List, [], ◌∷◌, ◌++◌}
 use Rattle.std.specs.FinMap.{get}
 use Rattle.fkv_map.specs.declared.operations.Op.{Op}
 use Rattle.fkv_map.specs.declared.operations.Reply.{Reply}
@@ -20,6 +20,11 @@ history_of (effect ∷ before) = history_of before ++ effect.entry ∷ []
 -- the value that a key has after these effects
 abbrev pub value_in : Map → List Effect → ℕ → Option ℕ
 value_in m effects key = get (content m (history_of effects)) key
+
+-- the effects of versions up to this one
+abbrev pub upto : ℕ → List Effect → List Effect
+upto version [] = []
+upto version (effect ∷ before) = cond (nat_le effect.version version) (effect ∷ upto version before) (upto version before)
 
 -- What a call tells. An update is named by its session and the serial that it takes, a read by a number that no other read has.
 pub data TraceLine : Type 0 where

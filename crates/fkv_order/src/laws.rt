@@ -1,5 +1,5 @@
 //! The laws of a log of cells and chains. These functions do nothing: what they promise holds of every list of events.
-ghost use Rattle.fkv_order.specs.Laws.{AtEachMoment, HistoryIsLegal, ChainsShowContent, CallsAreOrdered, ReadsGiveContent};
+ghost use Rattle.fkv_order.specs.Laws.{AtEachMoment, HistoryIsLegal, ChainsShowContent, VersionsAreLegal, ChainsShowVersions, CallsAreOrdered, ReadsGiveContent};
 
 /// Over every list of events, each of which keeps to its rule: the newest record of a key in the chain of its home shows the
 /// key's value after the updates that have taken effect so far, and each of these was told the reply that the map gives at
@@ -7,6 +7,13 @@ ghost use Rattle.fkv_order.specs.Laws.{AtEachMoment, HistoryIsLegal, ChainsShowC
 pub fn law_chains_show_content()
     ensures content { AtEachMoment ChainsShowContent }
     ensures legal { AtEachMoment HistoryIsLegal }
+{}
+
+/// The same holds of each version by itself, from that of the opening on: the newest record of a key of versions up to it
+/// shows the key's value after the updates of versions up to it, and these alone would have been told the same replies.
+pub fn law_versions_show_content()
+    ensures content { AtEachMoment ChainsShowVersions }
+    ensures legal { AtEachMoment VersionsAreLegal }
 {}
 
 /// Over the same lists: each update whose result was given took effect once, with that reply, and none but those that were
