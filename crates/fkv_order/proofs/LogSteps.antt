@@ -5,27 +5,33 @@ use Rattle.std.proofs.lemmas.Bool.Decides.{nat_tests}
 use Rattle.fkv_map.specs.declared.history.HistoryEntry.{HistoryEntry}
 use Rattle.fkv_map.specs.Map.{Map}
 use Rattle.fkv_map.specs.History.{IsLegal}
+use Rattle.fkv_map.specs.Keys.{key_of}
 use Rattle.fkv_order.specs.Trace.{IsIn, upto, history_of, value_in}
 use Rattle.fkv_order.specs.Chains.{Cell, Logged, Unborn, Reserved, Published, Dropped, value_at, version_at, has_key, has_key_upto, first_such, VersionsFall}
-use Rattle.fkv_order.specs.Ghosts.{Log, Ghosts, GhostEvent, Tells, FindsEntry, TakesValue, Reserves, Publishes, Drops, Changes, Fixes, published, dropped, changed, log_after, ghosts_after, ghost_run}
-use Rattle.fkv_order.specs.Owed.{AreChains, Owes, OwesPublish, OwesChange, AreOwed, IsOpened}
+use Rattle.fkv_order.specs.Ghosts.{effect_of, changed_by, Log, Ghosts, GhostEvent, Tells, FindsEntry, TakesValue, Reserves, Publishes, Drops, Changes, Fixes, published, dropped, changed, log_after, ghosts_after, ghost_run}
+use Rattle.fkv_order.specs.Owed.{AreChains, NoneAbove, Owes, OwesPublish, OwesChange, AreOwed, IsOpened}
 use Rattle.fkv_order.proofs.Held.{Held, Grows, ArePartOf}
 use Rattle.fkv_order.proofs.Steps.{IsQuiet, quiet_log, quiet_grows, held_quietly, fixes_quietly, reserves_quietly, drops_quietly}
-use Rattle.fkv_order.proofs.Changed.{MeetsChange, changed_grows, held_changed}
+use Rattle.fkv_order.proofs.Changed.{MeetsChange, changed_log, changed_grows, held_changed}
+use Rattle.fkv_order.proofs.Chains.{set_there}
+use Rattle.fkv_order.proofs.Lists.{no_place}
+use Rattle.fkv_order.proofs.InOrder.{HeldInOrder, HasVersion, still_in_order, one_more_in_order}
 use Rattle.fkv_order.proofs.Upto.{HeldUpto, upto_quietly, upto_changed, upto_published}
-use Rattle.fkv_order.proofs.Published.{MeetsPublish, published_grows, held_published}
+use Rattle.fkv_order.proofs.Published.{MeetsPublish, published_log, published_grows, held_published}
 
 -- the log after a step: what holds of it, and what it leaves to others
 pub record Steps (home : ℕ → ℕ) (m : Map) (log log' : Log) : Type 0 where
   pub held : Held home m log'
   pub grows : Grows home m log log'
   pub upto : (version : ℕ) → HeldUpto home m version log → HeldUpto home m version log'
+  pub in_order : HeldInOrder home log → HeldInOrder home log'
 
 quietly : (home : ℕ → ℕ) (m : Map) (log : Log) (cells : ℕ → Logged) (fixed : ℕ) → Held home m log → IsQuiet home log cells fixed → Steps home m log (quiet_log log cells fixed)
 quietly home m log cells fixed held quiet = record {
   held = held_quietly home m log cells fixed held quiet;
   grows = quiet_grows home m log cells fixed quiet;
   upto = λ version known. upto_quietly home m version log cells fixed held quiet known;
+  in_order = λ known. still_in_order home m log (quiet_log log cells fixed) held (quiet_grows home m log cells fixed quiet) refl known;
 }
 
 at_least : (a b : ℕ) → a ≤ max a b
@@ -37,6 +43,29 @@ stays_same home m log held = quietly home m log log.cells log.fixed held (fixes_
     same : (n : ℕ) → n ≤ n
     same n = omega arith
 
+-- the record by which an update has taken effect is of its version, in its chain
+published_has : (home : ℕ → ℕ) (m : Map) (log : Log) (a : ℕ) (entry : HistoryEntry) (cell : Cell) → Held home m log → MeetsPublish home log a entry cell
+    → HasVersion (published_log home log a entry cell) (home (key_of entry.op).0) cell.version
+published_has home m log a entry cell held publish =
+    let log' = published_log home log a entry cell in
+    let there : log'.cells a ≡ Published cell = set_there log.cells a (Published cell) in
+    record {
+      at = a;
+      is_in = subst (λ k. IsIn a (log'.chains (home k))) (held.made a entry cell publish.its).1.its_key
+          ((held_published home m log a entry cell held publish).chains.its_chain a cell there);
+      its = ap version_at there;
+    }
+
+changed_has : (home : ℕ → ℕ) (m : Map) (log : Log) (a : ℕ) (entry : HistoryEntry) (cell : Cell) → Held home m log → MeetsChange home log a entry cell
+    → HasVersion (changed_log log a entry cell) (home (key_of entry.op).0) cell.version
+changed_has home m log a entry cell held change =
+    let there : (changed_log log a entry cell).cells a ≡ Published (changed_by entry cell) = set_there log.cells a (Published (changed_by entry cell)) in
+    record {
+      at = a;
+      is_in = subst (λ k. IsIn a (log.chains (home k))) change.may.its_key (held.chains.its_chain a cell change.its);
+      its = ap version_at there;
+    }
+
 publishes : (home : ℕ → ℕ) (m : Map) (g : Ghosts) (a : ℕ) (logged : Logged) → g.log.cells a ≡ logged → Held home m g.log → OwesPublish home g logged → Steps home m g.log (published home g.log a logged)
 publishes home m g a (Reserved entry cell) its held owed =
     let publish : MeetsPublish home g.log a entry cell = record { its = its; its_head = owed.0; none_above = owed.1 } in
@@ -44,6 +73,8 @@ publishes home m g a (Reserved entry cell) its held owed =
       held = held_published home m g.log a entry cell held publish;
       grows = published_grows home m g.log a entry cell held publish;
       upto = λ version known. upto_published home m version g.log a entry cell held known publish;
+      in_order = λ known. one_more_in_order home m g.log (published_log home g.log a entry cell) held (published_grows home m g.log a entry cell held publish) (effect_of entry cell) refl
+          (subst (λ k. NoneAbove g.log (home k) cell.version) (held.made a entry cell its).1.its_key owed.1) (published_has home m g.log a entry cell held publish) known;
     }
 publishes home m g a Unborn its held owed = stays_same home m g.log held
 publishes home m g a (Published cell) its held owed = stays_same home m g.log held
@@ -62,6 +93,8 @@ changes home m g a entry (Published cell) its held owed =
       held = held_changed home m g.log a entry cell held change;
       grows = changed_grows home m g.log a entry cell held change;
       upto = λ version known. upto_changed home m version g.log a entry cell held known change;
+      in_order = λ known. one_more_in_order home m g.log (changed_log g.log a entry cell) held (changed_grows home m g.log a entry cell held change) (effect_of entry cell) refl
+          (subst (λ k. NoneAbove g.log (home k) cell.version) owed.0.its_key owed.0.none_above) (changed_has home m g.log a entry cell held change) known;
     }
 changes home m g a entry Unborn its held owed = stays_same home m g.log held
 changes home m g a entry (Reserved other cell) its held owed = stays_same home m g.log held
@@ -140,3 +173,14 @@ unfolding ghosts_after ghost_run AreOwed
 run_upto home m version opening [] opened owed = opening_upto home m version opening opened
 run_upto home m version opening (event ∷ before) opened owed =
     (log_steps home m (ghost_run home opening before) event (run_held home m version opening before opened owed.0) owed.1).upto version (run_upto home m version opening before opened owed.0)
+
+-- ---- home by home
+pub run_in_order : (home : ℕ → ℕ) (m : Map) (version : ℕ) (opening : Ghosts) (events : List GhostEvent) → IsOpened home m version opening → AreOwed home opening events
+    → HeldInOrder home (ghost_run home opening events).log
+unfolding ghosts_after ghost_run AreOwed
+run_in_order home m version opening [] opened owed = record {
+  in_order = λ newer older effect earlier is is_in same. absurd (no_place effect newer older (sym opened.no_history ∙ is));
+  in_chain = λ effect is_in. absurd (subst (IsIn effect) opened.no_history is_in);
+}
+run_in_order home m version opening (event ∷ before) opened owed =
+    (log_steps home m (ghost_run home opening before) event (run_held home m version opening before opened owed.0) owed.1).in_order (run_in_order home m version opening before opened owed.0)

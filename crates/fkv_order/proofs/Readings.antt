@@ -2,7 +2,7 @@
 use Rattle.std.proofs.Common.{◌≡◌, inl, inr, ℕ, ◌∙◌, append_assoc, Option, List, [], ◌∷◌, ◌++◌, refl, sym, ap, subst}
 use Rattle.fkv_map.specs.Map.{Map}
 use Rattle.fkv_order.specs.Trace.{Effect, TraceLine, GivesResult, CallsRead, IsIn, value_in, HaveTakenEffect, OrdersCalls}
-use Rattle.fkv_order.specs.Chains.{value_at, first_such, has_key, IsWithin}
+use Rattle.fkv_order.specs.Chains.{value_at, head_of, first_such, has_key, IsWithin}
 use Rattle.fkv_order.specs.Ghosts.{Log, Reading, NotCalled, Called, Walks, HasValue, first_from, found, took}
 use Rattle.fkv_order.proofs.Lists.{in_place, place_of}
 use Rattle.fkv_order.proofs.Chains.{from_head, head_within}
@@ -24,10 +24,14 @@ pub record HadValue (m : Map) (history seen : List Effect) (key : ℕ) (value : 
   pub all : history ≡ newer ++ (between ++ seen)
   pub its : value ≡ value_in m (between ++ seen) key
 
+-- what is known of a read that goes down its chain
+abbrev pub KnowsWalk : (ℕ → ℕ) → Map → Log → ℕ → List Effect → ℕ → Type 0
+KnowsWalk home m log key seen a = IsWithin a (log.chains (home key)) × HadValue m log.history seen key (value_at (log.cells (first_from home log key a)))
+
 abbrev pub KnowsRead : (ℕ → ℕ) → Map → Log → List TraceLine → ℕ → Reading → Type 0
 KnowsRead home m log trace reader NotCalled = (key : ℕ) → IsIn (CallsRead reader key) trace → ⊥
 KnowsRead home m log trace reader (Called key seen) = IsBegun trace reader key seen × HasSeen log.history seen
-KnowsRead home m log trace reader (Walks key seen a) = IsBegun trace reader key seen × IsWithin a (log.chains (home key)) × HadValue m log.history seen key (value_at (log.cells (first_from home log key a)))
+KnowsRead home m log trace reader (Walks key seen a) = IsBegun trace reader key seen × KnowsWalk home m log key seen a
 KnowsRead home m log trace reader (HasValue key seen value) = IsBegun trace reader key seen × HadValue m log.history seen key value
 
 -- ---- the log grows
@@ -57,30 +61,33 @@ read_steps home m log log' trace reader NotCalled held grows knows = knows
 read_steps home m log log' trace reader (Called key seen) held grows knows = (knows.0, seen_longer home m log log' seen grows knows.1)
 read_steps home m log log' trace reader (Walks key seen a) held grows knows = (
   knows.0,
-  (grows.chains (home key) a knows.1).1,
-  elim (shown_stays home m log log' held.chains held.none grows key a knows.1) [
-    | inl same ↦ subst (λ v. HadValue m log'.history seen key v) (sym same) (had_longer home m log log' seen key _ grows knows.2)
-    | inr now ↦ has_now m log'.history seen key _ (seen_longer home m log log' seen grows (had_seen m log.history seen key _ knows.2)) now.1
-  ],
+  (
+    (grows.chains (home key) a knows.1.0).1,
+    elim (shown_stays home m log log' held.chains held.none grows key a knows.1.0) [
+      | inl same ↦ subst (λ v. HadValue m log'.history seen key v) (sym same) (had_longer home m log log' seen key _ grows knows.1.1)
+      | inr now ↦ has_now m log'.history seen key _ (seen_longer home m log log' seen grows (had_seen m log.history seen key _ knows.1.1)) now.1
+    ],
+  ),
 )
 read_steps home m log log' trace reader (HasValue key seen value) held grows knows = (knows.0, had_longer home m log log' seen key value grows knows.1)
 
 -- ---- the read itself goes on
+-- where a chain begins it shows what its key has now
+found_now : (home : ℕ → ℕ) (m : Map) (log : Log) (seen : List Effect) (key : ℕ) → Held home m log → HasSeen log.history seen → KnowsWalk home m log key seen (head_of (log.chains (home key)))
+found_now home m log seen key held has =
+    let chain = log.chains (home key) in
+    (head_within chain, has_now m log.history seen key _ has (ap (λ c. value_at (log.cells (first_such (has_key key) log.cells c))) (from_head chain) ∙ held.shows key))
+
 pub finds_knows : (home : ℕ → ℕ) (m : Map) (log : Log) (trace : List TraceLine) (reader : ℕ) (reading : Reading) → Held home m log → KnowsRead home m log trace reader reading → KnowsRead home m log trace reader (found home log reading)
 finds_knows home m log trace reader NotCalled held knows = knows
-finds_knows home m log trace reader (Called key seen) held knows =
-    let chain = log.chains (home key) in (
-      knows.0,
-      head_within chain,
-      has_now m log.history seen key _ knows.1 (ap (λ c. value_at (log.cells (first_such (has_key key) log.cells c))) (from_head chain) ∙ held.shows key),
-    )
-finds_knows home m log trace reader (Walks key seen a) held knows = knows
+finds_knows home m log trace reader (Called key seen) held knows = (knows.0, found_now home m log seen key held knows.1)
+finds_knows home m log trace reader (Walks key seen a) held knows = (knows.0, found_now home m log seen key held (had_seen m log.history seen key _ knows.1.1))
 finds_knows home m log trace reader (HasValue key seen value) held knows = knows
 
 pub takes_knows : (home : ℕ → ℕ) (m : Map) (log : Log) (trace : List TraceLine) (reader : ℕ) (reading : Reading) → KnowsRead home m log trace reader reading → KnowsRead home m log trace reader (took home log reading)
 takes_knows home m log trace reader NotCalled knows = knows
 takes_knows home m log trace reader (Called key seen) knows = knows
-takes_knows home m log trace reader (Walks key seen a) knows = (knows.0, knows.2)
+takes_knows home m log trace reader (Walks key seen a) knows = (knows.0, knows.1.1)
 takes_knows home m log trace reader (HasValue key seen value) knows = knows
 
 -- ---- one more line
@@ -103,7 +110,7 @@ read_told home m log trace line reader NotCalled no_call knows = λ key is_in. e
   | inr older ↦ knows key older
 ]
 read_told home m log trace line reader (Called key seen) no_call knows = (begun_on trace line reader key seen no_call knows.0, knows.1)
-read_told home m log trace line reader (Walks key seen a) no_call knows = (begun_on trace line reader key seen no_call knows.0, knows.1, knows.2)
+read_told home m log trace line reader (Walks key seen a) no_call knows = (begun_on trace line reader key seen no_call knows.0, knows.1)
 read_told home m log trace line reader (HasValue key seen value) no_call knows = (begun_on trace line reader key seen no_call knows.0, knows.1)
 
 -- a read that is called: it has seen what has taken effect

@@ -32,7 +32,7 @@ pub record Ghosts : Type 0 where
 pub data GhostEvent : Type 0 where
   -- a call tells something
   Tells : TraceLine → GhostEvent
-  -- the read finds where its chain begins
+  -- the read finds where its chain begins, the first time or again
   FindsEntry : ℕ → GhostEvent
   -- the read takes the value of its record
   TakesValue : ℕ → GhostEvent
@@ -113,6 +113,7 @@ trace_after trace event = trace
 
 abbrev pub found : (ℕ → ℕ) → Log → Reading → Reading
 found home log (Called key seen) = Walks key seen (head_of (log.chains (home key)))
+found home log (Walks key seen a) = Walks key seen (head_of (log.chains (home key)))
 found home log reading = reading
 
 abbrev pub took : (ℕ → ℕ) → Log → Reading → Reading

@@ -1,8 +1,9 @@
 -- The laws of a log of cells and chains, over every list of events that owe nothing.
-use Rattle.std.specs.Prelude.{◌≡◌, ◌≤◌, ℕ, List}
+use Rattle.std.specs.Prelude.{◌≡◌, ◌≤◌, ℕ, List, ◌∷◌, ◌++◌}
 use Rattle.fkv_map.specs.Map.{Map}
 use Rattle.fkv_map.specs.History.{IsLegal}
-use Rattle.fkv_order.specs.Trace.{history_of, value_in, upto, OrdersCalls, ReadsAreFresh}
+use Rattle.fkv_map.specs.Keys.{key_of}
+use Rattle.fkv_order.specs.Trace.{Effect, IsIn, history_of, value_in, upto, OrdersCalls, ReadsAreFresh}
 use Rattle.fkv_order.specs.Ghosts.{Ghosts, GhostEvent, shown, shown_upto, ghost_run}
 use Rattle.fkv_order.specs.Owed.{AreOwed, IsOpened}
 
@@ -26,6 +27,19 @@ VersionsAreLegal home m version g = (n : ℕ) → version ≤ n → IsLegal m (h
 
 abbrev pub ChainsShowVersions : (ℕ → ℕ) → Map → ℕ → Ghosts → Type 0
 ChainsShowVersions home m version g = (n key : ℕ) → version ≤ n → shown_upto home g.log n key ≡ value_in m (upto n g.log.history) key
+
+-- the home of the key that an effect is on
+abbrev pub home_of : (ℕ → ℕ) → Effect → ℕ
+home_of home effect = home (key_of effect.entry.op).0
+
+-- of each home effects come in the order of their versions
+abbrev pub AreInOrder : (ℕ → ℕ) → List Effect → Type 0
+AreInOrder home effects =
+    (newer older : List Effect) (effect earlier : Effect) → effects ≡ newer ++ effect ∷ older → IsIn earlier older → home_of home earlier ≡ home_of home effect
+    → earlier.version ≤ effect.version
+
+abbrev pub VersionsAreInOrder : (ℕ → ℕ) → Map → ℕ → Ghosts → Type 0
+VersionsAreInOrder home m version g = AreInOrder home g.log.history
 
 abbrev pub CallsAreOrdered : (ℕ → ℕ) → Map → ℕ → Ghosts → Type 0
 CallsAreOrdered home m version g = OrdersCalls g.log.history g.trace

@@ -1,5 +1,5 @@
 //! The laws of a log of cells and chains. These functions do nothing: what they promise holds of every list of events.
-ghost use Rattle.fkv_order.specs.Laws.{AtEachMoment, HistoryIsLegal, ChainsShowContent, VersionsAreLegal, ChainsShowVersions, CallsAreOrdered, ReadsGiveContent};
+ghost use Rattle.fkv_order.specs.Laws.{AtEachMoment, HistoryIsLegal, ChainsShowContent, VersionsAreLegal, VersionsAreInOrder, ChainsShowVersions, CallsAreOrdered, ReadsGiveContent};
 
 /// Over every list of events, each of which keeps to its rule: the newest record of a key in the chain of its home shows the
 /// key's value after the updates that have taken effect so far, and each of these was told the reply that the map gives at
@@ -10,10 +10,12 @@ pub fn law_chains_show_content()
 {}
 
 /// The same holds of each version by itself, from that of the opening on: the newest record of a key of versions up to it
-/// shows the key's value after the updates of versions up to it, and these alone would have been told the same replies.
+/// shows the key's value after the updates of versions up to it, and these alone would have been told the same replies. Of
+/// each home updates of a version take effect before those of later ones.
 pub fn law_versions_show_content()
     ensures content { AtEachMoment ChainsShowVersions }
     ensures legal { AtEachMoment VersionsAreLegal }
+    ensures order { AtEachMoment VersionsAreInOrder }
 {}
 
 /// Over the same lists: each update whose result was given took effect once, with that reply, and none but those that were
