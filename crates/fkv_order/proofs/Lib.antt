@@ -12,3 +12,4 @@ mod Sound
 mod Steps
 mod Upto
 mod Versions
+mod Worked

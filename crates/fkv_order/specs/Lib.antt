@@ -3,3 +3,4 @@ pub mod Ghosts
 pub mod Laws
 pub mod Owed
 pub mod Trace
+pub mod Worked

@@ -1,4 +1,5 @@
 //! The laws of a log of cells and chains. These functions do nothing: what they promise holds of every list of events.
+ghost use Rattle.fkv_order.specs.Worked.{IsKept, ChangesWhatIsFixed, CopiesWhatMayChange, GivesOpeningState};
 ghost use Rattle.fkv_order.specs.Laws.{AtEachMoment, HistoryIsLegal, ChainsShowContent, VersionsAreLegal, VersionsAreInOrder, ChainsShowVersions, CallsAreOrdered, ReadsGiveContent};
 
 /// Over every list of events, each of which keeps to its rule: the newest record of a key in the chain of its home shows the
@@ -25,4 +26,14 @@ pub fn law_versions_show_content()
 pub fn law_calls_in_order()
     ensures orders { AtEachMoment CallsAreOrdered }
     ensures fresh { AtEachMoment ReadsGiveContent }
+{}
+
+/// A run in which a record is changed in place while a read goes down to it, and one of another key is published over it, is
+/// one of those lists. Where two updates are made of one value, since a fixed record is changed or one that may change is
+/// copied, the history isn't legal; and a read that is answered the opening's state isn't fresh.
+pub fn law_of_worked_runs()
+    ensures kept { IsKept }
+    ensures fixed { ChangesWhatIsFixed }
+    ensures copied { CopiesWhatMayChange }
+    ensures stale { GivesOpeningState }
 {}

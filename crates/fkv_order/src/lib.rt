@@ -3,4 +3,6 @@
 
 mod laws;
 
-pub use laws::{law_calls_in_order, law_chains_show_content, law_versions_show_content};
+pub use laws::{
+    law_calls_in_order, law_chains_show_content, law_of_worked_runs, law_versions_show_content,
+};
