@@ -156,3 +156,16 @@ made_stays home m log log' chains none grows entry cell kept made =
         → version_at (log'.cells a) ≡ version_at (log.cells a)
     version_of_first a part (inl zero_is) = ap (λ i. version_at (log'.cells i)) zero_is ∙ ap version_at grows.none ∙ sym (ap version_at none) ∙ ap (λ i. version_at (log.cells i)) (sym zero_is)
     version_of_first a part (inr some) = version_stays home m log log' chains grows (home cell.key) a (part a some.0)
+
+-- where it was made of a fixed record, nothing more is asked
+pub made_of_fixed_stays : (home : ℕ → ℕ) (m : Map) (log log' : Log) → AreChains home log → log.cells 0 ≡ Unborn → Grows home m log log' → (entry : HistoryEntry) (cell : Cell)
+    → IsFixed log (first_from home log cell.key cell.previous) → IsMade home log entry cell → IsMade home log' entry cell × IsFixed log' (first_from home log' cell.key cell.previous)
+made_of_fixed_stays home m log log' chains none grows entry cell fixed made =
+    let stays = first_stays home m log log' chains grows cell.key cell.previous made.leads in (
+      made_stays home m log log' chains none grows entry cell
+        (ap (λ i. value_at (log'.cells i)) (sym stays) ∙ fixed_stays home m log log' chains none grows cell.key cell.previous made.leads fixed) made,
+      subst (IsFixed log') (sym stays) (below (first_from home log cell.key cell.previous) log.fixed log'.fixed fixed grows.fixed),
+    )
+  where
+    below : (a b c : ℕ) → a < b → b ≤ c → a < c
+    below a b c low high = omega (arith, low, high)

@@ -12,4 +12,5 @@ mod Sound
 mod Steps
 mod Upto
 mod Versions
+mod Walks
 mod Worked
