@@ -163,7 +163,7 @@ pub made_of_fixed_stays : (home : ℕ → ℕ) (m : Map) (log log' : Log) → Ar
 made_of_fixed_stays home m log log' chains none grows entry cell fixed made =
     let stays = first_stays home m log log' chains grows cell.key cell.previous made.leads in (
       made_stays home m log log' chains none grows entry cell
-        (ap (λ i. value_at (log'.cells i)) (sym stays) ∙ fixed_stays home m log log' chains none grows cell.key cell.previous made.leads fixed) made,
+          (ap (λ i. value_at (log'.cells i)) (sym stays) ∙ fixed_stays home m log log' chains none grows cell.key cell.previous made.leads fixed) made,
       subst (IsFixed log') (sym stays) (below (first_from home log cell.key cell.previous) log.fixed log'.fixed fixed grows.fixed),
     )
   where

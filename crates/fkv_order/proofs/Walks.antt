@@ -1,5 +1,5 @@
 -- Going down a chain by what its records lead to: what stands first of a key stays the same on the way.
-use Rattle.std.proofs.Common.{◌≡◌, ◌≢◌, ◌⊎◌, inl, inr, ℕ, ◌<◌, ◌∙◌, Bool, true, false, Some, List, [], ◌∷◌, refl, sym, ap, subst, arith}
+use Rattle.std.proofs.Common.{◌≡◌, ◌≢◌, inl, inr, ℕ, ◌<◌, ◌∙◌, true, false, Some, List, [], ◌∷◌, refl, sym, ap, subst, arith}
 use Rattle.fkv_order.specs.Trace.{IsIn}
 use Rattle.fkv_order.specs.Chains.{Cell, Logged, Published, has_key, head_of, chain_from, first_such, IsWithin}
 use Rattle.fkv_order.specs.Ghosts.{Log, first_from, newest_of}

@@ -1,11 +1,12 @@
 -- The laws of a log of cells and chains, over every list of events that owe nothing.
-use Rattle.std.specs.Prelude.{◌≡◌, ◌≤◌, ℕ, List, ◌∷◌, ◌++◌}
+use Rattle.std.specs.Prelude.{◌≡◌, ◌⊎◌, ◌≤◌, ℕ, List, ◌∷◌, ◌++◌}
 use Rattle.fkv_map.specs.Map.{Map}
 use Rattle.fkv_map.specs.History.{IsLegal}
 use Rattle.fkv_map.specs.Keys.{key_of}
 use Rattle.fkv_order.specs.Trace.{Effect, IsIn, history_of, value_in, upto, OrdersCalls, ReadsAreFresh}
-use Rattle.fkv_order.specs.Ghosts.{Ghosts, GhostEvent, shown, shown_upto, ghost_run}
-use Rattle.fkv_order.specs.Owed.{AreOwed, IsOpened}
+use Rattle.fkv_order.specs.Chains.{Cell, Published, VersionsFall}
+use Rattle.fkv_order.specs.Ghosts.{Ghosts, GhostEvent, shown, shown_upto, newest_in, ghost_run}
+use Rattle.fkv_order.specs.Owed.{AreOwed, IsOpened, IsFixed, IsLinked}
 
 -- what holds after each list of events that keep to their rules, of a log that was opened with a map and a version
 abbrev pub AtEachMoment : ((ℕ → ℕ) → Map → ℕ → Ghosts → Type 0) → Type 0
@@ -25,8 +26,16 @@ ChainsShowContent home m version g = (key : ℕ) → shown home g.log key ≡ va
 abbrev pub VersionsAreLegal : (ℕ → ℕ) → Map → ℕ → Ghosts → Type 0
 VersionsAreLegal home m version g = (n : ℕ) → version ≤ n → IsLegal m (history_of (upto n g.log.history))
 
-abbrev pub ChainsShowVersions : (ℕ → ℕ) → Map → ℕ → Ghosts → Type 0
-ChainsShowVersions home m version g = (n key : ℕ) → version ≤ n → shown_upto home g.log n key ≡ value_in m (upto n g.log.history) key
+abbrev pub NewestShowsContent : (ℕ → ℕ) → Map → ℕ → Ghosts → Type 0
+NewestShowsContent home m version g = (n key : ℕ) → version ≤ n → shown_upto home g.log n key ≡ value_in m (upto n g.log.history) key
+
+-- down each chain addresses fall, each record leads to the next, and versions never rise
+abbrev pub ChainsFall : (ℕ → ℕ) → Map → ℕ → Ghosts → Type 0
+ChainsFall home m version g = (h : ℕ) → IsLinked g.log.cells (g.log.chains h) × VersionsFall g.log.cells (g.log.chains h)
+
+-- a record that may still change in place is the newest of its key and its version
+abbrev pub MutableIsNewest : (ℕ → ℕ) → Map → ℕ → Ghosts → Type 0
+MutableIsNewest home m version g = (a : ℕ) (cell : Cell) → g.log.cells a ≡ Published cell → (newest_in home g.log cell.version cell.key ≡ a) ⊎ IsFixed g.log a
 
 -- the home of the key that an effect is on
 abbrev pub home_of : (ℕ → ℕ) → Effect → ℕ
@@ -38,8 +47,8 @@ AreInOrder home effects =
     (newer older : List Effect) (effect earlier : Effect) → effects ≡ newer ++ effect ∷ older → IsIn earlier older → home_of home earlier ≡ home_of home effect
     → earlier.version ≤ effect.version
 
-abbrev pub VersionsAreInOrder : (ℕ → ℕ) → Map → ℕ → Ghosts → Type 0
-VersionsAreInOrder home m version g = AreInOrder home g.log.history
+abbrev pub VersionsInOrder : (ℕ → ℕ) → Map → ℕ → Ghosts → Type 0
+VersionsInOrder home m version g = AreInOrder home g.log.history
 
 abbrev pub CallsAreOrdered : (ℕ → ℕ) → Map → ℕ → Ghosts → Type 0
 CallsAreOrdered home m version g = OrdersCalls g.log.history g.trace

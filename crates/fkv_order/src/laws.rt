@@ -1,6 +1,6 @@
 //! The laws of a log of cells and chains. These functions do nothing: what they promise holds of every list of events.
 ghost use Rattle.fkv_order.specs.Worked.{IsKept, ChangesWhatIsFixed, CopiesWhatMayChange, GivesOpeningState};
-ghost use Rattle.fkv_order.specs.Laws.{AtEachMoment, HistoryIsLegal, ChainsShowContent, VersionsAreLegal, VersionsAreInOrder, ChainsShowVersions, CallsAreOrdered, ReadsGiveContent};
+ghost use Rattle.fkv_order.specs.Laws.{AtEachMoment, HistoryIsLegal, ChainsShowContent, VersionsAreLegal, VersionsInOrder, ChainsFall, MutableIsNewest, NewestShowsContent, CallsAreOrdered, ReadsGiveContent};
 
 /// Over every list of events, each of which keeps to its rule: the newest record of a key in the chain of its home shows the
 /// key's value after the updates that have taken effect so far, and each of these was told the reply that the map gives at
@@ -14,9 +14,16 @@ pub fn law_chains_show_content()
 /// shows the key's value after the updates of versions up to it, and these alone would have been told the same replies. Of
 /// each home updates of a version take effect before those of later ones.
 pub fn law_versions_show_content()
-    ensures content { AtEachMoment ChainsShowVersions }
+    ensures content { AtEachMoment NewestShowsContent }
     ensures legal { AtEachMoment VersionsAreLegal }
-    ensures order { AtEachMoment VersionsAreInOrder }
+    ensures order { AtEachMoment VersionsInOrder }
+{}
+
+/// Down each chain addresses fall and versions never rise, and a record that may still change in place is the newest of its
+/// key and its version.
+pub fn law_chains_fall()
+    ensures fall { AtEachMoment ChainsFall }
+    ensures newest { AtEachMoment MutableIsNewest }
 {}
 
 /// Over the same lists: each update whose result was given took effect once, with that reply, and none but those that were
