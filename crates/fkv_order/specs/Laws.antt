@@ -22,10 +22,11 @@ HistoryIsLegal home m version g = IsLegal m (history_of g.log.history)
 abbrev pub ChainsShowContent : (ℕ → ℕ) → Map → ℕ → Ghosts → Type 0
 ChainsShowContent home m version g = (key : ℕ) → shown home g.log key ≡ value_in m g.log.history key
 
--- the same, for each version from the opening's on, of the effects and records of versions up to it
+-- the effects of versions up to each one, from the opening's on, are legal by themselves
 abbrev pub VersionsAreLegal : (ℕ → ℕ) → Map → ℕ → Ghosts → Type 0
 VersionsAreLegal home m version g = (n : ℕ) → version ≤ n → IsLegal m (history_of (upto n g.log.history))
 
+-- for each version the newest record of a key of versions up to it shows the key's value in the content of the effects up to it
 abbrev pub NewestShowsContent : (ℕ → ℕ) → Map → ℕ → Ghosts → Type 0
 NewestShowsContent home m version g = (n key : ℕ) → version ≤ n → shown_upto home g.log n key ≡ value_in m (upto n g.log.history) key
 
@@ -47,11 +48,14 @@ AreInOrder home effects =
     (newer older : List Effect) (effect earlier : Effect) → effects ≡ newer ++ effect ∷ older → IsIn earlier older → home_of home earlier ≡ home_of home effect
     → earlier.version ≤ effect.version
 
+-- so of the history
 abbrev pub VersionsInOrder : (ℕ → ℕ) → Map → ℕ → Ghosts → Type 0
 VersionsInOrder home m version g = AreInOrder home g.log.history
 
+-- effects are in the order of their calls
 abbrev pub CallsAreOrdered : (ℕ → ℕ) → Map → ℕ → Ghosts → Type 0
 CallsAreOrdered home m version g = OrdersCalls g.log.history g.trace
 
+-- and reads are fresh
 abbrev pub ReadsGiveContent : (ℕ → ℕ) → Map → ℕ → Ghosts → Type 0
 ReadsGiveContent home m version g = ReadsAreFresh m g.log.history g.trace
