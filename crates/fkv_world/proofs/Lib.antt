@@ -1,2 +1,3 @@
 mod Lives
+mod Others
 pub mod Shown

@@ -1,4 +1,6 @@
+pub mod Actors
 pub mod Moves
+pub mod OwnEvents
 pub mod Past
 pub mod Runs
 pub mod World

@@ -3,4 +3,4 @@
 
 mod laws;
 
-pub use laws::law_of_lives;
+pub use laws::{law_of_lives, law_of_others, law_of_own_events};
