@@ -1,8 +1,15 @@
 //! What holds of every life of the engine, whatever its machines do.
-ghost use Rattle.std.specs.Prelude.{◌≡◌, ◌++◌, ℕ, List, Some, false, slice_get, true};
-ghost use Rattle.fkv_session.specs.Sessions.{SessionState};
-ghost use Rattle.fkv_world.specs.Actors.{NoneOfKeeper, NoneOfSession, is_of_keeper, is_of_session, keeper_goes, session_goes};
-ghost use Rattle.fkv_world.specs.World.{Event, near, seat_at, with_keeper, with_session};
+ghost use Rattle.std.specs.Prelude.{◌≡◌, ◌≢◌, ◌++◌, ℕ, Bool, List, None, Some, false, slice_get, slice_set, true};
+ghost use Rattle.fkv_commit.specs.declared.commits.CommitKind.{CommitKind};
+ghost use Rattle.fkv_keeper.specs.declared.answers.KeeperTold.TheVariants.{Device};
+ghost use Rattle.fkv_keeper.specs.KeeperRun.{is_in_hand};
+ghost use Rattle.fkv_keeper.specs.Keeping.{commit_asked, keeper_ask, keeper_called, turn_asked};
+ghost use Rattle.fkv_map.specs.declared.operations.Call.{Call};
+ghost use Rattle.fkv_plane.specs.Asked.{words_after};
+ghost use Rattle.fkv_plane.specs.declared.asks.Ask.TheVariants.{Done};
+ghost use Rattle.fkv_session.specs.Sessions.{SessionState, is_busy, session_ask};
+ghost use Rattle.fkv_world.specs.Actors.{NoneOfKeeper, NoneOfSession, is_of_keeper, is_of_session, keeper_goes, place_named, session_goes, slot_named};
+ghost use Rattle.fkv_world.specs.World.{Calls, Commits, Event, KeeperMoves, Moves, Turns, keeper_asked, near, seat_at, session_called, with_keeper, with_session};
 ghost use Rattle.fkv_world.specs.Runs.{World, happens, read_by_keeper, run};
 
 /// A list of events after another is the run of the one over the world that the other leaves.
@@ -32,4 +39,48 @@ pub fn law_of_own_events()
         → (happens w event).now ≡ with_session w.now session (session_goes (seat_at w.now session) (near w.now its) event) }
     ensures keeper { (w : World) (event : Event) → is_of_keeper event ≡ true → w.now.crashed ≡ false
         → (happens w event).now ≡ with_keeper w.now (keeper_goes w.now.shape w.now.places (read_by_keeper w) (near w.now w.now.keeper) event) }
+{}
+
+/// The start of a call and a call of the device change no word, no action and no machine but their own: they lead that machine where it
+/// goes, as a function of it alone, and all else stays. So it is for the start of a session's call, of a commit and of a turn; a call of the
+/// device goes by whether it succeeds, and by what a read gives.
+pub fn law_of_starts()
+    ensures call { (w : World) (session : ℕ) (call : Call) (its : SessionState) → w.now.crashed ≡ false → slice_get w.now.sessions session ≡ Some its
+        → (happens w (Calls session call)).now ≡ record w.now { sessions = slice_set w.now.sessions session (session_called (seat_at w.now session) its call) } }
+    ensures commit { (w : World) (kind : CommitKind) → w.now.crashed ≡ false
+        → (happens w (Commits kind)).now ≡ record w.now { keeper = keeper_asked w.now.keeper (commit_asked w.now.keeper kind) } }
+    ensures turn { (w : World) → w.now.crashed ≡ false
+        → (happens w Turns).now ≡ record w.now { keeper = keeper_asked w.now.keeper (turn_asked w.now.keeper) } }
+    ensures device { (w : World) (granted done : Bool) → w.now.crashed ≡ false
+        → keeper_ask w.now.shape w.now.places w.now.keeper ≡ Done Device
+        → (happens w (KeeperMoves granted done)).now ≡ record w.now { keeper = keeper_called w.now.shape w.now.places w.now.keeper done (read_by_keeper w) } }
+{}
+
+/// An event changes one word at most, at the place that the ask of its machine names, and there as the ask does; and the action of one
+/// slot at most, of the slot that the ask names, or the ask that goes with it. A start of a call and a crash name none.
+pub fn law_of_one_word()
+    ensures word { (w : World) (event : Event) (place : ℕ) → place_named w.now event ≢ Some place
+        → slice_get (happens w event).now.words place ≡ slice_get w.now.words place }
+    ensures slot { (w : World) (event : Event) (slot : ℕ) → slot_named w.now event ≢ Some slot
+        → slice_get (happens w event).now.actions slot ≡ slice_get w.now.actions slot }
+    ensures session { (w : World) (session : ℕ) (its : SessionState) → w.now.crashed ≡ false → slice_get w.now.sessions session ≡ Some its
+        → (happens w (Moves session)).now.words ≡ words_after w.now.words (session_ask (seat_at w.now session) its) }
+    ensures keeper { (w : World) (granted done : Bool) → w.now.crashed ≡ false
+        → (happens w (KeeperMoves granted done)).now.words ≡ words_after w.now.words (keeper_ask w.now.shape w.now.places w.now.keeper) }
+{}
+
+/// An event that finds nothing to do leaves the world as it was, what is past too: an event of a session that isn't there, a call where
+/// one is in hand and a move where none is, so of the keeper, and every event after a crash.
+pub fn law_of_nothing_to_do()
+    ensures no_session { (w : World) (session : ℕ) (call : Call) → slice_get w.now.sessions session ≡ None
+        → (happens w (Calls session call) ≡ w) × (happens w (Moves session) ≡ w) }
+    ensures call { (w : World) (session : ℕ) (call : Call) (its : SessionState) → slice_get w.now.sessions session ≡ Some its → is_busy its.step ≡ true
+        → happens w (Calls session call) ≡ w }
+    ensures moves { (w : World) (session : ℕ) (its : SessionState) → slice_get w.now.sessions session ≡ Some its → is_busy its.step ≡ false
+        → happens w (Moves session) ≡ w }
+    ensures keeper { (w : World) (kind : CommitKind) → is_in_hand w.now.keeper.step ≡ true
+        → (happens w (Commits kind) ≡ w) × (happens w Turns ≡ w) }
+    ensures keeper_moves { (w : World) (granted done : Bool) → is_in_hand w.now.keeper.step ≡ false
+        → happens w (KeeperMoves granted done) ≡ w }
+    ensures crashed { (w : World) (event : Event) → w.now.crashed ≡ true → happens w event ≡ w }
 {}
