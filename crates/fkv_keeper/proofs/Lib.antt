@@ -1,5 +1,6 @@
 mod BeginRun
 mod KeeperBegun
+mod KeeperCalls
 mod KeeperDevice
 mod KeeperFewer
 mod KeeperLeft
@@ -7,4 +8,5 @@ mod KeeperRuns
 mod KeeperSound
 mod KeeperTakes
 mod PointsWritten
+pub mod Shown
 mod TurnRun

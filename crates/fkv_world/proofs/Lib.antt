@@ -1,6 +1,9 @@
+mod Added
+mod Device
 mod Lives
 mod Nothing
 mod OneWord
 mod Others
+mod OwnRuns
 pub mod Shown
 mod Starts

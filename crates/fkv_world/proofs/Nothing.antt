@@ -28,7 +28,7 @@ item_back (y ∷ ys) zero x found = let same : y ≡ x = cc in ap (λ (z : _). z
 item_back (y ∷ ys) (suc i) x found = ap (λ (zs : List _). y ∷ zs) (item_back ys i x found)
 
 -- a world that goes on
-pub world_of : World → Event → Now → World
+unfoldable pub world_of : World → Event → Now → World
 world_of w event after = record { now = after; past = life_past w.now after event w.past }
 
 pub lived : (w : World) (event : Event) → w.now.crashed ≡ false → happens w event ≡ world_of w event (life_goes w.now (read_by_keeper w) event)

@@ -1,5 +1,7 @@
 pub mod Actors
+pub mod Added
 pub mod Moves
+pub mod Opened
 pub mod OwnEvents
 pub mod Past
 pub mod Runs

@@ -1,14 +1,20 @@
 //! What holds of every life of the engine, whatever its machines do.
-ghost use Rattle.std.specs.Prelude.{◌≡◌, ◌≢◌, ◌++◌, ℕ, Bool, List, None, Some, false, slice_get, slice_set, true};
+ghost use Rattle.std.specs.Prelude.{◌≡◌, ◌≢◌, ◌++◌, ℕ, Bool, List, length, None, Some, false, slice_get, slice_set, true};
 ghost use Rattle.fkv_commit.specs.declared.commits.CommitKind.{CommitKind};
+ghost use Rattle.fkv_disk.specs.Calls.{AllDone};
 ghost use Rattle.fkv_keeper.specs.declared.answers.KeeperTold.TheVariants.{Device};
-ghost use Rattle.fkv_keeper.specs.KeeperRun.{is_in_hand};
+ghost use Rattle.fkv_keeper.specs.KeeperLaws.{IsBrokenForGood};
+ghost use Rattle.fkv_keeper.specs.KeeperRun.{has_failed, is_in_hand, keeper_run};
 ghost use Rattle.fkv_keeper.specs.Keeping.{commit_asked, keeper_ask, keeper_called, turn_asked};
 ghost use Rattle.fkv_map.specs.declared.operations.Call.{Call};
 ghost use Rattle.fkv_plane.specs.Asked.{words_after};
 ghost use Rattle.fkv_plane.specs.declared.asks.Ask.TheVariants.{Done};
+ghost use Rattle.fkv_session.specs.SessionRun.{session_run};
 ghost use Rattle.fkv_session.specs.Sessions.{SessionState, is_busy, session_ask};
 ghost use Rattle.fkv_world.specs.Actors.{NoneOfKeeper, NoneOfSession, is_of_keeper, is_of_session, keeper_goes, place_named, session_goes, slot_named};
+ghost use Rattle.fkv_world.specs.Added.{IsCallsAfter, IsHistoryAfter, told_at, told_by};
+ghost use Rattle.fkv_world.specs.Opened.{IsOpenedWorld};
+ghost use Rattle.fkv_world.specs.OwnEvents.{keeper_events, session_events};
 ghost use Rattle.fkv_world.specs.World.{Calls, Commits, Event, KeeperMoves, Moves, Turns, keeper_asked, near, seat_at, session_called, with_keeper, with_session};
 ghost use Rattle.fkv_world.specs.Runs.{World, happens, read_by_keeper, run};
 
@@ -83,4 +89,37 @@ pub fn law_of_nothing_to_do()
     ensures keeper_moves { (w : World) (granted done : Bool) → is_in_hand w.now.keeper.step ≡ false
         → happens w (KeeperMoves granted done) ≡ w }
     ensures crashed { (w : World) (event : Event) → w.now.crashed ≡ true → happens w event ≡ w }
+{}
+
+/// Each machine is at every moment of a life the run of its own events: a session over the calls that it begins, the replies and the
+/// actions that it gets, and the keeper over its turns, commits, replies, actions and calls of the device. So what holds of every
+/// such run holds of every machine of every life.
+pub fn law_of_own_runs()
+    ensures session { (opening : World) (session : ℕ) (first : SessionState) (events : List Event) → slice_get opening.now.sessions session ≡ Some first
+        → slice_get (run opening events).now.sessions session ≡ Some (session_run (seat_at opening.now session) first (session_events opening session events)) }
+    ensures keeper { (opening : World) (events : List Event)
+        → (run opening events).now.keeper ≡ keeper_run opening.now.shape opening.now.places opening.now.keeper (keeper_events opening events) }
+{}
+
+/// In every life of a store that was opened the keeper asks for the device only while each of its writes and syncs has succeeded. Once one
+/// has failed, or a read has, it asks for nothing any more, and refuses each turn and each commit.
+pub fn law_of_the_device()
+    ensures asks { (opening : World) (events : List Event) → IsOpenedWorld opening
+        → keeper_ask (run opening events).now.shape (run opening events).now.places (run opening events).now.keeper ≡ Done Device
+        → AllDone (run opening events).past.calls }
+    ensures broken { (opening : World) (events : List Event) → IsOpenedWorld opening → (AllDone (run opening events).past.calls → ⊥)
+        → IsBrokenForGood (run opening events).now.shape (run opening events).now.places (run opening events).now.keeper }
+    ensures failed { (opening : World) (events : List Event) → IsOpenedWorld opening
+        → has_failed opening.now.shape opening.now.places opening.now.keeper (keeper_events opening events) ≡ true
+        → IsBrokenForGood (run opening events).now.shape (run opening events).now.places (run opening events).now.keeper }
+{}
+
+/// What an event adds to what is past. The history gets an entry at no event but a session's move, at most one, and it is what the
+/// session tells as its effect then. The trace gets the call that the event begins, and then the answer of the call that it ends, each told
+/// with the number of updates that have taken effect. The calls of the device get at most one, the write or sync of the keeper's step.
+pub fn law_of_the_past()
+    ensures history { (w : World) (event : Event) → IsHistoryAfter w event (happens w event).past.history }
+    ensures trace { (w : World) (event : Event)
+        → (happens w event).past.trace ≡ told_at (length (happens w event).past.history) (told_by w.now (happens w event).now event) ++ w.past.trace }
+    ensures calls { (w : World) (event : Event) → IsCallsAfter w event (happens w event).past.calls }
 {}

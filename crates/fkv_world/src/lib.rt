@@ -5,5 +5,5 @@ mod laws;
 
 pub use laws::{
     law_of_lives, law_of_nothing_to_do, law_of_one_word, law_of_others, law_of_own_events,
-    law_of_starts,
+    law_of_own_runs, law_of_starts, law_of_the_device, law_of_the_past,
 };
