@@ -17,12 +17,12 @@ use Rattle.fkv_keeper.specs.declared.answers.KeeperTold.{KeeperTold}
 use Rattle.fkv_keeper.specs.declared.answers.KeeperTold.TheVariants.{Device}
 use Rattle.fkv_keeper.specs.declared.keepers.Keeping.{Keeping}
 use Rattle.fkv_keeper.specs.declared.keepers.Keeping.TheVariants.{Ended}
-use Rattle.fkv_keeper.specs.Keeping.{KeeperState, Finality, keeper_ask}
+use Rattle.fkv_keeper.specs.Keeping.{Finality, keeper_ask}
 use Rattle.fkv_keeper.specs.KeeperAsks.{keeper_calls}
 use Rattle.fkv_keeper.specs.KeeperRun.{is_in_hand}
 use Rattle.fkv_keeper.proofs.Shown.{calls_one}
-use Rattle.fkv_world.specs.Added.{IsCallOf, IsCallsAfter, IsEffectOf, IsHistoryAfter, told_at, call_begun, begun_by, call_answered, session_answered, keeper_told, is_calling, ended_by, told_by}
-use Rattle.fkv_world.specs.Past.{Effect, Past, Traced, TraceEvent, Called, CommitAsked, TurnAsked, traced, effect_made, history_after, answer_traced, session_traced, call_traced, move_traced, keeper_answered, keeper_begun, calls_after, life_past}
+use Rattle.fkv_world.specs.Added.{IsCallsAfter, IsHistoryAfter, told_at, call_begun, begun_by, call_answered, session_answered, keeper_told, is_calling, ended_by, told_by}
+use Rattle.fkv_world.specs.Past.{Effect, Past, Traced, TraceEvent, Called, CommitAsked, TurnAsked, traced, effect_made, history_after, answer_traced, session_traced, call_traced, move_traced, keeper_answered, calls_after, life_past}
 use Rattle.fkv_world.specs.Runs.{World, happens, read_by_keeper}
 use Rattle.fkv_world.specs.World.{Event, Calls, Moves, Commits, Turns, KeeperMoves, Crashes, Now, seat_at, life_goes}
 use Rattle.fkv_world.proofs.Nothing.{world_of, lived}
@@ -83,7 +83,7 @@ unanswered session (Some after) = refl
 -- a call of a session
 called_so : (session : ℕ) (call : Call) (busy : Bool) (after : Option SessionState) (p : Past)
     → (if busy then p else session_traced session true after (traced p (Called session call)))
-      ≡ telling p (session_answered session (if busy then false else true) after ++ (if busy then [] else Called session call ∷ []))
+    ≡ telling p (session_answered session (if busy then false else true) after ++ (if busy then [] else Called session call ∷ []))
 called_so session call true after p = sym (ap (λ (its : List TraceEvent). telling p (its ++ [])) (unanswered session after) ∙ telling_none p)
 called_so session call false after p = session_so session true after (traced p (Called session call)) ∙ (ap (λ (x : Past). telling x (session_answered session true after)) (traced_so p (Called session call)) ∙ telling_on p (session_answered session true after) (Called session call ∷ []))
 
@@ -142,7 +142,7 @@ effect_so (Some entry) version history = inr (record { entry = entry; version = 
 
 asked_history : (k : Seat) (s : SessionState) (words : List ℕ) (ask : Ask Told) (history : List Effect)
     → (history_after k s words ask history ≡ history)
-      ⊎ ((its : Effect) × (history_after k s words ask history ≡ its ∷ history) × ((session_next k s (reply_to words ask)).effect ≡ Some its.entry) × (its.version ≡ s.attempt.pending.request.version))
+    ⊎ ((its : Effect) × (history_after k s words ask history ≡ its ∷ history) × ((session_next k s (reply_to words ask)).effect ≡ Some its.entry) × (its.version ≡ s.attempt.pending.request.version))
 unfolding history_after
 asked_history k s words (Put slot action) history = inl refl
 asked_history k s words (Take slot) history = inl refl

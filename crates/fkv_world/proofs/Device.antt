@@ -1,17 +1,15 @@
 -- The keeper asks for the device only while each of its calls has succeeded, and is broken for good once one has failed.
 use Rattle.std.proofs.Common.{◌≡◌, ℕ, ◌∙◌, ◌++◌, List, [], ◌∷◌, refl, ap, sym, subst, Bool, true, false}
-use Rattle.std.specs.Prelude.{⊤, ◌||◌, Option, Some, None, slice_get, if◌then◌else◌}
+use Rattle.std.specs.Prelude.{◌||◌}
 use Rattle.fkv_base.specs.declared.shapes.Shape.{Shape}
 use Rattle.fkv_disk.specs.Calls as device
 use Rattle.fkv_disk.specs.Calls.{AllDone, Write, Sync}
 use Rattle.fkv_plane.specs.declared.asks.Ask.{Ask}
-use Rattle.fkv_plane.specs.declared.asks.Ask.TheVariants.{Load, Store, Swap, Cas, Add, Max, Put, Take, Done}
+use Rattle.fkv_plane.specs.declared.asks.Ask.TheVariants.{Done}
 use Rattle.fkv_plane.specs.declared.places.Places.{Places}
-use Rattle.fkv_session.specs.Sessions.{SessionState}
 use Rattle.fkv_keeper.specs.declared.answers.KeeperTold.{KeeperTold}
-use Rattle.fkv_keeper.specs.declared.answers.KeeperTold.TheVariants.{Device, Turned, TurnRefused, Begun, CommitRefused}
-use Rattle.fkv_keeper.specs.declared.keepers.Keeping.{Keeping}
-use Rattle.fkv_keeper.specs.Keeping.{KeeperState, Finality, keeper_ask}
+use Rattle.fkv_keeper.specs.declared.answers.KeeperTold.TheVariants.{Device, TurnRefused, CommitRefused}
+use Rattle.fkv_keeper.specs.Keeping.{KeeperState, keeper_ask}
 use Rattle.fkv_keeper.specs.KeeperAsks.{keeper_calls}
 use Rattle.fkv_keeper.specs.KeeperLaws.{IsBrokenForGood, IsRefusal}
 use Rattle.fkv_keeper.specs.KeeperRun as keeper
@@ -20,11 +18,11 @@ use Rattle.fkv_keeper.proofs.Shown.{done_calls, run_broken}
 use Rattle.fkv_world.specs.Moves.{Near}
 use Rattle.fkv_world.specs.Opened.{IsOpenedWorld}
 use Rattle.fkv_world.specs.OwnEvents.{keeper_steps, keeper_part, keeper_part_of, keeper_events}
-use Rattle.fkv_world.specs.Past.{Past, TraceEvent, call_traced, move_traced, session_traced, answer_traced, traced, keeper_begun, keeper_answered, calls_after, history_after, life_past}
+use Rattle.fkv_world.specs.Past.{calls_after}
 use Rattle.fkv_world.specs.Runs.{World, happens, read_by_keeper, run}
-use Rattle.fkv_world.specs.World.{Event, Calls, Moves, Commits, Turns, KeeperMoves, Crashes, Now, near, life_goes}
+use Rattle.fkv_world.specs.World.{Event, Calls, Moves, Commits, Turns, KeeperMoves, Crashes, near, life_goes}
 use Rattle.fkv_world.proofs.Others.{is_over, shape_stays, places_stay}
-use Rattle.fkv_world.proofs.Nothing.{world_of, lived}
+use Rattle.fkv_world.proofs.Nothing.{lived}
 use Rattle.fkv_world.proofs.OwnRuns.{keeper_runs}
 use Rattle.fkv_world.proofs.Added.{added_calls, calls_added}
 
@@ -76,8 +74,8 @@ event_done w (Commits kind) opening before same none sofar = sofar
 event_done w Turns opening before same none sofar = sofar
 event_done w (KeeperMoves granted done) opening before same none sofar =
     step_done w.now.shape w.now.keeper done (read_by_keeper w) (keeper_ask w.now.shape w.now.places w.now.keeper) w.past.calls
-        (not_failed w.now.shape w.now.places opening before granted done (read_by_keeper w) (near w.now w.now.keeper) (keeper_ask w.now.shape w.now.places w.now.keeper)
-            (ap (keeper_ask w.now.shape w.now.places) (sym same)) none) sofar
+    (not_failed w.now.shape w.now.places opening before granted done (read_by_keeper w) (near w.now w.now.keeper) (keeper_ask w.now.shape w.now.places w.now.keeper)
+    (ap (keeper_ask w.now.shape w.now.places) (sym same)) none) sofar
 event_done w Crashes opening before same none sofar = sofar
 
 happens_done : (w : World) (event : Event) (crashed : Bool) (opening : KeeperState) (before : List KeeperEvent) → w.now.crashed ≡ crashed → w.now.keeper ≡ keeper_run w.now.shape w.now.places opening before
@@ -85,7 +83,7 @@ happens_done : (w : World) (event : Event) (crashed : Bool) (opening : KeeperSta
 happens_done w event true opening before e same none sofar = subst (λ (x : World). AllDone x.past.calls) (sym (is_over w event e)) sofar
 happens_done w event false opening before e same none sofar =
     subst (λ (calls : List device.Call). AllDone calls) (sym (ap (λ (x : World). x.past.calls) (lived w event e) ∙ added_calls w (life_goes w.now (read_by_keeper w) event) event))
-        (event_done w event opening before same (subst (λ (part : List KeeperEvent). has_failed w.now.shape w.now.places opening (part ++ before) ≡ false) (rw e refl) none) sofar)
+    (event_done w event opening before same (subst (λ (part : List KeeperEvent). has_failed w.now.shape w.now.places opening (part ++ before) ≡ false) (rw e refl) none) sofar)
 
 -- of a keeper in a store of this shape and these places
 failed_at : Shape → Places → World → List Event → Bool

@@ -3,6 +3,7 @@ mod Device
 mod Lives
 mod Nothing
 mod OneWord
+mod OfSessions
 mod Others
 mod OwnRuns
 pub mod Shown

@@ -1,9 +1,8 @@
 -- An event that finds nothing to do leaves the world as it was, all that is past too.
 use Rattle.std.proofs.Common.{◌≡◌, ℕ, zero, suc, ◌∙◌, List, [], ◌∷◌, refl, ap, sym, Bool, true, false}
-use Rattle.std.specs.Prelude.{⊤, Option, Some, None, slice_get, slice_set}
+use Rattle.std.specs.Prelude.{⊤, Some, None, slice_get, slice_set}
 use Rattle.fkv_map.specs.declared.operations.Call.{Call}
 use Rattle.fkv_commit.specs.declared.commits.CommitKind.{CommitKind}
-use Rattle.fkv_plane.specs.declared.asks.Ask.{Ask}
 use Rattle.fkv_plane.specs.declared.asks.Ask.TheVariants.{Done}
 use Rattle.fkv_session.specs.declared.answers.Told.{Told}
 use Rattle.fkv_session.specs.declared.sessions.Sitting.{Sitting}
@@ -13,12 +12,12 @@ use Rattle.fkv_keeper.specs.declared.answers.KeeperTold.{KeeperTold}
 use Rattle.fkv_keeper.specs.declared.answers.KeeperTold.TheVariants.{Device, Turned, TurnRefused, Begun, CommitRefused}
 use Rattle.fkv_keeper.specs.declared.keepers.Keeping.{Keeping}
 use Rattle.fkv_keeper.specs.declared.keepers.Keeping.TheVariants.{Ended}
-use Rattle.fkv_keeper.specs.Keeping.{KeeperState, keeper_ask, keeping_ask, end_told, turn_over, commit_asked, turn_asked}
+use Rattle.fkv_keeper.specs.Keeping.{KeeperState, keeper_ask, keeping_ask, end_told, turn_over}
 use Rattle.fkv_keeper.specs.KeeperRun.{is_in_hand}
-use Rattle.fkv_world.specs.Moves.{Near, session_asks, session_moved, keeper_asks}
+use Rattle.fkv_world.specs.Moves.{session_asks, keeper_asks}
 use Rattle.fkv_world.specs.Past.{Past, history_after, life_past}
 use Rattle.fkv_world.specs.Runs.{World, happens, read_by_keeper}
-use Rattle.fkv_world.specs.World.{Event, Calls, Moves, Commits, Turns, KeeperMoves, Crashes, Now, seat_at, near, life_goes, with_session, with_keeper}
+use Rattle.fkv_world.specs.World.{Event, Calls, Moves, Commits, Turns, KeeperMoves, Now, seat_at, life_goes}
 use Rattle.fkv_world.proofs.Others.{is_over}
 
 -- what is read at an index and written back
@@ -64,8 +63,8 @@ none_in_hand w session its found idle =
     let told : Told = (idle_ask (seat_at w.now session) its its.step idle).0 in
     let asks : session_ask (seat_at w.now session) its ≡ Done told = (idle_ask (seat_at w.now session) its its.step idle).1 in
     stays w (Moves session) w.now.crashed refl
-        (rw found (rw asks (ap (λ (xs : List SessionState). record w.now { sessions = xs }) (item_back w.now.sessions session its found))))
-        (rw found (rw asks (rw idle refl)))
+    (rw found (rw asks (ap (λ (xs : List SessionState). record w.now { sessions = xs }) (item_back w.now.sessions session its found))))
+    (rw found (rw asks (rw idle refl)))
 
 pub keeper_in_hand : (w : World) (kind : CommitKind) → is_in_hand w.now.keeper.step ≡ true → (happens w (Commits kind) ≡ w) × (happens w Turns ≡ w)
 unfolding life_goes life_past

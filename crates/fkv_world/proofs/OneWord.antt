@@ -4,7 +4,7 @@ use Rattle.std.specs.Prelude.{Option, Some, None, slice_get, slice_set}
 use Rattle.fkv_base.specs.declared.shapes.Shape.{Shape}
 use Rattle.fkv_plane.specs.declared.actions.Action.{Action}
 use Rattle.fkv_plane.specs.declared.asks.Ask.{Ask}
-use Rattle.fkv_plane.specs.declared.asks.Ask.TheVariants.{Load, Store, Swap, Cas, Add, Max, Put, Take, Done}
+use Rattle.fkv_plane.specs.declared.asks.Ask.TheVariants.{Put, Take, Done}
 use Rattle.fkv_plane.specs.declared.places.Places.{Places}
 use Rattle.fkv_plane.specs.Asked.{asked, asked_place, reply_to, words_after, words_changed}
 use Rattle.fkv_epoch.proofs.Shown.{item_spared}
@@ -14,7 +14,7 @@ use Rattle.fkv_keeper.specs.declared.answers.KeeperTold.{KeeperTold}
 use Rattle.fkv_keeper.specs.declared.answers.KeeperTold.TheVariants.{Device}
 use Rattle.fkv_keeper.specs.Keeping.{KeeperState, keeper_ask, keeper_next}
 use Rattle.fkv_world.specs.Actors.{slot_asked, slot_of_step, place_named, slot_named, session_place_named, session_slot_named}
-use Rattle.fkv_world.specs.Moves.{Near, session_settled, session_asks, session_moved, keeper_settled, keeper_asks, keeper_moved}
+use Rattle.fkv_world.specs.Moves.{Near, session_settled, session_asks, keeper_settled, keeper_asks}
 use Rattle.fkv_world.specs.Runs.{World, happens, read_by_keeper}
 use Rattle.fkv_world.specs.World.{Event, Calls, Moves, Commits, Turns, KeeperMoves, Crashes, Now, seat_at, near, session_calls, session_moves, life_goes}
 use Rattle.fkv_world.proofs.Others.{lives, is_over}

@@ -1,11 +1,8 @@
 -- An event of another actor leaves a machine as it was, and one of its own goes by that machine, the words and the actions alone.
-use Rattle.std.proofs.Common.{◌≡◌, ◌≢◌, ℕ, ◌∙◌, ◌++◌, List, [], ◌∷◌, refl, ap, sym, Bool, true, false, arith}
-use Rattle.std.specs.Prelude.{Option, Some, None, slice_get, slice_set, ◌==◌, if◌then◌else◌}
+use Rattle.std.proofs.Common.{◌≡◌, ◌≢◌, ℕ, ◌∙◌, ◌++◌, List, [], ◌∷◌, refl, ap, Bool, true, false, arith}
+use Rattle.std.specs.Prelude.{Option, Some, None, slice_get, ◌==◌}
 use Rattle.std.proofs.lemmas.Bool.Decides.{nat_tests}
-use Rattle.fkv_base.specs.declared.shapes.Shape.{Shape}
-use Rattle.fkv_plane.specs.declared.places.Places.{Places}
 use Rattle.fkv_epoch.proofs.Shown.{item_written, item_spared}
-use Rattle.fkv_keeper.specs.Keeping.{KeeperState}
 use Rattle.fkv_session.specs.Sessions.{SessionState}
 use Rattle.fkv_world.specs.Actors.{is_of_session, is_of_keeper, NoneOfSession, NoneOfKeeper, session_goes, keeper_goes}
 use Rattle.fkv_world.specs.Runs.{World, happens, read_by_keeper, run}

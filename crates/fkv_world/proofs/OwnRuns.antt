@@ -3,7 +3,6 @@ use Rattle.std.proofs.Common.{◌≡◌, ℕ, ◌∙◌, ◌++◌, List, [], ◌
 use Rattle.std.specs.Prelude.{Option, Some, None, slice_get, if◌then◌else◌}
 use Rattle.fkv_base.specs.declared.shapes.Shape.{Shape}
 use Rattle.fkv_map.specs.declared.operations.Call.{Call}
-use Rattle.fkv_commit.specs.declared.commits.CommitKind.{CommitKind}
 use Rattle.fkv_plane.specs.declared.actions.Action.{Action}
 use Rattle.fkv_plane.specs.declared.asks.Ask.{Ask}
 use Rattle.fkv_plane.specs.declared.asks.Ask.TheVariants.{Put, Take, Done}
@@ -20,10 +19,10 @@ use Rattle.fkv_keeper.specs.Keeping.{KeeperState, keeper_ask, keeper_next}
 use Rattle.fkv_keeper.specs.KeeperRun as keeper
 use Rattle.fkv_keeper.specs.KeeperRun.{KeeperEvent, is_in_hand, keeper_happens, keeper_run}
 use Rattle.fkv_world.specs.Actors.{is_of_session, session_goes}
-use Rattle.fkv_world.specs.Moves.{Near, session_gets, session_settled, session_replied, session_asks, session_moved, keeper_gets, keeper_settled, keeper_replied, keeper_asks}
+use Rattle.fkv_world.specs.Moves.{Near, session_gets, session_settled, session_replied, session_asks, keeper_gets, keeper_settled, keeper_replied, keeper_asks}
 use Rattle.fkv_world.specs.OwnEvents.{session_got, session_slots, session_steps, session_part, session_part_found, session_part_of, session_events, keeper_got, keeper_slots, keeper_steps, keeper_part, keeper_part_of, keeper_events}
 use Rattle.fkv_world.specs.Runs.{World, happens, read_by_keeper, run}
-use Rattle.fkv_world.specs.World.{Event, Calls, Moves, Commits, Turns, KeeperMoves, Crashes, Now, seat_at, near, session_called, keeper_asked, session_calls, session_moves, life_goes}
+use Rattle.fkv_world.specs.World.{Event, Calls, Moves, Commits, Turns, KeeperMoves, Crashes, Now, seat_at, near, session_calls, session_moves, life_goes}
 use Rattle.fkv_world.proofs.Others.{lives, is_over, session_apart, session_written, shape_stays, places_stay}
 
 -- runs one after the other
@@ -60,7 +59,7 @@ settled_so k n ask = refl
 -- behind a reply
 replied_so : (k : Seat) (n : Near SessionState) (ask : Ask Told) (reply : ℕ) → reply_to n.words ask ≡ reply
     → (session_settled k (session_replied k n ask) (session_ask k (session_replied k n ask).machine)).machine
-      ≡ session_run k n.machine (session_slots n.actions (session_ask k (session_next k n.machine reply)) ++ session.Replies reply ∷ [])
+    ≡ session_run k n.machine (session_slots n.actions (session_ask k (session_next k n.machine reply)) ++ session.Replies reply ∷ [])
 unfolding session_run session_happens
 replied_so k n ask reply e =
     settled_so k (session_replied k n ask) (session_ask k (session_replied k n ask).machine)
@@ -131,7 +130,7 @@ keeper_settled_so shape p granted n ask = refl
 
 keeper_replied_so : (shape : Shape) (p : Places) (granted : Bool) (n : Near KeeperState) (ask : Ask KeeperTold) (reply : ℕ) → reply_to n.words ask ≡ reply
     → (keeper_settled shape p granted (keeper_replied shape p granted n ask) (keeper_ask shape p (keeper_replied shape p granted n ask).machine)).machine
-      ≡ keeper_run shape p n.machine (keeper_slots n.actions granted (keeper_ask shape p (keeper_next shape p n.machine reply granted)) ++ keeper.Replies reply granted ∷ [])
+    ≡ keeper_run shape p n.machine (keeper_slots n.actions granted (keeper_ask shape p (keeper_next shape p n.machine reply granted)) ++ keeper.Replies reply granted ∷ [])
 unfolding keeper_run keeper_happens
 keeper_replied_so shape p granted n ask reply e =
     keeper_settled_so shape p granted (keeper_replied shape p granted n ask) (keeper_ask shape p (keeper_replied shape p granted n ask).machine)

@@ -1,5 +1,5 @@
 -- The start of a call and a call of the device change their own machine and nothing else.
-use Rattle.std.proofs.Common.{◌≡◌, ℕ, ◌∙◌, List, refl, ap, Bool, true, false}
+use Rattle.std.proofs.Common.{◌≡◌, ℕ, ◌∙◌, refl, Bool, false}
 use Rattle.std.specs.Prelude.{Some, slice_get, slice_set}
 use Rattle.fkv_map.specs.declared.operations.Call.{Call}
 use Rattle.fkv_commit.specs.declared.commits.CommitKind.{CommitKind}
@@ -9,7 +9,7 @@ use Rattle.fkv_keeper.specs.declared.answers.KeeperTold.TheVariants.{Device}
 use Rattle.fkv_keeper.specs.Keeping.{commit_asked, keeper_ask, keeper_called, turn_asked}
 use Rattle.fkv_world.specs.Moves.{keeper_asks}
 use Rattle.fkv_world.specs.Runs.{World, happens, read_by_keeper}
-use Rattle.fkv_world.specs.World.{Event, Calls, Commits, Turns, KeeperMoves, Now, seat_at, session_called, keeper_asked, life_goes}
+use Rattle.fkv_world.specs.World.{Calls, Commits, Turns, KeeperMoves, seat_at, session_called, keeper_asked, life_goes}
 use Rattle.fkv_world.proofs.Others.{lives}
 
 pub call_starts : (w : World) (session : ℕ) (call : Call) (its : SessionState) → w.now.crashed ≡ false → slice_get w.now.sessions session ≡ Some its

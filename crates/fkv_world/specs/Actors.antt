@@ -8,7 +8,7 @@ use Rattle.fkv_plane.specs.Asked.{asked_place, reply_to}
 use Rattle.fkv_session.specs.Sessions.{SessionState, Seat, session_ask, session_next}
 use Rattle.fkv_keeper.specs.Keeping.{KeeperState, commit_asked, turn_asked, keeper_ask, keeper_next}
 use Rattle.fkv_world.specs.Moves.{Near, session_moved, keeper_moved}
-use Rattle.fkv_world.specs.World.{Event, Calls, Moves, Commits, Turns, KeeperMoves, Crashes, Now, seat_at, session_called, keeper_asked}
+use Rattle.fkv_world.specs.World.{Event, Calls, Moves, Commits, Turns, KeeperMoves, Now, seat_at, session_called, keeper_asked}
 
 -- an event of the session of this number, and one of the keeper's; a crash is nobody's
 abbrev pub is_of_session : ℕ → Event → Bool

@@ -1,6 +1,5 @@
 -- What an event adds to what is past: at most one entry of the history, a call's start and its end, and one call of the device.
-use Rattle.std.specs.Prelude.{◌≡◌, ◌⊎◌, ℕ, Bool, true, false, if◌then◌else◌, List, [], ◌∷◌, ◌++◌, length, Option, Some, None, slice_get}
-use Rattle.fkv_map.specs.declared.history.HistoryEntry.{HistoryEntry}
+use Rattle.std.specs.Prelude.{◌≡◌, ◌⊎◌, ℕ, Bool, true, false, if◌then◌else◌, List, [], ◌∷◌, ◌++◌, Option, Some, None, slice_get}
 use Rattle.fkv_map.specs.declared.operations.Call.{Call}
 use Rattle.fkv_disk.specs.Calls as device
 use Rattle.fkv_plane.specs.declared.asks.Ask.TheVariants.{Done}
