@@ -1,5 +1,6 @@
 mod Added
 mod Device
+mod Heard
 mod Lives
 mod Nothing
 mod OneWord

@@ -52,7 +52,7 @@ unfolding life_goes life_past
 in_hand w session call its found busy = stays w (Calls session call) w.now.crashed refl (rw found (rw busy (ap (λ (xs : List SessionState). record w.now { sessions = xs }) (item_back w.now.sessions session its found)))) (rw found (rw busy refl))
 
 -- a session that is idle asks for nothing
-idle_ask : (k : Seat) (s : SessionState) (step : Sitting) → is_busy step ≡ false → (told : Told) × (sitting_ask k s step ≡ Done told)
+pub idle_ask : (k : Seat) (s : SessionState) (step : Sitting) → is_busy step ≡ false → (told : Told) × (sitting_ask k s step ≡ Done told)
 unfolding sitting_ask
 idle_ask k s (Idle told) e = (told, refl)
 idle_ask k s step e = cc

@@ -76,7 +76,7 @@ begins_so : (k : Seat) (s : SessionState) (call : Call) (busy : Bool) → (if bu
 begins_so k s call true = refl
 begins_so k s call false = refl
 
-goes_so : (k : Seat) (n : Near SessionState) (event : Event) → (session_goes k n event).machine ≡ session_run k n.machine (session_part k n event)
+pub goes_so : (k : Seat) (n : Near SessionState) (event : Event) → (session_goes k n event).machine ≡ session_run k n.machine (session_part k n event)
 unfolding session_goes session_part session_run session_happens
 goes_so k n (Calls number call) = begins_so k n.machine call (is_busy n.machine.step)
 goes_so k n (Moves number) = steps_so k n (session_ask k n.machine)

@@ -1,11 +1,12 @@
 -- A world as its life begins.
-use Rattle.std.specs.Prelude.{◌≡◌, ℕ, false, List, [], length, Some, slice_get}
+use Rattle.std.specs.Prelude.{◌≡◌, ℕ, ◌==◌, if◌then◌else◌, false, List, [], ◌∷◌, length, Some, slice_get}
 use Rattle.fkv_session.specs.Sessions as session
 use Rattle.fkv_keeper.specs.KeeperRun as keeper
 use Rattle.fkv_session.specs.SessionRun.{Telling, all_told}
 use Rattle.fkv_session.specs.Replies.{effects_told}
 use Rattle.fkv_map.specs.declared.history.HistoryEntry.{HistoryEntry}
 use Rattle.fkv_world.specs.OwnEvents.{session_events}
+use Rattle.fkv_world.specs.Past.{Traced, TraceEvent, Answered}
 use Rattle.fkv_world.specs.Runs.{World, run}
 use Rattle.fkv_world.specs.World.{Event, seat_at}
 
@@ -31,3 +32,12 @@ life_told opening events number first = all_told (seat_at opening.now number) fi
 
 abbrev pub life_effects : World → List Event → ℕ → session.SessionState → List HistoryEntry
 life_effects opening events number first = effects_told (seat_at opening.now number) first (session_events opening number events)
+
+-- what a session has been answered, by what callers have seen, the newest first
+abbrev pub answer_to : ℕ → TraceEvent → List Telling → List Telling
+answer_to number (Answered session its) told = if session == number then its ∷ told else told
+answer_to number event told = told
+
+abbrev pub answers_of : ℕ → List Traced → List Telling
+answers_of number [] = []
+answers_of number (it ∷ before) = answer_to number it.its (answers_of number before)

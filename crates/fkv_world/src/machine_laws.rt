@@ -7,13 +7,13 @@ ghost use Rattle.fkv_session.specs.Accounts.{AreAccountedFor, AreInTurn, IsAnswe
 ghost use Rattle.fkv_session.specs.Cuts.{IsCutTold};
 ghost use Rattle.fkv_session.specs.InOrder.{AreToldInOrder, IsEpochLast, IsOwedOrOneMore, exchanged, owing_place, owing_told, serial_leaving};
 ghost use Rattle.fkv_session.specs.Replies.{AreOfTheirCalls, AreRepliesOfEffects, HasOneEffect, is_of, op_called, serials_taken};
-ghost use Rattle.fkv_session.specs.SessionRun.{in_hand};
+ghost use Rattle.fkv_session.specs.SessionRun.{in_hand, with_coming};
 ghost use Rattle.fkv_session.specs.Sessions.{SessionState, is_busy};
 ghost use Rattle.fkv_session.specs.Words.{AreMarkStores, AreMarksTold, IsCutAsleep, serial_left, stored_last};
 ghost use Rattle.fkv_session.specs.declared.sessions.CatchCause.TheVariants.{Wakes};
 ghost use Rattle.fkv_session.specs.declared.sessions.CatchCause.{CatchCause};
 ghost use Rattle.fkv_session.specs.declared.sessions.Sitting.TheVariants.{CatchesUp, Leaves, StoresOwing};
-ghost use Rattle.fkv_world.specs.Opened.{HasBecome, IsOpenedWorld, life_effects, life_told};
+ghost use Rattle.fkv_world.specs.Opened.{HasBecome, IsOpenedWorld, answers_of, life_effects, life_told};
 ghost use Rattle.fkv_world.specs.OwnEvents.{keeper_events, session_events};
 ghost use Rattle.fkv_world.specs.Runs.{World, run};
 ghost use Rattle.fkv_world.specs.World.{Event, seat_at};
@@ -84,6 +84,13 @@ pub fn law_world_replies()
         → number_of (is_of serial) (life_effects opening events session first) ≡ 0 }
     ensures operations { (opening : World) (events : List Event) (session : ℕ) (first its : SessionState) → HasBecome opening events session first its
         → AreOfTheirCalls session its (op_called (seat_at opening.now session) first (session_events opening session events)) (serials_taken (seat_at opening.now session) first (session_events opening session events)) (life_effects opening events session first) }
+{}
+
+/// The answers of which the laws of sessions speak are those that callers see: in every life what a session has told is what the trace has as
+/// its answers, with the one that is coming.
+pub fn law_world_answers()
+    ensures { (opening : World) (events : List Event) (session : ℕ) (first its : SessionState) → HasBecome opening events session first its
+        → life_told opening events session first ≡ with_coming its.step its.finished (answers_of session (run opening events).past.trace) }
 {}
 
 /// Whatever the sessions do, the keeper stores the durable words and rest only where all writes of the commit in hand have succeeded, to the last
