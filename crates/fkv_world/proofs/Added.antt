@@ -29,11 +29,11 @@ use Rattle.fkv_world.proofs.Nothing.{world_of, lived}
 use Rattle.fkv_world.proofs.Others.{is_over}
 
 -- the history behind an event, and the calls of the device
-unfoldable history_found : Now → Seat → Option SessionState → List Effect → List Effect
+unfoldable pub history_found : Now → Seat → Option SessionState → List Effect → List Effect
 history_found n k None history = history
 history_found n k (Some s) history = history_after k s n.words (session_ask k s) history
 
-unfoldable history_added : Now → Event → List Effect → List Effect
+unfoldable pub history_added : Now → Event → List Effect → List Effect
 history_added n (Moves session) history = history_found n (seat_at n session) (slice_get n.sessions session) history
 history_added n event history = history
 
@@ -126,7 +126,7 @@ pub added_calls : (w : World) (after : Now) (event : Event) → (world_of w even
 unfolding world_of telling
 added_calls w after event = ap (λ (p : Past). p.calls) (added w.now after event w.past)
 
-added_history : (w : World) (after : Now) (event : Event) → (world_of w event after).past.history ≡ history_added w.now event w.past.history
+pub added_history : (w : World) (after : Now) (event : Event) → (world_of w event after).past.history ≡ history_added w.now event w.past.history
 unfolding world_of telling
 added_history w after event = ap (λ (p : Past). p.history) (added w.now after event w.past)
 

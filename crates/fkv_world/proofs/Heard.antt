@@ -4,7 +4,7 @@ use Rattle.std.specs.Prelude.{⊤, Option, Some, None, slice_get, ◌==◌, if�
 use Rattle.std.proofs.lemmas.Bool.Decides.{nat_tests}
 use Rattle.fkv_plane.specs.declared.actions.Action.{Action}
 use Rattle.fkv_plane.specs.declared.asks.Ask.{Ask}
-use Rattle.fkv_plane.specs.declared.asks.Ask.TheVariants.{Load, Store, Swap, Cas, Add, Max, Put, Take, Done}
+use Rattle.fkv_plane.specs.declared.asks.Ask.TheVariants.{Put, Take, Done}
 use Rattle.fkv_plane.specs.Asked.{reply_to}
 use Rattle.fkv_plane.specs.Plane.{action_at}
 use Rattle.fkv_map.specs.declared.operations.Call.{Call}
@@ -12,16 +12,16 @@ use Rattle.fkv_session.specs.declared.answers.Finished.{Finished}
 use Rattle.fkv_session.specs.declared.answers.Told.{Told}
 use Rattle.fkv_session.specs.declared.sessions.Sitting.{Sitting}
 use Rattle.fkv_session.specs.declared.sessions.Sitting.TheVariants.{Idle}
-use Rattle.fkv_session.specs.Sessions.{SessionState, Seat, is_busy, session_ask, session_next, session_begun}
+use Rattle.fkv_session.specs.Sessions.{SessionState, Seat, is_busy, session_ask, session_next}
 use Rattle.fkv_session.specs.SessionRun as session
 use Rattle.fkv_session.specs.SessionRun.{SessionEvent, Telling, answered, session_happens, session_run, telling, tellings, told_after, with_coming}
 use Rattle.fkv_keeper.specs.declared.keepers.Keeping.{Keeping}
 use Rattle.fkv_keeper.specs.declared.keepers.Keeping.TheVariants.{Ended}
 use Rattle.fkv_keeper.specs.Keeping.{Finality}
 use Rattle.fkv_keeper.specs.KeeperRun.{is_in_hand}
-use Rattle.fkv_world.specs.Actors.{is_of_session, session_goes}
+use Rattle.fkv_world.specs.Actors.{is_of_session}
 use Rattle.fkv_world.specs.Added.{told_at, call_begun, begun_by, call_answered, session_answered, keeper_told, is_calling, ended_by, told_by}
-use Rattle.fkv_world.specs.Moves.{Near, session_settled, session_replied, session_asks}
+use Rattle.fkv_world.specs.Moves.{Near}
 use Rattle.fkv_world.specs.Opened.{HasBecome, answer_to, answers_of, life_told}
 use Rattle.fkv_world.specs.OwnEvents.{session_got, session_slots, session_steps, session_part, session_part_found, session_part_of, session_events}
 use Rattle.fkv_world.specs.Past.{Traced, TraceEvent, Called, CommitAsked, TurnAsked}

@@ -1,7 +1,9 @@
 mod Added
 mod Device
+mod Effects
 mod Heard
 mod Lives
+mod NoSlots
 mod Nothing
 mod OneWord
 mod OfSessions

@@ -6,7 +6,7 @@ use Rattle.fkv_session.specs.SessionRun.{Telling, all_told}
 use Rattle.fkv_session.specs.Replies.{effects_told}
 use Rattle.fkv_map.specs.declared.history.HistoryEntry.{HistoryEntry}
 use Rattle.fkv_world.specs.OwnEvents.{session_events}
-use Rattle.fkv_world.specs.Past.{Traced, TraceEvent, Answered}
+use Rattle.fkv_world.specs.Past.{Effect, Traced, TraceEvent, Answered}
 use Rattle.fkv_world.specs.Runs.{World, run}
 use Rattle.fkv_world.specs.World.{Event, seat_at}
 
@@ -41,3 +41,11 @@ answer_to number event told = told
 abbrev pub answers_of : ℕ → List Traced → List Telling
 answers_of number [] = []
 answers_of number (it ∷ before) = answer_to number it.its (answers_of number before)
+
+-- the updates of a session that have taken effect, by the history, the newest first
+abbrev pub effect_of : ℕ → HistoryEntry → List HistoryEntry → List HistoryEntry
+effect_of number its before = if its.session == number then its ∷ before else before
+
+abbrev pub effects_of : ℕ → List Effect → List HistoryEntry
+effects_of number [] = []
+effects_of number (it ∷ before) = effect_of number it.entry (effects_of number before)

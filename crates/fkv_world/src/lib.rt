@@ -9,5 +9,6 @@ pub use laws::{
     law_of_own_runs, law_of_starts, law_of_the_device, law_of_the_past,
 };
 pub use machine_laws::{
-    law_world_answers, law_world_cuts, law_world_keeper, law_world_replies, law_world_sessions,
+    law_world_answers, law_world_cuts, law_world_effects, law_world_keeper, law_world_replies,
+    law_world_sessions,
 };

@@ -13,7 +13,7 @@ ghost use Rattle.fkv_session.specs.Words.{AreMarkStores, AreMarksTold, IsCutAsle
 ghost use Rattle.fkv_session.specs.declared.sessions.CatchCause.TheVariants.{Wakes};
 ghost use Rattle.fkv_session.specs.declared.sessions.CatchCause.{CatchCause};
 ghost use Rattle.fkv_session.specs.declared.sessions.Sitting.TheVariants.{CatchesUp, Leaves, StoresOwing};
-ghost use Rattle.fkv_world.specs.Opened.{HasBecome, IsOpenedWorld, answers_of, life_effects, life_told};
+ghost use Rattle.fkv_world.specs.Opened.{HasBecome, IsOpenedWorld, answers_of, effects_of, life_effects, life_told};
 ghost use Rattle.fkv_world.specs.OwnEvents.{keeper_events, session_events};
 ghost use Rattle.fkv_world.specs.Runs.{World, run};
 ghost use Rattle.fkv_world.specs.World.{Event, seat_at};
@@ -91,6 +91,13 @@ pub fn law_world_replies()
 pub fn law_world_answers()
     ensures { (opening : World) (events : List Event) (session : ℕ) (first its : SessionState) → HasBecome opening events session first its
         → life_told opening events session first ≡ with_coming its.step its.finished (answers_of session (run opening events).past.trace) }
+{}
+
+/// The effects of which the laws of sessions speak are those of the history: in every life its entries of a session are, in their order, what
+/// that session has told as its effects.
+pub fn law_world_effects()
+    ensures { (opening : World) (events : List Event) (session : ℕ) (first its : SessionState) → HasBecome opening events session first its
+        → life_effects opening events session first ≡ effects_of session (run opening events).past.history }
 {}
 
 /// Whatever the sessions do, the keeper stores the durable words and rest only where all writes of the commit in hand have succeeded, to the last
