@@ -1,5 +1,5 @@
 -- What an event adds to the history, to the trace and to the calls of the device.
-use Rattle.std.proofs.Common.{◌≡◌, ◌⊎◌, inl, inr, ℕ, ◌∙◌, ◌++◌, List, [], ◌∷◌, length, refl, ap, sym, subst, Bool, true, false}
+use Rattle.std.proofs.Common.{◌≡◌, ◌⊎◌, inl, inr, ℕ, ◌∙◌, ◌++◌, List, [], ◌∷◌, length, refl, ap, sym, subst, Bool, true, false, arith}
 use Rattle.std.specs.Prelude.{Option, Some, None, slice_get, if◌then◌else◌}
 use Rattle.fkv_base.specs.declared.numbers.Version.{Version}
 use Rattle.fkv_map.specs.declared.history.HistoryEntry.{HistoryEntry}
@@ -26,7 +26,11 @@ use Rattle.fkv_world.specs.Past.{Effect, Past, Traced, TraceEvent, Called, Commi
 use Rattle.fkv_world.specs.Runs.{World, happens, read_by_keeper}
 use Rattle.fkv_world.specs.World.{Event, Calls, Moves, Commits, Turns, KeeperMoves, Crashes, Now, seat_at, life_goes}
 use Rattle.fkv_world.proofs.Nothing.{world_of, lived}
-use Rattle.fkv_world.proofs.Others.{is_over}
+use Rattle.std.proofs.lemmas.Bool.Decides.{nat_tests}
+use Rattle.fkv_world.specs.Actors.{session_goes}
+use Rattle.fkv_world.specs.World.{near}
+use Rattle.fkv_world.proofs.EffectStays.{IsWordAsk, effect_stays}
+use Rattle.fkv_world.proofs.Others.{is_over, session_written}
 
 -- the history behind an event, and the calls of the device
 unfoldable pub history_found : Now → Seat → Option SessionState → List Effect → List Effect
@@ -142,34 +146,61 @@ effect_so (Some entry) version history = inr (record { entry = entry; version = 
 
 asked_history : (k : Seat) (s : SessionState) (words : List ℕ) (ask : Ask Told) (history : List Effect)
     → (history_after k s words ask history ≡ history)
-    ⊎ ((its : Effect) × (history_after k s words ask history ≡ its ∷ history) × ((session_next k s (reply_to words ask)).effect ≡ Some its.entry) × (its.version ≡ s.attempt.pending.request.version))
+    ⊎ ((its : Effect) × (history_after k s words ask history ≡ its ∷ history) × ((session_next k s (reply_to words ask)).effect ≡ Some its.entry) × (its.version ≡ s.attempt.pending.request.version) × IsWordAsk ask)
 unfolding history_after
 asked_history k s words (Put slot action) history = inl refl
 asked_history k s words (Take slot) history = inl refl
 asked_history k s words (Done its) history = inl refl
-asked_history k s words ask history = effect_so _ _ history
-
-found_history : (w : World) (session : ℕ) (found : Option SessionState) → slice_get w.now.sessions session ≡ found → IsHistoryAfter w (Moves session) (history_found w.now (seat_at w.now session) found w.past.history)
-unfolding history_found
-found_history w session None e = inl refl
-found_history w session (Some s) e = elim (asked_history (seat_at w.now session) s w.now.words (session_ask (seat_at w.now session) s) w.past.history) [
+asked_history k s words ask history = elim (effect_so (session_next k s (reply_to words ask)).effect s.attempt.pending.request.version history) [
   | inl same ↦ inl same
-  | inr its ↦ inr (its.0, its.1, record { session = session; moves = refl; mover = s; found = e; tells = its.2; version = its.3 })
+  | inr its ↦ inr (its.0, its.1, its.2, its.3, tt)
 ]
 
-event_history : (w : World) (event : Event) → IsHistoryAfter w event (history_added w.now event w.past.history)
+-- the session tells it still as the event is over
+tells_now : (w : World) (session : ℕ) (s : SessionState) (its : HistoryEntry) → w.now.crashed ≡ false → slice_get w.now.sessions session ≡ Some s
+    → IsWordAsk (session_ask (seat_at w.now session) s) → (session_next (seat_at w.now session) s (reply_to w.now.words (session_ask (seat_at w.now session) s))).effect ≡ Some its
+    → slice_get (happens w (Moves session)).now.sessions session ≡ Some (session_next (seat_at w.now session) s (reply_to w.now.words (session_ask (seat_at w.now session) s)))
+unfolding session_goes
+tells_now w session s its alive found word some =
+    session_written w (Moves session) session s (grind (arith, nat_tests)) alive found
+    ∙ ap (λ (x : SessionState). Some x) (effect_stays (seat_at w.now session) (near w.now s) (session_ask (seat_at w.now session) s) its word some)
+
+found_history : (w : World) (session : ℕ) (found : Option SessionState) → w.now.crashed ≡ false → slice_get w.now.sessions session ≡ found
+    → IsHistoryAfter w (Moves session) (history_found w.now (seat_at w.now session) found w.past.history)
+unfolding history_found
+found_history w session None alive e = inl refl
+found_history w session (Some s) alive e = elim (asked_history (seat_at w.now session) s w.now.words (session_ask (seat_at w.now session) s) w.past.history) [
+  | inl same ↦ inl same
+  | inr its ↦ inr (
+    its.0,
+    its.1,
+    record {
+      session = session;
+      moves = refl;
+      mover = s;
+      found = e;
+      after = session_next (seat_at w.now session) s (reply_to w.now.words (session_ask (seat_at w.now session) s));
+      replied = refl;
+      is_now = tells_now w session s its.0.entry alive e its.4 its.2;
+      tells = its.2;
+      version = its.3;
+    },
+  )
+]
+
+event_history : (w : World) (event : Event) → w.now.crashed ≡ false → IsHistoryAfter w event (history_added w.now event w.past.history)
 unfolding history_added
-event_history w (Moves session) = found_history w session (slice_get w.now.sessions session) refl
-event_history w event = inl refl
+event_history w (Moves session) alive = found_history w session (slice_get w.now.sessions session) alive refl
+event_history w event alive = inl refl
 
 -- a world that has crashed stays, and of any other one asks for the event
-by_life : (P : World → Type 0) (w : World) (event : Event) (crashed : Bool) → w.now.crashed ≡ crashed → P w → P (world_of w event (life_goes w.now (read_by_keeper w) event)) → P (happens w event)
+by_life : (P : World → Type 0) (w : World) (event : Event) (crashed : Bool) → w.now.crashed ≡ crashed → P w → (w.now.crashed ≡ false → P (world_of w event (life_goes w.now (read_by_keeper w) event))) → P (happens w event)
 by_life P w event true e still moved = subst P (sym (is_over w event e)) still
-by_life P w event false e still moved = subst P (sym (lived w event e)) moved
+by_life P w event false e still moved = subst P (sym (lived w event e)) (moved e)
 
 pub history_so : (w : World) (event : Event) → IsHistoryAfter w event (happens w event).past.history
 history_so w event = by_life (λ (x : World). IsHistoryAfter w event x.past.history) w event w.now.crashed refl (inl refl)
-    (subst (λ (history : List Effect). IsHistoryAfter w event history) (sym (added_history w (life_goes w.now (read_by_keeper w) event) event)) (event_history w event))
+    (λ alive. subst (λ (history : List Effect). IsHistoryAfter w event history) (sym (added_history w (life_goes w.now (read_by_keeper w) event) event)) (event_history w event alive))
 
 -- at most one call of the device
 device_calls : (w : World) (granted done : Bool) (ask : Ask KeeperTold) → keeper_ask w.now.shape w.now.places w.now.keeper ≡ ask
@@ -188,7 +219,7 @@ event_calls w event = inl refl
 
 pub calls_so : (w : World) (event : Event) → IsCallsAfter w event (happens w event).past.calls
 calls_so w event = by_life (λ (x : World). IsCallsAfter w event x.past.calls) w event w.now.crashed refl (inl refl)
-    (subst (λ (calls : List device.Call). IsCallsAfter w event calls) (sym (added_calls w (life_goes w.now (read_by_keeper w) event) event)) (event_calls w event))
+    (λ alive. subst (λ (calls : List device.Call). IsCallsAfter w event calls) (sym (added_calls w (life_goes w.now (read_by_keeper w) event) event)) (event_calls w event))
 
 -- the trace
 same_now : (w : World) (event : Event) (after : Now) → (world_of w event after).now ≡ after

@@ -8,21 +8,20 @@ use Rattle.fkv_plane.specs.declared.asks.Ask.TheVariants.{Put, Take, Done}
 use Rattle.fkv_plane.specs.Asked.{reply_to}
 use Rattle.fkv_plane.specs.Plane.{action_at}
 use Rattle.fkv_session.specs.declared.answers.Told.{Told}
-use Rattle.fkv_session.specs.declared.sessions.CatchCause.{CatchCause}
-use Rattle.fkv_session.specs.declared.sessions.CatchCause.TheVariants.{Refreshes, Wakes, Shifts}
 use Rattle.fkv_session.specs.declared.sessions.Sitting.{Sitting}
 use Rattle.fkv_session.specs.declared.sessions.Sitting.TheVariants.{Idle, Attempts, CatchesUp, ClearsMail, Polls, StoresOwing, Turns, StoresCut, Leaves, LoadsDurable}
 use Rattle.std.proofs.lemmas.Bool.Decides.{nat_tests}
 use Rattle.fkv_base.specs.declared.numbers.Version.{Version}
 use Rattle.fkv_session.specs.Replies.{AreOfTheirCalls, effect_behind, effects_told, op_called, serials_taken, with_effect}
 use Rattle.fkv_session.proofs.Shown.{run_own}
-use Rattle.fkv_session.specs.Sessions.{SessionState, Seat, IsOpened, attempts, catch_ledto, leave_ledto, turn_ledto, session_ask, session_next, sitting_ask, sitting_next}
+use Rattle.fkv_session.specs.Sessions.{SessionState, Seat, IsOpened, session_ask, session_next, sitting_ask, sitting_next}
 use Rattle.fkv_session.specs.SessionRun as session
 use Rattle.fkv_session.specs.SessionRun.{SessionEvent, session_happens, session_run}
 use Rattle.fkv_world.specs.Moves.{Near}
 use Rattle.fkv_world.specs.Opened.{HasBecome, IsOpenedWorld, effects_of, life_effects}
 use Rattle.fkv_world.specs.Past.{Effect, effect_made, history_after}
 use Rattle.fkv_world.specs.OwnEvents.{session_got, session_slots, session_steps, session_part, session_part_found, session_part_of, session_events}
+use Rattle.fkv_world.proofs.EffectStays.{catch_keeps, leave_keeps, turn_keeps}
 use Rattle.fkv_world.proofs.NoSlots.{IsOffSlots, passed_off, mail_off, attempt_off_slots}
 use Rattle.fkv_map.specs.declared.operations.Call.TheVariants.{Refresh}
 use Rattle.fkv_epoch.proofs.Shown.{none_some, some_same}
@@ -39,23 +38,6 @@ never_puts : {A : Type 0} (ask : Ask A) (slot : ℕ) (action : Action) → IsOff
 never_puts ask slot action off e = subst IsOffSlots e off
 
 -- where an action is put no effect is made
-catch_keeps : (k : Seat) (s : SessionState) (cause : CatchCause) (ask : Ask (Unit {0})) → (catch_ledto k s cause ask).effect ≡ s.effect
-unfolding catch_ledto attempts
-catch_keeps k s Refreshes (Done its) = refl
-catch_keeps k s Wakes (Done its) = refl
-catch_keeps k s Shifts (Done its) = refl
-catch_keeps k s cause ask = refl
-
-turn_keeps : (s : SessionState) (its : Told) (ask : Ask (Unit {0})) → (turn_ledto s its ask).effect ≡ s.effect
-unfolding turn_ledto
-turn_keeps s its (Done through) = refl
-turn_keeps s its ask = refl
-
-leave_keeps : (s : SessionState) (ask : Ask (Unit {0})) → (leave_ledto s ask).effect ≡ s.effect
-unfolding leave_ledto
-leave_keeps s (Done through) = refl
-leave_keeps s ask = refl
-
 next_quiet : (k : Seat) (s : SessionState) (asks : ℕ) (step : Sitting) (reply slot : ℕ) (action : Action) → sitting_ask k s step ≡ Put slot action
     → (sitting_next k (record s { asks = asks; effect = None }) step reply).effect ≡ None
 unfolding sitting_ask sitting_next

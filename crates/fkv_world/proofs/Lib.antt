@@ -1,5 +1,6 @@
 mod Added
 mod Device
+mod EffectStays
 mod Effects
 mod Heard
 mod Lives

@@ -8,3 +8,5 @@ pub use Rattle.fkv_world.proofs.OneWord.{keeper_writes, one_slot, one_word, sess
 pub use Rattle.fkv_world.proofs.Others.{is_over, keeper_apart, keeper_aparts, keeper_own, lives, places_stay, session_apart, session_aparts, session_own, session_written, shape_stays}
 pub use Rattle.fkv_world.proofs.OwnRuns.{happens_keeper, happens_session, keeper_runs, keeper_runs_on, same_seat, session_runs, session_runs_on}
 pub use Rattle.fkv_world.proofs.Starts.{call_starts, commit_starts, device_called, turn_starts}
+pub use Rattle.fkv_world.proofs.Effects.{life_made}
+pub use Rattle.fkv_world.proofs.Heard.{life_heard}

@@ -16,17 +16,20 @@ use Rattle.fkv_keeper.specs.Keeping.{Finality, keeper_ask}
 use Rattle.fkv_keeper.specs.KeeperAsks.{keeper_calls}
 use Rattle.fkv_keeper.specs.KeeperRun.{is_in_hand}
 use Rattle.fkv_world.specs.Past.{Effect, Traced, TraceEvent, Called, Answered, CommitAsked, TurnAsked, KeeperAnswered}
-use Rattle.fkv_world.specs.Runs.{World}
+use Rattle.fkv_world.specs.Runs.{World, happens}
 use Rattle.fkv_world.specs.World.{Event, Calls, Moves, Commits, Turns, KeeperMoves, Crashes, Now, seat_at}
 
--- The event moves a session, and the entry is the effect that the session tells once its ask is replied to, with the version of the
+-- The event moves a session, and the entry is the effect that the session tells then, of the reply to its ask, with the version of the
 -- request that it has tried.
 pub record IsEffectOf (w : World) (event : Event) (its : Effect) : Type 0 where
   pub session : ℕ
   pub moves : event ≡ Moves session
   pub mover : SessionState
   pub found : slice_get w.now.sessions session ≡ Some mover
-  pub tells : (session_next (seat_at w.now session) mover (reply_to w.now.words (session_ask (seat_at w.now session) mover))).effect ≡ Some its.entry
+  pub after : SessionState
+  pub replied : after ≡ session_next (seat_at w.now session) mover (reply_to w.now.words (session_ask (seat_at w.now session) mover))
+  pub is_now : slice_get (happens w event).now.sessions session ≡ Some after
+  pub tells : after.effect ≡ Some its.entry
   pub version : its.version ≡ mover.attempt.pending.request.version
 
 -- the history stays, or an effect is put at its front
