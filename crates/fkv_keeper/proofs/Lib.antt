@@ -9,6 +9,7 @@ mod CheckpointTurns
 mod CheckpointUsed
 mod CheckpointWrites
 mod KeeperBegun
+mod KeeperCalls
 mod KeeperDevice
 mod KeeperFewer
 mod KeeperLeft

@@ -5,3 +5,5 @@ pub use Rattle.fkv_keeper.proofs.KeeperFewer.{keeper_fewer, keeper_given_fewer, 
 pub use Rattle.fkv_keeper.proofs.KeeperLeft.{keeper_left}
 pub use Rattle.fkv_keeper.proofs.NewKeepers.{new_is_opened}
 pub use Rattle.fkv_keeper.proofs.WholeCalls.{run_joins}
+pub use Rattle.fkv_keeper.proofs.KeeperCalls.{calls_one, done_calls}
+pub use Rattle.fkv_keeper.proofs.KeeperRuns.{IsSound, run_sound, run_broken, run_finished, run_memory, run_number, copy_again}

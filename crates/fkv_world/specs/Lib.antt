@@ -1,4 +1,8 @@
+pub mod Actors
+pub mod Added
 pub mod Moves
+pub mod Opened
+pub mod OwnEvents
 pub mod Past
 pub mod Runs
 pub mod World

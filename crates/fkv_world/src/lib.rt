@@ -2,5 +2,13 @@
 #![tactic(auto)]
 
 mod laws;
+mod machine_laws;
 
-pub use laws::law_of_lives;
+pub use laws::{
+    law_of_lives, law_of_nothing_to_do, law_of_one_word, law_of_others, law_of_own_events,
+    law_of_own_runs, law_of_starts, law_of_the_device, law_of_the_past,
+};
+pub use machine_laws::{
+    law_world_answers, law_world_cuts, law_world_effects, law_world_keeper, law_world_replies,
+    law_world_sessions,
+};
