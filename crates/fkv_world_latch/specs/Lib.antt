@@ -1,0 +1,2 @@
+pub mod Latchers
+pub mod LatchEvents
