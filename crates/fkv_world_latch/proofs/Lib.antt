@@ -1,1 +1,1 @@
-
+mod TryLatches
