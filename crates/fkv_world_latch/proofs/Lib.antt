@@ -1,1 +1,4 @@
+mod AttemptLatches
+mod CatchLatches
+mod SessionLatches
 mod TryLatches
