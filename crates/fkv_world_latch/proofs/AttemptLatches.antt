@@ -40,16 +40,16 @@ use Rattle.fkv_pending.specs.Pending.{with_sought, with_held, with_latch, with_a
 use Rattle.fkv_pending.specs.Attempting.{AttemptState, attempt_ended, waits_for_disk, puts_addr, puts, tries, is_pending_read, goes_on, attempt_begun, held_of, moved_on, read_on, record_taken, not_ready, look_ledto, held_kept, awaits_record, tried, try_ledto, put_ledto, mail_moved, try_moved, attempting_next, attempt_next}
 use Rattle.fkv_pending.proofs.Shown.{AttemptAsksAt, AttemptRestsOrAsks}
 use Rattle.fkv_world_latch.specs.Latchers.{its_latch, try_latching, try_alone, attempt_latching, attempt_alone}
-use Rattle.fkv_world_latch.proofs.TryLatches.{alone_left, alone_given, is_first, Fits, Keeps, Starts, IsTry, TryLed, try_led, begun_led}
+use Rattle.fkv_world_latch.proofs.TryLatches.{alone_left, alone_given, is_first, HasHeld, Fits, Keeps, Starts, IsTry, TryLed, try_led, begun_led}
 
 -- the same as of a try, of a latch of the index
 pub data FitsAt (p : Places) (step : Latching) (held : List ℕ) (its : Latching) (alone : List ℕ) : Type 0 where
   KeepsAt : step ≡ its → held ≡ alone → is_first its ≡ false → FitsAt p step held its alone
-  StartsAt : (task : LatchTask) (bucket : ℕ) → bucket < p.buckets → step ≡ latching.AtRest → its ≡ latch_first task (bucket_place p bucket 7) → alone_left task (bucket_place p bucket 7) held ≡ alone → FitsAt p step held its alone
+  StartsAt : (task : LatchTask) (bucket : ℕ) → bucket < p.buckets → step ≡ latching.AtRest → its ≡ latch_first task (bucket_place p bucket 7) → alone_left task (bucket_place p bucket 7) held ≡ alone → HasHeld task (bucket_place p bucket 7) held → FitsAt p step held its alone
 
 pub at_bucket : (p : Places) (bucket : ℕ) (step : Latching) (held : List ℕ) (its : Latching) (alone : List ℕ) → bucket < p.buckets → Fits (bucket_place p bucket 7) step held its alone → FitsAt p step held its alone
 at_bucket p bucket step held its alone low (Keeps same holds later) = KeepsAt same holds later
-at_bucket p bucket step held its alone low (Starts task rests same left) = StartsAt task bucket low rests same left
+at_bucket p bucket step held its alone low (Starts task rests same left had) = StartsAt task bucket low rests same left had
 
 -- where nothing is under way and nothing is held, nothing was
 pub record IsFree (step : Latching) (held : List ℕ) : Type 0 where
@@ -64,7 +64,7 @@ no_first DropExclusive place e = cc
 
 pub free_then : (p : Places) (step : Latching) (held : List ℕ) → FitsAt p step held latching.AtRest [] → IsFree step held
 free_then p step held (KeepsAt same holds later) = record { rests = same; none = holds }
-free_then p step held (StartsAt task bucket low rests same left) = no_first task (bucket_place p bucket 7) same
+free_then p step held (StartsAt task bucket low rests same left had) = no_first task (bucket_place p bucket 7) same
 
 -- each key's home is a bucket of the index
 abbrev pub HomesAreLow : Places → ℕ → Type 0

@@ -55,7 +55,7 @@ finishes_led p c = either_led c.is_refresh p (record c { refreshing = refresh_fi
 begun_led : (p : Places) (bits : ℕ) (c : CatchState) (index : ℕ) (found : Option PendingRequest) → HomesAreLow p bits → CatchLed p latching.AtRest (latch_begun p bits c index found)
 begun_led p bits c index None homes = finishes_led p c
 begun_led p bits c index (Some pending) homes =
-    record { knows = tt; fits = StartsAt TakeShared (home_of bits (key_of pending.request.op)).bucket (homes (key_of pending.request.op)) refl refl refl }
+    record { knows = tt; fits = StartsAt TakeShared (home_of bits (key_of pending.request.op)).bucket (homes (key_of pending.request.op)) refl refl refl tt }
 
 wanted_led : (p : Places) (bits : ℕ) (c : CatchState) (requests : List PendingRequest) (found : Option ℕ) → HomesAreLow p bits → CatchLed p latching.AtRest (latch_wanted p bits c requests found)
 wanted_led p bits c requests None homes = finishes_led p c

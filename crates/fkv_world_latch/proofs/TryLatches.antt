@@ -19,7 +19,7 @@ use Rattle.fkv_latch.specs.declared.latching.LatchTask.TheVariants.{TakeShared, 
 use Rattle.fkv_latch.specs.declared.latching.Latching.{Latching}
 use Rattle.fkv_latch.specs.declared.latching.Latching.TheVariants as latching
 use Rattle.fkv_latch.specs.Latching.{latch_first, latch_ask, latch_next, latch_next_ask, is_exclusive, is_free}
-use Rattle.fkv_latch.specs.LatchWorld.{without}
+use Rattle.fkv_latch.specs.LatchWorld.{times, without}
 use Rattle.fkv_ops.specs.declared.answers.Reason.TheVariants as reason
 use Rattle.fkv_ops.specs.declared.answers.TryAnswer.{TryAnswer}
 use Rattle.fkv_ops.specs.declared.answers.TryAnswer.TheVariants as answer
@@ -39,7 +39,7 @@ use Rattle.fkv_ops.specs.Values.{value_of, word_of}
 use Rattle.fkv_ops.specs.Requests.{is_read, is_blind}
 use Rattle.fkv_ops.specs.Walking.{walk_ask, walk_next, walk_on}
 use Rattle.fkv_ops.specs.Appending.{append_ask, append_next}
-use Rattle.fkv_ops.specs.Trying.{TryState, with_latch, is_wait, ended_without, ends, takes_effect, full_at, walks, wants_shared, try_begun, shared_ledto, must_shift, wants_exclusive, appends, copies_from, copies, awaits, held_used, met_nowhere, met_disk, changes, is_own_version, region_met, met_record, walked, has_walked, walk_ledto, safe_loaded, current_ledto, value_changed, told_value, answer_ledto, exclusive_ledto, old_ledto, append_ledto, exclusive_dropped, shared_dropped, latch_moved, trying_next, try_next}
+use Rattle.fkv_ops.specs.Trying.{TryState, with_latch, is_wait, is_prepare, ended_without, ends, takes_effect, full_at, walks, wants_shared, try_begun, shared_ledto, must_shift, wants_exclusive, appends, copies_from, copies, awaits, held_used, met_nowhere, met_disk, changes, is_own_version, region_met, met_record, walked, has_walked, walk_ledto, safe_loaded, current_ledto, value_changed, told_value, answer_ledto, exclusive_ledto, old_ledto, append_ledto, exclusive_dropped, shared_dropped, latch_moved, trying_next, try_next}
 use Rattle.fkv_index.specs.Slots.{home_of}
 use Rattle.fkv_world_latch.specs.Latchers.{its_latch, try_latching, held_if, try_alone}
 
@@ -61,10 +61,15 @@ is_first (latching.LoadsWord place) = true
 is_first (latching.DropsExclusive place) = true
 is_first step = false
 
+-- who begins to drop a latch that it holds alone has held it
+abbrev pub HasHeld : LatchTask → ℕ → List ℕ → Type 0
+HasHeld DropExclusive place held = 0 < times place held
+HasHeld task place held = ⊤
+
 -- Behind a step of its machine an actor is at this step, and holds these alone: so is the session, or it has begun a task with a latch.
 pub data Fits (latch : ℕ) (step : Latching) (held : List ℕ) (its : Latching) (alone : List ℕ) : Type 0 where
   Keeps : step ≡ its → held ≡ alone → is_first its ≡ false → Fits latch step held its alone
-  Starts : (task : LatchTask) → step ≡ latching.AtRest → its ≡ latch_first task latch → alone_left task latch held ≡ alone → Fits latch step held its alone
+  Starts : (task : LatchTask) → step ≡ latching.AtRest → its ≡ latch_first task latch → alone_left task latch held ≡ alone → HasHeld task latch held → Fits latch step held its alone
 
 -- how a try shares its latch, and takes it alone
 pub data TakesShare (latch : ℕ) (step : Latching) : Type 0 where
@@ -80,7 +85,7 @@ IsNotAlone t = t.has_exclusive ≡ false
 
 -- at most of its steps a try holds nothing alone, and its machine works on the latch of its bucket
 abbrev pub TryKnows : Places → TryState → Trying → Type 0
-TryKnows p t TakesShared = IsNotAlone t × TakesShare (its_latch p t) t.latching
+TryKnows p t TakesShared = IsNotAlone t × TakesShare (its_latch p t) t.latching × (t.has_shared ≡ false)
 TryKnows p t (TakesExclusive old) = IsNotAlone t × TakesAlone (its_latch p t) t.latching
 TryKnows p t (DropsExclusive its) = IsNotAlone t × (t.latching ≡ latching.DropsExclusive (its_latch p t))
 TryKnows p t (DropsShared its) = IsNotAlone t × (t.latching ≡ latching.DropsShare (its_latch p t))
@@ -117,10 +122,13 @@ same_same a = grind (arith, nat_tests)
 without_one : (place : ℕ) → without place (place ∷ []) ≡ []
 without_one place = rw (same_same place) refl
 
+held_one : (place : ℕ) → 0 < times place (place ∷ [])
+held_one place = rw (same_same place) (omega arith)
+
 without_led : (p : Places) (t : TryState) (its : TryAnswer) → t.home.bucket < p.buckets → IsNotAlone t → TryLed p latching.AtRest [] (ended_without p t its)
 without_led p t its low alone =
     either_led (t.has_shared && not (is_wait its)) p latching.AtRest [] (with_latch p (record t { has_shared = false }) DropShared (DropsShared its)) (record t { step = Ended its })
-    (record { its = record { low = low; knows = (alone, refl) }; fits = Starts DropShared refl refl refl })
+    (record { its = record { low = low; knows = (alone, refl) }; fits = Starts DropShared refl refl refl tt })
     (record { its = record { low = low; knows = alone }; fits = Keeps refl refl refl })
 
 ends_led : (p : Places) (t : TryState) (its : TryAnswer) → t.home.bucket < p.buckets → TryLed p latching.AtRest (held_if (its_latch p t) t.has_exclusive) (ends p t its)
@@ -128,7 +136,7 @@ unfolding ends
 ends_led p t its low = by_alone t.has_exclusive refl
   where
     by_alone : (b : Bool) → t.has_exclusive ≡ b → TryLed p latching.AtRest (held_if (its_latch p t) b) (if b then with_latch p (record t { has_exclusive = false }) DropExclusive (DropsExclusive its) else ended_without p t its)
-    by_alone true e = record { its = record { low = low; knows = (refl, refl) }; fits = Starts DropExclusive refl refl (without_one (its_latch p t)) }
+    by_alone true e = record { its = record { low = low; knows = (refl, refl) }; fits = Starts DropExclusive refl refl (without_one (its_latch p t)) (held_one (its_latch p t)) }
     by_alone false e = without_led p t its low e
 
 -- where it held nothing
@@ -153,7 +161,7 @@ copies_led : (p : Places) (t : TryState) (old : OldValue) (is_current : Bool) �
 unfolding copies
 copies_led p t old is_current low alone =
     either_led (wants_exclusive t is_current) p latching.AtRest [] (with_latch p t TakeExclusive (TakesExclusive old)) (copies_from t old)
-    (record { its = record { low = low; knows = (alone, Loads refl) }; fits = Starts TakeExclusive refl refl refl })
+    (record { its = record { low = low; knows = (alone, Loads refl) }; fits = Starts TakeExclusive refl refl refl tt })
     (subst (λ b. TryLed p latching.AtRest (held_if (its_latch p t) b) (copies_from t old)) alone (copies_from_led p t old low))
 
 held_led : (p : Places) (t : TryState) (addr : Addr) (held : Option HeldRecord) → t.home.bucket < p.buckets → IsNotAlone t → TryLed p latching.AtRest [] (held_used p t addr held)
@@ -240,22 +248,22 @@ append_led p t its (Done append.Contended) at low = ends_led p t _ low
 append_led p t its ask at low = stays_led p t (Appends its) at low tt refl
 
 -- the machine for latches, where the try shares its latch
-shared_led : (p : Places) (t : TryState) (step : Latching) (reply : ℕ) → t.latching ≡ latch_next step reply → t.step ≡ TakesShared → t.home.bucket < p.buckets → IsNotAlone t → TakesShare (its_latch p t) step
+shared_led : (p : Places) (t : TryState) (step : Latching) (reply : ℕ) → t.latching ≡ latch_next step reply → t.step ≡ TakesShared → t.home.bucket < p.buckets → IsNotAlone t → t.has_shared ≡ false → TakesShare (its_latch p t) step
     → TryLed p (latch_next step reply) (alone_given step (latch_next_ask step reply) []) (shared_ledto p t (latch_next_ask step reply))
 unfolding latch_next latch_next_ask latch_ask shared_ledto
-shared_led p t (latching.AddsShare place) reply next at low alone takes = by_word (is_exclusive reply) next
+shared_led p t (latching.AddsShare place) reply next at low alone free takes = by_word (is_exclusive reply) next
   where
     by_word : (b : Bool) → t.latching ≡ (if b then latching.GivesBack place else latching.AtRest)
         → TryLed p (if b then latching.GivesBack place else latching.AtRest) (alone_given (latching.AddsShare place) (if b then latch_ask (latching.GivesBack place) else Done Taken) []) (shared_ledto p t (if b then latch_ask (latching.GivesBack place) else Done Taken))
     by_word true its = elim takes [
       | Adds same ↦ (let here : place ≡ its_latch p t = cc in
-            subst (λ x. TryLed p x [] t) its (stays_led p t TakesShared at low (alone, Gives (its ∙ ap latching.GivesBack here)) (ap is_first its)))
+            subst (λ x. TryLed p x [] t) its (stays_led p t TakesShared at low (alone, Gives (its ∙ ap latching.GivesBack here), free) (ap is_first its)))
       | Gives other ↦ cc
     ]
     by_word false its = walks_led p (record t { has_shared = true }) low alone
-shared_led p t (latching.GivesBack place) reply next at low alone takes = ends_none p t answer.Shift low alone
-shared_led p t step reply next at low alone (Adds same) = cc
-shared_led p t step reply next at low alone (Gives same) = cc
+shared_led p t (latching.GivesBack place) reply next at low alone free takes = ends_none p t answer.Shift low alone
+shared_led p t step reply next at low alone free (Adds same) = cc
+shared_led p t step reply next at low alone free (Gives same) = cc
 
 -- where it takes it alone
 alone_led : (p : Places) (t : TryState) (old : OldValue) (step : Latching) (reply : ℕ) → t.latching ≡ latch_next step reply → t.step ≡ TakesExclusive old → t.home.bucket < p.buckets → IsNotAlone t → TakesAlone (its_latch p t) step
@@ -301,7 +309,7 @@ step_led : (p : Places) (room : ℕ) (t : TryState) (step : Trying) (reply : ℕ
     → TryLed p (latch_next (try_latching t step) reply) (alone_given (try_latching t step) (latch_next_ask (try_latching t step) reply) (try_alone p t step)) (trying_next p room (record t { effect = None }) step reply)
 unfolding trying_next
 step_led p room t (Ended its) reply at low knows = resting p [] (record t { effect = None }) reply (stays_led p (record t { effect = None }) (Ended its) at low knows refl)
-step_led p room t TakesShared reply at low knows = shared_led p (latch_moved (record t { effect = None }) reply) t.latching reply refl at low knows.0 knows.1
+step_led p room t TakesShared reply at low knows = shared_led p (latch_moved (record t { effect = None }) reply) t.latching reply refl at low knows.0 knows.2 knows.1
 step_led p room t Walks reply at low knows = resting p [] _ reply (walk_led p (record t { effect = None; walk = walk_next p t.walk reply }) (walk_ask p (walk_next p t.walk reply)) at low knows)
 step_led p room t (LoadsSafe addr version) reply at low knows = resting p [] _ reply (safe_led p (record t { effect = None }) addr version reply low knows)
 step_led p room t (SwapsValue addr) reply at low knows = resting p [] _ reply (ends_none p (record t { effect = Some (reply_from None t.request.op) }) _ low knows)
@@ -323,6 +331,17 @@ try_led p room t reply its = step_led p room t t.step reply refl its.low its.kno
 -- how a try begins
 pub begun_led : (p : Places) (bits : ℕ) (t : TryState) (request : Request) (seen : Seen) (occasion : Occasion) (spare : ℕ) → (home_of bits (key_of request.op)).bucket < p.buckets → TryLed p latching.AtRest [] (try_begun p bits t request seen occasion spare)
 begun_led p bits t request seen occasion spare low =
-    let its : TryState = record t { request = request; seen = seen; occasion = occasion; home = home_of bits (key_of request.op); has_shared = request.has_latch; has_exclusive = false; effect = None; spare = spare } in
-    either_led (wants_shared its) p latching.AtRest [] (with_latch p its TakeShared TakesShared) (walks p its)
-    (record { its = record { low = low; knows = (refl, Adds refl) }; fits = Starts TakeShared refl refl refl }) (walks_led p its low refl)
+    by_test (wants_shared its) refl
+  where
+    its : TryState
+    its = record t { request = request; seen = seen; occasion = occasion; home = home_of bits (key_of request.op); has_shared = request.has_latch; has_exclusive = false; effect = None; spare = spare }
+
+    last_not : (a b c : Bool) → (a && b && not c) ≡ true → c ≡ false
+    last_not true true true e = cc
+    last_not true false true e = cc
+    last_not false b true e = cc
+    last_not a b false e = refl
+
+    by_test : (b : Bool) → wants_shared its ≡ b → TryLed p latching.AtRest [] (if b then with_latch p its TakeShared TakesShared else walks p its)
+    by_test true e = record { its = record { low = low; knows = (refl, Adds refl, last_not (is_prepare seen.phase) (not (is_read request.op)) request.has_latch e) }; fits = Starts TakeShared refl refl refl tt }
+    by_test false e = walks_led p its low refl
