@@ -1,4 +1,8 @@
 mod AttemptLatches
 mod CatchLatches
+mod Counts
+mod Moved
+mod Needs
+mod Seats
 mod SessionLatches
 mod TryLatches
