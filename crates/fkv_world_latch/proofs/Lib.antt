@@ -6,3 +6,4 @@ mod Needs
 mod Seats
 mod SessionLatches
 mod TryLatches
+mod Worlds
