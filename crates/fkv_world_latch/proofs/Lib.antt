@@ -1,3 +1,4 @@
+mod Apart
 mod AttemptLatches
 mod CatchLatches
 mod Counts
@@ -5,5 +6,6 @@ mod Moved
 mod Needs
 mod Seats
 mod SessionLatches
+pub mod Shown
 mod TryLatches
 mod Worlds

@@ -1,5 +1,5 @@
 -- What a session's step is to its actor, and what an ask is to the words of the latches.
-use Rattle.std.proofs.Common.{◌≡◌, ℕ, zero, suc, ◌∙◌, refl, sym, ap, subst, List, [], ◌∷◌, ◌++◌, Bool, true, false}
+use Rattle.std.proofs.Common.{◌≡◌, ℕ, ◌∙◌, refl, sym, ap, subst, List, [], ◌∷◌, ◌++◌, Bool, true, false}
 use Rattle.std.specs.Prelude.{Option, Some, None, slice_get, slice_set}
 use Rattle.fkv_plane.specs.declared.actions.Action.{Action}
 use Rattle.fkv_plane.specs.declared.asks.Ask.{Ask}
@@ -12,13 +12,13 @@ use Rattle.fkv_plane.proofs.Shown.{passed_words, passed_reply}
 use Rattle.fkv_latch.specs.declared.latching.Latching.{Latching}
 use Rattle.fkv_latch.specs.declared.latching.Latching.TheVariants as latching
 use Rattle.fkv_latch.specs.Latching.{latch_ask}
-use Rattle.fkv_latch.specs.LatchWorld.{LatchEvent, Moves, Changes, LatchActor, LatchWorld, has_latch, latch_of, is_at_rest, replied, latch_happens, latch_run}
+use Rattle.fkv_latch.specs.LatchWorld.{LatchEvent, Moves, Changes, LatchActor, LatchWorld, has_latch, is_at_rest, replied, latch_happens, latch_run}
 use Rattle.fkv_latch.proofs.Shown.{moves, changes_other, changes_link}
 use Rattle.fkv_session.specs.declared.answers.Told.{Told}
 use Rattle.fkv_session.specs.declared.answers.Told.TheVariants as told
-use Rattle.fkv_session.specs.Sessions.{SessionState, Seat, bits_of, session_ask, session_next, session_given, is_word_ask}
+use Rattle.fkv_session.specs.Sessions.{SessionState, Seat, bits_of, session_ask, is_word_ask}
 use Rattle.fkv_world.specs.Moves.{Near, session_gets, session_settled, session_replied, session_asks}
-use Rattle.fkv_world_latch.specs.Latchers.{session_latching, session_alone}
+use Rattle.fkv_world_latch.specs.Latchers.{session_latching}
 use Rattle.fkv_world_latch.specs.LatchEvents.{changed_at, changed_by, asked_by}
 use Rattle.fkv_world_latch.specs.Shows.{KeepsLatch, SparesLatches}
 use Rattle.fkv_world_latch.proofs.AttemptLatches.{HomesAreLow}

@@ -1,15 +1,13 @@
 -- What a session has of latches as it begins a task: a share that it drops, and none of the one that it takes.
-use Rattle.std.proofs.Common.{◌≡◌, ℕ, zero, suc, ◌+◌, ◌≤◌, ◌<◌, ◌∙◌, refl, sym, ap, subst, arith, List, [], ◌∷◌, Bool, true, false}
-use Rattle.std.specs.Prelude.{◌==◌, ◌&&◌, Some, slice_get}
+use Rattle.std.proofs.Common.{◌≡◌, ℕ, zero, suc, ◌+◌, ◌≤◌, ◌∙◌, refl, ap, subst, arith, List, [], ◌∷◌, Bool, true, false}
+use Rattle.std.specs.Prelude.{◌==◌, Some, slice_get}
 use Rattle.std.proofs.lemmas.Bool.Decides.{nat_tests}
 use Rattle.fkv_words.specs.Fields.{bit_of}
 use Rattle.fkv_map.specs.declared.operations.Op.{Op}
 use Rattle.fkv_map.specs.Keys.{key_of}
 use Rattle.fkv_plane.specs.declared.places.Places.{Places}
-use Rattle.fkv_plane.specs.Places.{bucket_place}
 use Rattle.fkv_index.specs.declared.homes.Home.{Home}
 use Rattle.fkv_index.specs.Slots.{home_of}
-use Rattle.fkv_latch.specs.declared.latching.Latching.{Latching}
 use Rattle.fkv_latch.specs.declared.latching.Latching.TheVariants as latching
 use Rattle.fkv_ops.specs.declared.trying.Trying.{Trying}
 use Rattle.fkv_ops.specs.declared.trying.Trying.TheVariants.{TakesShared, TakesExclusive, DropsExclusive, DropsShared}
@@ -28,7 +26,7 @@ use Rattle.fkv_session.specs.Sessions.{SessionState, Seat, bits_of}
 use Rattle.fkv_session.specs.Shares.{HasItsBuckets, latch_of, is_sharing, sharing}
 use Rattle.fkv_session.proofs.Shown.{there, IsTryOf, owed_in, KnowsShare, owed_at, Book, StepShares}
 use Rattle.fkv_world_latch.specs.Latchers.{its_latch, try_latching, attempt_latching, catch_latching, sitting_latching}
-use Rattle.fkv_world_latch.proofs.TryLatches.{TakesShare, Adds, Gives, TakesAlone, Loads, Sets, TryKnows}
+use Rattle.fkv_world_latch.proofs.TryLatches.{Adds, Gives, Loads, Sets, TryKnows}
 use Rattle.fkv_world_latch.proofs.AttemptLatches.{AttemptKnows}
 use Rattle.fkv_world_latch.proofs.CatchLatches.{CatchKnows, TakesAShare}
 use Rattle.fkv_world_latch.proofs.SessionLatches.{SittingKnows}

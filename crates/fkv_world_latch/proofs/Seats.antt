@@ -1,12 +1,12 @@
 -- A session and the actor that is its: through the session's own step, what goes with it, and the task that begins then.
 use Rattle.std.proofs.Common.{◌≡◌, ℕ, zero, suc, ◌+◌, ◌-◌, ◌%◌, ◌^◌, ◌<◌, ◌≤◌, ◌∙◌, refl, sym, ap, subst, arith, List, [], ◌∷◌, length, Bool, true, false}
-use Rattle.std.specs.Prelude.{◌==◌, ◌&&◌, nat_lt, nat_le, Option, Some, None, slice_get, slice_set, ⊤}
+use Rattle.std.specs.Prelude.{◌==◌, ◌&&◌, nat_lt, nat_le, Some, slice_get, slice_set}
 use Rattle.std.proofs.lemmas.Bool.Decides.{nat_tests}
 use Rattle.fkv_base.specs.Limits.{max_sessions, max_pending}
 use Rattle.fkv_words.specs.Fields.{bit_of}
 use Rattle.fkv_plane.specs.declared.actions.Action.{Action}
 use Rattle.fkv_plane.specs.declared.asks.Ask.{Ask}
-use Rattle.fkv_plane.specs.declared.asks.Ask.TheVariants.{Load, Store, Swap, Cas, Add, Max, Put, Take, Done}
+use Rattle.fkv_plane.specs.declared.asks.Ask.TheVariants.{Add, Put, Done}
 use Rattle.fkv_plane.specs.declared.places.Places.{Places}
 use Rattle.fkv_plane.specs.Places.{bucket_place}
 use Rattle.fkv_plane.specs.Passing.{passed}
@@ -17,15 +17,14 @@ use Rattle.fkv_latch.specs.declared.latching.LatchTask.TheVariants.{TakeShared, 
 use Rattle.fkv_latch.specs.declared.latching.Latching.{Latching}
 use Rattle.fkv_latch.specs.declared.latching.Latching.TheVariants as latching
 use Rattle.fkv_latch.specs.Latching.{one_share, latch_first, latch_ask, latch_next, latch_next_ask}
-use Rattle.fkv_latch.specs.LatchWorld.{LatchEvent, Begins, LatchActor, LatchWorld, has_latch, times, is_at_rest, may_do, may_begin, begun_by, given, replied, latch_happens, latch_run}
+use Rattle.fkv_latch.specs.LatchWorld.{Begins, LatchActor, LatchWorld, has_latch, times, is_at_rest, may_do, may_begin, begun_by, given, replied, latch_run}
 use Rattle.fkv_latch.specs.Latched.{shares_of}
 use Rattle.fkv_latch.proofs.Shown.{IsActor, IsSound, begins}
-use Rattle.fkv_pending.specs.declared.pending_requests.PendingRequest.{PendingRequest}
 use Rattle.fkv_session.specs.declared.answers.Told.{Told}
 use Rattle.fkv_session.specs.declared.answers.Told.TheVariants as told
 use Rattle.fkv_session.specs.Sessions.{SessionState, Seat, IsOpened, bits_of, session_ask, session_next, session_given}
 use Rattle.fkv_session.specs.SessionRun.{SessionEvent, Replies, Gets, session_happens, session_run}
-use Rattle.fkv_session.specs.Shares.{added_by, added_behind, times_added, shares_added, shares_dropped, sharing, HasItsBuckets}
+use Rattle.fkv_session.specs.Shares.{added_by, times_added, shares_added, shares_dropped, HasItsBuckets}
 use Rattle.fkv_session.proofs.Shown.{Book, StepShares, run_shares, run_room}
 use Rattle.fkv_world_latch.specs.Latchers.{session_latching, session_alone}
 use Rattle.fkv_world_latch.specs.LatchEvents.{begun_at}
@@ -34,7 +33,7 @@ use Rattle.fkv_world_latch.proofs.TryLatches.{alone_left, alone_given, is_first,
 use Rattle.fkv_world_latch.proofs.AttemptLatches.{FitsAt, KeepsAt, StartsAt, HomesAreLow}
 use Rattle.fkv_world_latch.proofs.Counts.{actor_of, replied_shares, begun_shares, no_longer, shared_by, shared_times, shared_few}
 use Rattle.fkv_world_latch.proofs.Needs.{drops, takes}
-use Rattle.fkv_world_latch.proofs.SessionLatches.{SittingKnows, SessionLed, session_led, given_led, session_asks}
+use Rattle.fkv_world_latch.proofs.SessionLatches.{SittingKnows, session_led, given_led, session_asks}
 
 -- how the session came here, and that its actor has the shares that it has added and not taken off
 pub record Came (k : Seat) (s : SessionState) (a : LatchActor) : Type 0 where
@@ -105,9 +104,11 @@ balanced k s a words reply at true e same spares has =
     rests_at latching.AtRest e = refl
     rests_at step e = cc
 balanced k s a words reply at false e same spares has =
-    record { shares = rw (session_asks k s e) (subst (λ x. shares_of at (actor_of x a.shared a.exclusive) + added_by one_share at (passed (latch_ask (session_latching s)) told.Slept)
-        ≡ shares_of at (replied (actor_of x a.shared a.exclusive) reply) + added_by (2 ^ 64 - one_share) at (passed (latch_ask (session_latching s)) told.Slept)) (sym same)
-        (replied_shares (session_latching s) a.shared a.exclusive reply at told.Slept)) }
+    record {
+      shares = rw (session_asks k s e) (subst (λ x. shares_of at (actor_of x a.shared a.exclusive) + added_by one_share at (passed (latch_ask (session_latching s)) told.Slept)
+          ≡ shares_of at (replied (actor_of x a.shared a.exclusive) reply) + added_by (2 ^ 64 - one_share) at (passed (latch_ask (session_latching s)) told.Slept)) (sym same)
+          (replied_shares (session_latching s) a.shared a.exclusive reply at told.Slept));
+    }
 
 came_by : (k : Seat) (s : SessionState) (a b : LatchActor) (reply : ℕ) → Came k s a → ((at : ℕ) → has_latch k.places at ≡ true → Balances a b (session_ask k s) at) → Came k (session_next k s reply) b
 unfolding session_run session_happens times_added
@@ -308,7 +309,7 @@ task_begins k s a w i places got sound low stands = by_fits stands.fits
               counts = λ at its.
                   let before = came.counts at its in
                   let kept : shares_of at (begun_by task place a) ≡ shares_of at a = subst (λ x. shares_of at (begun_by task place (actor_of x a.shared a.exclusive)) ≡ shares_of at (actor_of x a.shared a.exclusive)) (sym rests)
-                      (begun_shares task place at a.shared a.exclusive (λ is. has_one k s a place rests has (first ∙ ap (λ t. latch_first t place) is) stands)) in
+                  (begun_shares task place at a.shared a.exclusive (λ is. has_one k s a place rests has (first ∙ ap (λ t. latch_first t place) is) stands)) in
                   omega (arith, before, kept);
             };
           };

@@ -46,7 +46,7 @@ use Rattle.fkv_session.specs.declared.sessions.Sitting.{Sitting}
 use Rattle.fkv_session.specs.declared.sessions.Sitting.TheVariants.{Idle, Attempts, CatchesUp, ClearsMail, Polls, StoresOwing, Turns, StoresCut, Leaves, LoadsDurable}
 use Rattle.fkv_session.specs.CatchingUp.{CatchState, catching_ask, catch_ask, refresh_begun, wake_begun}
 use Rattle.fkv_session.specs.OwnTurns.{own_turn_begun, own_turn_ask, own_turn_given}
-use Rattle.fkv_session.specs.Sessions.{SessionState, Seat, bits_of, room_of, is_busy, answers, refuses, answers_after_turn, request_in_hand, attempts, polls_request, polls_at, refusal_of, op_begun, refresh_call, poll_begun, poll_call, sleep_call, wake_call, call_begun, session_begun, ticket_after, attempt_left, serial_taken, update_done, is_no_room, lacks_room, with_request, accepts, shifts, attempted, attempt_ledto, caught_up, catch_ledto, clear_ledto, is_finished, is_owed, request_finished, finishes_request, keeps_request, poll_ledto, turn_ledto, leave_ledto, attempt_moved, caught, own_turn_moved, sitting_ask, session_ask, sitting_next, session_next, sitting_given, session_given, asks_after, is_word_ask}
+use Rattle.fkv_session.specs.Sessions.{SessionState, Seat, bits_of, room_of, answers, refuses, answers_after_turn, request_in_hand, attempts, polls_request, polls_at, refusal_of, op_begun, refresh_call, poll_begun, poll_call, sleep_call, wake_call, call_begun, session_begun, ticket_after, attempt_left, serial_taken, update_done, is_no_room, lacks_room, with_request, accepts, shifts, attempted, attempt_ledto, caught_up, catch_ledto, clear_ledto, is_finished, is_owed, request_finished, finishes_request, keeps_request, poll_ledto, turn_ledto, leave_ledto, attempt_moved, caught, own_turn_moved, sitting_ask, session_ask, sitting_next, session_next, sitting_given, session_given, asks_after, is_word_ask}
 use Rattle.fkv_world_latch.specs.Latchers.{try_latching, attempt_latching, catch_latching, sitting_latching, session_latching, attempt_alone, sitting_alone, session_alone}
 use Rattle.fkv_world_latch.proofs.TryLatches.{alone_given, is_first}
 use Rattle.fkv_world_latch.proofs.AttemptLatches.{FitsAt, KeepsAt, IsFree, free_then, HomesAreLow, AttemptKnows, AttemptLed, attempt_begun_led, attempt_led, resting}

@@ -35,11 +35,11 @@ use Rattle.fkv_ops.specs.declared.trying.Trying.{Trying}
 use Rattle.fkv_ops.specs.declared.trying.Trying.TheVariants.{Ended, TakesShared, Walks, LoadsSafe, SwapsValue, LoadsCurrent, ChangesValue, LoadsAnswer, TakesExclusive, LoadsOld, Appends, DropsExclusive, DropsShared}
 use Rattle.fkv_ops.specs.declared.walking.WalkAnswer.{WalkAnswer}
 use Rattle.fkv_ops.specs.declared.walking.WalkAnswer.TheVariants as walk
-use Rattle.fkv_ops.specs.Values.{value_of, word_of}
+use Rattle.fkv_ops.specs.Values.{value_of}
 use Rattle.fkv_ops.specs.Requests.{is_read, is_blind}
 use Rattle.fkv_ops.specs.Walking.{walk_ask, walk_next, walk_on}
 use Rattle.fkv_ops.specs.Appending.{append_ask, append_next}
-use Rattle.fkv_ops.specs.Trying.{TryState, with_latch, is_wait, is_prepare, ended_without, ends, takes_effect, full_at, walks, wants_shared, try_begun, shared_ledto, must_shift, wants_exclusive, appends, copies_from, copies, awaits, held_used, met_nowhere, met_disk, changes, is_own_version, region_met, met_record, walked, has_walked, walk_ledto, safe_loaded, current_ledto, value_changed, told_value, answer_ledto, exclusive_ledto, old_ledto, append_ledto, exclusive_dropped, shared_dropped, latch_moved, trying_next, try_next}
+use Rattle.fkv_ops.specs.Trying.{TryState, with_latch, is_wait, is_prepare, ended_without, ends, takes_effect, walks, wants_shared, try_begun, shared_ledto, must_shift, wants_exclusive, appends, copies_from, copies, awaits, held_used, met_nowhere, met_disk, changes, is_own_version, region_met, met_record, walked, has_walked, walk_ledto, safe_loaded, current_ledto, value_changed, told_value, answer_ledto, exclusive_ledto, old_ledto, append_ledto, exclusive_dropped, shared_dropped, latch_moved, trying_next, try_next}
 use Rattle.fkv_index.specs.Slots.{home_of}
 use Rattle.fkv_world_latch.specs.Latchers.{its_latch, try_latching, held_if, try_alone}
 
@@ -257,7 +257,7 @@ shared_led p t (latching.AddsShare place) reply next at low alone free takes = b
         → TryLed p (if b then latching.GivesBack place else latching.AtRest) (alone_given (latching.AddsShare place) (if b then latch_ask (latching.GivesBack place) else Done Taken) []) (shared_ledto p t (if b then latch_ask (latching.GivesBack place) else Done Taken))
     by_word true its = elim takes [
       | Adds same ↦ (let here : place ≡ its_latch p t = cc in
-            subst (λ x. TryLed p x [] t) its (stays_led p t TakesShared at low (alone, Gives (its ∙ ap latching.GivesBack here), free) (ap is_first its)))
+          subst (λ x. TryLed p x [] t) its (stays_led p t TakesShared at low (alone, Gives (its ∙ ap latching.GivesBack here), free) (ap is_first its)))
       | Gives other ↦ cc
     ]
     by_word false its = walks_led p (record t { has_shared = true }) low alone
@@ -275,14 +275,14 @@ alone_led p t old (latching.LoadsWord place) reply next at low alone takes = by_
         → TryLed p (if b then latching.SetsExclusive place reply else latching.AtRest) [] (exclusive_ledto p t old (if b then latch_ask (latching.SetsExclusive place reply) else Done Busy))
     by_word true its = elim takes [
       | Loads same ↦ (let here : place ≡ its_latch p t = cc in
-            subst (λ x. TryLed p x [] t) its (stays_led p t (TakesExclusive old) at low (alone, Sets reply (its ∙ ap (λ q. latching.SetsExclusive q reply) here)) (ap is_first its)))
+          subst (λ x. TryLed p x [] t) its (stays_led p t (TakesExclusive old) at low (alone, Sets reply (its ∙ ap (λ q. latching.SetsExclusive q reply) here)) (ap is_first its)))
       | Sets word other ↦ cc
     ]
     by_word false its = ends_none p t (answer.Wait reason.Latch) low alone
 alone_led p t old (latching.SetsExclusive place word) reply next at low alone takes = by_word (reply == word)
   where
     here : place ≡ its_latch p t
-    here = elim takes [ | Loads other ↦ cc | Sets its same ↦ cc ]
+    here = elim takes [ Loads other ↦ cc | Sets its same ↦ cc ]
 
     by_word : (b : Bool) → TryLed p latching.AtRest (alone_given (latching.SetsExclusive place word) (Done (if b then Taken else Busy)) []) (exclusive_ledto p t old (Done (if b then Taken else Busy)))
     by_word true = subst (λ q. TryLed p latching.AtRest (q ∷ []) (copies_from (record t { has_exclusive = true }) old)) (sym here) (copies_from_led p (record t { has_exclusive = true }) old low)

@@ -1,19 +1,17 @@
 -- Each event of the engine keeps what the world of latches shows of it, and so does every life.
-use Rattle.std.proofs.Common.{◌≡◌, ◌≢◌, ◌⊎◌, ℕ, zero, suc, ◌+◌, ◌^◌, ◌<◌, ◌≤◌, ◌∙◌, refl, sym, ap, subst, inl, inr, arith, List, [], ◌∷◌, ◌++◌, length, Bool, true, false, length-set}
-use Rattle.std.specs.Prelude.{if◌then◌else◌, Option, Some, None, slice_get, slice_set, replicate, ⊤}
+use Rattle.std.proofs.Common.{◌≡◌, ◌≢◌, ℕ, zero, suc, ◌^◌, ◌<◌, ◌≤◌, ◌∙◌, refl, sym, ap, subst, arith, List, [], ◌∷◌, length, Bool, true, false, length-set}
+use Rattle.std.specs.Prelude.{if◌then◌else◌, Option, Some, None, slice_get, slice_set, replicate}
 use Rattle.fkv_base.specs.Limits.{max_sessions}
 use Rattle.fkv_base.specs.declared.shapes.Shape.{Shape}
 use Rattle.fkv_map.specs.declared.operations.Call.{Call}
-use Rattle.fkv_commit.specs.declared.commits.CommitKind.{CommitKind}
 use Rattle.fkv_plane.specs.declared.asks.Ask.{Ask}
 use Rattle.fkv_plane.specs.declared.asks.Ask.TheVariants.{Load, Store, Swap, Cas, Add, Max, Put, Take, Done}
 use Rattle.fkv_plane.specs.declared.places.Places.{Places}
 use Rattle.fkv_plane.specs.Asked.{words_after, reply_to}
 use Rattle.fkv_index.proofs.Shown.{homes_are_there}
 use Rattle.fkv_latch.specs.declared.latching.Latching.TheVariants as latching
-use Rattle.fkv_latch.specs.LatchWorld as latch
-use Rattle.fkv_latch.specs.LatchWorld.{LatchActor, LatchWorld, has_latch, replied, latch_run}
-use Rattle.fkv_latch.specs.Latched.{opening, shares_of}
+use Rattle.fkv_latch.specs.LatchWorld.{LatchActor, LatchWorld, replied, latch_run}
+use Rattle.fkv_latch.specs.Latched.{opening}
 use Rattle.fkv_latch.proofs.Shown.{IsSound, run_sound, opening_sound}
 use Rattle.fkv_keeper.specs.declared.answers.KeeperTold.{KeeperTold}
 use Rattle.fkv_keeper.specs.declared.answers.KeeperTold.TheVariants.{Device}
@@ -21,19 +19,18 @@ use Rattle.fkv_keeper.specs.Keeping.{KeeperState, keeper_ask}
 use Rattle.fkv_session.specs.declared.sessions.Sitting.{Sitting}
 use Rattle.fkv_session.specs.declared.sessions.Sitting.TheVariants.{Idle}
 use Rattle.fkv_session.specs.Sessions.{SessionState, Seat, bits_of, is_busy, session_ask, session_begun}
-use Rattle.fkv_session.specs.SessionRun.{SessionEvent, Begins, begins, session_happens, session_run}
+use Rattle.fkv_session.specs.SessionRun.{Begins, begins, session_happens, session_run}
 use Rattle.fkv_session.specs.Shares.{times_added}
-use Rattle.fkv_world.specs.World.{Event, Calls, Moves, Commits, Turns, KeeperMoves, Crashes, Now, seat_at, near, with_session, session_called, session_calls, session_moves, life_goes, happens_now}
-use Rattle.fkv_world.specs.Moves.{Near, session_asks, session_moved, keeper_settled, keeper_replied, keeper_asks, keeper_moved}
+use Rattle.fkv_world.specs.World.{Event, Calls, Moves, Commits, Turns, KeeperMoves, Crashes, Now, seat_at, near, with_session, session_calls, session_moves, life_goes, happens_now}
+use Rattle.fkv_world.specs.Moves.{Near, session_moved, keeper_settled, keeper_replied, keeper_asks}
 use Rattle.fkv_world.specs.Runs.{World, run, read_by_keeper}
-use Rattle.fkv_world_latch.specs.Latchers.{session_latching, session_alone, sitting_latching, sitting_alone}
+use Rattle.fkv_world_latch.specs.Latchers.{session_latching, sitting_latching, sitting_alone}
 use Rattle.fkv_world_latch.specs.LatchEvents.{begun_at, asked_by, changed_by, moved_events, called_events, life_events, latch_events, mapped}
 use Rattle.fkv_world_latch.specs.Shows.{SparesLatches, SessionSpares, IsFair, AreFair, IsOpened}
-use Rattle.fkv_world_latch.proofs.TryLatches.{is_first}
-use Rattle.fkv_world_latch.proofs.AttemptLatches.{FitsAt, KeepsAt, HomesAreLow}
-use Rattle.fkv_world_latch.proofs.SessionLatches.{SittingKnows, SessionLed, begun_led}
-use Rattle.fkv_world_latch.proofs.Seats.{Came, Stands, Sits, set_same, Begun, task_begins}
-use Rattle.fkv_world_latch.proofs.Moved.{runs_on, spared_run, asked_run, HasMoved, moves_on}
+use Rattle.fkv_world_latch.proofs.AttemptLatches.{HomesAreLow}
+use Rattle.fkv_world_latch.proofs.SessionLatches.{SittingKnows, begun_led}
+use Rattle.fkv_world_latch.proofs.Seats.{Stands, Sits, set_same, task_begins}
+use Rattle.fkv_world_latch.proofs.Moved.{runs_on, spared_run, asked_run, moves_on}
 
 -- a session with its actor
 pub record Seated (n : Now) (w : LatchWorld) (i : ℕ) (s : SessionState) : Type 0 where
@@ -173,7 +170,7 @@ moved_holds n w i (Some s) there fair holds =
     runs_on w (begun_at i (session_latching after.machine)) (asked_by n.words i (session_latching s) ask) ∙ ap (λ (x : LatchWorld). latch_run x (begun_at i (session_latching after.machine))) main in
     let its : latch_run w (moved_events n i (Some s)) ≡ record w { words = after.words; actors = slice_set w.actors i begun.actor } =
     whole ∙ begun.same ∙ ap (λ (x : List LatchActor). record w { words = words_after n.words ask; actors = x }) (set_twice w.actors i (replied seat.actor (reply_to n.words ask)) begun.actor)
-        ∙ ap (λ (x : List ℕ). record w { words = x; actors = slice_set w.actors i begun.actor }) (sym moved.words) in
+    ∙ ap (λ (x : List ℕ). record w { words = x; actors = slice_set w.actors i begun.actor }) (sym moved.words) in
     session_put n w i s after seat.actor begun.actor _ holds there seat.got its (run_sound w (moved_events n i (Some s)) holds.sound) begun.sits
 
 -- the keeper's step changes no word but that of its ask

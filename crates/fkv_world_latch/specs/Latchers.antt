@@ -1,5 +1,5 @@
 -- The machine with which a session works on a latch, and what it holds alone, by its control state.
-use Rattle.std.specs.Prelude.{◌≡◌, ℕ, Bool, if◌then◌else◌, List, [], ◌∷◌}
+use Rattle.std.specs.Prelude.{ℕ, Bool, if◌then◌else◌, List, [], ◌∷◌}
 use Rattle.fkv_plane.specs.declared.places.Places.{Places}
 use Rattle.fkv_plane.specs.Places.{bucket_place}
 use Rattle.fkv_latch.specs.declared.latching.Latching.{Latching}

@@ -1,12 +1,12 @@
 -- How the world of latches shows the engine's, and what a step of the engine owes for that.
-use Rattle.std.specs.Prelude.{◌≡◌, ℕ, ◌^◌, ◌≤◌, Bool, true, false, List, [], ◌∷◌, length, slice_get, Option, Some, None, ⊤}
+use Rattle.std.specs.Prelude.{◌≡◌, ℕ, ◌^◌, ◌<◌, ◌≤◌, true, false, List, [], ◌∷◌, length, slice_get, Option, Some, None, ⊤}
 use Rattle.fkv_base.specs.Limits.{max_sessions}
 use Rattle.fkv_plane.specs.declared.asks.Ask.{Ask}
 use Rattle.fkv_plane.specs.declared.asks.Ask.TheVariants.{Add}
 use Rattle.fkv_plane.specs.declared.places.Places.{Places}
 use Rattle.fkv_plane.specs.Asked.{asked, asked_place, word_at}
 use Rattle.fkv_latch.specs.declared.latching.Latching.TheVariants.{AtRest}
-use Rattle.fkv_latch.specs.LatchWorld.{LatchActor, LatchWorld, has_latch, latch_of, times}
+use Rattle.fkv_latch.specs.LatchWorld.{LatchActor, LatchWorld, has_latch, latch_of, times, latch_run}
 use Rattle.fkv_latch.specs.Latched as latches
 use Rattle.fkv_keeper.specs.Keeping.{keeper_ask}
 use Rattle.fkv_session.specs.Sessions as sessions
@@ -15,6 +15,7 @@ use Rattle.fkv_session.specs.Shares.{sharing}
 use Rattle.fkv_world.specs.World.{Event, Moves, KeeperMoves, Now, seat_at}
 use Rattle.fkv_world.specs.Runs.{World, run}
 use Rattle.fkv_world_latch.specs.Latchers.{session_latching, session_alone}
+use Rattle.fkv_world_latch.specs.LatchEvents.{mapped}
 
 -- the word at this place, where it has a latch, keeps the latch's bits
 abbrev pub KeepsLatch : Places → List ℕ → Option ℕ → (ℕ → ℕ) → Type 0
@@ -65,3 +66,12 @@ pub record Shows (n : Now) (w : LatchWorld) : Type 0 where
   pub places : w.places ≡ n.places
   pub words : w.words ≡ n.words
   pub actors : (session : ℕ) (s : SessionState) → slice_get n.sessions session ≡ Some s → HasActor n w session s
+
+-- A latch that a session holds alone no other session holds alone, and no request shares it that waits with a session between its calls.
+pub record AreApart (n : Now) : Type 0 where
+  pub one_holder : (place i j : ℕ) (s t : SessionState) → slice_get n.sessions i ≡ Some s → slice_get n.sessions j ≡ Some t → 0 < times place (session_alone n.places s) → 0 < times place (session_alone n.places t) → i ≡ j
+  pub from_shared : (place i j : ℕ) (s t : SessionState) → slice_get n.sessions i ≡ Some s → slice_get n.sessions j ≡ Some t → 0 < times place (session_alone n.places s) → is_busy t.step ≡ false → sharing (seat_at n j) place t.requests ≡ 0
+
+-- what the latches see of a life: a run of theirs, from where all rest and hold nothing
+abbrev pub seen_by_latches : World → List Event → LatchWorld
+seen_by_latches opening events = latch_run (latches.opening opening.now.places (length opening.now.sessions) opening.now.words) (mapped opening events)
