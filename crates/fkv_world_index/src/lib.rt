@@ -1,0 +1,2 @@
+//! The engine's world as the index sees it: each of its events is a list of events of the world of the index.
+#![tactic(auto)]
