@@ -1,6 +1,6 @@
 -- How one reply to a try moves its search.
 use Rattle.std.proofs.Common.{◌≡◌, ℕ, ◌<◌, ◌∙◌, refl, sym, ap, subst, Bool, true, false}
-use Rattle.std.specs.Prelude.{if◌then◌else◌, ◌==◌, ◌&&◌, not, nat_le, nat_lt, ◌-◌, ⊤, Option, Some, None}
+use Rattle.std.specs.Prelude.{if◌then◌else◌, ◌==◌, ◌&&◌, not, nat_le, nat_lt, ◌-◌, Option, Some, None}
 use Rattle.fkv_base.specs.declared.numbers.Addr.{Addr}
 use Rattle.fkv_base.specs.declared.numbers.Key.{Key}
 use Rattle.fkv_base.specs.declared.numbers.Version.{Version}
@@ -10,8 +10,7 @@ use Rattle.fkv_map.specs.Keys.{key_of, reply_from}
 use Rattle.fkv_plane.specs.declared.asks.Ask.{Ask}
 use Rattle.fkv_plane.specs.declared.asks.Ask.TheVariants.{Load, Store, Swap, Cas, Add, Max, Put, Take, Done}
 use Rattle.fkv_plane.specs.declared.places.Places.{Places}
-use Rattle.fkv_plane.specs.Passing.{passed, is_done}
-use Rattle.fkv_plane.proofs.Shown.{passed_done}
+use Rattle.fkv_plane.specs.Passing.{is_done}
 use Rattle.fkv_log.specs.declared.loading.LoadAnswer.{LoadAnswer}
 use Rattle.fkv_log.specs.declared.loading.LoadAnswer.TheVariants as load
 use Rattle.fkv_log.specs.declared.loading.Loading.TheVariants as loading
@@ -27,7 +26,7 @@ use Rattle.fkv_index.specs.Slots.{entry_addr, home_of}
 use Rattle.fkv_latch.specs.declared.latching.LatchAnswer.{LatchAnswer}
 use Rattle.fkv_latch.specs.declared.latching.LatchAnswer.TheVariants.{Taken, Busy, Dropped}
 use Rattle.fkv_latch.specs.declared.latching.LatchTask.TheVariants.{TakeShared, DropShared, TakeExclusive, DropExclusive}
-use Rattle.fkv_latch.specs.Latching.{latch_next, latch_next_ask}
+use Rattle.fkv_latch.specs.Latching.{latch_next_ask}
 use Rattle.fkv_ops.specs.declared.answers.Reason.TheVariants as reason
 use Rattle.fkv_ops.specs.declared.answers.TryAnswer.{TryAnswer}
 use Rattle.fkv_ops.specs.declared.answers.TryAnswer.TheVariants as answer
@@ -50,9 +49,10 @@ use Rattle.fkv_ops.specs.declared.walking.Walking.TheVariants as walking
 use Rattle.fkv_ops.specs.HeaderWords.{header_said}
 use Rattle.fkv_ops.specs.Values.{value_of}
 use Rattle.fkv_ops.specs.Requests.{is_read, is_blind, purpose_of}
-use Rattle.fkv_ops.specs.Walking.{WalkState, walking_ask, walk_ask, walking_next, walk_next, walk_on, walk_ended, reached, slot_found, find_ledto, first_met, record_met, load_ledto, value_ledto}
+use Rattle.fkv_ops.specs.Walking.{WalkState, walk_ask, walking_next, walk_next, walk_on, walk_ended, reached, slot_found, find_ledto, first_met, record_met, load_ledto, value_ledto}
 use Rattle.fkv_ops.specs.Appending.{append_ask, append_next}
 use Rattle.fkv_ops.specs.Trying.{TryState, with_latch, is_wait, ended_without, ends, takes_effect, walks, wants_shared, try_begun, shared_ledto, must_shift, wants_exclusive, appends, copies_from, copies, awaits, held_used, met_nowhere, met_disk, changes, is_own_version, region_met, met_record, walked, has_walked, walk_ledto, safe_loaded, current_ledto, value_changed, told_value, answer_ledto, exclusive_ledto, old_ledto, append_ledto, exclusive_dropped, shared_dropped, latch_moved, trying_next, try_next}
+use Rattle.fkv_ops.proofs.Shown.{is_walk_end, WalkRestsOrAsks, walk_done, walk_rests, TryRestsOrAsks}
 use Rattle.fkv_world_index.specs.Finders.{Search, walk_search, try_search}
 use Rattle.fkv_world_index.specs.Searching.{HasEnded, SearchMoves, GoesOn, Rests, Begins}
 
@@ -244,6 +244,10 @@ pub record TryMoves (p : Places) (reply : ℕ) (before : Option Search) (t : Try
 quietly : (p : Places) (reply : ℕ) (before : Option Search) (home : Home) (t : TryState) → home.bucket < p.buckets → HasEnded p reply before → IsQuiet home t → TryMoves p reply before t
 quietly p reply before home t low ended quiet = record { low = subst (λ (x : Home). x.bucket < p.buckets) (sym quiet.0) low; moves = Rests ended quiet.1 }
 
+either_moves : (c : Bool) (p : Places) (reply : ℕ) (before : Option Search) (a b : TryState) → TryMoves p reply before a → TryMoves p reply before b → TryMoves p reply before (if c then a else b)
+either_moves true p reply before a b one other = one
+either_moves false p reply before a b one other = other
+
 walks_begin : (p : Places) (reply : ℕ) (t : TryState) → t.home.bucket < p.buckets → TryMoves p reply None (walks p t)
 walks_begin p reply t low = record { low = low; moves = Begins t.home (purpose_of t.request.op) t.spare tt low refl }
 
@@ -259,3 +263,56 @@ unfolding walk_ledto
 walk_done_moves p reply before t its low ended =
     let after : TryState = record t { spare = t.walk.spare } in
     quietly p reply before t.home _ low ended (either_none (has_walked its && must_shift after) (ends p after answer.Shift) (walked p after its) (ends_none p after answer.Shift) (walked_none p after its))
+
+end_searches_none : (t : TryState) (w : WalkState) (step : Walking) → is_walk_end step ≡ true → walk_search (record t { walk = w }) step ≡ None
+end_searches_none t w (walking.Ended its) e = refl
+end_searches_none t w (walking.HasFound addr version) e = refl
+end_searches_none t w step e = cc
+
+no_some : {X : Type 0} (after : Option Search) (its : Search) → after ≡ None → after ≡ Some its → X
+no_some after its none some = cc
+
+-- where none is under way behind a reply, the one before has ended
+pub ended_then : (p : Places) (reply : ℕ) (before after : Option Search) → after ≡ None → SearchMoves p reply before after → HasEnded p reply before
+ended_then p reply before after none (GoesOn its was more goes) = no_some after _ none goes
+ended_then p reply before after none (Rests ended rests) = ended
+ended_then p reply before after none (Begins home purpose spare ended low begun) = no_some after _ none begun
+
+walk_led_moves : (p : Places) (reply : ℕ) (before : Option Search) (t : TryState) (ask : Ask WalkAnswer) → t.step ≡ Walks → walk_ask p t.walk ≡ ask → WalkRestsOrAsks t.walk → t.home.bucket < p.buckets → SearchMoves p reply before (walk_search t t.walk.step)
+    → TryMoves p reply before (walk_ledto p t ask)
+unfolding walk_ledto
+walk_led_moves p reply before t (Done its) at asks rests low moves =
+    let ends : is_walk_end t.walk.step ≡ true = sym (walk_done p t.walk rests) ∙ ap is_done asks in
+    walk_done_moves p reply before t its low (ended_then p reply before (walk_search t t.walk.step) (end_searches_none t t.walk t.walk.step ends) moves)
+walk_led_moves p reply before t ask at asks rests low moves = record { low = low; moves = subst (λ (y : Trying). SearchMoves p reply before (try_search t y)) (sym at) moves }
+
+step_moves : (p : Places) (room : ℕ) (t : TryState) (step : Trying) (reply : ℕ) → t.step ≡ step → t.home.bucket < p.buckets → (step ≡ Walks → WalkRestsOrAsks t.walk) → TryMoves p reply (try_search t step) (trying_next p room (record t { effect = None }) step reply)
+unfolding trying_next
+step_moves p room t (Ended its) reply at low asks = quietly p reply None t.home _ low tt (kept (record t { effect = None }) (Ended its) at refl)
+step_moves p room t TakesShared reply at low asks = shared_moves p reply (latch_moved (record t { effect = None }) reply) (latch_next_ask t.latching reply) at low
+step_moves p room t Walks reply at low asks =
+    walk_led_moves p reply (walk_search t t.walk.step) (record t { effect = None; walk = walk_next p t.walk reply }) (walk_ask p (walk_next p t.walk reply)) at refl (walk_rests p t.walk reply (asks refl)) low (walk_moves p t t.walk t.walk.step reply refl)
+step_moves p room t (LoadsSafe addr version) reply at low asks = quietly p reply None t.home _ low tt (safe_none p (record t { effect = None }) addr version reply)
+step_moves p room t (SwapsValue addr) reply at low asks = quietly p reply None t.home _ low tt (ends_none p (record t { effect = Some (reply_from None t.request.op) }) _)
+step_moves p room t (LoadsCurrent addr) reply at low asks = quietly p reply None t.home _ low tt (current_none p (record t { effect = None; walk = walk_next p t.walk reply }) addr (walk_ask p (walk_next p t.walk reply)) at)
+step_moves p room t (ChangesValue addr old) reply at low asks = quietly p reply None t.home _ low tt (value_none p (record t { effect = None }) old reply)
+step_moves p room t LoadsAnswer reply at low asks = quietly p reply None t.home _ low tt (answer_none p (record t { effect = None; walk = walk_next p t.walk reply }) (walk_ask p (walk_next p t.walk reply)) at)
+step_moves p room t (TakesExclusive old) reply at low asks = quietly p reply None t.home _ low tt (alone_none p (latch_moved (record t { effect = None }) reply) old (latch_next_ask t.latching reply) at)
+step_moves p room t LoadsOld reply at low asks = quietly p reply None t.home _ low tt (old_none p (record t { effect = None; walk = walk_next p t.walk reply }) (walk_ask p (walk_next p t.walk reply)) at)
+step_moves p room t (Appends its) reply at low asks =
+    quietly p reply None t.home _ low tt (append_none p (record t { effect = None; append = append_next p room t.append reply }) its (append_ask p (append_next p room t.append reply)) at)
+step_moves p room t (DropsExclusive its) reply at low asks = quietly p reply None t.home _ low tt (dropped_none p (latch_moved (record t { effect = None }) reply) its (latch_next_ask t.latching reply) at)
+step_moves p room t (DropsShared its) reply at low asks = quietly p reply None t.home _ low tt (unshared_none (latch_moved (record t { effect = None }) reply) its (latch_next_ask t.latching reply) at)
+
+-- each reply
+pub try_moves : (p : Places) (room : ℕ) (t : TryState) (reply : ℕ) → t.home.bucket < p.buckets → TryRestsOrAsks t → TryMoves p reply (try_search t t.step) (try_next p room t reply)
+try_moves p room t reply low asks = step_moves p room t t.step reply refl low (λ at. under_way at)
+  where
+    under_way : t.step ≡ Walks → WalkRestsOrAsks t.walk
+    under_way at = (subst (λ (x : Trying). TryRestsOrAsks (record t { step = x })) at asks).asks
+
+-- how a try begins
+pub begun_moves : (p : Places) (bits reply : ℕ) (t : TryState) (request : Request) (seen : Seen) (occasion : Occasion) (spare : ℕ) → (home_of bits (key_of request.op)).bucket < p.buckets → TryMoves p reply None (try_begun p bits t request seen occasion spare)
+begun_moves p bits reply t request seen occasion spare low =
+    let its : TryState = record t { request = request; seen = seen; occasion = occasion; home = home_of bits (key_of request.op); has_shared = request.has_latch; has_exclusive = false; effect = None; spare = spare } in
+    either_moves (wants_shared its) p reply None (with_latch p its TakeShared TakesShared) (walks p its) (record { low = low; moves = Rests tt refl }) (walks_begin p reply its low)

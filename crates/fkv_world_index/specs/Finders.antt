@@ -8,7 +8,6 @@ use Rattle.fkv_ops.specs.declared.trying.Trying.{Trying}
 use Rattle.fkv_ops.specs.declared.trying.Trying.TheVariants.{Walks, Appends}
 use Rattle.fkv_ops.specs.declared.walking.Walking.{Walking}
 use Rattle.fkv_ops.specs.declared.walking.Walking.TheVariants.{Finds}
-use Rattle.fkv_ops.specs.Appending.{AppendState}
 use Rattle.fkv_ops.specs.Requests.{purpose_of}
 use Rattle.fkv_ops.specs.Trying.{TryState}
 use Rattle.fkv_pending.specs.declared.attempting.Attempting.{Attempting}
