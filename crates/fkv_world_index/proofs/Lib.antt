@@ -1,0 +1,4 @@
+mod AttemptSearches
+mod SessionSearches
+pub mod Shown
+mod TrySearches

@@ -1,0 +1,3 @@
+pub mod Finders
+pub mod IndexEvents
+pub mod Searching

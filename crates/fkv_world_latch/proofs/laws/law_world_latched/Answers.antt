@@ -1,0 +1,26 @@
+-- The law, by what stands between events.
+use Rattle.std.proofs.Common.{length}
+use Rattle.fkv_latch.specs.Latched.{opening}
+use Rattle.fkv_latch.proofs.Shown.{run_sound, opening_sound, sound_apart, sound_counted}
+use Rattle.fkv_world.specs.Runs.{run}
+use Rattle.fkv_world_latch.specs.LatchEvents.{mapped}
+use Rattle.fkv_world_latch.specs.Shows.{seen_by_latches}
+use Rattle.fkv_world_latch.proofs.Apart.{holds_shows, holds_apart}
+use Rattle.fkv_world_latch.proofs.Worlds.{opening_holds, run_holds}
+use Rattle.fkv_world_latch.proofs.laws.law_world_latched.Goals as goal
+
+pub returns-clause-shows : goal.returns-clause-shows
+returns-clause-shows c = λ first events opened fair.
+    holds_shows (run first events).now (seen_by_latches first events) (run_holds first events (opening first.now.places (length first.now.sessions) first.now.words) fair (opening_holds first.now opened))
+
+pub returns-clause-apart : goal.returns-clause-apart
+returns-clause-apart c = λ first events opened fair.
+    holds_apart (run first events).now (seen_by_latches first events) (run_holds first events (opening first.now.places (length first.now.sessions) first.now.words) fair (opening_holds first.now opened))
+
+pub returns-clause-latched : goal.returns-clause-latched
+returns-clause-latched c = λ first events opened.
+    sound_apart (seen_by_latches first events) (run_sound (opening first.now.places (length first.now.sessions) first.now.words) (mapped first events) (opening_sound first.now.places (length first.now.sessions) first.now.words opened.latches))
+
+pub returns-clause-counted : goal.returns-clause-counted
+returns-clause-counted c = λ first events opened.
+    sound_counted (seen_by_latches first events) (run_sound (opening first.now.places (length first.now.sessions) first.now.words) (mapped first events) (opening_sound first.now.places (length first.now.sessions) first.now.words opened.latches))

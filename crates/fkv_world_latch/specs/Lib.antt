@@ -1,0 +1,3 @@
+pub mod Latchers
+pub mod LatchEvents
+pub mod Shows
