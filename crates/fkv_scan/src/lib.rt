@@ -1,0 +1,14 @@
+//! Recovery's scan: the records that no checkpoint knows of, upwards from one address to the end of the log.
+#![tactic(auto)]
+
+mod home_scans;
+mod homes;
+mod readings;
+mod scans;
+mod steps;
+
+pub use home_scans::HomeScan;
+pub use scans::{Scanned, scan};
+
+#[cfg(test)]
+mod tests;

@@ -1,0 +1,7 @@
+use crate::scan;
+use std::test::Fail;
+
+#[test]
+fn nothing(rt: HostRuntime) -> Result<(), Fail> {
+    Ok(())
+}
