@@ -2,6 +2,7 @@ mod Greatest
 mod Keys
 mod Knowing
 mod Meeting
+mod Meets
 mod Quieter
 mod Standing
 mod Taking

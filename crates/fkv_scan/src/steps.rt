@@ -136,6 +136,8 @@ pub(crate) fn meet<D: Device>(
     if found.header.invalid {
         return Ok(false);
     }
-    take_in(d, shape, slot, homes, addr, &found)?;
+    if let Err(fault) = take_in(d, shape, slot, homes, addr, &found) {
+        return Err(fault);
+    }
     Ok(found.header.version.0 > slot.number)
 }
