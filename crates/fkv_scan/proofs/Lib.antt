@@ -1,6 +1,7 @@
 mod Greatest
 mod Keys
 mod Knowing
+mod Looping
 mod Meeting
 mod Meets
 mod Quieter

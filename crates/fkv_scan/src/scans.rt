@@ -67,8 +67,9 @@ fn meet_all<D: Device>(
 {
     let mut newer = false;
     for addr in slot.first.0..slot.end.0 {
-        if meet(d, shape, slot, homes, Addr(addr))? {
-            newer = true;
+        match meet(d, shape, slot, homes, Addr(addr)) {
+            Ok(is_newer) => newer = newer || is_newer,
+            Err(fault) => return Err(fault),
         }
     }
     Ok(newer)
@@ -87,10 +88,11 @@ fn check_led<D: Device>(
 {
     for i in 0..triples.len() {
         let triple = triples[i];
-        if slot.first.0 <= triple.addr.0
-            && !stands(d, shape, triple.addr, triple_home(&triple))?
-        {
-            return Err(Fault::Damaged(Damage::Link, triple.addr.0));
+        if slot.first.0 <= triple.addr.0 {
+            let there = stands(d, shape, triple.addr, triple_home(&triple))?;
+            if !there {
+                return Err(Fault::Damaged(Damage::Link, triple.addr.0));
+            }
         }
     }
     Ok(())
