@@ -1,6 +1,8 @@
+mod Ending
 mod Greatest
 mod Keys
 mod Knowing
+mod Leading
 mod Looping
 mod Meeting
 mod Meets

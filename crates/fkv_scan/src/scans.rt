@@ -1,10 +1,10 @@
 //! The whole scan.
-ghost use Rattle.std.specs.Prelude.{◌≡◌, ℕ, ◌≤◌, ◌<◌, ◌^◌, IfOk, OnOk, IfErr, OnErr, Err, List, length};
+ghost use Rattle.std.specs.Prelude.{◌≡◌, ℕ, ◌≤◌, ◌<◌, ◌^◌, IfOk, OnOk, IfErr, OnErr, Err, List, length, true, ◌↔◌};
 ghost use Rattle.fkv_base.specs.declared.faults.Fault.TheVariants.{Memory};
 ghost use Rattle.fkv_base.specs.declared.shapes.Shape.{Shape};
 ghost use Rattle.fkv_record.specs.declared.manifest_slots.ManifestSlot.{ManifestSlot};
 ghost use Rattle.fkv_record.specs.declared.triples.Triple.{Triple};
-ghost use Rattle.fkv_scan.specs.Scan.{IsScannedTo, AreLed};
+ghost use Rattle.fkv_scan.specs.Scan.{IsScannedTo, IsLed, AreLed};
 ghost use Rattle.std.specs.Ordering.{nat_cmp};
 ghost use Rattle.std.specs.BTreeMap.{get};
 ghost use Rattle.fkv_base.specs.Limits.{last_version};
@@ -75,6 +75,24 @@ fn meet_all<D: Device>(
     Ok(newer)
 }
 
+/// Whether a triple that leads into the scan leads to a valid record of its home.
+fn is_led<D: Device>(
+    d: &mut D,
+    shape: Shape,
+    slot: &ManifestSlot,
+    triple: &Triple,
+) -> Result<bool, Fault>
+    ensures ok { D.honest d.old → IfOk result (λ led. (triples : List Triple) → (led ≡ true) ↔ IsLed (log_in (D.seen d.old) shape slot.now triples) triple.now) }
+    ensures err { IfErr result (IsHindrance (D.failed d.old) (D.failed d.new)) }
+    ensures quiet { IsQuiet D.honest D.seen D.may_leave D.moment D.left_since D.failed d.old d.new }
+{
+    if triple.addr.0 < slot.first.0 {
+        return Ok(true);
+    }
+    let there = stands(d, shape, triple.addr, triple_home(triple))?;
+    Ok(there)
+}
+
 /// Tests each triple that leads into the scan.
 fn check_led<D: Device>(
     d: &mut D,
@@ -88,11 +106,9 @@ fn check_led<D: Device>(
 {
     for i in 0..triples.len() {
         let triple = triples[i];
-        if slot.first.0 <= triple.addr.0 {
-            let there = stands(d, shape, triple.addr, triple_home(&triple))?;
-            if !there {
-                return Err(Fault::Damaged(Damage::Link, triple.addr.0));
-            }
+        let led = is_led(d, shape, slot, &triple)?;
+        if !led {
+            return Err(Fault::Damaged(Damage::Link, triple.addr.0));
         }
     }
     Ok(())
@@ -115,7 +131,12 @@ pub fn scan<D: Device>(
     ensures quiet { IsQuiet D.honest D.seen D.may_leave D.moment D.left_since D.failed d.old d.new }
 {
     let mut homes = led_homes(alloc, triples, slot.first)?;
-    let newer = meet_all(d, shape, slot, &mut homes)?;
-    check_led(d, shape, slot, triples)?;
+    let newer = match meet_all(d, shape, slot, &mut homes) {
+        Ok(newer) => newer,
+        Err(fault) => return Err(fault),
+    };
+    if let Err(fault) = check_led(d, shape, slot, triples) {
+        return Err(fault);
+    }
     Ok(Scanned { homes, newer })
 }
