@@ -57,3 +57,7 @@ HasNoTriple log its_home = (addr : ℕ) → HasTriple log its_home addr → ⊥
 -- no home has two triples
 abbrev pub AreApart : List Triple → Type 0
 AreApart triples = (i j : ℕ) (x y : Triple) → slice_get triples i ≡ Some x → slice_get triples j ≡ Some y → triple_home x ≡ triple_home y → i ≡ j
+
+-- all triples lead below the log's end
+abbrev pub AreBelow : ℕ → List Triple → Type 0
+AreBelow tail triples = (i : ℕ) (x : Triple) → slice_get triples i ≡ Some x → x.addr.0 < tail

@@ -8,7 +8,7 @@ ghost use Rattle.fkv_scan.specs.Scan.{IsScannedTo, IsLed, AreLed};
 ghost use Rattle.std.specs.Ordering.{nat_cmp};
 ghost use Rattle.std.specs.BTreeMap.{get};
 ghost use Rattle.fkv_base.specs.Limits.{last_version};
-ghost use Rattle.fkv_scan.specs.Log.{log_in, AreApart};
+ghost use Rattle.fkv_scan.specs.Log.{log_in, AreApart, AreBelow};
 ghost use Rattle.fkv_scan.specs.Scanned.{AreScanned, TellsNewer};
 ghost use Rattle.fkv_scan.specs.Known.{KnowsAll};
 ghost use Rattle.fkv_scan.specs.Quiet.{IsQuiet, IsHindrance};
@@ -123,6 +123,7 @@ pub fn scan<D: Device>(
     triples: &[Triple],
 ) -> Result<Scanned, Fault>
     requires apart { AreApart triples.now }
+    requires in_log { AreBelow slot.now.end.0 triples.now }
     requires upwards { slot.now.first.0 ≤ slot.now.end.0 }
     requires short { slot.now.end.0 < 2 ^ 48 }
     requires few { slot.now.number < last_version }
