@@ -55,7 +55,7 @@ module _ (P : ℕ → Record → Type 0) where
   pub greatest_same : (from a b c : ℕ) → IsGreatest P from a b → IsGreatest P from a c → b ≡ c
   greatest_same from a b c first second =
       ⊎_elim (λ less. absurd (not_above from a b c first second less))
-          (λ more. ⊎_elim (λ greater. absurd (not_above from a c b second first greater)) (λ no_more. omega (arith, more, no_more)) (below_or_not c b)) (below_or_not b c)
+      (λ more. ⊎_elim (λ greater. absurd (not_above from a c b second first greater)) (λ no_more. omega (arith, more, no_more)) (below_or_not c b)) (below_or_not b c)
 
   pub greatest_is_some : (from a b : ℕ) → IsGreatest P from a b → HasNone P from a → ⊥
   greatest_is_some from a b greatest none = none b greatest.here.0 greatest.from_on greatest.below greatest.here.1

@@ -74,15 +74,18 @@ module _ (log : Log) (addr : Addr) (x : Record) (from : log.start ≤ addr.0) (f
         (λ y counted. lost_too (some_lost true lost refl) y counted.kept.here.stands counted.kept.not_lost)
     newest_met false true lost new = known_more (IsCounted log its_home) log.start a s.newest knows.newest
         (λ y counted.
-            let old = counted.old_enough in
-            let version : y.header.version.0 ≡ x.header.version.0 = ap (λ r. r.header.version.0) (alone y counted.kept.here.stands) in
-            let e : nat_lt log.version x.header.version.0 ≡ true = sym new in
-            let above : log.version < x.header.version.0 = grind (arith, nat_tests, e) in
-            omega (arith, old, version, above))
-    newest_met false false lost new = greatest_here (IsCounted log its_home) log.start a from (x, record {
-      kept = record { here = here; not_lost = none_lost false lost refl };
-      old_enough = (let e : nat_lt log.version x.header.version.0 ≡ false = sym new in grind (arith, nat_tests, e));
-    })
+        let old = counted.old_enough in
+        let version : y.header.version.0 ≡ x.header.version.0 = ap (λ r. r.header.version.0) (alone y counted.kept.here.stands) in
+        let e : nat_lt log.version x.header.version.0 ≡ true = sym new in
+        let above : log.version < x.header.version.0 = grind (arith, nat_tests, e) in
+        omega (arith, old, version, above))
+    newest_met false false lost new = greatest_here (IsCounted log its_home) log.start a from (
+      x,
+      record {
+        kept = record { here = here; not_lost = none_lost false lost refl };
+        old_enough = (let e : nat_lt log.version x.header.version.0 ≡ false = sym new in grind (arith, nat_tests, e));
+      },
+    )
 
     last_met : (is_lost : Bool) → is_lost ≡ nat_lt 0 (losses log.lost a x) → IsGreatestOf (IsKept log its_home) log.start (a + 1) (if is_lost then s.last else Some addr)
     last_met true lost = known_more (IsKept log its_home) log.start a s.last knows.last (λ y kept. lost_too (some_lost true lost refl) y kept.here.stands kept.not_lost)
@@ -141,11 +144,11 @@ module _ (log : Log) (addr : Addr) (x : Record) (from : log.start ≤ addr.0) (f
   of_key at next s q true same all known is = subst (λ o. KnowsOf log q (a + 1) o) (sym is) (subst (λ h. Knows log h (a + 1) s) (is_same its_home q same) known)
   of_key at next s q false same all known is = subst (λ o. KnowsOf log q (a + 1) o) (sym is) (knows_more log q a (at q) (all q)
       (elsewhere q (λ equal. (let yes_it_is : is_eq (nat_cmp its_home q) ≡ true = ap (λ n. is_eq (nat_cmp its_home n)) (sym equal) ∙ at_itself its_home in
-          let never : true ≡ false = sym yes_it_is ∙ same in absurd (cc)))))
+      let never : true ≡ false = sym yes_it_is ∙ same in absurd (cc)))))
 
   -- all homes, once the record's own is put in
   pub all_met : (at next : ℕ → Option HomeScan) (is_lost : Bool) → is_lost ≡ nat_lt 0 (losses log.lost a x) → KnowsAll log a at
       → ((q : ℕ) → next q ≡ cond (is_eq (nat_cmp its_home q)) (Some (met (known_or (at its_home)) addr x is_lost log.start log.version)) (at q)) → KnowsAll log (a + 1) next
   all_met at next is_lost lost all updates q =
       of_key at next (met (known_or (at its_home)) addr x is_lost log.start log.version) q (is_eq (nat_cmp its_home q)) refl all
-          (knows_met (known_or (at its_home)) (knows_or log its_home a (at its_home) (all its_home)) is_lost lost) (updates q)
+      (knows_met (known_or (at its_home)) (knows_or log its_home a (at its_home) (all its_home)) is_lost lost) (updates q)

@@ -51,8 +51,8 @@ led_next triples start n at next triple h new so_far stands home_is new_is updat
   all = λ j other below its. ⊎_elim
       (λ less. ap is_some (updates (triple_home other)) ∙ kept_some h (triple_home other) new (at (triple_home other)) (so_far.all j other less its))
       (λ same.
-          (let equal : triple ≡ other = some_is triple other (sym stands ∙ ap (λ k. slice_get triples k) (sym same) ∙ its) in
-          ap is_some (updates (triple_home other)) ∙ new_some h (triple_home other) new (at (triple_home other)) (home_is ∙ ap triple_home equal)))
+      (let equal : triple ≡ other = some_is triple other (sym stands ∙ ap (λ k. slice_get triples k) (sym same) ∙ its) in
+      ap is_some (updates (triple_home other)) ∙ new_some h (triple_home other) new (at (triple_home other)) (home_is ∙ ap triple_home equal)))
       (at_or_below j n below);
 }
 
@@ -86,7 +86,7 @@ module _ (log : Log) (apart : AreApart log.triples) where
     way_led false is = (
       λ q goes. ⊎_elim
           (λ t. (let equal = alone q t.0 in let small = t.1 in let e : nat_lt triple.addr.0 log.start ≡ false = sym is in
-              let large : log.start ≤ triple.addr.0 = grind (arith, nat_tests, e) in omega (arith, equal, small, large)))
+          let large : log.start ≤ triple.addr.0 = grind (arith, nat_tests, e) in omega (arith, equal, small, large)))
           (λ none. none.0 triple.addr.0 its) (nothing_met its_home q goes),
       none_at_start (IsValid log its_home) log.start,
     )
@@ -118,4 +118,4 @@ module _ (log : Log) (apart : AreApart log.triples) where
 pub led_to_more : (log : Log) (n : ℕ) (triple : Triple) → AreLed log n → slice_get log.triples n ≡ Some triple → IsLed log triple → AreLed log (n + 1)
 led_to_more log n triple before stands here i other below its =
     ⊎_elim (λ less. before i other less its)
-        (λ same. (let equal : triple ≡ other = some_is triple other (sym stands ∙ ap (λ k. slice_get log.triples k) (sym same) ∙ its) in subst (λ t. IsLed log t) equal here)) (at_or_below i n below)
+    (λ same. (let equal : triple ≡ other = some_is triple other (sym stands ∙ ap (λ k. slice_get log.triples k) (sym same) ∙ its) in subst (λ t. IsLed log t) equal here)) (at_or_below i n below)

@@ -86,8 +86,12 @@ module _ (log : Log) (a : ℕ) (x : Record) where
   next_is_not : (o : Option Addr) (version : ℕ) → IsGreatestOf (IsKept log its_home) log.start a o → is_next o version x ≡ false
       → HasNone (IsKept log its_home) log.start a ⊎ ((b : Addr) × (o ≡ Some b) × IsGreatest (IsKept log its_home) log.start a b.0 × ((previous ≢ b.0) ⊎ (x.header.version.0 < version)))
   next_is_not None version last is = inl last
-  next_is_not (Some b) version last is = inr (b, refl, last,
-      ⊎_elim (λ off. inl (λ same. other_of b.0 previous off (sym same))) (λ newer. inr (above_of version x.header.version.0 newer)) (not_both (b.0 == previous) (nat_le version x.header.version.0) is))
+  next_is_not (Some b) version last is = inr (
+    b,
+    refl,
+    last,
+    ⊎_elim (λ off. inl (λ same. other_of b.0 previous off (sym same))) (λ newer. inr (above_of version x.header.version.0 newer)) (not_both (b.0 == previous) (nat_le version x.header.version.0) is),
+  )
 
   module _ (s : HomeScan) (leads : Bool) (knows : Knows log its_home a s) where
     -- below the start
@@ -119,11 +123,13 @@ module _ (log : Log) (a : ℕ) (x : Record) where
         let is = next_is s.last s.last_version.0 knows.last next in
         record {
           nearest = λ kept b greatest.
-              let same = greatest_same (IsKept log its_home) log.start a previous b is.0 greatest in
-              (same, λ y stands.
-                  let known = knows.version x.header.previous y is.1 (subst (λ n. Stands log n y) (sym same) stands) in
-                  let most = is.2 in
-                  omega (arith, known, most));
+              let same = greatest_same (IsKept log its_home) log.start a previous b is.0 greatest in (
+                same,
+                λ y stands.
+                    let known = knows.version x.header.previous y is.1 (subst (λ n. Stands log n y) (sym same) stands) in
+                    let most = is.2 in
+                    omega (arith, known, most),
+              );
           first = λ kept none. absurd (greatest_is_some (IsKept log its_home) log.start a previous is.0 none);
           lost = λ is_lost. absurd (is_lost not_lost);
           below = λ small. absurd (omega (arith, small, high));
@@ -133,7 +139,7 @@ module _ (log : Log) (a : ℕ) (x : Record) where
     off_below : (is_lost : Bool) → is_lost ≡ nat_lt 0 (losses log.lost a x) → previous < log.start → (is_way s.below previous && (is_lost || is_first s.last)) ≡ false → IsLinked log a x → ⊥
     off_below is_lost lost low off linked =
         ⊎_elim (λ way. way_is_not s.below knows.below way (λ q goes. linked.below low q goes))
-            (λ last. off_last is_lost lost last) (not_both (is_way s.below previous) (is_lost || is_first s.last) off)
+        (λ last. off_last is_lost lost last) (not_both (is_way s.below previous) (is_lost || is_first s.last) off)
       where
         off_last : (is_lost : Bool) → is_lost ≡ nat_lt 0 (losses log.lost a x) → (is_lost || is_first s.last) ≡ false → ⊥
         off_last true lost last = absurd (cc)
@@ -148,12 +154,12 @@ module _ (log : Log) (a : ℕ) (x : Record) where
     off_within : losses log.lost a x ≡ 0 → log.start ≤ previous → is_next s.last s.last_version.0 x ≡ false → IsLinked log a x → ⊥
     off_within not_lost high next linked =
         ⊎_elim (λ none. (let low = linked.first not_lost none in omega (arith, low, high)))
-            (λ some.
-                let near = linked.nearest not_lost some.0.0 some.2 in
-                ⊎_elim (λ other. other near.0)
-                    (λ newer. (let version = knows.version some.0 some.2.here.0 some.1 some.2.here.1.here.stands in
-                        let most = near.1 some.2.here.0 some.2.here.1.here.stands in omega (arith, version, most, newer))) some.3)
-            (next_is_not s.last s.last_version.0 knows.last next)
+        (λ some.
+        let near = linked.nearest not_lost some.0.0 some.2 in
+        ⊎_elim (λ other. other near.0)
+        (λ newer. (let version = knows.version some.0 some.2.here.0 some.1 some.2.here.1.here.stands in
+        let most = near.1 some.2.here.0 some.2.here.1.here.stands in omega (arith, version, most, newer))) some.3)
+        (next_is_not s.last s.last_version.0 knows.last next)
 
     abbrev pub Leads : Bool → Type 0
     Leads is_lost = is_lost ≡ true → log.start ≤ previous → (leads ≡ true) ↔ Has (IsValid log its_home) previous
@@ -161,9 +167,10 @@ module _ (log : Log) (a : ℕ) (x : Record) where
     decided_within : (is_lost : Bool) → is_lost ≡ nat_lt 0 (losses log.lost a x) → Leads is_lost → log.start ≤ previous → (answer : Bool) → (if is_lost then leads else is_next s.last s.last_version.0 x) ≡ answer
         → ((answer ≡ true → IsLinked log a x) × (answer ≡ false → IsLinked log a x → ⊥))
     decided_within true lost leading high answer is =
-        let some : losses log.lost a x ≢ 0 = (let t = less_of 0 (losses log.lost a x) (sym lost) in omega (arith, t)) in
-        (λ yes. linked_within_lost some high ((leading refl high).0 (is ∙ yes)),
-         λ no linked. (let has = (leading refl high).1 (linked.lost some high) in let never : true ≡ false = sym has ∙ is ∙ no in absurd (cc)))
+        let some : losses log.lost a x ≢ 0 = (let t = less_of 0 (losses log.lost a x) (sym lost) in omega (arith, t)) in (
+          λ yes. linked_within_lost some high ((leading refl high).0 (is ∙ yes)),
+          λ no linked. (let has = (leading refl high).1 (linked.lost some high) in let never : true ≡ false = sym has ∙ is ∙ no in absurd (cc)),
+        )
     decided_within false lost leading high answer is =
         let none : losses log.lost a x ≡ 0 = (let t = not_less_of 0 (losses log.lost a x) (sym lost) in omega (arith, t)) in
         (λ yes. linked_within none high (is ∙ yes), λ no linked. off_within none high (is ∙ no) linked)

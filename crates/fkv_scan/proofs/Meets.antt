@@ -52,9 +52,12 @@ rose_before before mid now later rose = omega (arith, later, rose)
 -- what is refused of a record is refused of the address
 pub refused_there : (before mid now : ℕ) → before ≤ mid → (premise premise_mid : Type 0) (log log_mid : Log) (a : ℕ) (x : Record) (at : ℕ → Option HomeScan) (why : Fault)
     → (premise → premise_mid × (log_mid ≡ log) × IsMeeting log a x at) → IsUnlinked mid now premise_mid log_mid a x why → IsUnscanned before now premise log a why
-refused_there before mid now later premise premise_mid log log_mid a x at (fault.Damaged damage.Link place) to off = (off.0, λ holds.
-    let known = to holds in
-    record { held = x; fits = known.2.fits; valid = known.2.valid; here = λ linked. off.1 known.0 (subst (λ l. IsLinked l a x) (sym known.1) linked) })
+refused_there before mid now later premise premise_mid log log_mid a x at (fault.Damaged damage.Link place) to off = (
+  off.0,
+  λ holds.
+      let known = to holds in
+      record { held = x; fits = known.2.fits; valid = known.2.valid; here = λ linked. off.1 known.0 (subst (λ l. IsLinked l a x) (sym known.1) linked) },
+)
 refused_there before mid now later premise premise_mid log log_mid a x at fault.Device to off = rose_before before mid now later off
 refused_there before mid now later premise premise_mid log log_mid a x at fault.Memory to off = off
 refused_there before mid now later premise premise_mid log log_mid a x at other to off = absurd (off)

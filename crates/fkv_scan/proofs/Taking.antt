@@ -41,6 +41,8 @@ module _ (log : Log) (addr : Addr) (x : Record) (at : ℕ → Option HomeScan) (
       → ((q : ℕ) → next q ≡ cond (is_eq (nat_cmp its_home q)) (Some new) (at q)) → IsLinked log addr.0 x × KnowsAll log (addr.0 + 1) next
   taken next new on new_is updates =
       let own = record_home log.shape.bucket_bits x in
-      let new_too : new ≡ met (known_or (at own)) addr x is_lost log.start log.version = new_is ∙ ap (λ s. met s addr x is_lost log.start log.version) known_too in
-      (taken_on on, all_met log addr x meeting.from_start meeting.fits meeting.alone meeting.valid (taken_on on) at next is_lost lost_too meeting.knows
-          (λ q. updates q ∙ ap (λ n. cond (is_eq (nat_cmp n q)) (Some new) (at q)) home_is ∙ ap (λ s. cond (is_eq (nat_cmp own q)) (Some s) (at q)) new_too))
+      let new_too : new ≡ met (known_or (at own)) addr x is_lost log.start log.version = new_is ∙ ap (λ s. met s addr x is_lost log.start log.version) known_too in (
+        taken_on on,
+        all_met log addr x meeting.from_start meeting.fits meeting.alone meeting.valid (taken_on on) at next is_lost lost_too meeting.knows
+            (λ q. updates q ∙ ap (λ n. cond (is_eq (nat_cmp n q)) (Some new) (at q)) home_is ∙ ap (λ s. cond (is_eq (nat_cmp own q)) (Some s) (at q)) new_too),
+      )

@@ -44,7 +44,9 @@ pub record AreScanned (log : Log) (scanned : Scanned) : Type 0 where
   pub others : (its_home : ℕ) → get nat_cmp scanned.homes its_home ≡ None → IsUnmet log its_home log.tail
   pub newer : TellsNewer log log.tail scanned.newer
 
--- The entry of a home once all records are scanned: the newest that counts, or else where the chain goes on below the start. An address of 0 is no entry.
-abbrev pub IsEntryAfter : Log → ℕ → ℕ → Type 0
-IsEntryAfter log its_home a =
-    IsGreatest (IsCounted log its_home) log.start log.tail a ⊎ (HasNone (IsCounted log its_home) log.start log.tail × GoesOnAt log its_home log.tail a)
+-- The entry of a home once all records are scanned: the newest that counts, or else the place below the start where the chain goes on, and none where it
+-- doesn't go on.
+abbrev pub IsEntryOf : Log → ℕ → Option Addr → Type 0
+IsEntryOf log its_home None = HasNone (IsCounted log its_home) log.start log.tail × GoesOnAt log its_home log.tail 0
+IsEntryOf log its_home (Some a) =
+    IsGreatest (IsCounted log its_home) log.start log.tail a.0 ⊎ (HasNone (IsCounted log its_home) log.start log.tail × GoesOnAt log its_home log.tail a.0 × (a.0 ≢ 0))

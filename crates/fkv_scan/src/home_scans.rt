@@ -1,5 +1,5 @@
 //! What the scan knows of a home.
-ghost use Rattle.std.specs.Prelude.{◌≡◌};
+ghost use Rattle.std.specs.Prelude.{◌≡◌, ℕ};
 
 use fkv_base::{Addr, Version};
 use fkv_record::Record;
@@ -19,6 +19,8 @@ pub struct HomeScan {
 }
 
 impl HomeScan {
+    ghost use Rattle.fkv_scan.specs.Log.{Log};
+    ghost use Rattle.fkv_scan.specs.Scanned.{IsHomeScan, IsEntryOf};
     ghost use Rattle.fkv_scan.specs.Steps.{is_way, is_next, is_first, links, met, led, unled};
 
     /// A home before the scan, by the address of its triple.
@@ -45,6 +47,20 @@ impl HomeScan {
         }
     }
 
+    /// Where the home's entry points once all records are scanned: to the newest record that counts, or else to where the
+    /// chain goes on below the scan's start.
+    pub fn entry(&self) -> Option<Addr>
+        ensures { (log : Log) (its_home : ℕ) → IsHomeScan log its_home self.now → IsEntryOf log its_home result }
+    {
+        if let Some(addr) = self.newest {
+            return Some(addr);
+        }
+        match self.below {
+            Some(way) if way.0 != 0 => Some(way),
+            _ => None,
+        }
+    }
+
     /// Whether the address is the one below the start that is known, if one is.
     fn is_way(&self, addr: Addr) -> bool
         ensures { result ≡ is_way self.now.below addr.0 }
@@ -61,8 +77,7 @@ impl HomeScan {
     {
         match self.last {
             Some(last) => {
-                last.0 == found.header.previous.0
-                    && self.last_version.0 <= found.header.version.0
+                last.0 == found.header.previous.0 && self.last_version.0 <= found.header.version.0
             }
             None => false,
         }

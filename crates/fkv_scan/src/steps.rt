@@ -9,7 +9,6 @@ ghost use Rattle.fkv_scan.specs.Log.{log_in, record_home};
 ghost use Rattle.fkv_scan.specs.Records.{IsValid, IsNewer, losses};
 ghost use Rattle.fkv_scan.specs.Scan.{Has, IsLinked, IsScanned};
 ghost use Rattle.fkv_scan.specs.Known.{KnowsAll, IsMeeting};
-
 ghost use Rattle.fkv_scan.specs.Steps.{known_or};
 ghost use Rattle.fkv_scan.specs.Quiet.{IsQuiet, IsHindrance};
 ghost use Rattle.fkv_scan.specs.Refused.{IsUnlinked, IsUnscanned};
@@ -49,9 +48,7 @@ pub(crate) fn stands<D: Device>(
 {
     let read = record_at(d, shape, addr)?;
     Ok(match read {
-        Some(found) => {
-            !found.header.invalid && record_home(&found, shape.bucket_bits) == home
-        }
+        Some(found) => { !found.header.invalid && record_home(&found, shape.bucket_bits) == home }
         None => false,
     })
 }

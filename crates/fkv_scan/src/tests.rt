@@ -1,7 +1,260 @@
-use crate::scan;
+use crate::{Scanned, scan};
+use arrayvec::ArrayVec;
+use fkv_base::{Addr, Damage, Fault, Serial, Shape, Version};
+use fkv_disk::{MemDisk, Once};
+use fkv_record::{LostRange, LostRanges, ManifestSlot, Points, Triple};
+use std::alloc::Global;
 use std::test::Fail;
 
+// Two keys of one home, bucket 1 and tag 0, in an index of 16 buckets; and its number.
+const FIRST_KEY: u64 = 1;
+
+const SECOND_KEY: u64 = 524289;
+
+const HOME: u64 = 32768;
+
+// The headers of records of versions 1 to 4 that lead nowhere.
+const V1: u64 = 281474976710656;
+
+const V2: u64 = 562949953421312;
+
+const V3: u64 = 844424930131968;
+
+const V4: u64 = 1125899906842624;
+
+// The invalid bit.
+const INVALID: u64 = 4611686018427387904;
+
+// The image of a store of 16 buckets, with these records from address 1 on: header, key and value.
+fn image(alloc: Global, records: &[[u64; 3]]) -> Result<MemDisk, Fault> {
+    let mut bytes = vec![in alloc; 0u8; 5144]?;
+    for numbers in records {
+        for number in numbers {
+            bytes.extend_from_slice(&number.to_le_bytes())?;
+        }
+    }
+    let disk = MemDisk::from_bytes(alloc, bytes)?;
+    Ok(disk)
+}
+
+// What a slot says of a commit.
+fn slot(number: u64, first: u64, end: u64, lost: LostRanges) -> ManifestSlot
+    ensures number { result.number ≡ number }
+    ensures first { result.first.0 ≡ first }
+    ensures end { result.end.0 ≡ end }
+{
+    let mut serials = ArrayVec::new();
+    serials.push(Serial(3));
+    ManifestSlot {
+        number,
+        first: Addr(first),
+        end: Addr(end),
+        triples: 1,
+        area: 1,
+        points: Points { serials },
+        checkpoint: 1,
+        lost,
+    }
+}
+
+fn no_range() -> LostRanges {
+    LostRanges {
+        ranges: ArrayVec::new(),
+    }
+}
+
+fn range(to: u64, version: u64) -> LostRanges {
+    let mut ranges = ArrayVec::new();
+    ranges.push(LostRange {
+        to: Addr(to),
+        version: Version(version),
+    });
+    LostRanges { ranges }
+}
+
+// The triple of the home.
+fn triple(addr: u64) -> Triple
+    requires some { 0 < addr }
+    requires fits { addr < 2 ^ 48 }
+    ensures { result.addr.0 ≡ addr }
+{
+    Triple {
+        bucket: 1,
+        tag: 0,
+        addr: Addr(addr),
+    }
+}
+
+fn shape() -> Result<Shape, Fault> {
+    Shape::new(4, 16, 4, 2, 1, 0, 64)
+}
+
+// The records of two commits' time: two of version 1 that the first commit has, and two of version 2 that it leaves out.
+const LEFT_OUT: [[u64; 3]; 4] = [
+    [V1, FIRST_KEY, 10],
+    [V1 + 1, SECOND_KEY, 20],
+    [V2 + 2, FIRST_KEY, 12],
+    [V2 + 3, SECOND_KEY, 21],
+];
+
+// The scan of these records from address 3 to 5 for commit 1, where the triple leads to address 4.
+fn scan_left_out(alloc: Global, records: &[[u64; 3]]) -> Result<Scanned, Fault> {
+    let mut disk = image(alloc, records)?;
+    scan(
+        alloc,
+        &mut disk,
+        shape()?,
+        &slot(1, 3, 5, no_range()),
+        &[triple(4)],
+    )
+}
+
 #[test]
-fn nothing(rt: HostRuntime) -> Result<(), Fail> {
+fn newer_records_are_left_out(rt: HostRuntime) -> Result<(), Fail> {
+    let scanned = scan_left_out(rt.alloc(), &LEFT_OUT)?;
+    let found = scanned.homes.get(&HOME).copied();
+    assert_eq!(rt; found.map(|home| home.newest), Some(None));
+    assert_eq!(rt; found.map(|home| home.below), Some(Some(Addr(2))));
+    assert_eq!(rt; found.map(|home| home.entry()), Some(Some(Addr(2))));
+    assert_eq!(rt; scanned.newer, true);
+    assert_eq!(rt; scanned.homes.len(), 1);
+    Ok(())
+}
+
+#[test]
+fn damage_is_found_at_its_place(rt: HostRuntime) -> Result<(), Fail> {
+    let mut records = LEFT_OUT;
+    records[3][0] = V2 + 2;
+    assert_eq!(rt;
+        fault_of(scan_left_out(rt.alloc(), &records)),
+        Some(Fault::Damaged(Damage::Link, 4))
+    );
+    let mut records = LEFT_OUT;
+    records[2][0] = V3 + 2;
+    assert_eq!(rt;
+        fault_of(scan_left_out(rt.alloc(), &records)),
+        Some(Fault::Damaged(Damage::Record, 3))
+    );
+    let mut records = LEFT_OUT;
+    records[2][0] = V2 + 2 + INVALID;
+    assert_eq!(rt;
+        fault_of(scan_left_out(rt.alloc(), &records)),
+        Some(Fault::Damaged(Damage::Link, 4))
+    );
+    let mut records = LEFT_OUT;
+    records[3] = [V2, 2, 21];
+    assert_eq!(rt;
+        fault_of(scan_left_out(rt.alloc(), &records)),
+        Some(Fault::Damaged(Damage::Link, 4))
+    );
+    Ok(())
+}
+
+fn fault_of(answer: Result<Scanned, Fault>) -> Option<Fault> {
+    answer.err()
+}
+
+#[test]
+fn a_lost_record_is_followed(rt: HostRuntime) -> Result<(), Fail> {
+    let mut disk = image(rt.alloc(), &LEFT_OUT)?;
+    let scanned = scan(
+        rt.alloc(),
+        &mut disk,
+        shape()?,
+        &slot(2, 3, 5, range(5, 2)),
+        &[triple(4)],
+    )?;
+    let found = scanned.homes.get(&HOME).copied();
+    assert_eq!(rt; found.map(|home| home.entry()), Some(Some(Addr(2))));
+    assert_eq!(rt; scanned.newer, false);
+    Ok(())
+}
+
+#[test]
+fn a_record_of_the_next_life_counts(rt: HostRuntime) -> Result<(), Fail> {
+    let records = [
+        LEFT_OUT[0],
+        LEFT_OUT[1],
+        LEFT_OUT[2],
+        LEFT_OUT[3],
+        [V2 + 2, FIRST_KEY, 13],
+    ];
+    let mut disk = image(rt.alloc(), &records)?;
+    let scanned = scan(
+        rt.alloc(),
+        &mut disk,
+        shape()?,
+        &slot(2, 3, 6, range(5, 2)),
+        &[triple(4)],
+    )?;
+    let found = scanned.homes.get(&HOME).copied();
+    assert_eq!(rt; found.map(|home| home.entry()), Some(Some(Addr(5))));
+    assert_eq!(rt; found.map(|home| home.below), Some(Some(Addr(2))));
+    assert_eq!(rt; scanned.newer, false);
+    Ok(())
+}
+
+#[test]
+fn a_log_commit_goes_on_behind_its_checkpoint(rt: HostRuntime) -> Result<(), Fail> {
+    let mut disk = image(rt.alloc(), &[[V1, FIRST_KEY, 10], [V2 + 1, FIRST_KEY, 11]])?;
+    let scanned = scan(
+        rt.alloc(),
+        &mut disk,
+        shape()?,
+        &slot(2, 2, 3, no_range()),
+        &[triple(1)],
+    )?;
+    let found = scanned.homes.get(&HOME).copied();
+    assert_eq!(rt; found.map(|home| home.newest), Some(Some(Addr(2))));
+    assert_eq!(rt; found.map(|home| home.below), Some(Some(Addr(1))));
+    Ok(())
+}
+
+#[test]
+fn lost_records_leave_no_entry(rt: HostRuntime) -> Result<(), Fail> {
+    let records = [[V2, FIRST_KEY, 1], [V3, FIRST_KEY, 1], [V4, FIRST_KEY, 1]];
+    let mut disk = image(rt.alloc(), &records)?;
+    let mut lost = range(2, 2);
+    lost.ranges.push(LostRange {
+        to: Addr(3),
+        version: Version(3),
+    });
+    let scanned = scan(rt.alloc(), &mut disk, shape()?, &slot(3, 1, 4, lost), &[])?;
+    let found = scanned.homes.get(&HOME).copied();
+    assert_eq!(rt; found.map(|home| home.entry()), Some(None));
+    assert_eq!(rt; scanned.newer, true);
+    Ok(())
+}
+
+#[test]
+fn a_folded_log_has_its_triples_alone(rt: HostRuntime) -> Result<(), Fail> {
+    let mut disk = image(rt.alloc(), &[[V1, FIRST_KEY, 10], [V2 + 1, FIRST_KEY, 11]])?;
+    let scanned = scan(
+        rt.alloc(),
+        &mut disk,
+        shape()?,
+        &slot(2, 3, 3, no_range()),
+        &[triple(2)],
+    )?;
+    let found = scanned.homes.get(&HOME).copied();
+    assert_eq!(rt; found.map(|home| home.newest), Some(None));
+    assert_eq!(rt; found.map(|home| home.entry()), Some(Some(Addr(2))));
+    assert_eq!(rt; scanned.newer, false);
+    Ok(())
+}
+
+#[test]
+fn a_failed_read_is_answered(rt: HostRuntime) -> Result<(), Fail> {
+    for passing in 0..2 {
+        let mut disk = Once::new(image(rt.alloc(), &LEFT_OUT)?, passing);
+        let answer = scan(
+            rt.alloc(),
+            &mut disk,
+            shape()?,
+            &slot(1, 3, 5, no_range()),
+            &[triple(4)],
+        );
+        assert_eq!(rt; fault_of(answer), Some(Fault::Device));
+    }
     Ok(())
 }

@@ -12,7 +12,7 @@ pub loop-i-preserved : goal.loop-i-preserved
 loop-i-preserved c =
     let stands : slice_get c.args.triples.now c.loop-i.i ≡ Some c.index-triples-i.result = slice_get-get_or c.args.triples.now c.loop-i.i c.index-triples-i.result c.loop-i-test.true ∙ ap Some (sym c.index-triples-i.is) in
     led_next c.args.triples.now c.args.start.0 c.loop-i.i (get nat_cmp c.loop-i.homes) (get nat_cmp c.insert.new.self) c.index-triples-i.result c.triple_home.result c.led.result
-        c.loop-i.invariant stands c.triple_home.ensures c.led.ensures c.in_ok-insert.ensures.updates.0
+    c.loop-i.invariant stands c.triple_home.ensures c.led.ensures c.in_ok-insert.ensures.updates.0
 
 pub returns-clause-ok : goal.returns-clause-ok
 returns-clause-ok c = λ image shape slot same.
@@ -21,5 +21,5 @@ returns-clause-ok c = λ image shape slot same.
     let most = c.loop-i.auto.i-end in
     let at_end : c.loop-i.i ≡ length c.args.triples.now = omega (arith, last, most) in
     knows_first (log_in image shape slot c.args.triples.now) c.requires (get nat_cmp c.loop-i.homes)
-        (subst (λ n. AreLedHomes c.args.triples.now slot.first.0 n (get nat_cmp c.loop-i.homes)) at_end
-            (subst (λ n. AreLedHomes c.args.triples.now n c.loop-i.i (get nat_cmp c.loop-i.homes)) (sym start) c.loop-i.invariant))
+    (subst (λ n. AreLedHomes c.args.triples.now slot.first.0 n (get nat_cmp c.loop-i.homes)) at_end
+    (subst (λ n. AreLedHomes c.args.triples.now n c.loop-i.i (get nat_cmp c.loop-i.homes)) (sym start) c.loop-i.invariant))

@@ -21,14 +21,14 @@ returns-in-Err-clause-err g c = λ triples.
     let log_mid = log_in mid c.args.shape c.args.slot.now triples in
     let quiet = c.loop-addr.invariant.quiet in
     refused_from (g.D.Device.failed c.args.d.now) (g.D.Device.failed c.loop-addr.d) (g.D.Device.failed c.meet.new.d) quiet.no_fewer_failures
-        (g.D.Device.honest c.args.d.now × KnowsAll log c.args.slot.now.first.0 (get nat_cmp c.args.homes.now))
-        (g.D.Device.honest c.loop-addr.d × KnowsAll log_mid c.loop-addr.addr (get nat_cmp c.loop-addr.homes))
-        log log_mid c.loop-addr.addr c.in-Err.fault c.loop-addr.auto.addr c.loop-addr-test.true
-        (λ premise.
-            let same : log_mid ≡ log = ap (λ image. log_in image c.args.shape c.args.slot.now triples) (quiet.same_bytes premise.0) in
-            let known = c.loop-addr.invariant.known triples premise.0 premise.1 in
-            ((quiet.premise.0 premise.0, subst (λ l. KnowsAll l c.loop-addr.addr (get nat_cmp c.loop-addr.homes)) (sym same) known.1), same, known.0))
-        (c.in-Err.ensures.err triples)
+    (g.D.Device.honest c.args.d.now × KnowsAll log c.args.slot.now.first.0 (get nat_cmp c.args.homes.now))
+    (g.D.Device.honest c.loop-addr.d × KnowsAll log_mid c.loop-addr.addr (get nat_cmp c.loop-addr.homes))
+    log log_mid c.loop-addr.addr c.in-Err.fault c.loop-addr.auto.addr c.loop-addr-test.true
+    (λ premise.
+    let same : log_mid ≡ log = ap (λ image. log_in image c.args.shape c.args.slot.now triples) (quiet.same_bytes premise.0) in
+    let known = c.loop-addr.invariant.known triples premise.0 premise.1 in
+    ((quiet.premise.0 premise.0, subst (λ l. KnowsAll l c.loop-addr.addr (get nat_cmp c.loop-addr.homes)) (sym same) known.1), same, known.0))
+    (c.in-Err.ensures.err triples)
 
 pub loop-addr-preserved : goal.loop-addr-preserved
 loop-addr-preserved g c =
@@ -54,8 +54,8 @@ loop-addr-preserved g c =
           let log_mid = log_in mid c.args.shape c.args.slot.now triples in
           let same : log_mid ≡ log = ap (λ image. log_in image c.args.shape c.args.slot.now triples) (quiet.same_bytes claim) in
           subst (λ b. TellsNewer log (a + 1) b) (sym either)
-              (newer_more log a c.loop-addr.newer c.in-Ok.is_newer c.loop-addr.auto.addr (c.loop-addr.invariant.newer triples claim)
-                  (subst (λ l. (c.in-Ok.is_newer ≡ true) ↔ Has (IsNewer l) a) same (c.in-Ok.ensures.newer triples (quiet.premise.0 claim))));
+          (newer_more log a c.loop-addr.newer c.in-Ok.is_newer c.loop-addr.auto.addr (c.loop-addr.invariant.newer triples claim)
+          (subst (λ l. (c.in-Ok.is_newer ≡ true) ↔ Has (IsNewer l) a) same (c.in-Ok.ensures.newer triples (quiet.premise.0 claim))));
     }
 
 pub returns-clause-ok : goal.returns-clause-ok
