@@ -1,7 +1,10 @@
+ghost use Rattle.std.specs.Prelude.{◌≡◌, ◌<◌, ◌≤◌, ◌^◌};
+ghost use Rattle.fkv_base.specs.Limits.{last_version};
+
 use crate::{Scanned, scan};
 use arrayvec::ArrayVec;
 use fkv_base::{Addr, Damage, Fault, Serial, Shape, Version};
-use fkv_disk::{MemDisk, Once};
+use fkv_disk::{Device, MemDisk, Once};
 use fkv_record::{LostRange, LostRanges, ManifestSlot, Points, Triple};
 use std::alloc::Global;
 use std::test::Fail;
@@ -72,6 +75,20 @@ fn range(to: u64, version: u64) -> LostRanges {
     LostRanges { ranges }
 }
 
+// Those of two lives that ended without a commit.
+fn two_ranges() -> LostRanges {
+    let mut ranges = ArrayVec::new();
+    ranges.push(LostRange {
+        to: Addr(2),
+        version: Version(2),
+    });
+    ranges.push(LostRange {
+        to: Addr(3),
+        version: Version(3),
+    });
+    LostRanges { ranges }
+}
+
 // The triple of the home.
 fn triple(addr: u64) -> Triple
     requires some { 0 < addr }
@@ -89,6 +106,23 @@ fn shape() -> Result<Shape, Fault> {
     Shape::new(4, 16, 4, 2, 1, 0, 64)
 }
 
+// The scan for this slot, where the triple leads to an address.
+fn scan_led<D: Device>(
+    alloc: Global,
+    d: &mut D,
+    slot: &ManifestSlot,
+    addr: u64,
+) -> Result<Scanned, Fault>
+    requires some { 0 < addr }
+    requires in_log { addr < slot.now.end.0 }
+    requires upwards { slot.now.first.0 ≤ slot.now.end.0 }
+    requires short { slot.now.end.0 < 2 ^ 48 }
+    requires few { slot.now.number < last_version }
+{
+    let triples = [triple(addr)];
+    scan(alloc, d, shape()?, slot, &triples)
+}
+
 // The records of two commits' time: two of version 1 that the first commit has, and two of version 2 that it leaves out.
 const LEFT_OUT: [[u64; 3]; 4] = [
     [V1, FIRST_KEY, 10],
@@ -100,13 +134,7 @@ const LEFT_OUT: [[u64; 3]; 4] = [
 // The scan of these records from address 3 to 5 for commit 1, where the triple leads to address 4.
 fn scan_left_out(alloc: Global, records: &[[u64; 3]]) -> Result<Scanned, Fault> {
     let mut disk = image(alloc, records)?;
-    scan(
-        alloc,
-        &mut disk,
-        shape()?,
-        &slot(1, 3, 5, no_range()),
-        &[triple(4)],
-    )
+    scan_led(alloc, &mut disk, &slot(1, 3, 5, no_range()), 4)
 }
 
 #[test]
@@ -157,13 +185,7 @@ fn fault_of(answer: Result<Scanned, Fault>) -> Option<Fault> {
 #[test]
 fn a_lost_record_is_followed(rt: HostRuntime) -> Result<(), Fail> {
     let mut disk = image(rt.alloc(), &LEFT_OUT)?;
-    let scanned = scan(
-        rt.alloc(),
-        &mut disk,
-        shape()?,
-        &slot(2, 3, 5, range(5, 2)),
-        &[triple(4)],
-    )?;
+    let scanned = scan_led(rt.alloc(), &mut disk, &slot(2, 3, 5, range(5, 2)), 4)?;
     let found = scanned.homes.get(&HOME).copied();
     assert_eq!(rt; found.map(|home| home.entry()), Some(Some(Addr(2))));
     assert_eq!(rt; scanned.newer, false);
@@ -180,13 +202,7 @@ fn a_record_of_the_next_life_counts(rt: HostRuntime) -> Result<(), Fail> {
         [V2 + 2, FIRST_KEY, 13],
     ];
     let mut disk = image(rt.alloc(), &records)?;
-    let scanned = scan(
-        rt.alloc(),
-        &mut disk,
-        shape()?,
-        &slot(2, 3, 6, range(5, 2)),
-        &[triple(4)],
-    )?;
+    let scanned = scan_led(rt.alloc(), &mut disk, &slot(2, 3, 6, range(5, 2)), 4)?;
     let found = scanned.homes.get(&HOME).copied();
     assert_eq!(rt; found.map(|home| home.entry()), Some(Some(Addr(5))));
     assert_eq!(rt; found.map(|home| home.below), Some(Some(Addr(2))));
@@ -197,13 +213,7 @@ fn a_record_of_the_next_life_counts(rt: HostRuntime) -> Result<(), Fail> {
 #[test]
 fn a_log_commit_goes_on_behind_its_checkpoint(rt: HostRuntime) -> Result<(), Fail> {
     let mut disk = image(rt.alloc(), &[[V1, FIRST_KEY, 10], [V2 + 1, FIRST_KEY, 11]])?;
-    let scanned = scan(
-        rt.alloc(),
-        &mut disk,
-        shape()?,
-        &slot(2, 2, 3, no_range()),
-        &[triple(1)],
-    )?;
+    let scanned = scan_led(rt.alloc(), &mut disk, &slot(2, 2, 3, no_range()), 1)?;
     let found = scanned.homes.get(&HOME).copied();
     assert_eq!(rt; found.map(|home| home.newest), Some(Some(Addr(2))));
     assert_eq!(rt; found.map(|home| home.below), Some(Some(Addr(1))));
@@ -214,12 +224,13 @@ fn a_log_commit_goes_on_behind_its_checkpoint(rt: HostRuntime) -> Result<(), Fai
 fn lost_records_leave_no_entry(rt: HostRuntime) -> Result<(), Fail> {
     let records = [[V2, FIRST_KEY, 1], [V3, FIRST_KEY, 1], [V4, FIRST_KEY, 1]];
     let mut disk = image(rt.alloc(), &records)?;
-    let mut lost = range(2, 2);
-    lost.ranges.push(LostRange {
-        to: Addr(3),
-        version: Version(3),
-    });
-    let scanned = scan(rt.alloc(), &mut disk, shape()?, &slot(3, 1, 4, lost), &[])?;
+    let scanned = scan(
+        rt.alloc(),
+        &mut disk,
+        shape()?,
+        &slot(3, 1, 4, two_ranges()),
+        &[],
+    )?;
     let found = scanned.homes.get(&HOME).copied();
     assert_eq!(rt; found.map(|home| home.entry()), Some(None));
     assert_eq!(rt; scanned.newer, true);
@@ -229,13 +240,7 @@ fn lost_records_leave_no_entry(rt: HostRuntime) -> Result<(), Fail> {
 #[test]
 fn a_folded_log_has_its_triples_alone(rt: HostRuntime) -> Result<(), Fail> {
     let mut disk = image(rt.alloc(), &[[V1, FIRST_KEY, 10], [V2 + 1, FIRST_KEY, 11]])?;
-    let scanned = scan(
-        rt.alloc(),
-        &mut disk,
-        shape()?,
-        &slot(2, 3, 3, no_range()),
-        &[triple(2)],
-    )?;
+    let scanned = scan_led(rt.alloc(), &mut disk, &slot(2, 3, 3, no_range()), 2)?;
     let found = scanned.homes.get(&HOME).copied();
     assert_eq!(rt; found.map(|home| home.newest), Some(None));
     assert_eq!(rt; found.map(|home| home.entry()), Some(Some(Addr(2))));
@@ -247,13 +252,7 @@ fn a_folded_log_has_its_triples_alone(rt: HostRuntime) -> Result<(), Fail> {
 fn a_failed_read_is_answered(rt: HostRuntime) -> Result<(), Fail> {
     for passing in 0..2 {
         let mut disk = Once::new(image(rt.alloc(), &LEFT_OUT)?, passing);
-        let answer = scan(
-            rt.alloc(),
-            &mut disk,
-            shape()?,
-            &slot(1, 3, 5, no_range()),
-            &[triple(4)],
-        );
+        let answer = scan_led(rt.alloc(), &mut disk, &slot(1, 3, 5, no_range()), 4);
         assert_eq!(rt; fault_of(answer), Some(Fault::Device));
     }
     Ok(())
