@@ -1,20 +1,19 @@
 -- The whole scan.
-use Rattle.std.proofs.Common.{◌≡◌, ◌⊎◌, inl, inr, ⊎_elim, ℕ, ◌+◌, ◌<◌, ◌≤◌, List, length, Bool, true, false, Option, Some, None, refl, sym, ap, subst, ◌∙◌, arith}
+use Rattle.std.proofs.Common.{◌≡◌, ⊎_elim, ℕ, ◌≤◌, length, Option, Some, None, refl, subst, arith}
 use Rattle.std.specs.Prelude.{slice_get}
 use Rattle.std.specs.Ordering.{nat_cmp}
-use Rattle.std.specs.BTreeMap.{BTreeMap, get}
+use Rattle.std.specs.BTreeMap.{get}
 use Rattle.std.proofs.lemmas.Option.{slice_get_within}
 use Rattle.fkv_base.specs.declared.faults.Fault.{Fault}
 use Rattle.fkv_base.specs.declared.faults.Fault.TheVariants as fault
 use Rattle.fkv_base.specs.declared.numbers.Addr.{Addr}
-use Rattle.fkv_record.specs.declared.records.Record.{Record}
 use Rattle.fkv_record.specs.declared.triples.Triple.{Triple}
 use Rattle.fkv_scan.specs.declared.home_scans.HomeScan.{HomeScan}
 use Rattle.fkv_scan.specs.declared.scans.Scanned.{Scanned}
-use Rattle.fkv_scan.specs.Log.{Log, triple_home, HasTriple, HasNoTriple, AreBelow}
+use Rattle.fkv_scan.specs.Log.{Log, HasTriple, HasNoTriple, AreBelow}
 use Rattle.fkv_scan.specs.Records.{IsValid}
-use Rattle.fkv_scan.specs.Scan.{Has, HasNone, GoesOn, by_triple, by_none, IsScanned, IsScannedTo, IsLinked, IsLed, AreLed, HasScan, IsScanFault}
-use Rattle.fkv_scan.specs.Scanned.{GoesOnAt, IsHomeScan, IsUnmet, TellsNewer, AreScanned}
+use Rattle.fkv_scan.specs.Scan.{HasNone, by_triple, by_none, IsScannedTo, IsLed, AreLed, IsScanFault}
+use Rattle.fkv_scan.specs.Scanned.{GoesOnAt, IsHomeScan, TellsNewer, AreScanned}
 use Rattle.fkv_scan.specs.Known.{IsWay, Knows, KnowsOf, KnowsAll}
 use Rattle.fkv_scan.specs.Refused.{IsRefused}
 use Rattle.fkv_scan.proofs.Greatest.{below_or_not}

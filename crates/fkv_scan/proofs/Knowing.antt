@@ -1,19 +1,19 @@
 -- What is known of the homes, from one record to the next.
-use Rattle.std.proofs.Common.{◌≡◌, ◌≢◌, ◌⊎◌, inl, inr, ⊎_elim, ℕ, ◌+◌, ◌<◌, ◌≤◌, Bool, true, false, cond, Option, Some, None, refl, sym, ap, subst, ◌∙◌, arith}
+use Rattle.std.proofs.Common.{◌≡◌, ◌≢◌, ⊎_elim, ℕ, ◌+◌, ◌<◌, ◌≤◌, Bool, true, false, cond, Option, Some, None, refl, sym, ap, subst, ◌∙◌, arith}
 use Rattle.std.specs.Prelude.{nat_lt, ◌||◌, if◌then◌else◌}
 use Rattle.std.specs.Ordering.{nat_cmp, is_eq}
 use Rattle.std.proofs.lemmas.Bool.Decides.{nat_tests}
 use Rattle.fkv_base.specs.declared.numbers.Addr.{Addr}
 use Rattle.fkv_record.specs.declared.records.Record.{Record}
 use Rattle.fkv_scan.specs.declared.home_scans.HomeScan.{HomeScan}
-use Rattle.fkv_scan.specs.Log.{Log, HasTriple, HasNoTriple, record_home}
+use Rattle.fkv_scan.specs.Log.{Log, record_home}
 use Rattle.fkv_scan.specs.Records.{Stands, losses, IsValid, IsKept, IsCounted}
-use Rattle.fkv_scan.specs.Scan.{HasNone, Has, IsGreatest, GoesOn, by_triple, by_none, by_record, IsLinked, IsFit}
-use Rattle.fkv_scan.specs.Scanned.{IsGreatestOf, GoesOnAt, IsUnmet}
-use Rattle.fkv_scan.specs.Known.{IsWay, Knows, KnowsOf, KnowsAll, IsMeeting}
+use Rattle.fkv_scan.specs.Scan.{HasNone, GoesOn, by_triple, by_none, by_record, IsLinked, IsFit}
+use Rattle.fkv_scan.specs.Scanned.{IsGreatestOf, IsUnmet}
+use Rattle.fkv_scan.specs.Known.{IsWay, Knows, KnowsOf, KnowsAll}
 use Rattle.fkv_scan.specs.Steps.{met, unled, known_or}
 use Rattle.fkv_scan.proofs.Greatest.{greatest_here, known_more, none_more}
-use Rattle.fkv_scan.proofs.Keys.{is_same, at_itself, bool_is}
+use Rattle.fkv_scan.proofs.Keys.{is_same, at_itself}
 use Rattle.fkv_scan.proofs.Ways.{goes_on_more, goes_on_back, NewWay, way_more}
 
 -- a home of which the address tells nothing

@@ -5,14 +5,11 @@ use Rattle.std.specs.Option.{is_some}
 use Rattle.std.specs.Ordering.{nat_cmp, is_eq}
 use Rattle.std.proofs.lemmas.Bool.Decides.{nat_tests}
 use Rattle.std.proofs.lemmas.Option.{slice_get_past}
-use Rattle.fkv_base.specs.declared.numbers.Addr.{Addr}
-use Rattle.fkv_record.specs.declared.records.Record.{Record}
 use Rattle.fkv_record.specs.declared.triples.Triple.{Triple}
 use Rattle.fkv_scan.specs.declared.home_scans.HomeScan.{HomeScan}
 use Rattle.fkv_scan.specs.Log.{Log, HasTriple, HasNoTriple, AreApart, triple_home}
 use Rattle.fkv_scan.specs.Records.{IsValid, IsKept, IsCounted}
-use Rattle.fkv_scan.specs.Scan.{HasNone, GoesOn, by_triple, by_none, by_record, IsLed, AreLed}
-use Rattle.fkv_scan.specs.Scanned.{GoesOnAt, IsUnmet}
+use Rattle.fkv_scan.specs.Scan.{GoesOn, by_triple, by_none, by_record, IsLed, AreLed}
 use Rattle.fkv_scan.specs.Known.{IsWay, Knows, KnowsOf, KnowsAll}
 use Rattle.fkv_scan.specs.Steps.{led}
 use Rattle.fkv_scan.proofs.Greatest.{at_or_below, below_or_not, none_at_start}

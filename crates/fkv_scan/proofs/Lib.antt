@@ -1,4 +1,5 @@
 mod Ending
+mod Faultless
 mod Greatest
 mod Keys
 mod Knowing

@@ -1,13 +1,12 @@
 -- The scan from one address to the next.
-use Rattle.std.proofs.Common.{◌≡◌, ◌⊎◌, inl, inr, ⊎_elim, ℕ, ◌+◌, ◌<◌, ◌≤◌, List, Bool, true, false, Option, Some, None, refl, sym, ap, subst, ◌∙◌, arith}
-use Rattle.std.specs.Prelude.{nat_lt, ◌↔◌, ◌||◌}
+use Rattle.std.proofs.Common.{◌≡◌, inl, ⊎_elim, ℕ, ◌+◌, ◌<◌, ◌≤◌, Bool, true, false, refl, sym, subst, arith}
+use Rattle.std.specs.Prelude.{◌↔◌, ◌||◌}
 use Rattle.fkv_base.specs.declared.faults.Fault.{Fault}
 use Rattle.fkv_base.specs.declared.faults.Fault.TheVariants as fault
 use Rattle.fkv_base.specs.declared.faults.Damage.TheVariants as damage
-use Rattle.fkv_record.specs.declared.records.Record.{Record}
 use Rattle.fkv_scan.specs.Log.{Log}
 use Rattle.fkv_scan.specs.Records.{IsNewer}
-use Rattle.fkv_scan.specs.Scan.{Has, HasNone, IsFit, IsOff, IsScanned, IsScannedTo}
+use Rattle.fkv_scan.specs.Scan.{Has, IsFit, IsOff, IsScanned, IsScannedTo}
 use Rattle.fkv_scan.specs.Scanned.{TellsNewer}
 use Rattle.fkv_scan.specs.Refused.{IsUnscanned, IsRefused}
 use Rattle.fkv_scan.proofs.Greatest.{at_or_below, none_more}

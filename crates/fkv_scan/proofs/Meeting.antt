@@ -1,19 +1,17 @@
 -- What a valid record makes of what is known of its home.
-use Rattle.std.proofs.Common.{◌≡◌, ◌≢◌, ◌⊎◌, inl, inr, ⊎_elim, ℕ, ◌+◌, ◌<◌, ◌≤◌, Bool, true, false, Option, Some, None, refl, sym, ap, subst, ◌∙◌, arith}
+use Rattle.std.proofs.Common.{◌≡◌, ◌≢◌, ◌⊎◌, inl, inr, ⊎_elim, ℕ, ◌<◌, ◌≤◌, Bool, true, false, Option, Some, None, refl, sym, ap, subst, ◌∙◌, arith}
 use Rattle.std.specs.Prelude.{nat_lt, nat_le, ◌&&◌, ◌||◌, ◌==◌, if◌then◌else◌, ◌↔◌}
 use Rattle.std.proofs.lemmas.Bool.Decides.{nat_tests}
 use Rattle.fkv_base.specs.declared.numbers.Addr.{Addr}
-use Rattle.fkv_base.specs.declared.numbers.Version.{Version}
 use Rattle.fkv_record.specs.declared.records.Record.{Record}
 use Rattle.fkv_scan.specs.declared.home_scans.HomeScan.{HomeScan}
-use Rattle.fkv_scan.specs.Log.{Log, HasTriple, HasNoTriple, record_home}
-use Rattle.fkv_scan.specs.Records.{Stands, losses, IsValid, IsKept, IsCounted}
-use Rattle.fkv_scan.specs.Scan.{HasNone, Has, IsGreatest, GoesOn, by_record, IsLinked, IsFit}
-use Rattle.fkv_scan.specs.Scanned.{IsGreatestOf, GoesOnAt}
-use Rattle.fkv_scan.specs.Known.{IsWay, Knows, IsMeeting}
-use Rattle.fkv_scan.specs.Steps.{is_way, is_next, is_first, links, met}
-use Rattle.fkv_scan.proofs.Greatest.{below_or_not, greatest_same, greatest_is_some, greatest_here, known_more}
-use Rattle.fkv_scan.proofs.Ways.{goes_on_more, goes_on_back, NewWay, way_more}
+use Rattle.fkv_scan.specs.Log.{Log, record_home}
+use Rattle.fkv_scan.specs.Records.{Stands, losses, IsValid, IsKept}
+use Rattle.fkv_scan.specs.Scan.{HasNone, Has, IsGreatest, GoesOn, IsLinked}
+use Rattle.fkv_scan.specs.Scanned.{IsGreatestOf}
+use Rattle.fkv_scan.specs.Known.{IsWay, Knows}
+use Rattle.fkv_scan.specs.Steps.{is_way, is_next, is_first, links}
+use Rattle.fkv_scan.proofs.Greatest.{greatest_same, greatest_is_some}
 
 both : (p q : Bool) → (p && q) ≡ true → (p ≡ true) × (q ≡ true)
 both true true is = (refl, refl)

@@ -1,5 +1,5 @@
 -- What stands at an address is met.
-use Rattle.std.proofs.Common.{◌≡◌, ◌⊎◌, inl, inr, ⊎_elim, ℕ, ◌+◌, ◌<◌, ◌≤◌, List, Bool, true, false, Option, Some, None, refl, sym, ap, subst, ◌∙◌, arith}
+use Rattle.std.proofs.Common.{◌≡◌, ℕ, ◌+◌, ◌<◌, ◌≤◌, true, false, Option, Some, sym, ap, subst, ◌∙◌, arith}
 use Rattle.std.specs.Prelude.{nat_lt, ◌↔◌}
 use Rattle.std.proofs.lemmas.Bool.Decides.{nat_tests}
 use Rattle.fkv_base.specs.declared.faults.Fault.{Fault}
@@ -9,8 +9,8 @@ use Rattle.fkv_disk.specs.Device.{Rose}
 use Rattle.fkv_record.specs.declared.records.Record.{Record}
 use Rattle.fkv_scan.specs.declared.home_scans.HomeScan.{HomeScan}
 use Rattle.fkv_scan.specs.Log.{Log}
-use Rattle.fkv_scan.specs.Records.{Stands, IsValid, IsNewer}
-use Rattle.fkv_scan.specs.Scan.{Has, IsFit, IsLinked, IsScanned, IsOff}
+use Rattle.fkv_scan.specs.Records.{IsNewer}
+use Rattle.fkv_scan.specs.Scan.{Has, IsFit, IsLinked, IsScanned}
 use Rattle.fkv_scan.specs.Known.{KnowsAll, IsMeeting}
 use Rattle.fkv_scan.specs.Refused.{IsUnlinked, IsUnscanned}
 use Rattle.fkv_scan.proofs.Standing.{AreRead, stands_read, alone_read}

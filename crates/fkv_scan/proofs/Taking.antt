@@ -1,5 +1,5 @@
 -- A valid record is taken in.
-use Rattle.std.proofs.Common.{◌≡◌, ◌⊎◌, ℕ, ◌+◌, ◌≤◌, List, Bool, true, false, cond, Option, Some, None, refl, sym, ap, subst, ◌∙◌}
+use Rattle.std.proofs.Common.{◌≡◌, ℕ, ◌+◌, ◌≤◌, List, Bool, true, false, cond, Option, Some, sym, ap, subst, ◌∙◌}
 use Rattle.std.specs.Prelude.{nat_lt, ◌↔◌}
 use Rattle.std.specs.Ordering.{nat_cmp, is_eq}
 use Rattle.fkv_base.specs.declared.numbers.Addr.{Addr}
@@ -11,7 +11,7 @@ use Rattle.fkv_scan.specs.Records.{losses, IsValid}
 use Rattle.fkv_scan.specs.Scan.{Has, IsLinked}
 use Rattle.fkv_scan.specs.Known.{Knows, KnowsAll, IsMeeting}
 use Rattle.fkv_scan.specs.Steps.{links, met, known_or}
-use Rattle.fkv_scan.proofs.Meeting.{links_is, links_is_not, Leads}
+use Rattle.fkv_scan.proofs.Meeting.{links_is, links_is_not}
 use Rattle.fkv_scan.proofs.Knowing.{all_met, knows_or}
 
 module _ (log : Log) (addr : Addr) (x : Record) (at : ℕ → Option HomeScan) (its_home : ℕ) (known : HomeScan) (ranges : List LostRange) (is_lost leads : Bool)

@@ -1,11 +1,10 @@
 -- Where the chain of a home goes on below the scan's start, from one record to the next.
-use Rattle.std.proofs.Common.{◌≡◌, ◌≢◌, ◌⊎◌, inl, inr, ⊎_elim, ℕ, ◌+◌, ◌<◌, ◌≤◌, Bool, true, false, Option, Some, None, refl, sym, ap, subst, ◌∙◌, arith}
+use Rattle.std.proofs.Common.{◌≡◌, ◌⊎◌, inl, inr, ⊎_elim, ℕ, ◌+◌, ◌<◌, ◌≤◌, Option, Some, None, subst, arith}
 use Rattle.fkv_base.specs.declared.numbers.Addr.{Addr}
 use Rattle.fkv_record.specs.declared.records.Record.{Record}
-use Rattle.fkv_scan.specs.Log.{Log, HasTriple, HasNoTriple}
+use Rattle.fkv_scan.specs.Log.{Log}
 use Rattle.fkv_scan.specs.Records.{IsValid}
-use Rattle.fkv_scan.specs.Scan.{HasNone, GoesOn, by_triple, by_none, by_record}
-use Rattle.fkv_scan.specs.Scanned.{GoesOnAt}
+use Rattle.fkv_scan.specs.Scan.{GoesOn, by_triple, by_none, by_record}
 use Rattle.fkv_scan.specs.Known.{IsWay}
 use Rattle.fkv_scan.proofs.Greatest.{at_or_below, none_more}
 

@@ -3,11 +3,13 @@
 
 mod home_scans;
 mod homes;
+mod laws;
 mod readings;
 mod scans;
 mod steps;
 
 pub use home_scans::HomeScan;
+pub use laws::law_no_fault;
 pub use scans::{Scanned, scan};
 
 #[cfg(test)]

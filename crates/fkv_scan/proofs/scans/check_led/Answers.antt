@@ -1,5 +1,5 @@
-use Rattle.std.proofs.Common.{◌≡◌, ◌≤◌, length, refl, sym, ap, subst, ◌∙◌, arith, inr, true, false}
-use Rattle.std.specs.Prelude.{Some, slice_get, ◌↔◌}
+use Rattle.std.proofs.Common.{◌≡◌, length, refl, sym, ap, subst, ◌∙◌, arith, inr, true, false}
+use Rattle.std.specs.Prelude.{Some, slice_get}
 use Rattle.std.proofs.lemmas.Option.{slice_get-get_or}
 use Rattle.fkv_scan.specs.Log.{log_in}
 use Rattle.fkv_scan.specs.Scan.{IsLed, AreLed}

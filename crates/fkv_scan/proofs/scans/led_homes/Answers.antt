@@ -1,10 +1,9 @@
-use Rattle.std.proofs.Common.{◌≡◌, ◌≤◌, length, refl, sym, ap, subst, ◌∙◌, arith}
+use Rattle.std.proofs.Common.{◌≡◌, length, sym, ap, subst, ◌∙◌, arith}
 use Rattle.std.specs.Prelude.{Some, slice_get}
 use Rattle.std.specs.Ordering.{nat_cmp}
 use Rattle.std.specs.BTreeMap.{get}
 use Rattle.std.proofs.lemmas.Option.{slice_get-get_or}
 use Rattle.fkv_scan.specs.Log.{log_in}
-use Rattle.fkv_scan.specs.Known.{KnowsAll}
 use Rattle.fkv_scan.proofs.Leading.{AreLedHomes, led_next, knows_first}
 use Rattle.fkv_scan.proofs.scans.led_homes.Goals as goal
 

@@ -1,8 +1,7 @@
-use Rattle.std.proofs.Common.{◌≡◌, List, refl, sym, ap, subst, ◌∙◌, true, false, ◌+◌, ◌≤◌, arith}
+use Rattle.std.proofs.Common.{◌≡◌, sym, ap, subst, true, ◌+◌, arith}
 use Rattle.std.specs.Prelude.{◌||◌, ◌↔◌}
 use Rattle.std.specs.Ordering.{nat_cmp}
 use Rattle.std.specs.BTreeMap.{get}
-use Rattle.fkv_record.specs.declared.triples.Triple.{Triple}
 use Rattle.fkv_scan.specs.Log.{log_in}
 use Rattle.fkv_scan.specs.Records.{IsNewer}
 use Rattle.fkv_scan.specs.Scan.{Has, IsScanned, IsScannedTo}

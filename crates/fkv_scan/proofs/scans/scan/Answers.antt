@@ -1,4 +1,4 @@
-use Rattle.std.proofs.Common.{◌≡◌, ◌≤◌, arith, refl, sym, ap, subst, ◌∙◌, true, false, length}
+use Rattle.std.proofs.Common.{◌≡◌, arith, refl, sym, ap, subst, length}
 use Rattle.std.specs.Ordering.{nat_cmp}
 use Rattle.std.specs.BTreeMap.{get}
 use Rattle.fkv_scan.specs.Log.{log_in}

@@ -1,8 +1,7 @@
-use Rattle.std.proofs.Common.{◌≡◌, refl, sym, ap, subst, ◌∙◌, true, false}
+use Rattle.std.proofs.Common.{refl, sym, ◌∙◌}
 use Rattle.std.specs.Ordering.{nat_cmp}
 use Rattle.std.specs.BTreeMap.{get}
 use Rattle.fkv_scan.specs.Log.{log_in}
-use Rattle.fkv_scan.specs.Steps.{links}
 use Rattle.fkv_scan.proofs.Taking.{taken, taken_off}
 use Rattle.fkv_scan.proofs.steps.take_in.Goals as goal
 
