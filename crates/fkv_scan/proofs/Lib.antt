@@ -10,4 +10,5 @@ mod Meets
 mod Quieter
 mod Standing
 mod Taking
+mod Triples
 mod Ways

@@ -1,3 +1,4 @@
+pub mod Checkpoint
 pub mod Known
 pub mod Log
 pub mod Quiet

@@ -7,10 +7,12 @@ mod laws;
 mod readings;
 mod scans;
 mod steps;
+mod triple_stage;
 
 pub use home_scans::HomeScan;
 pub use laws::law_no_fault;
 pub use scans::{Scanned, scan};
+pub use triple_stage::read_triples;
 
 #[cfg(test)]
 mod tests;

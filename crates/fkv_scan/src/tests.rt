@@ -1,7 +1,7 @@
 ghost use Rattle.std.specs.Prelude.{◌≡◌, ◌<◌, ◌≤◌, ◌^◌};
 ghost use Rattle.fkv_base.specs.Limits.{last_version};
 
-use crate::{Scanned, scan};
+use crate::{Scanned, read_triples, scan};
 use arrayvec::ArrayVec;
 use fkv_base::{Addr, Damage, Fault, Serial, Shape, Version};
 use fkv_disk::{Device, MemDisk, Once};
@@ -45,6 +45,8 @@ fn slot(number: u64, first: u64, end: u64, lost: LostRanges) -> ManifestSlot
     ensures number { result.number ≡ number }
     ensures first { result.first.0 ≡ first }
     ensures end { result.end.0 ≡ end }
+    ensures area { result.area ≡ 1 }
+    ensures triples { result.triples ≡ 1 }
 {
     let mut serials = ArrayVec::new();
     serials.push(Serial(3));
@@ -146,6 +148,34 @@ fn newer_records_are_left_out(rt: HostRuntime) -> Result<(), Fail> {
     assert_eq!(rt; found.map(|home| home.entry()), Some(Some(Addr(2))));
     assert_eq!(rt; scanned.newer, true);
     assert_eq!(rt; scanned.homes.len(), 1);
+    Ok(())
+}
+
+// The triples of the first commit, and the scan behind them, where these are the bytes of its one triple.
+fn scan_behind(alloc: Global, triple: &[u8]) -> Result<Scanned, Fault> {
+    let mut disk = image(alloc, &LEFT_OUT)?;
+    disk.write(3328, triple)?;
+    let slot = slot(1, 3, 5, no_range());
+    let shape = shape()?;
+    let triples = read_triples(alloc, &mut disk, shape, &slot)?;
+    scan(alloc, &mut disk, shape, &slot, &triples)
+}
+
+#[test]
+fn a_checkpoint_is_read(rt: HostRuntime) -> Result<(), Fail> {
+    let mut triple = [1, 0, 0, 0, 0, 0, 0, 0, 4, 0, 0, 0, 0, 0, 0, 0];
+    let scanned = scan_behind(rt.alloc(), &triple)?;
+    let found = scanned.homes.get(&HOME).copied();
+    assert_eq!(rt; found.map(|home| home.entry()), Some(Some(Addr(2))));
+    for (at, byte) in [(0, 16), (6, 1), (8, 5)] {
+        let old = triple[at];
+        triple[at] = byte;
+        assert_eq!(rt;
+            fault_of(scan_behind(rt.alloc(), &triple)),
+            Some(Fault::Damaged(Damage::Triple, 0))
+        );
+        triple[at] = old;
+    }
     Ok(())
 }
 
