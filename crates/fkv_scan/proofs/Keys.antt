@@ -1,13 +1,11 @@
 -- Maps by numbers: what a test of keys says.
-use Rattle.std.proofs.Common.{◌≡◌, ◌≢◌, ◌⊎◌, inl, inr, ⊎_elim, ℕ, Bool, true, false, cond, Option, Some, None, refl, sym, ap, ◌∙◌, arith}
+use Rattle.std.proofs.Common.{◌≡◌, ◌⊎◌, inl, inr, ⊎_elim, ℕ, Bool, true, false, cond, Option, Some, None, refl, sym, ap, ◌∙◌}
 use Rattle.std.specs.Ordering.{nat_cmp, is_eq}
 use Rattle.std.specs.declared.cmp.Ordering.{Ordering}
 use Rattle.std.specs.declared.cmp.Ordering.TheVariants.{Less, Equal, Greater}
 use Rattle.std.specs.Cmp.{nat_cmp_is}
 use Rattle.std.proofs.lemmas.Map.Lookups.{exact_unsigned}
 use Rattle.std.specs.Option.{is_some}
-use Rattle.std.specs.Prelude.{nat_eq}
-use Rattle.std.proofs.lemmas.Bool.Decides.{nat_tests}
 
 pub bool_is : (b : Bool) → (b ≡ true) ⊎ (b ≡ false)
 bool_is true = inl refl
@@ -52,12 +50,3 @@ new_some h q new was same = ap (λ b. is_some (cond b (Some new) was)) (at_same 
 pub some_of : {X : Type 0} (o : Option X) → is_some o ≡ true → (x : X) × (o ≡ Some x)
 some_of (Some x) is = (x, refl)
 some_of None is = absurd (cc)
-
-pub equal_or_not : (a b : ℕ) → (a ≡ b) ⊎ (a ≢ b)
-equal_or_not a b = ⊎_elim (λ e. inl (by_true e)) (λ e. inr (by_false e)) (bool_is (nat_eq a b))
-  where
-    by_true : nat_eq a b ≡ true → a ≡ b
-    by_true e = grind (arith, nat_tests)
-
-    by_false : nat_eq a b ≡ false → a ≢ b
-    by_false e = grind (arith, nat_tests)
