@@ -1,0 +1,14 @@
+mod Ending
+mod Faultless
+mod Greatest
+mod Keys
+mod Knowing
+mod Leading
+mod Looping
+mod Meeting
+mod Meets
+mod Quieter
+mod Standing
+mod Taking
+mod Triples
+mod Ways

@@ -1,0 +1,126 @@
+//! What the scan knows of a home.
+ghost use Rattle.std.specs.Prelude.{◌≡◌, ℕ};
+
+use fkv_base::{Addr, Version};
+use fkv_record::Record;
+
+/// What the scan found of a home.
+#[derive(Clone, Copy, Debug, PartialEq, Eq)]
+pub struct HomeScan {
+    /// The newest record of the home that the scan met and that counts.
+    pub newest: Option<Addr>,
+    /// Where the chain of the home goes on below the scan's start, address 0 where it doesn't. Known of each home once
+    /// the scan has ended.
+    pub below: Option<Addr>,
+    /// The last record of the home that was met and isn't lost.
+    pub(crate) last: Option<Addr>,
+    /// Its version.
+    pub(crate) last_version: Version,
+}
+
+impl HomeScan {
+    ghost use Rattle.fkv_scan.specs.Log.{Log};
+    ghost use Rattle.fkv_scan.specs.Scanned.{IsHomeScan, IsEntryOf};
+    ghost use Rattle.fkv_scan.specs.Steps.{is_way, is_next, is_first, links, met, led, unled};
+
+    /// A home before the scan, by the address of its triple.
+    pub(crate) fn led(addr: Addr, start: Addr) -> HomeScan
+        ensures { result ≡ led addr start.0 }
+    {
+        HomeScan {
+            newest: None,
+            below: if addr.0 < start.0 { Some(addr) } else { None },
+            last: None,
+            last_version: Version(0),
+        }
+    }
+
+    /// A home that has no triple, before a record of it is met.
+    pub(crate) fn unled() -> HomeScan
+        ensures { result ≡ unled }
+    {
+        HomeScan {
+            newest: None,
+            below: Some(Addr(0)),
+            last: None,
+            last_version: Version(0),
+        }
+    }
+
+    /// Where the home's entry points once all records are scanned: to the newest record that counts, or else to where the
+    /// chain goes on below the scan's start.
+    pub fn entry(&self) -> Option<Addr>
+        ensures { (log : Log) (its_home : ℕ) → IsHomeScan log its_home self.now → IsEntryOf log its_home result }
+    {
+        if let Some(addr) = self.newest {
+            return Some(addr);
+        }
+        match self.below {
+            Some(way) if way.0 != 0 => Some(way),
+            _ => None,
+        }
+    }
+
+    /// Whether the address is the one below the start that is known, if one is.
+    fn is_way(&self, addr: Addr) -> bool
+        ensures { result ≡ is_way self.now.below addr.0 }
+    {
+        match self.below {
+            Some(way) => way.0 == addr.0,
+            None => true,
+        }
+    }
+
+    /// Whether the record leads to the last one, whose version isn't above its own.
+    fn is_next(&self, found: &Record) -> bool
+        ensures { result ≡ is_next self.now.last self.now.last_version.0 found.now }
+    {
+        match self.last {
+            Some(last) => {
+                last.0 == found.header.previous.0 && self.last_version.0 <= found.header.version.0
+            }
+            None => false,
+        }
+    }
+
+    /// Whether a valid record is on the chain of its home. A lost one may lead to any valid record of the home; `leads`
+    /// says whether it does.
+    #[tactic(auto, unfolding(crate::specs::Steps::links))]
+    pub(crate) fn links(&self, found: &Record, is_lost: bool, leads: bool, start: Addr) -> bool
+        ensures { result ≡ links self.now found.now is_lost leads start.0 }
+    {
+        if found.header.previous.0 < start.0 {
+            return self.is_way(found.header.previous) && (is_lost || self.last.is_none());
+        }
+        if is_lost { leads } else { self.is_next(found) }
+    }
+
+    /// What is known once the valid record at the address was met, where the commit has this number.
+    #[tactic(auto, unfolding(crate::specs::Steps::met))]
+    pub(crate) fn met(
+        &self,
+        addr: Addr,
+        found: &Record,
+        is_lost: bool,
+        start: Addr,
+        number: u64,
+    ) -> HomeScan
+        ensures { result ≡ met self.now addr found.now is_lost start.0 number }
+    {
+        let counts = !is_lost && found.header.version.0 <= number;
+        HomeScan {
+            newest: if counts { Some(addr) } else { self.newest },
+            below: if found.header.previous.0 < start.0 {
+                Some(found.header.previous)
+            } else {
+                self.below
+            },
+            last: if is_lost { self.last } else { Some(addr) },
+            last_version: if is_lost {
+                self.last_version
+            } else {
+                found.header.version
+            },
+        }
+    }
+}
