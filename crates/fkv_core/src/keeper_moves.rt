@@ -1,10 +1,11 @@
 //! The keeper's steps beside the words and the actions.
-ghost use Rattle.std.specs.Prelude.{◌≡◌, ◌↔◌, not, Bool};
+ghost use Rattle.std.specs.Prelude.{◌≡◌, ◌↔◌, not, Bool, false, List, ℕ};
 ghost use Rattle.fkv_disk.specs.Device.{Elapses};
 ghost use Rattle.fkv_keeper.specs.Answers.{IsAsked};
 ghost use Rattle.fkv_keeper.specs.KeeperRun.{is_in_hand};
 ghost use Rattle.fkv_keeper.specs.Keeping.{keeper_ask, commit_asked, turn_asked};
-ghost use Rattle.fkv_world.specs.Moves.{keeper_settled};
+ghost use Rattle.fkv_plane.specs.Passing.{is_done};
+ghost use Rattle.fkv_world.specs.Moves.{keeper_moved, keeper_settled};
 ghost use Rattle.fkv_world.specs.World.{keeper_asked};
 ghost use Rattle.fkv_core.specs.Told.{IsKeeperEndTold};
 ghost use Rattle.fkv_core.specs.Worlds.{beside, IsKeeperMove};
@@ -52,24 +53,43 @@ pub(crate) fn keeper_move<D: Device>(
     ensures time { D.honest device.old → Elapses (D.moment device.old) (D.moment device.new) (D.left_since device.old) (D.left_since device.new) (D.may_leave device.new) }
 {
     let was_busy = keeper.is_in_hand();
-    let next = match keeper.ask() {
-        Ask::Done(KeeperTold::Device) => keeper.device_step(device),
-        Ask::Done(_) => return None,
+    match keeper.ask() {
+        Ask::Done(KeeperTold::Device) => {
+            let next = keeper.device_step(device);
+            told(keeper, was_busy, next)
+        }
+        Ask::Done(_) => None,
+        ask => {
+            let next = word_asked(words, keeper, ask);
+            told(keeper, was_busy, next)
+        }
+    }
+}
+
+/// Makes an ask of a word, or what goes with one.
+#[tactic(auto, unfolding(fkv_plane::specs::Passing::passed, fkv_world::specs::Moves::keeper_asks, fkv_world::specs::Moves::keeper_settled))]
+fn word_asked(words: &mut PlainWords, keeper: &mut Keeper, ask: Ask<KeeperTold>) -> KeeperAsk
+    requires asked { ask ≡ keeper_ask keeper.old.shape keeper.old.places keeper.old.state }
+    requires word { is_done ask ≡ false }
+    ensures store { (keeper.new.shape ≡ keeper.old.shape) × (keeper.new.places ≡ keeper.old.places) }
+    ensures moved { (granted : Bool) × ((done : Bool) (read : List ℕ) → beside words.new keeper.new.state ≡ keeper_moved keeper.old.shape keeper.old.places granted done read (beside words.old keeper.old.state)) }
+    ensures ask { IsAsked keeper.new.state.last (keeper_ask keeper.new.shape keeper.new.places keeper.new.state) result }
+{
+    match ask {
         Ask::Put(slot, action) => {
             let _ = words.put(slot, action);
             keeper.drive(0)
         }
         Ask::Take(slot) => match words.take(slot) {
             Some(action) => keeper.given(action),
-            None => return None,
+            None => KeeperAsk::Word(Ask::Take(slot)),
         },
         word => {
             let reply = words.perform(&word);
             let next = keeper.drive(reply);
             settle(words, keeper, next)
         }
-    };
-    told(keeper, was_busy, next)
+    }
 }
 
 /// Moves the action that goes with the ask before.
