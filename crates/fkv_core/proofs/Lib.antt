@@ -1,3 +1,5 @@
 mod Ends
 mod Granted
 mod Keepers
+mod Seated
+mod Steps

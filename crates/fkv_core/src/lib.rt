@@ -4,5 +4,7 @@
 mod events;
 mod keeper_moves;
 mod session_moves;
+mod worlds;
 
 pub use events::{Event, Told};
+pub use worlds::World;
