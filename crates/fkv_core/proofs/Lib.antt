@@ -3,3 +3,4 @@ mod Granted
 mod Keepers
 mod Seated
 mod Steps
+mod Lives

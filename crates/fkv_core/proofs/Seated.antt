@@ -90,7 +90,7 @@ pub session_called_so : (n : Now) (number : ℕ) (call : Call) (sitters sitters'
 session_called_so n number call sitters sitters' told seated its =
     let before : Now = record n { sessions = states_of sitters } in
     subst (λ (it : Option SessionState). IsSessionEvent before (record n { sessions = states_of sitters' }) number may_begin sitters' (session_calls before number call it) told)
-        (sym (slice_get-map state_of sitters number)) (called_by n number call sitters sitters' told (slice_get sitters number) refl seated its)
+    (sym (slice_get-map state_of sitters number)) (called_by n number call sitters sitters' told (slice_get sitters number) refl seated its)
 
 -- the world with other words and actions, and other sessions
 abbrev pub with_plane : Now → Plane → List Sitter → Now
@@ -120,4 +120,4 @@ pub session_moved_so : (n : Now) (number : ℕ) (plane plane' : Plane) (sitters 
 session_moved_so n number plane plane' sitters sitters' told seated its =
     let before : Now = with_plane n plane sitters in
     subst (λ (it : Option SessionState). IsSessionEvent before (with_plane n plane' sitters') number may_move sitters' (session_moves before number it) told)
-        (sym (slice_get-map state_of sitters number)) (moved_by n number plane plane' sitters sitters' told (slice_get sitters number) refl seated its)
+    (sym (slice_get-map state_of sitters number)) (moved_by n number plane plane' sitters sitters' told (slice_get sitters number) refl seated its)

@@ -16,6 +16,7 @@ use Rattle.fkv_core.specs.declared.events.Event.TheVariants as events
 use Rattle.fkv_core.specs.declared.events.Told.{Told}
 use Rattle.fkv_core.specs.Told.{IsEventTold, IsTold, IsKeeperEndTold, may_begin, may_move}
 use Rattle.fkv_core.specs.Worlds.{AreSeated, AreSessionCalls, AreSessionMoves, IsKeeperMove, IsStep, beside, states_of, took_place, device_gives, event_calls, calls_made}
+use Rattle.fkv_core.proofs.Lives.{leads_on}
 use Rattle.fkv_core.proofs.Seated.{with_plane, session_called_so, session_moved_so}
 
 alive : {A : Type 0} (crashed : Bool) (was after : A) → crashed ≡ false → (if crashed then was else after) ≡ after
@@ -25,19 +26,39 @@ alive false was after e = refl
 alive_told : (n after : Now) (its : Event) (told : Option Told) → n.crashed ≡ false → IsEventTold n after its told → IsTold n.crashed n after its told
 alive_told n after its told lives tells = subst (λ (crashed : Bool). IsTold crashed n after its told) (sym lives) tells
 
+with_life : (its : event.Event) (n after : Now) (told : Option Told) (honest : Type 0) (seen seen' : List ℕ) (may_leave may_leave' : List ℕ → Type 0) (granted done : Bool) (read : List ℕ)
+    → after ≡ happens_now n read (took_place its granted done) → IsTold n.crashed n after (took_place its granted done) told → (honest → after ≡ happens_now n (device_gives n seen) (took_place its granted done))
+    → (honest → Adds (calls_made n (took_place its granted done)) seen seen' may_leave may_leave') → IsStep its n after told honest seen seen' may_leave may_leave'
+with_life its n after told honest seen seen' may_leave may_leave' granted done read now tells as_read wrote = record {
+  granted = granted;
+  done = done;
+  read = read;
+  now = now;
+  tells = tells;
+  as_read = as_read;
+  wrote = wrote;
+  life = λ claim. leads_on n after (took_place its granted done) told seen seen' may_leave may_leave' tells (as_read claim) (wrote claim);
+}
+
+-- after a crash nothing happens
+pub no_step : (its : event.Event) (n : Now) (honest : Type 0) (seen : List ℕ) (may_leave : List ℕ → Type 0) → n.crashed ≡ true → IsStep its n n None honest seen seen may_leave may_leave
+no_step its n honest seen may_leave over =
+    let still : (event : Event) (read : List ℕ) → n ≡ happens_now n read event = λ event read. sym (ap (λ (crashed : Bool). if crashed then n else life_goes n read event) over) in
+    with_life its n n None honest seen seen may_leave may_leave true true [] (still (took_place its true true) []) (subst (λ (crashed : Bool). IsTold crashed n n (took_place its true true) None) (sym over) refl)
+    (λ claim. still (took_place its true true) (device_gives n seen))
+    (λ claim. subst (λ (made : List DeviceCall). Adds made seen seen may_leave may_leave) (sym (ap (λ (crashed : Bool). if crashed then [] else event_calls n (took_place its true true)) over)) (λ opening calls was. was))
+
 -- an event that makes no call of the device
 quiet_step : (its : event.Event) (n after : Now) (told : Option Told) (honest : Type 0) (seen : List ℕ) (may_leave : List ℕ → Type 0) → n.crashed ≡ false
     → ((read : List ℕ) → after ≡ life_goes n read (took_place its true true)) → IsEventTold n after (took_place its true true) told → event_calls n (took_place its true true) ≡ []
     → IsStep its n after told honest seen seen may_leave may_leave
-quiet_step its n after told honest seen may_leave lives goes tells quiet = record {
-  granted = true;
-  done = true;
-  read = [];
-  now = goes [] ∙ sym (alive n.crashed n (life_goes n [] (took_place its true true)) lives);
-  tells = alive_told n after (took_place its true true) told lives tells;
-  as_read = λ claim. goes (device_gives n seen) ∙ sym (alive n.crashed n (life_goes n (device_gives n seen) (took_place its true true)) lives);
-  wrote = λ claim. subst (λ (made : List DeviceCall). Adds made seen seen may_leave may_leave) (sym (alive n.crashed [] (event_calls n (took_place its true true)) lives ∙ quiet)) (λ opening calls was. was);
-}
+quiet_step its n after told honest seen may_leave lives goes tells quiet =
+    let took : Event = took_place its true true in
+    with_life its n after told honest seen seen may_leave may_leave true true []
+    (goes [] ∙ sym (alive n.crashed n (life_goes n [] took) lives))
+    (alive_told n after took told lives tells)
+    (λ claim. goes (device_gives n seen) ∙ sym (alive n.crashed n (life_goes n (device_gives n seen) took) lives))
+    (λ claim. subst (λ (made : List DeviceCall). Adds made seen seen may_leave may_leave) (sym (alive n.crashed [] (event_calls n took) lives ∙ quiet)) (λ opening calls was. was))
 
 pub call_step : (n : Now) (number : ℕ) (call : Call) (sitters sitters' : List Sitter) (told : Option Told) (honest : Type 0) (seen : List ℕ) (may_leave : List ℕ → Type 0) → n.crashed ≡ false
     → AreSeated n.shape n.places sitters → AreSessionCalls number call sitters sitters' told
@@ -97,12 +118,8 @@ unfolding life_goes
 keeper_step n plane' k' told honest seen seen' may_leave may_leave' lives its tells =
     let took : Event = KeeperMoves its.granted its.done in
     let goes : (read : List ℕ) → Near KeeperState = λ read. keeper_moved n.shape n.places its.granted its.done read (near n n.keeper) in
-    record {
-      granted = its.granted;
-      done = its.done;
-      read = its.read;
-      now = put_back n plane' k' (goes its.read) its.store its.moved ∙ sym (alive n.crashed n (life_goes n its.read took) lives);
-      tells = alive_told n (kept_beside n plane' k') took told lives tells;
-      as_read = λ claim. put_back n plane' k' (goes (device_gives n seen)) its.store (its.as_read claim) ∙ sym (alive n.crashed n (life_goes n (device_gives n seen) took) lives);
-      wrote = λ claim. subst (λ (made : List DeviceCall). Adds made seen seen' may_leave may_leave') (sym (alive n.crashed [] (event_calls n took) lives)) (its.wrote claim);
-    }
+    with_life events.KeeperMove n (kept_beside n plane' k') told honest seen seen' may_leave may_leave' its.granted its.done its.read
+    (put_back n plane' k' (goes its.read) its.store its.moved ∙ sym (alive n.crashed n (life_goes n its.read took) lives))
+    (alive_told n (kept_beside n plane' k') took told lives tells)
+    (λ claim. put_back n plane' k' (goes (device_gives n seen)) its.store (its.as_read claim) ∙ sym (alive n.crashed n (life_goes n (device_gives n seen) took) lives))
+    (λ claim. subst (λ (made : List DeviceCall). Adds made seen seen' may_leave may_leave') (sym (alive n.crashed [] (event_calls n took) lives)) (its.wrote claim))

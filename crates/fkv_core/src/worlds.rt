@@ -1,13 +1,15 @@
 //! The engine's world: sessions, the keeper, the words and the device, and one step of it.
 ghost use Rattle.std.specs.Prelude.{◌≡◌, ◌↔◌};
 ghost use Rattle.fkv_disk.specs.Device.{Elapses};
+ghost use Rattle.fkv_disk.specs.Fuse.{armed};
+ghost use Rattle.fkv_disk.specs.Fuses.{fuse_device, fuse_state, fuse_refused};
 ghost use Rattle.fkv_core.specs.Told.{numbered};
 ghost use Rattle.fkv_core.specs.Worlds.{AreSessionCalls, AreSessionMoves, IsStep};
 
 use crate::events::{Event, Told};
 use crate::keeper_moves::{keeper_commit, keeper_move, keeper_turn};
 use crate::session_moves::{session_call, session_move};
-use fkv_disk::Device;
+use fkv_disk::{Device, Fuse};
 use fkv_keeper::Keeper;
 use fkv_map::Call;
 use fkv_plane::PlainWords;
@@ -66,6 +68,18 @@ impl<D: Device> World<D> {
     {
         let World { device, .. } = self;
         device
+    }
+}
+
+impl<D: Device> World<Fuse<D>> {
+    /// From now on `k` calls of the device pass, and then each is refused. A fuse that has blown stays so.
+    pub fn arm(&mut self, k: u64)
+        ensures now { self.new.now ≡ self.old.now }
+        ensures device { fuse_device self.new.device ≡ fuse_device self.old.device }
+        ensures state { fuse_state self.new.device ≡ armed k (fuse_state self.old.device) }
+        ensures refused { fuse_refused self.new.device ≡ fuse_refused self.old.device }
+    {
+        self.device.arm(k);
     }
 }
 

@@ -22,4 +22,4 @@ returns-in-Put-clause-next c = λ granted.
     let goes : after ≡ keeper_next k.shape k.places n.machine 0 after.is_granted = search rules in
     let plane : c.put.new.self ≡ record c.args.words.now { actions = slice_set n.actions c.in-Put.slot (Some c.in-Put.action) } = search rules in
     ap (λ (p : Plane). beside p after) plane ∙ put_settled k.shape k.places n after asked c.in-Put.slot c.in-Put.action after.is_granted granted is puts goes
-        ∙ ap (λ (ask : Ask KeeperTold). keeper_settled k.shape k.places granted n ask) is
+    ∙ ap (λ (ask : Ask KeeperTold). keeper_settled k.shape k.places granted n ask) is

@@ -15,7 +15,7 @@ returns-in-Some c =
     let next : Sitter = c.session_call.new.session in
     let got : slice_get sitters c.args.number ≡ Some s = grind (arith, common_steps, gets) in
     subst (λ (it : Option Sitter). IsCallBegunBy c.args.number c.args.call it sitters (slice_set sitters c.args.number next) c.numbered.result) (sym got)
-        (record { next = next; its = record { put = refl; seat = c.session_call.ensures.seat }; begun = c.session_call.ensures.next; tells = record { answer = c.session_call.result; its = c.session_call.ensures.told; numbered_so = c.numbered.ensures } })
+    (record { next = next; its = record { put = refl; seat = c.session_call.ensures.seat }; begun = c.session_call.ensures.next; tells = record { answer = c.session_call.result; its = c.session_call.ensures.told; numbered_so = c.numbered.ensures } })
 
 pub returns-in-None : goal.returns-in-None
 returns-in-None c =

@@ -14,7 +14,7 @@ returns-in-Some c =
     let next : Sitter = c.session_move.new.session in
     let got : slice_get sitters c.args.number ≡ Some s = grind (arith, common_steps, gets) in
     subst (λ (it : Option Sitter). IsMovedBy c.args.number c.args.words.now c.session_move.new.words it sitters (slice_set sitters c.args.number next) c.numbered.result) (sym got)
-        (record { next = next; its = record { put = refl; seat = c.session_move.ensures.seat }; moved = c.session_move.ensures.next; tells = record { answer = c.session_move.result; its = c.session_move.ensures.told; numbered_so = c.numbered.ensures } })
+    (record { next = next; its = record { put = refl; seat = c.session_move.ensures.seat }; moved = c.session_move.ensures.next; tells = record { answer = c.session_move.result; its = c.session_move.ensures.told; numbered_so = c.numbered.ensures } })
 
 pub returns-in-None : goal.returns-in-None
 returns-in-None c =

@@ -3,7 +3,7 @@ use Rattle.std.proofs.Common.{◌≡◌, false}
 use Rattle.fkv_world.specs.World.{Now}
 use Rattle.fkv_core.specs.Worlds.{states_of}
 use Rattle.fkv_core.proofs.Seated.{session_called_so, session_moved_so}
-use Rattle.fkv_core.proofs.Steps.{call_step, move_step, commit_step, turn_step, keeper_step, crash_step}
+use Rattle.fkv_core.proofs.Steps.{call_step, move_step, commit_step, turn_step, keeper_step, crash_step, no_step}
 use Rattle.fkv_core.proofs.worlds.World.step.Goals as goal
 
 pub invariant_of-self : goal.invariant_of-self
@@ -53,3 +53,9 @@ returns-in-Crash-clause-step g c =
     let inside = c.self.inside in
     let n : Now = record { shape = inside.keeper.shape; places = inside.keeper.places; words = inside.words.words; actions = inside.words.actions; sessions = states_of inside.sessions.items; keeper = inside.keeper.state; crashed = inside.crashed } in
     rw (← c.self.view_is, c.in-Crash.is) (crash_step n _ _ _ c.if-self.false)
+
+pub returns-then-self-clause-step : goal.returns-then-self-clause-step
+returns-then-self-clause-step g c =
+    let inside = c.self.inside in
+    let n : Now = record { shape = inside.keeper.shape; places = inside.keeper.places; words = inside.words.words; actions = inside.words.actions; sessions = states_of inside.sessions.items; keeper = inside.keeper.state; crashed = inside.crashed } in
+    rw (← c.self.view_is) (no_step c.args.event n _ _ _ c.if-self.true)
