@@ -17,7 +17,7 @@ use Rattle.fkv_session.specs.declared.answers.Finished.{Finished}
 use Rattle.fkv_session.specs.declared.sessions.Sitting.{Sitting}
 use Rattle.fkv_session.specs.declared.sessions.Sitting.TheVariants.{Idle}
 use Rattle.fkv_session.specs.Answers.{IsAnswered}
-use Rattle.fkv_session.specs.Sessions.{Seat, SessionState, is_busy, sitting_ask, session_ask}
+use Rattle.fkv_session.specs.Sessions.{Seat, SessionState, is_busy, sitting_ask}
 use Rattle.fkv_core.specs.Told.{IsSittingTold, IsKeepingTold, keeper_told}
 
 pub busy_told : (was : Bool) (step : Sitting) (finished : List Finished) → is_busy step ≡ true → IsSittingTold was step finished None

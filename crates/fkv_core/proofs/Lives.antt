@@ -1,15 +1,11 @@
 -- What an event adds to the past: its calls of the device, and the answer that it tells.
-use Rattle.std.proofs.Common.{◌≡◌, ◌∙◌, sym, ap, subst, inl, inr, ℕ, Bool, true, false, List, [], ◌∷◌, ◌++◌, ◌⊎◌, if◌then◌else◌, not, refl, rules}
+use Rattle.std.proofs.Common.{◌≡◌, ◌∙◌, sym, ap, subst, inl, inr, ℕ, Bool, true, false, List, [], ◌++◌, ◌⊎◌, if◌then◌else◌, not, refl, rules}
 use Rattle.std.specs.Prelude.{Option, Some, None, slice_get}
-use Rattle.fkv_disk.specs.Bytes.{bytes_at}
 use Rattle.fkv_disk.specs.Calls.{Call as DeviceCall, AllDone, reads_as}
 use Rattle.fkv_disk.specs.Device.{IsAfter}
 use Rattle.fkv_disk.proofs.Shown.{reads_all}
 use Rattle.fkv_base.specs.declared.shapes.Shape.{Shape}
-use Rattle.fkv_commit.specs.declared.commits.CommitKind.{CommitKind}
 use Rattle.fkv_flush.specs.Devices.{Adds}
-use Rattle.fkv_flush.specs.Serving.{mail_place}
-use Rattle.fkv_keeper.specs.declared.answers.KeeperAsk.{KeeperAsk}
 use Rattle.fkv_keeper.specs.declared.answers.KeeperTold.{KeeperTold}
 use Rattle.fkv_keeper.specs.declared.answers.KeeperTold.TheVariants.{Device}
 use Rattle.fkv_keeper.specs.declared.keepers.Keeping.{Keeping}
@@ -31,12 +27,12 @@ use Rattle.fkv_session.specs.Answers.{IsAnswerTold}
 use Rattle.fkv_session.specs.SessionRun.{telling, with_finished}
 use Rattle.fkv_session.specs.Sessions.{SessionState, is_busy, session_ask}
 use Rattle.fkv_world.specs.Moves.{Near, keeper_asks, keeper_moved}
-use Rattle.fkv_world.specs.Past.{Past, TraceEvent, Called, Answered, CommitAsked, TurnAsked, KeeperAnswered, traced, history_after, answer_traced, session_traced, call_traced, move_traced, keeper_answered, keeper_begun, calls_after, life_past}
-use Rattle.fkv_world.specs.Runs.{World, run, happens, past_after, read_by_keeper}
+use Rattle.fkv_world.specs.Past.{Past, TraceEvent, Called, Answered, CommitAsked, TurnAsked, KeeperAnswered, traced, history_after, answer_traced, call_traced, move_traced, keeper_answered, calls_after, life_past}
+use Rattle.fkv_world.specs.Runs.{World, run, happens}
 use Rattle.fkv_world.specs.World.{Event, Calls, Moves, Commits, Turns, KeeperMoves, Crashes, Now, seat_at, near, with_keeper, life_goes, happens_now}
 use Rattle.fkv_core.specs.declared.events.Told.{Told}
-use Rattle.fkv_core.specs.Lives.{answers_of, IsAnswerSaid, IsSaid, IsLedOn, LeadsOn}
-use Rattle.fkv_core.specs.Told.{IsSittingTold, IsNumbered, IsSessionEnd, IsKeepingTold, IsEventTold, IsTold, numbered, may_begin, may_move}
+use Rattle.fkv_core.specs.Lives.{answers_of, IsSaid, IsLedOn, LeadsOn}
+use Rattle.fkv_core.specs.Told.{IsSittingTold, IsSessionEnd, IsKeepingTold, IsEventTold, IsTold, numbered, may_begin, may_move}
 use Rattle.fkv_core.specs.Worlds.{device_gives, event_calls, calls_made}
 
 record IsAdded (p q : Past) (made : List DeviceCall) (told : Option Told) : Type 0 where

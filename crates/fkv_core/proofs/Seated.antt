@@ -1,6 +1,6 @@
 -- The sessions of a world, each in its place.
-use Rattle.std.proofs.Common.{◌≡◌, ◌∙◌, sym, ap, subst, arith, rules, nat_eq, ℕ, ◌<◌, Bool, true, false, List, length, refl}
-use Rattle.std.specs.Prelude.{map, Option, Some, None, option_map, slice_get, slice_set, get_or}
+use Rattle.std.proofs.Common.{◌≡◌, ◌∙◌, sym, ap, subst, arith, nat_eq, ℕ, ◌<◌, Bool, true, false, List, length, refl}
+use Rattle.std.specs.Prelude.{Option, Some, None, option_map, slice_get, slice_set}
 use Rattle.std.proofs.lemmas.Bool.Decides.{nat_tests}
 use Rattle.std.proofs.lemmas.List.{map-set, length-set, get_or-set_same, get_or-set_other}
 use Rattle.std.proofs.lemmas.Option.{slice_get-map, slice_get_within, slice_get-get_or, get_or_from_slice_get}
@@ -10,7 +10,7 @@ use Rattle.fkv_plane.specs.declared.places.Places.{Places}
 use Rattle.fkv_plane.specs.Plane.{Plane}
 use Rattle.fkv_session.specs.Sessions.{Sitter, Seat, SessionState}
 use Rattle.fkv_world.specs.Moves.{Near, session_moved}
-use Rattle.fkv_world.specs.World.{Now, seat_at, near, with_session, session_called, session_calls, session_moves}
+use Rattle.fkv_world.specs.World.{Now, seat_at, with_session, session_called, session_calls, session_moves}
 use Rattle.fkv_core.specs.declared.events.Told.{Told}
 use Rattle.fkv_core.specs.Told.{IsNumbered, IsSessionEnd, may_begin, may_move}
 use Rattle.fkv_core.specs.Worlds.{AreSeated, IsPut, IsCallBegunBy, AreSessionCalls, IsMovedBy, AreSessionMoves, beside, state_of, states_of}

@@ -10,11 +10,11 @@ use Rattle.fkv_map.specs.declared.operations.Call.{Call}
 use Rattle.fkv_plane.specs.Plane.{Plane}
 use Rattle.fkv_session.specs.Sessions.{Sitter}
 use Rattle.fkv_world.specs.Moves.{Near, keeper_moved}
-use Rattle.fkv_world.specs.World.{Event, Now, KeeperMoves, near, with_keeper, keeper_asked, session_calls, session_moves, life_goes, happens_now}
+use Rattle.fkv_world.specs.World.{Event, Now, KeeperMoves, near, with_keeper, keeper_asked, life_goes, happens_now}
 use Rattle.fkv_core.specs.declared.events.Event as event
 use Rattle.fkv_core.specs.declared.events.Event.TheVariants as events
 use Rattle.fkv_core.specs.declared.events.Told.{Told}
-use Rattle.fkv_core.specs.Told.{IsEventTold, IsTold, IsKeeperEndTold, may_begin, may_move}
+use Rattle.fkv_core.specs.Told.{IsEventTold, IsTold, IsKeeperEndTold}
 use Rattle.fkv_core.specs.Worlds.{AreSeated, AreSessionCalls, AreSessionMoves, IsKeeperMove, IsStep, beside, states_of, took_place, device_gives, event_calls, calls_made}
 use Rattle.fkv_core.proofs.Lives.{leads_on}
 use Rattle.fkv_core.proofs.Seated.{with_plane, session_called_so, session_moved_so}

@@ -1,5 +1,5 @@
 -- The keeper's step goes by the device where it asks for it, and else by the words.
-use Rattle.std.proofs.Common.{rules, ◌≡◌, false, Bool, List, ℕ}
+use Rattle.std.proofs.Common.{rules, ◌≡◌, false}
 use Rattle.fkv_keeper.specs.declared.answers.KeeperTold.TheVariants.{Device}
 use Rattle.fkv_keeper.specs.Keeping.{keeper_ask}
 use Rattle.fkv_plane.specs.declared.asks.Ask.TheVariants.{Done}

@@ -1,5 +1,5 @@
 -- Where an action is put into its slot memory doesn't count.
-use Rattle.std.proofs.Common.{◌≡◌, ◌∙◌, ap, sym, rules, Bool}
+use Rattle.std.proofs.Common.{◌≡◌, ◌∙◌, ap, rules}
 use Rattle.std.specs.Prelude.{slice_set, Some}
 use Rattle.fkv_keeper.specs.Keeping.{KeeperState, keeper_ask, keeper_next}
 use Rattle.fkv_keeper.specs.declared.answers.KeeperTold.{KeeperTold}

@@ -1,10 +1,8 @@
 -- Whether memory was granted counts in the first of the two steps alone.
 use Rattle.std.proofs.Common.{rules, ◌≡◌, Bool, true, List, ℕ}
-use Rattle.fkv_base.specs.declared.shapes.Shape.{Shape}
 use Rattle.fkv_keeper.specs.declared.answers.KeeperTold.{KeeperTold}
 use Rattle.fkv_keeper.specs.Keeping.{KeeperState, keeper_ask}
 use Rattle.fkv_plane.specs.declared.asks.Ask.{Ask}
-use Rattle.fkv_plane.specs.declared.places.Places.{Places}
 use Rattle.fkv_session.specs.Sessions.{is_word_ask}
 use Rattle.fkv_world.specs.Moves.{Near, keeper_moved, keeper_replied, keeper_asks, keeper_settled}
 use Rattle.fkv_core.specs.Worlds.{beside}

@@ -4,7 +4,6 @@ use Rattle.std.specs.Prelude.{Option, Some, None, slice_get, slice_set}
 use Rattle.std.proofs.lemmas.Option.{gets}
 use Rattle.std.proofs.lemmas.Grind.{common_steps}
 use Rattle.fkv_session.specs.Sessions.{Sitter}
-use Rattle.fkv_world.specs.World.{session_called}
 use Rattle.fkv_core.specs.Worlds.{IsCallBegunBy}
 use Rattle.fkv_core.proofs.worlds.called.Goals as goal
 

@@ -1,5 +1,4 @@
 -- Each kind of event leads where the rules of the world lead.
-use Rattle.std.proofs.Common.{◌≡◌, false}
 use Rattle.fkv_world.specs.World.{Now}
 use Rattle.fkv_core.specs.Worlds.{states_of}
 use Rattle.fkv_core.proofs.Seated.{session_called_so, session_moved_so}
