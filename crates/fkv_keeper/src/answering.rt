@@ -7,10 +7,11 @@ ghost use Rattle.fkv_epoch.specs.Claiming.{takes_action};
 ghost use Rattle.fkv_plane.specs.declared.asks.Ask.TheVariants.{Done};
 ghost use Rattle.fkv_plane.specs.Passing.{is_done};
 ghost use Rattle.fkv_keeper.specs.declared.answers.KeeperTold.TheVariants.{Device as AtDevice};
+ghost use Rattle.fkv_keeper.specs.KeeperRun.{is_in_hand};
 ghost use Rattle.fkv_keeper.specs.Keeping.{commit_asked, turn_asked, keeper_ask, keeper_next, keeper_given};
 
 use crate::answers::{Finished, KeeperAsk, KeeperTold, Turn};
-use crate::keepers::Keeper;
+use crate::keepers::{Keeper, Keeping};
 use arrayvec::ArrayVec;
 use fkv_commit::CommitKind;
 use fkv_disk::Device;
@@ -85,6 +86,14 @@ impl Keeper {
             Ask::Done(_) => false,
             _ => true,
         }
+    }
+
+    /// Whether it stands between a call's beginning and its end, whatever it asks there. In each run of a store that is where a call is
+    /// in hand.
+    pub fn is_in_hand(&self) -> bool
+        ensures { result ≡ is_in_hand self.now.state.step }
+    {
+        !matches!(self.step, Keeping::Ended(_))
     }
 
     /// The newest commit that it has finished, if it has finished one since the store was opened.

@@ -1,0 +1,68 @@
+-- The keeper's step, with and without a call of the device.
+use Rattle.std.proofs.Common.{◌≡◌, ◌∙◌, sym, ap, subst, ℕ, Bool, false, true, List, [], ◌++◌, refl, arith, rules, inl}
+use Rattle.std.specs.Prelude.{is_ok}
+use Rattle.fkv_disk.specs.Calls.{Call}
+use Rattle.fkv_disk.specs.Device.{Elapses}
+use Rattle.fkv_flush.specs.Devices.{Adds}
+use Rattle.fkv_keeper.specs.declared.answers.KeeperTold.{KeeperTold}
+use Rattle.fkv_keeper.specs.declared.answers.KeeperTold.TheVariants.{Device}
+use Rattle.fkv_keeper.specs.KeeperAsks.{IsDeviceStep, keeper_calls, keeper_read}
+use Rattle.fkv_keeper.specs.Keeping.{KeeperModel, KeeperState, keeper_ask, keeper_called}
+use Rattle.fkv_plane.specs.declared.asks.Ask.{Ask}
+use Rattle.fkv_plane.specs.declared.asks.Ask.TheVariants.{Done}
+use Rattle.fkv_plane.specs.Passing.{is_done}
+use Rattle.fkv_plane.specs.Plane.{Plane}
+use Rattle.fkv_world.specs.Moves.{Near, keeper_asks, keeper_moved}
+use Rattle.fkv_world.specs.Past.{calls_after}
+use Rattle.fkv_core.specs.Worlds.{beside, IsKeeperMove}
+
+-- a word's ask makes no call of the device
+no_calls : (ask : Ask KeeperTold) (made : List Call) → is_done ask ≡ false → calls_after ask made [] ≡ []
+no_calls (Done told) made word = cc
+no_calls ask made word = refl
+
+adds_none : (made : List Call) (seen : List ℕ) (may_leave : List ℕ → Type 0) → made ≡ [] → Adds made seen seen may_leave may_leave
+adds_none made seen may_leave none = subst (λ (its : List Call). Adds its seen seen may_leave may_leave) (sym none) (λ opening calls was. was)
+
+pub word_move : (plane plane' : Plane) (k k' : KeeperModel) (honest : Type 0) (seen : List ℕ) (may_leave : List ℕ → Type 0) → is_done (keeper_ask k.shape k.places k.state) ≡ false
+    → k' ≡ record k { state = k'.state } → (granted : Bool) × ((done : Bool) (read : List ℕ) → beside plane' k'.state ≡ keeper_moved k.shape k.places granted done read (beside plane k.state))
+    → IsKeeperMove plane k plane' k' honest seen seen may_leave may_leave
+word_move plane plane' k k' honest seen may_leave word store moved = record {
+  granted = moved.0;
+  done = true;
+  read = [];
+  store = store;
+  moved = moved.1 true [];
+  as_read = λ claim. moved.1 true (keeper_read k seen);
+  wrote = λ claim. adds_none (calls_after (keeper_ask k.shape k.places k.state) (keeper_calls k.shape k.state true) []) seen may_leave (no_calls (keeper_ask k.shape k.places k.state) (keeper_calls k.shape k.state true) word);
+}
+
+-- nothing happens in no time
+pub no_time : (moment : ℕ) (left_since : ℕ → List ℕ → Type 0) (may_leave : List ℕ → Type 0) → Elapses moment moment left_since left_since may_leave
+no_time moment left_since may_leave = record { later = omega arith; nothing_else = λ t image early left. inl left; keeps = λ t image early left. left }
+
+called_moved : (k : KeeperModel) (n : Near KeeperState) (done : Bool) (read : List ℕ) (granted : Bool) → keeper_ask k.shape k.places n.machine ≡ Done Device
+    → record n { machine = keeper_called k.shape k.places n.machine done read } ≡ keeper_moved k.shape k.places granted done read n
+unfolding keeper_asks
+called_moved k n done read granted asks = sym (ap (λ (ask : Ask KeeperTold). keeper_asks k.shape k.places granted done read n ask) asks)
+
+made_all : (made : List Call) → made ++ [] ≡ made
+made_all made = search rules
+
+calls_device : (ask : Ask KeeperTold) (made : List Call) → ask ≡ Done Device → calls_after ask made [] ≡ made
+calls_device ask made asks = ap (λ (it : Ask KeeperTold). calls_after it made []) asks ∙ made_all made
+
+pub device_move : (plane : Plane) (k k' : KeeperModel) (honest : Type 0) (failed failed' : ℕ) (refuses refuses' : ℕ → Bool) (seen seen' : List ℕ) (may_leave may_leave' : List ℕ → Type 0)
+    → keeper_ask k.shape k.places k.state ≡ Done Device → IsDeviceStep k honest failed failed' refuses refuses' seen seen' may_leave may_leave' k' → IsKeeperMove plane k plane k' honest seen seen' may_leave may_leave'
+device_move plane k k' honest failed failed' refuses refuses' seen seen' may_leave may_leave' asks step =
+    let n : Near KeeperState = beside plane k.state in
+    let made : List Call = keeper_calls k.shape k.state (is_ok step.called) in
+    record {
+      granted = true;
+      done = is_ok step.called;
+      read = step.bytes;
+      store = step.went_on ∙ ap (λ (it : KeeperModel). record k { state = it.state }) (sym step.went_on);
+      moved = ap (λ (it : KeeperModel). beside plane it.state) step.went_on ∙ called_moved k n (is_ok step.called) step.bytes true asks;
+      as_read = λ claim. ap (λ (it : KeeperModel). beside plane it.state) (step.read claim) ∙ called_moved k n (is_ok step.called) (keeper_read k seen) true asks;
+      wrote = λ claim. subst (λ (its : List Call). Adds its seen seen' may_leave may_leave') (sym (calls_device (keeper_ask k.shape k.places k.state) made asks)) (step.wrote claim);
+    }

@@ -1,0 +1,6 @@
+mod Ends
+mod Granted
+mod Keepers
+mod Seated
+mod Steps
+mod Lives

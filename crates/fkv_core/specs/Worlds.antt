@@ -1,0 +1,114 @@
+-- What the Rust world shows.
+use Rattle.std.specs.Prelude.{◌≡◌, ℕ, Bool, if◌then◌else◌, List, [], map, Option, None, Some, slice_get, slice_set}
+use Rattle.fkv_base.specs.declared.shapes.Shape.{Shape}
+use Rattle.fkv_disk.specs.Bytes.{bytes_at}
+use Rattle.fkv_disk.specs.Calls.{Call as DeviceCall}
+use Rattle.fkv_flush.specs.Serving.{mail_place}
+use Rattle.fkv_flush.specs.Devices.{Adds}
+use Rattle.fkv_keeper.specs.KeeperAsks.{keeper_calls, keeper_read}
+use Rattle.fkv_keeper.specs.Keeping.{KeeperModel, keeper_ask}
+use Rattle.fkv_map.specs.declared.operations.Call.{Call}
+use Rattle.fkv_plane.specs.declared.places.Places.{Places}
+use Rattle.fkv_plane.specs.Plane.{Plane}
+use Rattle.fkv_session.specs.Sessions.{Sitter, SessionState}
+use Rattle.fkv_world.specs.Moves.{Near, session_moved, keeper_moved}
+use Rattle.fkv_world.specs.Past.{calls_after}
+use Rattle.fkv_world.specs.World.{Event, Now, Calls, Moves, Commits, Turns, KeeperMoves, Crashes, session_called, happens_now}
+use Rattle.fkv_core.specs.declared.events.Event as event
+use Rattle.fkv_core.specs.declared.events.Event.TheVariants as events
+use Rattle.fkv_core.specs.declared.events.Told.{Told}
+use Rattle.fkv_core.specs.Lives.{LeadsOn}
+use Rattle.fkv_core.specs.Told.{IsNumbered, IsTold, may_begin, may_move}
+
+-- a machine beside the words and the actions
+abbrev pub beside : {S : Type 0} → Plane → S → Near S
+beside plane machine = record { machine = machine; words = plane.words; actions = plane.actions }
+
+-- The keeper's step beside the words and a device: whether memory was granted, whether the call of the device succeeded, and what it read. An honest device
+-- took what the keeper writes, and gave what it reads as.
+pub record IsKeeperMove (plane : Plane) (k : KeeperModel) (plane' : Plane) (k' : KeeperModel) (honest : Type 0) (seen seen' : List ℕ) (may_leave may_leave' : List ℕ → Type 0) : Type 0 where
+  pub granted : Bool
+  pub done : Bool
+  pub read : List ℕ
+  pub store : k' ≡ record k { state = k'.state }
+  pub moved : beside plane' k'.state ≡ keeper_moved k.shape k.places granted done read (beside plane k.state)
+  pub as_read : honest → beside plane' k'.state ≡ keeper_moved k.shape k.places granted done (keeper_read k seen) (beside plane k.state)
+  pub wrote : honest → Adds (calls_after (keeper_ask k.shape k.places k.state) (keeper_calls k.shape k.state done) []) seen seen' may_leave may_leave'
+
+pub record WorldModel (D : Type 0) : Type 0 where
+  pub now : Now
+  pub device : D
+
+abbrev pub state_of : Sitter → SessionState
+state_of s = s.state
+
+abbrev pub states_of : List Sitter → List SessionState
+states_of sitters = map state_of sitters
+
+-- each session has the seat of its place in the list, in this store
+abbrev pub AreSeated : Shape → Places → List Sitter → Type 0
+AreSeated shape places sitters = (i : ℕ) (s : Sitter) → slice_get sitters i ≡ Some s → s.seat ≡ record { places = places; shape = shape; number = i }
+
+-- a session takes the place of one, with its seat
+pub record IsPut (number : ℕ) (s s' : Sitter) (sitters sitters' : List Sitter) : Type 0 where
+  pub put : sitters' ≡ slice_set sitters number s'
+  pub seat : s'.seat ≡ s.seat
+
+pub record IsCallBegun (number : ℕ) (call : Call) (s : Sitter) (sitters sitters' : List Sitter) (told : Option Told) : Type 0 where
+  pub next : Sitter
+  pub its : IsPut number s next sitters sitters'
+  pub begun : next.state ≡ session_called s.seat s.state call
+  pub tells : IsNumbered number (may_begin s.state) next.state told
+
+abbrev pub IsCallBegunBy : ℕ → Call → Option Sitter → List Sitter → List Sitter → Option Told → Type 0
+IsCallBegunBy number call None sitters sitters' told = (sitters' ≡ sitters) × (told ≡ None)
+IsCallBegunBy number call (Some s) sitters sitters' told = IsCallBegun number call s sitters sitters' told
+
+abbrev pub AreSessionCalls : ℕ → Call → List Sitter → List Sitter → Option Told → Type 0
+AreSessionCalls number call sitters sitters' told = IsCallBegunBy number call (slice_get sitters number) sitters sitters' told
+
+pub record IsMoved (number : ℕ) (plane plane' : Plane) (s : Sitter) (sitters sitters' : List Sitter) (told : Option Told) : Type 0 where
+  pub next : Sitter
+  pub its : IsPut number s next sitters sitters'
+  pub moved : beside plane' next.state ≡ session_moved s.seat (beside plane s.state)
+  pub tells : IsNumbered number (may_move s.state) next.state told
+
+abbrev pub IsMovedBy : ℕ → Plane → Plane → Option Sitter → List Sitter → List Sitter → Option Told → Type 0
+IsMovedBy number plane plane' None sitters sitters' told = (plane' ≡ plane) × (sitters' ≡ sitters) × (told ≡ None)
+IsMovedBy number plane plane' (Some s) sitters sitters' told = IsMoved number plane plane' s sitters sitters' told
+
+abbrev pub AreSessionMoves : ℕ → Plane → Plane → List Sitter → List Sitter → Option Told → Type 0
+AreSessionMoves number plane plane' sitters sitters' told = IsMovedBy number plane plane' (slice_get sitters number) sitters sitters' told
+
+-- the event that took place, with whether memory was granted and whether the call of the device succeeded
+abbrev pub took_place : event.Event → Bool → Bool → Event
+took_place (events.Call number call) granted done = Calls number call
+took_place (events.Move number) granted done = Moves number
+took_place (events.Commit kind) granted done = Commits kind
+took_place events.Turn granted done = Turns
+took_place events.KeeperMove granted done = KeeperMoves granted done
+took_place events.Crash granted done = Crashes
+
+-- what an honest device gives the keeper
+abbrev pub device_gives : Now → List ℕ → List ℕ
+device_gives n seen = bytes_at seen (mail_place n.shape n.keeper.maintain.serving) 24
+
+-- the write or sync of an event
+abbrev pub event_calls : Now → Event → List DeviceCall
+event_calls n (KeeperMoves granted done) = calls_after (keeper_ask n.shape n.places n.keeper) (keeper_calls n.shape n.keeper done) []
+event_calls n event = []
+
+abbrev pub calls_made : Now → Event → List DeviceCall
+calls_made n event = if n.crashed then [] else event_calls n event
+
+-- One step of the world, and what it told: with the event that took place it leaves what the rules of the world give, whatever the device read.
+-- Over an honest device, which took what the event writes and gave what it reads as, it goes on with the run of each list of events that shows this world.
+pub record IsStep (its : event.Event) (n after : Now) (told : Option Told) (honest : Type 0) (seen seen' : List ℕ) (may_leave may_leave' : List ℕ → Type 0) : Type 0 where
+  pub granted : Bool
+  pub done : Bool
+  pub read : List ℕ
+  pub now : after ≡ happens_now n read (took_place its granted done)
+  pub tells : IsTold n.crashed n after (took_place its granted done) told
+  pub as_read : honest → after ≡ happens_now n (device_gives n seen) (took_place its granted done)
+  pub wrote : honest → Adds (calls_made n (took_place its granted done)) seen seen' may_leave may_leave'
+  pub life : honest → LeadsOn n after (took_place its granted done) told seen seen' may_leave may_leave'

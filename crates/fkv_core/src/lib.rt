@@ -1,0 +1,10 @@
+//! The engine: sessions, the keeper, the shared words and the device put together, one step at a time.
+#![tactic(auto)]
+
+mod events;
+mod keeper_moves;
+mod session_moves;
+mod worlds;
+
+pub use events::{Event, Told};
+pub use worlds::World;

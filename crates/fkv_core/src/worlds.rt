@@ -1,0 +1,114 @@
+//! The engine's world: sessions, the keeper, the words and the device, and one step of it.
+ghost use Rattle.std.specs.Prelude.{◌≡◌, ◌↔◌};
+ghost use Rattle.fkv_disk.specs.Device.{Elapses};
+ghost use Rattle.fkv_disk.specs.Fuse.{armed};
+ghost use Rattle.fkv_disk.specs.Fuses.{fuse_device, fuse_state, fuse_refused};
+ghost use Rattle.fkv_core.specs.Told.{numbered};
+ghost use Rattle.fkv_core.specs.Worlds.{AreSessionCalls, AreSessionMoves, IsStep};
+
+use crate::events::{Event, Told};
+use crate::keeper_moves::{keeper_commit, keeper_move, keeper_turn};
+use crate::session_moves::{session_call, session_move};
+use fkv_disk::{Device, Fuse};
+use fkv_keeper::Keeper;
+use fkv_map::Call;
+use fkv_plane::PlainWords;
+use fkv_session::{Answer, Session};
+use std::marker::Model;
+
+/// The engine. Each step moves one actor, and a session, the keeper and the device meet only in it.
+#[derive(Drop)]
+pub struct World<D: Device> {
+    words: PlainWords,
+    sessions: Vec<Session>,
+    keeper: Keeper,
+    device: D,
+    crashed: bool,
+}
+
+impl<D: Device> Model for World<D> {
+    ghost use Rattle.fkv_core.specs.Worlds.{WorldModel, AreSeated, states_of};
+
+    ghost Value = { WorldModel D };
+
+    ghost view = { λ m. record { now = record { shape = m.keeper.shape; places = m.keeper.places; words = m.words.words; actions = m.words.actions; sessions = states_of m.sessions.items; keeper = m.keeper.state; crashed = m.crashed }; device = m.device } };
+
+    ghost invariant = { λ m. AreSeated m.keeper.shape m.keeper.places m.sessions.items };
+}
+
+impl<D: Device> World<D> {
+    /// What happens next. It tells the answer to the call that has ended in it; where an event finds nothing to do, nothing changes and
+    /// nothing is told.
+    pub fn step(&mut self, event: Event) -> Option<Told>
+        ensures step { IsStep event self.old.now self.new.now result (D.honest self.old.device) (D.seen self.old.device) (D.seen self.new.device) (D.may_leave self.old.device) (D.may_leave self.new.device) }
+        ensures honest { D.honest self.old.device ↔ D.honest self.new.device }
+        ensures time { D.honest self.old.device → Elapses (D.moment self.old.device) (D.moment self.new.device) (D.left_since self.old.device) (D.left_since self.new.device) (D.may_leave self.new.device) }
+    {
+        if self.crashed {
+            return None;
+        }
+        match event {
+            Event::Call(number, call) => called(&mut self.sessions, number, call),
+            Event::Move(number) => moved(&mut self.words, &mut self.sessions, number),
+            Event::Commit(kind) => keeper_commit(&mut self.keeper, kind),
+            Event::Turn => keeper_turn(&mut self.keeper),
+            Event::KeeperMove => {
+                keeper_move(&mut self.words, &mut self.keeper, &mut self.device)
+            }
+            Event::Crash => {
+                self.crashed = true;
+                None
+            }
+        }
+    }
+
+    /// The device as the life has left it.
+    pub fn end(self) -> D
+        ensures { result ≡ self.device }
+    {
+        let World { device, .. } = self;
+        device
+    }
+}
+
+impl<D: Device> World<Fuse<D>> {
+    /// From now on `k` calls of the device pass, and then each is refused. A fuse that has blown stays so.
+    pub fn arm(&mut self, k: u64)
+        ensures now { self.new.now ≡ self.old.now }
+        ensures device { fuse_device self.new.device ≡ fuse_device self.old.device }
+        ensures state { fuse_state self.new.device ≡ armed k (fuse_state self.old.device) }
+        ensures refused { fuse_refused self.new.device ≡ fuse_refused self.old.device }
+    {
+        self.device.arm(k);
+    }
+}
+
+/// A session begins a call, where there is one of this number.
+fn called(sessions: &mut Vec<Session>, number: usize, call: Call) -> Option<Told>
+    ensures { AreSessionCalls number call sessions.old.items sessions.new.items result }
+{
+    match sessions.get_mut(number) {
+        Some(session) => numbered(number, session_call(session, call)),
+        None => None,
+    }
+}
+
+/// A session makes its ask, where there is one of this number.
+fn moved(words: &mut PlainWords, sessions: &mut Vec<Session>, number: usize) -> Option<Told>
+    ensures { AreSessionMoves number words.old words.new sessions.old.items sessions.new.items result }
+{
+    match sessions.get_mut(number) {
+        Some(session) => numbered(number, session_move(words, session)),
+        None => None,
+    }
+}
+
+/// The answer, as that of the session of this number.
+fn numbered(number: usize, answer: Option<Answer>) -> Option<Told>
+    ensures { result ≡ numbered number answer }
+{
+    match answer {
+        Some(answer) => Some(Told::Session(number, answer)),
+        None => None,
+    }
+}
