@@ -2,8 +2,9 @@ mod Flushed
 mod Fronts
 mod Moments
 mod Runs
-pub mod Shown
+mod SlotPlaces
 mod Stepped
 mod Turned
 mod WritesStepped
 mod Written
+pub mod Shown

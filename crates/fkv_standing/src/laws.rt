@@ -1,5 +1,6 @@
 //! What a crash leaves of a store, at each moment of a run of its keeper.
-ghost use Rattle.std.specs.Prelude.{◌≡◌, ◌∷◌, ℕ, Bool, List, false};
+ghost use Rattle.std.specs.Prelude.{◌≡◌, ◌∷◌, ◌+◌, ◌*◌, ◌%◌, ℕ, Bool, List, false};
+ghost use Rattle.fkv_base.specs.declared.numbers.Version.{Version};
 ghost use Rattle.fkv_base.specs.declared.shapes.Shape.{Shape};
 ghost use Rattle.fkv_record.specs.Places.{number_at};
 ghost use Rattle.fkv_disk.specs.Calls.{MayLeave};
@@ -40,4 +41,9 @@ pub fn law_one_commit_stands()
     ensures triples { (shape : Shape) (p : Places) (opened : List ℕ) (opening : KeeperState) (events : List KeeperEvent) (image : List ℕ)
         → IsToldBy shape p opened opening → AreNumbersInTurn shape p opening events → MayLeave opened (calls_made shape p opening events) image
         → TriplesStand shape (keeper_run shape p opening events).last.checkpoint (standing shape p opened opening events) image }
+{}
+
+/// The slots of commits lie by turns in the first place and in the second: of even numbers at 512, and of odd ones at 1,024.
+pub fn law_of_slot_places()
+    ensures { (number : Version) → slot_place number ≡ 512 + 512 * (number.0 % 2) }
 {}

@@ -3,4 +3,4 @@
 
 mod laws;
 
-pub use laws::law_one_commit_stands;
+pub use laws::{law_of_slot_places, law_one_commit_stands};
