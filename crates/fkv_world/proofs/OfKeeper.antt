@@ -1,5 +1,5 @@
 -- The laws of the keeper, of the keeper of a life.
-use Rattle.std.proofs.Common.{◌≡◌, List, ◌∷◌, refl, sym, subst, ap, ◌∙◌, true}
+use Rattle.std.proofs.Common.{◌≡◌, List, ◌∷◌, sym, subst, true}
 use Rattle.fkv_keeper.specs.KeeperLaws.{IsBrokenForGood, IsWritten}
 use Rattle.fkv_keeper.specs.KeeperRun.{KeeperEvent, has_failed, keeper_happens, keeper_run}
 use Rattle.fkv_keeper.specs.Keeping.{KeeperState}
@@ -30,10 +30,10 @@ pub to_event : (P : KeeperState → Type 0) (opening : World) (events : List Eve
 to_event P opening events event before e holds = subst (λ (own : List KeeperEvent). P (keeper_after opening own)) e (to_keeper P opening events holds)
 
 -- what one event does
-pub of_move : (P : KeeperState → Type 0) (opening : World) (events : List Event) (event : KeeperEvent) (before : List KeeperEvent) → keeper_events opening events ≡ event ∷ before
-    → P (keeper_happens opening.now.shape opening.now.places (keeper_after opening before) event) → P (run opening events).now.keeper
+pub by_move : (P : KeeperState → Type 0) (opening : World) (event : KeeperEvent) (before : List KeeperEvent) → P (keeper_happens opening.now.shape opening.now.places (keeper_after opening before) event)
+    → P (keeper_after opening (event ∷ before))
 unfolding keeper_run
-of_move P opening events event before e holds = of_event P opening events event before e holds
+by_move P opening event before holds = holds
 
 -- where it has failed, and where it stores the words of a finish
 pub keeper_breaks : (opening : World) (events : List Event) → IsOpenedWorld opening → has_failed opening.now.shape opening.now.places opening.now.keeper (keeper_events opening events) ≡ true

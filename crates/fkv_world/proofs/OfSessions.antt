@@ -1,5 +1,5 @@
 -- The laws of a session, of each session of a life.
-use Rattle.std.proofs.Common.{◌≡◌, ℕ, ◌<◌, ◌-◌, ◌^◌, ◌∙◌, List, ◌∷◌, ◌++◌, ap, sym, subst, true, false}
+use Rattle.std.proofs.Common.{◌≡◌, ℕ, ◌<◌, ◌-◌, ◌^◌, ◌∙◌, List, ◌∷◌, ◌++◌, sym, subst, true, false}
 use Rattle.std.specs.Prelude.{Some, slice_get}
 use Rattle.fkv_epoch.proofs.Shown.{item_within, some_same}
 use Rattle.fkv_latch.specs.Latching.{is_exclusive, one_share}
@@ -10,7 +10,7 @@ use Rattle.fkv_session.specs.declared.sessions.Sitting.TheVariants.{Idle, Stores
 use Rattle.fkv_session.specs.InOrder.{IsOwedOrOneMore, owing_place, owing_told}
 use Rattle.fkv_session.specs.Polls.{IsPollOf, attempted_in_poll}
 use Rattle.fkv_session.specs.Refused.{before_call}
-use Rattle.fkv_session.specs.SessionRun.{Replies, SessionEvent, is_calling, session_happens, session_run}
+use Rattle.fkv_session.specs.SessionRun.{SessionEvent, is_calling, session_happens, session_run}
 use Rattle.fkv_session.specs.Sessions.{SessionState, Seat, IsOpened, is_busy, session_ask, session_next}
 use Rattle.fkv_session.specs.Shares.{AllUpdatesShare, HasItsBuckets, has_missed}
 use Rattle.fkv_session.specs.Words.{serial_left, stored_last}

@@ -3,7 +3,7 @@ pub use Rattle.fkv_world.proofs.Added.{calls_so, history_so, trace_so}
 pub use Rattle.fkv_world.proofs.Device.{asks_while_done, failed_broken, not_done_broken}
 pub use Rattle.fkv_world.proofs.Lives.{runs_on}
 pub use Rattle.fkv_world.proofs.Nothing.{item_back, no_session, in_hand, none_in_hand, keeper_in_hand, keeper_none_in_hand}
-pub use Rattle.fkv_world.proofs.OfKeeper.{keeper_breaks, keeper_finishes, of_event, of_keeper, of_move, to_event, to_keeper}
+pub use Rattle.fkv_world.proofs.OfKeeper.{by_move, keeper_breaks, keeper_finishes, of_event, of_keeper, to_event, to_keeper}
 pub use Rattle.fkv_world.proofs.OfSessions.{here, of_run, opened_so, seated, to_run}
 pub use Rattle.fkv_world.proofs.OneCommit.{begins_so, image_left}
 pub use Rattle.fkv_world.proofs.OneWord.{keeper_writes, one_slot, one_word, session_writes}

@@ -1,5 +1,5 @@
 //! What holds of the keeper, and of what a crash leaves, in every life of a store that was opened: what their own crates prove of every run of it.
-ghost use Rattle.std.specs.Prelude.{◌≡◌, ◌∷◌, ℕ, Bool, List, false, true};
+ghost use Rattle.std.specs.Prelude.{◌≡◌, ◌∷◌, ◌++◌, ℕ, Bool, List, false, true};
 ghost use Rattle.fkv_base.specs.declared.faults.Fault.TheVariants.{Memory};
 ghost use Rattle.fkv_disk.specs.Calls.{MayLeave};
 ghost use Rattle.fkv_keeper.specs.CheckpointLaws.{AreWritesBegun, ChangesItsWords, CopiesOnce, DoesOneThing, HoldsCopy, IsBehindWait, IsBeingWritten, KeepsLists, SparesDurable};
@@ -58,12 +58,12 @@ pub fn law_world_checkpoints()
     ensures used { (opening : World) (events : List Event) → IsOpenedWorld opening
         → IsBehindWait (run opening events).now.keeper.step
         → IsBeingWritten opening.now.places (replies_copied opening (keeper_events opening events)) (begun_last opening (keeper_events opening events)) (life_writing opening events) (run opening events).now.keeper }
-    ensures copies { (opening : World) (events : List Event) (event : KeeperEvent) (before : List KeeperEvent) → keeper_events opening events ≡ event ∷ before
-        → CopiesOnce opening.now.places (keeper_after opening before) event (run opening events).now.keeper }
-    ensures lists { (opening : World) (events : List Event) (event : KeeperEvent) (before : List KeeperEvent) → keeper_events opening events ≡ event ∷ before
-        → KeepsLists (keeper_after opening before) (run opening events).now.keeper }
-    ensures parts { (opening : World) (events : List Event) (event : KeeperEvent) (before : List KeeperEvent) → keeper_events opening events ≡ event ∷ before
-        → DoesOneThing (keeper_after opening before) event (run opening events).now.keeper }
+    ensures copies { (opening : World) (events : List Event) (event : KeeperEvent) (later before : List KeeperEvent) → keeper_events opening events ≡ later ++ event ∷ before
+        → CopiesOnce opening.now.places (keeper_after opening before) event (keeper_after opening (event ∷ before)) }
+    ensures lists { (opening : World) (events : List Event) (event : KeeperEvent) (later before : List KeeperEvent) → keeper_events opening events ≡ later ++ event ∷ before
+        → KeepsLists (keeper_after opening before) (keeper_after opening (event ∷ before)) }
+    ensures parts { (opening : World) (events : List Event) (event : KeeperEvent) (later before : List KeeperEvent) → keeper_events opening events ≡ later ++ event ∷ before
+        → DoesOneThing (keeper_after opening before) event (keeper_after opening (event ∷ before)) }
     ensures stores { (opening : World) (events : List Event) → IsOpenedWorld opening
         → ChangesItsWords opening.now.shape opening.now.places (run opening events).now.keeper }
     ensures durable { (opening : World) (events : List Event) → IsOpenedWorld opening

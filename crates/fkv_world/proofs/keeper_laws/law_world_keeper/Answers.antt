@@ -1,7 +1,7 @@
 -- By the law of the keeper, of its own run.
 use Rattle.std.specs.Prelude.{◌≡◌, true}
 use Rattle.fkv_base.specs.declared.faults.Fault.TheVariants.{Memory}
-use Rattle.fkv_keeper.specs.KeeperLaws.{CopiesAgain, IsFinishOfBegun, IsMemoryRefused}
+use Rattle.fkv_keeper.specs.KeeperLaws.{IsFinishOfBegun, IsMemoryRefused}
 use Rattle.fkv_keeper.specs.KeeperRun.{number_open}
 use Rattle.fkv_keeper.specs.declared.answers.KeeperTold.TheVariants.{TurnRefused, Turned}
 use Rattle.fkv_keeper.specs.declared.keepers.Keeping.TheVariants.{Ended}

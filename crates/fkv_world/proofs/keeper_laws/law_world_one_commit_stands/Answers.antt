@@ -1,15 +1,11 @@
 -- By the law of the commit that stands, of its own run.
-use Rattle.std.specs.Prelude.{◌≡◌, false, ◌∷◌}
-use Rattle.fkv_disk.specs.Calls as device
-use Rattle.fkv_keeper.specs.LastCommits.{slot_place}
-use Rattle.fkv_keeper.specs.declared.keepers.Keeping.TheVariants.{Finishes, Writes}
-use Rattle.fkv_manifest.specs.Kept.{Begins}
+use Rattle.std.specs.Prelude.{◌≡◌, false}
+use Rattle.fkv_keeper.specs.declared.keepers.Keeping.TheVariants.{Finishes}
 use Rattle.fkv_record.specs.Places.{number_at}
 use Rattle.fkv_standing.specs.Standing.{IsOneInForce, TriplesStand, is_at_writes}
 use Rattle.fkv_standing.proofs.Shown.{run_at, run_named, run_stands, run_written}
 use Rattle.fkv_world.specs.Keepers.{is_life_writing, life_standing, life_writing}
 use Rattle.fkv_world.specs.OwnEvents.{keeper_events}
-use Rattle.fkv_world.specs.Runs.{run}
 use Rattle.fkv_world.proofs.OfKeeper.{of_keeper, to_keeper}
 use Rattle.fkv_world.proofs.OwnCalls.{opened_stays, own_calls}
 use Rattle.fkv_world.proofs.OneCommit.{begins_so, image_left}
