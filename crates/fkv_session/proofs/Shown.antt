@@ -38,3 +38,4 @@ pub use Rattle.fkv_session.proofs.Polled.{run_polled}
 pub use Rattle.fkv_session.proofs.Ticketed.{run_tickets}
 pub use Rattle.fkv_session.proofs.VersionFits.{run_version}
 pub use Rattle.fkv_session.proofs.Versioned.{run_taken, run_call, run_request}
+pub use Rattle.fkv_session.proofs.SharesBack.{run_back}

@@ -134,6 +134,10 @@ pub added_history : (w : World) (after : Now) (event : Event) → (world_of w ev
 unfolding world_of telling
 added_history w after event = ap (λ (p : Past). p.history) (added w.now after event w.past)
 
+pub added_opened : (w : World) (after : Now) (event : Event) → (world_of w event after).past.opened ≡ w.past.opened
+unfolding world_of telling
+added_opened w after event = ap (λ (p : Past). p.opened) (added w.now after event w.past)
+
 added_trace : (w : World) (after : Now) (event : Event) → (world_of w event after).past.trace ≡ told_at (length (history_added w.now event w.past.history)) (ended_by w.now after event ++ begun_by w.now event) ++ w.past.trace
 unfolding world_of telling
 added_trace w after event = ap (λ (p : Past). p.trace) (added w.now after event w.past)

@@ -6,9 +6,12 @@ mod Heard
 mod Lives
 mod NoSlots
 mod Nothing
+mod OneCommit
 mod OneWord
+mod OfKeeper
 mod OfSessions
 mod Others
+mod OwnCalls
 mod OwnRuns
 pub mod Shown
 mod Starts

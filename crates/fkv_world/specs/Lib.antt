@@ -1,5 +1,6 @@
 pub mod Actors
 pub mod Added
+pub mod Keepers
 pub mod Moves
 pub mod Opened
 pub mod OwnEvents

@@ -1,5 +1,5 @@
 -- The engine's world: the shared words, the actions in the drain slots, the sessions and the keeper, what may happen next, and what each event leads to.
-use Rattle.std.specs.Prelude.{ℕ, if◌then◌else◌, Bool, true, List, [], ◌∷◌, slice_get, slice_set, Option, Some, None}
+use Rattle.std.specs.Prelude.{ℕ, if◌then◌else◌, Bool, true, List, slice_get, slice_set, Option, Some, None}
 use Rattle.fkv_base.specs.declared.shapes.Shape.{Shape}
 use Rattle.fkv_map.specs.declared.operations.Call.{Call}
 use Rattle.fkv_commit.specs.declared.commits.CommitKind.{CommitKind}

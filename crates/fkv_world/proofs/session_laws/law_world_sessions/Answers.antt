@@ -7,7 +7,7 @@ use Rattle.fkv_world.specs.Opened.{life_told}
 use Rattle.fkv_world.specs.OwnEvents.{session_events}
 use Rattle.fkv_world.specs.World.{seat_at}
 use Rattle.fkv_world.proofs.OfSessions.{of_run, opened_so, to_run}
-use Rattle.fkv_world.proofs.machine_laws.law_world_sessions.Goals as goal
+use Rattle.fkv_world.proofs.session_laws.law_world_sessions.Goals as goal
 
 pub returns-clause-serials : goal.returns-clause-serials
 returns-clause-serials c = λ opening events session first its became. of_run (λ s. AreInTurn first.serial s.serial (life_told opening events session first)) opening events session first its became ((run_holds (seat_at opening.now session) first (session_events opening session events) (opened_so opening events session first its became)).books.serials)

@@ -9,7 +9,7 @@ use Rattle.fkv_world.specs.Opened.{life_effects, life_told}
 use Rattle.fkv_world.specs.OwnEvents.{session_events}
 use Rattle.fkv_world.specs.World.{seat_at}
 use Rattle.fkv_world.proofs.OfSessions.{of_run, opened_so, to_run}
-use Rattle.fkv_world.proofs.machine_laws.law_world_replies.Goals as goal
+use Rattle.fkv_world.proofs.session_laws.law_world_replies.Goals as goal
 
 pub returns-clause-replies : goal.returns-clause-replies
 returns-clause-replies c = λ opening events session first its became. of_run (λ s. AreRepliesOfEffects (life_effects opening events session first) (life_told opening events session first) (in_hand s.step s.finished) (is_busy s.step)) opening events session first its became (run_replies (seat_at opening.now session) first (session_events opening session events) (opened_so opening events session first its became))

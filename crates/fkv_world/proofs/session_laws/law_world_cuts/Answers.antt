@@ -10,7 +10,7 @@ use Rattle.fkv_session.proofs.Shown.{run_cuts, run_epoch, run_leaves, run_order,
 use Rattle.fkv_world.specs.OwnEvents.{session_events}
 use Rattle.fkv_world.specs.World.{seat_at}
 use Rattle.fkv_world.proofs.OfSessions.{of_run, opened_so, owing_near, seated, to_run}
-use Rattle.fkv_world.proofs.machine_laws.law_world_cuts.Goals as goal
+use Rattle.fkv_world.proofs.session_laws.law_world_cuts.Goals as goal
 
 pub returns-clause-takes_up : goal.returns-clause-takes_up
 returns-clause-takes_up c = λ opening events session first its cause became catching. of_run (λ s. IsCutTold (seat_at opening.now session) s) opening events session first its became (run_cuts (seat_at opening.now session) first (session_events opening session events) cause (opened_so opening events session first its became) (to_run (λ s. s.step ≡ CatchesUp cause) opening events session first its became catching))
