@@ -1,3 +1,4 @@
 mod MaintainLeft
+mod PartsFollow
 pub mod Shown
 mod TakesNone
