@@ -1,4 +1,5 @@
 mod MaintainLeft
 mod PartsFollow
+mod PartsInOrder
 pub mod Shown
 mod TakesNone

@@ -101,3 +101,76 @@ MayFollow shape p s step event next = next ≡ s
 
 abbrev pub FollowsInOrder : Type 0
 FollowsInOrder = (shape : Shape) (p : Places) (s : MaintainState) (event : MaintainEvent) → MayFollow shape p s s.step event (maintain_happens shape p s event)
+
+abbrev pub is_same : Maintaining → Maintaining → Bool
+is_same Through Through = true
+is_same Spent Spent = true
+is_same Broken Broken = true
+is_same Scans Scans = true
+is_same Claims Claims = true
+is_same Flushes Flushes = true
+is_same Shifts Shifts = true
+is_same Turns Turns = true
+is_same Serves Serves = true
+is_same one other = false
+
+-- a part that is entered is listed
+abbrev pub entered : Maintaining → Maintaining → List Maintaining → List Maintaining
+entered before now parts = if is_same before now then parts else now ∷ parts
+
+-- the parts that a turn has been in, and how it ended, the newest first
+unfoldable pub parts_of : Shape → Places → MaintainState → List MaintainEvent → List Maintaining
+parts_of shape p s [] = Scans ∷ []
+parts_of shape p s (event ∷ before) = entered (maintain_run shape p s before).step (maintain_run shape p s (event ∷ before)).step (parts_of shape p s before)
+
+-- the order, the newest first
+abbrev pub up_to_flush : List Maintaining
+up_to_flush = Flushes ∷ Claims ∷ Scans ∷ []
+
+abbrev pub up_to_shift : List Maintaining
+up_to_shift = Shifts ∷ up_to_flush
+
+abbrev pub up_to_page : List Maintaining
+up_to_page = Turns ∷ up_to_shift
+
+abbrev pub up_to_mailboxes : List Maintaining
+up_to_mailboxes = Serves ∷ up_to_page
+
+-- In each part a turn has been in those before it, each once. Where it is through it has been in all of them; without sessions it is
+-- through at the page's end, as there is no mailbox.
+abbrev pub AreInOrder : Shape → Maintaining → List Maintaining → Type 0
+AreInOrder shape Scans parts = parts ≡ Scans ∷ []
+AreInOrder shape Claims parts = parts ≡ Claims ∷ Scans ∷ []
+AreInOrder shape Flushes parts = parts ≡ up_to_flush
+AreInOrder shape Shifts parts = parts ≡ up_to_shift
+AreInOrder shape Turns parts = parts ≡ up_to_page
+AreInOrder shape Serves parts = parts ≡ up_to_mailboxes
+AreInOrder shape Through parts = (parts ≡ Through ∷ up_to_mailboxes) ⊎ ((parts ≡ Through ∷ up_to_page) × (shape.sessions ≡ 0))
+AreInOrder shape Spent parts = (parts ≡ Spent ∷ up_to_shift) ⊎ (parts ≡ Spent ∷ up_to_page)
+AreInOrder shape Broken parts = (parts ≡ Broken ∷ up_to_flush) ⊎ (parts ≡ Broken ∷ up_to_mailboxes)
+
+-- a shift, or the turn of a page, ended because no drain slot was free
+abbrev pub is_shift_slotless : Ask ShiftAnswer → Bool
+is_shift_slotless (Done (shift.NoSlot tail)) = true
+is_shift_slotless ask = false
+
+abbrev pub is_page_slotless : Ask MoveAnswer → Bool
+is_page_slotless (Done moved.NoSlot) = true
+is_page_slotless ask = false
+
+-- this event ends such a part for want of a slot
+abbrev pub lacks_slot : Shape → MaintainState → Maintaining → MaintainEvent → Bool
+lacks_slot shape s Shifts (Replies reply) = is_shift_slotless (shift_next_ask shape s.shift reply)
+lacks_slot shape s Turns (Replies reply) = is_page_slotless (turn_next_ask shape s.turn reply)
+lacks_slot shape s step event = false
+
+-- some event of the turn has
+unfoldable pub has_lacked_slot : Shape → Places → MaintainState → List MaintainEvent → Bool
+has_lacked_slot shape p s [] = false
+has_lacked_slot shape p s (event ∷ before) =
+    lacks_slot shape (maintain_run shape p s before) (maintain_run shape p s before).step event || has_lacked_slot shape p s before
+
+-- the device is called by the flush and for the mailboxes alone, and written and synced by the flush alone
+pub record CallsInItsParts (shape : Shape) (p : Places) (s : MaintainState) : Type 0 where
+  pub made : 0 < maintain_made p s → (s.step ≡ Flushes) ⊎ (s.step ≡ Serves)
+  pub writes : (done : Bool) → (maintain_calls shape s done ≡ [] → ⊥) → s.step ≡ Flushes
