@@ -1,4 +1,5 @@
 mod MaintainLeft
+mod PartsDriven
 mod PartsFollow
 mod PartsInOrder
 pub mod Shown

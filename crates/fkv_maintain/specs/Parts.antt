@@ -8,19 +8,19 @@ use Rattle.fkv_plane.specs.declared.asks.Ask.TheVariants.{Done}
 use Rattle.fkv_plane.specs.declared.places.Places.{Places}
 use Rattle.fkv_plane.specs.Passing.{is_done}
 use Rattle.fkv_epoch.specs.declared.claiming.Claiming.TheVariants.{MeetsSlot}
-use Rattle.fkv_epoch.specs.Scanning.{scan_ask}
-use Rattle.fkv_epoch.specs.Claiming.{claim_ask}
+use Rattle.fkv_epoch.specs.Scanning.{scan_ask, scan_next}
+use Rattle.fkv_epoch.specs.Claiming.{claim_ask, claim_next, claim_given}
 use Rattle.fkv_log.specs.declared.moving.MoveAnswer.{MoveAnswer}
 use Rattle.fkv_log.specs.declared.moving.MoveAnswer.TheVariants as moved
 use Rattle.fkv_log.specs.declared.shifting.ShiftAnswer.{ShiftAnswer}
 use Rattle.fkv_log.specs.declared.shifting.ShiftAnswer.TheVariants as shift
 use Rattle.fkv_log.specs.declared.turning.TurnForm.TheVariants.{Whole}
-use Rattle.fkv_log.specs.Shifting.{shift_begun, shift_next_ask}
-use Rattle.fkv_log.specs.Turning.{turn_begun, turn_next_ask}
+use Rattle.fkv_log.specs.Shifting.{shift_begun, shift_next, shift_next_ask}
+use Rattle.fkv_log.specs.Turning.{turn_begun, turn_next, turn_next_ask}
 use Rattle.fkv_flush.specs.declared.answers.DeviceAnswer.TheVariants as device
 use Rattle.fkv_flush.specs.declared.flushing.Flushing.TheVariants.{LoadsFlushed}
-use Rattle.fkv_flush.specs.Flushing.{flush_ask}
-use Rattle.fkv_flush.specs.Serving.{serve_ask, mailbox_from}
+use Rattle.fkv_flush.specs.Flushing.{flush_ask, flush_next, flush_done, bytes_next, bytes_done}
+use Rattle.fkv_flush.specs.Serving.{serve_ask, serve_next, serve_read, mailbox_from}
 use Rattle.fkv_maintain.specs.declared.maintaining.Maintaining.{Maintaining}
 use Rattle.fkv_maintain.specs.declared.maintaining.Maintaining.TheVariants.{Through, Spent, Broken, Scans, Claims, Flushes, Shifts, Turns, Serves}
 use Rattle.fkv_maintain.specs.Maintaining.{MaintainState, maintain_calls, maintain_made}
@@ -102,6 +102,24 @@ MayFollow shape p s step event next = next ≡ s
 abbrev pub FollowsInOrder : Type 0
 FollowsInOrder = (shape : Shape) (p : Places) (s : MaintainState) (event : MaintainEvent) → MayFollow shape p s s.step event (maintain_happens shape p s event)
 
+-- In a part its own machine goes on, and by what happens: with the reply, with the action, or past the call of the device. What isn't for it changes nothing.
+abbrev pub Drives : Shape → MaintainState → Maintaining → MaintainEvent → MaintainState → Type 0
+Drives shape s Scans (Replies reply) next = next.scanning ≡ scan_next shape.sessions s.scanning reply
+Drives shape s Claims (Replies reply) next = next.claiming ≡ claim_next s.claiming reply
+Drives shape s Claims (Gets action) next = next.claiming ≡ claim_given s.claiming action
+Drives shape s Flushes (Replies reply) next = (next.flushing ≡ flush_next shape.page s.flushing reply) × (next.bytes ≡ bytes_next s.flushing s.bytes reply)
+Drives shape s Flushes (Calls done bytes) next = (next.flushing ≡ flush_done shape.page s.flushing done) × (next.bytes ≡ bytes_done s.flushing s.bytes)
+Drives shape s Shifts (Replies reply) next = next.shift ≡ shift_next shape s.shift reply
+Drives shape s Turns (Replies reply) next = next.turn ≡ turn_next shape s.turn reply
+Drives shape s Serves (Replies reply) next = next.serving ≡ serve_next shape.sessions s.serving reply
+Drives shape s Serves (Calls true bytes) next = next.serving ≡ serve_read s.serving bytes
+Drives shape s Serves (Calls false bytes) next = next.step ≡ Broken
+Drives shape s step event next = next ≡ s
+
+abbrev pub DrivesItsParts : Type 0
+DrivesItsParts = (shape : Shape) (p : Places) (s : MaintainState) (event : MaintainEvent) → Drives shape s s.step event (maintain_happens shape p s event)
+
+-- one part, or one end of a turn
 abbrev pub is_same : Maintaining → Maintaining → Bool
 is_same Through Through = true
 is_same Spent Spent = true
