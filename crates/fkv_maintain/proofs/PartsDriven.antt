@@ -1,5 +1,5 @@
 -- In a part its own machine goes on.
-use Rattle.std.proofs.Common.{◌≡◌, ◌∙◌, ℕ, List, [], refl, ap, Bool, true, false}
+use Rattle.std.proofs.Common.{◌≡◌, ℕ, List, refl, Bool, true, false}
 use Rattle.fkv_base.specs.declared.shapes.Shape.{Shape}
 use Rattle.fkv_plane.specs.declared.actions.Action.{Action}
 use Rattle.fkv_plane.specs.declared.asks.Ask.{Ask}
@@ -15,13 +15,12 @@ use Rattle.fkv_log.specs.Shifting.{shift_next, shift_next_ask}
 use Rattle.fkv_log.specs.Turning.{turn_next, turn_next_ask}
 use Rattle.fkv_flush.specs.declared.answers.DeviceAnswer.{DeviceAnswer}
 use Rattle.fkv_flush.specs.declared.answers.DeviceAnswer.TheVariants as device
-use Rattle.fkv_flush.specs.declared.serving.Serving.TheVariants as serving
 use Rattle.fkv_flush.specs.Flushing.{flush_ask, flush_next, flush_done, bytes_next, bytes_done}
 use Rattle.fkv_flush.specs.Serving.{serve_ask, serve_next, serve_read, mailbox_from}
 use Rattle.fkv_maintain.specs.declared.maintaining.Maintaining.{Maintaining}
 use Rattle.fkv_maintain.specs.declared.maintaining.Maintaining.TheVariants.{Through, Spent, Broken, Scans, Claims, Flushes, Shifts, Turns, Serves}
 use Rattle.fkv_maintain.specs.Maintaining.{MaintainState, scan_ledto, claim_ledto, flush_ledto, shift_ledto, turn_ledto, serve_ledto, maintaining_next, maintaining_given, maintaining_called}
-use Rattle.fkv_maintain.specs.MaintainRun.{MaintainEvent, Replies, Gets, Calls, maintain_happens}
+use Rattle.fkv_maintain.specs.MaintainRun.{Replies, Gets, Calls, maintain_happens}
 use Rattle.fkv_maintain.specs.Parts.{Drives, DrivesItsParts}
 
 scan_kept : (m : MaintainState) (ask : Ask (Unit {0})) → (scan_ledto m ask).scanning ≡ m.scanning

@@ -1,5 +1,5 @@
 -- The parts over a run: their order, whether one lacked a drain slot, and which call the device.
-use Rattle.std.proofs.Common.{◌≡◌, ◌∙◌, ◌⊎◌, ◌<◌, arith, ℕ, inl, inr, List, [], ◌∷◌, refl, ap, sym, Bool, true, false}
+use Rattle.std.proofs.Common.{◌≡◌, ◌∙◌, ◌⊎◌, ◌<◌, arith, ℕ, inl, inr, List, [], ◌∷◌, refl, ap, Bool, true, false}
 use Rattle.std.specs.Prelude.{◌||◌}
 use Rattle.fkv_base.specs.declared.shapes.Shape.{Shape}
 use Rattle.fkv_plane.specs.declared.actions.Action.{Action}
