@@ -1,3 +1,6 @@
 mod MaintainLeft
+mod PartsDriven
+mod PartsFollow
+mod PartsInOrder
 pub mod Shown
 mod TakesNone

@@ -1,2 +1,4 @@
 pub mod AsksLeft
+pub mod MaintainRun
 pub mod Maintaining
+pub mod Parts
