@@ -17,6 +17,7 @@ mod KeeperRuns
 mod KeeperSound
 mod KeeperTakes
 mod NewKeepers
+mod PartMoves
 mod PointsWritten
 pub mod Shown
 mod TurnRun
