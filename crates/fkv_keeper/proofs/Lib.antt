@@ -18,6 +18,7 @@ mod KeeperSound
 mod KeeperTakes
 mod NewKeepers
 mod PartMoves
+mod PointsFound
 mod PointsWritten
 pub mod Shown
 mod TurnRun

@@ -1,13 +1,16 @@
 -- What each part of a commit begins with, and what is known of the commit in hand by what its parts have come to.
-use Rattle.std.specs.Prelude.{◌≡◌, ⊤, ◌⊎◌, ℕ, Bool, false, true, List, length, Option, Some}
+use Rattle.std.specs.Prelude.{◌≡◌, ⊤, ◌⊎◌, ℕ, Bool, false, true, List, [], ◌∷◌, length, Option, Some, None}
 use Rattle.fkv_base.specs.declared.numbers.Addr.{Addr}
+use Rattle.fkv_base.specs.declared.numbers.Serial.{Serial}
 use Rattle.fkv_base.specs.declared.numbers.Version.{Version}
 use Rattle.fkv_base.specs.declared.phases.Phase.{Phase}
 use Rattle.fkv_base.specs.declared.phases.Phase.TheVariants as phase
+use Rattle.fkv_base.specs.declared.shapes.Shape.{Shape}
 use Rattle.fkv_words.specs.declared.phase_words.PhaseSaid.TheVariants.{Says}
 use Rattle.fkv_words.specs.PhaseWords.{phase_said}
 use Rattle.fkv_plane.specs.declared.asks.Ask.{Ask}
 use Rattle.fkv_plane.specs.declared.asks.Ask.TheVariants.{Done}
+use Rattle.fkv_plane.specs.declared.places.Places.{Places}
 use Rattle.fkv_commit.specs.declared.commits.Commit.{Commit}
 use Rattle.fkv_commit.specs.declared.commits.CommitKind.{CommitKind}
 use Rattle.fkv_commit.specs.declared.entering.EnterAnswer.{EnterAnswer}
@@ -27,7 +30,7 @@ use Rattle.fkv_manifest.specs.Committing.{commit_next, commit_answer}
 use Rattle.fkv_keeper.specs.declared.keepers.Keeping.{Keeping}
 use Rattle.fkv_keeper.specs.declared.keepers.Keeping.TheVariants.{Starts, LoadsPhase, Enters, Seeks, Waits, Writes, Finishes}
 use Rattle.fkv_keeper.specs.Keeping.{KeeperState}
-use Rattle.fkv_keeper.specs.KeeperRun.{KeeperEvent, BeginsCommit, Replies, Calls}
+use Rattle.fkv_keeper.specs.KeeperRun.{KeeperEvent, BeginsCommit, Replies, Calls, keeper_run}
 
 -- The phase word was just loaded, and it says this phase.
 pub record SaysPhase (its : Phase) (s : KeeperState) (event : KeeperEvent) : Type 0 where
@@ -156,3 +159,31 @@ pub record KnowsParts (event : KeeperEvent) (step : Keeping) (s a : KeeperState)
   pub taken : a.has_points ≡ taken_after event step s
   pub end : (was is : Commit) → s.commit ≡ Some was → a.commit ≡ Some is → end_of is ≡ end_after event step s (end_of was)
   pub seek : (step ≡ LoadsPhase → a.step ≡ Seeks → ⊥) → a.seek ≡ seek_after event step s.seek
+
+-- what a search for points has come to: the number of the commit for which it was, its points, and the end and epoch that it has told
+pub record Found : Type 0 where
+  pub number : Version
+  pub points : List Serial
+  pub end : SafeEnd
+
+abbrev pub found_by : Ask SeekAnswer → SeekState → Option Found
+found_by (Done (seek.Taken end epoch)) m = Some (record { number = m.number; points = m.points; end = record { end = end; epoch = epoch } })
+found_by ask m = None
+
+-- by the search that has begun last: nothing while it is under way, nor where it has taken no points
+abbrev pub found_after : KeeperEvent → Keeping → Keeping → SeekState → Option Found → Option Found
+found_after (Replies reply granted) LoadsPhase Seeks m was = None
+found_after (Replies reply granted) Seeks after m was = found_by (seek_ask m) m
+found_after event step after m was = was
+
+unfoldable pub points_found : Shape → Places → KeeperState → List KeeperEvent → Option Found
+points_found shape p opening [] = None
+points_found shape p opening (event ∷ before) =
+    found_after event (keeper_run shape p opening before).step (keeper_run shape p opening (event ∷ before)).step (keeper_run shape p opening (event ∷ before)).seek (points_found shape p opening before)
+
+-- The search is as it was at its end. While the points of the commit in hand are taken, it was for that commit's number, and has told its
+-- end and epoch.
+pub record HasFound (f : Found) (s : KeeperState) : Type 0 where
+  pub points : s.seek.points ≡ f.points
+  pub told : seek_ask s.seek ≡ Done (seek.Taken f.end.end f.end.epoch)
+  pub commit : (c : Commit) → s.commit ≡ Some c → s.has_points ≡ true → (c.number ≡ f.number) × (end_of c ≡ f.end)
