@@ -23,7 +23,7 @@ use Rattle.fkv_commit.specs.declared.waiting.WaitAnswer.{WaitAnswer}
 use Rattle.fkv_commit.specs.declared.waiting.WaitAnswer.TheVariants as wait
 use Rattle.fkv_commit.specs.Entering.{enter_ask, enter_next}
 use Rattle.fkv_commit.specs.Finishing.{finish_ask, finish_next}
-use Rattle.fkv_commit.specs.Seeking.{seek_begun, seek_ask, seek_next}
+use Rattle.fkv_commit.specs.Seeking.{seek_ask, seek_next}
 use Rattle.fkv_commit.specs.Starting.{start_ask, start_next}
 use Rattle.fkv_commit.specs.Waiting.{wait_ask, wait_next}
 use Rattle.fkv_manifest.specs.declared.answers.WriteAnswer.{WriteAnswer}
@@ -37,7 +37,7 @@ use Rattle.fkv_keeper.specs.declared.keepers.Keeping.{Keeping}
 use Rattle.fkv_keeper.specs.declared.keepers.Keeping.TheVariants.{Ended, Starts, Maintains, LoadsPhase, Enters, Copies, Seeks, Waits, Writes, Finishes}
 use Rattle.fkv_keeper.specs.Keeping.{KeeperState, copy_asked, copy_driven, copied, points_known, ended, turned, turn_asked, commit_asked, start_ledto, maintain_ledto, copies, part_begun, phase_ledto, enter_ledto, copy_ledto, seek_ledto, writes_begun, wait_ledto, finished, finish_ledto, keeping_next, keeping_given, write_ledto, writes_called, keeping_called}
 use Rattle.fkv_keeper.specs.KeeperRun.{KeeperEvent, BeginsTurn, BeginsCommit, Replies, Gets, Calls, keeper_happens}
-use Rattle.fkv_keeper.specs.PartLaws.{SaysPhase, IsPartBegun, SafeEnd, end_of, end_taken, entered_after, taken_after, end_after, seek_after, KnowsParts}
+use Rattle.fkv_keeper.specs.PartLaws.{IsPartBegun, end_of, entered_after, taken_after, end_after, seek_after, KnowsParts}
 use Rattle.fkv_keeper.proofs.KeeperRuns.{happens_at, happens_so}
 
 -- what one event is said to do

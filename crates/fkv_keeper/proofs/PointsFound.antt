@@ -9,7 +9,7 @@ use Rattle.fkv_plane.specs.declared.asks.Ask.TheVariants.{Done}
 use Rattle.fkv_plane.specs.declared.places.Places.{Places}
 use Rattle.fkv_commit.specs.declared.commits.Commit.{Commit}
 use Rattle.fkv_commit.specs.declared.deferring.DeferAnswer.{DeferAnswer}
-use Rattle.fkv_commit.specs.declared.deferring.DeferAnswer.TheVariants.{Held, NoSlot, Spent, Armed}
+use Rattle.fkv_commit.specs.declared.deferring.DeferAnswer.TheVariants.{Held, Spent, Armed}
 use Rattle.fkv_commit.specs.declared.seeking.SeekAnswer.{SeekAnswer}
 use Rattle.fkv_commit.specs.declared.seeking.SeekAnswer.TheVariants as seek
 use Rattle.fkv_commit.specs.declared.seeking.Seeking.{Seeking}
