@@ -17,6 +17,8 @@ mod KeeperRuns
 mod KeeperSound
 mod KeeperTakes
 mod NewKeepers
+mod PartMoves
+mod PointsFound
 mod PointsWritten
 pub mod Shown
 mod TurnRun

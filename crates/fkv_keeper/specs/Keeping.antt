@@ -1,6 +1,6 @@
 -- What the keeper does: it begins commits, and makes turns, in each of which it does what every turn does and then at most one thing for the
 -- commit in hand.
-use Rattle.std.specs.Prelude.{ℕ, List, [], length, Bool, true, false, if◌then◌else◌, Option, Some, None}
+use Rattle.std.specs.Prelude.{ℕ, List, [], length, replicate, Bool, true, false, if◌then◌else◌, Option, Some, None}
 use Rattle.fkv_base.specs.declared.faults.Fault.TheVariants as fault
 use Rattle.fkv_base.specs.declared.numbers.Addr.{Addr}
 use Rattle.fkv_base.specs.declared.numbers.Serial.{Serial}
@@ -277,9 +277,14 @@ wait_ledto shape s ask = s
 abbrev pub finality_of : KeeperState → Commit → Finality
 finality_of s c = record { number = c.number; points = s.seek.points; checkpoint = s.used; gates = gate_opened s.last.gates c.number }
 
+-- writes of nothing, which keep no bytes of triples
+unfoldable pub no_writes : CommitWriter
+no_writes = record { area = 0; triples = []; gate = record { place = 0; start = 0; slot = replicate 512 0; step = gate_start false }; step = commit_start [] }
+
+-- What it has written isn't kept.
 abbrev pub finished : KeeperState → Option Commit → KeeperState
 finished s None = turned s
-finished s (Some c) = ended (record s { commit = None; last = finality_of s c; lost = lost_left c.kind s.lost; has_finished = true }) (Turned true s.is_drain_full)
+finished s (Some c) = ended (record s { writes = no_writes; commit = None; last = finality_of s c; lost = lost_left c.kind s.lost; has_finished = true }) (Turned true s.is_drain_full)
 
 unfoldable pub finish_ledto : KeeperState → Ask FinishAnswer → KeeperState
 finish_ledto s (Done its) = finished s s.commit

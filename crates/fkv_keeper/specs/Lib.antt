@@ -6,5 +6,6 @@ pub mod KeeperRun
 pub mod Keeping
 pub mod LastCommits
 pub mod NewKeepers
+pub mod PartLaws
 pub mod Running
 pub mod WholeCalls

@@ -19,7 +19,7 @@ ghost use Rattle.fkv_keeper.specs.declared.keepers.Keeping.TheVariants.{Ended};
 
 use crate::answers::KeeperTold;
 use crate::last_commits::{Checkpoint, LastCommit};
-use crate::leading::{copy_driven, device_passed, end_told, write_asked};
+use crate::leading::{copy_driven, device_passed, end_told, no_writes, write_asked};
 use arrayvec::ArrayVec;
 use fkv_base::{Fault, Shape};
 use fkv_checkpoint::IndexCopy;
@@ -28,7 +28,7 @@ use fkv_commit::{
 };
 use fkv_disk::Device;
 use fkv_maintain::Maintain;
-use fkv_manifest::{CommitWrites, GateWrites};
+use fkv_manifest::CommitWrites;
 use fkv_plane::{Action, Ask, Places, SharedWord, passed};
 use fkv_record::LostRange;
 use fkv_words::phase_said;
@@ -127,7 +127,7 @@ impl Keeper {
             copy: None,
             seek: SeekPoints::new(shape.sessions as usize),
             wait: WaitFlush::new(),
-            writes: CommitWrites::new(0, Vec::new(alloc), GateWrites::new(0, 0, [0; 512], false)),
+            writes: no_writes(alloc),
             finish: FinishCommit::new(shape.sessions as usize),
             commit: None,
             has_entered: false,

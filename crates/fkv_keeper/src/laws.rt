@@ -8,6 +8,7 @@ ghost use Rattle.fkv_keeper.specs.declared.keepers.Keeping.TheVariants.{Ended, F
 ghost use Rattle.fkv_keeper.specs.CheckpointLaws.{AreWritesBegun, ChangesItsWords, CopiesOnce, DoesOneThing, HoldsCopy, IsBehindWait, IsBeingWritten, KeepsLists, SparesDurable, begun_with, copy_replies};
 ghost use Rattle.fkv_keeper.specs.Keeping.{KeeperState};
 ghost use Rattle.fkv_keeper.specs.KeeperLaws.{CopiesAgain, IsBrokenForGood, IsFinishOfBegun, IsMemoryRefused, IsWritten};
+ghost use Rattle.fkv_keeper.specs.PartLaws.{Found, HasFound, IsPartBegun, KnowsParts, points_found};
 ghost use Rattle.fkv_keeper.specs.KeeperRun.{IsOpened, KeeperEvent, has_failed, is_calling, keeper_happens, keeper_run, number_open, writing};
 
 /// Whatever turns and commits are begun, and whatever the replies, the actions and the answers of the device are: once a call of the
@@ -58,4 +59,21 @@ pub fn law_of_checkpoints()
         → ChangesItsWords shape p (keeper_run shape p opening events) }
     ensures durable { (shape : Shape) (p : Places) (opening : KeeperState) (events : List KeeperEvent) → IsOpened opening
         → SparesDurable shape p (keeper_run shape p opening events) }
+{}
+
+/// From whatever state and by whatever event: each part of a commit begins only where the phase calls for it, or the part before it has
+/// come to it, and for the commit in hand: its number, and its end and epoch, go into the machine of the part. Wait-pending is deferred
+/// once for a commit. What is known of the commit in hand, that wait-pending is deferred, that its points are taken, and its end and
+/// epoch, is what its parts have told. So in a run, where the search that has begun last has taken points, the keeper has these still; and
+/// while they are known as those of the commit in hand, as they are in its wait, the search was for its number, and has told its end and
+/// epoch.
+pub fn law_of_parts()
+    ensures begins { (shape : Shape) (p : Places) (s : KeeperState) (event : KeeperEvent) → let a = keeper_happens shape p s event in IsPartBegun a.step s event a }
+    ensures knows { (shape : Shape) (p : Places) (s : KeeperState) (event : KeeperEvent) → KnowsParts event s.step s (keeper_happens shape p s event) }
+    ensures found { (shape : Shape) (p : Places) (opening : KeeperState) (events : List KeeperEvent) (found : Found) → IsOpened opening
+        → points_found shape p opening events ≡ Some found
+        → HasFound found (keeper_run shape p opening events) }
+    ensures waits { (shape : Shape) (p : Places) (opening : KeeperState) (events : List KeeperEvent) → IsOpened opening
+        → (keeper_run shape p opening events).step ≡ Waits
+        → (keeper_run shape p opening events).has_points ≡ true }
 {}

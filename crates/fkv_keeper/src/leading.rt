@@ -2,7 +2,7 @@
 ghost use Rattle.std.specs.Prelude.{◌≡◌, true, None, Some};
 ghost use Rattle.fkv_manifest.specs.Committing.{commit_answer};
 ghost use Rattle.fkv_base.specs.declared.faults.Fault.TheVariants as fault;
-ghost use Rattle.fkv_keeper.specs.Keeping.{device_passed, end_told, write_asked, copy_asked, copy_driven, points_known, ended, turned, turned_full, start_ledto, maintain_ledto, phase_ledto, part_begun, copies_next, copies, enter_ledto, copy_ledto, seek_ledto, wait_ledto, writes_begun, gate_writes_of, write_ledto, finish_ledto, finished, checkpoint_used, triples_written, lost_left};
+ghost use Rattle.fkv_keeper.specs.Keeping.{device_passed, end_told, write_asked, copy_asked, copy_driven, points_known, ended, turned, turned_full, start_ledto, maintain_ledto, phase_ledto, part_begun, copies_next, copies, enter_ledto, copy_ledto, seek_ledto, wait_ledto, writes_begun, gate_writes_of, write_ledto, finish_ledto, finished, no_writes, checkpoint_used, triples_written, lost_left};
 ghost use Rattle.fkv_keeper.specs.declared.answers.KeeperTold.TheVariants.{TurnRefused};
 
 use crate::answers::KeeperTold;
@@ -19,6 +19,15 @@ use fkv_manifest::{CommitWrites, GateWrites, WriteAnswer};
 use fkv_plane::{Ask, passed};
 use fkv_record::{LostRange, area_place};
 use fkv_words::PhaseSaid;
+use std::alloc::Global;
+
+/// Writes of nothing: they keep no bytes of triples.
+#[tactic(auto, unfolding(crate::specs::Keeping::no_writes))]
+pub(crate) fn no_writes(alloc: Global) -> CommitWrites
+    ensures { result ≡ no_writes }
+{
+    CommitWrites::new(0, Vec::new(alloc), GateWrites::new(0, 0, [0; 512], false))
+}
 
 /// Drives the copy with the reply to its ask, where there is one.
 pub(crate) fn copy_driven(copy: &mut Option<IndexCopy>, reply: u64) -> Ask<()>
@@ -376,6 +385,7 @@ impl Keeper {
         if commit.kind == CommitKind::Full {
             self.lost.clear();
         }
+        self.writes = no_writes(self.alloc);
         self.has_finished = true;
         self.ends(KeeperTold::Turned(true, self.is_drain_full));
     }
