@@ -1,11 +1,27 @@
 mod Apart
+mod AppendNone
 mod AttemptLatches
+mod AttemptNone
 mod CatchLatches
+mod CommitNone
 mod Counts
+mod DeferNone
+mod EpochNone
+mod Fair
+mod FindNone
+mod KeeperNone
+mod MaintainNone
+mod MoveNone
 mod Moved
 mod Needs
+mod NoLatch
+mod OwnTurnNone
 mod Seats
+mod ServeNone
 mod SessionLatches
+mod SessionNone
 pub mod Shown
 mod TryLatches
+mod TryNone
+mod WalkNone
 mod Worlds
