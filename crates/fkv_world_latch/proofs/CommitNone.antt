@@ -33,7 +33,7 @@ use Rattle.fkv_commit.specs.declared.waiting.Waiting.{Waiting}
 use Rattle.fkv_commit.specs.declared.waiting.Waiting.TheVariants as waiting
 use Rattle.fkv_commit.specs.Commits.{version_after}
 use Rattle.fkv_commit.specs.Cuts.{serial_said, version_said}
-use Rattle.fkv_commit.specs.Deferring.{defer_begun, defer_ask, defer_next, defer_on}
+use Rattle.fkv_commit.specs.Deferring.{defer_begun, defer_next}
 use Rattle.fkv_commit.specs.Entering as enters
 use Rattle.fkv_commit.specs.Entering.{EnterState, entering_ask, enter_ask, enter_begun, entering_next, enter_next}
 use Rattle.fkv_commit.specs.Finishing.{FinishState, durable_from, finish_begun, finishing_ask, finish_ask, finishing_next, finish_next}

@@ -10,7 +10,6 @@ use Rattle.fkv_plane.specs.Asked.{word_at}
 use Rattle.fkv_latch.specs.LatchWorld.{LatchWorld, has_latch, latch_of}
 use Rattle.fkv_latch.specs.Latched.{opening}
 use Rattle.fkv_keeper.specs.Keeping.{KeeperState, keeper_ask}
-use Rattle.fkv_keeper.specs.KeeperRun.{keeper_run}
 use Rattle.fkv_session.specs.Sessions.{SessionState, Seat, session_ask}
 use Rattle.fkv_world.specs.OwnEvents.{keeper_events}
 use Rattle.fkv_world.specs.Runs.{World, run}

@@ -1,5 +1,5 @@
 -- The keeper touches no latch, where it goes by the sessions of its store.
-use Rattle.std.proofs.Common.{◌≡◌, ℕ, ◌<◌, ◌≤◌, refl, sym, subst, arith, List, [], ◌∷◌, length, Bool, true, false}
+use Rattle.std.proofs.Common.{◌≡◌, ℕ, ◌≤◌, refl, sym, subst, arith, List, [], ◌∷◌, length, Bool, true, false}
 use Rattle.std.specs.Prelude.{if◌then◌else◌, ⊤, Option, Some, None}
 use Rattle.fkv_base.specs.declared.faults.Fault.TheVariants as fault
 use Rattle.fkv_base.specs.declared.phases.Phase.TheVariants as phase
@@ -26,11 +26,11 @@ use Rattle.fkv_commit.specs.declared.starting.StartAnswer.{StartAnswer}
 use Rattle.fkv_commit.specs.declared.starting.StartAnswer.TheVariants as start
 use Rattle.fkv_commit.specs.declared.waiting.WaitAnswer.{WaitAnswer}
 use Rattle.fkv_commit.specs.declared.waiting.WaitAnswer.TheVariants as wait
-use Rattle.fkv_commit.specs.Entering.{enter_begun, enter_ask, enter_next}
-use Rattle.fkv_commit.specs.Finishing.{finish_begun, finish_ask, finish_next}
-use Rattle.fkv_commit.specs.Seeking.{seek_begun, seek_ask, seek_next}
-use Rattle.fkv_commit.specs.Starting.{start_begun, start_ask, start_next}
-use Rattle.fkv_commit.specs.Waiting.{wait_begun, wait_ask, wait_next}
+use Rattle.fkv_commit.specs.Entering.{enter_begun, enter_next}
+use Rattle.fkv_commit.specs.Finishing.{finish_next}
+use Rattle.fkv_commit.specs.Seeking.{seek_begun, seek_next}
+use Rattle.fkv_commit.specs.Starting.{start_begun, start_next}
+use Rattle.fkv_commit.specs.Waiting.{wait_begun, wait_next}
 use Rattle.fkv_manifest.specs.declared.answers.WriteAnswer.{WriteAnswer}
 use Rattle.fkv_manifest.specs.declared.answers.WriteAnswer.TheVariants as write
 use Rattle.fkv_manifest.specs.Committing.{commit_next, commit_answer}
@@ -41,7 +41,7 @@ use Rattle.fkv_keeper.specs.declared.answers.KeeperTold.{KeeperTold}
 use Rattle.fkv_keeper.specs.declared.answers.KeeperTold.TheVariants.{TurnRefused, CommitRefused}
 use Rattle.fkv_keeper.specs.declared.keepers.Keeping.{Keeping}
 use Rattle.fkv_keeper.specs.declared.keepers.Keeping.TheVariants.{Ended, Starts, Maintains, LoadsPhase, Enters, Copies, Seeks, Waits, Writes, Finishes}
-use Rattle.fkv_keeper.specs.Keeping.{KeeperState, copy_asked, device_passed, write_asked, keeping_ask, keeper_ask, ended, turned, commit_asked, turn_asked, start_ledto, maintain_ledto, copies, copies_next, part_begun, phase_ledto, enter_ledto, copy_ledto, seek_ledto, writes_begun, wait_ledto, finished, finish_ledto, copy_driven, keeping_next, keeper_next, keeping_given, keeper_given, write_ledto, turn_called, writes_called, keeping_called, keeper_called}
+use Rattle.fkv_keeper.specs.Keeping.{KeeperState, copy_asked, device_passed, write_asked, keeping_ask, keeper_ask, ended, turned, commit_asked, turn_asked, start_ledto, maintain_ledto, copies, copies_next, part_begun, phase_ledto, enter_ledto, copy_ledto, seek_ledto, writes_begun, wait_ledto, finished, finish_ledto, copy_driven, keeping_next, keeping_given, write_ledto, writes_called, keeping_called}
 use Rattle.fkv_keeper.specs.KeeperRun.{KeeperEvent, BeginsTurn, BeginsCommit, Replies, Gets, Calls, IsOpened, is_in_hand, begins, keeper_happens, keeper_run}
 use Rattle.fkv_world_latch.proofs.NoLatch.{TouchesNoLatch, passed_none}
 use Rattle.fkv_world_latch.proofs.CommitNone.{IsStartNone, start_none, start_next_none, start_begun_none, IsEnterNone, enter_none, enter_next_none, enter_begun_none, IsSeekNone, seek_none, seek_next_none, seek_begun_none, wait_none, FinishTouches, finish_none, finish_next_none, finish_begun_none}

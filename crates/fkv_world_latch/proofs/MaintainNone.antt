@@ -1,15 +1,14 @@
 -- What every turn of the keeper does touches no latch.
-use Rattle.std.proofs.Common.{◌≡◌, ℕ, ◌<◌, ◌≤◌, refl, sym, subst, arith, Bool, true, false}
-use Rattle.std.specs.Prelude.{⊤, List, []}
-use Rattle.fkv_base.specs.declared.numbers.Addr.{Addr}
+use Rattle.std.proofs.Common.{◌≡◌, ℕ, ◌≤◌, refl, sym, subst, arith, Bool, true, false}
+use Rattle.std.specs.Prelude.{⊤, List}
 use Rattle.fkv_base.specs.declared.shapes.Shape.{Shape}
 use Rattle.fkv_plane.specs.declared.actions.Action.{Action}
 use Rattle.fkv_plane.specs.declared.asks.Ask.{Ask}
 use Rattle.fkv_plane.specs.declared.asks.Ask.TheVariants.{Load, Store, Swap, Cas, Add, Max, Put, Take, Done}
 use Rattle.fkv_plane.specs.declared.places.Places.{Places}
 use Rattle.fkv_plane.specs.Passing.{passed}
-use Rattle.fkv_epoch.specs.Claiming.{IsClaimInRange, claim_ask, claim_next, claim_given}
-use Rattle.fkv_epoch.specs.Scanning.{scan_ask, scan_next}
+use Rattle.fkv_epoch.specs.Claiming.{IsClaimInRange, claim_next, claim_given}
+use Rattle.fkv_epoch.specs.Scanning.{scan_next}
 use Rattle.fkv_flush.specs.declared.answers.DeviceAnswer.{DeviceAnswer}
 use Rattle.fkv_flush.specs.declared.answers.DeviceAnswer.TheVariants as device
 use Rattle.fkv_flush.specs.Flushing.{flush_ask, flush_next, flush_done, bytes_next, bytes_done}
@@ -18,12 +17,11 @@ use Rattle.fkv_log.specs.declared.moving.MoveAnswer.{MoveAnswer}
 use Rattle.fkv_log.specs.declared.moving.MoveAnswer.TheVariants as moved
 use Rattle.fkv_log.specs.declared.shifting.ShiftAnswer.{ShiftAnswer}
 use Rattle.fkv_log.specs.declared.shifting.ShiftAnswer.TheVariants as shift
-use Rattle.fkv_log.specs.Shifting.{shift_next, shift_next_ask}
-use Rattle.fkv_log.specs.Turning.{turn_next, turn_next_ask}
-use Rattle.fkv_maintain.specs.declared.maintaining.MaintainAnswer.{MaintainAnswer}
+use Rattle.fkv_log.specs.Shifting.{shift_next}
+use Rattle.fkv_log.specs.Turning.{turn_next}
 use Rattle.fkv_maintain.specs.declared.maintaining.Maintaining.{Maintaining}
 use Rattle.fkv_maintain.specs.declared.maintaining.Maintaining.TheVariants.{Through, Spent, Broken, Scans, Claims, Flushes, Shifts, Turns, Serves}
-use Rattle.fkv_maintain.specs.Maintaining.{MaintainState, maintain_begun, device_asked, maintaining_ask, maintain_ask, scan_ledto, claim_ledto, flush_ledto, turn_form, shift_ledto, serve_ledto, serve_begun, turn_ledto, maintaining_next, maintain_next, maintaining_given, maintain_given, maintaining_called, maintain_called}
+use Rattle.fkv_maintain.specs.Maintaining.{MaintainState, maintain_begun, device_asked, maintaining_ask, maintain_ask, scan_ledto, claim_ledto, flush_ledto, shift_ledto, serve_ledto, serve_begun, turn_ledto, maintaining_next, maintain_next, maintaining_given, maintain_given, maintaining_called, maintain_called}
 use Rattle.fkv_world_latch.proofs.NoLatch.{TouchesNoLatch, passed_none}
 use Rattle.fkv_world_latch.proofs.EpochNone.{scan_none, claim_none, claim_range, claim_given_range}
 use Rattle.fkv_world_latch.proofs.MoveNone.{IsShiftInRange, shift_none, shift_range, IsTurnInRange, turn_none, turn_range}

@@ -26,7 +26,7 @@ use Rattle.fkv_log.specs.declared.turning.TurnForm.{TurnForm}
 use Rattle.fkv_log.specs.declared.turning.TurnForm.TheVariants.{Whole, OpensOnly}
 use Rattle.fkv_log.specs.declared.turning.Turning.{Turning}
 use Rattle.fkv_log.specs.declared.turning.Turning.TheVariants as turn
-use Rattle.fkv_log.specs.Moving.{Mover, offset_place, move_begun, moving_ask, move_ask, raise_led, arm_led, moving_next, move_next, move_next_ask}
+use Rattle.fkv_log.specs.Moving.{Mover, offset_place, move_begun, moving_ask, raise_led, arm_led, moving_next, move_next, move_next_ask}
 use Rattle.fkv_log.specs.Shifting.{ShiftState, shift_at, mutable_start, shifting_ask, shift_ask, shift_led, shifting_next, shift_next}
 use Rattle.fkv_log.specs.Turning.{TurnState, turn_at, frame_end, frame_taken, turning_ask, turn_ask, turn_led, turning_next, turn_next}
 use Rattle.fkv_world_latch.proofs.NoLatch.{TouchesNoLatch, passed_none, low_none}

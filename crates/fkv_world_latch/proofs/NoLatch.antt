@@ -1,6 +1,6 @@
 -- The asks that touch no latch, and the places that have none.
-use Rattle.std.proofs.Common.{◌≡◌, ℕ, ◌+◌, ◌*◌, ◌-◌, ◌/◌, ◌%◌, ◌^◌, ◌<◌, ◌≤◌, ◌⊎◌, arith, true, false}
-use Rattle.std.specs.Prelude.{◌==◌, ◌&&◌, nat_lt, nat_le, ⊤}
+use Rattle.std.proofs.Common.{◌≡◌, ℕ, ◌+◌, ◌-◌, ◌%◌, ◌^◌, ◌<◌, ◌≤◌, ◌⊎◌, arith, false}
+use Rattle.std.specs.Prelude.{⊤}
 use Rattle.std.proofs.lemmas.Bool.Decides.{nat_tests}
 use Rattle.fkv_base.specs.Limits.{max_overflow}
 use Rattle.fkv_plane.specs.declared.asks.Ask.{Ask}
@@ -10,7 +10,7 @@ use Rattle.fkv_plane.specs.declared.places.RecordWord.{RecordWord}
 use Rattle.fkv_plane.specs.declared.places.SessionWord.{SessionWord}
 use Rattle.fkv_plane.specs.declared.places.SessionWord.TheVariants as own
 use Rattle.fkv_plane.specs.Passing.{passed}
-use Rattle.fkv_plane.specs.Places.{session_number, session_place, bucket_place, frames_start, record_place}
+use Rattle.fkv_plane.specs.Places.{session_number, session_place, bucket_place, record_place}
 use Rattle.fkv_latch.specs.LatchWorld.{has_latch, latch_of}
 
 -- An ask touches no latch: it loads, its word has none, or it is a Cas that leaves the bits above a link as they are.

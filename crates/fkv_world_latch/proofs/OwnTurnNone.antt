@@ -6,12 +6,12 @@ use Rattle.fkv_plane.specs.declared.actions.Action.{Action}
 use Rattle.fkv_plane.specs.declared.asks.Ask.{Ask}
 use Rattle.fkv_plane.specs.declared.asks.Ask.TheVariants.{Done}
 use Rattle.fkv_plane.specs.declared.places.Places.{Places}
-use Rattle.fkv_epoch.specs.Claiming.{IsClaimInRange, claim_ask, claim_next, claim_given}
-use Rattle.fkv_epoch.specs.Scanning.{scan_ask, scan_next}
+use Rattle.fkv_epoch.specs.Claiming.{IsClaimInRange, claim_next, claim_given}
+use Rattle.fkv_epoch.specs.Scanning.{scan_next}
 use Rattle.fkv_log.specs.declared.moving.MoveAnswer.{MoveAnswer}
 use Rattle.fkv_log.specs.declared.shifting.ShiftAnswer.{ShiftAnswer}
-use Rattle.fkv_log.specs.Shifting.{shift_next, shift_next_ask}
-use Rattle.fkv_log.specs.Turning.{turn_next, turn_next_ask}
+use Rattle.fkv_log.specs.Shifting.{shift_next}
+use Rattle.fkv_log.specs.Turning.{turn_next}
 use Rattle.fkv_session.specs.declared.own_turns.OwnTurning.{OwnTurning}
 use Rattle.fkv_session.specs.declared.own_turns.OwnTurning.TheVariants.{Ended, Scans, Claims, Shifts, Opens}
 use Rattle.fkv_session.specs.OwnTurns.{OwnTurnState, own_turn_begun, own_turning_ask, own_turn_ask, scan_ledto, claim_ledto, shift_ledto, open_ledto, own_turning_next, own_turn_next, own_turning_given, own_turn_given}

@@ -1,12 +1,11 @@
 -- A walk touches no latch, and the slot that it found has none.
-use Rattle.std.proofs.Common.{◌≡◌, ℕ, ◌+◌, refl, arith, sym, subst, Bool, true, false}
+use Rattle.std.proofs.Common.{◌≡◌, ℕ, refl, arith, sym, subst, Bool, true, false}
 use Rattle.std.specs.Prelude.{if◌then◌else◌, ◌==◌, ◌-◌, nat_lt, ⊤}
 use Rattle.fkv_base.specs.declared.numbers.Addr.{Addr}
 use Rattle.fkv_base.specs.declared.numbers.Key.{Key}
 use Rattle.fkv_plane.specs.declared.asks.Ask.{Ask}
 use Rattle.fkv_plane.specs.declared.asks.Ask.TheVariants.{Load, Store, Swap, Cas, Add, Max, Put, Take, Done}
 use Rattle.fkv_plane.specs.declared.places.Places.{Places}
-use Rattle.fkv_plane.specs.Passing.{is_done}
 use Rattle.fkv_index.specs.declared.finding.FindAnswer.{FindAnswer}
 use Rattle.fkv_index.specs.declared.finding.Found.{Found}
 use Rattle.fkv_index.specs.declared.finding.Found.TheVariants as found
@@ -19,7 +18,7 @@ use Rattle.fkv_log.specs.declared.loading.LoadAnswer.{LoadAnswer}
 use Rattle.fkv_log.specs.declared.loading.LoadAnswer.TheVariants as load
 use Rattle.fkv_log.specs.declared.loading.Loading.{Loading}
 use Rattle.fkv_log.specs.declared.loading.Loading.TheVariants as loading
-use Rattle.fkv_log.specs.Loading.{load_ask, load_next, load_next_ask, load_on}
+use Rattle.fkv_log.specs.Loading.{load_ask, load_next, load_next_ask}
 use Rattle.fkv_ops.specs.declared.header_words.HeaderSaid.{HeaderSaid}
 use Rattle.fkv_ops.specs.declared.header_words.HeaderSaid.TheVariants.{Says, Spoiled}
 use Rattle.fkv_ops.specs.declared.walking.WalkAnswer.TheVariants as answer
@@ -28,7 +27,7 @@ use Rattle.fkv_ops.specs.declared.walking.Walking.TheVariants.{Ended, Finds, Mee
 use Rattle.fkv_ops.specs.HeaderWords.{header_said}
 use Rattle.fkv_ops.specs.Walking.{WalkState, walk_begun, walking_ask, walk_ask, walk_ended, reached, slot_found, find_ledto, first_met, record_met, load_ledto, value_ledto, walking_next, walk_next, walking_on, walk_on}
 use Rattle.fkv_world_latch.proofs.NoLatch.{TouchesNoLatch, passed_none, low_none}
-use Rattle.fkv_world_latch.proofs.FindNone.{IsAtBucket, find_none, FoundNone, TellsNone, FindsNone, finds_none, first_none}
+use Rattle.fkv_world_latch.proofs.FindNone.{IsAtBucket, find_none, FoundNone, FindsNone, finds_none, first_none}
 
 -- a search is under way at a bucket
 abbrev pub StepFinds : Places → WalkState → Walking → Type 0
