@@ -16,9 +16,9 @@ use Rattle.fkv_world.specs.Runs.{World, run}
 use Rattle.fkv_world.specs.World.{Event, Calls, Moves, Commits, Turns, KeeperMoves, Crashes, Now, seat_at}
 use Rattle.fkv_world.proofs.Shown.{keeper_runs, places_stay, shape_stays}
 use Rattle.fkv_world_latch.specs.Shows.{SparesLatches, SessionSpares, IsFair, AreFair, IsOpened, seen_by_latches}
-use Rattle.fkv_world_latch.proofs.KeeperNone.{IsKeeperNone, keeper_asks_none, keeper_run_none}
+use Rattle.fkv_world_latch.proofs.KeeperSpares.{IsKeeperSparing, keeper_asks_none, keeper_run_none}
 use Rattle.fkv_world_latch.proofs.NoLatch.{TouchesNoLatch}
-use Rattle.fkv_world_latch.proofs.SessionNone.{IsSessionNone, session_asks_none, session_run_none}
+use Rattle.fkv_world_latch.proofs.SessionSpares.{IsSessionSparing, session_asks_none, session_run_none}
 use Rattle.fkv_world_latch.proofs.Worlds.{Holds, seat_there, opening_holds, run_holds}
 
 -- a Cas that is lost keeps its word, and one that is won its bits
@@ -50,15 +50,15 @@ session_spares n w i None there holds = tt
 session_spares n w i (Some s) there holds = λ rests.
     let k : Seat = seat_at n i in
     let came = (holds.seats i s there).sits.came in
-    let none : IsSessionNone n.places s = subst (λ (x : SessionState). IsSessionNone n.places x) (sym came.same) (session_run_none k came.opening came.events came.opened) in
+    let none : IsSessionSparing n.places s = subst (λ (x : SessionState). IsSessionSparing n.places x) (sym came.same) (session_run_none k came.opening came.events came.opened) in
     touches_spares n.places n.words (session_ask k s) (session_asks_none k s (seat_there n w i s holds there) none rests)
 
 -- so is the keeper
-keeper_none : (first : World) (events : List Event) → IsOpened first.now → IsKeeperNone (run first events).now.shape.sessions (run first events).now.keeper
+keeper_none : (first : World) (events : List Event) → IsOpened first.now → IsKeeperSparing (run first events).now.shape.sessions (run first events).now.keeper
 keeper_none first events opened =
     let ran = keeper_run_none first.now.shape first.now.places first.now.keeper (keeper_events first events) opened.keeper opened.finished in
-    let its : IsKeeperNone first.now.shape.sessions (run first events).now.keeper = subst (λ (s : KeeperState). IsKeeperNone first.now.shape.sessions s) (sym (keeper_runs first events)) ran in
-    subst (λ (shape : Shape). IsKeeperNone shape.sessions (run first events).now.keeper) (sym (shape_stays first events)) its
+    let its : IsKeeperSparing first.now.shape.sessions (run first events).now.keeper = subst (λ (s : KeeperState). IsKeeperSparing first.now.shape.sessions s) (sym (keeper_runs first events)) ran in
+    subst (λ (shape : Shape). IsKeeperSparing shape.sessions (run first events).now.keeper) (sym (shape_stays first events)) its
 
 keeper_spares : (first : World) (events : List Event) → IsOpened first.now
     → SparesLatches (run first events).now.places (run first events).now.words (keeper_ask (run first events).now.shape (run first events).now.places (run first events).now.keeper)

@@ -44,19 +44,19 @@ use Rattle.fkv_keeper.specs.declared.keepers.Keeping.TheVariants.{Ended, Starts,
 use Rattle.fkv_keeper.specs.Keeping.{KeeperState, copy_asked, device_passed, write_asked, keeping_ask, keeper_ask, ended, turned, commit_asked, turn_asked, start_ledto, maintain_ledto, copies, copies_next, part_begun, phase_ledto, enter_ledto, copy_ledto, seek_ledto, writes_begun, wait_ledto, finished, finish_ledto, copy_driven, keeping_next, keeping_given, write_ledto, writes_called, keeping_called}
 use Rattle.fkv_keeper.specs.KeeperRun.{KeeperEvent, BeginsTurn, BeginsCommit, Replies, Gets, Calls, IsOpened, is_in_hand, begins, keeper_happens, keeper_run}
 use Rattle.fkv_world_latch.proofs.NoLatch.{TouchesNoLatch, passed_none}
-use Rattle.fkv_world_latch.proofs.CommitNone.{IsStartNone, start_none, start_next_none, start_begun_none, IsEnterNone, enter_none, enter_next_none, enter_begun_none, IsSeekNone, seek_none, seek_next_none, seek_begun_none, wait_none, FinishTouches, finish_none, finish_next_none, finish_begun_none}
-use Rattle.fkv_world_latch.proofs.MaintainNone.{IsMaintainNone, maintain_none, maintain_next_none, maintain_given_none, maintain_called_none, maintain_begun_none}
+use Rattle.fkv_world_latch.proofs.CommitSpares.{IsStartSparing, start_none, start_next_none, start_begun_none, IsEnterSparing, enter_none, enter_next_none, enter_begun_none, IsSeekSparing, seek_none, seek_next_none, seek_begun_none, wait_none, FinishTouches, finish_none, finish_next_none, finish_begun_none}
+use Rattle.fkv_world_latch.proofs.MaintainSpares.{IsMaintainSparing, maintain_none, maintain_next_none, maintain_given_none, maintain_called_none, maintain_begun_none}
 
 abbrev pub KeeperTouches : ℕ → KeeperState → Keeping → Type 0
-KeeperTouches n s Starts = IsStartNone s.start
-KeeperTouches n s Maintains = IsMaintainNone n s.maintain
-KeeperTouches n s Enters = IsEnterNone s.enter
-KeeperTouches n s Seeks = IsSeekNone s.seek
+KeeperTouches n s Starts = IsStartSparing s.start
+KeeperTouches n s Maintains = IsMaintainSparing n s.maintain
+KeeperTouches n s Enters = IsEnterSparing s.enter
+KeeperTouches n s Seeks = IsSeekSparing s.seek
 KeeperTouches n s Finishes = FinishTouches s.finish.sessions s.finish.step
 KeeperTouches n s step = ⊤
 
 -- it finishes commits for so many sessions, and touches no latch
-pub record IsKeeperNone (n : ℕ) (s : KeeperState) : Type 0 where
+pub record IsKeeperSparing (n : ℕ) (s : KeeperState) : Type 0 where
   pub counts : s.finish.sessions ≤ n
   pub touches : KeeperTouches n s s.step
 
@@ -103,41 +103,41 @@ keeping_none shape p n s Waits few its_few none = passed_none p _ _ (wait_none p
 keeping_none shape p n s Writes few its_few none = write_none p (commit_answer s.writes) _
 keeping_none shape p n s Finishes few its_few none = passed_none p _ _ (finish_none p s.seek.points s.finish its_few none)
 
-pub keeper_asks_none : (shape : Shape) (p : Places) (s : KeeperState) → shape.sessions ≡ p.sessions → IsKeeperNone shape.sessions s → TouchesNoLatch p (keeper_ask shape p s)
+pub keeper_asks_none : (shape : Shape) (p : Places) (s : KeeperState) → shape.sessions ≡ p.sessions → IsKeeperSparing shape.sessions s → TouchesNoLatch p (keeper_ask shape p s)
 keeper_asks_none shape p s same its = keeping_none shape p shape.sessions s s.step (subst (λ n. shape.sessions ≤ n) same (omega arith)) (subst (λ n. s.finish.sessions ≤ n) same its.counts) its.touches
 
 -- where a reply leads
-stays_none : (n : ℕ) (s : KeeperState) (step : Keeping) → s.step ≡ step → s.finish.sessions ≤ n → KeeperTouches n s step → IsKeeperNone n s
+stays_none : (n : ℕ) (s : KeeperState) (step : Keeping) → s.step ≡ step → s.finish.sessions ≤ n → KeeperTouches n s step → IsKeeperSparing n s
 stays_none n s step at counts none = record { counts = counts; touches = subst (λ x. KeeperTouches n s x) (sym at) none }
 
-ended_none : (n : ℕ) (s : KeeperState) (told : KeeperTold) → s.finish.sessions ≤ n → IsKeeperNone n (ended s told)
+ended_none : (n : ℕ) (s : KeeperState) (told : KeeperTold) → s.finish.sessions ≤ n → IsKeeperSparing n (ended s told)
 ended_none n s told counts = record { counts = counts; touches = tt }
 
-either_none : (c : Bool) (n : ℕ) (a b : KeeperState) → IsKeeperNone n a → IsKeeperNone n b → IsKeeperNone n (if c then a else b)
+either_none : (c : Bool) (n : ℕ) (a b : KeeperState) → IsKeeperSparing n a → IsKeeperSparing n b → IsKeeperSparing n (if c then a else b)
 either_none true n a b one other = one
 either_none false n a b one other = other
 
-started_none : (n : ℕ) (s : KeeperState) (ask : Ask StartAnswer) → s.step ≡ Starts → s.finish.sessions ≤ n → IsStartNone s.start → IsKeeperNone n (start_ledto s ask)
+started_none : (n : ℕ) (s : KeeperState) (ask : Ask StartAnswer) → s.step ≡ Starts → s.finish.sessions ≤ n → IsStartSparing s.start → IsKeeperSparing n (start_ledto s ask)
 unfolding start_ledto
 started_none n s (Done (start.Begun number first)) at counts none = record { counts = counts; touches = tt }
 started_none n s (Done (start.Refused why)) at counts none = ended_none n s _ counts
 started_none n s (Done start.Idle) at counts none = ended_none n s _ counts
 started_none n s ask at counts none = stays_none n s Starts at counts none
 
-maintained_none : (n : ℕ) (s : KeeperState) (ask : Ask MaintainAnswer) → s.step ≡ Maintains → s.finish.sessions ≤ n → IsMaintainNone n s.maintain → IsKeeperNone n (maintain_ledto s ask)
+maintained_none : (n : ℕ) (s : KeeperState) (ask : Ask MaintainAnswer) → s.step ≡ Maintains → s.finish.sessions ≤ n → IsMaintainSparing n s.maintain → IsKeeperSparing n (maintain_ledto s ask)
 unfolding maintain_ledto
 maintained_none n s (Done maintain.Through) at counts none = record { counts = counts; touches = tt }
 maintained_none n s (Done maintain.Spent) at counts none = ended_none n s _ counts
 maintained_none n s (Done maintain.Broken) at counts none = record { counts = counts; touches = tt }
 maintained_none n s ask at counts none = stays_none n s Maintains at counts none
 
-copies_none : (p : Places) (n : ℕ) (s : KeeperState) (granted : Bool) → s.finish.sessions ≤ n → IsKeeperNone n (copies p s granted)
+copies_none : (p : Places) (n : ℕ) (s : KeeperState) (granted : Bool) → s.finish.sessions ≤ n → IsKeeperSparing n (copies p s granted)
 copies_none p n s granted counts = either_none granted n (record s { copy = Some (copy_begun p); is_granted = true; step = Copies }) (ended (record s { is_granted = false }) (TurnRefused fault.Memory)) (record { counts = counts; touches = tt }) (record { counts = counts; touches = tt })
 
-copies_next_none : (p : Places) (n : ℕ) (s : KeeperState) (c : Commit) (granted : Bool) (other : KeeperState) → s.finish.sessions ≤ n → IsKeeperNone n other → IsKeeperNone n (copies_next p s c granted other)
+copies_next_none : (p : Places) (n : ℕ) (s : KeeperState) (c : Commit) (granted : Bool) (other : KeeperState) → s.finish.sessions ≤ n → IsKeeperSparing n other → IsKeeperSparing n (copies_next p s c granted other)
 copies_next_none p n s c granted other counts its = either_none c.is_copied n other (copies p s granted) its (copies_none p n s granted counts)
 
-part_none : (p : Places) (n : ℕ) (s : KeeperState) (c : Commit) (said : PhaseSaid) (granted : Bool) → s.finish.sessions ≤ n → IsKeeperNone n (part_begun p s c said granted)
+part_none : (p : Places) (n : ℕ) (s : KeeperState) (c : Commit) (said : PhaseSaid) (granted : Bool) → s.finish.sessions ≤ n → IsKeeperSparing n (part_begun p s c said granted)
 part_none p n s c (Says phase.InProgress version) granted counts =
     either_none s.has_entered n (copies_next p s c granted (turned s)) (record s { enter = enter_begun s.enter c.number; step = Enters })
     (copies_next_none p n s c granted (turned s) counts (ended_none n s _ counts)) (record { counts = counts; touches = enter_begun_none s.enter c.number })
@@ -149,12 +149,12 @@ part_none p n s c (Says phase.Rest version) granted counts = ended_none n s _ co
 part_none p n s c (Says phase.Prepare version) granted counts = ended_none n s _ counts
 part_none p n s c Spoiled granted counts = ended_none n s _ counts
 
-phase_none : (p : Places) (n : ℕ) (s : KeeperState) (found : Option Commit) (said : PhaseSaid) (granted : Bool) → s.finish.sessions ≤ n → IsKeeperNone n (phase_ledto p s found said granted)
+phase_none : (p : Places) (n : ℕ) (s : KeeperState) (found : Option Commit) (said : PhaseSaid) (granted : Bool) → s.finish.sessions ≤ n → IsKeeperSparing n (phase_ledto p s found said granted)
 unfolding phase_ledto
 phase_none p n s None said granted counts = ended_none n s _ counts
 phase_none p n s (Some c) said granted counts = part_none p n s c said granted counts
 
-entered_none : (n : ℕ) (s : KeeperState) (ask : Ask EnterAnswer) → s.step ≡ Enters → s.finish.sessions ≤ n → IsEnterNone s.enter → IsKeeperNone n (enter_ledto s ask)
+entered_none : (n : ℕ) (s : KeeperState) (ask : Ask EnterAnswer) → s.step ≡ Enters → s.finish.sessions ≤ n → IsEnterSparing s.enter → IsKeeperSparing n (enter_ledto s ask)
 unfolding enter_ledto
 entered_none n s (Done enter.Entered) at counts none = record { counts = counts; touches = tt }
 entered_none n s (Done enter.DrainFull) at counts none = record { counts = counts; touches = tt }
@@ -162,12 +162,12 @@ entered_none n s (Done enter.EpochsSpent) at counts none = ended_none n s _ coun
 entered_none n s (Done enter.Idle) at counts none = ended_none n s _ counts
 entered_none n s ask at counts none = stays_none n s Enters at counts none
 
-copied_none : (n : ℕ) (s : KeeperState) (ask : Ask (Unit {0})) → s.step ≡ Copies → s.finish.sessions ≤ n → IsKeeperNone n (copy_ledto s ask)
+copied_none : (n : ℕ) (s : KeeperState) (ask : Ask (Unit {0})) → s.step ≡ Copies → s.finish.sessions ≤ n → IsKeeperSparing n (copy_ledto s ask)
 unfolding copy_ledto
 copied_none n s (Done its) at counts = record { counts = counts; touches = tt }
 copied_none n s ask at counts = stays_none n s Copies at counts tt
 
-sought_none : (n : ℕ) (s : KeeperState) (ask : Ask SeekAnswer) → s.step ≡ Seeks → s.finish.sessions ≤ n → IsSeekNone s.seek → IsKeeperNone n (seek_ledto s ask)
+sought_none : (n : ℕ) (s : KeeperState) (ask : Ask SeekAnswer) → s.step ≡ Seeks → s.finish.sessions ≤ n → IsSeekSparing s.seek → IsKeeperSparing n (seek_ledto s ask)
 unfolding seek_ledto
 sought_none n s (Done (seek.Taken end epoch)) at counts none = record { counts = counts; touches = tt }
 sought_none n s (Done seek.DrainFull) at counts none = record { counts = counts; touches = tt }
@@ -176,27 +176,27 @@ sought_none n s (Done seek.Owing) at counts none = ended_none n s _ counts
 sought_none n s (Done seek.Idle) at counts none = ended_none n s _ counts
 sought_none n s ask at counts none = stays_none n s Seeks at counts none
 
-writes_none : (shape : Shape) (n : ℕ) (s : KeeperState) (found : Option Commit) → s.finish.sessions ≤ n → IsKeeperNone n (writes_begun shape s found)
+writes_none : (shape : Shape) (n : ℕ) (s : KeeperState) (found : Option Commit) → s.finish.sessions ≤ n → IsKeeperSparing n (writes_begun shape s found)
 writes_none shape n s None counts = ended_none n s _ counts
 writes_none shape n s (Some c) counts = record { counts = counts; touches = tt }
 
-waited_none : (shape : Shape) (n : ℕ) (s : KeeperState) (ask : Ask WaitAnswer) → s.step ≡ Waits → s.finish.sessions ≤ n → IsKeeperNone n (wait_ledto shape s ask)
+waited_none : (shape : Shape) (n : ℕ) (s : KeeperState) (ask : Ask WaitAnswer) → s.step ≡ Waits → s.finish.sessions ≤ n → IsKeeperSparing n (wait_ledto shape s ask)
 unfolding wait_ledto
 waited_none shape n s (Done wait.Flushed) at counts = writes_none shape n s s.commit counts
 waited_none shape n s (Done wait.NotYet) at counts = ended_none n s _ counts
 waited_none shape n s (Done wait.Idle) at counts = ended_none n s _ counts
 waited_none shape n s ask at counts = stays_none n s Waits at counts tt
 
-finished_none : (n : ℕ) (s : KeeperState) (found : Option Commit) → s.finish.sessions ≤ n → IsKeeperNone n (finished s found)
+finished_none : (n : ℕ) (s : KeeperState) (found : Option Commit) → s.finish.sessions ≤ n → IsKeeperSparing n (finished s found)
 finished_none n s None counts = ended_none n s _ counts
 finished_none n s (Some c) counts = record { counts = counts; touches = tt }
 
-finish_ledto_none : (n : ℕ) (s : KeeperState) (ask : Ask FinishAnswer) → s.step ≡ Finishes → s.finish.sessions ≤ n → FinishTouches s.finish.sessions s.finish.step → IsKeeperNone n (finish_ledto s ask)
+finish_ledto_none : (n : ℕ) (s : KeeperState) (ask : Ask FinishAnswer) → s.step ≡ Finishes → s.finish.sessions ≤ n → FinishTouches s.finish.sessions s.finish.step → IsKeeperSparing n (finish_ledto s ask)
 unfolding finish_ledto
 finish_ledto_none n s (Done its) at counts none = finished_none n s s.commit counts
 finish_ledto_none n s ask at counts none = stays_none n s Finishes at counts none
 
-next_none : (shape : Shape) (p : Places) (s : KeeperState) (step : Keeping) (reply : ℕ) (granted : Bool) → s.step ≡ step → s.finish.sessions ≤ shape.sessions → KeeperTouches shape.sessions s step → IsKeeperNone shape.sessions (keeping_next shape p s step reply granted)
+next_none : (shape : Shape) (p : Places) (s : KeeperState) (step : Keeping) (reply : ℕ) (granted : Bool) → s.step ≡ step → s.finish.sessions ≤ shape.sessions → KeeperTouches shape.sessions s step → IsKeeperSparing shape.sessions (keeping_next shape p s step reply granted)
 unfolding keeping_next
 next_none shape p s (Ended its) reply granted at counts none = stays_none shape.sessions s (Ended its) at counts tt
 next_none shape p s Starts reply granted at counts none = started_none shape.sessions (record s { start = start_next s.start reply }) _ at counts (start_next_none s.start reply none)
@@ -210,7 +210,7 @@ next_none shape p s Writes reply granted at counts none = stays_none shape.sessi
 next_none shape p s Finishes reply granted at counts none = finish_ledto_none shape.sessions (record s { finish = finish_next s.finish reply }) _ at counts (finish_next_none s.finish reply)
 
 -- each action, and each call of the device
-given_none : (shape : Shape) (p : Places) (n : ℕ) (s : KeeperState) (step : Keeping) (action : Action) → s.step ≡ step → s.finish.sessions ≤ n → KeeperTouches n s step → IsKeeperNone n (keeping_given shape p s step action)
+given_none : (shape : Shape) (p : Places) (n : ℕ) (s : KeeperState) (step : Keeping) (action : Action) → s.step ≡ step → s.finish.sessions ≤ n → KeeperTouches n s step → IsKeeperSparing n (keeping_given shape p s step action)
 unfolding keeping_given
 given_none shape p n s Maintains action at counts none = maintained_none n (record s { maintain = maintain_given s.maintain action }) _ at counts (maintain_given_none n s.maintain action none)
 given_none shape p n s (Ended its) action at counts none = stays_none n s (Ended its) at counts none
@@ -223,18 +223,18 @@ given_none shape p n s Waits action at counts none = stays_none n s Waits at cou
 given_none shape p n s Writes action at counts none = stays_none n s Writes at counts none
 given_none shape p n s Finishes action at counts none = stays_none n s Finishes at counts none
 
-written_none : (n : ℕ) (s : KeeperState) (found : Option Commit) (answer : WriteAnswer) → s.step ≡ Writes → s.finish.sessions ≤ n → IsKeeperNone n (write_ledto s found answer)
+written_none : (n : ℕ) (s : KeeperState) (found : Option Commit) (answer : WriteAnswer) → s.step ≡ Writes → s.finish.sessions ≤ n → IsKeeperSparing n (write_ledto s found answer)
 unfolding write_ledto
 written_none n s None answer at counts = ended_none n s _ counts
 written_none n s (Some c) write.Written at counts = record { counts = counts; touches = finish_begun_none s.finish c.number }
 written_none n s (Some c) write.Device at counts = stays_none n s Writes at counts tt
 written_none n s (Some c) (write.Broken why) at counts = stays_none n s Writes at counts tt
 
-writes_called_none : (n : ℕ) (s : KeeperState) (done : Bool) → s.step ≡ Writes → s.finish.sessions ≤ n → IsKeeperNone n (writes_called s done)
+writes_called_none : (n : ℕ) (s : KeeperState) (done : Bool) → s.step ≡ Writes → s.finish.sessions ≤ n → IsKeeperSparing n (writes_called s done)
 writes_called_none n s true at counts = written_none n (record s { writes = commit_next s.writes true }) s.commit (commit_answer (commit_next s.writes true)) at counts
 writes_called_none n s false at counts = record { counts = counts; touches = tt }
 
-called_none : (shape : Shape) (p : Places) (n : ℕ) (s : KeeperState) (step : Keeping) (done : Bool) (bytes : List ℕ) → s.step ≡ step → s.finish.sessions ≤ n → KeeperTouches n s step → IsKeeperNone n (keeping_called shape p s step done bytes)
+called_none : (shape : Shape) (p : Places) (n : ℕ) (s : KeeperState) (step : Keeping) (done : Bool) (bytes : List ℕ) → s.step ≡ step → s.finish.sessions ≤ n → KeeperTouches n s step → IsKeeperSparing n (keeping_called shape p s step done bytes)
 unfolding keeping_called
 called_none shape p n s Maintains done bytes at counts none = maintained_none n (record s { maintain = maintain_called shape p s.maintain done bytes }) _ at counts (maintain_called_none shape p n s.maintain done bytes none)
 called_none shape p n s Writes done bytes at counts none = writes_called_none n s done at counts
@@ -248,21 +248,21 @@ called_none shape p n s Waits done bytes at counts none = stays_none n s Waits a
 called_none shape p n s Finishes done bytes at counts none = stays_none n s Finishes at counts none
 
 -- what is begun
-turn_none : (n : ℕ) (s : KeeperState) → s.finish.sessions ≤ n → IsKeeperNone n (turn_asked s)
+turn_none : (n : ℕ) (s : KeeperState) → s.finish.sessions ≤ n → IsKeeperSparing n (turn_asked s)
 turn_none n s counts =
     either_none s.is_broken n (ended s (TurnRefused fault.Broken)) (record s { maintain = maintain_begun s.maintain; is_drain_full = false; step = Maintains }) (ended_none n s _ counts)
     (record { counts = counts; touches = maintain_begun_none n s.maintain })
 
-commit_none : (n : ℕ) (s : KeeperState) (kind : CommitKind) → s.finish.sessions ≤ n → IsKeeperNone n (commit_asked s kind)
+commit_none : (n : ℕ) (s : KeeperState) (kind : CommitKind) → s.finish.sessions ≤ n → IsKeeperSparing n (commit_asked s kind)
 commit_none n s kind counts =
     either_none s.is_broken n (ended s (CommitRefused fault.Broken)) (record s { start = start_begun s.start kind (length s.lost); step = Starts }) (ended_none n s _ counts)
     (record { counts = counts; touches = start_begun_none s.start kind (length s.lost) })
 
-begins_none : (n : ℕ) (s : KeeperState) (busy : Bool) (begun : KeeperState) → IsKeeperNone n s → IsKeeperNone n begun → IsKeeperNone n (begins s busy begun)
+begins_none : (n : ℕ) (s : KeeperState) (busy : Bool) (begun : KeeperState) → IsKeeperSparing n s → IsKeeperSparing n begun → IsKeeperSparing n (begins s busy begun)
 begins_none n s true begun one other = one
 begins_none n s false begun one other = other
 
-happens_none : (shape : Shape) (p : Places) (s : KeeperState) (event : KeeperEvent) → IsKeeperNone shape.sessions s → IsKeeperNone shape.sessions (keeper_happens shape p s event)
+happens_none : (shape : Shape) (p : Places) (s : KeeperState) (event : KeeperEvent) → IsKeeperSparing shape.sessions s → IsKeeperSparing shape.sessions (keeper_happens shape p s event)
 unfolding keeper_happens
 happens_none shape p s BeginsTurn its = begins_none shape.sessions s (is_in_hand s.step) (turn_asked s) its (turn_none shape.sessions s its.counts)
 happens_none shape p s (BeginsCommit kind) its = begins_none shape.sessions s (is_in_hand s.step) (commit_asked s kind) its (commit_none shape.sessions s kind its.counts)
@@ -275,7 +275,7 @@ opened_none n s (Ended its) idle = tt
 opened_none n s step idle = cc
 
 -- at every moment of a keeper's run
-pub keeper_run_none : (shape : Shape) (p : Places) (opening : KeeperState) (events : List KeeperEvent) → IsOpened opening → opening.finish.sessions ≡ shape.sessions → IsKeeperNone shape.sessions (keeper_run shape p opening events)
+pub keeper_run_none : (shape : Shape) (p : Places) (opening : KeeperState) (events : List KeeperEvent) → IsOpened opening → opening.finish.sessions ≡ shape.sessions → IsKeeperSparing shape.sessions (keeper_run shape p opening events)
 unfolding keeper_run
 keeper_run_none shape p opening [] opened same = record { counts = omega (arith, same); touches = opened_none shape.sessions opening opening.step opened.none_in_hand }
 keeper_run_none shape p opening (event ∷ before) opened same = happens_none shape p (keeper_run shape p opening before) event (keeper_run_none shape p opening before opened same)

@@ -5,8 +5,6 @@ use Rattle.std.proofs.lemmas.Bool.Decides.{nat_tests}
 use Rattle.fkv_base.specs.Limits.{drain_slots}
 use Rattle.fkv_plane.specs.declared.actions.Action.{Action}
 use Rattle.fkv_plane.specs.declared.actions.Action.TheVariants as act
-use Rattle.fkv_plane.specs.declared.asks.Ask.{Ask}
-use Rattle.fkv_plane.specs.declared.asks.Ask.TheVariants.{Done}
 use Rattle.fkv_plane.specs.declared.places.Places.{Places}
 use Rattle.fkv_plane.specs.declared.places.SharedWord.TheVariants as one
 use Rattle.fkv_plane.specs.declared.places.SessionWord.TheVariants as own
@@ -19,8 +17,6 @@ use Rattle.fkv_epoch.specs.declared.leaving.Leaving.{Leaving}
 use Rattle.fkv_epoch.specs.declared.leaving.Leaving.TheVariants as leave
 use Rattle.fkv_epoch.specs.declared.protecting.Protecting.{Protecting}
 use Rattle.fkv_epoch.specs.declared.protecting.Protecting.TheVariants as protect
-use Rattle.fkv_epoch.specs.declared.raising.RaiseAnswer.{RaiseAnswer}
-use Rattle.fkv_epoch.specs.declared.raising.RaiseAnswer.TheVariants as raised
 use Rattle.fkv_epoch.specs.declared.raising.Raising.{Raising}
 use Rattle.fkv_epoch.specs.declared.raising.Raising.TheVariants as raise
 use Rattle.fkv_epoch.specs.declared.refreshing.Refreshing.{Refreshing}
@@ -31,9 +27,10 @@ use Rattle.fkv_epoch.specs.Arming.{arm_ask, arm_next}
 use Rattle.fkv_epoch.specs.Claiming.{IsClaimInRange, run_of, claim_ask, slot_after, slot_armed, claim_next, claim_given}
 use Rattle.fkv_epoch.specs.Leaving.{leave_ask}
 use Rattle.fkv_epoch.specs.Protecting.{protect_ask}
-use Rattle.fkv_epoch.specs.Raising.{IsRaiseInRange, raise_ask, free_after, raise_next, raise_next_ask, raise_on}
+use Rattle.fkv_epoch.specs.Raising.{IsRaiseInRange, raise_ask}
 use Rattle.fkv_epoch.specs.Refreshing.{refresh_ask}
 use Rattle.fkv_epoch.specs.Scanning.{scan_ask}
+use Rattle.fkv_commit.specs.Deferring.{HasSlotInRange}
 use Rattle.fkv_latch.specs.LatchWorld.{has_latch}
 use Rattle.fkv_world_latch.proofs.NoLatch.{TouchesNoLatch, low_none, session_none}
 
@@ -132,38 +129,8 @@ raise_none p (raise.HoldsSlot slot) range = inl (drain_none p slot range)
 raise_none p (raise.HasSlot slot) range = tt
 raise_none p (raise.RaisesEpoch slot) range = low_none p (shared_place one.Epoch) (omega arith)
 
--- a raise that is told has one of the slots
-abbrev pub RaisesInRange : Ask RaiseAnswer → Type 0
-RaisesInRange (Done (raised.Raised slot epoch)) = slot < drain_slots
-RaisesInRange ask = ⊤
-
-raises_either : (c : Bool) (a b : Raising) → (c ≡ true → IsRaiseInRange a) → (c ≡ false → IsRaiseInRange b) → IsRaiseInRange (if c then a else b)
-raises_either true a b one other = one refl
-raises_either false a b one other = other refl
-
-free_range : (slot : ℕ) → IsRaiseInRange (free_after slot)
-unfolding free_after
-free_range slot = raises_either (nat_lt (slot + 1) drain_slots) (raise.MeetsSlot (slot + 1)) raise.AtRest (λ e. grind (arith, nat_tests, e)) (λ e. tt)
-
-pub raise_range : (step : Raising) (reply : ℕ) → IsRaiseInRange step → IsRaiseInRange (raise_next step reply)
-unfolding raise_next
-raise_range raise.AtRest reply range = tt
-raise_range raise.LoadsEpoch reply range = raises_either _ raise.AtRest (raise.MeetsSlot 0) (λ e. tt) (λ e. omega arith)
-raise_range (raise.MeetsSlot slot) reply range = raises_either (reply == 0) (raise.HoldsSlot slot) (free_after slot) (λ e. range) (λ e. free_range slot)
-raise_range (raise.HoldsSlot slot) reply range = raises_either (reply == 0) (raise.HasSlot slot) (free_after slot) (λ e. range) (λ e. free_range slot)
-raise_range (raise.HasSlot slot) reply range = range
-raise_range (raise.RaisesEpoch slot) reply range = tt
-
-pub on_range : (step : Raising) → IsRaiseInRange step → IsRaiseInRange (raise_on step)
-unfolding raise_on
-on_range (raise.HasSlot slot) range = range
-on_range raise.AtRest range = range
-on_range raise.LoadsEpoch range = range
-on_range (raise.MeetsSlot slot) range = range
-on_range (raise.HoldsSlot slot) range = range
-on_range (raise.RaisesEpoch slot) range = range
-
-pub asks_range : (step : Raising) → RaisesInRange (raise_ask step)
+-- what it asks tells one of the slots
+pub asks_range : (step : Raising) → HasSlotInRange (raise_ask step)
 unfolding raise_ask
 asks_range raise.AtRest = tt
 asks_range raise.LoadsEpoch = tt
@@ -171,19 +138,6 @@ asks_range (raise.MeetsSlot slot) = tt
 asks_range (raise.HoldsSlot slot) = tt
 asks_range (raise.HasSlot slot) = tt
 asks_range (raise.RaisesEpoch slot) = tt
-
-asks_either : (c : Bool) (a b : Ask RaiseAnswer) → RaisesInRange a → RaisesInRange b → RaisesInRange (if c then a else b)
-asks_either true a b one other = one
-asks_either false a b one other = other
-
-pub told_range : (step : Raising) (reply : ℕ) → IsRaiseInRange step → RaisesInRange (raise_next_ask step reply)
-unfolding raise_next_ask
-told_range raise.LoadsEpoch reply range = asks_either _ (Done raised.Spent) (raise_ask (raise.MeetsSlot 0)) tt (asks_range (raise.MeetsSlot 0))
-told_range (raise.RaisesEpoch slot) reply range = range
-told_range raise.AtRest reply range = asks_range (raise_next raise.AtRest reply)
-told_range (raise.MeetsSlot slot) reply range = asks_range (raise_next (raise.MeetsSlot slot) reply)
-told_range (raise.HoldsSlot slot) reply range = asks_range (raise_next (raise.HoldsSlot slot) reply)
-told_range (raise.HasSlot slot) reply range = asks_range (raise_next (raise.HasSlot slot) reply)
 
 -- an arming
 abbrev pub ArmsInRange : Arming → Type 0

@@ -43,7 +43,7 @@ abbrev pub StepPublishes : Places → AppendState → Appending → Type 0
 StepPublishes p a (Publishes addr) = PublishesNone p a.publishing
 StepPublishes p a step = ⊤
 
-pub record IsAppendNone (p : Places) (a : AppendState) : Type 0 where
+pub record IsAppendSparing (p : Places) (a : AppendState) : Type 0 where
   pub place : has_latch p a.slot.place ≡ false
   pub publishes : StepPublishes p a a.step
 
@@ -79,26 +79,26 @@ appending_none p a (Fills addr) none = passed_none p _ _ (fill_none p a.filling)
 appending_none p a (Publishes addr) none = passed_none p _ _ (publish_none p a.publishing none)
 appending_none p a Invalidates none = passed_none p _ _ (invalidate_none p a.invalidating)
 
-pub append_none : (p : Places) (a : AppendState) → IsAppendNone p a → TouchesNoLatch p (append_ask p a)
+pub append_none : (p : Places) (a : AppendState) → IsAppendSparing p a → TouchesNoLatch p (append_ask p a)
 append_none p a its = appending_none p a a.step its.publishes
 
 -- where a reply leads
-ended_none : (p : Places) (a : AppendState) (its : AppendAnswer) → has_latch p a.slot.place ≡ false → IsAppendNone p (append_ended a its)
+ended_none : (p : Places) (a : AppendState) (its : AppendAnswer) → has_latch p a.slot.place ≡ false → IsAppendSparing p (append_ended a its)
 ended_none p a its none = record { place = none; publishes = tt }
 
-either_none : (c : Bool) (p : Places) (a b : AppendState) → IsAppendNone p a → IsAppendNone p b → IsAppendNone p (if c then a else b)
+either_none : (c : Bool) (p : Places) (a b : AppendState) → IsAppendSparing p a → IsAppendSparing p b → IsAppendSparing p (if c then a else b)
 either_none true p a b one other = one
 either_none false p a b one other = other
 
-stays_none : (p : Places) (a : AppendState) (step : Appending) → a.step ≡ step → has_latch p a.slot.place ≡ false → StepPublishes p a step → IsAppendNone p a
+stays_none : (p : Places) (a : AppendState) (step : Appending) → a.step ≡ step → has_latch p a.slot.place ≡ false → StepPublishes p a step → IsAppendSparing p a
 stays_none p a step at none publishes = record { place = none; publishes = subst (λ x. StepPublishes p a x) (sym at) publishes }
 
-reserved_none : (p : Places) (a : AppendState) (addr : Addr) → has_latch p a.slot.place ≡ false → IsAppendNone p (addr_reserved a addr)
+reserved_none : (p : Places) (a : AppendState) (addr : Addr) → has_latch p a.slot.place ≡ false → IsAppendSparing p (addr_reserved a addr)
 reserved_none p a addr none =
     either_none (nat_lt a.its_words.header.previous.0 addr.0 && nat_lt addr.0 (2 ^ 48)) p (record a { filling = fill_begun addr a.its_words; step = Fills addr }) (append_ended a answer.Contended)
     (record { place = none; publishes = tt }) (ended_none p a answer.Contended none)
 
-reserve_ledto_none : (p : Places) (a : AppendState) (ask : Ask ReserveAnswer) → a.step ≡ Reserves → has_latch p a.slot.place ≡ false → IsAppendNone p (reserve_ledto a ask)
+reserve_ledto_none : (p : Places) (a : AppendState) (ask : Ask ReserveAnswer) → a.step ≡ Reserves → has_latch p a.slot.place ≡ false → IsAppendSparing p (reserve_ledto a ask)
 unfolding reserve_ledto
 reserve_ledto_none p a (Done (reserve.Reserved addr)) at none = reserved_none p a addr none
 reserve_ledto_none p a (Done reserve.Full) at none = ended_none p a answer.Full none
@@ -106,18 +106,18 @@ reserve_ledto_none p a (Done reserve.NoRoom) at none = ended_none p a answer.NoR
 reserve_ledto_none p a (Done reserve.Contended) at none = ended_none p a answer.Contended none
 reserve_ledto_none p a ask at none = stays_none p a Reserves at none tt
 
-fill_ledto_none : (p : Places) (a : AppendState) (addr : Addr) (ask : Ask (Unit {0})) → a.step ≡ Fills addr → has_latch p a.slot.place ≡ false → IsAppendNone p (fill_ledto a addr ask)
+fill_ledto_none : (p : Places) (a : AppendState) (addr : Addr) (ask : Ask (Unit {0})) → a.step ≡ Fills addr → has_latch p a.slot.place ≡ false → IsAppendSparing p (fill_ledto a addr ask)
 unfolding fill_ledto
 fill_ledto_none p a addr (Done its) at none = record { place = none; publishes = none }
 fill_ledto_none p a addr ask at none = stays_none p a (Fills addr) at none tt
 
-publish_ledto_none : (p : Places) (a : AppendState) (addr : Addr) (ask : Ask PublishAnswer) → a.step ≡ Publishes addr → has_latch p a.slot.place ≡ false → PublishesNone p a.publishing → IsAppendNone p (publish_ledto a addr ask)
+publish_ledto_none : (p : Places) (a : AppendState) (addr : Addr) (ask : Ask PublishAnswer) → a.step ≡ Publishes addr → has_latch p a.slot.place ≡ false → PublishesNone p a.publishing → IsAppendSparing p (publish_ledto a addr ask)
 unfolding publish_ledto
 publish_ledto_none p a addr (Done publish.Won) at none publishes = ended_none p a answer.Published none
 publish_ledto_none p a addr (Done publish.Lost) at none publishes = record { place = none; publishes = tt }
 publish_ledto_none p a addr ask at none publishes = stays_none p a (Publishes addr) at none publishes
 
-invalidate_ledto_none : (p : Places) (a : AppendState) (ask : Ask (Unit {0})) → a.step ≡ Invalidates → has_latch p a.slot.place ≡ false → IsAppendNone p (invalidate_ledto a ask)
+invalidate_ledto_none : (p : Places) (a : AppendState) (ask : Ask (Unit {0})) → a.step ≡ Invalidates → has_latch p a.slot.place ≡ false → IsAppendSparing p (invalidate_ledto a ask)
 unfolding invalidate_ledto
 invalidate_ledto_none p a (Done its) at none = ended_none p a answer.Contended none
 invalidate_ledto_none p a ask at none = stays_none p a Invalidates at none tt
@@ -127,7 +127,7 @@ unfolding publish_next
 published_none p publishing.AtRest reply = tt
 published_none p (publishing.SwapsEntry place word entry) reply = tt
 
-next_none : (p : Places) (room : ℕ) (a : AppendState) (step : Appending) (reply : ℕ) → a.step ≡ step → has_latch p a.slot.place ≡ false → IsAppendNone p (appending_next p room a step reply)
+next_none : (p : Places) (room : ℕ) (a : AppendState) (step : Appending) (reply : ℕ) → a.step ≡ step → has_latch p a.slot.place ≡ false → IsAppendSparing p (appending_next p room a step reply)
 unfolding appending_next
 next_none p room a (Ended its) reply at none = stays_none p a (Ended its) at none tt
 next_none p room a Reserves reply at none = reserve_ledto_none p (record a { reserving = reserve_next a.reserving reply }) (reserve_next_ask room a.reserving reply) at none
@@ -136,9 +136,9 @@ next_none p room a (Publishes addr) reply at none = publish_ledto_none p (record
 next_none p room a Invalidates reply at none = invalidate_ledto_none p (record a { invalidating = invalidate_next a.invalidating }) (invalidate_ask p (invalidate_next a.invalidating)) at none
 
 -- each reply
-pub append_next_none : (p : Places) (room : ℕ) (a : AppendState) (reply : ℕ) → IsAppendNone p a → IsAppendNone p (append_next p room a reply)
+pub append_next_none : (p : Places) (room : ℕ) (a : AppendState) (reply : ℕ) → IsAppendSparing p a → IsAppendSparing p (append_next p room a reply)
 append_next_none p room a reply its = next_none p room a a.step reply refl its.place
 
 -- as it begins
-pub append_begun_none : (p : Places) (a : AppendState) (slot : FoundSlot) (its : RecordWords) → has_latch p slot.place ≡ false → IsAppendNone p (append_begun a slot its)
+pub append_begun_none : (p : Places) (a : AppendState) (slot : FoundSlot) (its : RecordWords) → has_latch p slot.place ≡ false → IsAppendSparing p (append_begun a slot its)
 append_begun_none p a slot its none = record { place = none; publishes = tt }

@@ -13,6 +13,8 @@ use Rattle.fkv_epoch.specs.declared.raising.RaiseAnswer.TheVariants as raised
 use Rattle.fkv_epoch.specs.declared.raising.Raising.{Raising}
 use Rattle.fkv_epoch.specs.Arming.{arm_ask, arm_next}
 use Rattle.fkv_epoch.specs.Raising.{IsRaiseInRange, raise_ask, raise_next, raise_next_ask, raise_on}
+use Rattle.fkv_commit.specs.Deferring.{HasSlotInRange}
+use Rattle.fkv_commit.proofs.Shown.{next_in_range, on_in_range, next_ask_in_range}
 use Rattle.fkv_latch.specs.LatchWorld.{has_latch}
 use Rattle.fkv_log.specs.declared.moving.MoveAnswer.{MoveAnswer}
 use Rattle.fkv_log.specs.declared.moving.Moving.{Moving}
@@ -30,7 +32,7 @@ use Rattle.fkv_log.specs.Moving.{Mover, offset_place, move_begun, moving_ask, ra
 use Rattle.fkv_log.specs.Shifting.{ShiftState, shift_at, mutable_start, shifting_ask, shift_ask, shift_led, shifting_next, shift_next}
 use Rattle.fkv_log.specs.Turning.{TurnState, turn_at, frame_end, frame_taken, turning_ask, turn_ask, turn_led, turning_next, turn_next}
 use Rattle.fkv_world_latch.proofs.NoLatch.{TouchesNoLatch, passed_none, low_none}
-use Rattle.fkv_world_latch.proofs.EpochNone.{raise_none, RaisesInRange, raise_range, on_range, asks_range, told_range, ArmsInRange, arm_none, arm_range}
+use Rattle.fkv_world_latch.proofs.EpochSpares.{raise_none, asks_range, ArmsInRange, arm_none, arm_range}
 
 -- a move
 abbrev pub MovesInRange : Moving → Raising → Arming → Type 0
@@ -55,7 +57,7 @@ move_none p (move.MovesOffset target) raising arming range = offset_none p targe
 move_none p (move.Puts target slot) raising arming range = tt
 move_none p move.Arms raising arming range = passed_none p _ _ (arm_none p arming range)
 
-led_range : (target : Target) (raising : Raising) (arming : Arming) (ask : Ask RaiseAnswer) → IsRaiseInRange raising → RaisesInRange ask → IsMoveInRange (raise_led target raising arming ask)
+led_range : (target : Target) (raising : Raising) (arming : Arming) (ask : Ask RaiseAnswer) → IsRaiseInRange raising → HasSlotInRange ask → IsMoveInRange (raise_led target raising arming ask)
 unfolding raise_led
 led_range target raising arming (Done (raised.HasSlot slot)) range told = range
 led_range target raising arming (Done raised.NoSlot) range told = tt
@@ -71,8 +73,8 @@ arms_range raising arming ask range = range
 move_range : (step : Moving) (raising : Raising) (arming : Arming) (reply : ℕ) → MovesInRange step raising arming → IsMoveInRange (moving_next step raising arming reply)
 unfolding moving_next
 move_range move.AtRest raising arming reply range = tt
-move_range (move.Raises target) raising arming reply range = led_range target (raise_next raising reply) arming (raise_next_ask raising reply) (raise_range raising reply range) (told_range raising reply range)
-move_range (move.MovesOffset target) raising arming reply range = led_range target (raise_on raising) arming (raise_ask (raise_on raising)) (on_range raising range) (asks_range (raise_on raising))
+move_range (move.Raises target) raising arming reply range = led_range target (raise_next raising reply) arming (raise_next_ask raising reply) (next_in_range raising reply range) (next_ask_in_range raising reply range)
+move_range (move.MovesOffset target) raising arming reply range = led_range target (raise_on raising) arming (raise_ask (raise_on raising)) (on_in_range raising range) (asks_range (raise_on raising))
 move_range (move.Puts target slot) raising arming reply range = arms_range raising (arm_next arming) (arm_ask (arm_next arming)) (arm_range arming range)
 move_range move.Arms raising arming reply range = arms_range raising (arm_next arming) (arm_ask (arm_next arming)) (arm_range arming range)
 
