@@ -15,6 +15,7 @@ mod MoveSpares
 mod Moved
 mod Needs
 mod NoLatch
+mod Openings
 mod OwnTurnSpares
 mod Seats
 mod ServeSpares
