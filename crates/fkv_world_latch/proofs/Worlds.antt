@@ -44,7 +44,7 @@ pub record Holds (n : Now) (w : LatchWorld) : Type 0 where
   pub words : w.words ≡ n.words
   pub sound : IsSound w
   pub buckets : n.places.buckets ≡ 2 ^ n.shape.bucket_bits
-  pub few : length n.sessions ≤ max_sessions
+  pub few : length n.sessions ≤ n.places.sessions
   pub seats : (i : ℕ) (s : SessionState) → slice_get n.sessions i ≡ Some s → Seated n w i s
 
 -- lists
@@ -83,6 +83,19 @@ there_low : {X : Type 0} (xs : List X) (i : ℕ) (x : X) → slice_get xs i ≡ 
 there_low [] i x got = cc
 there_low (y ∷ xs) zero x got = omega arith
 there_low (y ∷ xs) (suc i) x got = let low = there_low xs i x got in omega (arith, low)
+
+-- a session's number is one of the store's
+pub seat_there : (n : Now) (w : LatchWorld) (i : ℕ) (s : SessionState) → Holds n w → slice_get n.sessions i ≡ Some s → i < n.places.sessions
+seat_there n w i s holds there =
+    let low = there_low n.sessions i s there in
+    let few = holds.few in
+    omega (arith, low, few)
+
+seat_low : (n : Now) (w : LatchWorld) (i : ℕ) (s : SessionState) → Holds n w → slice_get n.sessions i ≡ Some s → i < max_sessions
+seat_low n w i s holds there =
+    let low = seat_there n w i s holds there in
+    let most = n.places.few_sessions in
+    omega (arith, low, most)
 
 -- one session has gone on, and its actor with it
 session_put : (n : Now) (w : LatchWorld) (i : ℕ) (s : SessionState) (its : Near SessionState) (a c : LatchActor) (after : LatchWorld) → Holds n w → slice_get n.sessions i ≡ Some s → slice_get w.actors i ≡ Some a
@@ -140,10 +153,9 @@ session_called_holds n w i call (Some s) there holds = by_busy (is_busy s.step) 
     by_busy false e =
         let seat = holds.seats i s there in
         let k : Seat = seat_at n i in
-        let low = there_low n.sessions i s there in
-        let few = holds.few in
+        let low = seat_low n w i s holds there in
         let stands = begun_stands k s seat.actor call (homes_low n.places n.shape.bucket_bits holds.buckets) e seat.sits in
-        let begun = task_begins k (session_begun k s call) seat.actor w i holds.places seat.got holds.sound (omega (arith, low, few)) stands in
+        let begun = task_begins k (session_begun k s call) seat.actor w i holds.places seat.got holds.sound low stands in
         let same = begun.same ∙ ap (λ (x : List ℕ). record w { words = x; actors = slice_set w.actors i begun.actor }) holds.words in
         session_put n w i s (near n (session_begun k s call)) seat.actor begun.actor _ holds there seat.got same (run_sound w (begun_at i (session_latching (session_begun k s call))) holds.sound) begun.sits
 
@@ -154,8 +166,7 @@ moved_holds n w i None there fair holds = holds
 moved_holds n w i (Some s) there fair holds =
     let k : Seat = seat_at n i in
     let seat = holds.seats i s there in
-    let low = there_low n.sessions i s there in
-    let few = holds.few in
+    let low = seat_low n w i s holds there in
     let ask : Ask _ = session_ask k s in
     let after : Near SessionState = session_moved k (near n s) in
     let moved = moves_on k (near n s) seat.actor ask (homes_low n.places n.shape.bucket_bits holds.buckets) refl fair seat.sits in
@@ -165,7 +176,7 @@ moved_holds n w i (Some s) there fair holds =
     subst (λ (x : List ℕ). latch_run w (asked_by x i (session_latching s) ask) ≡ record w { words = words_after x ask; actors = slice_set w.actors i (replied seat.actor (reply_to x ask)) }) holds.words main_there in
     let behind : LatchWorld = record w { words = words_after n.words ask; actors = slice_set w.actors i (replied seat.actor (reply_to n.words ask)) } in
     let sound : IsSound behind = subst IsSound main (run_sound w (asked_by n.words i (session_latching s) ask) holds.sound) in
-    let begun = task_begins k after.machine (replied seat.actor (reply_to n.words ask)) behind i holds.places (get_set w.actors i seat.actor (replied seat.actor (reply_to n.words ask)) seat.got) sound (omega (arith, low, few)) moved.stands in
+    let begun = task_begins k after.machine (replied seat.actor (reply_to n.words ask)) behind i holds.places (get_set w.actors i seat.actor (replied seat.actor (reply_to n.words ask)) seat.got) sound low moved.stands in
     let whole : latch_run w (moved_events n i (Some s)) ≡ latch_run behind (begun_at i (session_latching after.machine)) =
     runs_on w (begun_at i (session_latching after.machine)) (asked_by n.words i (session_latching s) ask) ∙ ap (λ (x : LatchWorld). latch_run x (begun_at i (session_latching after.machine))) main in
     let its : latch_run w (moved_events n i (Some s)) ≡ record w { words = after.words; actors = slice_set w.actors i begun.actor } =
@@ -266,13 +277,16 @@ opened_seat n i s opened at =
     idle_knows p t (Idle told) idle = tt
     idle_knows p t step idle = cc
 
+most_same : (a b : ℕ) → a ≡ b → a ≤ b
+most_same a b same = omega (arith, same)
+
 pub opening_holds : (n : Now) → IsOpened n → Holds n (opening n.places (length n.sessions) n.words)
 opening_holds n opened = record {
   places = refl;
   words = refl;
   sound = opening_sound n.places (length n.sessions) n.words opened.latches;
   buckets = opened.buckets;
-  few = opened.few;
+  few = most_same (length n.sessions) n.places.sessions opened.seats;
   seats = λ i s at. opened_seat n i s opened at;
 }
 

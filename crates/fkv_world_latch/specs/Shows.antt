@@ -1,6 +1,5 @@
 -- How the world of latches shows the engine's, and what a step of the engine owes for that.
-use Rattle.std.specs.Prelude.{◌≡◌, ℕ, ◌^◌, ◌<◌, ◌≤◌, true, false, List, [], ◌∷◌, length, slice_get, Option, Some, None, ⊤}
-use Rattle.fkv_base.specs.Limits.{max_sessions}
+use Rattle.std.specs.Prelude.{◌≡◌, ℕ, ◌^◌, ◌<◌, true, false, List, [], ◌∷◌, length, slice_get, Option, Some, None, ⊤}
 use Rattle.fkv_plane.specs.declared.asks.Ask.{Ask}
 use Rattle.fkv_plane.specs.declared.asks.Ask.TheVariants.{Add}
 use Rattle.fkv_plane.specs.declared.places.Places.{Places}
@@ -8,6 +7,7 @@ use Rattle.fkv_plane.specs.Asked.{asked, asked_place, word_at}
 use Rattle.fkv_latch.specs.declared.latching.Latching.TheVariants.{AtRest}
 use Rattle.fkv_latch.specs.LatchWorld.{LatchActor, LatchWorld, has_latch, latch_of, times, latch_run}
 use Rattle.fkv_latch.specs.Latched as latches
+use Rattle.fkv_keeper.specs.KeeperRun as keeper
 use Rattle.fkv_keeper.specs.Keeping.{keeper_ask}
 use Rattle.fkv_session.specs.Sessions as sessions
 use Rattle.fkv_session.specs.Sessions.{SessionState, Seat, is_busy, session_ask}
@@ -42,12 +42,16 @@ abbrev pub AreFair : World → List Event → Type 0
 AreFair opening [] = ⊤
 AreFair opening (event ∷ before) = IsFair (run opening before).now event × AreFair opening before
 
--- as a life begins no latch is held, and each session is as its store was opened
+-- As a life begins no latch is held, the index has its buckets, there is a session for each seat of the store, and each session and the keeper are as their store was
+-- opened; the keeper serves and finishes commits for just the store's sessions.
 pub record IsOpened (n : Now) : Type 0 where
   pub latches : latches.IsOpened n.places n.words
   pub buckets : n.places.buckets ≡ 2 ^ n.shape.bucket_bits
-  pub few : length n.sessions ≤ max_sessions
+  pub seats : length n.sessions ≡ n.places.sessions
   pub sessions : (i : ℕ) (s : SessionState) → slice_get n.sessions i ≡ Some s → sessions.IsOpened s
+  pub served : n.shape.sessions ≡ n.places.sessions
+  pub finished : n.keeper.finish.sessions ≡ n.shape.sessions
+  pub keeper : keeper.IsOpened n.keeper
 
 -- an actor is a session's: it is as far, and holds what the session holds
 pub record IsSessions (k : Seat) (s : SessionState) (a : LatchActor) : Type 0 where

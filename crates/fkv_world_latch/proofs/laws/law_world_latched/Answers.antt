@@ -6,16 +6,17 @@ use Rattle.fkv_world.specs.Runs.{run}
 use Rattle.fkv_world_latch.specs.LatchEvents.{mapped}
 use Rattle.fkv_world_latch.specs.Shows.{seen_by_latches}
 use Rattle.fkv_world_latch.proofs.Apart.{holds_shows, holds_apart}
-use Rattle.fkv_world_latch.proofs.Worlds.{opening_holds, run_holds}
+use Rattle.fkv_world_latch.proofs.Fair.{are_fair, life_holds}
 use Rattle.fkv_world_latch.proofs.laws.law_world_latched.Goals as goal
 
+pub returns-clause-fair : goal.returns-clause-fair
+returns-clause-fair c = λ first events opened. are_fair first events opened
+
 pub returns-clause-shows : goal.returns-clause-shows
-returns-clause-shows c = λ first events opened fair.
-    holds_shows (run first events).now (seen_by_latches first events) (run_holds first events (opening first.now.places (length first.now.sessions) first.now.words) fair (opening_holds first.now opened))
+returns-clause-shows c = λ first events opened. holds_shows (run first events).now (seen_by_latches first events) (life_holds first events opened)
 
 pub returns-clause-apart : goal.returns-clause-apart
-returns-clause-apart c = λ first events opened fair.
-    holds_apart (run first events).now (seen_by_latches first events) (run_holds first events (opening first.now.places (length first.now.sessions) first.now.words) fair (opening_holds first.now opened))
+returns-clause-apart c = λ first events opened. holds_apart (run first events).now (seen_by_latches first events) (life_holds first events opened)
 
 pub returns-clause-latched : goal.returns-clause-latched
 returns-clause-latched c = λ first events opened.
