@@ -199,8 +199,13 @@ part_sound p replies told s c (Says phase.InProgress version) reply granted in_h
     (λ entered. else_sound p replies told s c reply granted (turned s) c.is_copied refl in_hand sound (λ is_copied. over p replies told s LoadsPhase _ tt sound))
     (keeps p replies told s _ LoadsPhase Enters refl refl refl (λ works. works) (λ so. tt) sound tt)
 part_sound p replies told s c (Says phase.WaitPending version) reply granted in_hand sound =
-    else_sound p replies told s c reply granted (record s { seek = seek_begun s.seek c.number; step = Seeks }) c.is_copied refl in_hand sound
-    (λ is_copied. keeps p replies told s _ LoadsPhase Seeks refl refl refl (λ works. works) (λ so. tt) sound (λ its found. is_found s c its in_hand is_copied found))
+    else_sound p replies told s c reply granted (record s { seek = seek_begun s.seek c.number; has_points = false; step = Seeks }) c.is_copied refl in_hand sound
+    (λ is_copied. record {
+      copied = λ its found full copied working early. sound.copied its found full copied working tt;
+      points = λ its found taken. cc;
+      begun = sound.begun;
+      here = λ its found. is_found s c its in_hand is_copied found;
+    })
 part_sound p replies told s c (Says phase.WaitFlush version) reply granted in_hand sound =
     either_sound s.has_points p replies told reply granted _ _
     (λ taken. keeps p replies told s _ LoadsPhase Waits refl refl refl (λ works. works) (λ so. tt) sound (λ its found. sound.points its found taken))

@@ -8,6 +8,12 @@ mod CheckpointStores
 mod CheckpointTurns
 mod CheckpointUsed
 mod CheckpointWrites
+mod DrainCommits
+mod DrainMoves
+mod DrainParts
+mod DrainRuns
+mod DrainSought
+mod FewLost
 mod KeeperBegun
 mod KeeperCalls
 mod KeeperDevice

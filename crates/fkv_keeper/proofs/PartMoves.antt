@@ -53,7 +53,7 @@ record IsKnown (event : KeeperEvent) (step : Keeping) (s a : KeeperState) : Type
   pub seek : a.seek ≡ seek_after event step s.seek
 
 known : (event : KeeperEvent) (step : Keeping) (s a : KeeperState) → IsKnown event step s a → KnowsParts event step s a
-known event step s a its = record { entered = its.entered; taken = its.taken; end = its.end; seek = λ other. its.seek }
+known event step s a its = record { entered = its.entered; taken = λ other. its.taken; end = its.end; seek = λ other. its.seek }
 
 some_same : (its c : Commit) → Some its ≡ Some c → its ≡ c
 some_same its c both = cc
@@ -64,7 +64,7 @@ same_end s a same was is before after = ap end_of (some_same is was (sym after �
 
 -- a call ends
 ends : (event : KeeperEvent) (step : Keeping) (s t : KeeperState) (told : KeeperTold) → IsKnown event step s t → IsPart event step s (ended t told)
-ends event step s t told its = record { begins = tt; knows = record { entered = its.entered; taken = its.taken; end = its.end; seek = λ other. its.seek } }
+ends event step s t told its = record { begins = tt; knows = record { entered = its.entered; taken = λ other. its.taken; end = its.end; seek = λ other. its.seek } }
 
 -- it stays in its part
 stays : (event : KeeperEvent) (step : Keeping) (s t : KeeperState) → s.step ≡ step → IsPartBegun step s event t
@@ -85,7 +85,7 @@ start_part : (s : KeeperState) (reply : ℕ) (granted : Bool) (t : KeeperState) 
 unfolding start_ledto
 start_part s reply granted t (Done (start.Begun number first)) e still asks commit entered points seek = record {
   begins = tt;
-  knows = record { entered = rw asks refl; taken = rw asks refl; end = λ was is before after. rw asks (let same : _ ≡ is = some_same _ is after in ap end_of (sym same)); seek = λ other. seek };
+  knows = record { entered = rw asks refl; taken = λ other. rw asks refl; end = λ was is before after. rw asks (let same : _ ≡ is = some_same _ is after in ap end_of (sym same)); seek = λ other. seek };
 }
 start_part s reply granted t (Done (start.Refused why)) e still asks commit entered points seek =
     ends (Replies reply granted) Starts s t _ (record { entered = rw asks entered; taken = rw asks points; end = rw asks (same_end s t commit); seek = seek })
@@ -96,7 +96,7 @@ start_part s reply granted t ask e still asks commit entered points seek =
 
 maintain_part : (event : KeeperEvent) (s t : KeeperState) (ask : Ask MaintainAnswer) → s.step ≡ Maintains → t.step ≡ Maintains → IsKnown event Maintains s t → IsPart event Maintains s (maintain_ledto t ask)
 unfolding maintain_ledto
-maintain_part event s t (Done maintain.Through) e still its = record { begins = tt; knows = record { entered = its.entered; taken = its.taken; end = its.end; seek = λ other. its.seek } }
+maintain_part event s t (Done maintain.Through) e still its = record { begins = tt; knows = record { entered = its.entered; taken = λ other. its.taken; end = its.end; seek = λ other. its.seek } }
 maintain_part event s t (Done maintain.Spent) e still its = ends event Maintains s t _ its
 maintain_part event s t (Done maintain.Broken) e still its = ends event Maintains s (record t { is_broken = true }) _ (record { entered = its.entered; taken = its.taken; end = its.end; seek = its.seek })
 maintain_part event s t ask e still its = remains event Maintains s t e still its
@@ -107,7 +107,7 @@ either true event step s a o one other = one refl
 either false event step s a o one other = other refl
 
 copies_part : (p : Places) (s : KeeperState) (reply : ℕ) (granted : Bool) → IsPart (Replies reply granted) LoadsPhase s (copies p s granted)
-copies_part p s reply true = record { begins = tt; knows = record { entered = refl; taken = refl; end = λ was is before after. same_end s s refl was is before after; seek = λ other. refl } }
+copies_part p s reply true = record { begins = tt; knows = record { entered = refl; taken = λ other. refl; end = λ was is before after. same_end s s refl was is before after; seek = λ other. refl } }
 copies_part p s reply false = ends (Replies reply false) LoadsPhase s (record s { is_granted = false }) _ (record { entered = refl; taken = refl; end = λ was is before after. same_end s s refl was is before after; seek = refl })
 
 over : (s : KeeperState) (reply : ℕ) (granted : Bool) → IsPart (Replies reply granted) LoadsPhase s (turned s)
@@ -119,20 +119,20 @@ part_part p s c reply (Says phase.InProgress version) granted says e in_hand =
     (λ entered. either c.is_copied (Replies reply granted) LoadsPhase s _ _ (λ copied. over s reply granted) (λ not. copies_part p s reply granted))
     (λ not_entered. record {
       begins = inr (record { phase = record { loads = e; reply = reply; granted = granted; loaded = refl; version = version; says = says }; commit = c; in_hand = in_hand; not_entered = not_entered; enter = refl });
-      knows = record { entered = refl; taken = refl; end = λ was is before after. same_end s s refl was is before after; seek = λ other. refl };
+      knows = record { entered = refl; taken = λ other. refl; end = λ was is before after. same_end s s refl was is before after; seek = λ other. refl };
     })
 part_part p s c reply (Says phase.WaitPending version) granted says e in_hand =
     either c.is_copied (Replies reply granted) LoadsPhase s _ _
     (λ copied. record {
-      begins = inr (record { phase = record { loads = e; reply = reply; granted = granted; loaded = refl; version = version; says = says }; commit = c; in_hand = in_hand; copied = copied; seek = refl });
-      knows = record { entered = refl; taken = refl; end = λ was is before after. same_end s s refl was is before after; seek = λ other. absurd (other refl refl) };
+      begins = inr (record { phase = record { loads = e; reply = reply; granted = granted; loaded = refl; version = version; says = says }; commit = c; in_hand = in_hand; copied = copied; seek = refl; anew = refl });
+      knows = record { entered = refl; taken = λ other. absurd (other refl refl); end = λ was is before after. same_end s s refl was is before after; seek = λ other. absurd (other refl refl) };
     })
     (λ not. copies_part p s reply granted)
 part_part p s c reply (Says phase.WaitFlush version) granted says e in_hand =
     either s.has_points (Replies reply granted) LoadsPhase s _ _
     (λ taken. record {
       begins = inr (record { phase = record { loads = e; reply = reply; granted = granted; loaded = refl; version = version; says = says }; commit = c; in_hand = in_hand; taken = taken; wait = refl });
-      knows = record { entered = refl; taken = refl; end = λ was is before after. same_end s s refl was is before after; seek = λ other. refl };
+      knows = record { entered = refl; taken = λ other. refl; end = λ was is before after. same_end s s refl was is before after; seek = λ other. refl };
     })
     (λ not. over s reply granted)
 part_part p s c reply said granted says e in_hand = over s reply granted
@@ -189,7 +189,7 @@ begun_part : (shape : Shape) (s : KeeperState) (reply : ℕ) (granted : Bool) (t
 begun_part shape s reply granted t None e flushed its = ends (Replies reply granted) Waits s t _ its
 begun_part shape s reply granted t (Some c) e flushed its = record {
   begins = inr (record { waits = e; reply = reply; granted = granted; replied = refl; flushed = flushed });
-  knows = record { entered = its.entered; taken = its.taken; end = its.end; seek = λ other. its.seek };
+  knows = record { entered = its.entered; taken = λ other. its.taken; end = its.end; seek = λ other. its.seek };
 }
 
 wait_part : (shape : Shape) (s : KeeperState) (reply : ℕ) (granted : Bool) (t : KeeperState) (ask : Ask WaitAnswer) → s.step ≡ Waits → t.step ≡ Waits → wait_ask (wait_next s.wait reply) ≡ ask → IsKnown (Replies reply granted) Waits s t
@@ -207,7 +207,7 @@ unfolding write_ledto
 write_part s bytes None answer e in_hand answers = ends (Calls true bytes) Writes s (record s { writes = commit_next s.writes true }) _ (record { entered = refl; taken = refl; end = λ was is before after. same_end s s refl was is before after; seek = refl })
 write_part s bytes (Some c) write.Written e in_hand answers = record {
   begins = inr (record { writes = e; bytes = bytes; called = refl; written = answers; commit = c; in_hand = in_hand; finish = refl });
-  knows = record { entered = refl; taken = refl; end = λ was is before after. same_end s s refl was is before after; seek = λ other. refl };
+  knows = record { entered = refl; taken = λ other. refl; end = λ was is before after. same_end s s refl was is before after; seek = λ other. refl };
 }
 write_part s bytes (Some c) write.Device e in_hand answers =
     remains (Calls true bytes) Writes s (record s { writes = commit_next s.writes true }) e e (record { entered = refl; taken = refl; end = λ was is before after. same_end s s refl was is before after; seek = refl })
@@ -222,7 +222,7 @@ call_part s false bytes e =
 -- the commit is finished
 finished_part : (s : KeeperState) (reply : ℕ) (granted : Bool) (found : Option Commit) → IsPart (Replies reply granted) Finishes s (finished (record s { finish = finish_next s.finish reply }) found)
 finished_part s reply granted None = ends (Replies reply granted) Finishes s (record s { finish = finish_next s.finish reply }) _ (record { entered = refl; taken = refl; end = λ was is before after. same_end s s refl was is before after; seek = refl })
-finished_part s reply granted (Some c) = record { begins = tt; knows = record { entered = refl; taken = refl; end = λ was is before after. cc; seek = λ other. refl } }
+finished_part s reply granted (Some c) = record { begins = tt; knows = record { entered = refl; taken = λ other. refl; end = λ was is before after. cc; seek = λ other. refl } }
 
 finish_part : (s : KeeperState) (reply : ℕ) (granted : Bool) (ask : Ask FinishAnswer) → s.step ≡ Finishes → IsPart (Replies reply granted) Finishes s (finish_ledto (record s { finish = finish_next s.finish reply }) ask)
 unfolding finish_ledto
@@ -263,12 +263,12 @@ called_part p shape s step done bytes e = remains (Calls done bytes) step s s e 
 turn_part : (s : KeeperState) (its : KeeperTold) → IsPart BeginsTurn (Ended its) s (turn_asked s)
 turn_part s its =
     either s.is_broken BeginsTurn (Ended its) s _ _ (λ broken. ends BeginsTurn (Ended its) s s _ (record { entered = refl; taken = refl; end = same_end s s refl; seek = refl }))
-    (λ works. record { begins = tt; knows = record { entered = refl; taken = refl; end = λ was is before after. same_end s s refl was is before after; seek = λ other. refl } })
+    (λ works. record { begins = tt; knows = record { entered = refl; taken = λ other. refl; end = λ was is before after. same_end s s refl was is before after; seek = λ other. refl } })
 
 commit_part : (s : KeeperState) (kind : CommitKind) (its : KeeperTold) → IsPart (BeginsCommit kind) (Ended its) s (commit_asked s kind)
 commit_part s kind its =
     either s.is_broken (BeginsCommit kind) (Ended its) s _ _ (λ broken. ends (BeginsCommit kind) (Ended its) s s _ (record { entered = refl; taken = refl; end = same_end s s refl; seek = refl }))
-    (λ works. record { begins = inr (record { kind = kind; asked = refl; start = refl }); knows = record { entered = refl; taken = refl; end = λ was is before after. same_end s s refl was is before after; seek = λ other. refl } })
+    (λ works. record { begins = inr (record { kind = kind; asked = refl; start = refl }); knows = record { entered = refl; taken = λ other. refl; end = λ was is before after. same_end s s refl was is before after; seek = λ other. refl } })
 
 happens_part : (shape : Shape) (p : Places) (s : KeeperState) (step : Keeping) (event : KeeperEvent) → s.step ≡ step → IsPart event step s (happens_at shape p s step event)
 happens_part shape p s (Ended its) BeginsTurn e = turn_part s its

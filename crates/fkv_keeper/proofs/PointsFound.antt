@@ -2,6 +2,7 @@
 use Rattle.std.proofs.Common.{◌≡◌, ℕ, ◌∙◌, ◌⊎◌, inl, inr, List, [], ◌∷◌, refl, ap, sym, subst, Bool, true, false, length}
 use Rattle.std.specs.Prelude.{Option, Some, None, ◌==◌, ◌++◌, nat_lt, nat_le, max, if◌then◌else◌, ⊤}
 use Rattle.fkv_base.specs.declared.numbers.Addr.{Addr}
+use Rattle.fkv_base.specs.declared.numbers.Serial.{Serial}
 use Rattle.fkv_base.specs.declared.numbers.Version.{Version}
 use Rattle.fkv_base.specs.declared.shapes.Shape.{Shape}
 use Rattle.fkv_plane.specs.declared.asks.Ask.{Ask}
@@ -23,10 +24,10 @@ use Rattle.fkv_commit.specs.Starting.{start_ask, start_next}
 use Rattle.fkv_keeper.specs.declared.answers.KeeperTold.{KeeperTold}
 use Rattle.fkv_keeper.specs.declared.keepers.Keeping.{Keeping}
 use Rattle.fkv_keeper.specs.declared.keepers.Keeping.TheVariants.{Ended, Starts, LoadsPhase, Seeks, Waits}
-use Rattle.fkv_keeper.specs.Keeping.{KeeperState, start_ledto, keeping_next, keeping_given, keeping_called}
+use Rattle.fkv_keeper.specs.Keeping.{KeeperState, start_ledto, seek_ledto, keeping_next, keeping_given, keeping_called}
 use Rattle.fkv_keeper.specs.KeeperRun.{KeeperEvent, Replies, is_in_hand, keeper_happens, keeper_run, IsOpened}
 use Rattle.fkv_keeper.specs.CheckpointLaws.{IsBegun, IsCommitAfter}
-use Rattle.fkv_keeper.specs.PartLaws.{IsSeekBegun, IsWaitBegun, IsPartBegun, undone_by, taken_after, SafeEnd, end_of, end_begun, end_taken, end_after, seek_after, Found, found_by, found_after, points_found, HasFound}
+use Rattle.fkv_keeper.specs.PartLaws.{IsSeekBegun, IsWaitBegun, IsPartBegun, undone_by, taken_after, taken_by, SafeEnd, end_of, end_begun, end_taken, end_after, seek_after, Found, found_by, found_after, points_found, found_of, HasFound}
 use Rattle.fkv_keeper.proofs.KeeperRuns.{happens_at, happens_so}
 use Rattle.fkv_keeper.proofs.CheckpointMoves.{IsMove, each_move}
 use Rattle.fkv_keeper.proofs.PartMoves.{IsPart, each_part}
@@ -78,8 +79,9 @@ begun_number s number = owing_number (record s { number = number; points = [] })
 -- what holds at every moment
 pub record IsFound (found : Option Found) (s : KeeperState) : Type 0 where
   pub ended : (f : Found) → found ≡ Some f → (s.seek.number ≡ f.number) × (s.seek.points ≡ f.points) × (seek_ask s.seek ≡ Done (seek.Taken f.end.end f.end.epoch))
-  pub known : (f : Found) (c : Commit) → found ≡ Some f → s.commit ≡ Some c → s.has_points ≡ true → (c.number ≡ f.number) × (end_of c ≡ f.end)
+  pub known : (c : Commit) → s.commit ≡ Some c → s.has_points ≡ true → found ≡ Some (found_of s c)
   pub seeking : s.step ≡ Seeks → (c : Commit) → s.commit ≡ Some c → s.seek.number ≡ c.number
+  pub anew : s.step ≡ Seeks → s.has_points ≡ false
   pub waiting : s.step ≡ Waits → s.has_points ≡ true
 
 no_commit : (c : Commit) → None ≡ Some c → ⊥
@@ -96,6 +98,16 @@ found_same its f both = cc
 
 truth : true ≡ false → ⊥
 truth e = cc
+
+untruth : (b : Bool) → b ≡ false → b ≡ true → ⊥
+untruth b one other = let clash : false ≡ true = sym one ∙ other in cc
+
+-- points are the same by their parts
+abbrev found_made : Version → List Serial → SafeEnd → Found
+found_made n p e = record { number = n; points = p; end = e }
+
+found_as : (n m : Version) (p q : List Serial) (e f : SafeEnd) → n ≡ m → p ≡ q → e ≡ f → Some (found_made n p e) ≡ Some (found_made m q f)
+found_as n m p q e f number points end = cc
 
 seeks_loads : (step : Keeping) → step ≡ Seeks → step ≡ LoadsPhase → ⊥
 seeks_loads step one other = let clash : Seeks ≡ LoadsPhase = sym one ∙ other in cc
@@ -159,21 +171,23 @@ not_sought : (event : KeeperEvent) (s a : KeeperState) → (s.step ≡ Seeks) �
 not_sought event s a (inl under_way) loads other = seeks_loads s.step under_way loads
 not_sought event s a (inr begun) loads other = subst (λ (x : KeeperEvent). IsOther x LoadsPhase Seeks) begun.phase.loaded other
 
-still_waits : (found : Option Found) (event : KeeperEvent) (s a : KeeperState) → IsPart event s.step s a → IsFound found s → (s.step ≡ Waits) ⊎ IsWaitBegun s event a → a.has_points ≡ true
-still_waits found event s a part been (inl waits) = part.knows.taken ∙ ap (λ (x : Keeping). taken_after event x s) waits ∙ taken_waits event s ∙ been.waiting waits
-still_waits found event s a part been (inr begun) = part.knows.taken ∙ ap (λ (x : Keeping). taken_after event x s) begun.phase.loads ∙ taken_loads event s ∙ begun.taken
+still_waits : (found : Option Found) (event : KeeperEvent) (s a : KeeperState) → IsPart event s.step s a → IsFound found s → (s.step ≡ LoadsPhase → a.step ≡ Seeks → ⊥) → (s.step ≡ Waits) ⊎ IsWaitBegun s event a → a.has_points ≡ true
+still_waits found event s a part been none (inl waits) = part.knows.taken none ∙ ap (λ (x : Keeping). taken_after event x s) waits ∙ taken_waits event s ∙ been.waiting waits
+still_waits found event s a part been none (inr begun) = part.knows.taken none ∙ ap (λ (x : Keeping). taken_after event x s) begun.phase.loads ∙ taken_loads event s ∙ begun.taken
 
-kept : (p : Places) (found : Option Found) (event : KeeperEvent) (s a : KeeperState) → IsMove p s event a → IsPart event s.step s a → (IsBegun s a → a.has_points ≡ false) → IsOther event s.step a.step → IsFound found s
+kept : (p : Places) (found : Option Found) (event : KeeperEvent) (s a : KeeperState) → IsMove p s event a → IsPart event s.step s a → (IsBegun s a → a.has_points ≡ false) → (a.step ≡ Seeks → a.has_points ≡ false) → IsOther event s.step a.step → IsFound found s
     → IsFound (found_after event s.step a.step a.seek found) a
-kept p found event s a move part anew other been = record {
+kept p found event s a move part anew fresh other been = record {
   ended = λ f e. let its = been.ended f (sym same ∙ e) in (ap (λ (x : SeekState). x.number) seek ∙ its.0, ap (λ (x : SeekState). x.points) seek ∙ its.1, ap seek_ask seek ∙ its.2);
-  known = λ f c e in_hand taken.
+  known = λ c in_hand taken.
       let was = kept_commit s a c move.copies.commit (λ begun. truth (sym taken ∙ anew begun)) in_hand in
-      let still = same_known event s.step a.step s (end_of was.0) other (sym part.knows.taken ∙ taken) in
-      let its = been.known f was.0 (sym same ∙ e) was.1 still.0 in
-      (was.2 ∙ its.0, part.knows.end was.0 c was.1 in_hand ∙ still.1 ∙ its.1);
+      let still = same_known event s.step a.step s (end_of was.0) other (sym (part.knows.taken no_search) ∙ taken) in
+      let its = been.known was.0 was.1 still.0 in
+      same ∙ its ∙ found_as was.0.number c.number s.seek.points a.seek.points (end_of was.0) (end_of c)
+      (sym was.2) (ap (λ (x : SeekState). x.points) (sym seek)) (sym (part.knows.end was.0 c was.1 in_hand ∙ still.1));
   seeking = λ now c in_hand. searching now c in_hand (begins now);
-  waiting = λ now. still_waits found event s a part been (subst (λ (x : Keeping). IsPartBegun x s event a) now part.begins);
+  anew = fresh;
+  waiting = λ now. still_waits found event s a part been no_search (subst (λ (x : Keeping). IsPartBegun x s event a) now part.begins);
 }
   where
     same : found_after event s.step a.step a.seek found ≡ found
@@ -195,10 +209,11 @@ kept p found event s a move part anew other been = record {
     searching now c in_hand (inr begun) = absurd (no_search begun.phase.loads now)
 
 -- a search begins
-begun_found : (p : Places) (found : Option Found) (event : KeeperEvent) (s a : KeeperState) → IsMove p s event a → IsPart event s.step s a → s.step ≡ LoadsPhase → a.step ≡ Seeks → IsFound found s → IsFound None a
-begun_found p found event s a move part loads now been = record {
+begun_found : (p : Places) (found : Option Found) (event : KeeperEvent) (s a : KeeperState) → IsMove p s event a → IsPart event s.step s a → s.step ≡ LoadsPhase → a.step ≡ Seeks → (a.step ≡ Seeks → a.has_points ≡ false) → IsFound found s → IsFound None a
+begun_found p found event s a move part loads now fresh been = record {
   ended = λ f e. absurd (none_found f e);
-  known = λ f c e in_hand taken. absurd (none_found f e);
+  known = λ c in_hand taken. absurd (untruth a.has_points (fresh now) taken);
+  anew = fresh;
   seeking = λ same c in_hand. searching c in_hand (subst (λ (x : Keeping). IsPartBegun x s event a) now part.begins);
   waiting = λ waits. absurd (seeks_waits a.step now waits);
 }
@@ -228,15 +243,24 @@ by_ask m (Done (seek.Taken end epoch)) f e = record {
     same = found_same (record { number = m.number; points = m.points; end = record { end = end; epoch = epoch } }) f e
 by_ask m ask f e = absurd (none_found f e)
 
-driven_found : (p : Places) (found : Option Found) (reply : ℕ) (granted : Bool) (s a : KeeperState) → IsMove p s (Replies reply granted) a → IsPart (Replies reply granted) Seeks s a → s.step ≡ Seeks → IsFound found s
+-- what it takes it has found
+told_found : (m : SeekState) (ask : Ask SeekAnswer) (b : Bool) (was : SafeEnd) → b ≡ false → taken_by ask b ≡ true → found_by ask m ≡ Some (record { number = m.number; points = m.points; end = end_taken ask was })
+told_found m (Done (seek.Taken end epoch)) b was none taken = refl
+told_found m ask b was none taken = absurd (untruth b none taken)
+
+driven_found : (p : Places) (found : Option Found) (reply : ℕ) (granted : Bool) (s a : KeeperState) → IsMove p s (Replies reply granted) a → IsPart (Replies reply granted) Seeks s a → s.step ≡ Seeks → (a.step ≡ Seeks → a.has_points ≡ false) → IsFound found s
     → IsFound (found_by (seek_ask a.seek) a.seek) a
-driven_found p found reply granted s a move part under_way been = record {
+driven_found p found reply granted s a move part under_way fresh been = record {
   ended = λ f e. let its = by_ask a.seek (seek_ask a.seek) f e in (its.number, its.points, its.told);
-  known = λ f c e in_hand taken.
-      let its = by_ask a.seek (seek_ask a.seek) f e in
+  known = λ c in_hand taken.
       let was = kept_commit s a c move.copies.commit not_begun in_hand in
-      (sym (number c in_hand) ∙ its.number, part.knows.end was.0 c was.1 in_hand ∙ ap (λ (x : SeekState). end_taken (seek_ask x) (end_of was.0)) (sym driven) ∙ its.end (end_of was.0));
+      let told : taken_by (seek_ask a.seek) s.has_points ≡ true =
+      ap (λ (x : SeekState). taken_by (seek_ask x) s.has_points) driven ∙ sym (part.knows.taken (λ loads now. seeks_loads Seeks refl loads)) ∙ taken in
+      told_found a.seek (seek_ask a.seek) s.has_points (end_of was.0) (been.anew under_way) told
+      ∙ found_as a.seek.number c.number a.seek.points a.seek.points (end_taken (seek_ask a.seek) (end_of was.0)) (end_of c)
+      (number c in_hand) refl (ap (λ (x : SeekState). end_taken (seek_ask x) (end_of was.0)) driven ∙ sym (part.knows.end was.0 c was.1 in_hand));
   seeking = λ now c in_hand. number c in_hand;
+  anew = fresh;
   waiting = λ now. no_wait (subst (λ (x : Keeping). IsPartBegun x s (Replies reply granted) a) now part.begins);
 }
   where
@@ -274,15 +298,43 @@ anew shape p s event begun = subst (λ (x : KeeperState). x.has_points ≡ false
     same : happens_at shape p s Starts event ≡ keeper_happens shape p s event
     same = ap (λ (x : Keeping). happens_at shape p s x event) (sym begun.starts) ∙ happens_so shape p s event
 
-event_found : (p : Places) (found : Option Found) (s a : KeeperState) (event : KeeperEvent) (step next : Keeping) → s.step ≡ step → a.step ≡ next → IsMove p s event a → IsPart event s.step s a → (IsBegun s a → a.has_points ≡ false) → IsFound found s
+-- nor as a search begins, nor while it goes on
+goes_on : (t : KeeperState) (ask : Ask SeekAnswer) → (seek_ledto t ask).step ≡ Seeks → (seek_ledto t ask).has_points ≡ t.has_points
+unfolding seek_ledto
+goes_on t (Done (seek.Taken end epoch)) now = cc
+goes_on t (Done seek.DrainFull) now = refl
+goes_on t (Done seek.EpochsSpent) now = refl
+goes_on t (Done seek.Owing) now = refl
+goes_on t (Done seek.Idle) now = refl
+goes_on t ask now = refl
+
+going_at : (shape : Shape) (p : Places) (s : KeeperState) (event : KeeperEvent) → s.step ≡ Seeks → (happens_at shape p s Seeks event).step ≡ Seeks → (happens_at shape p s Seeks event).has_points ≡ s.has_points
+unfolding keeping_next keeping_given keeping_called
+going_at shape p s (Replies reply granted) e now = goes_on (record s { seek = seek_next s.seek reply }) (seek_ask (seek_next s.seek reply)) now
+going_at shape p s event e now = refl
+
+going : (shape : Shape) (p : Places) (s : KeeperState) (event : KeeperEvent) → s.step ≡ Seeks → (keeper_happens shape p s event).step ≡ Seeks → (keeper_happens shape p s event).has_points ≡ s.has_points
+going shape p s event e now = ap (λ (x : KeeperState). x.has_points) (sym same) ∙ going_at shape p s event e (ap (λ (x : KeeperState). x.step) same ∙ now)
+  where
+    same : happens_at shape p s Seeks event ≡ keeper_happens shape p s event
+    same = ap (λ (x : Keeping). happens_at shape p s x event) (sym e) ∙ happens_so shape p s event
+
+none_yet : (shape : Shape) (p : Places) (found : Option Found) (s : KeeperState) (event : KeeperEvent) → IsFound found s → (keeper_happens shape p s event).step ≡ Seeks → (keeper_happens shape p s event).has_points ≡ false
+none_yet shape p found s event been now = by (subst (λ (x : Keeping). IsPartBegun x s event (keeper_happens shape p s event)) now (each_part shape p s event).begins)
+  where
+    by : (s.step ≡ Seeks) ⊎ IsSeekBegun s event (keeper_happens shape p s event) → (keeper_happens shape p s event).has_points ≡ false
+    by (inl under_way) = going shape p s event under_way now ∙ been.anew under_way
+    by (inr begun) = begun.anew
+
+event_found : (p : Places) (found : Option Found) (s a : KeeperState) (event : KeeperEvent) (step next : Keeping) → s.step ≡ step → a.step ≡ next → IsMove p s event a → IsPart event s.step s a → (IsBegun s a → a.has_points ≡ false) → (a.step ≡ Seeks → a.has_points ≡ false) → IsFound found s
     → IsFound (found_after event step next a.seek found) a
-event_found p found s a (Replies reply granted) LoadsPhase Seeks e now move part fresh been = begun_found p found (Replies reply granted) s a move part e now been
-event_found p found s a (Replies reply granted) Seeks next e now move part fresh been =
-    driven_found p found reply granted s a move (subst (λ (x : Keeping). IsPart (Replies reply granted) x s a) e part) e been
-event_found p found s a event step next e now move part fresh been =
+event_found p found s a (Replies reply granted) LoadsPhase Seeks e now move part begun fresh been = begun_found p found (Replies reply granted) s a move part e now fresh been
+event_found p found s a (Replies reply granted) Seeks next e now move part begun fresh been =
+    driven_found p found reply granted s a move (subst (λ (x : Keeping). IsPart (Replies reply granted) x s a) e part) e fresh been
+event_found p found s a event step next e now move part begun fresh been =
     subst (λ (x : Keeping). IsFound (found_after event x next a.seek found) a) e
     (subst (λ (x : Keeping). IsFound (found_after event s.step x a.seek found) a) now
-    (kept p found event s a move part fresh (subst (λ (x : Keeping). IsOther event x a.step) (sym e) (subst (λ (x : Keeping). IsOther event step x) (sym now) tt)) been))
+    (kept p found event s a move part begun fresh (subst (λ (x : Keeping). IsOther event x a.step) (sym e) (subst (λ (x : Keeping). IsOther event step x) (sym now) tt)) been))
 
 no_start : (step : Keeping) → is_in_hand step ≡ false → is_in_hand step ≡ true → ⊥
 no_start step one other = let clash : false ≡ true = sym one ∙ other in cc
@@ -291,16 +343,17 @@ pub run_found : (shape : Shape) (p : Places) (opening : KeeperState) (events : L
 unfolding keeper_run points_found
 run_found shape p opening [] opened = record {
   ended = λ f e. absurd (none_found f e);
-  known = λ f c e in_hand taken. absurd (none_found f e);
+  known = λ c in_hand taken. absurd (no_commit c (sym opened.no_commit ∙ in_hand));
+  anew = λ now. absurd (no_start opening.step opened.none_in_hand (ap is_in_hand now));
   seeking = λ now. absurd (no_start opening.step opened.none_in_hand (ap is_in_hand now));
   waiting = λ now. absurd (no_start opening.step opened.none_in_hand (ap is_in_hand now));
 }
 run_found shape p opening (event ∷ before) opened =
-    event_found p (points_found shape p opening before) s (keeper_happens shape p s event) event s.step (keeper_happens shape p s event).step refl refl (each_move shape p s event) (each_part shape p s event) (anew shape p s event) (run_found shape p opening before opened)
+    event_found p (points_found shape p opening before) s (keeper_happens shape p s event) event s.step (keeper_happens shape p s event).step refl refl (each_move shape p s event) (each_part shape p s event) (anew shape p s event) (none_yet shape p (points_found shape p opening before) s event (run_found shape p opening before opened)) (run_found shape p opening before opened)
   where
     s : KeeperState
     s = keeper_run shape p opening before
 
 -- what the law says of it
-pub has_found : (found : Option Found) (s : KeeperState) → IsFound found s → (f : Found) → found ≡ Some f → HasFound f s
-has_found found s its f e = let ended = its.ended f e in record { points = ended.1; told = ended.2; commit = λ c in_hand taken. its.known f c e in_hand taken }
+pub has_found : (found : Option Found) (s : KeeperState) → IsFound found s → HasFound found s
+has_found found s its = record { still = λ f e. let ended = its.ended f e in record { points = ended.1; told = ended.2 }; taken = its.known }

@@ -1,5 +1,6 @@
 pub mod Answers
 pub mod CheckpointLaws
+pub mod DrainLaws
 pub mod KeeperAsks
 pub mod KeeperLaws
 pub mod KeeperRun
@@ -8,4 +9,5 @@ pub mod LastCommits
 pub mod NewKeepers
 pub mod PartLaws
 pub mod Running
+pub mod SlotLaws
 pub mod WholeCalls

@@ -55,13 +55,14 @@ pub record IsEnterBegun (s : KeeperState) (event : KeeperEvent) (a : KeeperState
   pub not_entered : s.has_entered ≡ false
   pub enter : a.enter ≡ enter_begun s.enter commit.number
 
--- The points of the commit in hand, which is copied, are about to be sought, in wait-pending.
+-- The points of the commit in hand, which is copied, are about to be sought, in wait-pending. None count as taken any more.
 pub record IsSeekBegun (s : KeeperState) (event : KeeperEvent) (a : KeeperState) : Type 0 where
   pub phase : SaysPhase phase.WaitPending s event
   pub commit : Commit
   pub in_hand : s.commit ≡ Some commit
   pub copied : commit.is_copied ≡ true
   pub seek : a.seek ≡ seek_begun s.seek commit.number
+  pub anew : a.has_points ≡ false
 
 -- The flush up to the end of the commit in hand is about to be waited for, in wait-flush, and its points were taken.
 pub record IsWaitBegun (s : KeeperState) (event : KeeperEvent) (a : KeeperState) : Type 0 where
@@ -153,10 +154,10 @@ abbrev pub seek_after : KeeperEvent → Keeping → SeekState → SeekState
 seek_after (Replies reply granted) Seeks m = seek_next m reply
 seek_after event step m = m
 
--- What is known of the commit in hand changes only by what its parts come to.
+-- What is known of the commit in hand changes only by what its parts come to, but that a search for points begins anew.
 pub record KnowsParts (event : KeeperEvent) (step : Keeping) (s a : KeeperState) : Type 0 where
   pub entered : a.has_entered ≡ entered_after event step s
-  pub taken : a.has_points ≡ taken_after event step s
+  pub taken : (step ≡ LoadsPhase → a.step ≡ Seeks → ⊥) → a.has_points ≡ taken_after event step s
   pub end : (was is : Commit) → s.commit ≡ Some was → a.commit ≡ Some is → end_of is ≡ end_after event step s (end_of was)
   pub seek : (step ≡ LoadsPhase → a.step ≡ Seeks → ⊥) → a.seek ≡ seek_after event step s.seek
 
@@ -181,9 +182,17 @@ points_found shape p opening [] = None
 points_found shape p opening (event ∷ before) =
     found_after event (keeper_run shape p opening before).step (keeper_run shape p opening (event ∷ before)).step (keeper_run shape p opening (event ∷ before)).seek (points_found shape p opening before)
 
--- The search is as it was at its end. While the points of the commit in hand are taken, it was for that commit's number, and has told its
--- end and epoch.
-pub record HasFound (f : Found) (s : KeeperState) : Type 0 where
+-- the points in hand, as those of this commit, with its end and epoch
+abbrev pub found_of : KeeperState → Commit → Found
+found_of s c = record { number = c.number; points = s.seek.points; end = end_of c }
+
+-- The search is as it was at its end, where it has taken points.
+pub record IsAsFound (f : Found) (s : KeeperState) : Type 0 where
   pub points : s.seek.points ≡ f.points
   pub told : seek_ask s.seek ≡ Done (seek.Taken f.end.end f.end.epoch)
-  pub commit : (c : Commit) → s.commit ≡ Some c → s.has_points ≡ true → (c.number ≡ f.number) × (end_of c ≡ f.end)
+
+-- What the search has found that has begun last, it has still. While the points of the commit in hand count as taken that search has found
+-- them, for its number, and has told its end and epoch.
+pub record HasFound (found : Option Found) (s : KeeperState) : Type 0 where
+  pub still : (f : Found) → found ≡ Some f → IsAsFound f s
+  pub taken : (c : Commit) → s.commit ≡ Some c → s.has_points ≡ true → found ≡ Some (found_of s c)

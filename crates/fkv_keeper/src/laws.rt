@@ -1,14 +1,16 @@
 //! What a keeper does over every list of turns, commits, replies, actions and calls of the device.
 ghost use Rattle.std.specs.Prelude.{◌≡◌, ◌∷◌, Bool, List, true, Some};
-ghost use Rattle.fkv_base.specs.declared.faults.Fault.TheVariants.{Memory};
+ghost use Rattle.fkv_base.specs.declared.faults.Fault.TheVariants.{DrainFull, Memory};
 ghost use Rattle.fkv_base.specs.declared.shapes.Shape.{Shape};
 ghost use Rattle.fkv_plane.specs.declared.places.Places.{Places};
-ghost use Rattle.fkv_keeper.specs.declared.answers.KeeperTold.TheVariants.{Turned, TurnRefused};
+ghost use Rattle.fkv_keeper.specs.declared.answers.KeeperTold.TheVariants.{CommitRefused, Turned, TurnRefused};
 ghost use Rattle.fkv_keeper.specs.declared.keepers.Keeping.TheVariants.{Ended, Finishes, Waits, Writes};
 ghost use Rattle.fkv_keeper.specs.CheckpointLaws.{AreWritesBegun, ChangesItsWords, CopiesOnce, DoesOneThing, HoldsCopy, IsBehindWait, IsBeingWritten, KeepsLists, SparesDurable, begun_with, copy_replies};
 ghost use Rattle.fkv_keeper.specs.Keeping.{KeeperState};
 ghost use Rattle.fkv_keeper.specs.KeeperLaws.{CopiesAgain, IsBrokenForGood, IsFinishOfBegun, IsMemoryRefused, IsWritten};
-ghost use Rattle.fkv_keeper.specs.PartLaws.{Found, HasFound, IsPartBegun, KnowsParts, points_found};
+ghost use Rattle.fkv_keeper.specs.PartLaws.{HasFound, IsPartBegun, KnowsParts, points_found};
+ghost use Rattle.fkv_keeper.specs.DrainLaws.{HasSoughtAll, call_told};
+ghost use Rattle.fkv_keeper.specs.SlotLaws.{CommitHasRoom, IsSlotWhole};
 ghost use Rattle.fkv_keeper.specs.KeeperRun.{IsOpened, KeeperEvent, has_failed, is_calling, keeper_happens, keeper_run, number_open, writing};
 
 /// Whatever turns and commits are begun, and whatever the replies, the actions and the answers of the device are: once a call of the
@@ -64,16 +66,42 @@ pub fn law_of_checkpoints()
 /// From whatever state and by whatever event: each part of a commit begins only where the phase calls for it, or the part before it has
 /// come to it, and for the commit in hand: its number, and its end and epoch, go into the machine of the part. Wait-pending is deferred
 /// once for a commit. What is known of the commit in hand, that wait-pending is deferred, that its points are taken, and its end and
-/// epoch, is what its parts have told. So in a run, where the search that has begun last has taken points, the keeper has these still; and
-/// while they are known as those of the commit in hand, as they are in its wait, the search was for its number, and has told its end and
-/// epoch.
+/// epoch, is what its parts have told; and where a search for points begins, none count as taken. So in a run the points that count as
+/// taken, as they do in the wait, are those that the search has found that has begun last, for the commit's own number, and its end and
+/// epoch are those that this search has told.
 pub fn law_of_parts()
     ensures begins { (shape : Shape) (p : Places) (s : KeeperState) (event : KeeperEvent) → let a = keeper_happens shape p s event in IsPartBegun a.step s event a }
     ensures knows { (shape : Shape) (p : Places) (s : KeeperState) (event : KeeperEvent) → KnowsParts event s.step s (keeper_happens shape p s event) }
-    ensures found { (shape : Shape) (p : Places) (opening : KeeperState) (events : List KeeperEvent) (found : Found) → IsOpened opening
-        → points_found shape p opening events ≡ Some found
-        → HasFound found (keeper_run shape p opening events) }
+    ensures found { (shape : Shape) (p : Places) (opening : KeeperState) (events : List KeeperEvent) → IsOpened opening
+        → HasFound (points_found shape p opening events) (keeper_run shape p opening events) }
     ensures waits { (shape : Shape) (p : Places) (opening : KeeperState) (events : List KeeperEvent) → IsOpened opening
         → (keeper_run shape p opening events).step ≡ Waits
         → (keeper_run shape p opening events).has_points ≡ true }
+{}
+
+/// Whatever turns and commits are begun, and whatever the replies, the actions, the answers of the device and the grants of memory are:
+/// a log commit that is in hand has at most as many lost ranges as its slot has room for. So where the writes of a commit of either kind
+/// begin, its slot leaves no lost range out that it has to name, has a point for each session, and is read back as an open slot of the
+/// commit's number.
+pub fn law_of_slots()
+    ensures room { (shape : Shape) (p : Places) (opening : KeeperState) (events : List KeeperEvent) → IsOpened opening
+        → CommitHasRoom (keeper_run shape p opening events) }
+    ensures whole { (shape : Shape) (p : Places) (opening : KeeperState) (events : List KeeperEvent) (event : KeeperEvent) → IsOpened opening
+        → (keeper_run shape p opening events).step ≡ Waits
+        → (keeper_run shape p opening (event ∷ events)).step ≡ Writes
+        → IsSlotWhole shape (keeper_run shape p opening events) (keeper_run shape p opening (event ∷ events)) }
+{}
+
+/// Whatever turns and commits are begun, and whatever the replies, the actions, the answers of the device and the grants of memory are:
+/// a turn that tells the drain full, and a commit that is refused so, has met each of the eight drain slots and found it not free, one
+/// after another from slot 0 up, each once and nothing else in between, right behind an epoch that was below its last.
+pub fn law_of_the_drain()
+    ensures full { (shape : Shape) (p : Places) (opening : KeeperState) (events : List KeeperEvent) (event : KeeperEvent) (done : Bool) → IsOpened opening
+        → is_calling (keeper_run shape p opening events).step event ≡ true
+        → (keeper_run shape p opening (event ∷ events)).step ≡ Ended (Turned done true)
+        → HasSoughtAll (call_told shape p opening (event ∷ events)) }
+    ensures refused { (shape : Shape) (p : Places) (opening : KeeperState) (events : List KeeperEvent) (event : KeeperEvent) → IsOpened opening
+        → is_calling (keeper_run shape p opening events).step event ≡ true
+        → (keeper_run shape p opening (event ∷ events)).step ≡ Ended (CommitRefused DrainFull)
+        → HasSoughtAll (call_told shape p opening (event ∷ events)) }
 {}

@@ -175,6 +175,7 @@ impl Keeper {
             PhaseSaid::Says(Phase::WaitPending, _) => {
                 if commit.is_copied {
                     self.seek.start(commit.number);
+                    self.has_points = false;
                     self.step = Keeping::Seeks;
                 } else {
                     self.copies();

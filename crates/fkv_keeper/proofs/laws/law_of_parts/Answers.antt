@@ -10,7 +10,7 @@ pub returns-clause-knows : goal.returns-clause-knows
 returns-clause-knows c = λ shape p s event. (each_part shape p s event).knows
 
 pub returns-clause-found : goal.returns-clause-found
-returns-clause-found c = λ shape p opening events found opened is. has_found _ _ (run_found shape p opening events opened) found is
+returns-clause-found c = λ shape p opening events opened. has_found _ _ (run_found shape p opening events opened)
 
 pub returns-clause-waits : goal.returns-clause-waits
 returns-clause-waits c = λ shape p opening events opened now. (run_found shape p opening events opened).waiting now

@@ -1,0 +1,31 @@
+-- What the slot of a commit names as its writes begin: all of its lost ranges, and a point for each session.
+use Rattle.std.specs.Prelude.{◌≡◌, ◌≤◌, ◌<◌, length, Some}
+use Rattle.fkv_base.specs.Limits.{max_sessions, last_version}
+use Rattle.fkv_base.specs.declared.shapes.Shape.{Shape}
+use Rattle.fkv_record.specs.Manifest.{SlotSaid, newest_bytes}
+use Rattle.fkv_commit.specs.declared.commits.Commit.{Commit}
+use Rattle.fkv_commit.specs.declared.commits.CommitKind.TheVariants.{Log}
+use Rattle.fkv_commit.specs.Starting.{max_lost}
+use Rattle.fkv_manifest.specs.Kept.{IsSlotOf}
+use Rattle.fkv_keeper.specs.Keeping.{KeeperState, lost_left}
+
+-- A version follows that of the commit in hand; and where that is a log commit, its slot has room for all lost ranges in hand.
+pub record HasRoom (s : KeeperState) (c : Commit) : Type 0 where
+  pub follows : c.number.0 < last_version
+  pub lost : c.kind ≡ Log → length s.lost ≤ max_lost
+
+abbrev pub CommitHasRoom : KeeperState → Type 0
+CommitHasRoom s = (c : Commit) → s.commit ≡ Some c → HasRoom s c
+
+-- The slot says what the newest format can hold, and none of the commit's lost ranges is left out. So it is read back as a slot of its number.
+pub record IsSlotWhole (shape : Shape) (s a : KeeperState) : Type 0 where
+  pub commit : Commit
+  pub in_hand : s.commit ≡ Some commit
+  pub said : SlotSaid
+  pub spelled : a.writes.gate.slot ≡ newest_bytes said
+  pub number : said.number ≡ commit.number.0
+  pub points : length said.points ≡ shape.sessions
+  pub few_points : length said.points ≤ max_sessions
+  pub lost : said.lost ≡ lost_left commit.kind s.lost
+  pub few_lost : length said.lost ≤ max_lost
+  pub named : IsSlotOf commit.number.0 a.writes.gate.slot
