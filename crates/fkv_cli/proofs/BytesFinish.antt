@@ -11,15 +11,16 @@ use Rattle.fkv_disk.specs.Calls.{Call, Write, Sync, reads_as}
 use Rattle.fkv_disk.proofs.Shown.{covered, after_range}
 use Rattle.fkv_record.specs.Numbers.{spelled}
 use Rattle.fkv_record.specs.Places.{most_triples, area_place}
+use Rattle.fkv_manifest.specs.Gating.{gate_start}
+use Rattle.fkv_manifest.specs.Made.{whole_gate}
 use Rattle.fkv_recover.specs.Image.{word_at}
 use Rattle.fkv_recover.specs.Created.{AreWords}
 use Rattle.fkv_cli.specs.FreshLog.{tail}
 use Rattle.fkv_cli.specs.Life.{Life}
-use Rattle.fkv_cli.specs.Commits.{next_number, record_words, triple_words, slot_words, triples_bytes, triple_calls, flush_calls, slot_place, is_gate_open, close_calls, slot_body, finish_calls}
-use Rattle.fkv_cli.specs.Commits as commits
+use Rattle.fkv_cli.specs.Commits.{next_number, record_words, triple_words, slot_words, triples_bytes, triple_calls, flush_calls, slot_place, is_gate_open, next_slot, gate_calls, finish_calls}
 use Rattle.fkv_cli.specs.Holds.{fresh_words, entry_words, AreSmall}
 use Rattle.fkv_cli.specs.Stores.{Region, IsDataByte}
-use Rattle.fkv_cli.specs.Stops.{AreWithin, closing_calls, commit_calls}
+use Rattle.fkv_cli.specs.Stops.{AreWithin, commit_calls}
 use Rattle.fkv_cli.proofs.BytesWords.{below_or, word_in, word_out}
 use Rattle.fkv_cli.proofs.BytesSpelled.{small_cons, small_none, spelled_bytes, spelled_words, length_by_two}
 use Rattle.fkv_cli.proofs.BytesPages.{flush_words, flush_within, many_fresh}
@@ -28,15 +29,18 @@ use Rattle.fkv_cli.proofs.BytesPages.{flush_words, flush_within, many_fresh}
 abbrev pub data_calls : Life → List Call
 data_calls life = triple_calls life ++ flush_calls life
 
+-- the slot behind its gate
+abbrev pub slot_body : Life → List ℕ
+slot_body life = drop 1 (next_slot life)
+
 -- the calls of a finish are those of a commit
-close_joined : (b : Bool) (gate : ℕ) (before : List Call) → (if b then Sync true ∷ Write gate (0 ∷ []) true ∷ [] else []) ++ before ≡ closing_calls b gate before
-close_joined true gate before = refl
-close_joined false gate before = refl
+gate_joined : (b : Bool) (gate : ℕ) (slot : List ℕ) (before : List Call) → whole_gate (record { place = gate; start = 1; slot = slot; step = gate_start b }) b ++ before ≡ commit_calls b gate (drop 1 slot) before
+gate_joined true gate slot before = refl
+gate_joined false gate slot before = refl
 
 pub finish_is : (life : Life) → finish_calls life ≡ commit_calls (is_gate_open life) (slot_place (next_number life)) (slot_body life) (data_calls life)
-unfolding commits.slot_calls close_calls
-finish_is life = ap (λ (calls : List Call). Sync true ∷ Write (slot_place (next_number life)) (165 ∷ []) true ∷ Sync true ∷ Write (slot_place (next_number life) + 1) (slot_body life) true ∷ calls)
-    (close_joined (is_gate_open life) (slot_place (next_number life)) (data_calls life))
+unfolding gate_calls
+finish_is life = gate_joined (is_gate_open life) (slot_place (next_number life)) (next_slot life) (data_calls life)
 
 -- the slot: its gate and what is behind it spell its words
 gate_first : (words : List ℕ) → 165 ∷ drop 1 (spelled (165 ∷ words)) ≡ spelled (165 ∷ words)

@@ -1,6 +1,6 @@
 -- What a finish writes, part by part.
-use Rattle.std.proofs.Common.{◌≡◌, ◌≤◌, ◌<◌, ℕ, ◌+◌, ◌*◌, ◌-◌, ◌/◌, ◌%◌, ◌^◌, suc, zero, Bool, true, false, cond, ◌&&◌, T, List, [], ◌∷◌, ◌++◌, length, get_or, map, take, drop, reverse, Option, Some, refl, ap, ◌∙◌, arith, length-append, length-drop}
-use Rattle.std.proofs.lemmas.List.{take_all, reverse-append}
+use Rattle.std.proofs.Common.{◌≡◌, ◌≤◌, ◌<◌, ℕ, ◌+◌, ◌*◌, ◌-◌, ◌/◌, ◌%◌, ◌^◌, suc, zero, Bool, true, false, cond, ◌&&◌, T, List, [], ◌∷◌, ◌++◌, length, get_or, map, reverse, Option, Some, refl, ap, ◌∙◌, arith}
+use Rattle.std.proofs.lemmas.List.{reverse-append}
 use Rattle.std.proofs.lemmas.List.FromFn.{map-range_with_len_more}
 use Rattle.std.proofs.lemmas.Bool.Decides.{nat_tests}
 use Rattle.std.proofs.lemmas.Cmp.{nat_cmp_total, ranked}
@@ -9,7 +9,6 @@ use Rattle.std.specs.Cmp.{tied_itself}
 use Rattle.std.specs.declared.cmp.Ordering.TheVariants.{Less, Equal, Greater}
 use Rattle.std.specs.FinMap.{FinMap, get, find, entries, entries_sorted, is_sorted, get-entries, nat_cmp-IsAntisymmetric}
 use Rattle.std.specs.FinMap.Entries.{below_all}
-use Rattle.std.specs.Int.{w64, to_le_bytes}
 use Rattle.std.specs.List.{flat_map, range_with_len}
 use Rattle.std.specs.Ordering.{nat_cmp, is_lt, is_eq}
 use Rattle.std.specs.Prelude.{max, min, slice_range, nat_eq, All, IsTrue}
@@ -20,18 +19,7 @@ use Rattle.fkv_disk.specs.Calls.{Call, Write, Sync, reads_as}
 use Rattle.fkv_cli.specs.declared.fresh_logs.FreshRecord.{FreshRecord}
 use Rattle.fkv_cli.specs.FreshLog.{FreshLog, log_at, tail}
 use Rattle.fkv_cli.specs.Life.{Life, IsInRange}
-use Rattle.fkv_cli.specs.Commits.{record_words, slot_words, page_write, flush_calls, triple_calls, triples_bytes, IsTriple, next_number, finish_calls, finished, left_after}
-
-pub length-spelled : (numbers : List ℕ) → length (spelled numbers) ≡ 8 * length numbers
-length-spelled [] = refl
-length-spelled (n ∷ numbers) = let e = length-spelled numbers in let a = length-append (to_le_bytes w64 n) (spelled numbers) in omega (arith, e, a)
-
--- all of a slot but its gate
-pub behind_gate : (bytes : List ℕ) (number tail triples point : ℕ) → bytes ≡ spelled (slot_words number tail triples point) → take 511 (drop 1 bytes) ≡ drop 1 bytes
-behind_gate bytes number tail triples point is =
-    let many : length bytes ≡ 512 = ap (λ (l : List ℕ). length l) is ∙ length-spelled (slot_words number tail triples point) in
-    let rest = length-drop 1 bytes in
-    take_all 511 (drop 1 bytes) (omega (arith, many, rest))
+use Rattle.fkv_cli.specs.Commits.{record_words, page_write, flush_calls, triple_calls, triples_bytes, IsTriple, next_number, finish_calls, finished, left_after}
 
 -- the write of a page, by its parts
 pub page_written : (life : Life) (page start from end place : ℕ) (records : List FreshRecord) (bytes : List ℕ)

@@ -10,6 +10,7 @@ mod Commands
 mod Ending
 mod Finishing
 mod FreshLogs
+mod GatePlans
 mod HomeCounts
 mod IndexFilled
 mod LogChains

@@ -15,7 +15,7 @@ use Rattle.fkv_recover.specs.Log.{Log}
 use Rattle.fkv_recover.proofs.Shown.{triples_fit, page_fits, log_fits}
 use Rattle.fkv_cli.specs.FreshLog.{tail}
 use Rattle.fkv_cli.specs.Life.{Life}
-use Rattle.fkv_cli.specs.Commits.{next_number, slot_place, is_gate_open, slot_body, finish_calls}
+use Rattle.fkv_cli.specs.Commits.{next_number, slot_place, is_gate_open, finish_calls}
 use Rattle.fkv_cli.specs.Crashes.{newest_failed, cut_calls, struck_image, crash_image}
 use Rattle.fkv_cli.specs.Stores.{Stores, StoresAt, Region, region_of, IsDataByte}
 use Rattle.fkv_cli.specs.Stops.{AreWithin, IsStop, here, earlier, slot_calls, commit_calls, IsAtGate}
@@ -23,7 +23,7 @@ use Rattle.fkv_cli.specs.Holds.{HoldsLast, FitsCommit, fresh_words, entry_words,
 use Rattle.fkv_cli.proofs.BytesKept.{AreApart, gate_byte}
 use Rattle.fkv_cli.proofs.BytesCommitted.{AreNext}
 use Rattle.fkv_cli.proofs.BytesPages.{many_fresh}
-use Rattle.fkv_cli.proofs.BytesFinish.{data_calls, finish_is, body_words, body_size, body_bytes, many_triples, triples_words, records_words, data_within}
+use Rattle.fkv_cli.proofs.BytesFinish.{slot_body, data_calls, finish_is, body_words, body_size, body_bytes, many_triples, triples_words, records_words, data_within}
 use Rattle.fkv_cli.proofs.TornCommits.{stopped_early, stopped_shut, stopped_open, commit_read}
 
 even_or : (n : ℕ) → (n % 2 ≡ 0) ⊎ (n % 2 ≡ 1)

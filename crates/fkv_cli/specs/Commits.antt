@@ -1,11 +1,13 @@
 -- What a finish writes: the fresh records, the index, and the slot of its commit behind its gate.
-use Rattle.std.specs.Prelude.{ℕ, ◌<◌, ◌+◌, ◌*◌, ◌-◌, ◌/◌, ◌%◌, ◌^◌, min, max, Bool, true, false, nat_eq, List, [], ◌∷◌, ◌++◌, length, map, drop, replicate, reverse, if◌then◌else◌, slice_range, Option, Some, None}
+use Rattle.std.specs.Prelude.{ℕ, ◌<◌, ◌+◌, ◌*◌, ◌-◌, ◌/◌, ◌%◌, ◌^◌, min, max, Bool, true, false, nat_eq, List, [], ◌∷◌, ◌++◌, length, map, replicate, reverse, if◌then◌else◌, slice_range, Option, Some, None}
 use Rattle.std.specs.List.{range_with_len, flat_map}
 use Rattle.std.specs.FinMap.{entries}
 use Rattle.fkv_record.specs.Numbers.{spelled}
 use Rattle.fkv_record.specs.Places.{area_place, record_place}
 use Rattle.fkv_disk.specs.Bytes.{byte_at}
 use Rattle.fkv_disk.specs.Calls.{Call, Write, Sync, reads_as}
+use Rattle.fkv_manifest.specs.Gating.{GateWriter, gate_start}
+use Rattle.fkv_manifest.specs.Made.{whole_gate}
 use Rattle.fkv_script.specs.declared.answers.CommitPoint.{CommitPoint}
 use Rattle.fkv_cli.specs.declared.fresh_logs.FreshRecord.{FreshRecord}
 use Rattle.fkv_cli.specs.Index.{bucket_of, tag_of}
@@ -75,22 +77,21 @@ slot_place number = 512 + 512 * (number % 2)
 abbrev pub is_gate_open : Life → Bool
 is_gate_open life = nat_eq (byte_at life.bytes (slot_place (next_number life))) 165
 
--- an open gate is closed, and synced
-unfoldable pub close_calls : Life → List Call
-close_calls life = if is_gate_open life then Sync true ∷ Write (slot_place (next_number life)) (0 ∷ []) true ∷ [] else []
+-- the bytes of the slot
+abbrev pub next_slot : Life → List ℕ
+next_slot life = spelled (slot_words (next_number life) (tail life.log) (length (entries life.index.entries)) life.serial)
 
--- the slot behind its gate
-abbrev pub slot_body : Life → List ℕ
-slot_body life = drop 1 (spelled (slot_words (next_number life) (tail life.log) (length (entries life.index.entries)) life.serial))
+-- the writes that put it in force, before the first of them: behind the gate lie all its bytes but the first
+abbrev pub gate_writer : Life → GateWriter
+gate_writer life = record { place = slot_place (next_number life); start = 1; slot = next_slot life; step = gate_start (is_gate_open life) }
 
--- the slot behind its gate, and synced; then the gate, and synced
-unfoldable pub slot_calls : Life → List Call
-slot_calls life =
-    Sync true ∷ Write (slot_place (next_number life)) (165 ∷ []) true ∷ Sync true ∷ Write (slot_place (next_number life) + 1) (slot_body life) true ∷ []
+-- all calls that they make
+unfoldable pub gate_calls : Life → List Call
+gate_calls life = whole_gate (gate_writer life) (is_gate_open life)
 
--- all of them
+-- all of a finish
 abbrev pub finish_calls : Life → List Call
-finish_calls life = slot_calls life ++ (close_calls life ++ (triple_calls life ++ flush_calls life))
+finish_calls life = gate_calls life ++ (triple_calls life ++ flush_calls life)
 
 -- ---- what a finish answers and leaves
 

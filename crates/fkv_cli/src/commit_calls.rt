@@ -1,8 +1,8 @@
-//! What a commit writes: the fresh records, the triples, and its slot behind its gate.
-ghost use Rattle.std.specs.Prelude.{◌≡◌, ◌≤◌, ◌<◌, ◌+◌, ◌*◌, ◌^◌, ◌++◌, ◌∷◌, [], IfOk, OnOk, true, All};
+//! What a commit writes: the fresh records, the triples, and its slot behind its gate, in the order of the machine that puts
+//! it in force.
+ghost use Rattle.std.specs.Prelude.{◌≡◌, ◌≤◌, ◌<◌, ◌+◌, ◌*◌, ◌^◌, ◌++◌, IfOk, OnOk, All};
 ghost use Rattle.std.specs.List.{flat_map};
 ghost use Rattle.fkv_base.specs.Limits.{last_version, last_serial};
-ghost use Rattle.fkv_disk.specs.Calls.{Write, Sync};
 ghost use Rattle.fkv_record.specs.Layout.{slot_bytes, record_bytes, triple_bytes};
 ghost use Rattle.fkv_record.specs.Numbers.{spelled};
 ghost use Rattle.fkv_cli.specs.Commits.{record_words, triple_words, slot_words, IsTriple};
@@ -13,6 +13,7 @@ use crate::planned_calls::PlannedCall;
 use crate::worlds::PlainWorld;
 use arrayvec::ArrayVec;
 use fkv_base::{Addr, Fault, Serial, Version};
+use fkv_manifest::GateWrites;
 use fkv_record::{
     OPEN, Points, Record, SLOT_PLACES, Slot, Triple, area_place, record_place, write_record,
     write_slot, write_triple,
@@ -20,11 +21,8 @@ use fkv_record::{
 use fkv_words::Header;
 use std::alloc::Global;
 
-/// The byte of a closed gate.
-const CLOSED: u8 = 0;
-
 impl PlainWorld {
-    ghost use Rattle.fkv_cli.specs.Commits.{finish_calls, flush_calls, triple_calls, close_calls, slot_calls, page_write, triples_bytes, slot_body, next_number, slot_place, is_gate_open};
+    ghost use Rattle.fkv_cli.specs.Commits.{finish_calls, flush_calls, triple_calls, gate_calls, gate_writer, page_write, triples_bytes, next_slot, next_number, slot_place, is_gate_open};
     ghost use Rattle.fkv_cli.specs.FreshLog.{tail};
 
     /// The calls of the device that finish the next commit.
@@ -35,8 +33,7 @@ impl PlainWorld {
         let mut calls = Vec::new(self.alloc);
         self.plan_flush(&mut calls)?;
         self.plan_triples(&mut calls)?;
-        self.plan_closing(&mut calls)?;
-        self.plan_slot(&mut calls)?;
+        self.plan_gate(&mut calls)?;
         Ok(calls)
     }
 
@@ -88,16 +85,27 @@ impl PlainWorld {
         Ok(())
     }
 
-    /// The gate of the slot is closed, where it is open, and synced.
-    #[tactic(auto, unfolding(crate::specs::Commits::close_calls))]
-    fn plan_closing(&self, calls: &mut Vec<PlannedCall>) -> Result<(), Fault>
+    /// The calls that put the slot in force: those of the machine, each as if it had succeeded.
+    fn plan_gate(&self, calls: &mut Vec<PlannedCall>) -> Result<(), Fault>
         requires { self.now.number + 1 < last_version }
-        ensures { OnOk result (planned calls.new.items ≡ close_calls self.now ++ planned calls.old.items) }
+        ensures { OnOk result (planned calls.new.items ≡ gate_calls self.now ++ planned calls.old.items) }
     {
-        if self.is_gate_open() {
-            plan_byte(self.alloc, calls, self.slot_place(), CLOSED)?;
+        let mut writes = self.gate_writes()?;
+        while let Some(next) = writes.next_call() {
+            calls.push(PlannedCall::of(self.alloc, next)?)?;
+            writes.went(true);
         }
         Ok(())
+    }
+
+    /// The machine that puts the slot in force, before its first call.
+    fn gate_writes(&self) -> Result<GateWrites, Fault>
+        requires { self.now.number + 1 < last_version }
+        ensures { IfOk result (λ writes. writes ≡ gate_writer self.now) }
+    {
+        let slot = self.next_slot()?;
+        let is_open = self.is_gate_open();
+        Ok(GateWrites::new(self.slot_place(), 1, slot, is_open))
     }
 
     /// Whether the gate of the slot of the next commit is open.
@@ -108,20 +116,6 @@ impl PlainWorld {
         self.bytes.get(self.slot_place() as usize) == Some(&OPEN)
     }
 
-    /// The slot behind its gate, a sync, the gate, and a sync.
-    #[tactic(auto, using(crate::proofs::Plans::planned_push), unfolding(crate::specs::Commits::slot_calls))]
-    fn plan_slot(&self, calls: &mut Vec<PlannedCall>) -> Result<(), Fault>
-        requires { self.now.number + 1 < last_version }
-        ensures { OnOk result (planned calls.new.items ≡ slot_calls self.now ++ planned calls.old.items) }
-    {
-        let place = self.slot_place();
-        let body = self.slot_body()?;
-        calls.push(PlannedCall::Writes(place + 1, body))?;
-        calls.push(PlannedCall::Syncs)?;
-        plan_byte(self.alloc, calls, place, OPEN)?;
-        Ok(())
-    }
-
     /// Where the slot of the next commit lies.
     fn slot_place(&self) -> u64
         requires { self.now.number + 1 < last_version }
@@ -130,10 +124,10 @@ impl PlainWorld {
         SLOT_PLACES[((self.number + 1) % 2) as usize]
     }
 
-    /// The bytes of the slot behind its gate.
-    fn slot_body(&self) -> Result<Vec<u8>, Fault>
+    /// The bytes of the slot of the next commit.
+    fn next_slot(&self) -> Result<[u8; 512], Fault>
         requires { self.now.number + 1 < last_version }
-        ensures { IfOk result (λ bytes. bytes.items ≡ slot_body self.now) }
+        ensures { IfOk result (λ slot. slot ≡ next_slot self.now) }
     {
         let triples = self.index.entries()?.len() as u64;
         let slot = slot_of(
@@ -142,7 +136,7 @@ impl PlainWorld {
             triples,
             Serial(self.serial),
         );
-        Ok(write_slot(&slot)[1..].to_vec(self.alloc)?)
+        Ok(write_slot(&slot))
     }
 }
 
@@ -161,17 +155,6 @@ fn slot_of(number: u64, tail: u64, triples: u64, point: Serial) -> Slot
         area: number % 2,
         points: Points { serials },
     }
-}
-
-/// One byte, and a sync.
-#[tactic(auto, using(crate::proofs::Plans::planned_push))]
-fn plan_byte(alloc: Global, calls: &mut Vec<PlannedCall>, place: u64, byte: u8) -> Result<(), Fault>
-    ensures { OnOk result (planned calls.new.items ≡ Sync true ∷ Write place (byte ∷ []) true ∷ planned calls.old.items) }
-{
-    let bytes = vec![in alloc; byte]?;
-    calls.push(PlannedCall::Writes(place, bytes))?;
-    calls.push(PlannedCall::Syncs)?;
-    Ok(())
 }
 
 /// The bytes of records, written by this version.

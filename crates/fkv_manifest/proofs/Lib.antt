@@ -9,3 +9,4 @@ mod Settled
 pub mod Shown
 mod Spelled
 mod Stages
+mod ToCome

@@ -2,7 +2,7 @@
 use Rattle.std.specs.Prelude.{ℕ, ◌+◌, ◌==◌, ◌&&◌, ◌||◌, List, [], ◌∷◌, ◌++◌, drop, Bool, true, false, if◌then◌else◌, Option, Some, None}
 use Rattle.fkv_disk.specs.Bytes.{byte_at}
 use Rattle.fkv_disk.specs.Calls.{Call, Write, Sync}
-use Rattle.fkv_manifest.specs.Gating.{open_gate, closed_gate}
+use Rattle.fkv_manifest.specs.Gating.{GateWriter, open_gate, closed_gate}
 use Rattle.fkv_manifest.specs.Committing.{CommitWriter, commit_call, commit_next}
 
 -- the machine after steps, the newest first: whether the call of each succeeded
@@ -39,11 +39,15 @@ written_triples area (b ∷ rest) = Write area (b ∷ rest) true ∷ []
 abbrev pub triples_calls : CommitWriter → List Call
 triples_calls w = Sync true ∷ written_triples w.area w.triples
 
-abbrev pub closing_calls : CommitWriter → Bool → List Call
-closing_calls w is_open = if is_open then Sync true ∷ Write w.gate.place (closed_gate ∷ []) true ∷ [] else []
+abbrev pub closing_calls : GateWriter → Bool → List Call
+closing_calls w is_open = if is_open then Sync true ∷ Write w.place (closed_gate ∷ []) true ∷ [] else []
 
-abbrev pub slot_calls : CommitWriter → List Call
-slot_calls w = Sync true ∷ Write w.gate.place (open_gate ∷ []) true ∷ Sync true ∷ Write (w.gate.place + w.gate.start) (drop w.gate.start w.gate.slot) true ∷ []
+abbrev pub slot_calls : GateWriter → List Call
+slot_calls w = Sync true ∷ Write w.place (open_gate ∷ []) true ∷ Sync true ∷ Write (w.place + w.start) (drop w.start w.slot) true ∷ []
+
+-- those of the slot alone
+abbrev pub whole_gate : GateWriter → Bool → List Call
+whole_gate w is_open = slot_calls w ++ closing_calls w is_open
 
 abbrev pub whole_commit : CommitWriter → Bool → List Call
-whole_commit w is_open = slot_calls w ++ (closing_calls w is_open ++ triples_calls w)
+whole_commit w is_open = whole_gate w.gate is_open ++ triples_calls w

@@ -1,10 +1,11 @@
 //! How a slot comes into force behind its gate.
-ghost use Rattle.std.specs.Prelude.{◌≡◌, ◌<◌, ◌≤◌, ◌↔◌, is_ok, if◌then◌else◌};
+ghost use Rattle.std.specs.Prelude.{◌≡◌, ◌<◌, ◌≤◌, ◌↔◌, Bool, is_ok, if◌then◌else◌};
 ghost use Rattle.fkv_disk.specs.Device.{Elapses, HasCause, MakesCalls};
 ghost use Rattle.fkv_manifest.specs.Gating.{gate_start, gate_call, gate_next, gate_answer, gate_calls_left};
-ghost use Rattle.fkv_manifest.specs.Devices.{DoesNext, calls_next};
+ghost use Rattle.fkv_manifest.specs.Devices.{DoesNext, calls_next, calls_told, next_made};
 
 use crate::answers::WriteAnswer;
+use crate::calls::{NextCall, make_call};
 use fkv_base::Fault;
 use fkv_disk::Device;
 use fkv_record::OPEN;
@@ -81,6 +82,31 @@ impl GateWrites {
         }
     }
 
+    /// The call of the device that it needs, if it needs one. A machine that is walked without a device goes on by `went`.
+    #[tactic(auto, unfolding(crate::specs::Gating::gate_step_call, crate::specs::Gating::gate_answer))]
+    pub fn next_call(&self) -> Option<NextCall<'_>>
+        ensures call { (done : Bool) → next_made result done ≡ gate_call self.now done }
+        ensures counted { calls_told result ≡ calls_next (gate_answer self.now.step) }
+    {
+        match self.step {
+            Gating::Closes => Some(NextCall::Writes(self.place, &[CLOSED])),
+            Gating::WritesBody => {
+                let body = &self.slot[self.start..];
+                Some(NextCall::Writes(self.place + self.start as u64, body))
+            }
+            Gating::Opens => Some(NextCall::Writes(self.place, &[OPEN])),
+            Gating::SyncsClosed | Gating::SyncsBody | Gating::SyncsOpen => Some(NextCall::Syncs),
+            Gating::Written | Gating::Broken(_) => None,
+        }
+    }
+
+    /// Goes on from its next call, which succeeded or failed. Where it needs none it stays where it is.
+    pub fn went(&mut self, done: bool)
+        ensures { self.new ≡ record self.old { step = gate_next self.old.step done } }
+    {
+        self.step = step_called(self.step, done);
+    }
+
     /// Makes the one call of the device that it needs, and goes on. Where it needs none it makes none, and stays where it
     /// is. `Fault::Device` where the call failed: the machine is broken then.
     pub fn device_step<D: Device>(&mut self, d: &mut D) -> Result<(), Fault>
@@ -91,29 +117,9 @@ impl GateWrites {
         ensures does { D.honest d.old → DoesNext (gate_call self.old (is_ok result)) (D.seen d.old) (D.seen d.new) (D.may_leave d.old) (D.may_leave d.new) }
         ensures time { D.honest d.old → Elapses (D.moment d.old) (D.moment d.new) (D.left_since d.old) (D.left_since d.new) (D.may_leave d.new) }
     {
-        let called = self.call_device(d);
-        self.step = step_called(self.step, called.is_ok());
+        let called = make_call(self.next_call(), d);
+        self.went(called.is_ok());
         called
-    }
-
-    // The call of the device that its step makes, if it makes one.
-    #[tactic(auto, unfolding(crate::specs::Gating::gate_step_call, crate::specs::Gating::gate_answer))]
-    fn call_device<D: Device>(&self, d: &mut D) -> Result<(), Fault>
-        ensures cause { HasCause (D.failed d.old) (D.failed d.new) result }
-        ensures counted { MakesCalls (calls_next (gate_answer self.now.step)) (D.refuses d.old) (D.refuses d.new) result }
-        ensures honest { D.honest d.old ↔ D.honest d.new }
-        ensures does { D.honest d.old → DoesNext (gate_call self.now (is_ok result)) (D.seen d.old) (D.seen d.new) (D.may_leave d.old) (D.may_leave d.new) }
-        ensures time { D.honest d.old → Elapses (D.moment d.old) (D.moment d.new) (D.left_since d.old) (D.left_since d.new) (D.may_leave d.new) }
-    {
-        match self.step {
-            Gating::Closes => d.write(self.place, &[CLOSED]),
-            Gating::WritesBody => {
-                d.write(self.place + self.start as u64, &self.slot[self.start..])
-            }
-            Gating::Opens => d.write(self.place, &[OPEN]),
-            Gating::SyncsClosed | Gating::SyncsBody | Gating::SyncsOpen => d.sync(),
-            Gating::Written | Gating::Broken(_) => Ok(()),
-        }
     }
 }
 

@@ -3,12 +3,14 @@
 #![tactic(auto)]
 
 mod answers;
+mod calls;
 mod commits;
 mod gates;
 mod laws;
 mod slots;
 
 pub use answers::WriteAnswer;
+pub use calls::NextCall;
 pub use commits::CommitWrites;
 pub use gates::GateWrites;
 pub use laws::{law_commits_follow, law_gates, law_order, law_slots_are_named};

@@ -1,6 +1,6 @@
 //! What no clause says: that the calls come in a row, and bytes written by hand.
 use crate::{
-    CommitWrites, GateWrites, WriteAnswer, law_commits_follow, law_gates, law_order,
+    CommitWrites, GateWrites, NextCall, WriteAnswer, law_commits_follow, law_gates, law_order,
     law_slots_are_named, put_slot,
 };
 use fkv_base::Fault;
@@ -149,6 +149,35 @@ fn a_slot_is_put_in_one_go(rt: HostRuntime) -> Result<(), Fail> {
     new.extend_from_slice(&slot(0)[8..])?;
     assert!(rt; fuse.device().bytes() == new.as_slice());
     assert!(rt; put_slot(&mut fuse, 512, 8, slot(0), false) == Err(Fault::Device));
+    Ok(())
+}
+
+// Makes the calls that the machine tells, and tells it that each succeeded.
+fn walk<D: Device>(d: &mut D, gate: &mut GateWrites) -> Result<(), Fault> {
+    for _ in 0..6u64 {
+        match gate.next_call() {
+            Some(NextCall::Writes(at, bytes)) => d.write(at, bytes)?,
+            Some(NextCall::Syncs) => d.sync()?,
+            None => return Ok(()),
+        }
+        gate.went(true);
+    }
+    Ok(())
+}
+
+#[test]
+fn calls_are_told_before_they_are_made(rt: HostRuntime) -> Result<(), Fail> {
+    let mut disk = MemDisk::from_bytes(rt.alloc(), image(rt.alloc(), 165, 1)?)?;
+    let mut gate = GateWrites::new(1024, 1, slot(3), true);
+    walk(&mut disk, &mut gate)?;
+    assert!(rt; gate.answer() == WriteAnswer::Written);
+    assert!(rt; gate.next_call().is_none());
+    assert!(rt; disk.bytes() == image(rt.alloc(), 165, 3)?.as_slice());
+    // Behind a call that failed none comes.
+    let mut broken = GateWrites::new(1024, 1, slot(3), false);
+    broken.went(false);
+    assert!(rt; broken.answer() == WriteAnswer::Broken(Fault::Device));
+    assert!(rt; broken.next_call().is_none());
     Ok(())
 }
 
