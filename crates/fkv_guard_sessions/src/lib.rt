@@ -1,0 +1,2 @@
+//! What each step of a session is to the guard: a list of its events, and what the guard's actor is like behind them.
+#![tactic(auto)]
