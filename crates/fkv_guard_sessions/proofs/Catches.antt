@@ -29,7 +29,7 @@ use Rattle.fkv_guard_sessions.proofs.Onwards.{Moved}
 use Rattle.fkv_guard_sessions.proofs.Outer.{outer_step, passed_outer, passed_owes}
 use Rattle.fkv_guard_sessions.proofs.CatchesLed.{IsLoading, IsProtecting, CatchKnows, CatchLed, is_epochs, refresh_led, protect_led, finish_led, catch_free}
 
-loading_is : (r : Refreshing) (machine : EpochMachine) → IsLoading r → FitsMachine (refresh_machine r) machine → machine ≡ epochs.Refreshes r
+pub loading_is : (r : Refreshing) (machine : EpochMachine) → IsLoading r → FitsMachine (refresh_machine r) machine → machine ≡ epochs.Refreshes r
 loading_is refresh.AtRest machine loading fits = absurd loading
 loading_is refresh.LoadsEpoch machine loading fits = fits
 loading_is (refresh.LoadsPhase epoch) machine loading fits = fits
@@ -42,7 +42,7 @@ refresh_fits : (r : Refreshing) → FitsMachine (refresh_machine r) (epochs.Refr
 refresh_fits refresh.AtRest = refl
 refresh_fits r = refl
 
-protecting_is : (r : Protecting) (machine : EpochMachine) → IsProtecting r → FitsMachine (protect_machine r) machine → machine ≡ epochs.Protects r
+pub protecting_is : (r : Protecting) (machine : EpochMachine) → IsProtecting r → FitsMachine (protect_machine r) machine → machine ≡ epochs.Protects r
 protecting_is protect.AtRest machine protecting fits = absurd protecting
 protecting_is protect.LoadsEpoch machine protecting fits = fits
 protecting_is (protect.StoresEpoch epoch) machine protecting fits = fits

@@ -5,6 +5,7 @@ mod AttemptsLed
 mod Catches
 mod CatchesLed
 mod Epochs
+mod Followed
 mod Kept
 mod Onwards
 mod Outer
