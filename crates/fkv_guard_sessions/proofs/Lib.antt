@@ -7,8 +7,11 @@ mod CatchesLed
 mod Epochs
 mod Followed
 mod Kept
+mod Movers
 mod Onwards
 mod Outer
+mod OwnTurns
+mod OwnTurnsLed
 mod Sessions
 mod SessionsLed
 pub mod Shown

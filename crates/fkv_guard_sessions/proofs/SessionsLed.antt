@@ -43,6 +43,8 @@ use Rattle.fkv_epoch.specs.declared.scanning.Scanning.{Scanning}
 use Rattle.fkv_epoch.specs.declared.scanning.Scanning.TheVariants as scan
 use Rattle.fkv_epoch.specs.declared.claiming.Claiming.{Claiming}
 use Rattle.fkv_epoch.specs.declared.claiming.Claiming.TheVariants as claim
+use Rattle.fkv_log.specs.Moving.{move_at_rest}
+use Rattle.fkv_log.specs.Shifting.{shift_ask}
 use Rattle.fkv_log.specs.declared.turning.TurnForm.TheVariants.{OpensOnly}
 use Rattle.fkv_log.specs.declared.turning.Turning.{Turning}
 use Rattle.fkv_log.specs.declared.turning.Turning.TheVariants as turn
@@ -52,7 +54,7 @@ use Rattle.fkv_session.specs.declared.own_turns.OwnTurning.{OwnTurning}
 use Rattle.fkv_session.specs.declared.own_turns.OwnTurning.TheVariants as turning
 use Rattle.fkv_session.specs.OwnTurns.{OwnTurnState}
 use Rattle.fkv_flush.specs.GuardSeen.{LastSeen}
-use Rattle.fkv_flush.specs.GuardWorld.{ToDo, shift_rests}
+use Rattle.fkv_flush.specs.GuardWorld.{ToDo}
 use Rattle.fkv_flush.proofs.Shown.{Likeness}
 use Rattle.fkv_guard_sessions.specs.Likenesses.{last_seen, through}
 use Rattle.fkv_guard_sessions.specs.Attempts.{attempt_onward, attempt_likeness}
@@ -83,8 +85,8 @@ abbrev pub OwnTurnKnows : OwnTurnState → OwnTurning → Type 0
 OwnTurnKnows o turning.Ended = ⊤
 OwnTurnKnows o turning.Scans = IsScanning o.scanning
 OwnTurnKnows o turning.Claims = IsClaiming o.claiming
-OwnTurnKnows o turning.Shifts = shift_rests o.shift.step ≡ false
-OwnTurnKnows o turning.Opens = IsOpening o.turn.step
+OwnTurnKnows o turning.Shifts = is_done (shift_ask o.shift) ≡ false
+OwnTurnKnows o turning.Opens = (o.turn.mover ≡ move_at_rest) × IsOpening o.turn.step
 
 -- what is known of a session, by its control state
 abbrev pub SittingKnows : SessionState → Sitting → Type 0

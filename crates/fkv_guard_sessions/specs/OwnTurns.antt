@@ -1,9 +1,16 @@
 -- What the guard's actor is like in a session's own turn. What the machine of the epochs inside a shift is at is what the move inside has come to.
-use Rattle.std.specs.Prelude.{ℕ, ◌==◌, if◌then◌else◌, Option, Some, None}
+use Rattle.std.specs.Prelude.{ℕ, ◌==◌, if◌then◌else◌, List, slice_set, Option, Some, None}
+use Rattle.fkv_base.specs.declared.shapes.Shape.{Shape}
+use Rattle.fkv_plane.specs.declared.actions.Action.{Action}
+use Rattle.fkv_plane.specs.declared.asks.Ask.{Ask}
+use Rattle.fkv_plane.specs.declared.asks.Ask.TheVariants.{Put, Take, Done}
+use Rattle.fkv_plane.specs.Plane.{action_at}
 use Rattle.fkv_epoch.specs.declared.scanning.Scanning.{Scanning}
 use Rattle.fkv_epoch.specs.declared.scanning.Scanning.TheVariants as scan
 use Rattle.fkv_epoch.specs.declared.claiming.Claiming.{Claiming}
 use Rattle.fkv_epoch.specs.declared.claiming.Claiming.TheVariants as claim
+use Rattle.fkv_epoch.specs.declared.raising.Raising.{Raising}
+use Rattle.fkv_epoch.specs.declared.arming.Arming.{Arming}
 use Rattle.fkv_epoch.specs.EpochWorld as epochs
 use Rattle.fkv_epoch.specs.EpochWorld.{EpochMachine, ToScan, ToClaim}
 use Rattle.fkv_log.specs.declared.moving.Moving.{Moving}
@@ -21,7 +28,7 @@ use Rattle.fkv_flush.specs.GuardWorld.{Work, ToDo, ToShift, ToTurnPage, shift_re
 use Rattle.fkv_flush.proofs.Shown.{Likeness}
 use Rattle.fkv_session.specs.declared.own_turns.OwnTurning.{OwnTurning}
 use Rattle.fkv_session.specs.declared.own_turns.OwnTurning.TheVariants.{Ended, Scans, Claims, Shifts, Opens}
-use Rattle.fkv_session.specs.OwnTurns.{OwnTurnState}
+use Rattle.fkv_session.specs.OwnTurns.{OwnTurnState, own_turn_next, own_turn_given}
 use Rattle.fkv_guard_sessions.specs.Likenesses.{likeness, through}
 use Rattle.fkv_guard_sessions.specs.Steps.{Onward, Stays, Starts}
 
@@ -35,15 +42,15 @@ claim_machine claim.AtRest = None
 claim_machine step = Some (epochs.Claims step)
 
 -- a move has driven its raise up to where it puts its action, and its arming from then on
-abbrev pub move_machine : Moving → Mover → Option EpochMachine
-move_machine move.AtRest m = None
-move_machine (move.Raises target) m = Some (epochs.Raises m.raising)
-move_machine (move.MovesOffset target) m = Some (epochs.Raises m.raising)
-move_machine (move.Puts target slot) m = Some (epochs.Arms m.arming)
-move_machine move.Arms m = Some (epochs.Arms m.arming)
+abbrev pub moving_machine : Moving → Raising → Arming → Option EpochMachine
+moving_machine move.AtRest raising arming = None
+moving_machine (move.Raises target) raising arming = Some (epochs.Raises raising)
+moving_machine (move.MovesOffset target) raising arming = Some (epochs.Raises raising)
+moving_machine (move.Puts target slot) raising arming = Some (epochs.Arms arming)
+moving_machine move.Arms raising arming = Some (epochs.Arms arming)
 
 abbrev pub shift_machine : Shifting → Mover → Option EpochMachine
-shift_machine (shift.Moves tail) m = move_machine m.step m
+shift_machine (shift.Moves tail) m = moving_machine m.step m.raising m.arming
 shift_machine step m = None
 
 abbrev pub shift_work : ShiftState → Option Work
@@ -85,3 +92,18 @@ own_turn_onward o Scans = scan_onward o.scanning
 own_turn_onward o Claims = claim_onward o.claiming
 own_turn_onward o Shifts = shift_onward o.shift.step
 own_turn_onward o Opens = turn_onward o.turn.step
+
+-- What is settled in the same step as an ask of a word: an action goes into its slot or comes out of it, and the turn goes on at once.
+abbrev pub turn_gets : OwnTurnState → Option Action → OwnTurnState
+turn_gets o None = o
+turn_gets o (Some action) = own_turn_given o action
+
+abbrev pub turn_settled : Shape → List (Option Action) → OwnTurnState → Ask (Unit {0}) → OwnTurnState
+turn_settled shape actions o (Put slot action) = own_turn_next shape o 0
+turn_settled shape actions o (Take slot) = turn_gets o (action_at actions slot)
+turn_settled shape actions o ask = o
+
+abbrev pub actions_settled : {A : Type 0} → List (Option Action) → Ask A → List (Option Action)
+actions_settled actions (Put slot action) = slice_set actions slot (Some action)
+actions_settled actions (Take slot) = slice_set actions slot None
+actions_settled actions ask = actions
