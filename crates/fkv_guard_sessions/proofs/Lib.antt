@@ -17,3 +17,4 @@ mod SessionsLed
 pub mod Shown
 mod Tries
 mod TriesLed
+mod TurnFollowed

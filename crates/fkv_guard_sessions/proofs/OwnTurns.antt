@@ -79,7 +79,7 @@ emptied (its ∷ rest) zero e = let same : its ≡ None = e in rw same refl
 emptied (its ∷ rest) (suc slot) e = ap (λ more. its ∷ more) (emptied rest slot e)
 
 -- the scan
-scanning_is : (s : Scanning) (machine : EpochMachine) → IsScanning s → FitsMachine (scan_machine s) machine → machine ≡ epochs.Scans s
+pub scanning_is : (s : Scanning) (machine : EpochMachine) → IsScanning s → FitsMachine (scan_machine s) machine → machine ≡ epochs.Scans s
 scanning_is scan.AtRest machine scanning fits = absurd scanning
 scanning_is scan.LoadsEpoch machine scanning fits = fits
 scanning_is (scan.LoadsSession session least) machine scanning fits = fits
@@ -99,7 +99,7 @@ unfolding scan_ledto own_turning_ask claim_ask passed
 scan_behind shape o next (Done its) = refl
 scan_behind shape o next ask = passed_slot {B = Unit {0}} (scan_ask next) tt ∙ scan_slot next
 
-claiming_is : (c : Claiming) (machine : EpochMachine) → IsClaiming c → FitsMachine (claim_machine c) machine → machine ≡ epochs.Claims c
+pub claiming_is : (c : Claiming) (machine : EpochMachine) → IsClaiming c → FitsMachine (claim_machine c) machine → machine ≡ epochs.Claims c
 claiming_is claim.AtRest machine claiming fits = absurd claiming
 claiming_is (claim.MeetsSlot slot safe) machine claiming fits = fits
 claiming_is (claim.LoadsSafe slot word) machine claiming fits = fits
@@ -241,7 +241,7 @@ shifts_on n a y seen o t words ask h later g same none fits led =
       fits = record { machine = fits t g.0 busy; work = g.0; seen = same; undecided = none };
     }) (shift_on seen here refl later (ap is_done (sym (h refl))))
 
-work_is : (t : ShiftState) (work : Work) → shift_rests t.step ≡ false → FitsWork (shift_work t) work → work ≡ guard.Shifts t
+pub work_is : (t : ShiftState) (work : Work) → shift_rests t.step ≡ false → FitsWork (shift_work t) work → work ≡ guard.Shifts t
 work_is t work busy fits = subst (λ b. FitsWork (if b then None else Some (guard.Shifts t)) work) busy fits
 
 pub shifts_it : (w : GuardWorld) (a : ℕ) (x : Actor) (seen : LastSeen) (o : OwnTurnState) → IsSound w → slice_get w.now.actors a ≡ Some x → is_done (shift_ask o.shift) ≡ false → Fits (own_turn_likeness_at seen o Shifts) x

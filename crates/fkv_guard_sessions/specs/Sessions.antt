@@ -1,6 +1,10 @@
 -- What a session's step is to the guard, and what the guard has for a session, by its control state.
 use Rattle.std.specs.Prelude.{⊤, ℕ, ◌*◌, if◌then◌else◌, Bool, true, false, List, [], ◌∷◌, ◌++◌, Option, Some, None}
+use Rattle.fkv_plane.specs.declared.actions.Action.{Action}
 use Rattle.fkv_plane.specs.declared.asks.Ask.{Ask}
+use Rattle.fkv_plane.specs.declared.asks.Ask.TheVariants.{Put, Take}
+use Rattle.fkv_plane.specs.Plane.{action_at}
+use Rattle.fkv_session.specs.declared.answers.Told.{Told}
 use Rattle.fkv_plane.specs.Passing.{is_done}
 use Rattle.fkv_epoch.specs.declared.leaving.Leaving.{Leaving}
 use Rattle.fkv_epoch.specs.declared.leaving.Leaving.TheVariants as leave
@@ -12,7 +16,7 @@ use Rattle.fkv_session.specs.declared.catching_up.Catching.{Catching}
 use Rattle.fkv_session.specs.declared.catching_up.Catching.TheVariants.{Protects}
 use Rattle.fkv_session.specs.declared.sessions.Sitting.{Sitting}
 use Rattle.fkv_session.specs.declared.sessions.Sitting.TheVariants.{Idle, Attempts, CatchesUp, Polls, Turns, Leaves, LoadsDurable}
-use Rattle.fkv_session.specs.Sessions.{SessionState, Seat, room_of, session_ask}
+use Rattle.fkv_session.specs.Sessions.{SessionState, Seat, room_of, session_ask, session_next, session_given}
 use Rattle.fkv_guard_sessions.specs.Likenesses.{likeness, last_seen, through}
 use Rattle.fkv_guard_sessions.specs.Steps.{Onward, Stays, Starts, onward_events, outer_events, IsOuter}
 use Rattle.fkv_guard_sessions.specs.Attempts.{attempt_events, attempt_onward, attempt_likeness, AttemptOwes}
@@ -57,6 +61,16 @@ sitting_onward s (CatchesUp cause) = catch_onward s.catching s.catching.step
 sitting_onward s (Turns its) = own_turn_onward s.own_turn s.own_turn.step
 sitting_onward s Leaves = leave_onward s.leaving
 sitting_onward s step = Stays
+
+-- an action goes into its slot, and one comes out of it, in the same step; every other ask is left to the next one
+abbrev pub session_gets : Seat → SessionState → Option Action → SessionState
+session_gets k s None = s
+session_gets k s (Some action) = session_given k s action
+
+abbrev pub session_settled : Seat → List (Option Action) → SessionState → Ask Told → SessionState
+session_settled k actions s (Put slot action) = session_next k s 0
+session_settled k actions s (Take slot) = session_gets k s (action_at actions slot)
+session_settled k actions s ask = s
 
 -- the events of a session's step, from where it was to where that has led, the newest first; a session at an end makes none
 abbrev pub session_guard_events : Seat → List ℕ → SessionState → SessionState → List GuardEvent
