@@ -116,7 +116,7 @@ module _ (n : GuardNow) (a : ℕ) (x : Actor) (seen : LastSeen) (got : slice_get
   -- the Cas of the entry publishes the record where it is won
   publish_moves : (addr place word entry : ℕ) → is_guarded n.places place ≡ false → Fits (likeness None None seen (Some addr)) x
       → Follows n a (publish_events a n.words (publishing.SwapsEntry place word entry) (publish_ask (publishing.SwapsEntry place word entry))) (likeness None None seen (if word_at n.words place == word then None else Some addr))
-          (words_after n.words (publish_ask (publishing.SwapsEntry place word entry))) n.actions
+      (words_after n.words (publish_ask (publishing.SwapsEntry place word entry))) n.actions
   unfolding publish_ask
   publish_moves addr place word entry outer fits = elim (truth (word_at n.words place == word)) [
     | inl e ↦

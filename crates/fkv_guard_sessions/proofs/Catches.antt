@@ -137,8 +137,8 @@ module _ (n : GuardNow) (a bits : ℕ) (x : Actor) (got : slice_get n.actors a �
 
   plain : (c : CatchState) (requests after_requests : List PendingRequest) (step : Catching) → c.step ≡ step → is_epochs step ≡ false → CatchKnows c step → IsOuter n.places (catching_ask n.places a c requests step) → Fits (catch_likeness_at c step) x
       → (protected : Bool) → Moved protected n a (outer_events a n.words (catching_ask n.places a c requests step))
-          (catch_onward (catching_next n.places bits a c after_requests step (reply_to n.words (catching_ask n.places a c requests step))) (catching_next n.places bits a c after_requests step (reply_to n.words (catching_ask n.places a c requests step))).step)
-          (catch_likeness (catching_next n.places bits a c after_requests step (reply_to n.words (catching_ask n.places a c requests step)))) (words_after n.words (catching_ask n.places a c requests step)) n.actions
+      (catch_onward (catching_next n.places bits a c after_requests step (reply_to n.words (catching_ask n.places a c requests step))) (catching_next n.places bits a c after_requests step (reply_to n.words (catching_ask n.places a c requests step))).step)
+      (catch_likeness (catching_next n.places bits a c after_requests step (reply_to n.words (catching_ask n.places a c requests step)))) (words_after n.words (catching_ask n.places a c requests step)) n.actions
   plain c requests after_requests step at other knows owes fits protected = record {
     mid = catch_likeness_at c step;
     moved = outer_step n a x (catch_likeness_at c step) (catching_ask n.places a c requests step) got fits owes;

@@ -36,40 +36,8 @@ use Rattle.fkv_flush.specs.GuardSeen.{LastSeen}
 use Rattle.fkv_flush.proofs.Shown.{Likeness, refreshed_so_far, protected_then}
 use Rattle.fkv_guard_sessions.specs.Likenesses.{likeness, last_seen, through}
 use Rattle.fkv_guard_sessions.specs.Catches.{refresh_machine, protect_machine, held_machine, catch_onward, catch_likeness, catch_likeness_at}
+pub use Rattle.fkv_guard_sessions.specs.Rows.{IsLoading, IsProtecting, Holds, HasWoken, HasLoaded, IsStoring, IsSharing, CatchKnows}
 use Rattle.fkv_guard_sessions.proofs.Onwards.{Leads, Keeps, Goes, stayed}
-
--- the refresh is at its loads
-abbrev pub IsLoading : Refreshing → Type 0
-IsLoading refresh.AtRest = ⊥
-IsLoading (refresh.HasLoaded epoch values) = ⊥
-IsLoading (refresh.StoresEpoch epoch) = ⊥
-IsLoading step = ⊤
-
-abbrev pub IsProtecting : Protecting → Type 0
-IsProtecting protect.AtRest = ⊥
-IsProtecting step = ⊤
-
--- what was loaded is taken up: of a refresh, which waits, or of one that woke
-pub data Holds (c : CatchState) : Type 0 where
-  HasWoken : c.is_refresh ≡ false → Holds c
-  HasLoaded : (epoch : ℕ) (values : loaded.Seen) → c.is_refresh ≡ true → c.refreshing ≡ refresh.HasLoaded epoch values → Holds c
-
-abbrev pub IsStoring : Refreshing → Type 0
-IsStoring step = (epoch : ℕ) × (step ≡ refresh.StoresEpoch epoch)
-
--- a share is taken, or given back
-abbrev pub IsSharing : Latching → Type 0
-IsSharing (latching.AddsShare place) = ⊤
-IsSharing (latching.GivesBack place) = ⊤
-IsSharing step = ⊥
-
-abbrev pub CatchKnows : CatchState → Catching → Type 0
-CatchKnows c Ended = ⊤
-CatchKnows c Refreshes = (c.is_refresh ≡ true) × IsLoading c.refreshing
-CatchKnows c Protects = (c.is_refresh ≡ false) × IsProtecting c.protecting
-CatchKnows c (Latches index) = Holds c × IsSharing c.latching
-CatchKnows c Finishes = IsStoring c.refreshing
-CatchKnows c step = Holds c
 
 pub record CatchLed (mid : Likeness) (c : CatchState) : Type 0 where
   pub leads : (protected : Bool) → Leads protected mid (catch_onward c c.step) (catch_likeness c)

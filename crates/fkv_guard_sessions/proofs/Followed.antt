@@ -25,6 +25,7 @@ use Rattle.fkv_guard_sessions.specs.Likenesses.{last_seen, through}
 use Rattle.fkv_guard_sessions.specs.Steps.{Onward, Stays, Starts, GoesOn, onward_events}
 use Rattle.fkv_guard_sessions.specs.Catches.{protect_machine, catch_likeness_at}
 use Rattle.fkv_guard_sessions.specs.Sessions.{sitting_events, sitting_onward, sitting_likeness, session_likeness, is_protected_at, is_protected_catching, SittingOwes, SessionOwes, called_guard_events}
+pub use Rattle.fkv_guard_sessions.specs.Followed.{IsProtectedAt, SessionFollows}
 use Rattle.fkv_guard_sessions.proofs.Onwards.{IsSessions, Moved, goes_onward}
 use Rattle.fkv_guard_sessions.proofs.Outer.{no_event}
 use Rattle.fkv_guard_sessions.proofs.AppendsLed.{truth}
@@ -33,16 +34,6 @@ use Rattle.fkv_guard_sessions.proofs.CatchesLed.{CatchKnows}
 use Rattle.fkv_guard_sessions.proofs.Kept.{words_kept, wakes}
 use Rattle.fkv_guard_sessions.proofs.Sessions.{seat_in, stays_protected, is_turning, SessionMoved, session_step}
 use Rattle.fkv_guard_sessions.proofs.SessionsLed.{SittingKnows, begun_led}
-
--- the epoch word of a session that is protected
-abbrev pub IsProtectedAt : ℕ → List ℕ → SessionState → Type 0
-IsProtectedAt number words s = is_protected_at s s.step ≡ true → 0 < own_epoch words number
-
--- These events lead the guard's actor to what it is like for this session, whose row holds then.
-pub record SessionFollows (n : GuardNow) (number : ℕ) (events : List GuardEvent) (after : SessionState) (words : List ℕ) : Type 0 where
-  pub follows : Follows n number events (session_likeness after) words n.actions
-  pub knows : SittingKnows after after.step
-  pub protected : IsProtectedAt number words after
 
 module _ (w : GuardWorld) (number : ℕ) (x : Actor) (sound : IsSound w) (got : slice_get w.now.actors number ≡ Some x) (below : number < w.now.places.sessions) where
   abbrev After : SessionState → ℕ → Sitting → SessionState
@@ -96,7 +87,7 @@ pub session_follows : (w : GuardWorld) (number : ℕ) (x : Actor) (s : SessionSt
     → SessionOwes (seat_in w.now number) w.now.words s → Fits (session_likeness s) x
     → (let k : Seat = seat_in w.now number in
     let after : SessionState = session_next k s (reply_to w.now.words (session_ask k s)) in
-    SessionFollows w.now number (onward_events number (sitting_onward after after.step) ++ sitting_events k w.now.words s s.step (session_ask k s)) after (words_after w.now.words (session_ask k s)))
+    SessionFollows w.now number (onward_events number (sitting_onward after after.step) ++ sitting_events k w.now.words s s.step (session_ask k s)) after (words_after w.now.words (session_ask k s)) w.now.actions)
 session_follows w number x s sound got below other knows protected owes fits =
     let k : Seat = seat_in w.now number in
     let asks : ℕ = asks_after s.asks (is_word_ask (session_ask k s)) in
@@ -155,7 +146,7 @@ idle_awake s step idle = cc
 
 -- A call that begins, where none is in hand.
 pub call_follows : (n : GuardNow) (number : ℕ) (x : Actor) (s : SessionState) (its : Call) → slice_get n.actors number ≡ Some x → number < n.places.sessions → is_busy s.step ≡ false → IsProtectedAt number n.words s → Fits (session_likeness s) x
-    → (let after : SessionState = session_begun (seat_in n number) s its in SessionFollows n number (called_guard_events (seat_in n number) after) after n.words)
+    → (let after : SessionState = session_begun (seat_in n number) s its in SessionFollows n number (called_guard_events (seat_in n number) after) after n.words n.actions)
 call_follows n number x s its got below idle protected fits =
     let k : Seat = seat_in n number in
     let after : SessionState = session_begun k s its in

@@ -63,7 +63,7 @@ module _ (w : GuardWorld) (number : ℕ) (x : Actor) (sound : IsSound w) (got : 
   attempt_keeps s some owes =
       let ask = attempt_ask w.now.places number s.attempt in
       ask_keeps w.now.words number (passed ask told.Slept) (passed_spares ask told.Slept (session_place number own.Epoch) (attempt_spares (last_seen s.seen) w.now.places w.now.words number s.attempt below
-          (subst (λ (o : Type 0). o) (attempt_owes (last_seen s.seen) w.now.places w.now.words s.attempt s.attempt.step ask told.Slept) owes))) some
+      (subst (λ (o : Type 0). o) (attempt_owes (last_seen s.seen) w.now.places w.now.words s.attempt s.attempt.step ask told.Slept) owes))) some
 
   pub words_kept : (s : SessionState) (step : Sitting) → is_turning step ≡ false → stays_protected s step ≡ true → 0 < own_epoch w.now.words number → SittingKnows s step → SittingOwes (seat_in w.now number) w.now.words s step (sitting_ask (seat_in w.now number) s step) → Fits (sitting_likeness s step) x
       → Keeps s step

@@ -332,6 +332,6 @@ opens_it n a x seen o got none opening fits =
     let next : Turning = (turning_next n.shape t.step t.mover reply).step in
     let there : turning_next n.shape t.step t.mover reply ≡ turn_at next move_at_rest = same_mover n.shape t.step t.mover reply opening ∙ ap (turn_at next) none in
     let to = opens_to n a x seen o t next none (opens_next n.shape t.step t.mover reply opening) fits.machine fits.seen fits.undecided
-        (led ∙ ap (λ (s : TurnState). put_near n a (host_to n x (turn_ask n.shape) (turn_next n.shape) (λ (t : TurnState). t.mover) guard.Turns t s)) there) in
+    (led ∙ ap (λ (s : TurnState). put_near n a (host_to n x (turn_ask n.shape) (turn_next n.shape) (λ (t : TurnState). t.mover) guard.Turns t s)) there) in
     subst (λ (ask : Ask MoveAnswer). (let after : OwnTurnState = open_ledto (record o { turn = turn_next n.shape t reply; step = Opens }) ask in TurnMoved n a seen after (words_after n.words (turn_ask n.shape t)) (own_turn_ask n.shape after))) (sym (asks_next n.shape t.step t.mover reply opening))
     (subst (λ (s : TurnState). (let after : OwnTurnState = open_ledto (record o { turn = s; step = Opens }) (turn_ask n.shape s) in TurnMoved n a seen after (words_after n.words (turn_ask n.shape t)) (own_turn_ask n.shape after))) (sym there) to)

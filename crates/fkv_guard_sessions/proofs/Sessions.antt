@@ -27,16 +27,13 @@ use Rattle.fkv_guard_sessions.specs.Steps.{Onward, outer_events, IsOuter, onward
 use Rattle.fkv_guard_sessions.specs.Attempts.{attempt_events, AttemptOwes, attempt_likeness}
 use Rattle.fkv_guard_sessions.specs.Catches.{catch_events, CatchOwes, catch_likeness}
 use Rattle.fkv_guard_sessions.specs.Sessions.{leave_machine, sitting_events, sitting_onward, sitting_likeness, session_likeness, is_protected_at, SittingOwes, SessionOwes}
+pub use Rattle.fkv_guard_sessions.specs.Followed.{seat_in, is_turning}
 use Rattle.fkv_guard_sessions.proofs.Onwards.{IsSessions, Moved, Leads, Keeps, Begins, goes_onward}
 use Rattle.fkv_guard_sessions.proofs.Outer.{outer_step, passed_owes}
 use Rattle.fkv_guard_sessions.proofs.Attempts.{attempt_passed, attempt_owes, attempt_step}
 use Rattle.fkv_guard_sessions.proofs.Catches.{CatchMoved, machine_moves, catch_step, catch_passed, catch_owes}
 use Rattle.fkv_guard_sessions.proofs.CatchesLed.{CatchKnows}
 use Rattle.fkv_guard_sessions.proofs.SessionsLed.{SittingKnows, SessionLed, answers_led, polls_led, clear_led, attempt_ends, poll_ends, catch_ends, leave_led}
-
--- the seat of the session of a number in the guard's world
-abbrev pub seat_in : GuardNow → ℕ → Seat
-seat_in n number = record { places = n.places; shape = n.shape; number = number }
 
 -- where a session's step leads
 abbrev Reply : GuardNow → ℕ → SessionState → Sitting → ℕ
@@ -50,11 +47,6 @@ pub record SessionMoved (protected : Bool) (n : GuardNow) (number : ℕ) (s afte
 abbrev pub stays_protected : SessionState → Sitting → Bool
 stays_protected s Leaves = false
 stays_protected s step = is_protected_at s step
-
--- it turns
-abbrev pub is_turning : Sitting → Bool
-is_turning (Turns its) = true
-is_turning step = false
 
 module _ (n : GuardNow) (number : ℕ) (x : Actor) (got : slice_get n.actors number ≡ Some x) where
   -- an ask of a word that is none of the guard's

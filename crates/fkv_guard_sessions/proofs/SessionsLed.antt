@@ -61,41 +61,11 @@ use Rattle.fkv_guard_sessions.specs.Attempts.{attempt_onward, attempt_likeness}
 use Rattle.fkv_guard_sessions.specs.Catches.{catch_onward, catch_likeness}
 use Rattle.fkv_guard_sessions.specs.OwnTurns.{own_turn_onward, own_turn_likeness}
 use Rattle.fkv_guard_sessions.specs.Sessions.{sitting_onward, sitting_likeness, session_likeness}
+pub use Rattle.fkv_guard_sessions.specs.Rows.{IsScanning, IsClaiming, IsOpening, OwnTurnKnows, SittingKnows}
 use Rattle.fkv_guard_sessions.proofs.Onwards.{Leads, Keeps, Begins, stayed}
 use Rattle.fkv_guard_sessions.proofs.AttemptsLed.{AttemptLed, attempt_begun_led}
 use Rattle.fkv_guard_sessions.proofs.AppendsLed.{truth}
 use Rattle.fkv_guard_sessions.proofs.CatchesLed.{CatchKnows, CatchLed, catch_through}
-
--- a machine inside a session's own turn is under way, and its turn of a page opens only
-abbrev pub IsScanning : Scanning → Type 0
-IsScanning scan.AtRest = ⊥
-IsScanning step = ⊤
-
-abbrev pub IsClaiming : Claiming → Type 0
-IsClaiming claim.AtRest = ⊥
-IsClaiming step = ⊤
-
-abbrev pub IsOpening : Turning → Type 0
-IsOpening (turn.LoadsLimit OpensOnly tail) = ⊤
-IsOpening (turn.LoadsClosed OpensOnly limit) = ⊤
-IsOpening (turn.RaisesLimit limit) = ⊤
-IsOpening step = ⊥
-
-abbrev pub OwnTurnKnows : OwnTurnState → OwnTurning → Type 0
-OwnTurnKnows o turning.Ended = ⊤
-OwnTurnKnows o turning.Scans = IsScanning o.scanning
-OwnTurnKnows o turning.Claims = IsClaiming o.claiming
-OwnTurnKnows o turning.Shifts = is_done (shift_ask o.shift) ≡ false
-OwnTurnKnows o turning.Opens = (o.turn.mover ≡ move_at_rest) × IsOpening o.turn.step
-
--- what is known of a session, by its control state
-abbrev pub SittingKnows : SessionState → Sitting → Type 0
-SittingKnows s (Attempts has_shifted) = AttemptRestsOrAsks s.attempt
-SittingKnows s (Polls index) = AttemptRestsOrAsks s.attempt
-SittingKnows s (CatchesUp cause) = CatchKnows s.catching s.catching.step
-SittingKnows s (Turns its) = OwnTurnKnows s.own_turn s.own_turn.step
-SittingKnows s Leaves = s.leaving ≡ StoresZero
-SittingKnows s step = ⊤
 
 pub record SessionLed (protected : Bool) (mid : Likeness) (s : SessionState) : Type 0 where
   pub leads : Leads protected mid (sitting_onward s s.step) (session_likeness s)

@@ -37,7 +37,6 @@ use Rattle.fkv_guard_sessions.proofs.AppendsLed.{truth}
 use Rattle.fkv_guard_sessions.proofs.Appends.{append_step}
 use Rattle.fkv_guard_sessions.proofs.TriesLed.{TryLed, is_appending, append_led, try_free}
 
-
 publish_passed : {A B : Type 0} (number : ℕ) (words : List ℕ) (its : Publishing) (ask : Ask A) (told : B) → publish_events number words its (passed ask told) ≡ publish_events number words its ask
 publish_passed number words (publishing.SwapsEntry place word entry) ask told = rw (passed_outer number words ask told) refl
 publish_passed number words publishing.AtRest ask told = passed_outer number words ask told

@@ -52,12 +52,13 @@ use Rattle.fkv_log.specs.declared.turning.Turning.TheVariants as turn
 use Rattle.fkv_log.specs.Moving.{Mover, offset_place, moving_ask, move_ask}
 use Rattle.fkv_log.specs.Turning.{turning_ask, limit_after}
 use Rattle.fkv_guard_sessions.specs.Steps.{onward_events}
+use Rattle.fkv_guard_sessions.specs.Followed.{TurnsFollow}
 use Rattle.fkv_guard_sessions.specs.Likenesses.{last_seen, through}
 use Rattle.fkv_guard_sessions.specs.OwnTurns.{own_turn_onward, own_turn_likeness, own_turn_likeness_at, turn_gets, turn_settled, actions_settled}
-use Rattle.fkv_guard_sessions.specs.Sessions.{sitting_onward, sitting_likeness, session_likeness, session_gets, session_settled}
+use Rattle.fkv_guard_sessions.specs.Sessions.{sitting_events, sitting_onward, sitting_likeness, session_likeness, is_protected_at, session_gets, session_settled}
 use Rattle.fkv_guard_sessions.proofs.Onwards.{Keeps, goes_onward}
 use Rattle.fkv_guard_sessions.proofs.Epochs.{machine_keeps, ask_keeps}
-use Rattle.fkv_guard_sessions.proofs.Followed.{IsProtectedAt}
+use Rattle.fkv_guard_sessions.proofs.Followed.{SessionFollows}
 use Rattle.fkv_guard_sessions.proofs.OwnTurnsLed.{OwnTurnLed, shift_asking, own_turn_through}
 use Rattle.fkv_guard_sessions.proofs.OwnTurns.{TurnMoved, scanning_is, claiming_is, work_is, scans_it, claims_it, shifts_it, opens_it}
 use Rattle.fkv_guard_sessions.proofs.Sessions.{seat_in}
@@ -167,15 +168,9 @@ module _ (w : GuardWorld) (number : ℕ) (x : Actor) (sound : IsSound w) (got : 
   turn_keeps seen o Shifts knows fits =
       let its : x.work ≡ guard.Shifts o.shift = work_is o.shift x.work (shift_asking o.shift.step o.shift.mover knows) fits.work in
       let known : ShiftKnows (levels_of w.now.words) x.machine o.shift.step o.shift.mover =
-          subst (λ (work : Work). Knows w.now.shape (levels_of w.now.words) (Awake w.now number x.machine) x.machine x.undecided work) its (sound.knows number x got) in
+      subst (λ (work : Work). Knows w.now.shape (levels_of w.now.words) (Awake w.now number x.machine) x.machine x.undecided work) its (sound.knows number x got) in
       rw (passed_words {B = Unit {0}} w.now.words (shift_ask o.shift) tt) (shift_keeps o.shift.step o.shift.mover known)
   turn_keeps seen o Opens knows fits = rw (passed_words {B = Unit {0}} w.now.words (turn_ask w.now.shape o.turn) tt) (open_keeps o.turn.step o.turn.mover knows.1)
-
--- Where a step of a turn leads, with the action that goes with it.
-pub record TurnFollows (n : GuardNow) (number : ℕ) (events : List GuardEvent) (after : SessionState) (words : List ℕ) (actions : List (Option Action)) : Type 0 where
-  pub follows : Follows n number events (session_likeness after) words actions
-  pub knows : SittingKnows after after.step
-  pub protected : IsProtectedAt number words after
 
 -- A step of a session that turns, and has not ended its turn.
 turns : (w : GuardWorld) (number : ℕ) (x : Actor) (s : SessionState) (its : Told) (asks : ℕ) → IsSound w → slice_get w.now.actors number ≡ Some x → number < w.now.places.sessions → (s.own_turn.step ≡ Ended → ⊥) → OwnTurnKnows s.own_turn s.own_turn.step
@@ -185,7 +180,7 @@ turns : (w : GuardWorld) (number : ℕ) (x : Actor) (s : SessionState) (its : To
     let ask : Ask Told = passed (own_turn_ask n.shape s.own_turn) its in
     let first : SessionState = sitting_next k (record s { asks = asks; effect = None; step = Turns its }) (Turns its) (reply_to n.words ask) in
     let final : SessionState = session_settled k n.actions first (session_ask k first) in
-    TurnFollows n number (onward_events number (sitting_onward final final.step) ++ Moves number ∷ []) final (words_after n.words ask) (actions_settled n.actions (session_ask k first)))
+    SessionFollows n number (onward_events number (sitting_onward final final.step) ++ Moves number ∷ []) final (words_after n.words ask) (actions_settled n.actions (session_ask k first)))
 unfolding sitting_next
 turns w number x s its asks sound got below under knows some fits =
     let n : GuardNow = w.now in
@@ -207,3 +202,27 @@ turns w number x s its asks sound got below under knows some fits =
       knows = led.knows;
       protected = λ p. kept;
     })
+
+not_ended : (k : Seat) (o : OwnTurnState) (step : OwnTurning) (its : Told) → is_done (passed (own_turning_ask k.shape o step) its) ≡ false → step ≡ Ended → ⊥
+unfolding own_turning_ask passed
+not_ended k o Ended its asks e = cc
+not_ended k o Scans its asks e = cc
+not_ended k o Claims its asks e = cc
+not_ended k o Shifts its asks e = cc
+not_ended k o Opens its asks e = cc
+
+pub turn_follows : TurnsFollow
+unfolding sitting_ask
+turn_follows w number x s its sits at asks =
+    let k : Seat = seat_in w.now number in
+    let knows : OwnTurnKnows s.own_turn s.own_turn.step = subst (λ t. SittingKnows s t) at sits.knows in
+    let fits : Fits (own_turn_likeness (last_seen s.seen) s.own_turn) x = subst (λ t. Fits (sitting_likeness s t) x) at sits.fits in
+    let some : 0 < own_epoch w.now.words number = sits.protected (ap (is_protected_at s) at) in
+    let ask : Ask Told = passed (own_turn_ask w.now.shape s.own_turn) its in
+    let going : is_done ask ≡ false = subst (λ t. is_done (sitting_ask k s t) ≡ false) at asks in
+    subst (λ t.
+    (let it : SessionState = record s { step = t } in
+    let first : SessionState = session_next k it (reply_to w.now.words (session_ask k it)) in
+    let after : SessionState = session_settled k w.now.actions first (session_ask k first) in
+    SessionFollows w.now number (onward_events number (sitting_onward after after.step) ++ sitting_events k w.now.words it it.step (session_ask k it)) after (words_after w.now.words (session_ask k it)) (actions_settled w.now.actions (session_ask k first)))) (sym at)
+    (turns w number x s its (asks_after s.asks (is_word_ask ask)) sits.sound sits.got sits.below (not_ended k s.own_turn s.own_turn.step its going) knows some fits)
