@@ -11,7 +11,6 @@ use Rattle.fkv_epoch.specs.declared.refreshing.Refreshing.{Refreshing}
 use Rattle.fkv_epoch.specs.declared.refreshing.Refreshing.TheVariants as refresh
 use Rattle.fkv_epoch.specs.declared.values.Seen as loaded
 use Rattle.fkv_epoch.specs.Refreshing.{refresh_ask, refresh_next, refresh_finish}
-use Rattle.fkv_epoch.specs.Values.{seen}
 use Rattle.fkv_epoch.specs.Protecting.{protect_ask, protect_next, protect_next_ask}
 use Rattle.fkv_latch.specs.declared.latching.LatchAnswer.{LatchAnswer}
 use Rattle.fkv_latch.specs.declared.latching.LatchAnswer.TheVariants.{Taken}
@@ -103,7 +102,7 @@ refresh_led p bits session c requests refresh.LoadsEpoch reply at is loading = r
 refresh_led p bits session c requests (refresh.LoadsPhase epoch) reply at is loading = rw at (record { leads = λ protected. Keeps refl refl; knows = (is, tt) })
 refresh_led p bits session c requests (refresh.LoadsReadOnly epoch phase) reply at is loading = rw at (record { leads = λ protected. Keeps refl refl; knows = (is, tt) })
 refresh_led p bits session c requests (refresh.LoadsHead epoch phase read_only) reply at is loading =
-    let values : loaded.Seen = seen phase read_only reply in
+    let values : loaded.Seen = record { phase = phase; read_only = record { 0 = read_only }; head = record { 0 = reply } } in
     let d : CatchState = record c { refreshing = refresh.HasLoaded epoch values } in
     subst (λ b. CatchLed (likeness (if b then refresh_machine (refresh.HasLoaded epoch values) else None) None (record { read_only = read_only; head = reply }) None) (takes_up p bits d requests (seen_after c.seen values (phase_said phase)))) is
     (takes_led p bits d requests values (HasLoaded epoch values is refl))
@@ -121,7 +120,7 @@ protect_led p bits session c requests (protect.StoresEpoch epoch) reply at is pr
 protect_led p bits session c requests protect.LoadsPhase reply at is protecting = rw at (record { leads = λ protected. Keeps refl refl; knows = (is, tt) })
 protect_led p bits session c requests (protect.LoadsReadOnly phase) reply at is protecting = rw at (record { leads = λ protected. Keeps refl refl; knows = (is, tt) })
 protect_led p bits session c requests (protect.LoadsHead phase read_only) reply at is protecting =
-    let values : loaded.Seen = seen phase read_only reply in
+    let values : loaded.Seen = record { phase = phase; read_only = record { 0 = read_only }; head = record { 0 = reply } } in
     let d : CatchState = record c { protecting = protect.AtRest } in
     subst (λ b. CatchLed (likeness (if b then refresh_machine c.refreshing else None) None (record { read_only = read_only; head = reply }) None) (takes_up p bits d requests (seen_after c.seen values (phase_said phase)))) is
     (takes_led p bits d requests values (HasWoken is))
