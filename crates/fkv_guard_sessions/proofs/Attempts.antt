@@ -21,7 +21,8 @@ use Rattle.fkv_guard_sessions.specs.Steps.{outer_events, IsOuter}
 use Rattle.fkv_guard_sessions.specs.Tries.{TryOwes}
 use Rattle.fkv_guard_sessions.specs.Attempts.{attempt_events, attempt_onward, attempt_likeness, attempt_likeness_at, AttemptOwes}
 use Rattle.fkv_guard_sessions.proofs.Onwards.{IsSessions, Moved}
-use Rattle.fkv_guard_sessions.proofs.Outer.{outer_step, passed_outer, passed_owes}
+use Rattle.fkv_guard_sessions.proofs.Outer.{outer_step, passed_outer}
+use Rattle.fkv_guard_sessions.proofs.OwnWords.{attempt_outer}
 use Rattle.fkv_guard_sessions.proofs.Tries.{try_passed, try_owes, try_step}
 use Rattle.fkv_guard_sessions.proofs.AttemptsLed.{is_trying, try_ends, attempt_free}
 
@@ -32,7 +33,7 @@ attempt_passed number room words p a step ask told = passed_outer number words a
 
 pub attempt_owes : {A B : Type 0} (seen : LastSeen) (p : Places) (words : List ℕ) (a : AttemptState) (step : Attempting) (ask : Ask A) (told : B) → AttemptOwes seen p words a step (passed ask told) ≡ AttemptOwes seen p words a step ask
 attempt_owes seen p words a Tries ask told = try_owes seen p words a.trial a.trial.step ask told
-attempt_owes seen p words a step ask told = passed_owes p ask told
+attempt_owes seen p words a step ask told = refl
 
 module _ (n : GuardNow) (number bits : ℕ) (x : Actor) (seen : LastSeen) (got : slice_get n.actors number ≡ Some x) (session : IsSessions n.places.sessions number true n.words) where
   abbrev AttemptMoved : AttemptState → Attempting → Type 0
@@ -70,7 +71,7 @@ module _ (n : GuardNow) (number bits : ℕ) (x : Actor) (seen : LastSeen) (got :
   attempt_moved : (a : AttemptState) (step : Attempting) → a.step ≡ step → AttemptAsksAt a step → AttemptOwes seen n.places n.words a step (attempting_ask n.places number a step) → Fits (attempt_likeness_at seen a step) x → AttemptMoved a step
   unfolding attempting_ask
   attempt_moved a Tries at asks owes fits = tries_it a at asks (subst (λ (o : Type 0). o) (try_owes seen n.places n.words a.trial a.trial.step (try_ask n.places a.trial) answer.Shift) owes) fits
-  attempt_moved a step at asks owes fits = plain a step at refl fits owes
+  attempt_moved a step at asks owes fits = plain a step at refl fits (attempt_outer n.places number a step session.below refl)
 
 -- An attempt that is under way.
 pub attempt_step : (n : GuardNow) (number bits : ℕ) (x : Actor) (seen : LastSeen) (a : AttemptState) → slice_get n.actors number ≡ Some x → IsSessions n.places.sessions number true n.words → AttemptRestsOrAsks a

@@ -1,5 +1,5 @@
 -- A step of catching up is a list of the guard's events.
-use Rattle.std.proofs.Common.{◌≡◌, ℕ, ◌∙◌, List, [], ◌∷◌, refl, sym, ap, subst, Bool, true, false}
+use Rattle.std.proofs.Common.{◌≡◌, ℕ, ◌<◌, ◌∙◌, List, [], ◌∷◌, refl, sym, ap, subst, Bool, true, false}
 use Rattle.std.specs.Prelude.{Option, Some, None, slice_get}
 use Rattle.fkv_plane.specs.declared.actions.Action.{Action}
 use Rattle.fkv_plane.specs.declared.asks.Ask.{Ask}
@@ -26,6 +26,7 @@ use Rattle.fkv_guard_sessions.specs.Likenesses.{likeness, last_seen}
 use Rattle.fkv_guard_sessions.specs.Steps.{outer_events, IsOuter}
 use Rattle.fkv_guard_sessions.specs.Catches.{refresh_machine, protect_machine, catch_events, catch_onward, catch_likeness, catch_likeness_at, CatchOwes}
 use Rattle.fkv_guard_sessions.proofs.Onwards.{Moved}
+use Rattle.fkv_guard_sessions.proofs.OwnWords.{catch_outer}
 use Rattle.fkv_guard_sessions.proofs.Outer.{outer_step, passed_outer, passed_owes}
 use Rattle.fkv_guard_sessions.proofs.CatchesLed.{IsLoading, IsProtecting, CatchKnows, CatchLed, is_epochs, refresh_led, protect_led, finish_led, catch_free}
 
@@ -62,10 +63,8 @@ catch_passed number words Finishes ask told = refl
 catch_passed number words step ask told = passed_outer number words ask told
 
 pub catch_owes : {A B : Type 0} (p : Places) (step : Catching) (ask : Ask A) (told : B) → CatchOwes p step (passed ask told) ≡ CatchOwes p step ask
-catch_owes p Refreshes ask told = refl
-catch_owes p Protects ask told = refl
-catch_owes p Finishes ask told = refl
-catch_owes p step ask told = passed_owes p ask told
+catch_owes p (Latches index) ask told = passed_owes p ask told
+catch_owes p step ask told = refl
 
 -- an ask of a machine of the epochs that is known
 pub machine_moves : (n : GuardNow) (a : ℕ) (x : Actor) (m : EpochMachine) → slice_get n.actors a ≡ Some x → x.machine ≡ m → is_idle x.work ≡ true
@@ -81,7 +80,7 @@ pub record CatchMoved (n : GuardNow) (a bits : ℕ) (c : CatchState) (requests a
       (catch_likeness (catching_next n.places bits a c after_requests step (reply_to n.words (catching_ask n.places a c requests step)))) (words_after n.words (catching_ask n.places a c requests step)) n.actions
   pub knows : CatchKnows (catching_next n.places bits a c after_requests step (reply_to n.words (catching_ask n.places a c requests step))) (catching_next n.places bits a c after_requests step (reply_to n.words (catching_ask n.places a c requests step))).step
 
-module _ (n : GuardNow) (a bits : ℕ) (x : Actor) (got : slice_get n.actors a ≡ Some x) where
+module _ (n : GuardNow) (a bits : ℕ) (x : Actor) (got : slice_get n.actors a ≡ Some x) (below : a < n.places.sessions) where
   refresh_moves : (seen : LastSeen) (r : Refreshing) → x.machine ≡ epochs.Refreshes r → is_idle x.work ≡ true → x.seen ≡ refreshed_so_far seen r → x.undecided ≡ None
       → Follows n a (Moves a ∷ []) (likeness (refresh_machine (refresh_next r (reply_to n.words (refresh_ask a r)))) None (refreshed_so_far seen (refresh_next r (reply_to n.words (refresh_ask a r)))) None) (words_after n.words (refresh_ask a r)) n.actions
   refresh_moves seen r e idle its none = record {
@@ -152,10 +151,10 @@ module _ (n : GuardNow) (a bits : ℕ) (x : Actor) (got : slice_get n.actors a �
       let e = knows.1 in
       finishes_it c requests after_requests knows.0 e (record { machine = subst (λ r. FitsMachine (refresh_machine r) x.machine) e fits.machine; work = fits.work; seen = fits.seen; undecided = fits.undecided })
   catch_moved c requests after_requests step at knows owes fits = record {
-    its = plain c requests after_requests step at refl knows owes fits;
+    its = plain c requests after_requests step at refl knows (catch_outer n.places a c requests step below refl owes) fits;
     knows = (catch_free n.places bits a c after_requests step (reply_to n.words (catching_ask n.places a c requests step)) at refl knows).knows;
   }
 
 -- A session that catches up.
-pub catch_step : (n : GuardNow) (a bits : ℕ) (x : Actor) (c : CatchState) (requests after_requests : List PendingRequest) → slice_get n.actors a ≡ Some x → CatchKnows c c.step → CatchOwes n.places c.step (catch_ask n.places a c requests) → Fits (catch_likeness c) x → CatchMoved n a bits c requests after_requests c.step
-catch_step n a bits x c requests after_requests got knows owes fits = catch_moved n a bits x got c requests after_requests c.step refl knows owes fits
+pub catch_step : (n : GuardNow) (a bits : ℕ) (x : Actor) (c : CatchState) (requests after_requests : List PendingRequest) → slice_get n.actors a ≡ Some x → a < n.places.sessions → CatchKnows c c.step → CatchOwes n.places c.step (catch_ask n.places a c requests) → Fits (catch_likeness c) x → CatchMoved n a bits c requests after_requests c.step
+catch_step n a bits x c requests after_requests got below knows owes fits = catch_moved n a bits x got below c requests after_requests c.step refl knows owes fits

@@ -43,6 +43,7 @@ use Rattle.fkv_guard_sessions.specs.Steps.{IsOuter, IsOuterPlace}
 use Rattle.fkv_guard_sessions.specs.Tries.{AppendOwes, TryOwes}
 use Rattle.fkv_guard_sessions.specs.Attempts.{AttemptOwes}
 use Rattle.fkv_guard_sessions.proofs.Outer.{passed_owes}
+use Rattle.fkv_guard_sessions.proofs.OwnWords.{attempt_outer}
 use Rattle.fkv_guard_sessions.proofs.Tries.{append_owes, try_owes}
 
 -- a machine of the epochs that isn't about to leave
@@ -118,7 +119,7 @@ attempting_spares : (seen : LastSeen) (p : Places) (words : List ℕ) (a : ℕ) 
 unfolding attempting_ask
 attempting_spares seen p words a s Tries below owes =
     passed_spares (try_ask p s.trial) answer.Shift (session_place a own.Epoch) (try_spares seen p words a s.trial s.trial.step below (subst (λ (o : Type 0). o) (try_owes seen p words s.trial s.trial.step (try_ask p s.trial) answer.Shift) owes))
-attempting_spares seen p words a s step below owes = outer_spares p a (writes (attempting_ask p a s step)) below owes
+attempting_spares seen p words a s step below owes = outer_spares p a (writes (attempting_ask p a s step)) below (attempt_outer p a s step below refl)
 
 pub attempt_spares : (seen : LastSeen) (p : Places) (words : List ℕ) (a : ℕ) (s : AttemptState) → a < p.sessions → AttemptOwes seen p words s s.step (attempt_ask p a s) → Spares (writes (attempt_ask p a s)) (session_place a own.Epoch)
 attempt_spares seen p words a s below owes = attempting_spares seen p words a s s.step below owes

@@ -35,6 +35,7 @@ use Rattle.fkv_guard_sessions.proofs.Attempts.{attempt_owes}
 use Rattle.fkv_guard_sessions.proofs.Catches.{catch_owes, loading_is, protecting_is}
 use Rattle.fkv_guard_sessions.proofs.CatchesLed.{CatchKnows, IsProtecting}
 use Rattle.fkv_guard_sessions.proofs.Epochs.{machine_keeps, machine_protected, passed_spares, attempt_spares, ask_keeps, outer_keeps}
+use Rattle.fkv_guard_sessions.proofs.OwnWords.{catch_outer, sitting_outer}
 use Rattle.fkv_guard_sessions.proofs.Sessions.{seat_in, stays_protected, is_turning}
 use Rattle.fkv_guard_sessions.proofs.SessionsLed.{SittingKnows}
 
@@ -52,7 +53,7 @@ module _ (w : GuardWorld) (number : ℕ) (x : Actor) (sound : IsSound w) (got : 
       let e = knows.1 in
       rw (e, passed_words {B = Unit {0}} w.now.words (refresh_ask number (refresh.StoresEpoch knows.0)) tt)
       (machine_keeps w number x (epochs.Refreshes (refresh.StoresEpoch knows.0)) sound got (subst (λ r. FitsMachine (refresh_machine r) x.machine) e fits.machine) below (λ e. cc) some)
-  catch_keeps s c step some knows owes fits other = outer_keeps w.now.places w.now.words number (catching_ask w.now.places number c s.requests step) below owes some
+  catch_keeps s c step some knows owes fits other = outer_keeps w.now.places w.now.words number (catching_ask w.now.places number c s.requests step) below (catch_outer w.now.places number c s.requests step below refl owes) some
 
   not_protects : (step : Catching) → is_protected_catching step ≡ true → step ≡ catching.Protects → ⊥
   not_protects catching.Protects p e = cc
@@ -75,7 +76,7 @@ module _ (w : GuardWorld) (number : ℕ) (x : Actor) (sound : IsSound w) (got : 
       rw (passed_words w.now.words ask told.Slept) (catch_keeps s s.catching s.catching.step some knows (subst (λ (o : Type 0). o) (catch_owes w.now.places s.catching.step ask told.Slept) owes) fits (not_protects s.catching.step stays))
   words_kept s (Turns its) other stays some knows owes fits = cc
   words_kept s Leaves other stays some knows owes fits = cc
-  words_kept s step other stays some knows owes fits = outer_keeps w.now.places w.now.words number (sitting_ask (seat_in w.now number) s step) below owes some
+  words_kept s step other stays some knows owes fits = outer_keeps w.now.places w.now.words number (sitting_ask (seat_in w.now number) s step) below (sitting_outer (seat_in w.now number) s step below refl) some
 
   -- whether the session is protected behind a step that wakes it, by how far it is
   abbrev Still : SessionState → ℕ → CatchCause → Catching → Protecting → Sitting → Type 0

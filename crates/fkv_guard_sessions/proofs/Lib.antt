@@ -12,6 +12,7 @@ mod Onwards
 mod Outer
 mod OwnTurns
 mod OwnTurnsLed
+mod OwnWords
 mod Sessions
 mod SessionsLed
 pub mod Shown

@@ -29,7 +29,8 @@ use Rattle.fkv_guard_sessions.specs.Catches.{catch_events, CatchOwes, catch_like
 use Rattle.fkv_guard_sessions.specs.Sessions.{leave_machine, sitting_events, sitting_onward, sitting_likeness, session_likeness, is_protected_at, SittingOwes, SessionOwes}
 pub use Rattle.fkv_guard_sessions.specs.Followed.{seat_in, is_turning}
 use Rattle.fkv_guard_sessions.proofs.Onwards.{IsSessions, Moved, Leads, Keeps, Begins, goes_onward}
-use Rattle.fkv_guard_sessions.proofs.Outer.{outer_step, passed_owes}
+use Rattle.fkv_guard_sessions.proofs.Outer.{outer_step}
+use Rattle.fkv_guard_sessions.proofs.OwnWords.{sitting_outer}
 use Rattle.fkv_guard_sessions.proofs.Attempts.{attempt_passed, attempt_owes, attempt_step}
 use Rattle.fkv_guard_sessions.proofs.Catches.{CatchMoved, machine_moves, catch_step, catch_passed, catch_owes}
 use Rattle.fkv_guard_sessions.proofs.CatchesLed.{CatchKnows}
@@ -86,14 +87,14 @@ module _ (n : GuardNow) (number : ℕ) (x : Actor) (got : slice_get n.actors num
         knows = rw (passed_reply n.words ask told.Slept) led.knows;
       }
 
-  catches_it : (protected : Bool) (s : SessionState) (asks : ℕ) (cause : CatchCause) → s.step ≡ CatchesUp cause → CatchKnows s.catching s.catching.step → CatchOwes n.places s.catching.step (catch_ask n.places number s.catching s.requests) → Fits (catch_likeness s.catching) x
+  catches_it : (protected : Bool) (s : SessionState) (asks : ℕ) (cause : CatchCause) → s.step ≡ CatchesUp cause → number < n.places.sessions → CatchKnows s.catching s.catching.step → CatchOwes n.places s.catching.step (catch_ask n.places number s.catching s.requests) → Fits (catch_likeness s.catching) x
       → SessionMoved protected n number s (sitting_next (seat_in n number) (record s { asks = asks; effect = None }) (CatchesUp cause) (Reply n number s (CatchesUp cause))) (CatchesUp cause)
   unfolding sitting_ask sitting_next
-  catches_it protected s asks cause at knows owes fits =
+  catches_it protected s asks cause at below knows owes fits =
       let k : Seat = seat_in n number in
       let ask = catch_ask n.places number s.catching s.requests in
       let reply : ℕ = reply_to n.words ask in
-      let inner = catch_step n number (bits_of k) x s.catching s.requests (catch_requests s.catching s.requests reply) got knows owes fits in
+      let inner = catch_step n number (bits_of k) x s.catching s.requests (catch_requests s.catching s.requests reply) got below knows owes fits in
       let after : SessionState = caught k (record s { asks = asks; effect = None }) reply in
       let led = catch_ends protected k (inner.its protected).mid after cause (catch_ask n.places number after.catching after.requests) at refl (inner.its protected).leads inner.knows in
       record {
@@ -126,29 +127,29 @@ module _ (n : GuardNow) (number : ℕ) (x : Actor) (got : slice_get n.actors num
   unfolding sitting_ask sitting_next
   session_moved s asks (Idle its) at other session knows owes fits =
       let after : SessionState = record s { asks = asks; effect = None; step = Idle its } in
-      rw at (record { its = outer {A = Told} s.is_awake (sitting_ask (seat_in n number) s (Idle its)) (through (last_seen s.seen)) after fits owes (record { leads = Keeps refl refl; knows = tt }); knows = tt })
+      rw at (record { its = outer {A = Told} s.is_awake (sitting_ask (seat_in n number) s (Idle its)) (through (last_seen s.seen)) after fits (sitting_outer (seat_in n number) s (Idle its) session.below refl) (record { leads = Keeps refl refl; knows = tt }); knows = tt })
   session_moved s asks (Attempts has_shifted) at other session knows owes fits =
       attempts_it s asks has_shifted at session knows (subst (λ (o : Type 0). o) (attempt_owes (last_seen s.seen) n.places n.words s.attempt s.attempt.step (attempt_ask n.places number s.attempt) told.Slept) owes) fits
   session_moved s asks (CatchesUp cause) at other session knows owes fits =
-      catches_it (is_protected_at s (CatchesUp cause)) s asks cause at knows (subst (λ (o : Type 0). o) (catch_owes n.places s.catching.step (catch_ask n.places number s.catching s.requests) told.Slept) owes) fits
+      catches_it (is_protected_at s (CatchesUp cause)) s asks cause at session.below knows (subst (λ (o : Type 0). o) (catch_owes n.places s.catching.step (catch_ask n.places number s.catching s.requests) told.Slept) owes) fits
   session_moved s asks ClearsMail at other session knows owes fits =
       let after : SessionState = record s { asks = asks; effect = None; mailing = mail_next s.mailing (Reply n number s ClearsMail) } in
       let led = clear_led true (seat_in n number) after (mail_ask number after.mailing) at in
-      record { its = outer {A = Told} true (sitting_ask (seat_in n number) s ClearsMail) (through (last_seen s.seen)) (clear_ledto (seat_in n number) after (mail_ask number after.mailing)) fits owes led; knows = led.knows }
+      record { its = outer {A = Told} true (sitting_ask (seat_in n number) s ClearsMail) (through (last_seen s.seen)) (clear_ledto (seat_in n number) after (mail_ask number after.mailing)) fits (sitting_outer (seat_in n number) s ClearsMail session.below refl) led; knows = led.knows }
   session_moved s asks (Polls index) at other session knows owes fits =
       polls_it s asks index at session knows (subst (λ (o : Type 0). o) (attempt_owes (last_seen s.seen) n.places n.words s.attempt s.attempt.step (attempt_ask n.places number s.attempt) told.Slept) owes) fits
   session_moved s asks (StoresOwing index) at other session knows owes fits =
       let led = polls_led true (seat_in n number) (record s { asks = asks; effect = None }) index in
-      record { its = outer {A = Told} true (sitting_ask (seat_in n number) s (StoresOwing index)) (through (last_seen s.seen)) (polls_at (seat_in n number) (record s { asks = asks; effect = None }) index) fits owes led; knows = led.knows }
+      record { its = outer {A = Told} true (sitting_ask (seat_in n number) s (StoresOwing index)) (through (last_seen s.seen)) (polls_at (seat_in n number) (record s { asks = asks; effect = None }) index) fits (sitting_outer (seat_in n number) s (StoresOwing index) session.below refl) led; knows = led.knows }
   session_moved s asks (Turns its) at other session knows owes fits = cc
   session_moved s asks StoresCut at other session knows owes fits =
       let after : SessionState = record s { asks = asks; effect = None; leaving = leave.StoresZero; step = Leaves } in
-      record { its = outer {A = Told} true (sitting_ask (seat_in n number) s StoresCut) (through (last_seen s.seen)) after fits owes (record { leads = Begins (ToDo ToLeave) refl tt refl refl refl refl; knows = refl }); knows = refl }
+      record { its = outer {A = Told} true (sitting_ask (seat_in n number) s StoresCut) (through (last_seen s.seen)) after fits (sitting_outer (seat_in n number) s StoresCut session.below refl) (record { leads = Begins (ToDo ToLeave) refl tt refl refl refl refl; knows = refl }); knows = refl }
   session_moved s asks Leaves at other session knows owes fits =
       leaves_it s asks at knows (record { machine = subst (λ l. FitsMachine (leave_machine l) x.machine) knows fits.machine; work = fits.work; seen = fits.seen; undecided = fits.undecided })
   session_moved s asks LoadsDurable at other session knows owes fits =
       let after : SessionState = answers (record s { asks = asks; effect = None }) (told.Durable (record { 0 = Reply n number s LoadsDurable })) in
-      record { its = outer {A = Told} s.is_awake (sitting_ask (seat_in n number) s LoadsDurable) (through (last_seen s.seen)) after fits owes (record { leads = Keeps refl refl; knows = tt }); knows = tt }
+      record { its = outer {A = Told} s.is_awake (sitting_ask (seat_in n number) s LoadsDurable) (through (last_seen s.seen)) after fits (sitting_outer (seat_in n number) s LoadsDurable session.below refl) (record { leads = Keeps refl refl; knows = tt }); knows = tt }
 
 -- A session's step, where it doesn't turn: it is these events of the guard, and behind them the guard's actor is like what the session has become.
 pub session_step : (n : GuardNow) (number : ℕ) (x : Actor) (s : SessionState) → slice_get n.actors number ≡ Some x → is_turning s.step ≡ false → IsSessions n.places.sessions number (is_protected_at s s.step) n.words → SittingKnows s s.step

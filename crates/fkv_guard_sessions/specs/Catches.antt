@@ -13,7 +13,7 @@ use Rattle.fkv_flush.specs.GuardSeen.{LastSeen}
 use Rattle.fkv_flush.specs.GuardWorld.{GuardEvent, Moves, ToDo}
 use Rattle.fkv_flush.proofs.Shown.{Likeness, refreshed_so_far, protected_so_far}
 use Rattle.fkv_session.specs.declared.catching_up.Catching.{Catching}
-use Rattle.fkv_session.specs.declared.catching_up.Catching.TheVariants.{Ended, Refreshes, Protects, Finishes}
+use Rattle.fkv_session.specs.declared.catching_up.Catching.TheVariants.{Ended, Refreshes, Protects, Latches, Finishes}
 use Rattle.fkv_session.specs.CatchingUp.{CatchState}
 use Rattle.fkv_guard_sessions.specs.Likenesses.{likeness, last_seen}
 use Rattle.fkv_guard_sessions.specs.Steps.{Onward, Stays, Starts, GoesOn, outer_events, IsOuter}
@@ -74,9 +74,7 @@ catch_onward c Protects = protect_onward c.protecting
 catch_onward c Finishes = finish_onward c.refreshing
 catch_onward c step = Stays
 
--- what it owes
+-- What it owes, of a latch: the other words are the session's own.
 abbrev pub CatchOwes : {A : Type 0} → Places → Catching → Ask A → Type 0
-CatchOwes p Refreshes ask = ⊤
-CatchOwes p Protects ask = ⊤
-CatchOwes p Finishes ask = ⊤
-CatchOwes p step ask = IsOuter p ask
+CatchOwes p (Latches index) ask = IsOuter p ask
+CatchOwes p step ask = ⊤

@@ -18,7 +18,7 @@ use Rattle.fkv_session.specs.declared.sessions.Sitting.{Sitting}
 use Rattle.fkv_session.specs.declared.sessions.Sitting.TheVariants.{Idle, Attempts, CatchesUp, Polls, Turns, Leaves, LoadsDurable}
 use Rattle.fkv_session.specs.Sessions.{SessionState, Seat, room_of, session_ask, session_next, session_given}
 use Rattle.fkv_guard_sessions.specs.Likenesses.{likeness, last_seen, through}
-use Rattle.fkv_guard_sessions.specs.Steps.{Onward, Stays, Starts, onward_events, outer_events, IsOuter}
+use Rattle.fkv_guard_sessions.specs.Steps.{Onward, Stays, Starts, onward_events, outer_events}
 use Rattle.fkv_guard_sessions.specs.Attempts.{attempt_events, attempt_onward, attempt_likeness, AttemptOwes}
 use Rattle.fkv_guard_sessions.specs.Catches.{catch_events, catch_onward, catch_likeness, CatchOwes}
 use Rattle.fkv_guard_sessions.specs.OwnTurns.{own_turn_onward, own_turn_likeness}
@@ -96,9 +96,7 @@ abbrev pub SittingOwes : {A : Type 0} → Seat → List ℕ → SessionState →
 SittingOwes k words s (Attempts has_shifted) ask = AttemptOwes (last_seen s.seen) k.places words s.attempt s.attempt.step ask
 SittingOwes k words s (Polls index) ask = AttemptOwes (last_seen s.seen) k.places words s.attempt s.attempt.step ask
 SittingOwes k words s (CatchesUp cause) ask = CatchOwes k.places s.catching.step ask
-SittingOwes k words s (Turns its) ask = ⊤
-SittingOwes k words s Leaves ask = ⊤
-SittingOwes k words s step ask = IsOuter k.places ask
+SittingOwes k words s step ask = ⊤
 
 abbrev pub SessionOwes : Seat → List ℕ → SessionState → Type 0
 SessionOwes k words s = SittingOwes k words s s.step (session_ask k s)

@@ -5,8 +5,8 @@ ghost use Rattle.fkv_guard_sessions.specs.Followed.{StepsFollow, TurnsFollow, Ca
 /// session is the list of the guard's events that the map gives. These lead to the words and the actions that the session's
 /// own step leads to, and to an actor that is like what the session has become. So does a step of a session that turns, with the
 /// action that goes with it, and a call that begins. What a step owes is that a value is changed in place in a reserved record, at
-/// or above the read-only offset that its session has seen, and that every other word that it writes and that is none of a
-/// machine of the guard's is none of the guard's; a turn and a call's begin owe nothing.
+/// or above the read-only offset that its session has seen, and that the words of latches and of the index that it writes are
+/// none of the guard's; a turn and a call's begin owe nothing.
 pub fn law_sessions_followed()
     ensures steps { StepsFollow }
     ensures turns { TurnsFollow }
