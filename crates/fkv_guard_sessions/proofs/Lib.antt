@@ -8,6 +8,7 @@ mod Epochs
 mod Followed
 mod Kept
 mod Movers
+mod NoSlots
 mod Onwards
 mod Outer
 mod OwnTurns

@@ -60,7 +60,7 @@ slotless n a seen o words (Put slot action) mid e moved led = cc
 slotless n a seen o words (Take slot) mid e moved led = cc
 slotless n a seen o words ask mid e moved led = record { mid = mid; moved = moved; led = led }
 
-passed_slot : {A B : Type 0} (ask : Ask A) (answer : B) → is_of_slot (passed ask answer) ≡ is_of_slot ask
+pub passed_slot : {A B : Type 0} (ask : Ask A) (answer : B) → is_of_slot (passed ask answer) ≡ is_of_slot ask
 unfolding passed
 passed_slot (Load place) answer = refl
 passed_slot (Store place new) answer = refl
@@ -89,7 +89,7 @@ scan_fits : (s : Scanning) → FitsMachine (scan_machine s) (epochs.Scans s)
 scan_fits scan.AtRest = refl
 scan_fits s = refl
 
-scan_slot : (s : Scanning) → is_of_slot (scan_ask s) ≡ false
+pub scan_slot : (s : Scanning) → is_of_slot (scan_ask s) ≡ false
 unfolding scan_ask
 scan_slot scan.AtRest = refl
 scan_slot s = refl
