@@ -20,3 +20,4 @@ pub mod Shown
 mod Tries
 mod TriesLed
 mod TurnFollowed
+mod WorldSteps

@@ -265,7 +265,7 @@ module _ (w : GuardWorld) (number : ℕ) (x : Actor) (sound : IsSound w) (got : 
   turn_slot seen o turning.Shifts knows fits =
       let its : x.work ≡ guard.Shifts o.shift = work_is o.shift x.work (shift_asking o.shift.step o.shift.mover knows) fits.work in
       let known : ShiftKnows (levels_of w.now.words) x.machine o.shift.step o.shift.mover =
-          subst (λ (work : Work). Knows w.now.shape (levels_of w.now.words) (Awake w.now number x.machine) x.machine x.undecided work) its (sound.knows number x got) in
+      subst (λ (work : Work). Knows w.now.shape (levels_of w.now.words) (Awake w.now number x.machine) x.machine x.undecided work) its (sound.knows number x got) in
       passed_slot {B = Unit {0}} (shift_ask o.shift) tt ∙ shift_slot o.shift.step o.shift.mover known
   turn_slot seen o turning.Opens knows fits = passed_slot {B = Unit {0}} (turn_ask w.now.shape o.turn) tt ∙ open_slot w.now.shape o.turn.step o.turn.mover knows.1
 

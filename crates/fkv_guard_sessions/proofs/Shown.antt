@@ -7,3 +7,5 @@ pub use Rattle.fkv_guard_sessions.proofs.Attempts.{attempt_step}
 pub use Rattle.fkv_guard_sessions.proofs.Catches.{CatchMoved, catch_step}
 pub use Rattle.fkv_guard_sessions.proofs.Followed.{session_follows, call_follows}
 pub use Rattle.fkv_guard_sessions.proofs.TurnFollowed.{turn_follows}
+pub use Rattle.fkv_guard_sessions.proofs.NoSlots.{session_slot}
+pub use Rattle.fkv_guard_sessions.proofs.WorldSteps.{move_follows}

@@ -7,3 +7,4 @@ pub mod Rows
 pub mod Sessions
 pub mod Steps
 pub mod Tries
+pub mod WorldSteps

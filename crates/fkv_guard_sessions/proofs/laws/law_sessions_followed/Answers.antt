@@ -1,7 +1,11 @@
--- The law, by its three lemmas.
+-- The law, by its four lemmas.
 use Rattle.fkv_guard_sessions.proofs.Followed.{session_follows, call_follows}
 use Rattle.fkv_guard_sessions.proofs.TurnFollowed.{turn_follows}
+use Rattle.fkv_guard_sessions.proofs.WorldSteps.{move_follows}
 use Rattle.fkv_guard_sessions.proofs.laws.law_sessions_followed.Goals as goal
+
+pub returns-clause-moves : goal.returns-clause-moves
+returns-clause-moves c = move_follows
 
 pub returns-clause-steps : goal.returns-clause-steps
 returns-clause-steps c = λ w number x s sits other owes. session_follows w number x s sits.sound sits.got sits.below other sits.knows sits.protected owes sits.fits
