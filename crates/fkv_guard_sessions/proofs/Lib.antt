@@ -1,0 +1,23 @@
+mod Appends
+mod AppendsLed
+mod Attempts
+mod AttemptsLed
+mod Catches
+mod CatchesLed
+mod Epochs
+mod Followed
+mod Kept
+mod Movers
+mod NoSlots
+mod Onwards
+mod Outer
+mod OwnTurns
+mod OwnTurnsLed
+mod OwnWords
+mod Sessions
+mod SessionsLed
+pub mod Shown
+mod Tries
+mod TriesLed
+mod TurnFollowed
+mod WorldSteps

@@ -1,0 +1,10 @@
+pub mod Attempts
+pub mod Catches
+pub mod Followed
+pub mod Likenesses
+pub mod OwnTurns
+pub mod Rows
+pub mod Sessions
+pub mod Steps
+pub mod Tries
+pub mod WorldSteps
