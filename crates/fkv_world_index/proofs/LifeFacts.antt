@@ -12,18 +12,18 @@ use Rattle.fkv_index.specs.declared.homes.Home.{Home}
 use Rattle.fkv_index.specs.Buckets.{bucket_words}
 use Rattle.fkv_index.specs.Entries.{entry_at, IsEntryAnswered}
 use Rattle.fkv_index.specs.Finding.{find_ask, find_next_ask}
-use Rattle.fkv_index.specs.IndexWorld.{IndexActor, IndexWorld, is_seeking, new_entry, rested_actor}
+use Rattle.fkv_index.specs.IndexWorld.{Seeks, IndexActor, IndexWorld, is_seeking, new_entry, rested_actor}
 use Rattle.fkv_index.specs.OneEntry.{IsIndex, HasSlot, IsTrueAnswer, spare_in, spare_at}
 use Rattle.fkv_index.specs.Publishing.{publish_first, publish_ask}
 use Rattle.fkv_index.specs.SlotOrders.{slot_order, IsFilled, HasTagsOnce}
-use Rattle.fkv_index.proofs.Shown.{IsSound, run_sound, opening_sound, sound_answers, sound_spares, sound_slots, sound_entries, sound_filled, sound_tags}
+use Rattle.fkv_index.proofs.Shown.{IsSound, run_sound, opening_sound, sound_answers, sound_full, sound_lost, sound_spares, sound_slots, sound_entries, sound_filled, sound_tags}
 use Rattle.fkv_session.specs.declared.answers.Told.TheVariants as told
 use Rattle.fkv_session.specs.Sessions.{SessionState}
 use Rattle.fkv_world.specs.World.{Event, Now, seat_at}
 use Rattle.fkv_world.specs.Runs.{World, run}
 use Rattle.fkv_world_index.specs.Finders.{Search, SessionWork, NoWork, Searches, KeepsSlot, PublishesEntry, search_in, session_part}
 use Rattle.fkv_world_index.specs.IndexEvents.{mapped}
-use Rattle.fkv_world_index.specs.LifeEntries.{lists_seen, spare_held, session_spare, IsIndexNow, AreAnsweredSo, AreSlotsKept, AreOrders, AskForThese}
+use Rattle.fkv_world_index.specs.LifeEntries.{lists_seen, spare_held, session_spare, IsIndexNow, FullIsSo, ContendedHasLost, AreAnsweredSo, AreSlotsKept, AreOrders, AskForThese}
 use Rattle.fkv_world_index.specs.Shows.{IsOpened, AreFair, opening_index, IsWork, Shows, seen_by_index}
 use Rattle.fkv_world_index.proofs.SessionAsks.{search_asks, entry_asks}
 use Rattle.fkv_world_index.proofs.Worlds.{opening_holds, run_holds}
@@ -68,6 +68,11 @@ searches_then (Searches other) its same = let is : other ≡ its = cc in ap Sear
 searches_then (KeepsSlot slot) its same = cc
 searches_then (PublishesEntry slot addr) its same = cc
 
+actor_full : (w : IndexWorld) (i : ℕ) (a : IndexActor) → IsSound w → slice_get w.now.actors i ≡ Some a → a.work ≡ Seeks → FullIsSo w.now.places w.now.words w.lists a.finding
+actor_full w i a sound got seeks answer asks full =
+    let its = sound_full w sound i a answer got seeks asks full in
+    record { all_taken = its.all_taken; none_spare = sym (ap spare_in got) ∙ its.none_spare; bucket = its.bucket; its_bucket = its.its_bucket; full_of_others = its.full_of_others }
+
 pub answers_shown : (n : Now) (w : IndexWorld) → IsSound w → Shows n w → AreAnsweredSo n w.lists
 answers_shown n w sound shows i s its at searches =
     let has = shows.actors i s at in
@@ -79,6 +84,10 @@ answers_shown n w sound shows i s its at searches =
           (subst (λ (f : Finding). IsTrueAnswer w.now.places w.now.words w.lists f.home (find_next_ask w.now.places f (reply_to w.now.words (find_ask f)))) work.1 one);
       its_entry = of_life (λ p words. IsEntryAnswered (entry_at p words w.lists its.finding.home) (find_next_ask p its.finding (reply_to words (find_ask its.finding)))) n w shows
           (subst (λ (f : Finding). IsEntryAnswered (entry_at w.now.places w.now.words w.lists f.home) (find_next_ask w.now.places f (reply_to w.now.words (find_ask f)))) work.1 other);
+      its_full = of_life (λ p words. FullIsSo p words w.lists its.finding) n w shows
+          (subst (λ (f : Finding). FullIsSo w.now.places w.now.words w.lists f) work.1 (actor_full w i has.actor sound has.got work.0));
+      contended = of_life (λ p words. ContendedHasLost p words its.finding) n w shows
+          (subst (λ (f : Finding). ContendedHasLost w.now.places w.now.words f) work.1 (λ answer asks lost. sound_lost w sound i has.actor answer has.got work.0 asks lost));
     }
 
 pub slots_shown : (n : Now) (w : IndexWorld) → IsSound w → Shows n w → AreSlotsKept n w.lists

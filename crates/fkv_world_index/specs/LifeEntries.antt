@@ -1,14 +1,19 @@
 -- What holds of the index at every moment of a life, and what an event does to it.
 use Rattle.std.specs.Prelude.{◌≡◌, ℕ, ◌<◌, ◌⊎◌, ◌==◌, if◌then◌else◌, List, ◌∷◌, slice_get, Option, Some, None}
-use Rattle.fkv_plane.specs.declared.asks.Ask.TheVariants.{Cas}
+use Rattle.fkv_plane.specs.declared.asks.Ask.TheVariants.{Cas, Done}
+use Rattle.fkv_plane.specs.declared.places.Places.{Places}
 use Rattle.fkv_plane.specs.Asked.{word_at, reply_to}
 use Rattle.fkv_plane.specs.Passing.{passed}
-use Rattle.fkv_index.specs.Buckets.{bucket_words}
+use Rattle.fkv_index.specs.declared.finding.FindAnswer.{FindAnswer}
+use Rattle.fkv_index.specs.declared.finding.Finding.{Finding}
+use Rattle.fkv_index.specs.declared.finding.Found.TheVariants.{Full, Contended}
+use Rattle.fkv_index.specs.Buckets.{bucket_words, IsAmong, AreOthers}
 use Rattle.fkv_index.specs.Entries.{NewEntry, entry_at, IsEntryAnswered, EntriesMove}
 use Rattle.fkv_index.specs.Finding.{find_ask, find_next_ask}
-use Rattle.fkv_index.specs.IndexWorld.{new_entry}
-use Rattle.fkv_index.specs.OneEntry.{IsIndex, HasSlot, IsTrueAnswer}
+use Rattle.fkv_index.specs.IndexWorld.{new_entry, taken_of}
+use Rattle.fkv_index.specs.OneEntry.{IsIndex, HasSlot, IsTrueAnswer, HasLost}
 use Rattle.fkv_index.specs.Searches.{LinksOne}
+use Rattle.fkv_index.specs.Slots.{bucket_slots}
 use Rattle.fkv_index.specs.SlotOrders.{slot_order, IsFilled, HasTagsOnce, OrdersMove}
 use Rattle.fkv_session.specs.declared.answers.Told.TheVariants as told
 use Rattle.fkv_session.specs.Sessions.{SessionState, session_ask}
@@ -36,10 +41,27 @@ pub record IsIndexNow (n : Now) (lists : ℕ → List ℕ) : Type 0 where
   pub of_sessions : (session : ℕ) (s : SessionState) → slice_get n.sessions session ≡ Some s → spares session ≡ session_spare s
   pub its_index : IsIndex n.places n.words lists spares
 
+-- all overflow buckets are taken, the search has none to spare, and a bucket of its home's list is full of entries of other tags
+pub record IsFullNow (p : Places) (words : List ℕ) (lists : ℕ → List ℕ) (f : Finding) : Type 0 where
+  pub all_taken : taken_of words ≡ p.overflow
+  pub none_spare : f.spare ≡ 0
+  pub bucket : ℕ
+  pub its_bucket : IsAmong p.buckets f.home.bucket (lists f.home.bucket) bucket
+  pub full_of_others : AreOthers (bucket_words p words) f.home.tag bucket bucket_slots
+
+-- so it is where a search ends so; and one that ends as contended has lost a Cas, or what it linked
+abbrev pub FullIsSo : Places → List ℕ → (ℕ → List ℕ) → Finding → Type 0
+FullIsSo p words lists f = (answer : FindAnswer) → find_next_ask p f (reply_to words (find_ask f)) ≡ Done answer → answer.found ≡ Full → IsFullNow p words lists f
+
+abbrev pub ContendedHasLost : Places → List ℕ → Finding → Type 0
+ContendedHasLost p words f = (answer : FindAnswer) → find_next_ask p f (reply_to words (find_ask f)) ≡ Done answer → answer.found ≡ Contended → HasLost words f f.step
+
 -- what a search comes to at the ask that ends it: what is so, and the entry that its home has
 pub record IsAnsweredSo (n : Now) (lists : ℕ → List ℕ) (its : Search) : Type 0 where
   pub answer_true : IsTrueAnswer n.places n.words lists its.finding.home (find_next_ask n.places its.finding (reply_to n.words (find_ask its.finding)))
   pub its_entry : IsEntryAnswered (entry_at n.places n.words lists its.finding.home) (find_next_ask n.places its.finding (reply_to n.words (find_ask its.finding)))
+  pub its_full : FullIsSo n.places n.words lists its.finding
+  pub contended : ContendedHasLost n.places n.words its.finding
 
 abbrev pub AreAnsweredSo : Now → (ℕ → List ℕ) → Type 0
 AreAnsweredSo n lists = (session : ℕ) (s : SessionState) (its : Search) → slice_get n.sessions session ≡ Some s → session_search s ≡ Some its → IsAnsweredSo n lists its
