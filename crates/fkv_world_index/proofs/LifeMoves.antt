@@ -1,5 +1,5 @@
 -- What an event of a life does to the index: the laws of its world, of the events that this event is there.
-use Rattle.std.proofs.Common.{◌≡◌, ℕ, ◌∙◌, refl, sym, ap, subst, inl, inr, List, [], ◌∷◌, ◌++◌, Bool, true, false}
+use Rattle.std.proofs.Common.{◌≡◌, ℕ, ◌∙◌, refl, sym, ap, subst, inl, inr, arith, List, [], ◌∷◌, ◌++◌, Bool, true, false}
 use Rattle.std.specs.Prelude.{if◌then◌else◌, ◌==◌, ◌⊎◌, ⊤, Option, Some, None, slice_get}
 use Rattle.fkv_map.specs.declared.operations.Call.{Call}
 use Rattle.fkv_plane.specs.declared.asks.Ask.{Ask}
@@ -15,11 +15,11 @@ use Rattle.fkv_index.specs.Entries.{NewEntry, entry_at, entry_of, won_entry, pub
 use Rattle.fkv_index.specs.Finding.{find_next_ask, first_finding}
 use Rattle.fkv_index.specs.IndexWorld as index
 use Rattle.fkv_index.specs.IndexWorld.{SlotWork, IndexActor, IndexEvent, IndexNow, IndexWorld, may_find, new_entry, find_begun, index_happens, index_run}
-use Rattle.fkv_index.specs.OneEntry.{spare_in, spare_at}
+use Rattle.fkv_index.specs.OneEntry.{spare_in, spare_at, Grows}
 use Rattle.fkv_index.specs.Publishing.{publish_first, publish_ask, publish_next_ask}
 use Rattle.fkv_index.specs.Searches.{LinksOne, IsLinkBy}
 use Rattle.fkv_index.specs.SlotOrders.{OrdersMove}
-use Rattle.fkv_index.proofs.Shown.{IsSound, event_entries, event_orders, sound_lists}
+use Rattle.fkv_index.proofs.Shown.{IsSound, event_entries, event_happened, event_orders, sound_lists}
 use Rattle.fkv_keeper.specs.Keeping.{keeper_ask}
 use Rattle.fkv_session.specs.Sessions.{SessionState, is_busy, session_ask}
 use Rattle.fkv_world.specs.Moves.{session_moved}
@@ -107,6 +107,14 @@ record QuietlyMoved (w after : IndexWorld) : Type 0 where
   entries : EntriesMove None (entry_of w) (entry_of after) w.now.places
   orders : OrdersMove None w.now.places w.now.words after.now.words w.lists after.lists
   lists : after.lists ≡ w.lists
+  grows : Grows w.now.places w.now.words after.now.words w.lists after.lists
+
+nil_right : (xs : List ℕ) → xs ≡ xs ++ []
+nil_right [] = refl
+nil_right (x ∷ xs) = ap (λ ys. x ∷ ys) (nil_right xs)
+
+none_grows : (p : Places) (words : List ℕ) (lists : ℕ → List ℕ) → Grows p words words lists lists
+none_grows p words lists = record { its_entries = λ m i low few some. (some, refl, omega arith); its_lists = λ bucket. ([], nil_right (lists bucket)); more_taken = omega arith }
 
 nothing_moved : (w after : IndexWorld) → IsSame w after → QuietlyMoved w after
 nothing_moved w after same =
@@ -117,6 +125,7 @@ nothing_moved w after same =
       entries = λ home is. rw (places, words, lists) refl;
       orders = λ bucket low. inl (rw lists refl, rw (words, lists) refl);
       lists = lists;
+      grows = rw (words, lists) (none_grows w.now.places w.now.words w.lists);
     }
 
 -- others change words
@@ -125,7 +134,7 @@ unfolding index_run index_happens
 changed_moved w ask sound = by_place (asked_place ask)
   where
     one : (place word : ℕ) → QuietlyMoved w (index_run w (index.Changes place word ∷ []))
-    one place word = record { entries = event_entries w (index.Changes place word) sound; orders = event_orders w (index.Changes place word) sound; lists = refl }
+    one place word = record { entries = event_entries w (index.Changes place word) sound; orders = event_orders w (index.Changes place word) sound; lists = refl; grows = (event_happened w (index.Changes place word) sound).grows }
 
     by_place : (place : Option ℕ) → QuietlyMoved w (index_run w (changed_at w.now.words place (asked ask)))
     by_place None = nothing_moved w w (record { places = refl; words = refl; lists = refl })
@@ -141,6 +150,7 @@ record OwnMoved (work : SessionWork) (w after : IndexWorld) : Type 0 where
   entries : EntriesMove (won_there w.now.words work) (entry_of w) (entry_of after) w.now.places
   orders : OrdersMove (won_there w.now.words work) w.now.places w.now.words after.now.words w.lists after.lists
   lists : (after.lists ≡ w.lists) ⊎ HasLinked work w after
+  grows : Grows w.now.places w.now.words after.now.words w.lists after.lists
 
 -- what begins behind it changes nothing
 moved_on : (work : SessionWork) (w mid after : IndexWorld) → OwnMoved work w mid → IsSame mid after → OwnMoved work w after
@@ -149,6 +159,7 @@ moved_on work w mid after moved same = record {
   orders = subst (λ words. OrdersMove (won_there w.now.words work) w.now.places w.now.words words w.lists after.lists) (sym same.words)
       (subst (λ lists. OrdersMove (won_there w.now.words work) w.now.places w.now.words mid.now.words w.lists lists) (sym same.lists) moved.orders);
   lists = by_lists moved.lists;
+  grows = subst (λ words. Grows w.now.places w.now.words words w.lists after.lists) (sym same.words) (subst (λ lists. Grows w.now.places w.now.words mid.now.words w.lists lists) (sym same.lists) moved.grows);
 }
   where
     each : (home : Home) → entry_of after home ≡ entry_of mid home
@@ -187,6 +198,7 @@ search_moved i w a its sound got is = record {
   entries = subst (λ x. EntriesMove x (entry_of w) (entry_of after) w.now.places) none (event_entries w (index.Moves i) sound);
   orders = subst (λ x. OrdersMove x w.now.places w.now.words after.now.words w.lists after.lists) none (event_orders w (index.Moves i) sound);
   lists = by_lists (sound_lists w sound (index.Moves i));
+  grows = (event_happened w (index.Moves i) sound).grows;
 }
   where
     after : IndexWorld
@@ -213,6 +225,7 @@ entry_moved i w a slot addr sound got is = record {
   entries = subst (λ x. EntriesMove x (entry_of w) (entry_of after) w.now.places) won (event_entries w (index.Moves i) sound);
   orders = subst (λ x. OrdersMove x w.now.places w.now.words after.now.words w.lists after.lists) won (event_orders w (index.Moves i) sound);
   lists = by_lists (sound_lists w sound (index.Moves i));
+  grows = (event_happened w (index.Moves i) sound).grows;
 }
   where
     after : IndexWorld
@@ -238,8 +251,8 @@ entry_moved i w a slot addr sound got is = record {
 -- the session's own ask
 own_moved : {A : Type 0} (i : ℕ) (w : IndexWorld) (ask : Ask A) (a : IndexActor) (work : SessionWork) → IsSound w → slice_get w.now.actors i ≡ Some a → IsWork work a → OwnMoved work w (index_run w (asked_by w.now.words i (search_in work) (entry_in work) ask))
 unfolding index_run
-own_moved i w ask a NoWork sound got is = let quiet = changed_moved w ask sound in record { entries = quiet.entries; orders = quiet.orders; lists = inl quiet.lists }
-own_moved i w ask a (KeepsSlot slot) sound got is = let quiet = changed_moved w ask sound in record { entries = quiet.entries; orders = quiet.orders; lists = inl quiet.lists }
+own_moved i w ask a NoWork sound got is = let quiet = changed_moved w ask sound in record { entries = quiet.entries; orders = quiet.orders; lists = inl quiet.lists; grows = quiet.grows }
+own_moved i w ask a (KeepsSlot slot) sound got is = let quiet = changed_moved w ask sound in record { entries = quiet.entries; orders = quiet.orders; lists = inl quiet.lists; grows = quiet.grows }
 own_moved i w ask a (Searches its) sound got is = search_moved i w a its sound got is
 own_moved i w ask a (PublishesEntry slot addr) sound got is = entry_moved i w a slot addr sound got is
 
@@ -310,16 +323,21 @@ life_links : (bucket number : ℕ) (n n' : Now) (w w' : IndexWorld) → Shows n 
 life_links bucket number n n' w w' shows shows' links =
     of_life (λ p words. LinksOne n.places n.words words w.lists w'.lists bucket number) n' w' shows' (of_life (λ p words. LinksOne p words w'.now.words w.lists w'.lists bucket number) n w shows links)
 
+life_grows : (n n' : Now) (w w' : IndexWorld) → Shows n w → Shows n' w' → Grows w.now.places w.now.words w'.now.words w.lists w'.lists → Grows n.places n.words n'.words w.lists w'.lists
+life_grows n n' w w' shows shows' grows = of_life (λ p words. Grows n.places n.words words w.lists w'.lists) n' w' shows' (of_life (λ p words. Grows p words w'.now.words w.lists w'.lists) n w shows grows)
+
 moves_index : (n n' : Now) (event : Event) (w w' : IndexWorld) → Shows n w → Shows n' w' → EventMoved n event w w' → MovesIndex n n' w.lists w'.lists event
 moves_index n n' event w w' shows shows' (Quietly none quiet) = record {
   entries = subst (λ x. EntriesMove x (entry_at n.places n.words w.lists) (entry_at n'.places n'.words w'.lists) n.places) (sym none) (life_entries None n n' w w' shows shows' quiet.entries);
   orders = subst (λ x. OrdersMove x n.places n.words n'.words w.lists w'.lists) (sym none) (life_orders None n n' w w' shows shows' quiet.orders);
   its_lists = inl quiet.lists;
+  grows = life_grows n n' w w' shows shows' quiet.grows;
 }
 moves_index n n' event w w' shows shows' (ByMove i s same there won moved) = record {
   entries = subst (λ x. EntriesMove x (entry_at n.places n.words w.lists) (entry_at n'.places n'.words w'.lists) n.places) (sym won) (life_entries (won_there w.now.words (session_part s).work) n n' w w' shows shows' moved.entries);
   orders = subst (λ x. OrdersMove x n.places n.words n'.words w.lists w'.lists) (sym won) (life_orders (won_there w.now.words (session_part s).work) n n' w w' shows shows' moved.orders);
   its_lists = by_lists moved.lists;
+  grows = life_grows n n' w w' shows shows' moved.grows;
 }
   where
     by_lists : (w'.lists ≡ w.lists) ⊎ HasLinked (session_part s).work w w' → (w'.lists ≡ w.lists) ⊎ IsLinkNow n n' w.lists w'.lists event

@@ -11,7 +11,7 @@ use Rattle.fkv_index.specs.Buckets.{bucket_words, IsAmong, AreOthers}
 use Rattle.fkv_index.specs.Entries.{NewEntry, entry_at, IsEntryAnswered, EntriesMove}
 use Rattle.fkv_index.specs.Finding.{find_ask, find_next_ask}
 use Rattle.fkv_index.specs.IndexWorld.{new_entry, taken_of}
-use Rattle.fkv_index.specs.OneEntry.{IsIndex, HasSlot, IsTrueAnswer, HasLost}
+use Rattle.fkv_index.specs.OneEntry.{IsIndex, HasSlot, IsTrueAnswer, HasLost, Grows}
 use Rattle.fkv_index.specs.Searches.{LinksOne}
 use Rattle.fkv_index.specs.Slots.{bucket_slots}
 use Rattle.fkv_index.specs.SlotOrders.{slot_order, IsFilled, HasTagsOnce, OrdersMove}
@@ -115,11 +115,13 @@ pub record IsLinkNow (n after : Now) (lists lists_after : ℕ → List ℕ) (eve
   pub links : LinksOne n.places n.words after.words lists lists_after its.finding.home.bucket its.finding.spare
 
 -- A publish that is won gives its home the new entry in the place of the one that it had, and changes one slot; all other homes keep theirs.
--- No other event changes an entry, and none but a link a list.
+-- No other event changes an entry, and none but a link a list. A slot that isn't empty keeps its tag, and lists and the count of taken overflow
+-- buckets grow.
 pub record MovesIndex (n after : Now) (lists lists_after : ℕ → List ℕ) (event : Event) : Type 0 where
   pub entries : EntriesMove (entry_won n event) (entry_at n.places n.words lists) (entry_at after.places after.words lists_after) n.places
   pub orders : OrdersMove (entry_won n event) n.places n.words after.words lists lists_after
   pub its_lists : (lists_after ≡ lists) ⊎ IsLinkNow n after lists lists_after event
+  pub grows : Grows n.places n.words after.words lists lists_after
 
 -- at each event of a life
 abbrev pub EachMovesIndex : Type 0
