@@ -10,6 +10,7 @@ mod OwnAsks
 mod SessionAsks
 mod SessionParts
 pub mod Shown
+mod Spares
 mod TryParts
 mod WalkParts
 mod Worlds
