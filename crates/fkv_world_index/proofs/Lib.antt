@@ -1,4 +1,16 @@
-mod AttemptSearches
-mod SessionSearches
+mod Actors
+mod AppendParts
+mod AttemptParts
+mod FindingFacts
+mod Goes
+mod LifeFacts
+mod LifeMoves
+mod Moved
+mod OwnAsks
+mod SessionAsks
+mod SessionParts
 pub mod Shown
-mod TrySearches
+mod Spares
+mod TryParts
+mod WalkParts
+mod Worlds

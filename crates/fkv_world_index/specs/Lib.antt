@@ -1,3 +1,5 @@
 pub mod Finders
 pub mod IndexEvents
+pub mod LifeEntries
 pub mod Searching
+pub mod Shows

@@ -3,4 +3,4 @@
 
 mod laws;
 
-pub use laws::law_of_searches;
+pub use laws::{law_of_searches, law_world_one_entry};
