@@ -1,0 +1,6 @@
+mod Entering
+mod Faultless
+mod Following
+mod Quieter
+mod Reaching
+mod Ways

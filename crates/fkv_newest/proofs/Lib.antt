@@ -1,0 +1,4 @@
+mod Faultless
+mod Finding
+mod Heading
+mod Losing
