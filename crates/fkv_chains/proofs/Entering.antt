@@ -14,7 +14,7 @@ use Rattle.fkv_chains.specs.Reached.{Reached, in_scan, linked, LeadsTo, from_rec
 use Rattle.fkv_chains.specs.Along.{IsAlong, here, on, IsOf, IsFollowed}
 use Rattle.fkv_chains.specs.Chains.{HasChains}
 use Rattle.fkv_chains.specs.Entries.{Counts, IsEntry, HasEntry}
-use Rattle.fkv_chains.proofs.Following.{none_along}
+use Rattle.fkv_chains.proofs.FollowedTo.{none_along}
 use Rattle.fkv_chains.proofs.Ways.{to_follow}
 use Rattle.fkv_chains.proofs.Reaching.{Told, of_scan, of_chain, told_of}
 
@@ -78,12 +78,15 @@ module _ (apart : SpellsApart record_bytes) (log : Log) (chains : HasChains log)
           let x = greatest.here.0 in
           let this = greatest.here.1 in
           record {
-            counts = (x, record {
-              reached = in_scan a x greatest.from_on greatest.below this.kept.here.stands this.kept.here.valid;
-              valid = this.kept.here;
-              old_enough = this.old_enough;
-              not_lost = λ from. this.kept.not_lost;
-            });
+            counts = (
+              x,
+              record {
+                reached = in_scan a x greatest.from_on greatest.below this.kept.here.stands this.kept.here.valid;
+                valid = this.kept.here;
+                old_enough = this.old_enough;
+                not_lost = λ from. this.kept.not_lost;
+              },
+            );
             greatest = λ b y counts. at_most a b y greatest counts (told_here b counts.reached);
           }
 
@@ -100,12 +103,15 @@ module _ (apart : SpellsApart record_bytes) (log : Log) (chains : HasChains log)
             let this = followed its_home a at a (here a some) in
             let low = way.below_start some in
             record {
-              counts = (this.held, record {
-                reached = way.reached some;
-                valid = record { stands = this.old.stands; valid = this.valid; same = this.same };
-                old_enough = this.old.old_enough;
-                not_lost = λ from. absurd (omega (arith, from, low));
-              });
+              counts = (
+                this.held,
+                record {
+                  reached = way.reached some;
+                  valid = record { stands = this.old.stands; valid = this.valid; same = this.same };
+                  old_enough = this.old.old_enough;
+                  not_lost = λ from. absurd (omega (arith, from, low));
+                },
+              );
               greatest = λ b y counts. lower its_home a b (followed its_home a at) (below a b y at counts (told_here b counts.reached));
             }
 

@@ -1,6 +1,7 @@
 mod Entering
 mod Faultless
-mod Following
+mod FollowedTo
 mod Quieter
 mod Reaching
+mod Staging
 mod Ways

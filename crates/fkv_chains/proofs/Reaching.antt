@@ -64,12 +64,15 @@ module _ (apart : SpellsApart record_bytes) (log : Log) (in_log : AreBelow log.t
         ⊎_elim (λ less. none b y on_from less this) (λ same. off (y, subst (λ (n : ℕ). IsKept log its_home n y) same this)) (at_or_below b a below)
 
     nearest_more : Nearest its_home a → (Has (IsKept log its_home) a → ⊥) → Nearest its_home (suc a)
-    nearest_more (inl found) off = inl (found.0, record {
-      from_on = found.1.from_on;
-      below = (let low = found.1.below in omega (arith, low));
-      here = found.1.here;
-      none_above = none_more (found.0 + 1) found.1.none_above off;
-    })
+    nearest_more (inl found) off = inl (
+      found.0,
+      record {
+        from_on = found.1.from_on;
+        below = (let low = found.1.below in omega (arith, low));
+        here = found.1.here;
+        none_above = none_more (found.0 + 1) found.1.none_above off;
+      },
+    )
     nearest_more (inr none) off = inr (none_more log.start none off)
 
   nearest : (its_home a : ℕ) → a ≤ log.tail → Nearest its_home a
@@ -113,8 +116,7 @@ module _ (apart : SpellsApart record_bytes) (log : Log) (in_log : AreBelow log.t
     goes_on a b its_home w x stands is some at along is_of =
         let equal : x ≡ is_of.held = one a x is_of.held stands is_of.old.stands in
         let falls : x.header.previous.0 < a = subst (λ (y : Record). y.header.previous.0 < a) (sym equal) is_of.old.falls in
-        let next : IsAlong log w x.header.previous.0 = along_next log w a x (λ y its. one a y x its stands) stands (λ none. some (sym is ∙ none)) along in
-        (
+        let next : IsAlong log w x.header.previous.0 = along_next log w a x (λ y its. one a y x its stands) stands (λ none. some (sym is ∙ none)) along in (
           omega (arith, falls, is),
           subst (λ (n : ℕ). IsAlong log w n) is next,
           ap (λ (y : Record). record_home log.shape.bucket_bits y) equal ∙ is_of.same,

@@ -16,7 +16,7 @@ use Rattle.fkv_scan.specs.Scanned.{AreScanned, GoesOnAt, IsUnmet}
 use Rattle.fkv_chains.specs.Reached.{Reached, in_scan, led_to, linked, from_triple, from_record}
 use Rattle.fkv_chains.specs.Along.{IsAlong, IsFollowed, IsToFollow}
 use Rattle.fkv_chains.specs.Ways.{address_below, way_below}
-use Rattle.fkv_chains.proofs.Following.{none_along}
+use Rattle.fkv_chains.proofs.FollowedTo.{none_along}
 
 -- a way leads below the start, or nowhere
 low_way : (log : Log) (its_home q : ℕ) → GoesOn log its_home log.tail q → (q < log.start) ⊎ (q ≡ 0)
@@ -40,7 +40,7 @@ module _ (log : Log) (told : Scanned) (are : AreScanned log told) where
   -- the scan tells of each way that leads somewhere
   unmet : (its_home q : ℕ) → q ≢ 0 → IsUnmet log its_home log.tail → GoesOn log its_home log.tail q → ⊥
   unmet its_home q some none (by_triple t low) = none.triples q t
-  unmet its_home q some none (by_none no is) = some is
+  unmet its_home q some none (by_none none_there is) = some is
   unmet its_home q some none (by_record c x from to valid is low) = none.records c x from to valid
 
   by_known : (its_home q : ℕ) (o : Option HomeScan) → get nat_cmp told.homes its_home ≡ o → q ≢ 0 → GoesOn log its_home log.tail q → GoesOnAt log its_home log.tail q

@@ -13,7 +13,7 @@ use crate::following::follow;
 use crate::readings::triple_home;
 use fkv_base::{Addr, Fault, Shape};
 use fkv_disk::Device;
-use fkv_record::{ManifestSlot, Triple};
+use fkv_record::{ManifestSlot, Triple, law_spellings_apart};
 use fkv_scan::{HomeScan, Scanned};
 use std::collections::BTreeMap;
 
@@ -46,10 +46,14 @@ pub fn check_chains<D: Device>(
     ensures err { IfErr result (IsRefused (D.failed d.old) (D.failed d.new) (D.honest d.old × AreScanned (log_in (D.seen d.old) shape slot.now triples.now) scanned.now) (log_in (D.seen d.old) shape slot.now triples.now)) }
     ensures quiet { IsQuiet D.honest D.seen D.may_leave D.moment D.left_since D.failed d.old d.new }
 {
+    law_spellings_apart();
     for i in 0..triples.len() {
-        let home = triple_home(&triples[i]);
+        let triple = triples[i];
+        let home = triple_home(&triple);
         let from = way_of(&scanned.homes, home, slot.first);
-        follow(d, shape, slot, home, from)?;
+        if let Err(fault) = follow(d, shape, slot, home, from) {
+            return Err(fault);
+        }
     }
     Ok(())
 }

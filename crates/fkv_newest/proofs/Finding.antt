@@ -77,3 +77,11 @@ module _ (image : List ℕ) (head : Head) (is_head : IsHeadOf image head) where
             let same : (format, slot) ≡ (other_format, other_slot) = some_is (format, slot) (other_format, other_slot) (sym is ∙ found other_format other_slot its.stands) in
             off (subst (λ (p : Format × ManifestSlot). Suits shape index p.0 p.1) (sym same) its.suits);
       }
+
+pub none_is : (o : Option (Format × ManifestSlot)) → ((x : Format × ManifestSlot) → o ≡ Some x → ⊥) → o ≡ None
+none_is None no_one = refl
+none_is (Some x) no_one = absurd (no_one x refl)
+
+pub numbers_told : (head : Head) (first second : Option ℕ) (told : Option ℕ) → first ≡ open_number head.slot_0 → second ≡ open_number head.slot_1 → newer first second ≡ told
+    → newer (open_number head.slot_0) (open_number head.slot_1) ≡ told
+numbers_told head first second told is_first is_second is = sym (ap (λ (n : Option ℕ). newer n second) is_first ∙ ap (λ (n : Option ℕ). newer (open_number head.slot_0) n) is_second) ∙ is

@@ -1,5 +1,5 @@
 //! The front of an image.
-ghost use Rattle.std.specs.Prelude.{◌≡◌, ◌+◌, ◌≤◌, ◌↔◌, length, slice_range, IfOk, OnOk, IfErr};
+ghost use Rattle.std.specs.Prelude.{◌≡◌, ℕ, ◌+◌, ◌≤◌, ◌↔◌, List, length, slice_range, IfOk, OnOk, IfErr};
 ghost use Rattle.fkv_disk.specs.Bytes.{bytes_at};
 ghost use Rattle.fkv_disk.specs.Device.{LeavesOnly};
 ghost use Rattle.fkv_scan.specs.Quiet.{IsQuiet};
@@ -28,7 +28,11 @@ impl Head {
     pub(crate) fn slot(&self, index: u64) -> &[u8; 512]
         ensures { result.now ≡ slot_of self.now index }
     {
-        if index == 0 { &self.slot_0 } else { &self.slot_1 }
+        if index == 0 {
+            &self.slot_0
+        } else {
+            &self.slot_1
+        }
     }
 }
 
@@ -42,6 +46,17 @@ fn part<const N: usize>(bytes: &[u8], at: usize) -> [u8; N]
     part
 }
 
+/// What stands before the areas, in the first bytes of an image.
+fn head_in(bytes: &[u8; 1536]) -> Head
+    ensures { (image : List ℕ) → bytes.now ≡ bytes_at image 0 1536 → IsHeadOf image result }
+{
+    Head {
+        block: part::<64>(bytes, 0),
+        slot_0: part::<512>(bytes, 512),
+        slot_1: part::<512>(bytes, 1024),
+    }
+}
+
 /// One sync, and then one read of the front of the image.
 pub(crate) fn read_head<D: Device>(d: &mut D) -> Result<Head, Fault>
     ensures ok { D.honest d.old → IfOk result (IsHeadOf (D.seen d.old)) }
@@ -53,9 +68,5 @@ pub(crate) fn read_head<D: Device>(d: &mut D) -> Result<Head, Fault>
     d.sync()?;
     let mut bytes = [0; 1536];
     d.read(0, &mut bytes)?;
-    Ok(Head {
-        block: part::<64>(&bytes, 0),
-        slot_0: part::<512>(&bytes, 512),
-        slot_1: part::<512>(&bytes, 1024),
-    })
+    Ok(head_in(&bytes))
 }

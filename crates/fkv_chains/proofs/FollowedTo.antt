@@ -1,11 +1,26 @@
 -- A chain is followed, record by record.
-use Rattle.std.proofs.Common.{◌≡◌, ◌≢◌, ◌⊎◌, inl, inr, ⊎_elim, ℕ, ◌<◌, ◌≤◌, true, refl, subst, ◌∙◌, ap, sym, arith}
+use Rattle.std.proofs.Common.{◌≡◌, ◌≢◌, ◌⊎◌, inl, inr, ⊎_elim, ℕ, ◌<◌, ◌≤◌, true, Option, Some, refl, subst, ◌∙◌, ap, sym, arith}
+use Rattle.std.specs.Prelude.{◌↔◌}
+use Rattle.fkv_words.specs.Fields.{Reads}
+use Rattle.fkv_disk.specs.Bytes.{bytes_at}
 use Rattle.fkv_record.specs.declared.records.Record.{Record}
+use Rattle.fkv_record.specs.Layout.{record_bytes}
+use Rattle.fkv_record.specs.Places.{record_place}
 use Rattle.fkv_scan.specs.Log.{Log, record_home}
 use Rattle.fkv_scan.specs.Records.{Stands}
 use Rattle.fkv_chains.specs.Reached.{linked, from_record}
 use Rattle.fkv_chains.specs.Along.{IsAlong, here, on, IsOf, IsFollowed, IsToFollow}
 use Rattle.fkv_chains.specs.Chains.{IsOld, IsChainRecordFault, IsChainLinkFault}
+
+-- what was read at an address stands there, and nothing else does
+pub read_stands : (log : Log) (a : ℕ) (read : Option Record) (x : Record) → Reads record_bytes (bytes_at log.image (record_place log.shape a) 24) read → read ≡ Some x → Stands log a x
+read_stands log a read x reads is = (reads x).0 is
+
+some_is : {A : Type 0} (x y : A) → Some x ≡ Some y → x ≡ y
+some_is x y is = cc
+
+pub read_alone : (log : Log) (a : ℕ) (read : Option Record) (x : Record) → Reads record_bytes (bytes_at log.image (record_place log.shape a) 24) read → read ≡ Some x → (y : Record) → Stands log a y → y ≡ x
+read_alone log a read x reads is y stands = some_is y x (sym ((reads y).1 stands) ∙ is)
 
 -- of a chain, what is left to be followed, and that all above is of the home
 abbrev pub IsFollowedTo : Log → ℕ → ℕ → ℕ → Type 0
