@@ -1,0 +1,7 @@
+mod Entering
+mod Faultless
+mod FollowedTo
+mod Quieter
+mod Reaching
+mod Staging
+mod Ways

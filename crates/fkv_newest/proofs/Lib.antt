@@ -1,0 +1,6 @@
+mod Counting
+mod Faultless
+mod Finding
+mod Heading
+mod Losing
+mod Refusing

@@ -1,0 +1,74 @@
+//! Whether a manifest slot is one of a store.
+ghost use Rattle.std.specs.Prelude.{◌≡◌, ◌↔◌, true};
+ghost use Rattle.fkv_newest.specs.Manifest.{HasNumber, HasLog, HasCheckpoint, IsLostIn, Follows, HasLost, Suits};
+
+use fkv_base::{Shape, Version};
+use fkv_record::{Format, LostRange, ManifestSlot, most_triples};
+
+/// Whether the commit's number is one of this slot.
+fn has_number(index: u64, slot: &ManifestSlot) -> bool
+    ensures { (result ≡ true) ↔ HasNumber index slot.now }
+{
+    slot.number < Version::LAST && slot.number % 2 == index
+}
+
+/// Whether the commit's log lies on the device.
+fn has_log(shape: Shape, slot: &ManifestSlot) -> bool
+    ensures { (result ≡ true) ↔ HasLog shape slot.now }
+{
+    1 <= slot.first.0 && slot.first.0 <= slot.end.0 && slot.end.0 <= shape.disk_pages * shape.page
+}
+
+/// Whether the checkpoint is one that the slot can name.
+fn has_checkpoint(shape: Shape, index: u64, format: Format, slot: &ManifestSlot) -> bool
+    ensures { (result ≡ true) ↔ HasCheckpoint shape index format slot.now }
+{
+    slot.triples <= most_triples(shape)
+        && slot.area < 2
+        && (format != Format::First || slot.area == index)
+        && slot.checkpoint <= slot.number
+}
+
+/// Whether the records of the range can be lost to the commit.
+fn is_lost_in(slot: &ManifestSlot, range: &LostRange) -> bool
+    ensures { (result ≡ true) ↔ IsLostIn slot.now range.now }
+{
+    slot.first.0 < range.to.0
+        && range.to.0 <= slot.end.0
+        && slot.checkpoint < range.version.0
+        && range.version.0 <= slot.number
+}
+
+/// Whether one range can follow another.
+fn follows(before: &LostRange, after: &LostRange) -> bool
+    ensures { (result ≡ true) ↔ Follows before.now after.now }
+{
+    before.version.0 < after.version.0 && before.to.0 <= after.to.0
+}
+
+/// Whether all lost ranges are in order.
+fn has_lost(slot: &ManifestSlot) -> bool
+    ensures { (result ≡ true) ↔ HasLost slot.now }
+{
+    let ranges = slot.lost.ranges.as_slice();
+    for i in 0..ranges.len() {
+        if !is_lost_in(slot, &ranges[i]) {
+            return false;
+        }
+        if i > 0 && !follows(&ranges[i - 1], &ranges[i]) {
+            return false;
+        }
+    }
+    true
+}
+
+/// Whether a store of this shape can have the slot at this index.
+pub(crate) fn suits(shape: Shape, index: u64, format: Format, slot: &ManifestSlot) -> bool
+    ensures { (result ≡ true) ↔ Suits shape index format slot.now }
+{
+    has_number(index, slot)
+        && has_log(shape, slot)
+        && has_checkpoint(shape, index, format, slot)
+        && slot.points.serials.len() as u64 == shape.sessions
+        && has_lost(slot)
+}
