@@ -1,0 +1,1 @@
+//! Calls that are moved by hand in the middle of others.
