@@ -1,10 +1,8 @@
 //! Commits, up to where a crash may come.
 use crate::lines::Late;
-use crate::lines::Line::{
-    Add, Commit, Finish, LogCommit, Poll, Refresh, Sleep, Turn, Up, Wake,
-};
+use crate::lines::Line::{Add, Commit, Finish, Get, LogCommit, Poll, Refresh, Sleep, Turn, Up, Wake};
 use crate::lines::Says::{
-    At, Begun, Done, Kept, Leaves, NothingRuns, Polled, Refused, Slept, Waits,
+    At, Begun, Done, Found, Kept, Leaves, NothingRuns, Polled, Refused, Slept, Waits,
 };
 use crate::paging::four_updates_read_only;
 use crate::stores::{NARROW_FOR_TWO, Store, WIDE, WIDE_FOR_TWO, play};
@@ -157,6 +155,24 @@ fn a_poll_drops_the_latch_of_its_update(rt: HostRuntime) -> Result<(), Fail> {
         (Turn, At(InProgress, 2)),
         (Refresh(1), At(InProgress, 2)),
         (Add(1, 1, 100), Leaves(1, 111)),
+    ];
+    store.play(&rt, &script);
+    Ok(())
+}
+
+/// Sessions go on in memory, and no commit finishes.
+#[test]
+fn a_device_that_fails_breaks_the_keeper_alone(rt: HostRuntime) -> Result<(), Fail> {
+    let mut store = Store::new(rt.alloc(), WIDE)?;
+    store.play(&rt, &[(Up(0, 1, 10), Done(1))]);
+    store.fail();
+    let script = [
+        (Commit, Begun(1)),
+        (Finish, Refused(Fault::Device)),
+        (Up(0, 1, 11), Done(2)),
+        (Get(0, 1), Found(11)),
+        (Turn, Refused(Fault::Broken)),
+        (Commit, Refused(Fault::Broken)),
     ];
     store.play(&rt, &script);
     Ok(())

@@ -1,5 +1,6 @@
 //! Lines of a script, and what each is to be answered.
 use fkv_base::{Fault, Key, Phase, Serial, Value};
+use fkv_commit::CommitKind;
 use fkv_core::Event;
 use fkv_map::{Call, Op, Reply};
 use fkv_pending::Ticket;
@@ -77,9 +78,9 @@ impl Late {
     }
 }
 
-/// The session and its call, where the line is one of a session.
-pub(crate) fn call_of(line: Line) -> Option<(usize, Call)> {
-    Some(match line {
+/// The event in which the line's call begins, and the one that moves its actor.
+pub(crate) fn events_of(line: Line) -> (Event, Event) {
+    let (session, call) = match line {
         Line::Up(session, key, value) => (session, Call::Op(Op::Upsert(Key(key), Value(value)))),
         Line::Del(session, key) => (session, Call::Op(Op::Delete(Key(key)))),
         Line::Add(session, key, number) => (session, Call::Op(Op::Add(Key(key), number))),
@@ -89,16 +90,11 @@ pub(crate) fn call_of(line: Line) -> Option<(usize, Call)> {
         Line::Poll(session) => (session, Call::Poll),
         Line::Sleep(session) => (session, Call::Sleep),
         Line::Wake(session) => (session, Call::Wake),
-        Line::Commit | Line::LogCommit | Line::Turn | Line::Finish => return None,
-    })
-}
-
-/// The event in which a session begins the line's call.
-pub(crate) fn start_of(line: Line) -> Event {
-    match call_of(line) {
-        Some((session, call)) => Event::Call(session, call),
-        None => Event::Turn,
-    }
+        Line::Commit => return (Event::Commit(CommitKind::Full), Event::KeeperMove),
+        Line::LogCommit => return (Event::Commit(CommitKind::Log), Event::KeeperMove),
+        Line::Turn | Line::Finish => return (Event::Turn, Event::KeeperMove),
+    };
+    (Event::Call(session, call), Event::Move(session))
 }
 
 /// Whether a session's answer is the one that is expected.

@@ -1,14 +1,11 @@
 //! A store in memory, and scripts over it.
-use crate::lines::{Line, Says, are_points, call_of, is_answered};
+use crate::lines::{Line, Says, are_points, events_of, is_answered};
 use fkv_base::{Fault, Phase, Shape};
-use fkv_commit::CommitKind;
 use fkv_core::{Event, Told, World};
-use fkv_disk::MemDisk;
+use fkv_disk::{Fuse, MemDisk};
 use fkv_keeper::{Finished, Turn};
-use fkv_map::Call;
 use fkv_plane::SharedWord;
 use fkv_recover::create;
-use fkv_session::Answer;
 use fkv_words::{PhaseSaid, phase_said};
 use std::alloc::Global;
 use std::process::Abort;
@@ -33,10 +30,10 @@ const MANY_STEPS: u64 = 40000;
 /// The rounds in which a commit is to finish.
 const ROUNDS: u64 = 64;
 
-/// A store on a device in memory.
+/// A store on a device in memory, which a fuse may make fail.
 #[derive(Drop)]
 pub(crate) struct Store {
-    world: World<MemDisk>,
+    world: World<Fuse<MemDisk>>,
     sessions: usize,
     is_committing: bool,
 }
@@ -58,7 +55,7 @@ impl Store {
     pub(crate) fn new(alloc: Global, sizes: Sizes) -> Result<Store, Fault> {
         let [bits, page, frames, mutable, sessions, overflow, pages] = sizes;
         let shape = Shape::new(bits, page, frames, mutable, sessions, overflow, pages)?;
-        let mut disk = MemDisk::new(alloc);
+        let mut disk = Fuse::new(MemDisk::new(alloc));
         let opened = create(alloc, &mut disk, shape)?;
         let world = World::open(alloc, opened, disk)?;
         Ok(Store {
@@ -68,15 +65,21 @@ impl Store {
         })
     }
 
-    /// One step.
-    pub(crate) fn step(&mut self, event: Event) -> Option<Told> {
-        self.world.step(event)
+    /// The device as the life has left it.
+    pub(crate) fn end(self) -> MemDisk {
+        let Store { world, .. } = self;
+        world.end().into_device()
+    }
+
+    /// From now on each call of the device fails.
+    pub(crate) fn fail(&mut self) {
+        self.world.arm(0);
     }
 
     /// So many steps of one actor, or fewer where its call ends before.
-    pub(crate) fn steps(&mut self, event: Event, count: u64) -> Option<Told> {
+    fn steps(&mut self, moves: Event, count: u64) -> Option<Told> {
         for _ in 0..count {
-            let told = self.world.step(event);
+            let told = self.world.step(moves);
             if told.is_some() {
                 return told;
             }
@@ -84,70 +87,65 @@ impl Store {
         None
     }
 
-    /// The phase and version that the store is in.
-    pub(crate) fn phase(&self) -> (Phase, u64) {
-        match phase_said(self.world.word(SharedWord::Phase.place())) {
-            PhaseSaid::Says(phase, version) => (phase, version.0),
-            PhaseSaid::Spoiled => (Phase::Rest, 0),
-        }
-    }
-
-    /// The device as the life has left it.
-    pub(crate) fn end(self) -> MemDisk {
-        let Store { world, .. } = self;
-        world.end()
-    }
-
-    /// Begins a call, and moves its actor up to the call's end.
-    fn whole(&mut self, begins: Event, moves: Event) -> Option<Told> {
+    /// Begins the line's call, and moves its actor by so many steps, or fewer where its call ends before.
+    fn begin(&mut self, line: Line, count: u64) -> Option<Told> {
+        let (begins, moves) = events_of(line);
         let told = self.world.step(begins);
         if told.is_some() {
             return told;
         }
-        self.steps(moves, MANY_STEPS)
+        self.steps(moves, count)
     }
 
-    fn call(&mut self, session: usize, call: Call) -> Option<Told> {
-        self.whole(Event::Call(session, call), Event::Move(session))
-    }
-
-    fn commit(&mut self, kind: CommitKind) -> Said {
-        let told = self.whole(Event::Commit(kind), Event::KeeperMove);
-        if let Some(Told::Commit(Ok(_))) = told {
-            self.is_committing = true;
-        }
-        Said::Told(told)
-    }
-
-    /// A turn, and what it says where it has finished no commit.
-    fn turn(&mut self) -> Said {
-        match self.whole(Event::Turn, Event::KeeperMove) {
-            Some(Told::Turn(Ok(Turn { finished, drain_full }))) => match finished {
-                Some(finished) => {
-                    self.is_committing = false;
-                    Said::Finished(finished)
-                }
-                None => {
-                    let (phase, version) = self.phase();
-                    Said::Turned(phase, version, drain_full)
-                }
-            },
+    /// What has come of a call.
+    fn said(&mut self, told: Option<Told>) -> Said {
+        match told {
+            Some(Told::Turn(Ok(turn))) => self.turned(turn),
+            Some(Told::Commit(Ok(number))) => {
+                self.is_committing = true;
+                Said::Told(Some(Told::Commit(Ok(number))))
+            }
             told => Said::Told(told),
         }
     }
 
-    /// Each round is a refresh and a poll of each session that is awake, and a turn. It ends where a commit finishes or a turn is
-    /// refused.
+    /// What a turn says: the commit that it has finished, or else the phase and version that the store is in.
+    fn turned(&mut self, turn: Turn) -> Said {
+        let Turn {
+            finished,
+            drain_full,
+        } = turn;
+        if let Some(finished) = finished {
+            self.is_committing = false;
+            return Said::Finished(finished);
+        }
+        match phase_said(self.world.word(SharedWord::Phase.place())) {
+            PhaseSaid::Says(phase, version) => Said::Turned(phase, version.0, drain_full),
+            PhaseSaid::Spoiled => Said::Told(None),
+        }
+    }
+
+    /// What comes of a line, whose call is moved to its end.
+    fn say(&mut self, line: Line) -> Said {
+        if line == Line::Finish {
+            return self.finish();
+        }
+        let told = self.begin(line, MANY_STEPS);
+        self.said(told)
+    }
+
+    /// Each round is a refresh and a poll of each session, and a turn. It ends where a commit finishes or a turn is refused.
     fn finish(&mut self) -> Said {
         if !self.is_committing {
             return Said::NothingRuns;
         }
         for _ in 0..ROUNDS {
             for session in 0..self.sessions {
-                let _ = self.call(session, Call::Refresh);
-                let _ = self.call(session, Call::Poll);
+                let _ = self.begin(Line::Refresh(session), MANY_STEPS);
+                let _ = self.begin(Line::Poll(session), MANY_STEPS);
             }
-            match self.turn() {
+            let told = self.begin(Line::Turn, MANY_STEPS);
+            match self.said(told) {
                 Said::Turned(_, _, _) => {}
                 said => return said,
             }
@@ -155,25 +153,35 @@ impl Store {
         Said::Told(None)
     }
 
-    /// What comes of a line, whose call is moved to its end.
-    fn say(&mut self, line: Line) -> Said {
-        if let Some((session, call)) = call_of(line) {
-            return Said::Told(self.call(session, call));
-        }
-        match line {
-            Line::Commit => self.commit(CommitKind::Full),
-            Line::LogCommit => self.commit(CommitKind::Log),
-            Line::Finish => self.finish(),
-            _ => self.turn(),
-        }
-    }
-
     /// Plays the lines, and compares what comes of each.
     pub(crate) fn play(&mut self, rt: &impl Abort, script: &[(Line, Says)]) {
         for (line, expected) in script {
             let said = self.say(*line);
-            assert!(rt; is_said(*expected, &said), "{line:?} says {said:?}, not {expected:?}");
+            assert!(rt;
+                is_said(*expected, &said),
+                "{line:?} says {said:?}, not {expected:?}"
+            );
         }
+    }
+
+    /// Begins the line's call, and stops in the middle of it, behind so many steps.
+    pub(crate) fn stop_behind(&mut self, rt: &impl Abort, steps: u64, line: Line) {
+        let told = self.begin(line, steps);
+        assert!(rt;
+            told.is_none(),
+            "{line:?} says {told:?} within {steps} steps"
+        );
+    }
+
+    /// Moves the line's call, which is in hand, to its end, and compares what comes of it.
+    pub(crate) fn go_on(&mut self, rt: &impl Abort, line: Line, expected: Says) {
+        let (_, moves) = events_of(line);
+        let told = self.steps(moves, MANY_STEPS);
+        let said = self.said(told);
+        assert!(rt;
+            is_said(expected, &said),
+            "{line:?} says {said:?}, not {expected:?}"
+        );
     }
 }
 
