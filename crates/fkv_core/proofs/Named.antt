@@ -1,5 +1,5 @@
 -- The words that a store has once, and those of a session, name by name.
-use Rattle.std.proofs.Common.{◌≡◌, ◌∙◌, sym, ap, ℕ, Bool, true, false, ◌+◌, ◌*◌, ◌^◌, ◌%◌, List, [], ◌∷◌, nat_eq, if◌then◌else◌, refl}
+use Rattle.std.proofs.Common.{◌≡◌, ◌∙◌, ap, ℕ, Bool, true, false, ◌+◌, ◌*◌, ◌^◌, ◌%◌, [], ◌∷◌, nat_eq, if◌then◌else◌, refl}
 use Rattle.fkv_base.specs.declared.numbers.Addr.{Addr}
 use Rattle.fkv_base.specs.declared.phases.Phase.{Phase}
 use Rattle.fkv_base.specs.declared.phases.Phase.TheVariants.{Rest}

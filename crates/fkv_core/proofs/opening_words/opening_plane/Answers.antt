@@ -1,5 +1,5 @@
 -- The words before the frames have room.
-use Rattle.std.proofs.Common.{◌≡◌, ◌∙◌, ap, arith, ℕ, ◌+◌, ◌*◌, length}
+use Rattle.std.proofs.Common.{◌≡◌, ◌∙◌, ap, arith, ◌+◌, ◌*◌, length}
 use Rattle.std.proofs.lemmas.List.{length-replicate}
 use Rattle.fkv_keeper.specs.NewKeepers.{ArePlacesOfStore}
 use Rattle.fkv_plane.specs.Places.{word_count}
