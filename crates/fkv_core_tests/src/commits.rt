@@ -1,6 +1,8 @@
 //! Commits, up to where a crash may come.
 use crate::lines::Late;
-use crate::lines::Line::{Add, Commit, Finish, Get, LogCommit, Poll, Refresh, Sleep, Turn, Up, Wake};
+use crate::lines::Line::{
+    Add, Commit, Finish, Get, LogCommit, Poll, Refresh, Sleep, Turn, Up, Wake,
+};
 use crate::lines::Says::{
     At, Begun, Done, Found, Kept, Leaves, NothingRuns, Polled, Refused, Slept, Waits,
 };
