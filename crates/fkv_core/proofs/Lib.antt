@@ -1,6 +1,12 @@
 mod Ends
 mod Granted
 mod Keepers
+mod Lengths
+mod Named
+mod SamePlaces
 mod Seated
+mod Sitters
 mod Steps
+mod Written
 mod Lives
+mod Begun

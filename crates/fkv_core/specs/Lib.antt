@@ -1,3 +1,5 @@
 pub mod Lives
+pub mod OpeningWords
+pub mod Openings
 pub mod Told
 pub mod Worlds

@@ -3,6 +3,8 @@
 
 mod events;
 mod keeper_moves;
+mod opening_words;
+mod openings;
 mod session_moves;
 mod worlds;
 

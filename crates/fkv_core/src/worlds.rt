@@ -3,6 +3,7 @@ ghost use Rattle.std.specs.Prelude.{◌≡◌, ◌↔◌};
 ghost use Rattle.fkv_disk.specs.Device.{Elapses};
 ghost use Rattle.fkv_disk.specs.Fuse.{armed};
 ghost use Rattle.fkv_disk.specs.Fuses.{fuse_device, fuse_state, fuse_refused};
+ghost use Rattle.fkv_plane.specs.Asked.{word_at};
 ghost use Rattle.fkv_core.specs.Told.{numbered};
 ghost use Rattle.fkv_core.specs.Worlds.{AreSessionCalls, AreSessionMoves, IsStep};
 
@@ -19,11 +20,11 @@ use std::marker::Model;
 /// The engine. Each step moves one actor, and a session, the keeper and the device meet only in it.
 #[derive(Drop)]
 pub struct World<D: Device> {
-    words: PlainWords,
-    sessions: Vec<Session>,
-    keeper: Keeper,
-    device: D,
-    crashed: bool,
+    pub(crate) words: PlainWords,
+    pub(crate) sessions: Vec<Session>,
+    pub(crate) keeper: Keeper,
+    pub(crate) device: D,
+    pub(crate) crashed: bool,
 }
 
 impl<D: Device> Model for World<D> {
@@ -60,6 +61,13 @@ impl<D: Device> World<D> {
                 None
             }
         }
+    }
+
+    /// The shared word at a place. Past the last word it is 0.
+    pub fn word(&self, place: usize) -> u64
+        ensures { result ≡ word_at self.now.now.words place }
+    {
+        self.words.word(place)
     }
 
     /// The device as the life has left it.

@@ -1,0 +1,120 @@
+//! The world of a store that was opened.
+ghost use Rattle.std.specs.Prelude.{◌≡◌, ◌≤◌, ◌%◌, ◌==◌, if◌then◌else◌, [], length, IfOk, OnErr, Err};
+ghost use Rattle.fkv_base.specs.Limits.{max_sessions};
+ghost use Rattle.fkv_base.specs.declared.faults.Fault.TheVariants.{Memory};
+ghost use Rattle.fkv_keeper.specs.declared.last_commits.Area.TheVariants.{First, Second};
+ghost use Rattle.fkv_keeper.specs.KeeperRun.{IsOpened};
+ghost use Rattle.fkv_keeper.specs.NewKeepers.{IsNewKeeper};
+ghost use Rattle.fkv_core.specs.Openings.{AreOpeningSitters, IsOpeningSeen, IsOpeningWorld, beginning, newest_commit};
+ghost use Rattle.fkv_world.specs.Opened.{IsOpenedWorld};
+
+use crate::opening_words::opening_plane;
+use crate::worlds::World;
+use arrayvec::ArrayVec;
+use fkv_base::{Fault, Serial, Version};
+use fkv_disk::Device;
+use fkv_keeper::{Area, Checkpoint, Keeper, LastCommit, MAX_POINTS};
+use fkv_log::SeenOffsets;
+use fkv_ops::Seen;
+use fkv_recover::Opened;
+use fkv_session::Session;
+use std::alloc::Global;
+
+impl<D: Device + Drop> World<D> {
+    /// The world of a store that was created or recovered on this device: every session is awake, and nothing is in hand. `Memory`
+    /// where memory was refused; then all that was handed in is dropped, the device too.
+    pub fn open(alloc: Global, opened: Opened, device: D) -> Result<World<D>, Fault>
+        ensures world { IfOk result (λ world. IsOpeningWorld opened world.now) }
+        ensures opened { IfOk result (λ world. IsOpenedWorld (beginning world.now (D.seen device))) }
+        ensures device { IfOk result (λ world. world.device ≡ device) }
+        ensures err { OnErr result (result ≡ Err Memory) }
+    {
+        let words = opening_plane(alloc, &opened)?;
+        let sessions = opening_sessions(alloc, &opened)?;
+        let keeper = opening_keeper(alloc, &opened)?;
+        Ok(World {
+            words,
+            sessions,
+            keeper,
+            device,
+            crashed: false,
+        })
+    }
+}
+
+/// A session for each seat: each has seen what the words say, and its point is its last serial.
+#[tactic(auto, using(crate::proofs::Sitters::none_sit))]
+fn opening_sessions(alloc: Global, opened: &Opened) -> Result<Vec<Session>, Fault>
+    ensures seats { IfOk result (λ sessions. length sessions.items ≡ opened.now.shape.sessions) }
+    ensures made { IfOk result (λ sessions. AreOpeningSitters opened.now sessions.items) }
+    ensures err { OnErr result (result ≡ Err Memory) }
+{
+    let seen = seen_at_opening(opened);
+    let mut sessions = Vec::new(alloc);
+    for (number, point) in opened.points.iter().enumerate() {
+        sessions.push(Session::new(opened.shape, number, seen, *point))?;
+    }
+    Ok(sessions)
+}
+
+/// What the words show a session that loads them.
+fn seen_at_opening(opened: &Opened) -> Seen
+    ensures { IsOpeningSeen opened.now result }
+{
+    let words = opened.words();
+    Seen {
+        phase: words.phase.phase,
+        version: words.phase.version,
+        offsets: SeenOffsets {
+            head: words.head,
+            read_only: words.read_only,
+        },
+    }
+}
+
+/// The keeper, at the newest finished commit.
+fn opening_keeper(alloc: Global, opened: &Opened) -> Result<Keeper, Fault>
+    ensures made { IfOk result (λ keeper. IsNewKeeper opened.now.shape (newest_commit opened.now) [] keeper) }
+    ensures opened { IfOk result (λ keeper. IsOpened keeper.state) }
+    ensures err { OnErr result (result ≡ Err Memory) }
+{
+    Keeper::new(alloc, opened.shape, newest_commit(opened), ArrayVec::new())
+}
+
+/// The newest finished commit. Its log ends where it starts, so its triples are the entries, and it has made its checkpoint itself.
+fn newest_commit(opened: &Opened) -> LastCommit
+    ensures { record { number = result.number; points = result.points.items; checkpoint = result.checkpoint; gates = result.gates } ≡ newest_commit opened.now }
+{
+    LastCommit {
+        number: opened.number,
+        points: points_listed(&opened.points),
+        checkpoint: Checkpoint {
+            number: opened.number,
+            first: opened.tail,
+            triples: opened.entries.len() as u64,
+            area: area_of(opened.number),
+        },
+        gates: opened.gates,
+    }
+}
+
+/// The points, in the list that the keeper has.
+fn points_listed(points: &[Serial]) -> ArrayVec<Serial, MAX_POINTS>
+    requires { length points.now ≤ max_sessions }
+    ensures { result.items ≡ points.now }
+{
+    let mut listed = ArrayVec::new();
+    let _ = listed.try_extend_from_slice(points);
+    listed
+}
+
+/// The area of a commit that has made its own checkpoint: areas take turns as slots do.
+fn area_of(number: Version) -> Area
+    ensures { result ≡ (if number.0 % 2 == 0 then First else Second) }
+{
+    if number.0 % 2 == 0 {
+        Area::First
+    } else {
+        Area::Second
+    }
+}
