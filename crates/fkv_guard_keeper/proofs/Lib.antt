@@ -1,0 +1,16 @@
+mod Claimed
+mod Deferred
+mod Entered
+mod Finished
+mod Flushed
+mod Led
+mod Movers
+mod PartLed
+mod Scanned
+mod Served
+mod Shifted
+mod Slots
+mod Sought
+mod Started
+mod TurnLed
+mod Turned
