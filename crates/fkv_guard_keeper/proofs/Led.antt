@@ -1,21 +1,16 @@
 -- Where events of an actor lead that is like a machine above: what it drives then is under way.
 use Rattle.std.proofs.Common.{◌≡◌, ℕ, List, [], ◌∷◌, refl, ap, ◌∙◌, Bool, true, false}
-use Rattle.std.specs.Prelude.{Option, Some, None, slice_get, ⊤}
+use Rattle.std.specs.Prelude.{Option, Some, None, slice_get}
 use Rattle.fkv_plane.specs.declared.actions.Action.{Action}
 use Rattle.fkv_epoch.specs.EpochWorld.{EpochMachine, EpochNear, is_at_rest, machine_step, sight_of}
 use Rattle.fkv_flush.specs.GuardSeen.{LastSeen}
 use Rattle.fkv_flush.specs.GuardWorld.{Actor, Work, GuardTask, GuardNow, GuardEvent, Begins, Resumes, Moves, near, put_near, is_idle, may_work, started, epoch_step}
 use Rattle.fkv_flush.proofs.Shown.{runs_now, put_there, goes_on, begins, moves_machine, Likeness, Fits, Follows}
+use Rattle.fkv_guard_keeper.specs.MaintainShown.{IsUnderWay}
 
 -- such an actor has seen this, and nothing that it has reserved is undecided
 abbrev pub likeness : LastSeen → Option EpochMachine → Option Work → Likeness
 likeness seen machine work = record { machine = machine; work = work; seen = seen; undecided = None }
-
--- what it drives is under way, where it drives something
-abbrev pub IsUnderWay : Option EpochMachine → Option Work → Type 0
-IsUnderWay machine (Some work) = is_idle work ≡ false
-IsUnderWay (Some machine) None = is_at_rest machine ≡ false
-IsUnderWay None None = ⊤
 
 pub record Led (n : GuardNow) (a : ℕ) (events : List GuardEvent) (seen : LastSeen) (machine : Option EpochMachine) (work : Option Work) (words : List ℕ) (actions : List (Option Action)) : Type 0 where
   pub follows : Follows n a events (likeness seen machine work) words actions

@@ -4,6 +4,7 @@ mod Entered
 mod Finished
 mod Flushed
 mod Led
+mod Maintained
 mod Movers
 mod PartLed
 mod Scanned

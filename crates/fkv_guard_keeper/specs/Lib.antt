@@ -1,5 +1,7 @@
 pub mod CommitEvents
 pub mod CommitShown
+pub mod KeeperEvents
+pub mod KeeperShown
 pub mod MaintainEvents
 pub mod MaintainShown
 pub mod Settled

@@ -1,8 +1,8 @@
 -- What the guard has of the keeper in a turn: the machine of the epochs and the work that each part is at, or none, where they are any that are through.
-use Rattle.std.specs.Prelude.{Option, Some, None}
+use Rattle.std.specs.Prelude.{◌≡◌, false, Option, Some, None, ⊤}
 use Rattle.fkv_epoch.specs.declared.raising.Raising.{Raising}
 use Rattle.fkv_epoch.specs.declared.arming.Arming.{Arming}
-use Rattle.fkv_epoch.specs.EpochWorld.{EpochMachine, Scans, Claims, Raises, Arms}
+use Rattle.fkv_epoch.specs.EpochWorld.{EpochMachine, Scans, Claims, Raises, Arms, is_at_rest}
 use Rattle.fkv_log.specs.declared.moving.Moving.{Moving}
 use Rattle.fkv_log.specs.declared.moving.Moving.TheVariants as move
 use Rattle.fkv_log.specs.declared.shifting.Shifting.{Shifting}
@@ -10,7 +10,7 @@ use Rattle.fkv_log.specs.declared.shifting.Shifting.TheVariants as shift
 use Rattle.fkv_log.specs.declared.turning.Turning.{Turning}
 use Rattle.fkv_log.specs.declared.turning.Turning.TheVariants as turn
 use Rattle.fkv_log.specs.Moving.{Mover}
-use Rattle.fkv_flush.specs.GuardWorld.{Work, Flushes, Shifts, Turns, Serves}
+use Rattle.fkv_flush.specs.GuardWorld.{Work, Flushes, Shifts, Turns, Serves, is_idle}
 use Rattle.fkv_maintain.specs.declared.maintaining.Maintaining.{Maintaining}
 use Rattle.fkv_maintain.specs.declared.maintaining.Maintaining.TheVariants as maintain
 use Rattle.fkv_maintain.specs.Maintaining.{MaintainState}
@@ -55,3 +55,9 @@ maintain_machine s = maintaining_machine s s.step
 
 abbrev pub maintain_work : MaintainState → Option Work
 maintain_work s = maintaining_work s s.step
+
+-- what it drives is under way, where it drives something
+abbrev pub IsUnderWay : Option EpochMachine → Option Work → Type 0
+IsUnderWay machine (Some work) = is_idle work ≡ false
+IsUnderWay (Some machine) None = is_at_rest machine ≡ false
+IsUnderWay None None = ⊤
