@@ -35,7 +35,7 @@ unfolding claim_ask
 claim_busy claim.AtRest e = cc
 claim_busy step e = refl
 
-claim_ended : (step : Claiming) → is_done (claim_ask step) ≡ true → is_at_rest (Claims step) ≡ true
+pub claim_ended : (step : Claiming) → is_done (claim_ask step) ≡ true → is_at_rest (Claims step) ≡ true
 unfolding claim_ask
 claim_ended claim.AtRest e = refl
 claim_ended (claim.Runs slot epoch safe (act.SafeReadOnly addr)) e = cc

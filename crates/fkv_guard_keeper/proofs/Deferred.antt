@@ -108,7 +108,7 @@ pub sought_led : (n : GuardNow) (a : ℕ) (x : Actor) (d : DeferState) → slice
     → runs_now n (Moves a ∷ []) ≡ put_near n a (near (words_after n.words (defer_ask d)) n.actions (record x { machine = Raises (defer_next d (reply_to n.words (defer_ask d))).raising }))
 sought_led n a x d got its idle k = sought_led_at n a x d.step d.raising d.arming got its idle k
 
-sought_machine : (P : DeferState → Type 0) (step : Deferring) (raising : Raising) (arming : Arming) → IsSeeking step raising → ((next : Raising) → P (deferral next arming defer.Seeks)) → P (deferral raising arming step)
+pub sought_machine : (P : DeferState → Type 0) (step : Deferring) (raising : Raising) (arming : Arming) → IsSeeking step raising → ((next : Raising) → P (deferral next arming defer.Seeks)) → P (deferral raising arming step)
 sought_machine P defer.Seeks raise.LoadsEpoch arming k f = f raise.LoadsEpoch
 sought_machine P defer.Seeks (raise.MeetsSlot met) arming k f = f (raise.MeetsSlot met)
 sought_machine P defer.Seeks (raise.HoldsSlot met) arming k f = f (raise.HoldsSlot met)

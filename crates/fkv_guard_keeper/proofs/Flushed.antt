@@ -35,7 +35,7 @@ unfolding flush_ask
 flush_busy p flush.AtRest bytes e = cc
 flush_busy p step bytes e = refl
 
-flush_ended : (p : Places) (step : Flushing) (bytes : List ℕ) → is_through (flush_ask p step) ≡ true → is_idle (Flushes step bytes) ≡ true
+pub flush_ended : (p : Places) (step : Flushing) (bytes : List ℕ) → is_through (flush_ask p step) ≡ true → is_idle (Flushes step bytes) ≡ true
 unfolding flush_ask
 flush_ended p flush.AtRest bytes e = refl
 flush_ended p step bytes e = cc

@@ -1,5 +1,6 @@
 mod Claimed
 mod Deferred
+mod Ends
 mod Entered
 mod Finished
 mod Flushed

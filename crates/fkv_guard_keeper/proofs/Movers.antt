@@ -81,7 +81,7 @@ pub turn_rests_so : (shape : Shape) (actions : List (Option Action)) (t : TurnSt
 turn_rests_so shape actions t e = turning_rests shape actions t.step t.mover e
 
 -- who is told an end is at rest
-clash : {X : Type 0} (b : Bool) → b ≡ true → b ≡ false → X
+pub clash : {X : Type 0} (b : Bool) → b ≡ true → b ≡ false → X
 clash b e f = cc
 
 shift_told_rests : (tail : ℕ) (m : Mover) (ask : Ask MoveAnswer) → (is_done ask ≡ false → ask ≡ move_ask m) → is_done (move_told tail ask (shift_led tail m ask)) ≡ true → shift_rests (shift_led tail m ask).step ≡ true

@@ -31,7 +31,7 @@ unfolding scan_ask
 scan_busy scan.AtRest e = cc
 scan_busy step e = refl
 
-scan_ended : (step : Scanning) → is_done (scan_ask step) ≡ true → is_at_rest (Scans step) ≡ true
+pub scan_ended : (step : Scanning) → is_done (scan_ask step) ≡ true → is_at_rest (Scans step) ≡ true
 unfolding scan_ask
 scan_ended scan.AtRest e = refl
 scan_ended step e = cc

@@ -29,7 +29,7 @@ unfolding serve_ask
 serve_busy serve.AtRest e = cc
 serve_busy step e = refl
 
-serve_ended : (step : Serving) → is_through (serve_ask step) ≡ true → is_idle (Serves step) ≡ true
+pub serve_ended : (step : Serving) → is_through (serve_ask step) ≡ true → is_idle (Serves step) ≡ true
 unfolding serve_ask
 serve_ended serve.AtRest e = refl
 serve_ended step e = cc
