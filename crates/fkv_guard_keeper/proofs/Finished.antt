@@ -27,11 +27,12 @@ pub durable_known : (s : FinishState) (session : ℕ) → FinishKnows s (durable
 unfolding durable_from
 durable_known s session = elim (truth (nat_lt session s.sessions)) [ inl e ↦ let low : session < s.sessions = grind (arith, nat_tests, e) in rw e low | inr e ↦ rw e tt ]
 
-pub finish_known : (s : FinishState) (step : Finishing) → FinishKnows s (finishing_next s step)
+-- so it goes on
+pub finish_known : (s : FinishState) (other step : Finishing) → FinishKnows (record s { step = other }) (finishing_next s step)
 unfolding finishing_next
-finish_known s (finish.Ended its) = tt
-finish_known s (finish.StoresDurable session) = durable_known s (session + 1)
-finish_known s finish.StoresRest = tt
+finish_known s other (finish.Ended its) = tt
+finish_known s other (finish.StoresDurable session) = durable_known (record s { step = other }) (session + 1)
+finish_known s other finish.StoresRest = tt
 
 pub finished_at : (n : GuardNow) (a : ℕ) (x : Actor) (seen : LastSeen) (s : FinishState) (points : List Serial) (step : Finishing) → s.sessions ≡ n.places.sessions → slice_get n.actors a ≡ Some x
     → Fits (likeness seen None None) x → FinishKnows s step → is_done (finishing_ask points s step) ≡ false

@@ -72,7 +72,7 @@ flush_goes n a x seen s made next bytes words ask e got rests same none led = re
   busy = flush_busy n.places next bytes (ap is_through e);
 }
 
-flush_behind : (shape : Shape) (p : Places) (s : MaintainState) (next : Flushing) (bytes : List ℕ) (ask : Ask DeviceAnswer) → is_of_slot (maintain_ask shape p (flush_ledto (flush_at s next bytes) ask)) ≡ false
+pub flush_behind : (shape : Shape) (p : Places) (s : MaintainState) (next : Flushing) (bytes : List ℕ) (ask : Ask DeviceAnswer) → is_of_slot (maintain_ask shape p (flush_ledto (flush_at s next bytes) ask)) ≡ false
 unfolding flush_ledto maintaining_ask shifting_ask passed
 flush_behind shape p s next bytes (Done device.Through) = refl
 flush_behind shape p s next bytes ask = device_slot (flush_ask p next) ∙ flush_slot p next

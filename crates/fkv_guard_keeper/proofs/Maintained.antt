@@ -1,8 +1,10 @@
 -- A whole step of a turn, and its call of the device.
 use Rattle.std.proofs.Common.{◌≡◌, ℕ, List, [], ◌∷◌, refl, ap, sym, subst, ◌∙◌, Bool, true, false}
 use Rattle.std.specs.Prelude.{Option, Some, None, slice_get}
+use Rattle.fkv_base.specs.declared.shapes.Shape.{Shape}
 use Rattle.fkv_plane.specs.declared.asks.Ask.{Ask}
 use Rattle.fkv_plane.specs.declared.asks.Ask.TheVariants.{Done}
+use Rattle.fkv_plane.specs.declared.places.Places.{Places}
 use Rattle.fkv_plane.specs.Asked.{reply_to, words_after}
 use Rattle.fkv_plane.specs.Passing.{passed, is_done}
 use Rattle.fkv_epoch.specs.Claiming.{claim_ask}
@@ -11,8 +13,8 @@ use Rattle.fkv_log.specs.Shifting.{shift_ask}
 use Rattle.fkv_log.specs.Turning.{turn_ask}
 use Rattle.fkv_flush.specs.declared.answers.DeviceAnswer.{DeviceAnswer}
 use Rattle.fkv_flush.specs.declared.answers.DeviceAnswer.TheVariants as device
-use Rattle.fkv_flush.specs.Flushing.{flush_ask}
-use Rattle.fkv_flush.specs.Serving.{serve_ask}
+use Rattle.fkv_flush.specs.Flushing.{flush_ask, flush_done, bytes_done}
+use Rattle.fkv_flush.specs.Serving.{serve_ask, serve_read}
 use Rattle.fkv_flush.specs.GuardSeen.{LastSeen}
 use Rattle.fkv_flush.specs.GuardWorld.{Actor, GuardNow, GuardWorld}
 use Rattle.fkv_flush.proofs.Shown.{Fits, IsSound}
@@ -20,15 +22,16 @@ use Rattle.fkv_maintain.specs.declared.maintaining.MaintainAnswer.{MaintainAnswe
 use Rattle.fkv_maintain.specs.declared.maintaining.MaintainAnswer.TheVariants as answer
 use Rattle.fkv_maintain.specs.declared.maintaining.Maintaining.{Maintaining}
 use Rattle.fkv_maintain.specs.declared.maintaining.Maintaining.TheVariants as maintain
-use Rattle.fkv_maintain.specs.Maintaining.{MaintainState, device_asked, maintaining_ask, maintain_ask, maintain_next, maintain_called}
+use Rattle.fkv_maintain.specs.Maintaining.{MaintainState, device_asked, maintaining_ask, maintaining_called, maintain_ask, maintain_next, maintain_called}
 use Rattle.fkv_guard_keeper.specs.MaintainEvents.{maintain_events, maintain_called_events}
 use Rattle.fkv_guard_keeper.specs.MaintainShown.{maintaining_machine, maintaining_work, maintain_machine, maintain_work, IsUnderWay}
+use Rattle.fkv_guard_keeper.specs.Settled.{is_of_slot}
 use Rattle.fkv_guard_keeper.proofs.Claimed.{claimed_to}
-use Rattle.fkv_guard_keeper.proofs.Flushed.{flushed_to, flush_called_to}
+use Rattle.fkv_guard_keeper.proofs.Flushed.{flush_behind, flushed_to, flush_called_to}
 use Rattle.fkv_guard_keeper.proofs.Led.{likeness}
 use Rattle.fkv_guard_keeper.proofs.PartLed.{passed_step}
 use Rattle.fkv_guard_keeper.proofs.Scanned.{scanned_to}
-use Rattle.fkv_guard_keeper.proofs.Served.{served_to, serve_called_to}
+use Rattle.fkv_guard_keeper.proofs.Served.{serve_behind, served_to, serve_called_to}
 use Rattle.fkv_guard_keeper.proofs.Shifted.{shifted_to}
 use Rattle.fkv_guard_keeper.proofs.Turned.{turned_to}
 use Rattle.fkv_guard_keeper.proofs.TurnLed.{TurnLed}
@@ -110,3 +113,21 @@ pub called_to : (n : GuardNow) (a : ℕ) (x : Actor) (seen : LastSeen) (s : Main
     → Fits (likeness seen (maintain_machine s) (maintain_work s)) x → maintain_ask n.shape n.places s ≡ Done answer.Device
     → TurnLed n a (maintain_called_events a n.shape n.places s s.step done read) seen (maintain_called n.shape n.places s done read) n.words
 called_to n a x seen s done read got fits e = called_at n a x seen s s.step done read got fits e
+
+-- behind a call of the device nothing is asked of a slot
+called_slot_at : (shape : Shape) (p : Places) (s : MaintainState) (step : Maintaining) (done : Bool) (read : List ℕ) → maintaining_ask shape p s step ≡ Done answer.Device → is_of_slot (maintain_ask shape p (maintain_called shape p (record s { step = step }) done read)) ≡ false
+unfolding maintaining_ask maintaining_called
+called_slot_at shape p s maintain.Through done read e = cc
+called_slot_at shape p s maintain.Spent done read e = cc
+called_slot_at shape p s maintain.Broken done read e = cc
+called_slot_at shape p s maintain.Scans done read e = no_device (scan_ask s.scanning) e
+called_slot_at shape p s maintain.Claims done read e = no_device (claim_ask s.claiming) e
+called_slot_at shape p s maintain.Flushes true read e = flush_behind shape p s (flush_done shape.page s.flushing true) (bytes_done s.flushing s.bytes) (flush_ask p (flush_done shape.page s.flushing true))
+called_slot_at shape p s maintain.Flushes false read e = refl
+called_slot_at shape p s maintain.Shifts done read e = no_device (shift_ask s.shift) e
+called_slot_at shape p s maintain.Turns done read e = no_device (turn_ask shape s.turn) e
+called_slot_at shape p s maintain.Serves true read e = serve_behind shape p s (serve_read s.serving read) (serve_ask (serve_read s.serving read))
+called_slot_at shape p s maintain.Serves false read e = refl
+
+pub called_slot : (shape : Shape) (p : Places) (s : MaintainState) (done : Bool) (read : List ℕ) → maintain_ask shape p s ≡ Done answer.Device → is_of_slot (maintain_ask shape p (maintain_called shape p s done read)) ≡ false
+called_slot shape p s done read e = called_slot_at shape p s s.step done read e

@@ -58,23 +58,30 @@ slotless : (n : GuardNow) (a : ℕ) (events : List GuardEvent) (seen : LastSeen)
 slotless n a events seen there words e led = slotless_part n a events seen seek_machine (SeekKnown words) seek_next there words (seek_ask there) e led
 
 -- the owing words are loaded from a session's on, and behind the last a slot is sought
-pub owing_goes : (n : GuardNow) (a : ℕ) (x : Actor) (seen : LastSeen) (s : SeekState) (session : ℕ) → slice_get n.actors a ≡ Some x → Fits (likeness seen None None) x
-    → SeekLed n a (seek_begins a (owing_from s session).step) seen (owing_from s session) n.words
-unfolding seeking_ask deferring_ask raise_ask passed
-owing_goes n a x seen s session got fits = elim (truth (nat_lt session s.sessions)) [
-  | inl e ↦ rw e (slotless n a [] seen (record s { step = seek.LoadsOwing session }) n.words refl (record {
+pub owing_led : (n : GuardNow) (a : ℕ) (x : Actor) (seen : LastSeen) (s : SeekState) (session : ℕ) → slice_get n.actors a ≡ Some x → Fits (likeness seen None None) x
+    → PartLed n a (seek_begins a (owing_from s session).step) seen seek_machine (SeekKnown n.words) (owing_from s session) n.words n.actions
+owing_led n a x seen s session got fits = elim (truth (nat_lt session s.sessions)) [
+  | inl e ↦ rw e (record {
     follows = record { actor = x; same = stays n a x got; fits = record { machine = fits.machine; work = fits.work; seen = fits.seen; undecided = fits.undecided } };
     knows = tt;
-  }))
-  | inr e ↦ rw e (slotless n a (Begins a (ToDo ToRaise) ∷ []) seen (record s { defer = defer_begun s.defer; step = seek.SeeksSlot }) n.words refl (record {
+  })
+  | inr e ↦ rw e (record {
     follows = record {
       actor = record x { machine = Raises raise.LoadsEpoch; work = Rests };
       same = raise_begins n a x got fits.machine fits.work;
       fits = record { machine = refl; work = refl; seen = fits.seen; undecided = fits.undecided };
     };
     knows = tt;
-  }))
+  })
 ]
+
+pub owing_slot : (s : SeekState) (session : ℕ) → is_of_slot (seek_ask (owing_from s session)) ≡ false
+unfolding seeking_ask deferring_ask raise_ask passed
+owing_slot s session = elim (truth (nat_lt session s.sessions)) [ inl e ↦ rw e refl | inr e ↦ rw e refl ]
+
+owing_goes : (n : GuardNow) (a : ℕ) (x : Actor) (seen : LastSeen) (s : SeekState) (session : ℕ) → slice_get n.actors a ≡ Some x → Fits (likeness seen None None) x
+    → SeekLed n a (seek_begins a (owing_from s session).step) seen (owing_from s session) n.words
+owing_goes n a x seen s session got fits = slotless n a (seek_begins a (owing_from s session).step) seen (owing_from s session) n.words (owing_slot s session) (owing_led n a x seen s session got fits)
 
 -- with a slot held the points are sought, and behind the last wait-flush is stored
 points_go : (n : GuardNow) (a : ℕ) (y : Actor) (seen : LastSeen) (s : SeekState) (events : List GuardEvent) (words : List ℕ) → runs_now n events ≡ put_near n a (near words n.actions y) → IsSlotHeld s.defer

@@ -36,7 +36,7 @@ turn_ends w a x seen events m words actions its sound got led e f =
     rest_follows w.now a events seen (maintain_machine m) (maintain_work m) words actions over.machine over.work led.follows
 
 -- by what the turn asks next
-turn_shows : (w : GuardWorld) (a : ℕ) (x : Actor) (seen : LastSeen) (events : List GuardEvent) (s : KeeperState) (m : MaintainState) (words : List ℕ) (actions : List (Option Action)) (ask : Ask MaintainAnswer) → IsSound w
+pub turn_shows : (w : GuardWorld) (a : ℕ) (x : Actor) (seen : LastSeen) (events : List GuardEvent) (s : KeeperState) (m : MaintainState) (words : List ℕ) (actions : List (Option Action)) (ask : Ask MaintainAnswer) → IsSound w
     → slice_get w.now.actors a ≡ Some x → s.finish.sessions ≡ w.now.places.sessions → maintain_ask w.now.shape w.now.places m ≡ ask → Led w.now a events seen (maintain_machine m) (maintain_work m) words actions
     → KeeperLed w.now a events seen (maintain_ledto (in_turn s m) ask) words actions
 unfolding maintain_ledto

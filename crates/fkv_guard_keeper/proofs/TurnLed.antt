@@ -47,3 +47,11 @@ pub led_by_ask : (n : GuardNow) (a : ℕ) (events : List GuardEvent) (seen : Las
     → TurnLed n a events seen there words
 led_by_ask n a events seen there words ask e led = subst (λ (k : Ask MaintainAnswer).
     Led n a events seen (maintain_machine (settled (maintain_next n.shape n.places) maintain_gets n.actions there k)) (maintain_work (settled (maintain_next n.shape n.places) maintain_gets n.actions there k)) words (actions_settled n.actions k)) (sym e) led
+
+-- where nothing was settled
+pub unsettled_led : (n : GuardNow) (a : ℕ) (events : List GuardEvent) (seen : LastSeen) (there : MaintainState) (words : List ℕ) → is_of_slot (maintain_ask n.shape n.places there) ≡ false → TurnLed n a events seen there words
+    → Led n a events seen (maintain_machine there) (maintain_work there) words n.actions
+unsettled_led n a events seen there words e led =
+    let ask : Ask MaintainAnswer = maintain_ask n.shape n.places there in
+    subst (λ (its : MaintainState). Led n a events seen (maintain_machine its) (maintain_work its) words n.actions) (settled_stays (maintain_next n.shape n.places) maintain_gets n.actions there ask e)
+    (subst (λ (actions : List (Option Action)). Led n a events seen (maintain_machine (turn_settled n there)) (maintain_work (turn_settled n there)) words actions) (actions_stay n.actions ask e) led)
