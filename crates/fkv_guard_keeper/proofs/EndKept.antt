@@ -92,7 +92,7 @@ waits_kept n a x seen s granted reply got fits same =
     subst (λ (words : List ℕ). StepLed n a [] seen granted there words) (sym (wait_words n.words s.wait.step))
     (quiet_step n a [] seen granted there n.words its.quiet (its.sessions ∙ same) (record { actor = x; same = stays n a x got; fits = fits }))
 
-finish_slot : (points : List Serial) (s : FinishState) (step : Finishing) → is_of_slot (finishing_ask points s step) ≡ false
+pub finish_slot : (points : List Serial) (s : FinishState) (step : Finishing) → is_of_slot (finishing_ask points s step) ≡ false
 unfolding finishing_ask
 finish_slot points s (finish.Ended its) = refl
 finish_slot points s (finish.StoresDurable session) = refl

@@ -40,7 +40,7 @@ unfolding flush_ask
 flush_ended p flush.AtRest bytes e = refl
 flush_ended p step bytes e = cc
 
-flush_slot : (p : Places) (step : Flushing) → is_of_slot (flush_ask p step) ≡ false
+pub flush_slot : (p : Places) (step : Flushing) → is_of_slot (flush_ask p step) ≡ false
 unfolding flush_ask
 flush_slot p flush.AtRest = refl
 flush_slot p flush.LoadsFlushed = refl

@@ -19,6 +19,7 @@ mod Scanned
 mod SeekKept
 mod Served
 mod Shifted
+mod SlotAtRest
 mod Slots
 mod Sought
 mod StartKept
@@ -26,3 +27,4 @@ mod Started
 mod TurnKept
 mod TurnLed
 mod Turned
+mod WorldKept

@@ -76,7 +76,7 @@ write_slot write.Device told = refl
 write_slot write.Written told = refl
 write_slot (write.Broken why) told = refl
 
-quiet_slot_at : (shape : Shape) (p : Places) (s : KeeperState) (step : Keeping) → is_quiet step ≡ true → is_of_slot (keeping_ask shape p s step) ≡ false
+pub quiet_slot_at : (shape : Shape) (p : Places) (s : KeeperState) (step : Keeping) → is_quiet step ≡ true → is_of_slot (keeping_ask shape p s step) ≡ false
 unfolding keeping_ask
 quiet_slot_at shape p s (keeping.Ended its) quiet = refl
 quiet_slot_at shape p s keeping.LoadsPhase quiet = refl
