@@ -10,15 +10,11 @@ use Rattle.fkv_flush.specs.GuardWorld.{Actor, Work, GuardNow, GuardEvent, near, 
 use Rattle.fkv_flush.proofs.Shown.{runs_now, Fits, FitsMachine, FitsWork, Follows}
 use Rattle.fkv_keeper.specs.declared.answers.KeeperTold.{KeeperTold}
 use Rattle.fkv_keeper.specs.Keeping.{KeeperState, keeper_ask, keeper_next}
+pub use Rattle.fkv_guard_keeper.specs.Followed.{KeeperLed}
 use Rattle.fkv_guard_keeper.specs.KeeperShown.{keeper_machine, keeper_work, KeeperKnows}
 use Rattle.fkv_guard_keeper.specs.Settled.{settled, actions_settled, is_of_slot, keeper_gets}
 use Rattle.fkv_guard_keeper.proofs.Led.{likeness}
 use Rattle.fkv_guard_keeper.proofs.Slots.{settled_stays, actions_stay}
-
--- the actor is like the keeper, and this is known of the keeper
-pub record KeeperLed (n : GuardNow) (a : ℕ) (events : List GuardEvent) (seen : LastSeen) (its : KeeperState) (words : List ℕ) (actions : List (Option Action)) : Type 0 where
-  pub follows : Follows n a events (likeness seen (keeper_machine its) (keeper_work its)) words actions
-  pub knows : KeeperKnows (levels_of words) n.places its
 
 -- the keeper has come to a state, and the world settles what this asks of a slot
 abbrev pub keeper_settles : GuardNow → Bool → KeeperState → Ask KeeperTold → KeeperState

@@ -6,11 +6,8 @@ use Rattle.fkv_epoch.specs.EpochWorld.{EpochMachine, EpochNear, is_at_rest, mach
 use Rattle.fkv_flush.specs.GuardSeen.{LastSeen}
 use Rattle.fkv_flush.specs.GuardWorld.{Actor, Work, GuardTask, GuardNow, GuardEvent, Begins, Resumes, Moves, near, put_near, is_idle, may_work, started, epoch_step}
 use Rattle.fkv_flush.proofs.Shown.{runs_now, put_there, goes_on, begins, moves_machine, Likeness, Fits, Follows}
+pub use Rattle.fkv_guard_keeper.specs.Followed.{likeness}
 use Rattle.fkv_guard_keeper.specs.MaintainShown.{IsUnderWay}
-
--- such an actor has seen this, and nothing that it has reserved is undecided
-abbrev pub likeness : LastSeen → Option EpochMachine → Option Work → Likeness
-likeness seen machine work = record { machine = machine; work = work; seen = seen; undecided = None }
 
 pub record Led (n : GuardNow) (a : ℕ) (events : List GuardEvent) (seen : LastSeen) (machine : Option EpochMachine) (work : Option Work) (words : List ℕ) (actions : List (Option Action)) : Type 0 where
   pub follows : Follows n a events (likeness seen machine work) words actions

@@ -1,3 +1,4 @@
+mod Asked
 mod Begun
 mod Claimed
 mod Deferred
@@ -19,6 +20,7 @@ mod Scanned
 mod SeekKept
 mod Served
 mod Shifted
+pub mod Shown
 mod SlotAtRest
 mod Slots
 mod Sought
