@@ -1,13 +1,13 @@
 -- Each step of a life that begins as a store was opened spares the index.
 use Rattle.std.proofs.Common.{◌≡◌, ℕ, zero, suc, ◌<◌, ◌∙◌, refl, sym, ap, subst, arith, List, [], ◌∷◌, length, Bool, true, false}
-use Rattle.std.specs.Prelude.{◌==◌, Option, Some, None, slice_get}
+use Rattle.std.specs.Prelude.{Option, Some, None, slice_get}
 use Rattle.std.proofs.lemmas.Bool.Decides.{nat_tests}
 use Rattle.fkv_base.specs.declared.shapes.Shape.{Shape}
 use Rattle.fkv_map.specs.declared.operations.Call.TheVariants.{Refresh}
 use Rattle.fkv_plane.specs.declared.places.Places.{Places}
 use Rattle.fkv_index.proofs.Shown.{homes_are_there}
 use Rattle.fkv_keeper.specs.Keeping.{KeeperState, keeper_ask}
-use Rattle.fkv_session.specs.Sessions.{SessionState, Seat, bits_of, session_ask}
+use Rattle.fkv_session.specs.Sessions.{SessionState, Seat, session_ask}
 use Rattle.fkv_session.specs.SessionRun.{session_run}
 use Rattle.fkv_world.specs.Actors.{is_of_session}
 use Rattle.fkv_world.specs.OwnEvents.{keeper_events, session_events}
@@ -17,7 +17,7 @@ use Rattle.fkv_world.proofs.Shown.{keeper_runs, session_runs, same_seat, no_sess
 use Rattle.fkv_world_index.specs.Shows.{SparesIndex, SessionSpares, IsFair, AreFair, IsOpened}
 use Rattle.fkv_world_index.specs.Finders.{session_search, session_entry}
 use Rattle.fkv_world_index.proofs.KeeperSpares.{IsKeeperSparing, keeper_asks_spares, keeper_run_spares}
-use Rattle.fkv_world_index.proofs.Leaves.{LeavesIndex, leaves_spares}
+use Rattle.fkv_world_index.proofs.Leaves.{leaves_spares}
 use Rattle.fkv_world_index.proofs.SessionParts.{Homes, SittingKnows, run_knows}
 use Rattle.fkv_world_index.proofs.SessionSpares.{IsSessionSpared, session_asks_spares, session_run_at}
 

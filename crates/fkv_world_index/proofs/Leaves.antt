@@ -1,5 +1,5 @@
 -- The asks that leave the index as it is, whatever its words are.
-use Rattle.std.proofs.Common.{◌≡◌, ℕ, ◌+◌, ◌%◌, ◌^◌, ◌⊎◌, ◌∙◌, refl, sym, ap, subst, arith, inl, inr, List, Bool, true, false}
+use Rattle.std.proofs.Common.{◌≡◌, ℕ, ◌+◌, ◌%◌, ◌^◌, ◌⊎◌, ◌∙◌, refl, sym, ap, arith, inl, inr, List, Bool, true, false}
 use Rattle.std.specs.Prelude.{◌==◌, if◌then◌else◌, ⊤}
 use Rattle.std.proofs.lemmas.Bool.Decides.{nat_tests}
 use Rattle.fkv_plane.specs.declared.asks.Ask.{Ask}

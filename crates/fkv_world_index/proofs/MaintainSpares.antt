@@ -28,47 +28,47 @@ use Rattle.fkv_world_index.proofs.MoveSpares.{IsShiftInRange, shift_spares, shif
 use Rattle.fkv_world_index.proofs.ServeSpares.{flush_spares, ServesBelow, serve_spares, mailbox_below, serve_below, read_below}
 
 -- the drain slots are those that there are, and the mailboxes those of so many sessions
-abbrev pub MaintainTouches : ℕ → MaintainState → Maintaining → Type 0
-MaintainTouches n s Claims = IsClaimInRange s.claiming
-MaintainTouches n s Shifts = IsShiftInRange s.shift
-MaintainTouches n s Turns = IsTurnInRange s.turn
-MaintainTouches n s Serves = ServesBelow n s.serving
-MaintainTouches n s step = ⊤
+abbrev pub MaintainBounds : ℕ → MaintainState → Maintaining → Type 0
+MaintainBounds n s Claims = IsClaimInRange s.claiming
+MaintainBounds n s Shifts = IsShiftInRange s.shift
+MaintainBounds n s Turns = IsTurnInRange s.turn
+MaintainBounds n s Serves = ServesBelow n s.serving
+MaintainBounds n s step = ⊤
 
 abbrev pub IsMaintainSparing : ℕ → MaintainState → Type 0
-IsMaintainSparing n s = MaintainTouches n s s.step
+IsMaintainSparing n s = MaintainBounds n s s.step
 
 device_spares : (p : Places) (ask : Ask DeviceAnswer) → LeavesIndex p ask → LeavesIndex p (device_asked ask)
 unfolding device_asked passed
-device_spares p (Done device.Device) none = tt
-device_spares p (Done device.Through) none = tt
-device_spares p (Load place) none = none
-device_spares p (Store place word) none = none
-device_spares p (Swap place word) none = none
-device_spares p (Cas place old new) none = none
-device_spares p (Add place number) none = none
-device_spares p (Max place number) none = none
-device_spares p (Put slot action) none = none
-device_spares p (Take slot) none = none
+device_spares p (Done device.Device) leaves = tt
+device_spares p (Done device.Through) leaves = tt
+device_spares p (Load place) leaves = leaves
+device_spares p (Store place word) leaves = leaves
+device_spares p (Swap place word) leaves = leaves
+device_spares p (Cas place old new) leaves = leaves
+device_spares p (Add place number) leaves = leaves
+device_spares p (Max place number) leaves = leaves
+device_spares p (Put slot action) leaves = leaves
+device_spares p (Take slot) leaves = leaves
 
-maintaining_spares : (shape : Shape) (p : Places) (n : ℕ) (s : MaintainState) (step : Maintaining) → n ≤ p.sessions → MaintainTouches n s step → LeavesIndex p (maintaining_ask shape p s step)
+maintaining_spares : (shape : Shape) (p : Places) (n : ℕ) (s : MaintainState) (step : Maintaining) → n ≤ p.sessions → MaintainBounds n s step → LeavesIndex p (maintaining_ask shape p s step)
 unfolding maintaining_ask
-maintaining_spares shape p n s Through few none = tt
-maintaining_spares shape p n s Spent few none = tt
-maintaining_spares shape p n s Broken few none = tt
-maintaining_spares shape p n s Scans few none = passed_spares p _ _ (scan_spares p s.scanning)
-maintaining_spares shape p n s Claims few none = passed_spares p _ _ (claim_spares p s.claiming none)
-maintaining_spares shape p n s Flushes few none = device_spares p (flush_ask p s.flushing) (flush_spares p s.flushing)
-maintaining_spares shape p n s Shifts few none = passed_spares p _ _ (shift_spares p s.shift none)
-maintaining_spares shape p n s Turns few none = passed_spares p _ _ (turn_spares p shape s.turn none)
-maintaining_spares shape p n s Serves few none = device_spares p (serve_ask s.serving) (serve_spares p n s.serving few none)
+maintaining_spares shape p n s Through few bounds = tt
+maintaining_spares shape p n s Spent few bounds = tt
+maintaining_spares shape p n s Broken few bounds = tt
+maintaining_spares shape p n s Scans few bounds = passed_spares p _ _ (scan_spares p s.scanning)
+maintaining_spares shape p n s Claims few bounds = passed_spares p _ _ (claim_spares p s.claiming bounds)
+maintaining_spares shape p n s Flushes few bounds = device_spares p (flush_ask p s.flushing) (flush_spares p s.flushing)
+maintaining_spares shape p n s Shifts few bounds = passed_spares p _ _ (shift_spares p s.shift bounds)
+maintaining_spares shape p n s Turns few bounds = passed_spares p _ _ (turn_spares p shape s.turn bounds)
+maintaining_spares shape p n s Serves few bounds = device_spares p (serve_ask s.serving) (serve_spares p n s.serving few bounds)
 
 pub maintain_spares : (shape : Shape) (p : Places) (n : ℕ) (s : MaintainState) → n ≤ p.sessions → IsMaintainSparing n s → LeavesIndex p (maintain_ask shape p s)
-maintain_spares shape p n s few none = maintaining_spares shape p n s s.step few none
+maintain_spares shape p n s few bounds = maintaining_spares shape p n s s.step few bounds
 
 -- where a reply leads
-stays_spares : (n : ℕ) (s : MaintainState) (step : Maintaining) → s.step ≡ step → MaintainTouches n s step → IsMaintainSparing n s
-stays_spares n s step at none = subst (λ x. MaintainTouches n s x) (sym at) none
+stays_spares : (n : ℕ) (s : MaintainState) (step : Maintaining) → s.step ≡ step → MaintainBounds n s step → IsMaintainSparing n s
+stays_spares n s step at bounds = subst (λ x. MaintainBounds n s x) (sym at) bounds
 
 scanned : (n : ℕ) (s : MaintainState) (ask : Ask (Unit {0})) → s.step ≡ Scans → IsMaintainSparing n (scan_ledto s ask)
 unfolding scan_ledto
@@ -107,53 +107,53 @@ turned shape s (Done moved.NoSlot) at range = serves shape (record s { is_drain_
 turned shape s (Done moved.Spent) at range = tt
 turned shape s ask at range = stays_spares shape.sessions s Turns at range
 
-next_spares : (shape : Shape) (p : Places) (s : MaintainState) (step : Maintaining) (reply : ℕ) → s.step ≡ step → MaintainTouches shape.sessions s step → IsMaintainSparing shape.sessions (maintaining_next shape p s step reply)
+next_spares : (shape : Shape) (p : Places) (s : MaintainState) (step : Maintaining) (reply : ℕ) → s.step ≡ step → MaintainBounds shape.sessions s step → IsMaintainSparing shape.sessions (maintaining_next shape p s step reply)
 unfolding maintaining_next
-next_spares shape p s Scans reply at none = scanned shape.sessions (record s { scanning = scan_next shape.sessions s.scanning reply }) _ at
-next_spares shape p s Claims reply at none = claimed shape.sessions (record s { claiming = claim_next s.claiming reply }) _ at (claim_range s.claiming reply none)
-next_spares shape p s Flushes reply at none = flushed shape.sessions (record s { bytes = bytes_next s.flushing s.bytes reply; flushing = flush_next shape.page s.flushing reply }) _ at
-next_spares shape p s Shifts reply at none = shifted shape.sessions (record s { shift = shift_next shape s.shift reply }) _ at (shift_range shape s.shift reply none)
-next_spares shape p s Turns reply at none = turned shape (record s { turn = turn_next shape s.turn reply }) _ at (turn_range shape s.turn reply none)
-next_spares shape p s Serves reply at none = served shape.sessions (record s { serving = serve_next shape.sessions s.serving reply }) _ at (serve_below shape.sessions s.serving reply none)
-next_spares shape p s Through reply at none = stays_spares shape.sessions s Through at tt
-next_spares shape p s Spent reply at none = stays_spares shape.sessions s Spent at tt
-next_spares shape p s Broken reply at none = stays_spares shape.sessions s Broken at tt
+next_spares shape p s Scans reply at bounds = scanned shape.sessions (record s { scanning = scan_next shape.sessions s.scanning reply }) _ at
+next_spares shape p s Claims reply at bounds = claimed shape.sessions (record s { claiming = claim_next s.claiming reply }) _ at (claim_range s.claiming reply bounds)
+next_spares shape p s Flushes reply at bounds = flushed shape.sessions (record s { bytes = bytes_next s.flushing s.bytes reply; flushing = flush_next shape.page s.flushing reply }) _ at
+next_spares shape p s Shifts reply at bounds = shifted shape.sessions (record s { shift = shift_next shape s.shift reply }) _ at (shift_range shape s.shift reply bounds)
+next_spares shape p s Turns reply at bounds = turned shape (record s { turn = turn_next shape s.turn reply }) _ at (turn_range shape s.turn reply bounds)
+next_spares shape p s Serves reply at bounds = served shape.sessions (record s { serving = serve_next shape.sessions s.serving reply }) _ at (serve_below shape.sessions s.serving reply bounds)
+next_spares shape p s Through reply at bounds = stays_spares shape.sessions s Through at tt
+next_spares shape p s Spent reply at bounds = stays_spares shape.sessions s Spent at tt
+next_spares shape p s Broken reply at bounds = stays_spares shape.sessions s Broken at tt
 
 -- each reply, each action, and each call of the device
 pub maintain_next_spares : (shape : Shape) (p : Places) (s : MaintainState) (reply : ℕ) → IsMaintainSparing shape.sessions s → IsMaintainSparing shape.sessions (maintain_next shape p s reply)
-maintain_next_spares shape p s reply none = next_spares shape p s s.step reply refl none
+maintain_next_spares shape p s reply bounds = next_spares shape p s s.step reply refl bounds
 
-given_spares : (n : ℕ) (s : MaintainState) (step : Maintaining) (action : Action) → s.step ≡ step → MaintainTouches n s step → IsMaintainSparing n (maintaining_given s step action)
+given_spares : (n : ℕ) (s : MaintainState) (step : Maintaining) (action : Action) → s.step ≡ step → MaintainBounds n s step → IsMaintainSparing n (maintaining_given s step action)
 unfolding maintaining_given
-given_spares n s Claims action at none = claimed n (record s { claiming = claim_given s.claiming action }) _ at (claim_given_range s.claiming action none)
-given_spares n s Through action at none = stays_spares n s Through at none
-given_spares n s Spent action at none = stays_spares n s Spent at none
-given_spares n s Broken action at none = stays_spares n s Broken at none
-given_spares n s Scans action at none = stays_spares n s Scans at none
-given_spares n s Flushes action at none = stays_spares n s Flushes at none
-given_spares n s Shifts action at none = stays_spares n s Shifts at none
-given_spares n s Turns action at none = stays_spares n s Turns at none
-given_spares n s Serves action at none = stays_spares n s Serves at none
+given_spares n s Claims action at bounds = claimed n (record s { claiming = claim_given s.claiming action }) _ at (claim_given_range s.claiming action bounds)
+given_spares n s Through action at bounds = stays_spares n s Through at bounds
+given_spares n s Spent action at bounds = stays_spares n s Spent at bounds
+given_spares n s Broken action at bounds = stays_spares n s Broken at bounds
+given_spares n s Scans action at bounds = stays_spares n s Scans at bounds
+given_spares n s Flushes action at bounds = stays_spares n s Flushes at bounds
+given_spares n s Shifts action at bounds = stays_spares n s Shifts at bounds
+given_spares n s Turns action at bounds = stays_spares n s Turns at bounds
+given_spares n s Serves action at bounds = stays_spares n s Serves at bounds
 
 pub maintain_given_spares : (n : ℕ) (s : MaintainState) (action : Action) → IsMaintainSparing n s → IsMaintainSparing n (maintain_given s action)
-maintain_given_spares n s action none = given_spares n s s.step action refl none
+maintain_given_spares n s action bounds = given_spares n s s.step action refl bounds
 
-called_spares : (shape : Shape) (p : Places) (n : ℕ) (s : MaintainState) (step : Maintaining) (done : Bool) (bytes : List ℕ) → s.step ≡ step → MaintainTouches n s step → IsMaintainSparing n (maintaining_called shape p s step done bytes)
+called_spares : (shape : Shape) (p : Places) (n : ℕ) (s : MaintainState) (step : Maintaining) (done : Bool) (bytes : List ℕ) → s.step ≡ step → MaintainBounds n s step → IsMaintainSparing n (maintaining_called shape p s step done bytes)
 unfolding maintaining_called
-called_spares shape p n s Flushes true bytes at none = flushed n (record s { bytes = bytes_done s.flushing s.bytes; flushing = flush_done shape.page s.flushing true }) _ at
-called_spares shape p n s Flushes false bytes at none = tt
-called_spares shape p n s Serves true bytes at none = served n (record s { serving = serve_read s.serving bytes }) _ at (read_below n s.serving bytes none)
-called_spares shape p n s Serves false bytes at none = tt
-called_spares shape p n s Through done bytes at none = stays_spares n s Through at none
-called_spares shape p n s Spent done bytes at none = stays_spares n s Spent at none
-called_spares shape p n s Broken done bytes at none = stays_spares n s Broken at none
-called_spares shape p n s Scans done bytes at none = stays_spares n s Scans at none
-called_spares shape p n s Claims done bytes at none = stays_spares n s Claims at none
-called_spares shape p n s Shifts done bytes at none = stays_spares n s Shifts at none
-called_spares shape p n s Turns done bytes at none = stays_spares n s Turns at none
+called_spares shape p n s Flushes true bytes at bounds = flushed n (record s { bytes = bytes_done s.flushing s.bytes; flushing = flush_done shape.page s.flushing true }) _ at
+called_spares shape p n s Flushes false bytes at bounds = tt
+called_spares shape p n s Serves true bytes at bounds = served n (record s { serving = serve_read s.serving bytes }) _ at (read_below n s.serving bytes bounds)
+called_spares shape p n s Serves false bytes at bounds = tt
+called_spares shape p n s Through done bytes at bounds = stays_spares n s Through at bounds
+called_spares shape p n s Spent done bytes at bounds = stays_spares n s Spent at bounds
+called_spares shape p n s Broken done bytes at bounds = stays_spares n s Broken at bounds
+called_spares shape p n s Scans done bytes at bounds = stays_spares n s Scans at bounds
+called_spares shape p n s Claims done bytes at bounds = stays_spares n s Claims at bounds
+called_spares shape p n s Shifts done bytes at bounds = stays_spares n s Shifts at bounds
+called_spares shape p n s Turns done bytes at bounds = stays_spares n s Turns at bounds
 
 pub maintain_called_spares : (shape : Shape) (p : Places) (n : ℕ) (s : MaintainState) (done : Bool) (bytes : List ℕ) → IsMaintainSparing n s → IsMaintainSparing n (maintain_called shape p s done bytes)
-maintain_called_spares shape p n s done bytes none = called_spares shape p n s s.step done bytes refl none
+maintain_called_spares shape p n s done bytes bounds = called_spares shape p n s s.step done bytes refl bounds
 
 pub maintain_begun_spares : (n : ℕ) (s : MaintainState) → IsMaintainSparing n (maintain_begun s)
 maintain_begun_spares n s = tt

@@ -1,5 +1,5 @@
 -- A move of an offset leaves the index as it is, and so do a shift and a turn.
-use Rattle.std.proofs.Common.{◌≡◌, ℕ, inl, Bool, true, false, arith}
+use Rattle.std.proofs.Common.{ℕ, inl, Bool, true, false}
 use Rattle.std.specs.Prelude.{if◌then◌else◌, nat_lt, nat_le, ⊤}
 use Rattle.fkv_base.specs.declared.shapes.Shape.{Shape}
 use Rattle.fkv_plane.specs.declared.asks.Ask.{Ask}
@@ -151,13 +151,13 @@ taken_not Whole end = tt
 taken_not OpensOnly end = tt
 
 not_range : (step : Turning) (m : Mover) → MovesNot step → TurnsInRange step m
-not_range turn.Moves m none = absurd none
-not_range turn.AtRest m none = tt
-not_range (turn.LoadsLimit form tail) m none = tt
-not_range (turn.LoadsClosed form limit) m none = tt
-not_range (turn.RaisesLimit limit) m none = tt
-not_range (turn.LoadsHead end) m none = tt
-not_range (turn.LoadsFlushed end) m none = tt
+not_range turn.Moves m still = absurd still
+not_range turn.AtRest m still = tt
+not_range (turn.LoadsLimit form tail) m still = tt
+not_range (turn.LoadsClosed form limit) m still = tt
+not_range (turn.RaisesLimit limit) m still = tt
+not_range (turn.LoadsHead end) m still = tt
+not_range (turn.LoadsFlushed end) m still = tt
 
 turn_either : (c : Bool) (a b : TurnState) → IsTurnInRange a → IsTurnInRange b → IsTurnInRange (if c then a else b)
 turn_either true a b one other = one

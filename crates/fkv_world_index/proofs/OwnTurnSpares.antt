@@ -19,28 +19,28 @@ use Rattle.fkv_world_index.proofs.Leaves.{LeavesIndex, passed_spares}
 use Rattle.fkv_world_index.proofs.EpochSpares.{scan_spares, claim_spares, claim_range, claim_given_range}
 use Rattle.fkv_world_index.proofs.MoveSpares.{IsShiftInRange, shift_spares, shift_range, IsTurnInRange, turn_spares, turn_range}
 
-abbrev pub TurnTouches : OwnTurnState → OwnTurning → Type 0
-TurnTouches o Claims = IsClaimInRange o.claiming
-TurnTouches o Shifts = IsShiftInRange o.shift
-TurnTouches o Opens = IsTurnInRange o.turn
-TurnTouches o step = ⊤
+abbrev pub TurnBounds : OwnTurnState → OwnTurning → Type 0
+TurnBounds o Claims = IsClaimInRange o.claiming
+TurnBounds o Shifts = IsShiftInRange o.shift
+TurnBounds o Opens = IsTurnInRange o.turn
+TurnBounds o step = ⊤
 
 abbrev pub IsOwnTurnSparing : OwnTurnState → Type 0
-IsOwnTurnSparing o = TurnTouches o o.step
+IsOwnTurnSparing o = TurnBounds o o.step
 
-turning_spares : (p : Places) (shape : Shape) (o : OwnTurnState) (step : OwnTurning) → TurnTouches o step → LeavesIndex p (own_turning_ask shape o step)
+turning_spares : (p : Places) (shape : Shape) (o : OwnTurnState) (step : OwnTurning) → TurnBounds o step → LeavesIndex p (own_turning_ask shape o step)
 unfolding own_turning_ask
-turning_spares p shape o Ended none = tt
-turning_spares p shape o Scans none = passed_spares p _ _ (scan_spares p o.scanning)
-turning_spares p shape o Claims none = passed_spares p _ _ (claim_spares p o.claiming none)
-turning_spares p shape o Shifts none = passed_spares p _ _ (shift_spares p o.shift none)
-turning_spares p shape o Opens none = passed_spares p _ _ (turn_spares p shape o.turn none)
+turning_spares p shape o Ended bounds = tt
+turning_spares p shape o Scans bounds = passed_spares p _ _ (scan_spares p o.scanning)
+turning_spares p shape o Claims bounds = passed_spares p _ _ (claim_spares p o.claiming bounds)
+turning_spares p shape o Shifts bounds = passed_spares p _ _ (shift_spares p o.shift bounds)
+turning_spares p shape o Opens bounds = passed_spares p _ _ (turn_spares p shape o.turn bounds)
 
 pub own_turn_spares : (p : Places) (shape : Shape) (o : OwnTurnState) → IsOwnTurnSparing o → LeavesIndex p (own_turn_ask shape o)
-own_turn_spares p shape o none = turning_spares p shape o o.step none
+own_turn_spares p shape o bounds = turning_spares p shape o o.step bounds
 
-stays_spares : (o : OwnTurnState) (step : OwnTurning) → o.step ≡ step → TurnTouches o step → IsOwnTurnSparing o
-stays_spares o step at none = subst (λ x. TurnTouches o x) (sym at) none
+stays_spares : (o : OwnTurnState) (step : OwnTurning) → o.step ≡ step → TurnBounds o step → IsOwnTurnSparing o
+stays_spares o step at bounds = subst (λ x. TurnBounds o x) (sym at) bounds
 
 scanned : (o : OwnTurnState) (ask : Ask (Unit {0})) → o.step ≡ Scans → IsOwnTurnSparing (scan_ledto o ask)
 unfolding scan_ledto
@@ -62,28 +62,28 @@ unfolding open_ledto
 opened o (Done its) at range = tt
 opened o ask at range = stays_spares o Opens at range
 
-next_spares : (shape : Shape) (o : OwnTurnState) (step : OwnTurning) (reply : ℕ) → o.step ≡ step → TurnTouches o step → IsOwnTurnSparing (own_turning_next shape o step reply)
+next_spares : (shape : Shape) (o : OwnTurnState) (step : OwnTurning) (reply : ℕ) → o.step ≡ step → TurnBounds o step → IsOwnTurnSparing (own_turning_next shape o step reply)
 unfolding own_turning_next
-next_spares shape o Ended reply at none = stays_spares o Ended at none
-next_spares shape o Scans reply at none = scanned (record o { scanning = scan_next shape.sessions o.scanning reply }) _ at
-next_spares shape o Claims reply at none = claimed (record o { claiming = claim_next o.claiming reply }) _ at (claim_range o.claiming reply none)
-next_spares shape o Shifts reply at none = shifted (record o { shift = shift_next shape o.shift reply }) _ at (shift_range shape o.shift reply none)
-next_spares shape o Opens reply at none = opened (record o { turn = turn_next shape o.turn reply }) _ at (turn_range shape o.turn reply none)
+next_spares shape o Ended reply at bounds = stays_spares o Ended at bounds
+next_spares shape o Scans reply at bounds = scanned (record o { scanning = scan_next shape.sessions o.scanning reply }) _ at
+next_spares shape o Claims reply at bounds = claimed (record o { claiming = claim_next o.claiming reply }) _ at (claim_range o.claiming reply bounds)
+next_spares shape o Shifts reply at bounds = shifted (record o { shift = shift_next shape o.shift reply }) _ at (shift_range shape o.shift reply bounds)
+next_spares shape o Opens reply at bounds = opened (record o { turn = turn_next shape o.turn reply }) _ at (turn_range shape o.turn reply bounds)
 
 -- each reply, and each action
 pub own_turn_next_spares : (shape : Shape) (o : OwnTurnState) (reply : ℕ) → IsOwnTurnSparing o → IsOwnTurnSparing (own_turn_next shape o reply)
-own_turn_next_spares shape o reply none = next_spares shape o o.step reply refl none
+own_turn_next_spares shape o reply bounds = next_spares shape o o.step reply refl bounds
 
-given_spares : (o : OwnTurnState) (step : OwnTurning) (action : Action) → o.step ≡ step → TurnTouches o step → IsOwnTurnSparing (own_turning_given o step action)
+given_spares : (o : OwnTurnState) (step : OwnTurning) (action : Action) → o.step ≡ step → TurnBounds o step → IsOwnTurnSparing (own_turning_given o step action)
 unfolding own_turning_given
-given_spares o Claims action at none = claimed (record o { claiming = claim_given o.claiming action }) _ at (claim_given_range o.claiming action none)
-given_spares o Ended action at none = stays_spares o Ended at none
-given_spares o Scans action at none = stays_spares o Scans at none
-given_spares o Shifts action at none = stays_spares o Shifts at none
-given_spares o Opens action at none = stays_spares o Opens at none
+given_spares o Claims action at bounds = claimed (record o { claiming = claim_given o.claiming action }) _ at (claim_given_range o.claiming action bounds)
+given_spares o Ended action at bounds = stays_spares o Ended at bounds
+given_spares o Scans action at bounds = stays_spares o Scans at bounds
+given_spares o Shifts action at bounds = stays_spares o Shifts at bounds
+given_spares o Opens action at bounds = stays_spares o Opens at bounds
 
 pub own_turn_given_spares : (o : OwnTurnState) (action : Action) → IsOwnTurnSparing o → IsOwnTurnSparing (own_turn_given o action)
-own_turn_given_spares o action none = given_spares o o.step action refl none
+own_turn_given_spares o action bounds = given_spares o o.step action refl bounds
 
 pub own_turn_begun_spares : (o : OwnTurnState) → IsOwnTurnSparing (own_turn_begun o)
 own_turn_begun_spares o = tt

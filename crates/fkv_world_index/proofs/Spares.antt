@@ -1,9 +1,7 @@
 -- The places where no word of the index is, and what keeps the index: a change of a word elsewhere, one that leaves its word as it is, and one above a link.
-use Rattle.std.proofs.Common.{◌≡◌, ◌≢◌, ℕ, ◌+◌, ◌-◌, ◌%◌, ◌^◌, ◌<◌, ◌≤◌, ◌∙◌, refl, sym, arith, List, Bool, true, false}
-use Rattle.std.specs.Prelude.{◌==◌, if◌then◌else◌, Option, Some, None}
+use Rattle.std.proofs.Common.{◌≡◌, ◌≢◌, ℕ, ◌-◌, ◌%◌, ◌<◌, ◌≤◌, ◌∙◌, refl, sym, arith, Bool, true, false}
 use Rattle.std.proofs.lemmas.Bool.Decides.{nat_tests}
 use Rattle.fkv_base.specs.Limits.{drain_slots}
-use Rattle.fkv_plane.specs.declared.asks.Ask.{Ask}
 use Rattle.fkv_plane.specs.declared.places.Places.{Places}
 use Rattle.fkv_plane.specs.declared.places.RecordWord.{RecordWord}
 use Rattle.fkv_plane.specs.declared.places.SessionWord.{SessionWord}
@@ -11,13 +9,9 @@ use Rattle.fkv_plane.specs.declared.places.SessionWord.TheVariants as own
 use Rattle.fkv_plane.specs.declared.places.SharedWord.{SharedWord}
 use Rattle.fkv_plane.specs.declared.places.SharedWord.TheVariants as one
 use Rattle.fkv_plane.specs.Places.{shared_place, drain_place, session_number, session_place, bucket_place, record_place, frames_start}
-use Rattle.fkv_plane.specs.Asked.{asked, asked_place, word_at}
 use Rattle.fkv_index.specs.IndexWorld.{is_bucket_place, is_link_place}
 use Rattle.fkv_index.specs.Slots.{link_of}
-use Rattle.fkv_latch.specs.declared.latching.Latching.{Latching}
-use Rattle.fkv_latch.specs.declared.latching.Latching.TheVariants as latch
-use Rattle.fkv_latch.specs.Latching.{latch_ask}
-use Rattle.fkv_world_index.specs.Shows.{KeepsWord, KeepsIndex, SparesIndex}
+use Rattle.fkv_world_index.specs.Shows.{KeepsWord}
 
 -- neither the count of taken overflow buckets nor a word of a bucket is there
 pub record IsElsewhere (p : Places) (place : ℕ) : Type 0 where

@@ -35,11 +35,10 @@ use Rattle.fkv_ops.specs.declared.walking.WalkAnswer.TheVariants as walk
 use Rattle.fkv_ops.specs.declared.walking.Walking.{Walking}
 use Rattle.fkv_ops.specs.declared.walking.Walking.TheVariants as walking
 use Rattle.fkv_ops.specs.Values.{value_of}
-use Rattle.fkv_ops.specs.Requests.{purpose_of, is_read, is_blind}
+use Rattle.fkv_ops.specs.Requests.{is_read, is_blind}
 use Rattle.fkv_ops.specs.Walking.{walk_ask, walk_next, walk_on}
 use Rattle.fkv_ops.specs.Appending.{append_ask, append_next}
-use Rattle.fkv_ops.specs.Trying.{TryState, trying_ask, try_ask, with_latch, is_wait, ended_without, ends, takes_effect, walks, wants_shared, try_begun, shared_ledto, must_shift, wants_exclusive, slot_of, words_of, appends, copies_from, copies, awaits, held_used, met_nowhere, met_disk, changes, is_own_version, region_met, met_record, walked, has_walked, walk_ledto, safe_loaded, current_ledto, value_changed, told_value, answer_ledto, exclusive_ledto, old_ledto, append_ledto, exclusive_dropped, shared_dropped, latch_moved, trying_next, try_next}
-
+use Rattle.fkv_ops.specs.Trying.{TryState, trying_ask, try_ask, with_latch, is_wait, ended_without, ends, takes_effect, walks, wants_shared, try_begun, shared_ledto, must_shift, wants_exclusive, appends, copies_from, copies, awaits, held_used, met_nowhere, met_disk, changes, is_own_version, region_met, met_record, walked, has_walked, walk_ledto, safe_loaded, current_ledto, value_changed, told_value, answer_ledto, exclusive_ledto, old_ledto, append_ledto, exclusive_dropped, shared_dropped, latch_moved, trying_next, try_next}
 use Rattle.fkv_world_index.specs.Finders.{walk_work, try_work, search_in, entry_in}
 use Rattle.fkv_world_index.proofs.Leaves.{LeavesIndex, passed_spares, IsAtLatch, latch_leaves, latch_stays, latch_begins}
 use Rattle.fkv_world_index.proofs.Spares.{record_elsewhere}

@@ -1,6 +1,6 @@
 -- A walk behind its search leaves the index as it is, and so does an append that doesn't publish.
-use Rattle.std.proofs.Common.{◌≡◌, arith, inl, false}
-use Rattle.std.specs.Prelude.{⊤, Option, None}
+use Rattle.std.proofs.Common.{◌≡◌, inl, false}
+use Rattle.std.specs.Prelude.{None}
 use Rattle.fkv_plane.specs.declared.places.Places.{Places}
 use Rattle.fkv_plane.specs.declared.places.RecordWord.TheVariants as rec
 use Rattle.fkv_plane.specs.declared.places.SharedWord.TheVariants as one
