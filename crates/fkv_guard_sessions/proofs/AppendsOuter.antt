@@ -22,7 +22,7 @@ use Rattle.fkv_ops.specs.declared.appending.AppendAnswer.TheVariants as answer
 use Rattle.fkv_ops.specs.declared.appending.Appending.{Appending}
 use Rattle.fkv_ops.specs.declared.appending.Appending.TheVariants.{Ended, Reserves, Fills, Publishes, Invalidates}
 use Rattle.fkv_ops.specs.declared.appending.FoundSlot.{FoundSlot}
-use Rattle.fkv_ops.specs.Appending.{AppendState, append_begun, appending_ask, append_ask, append_ended, addr_reserved, reserve_ledto, fill_ledto, publish_ledto, invalidate_ledto, appending_next, append_next}
+use Rattle.fkv_ops.specs.Appending.{AppendState, append_begun, appending_ask, append_ended, addr_reserved, reserve_ledto, fill_ledto, publish_ledto, invalidate_ledto, appending_next, append_next}
 use Rattle.fkv_plane.specs.Passing.{passed}
 use Rattle.fkv_guard_sessions.specs.Steps.{IsOuter}
 use Rattle.fkv_guard_sessions.specs.Tries.{AppendOwes}

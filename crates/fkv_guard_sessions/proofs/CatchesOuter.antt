@@ -16,7 +16,7 @@ use Rattle.fkv_index.specs.Slots.{home_of}
 use Rattle.fkv_latch.specs.declared.latching.LatchAnswer.TheVariants.{Taken}
 use Rattle.fkv_latch.specs.declared.latching.LatchTask.TheVariants.{TakeShared}
 use Rattle.fkv_latch.specs.declared.latching.LatchAnswer.{LatchAnswer}
-use Rattle.fkv_latch.specs.Latching.{latch_ask, latch_next, latch_next_ask}
+use Rattle.fkv_latch.specs.Latching.{latch_next, latch_next_ask}
 use Rattle.fkv_ops.specs.declared.requests.Seen.{Seen}
 use Rattle.fkv_pending.specs.declared.pending_requests.PendingRequest.{PendingRequest}
 use Rattle.fkv_pending.specs.Pending.{is_unlatched}

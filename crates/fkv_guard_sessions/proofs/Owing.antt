@@ -1,6 +1,6 @@
 -- What a step of a session owes, from its own run and from what is left.
 use Rattle.std.proofs.Common.{◌≡◌, ℕ, ◌<◌, ◌≤◌, List, refl, subst}
-use Rattle.std.specs.Prelude.{⊤, Some}
+use Rattle.std.specs.Prelude.{Some}
 use Rattle.fkv_plane.specs.declared.places.SharedWord.TheVariants as one
 use Rattle.fkv_plane.specs.Places.{shared_place}
 use Rattle.fkv_plane.specs.Asked.{word_at}
@@ -13,16 +13,16 @@ use Rattle.fkv_pending.specs.declared.attempting.Attempting.TheVariants.{Tries}
 use Rattle.fkv_pending.specs.Attempting.{AttemptState}
 use Rattle.fkv_session.specs.declared.sessions.Sitting.{Sitting}
 use Rattle.fkv_session.specs.declared.sessions.Sitting.TheVariants.{Attempts, Polls}
-use Rattle.fkv_session.specs.SessionRun.{SessionEvent, session_run}
+use Rattle.fkv_session.specs.SessionRun.{session_run}
 use Rattle.fkv_session.specs.Sessions.{SessionState}
 use Rattle.fkv_guard_sessions.specs.Likenesses.{last_seen}
-use Rattle.fkv_guard_sessions.specs.Owing.{try_changes, attempt_changes, sitting_changes, IsAboveReadOnly, IsBelowTail, ChangesAreAbove, RunsOwe}
+use Rattle.fkv_guard_sessions.specs.Owing.{try_changes, attempt_changes, sitting_changes, ChangesAreAbove, RunsOwe}
 use Rattle.fkv_guard_sessions.proofs.TriesOuter.{TryMayChange}
 use Rattle.fkv_guard_sessions.proofs.AttemptsOuter.{AttemptMayChange}
 use Rattle.fkv_guard_sessions.proofs.SessionsOuter.{SittingMayChange, its_homes, session_owes, session_run_outer}
 use Rattle.fkv_guard_sessions.proofs.TriesSeen.{TryAbove}
 use Rattle.fkv_guard_sessions.proofs.AttemptsSeen.{AttemptAbove}
-use Rattle.fkv_guard_sessions.proofs.SessionsSeen.{SittingAbove, IsSessionAbove, session_run_above}
+use Rattle.fkv_guard_sessions.proofs.SessionsSeen.{SittingAbove, session_run_above}
 
 try_high : (seen : Seen) (t : TryState) (step : Trying) (addr : ℕ) → t.seen ≡ seen → TryAbove t step → try_changes step ≡ Some addr → seen.offsets.read_only.0 ≤ addr
 try_high seen t (SwapsValue its) addr same above e = let here : its.0 ≡ addr = cc in subst (λ (x : ℕ). seen.offsets.read_only.0 ≤ x) here (subst (λ (x : Seen). x.offsets.read_only.0 ≤ its.0) same above)

@@ -10,7 +10,6 @@ use Rattle.fkv_plane.specs.declared.asks.Ask.{Ask}
 use Rattle.fkv_plane.specs.declared.asks.Ask.TheVariants.{Done}
 use Rattle.fkv_plane.specs.declared.places.Places.{Places}
 use Rattle.fkv_plane.specs.Passing.{passed}
-use Rattle.fkv_plane.specs.Places.{bucket_place}
 use Rattle.fkv_flush.specs.GuardSeen.{LastSeen}
 use Rattle.fkv_flush.specs.GuardWorld.{is_guarded}
 use Rattle.fkv_index.specs.declared.finding.Linking.TheVariants.{Never}
@@ -21,8 +20,7 @@ use Rattle.fkv_map.specs.declared.operations.Op.TheVariants as op
 use Rattle.fkv_latch.specs.declared.latching.LatchAnswer.{LatchAnswer}
 use Rattle.fkv_latch.specs.declared.latching.LatchAnswer.TheVariants.{Taken}
 use Rattle.fkv_latch.specs.declared.latching.LatchTask.TheVariants.{TakeShared, DropShared, TakeExclusive, DropExclusive}
-use Rattle.fkv_latch.specs.declared.latching.LatchTask.{LatchTask}
-use Rattle.fkv_latch.specs.Latching.{latch_ask, latch_next, latch_next_ask}
+use Rattle.fkv_latch.specs.Latching.{latch_next_ask}
 use Rattle.fkv_log.specs.declared.regions.Region.{Region}
 use Rattle.fkv_log.specs.Regions.{seen_region_of}
 use Rattle.fkv_ops.specs.declared.answers.Reason.TheVariants as reason
@@ -44,7 +42,7 @@ use Rattle.fkv_ops.specs.Values.{value_of}
 use Rattle.fkv_ops.specs.Requests.{purpose_of, is_read, is_blind}
 use Rattle.fkv_ops.specs.Walking.{WalkState, walk_ask, walk_next, walk_on}
 use Rattle.fkv_ops.specs.Appending.{append_ask, append_next}
-use Rattle.fkv_ops.specs.Trying.{TryState, trying_ask, try_ask, with_latch, is_wait, ended_without, ends, takes_effect, walks, wants_shared, try_begun, shared_ledto, must_shift, wants_exclusive, slot_of, words_of, appends, copies_from, copies, awaits, held_used, met_nowhere, met_disk, changes, is_own_version, region_met, met_record, walked, has_walked, walk_ledto, safe_loaded, current_ledto, value_changed, told_value, answer_ledto, exclusive_ledto, old_ledto, append_ledto, exclusive_dropped, shared_dropped, latch_moved, trying_next, try_next}
+use Rattle.fkv_ops.specs.Trying.{TryState, trying_ask, with_latch, is_wait, ended_without, ends, takes_effect, walks, wants_shared, try_begun, shared_ledto, must_shift, wants_exclusive, slot_of, words_of, appends, copies_from, copies, awaits, held_used, met_nowhere, met_disk, changes, is_own_version, region_met, met_record, walked, has_walked, walk_ledto, safe_loaded, current_ledto, value_changed, told_value, answer_ledto, exclusive_ledto, old_ledto, append_ledto, exclusive_dropped, shared_dropped, latch_moved, trying_next, try_next}
 use Rattle.fkv_guard_sessions.specs.Steps.{IsOuter}
 use Rattle.fkv_guard_sessions.specs.Tries.{MayChange, TryOwes}
 use Rattle.fkv_guard_sessions.proofs.OuterAsks.{passed_outer, IsLatchOuter, latch_outer, latch_next_outer, latch_first_outer}

@@ -14,8 +14,7 @@ use Rattle.fkv_index.specs.Slots.{home_of}
 use Rattle.fkv_latch.specs.declared.latching.LatchAnswer.{LatchAnswer}
 use Rattle.fkv_latch.specs.declared.latching.LatchAnswer.TheVariants.{Taken}
 use Rattle.fkv_latch.specs.declared.latching.LatchTask.TheVariants.{TakeShared, DropShared, TakeExclusive, DropExclusive}
-use Rattle.fkv_latch.specs.Latching.{latch_ask, latch_next, latch_next_ask}
-use Rattle.fkv_log.specs.declared.regions.Region.{Region}
+use Rattle.fkv_latch.specs.Latching.{latch_next_ask}
 use Rattle.fkv_log.specs.declared.regions.Region.TheVariants.{Disk, Mutable}
 use Rattle.fkv_log.specs.Regions.{seen_region_of}
 use Rattle.fkv_ops.specs.declared.answers.Reason.TheVariants as reason
@@ -34,10 +33,10 @@ use Rattle.fkv_ops.specs.declared.trying.Trying.TheVariants.{Ended, TakesShared,
 use Rattle.fkv_ops.specs.declared.walking.WalkAnswer.{WalkAnswer}
 use Rattle.fkv_ops.specs.declared.walking.WalkAnswer.TheVariants as walk
 use Rattle.fkv_ops.specs.Values.{value_of}
-use Rattle.fkv_ops.specs.Requests.{purpose_of, is_read, is_blind}
-use Rattle.fkv_ops.specs.Walking.{WalkState, walk_ask, walk_next, walk_on}
+use Rattle.fkv_ops.specs.Requests.{is_read, is_blind}
+use Rattle.fkv_ops.specs.Walking.{walk_ask, walk_next, walk_on}
 use Rattle.fkv_ops.specs.Appending.{append_ask, append_next}
-use Rattle.fkv_ops.specs.Trying.{TryState, trying_ask, try_ask, with_latch, is_wait, ended_without, ends, takes_effect, walks, wants_shared, try_begun, shared_ledto, must_shift, wants_exclusive, slot_of, words_of, appends, copies_from, copies, awaits, held_used, met_nowhere, met_disk, changes, is_own_version, region_met, met_record, walked, has_walked, walk_ledto, safe_loaded, current_ledto, value_changed, told_value, answer_ledto, exclusive_ledto, old_ledto, append_ledto, exclusive_dropped, shared_dropped, latch_moved, trying_next, try_next}
+use Rattle.fkv_ops.specs.Trying.{TryState, with_latch, is_wait, ended_without, ends, takes_effect, walks, wants_shared, try_begun, shared_ledto, must_shift, wants_exclusive, appends, copies_from, copies, awaits, held_used, met_nowhere, met_disk, changes, is_own_version, region_met, met_record, walked, has_walked, walk_ledto, safe_loaded, current_ledto, value_changed, told_value, answer_ledto, exclusive_ledto, old_ledto, append_ledto, exclusive_dropped, shared_dropped, latch_moved, trying_next, try_next}
 use Rattle.fkv_guard_sessions.proofs.WalksSeen.{IsWalkAbove, TellsAbove, AsksAbove, walk_tells_above, walk_next_above}
 
 -- by its step: its walk goes by the head that was seen, and what it has come to change lies at or above the read-only offset

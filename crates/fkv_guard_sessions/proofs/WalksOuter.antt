@@ -14,7 +14,7 @@ use Rattle.fkv_index.specs.declared.finding.Purpose.{Purpose}
 use Rattle.fkv_index.specs.declared.finding.Purpose.TheVariants.{Update}
 use Rattle.fkv_index.specs.declared.homes.Home.{Home}
 use Rattle.fkv_index.specs.Slots.{entry_addr}
-use Rattle.fkv_index.specs.Finding.{linking_for, find_led, find_ask, find_next, find_next_ask}
+use Rattle.fkv_index.specs.Finding.{linking_for, find_ask, find_next, find_next_ask}
 use Rattle.fkv_index.specs.Searches.{IsFoundFor}
 use Rattle.fkv_index.proofs.Shown.{MayLink, led_may}
 use Rattle.fkv_flush.specs.GuardWorld.{is_guarded}

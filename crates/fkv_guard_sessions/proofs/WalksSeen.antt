@@ -1,5 +1,5 @@
 -- The records that a walk meets lie at or above the head that its session has seen.
-use Rattle.std.proofs.Common.{◌≡◌, ℕ, ◌≤◌, ◌∙◌, arith, refl, sym, ap, subst, Bool, true, false}
+use Rattle.std.proofs.Common.{◌≡◌, ℕ, ◌≤◌, arith, refl, sym, subst, Bool, true, false}
 use Rattle.std.proofs.lemmas.Bool.Decides.{nat_tests}
 use Rattle.std.specs.Prelude.{if◌then◌else◌, ◌==◌, ◌-◌, nat_lt, ⊤}
 use Rattle.fkv_base.specs.declared.numbers.Addr.{Addr}
@@ -10,13 +10,10 @@ use Rattle.fkv_plane.specs.declared.places.Places.{Places}
 use Rattle.fkv_index.specs.declared.finding.FindAnswer.{FindAnswer}
 use Rattle.fkv_index.specs.declared.finding.Found.{Found}
 use Rattle.fkv_index.specs.declared.finding.Found.TheVariants as found
-use Rattle.fkv_index.specs.declared.finding.Purpose.{Purpose}
-use Rattle.fkv_index.specs.declared.homes.Home.{Home}
 use Rattle.fkv_index.specs.Slots.{entry_addr}
 use Rattle.fkv_index.specs.Finding.{find_ask, find_next, find_next_ask}
 use Rattle.fkv_log.specs.declared.loading.LoadAnswer.{LoadAnswer}
 use Rattle.fkv_log.specs.declared.loading.LoadAnswer.TheVariants as load
-use Rattle.fkv_log.specs.declared.loading.Loading.{Loading}
 use Rattle.fkv_log.specs.declared.loading.Loading.TheVariants as loading
 use Rattle.fkv_log.specs.Loading.{load_ask, load_next, load_next_ask}
 use Rattle.fkv_ops.specs.declared.header_words.HeaderSaid.{HeaderSaid}
@@ -26,7 +23,7 @@ use Rattle.fkv_ops.specs.declared.walking.WalkAnswer.TheVariants as answer
 use Rattle.fkv_ops.specs.declared.walking.Walking.{Walking}
 use Rattle.fkv_ops.specs.declared.walking.Walking.TheVariants.{Ended, Finds, Meets, HasFound, LoadsValue}
 use Rattle.fkv_ops.specs.HeaderWords.{header_said}
-use Rattle.fkv_ops.specs.Walking.{WalkState, walk_begun, walking_ask, walk_ask, walk_ended, reached, slot_found, find_ledto, first_met, record_met, load_ledto, value_ledto, walking_next, walk_next, walking_on, walk_on}
+use Rattle.fkv_ops.specs.Walking.{WalkState, walking_ask, walk_ask, walk_ended, reached, slot_found, find_ledto, first_met, record_met, load_ledto, value_ledto, walking_next, walk_next}
 use Rattle.fkv_plane.specs.Passing.{passed}
 
 -- what it meets and what it has found
