@@ -26,7 +26,7 @@ use Rattle.fkv_ops.specs.Appending.{AppendState, append_begun, appending_ask, ap
 use Rattle.fkv_plane.specs.Passing.{passed}
 use Rattle.fkv_guard_sessions.specs.Steps.{IsOuter}
 use Rattle.fkv_guard_sessions.specs.Tries.{AppendOwes}
-use Rattle.fkv_guard_sessions.proofs.OuterAsks.{passed_outer}
+use Rattle.fkv_guard_sessions.proofs.OuterAsks.{passed_is_outer}
 
 -- the entry is published at a slot
 abbrev pub PublishesOuter : Places → Publishing → Type 0
@@ -49,7 +49,7 @@ publish_outer p (publishing.SwapsEntry place word entry) outer = outer
 -- what an append owes, as its ask is passed on
 pub append_owes : {A B C : Type 0} (p : Places) (a : AppendState) (step : Appending) (x : A) (y : B) (z : C) → StepPublishes p a step → AppendOwes p step (passed (passed (passed (appending_ask p a step) x) y) z)
 unfolding appending_ask
-append_owes p a (Publishes addr) x y z outer = passed_outer p _ z (passed_outer p _ y (passed_outer p _ x (passed_outer p _ answer.Contended (publish_outer p a.publishing outer))))
+append_owes p a (Publishes addr) x y z outer = passed_is_outer p _ z (passed_is_outer p _ y (passed_is_outer p _ x (passed_is_outer p _ answer.Contended (publish_outer p a.publishing outer))))
 append_owes p a (Ended its) x y z outer = tt
 append_owes p a Reserves x y z outer = tt
 append_owes p a (Fills addr) x y z outer = tt

@@ -25,7 +25,7 @@ use Rattle.fkv_session.specs.declared.catching_up.Catching.TheVariants.{Ended, R
 use Rattle.fkv_session.specs.CatchingUp.{CatchState, catching_ask, finishes, latch_begun, latch_wanted, latches, cuts, is_same_version, enters_prepare, takes_up, seen_after, refresh_ledto, protect_ledto, latch_ledto, finish_ledto, catch_requests, catching_next, catch_next}
 use Rattle.fkv_words.specs.PhaseWords.{phase_said}
 use Rattle.fkv_guard_sessions.specs.Catches.{CatchOwes}
-use Rattle.fkv_guard_sessions.proofs.OuterAsks.{passed_outer, IsLatchOuter, latch_outer, latch_next_outer, latch_first_outer}
+use Rattle.fkv_guard_sessions.proofs.OuterAsks.{passed_is_outer, IsLatchOuter, latch_outer, latch_next_outer, latch_first_outer}
 use Rattle.fkv_guard_sessions.proofs.AttemptsOuter.{HomesAreLow}
 
 abbrev pub CatchRow : Places → CatchState → Catching → Type 0
@@ -38,7 +38,7 @@ IsCatchOuter p c = CatchRow p c c.step
 -- what it owes, as its ask is passed on
 pub catch_owes : {A : Type 0} (p : Places) (n : ℕ) (c : CatchState) (requests : List PendingRequest) (step : Catching) (x : A) → CatchRow p c step → CatchOwes p step (passed (catching_ask p n c requests step) x)
 unfolding catching_ask
-catch_owes p n c requests (Latches index) x row = passed_outer p _ x (passed_outer p _ tt (latch_outer p c.latching row))
+catch_owes p n c requests (Latches index) x row = passed_is_outer p _ x (passed_is_outer p _ tt (latch_outer p c.latching row))
 catch_owes p n c requests Ended x row = tt
 catch_owes p n c requests Refreshes x row = tt
 catch_owes p n c requests Protects x row = tt

@@ -1,8 +1,7 @@
--- Asks that write none of the guard's words: what is passed on, and what is asked of a latch in the index.
-use Rattle.std.proofs.Common.{◌≡◌, ℕ, ◌<◌, arith, Bool, true, false}
+-- Asks that write none of the guard's words: what is passed on, and what is asked of a latch of the index.
+use Rattle.std.proofs.Common.{◌≡◌, ℕ, ◌<◌, arith, sym, subst, Bool, true, false}
 use Rattle.std.specs.Prelude.{if◌then◌else◌, ⊤}
 use Rattle.fkv_plane.specs.declared.asks.Ask.{Ask}
-use Rattle.fkv_plane.specs.declared.asks.Ask.TheVariants.{Load, Store, Swap, Cas, Add, Max, Put, Take, Done}
 use Rattle.fkv_plane.specs.declared.places.Places.{Places}
 use Rattle.fkv_plane.specs.Passing.{passed}
 use Rattle.fkv_plane.specs.Places.{bucket_place}
@@ -14,19 +13,11 @@ use Rattle.fkv_latch.specs.declared.latching.Latching.{Latching}
 use Rattle.fkv_latch.specs.declared.latching.Latching.TheVariants.{AtRest, AddsShare, GivesBack, DropsShare, LoadsWord, SetsExclusive, DropsExclusive}
 use Rattle.fkv_latch.specs.Latching.{latch_first, latch_ask, latch_next, is_exclusive, is_free}
 use Rattle.fkv_guard_sessions.specs.Steps.{IsOuter}
+use Rattle.fkv_guard_sessions.proofs.Outer.{passed_owes}
 
 -- what is passed on writes the same word
-pub passed_outer : {A B : Type 0} (p : Places) (ask : Ask A) (its : B) → IsOuter p ask → IsOuter p (passed ask its)
-unfolding passed
-passed_outer p (Load place) its outer = tt
-passed_outer p (Store place word) its outer = outer
-passed_outer p (Swap place word) its outer = outer
-passed_outer p (Cas place old new) its outer = outer
-passed_outer p (Add place k) its outer = outer
-passed_outer p (Max place k) its outer = outer
-passed_outer p (Put slot action) its outer = tt
-passed_outer p (Take slot) its outer = tt
-passed_outer p (Done told) its outer = tt
+pub passed_is_outer : {A B : Type 0} (p : Places) (ask : Ask A) (its : B) → IsOuter p ask → IsOuter p (passed ask its)
+passed_is_outer p ask its outer = subst (λ (t : Type 0). t) (sym (passed_owes p ask its)) outer
 
 -- a latch is in the index
 abbrev pub IsLatchOuter : Places → Latching → Type 0

@@ -45,7 +45,7 @@ use Rattle.fkv_ops.specs.Appending.{append_ask, append_next}
 use Rattle.fkv_ops.specs.Trying.{TryState, trying_ask, with_latch, is_wait, ended_without, ends, takes_effect, walks, wants_shared, try_begun, shared_ledto, must_shift, wants_exclusive, slot_of, words_of, appends, copies_from, copies, awaits, held_used, met_nowhere, met_disk, changes, is_own_version, region_met, met_record, walked, has_walked, walk_ledto, safe_loaded, current_ledto, value_changed, told_value, answer_ledto, exclusive_ledto, old_ledto, append_ledto, exclusive_dropped, shared_dropped, latch_moved, trying_next, try_next}
 use Rattle.fkv_guard_sessions.specs.Steps.{IsOuter}
 use Rattle.fkv_guard_sessions.specs.Tries.{MayChange, TryOwes}
-use Rattle.fkv_guard_sessions.proofs.OuterAsks.{passed_outer, IsLatchOuter, latch_outer, latch_next_outer, latch_first_outer}
+use Rattle.fkv_guard_sessions.proofs.OuterAsks.{passed_is_outer, IsLatchOuter, latch_outer, latch_next_outer, latch_first_outer}
 use Rattle.fkv_guard_sessions.proofs.WalksOuter.{IsWalkOuter, AnswerOuter, WalkTells, walk_outer, walk_tells, walk_next_outer, walk_on_outer, walk_begun_outer}
 use Rattle.fkv_guard_sessions.proofs.AppendsOuter.{IsAppendOuter, append_owes, append_next_outer, append_begun_outer}
 
@@ -83,23 +83,23 @@ TryMayChange seen words step = ⊤
 
 -- what a try owes, as its ask is passed on
 twice_outer : {A B C : Type 0} (p : Places) (ask : Ask A) (x : B) (y : C) → IsOuter p ask → IsOuter p (passed (passed ask x) y)
-twice_outer p ask x y outer = passed_outer p (passed ask x) y (passed_outer p ask x outer)
+twice_outer p ask x y outer = passed_is_outer p (passed ask x) y (passed_is_outer p ask x outer)
 
 pub try_owes : {A B : Type 0} (seen : LastSeen) (p : Places) (words : List ℕ) (t : TryState) (step : Trying) (x : A) (y : B) → TryRow p t step → TryMayChange seen words step → TryOwes seen p words t step (passed (passed (trying_ask p t step) x) y)
 unfolding trying_ask passed
 try_owes seen p words t (Ended its) x y row may = tt
-try_owes seen p words t TakesShared x y row may = twice_outer p _ x y (passed_outer p _ answer.Shift (latch_outer p t.latching row))
-try_owes seen p words t Walks x y row may = twice_outer p _ x y (passed_outer p _ answer.Shift (walk_outer p (is_read t.request.op) t.walk row))
+try_owes seen p words t TakesShared x y row may = twice_outer p _ x y (passed_is_outer p _ answer.Shift (latch_outer p t.latching row))
+try_owes seen p words t Walks x y row may = twice_outer p _ x y (passed_is_outer p _ answer.Shift (walk_outer p (is_read t.request.op) t.walk row))
 try_owes seen p words t (LoadsSafe addr version) x y row may = tt
 try_owes seen p words t (SwapsValue addr) x y row may = may
-try_owes seen p words t (LoadsCurrent addr) x y row may = twice_outer p _ x y (passed_outer p _ answer.Shift (walk_outer p false t.walk row))
+try_owes seen p words t (LoadsCurrent addr) x y row may = twice_outer p _ x y (passed_is_outer p _ answer.Shift (walk_outer p false t.walk row))
 try_owes seen p words t (ChangesValue addr old) x y row may = may
-try_owes seen p words t LoadsAnswer x y row may = twice_outer p _ x y (passed_outer p _ answer.Shift (walk_outer p (is_read t.request.op) t.walk row))
-try_owes seen p words t (TakesExclusive old) x y row may = twice_outer p _ x y (passed_outer p _ answer.Shift (latch_outer p t.latching row.0))
-try_owes seen p words t LoadsOld x y row may = twice_outer p _ x y (passed_outer p _ answer.Shift (walk_outer p false t.walk row))
+try_owes seen p words t LoadsAnswer x y row may = twice_outer p _ x y (passed_is_outer p _ answer.Shift (walk_outer p (is_read t.request.op) t.walk row))
+try_owes seen p words t (TakesExclusive old) x y row may = twice_outer p _ x y (passed_is_outer p _ answer.Shift (latch_outer p t.latching row.0))
+try_owes seen p words t LoadsOld x y row may = twice_outer p _ x y (passed_is_outer p _ answer.Shift (walk_outer p false t.walk row))
 try_owes seen p words t (Appends its) x y row may = append_owes p t.append t.append.step answer.Shift x y row.publishes
-try_owes seen p words t (DropsExclusive its) x y row may = twice_outer p _ x y (passed_outer p _ its (latch_outer p t.latching row))
-try_owes seen p words t (DropsShared its) x y row may = twice_outer p _ x y (passed_outer p _ its (latch_outer p t.latching row))
+try_owes seen p words t (DropsExclusive its) x y row may = twice_outer p _ x y (passed_is_outer p _ its (latch_outer p t.latching row))
+try_owes seen p words t (DropsShared its) x y row may = twice_outer p _ x y (passed_is_outer p _ its (latch_outer p t.latching row))
 
 -- where a reply leads
 either_outer : (c : Bool) (p : Places) (a b : TryState) → IsTryOuter p a → IsTryOuter p b → IsTryOuter p (if c then a else b)

@@ -33,7 +33,7 @@ use Rattle.fkv_ops.specs.HeaderWords.{header_said}
 use Rattle.fkv_ops.specs.Walking.{WalkState, walk_begun, walking_ask, walk_ask, walk_ended, reached, slot_found, find_ledto, first_met, record_met, load_ledto, value_ledto, walking_next, walk_next, walking_on, walk_on}
 use Rattle.fkv_plane.specs.Passing.{passed}
 use Rattle.fkv_guard_sessions.specs.Steps.{IsOuter}
-use Rattle.fkv_guard_sessions.proofs.OuterAsks.{passed_outer}
+use Rattle.fkv_guard_sessions.proofs.OuterAsks.{passed_is_outer}
 use Rattle.fkv_guard_sessions.proofs.FindsOuter.{IsAtBucket, FoundOuter, FindsOuter, TellsUpdate, find_outer, finds_outer, first_outer, next_update}
 
 -- where the walk is one of an update its slot is none of the guard's
@@ -61,10 +61,10 @@ load_outer p (loading.LoadsValue addr header key) = tt
 walking_outer : (p : Places) (reads : Bool) (w : WalkState) (step : Walking) → WalkRow p reads w step → IsOuter p (walking_ask p w step)
 unfolding walking_ask
 walking_outer p reads w (Ended its) row = tt
-walking_outer p reads w Finds row = passed_outer p _ _ (find_outer p w.finding row.0)
-walking_outer p reads w (Meets addr) row = passed_outer p _ _ (load_outer p w.loading)
+walking_outer p reads w Finds row = passed_is_outer p _ _ (find_outer p w.finding row.0)
+walking_outer p reads w (Meets addr) row = passed_is_outer p _ _ (load_outer p w.loading)
 walking_outer p reads w (HasFound addr version) row = tt
-walking_outer p reads w LoadsValue row = passed_outer p _ _ (load_outer p w.loading)
+walking_outer p reads w LoadsValue row = passed_is_outer p _ _ (load_outer p w.loading)
 
 pub walk_outer : (p : Places) (reads : Bool) (w : WalkState) → IsWalkOuter p reads w → IsOuter p (walk_ask p w)
 walk_outer p reads w row = walking_outer p reads w w.step row
