@@ -38,39 +38,39 @@ one_writes w event place sound high changes = elim (written_or (event_writes w.n
 ]
 
 -- a step that changes a word of a frame changes one of an open place
-pub step_writes : (a : ℕ) (w : GuardWorld) (events : List GuardEvent) (place : ℕ) → IsSound w → IsStep a events → frames_start w.now.places ≤ place
+pub step_writes : (keeper a : ℕ) (w : GuardWorld) (events : List GuardEvent) (place : ℕ) → IsSound w → IsStep keeper a events → frames_start w.now.places ≤ place
     → word_at (guard_run w events).now.words place ≢ word_at w.now.words place → IsOpenPlace w place
 unfolding guard_run
-step_writes a w [] place sound step high changes = absurd (changes refl)
-step_writes a w (event ∷ before) place sound step high changes = elim step.0.place [
-  | inl quiet ↦ step_writes a w before place sound step.1 high (λ e. changes (quiet_same (guard_run w before) event place quiet ∙ e))
+step_writes keeper a w [] place sound step high changes = absurd (changes refl)
+step_writes keeper a w (event ∷ before) place sound step high changes = elim step.0.place [
+  | inl quiet ↦ step_writes keeper a w before place sound step.1 high (λ e. changes (quiet_same (guard_run w before) event place quiet ∙ e))
   | inr first ↦ one_writes w event place sound high (subst (λ (b : List GuardEvent). word_at (guard_happens (guard_run w b) event).now.words place ≢ word_at w.now.words place) first changes)
 ]
 
 -- and one that raises the limit opens the next page
-pub step_raises : (a : ℕ) (w : GuardWorld) (events : List GuardEvent) → IsSound w → IsStep a events → (levels w).limit < (levels (guard_run w events)).limit
+pub step_raises : (keeper a : ℕ) (w : GuardWorld) (events : List GuardEvent) → IsSound w → IsStep keeper a events → (levels w).limit < (levels (guard_run w events)).limit
     → (page : ℕ) × ((levels (guard_run w events)).limit ≡ (page + 1) * w.now.shape.page) × OpensPage w page
 unfolding guard_run
-step_raises a w [] sound step = λ up. absurd (omega (arith, up))
-step_raises a w (event ∷ before) sound step = elim step.0.place [
-  | inl quiet ↦ subst (λ (l : ℕ). (levels w).limit < l → (page : ℕ) × (l ≡ (page + 1) * w.now.shape.page) × OpensPage w page) (sym (quiet_same (guard_run w before) event (shared_place word.Limit) quiet)) (step_raises a w before sound step.1)
+step_raises keeper a w [] sound step = λ up. absurd (omega (arith, up))
+step_raises keeper a w (event ∷ before) sound step = elim step.0.place [
+  | inl quiet ↦ subst (λ (l : ℕ). (levels w).limit < l → (page : ℕ) × (l ≡ (page + 1) * w.now.shape.page) × OpensPage w page) (sym (quiet_same (guard_run w before) event (shared_place word.Limit) quiet)) (step_raises keeper a w before sound step.1)
   | inr first ↦ subst (λ (b : List GuardEvent). (levels w).limit < (levels (guard_happens (guard_run w b) event)).limit → (page : ℕ) × ((levels (guard_happens (guard_run w b) event)).limit ≡ (page + 1) * w.now.shape.page) × OpensPage w page) (sym first) (guards_limit w event sound)
 ]
 
 -- what an event of the engine is, is one step of some actor
-pub record IsSteps (events : List GuardEvent) : Type 0 where
+pub record IsSteps (keeper : ℕ) (events : List GuardEvent) : Type 0 where
   pub actor : ℕ
-  pub step : IsStep actor events
+  pub step : IsStep keeper actor events
 
-called_is : (n : Now) (i : ℕ) (call : Call) (found : Option SessionState) → IsStep i (called_events n i call found)
+called_is : (n : Now) (i : ℕ) (call : Call) (found : Option SessionState) → IsStep (keeper_number n) i (called_events n i call found)
 called_is n i call None = tt
-called_is n i call (Some s) = by_test i (is_busy s.step) [] _ tt (called_steps (seat_at n i) (session_begun (seat_at n i) s call))
+called_is n i call (Some s) = by_test (keeper_number n) i (is_busy s.step) [] _ tt (called_steps (keeper_number n) (seat_at n i) (session_begun (seat_at n i) s call))
 
-moved_is : (n : Now) (i : ℕ) (found : Option SessionState) → IsStep i (moved_events n i found)
+moved_is : (n : Now) (i : ℕ) (found : Option SessionState) → IsStep (keeper_number n) i (moved_events n i found)
 moved_is n i None = tt
-moved_is n i (Some s) = session_steps (seat_at n i) n.words s (session_moved (seat_at n i) (near n s)).machine
+moved_is n i (Some s) = session_steps (keeper_number n) (seat_at n i) n.words s (session_moved (seat_at n i) (near n s)).machine
 
-event_is : (n : Now) (read : List ℕ) (event : Event) → IsSteps (life_events n read event)
+event_is : (n : Now) (read : List ℕ) (event : Event) → IsSteps (keeper_number n) (life_events n read event)
 unfolding life_events
 event_is n read (Calls i call) = record { actor = i; step = called_is n i call (slice_get n.sessions i) }
 event_is n read (Moves i) = record { actor = i; step = moved_is n i (slice_get n.sessions i) }
@@ -79,9 +79,9 @@ event_is n read (KeeperMoves granted done) = record { actor = keeper_number n; s
 event_is n read (Commits kind) = record { actor = keeper_number n; step = tt }
 event_is n read Crashes = record { actor = keeper_number n; step = tt }
 
-pub is_steps : (n : Now) (read : List ℕ) (event : Event) → IsSteps (guard_events n read event)
+pub is_steps : (n : Now) (read : List ℕ) (event : Event) → IsSteps (keeper_number n) (guard_events n read event)
 is_steps n read event = by_crash n.crashed
   where
-    by_crash : (b : Bool) → IsSteps (if b then [] else life_events n read event)
+    by_crash : (b : Bool) → IsSteps (keeper_number n) (if b then [] else life_events n read event)
     by_crash true = record { actor = keeper_number n; step = tt }
     by_crash false = event_is n read event

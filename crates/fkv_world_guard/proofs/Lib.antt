@@ -1,3 +1,4 @@
+mod Flushed
 mod Kept
 mod KeeperSteps
 mod OfLives

@@ -26,7 +26,7 @@ event_writes_open first before event w fair shows place high changes =
     let events : List GuardEvent = guard_events b.now (read_by_keeper b) event in
     let steps = is_steps b.now (read_by_keeper b) event in
     let there = happens_shows b.now w (read_by_keeper b) event fair shows in
-    step_writes steps.actor w events place shows.sound steps.step (subst (λ (p : Places). frames_start p ≤ place) (sym shows.places) high)
+    step_writes (keeper_number b.now) steps.actor w events place shows.sound steps.step (subst (λ (p : Places). frames_start p ≤ place) (sym shows.places) high)
     (λ e. changes (ap (λ (words : List ℕ). word_at words place) (sym there.words) ∙ e ∙ ap (λ (words : List ℕ). word_at words place) shows.words))
 
 pub event_opens_next : (first : World) (before : List Event) (event : Event) (w : GuardWorld) → IsFair (run first before).now event → Shows (run first before).now w
@@ -38,7 +38,7 @@ event_opens_next first before event w fair shows =
     let steps = is_steps b.now (read_by_keeper b) event in
     let there = happens_shows b.now w (read_by_keeper b) event fair shows in
     let after : List ℕ = (run first (event ∷ before)).now.words in
-    let raised = step_raises steps.actor w events shows.sound steps.step in
+    let raised = step_raises (keeper_number b.now) steps.actor w events shows.sound steps.step in
     let so = subst (λ (s : Shape). (levels_of w.now.words).limit < (levels_of (guard_run w events).now.words).limit → (page : ℕ) × ((levels_of (guard_run w events).now.words).limit ≡ (page + 1) * s.page) × OpensPage w page) shows.shape raised in
     let behind = subst (λ (words : List ℕ). (levels_of w.now.words).limit < (levels_of words).limit → (page : ℕ) × ((levels_of words).limit ≡ (page + 1) * b.now.shape.page) × OpensPage w page) there.words so in
     subst (λ (words : List ℕ). (levels_of words).limit < (levels_of after).limit → (page : ℕ) × ((levels_of after).limit ≡ (page + 1) * b.now.shape.page) × OpensPage w page) shows.words behind

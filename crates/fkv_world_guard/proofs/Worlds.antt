@@ -48,8 +48,8 @@ pub record LeavesOthers (w v : GuardWorld) (a : ℕ) : Type 0 where
   pub offsets : Rises (levels_of w.now.words) (levels_of v.now.words)
   pub epochs : (b : ℕ) → a ≢ b → b < w.now.places.sessions → own_epoch v.now.words b ≡ own_epoch w.now.words b
 
-pub leaves_others : (w : GuardWorld) (a : ℕ) (events : List GuardEvent) (here : GuardNear) → IsSound w → IsStep a events → runs_now w.now events ≡ put_near w.now a here → LeavesOthers w (guard_run w events) a
-leaves_others w a events here sound step led =
+pub leaves_others : (w : GuardWorld) (keeper a : ℕ) (events : List GuardEvent) (here : GuardNear) → IsSound w → IsStep keeper a events → runs_now w.now events ≡ put_near w.now a here → LeavesOthers w (guard_run w events) a
+leaves_others w keeper a events here sound step led =
     let same : (guard_run w events).now ≡ put_near w.now a here = run_now w events ∙ led in
     let calm = events_calm w events sound in
     record {
@@ -58,7 +58,7 @@ leaves_others w a events here sound step led =
       places = ap (λ (m : GuardNow). m.places) same;
       actors = λ b other. ap (λ (m : GuardNow). slice_get m.actors b) same ∙ item_spared w.now.actors a b here.actor (λ e. other (sym e));
       offsets = calm.offsets;
-      epochs = λ b other low. calm.others b low (of_others a events step b other);
+      epochs = λ b other low. calm.others b low (of_others keeper a events step b other);
     }
 
 -- so another session sits where it sat, and the keeper is where it was
@@ -110,14 +110,14 @@ below_other : (i j : ℕ) → i < j → i ≢ j
 below_other i j low e = absurd (omega (arith, low, e))
 
 -- one session has gone on, and its actor with it
-session_put : (n : Now) (w : GuardWorld) (i : ℕ) (s : SessionState) (its : Near SessionState) (events : List GuardEvent) → Shows n w → slice_get n.sessions i ≡ Some s → IsStep i events
+session_put : (n : Now) (w : GuardWorld) (i : ℕ) (s : SessionState) (its : Near SessionState) (events : List GuardEvent) → Shows n w → slice_get n.sessions i ≡ Some s → IsStep (keeper_number n) i events
     → SessionFollows w.now i events its.machine its.words its.actions → Shows (with_session n i its) (guard_run w events)
 session_put n w i s its events shows there step f =
     let v : GuardWorld = guard_run w events in
     let seat = shows.sessions i s there in
     let here : GuardNear = near its.words its.actions f.follows.actor in
     let same : v.now ≡ put_near w.now i here = run_now w events ∙ f.follows.same in
-    let left = leaves_others w i events here shows.sound step f.follows.same in
+    let left = leaves_others w (keeper_number n) i events here shows.sound step f.follows.same in
     let sits_here : IsSeated v i its.machine = record {
       actor = f.follows.actor;
       sits = record {
@@ -143,14 +143,14 @@ session_put n w i s its events shows there step f =
     }
 
 -- the keeper has gone on, and its actor with it
-keeper_put : (n : Now) (w : GuardWorld) (its : Near KeeperState) (events : List GuardEvent) (seen : LastSeen) → Shows n w → IsStep (keeper_number n) events
+keeper_put : (n : Now) (w : GuardWorld) (its : Near KeeperState) (events : List GuardEvent) (seen : LastSeen) → Shows n w → IsStep (keeper_number n) (keeper_number n) events
     → KeeperLed w.now (keeper_number n) events seen its.machine its.words its.actions → Shows (with_keeper n its) (guard_run w events)
 keeper_put n w its events seen shows step f =
     let v : GuardWorld = guard_run w events in
     let a : ℕ = keeper_number n in
     let here : GuardNear = near its.words its.actions f.follows.actor in
     let same : v.now ≡ put_near w.now a here = run_now w events ∙ f.follows.same in
-    let left = leaves_others w a events here shows.sound step f.follows.same in
+    let left = leaves_others w a a events here shows.sound step f.follows.same in
     record {
       sound = left.sound;
       shape = left.shape ∙ shows.shape;
@@ -217,7 +217,7 @@ module _ (n : Now) (actors : List Actor) (past : EpochPast) (shows : Shows n (wo
       by_busy false e =
           let seat = shows.sessions i s there in
           let sits = seat.sits in
-          session_put n W i s (world.near n (session_begun (seat_at n i) s call)) _ shows there (called_steps (seat_at n i) (session_begun (seat_at n i) s call))
+          session_put n W i s (world.near n (session_begun (seat_at n i) s call)) _ shows there (called_steps (keeper_number n) (seat_at n i) (session_begun (seat_at n i) s call))
           (call_follows W.now i seat.actor s call sits.got sits.below e sits.protected sits.fits)
 
   moves : (i : ℕ) (found : Option SessionState) → slice_get n.sessions i ≡ found → SessionIsFair n i found → Leads (session_moves n i found) (moved_events n i found)
@@ -226,7 +226,7 @@ module _ (n : Now) (actors : List Actor) (past : EpochPast) (shows : Shows n (wo
   moves i (Some s) there fair =
       let seat = shows.sessions i s there in
       let after : Near SessionState = session_moved (seat_at n i) (world.near n s) in
-      session_put n W i s after _ shows there (session_steps (seat_at n i) n.words s after.machine) (move_follows W i seat.actor s seat.sits fair)
+      session_put n W i s after _ shows there (session_steps (keeper_number n) (seat_at n i) n.words s after.machine) (move_follows W i seat.actor s seat.sits fair)
 
   keeps : (granted done : Bool) (read : List ℕ)
       → Leads (with_keeper n (keeper_moved n.shape n.places granted done read (world.near n n.keeper))) (keeper_move_events (keeper_number n) n.shape n.places granted done read n.keeper n.words)

@@ -1,6 +1,8 @@
 //! What the guard keeps holds of every life of the engine.
-ghost use Rattle.std.specs.Prelude.{◌∷◌, ℕ, List};
+ghost use Rattle.std.specs.Prelude.{◌∷◌, ◌≡◌, ◌<◌, ℕ, List};
 ghost use Rattle.fkv_epoch.specs.Once.{HasRunOnce};
+ghost use Rattle.fkv_plane.specs.declared.places.RecordWord.{RecordWord};
+ghost use Rattle.fkv_flush.specs.GuardFlushed.{IsSynced, calls_made, stands};
 ghost use Rattle.fkv_flush.specs.GuardLevels.{AreInOrder, Rises, levels_of};
 ghost use Rattle.fkv_flush.specs.GuardLimit.{EndsPages};
 ghost use Rattle.fkv_flush.specs.GuardReserved.{UndecidedApart};
@@ -8,9 +10,9 @@ ghost use Rattle.fkv_flush.specs.GuardSeen.{SeenIsSafe};
 ghost use Rattle.fkv_flush.specs.Guarded.{GoesBy, IsCovered, UndecidedIsFresh, seen_of};
 ghost use Rattle.fkv_world.specs.World.{Event};
 ghost use Rattle.fkv_world.specs.Runs.{World, read_by_keeper, run};
-ghost use Rattle.fkv_world_guard.specs.GuardEvents.{guard_events};
+ghost use Rattle.fkv_world_guard.specs.GuardEvents.{guard_events, mapped};
 ghost use Rattle.fkv_world_guard.specs.KeptGuarded.{ChangesOpenPlaces, FindTheirSlots, OpensNextPage};
-ghost use Rattle.fkv_world_guard.specs.Shows.{AreFair, IsOpened, Shows, seen_by_guard};
+ghost use Rattle.fkv_world_guard.specs.Shows.{AreFair, IsOpened, Shows, guard_opening, seen_by_guard};
 
 /// Over every life of the engine that begins as a store was opened, whatever its calls, commits, turns and the order of its steps,
 /// where each step of a session does what it owes: what the guard has of the life shows the engine's world, with an actor for each
@@ -54,4 +56,16 @@ pub fn law_world_once()
         → HasRunOnce (seen_by_guard opening start events).past }
     ensures slots { (opening : World) (start : ℕ) (events : List Event) (event : Event) → IsOpened opening.now start → AreFair opening (event ∷ events)
         → FindTheirSlots (seen_by_guard opening start events) (guard_events (run opening events).now (read_by_keeper (run opening events)) event) }
+{}
+
+/// In such a life the keeper alone flushes. So at every moment a device that was called as the guard's run of the life calls it, by
+/// the flushes and by those writes of commits that end where the log begins, shows each record since the opening and below the
+/// flushed offset with the words that stand for it, and so does all that a crash leaves of it; and no event changes what stands
+/// for a record below the safe read-only offset.
+pub fn law_world_flushed()
+    ensures synced { (opening : World) (start : ℕ) (events : List Event) (opened : List ℕ) → IsOpened opening.now start → AreFair opening events
+        → IsSynced opening.now.shape opened (calls_made (guard_opening opening.now start) (mapped opening events)) (stands (guard_opening opening.now start) (mapped opening events)) start (levels_of (run opening events).now.words).flushed }
+    ensures steady { (opening : World) (start : ℕ) (events : List Event) (event : Event) (addr : ℕ) (word : RecordWord) → IsOpened opening.now start → AreFair opening (event ∷ events)
+        → addr < (levels_of (run opening events).now.words).safe_read_only
+        → stands (guard_opening opening.now start) (mapped opening (event ∷ events)) addr word ≡ stands (guard_opening opening.now start) (mapped opening events) addr word }
 {}
