@@ -1,5 +1,5 @@
 -- In a life the keeper alone flushes; so what is flushed is synced by the calls of the guard's run, and what stands below the safe read-only offset stays.
-use Rattle.std.proofs.Common.{◌≡◌, ℕ, suc, ◌<◌, ◌≤◌, ◌∙◌, refl, sym, subst, arith, List, [], ◌∷◌, ◌++◌}
+use Rattle.std.proofs.Common.{◌≡◌, ℕ, suc, ◌<◌, ◌∙◌, refl, sym, subst, arith, List, [], ◌∷◌, ◌++◌}
 use Rattle.fkv_base.specs.declared.shapes.Shape.{Shape}
 use Rattle.fkv_plane.specs.declared.places.Places.{Places}
 use Rattle.fkv_plane.specs.declared.places.RecordWord.{RecordWord}

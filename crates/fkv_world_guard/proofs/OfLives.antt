@@ -1,5 +1,5 @@
 -- What the guard keeps, of each event of a life of the engine.
-use Rattle.std.proofs.Common.{◌≡◌, ◌≢◌, ℕ, suc, ◌+◌, ◌*◌, ◌<◌, ◌≤◌, ◌∙◌, sym, ap, subst, List, ◌∷◌, ◌++◌}
+use Rattle.std.proofs.Common.{◌≡◌, ℕ, suc, ◌+◌, ◌*◌, ◌<◌, ◌≤◌, ◌∙◌, sym, ap, subst, List, ◌∷◌}
 use Rattle.fkv_base.specs.declared.shapes.Shape.{Shape}
 use Rattle.fkv_plane.specs.declared.places.Places.{Places}
 use Rattle.fkv_plane.specs.Asked.{word_at}
@@ -7,7 +7,7 @@ use Rattle.fkv_plane.specs.Places.{frames_start}
 use Rattle.fkv_flush.specs.GuardLevels.{levels_of, AreInOrder, Rises}
 use Rattle.fkv_flush.specs.GuardLimit.{EndsPages}
 use Rattle.fkv_flush.specs.GuardWorld.{GuardWorld, GuardEvent, guard_run}
-use Rattle.fkv_flush.specs.Guarded.{IsOpenPlace, OpensPage}
+use Rattle.fkv_flush.specs.Guarded.{OpensPage}
 use Rattle.fkv_flush.proofs.Shown.{IsSound, run_sound, events_calm, run_paged, opening_paged, opening_sound, finds_slots, same_stores}
 use Rattle.fkv_world.specs.World.{Event, Now}
 use Rattle.fkv_world.specs.Runs.{World, run, read_by_keeper}

@@ -45,7 +45,6 @@ use Rattle.fkv_flush.specs.GuardWorld as guard
 use Rattle.fkv_flush.specs.GuardWorld.{GuardEvent, Begins, Resumes, Moves, Updates, Changes, ToDo, ToFlush}
 use Rattle.fkv_ops.specs.Appending.{AppendState}
 use Rattle.fkv_ops.specs.Trying.{TryState}
-use Rattle.fkv_ops.specs.Values.{value_of}
 use Rattle.fkv_ops.specs.declared.appending.Appending.{Appending}
 use Rattle.fkv_ops.specs.declared.appending.Appending.TheVariants as appending
 use Rattle.fkv_ops.specs.declared.trying.Trying.{Trying}

@@ -1,5 +1,5 @@
 -- Each event of the engine is a list of the guard's events that keeps what the guard's world shows of it, and so is every life.
-use Rattle.std.proofs.Common.{◌≡◌, ◌≢◌, ℕ, zero, suc, ◌<◌, ◌≤◌, ◌∙◌, refl, sym, ap, subst, arith, List, [], ◌∷◌, ◌++◌, Bool, true, false}
+use Rattle.std.proofs.Common.{◌≡◌, ◌≢◌, ℕ, zero, suc, ◌<◌, ◌∙◌, refl, sym, ap, subst, arith, List, [], ◌∷◌, ◌++◌, Bool, true, false}
 use Rattle.std.specs.Prelude.{if◌then◌else◌, Option, Some, None, slice_get, slice_set, replicate}
 use Rattle.fkv_base.specs.declared.shapes.Shape.{Shape}
 use Rattle.fkv_map.specs.declared.operations.Call.{Call}
@@ -19,14 +19,13 @@ use Rattle.fkv_keeper.specs.Keeping.{KeeperState}
 use Rattle.fkv_session.specs.declared.sessions.Sitting.{Sitting}
 use Rattle.fkv_session.specs.declared.sessions.Sitting.TheVariants.{Idle}
 use Rattle.fkv_session.specs.Sessions.{SessionState, is_busy, session_begun}
-use Rattle.fkv_guard_sessions.specs.Followed.{SessionFollows, Sits, seat_in}
-use Rattle.fkv_guard_sessions.specs.Likenesses.{last_seen, through}
+use Rattle.fkv_guard_sessions.specs.Followed.{SessionFollows}
+use Rattle.fkv_guard_sessions.specs.Likenesses.{last_seen}
 use Rattle.fkv_guard_sessions.specs.Rows.{SittingKnows}
-use Rattle.fkv_guard_sessions.specs.Sessions.{sitting_likeness, session_guard_events, called_guard_events}
-use Rattle.fkv_guard_sessions.specs.WorldSteps.{beside}
+use Rattle.fkv_guard_sessions.specs.Sessions.{sitting_likeness, called_guard_events}
 use Rattle.fkv_guard_sessions.proofs.Shown.{move_follows, call_follows}
-use Rattle.fkv_guard_keeper.specs.Followed.{KeeperLed, IsKeepers, likeness}
-use Rattle.fkv_guard_keeper.specs.KeeperEvents.{keeper_move_events, turn_asked_events}
+use Rattle.fkv_guard_keeper.specs.Followed.{KeeperLed, likeness}
+use Rattle.fkv_guard_keeper.specs.KeeperEvents.{keeper_move_events}
 use Rattle.fkv_guard_keeper.specs.KeeperShown.{KeeperKnows, KeepingKnows, keeping_machine, keeping_work}
 use Rattle.fkv_guard_keeper.proofs.Shown.{keeper_follows, turn_asked_to, commit_asked_to, knowledge_stays}
 use Rattle.fkv_world.specs.World as world
