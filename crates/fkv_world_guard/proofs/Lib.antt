@@ -1,3 +1,4 @@
+mod BelowTail
 mod Flushed
 mod Kept
 mod KeeperSteps

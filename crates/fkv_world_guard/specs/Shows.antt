@@ -1,5 +1,5 @@
 -- How the guard's world shows the engine's, how a life begins for that, and what its steps owe.
-use Rattle.std.specs.Prelude.{◌≡◌, ◌<◌, ⊤, ℕ, suc, List, [], ◌∷◌, replicate, slice_get, Option, Some, None}
+use Rattle.std.specs.Prelude.{◌≡◌, ◌^◌, ◌<◌, ⊤, ℕ, suc, List, [], ◌∷◌, replicate, slice_get, Option, Some, None}
 use Rattle.fkv_base.specs.Limits.{drain_slots}
 use Rattle.fkv_flush.specs.Guarded as guard
 use Rattle.fkv_flush.specs.GuardSeen.{LastSeen}
@@ -11,6 +11,7 @@ use Rattle.fkv_session.specs.Sessions as session
 use Rattle.fkv_session.specs.Sessions.{SessionState}
 use Rattle.fkv_guard_sessions.specs.Followed.{Sits}
 use Rattle.fkv_guard_sessions.specs.Likenesses.{last_seen}
+use Rattle.fkv_guard_sessions.specs.Owing.{IsBelowTail}
 use Rattle.fkv_guard_sessions.specs.Sessions.{SessionOwes}
 use Rattle.fkv_guard_keeper.specs.Followed.{IsKeepers}
 use Rattle.fkv_world.specs.World.{Event, Moves, Now, seat_at}
@@ -21,6 +22,7 @@ use Rattle.fkv_world_guard.specs.GuardEvents.{mapped, keeper_number}
 -- as its store was opened and has seen where the records end, and so is the keeper, which finishes commits for as many sessions as the store has.
 pub record IsOpened (n : Now) (start : ℕ) : Type 0 where
   pub words : guard.IsOpened n.shape n.places (suc (keeper_number n)) n.words start
+  pub buckets : n.places.buckets ≡ 2 ^ n.shape.bucket_bits
   pub slots : n.actions ≡ replicate drain_slots None
   pub seats : (number : ℕ) (s : SessionState) → slice_get n.sessions number ≡ Some s → number < n.places.sessions
   pub sessions : (number : ℕ) (s : SessionState) → slice_get n.sessions number ≡ Some s → session.IsOpened s
@@ -63,6 +65,20 @@ IsFair n event = ⊤
 abbrev pub AreFair : World → List Event → Type 0
 AreFair opening [] = ⊤
 AreFair opening (event ∷ before) = IsFair (run opening before).now event × AreFair opening before
+
+-- what is left of it: what a session's step changes in place is below the tail
+abbrev pub SessionIsBelowTail : Now → Option SessionState → Type 0
+SessionIsBelowTail n None = ⊤
+SessionIsBelowTail n (Some s) = IsBelowTail n.words s
+
+abbrev pub ChangesBelowTail : Now → Event → Type 0
+ChangesBelowTail n (Moves number) = SessionIsBelowTail n (slice_get n.sessions number)
+ChangesBelowTail n event = ⊤
+
+-- so it is with each step of a life
+abbrev pub AreBelowTail : World → List Event → Type 0
+AreBelowTail opening [] = ⊤
+AreBelowTail opening (event ∷ before) = ChangesBelowTail (run opening before).now event × AreBelowTail opening before
 
 -- what the guard has as a life begins, and what it has of that life
 abbrev pub guard_opening : Now → ℕ → GuardWorld

@@ -12,7 +12,7 @@ ghost use Rattle.fkv_world.specs.World.{Event};
 ghost use Rattle.fkv_world.specs.Runs.{World, read_by_keeper, run};
 ghost use Rattle.fkv_world_guard.specs.GuardEvents.{guard_events, mapped};
 ghost use Rattle.fkv_world_guard.specs.KeptGuarded.{ChangesOpenPlaces, FindTheirSlots, OpensNextPage};
-ghost use Rattle.fkv_world_guard.specs.Shows.{AreFair, IsOpened, Shows, guard_opening, seen_by_guard};
+ghost use Rattle.fkv_world_guard.specs.Shows.{AreBelowTail, AreFair, IsOpened, Shows, guard_opening, seen_by_guard};
 
 /// Over every life of the engine that begins as a store was opened, whatever its calls, commits, turns and the order of its steps,
 /// where each step of a session does what it owes: what the guard has of the life shows the engine's world, with an actor for each
@@ -68,4 +68,10 @@ pub fn law_world_flushed()
     ensures steady { (opening : World) (start : ℕ) (events : List Event) (event : Event) (addr : ℕ) (word : RecordWord) → IsOpened opening.now start → AreFair opening (event ∷ events)
         → addr < (levels_of (run opening events).now.words).safe_read_only
         → stands (guard_opening opening.now start) (mapped opening (event ∷ events)) addr word ≡ stands (guard_opening opening.now start) (mapped opening events) addr word }
+{}
+
+/// What the steps of such a life owe comes down to one thing: that the record whose value a session changes in place is reserved,
+/// below the tail.
+pub fn law_world_owes()
+    ensures { (opening : World) (start : ℕ) (events : List Event) → IsOpened opening.now start → AreBelowTail opening events → AreFair opening events }
 {}

@@ -3,4 +3,6 @@
 
 mod laws;
 
-pub use laws::{law_world_flushed, law_world_is_guarded, law_world_once, law_world_seen};
+pub use laws::{
+    law_world_flushed, law_world_is_guarded, law_world_once, law_world_owes, law_world_seen,
+};
