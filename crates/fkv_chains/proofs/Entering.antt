@@ -1,5 +1,5 @@
 -- The entry that the scan tells is the greatest record that counts.
-use Rattle.std.proofs.Common.{◌≡◌, ◌≢◌, ◌⊎◌, inl, inr, ⊎_elim, ℕ, suc, ◌+◌, ◌<◌, ◌≤◌, Option, Some, None, refl, sym, ap, subst, ◌∙◌, arith}
+use Rattle.std.proofs.Common.{◌≡◌, ◌≢◌, inl, inr, ⊎_elim, ℕ, ◌<◌, ◌≤◌, Option, Some, None, refl, sym, ap, subst, ◌∙◌, arith}
 use Rattle.std.proofs.lemmas.Bool.{cases_lt}
 use Rattle.fkv_base.specs.declared.numbers.Addr.{Addr}
 use Rattle.fkv_words.specs.Fields.{SpellsApart}
@@ -7,7 +7,7 @@ use Rattle.fkv_record.specs.declared.records.Record.{Record}
 use Rattle.fkv_record.specs.Layout.{record_bytes}
 use Rattle.fkv_scan.specs.declared.scans.Scanned.{Scanned}
 use Rattle.fkv_scan.specs.Log.{Log, AreBelow, record_home}
-use Rattle.fkv_scan.specs.Records.{Stands, IsCounted}
+use Rattle.fkv_scan.specs.Records.{IsCounted}
 use Rattle.fkv_scan.specs.Scan.{HasNone, IsGreatest}
 use Rattle.fkv_scan.specs.Scanned.{AreScanned, GoesOnAt, IsEntryOf}
 use Rattle.fkv_chains.specs.Reached.{Reached, in_scan, linked, LeadsTo, from_record}

@@ -1,6 +1,5 @@
 -- A chain is followed, record by record.
-use Rattle.std.proofs.Common.{◌≡◌, ◌≢◌, ◌⊎◌, inl, inr, ⊎_elim, ℕ, ◌<◌, ◌≤◌, true, Option, Some, refl, subst, ◌∙◌, ap, sym, arith}
-use Rattle.std.specs.Prelude.{◌↔◌}
+use Rattle.std.proofs.Common.{◌≡◌, ◌≢◌, ◌⊎◌, inl, inr, ⊎_elim, ℕ, ◌<◌, true, Option, Some, refl, subst, ◌∙◌, sym, arith}
 use Rattle.fkv_words.specs.Fields.{Reads}
 use Rattle.fkv_disk.specs.Bytes.{bytes_at}
 use Rattle.fkv_record.specs.declared.records.Record.{Record}

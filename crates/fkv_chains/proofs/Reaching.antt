@@ -11,7 +11,7 @@ use Rattle.fkv_scan.specs.Scan.{Has, HasNone, IsGreatest, IsScanned, IsLinked, G
 use Rattle.fkv_scan.specs.Scanned.{AreScanned, GoesOnAt}
 use Rattle.fkv_chains.specs.Reached.{Reached, in_scan, led_to, linked, LeadsTo, from_triple, from_record}
 use Rattle.fkv_chains.specs.Along.{IsAlong, here, on, IsOf, IsFollowed}
-use Rattle.fkv_chains.specs.Chains.{HasChains, IsChained}
+use Rattle.fkv_chains.specs.Chains.{HasChains}
 use Rattle.fkv_chains.proofs.Ways.{at_way}
 
 -- what is reached is a valid record of the scan, or lies on a chain below its start

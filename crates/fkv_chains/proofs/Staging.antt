@@ -1,5 +1,5 @@
 -- The chains are followed triple by triple.
-use Rattle.std.proofs.Common.{◌≡◌, ◌⊎◌, inl, inr, ⊎_elim, ℕ, ◌+◌, ◌<◌, ◌≤◌, min, length, Option, Some, refl, sym, ap, subst, ◌∙◌, arith}
+use Rattle.std.proofs.Common.{◌≡◌, ◌⊎◌, ⊎_elim, ℕ, ◌+◌, ◌<◌, ◌≤◌, length, Some, refl, sym, ap, subst, ◌∙◌, arith}
 use Rattle.std.specs.Prelude.{slice_get}
 use Rattle.std.specs.Ordering.{nat_cmp}
 use Rattle.std.specs.BTreeMap.{get}
@@ -8,7 +8,6 @@ use Rattle.fkv_base.specs.declared.faults.Fault.{Fault}
 use Rattle.fkv_base.specs.declared.faults.Fault.TheVariants as fault
 use Rattle.fkv_disk.specs.Device.{Rose}
 use Rattle.fkv_record.specs.declared.triples.Triple.{Triple}
-use Rattle.fkv_scan.specs.declared.home_scans.HomeScan.{HomeScan}
 use Rattle.fkv_scan.specs.declared.scans.Scanned.{Scanned}
 use Rattle.fkv_scan.specs.Log.{Log, HasTriple, triple_home}
 use Rattle.fkv_scan.specs.Scanned.{AreScanned, GoesOnAt}

@@ -1,5 +1,6 @@
-//! Each step of a session is a list of the guard's events.
+//! Each step of a session is a list of the guard's events, and what it owes.
 ghost use Rattle.fkv_guard_sessions.specs.Followed.{StepsFollow, TurnsFollow, CallsFollow};
+ghost use Rattle.fkv_guard_sessions.specs.Owing.{ChangesAreAbove, RunsOwe};
 ghost use Rattle.fkv_guard_sessions.specs.WorldSteps.{MovesFollow};
 
 /// Where the guard's actor of a session's number is like the session, whatever the guard's world is otherwise: a step of the
@@ -13,4 +14,13 @@ pub fn law_sessions_followed()
     ensures steps { StepsFollow }
     ensures turns { TurnsFollow }
     ensures calls { CallsFollow }
+{}
+
+/// At every moment of a session's run, whatever calls it begins and whatever its asks are replied: a value that it is about to
+/// change in place is that of a record at or above the read-only offset that it has seen. And all that its step owes comes
+/// down to that this record lies below the tail: the words of latches, links and entries of the index that it writes, and the count
+/// of buckets that are taken, are none of the guard's.
+pub fn law_sessions_owe()
+    ensures changes { ChangesAreAbove }
+    ensures owes { RunsOwe }
 {}

@@ -3,4 +3,4 @@
 
 mod laws;
 
-pub use laws::law_sessions_followed;
+pub use laws::{law_sessions_followed, law_sessions_owe};

@@ -1,5 +1,5 @@
 -- A sync and a read are two calls.
-use Rattle.std.proofs.Common.{◌≡◌, ℕ, ◌+◌, ◌<◌, ◌≤◌, Bool, true, false, refl, arith}
+use Rattle.std.proofs.Common.{ℕ, Bool, refl, arith}
 use Rattle.std.specs.Prelude.{Result, Ok, Err, IsErr}
 use Rattle.std.specs.Result.{IsErrAnd}
 use Rattle.fkv_base.specs.declared.faults.Fault.{Fault}

@@ -1,16 +1,15 @@
 -- What an image tells of its newest slot, and the faults that stand there.
-use Rattle.std.proofs.Common.{◌≡◌, ℕ, ◌+◌, ◌*◌, List, Some, refl, sym, ap, subst, ◌∙◌, arith}
+use Rattle.std.proofs.Common.{◌≡◌, ℕ, List, Some, refl, sym, ap, subst, ◌∙◌, arith}
 use Rattle.fkv_base.specs.declared.faults.Fault.{Fault}
 use Rattle.fkv_base.specs.declared.faults.Fault.TheVariants as fault
 use Rattle.fkv_base.specs.declared.faults.Damage.TheVariants as damage
 use Rattle.fkv_base.specs.declared.shapes.Shape.{Shape}
 use Rattle.fkv_words.specs.Fields.{SpellsApart}
-use Rattle.fkv_disk.specs.Bytes.{bytes_at}
 use Rattle.fkv_manifest.specs.Newest.{slot_in, newer, newest}
 use Rattle.fkv_record.specs.Layout.{shape_bytes}
 use Rattle.fkv_record.specs.Places.{open_number}
 use Rattle.fkv_newest.specs.declared.newest_slots.Newest.{Newest}
-use Rattle.fkv_newest.specs.Newest.{slot_place, IsNewest, IsStore, IsManifest, IsManifestFault, IsNewestFault, IsNewestOf, ShowSame}
+use Rattle.fkv_newest.specs.Newest.{slot_place, IsStore, IsManifest, IsManifestFault, IsNewestFault, IsNewestOf, ShowSame}
 
 one_index : (a b : ℕ) → Some (slot_place a) ≡ Some (slot_place b) → a ≡ b
 one_index a b is = (let same : slot_place a ≡ slot_place b = cc in omega (arith, same))

@@ -1,9 +1,7 @@
 -- What the front of an image tells of its newest slot.
-use Rattle.std.proofs.Common.{◌≡◌, ◌⊎◌, inl, inr, ⊎_elim, ℕ, zero, suc, ◌+◌, ◌*◌, ◌<◌, List, Bool, true, false, Option, Some, None, refl, sym, ap, subst, ◌∙◌, arith}
-use Rattle.std.specs.Prelude.{◌↔◌}
+use Rattle.std.proofs.Common.{◌≡◌, ◌⊎◌, inl, inr, ℕ, ◌<◌, List, Option, Some, None, refl, sym, ap, subst, ◌∙◌, arith}
 use Rattle.fkv_base.specs.declared.shapes.Shape.{Shape}
 use Rattle.fkv_words.specs.Fields.{Reads}
-use Rattle.fkv_disk.specs.Bytes.{bytes_at}
 use Rattle.fkv_manifest.specs.Newest.{slot_in, newer, newest}
 use Rattle.fkv_record.specs.declared.formats.Format.{Format}
 use Rattle.fkv_record.specs.declared.manifest_slots.ManifestSlot.{ManifestSlot}
@@ -13,7 +11,7 @@ use Rattle.fkv_record.specs.Places.{open_number}
 use Rattle.fkv_newest.specs.declared.heads.Head.{Head}
 use Rattle.fkv_newest.specs.Heads.{IsHeadOf, slot_of}
 use Rattle.fkv_newest.specs.Manifest.{Suits}
-use Rattle.fkv_newest.specs.Newest.{HasShape, slot_place, IsNewest, IsStore, IsManifest, IsManifestFault}
+use Rattle.fkv_newest.specs.Newest.{HasShape, slot_place, IsNewest, IsStore, IsManifestFault}
 
 some_is : {A : Type 0} (x y : A) → Some x ≡ Some y → x ≡ y
 some_is x y is = cc

@@ -1,11 +1,8 @@
 -- The parts of what was read of the front of an image.
-use Rattle.std.proofs.Common.{◌≡◌, ℕ, ◌+◌, ◌-◌, ◌<◌, ◌≤◌, List, length, take, drop, get_or, sym, ap, subst, ◌∙◌, arith, length-drop, length-take-le}
-use Rattle.std.specs.Prelude.{slice_range}
+use Rattle.std.proofs.Common.{◌≡◌, ℕ, ◌+◌, ◌<◌, ◌≤◌, List, length, take, drop, ap, ◌∙◌, arith, length-drop, length-take-le}
 use Rattle.std.proofs.lemmas.List.{get_or-take, get_or-drop}
 use Rattle.fkv_disk.specs.Bytes.{byte_at, bytes_at}
 use Rattle.fkv_disk.proofs.Shown.{is_listed, byte_at-bytes_at, length-bytes_at}
-use Rattle.fkv_newest.specs.declared.heads.Head.{Head}
-use Rattle.fkv_newest.specs.Heads.{IsHeadOf}
 
 module _ (image : List ℕ) (many at n : ℕ) (within : at + n ≤ many) where
   length_part : length (take n (drop at (bytes_at image 0 many))) ≡ n

@@ -29,6 +29,7 @@ use Rattle.fkv_world_index.specs.Finders.{Search, KeptSlot, SessionWork, NoWork,
 use Rattle.fkv_world_index.specs.IndexEvents.{search_begun, publish_begun, begun_by, changed_at, changed_by, asked_by, moved_events, called_events, life_events, index_events, mapped}
 use Rattle.fkv_world_index.specs.LifeEntries.{won_there, entry_won, IsLinkNow, MovesIndex, EachMovesIndex}
 use Rattle.fkv_world_index.specs.Shows.{opening_index, IsWork, Shows, seen_by_index}
+use Rattle.fkv_world_index.proofs.Fair.{are_fair}
 use Rattle.fkv_world_index.proofs.LifeFacts.{life_sound, of_life}
 use Rattle.fkv_world_index.proofs.Worlds.{life_shows}
 
@@ -355,7 +356,8 @@ moves_index n n' event w w' shows shows' (ByMove i s same there won moved) = rec
 -- each event of a life
 pub life_moves : EachMovesIndex
 unfolding mapped
-life_moves opening lists event before opened fair =
+life_moves opening lists event before opened =
+    let fair = are_fair opening lists (event ∷ before) opened in
     let w : IndexWorld = seen_by_index opening lists before in
     let n : Now = (run opening before).now in
     let shows = life_shows opening lists before opened fair.1 in

@@ -277,7 +277,7 @@ event_knows k s (BeginsCall its) homes knows = begun_knows k s its (is_busy s.st
 event_knows k s (Replies reply) homes knows = (session_goes k s reply homes knows).knows
 event_knows k s (Gets action) homes knows = given_knows k s s.step action refl knows
 
-run_knows : (k : Seat) (opening : SessionState) (events : List SessionEvent) → Homes k → IsOpened opening → SittingKnows k.places (session_run k opening events) (session_run k opening events).step
+pub run_knows : (k : Seat) (opening : SessionState) (events : List SessionEvent) → Homes k → IsOpened opening → SittingKnows k.places (session_run k opening events) (session_run k opening events).step
 unfolding session_run
 run_knows k opening [] homes opened = idle_knows k.places opening opening.step opened.none_in_hand
 run_knows k opening (event ∷ before) homes opened = event_knows k (session_run k opening before) event homes (run_knows k opening before homes opened)

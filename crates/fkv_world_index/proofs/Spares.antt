@@ -1,9 +1,7 @@
--- What spares the index: an ask of a word that is none of its words, one that leaves its word as it is, and each ask of the machine for latches.
-use Rattle.std.proofs.Common.{◌≡◌, ◌≢◌, ℕ, ◌+◌, ◌-◌, ◌%◌, ◌^◌, ◌<◌, ◌≤◌, ◌∙◌, refl, sym, arith, List, Bool, true, false}
-use Rattle.std.specs.Prelude.{◌==◌, if◌then◌else◌, Option, Some, None}
+-- The places where no word of the index is, and what keeps the index: a change of a word elsewhere, one that leaves its word as it is, and one above a link.
+use Rattle.std.proofs.Common.{◌≡◌, ◌≢◌, ℕ, ◌-◌, ◌%◌, ◌<◌, ◌≤◌, ◌∙◌, refl, sym, arith, Bool, true, false}
 use Rattle.std.proofs.lemmas.Bool.Decides.{nat_tests}
 use Rattle.fkv_base.specs.Limits.{drain_slots}
-use Rattle.fkv_plane.specs.declared.asks.Ask.{Ask}
 use Rattle.fkv_plane.specs.declared.places.Places.{Places}
 use Rattle.fkv_plane.specs.declared.places.RecordWord.{RecordWord}
 use Rattle.fkv_plane.specs.declared.places.SessionWord.{SessionWord}
@@ -11,13 +9,9 @@ use Rattle.fkv_plane.specs.declared.places.SessionWord.TheVariants as own
 use Rattle.fkv_plane.specs.declared.places.SharedWord.{SharedWord}
 use Rattle.fkv_plane.specs.declared.places.SharedWord.TheVariants as one
 use Rattle.fkv_plane.specs.Places.{shared_place, drain_place, session_number, session_place, bucket_place, record_place, frames_start}
-use Rattle.fkv_plane.specs.Asked.{asked, asked_place, word_at}
 use Rattle.fkv_index.specs.IndexWorld.{is_bucket_place, is_link_place}
 use Rattle.fkv_index.specs.Slots.{link_of}
-use Rattle.fkv_latch.specs.declared.latching.Latching.{Latching}
-use Rattle.fkv_latch.specs.declared.latching.Latching.TheVariants as latch
-use Rattle.fkv_latch.specs.Latching.{latch_ask}
-use Rattle.fkv_world_index.specs.Shows.{KeepsWord, KeepsIndex, SparesIndex}
+use Rattle.fkv_world_index.specs.Shows.{KeepsWord}
 
 -- neither the count of taken overflow buckets nor a word of a bucket is there
 pub record IsElsewhere (p : Places) (place : ℕ) : Type 0 where
@@ -66,27 +60,19 @@ record_elsewhere p addr word =
 no_place : {X : Type 0} (b : Bool) → b ≡ false → b ≡ true → X
 no_place b none there = let clash : true ≡ false = sym there ∙ none in cc
 
-elsewhere_keeps : (p : Places) (place before after : ℕ) → IsElsewhere p place → KeepsWord p place before after
+pub elsewhere_keeps : (p : Places) (place before after : ℕ) → IsElsewhere p place → KeepsWord p place before after
 elsewhere_keeps p place before after else_where = record {
   count = λ e. absurd (else_where.no_count e);
   slots = λ there link. no_place (is_bucket_place p place) else_where.no_bucket there;
   links = λ there link. no_place (is_bucket_place p place) else_where.no_bucket there;
 }
 
--- whatever an ask does elsewhere
-pub elsewhere_spares : {A : Type 0} (p : Places) (words : List ℕ) (ask : Ask A) → ((place : ℕ) → asked_place ask ≡ Some place → IsElsewhere p place) → SparesIndex p words ask
-elsewhere_spares p words ask all = by_place (asked_place ask) all
-  where
-    by_place : (at : Option ℕ) → ((place : ℕ) → at ≡ Some place → IsElsewhere p place) → KeepsIndex p words at (asked ask)
-    by_place None each = tt
-    by_place (Some place) each = elsewhere_keeps p place (word_at words place) (asked ask (word_at words place)) (each place refl)
-
 -- as a load does at any place
 pub same_keeps : (p : Places) (place word : ℕ) → KeepsWord p place word word
 same_keeps p place word = record { count = λ e. refl; slots = λ there link. refl; links = λ there link. refl }
 
 -- a word with a latch is an eighth word of a bucket
-latch_keeps : (p : Places) (place bucket before after : ℕ) → place ≡ bucket_place p bucket 7 → link_of after ≡ link_of before → KeepsWord p place before after
+pub latch_keeps : (p : Places) (place bucket before after : ℕ) → place ≡ bucket_place p bucket 7 → link_of after ≡ link_of before → KeepsWord p place before after
 latch_keeps p place bucket before after at same =
     let within : (place - bucket_place p 0 0) % 8 ≡ 7 = omega (arith, at) in
     let link : is_link_place p place ≡ true = grind (arith, nat_tests, within) in
@@ -95,18 +81,3 @@ latch_keeps p place bucket before after at same =
       slots = λ there none. no_place (is_link_place p place) none link;
       links = λ there is. same;
     }
-
--- the machine for latches changes the bits above the link
-pub latch_spares : (p : Places) (words : List ℕ) (step : Latching) (bucket : ℕ) → ((place : ℕ) → asked_place (latch_ask step) ≡ Some place → place ≡ bucket_place p bucket 7) → SparesIndex p words (latch_ask step)
-unfolding latch_ask
-latch_spares p words latch.AtRest bucket at = tt
-latch_spares p words (latch.AddsShare place) bucket at = latch_keeps p place bucket _ _ (at place refl) (omega arith)
-latch_spares p words (latch.GivesBack place) bucket at = latch_keeps p place bucket _ _ (at place refl) (omega arith)
-latch_spares p words (latch.DropsShare place) bucket at = latch_keeps p place bucket _ _ (at place refl) (omega arith)
-latch_spares p words (latch.LoadsWord place) bucket at = latch_keeps p place bucket _ _ (at place refl) refl
-latch_spares p words (latch.SetsExclusive place word) bucket at = latch_keeps p place bucket _ _ (at place refl) (by_test (word_at words place == word) refl)
-  where
-    by_test : (c : Bool) → (word_at words place == word) ≡ c → link_of (if c then word + 2 ^ 63 else word_at words place) ≡ link_of (word_at words place)
-    by_test true met = let same : word_at words place ≡ word = grind (arith, nat_tests, met) in omega (arith, same)
-    by_test false other = refl
-latch_spares p words (latch.DropsExclusive place) bucket at = latch_keeps p place bucket _ _ (at place refl) (omega arith)

@@ -65,6 +65,8 @@ TryKnowsAt t Walks = WalkKnows t t.walk t.walk.step
 TryKnowsAt t (LoadsSafe addr version) = GoesBySlot t
 TryKnowsAt t (TakesExclusive old) = GoesBySlot t
 TryKnowsAt t LoadsOld = GoesBySlot t
+TryKnowsAt t (LoadsCurrent addr) = is_finding t.walk.step ≡ false
+TryKnowsAt t LoadsAnswer = is_finding t.walk.step ≡ false
 TryKnowsAt t (Appends its) = AppendsThere t
 TryKnowsAt t step = ⊤
 
@@ -149,18 +151,20 @@ disk_left p t addr home past =
     by_read (is_read t.request.op) (awaits p t addr) _ (λ read. ends_left p t _ home)
     (λ update. either_left (is_blind t.request.op) (copies p t (Known absent_word) false) (held_used p t addr t.request.held) (copies_left p t (Known absent_word) false home (record { update = update; past = past })) (held_left p t addr t.request.held home (record { update = update; past = past })))
 
-changes_left : (p : Places) (t : TryState) (addr : Addr) → IsHome p t.home → Left p t (changes t addr)
-changes_left p t addr home =
-    either_left (is_blind t.request.op) (record t { step = SwapsValue addr }) (record t { walk = walk_on t.walk; step = LoadsCurrent addr }) (record { knows = record { home = home; at = tt }; work = Gone refl; spare = refl }) (record { knows = record { home = home; at = tt }; work = Gone refl; spare = refl })
+changes_left : (p : Places) (t : TryState) (addr : Addr) → IsHome p t.home → is_finding t.walk.step ≡ false → Left p t (changes t addr)
+changes_left p t addr home past =
+    let on = walk_on_behind t.walk past in
+    either_left (is_blind t.request.op) (record t { step = SwapsValue addr }) (record t { walk = walk_on t.walk; step = LoadsCurrent addr }) (record { knows = record { home = home; at = tt }; work = Gone refl; spare = refl }) (record { knows = record { home = home; at = on.past }; work = Gone refl; spare = refl })
 
 region_left : (p : Places) (t : TryState) (addr : Addr) (version : Version) (region : Option Region) → IsHome p t.home → GoesBySlot t → Left p t (region_met p t addr version region)
 region_left p t addr version None home by = record { knows = record { home = home; at = record { update = by.update; past = by.past } }; work = Kept refl; spare = refl }
-region_left p t addr version (Some its) home by = either_left (is_own_version t version) (changes t addr) (copies p t InMemory false) (changes_left p t addr home) (copies_left p t InMemory false home by)
+region_left p t addr version (Some its) home by = either_left (is_own_version t version) (changes t addr) (copies p t InMemory false) (changes_left p t addr home by.past) (copies_left p t InMemory false home by)
 
 record_left : (p : Places) (t : TryState) (addr : Addr) (version : Version) → IsHome p t.home → is_finding t.walk.step ≡ false → Left p t (met_record p t addr version)
 record_left p t addr version home past =
+    let on = walk_on_behind t.walk past in
     by_read (is_read t.request.op) (record t { walk = walk_on t.walk; step = LoadsAnswer }) (region_met p t addr version (seen_region_of addr.0 t.seen.offsets))
-    (λ read. record { knows = record { home = home; at = tt }; work = Gone refl; spare = refl }) (λ update. region_left p t addr version (seen_region_of addr.0 t.seen.offsets) home (record { update = update; past = past }))
+    (λ read. record { knows = record { home = home; at = on.past }; work = Gone refl; spare = refl }) (λ update. region_left p t addr version (seen_region_of addr.0 t.seen.offsets) home (record { update = update; past = past }))
 
 walked_left : (p : Places) (t : TryState) (its : WalkAnswer) → IsHome p t.home → is_finding t.walk.step ≡ false → Left p t (walked p t its)
 walked_left p t (walk.Found addr version) home past = record_left p t addr version home past
@@ -196,11 +200,11 @@ stays_kept p t step at home knows kept same = record {
   spare = ap (λ (x : Trying). try_spare t x) at ∙ same;
 }
 
-current_freed : (p : Places) (t : TryState) (addr : Addr) (ask : Ask WalkAnswer) → t.step ≡ LoadsCurrent addr → IsHome p t.home → Freed p t (current_ledto p t addr ask)
+current_freed : (p : Places) (t : TryState) (addr : Addr) (ask : Ask WalkAnswer) → t.step ≡ LoadsCurrent addr → IsHome p t.home → is_finding t.walk.step ≡ false → Freed p t (current_ledto p t addr ask)
 unfolding current_ledto
-current_freed p t addr (Done (walk.Value old)) at home = record { knows = record { home = home; at = tt }; work = refl; spare = refl }
-current_freed p t addr (Done its) at home = ends_freed p t _ home
-current_freed p t addr ask at home = stayed p t (LoadsCurrent addr) at home tt refl refl
+current_freed p t addr (Done (walk.Value old)) at home past = record { knows = record { home = home; at = tt }; work = refl; spare = refl }
+current_freed p t addr (Done its) at home past = ends_freed p t _ home
+current_freed p t addr ask at home past = stayed p t (LoadsCurrent addr) at home past refl refl
 
 value_freed : (p : Places) (t : TryState) (old now : ℕ) → IsHome p t.home → Freed p t (value_changed p t old now)
 value_freed p t old now home = either_freed (now == old) (takes_effect p t (reply_from (value_of old) t.request.op)) (ends p t (answer.Wait reason.Contended)) (effect_freed (reply_from (value_of old) t.request.op)) (ends_freed p t _ home)
@@ -208,11 +212,11 @@ value_freed p t old now home = either_freed (now == old) (takes_effect p t (repl
     effect_freed : (its : Reply) → Freed p t (takes_effect p t its)
     effect_freed its = let freed = ends_freed p (record t { effect = Some its }) (answer.Done its) home in record { knows = freed.knows; work = freed.work; spare = freed.spare }
 
-answer_freed : (p : Places) (t : TryState) (ask : Ask WalkAnswer) → t.step ≡ LoadsAnswer → IsHome p t.home → Freed p t (answer_ledto p t ask)
+answer_freed : (p : Places) (t : TryState) (ask : Ask WalkAnswer) → t.step ≡ LoadsAnswer → IsHome p t.home → is_finding t.walk.step ≡ false → Freed p t (answer_ledto p t ask)
 unfolding answer_ledto
-answer_freed p t (Done (walk.Value value)) at home = ends_freed p t (told_value (value_of value)) home
-answer_freed p t (Done its) at home = ends_freed p t _ home
-answer_freed p t ask at home = stayed p t LoadsAnswer at home tt refl refl
+answer_freed p t (Done (walk.Value value)) at home past = ends_freed p t (told_value (value_of value)) home
+answer_freed p t (Done its) at home past = ends_freed p t _ home
+answer_freed p t ask at home past = stayed p t LoadsAnswer at home past refl refl
 
 old_left : (p : Places) (t : TryState) (ask : Ask WalkAnswer) → t.step ≡ LoadsOld → IsHome p t.home → GoesBySlot t → Left p t (old_ledto p t ask)
 unfolding old_ledto
@@ -344,9 +348,9 @@ step_goes p room t (LoadsSafe addr version) reply at home knows asks = keeping p
 step_goes p room t (SwapsValue addr) reply at home knows asks =
     let freed = ends_freed p (record t { effect = Some (reply_from None t.request.op) }) (answer.Done (reply_from None t.request.op)) home in
     freely p reply t _ (record { knows = freed.knows; work = freed.work; spare = freed.spare })
-step_goes p room t (LoadsCurrent addr) reply at home knows asks = freely p reply (walk_moved p (record t { effect = None }) reply) _ (current_freed p (walk_moved p (record t { effect = None }) reply) addr (walk_ask p (walk_next p t.walk reply)) at home)
+step_goes p room t (LoadsCurrent addr) reply at home knows asks = freely p reply (walk_moved p (record t { effect = None }) reply) _ (current_freed p (walk_moved p (record t { effect = None }) reply) addr (walk_ask p (walk_next p t.walk reply)) at home (walk_behind p t.walk reply knows).past)
 step_goes p room t (ChangesValue addr old) reply at home knows asks = freely p reply (record t { effect = None }) _ (value_freed p (record t { effect = None }) old reply home)
-step_goes p room t LoadsAnswer reply at home knows asks = freely p reply (walk_moved p (record t { effect = None }) reply) _ (answer_freed p (walk_moved p (record t { effect = None }) reply) (walk_ask p (walk_next p t.walk reply)) at home)
+step_goes p room t LoadsAnswer reply at home knows asks = freely p reply (walk_moved p (record t { effect = None }) reply) _ (answer_freed p (walk_moved p (record t { effect = None }) reply) (walk_ask p (walk_next p t.walk reply)) at home (walk_behind p t.walk reply knows).past)
 step_goes p room t (TakesExclusive old) reply at home knows asks =
     keeping p reply (latch_moved (record t { effect = None }) reply) _ (alone_left p (latch_moved (record t { effect = None }) reply) old (latch_next_ask t.latching reply) at home (record { update = knows.update; past = knows.past }))
 step_goes p room t LoadsOld reply at home knows asks =

@@ -20,7 +20,7 @@ use Rattle.fkv_session.specs.Sessions.{SessionState, session_ask}
 use Rattle.fkv_world.specs.World.{Event, Moves, Now, seat_at}
 use Rattle.fkv_world.specs.Runs.{World, run}
 use Rattle.fkv_world_index.specs.Finders.{Search, KeptSlot, SessionWork, Searches, KeepsSlot, PublishesEntry, session_part, session_search}
-use Rattle.fkv_world_index.specs.Shows.{IsOpened, AreFair, seen_by_index}
+use Rattle.fkv_world_index.specs.Shows.{IsOpened, seen_by_index}
 
 -- the overflow buckets that follow each bucket, as the run of the index tells them
 abbrev pub lists_seen : World → (ℕ → List ℕ) → List Event → ℕ → List ℕ
@@ -87,9 +87,9 @@ pub record AsksFor (n : Now) (session : ℕ) (s : SessionState) : Type 0 where
 abbrev pub AskForThese : Now → (ℕ → List ℕ) → Type 0
 AskForThese n lists = (session : ℕ) (s : SessionState) → slice_get n.sessions session ≡ Some s → AsksFor n session s
 
--- what holds at every moment of each life that begins with an index in order, and each of whose steps is fair
+-- what holds at every moment of each life that begins as a store was opened, with an index in order
 abbrev pub AtEachMoment : (Now → (ℕ → List ℕ) → Type 0) → Type 0
-AtEachMoment P = (opening : World) (lists : ℕ → List ℕ) (events : List Event) → IsOpened opening lists → AreFair opening events → P (run opening events).now (lists_seen opening lists events)
+AtEachMoment P = (opening : World) (lists : ℕ → List ℕ) (events : List Event) → IsOpened opening lists → P (run opening events).now (lists_seen opening lists events)
 
 -- the entry that an event publishes: a session's, where the word that it met stands in the slot yet
 abbrev pub won_there : List ℕ → SessionWork → Option NewEntry
@@ -125,5 +125,5 @@ pub record MovesIndex (n after : Now) (lists lists_after : ℕ → List ℕ) (ev
 
 -- at each event of a life
 abbrev pub EachMovesIndex : Type 0
-EachMovesIndex = (opening : World) (lists : ℕ → List ℕ) (event : Event) (before : List Event) → IsOpened opening lists → AreFair opening (event ∷ before)
+EachMovesIndex = (opening : World) (lists : ℕ → List ℕ) (event : Event) (before : List Event) → IsOpened opening lists
     → MovesIndex (run opening before).now (run opening (event ∷ before)).now (lists_seen opening lists before) (lists_seen opening lists (event ∷ before)) event

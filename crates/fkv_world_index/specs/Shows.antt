@@ -10,6 +10,7 @@ use Rattle.fkv_index.specs.Publishing.{publish_first}
 use Rattle.fkv_index.specs.IndexWorld as index
 use Rattle.fkv_index.specs.IndexWorld.{IndexActor, IndexWorld, is_bucket_place, is_link_place, is_publishing, is_seeking, new_entry, index_opening, index_run}
 use Rattle.fkv_index.specs.OneEntry.{IsIndexAt}
+use Rattle.fkv_keeper.specs.KeeperRun as keeper
 use Rattle.fkv_keeper.specs.Keeping.{keeper_ask}
 use Rattle.fkv_session.specs.Sessions as sessions
 use Rattle.fkv_session.specs.Sessions.{SessionState, session_ask}
@@ -51,11 +52,16 @@ AreFair opening (event ∷ before) = IsFair (run opening before).now event × Ar
 abbrev pub opening_index : World → (ℕ → List ℕ) → IndexWorld
 opening_index opening lists = index_opening opening.now.places opening.now.words lists (length opening.now.sessions)
 
--- as a life begins the index is in order, and each session is as its store was opened
+-- As a life begins the index is in order, there is a session for each seat of the store, and each session and the keeper are as their store
+-- was opened; the keeper serves and finishes commits for just the store's sessions.
 pub record IsOpened (opening : World) (lists : ℕ → List ℕ) : Type 0 where
   pub its_index : IsIndexAt (opening_index opening lists)
   pub buckets : opening.now.places.buckets ≡ 2 ^ opening.now.shape.bucket_bits
+  pub seats : length opening.now.sessions ≡ opening.now.places.sessions
   pub sessions : (i : ℕ) (s : SessionState) → slice_get opening.now.sessions i ≡ Some s → sessions.IsOpened s
+  pub served : opening.now.shape.sessions ≡ opening.now.places.sessions
+  pub finished : opening.now.keeper.finish.sessions ≡ opening.now.shape.sessions
+  pub keeper : keeper.IsOpened opening.now.keeper
 
 -- an actor that neither searches nor publishes
 abbrev pub IsFree : IndexActor → Type 0

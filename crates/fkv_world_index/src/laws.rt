@@ -13,16 +13,18 @@ pub fn law_of_searches()
     ensures { AreSearchesMoved }
 {}
 
-/// Over every life of the engine that begins with an index in order, whatever its calls, commits, turns and the order of its steps, as long
-/// as each ask of a session that neither searches nor publishes, and each of the keeper, leaves the count of taken overflow buckets,
-/// the slots and the links as they are: the words are those of a run of the world of the index, in which each session's actor searches,
-/// keeps a slot and publishes as the session does, and was told of the same bucket to spare. So the buckets are in order, each home has
+/// Over every life of the engine that begins as a store was opened, with an index in order, whatever its calls, commits, turns and the order
+/// of its steps: each ask of a session that neither searches nor publishes, and each of the keeper, leaves the count of taken overflow
+/// buckets, the slots and the links as they are. So the words are those of a run of the world of the index, in which each session's actor
+/// searches, keeps a slot and publishes as the session does, and was told of the same bucket to spare. So the buckets are in order, each home has
 /// one entry at most, and each overflow bucket that is taken is in one list or is what one session has to spare. What a search comes to is
 /// so at the step that ends it, and is the entry of its home; the slot that it has found stays the home's until the session publishes
 /// there; and the list of a bucket's slots is filled from the left and has each tag once. A publish is won where the word that was met
 /// stands in the slot, and gives its home the new entry; no other event changes an entry, and none but a link a list.
 pub fn law_world_one_entry()
-    ensures shows { (opening : World) (lists : ℕ → List ℕ) (events : List Event) → IsOpened opening lists → AreFair opening events
+    ensures fair { (opening : World) (lists : ℕ → List ℕ) (events : List Event) → IsOpened opening lists
+        → AreFair opening events }
+    ensures shows { (opening : World) (lists : ℕ → List ℕ) (events : List Event) → IsOpened opening lists
         → Shows (run opening events).now (seen_by_index opening lists events) }
     ensures index { AtEachMoment IsIndexNow }
     ensures answers { AtEachMoment AreAnsweredSo }

@@ -1,6 +1,6 @@
 -- The keeper touches no latch, where it goes by the sessions of its store.
 use Rattle.std.proofs.Common.{◌≡◌, ℕ, ◌≤◌, refl, sym, subst, arith, List, [], ◌∷◌, length, Bool, true, false}
-use Rattle.std.specs.Prelude.{if◌then◌else◌, ⊤, Option, Some, None}
+use Rattle.std.specs.Prelude.{if◌then◌else◌, false, ⊤, Option, Some, None}
 use Rattle.fkv_base.specs.declared.faults.Fault.TheVariants as fault
 use Rattle.fkv_base.specs.declared.phases.Phase.TheVariants as phase
 use Rattle.fkv_base.specs.declared.shapes.Shape.{Shape}
@@ -142,7 +142,7 @@ part_none p n s c (Says phase.InProgress version) granted counts =
     either_none s.has_entered n (copies_next p s c granted (turned s)) (record s { enter = enter_begun s.enter c.number; step = Enters })
     (copies_next_none p n s c granted (turned s) counts (ended_none n s _ counts)) (record { counts = counts; touches = enter_begun_none s.enter c.number })
 part_none p n s c (Says phase.WaitPending version) granted counts =
-    copies_next_none p n s c granted (record s { seek = seek_begun s.seek c.number; step = Seeks }) counts (record { counts = counts; touches = seek_begun_none s.seek c.number })
+    copies_next_none p n s c granted (record s { seek = seek_begun s.seek c.number; has_points = false; step = Seeks }) counts (record { counts = counts; touches = seek_begun_none s.seek c.number })
 part_none p n s c (Says phase.WaitFlush version) granted counts =
     either_none s.has_points n (record s { wait = wait_begun c.end c.epoch; step = Waits }) (turned s) (record { counts = counts; touches = tt }) (ended_none n s _ counts)
 part_none p n s c (Says phase.Rest version) granted counts = ended_none n s _ counts

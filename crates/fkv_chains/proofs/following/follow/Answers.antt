@@ -1,4 +1,4 @@
-use Rattle.std.proofs.Common.{◌≡◌, ◌≤◌, ◌<◌, List, sym, subst, ◌∙◌, arith}
+use Rattle.std.proofs.Common.{◌<◌, sym, subst, ◌∙◌, arith}
 use Rattle.fkv_words.specs.Fields.{Reads}
 use Rattle.fkv_disk.specs.Bytes.{bytes_at}
 use Rattle.fkv_record.specs.Layout.{record_bytes}

@@ -1,4 +1,4 @@
-use Rattle.std.proofs.Common.{◌≡◌, List, ℕ, Some, subst}
+use Rattle.std.proofs.Common.{List, ℕ, Some, subst}
 use Rattle.std.proofs.lemmas.Bool.{iff_false}
 use Rattle.fkv_words.specs.Fields.{Reads}
 use Rattle.fkv_record.specs.Manifest.{manifest_bytes}

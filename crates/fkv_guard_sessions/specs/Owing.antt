@@ -1,0 +1,51 @@
+-- What a session changes in place, and what is left of what its steps owe.
+use Rattle.std.specs.Prelude.{◌≡◌, ◌<◌, ◌≤◌, ℕ, List, Option, Some, None}
+use Rattle.fkv_plane.specs.declared.places.SharedWord.TheVariants as one
+use Rattle.fkv_plane.specs.Places.{shared_place}
+use Rattle.fkv_plane.specs.Asked.{word_at}
+use Rattle.fkv_ops.specs.declared.trying.Trying.{Trying}
+use Rattle.fkv_ops.specs.declared.trying.Trying.TheVariants.{SwapsValue, ChangesValue}
+use Rattle.fkv_pending.specs.declared.attempting.Attempting.{Attempting}
+use Rattle.fkv_pending.specs.declared.attempting.Attempting.TheVariants.{Tries}
+use Rattle.fkv_pending.specs.Attempting.{AttemptState}
+use Rattle.fkv_session.specs.declared.sessions.Sitting.{Sitting}
+use Rattle.fkv_session.specs.declared.sessions.Sitting.TheVariants.{Attempts, Polls}
+use Rattle.fkv_session.specs.SessionRun.{SessionEvent, session_run}
+use Rattle.fkv_session.specs.Sessions.{SessionState, Seat, IsOpened}
+use Rattle.fkv_session.specs.Shares.{HasItsBuckets}
+use Rattle.fkv_guard_sessions.specs.Sessions.{SessionOwes}
+
+-- the address of the record whose value the next step changes in place
+abbrev pub try_changes : Trying → Option ℕ
+try_changes (SwapsValue addr) = Some addr.0
+try_changes (ChangesValue addr old) = Some addr.0
+try_changes step = None
+
+abbrev pub attempt_changes : AttemptState → Attempting → Option ℕ
+attempt_changes a Tries = try_changes a.trial.step
+attempt_changes a step = None
+
+abbrev pub sitting_changes : SessionState → Sitting → Option ℕ
+sitting_changes s (Attempts has_shifted) = attempt_changes s.attempt s.attempt.step
+sitting_changes s (Polls index) = attempt_changes s.attempt s.attempt.step
+sitting_changes s step = None
+
+abbrev pub changed_in_place : SessionState → Option ℕ
+changed_in_place s = sitting_changes s s.step
+
+-- it lies at or above the read-only offset that the session has seen
+abbrev pub IsAboveReadOnly : SessionState → Type 0
+IsAboveReadOnly s = (addr : ℕ) → changed_in_place s ≡ Some addr → s.seen.offsets.read_only.0 ≤ addr
+
+-- and below the tail: its record is reserved
+abbrev pub IsBelowTail : List ℕ → SessionState → Type 0
+IsBelowTail words s = (addr : ℕ) → changed_in_place s ≡ Some addr → addr < word_at words (shared_place one.Tail)
+
+-- at every moment of a session's run
+abbrev pub ChangesAreAbove : Type 0
+ChangesAreAbove = (seat : Seat) (opening : SessionState) (events : List SessionEvent) → IsOpened opening → IsAboveReadOnly (session_run seat opening events)
+
+-- all that a step owes comes down to that its change in place stands below the tail
+abbrev pub RunsOwe : Type 0
+RunsOwe = (seat : Seat) (opening : SessionState) (events : List SessionEvent) (words : List ℕ) → IsOpened opening → HasItsBuckets seat
+    → IsBelowTail words (session_run seat opening events) → SessionOwes seat words (session_run seat opening events)

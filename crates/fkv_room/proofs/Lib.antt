@@ -1,0 +1,5 @@
+mod Counts
+mod Entering
+mod Filling
+mod Listing
+mod Unique

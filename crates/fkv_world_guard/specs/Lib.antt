@@ -1,0 +1,3 @@
+pub mod GuardEvents
+pub mod KeptGuarded
+pub mod Shows
