@@ -1,0 +1,122 @@
+//! A store in memory, and scripts over it.
+use crate::lines::{Line, Says, beginning, is_phase, moving, told, turned};
+use fkv_base::{Fault, Shape};
+use fkv_core::{Event, Told, World};
+use fkv_disk::{Fuse, MemDisk};
+use fkv_plane::SharedWord;
+use fkv_recover::create;
+use std::alloc::Global;
+use std::process::Abort;
+use std::test::Fail;
+
+/// Bucket bits, page, frames, mutable pages, sessions, overflow buckets, and pages on the device.
+pub(crate) type Sizes = [u64; 7];
+
+/// Room for some records, for one session and for two.
+pub(crate) const WIDE: Sizes = [4, 16, 4, 2, 1, 0, 64];
+
+pub(crate) const WIDE_FOR_TWO: Sizes = [4, 16, 4, 2, 2, 0, 64];
+
+/// Two frames of four records, of which one page is mutable.
+pub(crate) const NARROW: Sizes = [4, 4, 2, 1, 1, 0, 64];
+
+pub(crate) const NARROW_FOR_TWO: Sizes = [4, 4, 2, 1, 2, 0, 64];
+
+/// More steps than a call has here.
+pub(crate) const MANY_STEPS: u64 = 40000;
+
+/// The rounds in which a commit is to finish.
+const ROUNDS: u64 = 64;
+
+/// The engine on a device in memory, which a fuse may make fail.
+pub(crate) type Store = World<Fuse<MemDisk>>;
+
+/// A new store.
+pub(crate) fn new_store(alloc: Global, sizes: Sizes) -> Result<Store, Fault> {
+    let [bits, page, frames, mutable, sessions, overflow, pages] = sizes;
+    let shape = Shape::new(bits, page, frames, mutable, sessions, overflow, pages)?;
+    let mut disk = Fuse::new(MemDisk::new(alloc));
+    let opened = create(alloc, &mut disk, shape)?;
+    World::open(alloc, opened, disk)
+}
+
+/// So many steps of one actor, or fewer where its call ends before.
+pub(crate) fn steps(store: &mut Store, moves: Event, count: u64) -> Option<Told> {
+    for _ in 0..count {
+        let told = store.step(moves);
+        if told.is_some() {
+            return told;
+        }
+    }
+    None
+}
+
+/// Begins a call, and moves its actor by so many steps, or fewer where the call ends before.
+pub(crate) fn begin(store: &mut Store, begins: Event, count: u64) -> Option<Told> {
+    let told = store.step(begins);
+    if told.is_some() {
+        return told;
+    }
+    steps(store, moving(begins), count)
+}
+
+/// What comes of a line, whose call is moved to its end.
+fn whole(store: &mut Store, line: Line) -> Option<Told> {
+    match line {
+        Line::Finish => finish(store),
+        line => begin(store, beginning(line), MANY_STEPS),
+    }
+}
+
+/// Each round is a refresh and a poll of the first two sessions, of which the second may be missing, and a turn. It ends where a
+/// commit finishes or a turn is refused.
+fn finish(store: &mut Store) -> Option<Told> {
+    for _ in 0..ROUNDS {
+        for line in [
+            Line::Refresh(0),
+            Line::Poll(0),
+            Line::Refresh(1),
+            Line::Poll(1),
+        ] {
+            let _ = begin(store, beginning(line), MANY_STEPS);
+        }
+        let turn = begin(store, Event::Turn, MANY_STEPS);
+        if turn != turned(None, false) {
+            return turn;
+        }
+    }
+    None
+}
+
+/// Whether this came of the line, and the store is in the phase that it says.
+pub(crate) fn is_said(store: &Store, line: Line, says: Says, came: Option<Told>) -> bool {
+    came == told(beginning(line), says) && is_phase(says, store.word(SharedWord::Phase.place()))
+}
+
+/// The first line that isn't answered as it says, if any.
+pub(crate) fn first_wrong(store: &mut Store, script: &[(Line, Says)]) -> Option<usize> {
+    for (at, (line, says)) in script.iter().enumerate() {
+        let came = whole(store, *line);
+        if !is_said(store, *line, *says, came) {
+            return Some(at);
+        }
+    }
+    None
+}
+
+/// Plays a script over a store.
+pub(crate) fn play(rt: &impl Abort, store: &mut Store, script: &[(Line, Says)]) {
+    assert_eq!(rt; first_wrong(store, script), None);
+}
+
+/// Plays a script over a new store.
+pub(crate) fn play_new(
+    rt: &impl Abort,
+    alloc: Global,
+    sizes: Sizes,
+    script: &[(Line, Says)],
+) -> Result<(), Fail> {
+    let mut store = new_store(alloc, sizes)?;
+    play(rt, &mut store, script);
+    Ok(())
+}
