@@ -10,7 +10,7 @@ use crate::paging::four_updates_read_only;
 use crate::stores::{NARROW_FOR_TWO, Store, WIDE, WIDE_FOR_TWO, new_store, play, play_new};
 use fkv_base::Phase::{InProgress, Prepare, Rest, WaitPending};
 use fkv_base::{Addr, Fault, Serial};
-use fkv_ops::Reason::Fuzzy;
+use fkv_ops::Reason::Disk;
 use fkv_record::read_manifest_slot;
 use std::process::Abort;
 use std::test::Fail;
@@ -130,7 +130,7 @@ fn a_commit_waits_for_its_pending_update(rt: HostRuntime) -> Result<(), Fail> {
         (Refresh(1), Sees(Prepare, 1)),
         (Turn, At(InProgress, 2)),
         (Refresh(1), Sees(InProgress, 2)),
-        (Add(1, 1, 100), Waits(1, Fuzzy)),
+        (Add(1, 1, 100), Waits(1, Disk)),
         (Refresh(0), Sees(InProgress, 2)),
         (Poll(0), StillWaits(1)),
         (Turn, At(WaitPending, 2)),
