@@ -1,0 +1,5 @@
+mod Counting
+mod Laying
+mod Newly
+mod Sound
+mod Suiting
