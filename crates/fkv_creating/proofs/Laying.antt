@@ -3,7 +3,7 @@ use Rattle.std.proofs.Common.{◌≡◌, ◌⊎◌, inl, inr, ℕ, zero, suc, �
 use Rattle.std.specs.Prelude.{replicate}
 use Rattle.std.proofs.lemmas.List.{get_or-drop, length-drop, length-replicate}
 use Rattle.fkv_disk.specs.Bytes.{byte_at, bytes_at, written, range_end}
-use Rattle.fkv_disk.proofs.Shown.{length-written, is_listed, in_range, before_range, after_range, range_end_is, byte_at-written_in, byte_at-written_out, byte_at-bytes_at, length-bytes_at}
+use Rattle.fkv_disk.proofs.Shown.{length-written, is_listed, in_range, before_range, after_range, range_end_is, byte_at-written_in, byte_at-written_out, byte_at-bytes_at}
 use Rattle.fkv_creating.specs.Created.{laid, SparesRest}
 
 pub zeros_at : (n i : ℕ) → byte_at (replicate n 0) i ≡ 0

@@ -1,5 +1,5 @@
 -- The image of a new store is told as new.
-use Rattle.std.proofs.Common.{◌≡◌, ℕ, zero, suc, ◌+◌, ◌-◌, ◌*◌, ◌^◌, ◌<◌, ◌≤◌, List, [], ◌∷◌, ◌++◌, length, get_or, drop, refl, sym, ◌∙◌, ap, subst, arith}
+use Rattle.std.proofs.Common.{◌≡◌, ℕ, zero, suc, ◌*◌, ◌≤◌, List, ◌∷◌, ◌++◌, length, drop, refl, sym, ◌∙◌, ap, arith}
 use Rattle.std.specs.Prelude.{Option, Some, None, codes, replicate, if◌then◌else◌, ◌==◌}
 use Rattle.std.specs.Int.{w64, from_le_bytes, to_le_bytes}
 use Rattle.std.proofs.lemmas.List.{get_or_append_left}
@@ -10,7 +10,7 @@ use Rattle.fkv_manifest.specs.Kept.{IsSlotOf}
 use Rattle.fkv_manifest.specs.Newest.{slot_in, newer, newest}
 use Rattle.fkv_manifest.proofs.Shown.{newest_spelled}
 use Rattle.fkv_newest.specs.declared.newest_slots.Newest.{Newest}
-use Rattle.fkv_newest.specs.Newest.{IsNewestOf, IsManifest, slot_place}
+use Rattle.fkv_newest.specs.Newest.{IsNewestOf, slot_place}
 use Rattle.fkv_record.specs.declared.formats.Format.TheVariants.{Third}
 use Rattle.fkv_record.specs.declared.manifest_slots.ManifestSlot.{ManifestSlot}
 use Rattle.fkv_record.specs.Layout.{shape_bytes, size_numbers}
@@ -18,7 +18,7 @@ use Rattle.fkv_record.specs.Manifest.{manifest_bytes, newest_bytes, newest_numbe
 use Rattle.fkv_record.specs.Numbers.{spelled}
 use Rattle.fkv_record.specs.Places.{open_number, number_at}
 use Rattle.fkv_record.proofs.Shown.{shape_numbered, length-spelled}
-use Rattle.fkv_creating.specs.Created.{IsNew, IsNewSlot, SparesRest, laid}
+use Rattle.fkv_creating.specs.Created.{IsNew, SparesRest, laid}
 use Rattle.fkv_creating.specs.Long.{IsLong}
 use Rattle.fkv_creating.proofs.Laying.{zeros_at, IsSlot, laid_block, laid_slot, laid_closed, laid_spares}
 

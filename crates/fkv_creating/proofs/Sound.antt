@@ -1,15 +1,13 @@
 -- No stage of recovery finds a fault in a new store.
-use Rattle.std.proofs.Common.{◌≡◌, ℕ, zero, suc, ◌+◌, ◌-◌, ◌*◌, ◌^◌, ◌<◌, ◌≤◌, List, [], ◌∷◌, length, refl, sym, ◌∙◌, ap, subst, arith}
-use Rattle.std.specs.Prelude.{Some, Contains, slice_get}
+use Rattle.std.proofs.Common.{◌≡◌, ℕ, zero, suc, ◌+◌, ◌^◌, ◌≤◌, List, [], refl, sym, ap, subst, arith}
+use Rattle.std.specs.Prelude.{Some, slice_get}
 use Rattle.fkv_base.specs.declared.shapes.Shape.{Shape}
 use Rattle.fkv_newest.specs.declared.newest_slots.Newest.{Newest}
-use Rattle.fkv_record.specs.declared.records.Record.{Record}
 use Rattle.fkv_scan.specs.Checkpoint.{AreTriples, checkpoint_in}
 use Rattle.fkv_scan.specs.Log.{Log, log_in, HasTriple}
 use Rattle.fkv_scan.specs.Scan.{HasScan}
 use Rattle.fkv_chains.specs.Reached.{Reached, in_scan, led_to, linked}
 use Rattle.fkv_chains.specs.Chains.{HasChains}
-use Rattle.fkv_chains.specs.Entries.{IsEntry}
 use Rattle.fkv_room.specs.Room.{HasRoom, taken}
 use Rattle.fkv_creating.specs.Created.{IsNew}
 
