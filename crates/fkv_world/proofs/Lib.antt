@@ -1,7 +1,9 @@
 mod Added
+mod Crashed
 mod Device
 mod EffectStays
 mod Effects
+mod Ends
 mod Heard
 mod Lives
 mod NoSlots

@@ -1,5 +1,6 @@
 pub mod Actors
 pub mod Added
+pub mod Ends
 pub mod Keepers
 pub mod Moves
 pub mod Opened

@@ -1,5 +1,5 @@
 //! What holds of every life of the engine, whatever its machines do.
-ghost use Rattle.std.specs.Prelude.{◌≡◌, ◌≢◌, ◌++◌, ℕ, Bool, List, length, None, Some, false, slice_get, slice_set, true};
+ghost use Rattle.std.specs.Prelude.{◌≡◌, ◌≢◌, ◌++◌, ◌<◌, ◌≤◌, ◌-◌, ℕ, Bool, List, length, None, Some, false, slice_get, slice_set, true};
 ghost use Rattle.fkv_commit.specs.declared.commits.CommitKind.{CommitKind};
 ghost use Rattle.fkv_disk.specs.Calls.{AllDone};
 ghost use Rattle.fkv_keeper.specs.declared.answers.KeeperTold.TheVariants.{Device};
@@ -13,9 +13,10 @@ ghost use Rattle.fkv_session.specs.SessionRun.{session_run};
 ghost use Rattle.fkv_session.specs.Sessions.{SessionState, is_busy, session_ask};
 ghost use Rattle.fkv_world.specs.Actors.{NoneOfKeeper, NoneOfSession, is_of_keeper, is_of_session, keeper_goes, place_named, session_goes, slot_named};
 ghost use Rattle.fkv_world.specs.Added.{IsCallsAfter, IsHistoryAfter, told_at, told_by};
+ghost use Rattle.fkv_world.specs.Ends.{IsFreeToMove, KeeperStandsAtNoSlot, StandsAtNoSlot, asks_left_of, asks_left_of_keeper, moves_alone};
 ghost use Rattle.fkv_world.specs.Opened.{IsOpenedWorld};
 ghost use Rattle.fkv_world.specs.OwnEvents.{keeper_events, session_events};
-ghost use Rattle.fkv_world.specs.World.{Calls, Commits, Event, KeeperMoves, Moves, Turns, keeper_asked, near, seat_at, session_called, with_keeper, with_session};
+ghost use Rattle.fkv_world.specs.World.{Calls, Commits, Crashes, Event, KeeperMoves, Moves, Turns, keeper_asked, near, seat_at, session_called, with_keeper, with_session};
 ghost use Rattle.fkv_world.specs.Runs.{World, happens, read_by_keeper, run};
 
 /// A list of events after another is the run of the one over the world that the other leaves.
@@ -89,6 +90,29 @@ pub fn law_of_nothing_to_do()
     ensures keeper_moves { (w : World) (granted done : Bool) → is_in_hand w.now.keeper.step ≡ false
         → happens w (KeeperMoves granted done) ≡ w }
     ensures crashed { (w : World) (event : Event) → w.now.crashed ≡ true → happens w event ≡ w }
+{}
+
+/// A crash ends a life: that it goes on no more is all that it changes, nothing is past through it, and no event behind it changes anything.
+pub fn law_of_a_crash()
+    ensures ends { (w : World) → (happens w Crashes).now ≡ record w.now { crashed = true } }
+    ensures past { (w : World) → (happens w Crashes).past ≡ w.past }
+    ensures behind { (w : World) (later : List Event) → run (happens w Crashes) later ≡ happens w Crashes }
+{}
+
+/// A call ends by the asks that its machine has left: a move of a session that has some left, and of the keeper, leaves fewer, whatever the
+/// replies are; and no other's event changes how many they are. So a session that alone makes as many moves as it had asks left has none left. It is
+/// supposed that it doesn't stand before a slot whose action it takes: it takes it in the step in which it comes there.
+pub fn law_of_ends()
+    ensures session { (w : World) (session : ℕ) → w.now.crashed ≡ false → StandsAtNoSlot w.now session
+        → asks_left_of (happens w (Moves session)).now session ≤ asks_left_of w.now session - 1 }
+    ensures keeper { (w : World) (granted done : Bool) → w.now.crashed ≡ false → 0 < asks_left_of_keeper w.now → KeeperStandsAtNoSlot w.now
+        → asks_left_of_keeper (happens w (KeeperMoves granted done)).now < asks_left_of_keeper w.now }
+    ensures others { (w : World) (event : Event) (session : ℕ) → is_of_session session event ≡ false
+        → asks_left_of (happens w event).now session ≡ asks_left_of w.now session }
+    ensures beside_keeper { (w : World) (event : Event) → is_of_keeper event ≡ false
+        → asks_left_of_keeper (happens w event).now ≡ asks_left_of_keeper w.now }
+    ensures alone { (w : World) (session count : ℕ) → w.now.crashed ≡ false → IsFreeToMove w session count → asks_left_of w.now session ≤ count
+        → asks_left_of (moves_alone w session count).now session ≡ 0 }
 {}
 
 /// Each machine is at every moment of a life the run of its own events: a session over the calls that it begins, the replies and the
