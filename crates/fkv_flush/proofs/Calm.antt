@@ -65,7 +65,7 @@ use Rattle.fkv_flush.specs.Flushing.{flush_ask}
 use Rattle.fkv_flush.specs.Serving.{serve_ask}
 use Rattle.fkv_flush.specs.GuardLevels.{levels_of}
 use Rattle.fkv_flush.specs.GuardCalm.{actor_of, IsOther, AreOther, IsCalm}
-use Rattle.fkv_flush.specs.GuardWorld.{Actor, Work, Rests, Reserves, Fills, Invalidates, Shifts, Turns, Flushes, Serves, GuardWorld, GuardEvent, Moves, Calls, Reads, Updates, RaisesReadOnly, RaisesFor, Changes, work_step, is_idle, is_guarded, is_stored, may_update, epoch_world, levels, guard_happens, guard_run}
+use Rattle.fkv_flush.specs.GuardWorld.{Actor, Work, Rests, Reserves, Fills, Invalidates, Shifts, Turns, Flushes, Serves, GuardWorld, GuardEvent, Moves, Calls, Reads, Updates, RaisesReadOnly, RaisesFor, Changes, work_step, is_idle, is_guarded, is_stored, epoch_world, levels, guard_happens, guard_run}
 use Rattle.fkv_flush.proofs.GuardMachines.{claimed_same}
 use Rattle.fkv_flush.proofs.GuardSound.{IsSound, MoveKnows, ShiftKnows, TurnKnows, machine_at}
 use Rattle.fkv_flush.proofs.GuardWorks.{truth, Known}
@@ -374,7 +374,7 @@ module _ (w : GuardWorld) (a : ℕ) (x : Actor) (sound : IsSound w) (got : slice
       work_calm_idle = machine_calm (epoch_world w) a x.machine sound.epochs (machine_at w.now.actors a x got)
   near_calm (Calls b done) its = called_calm done x.work
   near_calm (Reads b bytes) its = read_calm bytes x.work
-  near_calm (Updates b addr word) its = test_calm (may_update w.now b x addr) _ (λ e. aside_calm S a w.now.words (record_place w.now.places addr rec.Value) word (high_aside S a _ (omega arith)))
+  near_calm (Updates b addr word) its = aside_calm S a w.now.words (record_place w.now.places addr rec.Value) word (high_aside S a _ (omega arith))
   near_calm (RaisesReadOnly b to) its = test_calm (nat_le to (levels w).tail) _ (λ e. raised_calm S a w.now.words 5 _ enough (omega arith) (omega arith))
   near_calm (RaisesFor b action) its = elim (truth (is_idle x.work && is_stored w.now.words action)) [
     | inl e ↦ rw e (raises_calm action x.machine refl)

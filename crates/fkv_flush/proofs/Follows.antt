@@ -13,7 +13,7 @@ use Rattle.fkv_flush.specs.declared.flushing.Flushing.{Flushing}
 use Rattle.fkv_flush.specs.declared.serving.Serving.{Serving}
 use Rattle.fkv_flush.specs.Flushing.{flush_done, bytes_done}
 use Rattle.fkv_flush.specs.GuardSeen.{LastSeen}
-use Rattle.fkv_flush.specs.GuardWorld.{Actor, Work, Flushes, Serves, GuardTask, GuardNow, GuardNear, GuardWorld, GuardEvent, Begins, Resumes, Moves, Calls, Reads, Sees, Publishes, Updates, RaisesReadOnly, RaisesFor, Changes, near, put_near, epoch_step, work_step, guard_happens_now, guard_happens, guard_run, is_idle, is_none, is_guarded, is_stored, may_update, may_work, started, mail_read, seen_with}
+use Rattle.fkv_flush.specs.GuardWorld.{Actor, Work, Flushes, Serves, GuardTask, GuardNow, GuardNear, GuardWorld, GuardEvent, Begins, Resumes, Moves, Calls, Reads, Sees, Publishes, Updates, RaisesReadOnly, RaisesFor, Changes, near, put_near, epoch_step, work_step, guard_happens_now, guard_happens, guard_run, is_idle, is_none, is_guarded, is_stored, may_work, started, mail_read, seen_with}
 use Rattle.fkv_flush.proofs.OneEvent.{event_near, called_near, read_near, raised_near, one_event}
 
 -- the world after a list of events, the newest first
@@ -79,8 +79,8 @@ module _ (n : GuardNow) (a : ℕ) (x : Actor) (got : slice_get n.actors a ≡ So
   pub publishes : is_idle x.work ≡ true → Leads (Publishes a) (near n.words n.actions (record x { undecided = None }))
   publishes idle = leads (Publishes a) _ (rw idle refl) (one_event n (Publishes a) a x refl got)
 
-  pub updates : (addr word : ℕ) → may_update n a x addr ≡ true → Leads (Updates a addr word) (near (slice_set n.words (record_place n.places addr rec.Value) word) n.actions x)
-  updates addr word may = leads (Updates a addr word) _ (rw may refl) (one_event n (Updates a addr word) a x refl got)
+  pub updates : (addr word : ℕ) → Leads (Updates a addr word) (near (slice_set n.words (record_place n.places addr rec.Value) word) n.actions x)
+  updates addr word = one_event n (Updates a addr word) a x refl got
 
   pub raises_read_only : (to : ℕ) → nat_le to (word_at n.words (shared_place one.Tail)) ≡ true
       → Leads (RaisesReadOnly a to) (near (slice_set n.words (shared_place one.ReadOnly) (max (word_at n.words (shared_place one.ReadOnly)) to)) n.actions x)

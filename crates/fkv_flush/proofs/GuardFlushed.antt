@@ -17,7 +17,7 @@ use Rattle.fkv_flush.specs.declared.flushing.Flushing.TheVariants as flush
 use Rattle.fkv_flush.specs.Flushing.{flush_ask, flush_next, bytes_next, flush_calls, flush_done, bytes_done}
 use Rattle.fkv_flush.specs.GuardLevels.{levels_of}
 use Rattle.fkv_flush.specs.GuardWorld.{Actor, Work, Rests, Reserves, Fills, Invalidates, Shifts, Turns, Flushes, Serves, ToDo, ToReserve, ToFill, ToInvalidate, ToShift, ToTurnPage, ToFlush, ToServe, GuardNow, GuardWorld, GuardEvent, Begins, Resumes, Moves, Calls, Reads, Sees, Publishes, Updates, RaisesReadOnly, RaisesFor, Changes, CallsElse, is_idle, epoch_step, work_step, with_actor, started, begun, moved, called, called_by, guard_happens, guard_run}
-use Rattle.fkv_flush.specs.Guarded.{event_writes, IsOpened, opening, first_actor}
+use Rattle.fkv_flush.specs.Guarded.{event_writes, IsFairEvent, AreFairEvents, IsOpened, opening, first_actor}
 use Rattle.fkv_flush.specs.GuardFlushed.{is_open, framed, stands, spares_log, work_calls, actor_calls, event_calls, calls_made, FlushesAlone, OneFlushes, IsSynced}
 use Rattle.fkv_flush.proofs.GuardEpochs.{Spares}
 use Rattle.fkv_flush.proofs.GuardSound.{IsSound}
@@ -45,24 +45,24 @@ has_frame w addr sound above below =
     let c = sound.guard.cover in
     opens w.now addr (omega (arith, below, o.safe_below, o.read_only_below, o.tail_below)) (omega (arith, c, o.closed_below, o.head_below, above))
 
--- no event writes a word of a record below the safe read-only offset
-untouched : (w : GuardWorld) (event : GuardEvent) (addr : ℕ) (word : RecordWord) → IsSound w → addr < (levels_of w.now.words).safe_read_only → addr < (levels_of w.now.words).limit → (levels_of w.now.words).limit ≤ addr + w.now.places.ring
+-- no fair event writes a word of a record below the safe read-only offset
+untouched : (w : GuardWorld) (event : GuardEvent) (addr : ℕ) (word : RecordWord) → IsSound w → IsFairEvent w.now event → addr < (levels_of w.now.words).safe_read_only → addr < (levels_of w.now.words).limit → (levels_of w.now.words).limit ≤ addr + w.now.places.ring
     → word_at (guard_happens w event).now.words (record_place w.now.places addr word) ≡ word_at w.now.words (record_place w.now.places addr word)
-untouched w event addr word sound safe below near = unwritten w event (record_place w.now.places addr word) (spares (event_writes w.now event) refl)
+untouched w event addr word sound fair safe below near = unwritten w event (record_place w.now.places addr word) (spares (event_writes w.now event) refl)
   where
     spares : (found : Option ℕ) → event_writes w.now event ≡ found → Spares found (record_place w.now.places addr word)
     spares None e = tt
     spares (Some place) e = λ same.
-        let o = guards_writes w event sound place e (omega (arith, same)) in
+        let o = guards_writes w event sound fair place e (omega (arith, same)) in
         let alone = o.alone addr word (sym same) below near in
         let above = o.safe in
         omega (arith, alone, above, safe)
 
 -- so what stands for it stays
-pub steady : (w : GuardWorld) (event : GuardEvent) (before : ℕ → RecordWord → ℕ) (addr : ℕ) (word : RecordWord) → IsSound w → addr < (levels_of w.now.words).safe_read_only
+pub steady : (w : GuardWorld) (event : GuardEvent) (before : ℕ → RecordWord → ℕ) (addr : ℕ) (word : RecordWord) → IsSound w → IsFairEvent w.now event → addr < (levels_of w.now.words).safe_read_only
     → (is_open w.now addr ≡ true → before addr word ≡ word_at w.now.words (record_place w.now.places addr word))
     → framed (guard_happens w event).now before addr word ≡ before addr word
-steady w event before addr word sound safe stood = elim (truth (is_open (guard_happens w event).now addr)) [
+steady w event before addr word sound fair safe stood = elim (truth (is_open (guard_happens w event).now addr)) [
   | inl e ↦
       let n' : GuardNow = (guard_happens w event).now in
       let t = both (nat_lt addr (levels_of n'.words).limit) (nat_le (levels_of n'.words).limit (addr + n'.places.ring)) e in
@@ -75,7 +75,7 @@ steady w event before addr word sound safe stood = elim (truth (is_open (guard_h
       let near_before : (levels_of w.now.words).limit ≤ addr + w.now.places.ring = omega (arith, rises, near, ring) in
       ap (λ (b : Bool). if b then word_at n'.words (record_place n'.places addr word) else before addr word) e
       ∙ ap (λ (p : Places). word_at n'.words (record_place p addr word)) same
-      ∙ untouched w event addr word sound safe below near_before
+      ∙ untouched w event addr word sound fair safe below near_before
       ∙ sym (stood (opens w.now addr below near_before))
   | inr e ↦ ap (λ (b : Bool). if b then word_at (guard_happens w event).now.words (record_place (guard_happens w event).now.places addr word) else before addr word) e
 ]
@@ -149,18 +149,18 @@ module _ (keeper start : ℕ) (opened : List ℕ) (calls : List Call) (words : �
   abbrev words_on : GuardEvent → ℕ → RecordWord → ℕ
   words_on event = framed (guard_happens w event).now words
 
-  same_below : (event : GuardEvent) (addr : ℕ) (word : RecordWord) → addr < safe → words_on event addr word ≡ words addr word
-  same_below event addr word below = steady w event words addr word sound below (stood addr word)
+  same_below : (event : GuardEvent) → IsFairEvent w.now event → (addr : ℕ) (word : RecordWord) → addr < safe → words_on event addr word ≡ words addr word
+  same_below event fair addr word below = steady w event words addr word sound fair below (stood addr word)
 
   -- the calls leave what is synced of the log, and what is read of what is still to be flushed
   record SparesLog (calls' : List Call) : Type 0 where
     kept_too : (i b : ℕ) → image.record_place shape 0 ≤ i → i < image.record_place shape flushed → IsKept opened calls i b → IsKept opened calls' i b
 
   -- what is flushed stays, where flushed does
-  stays_flushed : (event : GuardEvent) (calls' : List Call) → SparesLog calls' → (levels_of (guard_happens w event).now.words).flushed ≡ flushed
+  stays_flushed : (event : GuardEvent) → IsFairEvent w.now event → (calls' : List Call) → SparesLog calls' → (levels_of (guard_happens w event).now.words).flushed ≡ flushed
       → ((b : ℕ) (y : Actor) → slice_get (guard_happens w event).now.actors b ≡ Some y → Row keeper shape opened calls' (words_on event) flushed b y.work)
       → IsFlushed keeper start shape opened calls' (words_on event) (guard_happens w event)
-  stays_flushed event calls' spares same rows =
+  stays_flushed event fair calls' spares same rows =
       let s = was.start_below in
       let top = flushed_safe in
       record {
@@ -168,25 +168,25 @@ module _ (keeper start : ℕ) (opened : List ℕ) (calls : List Call) (words : �
         earlier = λ i above below known. spares.kept_too i (byte_at opened i) above (omega (arith, below, s)) (was.earlier i above below known);
         records = λ addr above below.
             let under : addr < flushed = omega (arith, below, same) in
-            record_kept_on shape opened calls calls' words (words_on event) addr (λ word. same_below event addr word (omega (arith, under, top)))
+            record_kept_on shape opened calls calls' words (words_on event) addr (λ word. same_below event fair addr word (omega (arith, under, top)))
             (λ k b small is. spares.kept_too (image.record_place shape addr + k) b (omega arith) (omega (arith, under, small)) is) (was.records addr above under);
         rows = λ b y got. subst (λ (f : ℕ). Row keeper shape opened calls' (words_on event) f b y.work) (sym same) (rows b y got);
       }
 
   -- a flush that another event leaves as far as it was
-  row_on : (event : GuardEvent) (calls' : List Call) (b : ℕ) (y : Actor) (work : Work) → slice_get w.now.actors b ≡ Some y → y.work ≡ work
+  row_on : (event : GuardEvent) → IsFairEvent w.now event → (calls' : List Call) (b : ℕ) (y : Actor) (work : Work) → slice_get w.now.actors b ≡ Some y → y.work ≡ work
       → ((i c : ℕ) → image.record_place shape flushed ≤ i → IsRead opened calls i c → IsRead opened calls' i c)
       → ((i c : ℕ) → image.record_place shape flushed ≤ i → IsKept opened calls i c → IsKept opened calls' i c)
       → Row keeper shape opened calls words flushed b work → Row keeper shape opened calls' (words_on event) flushed b work
-  row_on event calls' b y (Flushes step bytes) got its read_too kept_too (inl rest) = inl rest
-  row_on event calls' b y (Flushes step bytes) got its read_too kept_too (inr k) =
-      inr (k.0, knows_on shape opened calls calls' words (words_on event) flushed safe step bytes (known_end w b y step bytes sound got its) (same_below event) read_too kept_too k.1)
-  row_on event calls' b y work got its read_too kept_too row = tt
+  row_on event fair calls' b y (Flushes step bytes) got its read_too kept_too (inl rest) = inl rest
+  row_on event fair calls' b y (Flushes step bytes) got its read_too kept_too (inr k) =
+      inr (k.0, knows_on shape opened calls calls' words (words_on event) flushed safe step bytes (known_end w b y step bytes sound got its) (same_below event fair) read_too kept_too k.1)
+  row_on event fair calls' b y work got its read_too kept_too row = tt
 
   -- the same without a call of the device
-  row_stays : (event : GuardEvent) (b : ℕ) (y : Actor) (work : Work) → slice_get w.now.actors b ≡ Some y → y.work ≡ work
+  row_stays : (event : GuardEvent) → IsFairEvent w.now event → (b : ℕ) (y : Actor) (work : Work) → slice_get w.now.actors b ≡ Some y → y.work ≡ work
       → Row keeper shape opened calls words flushed b work → Row keeper shape opened calls (words_on event) flushed b work
-  row_stays event b y work got its = row_on event calls b y work got its (λ i c above is. is) (λ i c above is. is)
+  row_stays event fair b y work got its = row_on event fair calls b y work got its (λ i c above is. is) (λ i c above is. is)
 
   no_call : SparesLog calls
   no_call = record { kept_too = λ i b above below is. is }
@@ -218,16 +218,16 @@ module _ (keeper start : ℕ) (opened : List ℕ) (calls : List Call) (words : �
     | inr r ↦ no_move event r.actor quiet r.its_event
   ]
 
-  quiet_case : (event : GuardEvent) → is_quiet event ≡ true → IsFlushed keeper start shape opened (event_calls w.now event ++ calls) (words_on event) (guard_happens w event)
-  quiet_case event quiet =
-      stays_flushed event (event_calls w.now event ++ calls) (record { kept_too = λ i b above below is. quiet_keeps event quiet i b above is }) (quiet_flushed event quiet) row
+  quiet_case : (event : GuardEvent) → IsFairEvent w.now event → is_quiet event ≡ true → IsFlushed keeper start shape opened (event_calls w.now event ++ calls) (words_on event) (guard_happens w event)
+  quiet_case event fair quiet =
+      stays_flushed event fair (event_calls w.now event ++ calls) (record { kept_too = λ i b above below is. quiet_keeps event quiet i b above is }) (quiet_flushed event quiet) row
     where
       row : (b : ℕ) (y : Actor) → slice_get (guard_happens w event).now.actors b ≡ Some y → Row keeper shape opened (event_calls w.now event ++ calls) (words_on event) flushed b y.work
       row b y got =
           let from = quiet_stays w event quiet b y got in
           elim from.2 [
             | inl same ↦ subst (Row keeper shape opened (event_calls w.now event ++ calls) (words_on event) flushed b) (sym same)
-                (row_on event (event_calls w.now event ++ calls) b from.0 from.0.work from.1 refl
+                (row_on event fair (event_calls w.now event ++ calls) b from.0 from.0.work from.1 refl
                 (λ i c above is. quiet_reads event quiet i c (omega (arith, above)) is)
                 (λ i c above is. quiet_keeps event quiet i c (omega (arith, above)) is)
                 (was.rows b from.0 from.1))
@@ -244,13 +244,13 @@ module _ (keeper start : ℕ) (opened : List ℕ) (calls : List Call) (words : �
   -- the keeper begins to flush
   begins_case : (a : ℕ) → a ≡ keeper → IsFlushed keeper start shape opened calls (words_on (Begins a ToFlush)) (guard_happens w (Begins a ToFlush))
   unfolding guard_happens
-  begins_case a mine = stays_flushed (Begins a ToFlush) calls no_call (moves_flushed (Begins a ToFlush) (λ r. let e = r.its_event in cc)) (by (slice_get w.now.actors a) refl)
+  begins_case a mine = stays_flushed (Begins a ToFlush) tt calls no_call (moves_flushed (Begins a ToFlush) (λ r. let e = r.its_event in cc)) (by (slice_get w.now.actors a) refl)
     where
       after : GuardNow → Type 0
       after n = (b : ℕ) (y : Actor) → slice_get n.actors b ≡ Some y → Row keeper shape opened calls (words_on (Begins a ToFlush)) flushed b y.work
 
       stays : after w.now
-      stays b y got = row_stays (Begins a ToFlush) b y y.work got refl (was.rows b y got)
+      stays b y got = row_stays (Begins a ToFlush) tt b y y.work got refl (was.rows b y got)
 
       either : (b : Bool) (n m : GuardNow) → after n → after m → after (if b then n else m)
       either true n m p q = p
@@ -267,7 +267,7 @@ module _ (keeper start : ℕ) (opened : List ℕ) (calls : List Call) (words : �
   -- a step of an actor that is not flushing
   aside_case : (a : ℕ) (x : Actor) → slice_get w.now.actors a ≡ Some x → (is_idle x.work ≡ true) ⊎ (is_flush x.work ≡ false) → IsFlushed keeper start shape opened calls (words_on (Moves a)) (guard_happens w (Moves a))
   unfolding guard_happens
-  aside_case a x got why = stays_flushed (Moves a) calls no_call (moves_flushed (Moves a) raises_none) (λ b y found. row b y (subst (λ (o : Option Actor). slice_get (moved w.now a o).actors b ≡ Some y) got found))
+  aside_case a x got why = stays_flushed (Moves a) tt calls no_call (moves_flushed (Moves a) raises_none) (λ b y found. row b y (subst (λ (o : Option Actor). slice_get (moved w.now a o).actors b ≡ Some y) got found))
     where
       raises_none : RaisesIt w (Moves a) → ⊥
       raises_none r =
@@ -283,26 +283,26 @@ module _ (keeper start : ℕ) (opened : List ℕ) (calls : List Call) (words : �
       row b y found =
           let from = moved_stays w a x got why b y found in
           elim from.2 [
-            | inl same ↦ subst (Row keeper shape opened calls (words_on (Moves a)) flushed b) (sym same) (row_stays (Moves a) b from.0 from.0.work from.1 refl (was.rows b from.0 from.1))
+            | inl same ↦ subst (Row keeper shape opened calls (words_on (Moves a)) flushed b) (sym same) (row_stays (Moves a) tt b from.0 from.0.work from.1 refl (was.rows b from.0 from.1))
             | inr apart ↦ row_none keeper shape opened calls (words_on (Moves a)) flushed b y.work apart
           ]
 
   -- the reply to a flush is the flushed offset, or the word that stands
-  reply_is : (event : GuardEvent) (step : Flushing) (bytes : List ℕ) → flush_end step ≤ safe → FlushKnows shape opened calls words flushed step bytes
+  reply_is : (event : GuardEvent) → IsFairEvent w.now event → (step : Flushing) (bytes : List ℕ) → flush_end step ≤ safe → FlushKnows shape opened calls words flushed step bytes
       → IsReply (words_on event) flushed step (reply_to w.now.words (flush_ask w.now.places step))
   unfolding flush_ask
-  reply_is event flush.AtRest bytes within k = tt
-  reply_is event flush.LoadsFlushed bytes within k = refl
-  reply_is event (flush.LoadsEnd loaded) bytes within k = tt
-  reply_is event (flush.LoadsWord part addr this) bytes within k =
+  reply_is event fair flush.AtRest bytes within k = tt
+  reply_is event fair flush.LoadsFlushed bytes within k = refl
+  reply_is event fair (flush.LoadsEnd loaded) bytes within k = tt
+  reply_is event fair (flush.LoadsWord part addr this) bytes within k =
       let p = k.in_range in
       let part_is = p.is_part in
       let began = k.began in
       let below : addr < safe = omega (arith, p.before, part_is.within, within) in
-      sym (same_below event addr this below ∙ stood addr this (has_frame w addr sound (omega (arith, began, p.after)) below))
-  reply_is event (flush.WritesPart part) bytes within k = tt
-  reply_is event (flush.Syncs end) bytes within k = tt
-  reply_is event (flush.RaisesFlushed end) bytes within k = tt
+      sym (same_below event fair addr this below ∙ stood addr this (has_frame w addr sound (omega (arith, began, p.after)) below))
+  reply_is event fair (flush.WritesPart part) bytes within k = tt
+  reply_is event fair (flush.Syncs end) bytes within k = tt
+  reply_is event fair (flush.RaisesFlushed end) bytes within k = tt
 
   -- a step of the keeper's flush
   module _ (a : ℕ) (x : Actor) (step : Flushing) (bytes : List ℕ) (got : slice_get w.now.actors a ≡ Some x) (its : x.work ≡ Flushes step bytes) (mine : a ≡ keeper)
@@ -320,8 +320,8 @@ module _ (keeper start : ℕ) (opened : List ℕ) (calls : List Call) (words : �
     within = known_end w a x step bytes sound got its
 
     -- what it knows, with what stands after the event
-    knows_still : (event : GuardEvent) → FlushKnows shape opened calls (words_on event) flushed step bytes
-    knows_still event = knows_on shape opened calls calls words (words_on event) flushed safe step bytes within (same_below event) (λ i c above is. is) (λ i c above is. is) k
+    knows_still : (event : GuardEvent) → IsFairEvent w.now event → FlushKnows shape opened calls (words_on event) flushed step bytes
+    knows_still event fair = knows_on shape opened calls calls words (words_on event) flushed safe step bytes within (same_below event fair) (λ i c above is. is) (λ i c above is. is) k
 
     others : (event : GuardEvent) (calls' : List Call) (flushed' : ℕ) (b : ℕ) (y : Actor) → slice_get w.now.actors b ≡ Some y → b ≢ a → Row keeper shape opened calls' (words_on event) flushed' b y.work
     others event calls' flushed' b y found other =
@@ -337,9 +337,9 @@ module _ (keeper start : ℕ) (opened : List ℕ) (calls : List Call) (words : �
     flush_case : is_idle (Flushes step bytes) ≡ false → IsFlushed keeper start shape opened calls (words_on (Moves a)) (guard_happens w (Moves a))
     unfolding flush_next
     flush_case busy = elim (flushed_stays w (Moves a) sound) [
-      | inl same ↦ stays_flushed (Moves a) calls no_call same (λ b y found.
+      | inl same ↦ stays_flushed (Moves a) tt calls no_call same (λ b y found.
           put_each (λ c z. Row keeper shape opened calls (words_on (Moves a)) flushed c z.work) w.now.actors a x stepped got (others (Moves a) calls flushed)
-          (inr (mine, replied shape opened calls (words_on (Moves a)) flushed step bytes reply (page_some w sound) (reply_is (Moves a) step bytes within k) (knows_still (Moves a))))
+          (inr (mine, replied shape opened calls (words_on (Moves a)) flushed step bytes reply (page_some w sound) (reply_is (Moves a) tt step bytes within k) (knows_still (Moves a) tt)))
           b y (subst (λ (all : List Actor). slice_get all b ≡ Some y) (actors_moved busy) found))
       | inr r ↦ raises r
     ]
@@ -358,10 +358,10 @@ module _ (keeper start : ℕ) (opened : List ℕ) (calls : List Call) (words : �
               start_below = omega (arith, s, raised);
               earlier = was.earlier;
               records = λ addr above below. elim (cases_lt addr flushed) [
-                | inl old ↦ record_kept_on shape opened calls calls words (words_on (Moves a)) addr (λ word. same_below (Moves a) addr word (omega (arith, old, top))) (λ j c small is. is) (was.records addr above old)
+                | inl old ↦ record_kept_on shape opened calls calls words (words_on (Moves a)) addr (λ word. same_below (Moves a) tt addr word (omega (arith, old, top))) (λ j c small is. is) (was.records addr above old)
                 | inr new ↦
                     let upto : addr < r.end = omega (arith, below, raised, new) in
-                    record_kept_on shape opened calls calls words (words_on (Moves a)) addr (λ word. same_below (Moves a) addr word (omega (arith, upto, end_below))) (λ j c small is. is)
+                    record_kept_on shape opened calls calls words (words_on (Moves a)) addr (λ word. same_below (Moves a) tt addr word (omega (arith, upto, end_below))) (λ j c small is. is)
                     (k.synced addr new (subst (λ (z : Flushing). addr < synced_to z) (sym step_is) upto))
               ];
               rows = λ b y found.
@@ -380,12 +380,12 @@ module _ (keeper start : ℕ) (opened : List ℕ) (calls : List Call) (words : �
     -- its call of the device
     call_case : (done : Bool) → IsFlushed keeper start shape opened (flush_calls shape bytes step done ++ calls) (words_on (Calls a done)) (guard_happens w (Calls a done))
     call_case done =
-        stays_flushed (Calls a done) (flush_calls shape bytes step done ++ calls) (record { kept_too = λ i b above below is. call_spares shape opened calls words flushed step bytes done i b k below is })
+        stays_flushed (Calls a done) tt (flush_calls shape bytes step done ++ calls) (record { kept_too = λ i b above below is. call_spares shape opened calls words flushed step bytes done i b k below is })
         (moves_flushed (Calls a done) (λ r. let e = r.its_event in cc))
         (λ b y found.
         put_each (λ c z. Row keeper shape opened (flush_calls shape bytes step done ++ calls) (words_on (Calls a done)) flushed c z.work) w.now.actors a x (called_once done) got
         (others (Calls a done) (flush_calls shape bytes step done ++ calls) flushed)
-        (inr (mine, called_on shape opened calls (words_on (Calls a done)) flushed step bytes done (page_some w sound) (knows_still (Calls a done))))
+        (inr (mine, called_on shape opened calls (words_on (Calls a done)) flushed step bytes done (page_some w sound) (knows_still (Calls a done) tt)))
         b y (subst (λ (all : List Actor). slice_get all b ≡ Some y) (actors_called done) found))
 
   abbrev After : GuardEvent → List Call → Type 0
@@ -393,7 +393,7 @@ module _ (keeper start : ℕ) (opened : List ℕ) (calls : List Call) (words : �
 
   moves_case : (a : ℕ) (found : Option Actor) → slice_get w.now.actors a ≡ found → After (Moves a) calls
   unfolding guard_happens
-  moves_case a None got = stays_flushed (Moves a) calls no_call (moves_flushed (Moves a) raises_none) (λ b y found. row_stays (Moves a) b y y.work (there b y found) refl (was.rows b y (there b y found)))
+  moves_case a None got = stays_flushed (Moves a) tt calls no_call (moves_flushed (Moves a) raises_none) (λ b y found. row_stays (Moves a) tt b y y.work (there b y found) refl (was.rows b y (there b y found)))
     where
       raises_none : RaisesIt w (Moves a) → ⊥
       raises_none r =
@@ -423,8 +423,8 @@ module _ (keeper start : ℕ) (opened : List ℕ) (calls : List Call) (words : �
   -- a call that no flush makes
   no_flush_call : (a : ℕ) (done : Bool) → ((b : ℕ) (y : Actor) → slice_get (guard_happens w (Calls a done)).now.actors b ≡ Some y → slice_get w.now.actors b ≡ Some y) → After (Calls a done) calls
   no_flush_call a done there =
-      stays_flushed (Calls a done) calls no_call (moves_flushed (Calls a done) (λ r. let e = r.its_event in cc))
-      (λ b y found. row_stays (Calls a done) b y y.work (there b y found) refl (was.rows b y (there b y found)))
+      stays_flushed (Calls a done) tt calls no_call (moves_flushed (Calls a done) (λ r. let e = r.its_event in cc))
+      (λ b y found. row_stays (Calls a done) tt b y y.work (there b y found) refl (was.rows b y (there b y found)))
 
   calls_case : (a : ℕ) (done : Bool) (found : Option Actor) → slice_get w.now.actors a ≡ found → After (Calls a done) (actor_calls w.now done found ++ calls)
   unfolding guard_happens flush_done flush_calls
@@ -438,10 +438,10 @@ module _ (keeper start : ℕ) (opened : List ℕ) (calls : List Call) (words : �
 
       rest_case : (step : Flushing) (bytes : List ℕ) → x.work ≡ Flushes step bytes → step ≡ flush.AtRest → After (Calls a done) calls
       rest_case step bytes its rest =
-          stays_flushed (Calls a done) calls no_call (moves_flushed (Calls a done) (λ r. let e = r.its_event in cc))
+          stays_flushed (Calls a done) tt calls no_call (moves_flushed (Calls a done) (λ r. let e = r.its_event in cc))
           (λ b y found.
           put_each (λ c z. Row keeper shape opened calls (words_on (Calls a done)) flushed c z.work) w.now.actors a x (record x { work = Flushes (flush_done shape.page step done) (bytes_done step bytes) }) got
-          (λ c z there other. row_stays (Calls a done) c z z.work there refl (was.rows c z there))
+          (λ c z there other. row_stays (Calls a done) tt c z z.work there refl (was.rows c z there))
           (inl (ap (λ (z : Flushing). flush_done shape.page z done) rest))
           b y (to_work (Flushes step bytes) b y its found))
 
@@ -458,26 +458,26 @@ module _ (keeper start : ℕ) (opened : List ℕ) (calls : List Call) (words : �
       by (Turns s) its = no_flush_call a done (λ b y found. to_work (Turns s) b y its found)
       by (Serves step) its = no_flush_call a done (λ b y found. to_work (Serves step) b y its found)
 
-  pub happens_flushed : (event : GuardEvent) → FlushesAlone keeper event → After event (event_calls w.now event ++ calls)
-  happens_flushed (Begins a (ToDo task)) alone = quiet_case (Begins a (ToDo task)) refl
-  happens_flushed (Begins a ToReserve) alone = quiet_case (Begins a ToReserve) refl
-  happens_flushed (Begins a (ToFill its_words)) alone = quiet_case (Begins a (ToFill its_words)) refl
-  happens_flushed (Begins a (ToInvalidate header)) alone = quiet_case (Begins a (ToInvalidate header)) refl
-  happens_flushed (Begins a ToShift) alone = quiet_case (Begins a ToShift) refl
-  happens_flushed (Begins a (ToTurnPage form tail)) alone = quiet_case (Begins a (ToTurnPage form tail)) refl
-  happens_flushed (Begins a ToFlush) alone = begins_case a alone
-  happens_flushed (Begins a ToServe) alone = quiet_case (Begins a ToServe) refl
-  happens_flushed (Moves a) alone = moves_case a (slice_get w.now.actors a) refl
-  happens_flushed (Calls a done) alone = calls_case a done (slice_get w.now.actors a) refl
-  happens_flushed (Resumes a) alone = quiet_case (Resumes a) refl
-  happens_flushed (Reads a bytes) alone = quiet_case (Reads a bytes) refl
-  happens_flushed (Sees a sight) alone = quiet_case (Sees a sight) refl
-  happens_flushed (Publishes a) alone = quiet_case (Publishes a) refl
-  happens_flushed (Updates a addr word) alone = quiet_case (Updates a addr word) refl
-  happens_flushed (RaisesReadOnly a to) alone = quiet_case (RaisesReadOnly a to) refl
-  happens_flushed (RaisesFor a action) alone = quiet_case (RaisesFor a action) refl
-  happens_flushed (Changes a place word) alone = quiet_case (Changes a place word) refl
-  happens_flushed (CallsElse call) alone = quiet_case (CallsElse call) refl
+  pub happens_flushed : (event : GuardEvent) → FlushesAlone keeper event → IsFairEvent w.now event → After event (event_calls w.now event ++ calls)
+  happens_flushed (Begins a (ToDo task)) alone fair = quiet_case (Begins a (ToDo task)) fair refl
+  happens_flushed (Begins a ToReserve) alone fair = quiet_case (Begins a ToReserve) fair refl
+  happens_flushed (Begins a (ToFill its_words)) alone fair = quiet_case (Begins a (ToFill its_words)) fair refl
+  happens_flushed (Begins a (ToInvalidate header)) alone fair = quiet_case (Begins a (ToInvalidate header)) fair refl
+  happens_flushed (Begins a ToShift) alone fair = quiet_case (Begins a ToShift) fair refl
+  happens_flushed (Begins a (ToTurnPage form tail)) alone fair = quiet_case (Begins a (ToTurnPage form tail)) fair refl
+  happens_flushed (Begins a ToFlush) alone fair = begins_case a alone
+  happens_flushed (Begins a ToServe) alone fair = quiet_case (Begins a ToServe) fair refl
+  happens_flushed (Moves a) alone fair = moves_case a (slice_get w.now.actors a) refl
+  happens_flushed (Calls a done) alone fair = calls_case a done (slice_get w.now.actors a) refl
+  happens_flushed (Resumes a) alone fair = quiet_case (Resumes a) fair refl
+  happens_flushed (Reads a bytes) alone fair = quiet_case (Reads a bytes) fair refl
+  happens_flushed (Sees a sight) alone fair = quiet_case (Sees a sight) fair refl
+  happens_flushed (Publishes a) alone fair = quiet_case (Publishes a) fair refl
+  happens_flushed (Updates a addr word) alone fair = quiet_case (Updates a addr word) fair refl
+  happens_flushed (RaisesReadOnly a to) alone fair = quiet_case (RaisesReadOnly a to) fair refl
+  happens_flushed (RaisesFor a action) alone fair = quiet_case (RaisesFor a action) fair refl
+  happens_flushed (Changes a place word) alone fair = quiet_case (Changes a place word) fair refl
+  happens_flushed (CallsElse call) alone fair = quiet_case (CallsElse call) fair refl
 
 -- A whole run.
 module _ (keeper start : ℕ) (opened : List ℕ) (first : GuardWorld) (sound : IsSound first) (was : IsFlushed keeper start first.now.shape opened [] (stands first []) first) where
@@ -486,13 +486,13 @@ module _ (keeper start : ℕ) (opened : List ℕ) (first : GuardWorld) (sound : 
   same_shape [] = refl
   same_shape (event ∷ before) = (same_store (guard_run first before) event).0 ∙ same_shape before
 
-  pub run_flushed : (events : List GuardEvent) → OneFlushes keeper events → IsFlushed keeper start (guard_run first events).now.shape opened (calls_made first events) (stands first events) (guard_run first events)
+  pub run_flushed : (events : List GuardEvent) → OneFlushes keeper events → AreFairEvents first events → IsFlushed keeper start (guard_run first events).now.shape opened (calls_made first events) (stands first events) (guard_run first events)
   unfolding guard_run stands calls_made
-  run_flushed [] alone = was
-  run_flushed (event ∷ before) alone =
+  run_flushed [] alone fair = was
+  run_flushed (event ∷ before) alone fair =
       let w : GuardWorld = guard_run first before in
       subst (λ (s : Shape). IsFlushed keeper start s opened (event_calls w.now event ++ calls_made first before) (framed (guard_happens w event).now (stands first before)) (guard_happens w event)) (sym (same_store w event).0)
-      (happens_flushed keeper start opened (calls_made first before) (stands first before) w (run_sound first before sound) (stood_open first before) (run_flushed before alone.1) event alone.0)
+      (happens_flushed keeper start opened (calls_made first before) (stands first before) w (run_sound first before sound) (stood_open first before) (run_flushed before alone.1 fair.1) event alone.0 fair.0)
 
 -- The store as it is opened: no flush is under way, and the device has what it was opened with.
 pub opening_flushed : (keeper : ℕ) (shape : Shape) (places : Places) (actors : ℕ) (words : List ℕ) (start : ℕ) (opened : List ℕ) (stood : ℕ → RecordWord → ℕ) → IsOpened shape places actors words start

@@ -37,7 +37,7 @@ use Rattle.fkv_log.specs.Shifting.{shift_at, shift_begun}
 use Rattle.fkv_log.specs.Turning.{turn_at, turn_begun}
 use Rattle.fkv_flush.specs.GuardLevels.{Levels, levels_of, Rises}
 use Rattle.fkv_flush.specs.GuardSeen.{LastSeen, IsStored}
-use Rattle.fkv_flush.specs.GuardWorld.{Actor, Work, Rests, Reserves, Fills, Invalidates, Shifts, Turns, Flushes, Serves, GuardTask, ToDo, ToReserve, ToFill, ToInvalidate, ToShift, ToTurnPage, ToFlush, ToServe, GuardNow, GuardWorld, epoch_now, epoch_world, put_near, with_actor, epoch_step, work_step, moved, machine_moved, drives_epochs, shift_rests, turn_rests, is_idle, is_none, is_awake, may_work, started, begun, resumed, called, called_by, read, read_by, seen_again, seen_with, sight_moved, published, may_update, updated, read_only_raised, is_stored, raised_for, raised_with, is_guarded, changed, address_of}
+use Rattle.fkv_flush.specs.GuardWorld.{Actor, Work, Rests, Reserves, Fills, Invalidates, Shifts, Turns, Flushes, Serves, GuardTask, ToDo, ToReserve, ToFill, ToInvalidate, ToShift, ToTurnPage, ToFlush, ToServe, GuardNow, GuardWorld, epoch_now, epoch_world, put_near, with_actor, epoch_step, work_step, moved, machine_moved, drives_epochs, shift_rests, turn_rests, is_idle, is_none, is_awake, may_work, started, begun, resumed, called, called_by, read, read_by, seen_again, seen_with, sight_moved, published, updated, read_only_raised, is_stored, raised_for, raised_with, is_guarded, changed, address_of}
 use Rattle.fkv_flush.specs.Guarded.{is_steady, seen_at, seen_of, GoesBy}
 use Rattle.fkv_flush.proofs.Guard.{SeesOn, knows_on}
 use Rattle.fkv_flush.proofs.GuardEpochs.{runs}
@@ -298,10 +298,8 @@ published_so w a (Some x) got sound = elim (truth (is_idle x.work)) [
 
 pub updated_so : (w : GuardWorld) (a addr word : ℕ) (found : Option Actor) → slice_get w.now.actors a ≡ found → IsSound w → IsSound (record { now = updated w.now a addr word found; past = w.past })
 updated_so w a addr word None got sound = sound
-updated_so w a addr word (Some x) got sound = elim (truth (may_update w.now a x addr)) [
-  | inl e ↦ rw e (writes_elsewhere w a x x (record_place w.now.places addr rec.Value) word sound got (high_elsewhere w.now.places.sessions (record_place w.now.places addr rec.Value) (omega arith)) refl refl (λ _ u. u) (sound.knows a x got))
-  | inr e ↦ rw e sound
-]
+updated_so w a addr word (Some x) got sound =
+    writes_elsewhere w a x x (record_place w.now.places addr rec.Value) word sound got (high_elsewhere w.now.places.sessions (record_place w.now.places addr rec.Value) (omega arith)) refl refl (λ _ u. u) (sound.knows a x got)
 
 pub read_only_raised_so : (w : GuardWorld) (a to : ℕ) (found : Option Actor) → slice_get w.now.actors a ≡ found → IsSound w → IsSound (record { now = read_only_raised w.now a to found; past = w.past })
 read_only_raised_so w a to None got sound = sound

@@ -33,7 +33,7 @@ use Rattle.fkv_flush.specs.Flushing.{flush_ask}
 use Rattle.fkv_flush.specs.GuardAsks.{writes, machine_writes}
 use Rattle.fkv_flush.specs.GuardLevels.{levels_of}
 use Rattle.fkv_flush.specs.GuardMail.{Mailbox, mailbox_of}
-use Rattle.fkv_flush.specs.GuardWorld.{Actor, Work, Rests, Reserves, Fills, Invalidates, Shifts, Turns, Flushes, Serves, GuardWorld, GuardEvent, Moves, Updates, RaisesReadOnly, RaisesFor, Changes, is_idle, may_update, epoch_world, guard_happens}
+use Rattle.fkv_flush.specs.GuardWorld.{Actor, Work, Rests, Reserves, Fills, Invalidates, Shifts, Turns, Flushes, Serves, GuardWorld, GuardEvent, Moves, Updates, RaisesReadOnly, RaisesFor, Changes, is_idle, epoch_world, guard_happens}
 use Rattle.fkv_flush.specs.Guarded.{work_writes, update_writes, event_writes}
 use Rattle.fkv_flush.proofs.GuardEpochs.{Spares, OwnAt, own_writes}
 use Rattle.fkv_flush.proofs.GuardSound.{MoveKnows, IsSound, machine_at}
@@ -150,10 +150,7 @@ module _ (w : GuardWorld) (a : ℕ) (x : Actor) (sound : IsSound w) (got : slice
 
 update_aside : (w : GuardWorld) (a addr : ℕ) (found : Option Actor) → SparesMail w.now.places.sessions (update_writes w.now a addr found)
 update_aside w a addr None = tt
-update_aside w a addr (Some x) = elim (truth (may_update w.now a x addr)) [
-  | inl e ↦ rw e (λ session few is. omega (arith, few, is.1))
-  | inr e ↦ rw e tt
-]
+update_aside w a addr (Some x) = λ session few is. omega (arith, few, is.1)
 
 -- an event that is neither an ask of an actor nor a change from outside
 abbrev pub is_aside : GuardEvent → Bool

@@ -7,7 +7,7 @@ use Rattle.fkv_epoch.specs.declared.refreshing.Refreshing.TheVariants as refresh
 use Rattle.fkv_epoch.specs.declared.raising.Raising.TheVariants as raise
 use Rattle.fkv_epoch.specs.EpochWorld.{EpochMachine, Protects, Refreshes, Leaves, Scans, Claims, Raises, HasRaised, Arms, Sight, is_at_rest, sight_of}
 use Rattle.fkv_epoch.proofs.Shown.{item_written, item_spared, same_or, none_some, some_same}
-use Rattle.fkv_flush.specs.GuardWorld.{Actor, Work, Rests, Reserves, Fills, Invalidates, Shifts, Turns, Flushes, Serves, GuardTask, ToDo, ToReserve, ToFill, ToInvalidate, ToShift, ToTurnPage, ToFlush, ToServe, GuardNow, GuardWorld, GuardEvent, Begins, Resumes, Moves, Calls, Reads, Sees, Publishes, Updates, RaisesReadOnly, RaisesFor, Changes, CallsElse, guard_happens, is_idle, is_none, is_guarded, is_stored, may_update, may_work, seen_with, epoch_step, work_step, actor_step, started, begun, resumed, moved, called, called_by, read, read_by, seen_again, published, updated, read_only_raised, raised_for, raised_with, changed}
+use Rattle.fkv_flush.specs.GuardWorld.{Actor, Work, Rests, Reserves, Fills, Invalidates, Shifts, Turns, Flushes, Serves, GuardTask, ToDo, ToReserve, ToFill, ToInvalidate, ToShift, ToTurnPage, ToFlush, ToServe, GuardNow, GuardWorld, GuardEvent, Begins, Resumes, Moves, Calls, Reads, Sees, Publishes, Updates, RaisesReadOnly, RaisesFor, Changes, CallsElse, guard_happens, is_idle, is_none, is_guarded, is_stored, may_work, seen_with, epoch_step, work_step, actor_step, started, begun, resumed, moved, called, called_by, read, read_by, seen_again, published, updated, read_only_raised, raised_for, raised_with, changed}
 use Rattle.fkv_flush.specs.Guarded.{seen_at, seen_of, undecided_at, is_steady, KeepsSeen}
 use Rattle.fkv_flush.proofs.GuardSound.{IsSound}
 use Rattle.fkv_flush.proofs.GuardWorks.{truth}
@@ -131,7 +131,7 @@ all_see w (Updates a addr word) sound = by (slice_get w.now.actors a) refl
   where
     by : (found : Option Actor) → slice_get w.now.actors a ≡ found → AllSee w.now.actors (updated w.now a addr word found).actors
     by None got = all_same w.now.actors
-    by (Some x) got = either_sees w.now.actors _ w.now (may_update w.now a x addr) (put_sees w.now.actors a x x got (λ _ u. refl)) (all_same w.now.actors)
+    by (Some x) got = put_sees w.now.actors a x x got (λ _ u. refl)
 all_see w (RaisesReadOnly a to) sound = by (slice_get w.now.actors a) refl
   where
     by : (found : Option Actor) → slice_get w.now.actors a ≡ found → AllSee w.now.actors (read_only_raised w.now a to found).actors

@@ -5,7 +5,7 @@ use Rattle.fkv_plane.specs.Asked.{word_at}
 use Rattle.fkv_epoch.specs.declared.raising.Raising.TheVariants as raise
 use Rattle.fkv_epoch.specs.EpochWorld.{EpochMachine, Raises, is_at_rest}
 use Rattle.fkv_epoch.proofs.Shown.{item_written, item_spared, same_or, some_same}
-use Rattle.fkv_flush.specs.GuardWorld.{Actor, Work, Rests, Reserves, Fills, Invalidates, Shifts, Turns, Flushes, Serves, GuardTask, ToDo, ToReserve, ToFill, ToInvalidate, ToShift, ToTurnPage, ToFlush, ToServe, GuardNow, GuardWorld, GuardEvent, Begins, Resumes, Moves, Calls, Reads, Sees, Publishes, Updates, RaisesReadOnly, RaisesFor, Changes, CallsElse, guard_happens, is_idle, is_none, is_guarded, is_stored, may_update, may_work, epoch_step, work_step, started, begun, resumed, moved, called, called_by, read, read_by, seen_again, published, updated, read_only_raised, raised_for, raised_with, changed}
+use Rattle.fkv_flush.specs.GuardWorld.{Actor, Work, Rests, Reserves, Fills, Invalidates, Shifts, Turns, Flushes, Serves, GuardTask, ToDo, ToReserve, ToFill, ToInvalidate, ToShift, ToTurnPage, ToFlush, ToServe, GuardNow, GuardWorld, GuardEvent, Begins, Resumes, Moves, Calls, Reads, Sees, Publishes, Updates, RaisesReadOnly, RaisesFor, Changes, CallsElse, guard_happens, is_idle, is_none, is_guarded, is_stored, may_work, epoch_step, work_step, started, begun, resumed, moved, called, called_by, read, read_by, seen_again, published, updated, read_only_raised, raised_for, raised_with, changed}
 use Rattle.fkv_flush.proofs.GuardWorks.{truth}
 
 abbrev pub SameStore : GuardNow → GuardNow → Type 0
@@ -68,7 +68,7 @@ same_store w (Updates a addr word) = by (slice_get w.now.actors a)
   where
     by : (found : Option Actor) → SameStore w.now (updated w.now a addr word found)
     by None = same w.now
-    by (Some x) = either_store w.now _ w.now (may_update w.now a x addr) (refl, refl) (refl, refl)
+    by (Some x) = (refl, refl)
 same_store w (RaisesReadOnly a to) = by (slice_get w.now.actors a)
   where
     by : (found : Option Actor) → SameStore w.now (read_only_raised w.now a to found)
@@ -181,7 +181,7 @@ quiet_stays w (Updates a addr word) quiet = by (slice_get w.now.actors a) refl
   where
     by : (found : Option Actor) → slice_get w.now.actors a ≡ found → AllStay w.now.actors (updated w.now a addr word found).actors
     by None got = all_same w.now.actors
-    by (Some x) got = either_stay w.now.actors _ w.now (may_update w.now a x addr) (put_stay w.now.actors a x x got (inl refl)) (all_same w.now.actors)
+    by (Some x) got = put_stay w.now.actors a x x got (inl refl)
 quiet_stays w (RaisesReadOnly a to) quiet = by (slice_get w.now.actors a) refl
   where
     by : (found : Option Actor) → slice_get w.now.actors a ≡ found → AllStay w.now.actors (read_only_raised w.now a to found).actors

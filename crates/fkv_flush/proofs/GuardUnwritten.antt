@@ -48,7 +48,7 @@ use Rattle.fkv_flush.specs.Flushing.{flush_ask}
 use Rattle.fkv_flush.specs.Serving.{serve_ask}
 use Rattle.fkv_flush.specs.GuardAsks.{writes, machine_writes}
 use Rattle.fkv_flush.specs.GuardLevels.{levels_of}
-use Rattle.fkv_flush.specs.GuardWorld.{Actor, Work, Rests, Reserves, Fills, Invalidates, Shifts, Turns, Flushes, Serves, GuardTask, GuardNow, GuardWorld, GuardEvent, Begins, Resumes, Moves, Calls, Reads, Sees, Publishes, Updates, RaisesReadOnly, RaisesFor, Changes, CallsElse, guard_happens, is_idle, is_none, is_guarded, is_stored, may_update, may_work, work_step, begun, resumed, moved, called, called_by, read, read_by, seen_again, published, updated, read_only_raised, raised_for, raised_with, changed}
+use Rattle.fkv_flush.specs.GuardWorld.{Actor, Work, Rests, Reserves, Fills, Invalidates, Shifts, Turns, Flushes, Serves, GuardTask, GuardNow, GuardWorld, GuardEvent, Begins, Resumes, Moves, Calls, Reads, Sees, Publishes, Updates, RaisesReadOnly, RaisesFor, Changes, CallsElse, guard_happens, is_idle, is_none, is_guarded, is_stored, may_work, work_step, begun, resumed, moved, called, called_by, read, read_by, seen_again, published, updated, read_only_raised, raised_for, raised_with, changed}
 use Rattle.fkv_flush.specs.Guarded.{work_writes, actor_writes, update_writes, event_writes}
 use Rattle.fkv_flush.proofs.GuardEpochs.{Spares, spared, stepped_spared}
 use Rattle.fkv_flush.proofs.GuardSound.{IsSound}
@@ -122,10 +122,7 @@ published_same n a (Some x) p = either_same (is_idle x.work) _ n p refl
 -- a change in place writes the record's value alone
 updated_same : (n : GuardNow) (a addr word : ℕ) (found : Option Actor) (p : ℕ) → Spares (update_writes n a addr found) p → word_at (updated n a addr word found).words p ≡ word_at n.words p
 updated_same n a addr word None p h = refl
-updated_same n a addr word (Some x) p h = elim (truth (may_update n a x addr)) [
-  | inl e ↦ rw e (word_spared n.words (record_place n.places addr rec.Value) word p (rw e at h))
-  | inr e ↦ rw e refl
-]
+updated_same n a addr word (Some x) p h = word_spared n.words (record_place n.places addr rec.Value) word p h
 
 -- a raise of the read-only offset writes that one
 read_only_same : (n : GuardNow) (a to : ℕ) (found : Option Actor) (p : ℕ) → p ≢ 5 → word_at (read_only_raised n a to found).words p ≡ word_at n.words p
@@ -264,10 +261,7 @@ moves_spare n a (Some x) p got h = elim (truth (is_idle x.work)) [
 -- a record's value is no offset
 update_spares : (n : GuardNow) (a addr : ℕ) (found : Option Actor) (p : ℕ) → IsLimitOrFlushed p → Spares (update_writes n a addr found) p
 update_spares n a addr None p h = tt
-update_spares n a addr (Some x) p h = elim (truth (may_update n a x addr)) [
-  | inl e ↦ rw e (λ i. omega (arith, i, h.1))
-  | inr e ↦ rw e tt
-]
+update_spares n a addr (Some x) p h = λ i. omega (arith, i, h.1)
 
 -- offsets are guarded
 change_spares : (n : GuardNow) (place p : ℕ) → IsLimitOrFlushed p → Spares (if is_guarded n.places place then None else Some place) p

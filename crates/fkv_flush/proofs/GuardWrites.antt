@@ -1,5 +1,5 @@
 -- Which words a step writes, and that a word of a frame is one of an open address.
-use Rattle.std.proofs.Common.{◌%◌, subst, ◌≡◌, ℕ, ◌<◌, ◌≤◌, refl, arith, sym, ap, inl, inr, ◌∙◌}
+use Rattle.std.proofs.Common.{◌%◌, subst, ◌≡◌, ℕ, ◌<◌, ◌≤◌, refl, arith, sym, ap, inl, inr, ◌∙◌, true}
 use Rattle.std.specs.Prelude.{Option, Some, None, ⊤, slice_get, nat_lt, nat_le, ◌&&◌, ◌||◌, if◌then◌else◌}
 use Rattle.std.proofs.lemmas.Bool.Decides.{nat_tests}
 use Rattle.fkv_plane.specs.declared.asks.Ask.{Ask}
@@ -40,7 +40,7 @@ use Rattle.fkv_flush.specs.Serving.{serve_ask}
 use Rattle.fkv_flush.specs.GuardAsks.{writes, machine_writes}
 use Rattle.fkv_flush.specs.GuardLevels.{levels_of}
 use Rattle.fkv_flush.specs.GuardWorld.{Actor, Work, Rests, Reserves, Fills, Invalidates, Shifts, Turns, Flushes, Serves, GuardWorld, GuardEvent, Moves, Updates, RaisesReadOnly, RaisesFor, Changes, is_idle, is_awake, is_guarded, may_update, epoch_world}
-use Rattle.fkv_flush.specs.Guarded.{seen_at, seen_of, undecided_at, work_writes, actor_writes, update_writes, IsOpenPlace, GuardsWrites}
+use Rattle.fkv_flush.specs.Guarded.{seen_at, seen_of, undecided_at, work_writes, actor_writes, update_writes, IsFairEvent, IsOpenPlace, GuardsWrites}
 use Rattle.fkv_frames.proofs.Shown.{same_place}
 use Rattle.fkv_flush.proofs.GuardEpochs.{OwnAt, own_writes}
 use Rattle.fkv_flush.proofs.GuardSound.{MoveKnows, IsSound, machine_at}
@@ -191,22 +191,19 @@ moves_case w a None place sound got e high = no_place place e
 moves_case w a (Some x) place sound got e high = writes_by w a x x.work place sound got refl e high
 
 -- a change in place
-update_case : (w : GuardWorld) (a addr : ℕ) (found : Option Actor) (place : ℕ) → IsSound w → slice_get w.now.actors a ≡ found → update_writes w.now a addr found ≡ Some place → IsOpenPlace w place
-update_case w a addr None place sound got e = no_place place e
-update_case w a addr (Some x) place sound got e = elim (truth (may_update w.now a x addr)) [
-  | inl m ↦
-      let p = both (is_awake w.now a x && is_idle x.work && nat_le x.seen.read_only addr) (nat_lt addr (levels_of w.now.words).tail) m in
-      let q = both (is_awake w.now a x && is_idle x.work) (nat_le x.seen.read_only addr) p.0 in
-      let r = both (is_awake w.now a x) (is_idle x.work) q.0 in
-      let goes = (awake_goes w a x got r.0).0 in
-      let low = sound.guard.safe.read_only a goes in
-      let same = ap (λ (y : Option Actor). (seen_at y).read_only) got in
-      let above : x.seen.read_only ≤ addr = grind (arith, nat_tests, q) in
-      let below : addr < (levels_of w.now.words).tail = grind (arith, nat_tests, p) in
-      let its : Some (record_place w.now.places addr rec.Value) ≡ Some place = rw m at e in
-      open_place w addr x.seen.read_only place rec.Value sound (omega (arith, low, same)) above below (sym (some_same (record_place w.now.places addr rec.Value) place its))
-  | inr m ↦ let its : ◌≡◌ {A = Option ℕ} None (Some place) = rw m at e in no_place place its
-]
+update_case : (w : GuardWorld) (a addr : ℕ) (found : Option Actor) (place : ℕ) → IsSound w → slice_get w.now.actors a ≡ found → ((x : Actor) → found ≡ Some x → may_update w.now a x addr ≡ true)
+    → update_writes w.now a addr found ≡ Some place → IsOpenPlace w place
+update_case w a addr None place sound got fair e = no_place place e
+update_case w a addr (Some x) place sound got fair e =
+    let p = both (is_awake w.now a x && is_idle x.work && nat_le x.seen.read_only addr) (nat_lt addr (levels_of w.now.words).tail) (fair x refl) in
+    let q = both (is_awake w.now a x && is_idle x.work) (nat_le x.seen.read_only addr) p.0 in
+    let r = both (is_awake w.now a x) (is_idle x.work) q.0 in
+    let goes = (awake_goes w a x got r.0).0 in
+    let low = sound.guard.safe.read_only a goes in
+    let same = ap (λ (y : Option Actor). (seen_at y).read_only) got in
+    let above : x.seen.read_only ≤ addr = grind (arith, nat_tests, q) in
+    let below : addr < (levels_of w.now.words).tail = grind (arith, nat_tests, p) in
+    open_place w addr x.seen.read_only place rec.Value sound (omega (arith, low, same)) above below (sym (some_same (record_place w.now.places addr rec.Value) place e))
 
 change_case : {X : Type 0} (w : GuardWorld) (place other : ℕ) → (if is_guarded w.now.places place then None else Some place) ≡ Some other → frames_start w.now.places ≤ other → X
 change_case {X} w place other e high = elim (truth (is_guarded w.now.places place)) [
@@ -219,10 +216,10 @@ change_case {X} w place other e high = elim (truth (is_guarded w.now.places plac
       absurd (omega (arith, same, low, high))
 ]
 
-pub guards_writes : (w : GuardWorld) (event : GuardEvent) → IsSound w → GuardsWrites w event
-guards_writes w (Moves a) sound place e high = moves_case w a (slice_get w.now.actors a) place sound refl e high
-guards_writes w (Updates a addr word) sound place e high = update_case w a addr (slice_get w.now.actors a) place sound refl e
-guards_writes w (RaisesReadOnly a to) sound place e high = low_none w (Some 5) place (omega arith) e high
-guards_writes w (RaisesFor a action) sound place e high = low_none w (Some 0) place (omega arith) e high
-guards_writes w (Changes a p word) sound place e high = change_case w p place e high
-guards_writes w event sound place e high = no_place place e
+pub guards_writes : (w : GuardWorld) (event : GuardEvent) → IsSound w → IsFairEvent w.now event → GuardsWrites w event
+guards_writes w (Moves a) sound fair place e high = moves_case w a (slice_get w.now.actors a) place sound refl e high
+guards_writes w (Updates a addr word) sound fair place e high = update_case w a addr (slice_get w.now.actors a) place sound refl fair e
+guards_writes w (RaisesReadOnly a to) sound fair place e high = low_none w (Some 5) place (omega arith) e high
+guards_writes w (RaisesFor a action) sound fair place e high = low_none w (Some 0) place (omega arith) e high
+guards_writes w (Changes a p word) sound fair place e high = change_case w p place e high
+guards_writes w event sound fair place e high = no_place place e

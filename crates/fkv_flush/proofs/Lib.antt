@@ -2,6 +2,7 @@ mod Armings
 mod Asks
 mod AsksLeft
 mod Calm
+mod Fair
 mod FlushKnows
 mod Follows
 mod Goes

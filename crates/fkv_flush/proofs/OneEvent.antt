@@ -13,7 +13,7 @@ use Rattle.fkv_epoch.specs.Arming.{arm_next}
 use Rattle.fkv_epoch.specs.EpochWorld.{EpochMachine, Raises, Arms, is_at_rest, resumed_machine}
 use Rattle.fkv_epoch.proofs.Shown.{some_same, none_some}
 use Rattle.fkv_flush.specs.Flushing.{flush_done, bytes_done}
-use Rattle.fkv_flush.specs.GuardWorld.{Actor, Work, Flushes, Serves, GuardNow, GuardNear, GuardEvent, Begins, Resumes, Moves, Calls, Reads, Sees, Publishes, Updates, RaisesReadOnly, RaisesFor, Changes, CallsElse, near, put_near, actor_step, guard_happens_now, is_idle, is_none, is_guarded, is_stored, may_update, may_work, started, mail_read, seen_with, called_by, read_by, raised_with}
+use Rattle.fkv_flush.specs.GuardWorld.{Actor, Work, Flushes, Serves, GuardNow, GuardNear, GuardEvent, Begins, Resumes, Moves, Calls, Reads, Sees, Publishes, Updates, RaisesReadOnly, RaisesFor, Changes, CallsElse, near, put_near, actor_step, guard_happens_now, is_idle, is_none, is_guarded, is_stored, may_work, started, mail_read, seen_with, called_by, read_by, raised_with}
 use Rattle.fkv_flush.specs.GuardCalm.{actor_of}
 use Rattle.fkv_flush.proofs.GuardSteps.{same_item}
 
@@ -41,7 +41,7 @@ event_near n (Calls a done) x = called_near n done x x.work
 event_near n (Reads a bytes) x = read_near n bytes x x.work
 event_near n (Sees a sight) x = near n.words n.actions (if is_none x.undecided then record x { seen = seen_with x.seen (Some sight) n.words } else x)
 event_near n (Publishes a) x = near n.words n.actions (if is_idle x.work then record x { undecided = None } else x)
-event_near n (Updates a addr word) x = near (if may_update n a x addr then slice_set n.words (record_place n.places addr rec.Value) word else n.words) n.actions x
+event_near n (Updates a addr word) x = near (slice_set n.words (record_place n.places addr rec.Value) word) n.actions x
 event_near n (RaisesReadOnly a to) x = near (if nat_le to (word_at n.words (shared_place one.Tail)) then slice_set n.words (shared_place one.ReadOnly) (max (word_at n.words (shared_place one.ReadOnly)) to) else n.words) n.actions x
 event_near n (RaisesFor a action) x = if is_idle x.work && is_stored n.words action then raised_near n action x x.machine else near n.words n.actions x
 event_near n (Changes a place word) x = near (if is_guarded n.places place then n.words else slice_set n.words place word) n.actions x
@@ -90,7 +90,7 @@ one_event n (Calls b done) a x its got = let e = some_same b a its in rw (e, got
 one_event n (Reads b bytes) a x its got = let e = some_same b a its in rw (e, got) (read_one n a bytes x x.work got)
 one_event n (Sees b sight) a x its got = let e = some_same b a its in rw (e, got) (either_actor n a x (record x { seen = seen_with x.seen (Some sight) n.words }) (is_none x.undecided) got)
 one_event n (Publishes b) a x its got = let e = some_same b a its in rw (e, got) (either_actor n a x (record x { undecided = None }) (is_idle x.work) got)
-one_event n (Updates b addr word) a x its got = let e = some_same b a its in rw (e, got) (either_words n a x (slice_set n.words (record_place n.places addr rec.Value) word) (may_update n a x addr) got)
+one_event n (Updates b addr word) a x its got = let e = some_same b a its in rw (e, got) refl
 one_event n (RaisesReadOnly b to) a x its got = let e = some_same b a its in rw (e, got) (either_words n a x (slice_set n.words (shared_place one.ReadOnly) (max (word_at n.words (shared_place one.ReadOnly)) to)) (nat_le to (word_at n.words (shared_place one.Tail))) got)
 one_event n (RaisesFor b action) a x its got = let e = some_same b a its in rw (e, got) (either_near n _ a x (raised_near n action x x.machine) (is_idle x.work && is_stored n.words action) got (raised_one n a action x x.machine got))
 one_event n (Changes b place word) a x its got = let e = some_same b a its in rw (e, got) (else_words n a x (slice_set n.words place word) (is_guarded n.places place) got)

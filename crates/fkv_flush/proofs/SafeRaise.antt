@@ -45,7 +45,7 @@ use Rattle.fkv_flush.specs.Flushing.{flush_ask}
 use Rattle.fkv_flush.specs.Serving.{serve_ask}
 use Rattle.fkv_flush.specs.GuardAsks.{writes, machine_writes}
 use Rattle.fkv_flush.specs.GuardLevels.{levels_of}
-use Rattle.fkv_flush.specs.GuardWorld.{Actor, Work, Rests, Reserves, Fills, Invalidates, Shifts, Turns, Flushes, Serves, GuardNow, GuardWorld, GuardEvent, Moves, Updates, RaisesReadOnly, RaisesFor, Changes, put_near, epoch_step, is_idle, is_guarded, may_update, guard_happens}
+use Rattle.fkv_flush.specs.GuardWorld.{Actor, Work, Rests, Reserves, Fills, Invalidates, Shifts, Turns, Flushes, Serves, GuardNow, GuardWorld, GuardEvent, Moves, Updates, RaisesReadOnly, RaisesFor, Changes, put_near, epoch_step, is_idle, is_guarded, guard_happens}
 use Rattle.fkv_flush.specs.Guarded.{work_writes, update_writes}
 use Rattle.fkv_flush.proofs.GuardEpochs.{Spares}
 use Rattle.fkv_flush.proofs.GuardSound.{IsSound}
@@ -177,10 +177,7 @@ moves_by w a (Some x) sound got = elim (truth (is_idle x.work)) [
 
 update_spares : (n : GuardNow) (a addr : ℕ) (found : Option Actor) → SparesSafe (update_writes n a addr found)
 update_spares n a addr None = tt
-update_spares n a addr (Some x) = elim (truth (may_update n a x addr)) [
-  | inl e ↦ rw e (λ i. omega (arith, i))
-  | inr e ↦ rw e tt
-]
+update_spares n a addr (Some x) = λ i. omega (arith, i)
 
 change_spares : (n : GuardNow) (place : ℕ) → SparesSafe (if is_guarded n.places place then None else Some place)
 change_spares n place = elim (truth (is_guarded n.places place)) [

@@ -89,7 +89,7 @@ pub data GuardTask : Type 0 where
   ToServe : GuardTask
 
 -- What may happen next. Those from `Sees` on are no step of these machines, but of whoever else works on the same words; each
--- happens only where it may.
+-- happens only where it may, but for a change in place: that it is made where it may be is owed by who makes it.
 pub data GuardEvent : Type 0 where
   -- the actor begins a machine
   Begins : ℕ → GuardTask → GuardEvent
@@ -325,13 +325,14 @@ abbrev pub published : GuardNow → ℕ → Option Actor → GuardNow
 published n actor None = n
 published n actor (Some x) = if is_idle x.work then with_actor n actor (record x { undecided = None }) else n
 
--- a session may change what is at or above the read-only offset that it has seen
+-- a protected session that is about nothing else may change what is at or above the read-only offset that it has seen, and below the tail
 abbrev pub may_update : GuardNow → ℕ → Actor → ℕ → Bool
 may_update n actor x addr = is_awake n actor x && is_idle x.work && nat_le x.seen.read_only addr && nat_lt addr (word_at n.words (shared_place one.Tail))
 
+-- the value's word in the record's frame is changed, also where that may not be
 abbrev pub updated : GuardNow → ℕ → ℕ → ℕ → Option Actor → GuardNow
 updated n actor addr word None = n
-updated n actor addr word (Some x) = if may_update n actor x addr then put_near n actor (near (slice_set n.words (record_place n.places addr rec.Value) word) n.actions x) else n
+updated n actor addr word (Some x) = put_near n actor (near (slice_set n.words (record_place n.places addr rec.Value) word) n.actions x)
 
 -- the read-only offset is raised no higher than the tail
 abbrev pub read_only_raised : GuardNow → ℕ → ℕ → Option Actor → GuardNow

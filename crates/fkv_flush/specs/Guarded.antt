@@ -1,5 +1,5 @@
 -- The guard: which steps may write frames and raise the limit, and what every step keeps.
-use Rattle.std.specs.Prelude.{◌≡◌, ℕ, ◌+◌, ◌-◌, ◌*◌, ◌/◌, min, ◌<◌, ◌≤◌, Bool, true, false, List, replicate, length, slice_get, Option, Some, None, if◌then◌else◌}
+use Rattle.std.specs.Prelude.{◌≡◌, ℕ, ◌+◌, ◌-◌, ◌*◌, ◌/◌, min, ◌<◌, ◌≤◌, ⊤, Bool, true, false, List, [], ◌∷◌, replicate, length, slice_get, Option, Some, None, if◌then◌else◌}
 use Rattle.fkv_base.specs.Limits.{drain_slots}
 use Rattle.fkv_base.specs.declared.shapes.Shape.{Shape}
 use Rattle.fkv_plane.specs.declared.places.Places.{Places}
@@ -23,7 +23,7 @@ use Rattle.fkv_log.specs.Turning.{turn_ask}
 use Rattle.fkv_flush.specs.Flushing.{flush_ask}
 use Rattle.fkv_flush.specs.Serving.{serve_ask}
 use Rattle.fkv_flush.specs.GuardAsks.{writes, machine_writes}
-use Rattle.fkv_flush.specs.GuardWorld.{Actor, Work, Rests, Reserves, Fills, Invalidates, Shifts, Turns, Flushes, Serves, GuardNow, GuardWorld, GuardEvent, Moves, Updates, RaisesReadOnly, RaisesFor, Changes, is_idle, is_guarded, may_update, epoch_now, levels, guard_happens}
+use Rattle.fkv_flush.specs.GuardWorld.{Actor, Work, Rests, Reserves, Fills, Invalidates, Shifts, Turns, Flushes, Serves, GuardNow, GuardWorld, GuardEvent, Moves, Updates, RaisesReadOnly, RaisesFor, Changes, is_idle, is_guarded, may_update, epoch_now, levels, guard_happens, guard_run}
 
 abbrev pub seen_at : Option Actor → LastSeen
 seen_at None = record { read_only = 0; head = 0 }
@@ -124,7 +124,7 @@ actor_writes n actor (Some x) = if is_idle x.work then machine_writes actor x.ma
 
 abbrev pub update_writes : GuardNow → ℕ → ℕ → Option Actor → Option ℕ
 update_writes n actor addr None = None
-update_writes n actor addr (Some x) = if may_update n actor x addr then Some (record_place n.places addr rec.Value) else None
+update_writes n actor addr (Some x) = Some (record_place n.places addr rec.Value)
 
 -- The place of the word that an event writes, if any. It counts also where the word stays as it was, as after a Cas that is lost.
 abbrev pub event_writes : GuardNow → GuardEvent → Option ℕ
@@ -134,6 +134,16 @@ event_writes n (RaisesReadOnly actor to) = Some (shared_place one.ReadOnly)
 event_writes n (RaisesFor actor action) = Some (shared_place one.Epoch)
 event_writes n (Changes actor place word) = if is_guarded n.places place then None else Some place
 event_writes n event = None
+
+-- What an event owes: a session that changes a value in place may change it. No other event owes anything.
+abbrev pub IsFairEvent : GuardNow → GuardEvent → Type 0
+IsFairEvent n (Updates session addr word) = (x : Actor) → slice_get n.actors session ≡ Some x → may_update n session x addr ≡ true
+IsFairEvent n event = ⊤
+
+-- in a whole run each event is fair
+abbrev pub AreFairEvents : GuardWorld → List GuardEvent → Type 0
+AreFairEvents opening [] = ⊤
+AreFairEvents opening (event ∷ before) = IsFairEvent (guard_run opening before).now event × AreFairEvents opening before
 
 -- The place has a word of an open address, one of the last of the ring below the limit, which nobody flushes yet and which is reserved.
 pub record IsOpenPlace (w : GuardWorld) (place : ℕ) : Type 0 where

@@ -1,6 +1,6 @@
 -- A step of an append is a list of the guard's events.
-use Rattle.std.proofs.Common.{◌≡◌, ℕ, ◌<◌, ◌*◌, ◌∙◌, List, [], ◌∷◌, refl, sym, ap, subst, arith, inl, inr, Bool, true, false}
-use Rattle.std.specs.Prelude.{Option, Some, None, slice_get, slice_set, nat_lt, ◌==◌, if◌then◌else◌}
+use Rattle.std.proofs.Common.{◌≡◌, ℕ, ◌<◌, ◌*◌, List, [], ◌∷◌, refl, ap, subst, arith, inl, inr, true, false}
+use Rattle.std.specs.Prelude.{Option, Some, None, slice_get, slice_set, ◌==◌, if◌then◌else◌}
 use Rattle.fkv_base.specs.declared.numbers.Addr.{Addr}
 use Rattle.fkv_words.specs.declared.headers.Header.{Header}
 use Rattle.fkv_plane.specs.declared.actions.Action.{Action}
@@ -20,24 +20,23 @@ use Rattle.fkv_log.specs.declared.invalidating.Invalidating.TheVariants as inval
 use Rattle.fkv_log.specs.Reserving.{reserve_ask, reserve_next, reserve_next_ask, reserve_asks_left}
 use Rattle.fkv_log.specs.Filling.{fill_ask, fill_next, fill_asks_left}
 use Rattle.fkv_log.specs.Invalidating.{invalidate_ask, invalidate_next, invalidate_asks_left}
-use Rattle.fkv_index.specs.declared.publishing.PublishAnswer.TheVariants as publish
 use Rattle.fkv_index.specs.declared.publishing.Publishing.{Publishing}
 use Rattle.fkv_index.specs.declared.publishing.Publishing.TheVariants as publishing
 use Rattle.fkv_index.specs.Publishing.{publish_ask, publish_next, publish_next_ask, publish_asks_left}
 use Rattle.fkv_flush.specs.GuardSeen.{LastSeen}
 use Rattle.fkv_flush.specs.GuardWorld as guard
 use Rattle.fkv_flush.specs.GuardWorld.{Actor, Work, GuardNow, GuardEvent, Moves, ToInvalidate, near, put_near, work_step, is_guarded, is_idle, reserved_by, invalidated_by}
-use Rattle.fkv_flush.proofs.Shown.{goes_on, put_there, moves_work, publishes, changes, Likeness, FitsWork, Fits, Follows}
+use Rattle.fkv_flush.proofs.Shown.{goes_on, put_there, moves_work, publishes, changes, FitsWork, Fits, Follows}
 use Rattle.fkv_ops.specs.declared.appending.Appending.{Appending}
 use Rattle.fkv_ops.specs.declared.appending.Appending.TheVariants.{Ended, Reserves, Fills, Publishes, Invalidates}
 use Rattle.fkv_ops.specs.declared.appending.AppendAnswer.TheVariants as append
 use Rattle.fkv_ops.specs.Appending.{AppendState, appending_ask, append_ask, appending_next, append_next, publish_ledto, invalidate_ledto}
 use Rattle.fkv_ops.proofs.Shown.{IsAppendUnderWay}
 use Rattle.fkv_guard_sessions.specs.Likenesses.{likeness, through, reserve_work, fill_work, invalidate_work, append_work, append_undecided, append_onward, append_likeness, invalidate_undecided}
-use Rattle.fkv_guard_sessions.specs.Steps.{outer_events, IsOuter}
-use Rattle.fkv_guard_sessions.specs.Tries.{is_for_entry, reserved_events, publish_events, append_events, AppendOwes}
+use Rattle.fkv_guard_sessions.specs.Steps.{IsOuter}
+use Rattle.fkv_guard_sessions.specs.Tries.{is_for_entry, reserved_events, publish_events, append_events, AppendWritesOuter}
 use Rattle.fkv_guard_sessions.proofs.Onwards.{Leads, Keeps, Begins, Moved}
-use Rattle.fkv_guard_sessions.proofs.Outer.{outer_step, passed_outer, passed_owes}
+use Rattle.fkv_guard_sessions.proofs.Outer.{passed_owes}
 use Rattle.fkv_guard_sessions.proofs.AppendsLed.{truth, reserved_then, reserve_ends, reserve_goes, reserve_led, fill_ends, fill_goes, fill_led}
 
 -- the actor's work is the machine inside, while that has asks left
@@ -198,7 +197,7 @@ module _ (n : GuardNow) (a : ℕ) (x : Actor) (seen : LastSeen) (got : slice_get
         leads = Keeps refl refl;
       })
 
-  append_moved : (s : AppendState) (step : Appending) → s.step ≡ step → IsAppendUnderWay (record s { step = step }) → AppendOwes n.places step (appending_ask n.places s step) → Fits (likeness None (append_work s step) seen (append_undecided s step)) x → AppendMoved s step
+  append_moved : (s : AppendState) (step : Appending) → s.step ≡ step → IsAppendUnderWay (record s { step = step }) → AppendWritesOuter n.places step (appending_ask n.places s step) → Fits (likeness None (append_work s step) seen (append_undecided s step)) x → AppendMoved s step
   unfolding appending_ask
   append_moved s (Ended its) at busy owes fits = let goes = busy.goes_on in cc
   append_moved s Reserves at busy owes fits = reserves s at busy.asks fits
@@ -210,7 +209,7 @@ module _ (n : GuardNow) (a : ℕ) (x : Actor) (seen : LastSeen) (got : slice_get
   append_moved s Invalidates at busy owes fits = invalidates s s.invalidating refl busy.asks fits
 
 -- An append that is under way.
-pub append_step : (n : GuardNow) (a : ℕ) (x : Actor) (seen : LastSeen) (s : AppendState) → slice_get n.actors a ≡ Some x → IsAppendUnderWay s → AppendOwes n.places s.step (append_ask n.places s) → Fits (append_likeness seen s) x
+pub append_step : (n : GuardNow) (a : ℕ) (x : Actor) (seen : LastSeen) (s : AppendState) → slice_get n.actors a ≡ Some x → IsAppendUnderWay s → AppendWritesOuter n.places s.step (append_ask n.places s) → Fits (append_likeness seen s) x
     → (let room : ℕ = n.shape.disk_pages * n.shape.page in
     let after : AppendState = append_next n.places room s (reply_to n.words (append_ask n.places s)) in
     Moved true n a (append_events a room n.words s s.step (append_ask n.places s)) (append_onward after after.step) (append_likeness seen after) (words_after n.words (append_ask n.places s)) n.actions)

@@ -1,6 +1,6 @@
 -- Where the machines inside an append lead it, in what the guard's actor is like.
-use Rattle.std.proofs.Common.{◌≡◌, ◌⊎◌, ℕ, ◌<◌, ◌∙◌, refl, sym, ap, arith, inl, inr, Bool, true, false}
-use Rattle.std.specs.Prelude.{Option, Some, None, nat_lt, ◌==◌, if◌then◌else◌}
+use Rattle.std.proofs.Common.{◌≡◌, ◌⊎◌, ℕ, refl, ap, inl, inr, Bool, true, false}
+use Rattle.std.specs.Prelude.{Option, Some, None, nat_lt, if◌then◌else◌}
 use Rattle.fkv_base.specs.declared.numbers.Addr.{Addr}
 use Rattle.fkv_plane.specs.declared.asks.Ask.{Ask}
 use Rattle.fkv_plane.specs.declared.asks.Ask.TheVariants.{Done}
@@ -15,7 +15,7 @@ use Rattle.fkv_log.specs.declared.filling.Filling.TheVariants as filling
 use Rattle.fkv_log.specs.Reserving.{reserve_ask, reserve_next, reserve_next_ask, no_room_at}
 use Rattle.fkv_log.specs.Filling.{fill_ask, fill_next}
 use Rattle.fkv_flush.specs.GuardSeen.{LastSeen}
-use Rattle.fkv_flush.specs.GuardWorld.{ToFill, ToInvalidate}
+use Rattle.fkv_flush.specs.GuardWorld.{ToFill}
 use Rattle.fkv_ops.specs.declared.appending.Appending.TheVariants.{Reserves, Fills}
 use Rattle.fkv_ops.specs.Appending.{AppendState, reserve_ledto, fill_ledto}
 use Rattle.fkv_guard_sessions.specs.Likenesses.{likeness, reserve_work, fill_work, reserve_onward, fill_onward, append_onward, append_likeness}

@@ -25,7 +25,7 @@ use Rattle.fkv_ops.specs.declared.appending.FoundSlot.{FoundSlot}
 use Rattle.fkv_ops.specs.Appending.{AppendState, append_begun, appending_ask, append_ended, addr_reserved, reserve_ledto, fill_ledto, publish_ledto, invalidate_ledto, appending_next, append_next}
 use Rattle.fkv_plane.specs.Passing.{passed}
 use Rattle.fkv_guard_sessions.specs.Steps.{IsOuter}
-use Rattle.fkv_guard_sessions.specs.Tries.{AppendOwes}
+use Rattle.fkv_guard_sessions.specs.Tries.{AppendWritesOuter}
 use Rattle.fkv_guard_sessions.proofs.OuterAsks.{passed_is_outer}
 
 -- the entry is published at a slot
@@ -47,7 +47,7 @@ publish_outer p publishing.AtRest outer = tt
 publish_outer p (publishing.SwapsEntry place word entry) outer = outer
 
 -- what an append owes, as its ask is passed on
-pub append_owes : {A B C : Type 0} (p : Places) (a : AppendState) (step : Appending) (x : A) (y : B) (z : C) → StepPublishes p a step → AppendOwes p step (passed (passed (passed (appending_ask p a step) x) y) z)
+pub append_owes : {A B C : Type 0} (p : Places) (a : AppendState) (step : Appending) (x : A) (y : B) (z : C) → StepPublishes p a step → AppendWritesOuter p step (passed (passed (passed (appending_ask p a step) x) y) z)
 unfolding appending_ask
 append_owes p a (Publishes addr) x y z outer = passed_is_outer p _ z (passed_is_outer p _ y (passed_is_outer p _ x (passed_is_outer p _ answer.Contended (publish_outer p a.publishing outer))))
 append_owes p a (Ended its) x y z outer = tt

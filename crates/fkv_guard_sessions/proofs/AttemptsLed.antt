@@ -17,7 +17,7 @@ use Rattle.fkv_ops.specs.declared.trying.Trying.{Trying}
 use Rattle.fkv_ops.specs.declared.trying.Trying.TheVariants as trying
 use Rattle.fkv_ops.specs.HeaderWords.{header_said}
 use Rattle.fkv_ops.specs.Values.{value_of}
-use Rattle.fkv_ops.specs.Trying.{TryState, try_ask, try_next, told_value}
+use Rattle.fkv_ops.specs.Trying.{TryState, try_ask, told_value}
 use Rattle.fkv_ops.proofs.Shown.{is_try_end, try_done, TryRestsOrAsks}
 use Rattle.fkv_pending.specs.declared.attempting.Attempting.{Attempting}
 use Rattle.fkv_pending.specs.declared.attempting.Attempting.TheVariants.{Ended, Looks, Tries, Puts}
@@ -29,7 +29,7 @@ use Rattle.fkv_pending.specs.declared.mailing.Mailing.TheVariants.{LoadsState}
 use Rattle.fkv_pending.specs.declared.pending_requests.PendingRequest.{PendingRequest}
 use Rattle.fkv_pending.specs.Mailing.{mail_ask, mail_next}
 use Rattle.fkv_pending.specs.Pending.{with_sought, with_held, with_latch, with_asked}
-use Rattle.fkv_pending.specs.Attempting.{AttemptState, attempt_ended, waits_for_disk, puts_addr, puts, tries, is_pending_read, goes_on, attempt_begun, held_of, moved_on, read_on, record_taken, not_ready, look_ledto, held_kept, awaits_record, leaves, tried, try_ledto, put_ledto, mail_moved, attempting_next}
+use Rattle.fkv_pending.specs.Attempting.{AttemptState, attempt_ended, waits_for_disk, puts_addr, puts, tries, is_pending_read, goes_on, attempt_begun, held_of, moved_on, read_on, record_taken, look_ledto, held_kept, tried, try_ledto, put_ledto, mail_moved, attempting_next}
 use Rattle.fkv_flush.specs.GuardSeen.{LastSeen}
 use Rattle.fkv_flush.proofs.Shown.{Likeness}
 use Rattle.fkv_guard_sessions.specs.Likenesses.{through}

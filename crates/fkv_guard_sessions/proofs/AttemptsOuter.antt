@@ -1,12 +1,11 @@
 -- The words that an attempt writes beside its records' and its mailbox are none of the guard's.
-use Rattle.std.proofs.Common.{◌≡◌, ℕ, ◌<◌, List, refl, sym, subst, Bool, true, false}
+use Rattle.std.proofs.Common.{◌≡◌, ℕ, ◌<◌, refl, sym, subst, Bool, true, false}
 use Rattle.std.specs.Prelude.{if◌then◌else◌, ◌==◌, ⊤, Option, Some, None}
 use Rattle.fkv_map.specs.Keys.{key_of}
 use Rattle.fkv_plane.specs.declared.asks.Ask.{Ask}
 use Rattle.fkv_plane.specs.declared.asks.Ask.TheVariants.{Done}
 use Rattle.fkv_plane.specs.declared.places.Places.{Places}
 use Rattle.fkv_plane.specs.Passing.{passed}
-use Rattle.fkv_flush.specs.GuardSeen.{LastSeen}
 use Rattle.fkv_base.specs.declared.numbers.Key.{Key}
 use Rattle.fkv_index.specs.Slots.{home_of}
 use Rattle.fkv_ops.specs.declared.answers.DiskRecord.{DiskRecord}
@@ -30,8 +29,8 @@ use Rattle.fkv_pending.specs.declared.pending_requests.PendingRequest.{PendingRe
 use Rattle.fkv_pending.specs.Mailing.{mail_ask, mail_next}
 use Rattle.fkv_pending.specs.Pending.{with_sought, with_held, with_latch, with_asked}
 use Rattle.fkv_pending.specs.Attempting.{AttemptState, attempting_ask, attempt_ended, waits_for_disk, puts_addr, puts, tries, is_pending_read, goes_on, attempt_begun, held_of, moved_on, read_on, record_taken, look_ledto, held_kept, tried, try_ledto, put_ledto, mail_moved, try_moved, attempting_next, attempt_next}
-use Rattle.fkv_guard_sessions.specs.Attempts.{AttemptOwes}
-use Rattle.fkv_guard_sessions.proofs.TriesOuter.{IsTryOuter, TryMayChange, try_owes, try_next_outer, try_begun_outer}
+use Rattle.fkv_guard_sessions.specs.Attempts.{AttemptWritesOuter}
+use Rattle.fkv_guard_sessions.proofs.TriesOuter.{IsTryOuter, try_owes, try_next_outer, try_begun_outer}
 
 -- each key's home is a bucket of the index
 abbrev pub HomesAreLow : Places → ℕ → Type 0
@@ -44,18 +43,13 @@ AttemptRow p a step = ⊤
 abbrev pub IsAttemptOuter : Places → AttemptState → Type 0
 IsAttemptOuter p a = AttemptRow p a a.step
 
--- a value is changed in place where it may be
-abbrev pub AttemptMayChange : LastSeen → List ℕ → AttemptState → Attempting → Type 0
-AttemptMayChange seen words a Tries = TryMayChange seen words a.trial.step
-AttemptMayChange seen words a step = ⊤
-
 -- what an attempt owes, as its ask is passed on
-pub attempt_owes : {A : Type 0} (seen : LastSeen) (p : Places) (words : List ℕ) (n : ℕ) (a : AttemptState) (step : Attempting) (x : A) → AttemptRow p a step → AttemptMayChange seen words a step → AttemptOwes seen p words a step (passed (attempting_ask p n a step) x)
+pub attempt_owes : {A : Type 0} (p : Places) (n : ℕ) (a : AttemptState) (step : Attempting) (x : A) → AttemptRow p a step → AttemptWritesOuter p a step (passed (attempting_ask p n a step) x)
 unfolding attempting_ask
-attempt_owes seen p words n a Tries x row may = try_owes seen p words a.trial a.trial.step answer.Shift x row.row may
-attempt_owes seen p words n a (Ended its) x row may = tt
-attempt_owes seen p words n a Looks x row may = tt
-attempt_owes seen p words n a Puts x row may = tt
+attempt_owes p n a Tries x row = try_owes p a.trial a.trial.step answer.Shift x row.row
+attempt_owes p n a (Ended its) x row = tt
+attempt_owes p n a Looks x row = tt
+attempt_owes p n a Puts x row = tt
 
 -- where a reply leads
 either_outer : (c : Bool) (p : Places) (a b : AttemptState) → IsAttemptOuter p a → IsAttemptOuter p b → IsAttemptOuter p (if c then a else b)

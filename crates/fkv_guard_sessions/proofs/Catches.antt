@@ -1,7 +1,6 @@
 -- A step of catching up is a list of the guard's events.
-use Rattle.std.proofs.Common.{◌≡◌, ℕ, ◌<◌, ◌∙◌, List, [], ◌∷◌, refl, sym, ap, subst, Bool, true, false}
-use Rattle.std.specs.Prelude.{Option, Some, None, slice_get}
-use Rattle.fkv_plane.specs.declared.actions.Action.{Action}
+use Rattle.std.proofs.Common.{◌≡◌, ℕ, ◌<◌, ◌∙◌, List, [], ◌∷◌, refl, ap, subst, Bool, true, false}
+use Rattle.std.specs.Prelude.{Some, None, slice_get}
 use Rattle.fkv_plane.specs.declared.asks.Ask.{Ask}
 use Rattle.fkv_plane.specs.declared.places.Places.{Places}
 use Rattle.fkv_plane.specs.Passing.{passed}
@@ -17,18 +16,18 @@ use Rattle.fkv_epoch.specs.EpochWorld as epochs
 use Rattle.fkv_epoch.specs.EpochWorld.{EpochMachine, machine_step, sight_of}
 use Rattle.fkv_pending.specs.declared.pending_requests.PendingRequest.{PendingRequest}
 use Rattle.fkv_session.specs.declared.catching_up.Catching.{Catching}
-use Rattle.fkv_session.specs.declared.catching_up.Catching.TheVariants.{Ended, Refreshes, Protects, StoresCut, StoresOwing, Latches, Finishes}
-use Rattle.fkv_session.specs.CatchingUp.{CatchState, refresh_ledto, catching_ask, catch_ask, catching_next, catch_next, catch_requests, catching_requests}
+use Rattle.fkv_session.specs.declared.catching_up.Catching.TheVariants.{Refreshes, Protects, Latches, Finishes}
+use Rattle.fkv_session.specs.CatchingUp.{CatchState, refresh_ledto, catching_ask, catch_ask, catching_next}
 use Rattle.fkv_flush.specs.GuardSeen.{LastSeen}
 use Rattle.fkv_flush.specs.GuardWorld.{Actor, GuardNow, Moves, near, put_near, guard_happens_now, is_idle, seen_with}
 use Rattle.fkv_flush.proofs.Shown.{moves_machine, FitsMachine, Fits, Follows, refreshed_so_far, protected_so_far, protected_then, refreshed_so, protected_so}
 use Rattle.fkv_guard_sessions.specs.Likenesses.{likeness, last_seen}
 use Rattle.fkv_guard_sessions.specs.Steps.{outer_events, IsOuter}
-use Rattle.fkv_guard_sessions.specs.Catches.{refresh_machine, protect_machine, catch_events, catch_onward, catch_likeness, catch_likeness_at, CatchOwes}
+use Rattle.fkv_guard_sessions.specs.Catches.{refresh_machine, protect_machine, catch_events, catch_onward, catch_likeness, catch_likeness_at, CatchWritesOuter}
 use Rattle.fkv_guard_sessions.proofs.Onwards.{Moved}
 use Rattle.fkv_guard_sessions.proofs.OwnWords.{catch_outer}
 use Rattle.fkv_guard_sessions.proofs.Outer.{outer_step, passed_outer, passed_owes}
-use Rattle.fkv_guard_sessions.proofs.CatchesLed.{IsLoading, IsProtecting, CatchKnows, CatchLed, is_epochs, refresh_led, protect_led, finish_led, catch_free}
+use Rattle.fkv_guard_sessions.proofs.CatchesLed.{IsLoading, IsProtecting, CatchKnows, is_epochs, refresh_led, protect_led, finish_led, catch_free}
 
 pub loading_is : (r : Refreshing) (machine : EpochMachine) → IsLoading r → FitsMachine (refresh_machine r) machine → machine ≡ epochs.Refreshes r
 loading_is refresh.AtRest machine loading fits = absurd loading
@@ -62,7 +61,7 @@ catch_passed number words Protects ask told = refl
 catch_passed number words Finishes ask told = refl
 catch_passed number words step ask told = passed_outer number words ask told
 
-pub catch_owes : {A B : Type 0} (p : Places) (step : Catching) (ask : Ask A) (told : B) → CatchOwes p step (passed ask told) ≡ CatchOwes p step ask
+pub catch_owes : {A B : Type 0} (p : Places) (step : Catching) (ask : Ask A) (told : B) → CatchWritesOuter p step (passed ask told) ≡ CatchWritesOuter p step ask
 catch_owes p (Latches index) ask told = passed_owes p ask told
 catch_owes p step ask told = refl
 
@@ -144,7 +143,7 @@ module _ (n : GuardNow) (a bits : ℕ) (x : Actor) (got : slice_get n.actors a �
     leads = (catch_free n.places bits a c after_requests step (reply_to n.words (catching_ask n.places a c requests step)) at other knows).leads protected;
   }
 
-  catch_moved : (c : CatchState) (requests after_requests : List PendingRequest) (step : Catching) → c.step ≡ step → CatchKnows c step → CatchOwes n.places step (catching_ask n.places a c requests step) → Fits (catch_likeness_at c step) x → CatchMoved n a bits c requests after_requests step
+  catch_moved : (c : CatchState) (requests after_requests : List PendingRequest) (step : Catching) → c.step ≡ step → CatchKnows c step → CatchWritesOuter n.places step (catching_ask n.places a c requests step) → Fits (catch_likeness_at c step) x → CatchMoved n a bits c requests after_requests step
   catch_moved c requests after_requests Refreshes at knows owes fits = refreshes c requests after_requests at knows fits
   catch_moved c requests after_requests Protects at knows owes fits = protects c requests after_requests at knows fits
   catch_moved c requests after_requests Finishes at knows owes fits =
@@ -156,5 +155,5 @@ module _ (n : GuardNow) (a bits : ℕ) (x : Actor) (got : slice_get n.actors a �
   }
 
 -- A session that catches up.
-pub catch_step : (n : GuardNow) (a bits : ℕ) (x : Actor) (c : CatchState) (requests after_requests : List PendingRequest) → slice_get n.actors a ≡ Some x → a < n.places.sessions → CatchKnows c c.step → CatchOwes n.places c.step (catch_ask n.places a c requests) → Fits (catch_likeness c) x → CatchMoved n a bits c requests after_requests c.step
+pub catch_step : (n : GuardNow) (a bits : ℕ) (x : Actor) (c : CatchState) (requests after_requests : List PendingRequest) → slice_get n.actors a ≡ Some x → a < n.places.sessions → CatchKnows c c.step → CatchWritesOuter n.places c.step (catch_ask n.places a c requests) → Fits (catch_likeness c) x → CatchMoved n a bits c requests after_requests c.step
 catch_step n a bits x c requests after_requests got below knows owes fits = catch_moved n a bits x got below c requests after_requests c.step refl knows owes fits

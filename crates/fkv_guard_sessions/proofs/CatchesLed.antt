@@ -1,8 +1,7 @@
 -- Where one reply leads a session that catches up, in what the guard's actor is like.
-use Rattle.std.proofs.Common.{◌≡◌, ℕ, ◌∙◌, refl, sym, ap, subst, List, Bool, true, false}
-use Rattle.std.specs.Prelude.{⊤, if◌then◌else◌, not, Option, Some, None, slice_get}
+use Rattle.std.proofs.Common.{◌≡◌, ℕ, ◌∙◌, refl, sym, subst, List, Bool, true, false}
+use Rattle.std.specs.Prelude.{if◌then◌else◌, not, Option, Some, None, slice_get}
 use Rattle.std.specs.List.{position}
-use Rattle.fkv_plane.specs.declared.asks.Ask.{Ask}
 use Rattle.fkv_plane.specs.declared.asks.Ask.TheVariants.{Done}
 use Rattle.fkv_plane.specs.declared.places.Places.{Places}
 use Rattle.fkv_epoch.specs.declared.protecting.Protecting.{Protecting}
@@ -12,7 +11,6 @@ use Rattle.fkv_epoch.specs.declared.refreshing.Refreshing.TheVariants as refresh
 use Rattle.fkv_epoch.specs.declared.values.Seen as loaded
 use Rattle.fkv_epoch.specs.Refreshing.{refresh_ask, refresh_next, refresh_finish}
 use Rattle.fkv_epoch.specs.Protecting.{protect_ask, protect_next, protect_next_ask}
-use Rattle.fkv_latch.specs.declared.latching.LatchAnswer.{LatchAnswer}
 use Rattle.fkv_latch.specs.declared.latching.LatchAnswer.TheVariants.{Taken}
 use Rattle.fkv_latch.specs.declared.latching.LatchTask.TheVariants.{TakeShared}
 use Rattle.fkv_latch.specs.declared.latching.Latching.{Latching}
@@ -30,7 +28,7 @@ use Rattle.fkv_words.specs.declared.phase_words.PhaseSaid.TheVariants.{Says, Spo
 use Rattle.fkv_words.specs.PhaseWords.{phase_said}
 use Rattle.fkv_session.specs.declared.catching_up.Catching.{Catching}
 use Rattle.fkv_session.specs.declared.catching_up.Catching.TheVariants.{Ended, Refreshes, Protects, StoresCut, StoresOwing, Latches, Finishes}
-use Rattle.fkv_session.specs.CatchingUp.{CatchState, catching_ask, seen_after, finishes, latch_begun, latch_wanted, latches, cuts, takes_up, is_same_version, enters_prepare, refresh_ledto, protect_ledto, latch_ledto, finish_ledto, catching_next, catch_requests, catch_next}
+use Rattle.fkv_session.specs.CatchingUp.{CatchState, catching_ask, seen_after, finishes, latch_begun, latch_wanted, latches, cuts, takes_up, is_same_version, enters_prepare, refresh_ledto, protect_ledto, latch_ledto, finish_ledto, catching_next}
 use Rattle.fkv_flush.specs.GuardSeen.{LastSeen}
 use Rattle.fkv_flush.proofs.Shown.{Likeness, refreshed_so_far, protected_then}
 use Rattle.fkv_guard_sessions.specs.Likenesses.{likeness, last_seen, through}

@@ -24,7 +24,7 @@ use Rattle.fkv_session.specs.declared.catching_up.Catching.{Catching}
 use Rattle.fkv_session.specs.declared.catching_up.Catching.TheVariants.{Ended, Refreshes, Protects, StoresCut, StoresOwing, Latches, Finishes}
 use Rattle.fkv_session.specs.CatchingUp.{CatchState, catching_ask, finishes, latch_begun, latch_wanted, latches, cuts, is_same_version, enters_prepare, takes_up, seen_after, refresh_ledto, protect_ledto, latch_ledto, finish_ledto, catch_requests, catching_next, catch_next}
 use Rattle.fkv_words.specs.PhaseWords.{phase_said}
-use Rattle.fkv_guard_sessions.specs.Catches.{CatchOwes}
+use Rattle.fkv_guard_sessions.specs.Catches.{CatchWritesOuter}
 use Rattle.fkv_guard_sessions.proofs.OuterAsks.{passed_is_outer, IsLatchOuter, latch_outer, latch_next_outer, latch_first_outer}
 use Rattle.fkv_guard_sessions.proofs.AttemptsOuter.{HomesAreLow}
 
@@ -36,7 +36,7 @@ abbrev pub IsCatchOuter : Places → CatchState → Type 0
 IsCatchOuter p c = CatchRow p c c.step
 
 -- what it owes, as its ask is passed on
-pub catch_owes : {A : Type 0} (p : Places) (n : ℕ) (c : CatchState) (requests : List PendingRequest) (step : Catching) (x : A) → CatchRow p c step → CatchOwes p step (passed (catching_ask p n c requests step) x)
+pub catch_owes : {A : Type 0} (p : Places) (n : ℕ) (c : CatchState) (requests : List PendingRequest) (step : Catching) (x : A) → CatchRow p c step → CatchWritesOuter p step (passed (catching_ask p n c requests step) x)
 unfolding catching_ask
 catch_owes p n c requests (Latches index) x row = passed_is_outer p _ x (passed_is_outer p _ tt (latch_outer p c.latching row))
 catch_owes p n c requests Ended x row = tt

@@ -1,14 +1,14 @@
 -- A step of a session leaves its epoch word as it is, but where it refreshes, protects itself or leaves.
-use Rattle.std.proofs.Common.{◌≡◌, ◌≢◌, ℕ, ◌+◌, ◌-◌, ◌*◌, ◌%◌, ◌<◌, ◌≤◌, ◌∙◌, List, refl, sym, ap, subst, arith, Bool, true, false}
-use Rattle.std.specs.Prelude.{⊤, Option, Some, None, slice_get, nat_lt, nat_le, ◌==◌, ◌||◌, ◌&&◌}
+use Rattle.std.proofs.Common.{◌≡◌, ◌≢◌, ℕ, ◌+◌, ◌-◌, ◌*◌, ◌%◌, ◌<◌, ◌∙◌, List, refl, sym, ap, subst, arith, true, false}
+use Rattle.std.specs.Prelude.{Option, Some, None, slice_get, nat_lt, nat_le, ◌==◌}
 use Rattle.std.proofs.lemmas.Bool.Decides.{nat_tests}
 use Rattle.fkv_plane.specs.declared.asks.Ask.{Ask}
 use Rattle.fkv_plane.specs.declared.places.Places.{Places}
 use Rattle.fkv_plane.specs.declared.places.SessionWord.TheVariants as own
 use Rattle.fkv_plane.specs.declared.places.RecordWord.{RecordWord}
 use Rattle.fkv_plane.specs.declared.places.RecordWord.TheVariants as rec
-use Rattle.fkv_plane.specs.Places.{session_place, record_place, record_number}
-use Rattle.fkv_plane.specs.Asked.{words_after, word_at}
+use Rattle.fkv_plane.specs.Places.{session_place, record_place}
+use Rattle.fkv_plane.specs.Asked.{words_after}
 use Rattle.fkv_plane.specs.Passing.{passed}
 use Rattle.fkv_epoch.specs.declared.leaving.Leaving.TheVariants as leave
 use Rattle.fkv_epoch.specs.EpochWorld as epochs
@@ -25,9 +25,8 @@ use Rattle.fkv_log.specs.Reserving.{reserve_ask}
 use Rattle.fkv_log.specs.Filling.{fill_ask}
 use Rattle.fkv_log.specs.Invalidating.{invalidate_ask}
 use Rattle.fkv_flush.specs.GuardAsks.{writes}
-use Rattle.fkv_flush.specs.GuardSeen.{LastSeen}
 use Rattle.fkv_flush.specs.GuardWorld.{Actor, GuardWorld, epoch_now, epoch_world, is_guarded}
-use Rattle.fkv_flush.proofs.Shown.{IsSound, machine_of, machine_at, Spares, spared, writes_passed}
+use Rattle.fkv_flush.proofs.Shown.{IsSound, machine_at, Spares, spared, writes_passed}
 use Rattle.fkv_ops.specs.declared.appending.Appending.{Appending}
 use Rattle.fkv_ops.specs.declared.appending.Appending.TheVariants as appending
 use Rattle.fkv_ops.specs.declared.answers.TryAnswer.TheVariants as answer
@@ -40,9 +39,8 @@ use Rattle.fkv_pending.specs.declared.attempting.Attempting.{Attempting}
 use Rattle.fkv_pending.specs.declared.attempting.Attempting.TheVariants.{Tries}
 use Rattle.fkv_pending.specs.Attempting.{AttemptState, attempting_ask, attempt_ask}
 use Rattle.fkv_guard_sessions.specs.Steps.{IsOuter, IsOuterPlace}
-use Rattle.fkv_guard_sessions.specs.Tries.{AppendOwes, TryOwes}
-use Rattle.fkv_guard_sessions.specs.Attempts.{AttemptOwes}
-use Rattle.fkv_guard_sessions.proofs.Outer.{passed_owes}
+use Rattle.fkv_guard_sessions.specs.Tries.{AppendWritesOuter, TryWritesOuter}
+use Rattle.fkv_guard_sessions.specs.Attempts.{AttemptWritesOuter}
 use Rattle.fkv_guard_sessions.proofs.OwnWords.{attempt_outer}
 use Rattle.fkv_guard_sessions.proofs.Tries.{append_owes, try_owes}
 
@@ -99,7 +97,7 @@ invalidate_spares p a (invalidating.StoresHeader addr header) below = record_spa
 pub passed_spares : {A B : Type 0} (ask : Ask A) (told : B) (place : ℕ) → Spares (writes ask) place → Spares (writes (passed ask told)) place
 passed_spares ask told place spares = subst (λ at. Spares at place) (sym (writes_passed ask told)) spares
 
-append_spares : (p : Places) (a : ℕ) (s : AppendState) (step : Appending) → a < p.sessions → AppendOwes p step (appending_ask p s step) → Spares (writes (appending_ask p s step)) (session_place a own.Epoch)
+append_spares : (p : Places) (a : ℕ) (s : AppendState) (step : Appending) → a < p.sessions → AppendWritesOuter p step (appending_ask p s step) → Spares (writes (appending_ask p s step)) (session_place a own.Epoch)
 unfolding appending_ask
 append_spares p a s (appending.Ended its) below owes = tt
 append_spares p a s appending.Reserves below owes = passed_spares (reserve_ask s.reserving) append.Contended (session_place a own.Epoch) (reserve_spares a s.reserving)
@@ -107,22 +105,22 @@ append_spares p a s (appending.Fills addr) below owes = passed_spares (fill_ask 
 append_spares p a s (appending.Publishes addr) below owes = outer_spares p a (writes (appending_ask p s (appending.Publishes addr))) below owes
 append_spares p a s appending.Invalidates below owes = passed_spares (invalidate_ask p s.invalidating) append.Contended (session_place a own.Epoch) (invalidate_spares p a s.invalidating below)
 
-try_spares : (seen : LastSeen) (p : Places) (words : List ℕ) (a : ℕ) (t : TryState) (step : Trying) → a < p.sessions → TryOwes seen p words t step (trying_ask p t step) → Spares (writes (trying_ask p t step)) (session_place a own.Epoch)
+try_spares : (p : Places) (a : ℕ) (t : TryState) (step : Trying) → a < p.sessions → TryWritesOuter p t step (trying_ask p t step) → Spares (writes (trying_ask p t step)) (session_place a own.Epoch)
 unfolding trying_ask
-try_spares seen p words a t (SwapsValue addr) below owes = record_spares p a addr.0 rec.Value below
-try_spares seen p words a t (ChangesValue addr old) below owes = record_spares p a addr.0 rec.Value below
-try_spares seen p words a t (Appends its) below owes =
+try_spares p a t (SwapsValue addr) below owes = record_spares p a addr.0 rec.Value below
+try_spares p a t (ChangesValue addr old) below owes = record_spares p a addr.0 rec.Value below
+try_spares p a t (Appends its) below owes =
     passed_spares (append_ask p t.append) answer.Shift (session_place a own.Epoch) (append_spares p a t.append t.append.step below (subst (λ (o : Type 0). o) (append_owes p t.append.step (append_ask p t.append) answer.Shift) owes))
-try_spares seen p words a t step below owes = outer_spares p a (writes (trying_ask p t step)) below owes
+try_spares p a t step below owes = outer_spares p a (writes (trying_ask p t step)) below owes
 
-attempting_spares : (seen : LastSeen) (p : Places) (words : List ℕ) (a : ℕ) (s : AttemptState) (step : Attempting) → a < p.sessions → AttemptOwes seen p words s step (attempting_ask p a s step) → Spares (writes (attempting_ask p a s step)) (session_place a own.Epoch)
+attempting_spares : (p : Places) (a : ℕ) (s : AttemptState) (step : Attempting) → a < p.sessions → AttemptWritesOuter p s step (attempting_ask p a s step) → Spares (writes (attempting_ask p a s step)) (session_place a own.Epoch)
 unfolding attempting_ask
-attempting_spares seen p words a s Tries below owes =
-    passed_spares (try_ask p s.trial) answer.Shift (session_place a own.Epoch) (try_spares seen p words a s.trial s.trial.step below (subst (λ (o : Type 0). o) (try_owes seen p words s.trial s.trial.step (try_ask p s.trial) answer.Shift) owes))
-attempting_spares seen p words a s step below owes = outer_spares p a (writes (attempting_ask p a s step)) below (attempt_outer p a s step below refl)
+attempting_spares p a s Tries below owes =
+    passed_spares (try_ask p s.trial) answer.Shift (session_place a own.Epoch) (try_spares p a s.trial s.trial.step below (subst (λ (o : Type 0). o) (try_owes p s.trial s.trial.step (try_ask p s.trial) answer.Shift) owes))
+attempting_spares p a s step below owes = outer_spares p a (writes (attempting_ask p a s step)) below (attempt_outer p a s step below refl)
 
-pub attempt_spares : (seen : LastSeen) (p : Places) (words : List ℕ) (a : ℕ) (s : AttemptState) → a < p.sessions → AttemptOwes seen p words s s.step (attempt_ask p a s) → Spares (writes (attempt_ask p a s)) (session_place a own.Epoch)
-attempt_spares seen p words a s below owes = attempting_spares seen p words a s s.step below owes
+pub attempt_spares : (p : Places) (a : ℕ) (s : AttemptState) → a < p.sessions → AttemptWritesOuter p s s.step (attempt_ask p a s) → Spares (writes (attempt_ask p a s)) (session_place a own.Epoch)
+attempt_spares p a s below owes = attempting_spares p a s s.step below owes
 
 -- an ask that spares the epoch word leaves it
 pub ask_keeps : {A : Type 0} (words : List ℕ) (a : ℕ) (ask : Ask A) → Spares (writes ask) (session_place a own.Epoch) → 0 < own_epoch words a → 0 < own_epoch (words_after words ask) a

@@ -1,38 +1,36 @@
 -- One step of a session, and one call that begins: the guard's events, where they lead, and what is known then.
-use Rattle.std.proofs.Common.{◌≡◌, ℕ, ◌<◌, ◌∙◌, List, [], ◌∷◌, ◌++◌, refl, sym, ap, subst, inl, inr, Bool, true, false}
+use Rattle.std.proofs.Common.{◌≡◌, ℕ, ◌<◌, ◌∙◌, [], ◌++◌, refl, sym, ap, subst, Bool, true, false}
 use Rattle.std.specs.Prelude.{Option, Some, None, slice_get, if◌then◌else◌, not, ◌==◌, length}
 use Rattle.fkv_base.specs.declared.faults.Fault.{Fault}
 use Rattle.fkv_base.specs.declared.faults.Fault.TheVariants as fault
 use Rattle.fkv_map.specs.declared.operations.Call.{Call}
 use Rattle.fkv_map.specs.declared.operations.Call.TheVariants as call
-use Rattle.fkv_plane.specs.declared.actions.Action.{Action}
 use Rattle.fkv_plane.specs.Asked.{words_after, reply_to}
 use Rattle.fkv_epoch.specs.declared.leaving.Leaving.{Leaving}
 use Rattle.fkv_epoch.specs.declared.leaving.Leaving.TheVariants as leave
 use Rattle.fkv_epoch.specs.Leaving.{leave_ask, leave_next}
 use Rattle.fkv_epoch.specs.EpochWorld.{own_epoch}
-use Rattle.fkv_flush.specs.GuardWorld.{Actor, GuardNow, GuardWorld, GuardEvent}
-use Rattle.fkv_flush.proofs.Shown.{IsSound, Likeness, Fits, Follows}
+use Rattle.fkv_flush.specs.GuardWorld.{Actor, GuardNow, GuardWorld}
+use Rattle.fkv_flush.proofs.Shown.{IsSound, Fits, Follows}
 use Rattle.fkv_session.specs.declared.catching_up.Catching.{Catching}
 use Rattle.fkv_session.specs.declared.catching_up.Catching.TheVariants as catching
 use Rattle.fkv_session.specs.declared.sessions.CatchCause.{CatchCause}
 use Rattle.fkv_session.specs.declared.sessions.CatchCause.TheVariants.{Refreshes, Wakes}
 use Rattle.fkv_session.specs.declared.sessions.Sitting.{Sitting}
 use Rattle.fkv_session.specs.declared.sessions.Sitting.TheVariants.{Idle, Attempts, CatchesUp, ClearsMail, Polls, StoresOwing, Turns, StoresCut, Leaves, LoadsDurable}
-use Rattle.fkv_session.specs.CatchingUp.{CatchState, refresh_begun, wake_begun}
+use Rattle.fkv_session.specs.CatchingUp.{refresh_begun, wake_begun}
 use Rattle.fkv_session.specs.Sessions.{SessionState, Seat, is_busy, sitting_ask, sitting_next, session_ask, session_next, session_begun, call_begun, op_begun, refusal_of, refresh_call, poll_call, sleep_call, wake_call, refuses, poll_begun, leave_ledto, asks_after, is_word_ask}
 use Rattle.fkv_guard_sessions.specs.Likenesses.{last_seen, through}
 use Rattle.fkv_guard_sessions.specs.Steps.{Onward, Stays, Starts, GoesOn, onward_events}
-use Rattle.fkv_guard_sessions.specs.Catches.{protect_machine, catch_likeness_at}
-use Rattle.fkv_guard_sessions.specs.Sessions.{sitting_events, sitting_onward, sitting_likeness, session_likeness, is_protected_at, is_protected_catching, SittingOwes, SessionOwes, called_guard_events}
+use Rattle.fkv_guard_sessions.specs.Catches.{catch_likeness_at}
+use Rattle.fkv_guard_sessions.specs.Sessions.{sitting_events, sitting_onward, sitting_likeness, session_likeness, is_protected_at, is_protected_catching, SittingWritesOuter, SessionWritesOuter, called_guard_events}
 pub use Rattle.fkv_guard_sessions.specs.Followed.{IsProtectedAt, SessionFollows}
-use Rattle.fkv_guard_sessions.proofs.Onwards.{IsSessions, Moved, goes_onward}
+use Rattle.fkv_guard_sessions.proofs.Onwards.{IsSessions, goes_onward}
 use Rattle.fkv_guard_sessions.proofs.Outer.{no_event}
-use Rattle.fkv_guard_sessions.proofs.AppendsLed.{truth}
 use Rattle.fkv_guard_sessions.proofs.Catches.{protecting_is}
 use Rattle.fkv_guard_sessions.proofs.CatchesLed.{CatchKnows}
 use Rattle.fkv_guard_sessions.proofs.Kept.{words_kept, wakes}
-use Rattle.fkv_guard_sessions.proofs.Sessions.{seat_in, stays_protected, is_turning, SessionMoved, session_step}
+use Rattle.fkv_guard_sessions.proofs.Sessions.{seat_in, stays_protected, is_turning, session_step}
 use Rattle.fkv_guard_sessions.proofs.SessionsLed.{SittingKnows, begun_led}
 
 module _ (w : GuardWorld) (number : ℕ) (x : Actor) (sound : IsSound w) (got : slice_get w.now.actors number ≡ Some x) (below : number < w.now.places.sessions) where
@@ -44,7 +42,7 @@ module _ (w : GuardWorld) (number : ℕ) (x : Actor) (sound : IsSound w) (got : 
 
   -- who catches up
   catching_kept : (s : SessionState) (asks : ℕ) (cause : CatchCause) (step : Catching) → s.step ≡ CatchesUp cause → s.catching.step ≡ step → (is_protected_catching step ≡ true → 0 < own_epoch w.now.words number) → SittingKnows s (CatchesUp cause)
-      → SittingOwes (seat_in w.now number) w.now.words s (CatchesUp cause) (sitting_ask (seat_in w.now number) s (CatchesUp cause)) → Fits (sitting_likeness s (CatchesUp cause)) x → Kept s asks (CatchesUp cause)
+      → SittingWritesOuter (seat_in w.now number) s (CatchesUp cause) (sitting_ask (seat_in w.now number) s (CatchesUp cause)) → Fits (sitting_likeness s (CatchesUp cause)) x → Kept s asks (CatchesUp cause)
   catching_kept s asks cause catching.Protects at inner protected knows owes fits p =
       let its : CatchKnows s.catching catching.Protects = subst (λ t. CatchKnows s.catching t) inner knows in
       let like : Fits (catch_likeness_at s.catching catching.Protects) x = subst (λ t. Fits (catch_likeness_at s.catching t) x) inner fits in
@@ -53,7 +51,7 @@ module _ (w : GuardWorld) (number : ℕ) (x : Actor) (sound : IsSound w) (got : 
       words_kept w number x sound got below s (CatchesUp cause) refl (ap is_protected_catching inner) (protected refl) knows owes fits
 
   sitting_kept : (s : SessionState) (asks : ℕ) (step : Sitting) → s.step ≡ step → is_turning step ≡ false → (is_protected_at s step ≡ true → 0 < own_epoch w.now.words number) → SittingKnows s step
-      → SittingOwes (seat_in w.now number) w.now.words s step (sitting_ask (seat_in w.now number) s step) → Fits (sitting_likeness s step) x → Kept s asks step
+      → SittingWritesOuter (seat_in w.now number) s step (sitting_ask (seat_in w.now number) s step) → Fits (sitting_likeness s step) x → Kept s asks step
   unfolding sitting_next leave_ledto leave_next leave_ask
   sitting_kept s asks (Idle its) at other protected knows owes fits p =
       let awake : s.is_awake ≡ true = subst (λ t. is_protected_at (record s { asks = asks; effect = None }) t ≡ true) at p in
@@ -75,7 +73,7 @@ module _ (w : GuardWorld) (number : ℕ) (x : Actor) (sound : IsSound w) (got : 
 
   -- what was protected and didn't leave
   stayed_kept : (s : SessionState) (step : Sitting) → is_turning step ≡ false → (is_protected_at s step ≡ true → 0 < own_epoch w.now.words number) → SittingKnows s step
-      → SittingOwes (seat_in w.now number) w.now.words s step (sitting_ask (seat_in w.now number) s step) → Fits (sitting_likeness s step) x → stays_protected s step ≡ true → 0 < own_epoch (words_after w.now.words (sitting_ask (seat_in w.now number) s step)) number
+      → SittingWritesOuter (seat_in w.now number) s step (sitting_ask (seat_in w.now number) s step) → Fits (sitting_likeness s step) x → stays_protected s step ≡ true → 0 < own_epoch (words_after w.now.words (sitting_ask (seat_in w.now number) s step)) number
   stayed_kept s Leaves other protected knows owes fits stays = cc
   stayed_kept s step other protected knows owes fits stays = words_kept w number x sound got below s step other stays (protected stays) knows owes fits
 
@@ -84,7 +82,7 @@ module _ (w : GuardWorld) (number : ℕ) (x : Actor) (sound : IsSound w) (got : 
 
 -- A step of a session that doesn't turn.
 pub session_follows : (w : GuardWorld) (number : ℕ) (x : Actor) (s : SessionState) → IsSound w → slice_get w.now.actors number ≡ Some x → number < w.now.places.sessions → is_turning s.step ≡ false → SittingKnows s s.step → IsProtectedAt number w.now.words s
-    → SessionOwes (seat_in w.now number) w.now.words s → Fits (session_likeness s) x
+    → SessionWritesOuter (seat_in w.now number) s → Fits (session_likeness s) x
     → (let k : Seat = seat_in w.now number in
     let after : SessionState = session_next k s (reply_to w.now.words (session_ask k s)) in
     SessionFollows w.now number (onward_events number (sitting_onward after after.step) ++ sitting_events k w.now.words s s.step (session_ask k s)) after (words_after w.now.words (session_ask k s)) w.now.actions)

@@ -1,16 +1,14 @@
 -- A session that is protected stays so behind its step, but where it leaves; and one that wakes is protected as soon as it has loaded all.
-use Rattle.std.proofs.Common.{◌≡◌, ℕ, ◌<◌, ◌∙◌, refl, sym, ap, subst, Bool, true, false}
-use Rattle.std.specs.Prelude.{Option, Some, None, slice_get}
+use Rattle.std.proofs.Common.{◌≡◌, ℕ, ◌<◌, ◌∙◌, refl, sym, subst, true, false}
+use Rattle.std.specs.Prelude.{Some, None, slice_get}
 use Rattle.fkv_plane.specs.declared.places.SessionWord.TheVariants as own
 use Rattle.fkv_plane.specs.Places.{session_place}
 use Rattle.fkv_plane.specs.Asked.{words_after, reply_to}
 use Rattle.fkv_plane.specs.Passing.{passed}
 use Rattle.fkv_plane.proofs.Shown.{passed_words}
-use Rattle.fkv_epoch.specs.declared.leaving.Leaving.TheVariants as leave
 use Rattle.fkv_epoch.specs.declared.protecting.Protecting.{Protecting}
 use Rattle.fkv_epoch.specs.declared.protecting.Protecting.TheVariants as protect
 use Rattle.fkv_epoch.specs.declared.refreshing.Refreshing.TheVariants as refresh
-use Rattle.fkv_epoch.specs.Leaving.{leave_ask, leave_next}
 use Rattle.fkv_epoch.specs.Protecting.{protect_ask, protect_next, protect_next_ask}
 use Rattle.fkv_epoch.specs.Refreshing.{refresh_ask}
 use Rattle.fkv_epoch.specs.EpochWorld as epochs
@@ -24,15 +22,14 @@ use Rattle.fkv_session.specs.declared.catching_up.Catching.{Catching}
 use Rattle.fkv_session.specs.declared.catching_up.Catching.TheVariants as catching
 use Rattle.fkv_session.specs.declared.sessions.CatchCause.{CatchCause}
 use Rattle.fkv_session.specs.declared.sessions.Sitting.{Sitting}
-use Rattle.fkv_session.specs.declared.sessions.Sitting.TheVariants.{Idle, Attempts, CatchesUp, ClearsMail, Polls, StoresOwing, Turns, StoresCut, Leaves, LoadsDurable}
+use Rattle.fkv_session.specs.declared.sessions.Sitting.TheVariants.{Attempts, CatchesUp, Polls, Turns, Leaves}
 use Rattle.fkv_session.specs.CatchingUp.{CatchState, catching_ask, catch_ask, catching_next, protect_ledto}
-use Rattle.fkv_session.specs.Sessions.{SessionState, Seat, sitting_ask, sitting_next, catch_ledto, leave_ledto}
-use Rattle.fkv_guard_sessions.specs.Likenesses.{last_seen}
-use Rattle.fkv_guard_sessions.specs.Catches.{refresh_machine, catch_likeness_at, CatchOwes}
-use Rattle.fkv_guard_sessions.specs.Attempts.{AttemptOwes}
-use Rattle.fkv_guard_sessions.specs.Sessions.{sitting_likeness, is_protected_catching, is_protected_at, SittingOwes}
+use Rattle.fkv_session.specs.Sessions.{SessionState, Seat, sitting_ask, sitting_next, catch_ledto}
+use Rattle.fkv_guard_sessions.specs.Catches.{refresh_machine, catch_likeness_at, CatchWritesOuter}
+use Rattle.fkv_guard_sessions.specs.Attempts.{AttemptWritesOuter}
+use Rattle.fkv_guard_sessions.specs.Sessions.{sitting_likeness, is_protected_catching, is_protected_at, SittingWritesOuter}
 use Rattle.fkv_guard_sessions.proofs.Attempts.{attempt_owes}
-use Rattle.fkv_guard_sessions.proofs.Catches.{catch_owes, loading_is, protecting_is}
+use Rattle.fkv_guard_sessions.proofs.Catches.{catch_owes, loading_is}
 use Rattle.fkv_guard_sessions.proofs.CatchesLed.{CatchKnows, IsProtecting}
 use Rattle.fkv_guard_sessions.proofs.Epochs.{machine_keeps, machine_protected, passed_spares, attempt_spares, ask_keeps, outer_keeps}
 use Rattle.fkv_guard_sessions.proofs.OwnWords.{catch_outer, sitting_outer}
@@ -43,7 +40,7 @@ module _ (w : GuardWorld) (number : ℕ) (x : Actor) (sound : IsSound w) (got : 
   abbrev Keeps : SessionState → Sitting → Type 0
   Keeps s step = 0 < own_epoch (words_after w.now.words (sitting_ask (seat_in w.now number) s step)) number
 
-  catch_keeps : (s : SessionState) (c : CatchState) (step : Catching) → 0 < own_epoch w.now.words number → CatchKnows c step → CatchOwes w.now.places step (catching_ask w.now.places number c s.requests step) → Fits (catch_likeness_at c step) x → (step ≡ catching.Protects → ⊥)
+  catch_keeps : (s : SessionState) (c : CatchState) (step : Catching) → 0 < own_epoch w.now.words number → CatchKnows c step → CatchWritesOuter w.now.places step (catching_ask w.now.places number c s.requests step) → Fits (catch_likeness_at c step) x → (step ≡ catching.Protects → ⊥)
       → 0 < own_epoch (words_after w.now.words (catching_ask w.now.places number c s.requests step)) number
   unfolding catching_ask
   catch_keeps s c catching.Refreshes some knows owes fits other =
@@ -59,14 +56,14 @@ module _ (w : GuardWorld) (number : ℕ) (x : Actor) (sound : IsSound w) (got : 
   not_protects catching.Protects p e = cc
   not_protects step p e = cc
 
-  attempt_keeps : (s : SessionState) → 0 < own_epoch w.now.words number → AttemptOwes (last_seen s.seen) w.now.places w.now.words s.attempt s.attempt.step (passed (attempt_ask w.now.places number s.attempt) told.Slept)
+  attempt_keeps : (s : SessionState) → 0 < own_epoch w.now.words number → AttemptWritesOuter w.now.places s.attempt s.attempt.step (passed (attempt_ask w.now.places number s.attempt) told.Slept)
       → 0 < own_epoch (words_after w.now.words (passed (attempt_ask w.now.places number s.attempt) told.Slept)) number
   attempt_keeps s some owes =
       let ask = attempt_ask w.now.places number s.attempt in
-      ask_keeps w.now.words number (passed ask told.Slept) (passed_spares ask told.Slept (session_place number own.Epoch) (attempt_spares (last_seen s.seen) w.now.places w.now.words number s.attempt below
-      (subst (λ (o : Type 0). o) (attempt_owes (last_seen s.seen) w.now.places w.now.words s.attempt s.attempt.step ask told.Slept) owes))) some
+      ask_keeps w.now.words number (passed ask told.Slept) (passed_spares ask told.Slept (session_place number own.Epoch) (attempt_spares w.now.places number s.attempt below
+      (subst (λ (o : Type 0). o) (attempt_owes w.now.places s.attempt s.attempt.step ask told.Slept) owes))) some
 
-  pub words_kept : (s : SessionState) (step : Sitting) → is_turning step ≡ false → stays_protected s step ≡ true → 0 < own_epoch w.now.words number → SittingKnows s step → SittingOwes (seat_in w.now number) w.now.words s step (sitting_ask (seat_in w.now number) s step) → Fits (sitting_likeness s step) x
+  pub words_kept : (s : SessionState) (step : Sitting) → is_turning step ≡ false → stays_protected s step ≡ true → 0 < own_epoch w.now.words number → SittingKnows s step → SittingWritesOuter (seat_in w.now number) s step (sitting_ask (seat_in w.now number) s step) → Fits (sitting_likeness s step) x
       → Keeps s step
   unfolding sitting_ask
   words_kept s (Attempts has_shifted) other stays some knows owes fits = attempt_keeps s some owes

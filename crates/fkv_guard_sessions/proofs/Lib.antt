@@ -9,6 +9,7 @@ mod Catches
 mod CatchesLed
 mod CatchesOuter
 mod Epochs
+mod Fair
 mod FindsOuter
 mod Followed
 mod Kept

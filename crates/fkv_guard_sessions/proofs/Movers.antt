@@ -4,7 +4,7 @@ use Rattle.std.specs.Prelude.{Option, Some, slice_get, nat_lt}
 use Rattle.fkv_base.specs.declared.shapes.Shape.{Shape}
 use Rattle.fkv_plane.specs.declared.actions.Action.{Action}
 use Rattle.fkv_plane.specs.declared.asks.Ask.{Ask}
-use Rattle.fkv_plane.specs.declared.asks.Ask.TheVariants.{Put, Take, Done}
+use Rattle.fkv_plane.specs.declared.asks.Ask.TheVariants.{Done}
 use Rattle.fkv_plane.specs.Passing.{passed, is_done}
 use Rattle.fkv_plane.proofs.Shown.{passed_done}
 use Rattle.fkv_epoch.specs.declared.raising.Raising.{Raising}
@@ -22,7 +22,7 @@ use Rattle.fkv_log.specs.Moving.{Mover, move_ask, move_next, move_next_ask, movi
 use Rattle.fkv_log.specs.Shifting.{ShiftState, shift_next, shift_next_ask, shift_ask, shifting_ask, shifting_next, shifting_next_ask, shift_led, move_told, mutable_start}
 use Rattle.fkv_log.proofs.Shown.{move_goes_on}
 use Rattle.fkv_flush.specs.GuardLevels.{Levels, levels_of}
-use Rattle.fkv_flush.specs.GuardWorld.{Actor, Shifts, Work, GuardNow, GuardNear, GuardWorld, GuardEvent, put_near, is_idle, shift_rests, actions_after, guard_happens, past_after}
+use Rattle.fkv_flush.specs.GuardWorld.{Actor, Shifts, GuardNow, GuardNear, GuardWorld, GuardEvent, put_near, is_idle, shift_rests, actions_after, guard_happens, past_after}
 use Rattle.fkv_flush.proofs.Shown.{runs_now, put_there, FitsMachine, MoveKnows, ShiftKnows, Knows, Awake, IsSound, happens_sound}
 use Rattle.fkv_guard_sessions.specs.OwnTurns.{moving_machine, shift_machine}
 

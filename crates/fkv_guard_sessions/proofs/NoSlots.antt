@@ -1,10 +1,8 @@
 -- A session that sits in a sound world of the guard asks for no slot's action: what goes with an ask goes with it at once.
-use Rattle.std.proofs.Common.{◌≡◌, ℕ, ◌∙◌, List, refl, sym, ap, subst, Bool, true, false}
-use Rattle.std.specs.Prelude.{⊤, Option, Some, slice_get}
+use Rattle.std.proofs.Common.{◌≡◌, ℕ, ◌∙◌, List, refl, ap, subst, false}
+use Rattle.std.specs.Prelude.{Some, slice_get}
 use Rattle.fkv_plane.specs.declared.actions.Action.TheVariants as act
-use Rattle.fkv_plane.specs.declared.asks.Ask.{Ask}
 use Rattle.fkv_plane.specs.declared.places.Places.{Places}
-use Rattle.fkv_plane.specs.Passing.{passed}
 use Rattle.fkv_epoch.specs.declared.protecting.Protecting.{Protecting}
 use Rattle.fkv_epoch.specs.declared.protecting.Protecting.TheVariants as protect
 use Rattle.fkv_epoch.specs.declared.refreshing.Refreshing.{Refreshing}
@@ -89,7 +87,7 @@ use Rattle.fkv_session.specs.declared.sessions.Sitting.{Sitting}
 use Rattle.fkv_session.specs.declared.sessions.Sitting.TheVariants.{Idle, Attempts, CatchesUp, ClearsMail, Polls, StoresOwing, Turns, StoresCut, Leaves, LoadsDurable}
 use Rattle.fkv_session.specs.CatchingUp.{CatchState, catching_ask, catch_ask}
 use Rattle.fkv_session.specs.OwnTurns.{OwnTurnState, own_turning_ask, own_turn_ask}
-use Rattle.fkv_session.specs.Sessions.{SessionState, Seat, sitting_ask, session_ask}
+use Rattle.fkv_session.specs.Sessions.{SessionState, sitting_ask, session_ask}
 use Rattle.fkv_flush.specs.GuardLevels.{levels_of}
 use Rattle.fkv_flush.specs.GuardSeen.{LastSeen}
 use Rattle.fkv_flush.specs.GuardSlots.{FindsSlots}

@@ -1,12 +1,12 @@
 -- What an actor begins behind a step, or lets go on, and where that leads.
-use Rattle.std.proofs.Common.{◌≡◌, ◌≢◌, ℕ, ◌<◌, ◌∙◌, List, [], ◌∷◌, ◌++◌, refl, sym, ap, subst, arith, Bool, true, false}
-use Rattle.std.specs.Prelude.{⊤, Option, Some, None, slice_get, nat_lt, ◌==◌, ◌&&◌, not}
+use Rattle.std.proofs.Common.{◌≡◌, ℕ, ◌<◌, ◌∙◌, List, ◌++◌, refl, ap, subst, arith, Bool, true, false}
+use Rattle.std.specs.Prelude.{⊤, Option, Some, None, slice_get, nat_lt, ◌==◌}
 use Rattle.std.proofs.lemmas.Bool.Decides.{nat_tests}
 use Rattle.fkv_plane.specs.declared.actions.Action.{Action}
 use Rattle.fkv_epoch.specs.declared.refreshing.Refreshing.TheVariants as refresh
 use Rattle.fkv_epoch.specs.declared.values.Seen as loaded
 use Rattle.fkv_epoch.specs.Refreshing.{refresh_finish}
-use Rattle.fkv_epoch.specs.EpochWorld.{EpochMachine, EpochTask, ToProtect, ToRefresh, ToLeave, ToScan, ToClaim, ToRaise, Refreshes, first_machine, own_epoch, is_at_rest, resumed_machine}
+use Rattle.fkv_epoch.specs.EpochWorld.{EpochMachine, ToProtect, ToRefresh, ToLeave, ToScan, ToClaim, ToRaise, Refreshes, first_machine, own_epoch, is_at_rest, resumed_machine}
 use Rattle.fkv_log.specs.Shifting.{shift_begun}
 use Rattle.fkv_log.specs.Turning.{turn_begun}
 use Rattle.fkv_log.specs.declared.filling.Filling.TheVariants as fill
@@ -14,7 +14,7 @@ use Rattle.fkv_log.specs.declared.invalidating.Invalidating.TheVariants as inval
 use Rattle.fkv_log.specs.declared.reserving.Reserving.TheVariants as reserve
 use Rattle.fkv_flush.specs.GuardWorld as guard
 use Rattle.fkv_flush.specs.GuardWorld.{Actor, GuardTask, ToDo, ToReserve, ToFill, ToInvalidate, ToShift, ToTurnPage, ToFlush, ToServe, GuardNow, GuardEvent, near, put_near, is_idle, may_work, started, address_of}
-use Rattle.fkv_flush.proofs.Shown.{runs_now, put_there, goes_on, begins, resumes, Likeness, FitsMachine, FitsWork, Fits, Follows}
+use Rattle.fkv_flush.proofs.Shown.{put_there, goes_on, begins, resumes, Likeness, FitsMachine, FitsWork, Fits, Follows}
 use Rattle.fkv_guard_sessions.specs.Steps.{Onward, Stays, Starts, GoesOn, onward_events}
 
 -- what a task needs to begin

@@ -1,6 +1,6 @@
 -- A step of a session's own turn is one event of the guard, and what begins then.
 use Rattle.std.proofs.Common.{◌≡◌, ℕ, ◌/◌, ◌∙◌, List, [], ◌∷◌, zero, suc, refl, sym, ap, subst, inl, inr, Bool, true, false}
-use Rattle.std.specs.Prelude.{⊤, Option, Some, None, slice_get, slice_set, nat_lt, nat_le, ◌==◌, if◌then◌else◌}
+use Rattle.std.specs.Prelude.{⊤, Option, Some, None, slice_get, slice_set, nat_lt, nat_le, if◌then◌else◌}
 use Rattle.fkv_base.specs.declared.shapes.Shape.{Shape}
 use Rattle.fkv_plane.specs.declared.actions.Action.{Action}
 use Rattle.fkv_plane.specs.declared.actions.Action.TheVariants as act
@@ -26,8 +26,8 @@ use Rattle.fkv_log.specs.declared.turning.Turning.TheVariants as turn
 use Rattle.fkv_log.specs.Moving.{Mover, move_at_rest}
 use Rattle.fkv_log.specs.Turning.{TurnState, turn_at, turn_ask, turn_next, turning_ask, turning_next, turning_next_ask, pages_wanted, frame_end}
 use Rattle.fkv_log.proofs.Shown.{shift_goes_on}
-use Rattle.fkv_session.specs.declared.own_turns.OwnTurning.TheVariants.{Ended, Scans, Claims, Shifts, Opens}
-use Rattle.fkv_session.specs.OwnTurns.{OwnTurnState, own_turning_ask, own_turn_ask, own_turning_next, own_turn_next, own_turning_given, own_turn_given, scan_ledto, claim_ledto, shift_ledto, open_ledto}
+use Rattle.fkv_session.specs.declared.own_turns.OwnTurning.TheVariants.{Scans, Claims, Shifts, Opens}
+use Rattle.fkv_session.specs.OwnTurns.{OwnTurnState, own_turning_ask, own_turn_ask, own_turning_next, own_turn_next, own_turning_given, scan_ledto, claim_ledto, shift_ledto, open_ledto}
 use Rattle.fkv_flush.specs.GuardLevels.{levels_of}
 use Rattle.fkv_flush.specs.GuardSeen.{LastSeen}
 use Rattle.fkv_flush.specs.GuardWorld as guard

@@ -2,9 +2,8 @@
 use Rattle.std.proofs.Common.{◌≡◌, ℕ, ◌+◌, ◌-◌, ◌∙◌, refl, sym, ap, subst, arith, inl, inr, Bool, true, false}
 use Rattle.std.proofs.lemmas.Bool.Decides.{nat_tests}
 use Rattle.fkv_base.specs.Limits.{drain_slots}
-use Rattle.std.specs.Prelude.{⊤, Option, Some, None, nat_lt, nat_le, ◌==◌, if◌then◌else◌}
+use Rattle.std.specs.Prelude.{Option, Some, None, nat_lt, nat_le, ◌==◌}
 use Rattle.fkv_base.specs.declared.shapes.Shape.{Shape}
-use Rattle.fkv_plane.specs.declared.actions.Action.{Action}
 use Rattle.fkv_plane.specs.declared.actions.Action.TheVariants as act
 use Rattle.fkv_plane.specs.declared.asks.Ask.{Ask}
 use Rattle.fkv_plane.specs.declared.asks.Ask.TheVariants.{Done}
@@ -24,19 +23,19 @@ use Rattle.fkv_log.specs.declared.shifting.Shifting.TheVariants as shift
 use Rattle.fkv_log.specs.declared.turning.TurnForm.TheVariants.{OpensOnly}
 use Rattle.fkv_log.specs.declared.turning.Turning.{Turning}
 use Rattle.fkv_log.specs.declared.turning.Turning.TheVariants as turn
-use Rattle.fkv_log.specs.Moving.{Mover, move_at_rest, move_next, move_next_ask}
-use Rattle.fkv_log.specs.Shifting.{ShiftState, shift_ask, shifting_ask, shifting_next, shift_led, mutable_start}
-use Rattle.fkv_log.specs.Turning.{TurnState, turn_at, turn_ask, turn_next, turning_ask, turning_next, turning_next_ask, turn_next_ask}
+use Rattle.fkv_log.specs.Moving.{Mover, move_next, move_next_ask}
+use Rattle.fkv_log.specs.Shifting.{shift_ask, shifting_ask, shifting_next, shift_led, mutable_start}
+use Rattle.fkv_log.specs.Turning.{turning_ask}
 use Rattle.fkv_session.specs.declared.own_turns.OwnTurning.{OwnTurning}
 use Rattle.fkv_session.specs.declared.own_turns.OwnTurning.TheVariants.{Ended, Scans, Claims, Shifts, Opens}
-use Rattle.fkv_session.specs.OwnTurns.{OwnTurnState, own_turning_ask, own_turn_ask, scan_ledto, claim_ledto, shift_ledto, open_ledto, tail_told}
+use Rattle.fkv_session.specs.OwnTurns.{OwnTurnState, own_turning_ask, scan_ledto, claim_ledto, shift_ledto, tail_told}
 use Rattle.fkv_flush.specs.GuardSeen.{LastSeen}
 use Rattle.fkv_flush.specs.GuardWorld as guard
 use Rattle.fkv_flush.specs.GuardWorld.{ToDo, ToShift, ToTurnPage, shift_rests, turn_rests}
 use Rattle.fkv_flush.proofs.Shown.{Likeness}
 use Rattle.fkv_guard_sessions.specs.Likenesses.{likeness, through}
 use Rattle.fkv_guard_sessions.specs.Steps.{Stays}
-use Rattle.fkv_guard_sessions.specs.OwnTurns.{scan_machine, claim_machine, shift_machine, shift_work, turn_work, scan_onward, claim_onward, shift_onward, turn_onward, own_turn_onward, own_turn_likeness, own_turn_likeness_at}
+use Rattle.fkv_guard_sessions.specs.OwnTurns.{scan_machine, claim_machine, shift_machine, scan_onward, claim_onward, shift_onward, own_turn_onward, own_turn_likeness, own_turn_likeness_at}
 use Rattle.fkv_guard_sessions.proofs.AppendsLed.{truth}
 use Rattle.fkv_guard_sessions.proofs.Onwards.{Leads, Keeps, Begins, stayed}
 use Rattle.fkv_guard_sessions.proofs.SessionsLed.{IsScanning, IsClaiming, IsOpening, OwnTurnKnows}

@@ -1,11 +1,10 @@
 -- The words that a session stores beside its machines' are its own: none of them is the guard's.
-use Rattle.std.proofs.Common.{◌≡◌, ℕ, ◌≤◌, ◌<◌, ◌%◌, List, refl, sym, subst, arith, Bool, true, false}
-use Rattle.std.specs.Prelude.{⊤, ◌==◌, if◌then◌else◌}
+use Rattle.std.proofs.Common.{◌≡◌, ℕ, ◌<◌, ◌%◌, List, sym, subst, arith, Bool, true, false}
+use Rattle.std.specs.Prelude.{◌==◌, if◌then◌else◌}
 use Rattle.fkv_plane.specs.declared.asks.Ask.{Ask}
 use Rattle.fkv_plane.specs.declared.places.Places.{Places}
-use Rattle.fkv_plane.specs.declared.places.SessionWord.{SessionWord}
 use Rattle.fkv_plane.specs.declared.places.SessionWord.TheVariants as own
-use Rattle.fkv_plane.specs.Places.{session_number, session_place}
+use Rattle.fkv_plane.specs.Places.{session_place}
 use Rattle.fkv_plane.specs.Passing.{passed}
 use Rattle.fkv_flush.specs.GuardWorld.{is_guarded}
 use Rattle.fkv_flush.proofs.Shown.{session_is_outer}
@@ -25,7 +24,7 @@ use Rattle.fkv_session.specs.declared.sessions.Sitting.TheVariants.{Idle, Attemp
 use Rattle.fkv_session.specs.CatchingUp.{CatchState, cut_of, catching_ask}
 use Rattle.fkv_session.specs.Sessions.{SessionState, Seat, sitting_ask}
 use Rattle.fkv_guard_sessions.specs.Steps.{IsOuter}
-use Rattle.fkv_guard_sessions.specs.Catches.{CatchOwes}
+use Rattle.fkv_guard_sessions.specs.Catches.{CatchWritesOuter}
 use Rattle.fkv_guard_sessions.proofs.AttemptsLed.{is_trying}
 use Rattle.fkv_guard_sessions.proofs.CatchesLed.{is_epochs}
 use Rattle.fkv_guard_sessions.proofs.Outer.{passed_owes}
@@ -58,7 +57,7 @@ attempt_outer p number a Looks below other = passed_outer_ask p (mail_ask number
 attempt_outer p number a Tries below other = cc
 attempt_outer p number a Puts below other = passed_outer_ask p (mail_ask number a.mailing) answer.Shift (mail_outer p number a.mailing below)
 
-pub catch_outer : (p : Places) (number : ℕ) (c : CatchState) (requests : List PendingRequest) (step : Catching) → number < p.sessions → is_epochs step ≡ false → CatchOwes p step (catching_ask p number c requests step) → IsOuter p (catching_ask p number c requests step)
+pub catch_outer : (p : Places) (number : ℕ) (c : CatchState) (requests : List PendingRequest) (step : Catching) → number < p.sessions → is_epochs step ≡ false → CatchWritesOuter p step (catching_ask p number c requests step) → IsOuter p (catching_ask p number c requests step)
 unfolding catching_ask
 catch_outer p number c requests catching.Ended below other owes = tt
 catch_outer p number c requests catching.Refreshes below other owes = cc

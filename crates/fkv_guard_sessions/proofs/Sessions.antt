@@ -1,40 +1,38 @@
 -- A session's step is a list of the guard's events, but for its own turn.
-use Rattle.std.proofs.Common.{◌≡◌, ℕ, ◌<◌, ◌*◌, ◌∙◌, List, [], ◌∷◌, refl, sym, ap, subst, Bool, true, false}
-use Rattle.std.specs.Prelude.{Option, Some, None, slice_get}
-use Rattle.fkv_plane.specs.declared.actions.Action.{Action}
+use Rattle.std.proofs.Common.{◌≡◌, ℕ, ◌<◌, refl, subst, Bool, true, false}
+use Rattle.std.specs.Prelude.{Some, None, slice_get}
 use Rattle.fkv_plane.specs.declared.asks.Ask.{Ask}
 use Rattle.fkv_plane.specs.Asked.{words_after, reply_to}
-use Rattle.fkv_plane.specs.Passing.{passed}
 use Rattle.fkv_plane.proofs.Shown.{passed_words, passed_reply}
 use Rattle.fkv_epoch.specs.declared.leaving.Leaving.TheVariants as leave
 use Rattle.fkv_epoch.specs.Leaving.{leave_ask, leave_next}
 use Rattle.fkv_epoch.specs.EpochWorld as epochs
 use Rattle.fkv_epoch.specs.EpochWorld.{ToLeave, sight_of}
 use Rattle.fkv_pending.specs.Mailing.{mail_ask, mail_next}
-use Rattle.fkv_pending.specs.Attempting.{AttemptState, attempt_ask, attempt_next}
+use Rattle.fkv_pending.specs.Attempting.{attempt_ask}
 use Rattle.fkv_pending.proofs.Shown.{AttemptRestsOrAsks, attempt_rests}
 use Rattle.fkv_session.specs.declared.answers.Told.{Told}
 use Rattle.fkv_session.specs.declared.answers.Told.TheVariants as told
 use Rattle.fkv_session.specs.declared.sessions.CatchCause.{CatchCause}
 use Rattle.fkv_session.specs.declared.sessions.Sitting.{Sitting}
 use Rattle.fkv_session.specs.declared.sessions.Sitting.TheVariants.{Idle, Attempts, CatchesUp, ClearsMail, Polls, StoresOwing, Turns, StoresCut, Leaves, LoadsDurable}
-use Rattle.fkv_session.specs.CatchingUp.{CatchState, catch_ask, catch_requests}
+use Rattle.fkv_session.specs.CatchingUp.{catch_ask, catch_requests}
 use Rattle.fkv_session.specs.Sessions.{SessionState, Seat, answers, polls_at, clear_ledto, bits_of, room_of, attempt_moved, caught, sitting_ask, sitting_next, session_ask, session_next, asks_after, is_word_ask}
-use Rattle.fkv_flush.specs.GuardWorld.{Actor, GuardNow, GuardEvent, Moves, ToDo, is_idle}
-use Rattle.fkv_flush.proofs.Shown.{Likeness, FitsMachine, Fits, Follows}
+use Rattle.fkv_flush.specs.GuardWorld.{Actor, GuardNow, ToDo}
+use Rattle.fkv_flush.proofs.Shown.{Likeness, FitsMachine, Fits}
 use Rattle.fkv_guard_sessions.specs.Likenesses.{likeness, last_seen, through}
-use Rattle.fkv_guard_sessions.specs.Steps.{Onward, outer_events, IsOuter, onward_events}
-use Rattle.fkv_guard_sessions.specs.Attempts.{attempt_events, AttemptOwes, attempt_likeness}
-use Rattle.fkv_guard_sessions.specs.Catches.{catch_events, CatchOwes, catch_likeness}
-use Rattle.fkv_guard_sessions.specs.Sessions.{leave_machine, sitting_events, sitting_onward, sitting_likeness, session_likeness, is_protected_at, SittingOwes, SessionOwes}
+use Rattle.fkv_guard_sessions.specs.Steps.{outer_events, IsOuter}
+use Rattle.fkv_guard_sessions.specs.Attempts.{AttemptWritesOuter, attempt_likeness}
+use Rattle.fkv_guard_sessions.specs.Catches.{CatchWritesOuter, catch_likeness}
+use Rattle.fkv_guard_sessions.specs.Sessions.{leave_machine, sitting_events, sitting_onward, sitting_likeness, session_likeness, is_protected_at, SittingWritesOuter, SessionWritesOuter}
 pub use Rattle.fkv_guard_sessions.specs.Followed.{seat_in, is_turning}
-use Rattle.fkv_guard_sessions.proofs.Onwards.{IsSessions, Moved, Leads, Keeps, Begins, goes_onward}
+use Rattle.fkv_guard_sessions.proofs.Onwards.{IsSessions, Moved, Keeps, Begins}
 use Rattle.fkv_guard_sessions.proofs.Outer.{outer_step}
 use Rattle.fkv_guard_sessions.proofs.OwnWords.{sitting_outer}
 use Rattle.fkv_guard_sessions.proofs.Attempts.{attempt_passed, attempt_owes, attempt_step}
-use Rattle.fkv_guard_sessions.proofs.Catches.{CatchMoved, machine_moves, catch_step, catch_passed, catch_owes}
+use Rattle.fkv_guard_sessions.proofs.Catches.{machine_moves, catch_step, catch_passed, catch_owes}
 use Rattle.fkv_guard_sessions.proofs.CatchesLed.{CatchKnows}
-use Rattle.fkv_guard_sessions.proofs.SessionsLed.{SittingKnows, SessionLed, answers_led, polls_led, clear_led, attempt_ends, poll_ends, catch_ends, leave_led}
+use Rattle.fkv_guard_sessions.proofs.SessionsLed.{SittingKnows, SessionLed, polls_led, clear_led, attempt_ends, poll_ends, catch_ends, leave_led}
 
 -- where a session's step leads
 abbrev Reply : GuardNow → ℕ → SessionState → Sitting → ℕ
@@ -56,7 +54,7 @@ module _ (n : GuardNow) (number : ℕ) (x : Actor) (got : slice_get n.actors num
   outer protected ask seen after fits owes led = record { mid = seen; moved = outer_step n number x seen ask got fits owes; leads = led.leads }
 
   attempts_it : (s : SessionState) (asks : ℕ) (has_shifted : Bool) → s.step ≡ Attempts has_shifted → IsSessions n.places.sessions number true n.words → AttemptRestsOrAsks s.attempt
-      → AttemptOwes (last_seen s.seen) n.places n.words s.attempt s.attempt.step (attempt_ask n.places number s.attempt) → Fits (attempt_likeness (last_seen s.seen) s.attempt) x
+      → AttemptWritesOuter n.places s.attempt s.attempt.step (attempt_ask n.places number s.attempt) → Fits (attempt_likeness (last_seen s.seen) s.attempt) x
       → SessionMoved true n number s (sitting_next (seat_in n number) (record s { asks = asks; effect = None }) (Attempts has_shifted) (Reply n number s (Attempts has_shifted))) (Attempts has_shifted)
   unfolding sitting_ask sitting_next
   attempts_it s asks has_shifted at session rests owes fits =
@@ -72,7 +70,7 @@ module _ (n : GuardNow) (number : ℕ) (x : Actor) (got : slice_get n.actors num
       }
 
   polls_it : (s : SessionState) (asks index : ℕ) → s.step ≡ Polls index → IsSessions n.places.sessions number true n.words → AttemptRestsOrAsks s.attempt
-      → AttemptOwes (last_seen s.seen) n.places n.words s.attempt s.attempt.step (attempt_ask n.places number s.attempt) → Fits (attempt_likeness (last_seen s.seen) s.attempt) x
+      → AttemptWritesOuter n.places s.attempt s.attempt.step (attempt_ask n.places number s.attempt) → Fits (attempt_likeness (last_seen s.seen) s.attempt) x
       → SessionMoved true n number s (sitting_next (seat_in n number) (record s { asks = asks; effect = None }) (Polls index) (Reply n number s (Polls index))) (Polls index)
   unfolding sitting_ask sitting_next
   polls_it s asks index at session rests owes fits =
@@ -87,7 +85,7 @@ module _ (n : GuardNow) (number : ℕ) (x : Actor) (got : slice_get n.actors num
         knows = rw (passed_reply n.words ask told.Slept) led.knows;
       }
 
-  catches_it : (protected : Bool) (s : SessionState) (asks : ℕ) (cause : CatchCause) → s.step ≡ CatchesUp cause → number < n.places.sessions → CatchKnows s.catching s.catching.step → CatchOwes n.places s.catching.step (catch_ask n.places number s.catching s.requests) → Fits (catch_likeness s.catching) x
+  catches_it : (protected : Bool) (s : SessionState) (asks : ℕ) (cause : CatchCause) → s.step ≡ CatchesUp cause → number < n.places.sessions → CatchKnows s.catching s.catching.step → CatchWritesOuter n.places s.catching.step (catch_ask n.places number s.catching s.requests) → Fits (catch_likeness s.catching) x
       → SessionMoved protected n number s (sitting_next (seat_in n number) (record s { asks = asks; effect = None }) (CatchesUp cause) (Reply n number s (CatchesUp cause))) (CatchesUp cause)
   unfolding sitting_ask sitting_next
   catches_it protected s asks cause at below knows owes fits =
@@ -122,14 +120,14 @@ module _ (n : GuardNow) (number : ℕ) (x : Actor) (got : slice_get n.actors num
       }
 
   session_moved : (s : SessionState) (asks : ℕ) (step : Sitting) → s.step ≡ step → is_turning step ≡ false → IsSessions n.places.sessions number (is_protected_at s step) n.words → SittingKnows s step
-      → SittingOwes (seat_in n number) n.words s step (sitting_ask (seat_in n number) s step) → Fits (sitting_likeness s step) x
+      → SittingWritesOuter (seat_in n number) s step (sitting_ask (seat_in n number) s step) → Fits (sitting_likeness s step) x
       → SessionMoved (stays_protected s step) n number s (sitting_next (seat_in n number) (record s { asks = asks; effect = None }) step (Reply n number s step)) step
   unfolding sitting_ask sitting_next
   session_moved s asks (Idle its) at other session knows owes fits =
       let after : SessionState = record s { asks = asks; effect = None; step = Idle its } in
       rw at (record { its = outer {A = Told} s.is_awake (sitting_ask (seat_in n number) s (Idle its)) (through (last_seen s.seen)) after fits (sitting_outer (seat_in n number) s (Idle its) session.below refl) (record { leads = Keeps refl refl; knows = tt }); knows = tt })
   session_moved s asks (Attempts has_shifted) at other session knows owes fits =
-      attempts_it s asks has_shifted at session knows (subst (λ (o : Type 0). o) (attempt_owes (last_seen s.seen) n.places n.words s.attempt s.attempt.step (attempt_ask n.places number s.attempt) told.Slept) owes) fits
+      attempts_it s asks has_shifted at session knows (subst (λ (o : Type 0). o) (attempt_owes n.places s.attempt s.attempt.step (attempt_ask n.places number s.attempt) told.Slept) owes) fits
   session_moved s asks (CatchesUp cause) at other session knows owes fits =
       catches_it (is_protected_at s (CatchesUp cause)) s asks cause at session.below knows (subst (λ (o : Type 0). o) (catch_owes n.places s.catching.step (catch_ask n.places number s.catching s.requests) told.Slept) owes) fits
   session_moved s asks ClearsMail at other session knows owes fits =
@@ -137,7 +135,7 @@ module _ (n : GuardNow) (number : ℕ) (x : Actor) (got : slice_get n.actors num
       let led = clear_led true (seat_in n number) after (mail_ask number after.mailing) at in
       record { its = outer {A = Told} true (sitting_ask (seat_in n number) s ClearsMail) (through (last_seen s.seen)) (clear_ledto (seat_in n number) after (mail_ask number after.mailing)) fits (sitting_outer (seat_in n number) s ClearsMail session.below refl) led; knows = led.knows }
   session_moved s asks (Polls index) at other session knows owes fits =
-      polls_it s asks index at session knows (subst (λ (o : Type 0). o) (attempt_owes (last_seen s.seen) n.places n.words s.attempt s.attempt.step (attempt_ask n.places number s.attempt) told.Slept) owes) fits
+      polls_it s asks index at session knows (subst (λ (o : Type 0). o) (attempt_owes n.places s.attempt s.attempt.step (attempt_ask n.places number s.attempt) told.Slept) owes) fits
   session_moved s asks (StoresOwing index) at other session knows owes fits =
       let led = polls_led true (seat_in n number) (record s { asks = asks; effect = None }) index in
       record { its = outer {A = Told} true (sitting_ask (seat_in n number) s (StoresOwing index)) (through (last_seen s.seen)) (polls_at (seat_in n number) (record s { asks = asks; effect = None }) index) fits (sitting_outer (seat_in n number) s (StoresOwing index) session.below refl) led; knows = led.knows }
@@ -153,6 +151,6 @@ module _ (n : GuardNow) (number : ℕ) (x : Actor) (got : slice_get n.actors num
 
 -- A session's step, where it doesn't turn: it is these events of the guard, and behind them the guard's actor is like what the session has become.
 pub session_step : (n : GuardNow) (number : ℕ) (x : Actor) (s : SessionState) → slice_get n.actors number ≡ Some x → is_turning s.step ≡ false → IsSessions n.places.sessions number (is_protected_at s s.step) n.words → SittingKnows s s.step
-    → SessionOwes (seat_in n number) n.words s → Fits (session_likeness s) x
+    → SessionWritesOuter (seat_in n number) s → Fits (session_likeness s) x
     → SessionMoved (stays_protected s s.step) n number s (session_next (seat_in n number) s (reply_to n.words (session_ask (seat_in n number) s))) s.step
 session_step n number x s got other session knows owes fits = session_moved n number x got s (asks_after s.asks (is_word_ask (session_ask (seat_in n number) s))) s.step refl other session knows owes fits

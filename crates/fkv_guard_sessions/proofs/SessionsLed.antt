@@ -1,13 +1,12 @@
 -- Where a session's calls and the replies that it gets lead it, in what the guard's actor is like.
-use Rattle.std.proofs.Common.{inl, inr, ◌≡◌, ℕ, ◌+◌, ◌∙◌, refl, sym, ap, subst, List, [], Bool, true, false, length}
+use Rattle.std.proofs.Common.{inl, inr, ◌≡◌, ℕ, ◌+◌, ◌∙◌, refl, sym, ap, subst, [], Bool, true, false, length}
 use Rattle.fkv_base.specs.declared.faults.Fault.{Fault}
 use Rattle.fkv_base.specs.declared.faults.Fault.TheVariants as fault
 use Rattle.fkv_map.specs.declared.operations.Call.{Call}
 use Rattle.fkv_map.specs.declared.operations.Call.TheVariants as call
 use Rattle.fkv_map.specs.declared.operations.Op.{Op}
 use Rattle.fkv_plane.specs.declared.asks.Ask.{Ask}
-use Rattle.fkv_plane.specs.declared.places.Places.{Places}
-use Rattle.fkv_plane.specs.Passing.{passed, is_done}
+use Rattle.fkv_plane.specs.Passing.{is_done}
 use Rattle.fkv_epoch.specs.declared.leaving.Leaving.TheVariants.{StoresZero}
 use Rattle.fkv_epoch.specs.Leaving.{leave_ask, leave_next}
 use Rattle.fkv_ops.specs.declared.answers.Reason.{Reason}
@@ -17,55 +16,37 @@ use Rattle.fkv_ops.specs.declared.answers.TryAnswer.TheVariants as tried
 use Rattle.fkv_ops.specs.declared.requests.Occasion.TheVariants.{Call as AtCall, Poll as AtPoll}
 use Rattle.fkv_ops.specs.Requests.{is_read}
 use Rattle.fkv_pending.specs.declared.attempting.Attempting.{Attempting}
-use Rattle.fkv_pending.specs.declared.attempting.Attempting.TheVariants.{Ended, Tries}
+use Rattle.fkv_pending.specs.declared.attempting.Attempting.TheVariants.{Ended}
 use Rattle.fkv_pending.specs.declared.mailing.MailAnswer.{MailAnswer}
 use Rattle.fkv_pending.specs.declared.mailing.MailAnswer.TheVariants.{Cleared}
 use Rattle.fkv_pending.specs.declared.mailing.MailTask.TheVariants.{Clear}
 use Rattle.fkv_pending.specs.declared.mailing.Mailing.TheVariants.{LoadsState}
 use Rattle.fkv_pending.specs.declared.pending_requests.PendingRequest.{PendingRequest}
-use Rattle.fkv_pending.specs.Mailing.{mail_ask, mail_next}
-use Rattle.fkv_pending.specs.Attempting.{AttemptState, attempt_ask, attempting_ask}
-use Rattle.fkv_pending.proofs.Shown.{is_attempt_end, AttemptRestsOrAsks, attempt_done, attempt_begun_rests, attempt_rests}
+use Rattle.fkv_pending.specs.Attempting.{AttemptState, attempt_ask}
+use Rattle.fkv_pending.proofs.Shown.{is_attempt_end, AttemptRestsOrAsks, attempt_done, attempt_begun_rests}
 use Rattle.fkv_session.specs.declared.answers.Told.{Told}
 use Rattle.fkv_session.specs.declared.answers.Told.TheVariants as told
 use Rattle.fkv_session.specs.declared.sessions.CatchCause.{CatchCause}
 use Rattle.fkv_session.specs.declared.sessions.CatchCause.TheVariants.{Refreshes, Wakes, Shifts}
-use Rattle.fkv_session.specs.declared.sessions.Sitting.{Sitting}
-use Rattle.fkv_session.specs.declared.sessions.Sitting.TheVariants.{Idle, Attempts, CatchesUp, ClearsMail, Polls, StoresOwing, Turns, StoresCut, Leaves, LoadsDurable}
-use Rattle.fkv_session.specs.CatchingUp.{CatchState, catching_ask, catch_ask, refresh_begun, wake_begun}
-use Rattle.fkv_session.specs.OwnTurns.{own_turn_begun, own_turn_ask, own_turn_given}
-use Rattle.fkv_session.specs.Sessions.{SessionState, Seat, bits_of, room_of, answers, refuses, answers_after_turn, request_in_hand, attempts, polls_request, polls_at, refusal_of, op_begun, refresh_call, poll_begun, poll_call, sleep_call, wake_call, call_begun, session_begun, ticket_after, attempt_left, serial_taken, update_done, is_no_room, lacks_room, with_request, accepts, shifts, attempted, attempt_ledto, caught_up, catch_ledto, clear_ledto, is_finished, is_owed, request_finished, finishes_request, keeps_request, poll_ledto, turn_ledto, leave_ledto, attempt_moved, caught, own_turn_moved, sitting_ask, session_ask, sitting_next, session_next, sitting_given, session_given, asks_after, is_word_ask}
-use Rattle.std.specs.Prelude.{if◌then◌else◌, ◌==◌, ◌||◌, not, ⊤, Option, Some, None, slice_get, slice_set}
+use Rattle.fkv_session.specs.declared.sessions.Sitting.TheVariants.{Attempts, CatchesUp, ClearsMail, Polls, Turns, StoresCut}
+use Rattle.fkv_session.specs.CatchingUp.{catch_ask, wake_begun}
+use Rattle.fkv_session.specs.OwnTurns.{own_turn_begun}
+use Rattle.fkv_session.specs.Sessions.{SessionState, Seat, bits_of, answers, refuses, answers_after_turn, request_in_hand, attempts, polls_request, polls_at, refusal_of, op_begun, refresh_call, poll_begun, poll_call, sleep_call, wake_call, call_begun, session_begun, ticket_after, attempt_left, serial_taken, update_done, is_no_room, lacks_room, with_request, accepts, shifts, attempted, attempt_ledto, caught_up, catch_ledto, clear_ledto, is_finished, is_owed, request_finished, finishes_request, keeps_request, poll_ledto, leave_ledto}
+use Rattle.std.specs.Prelude.{if◌then◌else◌, ◌==◌, ◌||◌, not, Option, Some, None, slice_get, slice_set}
 use Rattle.fkv_plane.specs.declared.asks.Ask.TheVariants.{Done}
-use Rattle.fkv_epoch.specs.EpochWorld.{ToScan, ToLeave, ToRefresh, ToProtect}
-use Rattle.fkv_epoch.specs.declared.leaving.Leaving.{Leaving}
-use Rattle.fkv_epoch.specs.declared.scanning.Scanning.{Scanning}
-use Rattle.fkv_epoch.specs.declared.scanning.Scanning.TheVariants as scan
-use Rattle.fkv_epoch.specs.declared.claiming.Claiming.{Claiming}
-use Rattle.fkv_epoch.specs.declared.claiming.Claiming.TheVariants as claim
-use Rattle.fkv_log.specs.Moving.{move_at_rest}
-use Rattle.fkv_log.specs.Shifting.{shift_ask}
-use Rattle.fkv_log.specs.declared.turning.TurnForm.TheVariants.{OpensOnly}
-use Rattle.fkv_log.specs.declared.turning.Turning.{Turning}
-use Rattle.fkv_log.specs.declared.turning.Turning.TheVariants as turn
-use Rattle.fkv_session.specs.declared.catching_up.Catching.{Catching}
-use Rattle.fkv_session.specs.declared.catching_up.Catching.TheVariants as catching
-use Rattle.fkv_session.specs.declared.own_turns.OwnTurning.{OwnTurning}
-use Rattle.fkv_session.specs.declared.own_turns.OwnTurning.TheVariants as turning
-use Rattle.fkv_session.specs.OwnTurns.{OwnTurnState}
+use Rattle.fkv_epoch.specs.EpochWorld.{ToScan, ToRefresh, ToProtect}
 use Rattle.fkv_flush.specs.GuardSeen.{LastSeen}
 use Rattle.fkv_flush.specs.GuardWorld.{ToDo}
 use Rattle.fkv_flush.proofs.Shown.{Likeness}
 use Rattle.fkv_guard_sessions.specs.Likenesses.{last_seen, through}
 use Rattle.fkv_guard_sessions.specs.Attempts.{attempt_onward, attempt_likeness}
 use Rattle.fkv_guard_sessions.specs.Catches.{catch_onward, catch_likeness}
-use Rattle.fkv_guard_sessions.specs.OwnTurns.{own_turn_onward, own_turn_likeness}
-use Rattle.fkv_guard_sessions.specs.Sessions.{sitting_onward, sitting_likeness, session_likeness}
+use Rattle.fkv_guard_sessions.specs.Sessions.{sitting_onward, session_likeness}
 pub use Rattle.fkv_guard_sessions.specs.Rows.{IsScanning, IsClaiming, IsOpening, OwnTurnKnows, SittingKnows}
 use Rattle.fkv_guard_sessions.proofs.Onwards.{Leads, Keeps, Begins, stayed}
 use Rattle.fkv_guard_sessions.proofs.AttemptsLed.{AttemptLed, attempt_begun_led}
 use Rattle.fkv_guard_sessions.proofs.AppendsLed.{truth}
-use Rattle.fkv_guard_sessions.proofs.CatchesLed.{CatchKnows, CatchLed, catch_through}
+use Rattle.fkv_guard_sessions.proofs.CatchesLed.{CatchKnows, catch_through}
 
 pub record SessionLed (protected : Bool) (mid : Likeness) (s : SessionState) : Type 0 where
   pub leads : Leads protected mid (sitting_onward s s.step) (session_likeness s)

@@ -35,9 +35,8 @@ use Rattle.fkv_session.specs.OwnTurns.{own_turn_begun, own_turn_given}
 use Rattle.fkv_session.specs.Sessions.{SessionState, Seat, IsOpened, bits_of, room_of, answers, refuses, answers_after_turn, request_in_hand, attempts, polls_request, polls_at, refusal_of, op_begun, refresh_call, poll_begun, poll_call, sleep_call, wake_call, call_begun, ticket_after, attempt_left, serial_taken, update_done, is_no_room, lacks_room, with_request, accepts, shifts, attempted, attempt_ledto, caught_up, catch_ledto, clear_ledto, is_finished, is_owed, request_finished, finishes_request, keeps_request, poll_ledto, turn_ledto, leave_ledto, attempt_moved, caught, own_turn_moved, sitting_ask, session_ask, sitting_next, session_next, sitting_given, session_given, asks_after, is_word_ask, is_busy}
 use Rattle.fkv_session.specs.SessionRun.{SessionEvent, Begins, Replies, Gets, begins, session_happens, session_run}
 use Rattle.fkv_session.specs.Shares.{HasItsBuckets}
-use Rattle.fkv_guard_sessions.specs.Likenesses.{last_seen}
-use Rattle.fkv_guard_sessions.specs.Sessions.{SittingOwes, SessionOwes}
-use Rattle.fkv_guard_sessions.proofs.AttemptsOuter.{HomesAreLow, IsAttemptOuter, AttemptMayChange, attempt_owes, attempt_begun_outer, attempt_next_outer}
+use Rattle.fkv_guard_sessions.specs.Sessions.{SittingWritesOuter, SessionWritesOuter}
+use Rattle.fkv_guard_sessions.proofs.AttemptsOuter.{HomesAreLow, IsAttemptOuter, attempt_owes, attempt_begun_outer, attempt_next_outer}
 use Rattle.fkv_guard_sessions.proofs.CatchesOuter.{IsCatchOuter, catch_owes, catch_next_outer}
 
 abbrev pub Homes : Seat → Type 0
@@ -56,28 +55,22 @@ SittingRow p s step = ⊤
 abbrev pub IsSessionOuter : Places → SessionState → Type 0
 IsSessionOuter p s = SittingRow p s s.step
 
--- a value is changed in place where it may be
-abbrev pub SittingMayChange : List ℕ → SessionState → Sitting → Type 0
-SittingMayChange words s (Attempts has_shifted) = AttemptMayChange (last_seen s.seen) words s.attempt s.attempt.step
-SittingMayChange words s (Polls index) = AttemptMayChange (last_seen s.seen) words s.attempt s.attempt.step
-SittingMayChange words s step = ⊤
-
 -- what a session owes
-sitting_owes : (k : Seat) (words : List ℕ) (s : SessionState) (step : Sitting) → SittingRow k.places s step → SittingMayChange words s step → SittingOwes k words s step (sitting_ask k s step)
+sitting_owes : (k : Seat) (s : SessionState) (step : Sitting) → SittingRow k.places s step → SittingWritesOuter k s step (sitting_ask k s step)
 unfolding sitting_ask
-sitting_owes k words s (Attempts has_shifted) row may = attempt_owes (last_seen s.seen) k.places words k.number s.attempt s.attempt.step told.Slept row may
-sitting_owes k words s (Polls index) row may = attempt_owes (last_seen s.seen) k.places words k.number s.attempt s.attempt.step told.Slept row may
-sitting_owes k words s (CatchesUp cause) row may = catch_owes k.places k.number s.catching s.requests s.catching.step told.Slept row
-sitting_owes k words s (Idle its) row may = tt
-sitting_owes k words s ClearsMail row may = tt
-sitting_owes k words s (StoresOwing index) row may = tt
-sitting_owes k words s (Turns its) row may = tt
-sitting_owes k words s StoresCut row may = tt
-sitting_owes k words s Leaves row may = tt
-sitting_owes k words s LoadsDurable row may = tt
+sitting_owes k s (Attempts has_shifted) row = attempt_owes k.places k.number s.attempt s.attempt.step told.Slept row
+sitting_owes k s (Polls index) row = attempt_owes k.places k.number s.attempt s.attempt.step told.Slept row
+sitting_owes k s (CatchesUp cause) row = catch_owes k.places k.number s.catching s.requests s.catching.step told.Slept row
+sitting_owes k s (Idle its) row = tt
+sitting_owes k s ClearsMail row = tt
+sitting_owes k s (StoresOwing index) row = tt
+sitting_owes k s (Turns its) row = tt
+sitting_owes k s StoresCut row = tt
+sitting_owes k s Leaves row = tt
+sitting_owes k s LoadsDurable row = tt
 
-pub session_owes : (k : Seat) (words : List ℕ) (s : SessionState) → IsSessionOuter k.places s → SittingMayChange words s s.step → SessionOwes k words s
-session_owes k words s row may = sitting_owes k words s s.step row may
+pub session_owes : (k : Seat) (s : SessionState) → IsSessionOuter k.places s → SessionWritesOuter k s
+session_owes k s row = sitting_owes k s s.step row
 
 -- where a call and a reply lead
 either_outer : (c : Bool) (p : Places) (a b : SessionState) → IsSessionOuter p a → IsSessionOuter p b → IsSessionOuter p (if c then a else b)

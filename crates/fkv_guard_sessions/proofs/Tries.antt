@@ -1,7 +1,6 @@
 -- A step of a try is a list of the guard's events.
-use Rattle.std.proofs.Common.{◌≡◌, ℕ, ◌<◌, ◌≤◌, ◌*◌, ◌∙◌, List, [], ◌∷◌, refl, sym, ap, subst, arith, inl, inr, Bool, true, false}
-use Rattle.std.specs.Prelude.{Option, Some, None, slice_get, slice_set, nat_lt, nat_le, ◌==◌, ◌&&◌, not, if◌then◌else◌}
-use Rattle.std.proofs.lemmas.Bool.Decides.{nat_tests}
+use Rattle.std.proofs.Common.{◌≡◌, ℕ, ◌*◌, List, refl, ap, subst, inl, inr, true, false}
+use Rattle.std.specs.Prelude.{Some, None, slice_get, slice_set, ◌==◌}
 use Rattle.fkv_base.specs.declared.numbers.Addr.{Addr}
 use Rattle.fkv_map.specs.declared.operations.Reply.{Reply}
 use Rattle.fkv_map.specs.Keys.{value_applied}
@@ -12,10 +11,9 @@ use Rattle.fkv_plane.specs.Places.{record_place}
 use Rattle.fkv_plane.specs.Asked.{words_after, reply_to, word_at}
 use Rattle.fkv_plane.specs.Passing.{passed}
 use Rattle.fkv_plane.proofs.Shown.{passed_words, passed_reply}
-use Rattle.fkv_epoch.specs.EpochWorld.{own_epoch}
 use Rattle.fkv_flush.specs.GuardSeen.{LastSeen}
-use Rattle.fkv_flush.specs.GuardWorld.{Actor, GuardNow, is_none, may_update}
-use Rattle.fkv_flush.proofs.Shown.{updates, Fits, Follows}
+use Rattle.fkv_flush.specs.GuardWorld.{Actor, GuardNow}
+use Rattle.fkv_flush.proofs.Shown.{updates, Fits}
 use Rattle.fkv_log.specs.Reserving.{reserve_next_ask}
 use Rattle.fkv_index.specs.declared.publishing.Publishing.{Publishing}
 use Rattle.fkv_index.specs.declared.publishing.Publishing.TheVariants as publishing
@@ -23,19 +21,19 @@ use Rattle.fkv_ops.specs.declared.answers.TryAnswer.TheVariants as answer
 use Rattle.fkv_ops.specs.declared.appending.Appending.{Appending}
 use Rattle.fkv_ops.specs.declared.appending.Appending.TheVariants as appending
 use Rattle.fkv_ops.specs.declared.trying.Trying.{Trying}
-use Rattle.fkv_ops.specs.declared.trying.Trying.TheVariants.{Ended, TakesShared, Walks, LoadsSafe, SwapsValue, LoadsCurrent, ChangesValue, LoadsAnswer, TakesExclusive, LoadsOld, Appends, DropsExclusive, DropsShared}
+use Rattle.fkv_ops.specs.declared.trying.Trying.TheVariants.{SwapsValue, ChangesValue, Appends}
 use Rattle.fkv_ops.specs.Appending.{AppendState, append_ask, append_next}
 use Rattle.fkv_ops.specs.Trying.{TryState, trying_ask, try_ask, trying_next, try_next}
 use Rattle.fkv_ops.specs.Values.{value_of, word_of}
 use Rattle.fkv_ops.proofs.Shown.{IsAppendUnderWay, TryRestsOrAsks, append_rests}
 use Rattle.fkv_guard_sessions.specs.Likenesses.{through}
 use Rattle.fkv_guard_sessions.specs.Steps.{outer_events, IsOuter}
-use Rattle.fkv_guard_sessions.specs.Tries.{append_events, publish_events, reserved_events, try_events, try_onward, try_likeness, try_likeness_at, MayChange, AppendOwes, TryOwes}
+use Rattle.fkv_guard_sessions.specs.Tries.{append_events, publish_events, reserved_events, try_events, try_onward, try_likeness, try_likeness_at, AppendWritesOuter, TryWritesOuter}
 use Rattle.fkv_guard_sessions.proofs.Onwards.{IsSessions, Moved}
 use Rattle.fkv_guard_sessions.proofs.Outer.{no_event, loaded_words, outer_step, passed_outer, passed_owes}
 use Rattle.fkv_guard_sessions.proofs.AppendsLed.{truth}
 use Rattle.fkv_guard_sessions.proofs.Appends.{append_step}
-use Rattle.fkv_guard_sessions.proofs.TriesLed.{TryLed, is_appending, append_led, try_free}
+use Rattle.fkv_guard_sessions.proofs.TriesLed.{is_appending, append_led, try_free}
 
 publish_passed : {A B : Type 0} (number : ℕ) (words : List ℕ) (its : Publishing) (ask : Ask A) (told : B) → publish_events number words its (passed ask told) ≡ publish_events number words its ask
 publish_passed number words (publishing.SwapsEntry place word entry) ask told = rw (passed_outer number words ask told) refl
@@ -55,33 +53,17 @@ try_passed number room words p t (ChangesValue addr old) ask told = refl
 try_passed number room words p t (Appends its) ask told = append_passed number room words t.append t.append.step ask told
 try_passed number room words p t step ask told = passed_outer number words ask told
 
-pub append_owes : {A B : Type 0} (p : Places) (step : Appending) (ask : Ask A) (told : B) → AppendOwes p step (passed ask told) ≡ AppendOwes p step ask
+pub append_owes : {A B : Type 0} (p : Places) (step : Appending) (ask : Ask A) (told : B) → AppendWritesOuter p step (passed ask told) ≡ AppendWritesOuter p step ask
 append_owes p (appending.Publishes addr) ask told = passed_owes p ask told
 append_owes p step ask told = refl
 
-pub try_owes : {A B : Type 0} (seen : LastSeen) (p : Places) (words : List ℕ) (t : TryState) (step : Trying) (ask : Ask A) (told : B) → TryOwes seen p words t step (passed ask told) ≡ TryOwes seen p words t step ask
-try_owes seen p words t (SwapsValue addr) ask told = refl
-try_owes seen p words t (ChangesValue addr old) ask told = refl
-try_owes seen p words t (Appends its) ask told = append_owes p t.append.step ask told
-try_owes seen p words t step ask told = passed_owes p ask told
+pub try_owes : {A B : Type 0} (p : Places) (t : TryState) (step : Trying) (ask : Ask A) (told : B) → TryWritesOuter p t step (passed ask told) ≡ TryWritesOuter p t step ask
+try_owes p t (SwapsValue addr) ask told = refl
+try_owes p t (ChangesValue addr old) ask told = refl
+try_owes p t (Appends its) ask told = append_owes p t.append.step ask told
+try_owes p t step ask told = passed_owes p ask told
 
 module _ (n : GuardNow) (a : ℕ) (x : Actor) (seen : LastSeen) (got : slice_get n.actors a ≡ Some x) (session : IsSessions n.places.sessions a true n.words) where
-  may_change : (addr : ℕ) → Fits (through seen) x → MayChange seen n.words addr → may_update n a x addr ≡ true
-  may_change addr fits may =
-      let there : nat_lt a n.places.sessions ≡ true = is_below a n.places.sessions session.below in
-      let some : (own_epoch n.words a == 0) ≡ false = is_some (own_epoch n.words a) (session.epoch refl) in
-      let above : nat_le x.seen.read_only addr ≡ true = subst (λ (s : LastSeen). nat_le s.read_only addr ≡ true) (sym fits.seen) (is_above seen.read_only addr may.0) in
-      rw (there, some, fits.machine, fits.work, above, is_below addr _ may.1) refl
-    where
-      is_below : (b c : ℕ) → b < c → nat_lt b c ≡ true
-      is_below b c h = grind (arith, nat_tests)
-
-      is_above : (b c : ℕ) → b ≤ c → nat_le b c ≡ true
-      is_above b c h = grind (arith, nat_tests)
-
-      is_some : (word : ℕ) → 0 < word → (word == 0) ≡ false
-      is_some word h = grind (arith, nat_tests)
-
   abbrev TryMoved : TryState → Trying → Type 0
   TryMoved t step =
       (let room : ℕ = n.shape.disk_pages * n.shape.page in
@@ -101,32 +83,32 @@ module _ (n : GuardNow) (a : ℕ) (x : Actor) (seen : LastSeen) (got : slice_get
         leads = try_free n.places room seen (record t { effect = None }) step (reply_to n.words (trying_ask n.places t step)) at other;
       }
 
-  swaps : (t : TryState) (addr : Addr) → t.step ≡ SwapsValue addr → Fits (through seen) x → MayChange seen n.words addr.0 → TryMoved t (SwapsValue addr)
+  swaps : (t : TryState) (addr : Addr) → t.step ≡ SwapsValue addr → Fits (through seen) x → TryMoved t (SwapsValue addr)
   unfolding trying_ask
-  swaps t addr at fits owes =
+  swaps t addr at fits =
       let room : ℕ = n.shape.disk_pages * n.shape.page in
       record {
         mid = through seen;
-        moved = record { actor = x; same = updates n a x got addr.0 (word_of (value_applied None t.request.op)) (may_change addr.0 fits owes); fits = fits };
+        moved = record { actor = x; same = updates n a x got addr.0 (word_of (value_applied None t.request.op)); fits = fits };
         leads = try_free n.places room seen (record t { effect = None }) (SwapsValue addr) (word_at n.words (record_place n.places addr.0 rec.Value)) at refl;
       }
 
-  changes_it : (t : TryState) (addr : Addr) (old : ℕ) → t.step ≡ ChangesValue addr old → Fits (through seen) x → MayChange seen n.words addr.0 → TryMoved t (ChangesValue addr old)
+  changes_it : (t : TryState) (addr : Addr) (old : ℕ) → t.step ≡ ChangesValue addr old → Fits (through seen) x → TryMoved t (ChangesValue addr old)
   unfolding trying_ask
-  changes_it t addr old at fits owes =
+  changes_it t addr old at fits =
       let room : ℕ = n.shape.disk_pages * n.shape.page in
       let found : ℕ = word_at n.words (record_place n.places addr.0 rec.Value) in
       let new : ℕ = word_of (value_applied (value_of old) t.request.op) in
       record {
         mid = through seen;
         moved = elim (truth (found == old)) [
-          | inl e ↦ rw e (record { actor = x; same = updates n a x got addr.0 new (may_change addr.0 fits owes); fits = fits })
+          | inl e ↦ rw e (record { actor = x; same = updates n a x got addr.0 new; fits = fits })
           | inr e ↦ rw e (record { actor = x; same = no_event n a x (slice_set n.words (record_place n.places addr.0 rec.Value) found) got (loaded_words n.words (record_place n.places addr.0 rec.Value)); fits = fits })
         ];
         leads = try_free n.places room seen (record t { effect = None }) (ChangesValue addr old) found at refl;
       }
 
-  appends_it : (t : TryState) (its : Reply) → t.step ≡ Appends its → IsAppendUnderWay t.append → AppendOwes n.places t.append.step (append_ask n.places t.append) → Fits (try_likeness_at seen t (Appends its)) x → TryMoved t (Appends its)
+  appends_it : (t : TryState) (its : Reply) → t.step ≡ Appends its → IsAppendUnderWay t.append → AppendWritesOuter n.places t.append.step (append_ask n.places t.append) → Fits (try_likeness_at seen t (Appends its)) x → TryMoved t (Appends its)
   unfolding trying_ask trying_next
   appends_it t its at busy owes fits =
       let room : ℕ = n.shape.disk_pages * n.shape.page in
@@ -140,15 +122,15 @@ module _ (n : GuardNow) (a : ℕ) (x : Actor) (seen : LastSeen) (got : slice_get
         leads = append_led n.places seen inner.mid (record t { effect = None; append = after }) its (append_ask n.places after) at refl (append_rests n.places room t.append reply busy.asks) inner.leads;
       })
 
-  try_moved : (t : TryState) (step : Trying) → t.step ≡ step → TryRestsOrAsks (record t { step = step }) → TryOwes seen n.places n.words t step (trying_ask n.places t step) → Fits (try_likeness_at seen t step) x → TryMoved t step
+  try_moved : (t : TryState) (step : Trying) → t.step ≡ step → TryRestsOrAsks (record t { step = step }) → TryWritesOuter n.places t step (trying_ask n.places t step) → Fits (try_likeness_at seen t step) x → TryMoved t step
   unfolding trying_ask
-  try_moved t (SwapsValue addr) at rests owes fits = swaps t addr at fits owes
-  try_moved t (ChangesValue addr old) at rests owes fits = changes_it t addr old at fits owes
+  try_moved t (SwapsValue addr) at rests owes fits = swaps t addr at fits
+  try_moved t (ChangesValue addr old) at rests owes fits = changes_it t addr old at fits
   try_moved t (Appends its) at rests owes fits = appends_it t its at rests (subst (λ (o : Type 0). o) (append_owes n.places t.append.step (append_ask n.places t.append) answer.Shift) owes) fits
   try_moved t step at rests owes fits = plain t step at refl fits owes
 
 -- A try that is under way.
-pub try_step : (n : GuardNow) (a : ℕ) (x : Actor) (seen : LastSeen) (t : TryState) → slice_get n.actors a ≡ Some x → IsSessions n.places.sessions a true n.words → TryRestsOrAsks t → TryOwes seen n.places n.words t t.step (try_ask n.places t) → Fits (try_likeness seen t) x
+pub try_step : (n : GuardNow) (a : ℕ) (x : Actor) (seen : LastSeen) (t : TryState) → slice_get n.actors a ≡ Some x → IsSessions n.places.sessions a true n.words → TryRestsOrAsks t → TryWritesOuter n.places t t.step (try_ask n.places t) → Fits (try_likeness seen t) x
     → (let room : ℕ = n.shape.disk_pages * n.shape.page in
     let after : TryState = try_next n.places room t (reply_to n.words (try_ask n.places t)) in
     Moved true n a (try_events a room n.words n.places t t.step (try_ask n.places t)) (try_onward after after.step) (try_likeness seen after) (words_after n.words (try_ask n.places t)) n.actions)

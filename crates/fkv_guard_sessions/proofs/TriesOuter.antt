@@ -1,5 +1,5 @@
 -- The words that a try writes beside its records' are none of the guard's: they are latches, links and entries of the index.
-use Rattle.std.proofs.Common.{◌≡◌, ℕ, ◌<◌, List, refl, sym, subst, Bool, true, false}
+use Rattle.std.proofs.Common.{◌≡◌, ℕ, ◌<◌, refl, sym, subst, Bool, true, false}
 use Rattle.std.specs.Prelude.{if◌then◌else◌, ◌==◌, ◌&&◌, not, nat_le, ⊤, Option, Some, None}
 use Rattle.fkv_base.specs.declared.numbers.Addr.{Addr}
 use Rattle.fkv_base.specs.declared.numbers.Version.{Version}
@@ -10,7 +10,6 @@ use Rattle.fkv_plane.specs.declared.asks.Ask.{Ask}
 use Rattle.fkv_plane.specs.declared.asks.Ask.TheVariants.{Done}
 use Rattle.fkv_plane.specs.declared.places.Places.{Places}
 use Rattle.fkv_plane.specs.Passing.{passed}
-use Rattle.fkv_flush.specs.GuardSeen.{LastSeen}
 use Rattle.fkv_flush.specs.GuardWorld.{is_guarded}
 use Rattle.fkv_index.specs.declared.finding.Linking.TheVariants.{Never}
 use Rattle.fkv_index.specs.Finding.{linking_for}
@@ -44,7 +43,7 @@ use Rattle.fkv_ops.specs.Walking.{WalkState, walk_ask, walk_next, walk_on}
 use Rattle.fkv_ops.specs.Appending.{append_ask, append_next}
 use Rattle.fkv_ops.specs.Trying.{TryState, trying_ask, with_latch, is_wait, ended_without, ends, takes_effect, walks, wants_shared, try_begun, shared_ledto, must_shift, wants_exclusive, slot_of, words_of, appends, copies_from, copies, awaits, held_used, met_nowhere, met_disk, changes, is_own_version, region_met, met_record, walked, has_walked, walk_ledto, safe_loaded, current_ledto, value_changed, told_value, answer_ledto, exclusive_ledto, old_ledto, append_ledto, exclusive_dropped, shared_dropped, latch_moved, trying_next, try_next}
 use Rattle.fkv_guard_sessions.specs.Steps.{IsOuter}
-use Rattle.fkv_guard_sessions.specs.Tries.{MayChange, TryOwes}
+use Rattle.fkv_guard_sessions.specs.Tries.{TryWritesOuter}
 use Rattle.fkv_guard_sessions.proofs.OuterAsks.{passed_is_outer, IsLatchOuter, latch_outer, latch_next_outer, latch_first_outer}
 use Rattle.fkv_guard_sessions.proofs.WalksOuter.{IsWalkOuter, AnswerOuter, WalkTells, walk_outer, walk_tells, walk_next_outer, walk_on_outer, walk_begun_outer}
 use Rattle.fkv_guard_sessions.proofs.AppendsOuter.{IsAppendOuter, append_owes, append_next_outer, append_begun_outer}
@@ -75,31 +74,25 @@ pub record IsTryOuter (p : Places) (t : TryState) : Type 0 where
   pub low : t.home.bucket < p.buckets
   pub row : TryRow p t t.step
 
--- a value is changed in place where it may be
-abbrev pub TryMayChange : LastSeen → List ℕ → Trying → Type 0
-TryMayChange seen words (SwapsValue addr) = MayChange seen words addr.0
-TryMayChange seen words (ChangesValue addr old) = MayChange seen words addr.0
-TryMayChange seen words step = ⊤
-
 -- what a try owes, as its ask is passed on
 twice_outer : {A B C : Type 0} (p : Places) (ask : Ask A) (x : B) (y : C) → IsOuter p ask → IsOuter p (passed (passed ask x) y)
 twice_outer p ask x y outer = passed_is_outer p (passed ask x) y (passed_is_outer p ask x outer)
 
-pub try_owes : {A B : Type 0} (seen : LastSeen) (p : Places) (words : List ℕ) (t : TryState) (step : Trying) (x : A) (y : B) → TryRow p t step → TryMayChange seen words step → TryOwes seen p words t step (passed (passed (trying_ask p t step) x) y)
+pub try_owes : {A B : Type 0} (p : Places) (t : TryState) (step : Trying) (x : A) (y : B) → TryRow p t step → TryWritesOuter p t step (passed (passed (trying_ask p t step) x) y)
 unfolding trying_ask passed
-try_owes seen p words t (Ended its) x y row may = tt
-try_owes seen p words t TakesShared x y row may = twice_outer p _ x y (passed_is_outer p _ answer.Shift (latch_outer p t.latching row))
-try_owes seen p words t Walks x y row may = twice_outer p _ x y (passed_is_outer p _ answer.Shift (walk_outer p (is_read t.request.op) t.walk row))
-try_owes seen p words t (LoadsSafe addr version) x y row may = tt
-try_owes seen p words t (SwapsValue addr) x y row may = may
-try_owes seen p words t (LoadsCurrent addr) x y row may = twice_outer p _ x y (passed_is_outer p _ answer.Shift (walk_outer p false t.walk row))
-try_owes seen p words t (ChangesValue addr old) x y row may = may
-try_owes seen p words t LoadsAnswer x y row may = twice_outer p _ x y (passed_is_outer p _ answer.Shift (walk_outer p (is_read t.request.op) t.walk row))
-try_owes seen p words t (TakesExclusive old) x y row may = twice_outer p _ x y (passed_is_outer p _ answer.Shift (latch_outer p t.latching row.0))
-try_owes seen p words t LoadsOld x y row may = twice_outer p _ x y (passed_is_outer p _ answer.Shift (walk_outer p false t.walk row))
-try_owes seen p words t (Appends its) x y row may = append_owes p t.append t.append.step answer.Shift x y row.publishes
-try_owes seen p words t (DropsExclusive its) x y row may = twice_outer p _ x y (passed_is_outer p _ its (latch_outer p t.latching row))
-try_owes seen p words t (DropsShared its) x y row may = twice_outer p _ x y (passed_is_outer p _ its (latch_outer p t.latching row))
+try_owes p t (Ended its) x y row = tt
+try_owes p t TakesShared x y row = twice_outer p _ x y (passed_is_outer p _ answer.Shift (latch_outer p t.latching row))
+try_owes p t Walks x y row = twice_outer p _ x y (passed_is_outer p _ answer.Shift (walk_outer p (is_read t.request.op) t.walk row))
+try_owes p t (LoadsSafe addr version) x y row = tt
+try_owes p t (SwapsValue addr) x y row = tt
+try_owes p t (LoadsCurrent addr) x y row = twice_outer p _ x y (passed_is_outer p _ answer.Shift (walk_outer p false t.walk row))
+try_owes p t (ChangesValue addr old) x y row = tt
+try_owes p t LoadsAnswer x y row = twice_outer p _ x y (passed_is_outer p _ answer.Shift (walk_outer p (is_read t.request.op) t.walk row))
+try_owes p t (TakesExclusive old) x y row = twice_outer p _ x y (passed_is_outer p _ answer.Shift (latch_outer p t.latching row.0))
+try_owes p t LoadsOld x y row = twice_outer p _ x y (passed_is_outer p _ answer.Shift (walk_outer p false t.walk row))
+try_owes p t (Appends its) x y row = append_owes p t.append t.append.step answer.Shift x y row.publishes
+try_owes p t (DropsExclusive its) x y row = twice_outer p _ x y (passed_is_outer p _ its (latch_outer p t.latching row))
+try_owes p t (DropsShared its) x y row = twice_outer p _ x y (passed_is_outer p _ its (latch_outer p t.latching row))
 
 -- where a reply leads
 either_outer : (c : Bool) (p : Places) (a b : TryState) → IsTryOuter p a → IsTryOuter p b → IsTryOuter p (if c then a else b)

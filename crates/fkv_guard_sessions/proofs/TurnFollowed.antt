@@ -1,10 +1,9 @@
 -- One step of a session's own turn: the guard's events, where they lead with the action that goes with the step, and what is known then.
-use Rattle.std.proofs.Common.{◌≡◌, ◌≢◌, ℕ, ◌<◌, ◌∙◌, List, [], ◌∷◌, ◌++◌, refl, sym, ap, subst, arith, Bool, true, false}
-use Rattle.std.specs.Prelude.{⊤, Option, Some, None, slice_get, slice_set}
-use Rattle.fkv_base.specs.declared.shapes.Shape.{Shape}
+use Rattle.std.proofs.Common.{◌≡◌, ◌≢◌, ℕ, ◌<◌, List, [], ◌∷◌, ◌++◌, refl, sym, ap, subst, arith, true, false}
+use Rattle.std.specs.Prelude.{Option, Some, None, slice_get}
 use Rattle.fkv_plane.specs.declared.actions.Action.{Action}
 use Rattle.fkv_plane.specs.declared.asks.Ask.{Ask}
-use Rattle.fkv_plane.specs.declared.asks.Ask.TheVariants.{Load, Store, Swap, Cas, Add, Max, Put, Take, Done}
+use Rattle.fkv_plane.specs.declared.asks.Ask.TheVariants.{Load, Cas, Max, Put, Take, Done}
 use Rattle.fkv_plane.specs.declared.places.SessionWord.TheVariants as own
 use Rattle.fkv_plane.specs.Places.{session_place}
 use Rattle.fkv_plane.specs.Plane.{action_at}
@@ -19,10 +18,9 @@ use Rattle.fkv_flush.proofs.Shown.{IsSound, Knows, Awake, MoveKnows, ShiftKnows,
 use Rattle.fkv_session.specs.declared.answers.Told.{Told}
 use Rattle.fkv_session.specs.declared.own_turns.OwnTurning.{OwnTurning}
 use Rattle.fkv_session.specs.declared.own_turns.OwnTurning.TheVariants.{Ended, Scans, Claims, Shifts, Opens}
-use Rattle.fkv_session.specs.declared.sessions.Sitting.{Sitting}
-use Rattle.fkv_session.specs.declared.sessions.Sitting.TheVariants.{Idle, Turns}
-use Rattle.fkv_session.specs.OwnTurns.{OwnTurnState, own_turning_ask, own_turn_ask, own_turn_next, own_turning_next}
-use Rattle.fkv_session.specs.Sessions.{SessionState, Seat, turn_ledto, own_turn_moved, sitting_ask, sitting_next, session_ask, session_next, sitting_given, session_given, asks_after, is_word_ask}
+use Rattle.fkv_session.specs.declared.sessions.Sitting.TheVariants.{Turns}
+use Rattle.fkv_session.specs.OwnTurns.{OwnTurnState, own_turning_ask, own_turn_ask, own_turn_next}
+use Rattle.fkv_session.specs.Sessions.{SessionState, Seat, turn_ledto, sitting_ask, sitting_next, session_ask, session_next, sitting_given, asks_after, is_word_ask}
 use Rattle.fkv_epoch.specs.Scanning.{scan_ask}
 use Rattle.fkv_epoch.specs.Claiming.{claim_ask, claim_next}
 use Rattle.fkv_log.specs.Shifting.{shift_ask, shifting_ask}
@@ -53,8 +51,8 @@ use Rattle.fkv_log.specs.Moving.{Mover, offset_place, moving_ask, move_ask}
 use Rattle.fkv_log.specs.Turning.{turning_ask, limit_after}
 use Rattle.fkv_guard_sessions.specs.Steps.{onward_events}
 use Rattle.fkv_guard_sessions.specs.Followed.{TurnsFollow}
-use Rattle.fkv_guard_sessions.specs.Likenesses.{last_seen, through}
-use Rattle.fkv_guard_sessions.specs.OwnTurns.{own_turn_onward, own_turn_likeness, own_turn_likeness_at, turn_gets, turn_settled, actions_settled}
+use Rattle.fkv_guard_sessions.specs.Likenesses.{last_seen}
+use Rattle.fkv_guard_sessions.specs.OwnTurns.{own_turn_likeness, own_turn_likeness_at, turn_gets, turn_settled, actions_settled}
 use Rattle.fkv_guard_sessions.specs.Sessions.{sitting_events, sitting_onward, sitting_likeness, session_likeness, is_protected_at, session_gets, session_settled}
 use Rattle.fkv_guard_sessions.proofs.Onwards.{Keeps, goes_onward}
 use Rattle.fkv_guard_sessions.proofs.Epochs.{machine_keeps, ask_keeps}

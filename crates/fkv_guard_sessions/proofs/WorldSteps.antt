@@ -17,7 +17,7 @@ use Rattle.fkv_world.specs.Moves as world
 use Rattle.fkv_world.specs.Moves.{Near, session_replied, session_asks, session_moved}
 use Rattle.fkv_guard_sessions.specs.Followed.{Sits, SessionFollows, seat_in, is_turning}
 use Rattle.fkv_guard_sessions.specs.OwnTurns.{actions_settled}
-use Rattle.fkv_guard_sessions.specs.Sessions.{SessionOwes, session_guard_events, session_likeness, session_settled, sitting_events, sitting_onward}
+use Rattle.fkv_guard_sessions.specs.Sessions.{SessionWritesOuter, session_guard_events, session_likeness, session_settled, sitting_events, sitting_onward}
 use Rattle.fkv_guard_sessions.specs.Steps.{onward_events}
 use Rattle.fkv_guard_sessions.specs.WorldSteps.{MovesFollow, beside}
 use Rattle.fkv_guard_sessions.proofs.Followed.{session_follows}
@@ -73,7 +73,7 @@ Whole w number s =
     SessionFollows w.now number (onward_events number (sitting_onward after after.step) ++ sitting_events k w.now.words s s.step (session_ask k s)) after (words_after w.now.words (session_ask k s)) (actions_settled w.now.actions (session_ask k (First w number s))))
 
 -- a step of a session that doesn't turn settles nothing
-whole_step : (w : GuardWorld) (number : ℕ) (x : Actor) (s : SessionState) → Sits w number x s → is_turning s.step ≡ false → SessionOwes (seat_in w.now number) w.now.words s → Whole w number s
+whole_step : (w : GuardWorld) (number : ℕ) (x : Actor) (s : SessionState) → Sits w number x s → is_turning s.step ≡ false → SessionWritesOuter (seat_in w.now number) s → Whole w number s
 whole_step w number x s sits other owes =
     let k : Seat = seat_in w.now number in
     let first : SessionState = First w number s in
@@ -82,7 +82,7 @@ whole_step w number x s sits other owes =
     subst (λ (actions : List (Option Action)). SessionFollows w.now number (onward_events number (sitting_onward (Final w number s) (Final w number s).step) ++ sitting_events k w.now.words s s.step (session_ask k s)) (Final w number s) (words_after w.now.words (session_ask k s)) actions) (sym (actions_so w.now.actions (session_ask k first) none))
     (subst (λ (after : SessionState). SessionFollows w.now number (onward_events number (sitting_onward after after.step) ++ sitting_events k w.now.words s s.step (session_ask k s)) after (words_after w.now.words (session_ask k s)) w.now.actions) (sym (stays_so k w.now.actions first (session_ask k first) none)) f)
 
-whole : (w : GuardWorld) (number : ℕ) (x : Actor) (s : SessionState) (step : Sitting) → s.step ≡ step → Sits w number x s → is_done (session_ask (seat_in w.now number) s) ≡ false → SessionOwes (seat_in w.now number) w.now.words s → Whole w number s
+whole : (w : GuardWorld) (number : ℕ) (x : Actor) (s : SessionState) (step : Sitting) → s.step ≡ step → Sits w number x s → is_done (session_ask (seat_in w.now number) s) ≡ false → SessionWritesOuter (seat_in w.now number) s → Whole w number s
 whole w number x s (Turns its) at sits asks owes = turn_follows w number x s its sits at asks
 whole w number x s step at sits asks owes = whole_step w number x s sits (ap is_turning at) owes
 

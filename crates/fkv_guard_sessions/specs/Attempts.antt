@@ -10,7 +10,7 @@ use Rattle.fkv_pending.specs.declared.attempting.Attempting.TheVariants.{Tries}
 use Rattle.fkv_pending.specs.Attempting.{AttemptState}
 use Rattle.fkv_guard_sessions.specs.Likenesses.{through}
 use Rattle.fkv_guard_sessions.specs.Steps.{Onward, Stays, outer_events}
-use Rattle.fkv_guard_sessions.specs.Tries.{try_events, try_onward, try_likeness_at, TryOwes}
+use Rattle.fkv_guard_sessions.specs.Tries.{try_events, try_onward, try_likeness_at, TryWritesOuter}
 
 abbrev pub attempt_events : {A : Type 0} → ℕ → ℕ → List ℕ → Places → AttemptState → Attempting → Ask A → List GuardEvent
 attempt_events number room words p a Tries ask = try_events number room words p a.trial a.trial.step ask
@@ -27,7 +27,7 @@ attempt_likeness_at seen a step = through seen
 abbrev pub attempt_likeness : LastSeen → AttemptState → Likeness
 attempt_likeness seen a = attempt_likeness_at seen a a.step
 
--- What it owes: its mailbox is the session's own.
-abbrev pub AttemptOwes : {A : Type 0} → LastSeen → Places → List ℕ → AttemptState → Attempting → Ask A → Type 0
-AttemptOwes seen p words a Tries ask = TryOwes seen p words a.trial a.trial.step ask
-AttemptOwes seen p words a step ask = ⊤
+-- So it is with an attempt: its mailbox is the session's own.
+abbrev pub AttemptWritesOuter : {A : Type 0} → Places → AttemptState → Attempting → Ask A → Type 0
+AttemptWritesOuter p a Tries ask = TryWritesOuter p a.trial a.trial.step ask
+AttemptWritesOuter p a step ask = ⊤

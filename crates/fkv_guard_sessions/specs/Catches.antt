@@ -1,6 +1,6 @@
 -- What a step of catching up is to the guard: the session refreshes or protects itself, and else stores words and takes latches that are none
 -- of the guard's.
-use Rattle.std.specs.Prelude.{⊤, ℕ, if◌then◌else◌, Bool, List, [], ◌∷◌, Option, Some, None}
+use Rattle.std.specs.Prelude.{⊤, ℕ, if◌then◌else◌, List, [], ◌∷◌, Option, Some, None}
 use Rattle.fkv_plane.specs.declared.asks.Ask.{Ask}
 use Rattle.fkv_plane.specs.declared.places.Places.{Places}
 use Rattle.fkv_epoch.specs.declared.protecting.Protecting.{Protecting}
@@ -74,7 +74,7 @@ catch_onward c Protects = protect_onward c.protecting
 catch_onward c Finishes = finish_onward c.refreshing
 catch_onward c step = Stays
 
--- What it owes, of a latch: the other words are the session's own.
-abbrev pub CatchOwes : {A : Type 0} → Places → Catching → Ask A → Type 0
-CatchOwes p (Latches index) ask = IsOuter p ask
-CatchOwes p step ask = ⊤
+-- The word of a latch that it writes is none of the guard's; the other words are the session's own.
+abbrev pub CatchWritesOuter : {A : Type 0} → Places → Catching → Ask A → Type 0
+CatchWritesOuter p (Latches index) ask = IsOuter p ask
+CatchWritesOuter p step ask = ⊤

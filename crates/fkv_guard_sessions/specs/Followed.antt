@@ -14,7 +14,7 @@ use Rattle.fkv_session.specs.Sessions.{SessionState, Seat, is_busy, session_ask,
 use Rattle.fkv_guard_sessions.specs.Steps.{onward_events}
 use Rattle.fkv_guard_sessions.specs.OwnTurns.{actions_settled}
 use Rattle.fkv_guard_sessions.specs.Rows.{SittingKnows}
-use Rattle.fkv_guard_sessions.specs.Sessions.{sitting_events, sitting_onward, session_likeness, session_settled, called_guard_events, is_protected_at, SessionOwes}
+use Rattle.fkv_guard_sessions.specs.Sessions.{sitting_events, sitting_onward, session_likeness, session_settled, called_guard_events, is_protected_at, SessionWritesOuter}
 
 -- the seat of the session of a number in the guard's world
 abbrev pub seat_in : GuardNow → ℕ → Seat
@@ -47,7 +47,7 @@ pub record Sits (w : GuardWorld) (number : ℕ) (x : Actor) (s : SessionState) :
 
 -- a step of a session that doesn't turn
 abbrev pub StepsFollow : Type 0
-StepsFollow = (w : GuardWorld) (number : ℕ) (x : Actor) (s : SessionState) → Sits w number x s → is_turning s.step ≡ false → SessionOwes (seat_in w.now number) w.now.words s
+StepsFollow = (w : GuardWorld) (number : ℕ) (x : Actor) (s : SessionState) → Sits w number x s → is_turning s.step ≡ false → SessionWritesOuter (seat_in w.now number) s
     → (let k : Seat = seat_in w.now number in
     let after : SessionState = session_next k s (reply_to w.now.words (session_ask k s)) in
     SessionFollows w.now number (onward_events number (sitting_onward after after.step) ++ sitting_events k w.now.words s s.step (session_ask k s)) after (words_after w.now.words (session_ask k s)) w.now.actions)

@@ -1,5 +1,5 @@
 -- What the guard's actor is like while a record is appended, by how far that has come.
-use Rattle.std.specs.Prelude.{ℕ, Bool, true, false, Option, Some, None}
+use Rattle.std.specs.Prelude.{ℕ, Option, Some, None}
 use Rattle.fkv_log.specs.declared.reserving.Reserving.{Reserving}
 use Rattle.fkv_log.specs.declared.reserving.Reserving.TheVariants as reserving
 use Rattle.fkv_log.specs.declared.filling.Filling.{Filling}
@@ -8,7 +8,7 @@ use Rattle.fkv_log.specs.declared.invalidating.Invalidating.{Invalidating}
 use Rattle.fkv_log.specs.declared.invalidating.Invalidating.TheVariants as invalidating
 use Rattle.fkv_epoch.specs.EpochWorld.{EpochMachine}
 use Rattle.fkv_ops.specs.declared.appending.Appending.{Appending}
-use Rattle.fkv_ops.specs.declared.appending.Appending.TheVariants.{Ended, Reserves, Fills, Publishes, Invalidates}
+use Rattle.fkv_ops.specs.declared.appending.Appending.TheVariants.{Reserves, Fills, Publishes, Invalidates}
 use Rattle.fkv_ops.specs.declared.requests.Seen.{Seen}
 use Rattle.fkv_ops.specs.Appending.{AppendState}
 use Rattle.fkv_flush.specs.GuardSeen.{LastSeen}

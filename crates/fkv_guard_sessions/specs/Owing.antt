@@ -1,8 +1,10 @@
--- What a session changes in place, and what is left of what its steps owe.
+-- What a session changes in place, and what its steps owe.
 use Rattle.std.specs.Prelude.{◌≡◌, ◌<◌, ◌≤◌, ℕ, List, Option, Some, None}
 use Rattle.fkv_plane.specs.declared.places.SharedWord.TheVariants as one
 use Rattle.fkv_plane.specs.Places.{shared_place}
 use Rattle.fkv_plane.specs.Asked.{word_at}
+use Rattle.fkv_flush.specs.Guarded.{AreFairEvents}
+use Rattle.fkv_flush.specs.GuardWorld.{Actor, GuardWorld}
 use Rattle.fkv_ops.specs.declared.trying.Trying.{Trying}
 use Rattle.fkv_ops.specs.declared.trying.Trying.TheVariants.{SwapsValue, ChangesValue}
 use Rattle.fkv_pending.specs.declared.attempting.Attempting.{Attempting}
@@ -13,7 +15,10 @@ use Rattle.fkv_session.specs.declared.sessions.Sitting.TheVariants.{Attempts, Po
 use Rattle.fkv_session.specs.SessionRun.{SessionEvent, session_run}
 use Rattle.fkv_session.specs.Sessions.{SessionState, Seat, IsOpened}
 use Rattle.fkv_session.specs.Shares.{HasItsBuckets}
-use Rattle.fkv_guard_sessions.specs.Sessions.{SessionOwes}
+use Rattle.fkv_guard_sessions.specs.Followed.{Sits, seat_in}
+use Rattle.fkv_guard_sessions.specs.Likenesses.{last_seen}
+use Rattle.fkv_guard_sessions.specs.Sessions.{SessionWritesOuter, session_guard_events}
+use Rattle.fkv_guard_sessions.specs.Tries.{MayChange}
 
 -- the address of the record whose value the next step changes in place
 abbrev pub try_changes : Trying → Option ℕ
@@ -41,11 +46,24 @@ IsAboveReadOnly s = (addr : ℕ) → changed_in_place s ≡ Some addr → s.seen
 abbrev pub IsBelowTail : List ℕ → SessionState → Type 0
 IsBelowTail words s = (addr : ℕ) → changed_in_place s ≡ Some addr → addr < word_at words (shared_place one.Tail)
 
+-- What a step owes: what it changes in place it may change.
+abbrev pub SessionOwes : List ℕ → SessionState → Type 0
+SessionOwes words s = (addr : ℕ) → changed_in_place s ≡ Some addr → MayChange (last_seen s.seen) words addr
+
+-- Then each of the guard's events that the step is, is fair.
+abbrev pub MovesAreFair : Type 0
+MovesAreFair = (w : GuardWorld) (number : ℕ) (x : Actor) (s after : SessionState) → Sits w number x s → SessionOwes w.now.words s
+    → AreFairEvents w (session_guard_events (seat_in w.now number) w.now.words s after)
+
 -- at every moment of a session's run
 abbrev pub ChangesAreAbove : Type 0
 ChangesAreAbove = (seat : Seat) (opening : SessionState) (events : List SessionEvent) → IsOpened opening → IsAboveReadOnly (session_run seat opening events)
 
 -- all that a step owes comes down to that its change in place stands below the tail
 abbrev pub RunsOwe : Type 0
-RunsOwe = (seat : Seat) (opening : SessionState) (events : List SessionEvent) (words : List ℕ) → IsOpened opening → HasItsBuckets seat
-    → IsBelowTail words (session_run seat opening events) → SessionOwes seat words (session_run seat opening events)
+RunsOwe = (seat : Seat) (opening : SessionState) (events : List SessionEvent) (words : List ℕ) → IsOpened opening
+    → IsBelowTail words (session_run seat opening events) → SessionOwes words (session_run seat opening events)
+
+-- and the words of latches and of the index that its steps write are none of the guard's
+abbrev pub RunsWriteOuter : Type 0
+RunsWriteOuter = (seat : Seat) (opening : SessionState) (events : List SessionEvent) → IsOpened opening → HasItsBuckets seat → SessionWritesOuter seat (session_run seat opening events)

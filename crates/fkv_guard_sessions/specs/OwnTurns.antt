@@ -1,9 +1,9 @@
 -- What the guard's actor is like in a session's own turn. What the machine of the epochs inside a shift is at is what the move inside has come to.
-use Rattle.std.specs.Prelude.{ℕ, ◌==◌, if◌then◌else◌, List, slice_set, Option, Some, None}
+use Rattle.std.specs.Prelude.{◌==◌, if◌then◌else◌, List, slice_set, Option, Some, None}
 use Rattle.fkv_base.specs.declared.shapes.Shape.{Shape}
 use Rattle.fkv_plane.specs.declared.actions.Action.{Action}
 use Rattle.fkv_plane.specs.declared.asks.Ask.{Ask}
-use Rattle.fkv_plane.specs.declared.asks.Ask.TheVariants.{Put, Take, Done}
+use Rattle.fkv_plane.specs.declared.asks.Ask.TheVariants.{Put, Take}
 use Rattle.fkv_plane.specs.Plane.{action_at}
 use Rattle.fkv_epoch.specs.declared.scanning.Scanning.{Scanning}
 use Rattle.fkv_epoch.specs.declared.scanning.Scanning.TheVariants as scan

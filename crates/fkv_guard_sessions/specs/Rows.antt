@@ -1,5 +1,5 @@
 -- What is known of a session beside the guard, by its control state.
-use Rattle.std.specs.Prelude.{◌≡◌, ⊤, ℕ, Bool, true, false}
+use Rattle.std.specs.Prelude.{◌≡◌, ⊤, ℕ, true, false}
 use Rattle.fkv_plane.specs.Passing.{is_done}
 use Rattle.fkv_epoch.specs.declared.leaving.Leaving.TheVariants.{StoresZero}
 use Rattle.fkv_epoch.specs.declared.protecting.Protecting.{Protecting}
@@ -20,7 +20,7 @@ use Rattle.fkv_log.specs.declared.turning.Turning.{Turning}
 use Rattle.fkv_log.specs.declared.turning.Turning.TheVariants as turn
 use Rattle.fkv_pending.proofs.Shown.{AttemptRestsOrAsks}
 use Rattle.fkv_session.specs.declared.catching_up.Catching.{Catching}
-use Rattle.fkv_session.specs.declared.catching_up.Catching.TheVariants.{Ended, Refreshes, Protects, StoresCut, StoresOwing, Latches, Finishes}
+use Rattle.fkv_session.specs.declared.catching_up.Catching.TheVariants.{Ended, Refreshes, Protects, Latches, Finishes}
 use Rattle.fkv_session.specs.declared.own_turns.OwnTurning.{OwnTurning}
 use Rattle.fkv_session.specs.declared.own_turns.OwnTurning.TheVariants as turning
 use Rattle.fkv_session.specs.declared.sessions.Sitting.{Sitting}

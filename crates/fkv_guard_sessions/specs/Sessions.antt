@@ -1,5 +1,5 @@
 -- What a session's step is to the guard, and what the guard has for a session, by its control state.
-use Rattle.std.specs.Prelude.{⊤, ℕ, ◌*◌, if◌then◌else◌, Bool, true, false, List, [], ◌∷◌, ◌++◌, Option, Some, None}
+use Rattle.std.specs.Prelude.{⊤, ℕ, if◌then◌else◌, Bool, true, false, List, [], ◌∷◌, ◌++◌, Option, Some, None}
 use Rattle.fkv_plane.specs.declared.actions.Action.{Action}
 use Rattle.fkv_plane.specs.declared.asks.Ask.{Ask}
 use Rattle.fkv_plane.specs.declared.asks.Ask.TheVariants.{Put, Take}
@@ -19,8 +19,8 @@ use Rattle.fkv_session.specs.declared.sessions.Sitting.TheVariants.{Idle, Attemp
 use Rattle.fkv_session.specs.Sessions.{SessionState, Seat, room_of, session_ask, session_next, session_given}
 use Rattle.fkv_guard_sessions.specs.Likenesses.{likeness, last_seen, through}
 use Rattle.fkv_guard_sessions.specs.Steps.{Onward, Stays, Starts, onward_events, outer_events}
-use Rattle.fkv_guard_sessions.specs.Attempts.{attempt_events, attempt_onward, attempt_likeness, AttemptOwes}
-use Rattle.fkv_guard_sessions.specs.Catches.{catch_events, catch_onward, catch_likeness, CatchOwes}
+use Rattle.fkv_guard_sessions.specs.Attempts.{attempt_events, attempt_onward, attempt_likeness, AttemptWritesOuter}
+use Rattle.fkv_guard_sessions.specs.Catches.{catch_events, catch_onward, catch_likeness, CatchWritesOuter}
 use Rattle.fkv_guard_sessions.specs.OwnTurns.{own_turn_onward, own_turn_likeness}
 
 -- what the session does: it refreshes, leaves or turns as its machines do, and else what its attempt does, or a word of its own
@@ -91,12 +91,12 @@ is_protected_at s LoadsDurable = s.is_awake
 is_protected_at s (CatchesUp cause) = is_protected_catching s.catching.step
 is_protected_at s step = true
 
--- what a step owes
-abbrev pub SittingOwes : {A : Type 0} → Seat → List ℕ → SessionState → Sitting → Ask A → Type 0
-SittingOwes k words s (Attempts has_shifted) ask = AttemptOwes (last_seen s.seen) k.places words s.attempt s.attempt.step ask
-SittingOwes k words s (Polls index) ask = AttemptOwes (last_seen s.seen) k.places words s.attempt s.attempt.step ask
-SittingOwes k words s (CatchesUp cause) ask = CatchOwes k.places s.catching.step ask
-SittingOwes k words s step ask = ⊤
+-- the words of latches and of the index that a step writes are none of the guard's
+abbrev pub SittingWritesOuter : {A : Type 0} → Seat → SessionState → Sitting → Ask A → Type 0
+SittingWritesOuter k s (Attempts has_shifted) ask = AttemptWritesOuter k.places s.attempt s.attempt.step ask
+SittingWritesOuter k s (Polls index) ask = AttemptWritesOuter k.places s.attempt s.attempt.step ask
+SittingWritesOuter k s (CatchesUp cause) ask = CatchWritesOuter k.places s.catching.step ask
+SittingWritesOuter k s step ask = ⊤
 
-abbrev pub SessionOwes : Seat → List ℕ → SessionState → Type 0
-SessionOwes k words s = SittingOwes k words s s.step (session_ask k s)
+abbrev pub SessionWritesOuter : Seat → SessionState → Type 0
+SessionWritesOuter k s = SittingWritesOuter k s s.step (session_ask k s)

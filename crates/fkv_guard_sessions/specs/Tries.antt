@@ -1,5 +1,5 @@
 -- What a step of a try, and of the append inside it, is to the guard.
-use Rattle.std.specs.Prelude.{◌≡◌, ◌<◌, ◌≤◌, ⊤, ℕ, ◌^◌, ◌==◌, ◌&&◌, nat_lt, if◌then◌else◌, Bool, true, false, List, [], ◌∷◌, Option, Some, None}
+use Rattle.std.specs.Prelude.{◌<◌, ◌≤◌, ⊤, ℕ, ◌^◌, ◌==◌, ◌&&◌, nat_lt, if◌then◌else◌, Bool, List, [], ◌∷◌, None}
 use Rattle.fkv_base.specs.declared.numbers.Addr.{Addr}
 use Rattle.fkv_map.specs.Keys.{value_applied}
 use Rattle.fkv_plane.specs.declared.asks.Ask.{Ask}
@@ -21,9 +21,9 @@ use Rattle.fkv_flush.proofs.Shown.{Likeness}
 use Rattle.fkv_ops.specs.declared.appending.Appending.{Appending}
 use Rattle.fkv_ops.specs.declared.appending.Appending.TheVariants as appending
 use Rattle.fkv_ops.specs.declared.trying.Trying.{Trying}
-use Rattle.fkv_ops.specs.declared.trying.Trying.TheVariants.{SwapsValue, LoadsCurrent, ChangesValue, Appends}
+use Rattle.fkv_ops.specs.declared.trying.Trying.TheVariants.{SwapsValue, ChangesValue, Appends}
 use Rattle.fkv_ops.specs.Appending.{AppendState}
-use Rattle.fkv_ops.specs.Trying.{TryState, try_ask}
+use Rattle.fkv_ops.specs.Trying.{TryState}
 use Rattle.fkv_ops.specs.Values.{value_of, word_of}
 use Rattle.fkv_guard_sessions.specs.Likenesses.{likeness, through, append_work, append_undecided, append_onward}
 use Rattle.fkv_guard_sessions.specs.Steps.{Onward, Stays, outer_events, IsOuter}
@@ -71,17 +71,17 @@ try_likeness_at seen t step = through seen
 abbrev pub try_likeness : LastSeen → TryState → Likeness
 try_likeness seen t = try_likeness_at seen t t.step
 
--- What a step of a try owes. A value is changed in place only in a record that is reserved, at or above the read-only offset that its session has
--- seen; and every word that it writes beside its record's is none of the guard's.
+-- Where a session may change a value in place: in a record that is reserved, at or above the read-only offset that it has seen.
 abbrev pub MayChange : LastSeen → List ℕ → ℕ → Type 0
 MayChange seen words addr = (seen.read_only ≤ addr) × (addr < word_at words (shared_place one.Tail))
 
-abbrev pub AppendOwes : {A : Type 0} → Places → Appending → Ask A → Type 0
-AppendOwes p (appending.Publishes addr) ask = IsOuter p ask
-AppendOwes p step ask = ⊤
+-- Every word that a step of a try writes beside its record's is none of the guard's.
+abbrev pub AppendWritesOuter : {A : Type 0} → Places → Appending → Ask A → Type 0
+AppendWritesOuter p (appending.Publishes addr) ask = IsOuter p ask
+AppendWritesOuter p step ask = ⊤
 
-abbrev pub TryOwes : {A : Type 0} → LastSeen → Places → List ℕ → TryState → Trying → Ask A → Type 0
-TryOwes seen p words t (SwapsValue addr) ask = MayChange seen words addr.0
-TryOwes seen p words t (ChangesValue addr old) ask = MayChange seen words addr.0
-TryOwes seen p words t (Appends its) ask = AppendOwes p t.append.step ask
-TryOwes seen p words t step ask = IsOuter p ask
+abbrev pub TryWritesOuter : {A : Type 0} → Places → TryState → Trying → Ask A → Type 0
+TryWritesOuter p t (SwapsValue addr) ask = ⊤
+TryWritesOuter p t (ChangesValue addr old) ask = ⊤
+TryWritesOuter p t (Appends its) ask = AppendWritesOuter p t.append.step ask
+TryWritesOuter p t step ask = IsOuter p ask

@@ -5,7 +5,7 @@ use Rattle.fkv_flush.specs.GuardWorld.{Actor, GuardNow, GuardWorld}
 use Rattle.fkv_session.specs.Sessions.{SessionState, Seat, is_busy}
 use Rattle.fkv_world.specs.Moves.{Near, session_moved}
 use Rattle.fkv_guard_sessions.specs.Followed.{Sits, SessionFollows, seat_in}
-use Rattle.fkv_guard_sessions.specs.Sessions.{SessionOwes, session_guard_events}
+use Rattle.fkv_guard_sessions.specs.Sessions.{SessionWritesOuter, session_guard_events}
 
 -- a session beside the guard's words and actions
 abbrev pub beside : GuardNow → SessionState → Near SessionState
@@ -13,6 +13,6 @@ beside n s = record { machine = s; words = n.words; actions = n.actions }
 
 -- the session's step, as the engine's world makes it
 abbrev pub MovesFollow : Type 0
-MovesFollow = (w : GuardWorld) (number : ℕ) (x : Actor) (s : SessionState) → Sits w number x s → SessionOwes (seat_in w.now number) w.now.words s
+MovesFollow = (w : GuardWorld) (number : ℕ) (x : Actor) (s : SessionState) → Sits w number x s → SessionWritesOuter (seat_in w.now number) s
     → (let after : Near SessionState = session_moved (seat_in w.now number) (beside w.now s) in
     SessionFollows w.now number (session_guard_events (seat_in w.now number) w.now.words s after.machine) after.machine after.words after.actions)

@@ -1,19 +1,18 @@
 -- A life is fair where what its steps change in place is below the tail.
-use Rattle.std.proofs.Common.{◌≡◌, ℕ, ◌^◌, ◌∙◌, refl, sym, ap, subst, arith, List, [], ◌∷◌, Bool, true, false}
+use Rattle.std.proofs.Common.{◌≡◌, ℕ, ◌∙◌, refl, sym, ap, subst, arith, List, [], ◌∷◌, Bool, true, false}
 use Rattle.std.specs.Prelude.{Option, Some, None, slice_get}
 use Rattle.std.proofs.lemmas.Bool.Decides.{nat_tests}
 use Rattle.fkv_map.specs.declared.operations.Call.{Call}
 use Rattle.fkv_map.specs.declared.operations.Call.TheVariants as call
 use Rattle.fkv_session.specs.SessionRun.{SessionEvent, session_run}
 use Rattle.fkv_session.specs.Sessions.{SessionState, Seat}
-use Rattle.fkv_guard_sessions.specs.Sessions.{SessionOwes}
-use Rattle.fkv_guard_sessions.specs.Owing.{IsBelowTail}
+use Rattle.fkv_guard_sessions.specs.Owing.{IsBelowTail, SessionOwes}
 use Rattle.fkv_guard_sessions.proofs.Shown.{run_owes}
 use Rattle.fkv_world.specs.Actors.{is_of_session}
 use Rattle.fkv_world.specs.OwnEvents.{session_events}
 use Rattle.fkv_world.specs.Runs.{World, happens, run}
-use Rattle.fkv_world.specs.World.{Event, Calls, Moves, Commits, Turns, KeeperMoves, Crashes, Now, seat_at}
-use Rattle.fkv_world.proofs.Shown.{no_session, same_seat, session_apart, session_runs}
+use Rattle.fkv_world.specs.World.{Event, Calls, Moves, Commits, Turns, KeeperMoves, Crashes, seat_at}
+use Rattle.fkv_world.proofs.Shown.{no_session, session_apart, session_runs}
 use Rattle.fkv_world_guard.specs.Shows.{IsOpened, IsFair, AreFair, AreBelowTail, ChangesBelowTail, SessionIsFair, SessionIsBelowTail}
 
 -- who isn't there never comes
@@ -45,7 +44,7 @@ none_then w Turns s none = session_apart w Turns s refl ∙ none
 none_then w (KeeperMoves granted done) s none = session_apart w (KeeperMoves granted done) s refl ∙ none
 none_then w Crashes s none = session_apart w Crashes s refl ∙ none
 
-none_stays : (first : World) (events : List Event) (s : ℕ) → slice_get first.now.sessions s ≡ None → slice_get (run first events).now.sessions s ≡ None
+pub none_stays : (first : World) (events : List Event) (s : ℕ) → slice_get first.now.sessions s ≡ None → slice_get (run first events).now.sessions s ≡ None
 unfolding run
 none_stays first [] s none = none
 none_stays first (event ∷ before) s none = none_then (run first before) event s (none_stays first before s none)
@@ -53,7 +52,7 @@ none_stays first (event ∷ before) s none = none_then (run first before) event 
 -- what a session owes at a moment of its life comes down to what it changes
 session_fair : (first : World) (start : ℕ) (before : List Event) (number : ℕ) (was found : Option SessionState) → IsOpened first.now start
     → slice_get first.now.sessions number ≡ was → slice_get (run first before).now.sessions number ≡ found
-    → SessionIsBelowTail (run first before).now found → SessionIsFair (run first before).now number found
+    → SessionIsBelowTail (run first before).now found → SessionIsFair (run first before).now found
 session_fair first start before number was None opened at_first there below = tt
 session_fair first start before number None (Some s) opened at_first there below =
     let clash : Some s ≡ None = sym there ∙ none_stays first before number at_first in cc
@@ -63,9 +62,7 @@ session_fair first start before number (Some o) (Some s) opened at_first there b
     let one : Some s ≡ Some (session_run k o came) = sym there ∙ session_runs first number o before at_first in
     let same : s ≡ session_run k o came = cc in
     let its : IsBelowTail (run first before).now.words (session_run k o came) = subst (λ (x : SessionState). IsBelowTail (run first before).now.words x) same below in
-    let owes : SessionOwes k (run first before).now.words (session_run k o came) = run_owes k o came (run first before).now.words (opened.sessions number o at_first) opened.buckets its in
-    let there_too : SessionOwes (seat_at (run first before).now number) (run first before).now.words (session_run k o came) = subst (λ (x : Seat). SessionOwes x (run first before).now.words (session_run k o came)) (sym (same_seat first before number)) owes in
-    subst (λ (x : SessionState). SessionOwes (seat_at (run first before).now number) (run first before).now.words x) (sym same) there_too
+    subst (λ (x : SessionState). SessionOwes (run first before).now.words x) (sym same) (run_owes k o came (run first before).now.words (opened.sessions number o at_first) its)
 
 is_fair : (first : World) (start : ℕ) (before : List Event) (event : Event) → IsOpened first.now start → ChangesBelowTail (run first before).now event → IsFair (run first before).now event
 is_fair first start before (Moves number) opened below = session_fair first start before number (slice_get first.now.sessions number) (slice_get (run first before).now.sessions number) opened refl refl below

@@ -5,6 +5,7 @@ use Rattle.fkv_plane.specs.declared.places.Places.{Places}
 use Rattle.fkv_plane.specs.declared.places.RecordWord.{RecordWord}
 use Rattle.fkv_flush.specs.GuardFlushed.{IsSynced, OneFlushes, calls_made, stands}
 use Rattle.fkv_flush.specs.GuardLevels.{levels_of}
+use Rattle.fkv_flush.specs.Guarded.{AreFairEvents}
 use Rattle.fkv_flush.specs.GuardWorld.{GuardWorld, GuardEvent, guard_run}
 use Rattle.fkv_flush.proofs.Shown.{IsSound, run_sound, opening_sound, events_calm, steady, stood_open, same_shape, run_flushed, opening_flushed, is_synced}
 use Rattle.fkv_world.specs.World.{Event}
@@ -12,6 +13,7 @@ use Rattle.fkv_world.specs.Runs.{World, run, read_by_keeper}
 use Rattle.fkv_world.proofs.Shown.{places_stay}
 use Rattle.fkv_world_guard.specs.GuardEvents.{keeper_number, guard_events, mapped}
 use Rattle.fkv_world_guard.specs.Shows.{IsOpened, AreFair, guard_opening}
+use Rattle.fkv_world_guard.proofs.Fair.{life_fair}
 use Rattle.fkv_world_guard.proofs.Kept.{is_steps}
 use Rattle.fkv_world_guard.proofs.OneStep.{flush_alone}
 use Rattle.fkv_world_guard.proofs.Worlds.{life_shows, runs_on}
@@ -39,20 +41,20 @@ life_synced first start events opened fits fair =
     let sound = opening_sound first.now.shape first.now.places (suc a) first.now.words start fits.words in
     let was = opening_flushed a first.now.shape first.now.places (suc a) first.now.words start opened (stands w []) fits.words in
     let there = subst (λ (s : Shape). IsSynced s opened (calls_made w its) (stands w its) start (levels_of (guard_run w its).now.words).flushed) (same_shape a start opened w sound was its)
-    (is_synced a start (guard_run w its).now.shape opened (calls_made w its) (stands w its) (guard_run w its) (run_flushed a start opened w sound was its (life_alone first events))) in
-    subst (λ (words : List ℕ). IsSynced first.now.shape opened (calls_made w its) (stands w its) start (levels_of words).flushed) (life_shows first start events fits fair).words there
+    (is_synced a start (guard_run w its).now.shape opened (calls_made w its) (stands w its) (guard_run w its) (run_flushed a start opened w sound was its (life_alone first events) (life_fair first start events fits fair))) in
+    subst (λ (words : List ℕ). IsSynced first.now.shape opened (calls_made w its) (stands w its) start (levels_of words).flushed) (life_shows first start events fits).words there
 
 -- many events in a row
-steps_steady : (w : GuardWorld) (later before : List GuardEvent) (addr : ℕ) (word : RecordWord) → IsSound w → addr < (levels_of (guard_run w before).now.words).safe_read_only
+steps_steady : (w : GuardWorld) (later before : List GuardEvent) (addr : ℕ) (word : RecordWord) → IsSound w → AreFairEvents w (later ++ before) → addr < (levels_of (guard_run w before).now.words).safe_read_only
     → stands w (later ++ before) addr word ≡ stands w before addr word
 unfolding stands guard_run
-steps_steady w [] before addr word sound below = refl
-steps_steady w (event ∷ later) before addr word sound below =
+steps_steady w [] before addr word sound fair below = refl
+steps_steady w (event ∷ later) before addr word sound fair below =
     let v : GuardWorld = guard_run w (later ++ before) in
     let rises = (events_calm (guard_run w before) later (run_sound w before sound)).offsets.safe_read_only in
     let low : addr < (levels_of (guard_run (guard_run w before) later).now.words).safe_read_only = omega (arith, below, rises) in
     let here = subst (λ (x : GuardWorld). addr < (levels_of x.now.words).safe_read_only) (sym (runs_on w later before)) low in
-    steady v event (stands w (later ++ before)) addr word (run_sound w (later ++ before) sound) here (stood_open w (later ++ before) addr word) ∙ steps_steady w later before addr word sound below
+    steady v event (stands w (later ++ before)) addr word (run_sound w (later ++ before) sound) fair.0 here (stood_open w (later ++ before) addr word) ∙ steps_steady w later before addr word sound fair.1 below
 
 pub life_steady : (first : World) (start : ℕ) (before : List Event) (event : Event) (addr : ℕ) (word : RecordWord) → IsOpened first.now start → AreFair first (event ∷ before)
     → addr < (levels_of (run first before).now.words).safe_read_only
@@ -61,6 +63,6 @@ unfolding mapped
 life_steady first start before event addr word fits fair below =
     let b : World = run first before in
     let w : GuardWorld = guard_opening first.now start in
-    let shows = life_shows first start before fits fair.1 in
-    steps_steady w (guard_events b.now (read_by_keeper b) event) (mapped first before) addr word (opening_sound first.now.shape first.now.places (suc (keeper_number first.now)) first.now.words start fits.words)
+    let shows = life_shows first start before fits in
+    steps_steady w (guard_events b.now (read_by_keeper b) event) (mapped first before) addr word (opening_sound first.now.shape first.now.places (suc (keeper_number first.now)) first.now.words start fits.words) (life_fair first start (event ∷ before) fits fair)
     (subst (λ (words : List ℕ). addr < (levels_of words).safe_read_only) (sym shows.words) below)

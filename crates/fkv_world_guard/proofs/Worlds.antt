@@ -33,7 +33,8 @@ use Rattle.fkv_world.specs.World.{Event, Calls, Moves, Commits, Turns, KeeperMov
 use Rattle.fkv_world.specs.Moves.{Near, session_moved, keeper_moved}
 use Rattle.fkv_world.specs.Runs.{World, run, read_by_keeper}
 use Rattle.fkv_world_guard.specs.GuardEvents.{moved_events, called_events, keeper_number, life_events, guard_events, mapped}
-use Rattle.fkv_world_guard.specs.Shows.{IsOpened, IsSeated, IsKept, Shows, SessionIsFair, IsFair, AreFair, guard_opening, seen_by_guard}
+use Rattle.fkv_world_guard.specs.Shows.{IsOpened, IsSeated, IsKept, Shows, guard_opening, seen_by_guard}
+use Rattle.fkv_world_guard.proofs.Outer.{WriteOuter, AllWriteOuter, all_write_outer}
 use Rattle.fkv_world_guard.proofs.OneStep.{IsStep, of_others}
 use Rattle.fkv_world_guard.proofs.SessionSteps.{session_steps, called_steps}
 use Rattle.fkv_world_guard.proofs.KeeperSteps.{keeper_steps, turn_asked_steps}
@@ -219,13 +220,13 @@ module _ (n : Now) (actors : List Actor) (past : EpochPast) (shows : Shows n (wo
           session_put n W i s (world.near n (session_begun (seat_at n i) s call)) _ shows there (called_steps (keeper_number n) (seat_at n i) (session_begun (seat_at n i) s call))
           (call_follows W.now i seat.actor s call sits.got sits.below e sits.protected sits.fits)
 
-  moves : (i : ℕ) (found : Option SessionState) → slice_get n.sessions i ≡ found → SessionIsFair n i found → Leads (session_moves n i found) (moved_events n i found)
+  moves : (i : ℕ) (found : Option SessionState) → slice_get n.sessions i ≡ found → WriteOuter n → Leads (session_moves n i found) (moved_events n i found)
   unfolding guard_run
-  moves i None there fair = shows
-  moves i (Some s) there fair =
+  moves i None there outer = shows
+  moves i (Some s) there outer =
       let seat = shows.sessions i s there in
       let after : Near SessionState = session_moved (seat_at n i) (world.near n s) in
-      session_put n W i s after _ shows there (session_steps (keeper_number n) (seat_at n i) n.words s after.machine) (move_follows W i seat.actor s seat.sits fair)
+      session_put n W i s after _ shows there (session_steps (keeper_number n) (seat_at n i) n.words s after.machine) (move_follows W i seat.actor s seat.sits (outer i s there))
 
   keeps : (granted done : Bool) (read : List ℕ)
       → Leads (with_keeper n (keeper_moved n.shape n.places granted done read (world.near n n.keeper))) (keeper_move_events (keeper_number n) n.shape n.places granted done read n.keeper n.words)
@@ -235,37 +236,37 @@ module _ (n : Now) (actors : List Actor) (past : EpochPast) (shows : Shows n (wo
       keeper_put n W (keeper_moved n.shape n.places granted done read (world.near n n.keeper)) _ there.seen shows (keeper_steps (keeper_number n) n.shape n.places granted done read n.keeper n.words)
       (keeper_follows W (keeper_number n) there.actor there.seen n.keeper granted done read its.sound its.got its.fits its.knows)
 
-  goes : (read : List ℕ) (event : Event) → IsFair n event → Leads (life_goes n read event) (life_events n read event)
+  goes : (read : List ℕ) (event : Event) → WriteOuter n → Leads (life_goes n read event) (life_events n read event)
   unfolding life_goes life_events guard_run
-  goes read (Calls i call) fair = calls i call (slice_get n.sessions i) refl
-  goes read (Moves i) fair = moves i (slice_get n.sessions i) refl fair
-  goes read (Commits kind) fair =
+  goes read (Calls i call) outer = calls i call (slice_get n.sessions i) refl
+  goes read (Moves i) outer = moves i (slice_get n.sessions i) refl outer
+  goes read (Commits kind) outer =
       let there = shows.keeper in
       let its = there.keeps in
       keeper_put n W _ [] there.seen shows tt (commit_asked_to W.now (keeper_number n) there.actor there.seen n.keeper kind its.got its.fits its.knows)
-  goes read Turns fair =
+  goes read Turns outer =
       let there = shows.keeper in
       let its = there.keeps in
       keeper_put n W _ _ there.seen shows (turn_asked_steps (keeper_number n) n.keeper) (turn_asked_to W.now (keeper_number n) there.actor there.seen n.keeper its.got its.fits its.knows)
-  goes read (KeeperMoves granted done) fair = keeps granted done read
-  goes read Crashes fair = record { sound = shows.sound; shape = shows.shape; places = shows.places; words = shows.words; actions = shows.actions; sessions = shows.sessions; keeper = shows.keeper }
+  goes read (KeeperMoves granted done) outer = keeps granted done read
+  goes read Crashes outer = record { sound = shows.sound; shape = shows.shape; places = shows.places; words = shows.words; actions = shows.actions; sessions = shows.sessions; keeper = shows.keeper }
 
-  happens : (read : List ℕ) (event : Event) → IsFair n event → Leads (happens_now n read event) (guard_events n read event)
+  happens : (read : List ℕ) (event : Event) → WriteOuter n → Leads (happens_now n read event) (guard_events n read event)
   unfolding guard_run
-  happens read event fair = by_crash n.crashed
+  happens read event outer = by_crash n.crashed
     where
       by_crash : (b : Bool) → Leads (if b then n else life_goes n read event) (if b then [] else life_events n read event)
       by_crash true = shows
-      by_crash false = goes read event fair
+      by_crash false = goes read event outer
 
 -- One event of the engine.
-pub happens_shows : (n : Now) (w : GuardWorld) (read : List ℕ) (event : Event) → IsFair n event → Shows n w → Shows (happens_now n read event) (guard_run w (guard_events n read event))
-happens_shows n w read event fair shows =
+pub happens_shows : (n : Now) (w : GuardWorld) (read : List ℕ) (event : Event) → WriteOuter n → Shows n w → Shows (happens_now n read event) (guard_run w (guard_events n read event))
+happens_shows n w read event outer shows =
     let same = is_world_of n w shows in
     let actors : List Actor = w.now.actors in
     let past : EpochPast = w.past in
     subst (λ (v : GuardWorld). Shows (happens_now n read event) (guard_run v (guard_events n read event))) (sym same)
-    (happens n actors past (subst (λ (v : GuardWorld). Shows n v) same shows) read event fair)
+    (happens n actors past (subst (λ (v : GuardWorld). Shows n v) same shows) read event outer)
 
 -- the events of two lists, one after the other
 pub runs_on : (w : GuardWorld) (later before : List GuardEvent) → guard_run w (later ++ before) ≡ guard_run (guard_run w before) later
@@ -274,13 +275,13 @@ runs_on w [] before = refl
 runs_on w (event ∷ later) before = ap (λ (v : GuardWorld). guard_happens v event) (runs_on w later before)
 
 -- every life
-pub run_shows : (first : World) (events : List Event) (w : GuardWorld) → AreFair first events → Shows first.now w → Shows (run first events).now (guard_run w (mapped first events))
+pub run_shows : (first : World) (events : List Event) (w : GuardWorld) → AllWriteOuter first events → Shows first.now w → Shows (run first events).now (guard_run w (mapped first events))
 unfolding run mapped guard_run
-run_shows first [] w fair shows = shows
-run_shows first (event ∷ before) w fair shows =
+run_shows first [] w outer shows = shows
+run_shows first (event ∷ before) w outer shows =
     let b : World = run first before in
     subst (λ (x : GuardWorld). Shows (run first (event ∷ before)).now x) (sym (runs_on w (guard_events b.now (read_by_keeper b) event) (mapped first before)))
-    (happens_shows b.now (guard_run w (mapped first before)) (read_by_keeper b) event fair.0 (run_shows first before w fair.1 shows))
+    (happens_shows b.now (guard_run w (mapped first before)) (read_by_keeper b) event outer.0 (run_shows first before w outer.1 shows))
 
 -- As a life begins.
 replicated : {X : Type 0} (m j : ℕ) (x : X) → j < m → slice_get (replicate m x) j ≡ Some x
@@ -345,5 +346,5 @@ opening_shows n start opened =
     }
 
 -- so what the guard sees of a life shows it
-pub life_shows : (first : World) (start : ℕ) (events : List Event) → IsOpened first.now start → AreFair first events → Shows (run first events).now (seen_by_guard first start events)
-life_shows first start events opened fair = run_shows first events (guard_opening first.now start) fair (opening_shows first.now start opened)
+pub life_shows : (first : World) (start : ℕ) (events : List Event) → IsOpened first.now start → Shows (run first events).now (seen_by_guard first start events)
+life_shows first start events opened = run_shows first events (guard_opening first.now start) (all_write_outer first start events opened) (opening_shows first.now start opened)

@@ -11,10 +11,9 @@ use Rattle.fkv_session.specs.Sessions as session
 use Rattle.fkv_session.specs.Sessions.{SessionState}
 use Rattle.fkv_guard_sessions.specs.Followed.{Sits}
 use Rattle.fkv_guard_sessions.specs.Likenesses.{last_seen}
-use Rattle.fkv_guard_sessions.specs.Owing.{IsBelowTail}
-use Rattle.fkv_guard_sessions.specs.Sessions.{SessionOwes}
+use Rattle.fkv_guard_sessions.specs.Owing.{IsBelowTail, SessionOwes}
 use Rattle.fkv_guard_keeper.specs.Followed.{IsKeepers}
-use Rattle.fkv_world.specs.World.{Event, Moves, Now, seat_at}
+use Rattle.fkv_world.specs.World.{Event, Moves, Now}
 use Rattle.fkv_world.specs.Runs.{World, run}
 use Rattle.fkv_world_guard.specs.GuardEvents.{mapped, keeper_number}
 
@@ -53,12 +52,12 @@ pub record Shows (n : Now) (w : GuardWorld) : Type 0 where
   pub keeper : IsKept w (keeper_number n) n.keeper
 
 -- what a step owes: the sessions' own premise alone
-abbrev pub SessionIsFair : Now → ℕ → Option SessionState → Type 0
-SessionIsFair n number None = ⊤
-SessionIsFair n number (Some s) = SessionOwes (seat_at n number) n.words s
+abbrev pub SessionIsFair : Now → Option SessionState → Type 0
+SessionIsFair n None = ⊤
+SessionIsFair n (Some s) = SessionOwes n.words s
 
 abbrev pub IsFair : Now → Event → Type 0
-IsFair n (Moves number) = SessionIsFair n number (slice_get n.sessions number)
+IsFair n (Moves number) = SessionIsFair n (slice_get n.sessions number)
 IsFair n event = ⊤
 
 -- each step of a life is fair

@@ -12,56 +12,56 @@ ghost use Rattle.fkv_world.specs.World.{Event};
 ghost use Rattle.fkv_world.specs.Runs.{World, read_by_keeper, run};
 ghost use Rattle.fkv_world_guard.specs.GuardEvents.{guard_events, mapped};
 ghost use Rattle.fkv_world_guard.specs.KeptGuarded.{ChangesOpenPlaces, FindTheirSlots, OpensNextPage};
-ghost use Rattle.fkv_world_guard.specs.Shows.{AreBelowTail, AreFair, IsOpened, Shows, guard_opening, seen_by_guard};
+ghost use Rattle.fkv_world_guard.specs.Shows.{AreBelowTail, AreFair, IsFair, IsOpened, Shows, guard_opening, seen_by_guard};
 
-/// Over every life of the engine that begins as a store was opened, whatever its calls, commits, turns and the order of its steps,
-/// where each step of a session does what it owes: what the guard has of the life shows the engine's world, with an actor for each
-/// session and one for the keeper. So a word of a frame that an event changes is one of an open address at or above the safe
-/// read-only offset and below the tail; an event that raises the limit opens the next page, and finds all flushed that its frame
-/// held, and each protected session that isn't in the middle of protecting itself with a head at or above that. At every moment
-/// the offsets are in order, the frames hold all that may still be needed, and the limit is the end of whole pages that the
-/// device has; and no offset ever falls.
+/// Over every life of the engine that begins as a store was opened, whatever its calls, commits, turns and the order of its steps:
+/// what the guard has of the life shows the engine's world, with an actor for each session and one for the keeper. So a word of a
+/// frame that an event changes, where it does what it owes, is one of an open address at or above the safe read-only offset and
+/// below the tail; an event that raises the limit opens the next page, and finds all flushed that its frame held, and each
+/// protected session that isn't in the middle of protecting itself with a head at or above that. At every moment the offsets are
+/// in order, the frames hold all that may still be needed, and the limit is the end of whole pages that the device has; and no
+/// offset ever falls.
 pub fn law_world_is_guarded()
-    ensures shows { (opening : World) (start : ℕ) (events : List Event) → IsOpened opening.now start → AreFair opening events
+    ensures shows { (opening : World) (start : ℕ) (events : List Event) → IsOpened opening.now start
         → Shows (run opening events).now (seen_by_guard opening start events) }
-    ensures writes { (opening : World) (start : ℕ) (events : List Event) (event : Event) → IsOpened opening.now start → AreFair opening (event ∷ events)
+    ensures writes { (opening : World) (start : ℕ) (events : List Event) (event : Event) → IsOpened opening.now start → IsFair (run opening events).now event
         → ChangesOpenPlaces (run opening events).now (run opening (event ∷ events)).now (seen_by_guard opening start events) }
-    ensures limit { (opening : World) (start : ℕ) (events : List Event) (event : Event) → IsOpened opening.now start → AreFair opening (event ∷ events)
+    ensures limit { (opening : World) (start : ℕ) (events : List Event) (event : Event) → IsOpened opening.now start
         → OpensNextPage (run opening events).now (run opening (event ∷ events)).now (seen_by_guard opening start events) }
-    ensures order { (opening : World) (start : ℕ) (events : List Event) → IsOpened opening.now start → AreFair opening events
+    ensures order { (opening : World) (start : ℕ) (events : List Event) → IsOpened opening.now start
         → AreInOrder (levels_of (run opening events).now.words) }
-    ensures covered { (opening : World) (start : ℕ) (events : List Event) → IsOpened opening.now start → AreFair opening events
+    ensures covered { (opening : World) (start : ℕ) (events : List Event) → IsOpened opening.now start
         → IsCovered (seen_by_guard opening start events) }
-    ensures paged { (opening : World) (start : ℕ) (events : List Event) → IsOpened opening.now start → AreFair opening events
+    ensures paged { (opening : World) (start : ℕ) (events : List Event) → IsOpened opening.now start
         → EndsPages opening.now.shape (levels_of (run opening events).now.words).limit }
-    ensures rises { (opening : World) (start : ℕ) (events later : List Event) → IsOpened opening.now start → AreFair opening events → AreFair (run opening events) later
+    ensures rises { (opening : World) (start : ℕ) (events later : List Event) → IsOpened opening.now start
         → Rises (levels_of (run opening events).now.words) (levels_of (run (run opening events) later).now.words) }
 {}
 
 /// At every moment of such a life: what a session goes by is safe to go by; and a reserved record that is undecided belongs to a
 /// protected session that neither protects itself nor refreshes nor leaves, and to no other.
 pub fn law_world_seen()
-    ensures safe { (opening : World) (start : ℕ) (events : List Event) → IsOpened opening.now start → AreFair opening events
+    ensures safe { (opening : World) (start : ℕ) (events : List Event) → IsOpened opening.now start
         → SeenIsSafe (levels_of (run opening events).now.words) (GoesBy (seen_by_guard opening start events).now) (seen_of (seen_by_guard opening start events).now.actors) }
-    ensures fresh { (opening : World) (start : ℕ) (events : List Event) → IsOpened opening.now start → AreFair opening events
+    ensures fresh { (opening : World) (start : ℕ) (events : List Event) → IsOpened opening.now start
         → UndecidedIsFresh (seen_by_guard opening start events) }
-    ensures apart { (opening : World) (start : ℕ) (events : List Event) → IsOpened opening.now start → AreFair opening events
+    ensures apart { (opening : World) (start : ℕ) (events : List Event) → IsOpened opening.now start
         → UndecidedApart (seen_by_guard opening start events).now.actors }
 {}
 
 /// In such a life each epoch arms one action at most, which is claimed once at most, and run once at most by the actor that
 /// claimed it. A slot that is given an action is empty, and one that is taken has the action that was armed there.
 pub fn law_world_once()
-    ensures once { (opening : World) (start : ℕ) (events : List Event) → IsOpened opening.now start → AreFair opening events
+    ensures once { (opening : World) (start : ℕ) (events : List Event) → IsOpened opening.now start
         → HasRunOnce (seen_by_guard opening start events).past }
-    ensures slots { (opening : World) (start : ℕ) (events : List Event) (event : Event) → IsOpened opening.now start → AreFair opening (event ∷ events)
+    ensures slots { (opening : World) (start : ℕ) (events : List Event) (event : Event) → IsOpened opening.now start
         → FindTheirSlots (seen_by_guard opening start events) (guard_events (run opening events).now (read_by_keeper (run opening events)) event) }
 {}
 
-/// In such a life the keeper alone flushes. So at every moment a device that was called as the guard's run of the life calls it, by
-/// the flushes and by those writes of commits that end where the log begins, shows each record since the opening and below the
-/// flushed offset with the words that stand for it, and so does all that a crash leaves of it; and no event changes what stands
-/// for a record below the safe read-only offset.
+/// In such a life the keeper alone flushes. So where each step of a session does what it owes, at every moment a device that was
+/// called as the guard's run of the life calls it, by the flushes and by those writes of commits that end where the log begins,
+/// shows each record since the opening and below the flushed offset with the words that stand for it, and so does all that a crash
+/// leaves of it; and no event changes what stands for a record below the safe read-only offset.
 pub fn law_world_flushed()
     ensures synced { (opening : World) (start : ℕ) (events : List Event) (opened : List ℕ) → IsOpened opening.now start → AreFair opening events
         → IsSynced opening.now.shape opened (calls_made (guard_opening opening.now start) (mapped opening events)) (stands (guard_opening opening.now start) (mapped opening events)) start (levels_of (run opening events).now.words).flushed }

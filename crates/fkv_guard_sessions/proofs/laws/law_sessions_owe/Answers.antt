@@ -1,5 +1,6 @@
--- The law, by its two lemmas.
-use Rattle.fkv_guard_sessions.proofs.Owing.{run_above, run_owes}
+-- The law, by its lemmas.
+use Rattle.fkv_guard_sessions.proofs.Owing.{run_above, run_owes, run_outer}
+use Rattle.fkv_guard_sessions.proofs.Fair.{moves_fair}
 use Rattle.fkv_guard_sessions.proofs.laws.law_sessions_owe.Goals as goal
 
 pub returns-clause-changes : goal.returns-clause-changes
@@ -7,3 +8,9 @@ returns-clause-changes c = run_above
 
 pub returns-clause-owes : goal.returns-clause-owes
 returns-clause-owes c = run_owes
+
+pub returns-clause-fair : goal.returns-clause-fair
+returns-clause-fair c = moves_fair
+
+pub returns-clause-outer : goal.returns-clause-outer
+returns-clause-outer c = run_outer

@@ -7,8 +7,8 @@ use Rattle.fkv_world_guard.proofs.Worlds.{life_shows}
 use Rattle.fkv_world_guard.proofs.laws.law_world_once.Goals as goal
 
 pub returns-clause-once : goal.returns-clause-once
-returns-clause-once c = λ first start events opened fair. (life_shows first start events opened fair).sound.epochs.once
+returns-clause-once c = λ first start events opened. (life_shows first start events opened).sound.epochs.once
 
 pub returns-clause-slots : goal.returns-clause-slots
-returns-clause-slots c = λ first start events event opened fair.
-    life_finds (seen_by_guard first start events) (guard_events (run first events).now (read_by_keeper (run first events)) event) (life_shows first start events opened fair.1).sound
+returns-clause-slots c = λ first start events event opened.
+    life_finds (seen_by_guard first start events) (guard_events (run first events).now (read_by_keeper (run first events)) event) (life_shows first start events opened).sound

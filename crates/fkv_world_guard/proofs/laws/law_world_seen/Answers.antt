@@ -11,15 +11,15 @@ use Rattle.fkv_world_guard.proofs.Worlds.{life_shows}
 use Rattle.fkv_world_guard.proofs.laws.law_world_seen.Goals as goal
 
 pub returns-clause-safe : goal.returns-clause-safe
-returns-clause-safe c = λ first start events opened fair.
+returns-clause-safe c = λ first start events opened.
     let w : GuardWorld = seen_by_guard first start events in
-    let shows = life_shows first start events opened fair in
+    let shows = life_shows first start events opened in
     subst (λ (words : List ℕ). SeenIsSafe (levels_of words) (GoesBy w.now) (seen_of w.now.actors)) shows.words shows.sound.guard.safe
 
 pub returns-clause-fresh : goal.returns-clause-fresh
-returns-clause-fresh c = λ first start events opened fair. undecided_fresh (seen_by_guard first start events) (life_shows first start events opened fair).sound
+returns-clause-fresh c = λ first start events opened. undecided_fresh (seen_by_guard first start events) (life_shows first start events opened).sound
 
 pub returns-clause-apart : goal.returns-clause-apart
-returns-clause-apart c = λ first start events opened fair.
+returns-clause-apart c = λ first start events opened.
     run_apart (guard_opening first.now start) (mapped first events) (opening_sound first.now.shape first.now.places (suc (keeper_number first.now)) first.now.words start opened.words)
     (opening_apart first.now.shape first.now.places (suc (keeper_number first.now)) first.now.words start)
