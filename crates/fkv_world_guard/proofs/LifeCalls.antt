@@ -1,5 +1,5 @@
 -- The calls of the guard's run of a life are the writes and syncs of the life.
-use Rattle.std.proofs.Common.{◌≡◌, ℕ, ◌^◌, ◌∙◌, refl, sym, ap, subst, List, [], ◌∷◌, ◌++◌, Bool, true, false}
+use Rattle.std.proofs.Common.{◌≡◌, ℕ, ◌∙◌, refl, sym, ap, subst, List, [], ◌∷◌, ◌++◌, Bool, true, false}
 use Rattle.std.specs.Prelude.{if◌then◌else◌, Option, Some, None, slice_get}
 use Rattle.std.proofs.lemmas.List.{append_assoc}
 use Rattle.fkv_base.specs.declared.shapes.Shape.{Shape}
@@ -7,7 +7,6 @@ use Rattle.fkv_disk.specs.Calls as device
 use Rattle.fkv_map.specs.declared.operations.Call.{Call}
 use Rattle.fkv_plane.specs.declared.asks.Ask.{Ask}
 use Rattle.fkv_plane.specs.declared.asks.Ask.TheVariants.{Done}
-use Rattle.fkv_plane.specs.declared.places.Places.{Places}
 use Rattle.fkv_epoch.specs.EpochWorld.{EpochPast}
 use Rattle.fkv_flush.specs.GuardFlushed.{IsSynced, calls_made, event_calls, stands}
 use Rattle.fkv_flush.specs.GuardLevels.{levels_of}
@@ -16,20 +15,20 @@ use Rattle.fkv_keeper.specs.declared.answers.KeeperTold.{KeeperTold}
 use Rattle.fkv_keeper.specs.declared.answers.KeeperTold.TheVariants.{Device}
 use Rattle.fkv_keeper.specs.Keeping.{KeeperState, keeper_ask}
 use Rattle.fkv_keeper.specs.KeeperAsks.{keeper_calls}
-use Rattle.fkv_keeper.specs.KeeperRun.{is_in_hand, keeper_run}
+use Rattle.fkv_keeper.specs.KeeperRun.{is_in_hand}
 use Rattle.fkv_session.specs.Sessions.{SessionState, is_busy, session_begun}
 use Rattle.fkv_guard_keeper.specs.DeviceCalls.{WritesSpareLog}
-use Rattle.fkv_guard_keeper.specs.KeeperEvents.{keeper_move_events, turn_asked_events}
+use Rattle.fkv_guard_keeper.specs.KeeperEvents.{turn_asked_events}
 use Rattle.fkv_guard_keeper.proofs.Shown.{MakeNone, none_made, none_by_test, step_calls, turn_asked_none, writes_spare_log}
 use Rattle.fkv_world.specs.Moves.{session_moved}
 use Rattle.fkv_world.specs.OwnEvents.{keeper_events}
 use Rattle.fkv_world.specs.Past.{CommitAsked, Past, TurnAsked, calls_after, life_past}
 use Rattle.fkv_world.specs.Runs.{World, happens, read_by_keeper, run}
 use Rattle.fkv_world.specs.World.{Event, Calls, Moves, Commits, Turns, KeeperMoves, Crashes, Now, happens_now, near, seat_at}
-use Rattle.fkv_world.proofs.Shown.{keeper_runs, places_stay, shape_stays}
+use Rattle.fkv_world.proofs.Shown.{keeper_runs, shape_stays}
 use Rattle.fkv_world_guard.specs.GuardEvents.{called_events, guard_events, keeper_number, life_events, mapped, moved_events}
 use Rattle.fkv_world_guard.specs.OpenedStore.{IsOpenedStore}
-use Rattle.fkv_world_guard.specs.Shows.{AreFair, IsOpened, Shows, guard_opening, seen_by_guard}
+use Rattle.fkv_world_guard.specs.Shows.{AreFair, Shows, guard_opening, seen_by_guard}
 use Rattle.fkv_world_guard.proofs.Flushed.{life_synced}
 use Rattle.fkv_world_guard.proofs.PastCalls.{begun_kept, call_kept, keeper_kept, move_kept}
 use Rattle.fkv_world_guard.proofs.SessionCalls.{called_none, session_none}

@@ -1,5 +1,5 @@
 -- What is told of an event leaves the calls of the device as they are.
-use Rattle.std.proofs.Common.{◌≡◌, ℕ, ◌++◌, List, refl, Bool, true, false}
+use Rattle.std.proofs.Common.{◌≡◌, ℕ, List, refl, Bool, true, false}
 use Rattle.std.specs.Prelude.{Option, Some, None, if◌then◌else◌}
 use Rattle.fkv_map.specs.declared.operations.Call.{Call}
 use Rattle.fkv_session.specs.declared.answers.Finished.{Finished}
@@ -10,7 +10,7 @@ use Rattle.fkv_keeper.specs.declared.keepers.Keeping.{Keeping}
 use Rattle.fkv_keeper.specs.declared.keepers.Keeping.TheVariants.{Ended}
 use Rattle.fkv_keeper.specs.KeeperRun.{is_in_hand}
 use Rattle.fkv_keeper.specs.Keeping.{Finality, KeeperState}
-use Rattle.fkv_world.specs.Past.{Past, TraceEvent, Called, answer_traced, call_traced, history_after, keeper_answered, keeper_begun, move_traced, session_traced, traced}
+use Rattle.fkv_world.specs.Past.{Past, TraceEvent, Called, answer_traced, call_traced, keeper_answered, keeper_begun, move_traced, session_traced, traced}
 use Rattle.fkv_world.specs.World.{Now}
 
 answer_kept : (session : ℕ) (was_busy : Bool) (step : Sitting) (finished : List Finished) (p : Past) → (answer_traced session was_busy step finished p).calls ≡ p.calls
