@@ -1,5 +1,5 @@
 -- Events that make no call of the device.
-use Rattle.std.proofs.Common.{◌≡◌, ℕ, ◌∙◌, refl, ap, List, [], ◌∷◌, ◌++◌, Bool, true, false}
+use Rattle.std.proofs.Common.{◌≡◌, ◌∙◌, refl, ap, List, [], ◌∷◌, ◌++◌, Bool, true, false}
 use Rattle.std.specs.Prelude.{⊤, if◌then◌else◌}
 use Rattle.fkv_disk.specs.Calls.{Call}
 use Rattle.fkv_flush.specs.GuardFlushed.{calls_made, event_calls}

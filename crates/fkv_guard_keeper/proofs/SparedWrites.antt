@@ -1,6 +1,6 @@
 -- What a commit writes ends where the log begins: its triples fit an area, and its slot lies before the areas.
-use Rattle.std.proofs.Common.{◌≡◌, ◌∙◌, ℕ, zero, suc, ◌+◌, ◌*◌, ◌^◌, ◌<◌, ◌≤◌, List, [], ◌∷◌, ◌++◌, length, Bool, true, false, refl, sym, ap, subst, arith}
-use Rattle.std.specs.Prelude.{◌==◌, ◌%◌, ◌-◌, drop, if◌then◌else◌, Option, Some, None, nat_le}
+use Rattle.std.proofs.Common.{◌≡◌, ◌∙◌, ℕ, zero, suc, ◌+◌, ◌*◌, ◌^◌, ◌≤◌, List, [], ◌∷◌, length, Bool, true, false, refl, sym, ap, subst, arith}
+use Rattle.std.specs.Prelude.{◌==◌, ◌%◌, drop, if◌then◌else◌, nat_le}
 use Rattle.std.proofs.lemmas.Bool.Decides.{nat_tests}
 use Rattle.std.proofs.lemmas.List.{length-append, length-drop, length-take}
 use Rattle.std.proofs.lemmas.List.Concat.{flat_map-cons}
@@ -24,19 +24,19 @@ use Rattle.fkv_manifest.specs.declared.commits.Committing.TheVariants as writing
 use Rattle.fkv_manifest.specs.declared.gates.Gating.{Gating}
 use Rattle.fkv_manifest.specs.declared.gates.Gating.TheVariants as gating
 use Rattle.fkv_manifest.specs.Committing.{CommitWriter, commit_step_call, commit_call, gate_after, commit_next}
-use Rattle.fkv_manifest.specs.Gating.{GateWriter, gate_step_call, gate_next}
+use Rattle.fkv_manifest.specs.Gating.{GateWriter, gate_step_call}
 use Rattle.fkv_manifest.specs.Made.{commit_run}
 use Rattle.fkv_manifest.proofs.Shown.{newest_spelled}
 use Rattle.fkv_keeper.specs.declared.keepers.Keeping.{Keeping}
-use Rattle.fkv_keeper.specs.declared.keepers.Keeping.TheVariants.{Ended, Starts, Maintains, LoadsPhase, Enters, Copies, Seeks, Waits, Writes, Finishes}
+use Rattle.fkv_keeper.specs.declared.keepers.Keeping.TheVariants.{Writes}
 use Rattle.fkv_keeper.specs.declared.last_commits.Area.{Area}
 use Rattle.fkv_keeper.specs.declared.last_commits.Area.TheVariants.{First, Second}
 use Rattle.fkv_keeper.specs.declared.last_commits.Checkpoint.{Checkpoint}
-use Rattle.fkv_keeper.specs.CheckpointLaws.{IsBehindWait, UsesAs, begun_with, copy_replies}
+use Rattle.fkv_keeper.specs.CheckpointLaws.{IsBehindWait, UsesAs, copy_replies}
 use Rattle.fkv_keeper.specs.KeeperLaws.{AreWritesOfCommit}
 use Rattle.fkv_keeper.specs.KeeperRun.{IsOpened, KeeperEvent, Writing, has_failed, keeper_run, number_open, writing}
-use Rattle.fkv_keeper.specs.Keeping.{KeeperState, gate_writes_of, lost_left}
-use Rattle.fkv_keeper.specs.LastCommits.{area_number, slot_place, slot_said, slot_written, point_written}
+use Rattle.fkv_keeper.specs.Keeping.{KeeperState, lost_left}
+use Rattle.fkv_keeper.specs.LastCommits.{area_number, slot_said, slot_written, point_written}
 use Rattle.fkv_keeper.proofs.Shown.{IsSound, run_sound, run_used}
 use Rattle.fkv_guard_keeper.specs.DeviceCalls.{SparesLog, WritesSpareLog}
 

@@ -1,5 +1,5 @@
 -- What a step of the keeper makes of the device, as the guard has it: a reply makes no call, and a call is the keeper's own.
-use Rattle.std.proofs.Common.{◌≡◌, ℕ, ◌∙◌, refl, sym, ap, subst, List, [], ◌∷◌, ◌++◌, Bool, true, false}
+use Rattle.std.proofs.Common.{◌≡◌, ℕ, ◌∙◌, refl, ap, List, [], ◌∷◌, ◌++◌, Bool, true, false}
 use Rattle.std.specs.Prelude.{Option, Some, None, slice_get, if◌then◌else◌}
 use Rattle.fkv_base.specs.declared.numbers.Serial.{Serial}
 use Rattle.fkv_base.specs.declared.shapes.Shape.{Shape}
@@ -34,13 +34,13 @@ use Rattle.fkv_commit.specs.declared.seeking.Seeking.TheVariants as seek
 use Rattle.fkv_commit.specs.declared.starting.Starting.{Starting}
 use Rattle.fkv_commit.specs.declared.starting.Starting.TheVariants as start
 use Rattle.fkv_flush.specs.Flushing.{flush_ask, flush_next, flush_done, flush_calls}
-use Rattle.fkv_flush.specs.GuardFlushed.{actor_calls, calls_made, event_calls, spares_log, work_calls}
+use Rattle.fkv_flush.specs.GuardFlushed.{actor_calls, calls_made, event_calls, work_calls}
 use Rattle.fkv_flush.specs.GuardSeen.{LastSeen}
-use Rattle.fkv_flush.specs.GuardWorld.{Actor, Work, Flushes, GuardNow, GuardWorld, GuardEvent, Calls, Moves, guard_run}
+use Rattle.fkv_flush.specs.GuardWorld.{Actor, Work, Flushes, GuardNow, GuardWorld, Calls, Moves, guard_run}
 use Rattle.fkv_flush.proofs.Shown.{FitsWork}
 use Rattle.fkv_flush.specs.declared.answers.DeviceAnswer.{DeviceAnswer}
 use Rattle.fkv_flush.specs.declared.answers.DeviceAnswer.TheVariants as device
-use Rattle.fkv_maintain.specs.Maintaining.{MaintainState, maintain_calls, maintaining_calls}
+use Rattle.fkv_maintain.specs.Maintaining.{MaintainState, maintaining_calls}
 use Rattle.fkv_maintain.specs.declared.maintaining.Maintaining.{Maintaining}
 use Rattle.fkv_maintain.specs.declared.maintaining.Maintaining.TheVariants as maintain
 use Rattle.fkv_manifest.specs.Committing.{commit_call}
@@ -60,7 +60,7 @@ use Rattle.fkv_guard_keeper.specs.KeeperEvents.{part_begins, keeping_events, wri
 use Rattle.fkv_guard_keeper.specs.KeeperShown.{keeping_work}
 use Rattle.fkv_guard_keeper.specs.MaintainEvents.{scan_events, claim_events, flush_events, shift_events, turn_events, maintain_events, maintain_called_events}
 use Rattle.fkv_guard_keeper.specs.MaintainShown.{maintaining_work}
-use Rattle.fkv_guard_keeper.proofs.NoCalls.{MakeNone, MakesNone, none_made, none_by_test}
+use Rattle.fkv_guard_keeper.proofs.NoCalls.{MakeNone, none_made, none_by_test}
 
 -- a turn's parts
 scanned : (a : ℕ) (ask : Ask (Unit {0})) → MakeNone (scan_events a ask)
