@@ -13,6 +13,7 @@ mod Kept
 mod Led
 mod Maintained
 mod Movers
+mod NoCalls
 mod PartLed
 mod PhaseKept
 mod Quiet
@@ -24,8 +25,10 @@ pub mod Shown
 mod SlotAtRest
 mod Slots
 mod Sought
+mod SparedWrites
 mod StartKept
 mod Started
+mod StepCalls
 mod TurnKept
 mod TurnLed
 mod Turned

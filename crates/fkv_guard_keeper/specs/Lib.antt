@@ -1,5 +1,6 @@
 pub mod CommitEvents
 pub mod CommitShown
+pub mod DeviceCalls
 pub mod Followed
 pub mod KeeperEvents
 pub mod KeeperShown

@@ -3,4 +3,4 @@
 
 mod laws;
 
-pub use laws::law_keeper_followed;
+pub use laws::{law_keeper_calls, law_keeper_followed};

@@ -1,11 +1,14 @@
 mod BelowTail
 mod Fair
 mod Flushed
-mod Kept
 mod KeeperSteps
+mod Kept
+mod LifeCalls
 mod OfLives
 mod OneStep
 mod Outer
+mod PastCalls
+mod SessionCalls
 mod SessionSteps
 pub mod Shown
 mod Worlds

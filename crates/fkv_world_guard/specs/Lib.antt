@@ -1,3 +1,4 @@
 pub mod GuardEvents
 pub mod KeptGuarded
+pub mod OpenedStore
 pub mod Shows

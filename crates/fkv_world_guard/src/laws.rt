@@ -12,6 +12,7 @@ ghost use Rattle.fkv_world.specs.World.{Event};
 ghost use Rattle.fkv_world.specs.Runs.{World, read_by_keeper, run};
 ghost use Rattle.fkv_world_guard.specs.GuardEvents.{guard_events, mapped};
 ghost use Rattle.fkv_world_guard.specs.KeptGuarded.{ChangesOpenPlaces, FindTheirSlots, OpensNextPage};
+ghost use Rattle.fkv_world_guard.specs.OpenedStore.{IsOpenedStore};
 ghost use Rattle.fkv_world_guard.specs.Shows.{AreBelowTail, AreFair, IsFair, IsOpened, Shows, guard_opening, seen_by_guard};
 
 /// Over every life of the engine that begins as a store was opened, whatever its calls, commits, turns and the order of its steps:
@@ -74,4 +75,15 @@ pub fn law_world_flushed()
 /// below the tail.
 pub fn law_world_owes()
     ensures { (opening : World) (start : ℕ) (events : List Event) → IsOpened opening.now start → AreBelowTail opening events → AreFair opening events }
+{}
+
+/// Over every life of a store that was just opened, whatever calls of the device fail: the calls of the guard's run are the writes
+/// and syncs that are past of the life, in their order and with their success. So where each step of a session does what it owes, at
+/// every moment the device, as the life has called it, reads at the place of each record since the opening and below the flushed offset as the words that stand for it, and so
+/// does all that a crash leaves of it; older records stay as they were.
+pub fn law_world_flushed_is_synced()
+    ensures calls { (opening : World) (start : ℕ) (events : List Event) → IsOpenedStore opening start
+        → calls_made (guard_opening opening.now start) (mapped opening events) ≡ (run opening events).past.calls }
+    ensures synced { (opening : World) (start : ℕ) (events : List Event) → IsOpenedStore opening start → AreFair opening events
+        → IsSynced opening.now.shape opening.past.opened (run opening events).past.calls (stands (guard_opening opening.now start) (mapped opening events)) start (levels_of (run opening events).now.words).flushed }
 {}
