@@ -1,1 +1,6 @@
+mod EntriesFound
 mod FilledBuckets
+mod Laid
+mod Opening
+mod Positions
+mod Tags
