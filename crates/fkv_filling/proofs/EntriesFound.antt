@@ -1,5 +1,5 @@
 -- The entry that a home has in an index that is laid out so.
-use Rattle.std.proofs.Common.{◌≡◌, ◌⊎◌, inl, inr, ℕ, Bool, zero, suc, ◌+◌, ◌*◌, ◌<◌, ◌≤◌, List, [], ◌∷◌, ◌++◌, true, false, length, get_or, refl, sym, ap, subst, ◌∙◌, arith}
+use Rattle.std.proofs.Common.{◌≡◌, inl, inr, ℕ, Bool, zero, suc, ◌+◌, ◌*◌, ◌<◌, ◌≤◌, List, [], ◌∷◌, ◌++◌, true, false, length, get_or, refl, sym, ap, subst, ◌∙◌, arith}
 use Rattle.std.specs.Prelude.{◌==◌, ◌&&◌, not, if◌then◌else◌}
 use Rattle.std.proofs.lemmas.Bool.Decides.{nat_tests}
 use Rattle.fkv_index.specs.Slots.{entry_tag}
@@ -56,7 +56,7 @@ order_is {k} {v} {t} {chain} {below} {g} laid b j (suc count) low are =
     let f : 7 + 7 * (count + 1) ≡ 7 * (suc count + 1) = omega arith in
     ap (λ ws. ws ++ order_of k g (overflow_bucket k (below b + j + 1)) (numbers_from (below b + j + 1 + 1) count)) (seven_are laid b j low (omega (arith, are)))
     ∙ ap (λ ws. words_from (chain b) (7 * j) 7 ++ ws)
-        (along_is k below (order_of k g) b j count ∙ order_is laid b (suc j) count low (omega (arith, are)) ∙ from_is (chain b) (7 * suc j) (7 * j + 7) (7 * (count + 1)) e)
+    (along_is k below (order_of k g) b j count ∙ order_is laid b (suc j) count low (omega (arith, are)) ∙ from_is (chain b) (7 * suc j) (7 * j + 7) (7 * (count + 1)) e)
     ∙ sym (words_more (chain b) (7 * j) 7 (7 * (count + 1))) ∙ ap (words_from (chain b) (7 * j)) f
 
 abbrev is_its : ℕ → ℕ → Bool

@@ -1,11 +1,11 @@
 -- An index that is laid out so: each bucket has a chain of words, seven to a bucket, and takes the overflow buckets behind those of the buckets below it.
-use Rattle.std.proofs.Common.{◌≡◌, ◌⊎◌, inl, inr, ℕ, Bool, zero, suc, ◌+◌, ◌-◌, ◌*◌, ◌^◌, ◌<◌, ◌≤◌, List, [], ◌∷◌, ◌++◌, true, false, length, get_or, refl, sym, ap, subst, ◌∙◌, arith}
-use Rattle.std.specs.Prelude.{nat_lt, if◌then◌else◌, ⊤}
+use Rattle.std.proofs.Common.{◌≡◌, inl, inr, ℕ, Bool, zero, suc, ◌+◌, ◌-◌, ◌*◌, ◌^◌, ◌<◌, ◌≤◌, List, true, false, length, get_or, refl, sym, ap, subst, ◌∙◌, arith}
+use Rattle.std.specs.Prelude.{nat_lt, if◌then◌else◌}
 use Rattle.std.proofs.lemmas.List.{get_or_past}
 use Rattle.std.proofs.lemmas.Bool.Decides.{nat_tests}
-use Rattle.fkv_index.specs.Slots.{bucket_slots, entry_tag, entry_addr, link_of}
-use Rattle.fkv_index.specs.Buckets.{overflow_bucket, IsLinked, IsAmong, IsFull, FillsUp, AreFilled, HasOneEntry, IsMember, IsOnce}
-use Rattle.fkv_index.specs.OneEntry.{Owner, Nobody, SpareOf, ListedAt, IsFresh, IsSlotWord}
+use Rattle.fkv_index.specs.Slots.{entry_tag, entry_addr, link_of}
+use Rattle.fkv_index.specs.Buckets.{overflow_bucket, IsLinked, IsAmong, AreFilled, HasOneEntry, IsMember, IsOnce}
+use Rattle.fkv_index.specs.OneEntry.{Owner, Nobody, ListedAt}
 use Rattle.fkv_filling.specs.Filled.{needed, link_words}
 use Rattle.fkv_filling.specs.OpeningIndex.{numbers_from}
 use Rattle.fkv_filling.proofs.Positions.{truth, below_or_not, same_or_not, link_slot, link_next}
@@ -114,10 +114,11 @@ linked_from {k} {v} {t} {chain} {below} {g} laid b j zero low are =
     ap link_of (subst (λ n. g (link_bucket k below b n) 7 ≡ 0) e (leads_nowhere laid b low))
 linked_from {k} {v} {t} {chain} {below} {g} laid b j (suc count) low are =
     let on = leads_on laid b j low (omega (arith, are)) in
-    let few = below_small laid b j low (omega (arith, are)) in
-    ((let some : 1 ≤ below b + j + 1 = omega arith in some),
-     ap link_of on ∙ (let e : link_of (below b + j + 1) ≡ below b + j + 1 = omega (arith, few, laid.room, laid.small) in e),
-     along k below (IsLinked k g) b j count (linked_from laid b (suc j) count low (omega (arith, are))))
+    let few = below_small laid b j low (omega (arith, are)) in (
+      (let some : 1 ≤ below b + j + 1 = omega arith in some),
+      ap link_of on ∙ (let e : link_of (below b + j + 1) ≡ below b + j + 1 = omega (arith, few, laid.room, laid.small) in e),
+      along k below (IsLinked k g) b j count (linked_from laid b (suc j) count low (omega (arith, are))),
+    )
 
 pub filled_from : {k v t : ℕ} {chain : ℕ → List ℕ} {below : ℕ → ℕ} {g : ℕ → ℕ → ℕ} (laid : IsLaid k v t chain below g) (b j count : ℕ) → b < k → j + count ≡ needed (length (chain b))
     → AreFilled k g (link_bucket k below b j) (rest_of below b j count)
@@ -126,9 +127,10 @@ filled_from {k} {v} {t} {chain} {below} {g} laid b j zero low are = λ i l befor
   | inl there ↦ absurd ((laid.entries b (7 * j + i) low there).some (sym (slot_at laid b j i low (omega (arith, are)) (omega (arith, before, few))) ∙ empty))
   | inr past ↦ slot_at laid b j l low (omega (arith, are)) few ∙ get_or_past (chain b) (7 * j + l) 0 (omega (arith, past, before))
 ]
-filled_from {k} {v} {t} {chain} {below} {g} laid b j (suc count) low are =
-    ((λ i few empty. (laid.entries b (7 * j + i) low (omega (arith, few, are))).some (sym (slot_at laid b j i low (omega (arith, are)) few) ∙ empty)),
-     along k below (AreFilled k g) b j count (filled_from laid b (suc j) count low (omega (arith, are))))
+filled_from {k} {v} {t} {chain} {below} {g} laid b j (suc count) low are = (
+  (λ i few empty. (laid.entries b (7 * j + i) low (omega (arith, few, are))).some (sym (slot_at laid b j i low (omega (arith, are)) few) ∙ empty)),
+  along k below (AreFilled k g) b j count (filled_from laid b (suc j) count low (omega (arith, are))),
+)
 
 -- one of the list is a link
 pub record IsLink (k : ℕ) (below : ℕ → ℕ) (b most m : ℕ) : Type 0 where

@@ -1,5 +1,6 @@
 mod EntriesFound
 mod FilledBuckets
+mod FilledIndex
 mod Laid
 mod Opening
 mod Positions

@@ -1,38 +1,28 @@
 -- Filled words are laid out as an index, and such an index is in order.
-use Rattle.std.proofs.Common.{◌≡◌, ◌⊎◌, inl, inr, ℕ, Bool, zero, suc, ◌+◌, ◌-◌, ◌*◌, ◌^◌, ◌<◌, ◌≤◌, List, [], ◌∷◌, ◌++◌, true, false, length, get_or, refl, sym, ap, subst, ◌∙◌, arith}
-use Rattle.std.specs.Prelude.{◌%◌, replicate, Contains, All}
+use Rattle.std.proofs.Common.{◌≡◌, ◌⊎◌, inl, inr, ℕ, zero, suc, ◌+◌, ◌-◌, ◌*◌, ◌^◌, ◌<◌, ◌≤◌, List, [], length, get_or, refl, sym, ap, subst, ◌∙◌, arith}
+use Rattle.std.specs.Prelude.{◌%◌, replicate}
 use Rattle.std.proofs.lemmas.List.{get_or_past}
-use Rattle.std.proofs.lemmas.List.Sorted.{length_permutation, All-permutation, Contains-permutation}
-use Rattle.std.proofs.lemmas.List.Elements.{All-weaker}
-use Rattle.fkv_words.specs.Layout.{entry_word}
 use Rattle.fkv_plane.specs.declared.places.Places.{Places}
-use Rattle.fkv_plane.specs.Places.{bucket_place}
-use Rattle.fkv_plane.specs.Asked.{word_at}
-use Rattle.fkv_index.specs.Slots.{entry_tag, entry_addr}
 use Rattle.fkv_index.specs.Buckets as index
 use Rattle.fkv_index.specs.Buckets.{overflow_bucket, IsMember, IsAmong}
 use Rattle.fkv_index.specs.IndexWorld.{taken_of, rested_actor}
 use Rattle.fkv_index.specs.OneEntry.{Owner, Nobody, SpareOf, ListedAt, AreOwned, IsSlotWord, IsFresh, IsIndex, spare_at}
-use Rattle.fkv_index.specs.Entries.{entry_at, entry_in, order_of}
-use Rattle.fkv_index.specs.declared.homes.Home.{Home}
-use Rattle.fkv_filling.specs.Filled.{needed, bucket_words, IsFilled}
-use Rattle.fkv_filling.specs.OpeningIndex.{AreHomes, HaveIndex, taken_below, numbers_from, opening_lists, home, IsNoHome, IsOpeningIndex, FilledIsInOrder}
+use Rattle.fkv_filling.specs.Filled.{needed, bucket_words}
+use Rattle.fkv_filling.specs.OpeningIndex.{taken_below, numbers_from}
 use Rattle.fkv_filling.specs.declared.home_entries.HomeEntry.{HomeEntry}
-use Rattle.fkv_filling.proofs.Positions.{below_or_not, below_chain, below_start, below_step, below_all, index_of, bucket_at, overflow_at, nothing_at, link_slot}
-use Rattle.fkv_filling.proofs.Laid.{IsEntry, IsLaid, link_bucket, slot_at, leads_on, leads_nowhere, below_grows, below_most, below_small, rest_of, linked_from, filled_from, among_from, one_from, there_if_some, member_in, member_of, numbers_once, holder, Holds, holder_holds, one_holds, owner_of, owner_there, owner_else, owner_zero}
-use Rattle.fkv_filling.proofs.EntriesFound.{words_from, order_is, entry_found, no_entry_found}
-use Rattle.fkv_filling.proofs.Tags.{word_of, tag_of, is_entry, tags_once, IsWordOf, words_are, words_have}
+use Rattle.fkv_filling.proofs.Positions.{below_or_not, below_chain, below_start, below_step}
+use Rattle.fkv_filling.proofs.Laid.{IsLaid, link_bucket, slot_at, leads_on, leads_nowhere, below_most, below_small, rest_of, linked_from, filled_from, among_from, one_from, member_in, member_of, numbers_once, holder, Holds, holder_holds, one_holds, owner_of, owner_there, owner_else, owner_zero}
 
 no_spare : (n actor : ℕ) → spare_at (replicate n rested_actor) actor ≡ 0
 no_spare zero actor = refl
 no_spare (suc n) zero = refl
 no_spare (suc n) (suc actor) = no_spare n actor
 
-none_listed : (first : ℕ) → numbers_from first 0 ≡ []
+pub none_listed : (first : ℕ) → numbers_from first 0 ≡ []
 unfolding numbers_from
 none_listed first = refl
 
-below_is : (chains : List (List ℕ)) (entries : List HomeEntry) → ((b : ℕ) → length (get_or chains b []) ≡ length (bucket_words b entries)) → (b : ℕ) → taken_below entries b ≡ below_chain chains b
+pub below_is : (chains : List (List ℕ)) (entries : List HomeEntry) → ((b : ℕ) → length (get_or chains b []) ≡ length (bucket_words b entries)) → (b : ℕ) → taken_below entries b ≡ below_chain chains b
 unfolding taken_below
 below_is chains entries same zero = sym (below_start chains)
 below_is chains entries same (suc b) =
@@ -93,10 +83,13 @@ module _ {k v t : ℕ} {chain : ℕ → List ℕ} {below : ℕ → ℕ} {g : ℕ
       let h = holds n low in
       let from = h.from in
       let to = h.to in
-      let step = laid.step (holder below k n) in
-      (holder below k n, n - below (holder below k n), h.there,
-       (let e : n - below (holder below k n) < needed (length (chain (holder below k n))) = omega (arith, from, to, step) in e),
-       (let e : n ≡ below (holder below k n) + (n - below (holder below k n)) = omega (arith, from) in e))
+      let step = laid.step (holder below k n) in (
+        holder below k n,
+        n - below (holder below k n),
+        h.there,
+        (let e : n - below (holder below k n) < needed (length (chain (holder below k n))) = omega (arith, from, to, step) in e),
+        (let e : n ≡ below (holder below k n) + (n - below (holder below k n)) = omega (arith, from) in e),
+      )
 
   chain_word : (b n : ℕ) → b < k → IsSlotWord (get_or (chain b) n 0)
   chain_word b n low = elim (below_or_not n (length (chain b))) [

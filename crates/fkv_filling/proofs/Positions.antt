@@ -1,5 +1,5 @@
 -- Where each word of a filled index stands.
-use Rattle.std.proofs.Common.{◌≡◌, ◌⊎◌, inl, inr, ℕ, Bool, zero, suc, ◌+◌, ◌-◌, ◌*◌, ◌<◌, ◌≤◌, List, [], ◌∷◌, ◌++◌, true, false, length, take, drop, get_or, refl, sym, ap, subst, ◌∙◌, arith}
+use Rattle.std.proofs.Common.{◌≡◌, ◌⊎◌, inl, inr, ℕ, Bool, zero, suc, ◌+◌, ◌-◌, ◌*◌, ◌<◌, ◌≤◌, List, [], ◌∷◌, ◌++◌, true, false, length, take, drop, get_or, refl, sym, ap, ◌∙◌, arith}
 use Rattle.std.specs.Prelude.{nat_lt, nat_eq, replicate, if◌then◌else◌}
 use Rattle.std.proofs.Math.ListN.{get_or-append}
 use Rattle.std.proofs.lemmas.List.{get_or-take, get_or-drop, get_or_past, get_or-append_right, get_or-replicate, length-append, length-take, length-replicate}
@@ -147,7 +147,7 @@ other_at taken (c ∷ chains) (suc b) j i low few =
     let left : 8 * (needed (length c) + below_chain chains b + j) + i - 8 * needed (length c) ≡ 8 * (below_chain chains b + j) + i = omega arith in
     let from : taken + needed (length c) + below_chain chains b ≡ taken + (needed (length c) + below_chain chains b) = omega arith in
     get_or-append_right (other_links c taken) (filled_by other_links (taken + needed (length c)) chains) (8 * needed (length c)) (8 * (needed (length c) + below_chain chains b + j) + i) 0
-        (length-behind c taken (needed (length c))) (omega arith)
+    (length-behind c taken (needed (length c))) (omega arith)
     ∙ ap (λ k. get_or (filled_by other_links (taken + needed (length c)) chains) k 0) left
     ∙ other_at (taken + needed (length c)) chains b j i low few
     ∙ ap (λ n. get_or (link_words (get_or chains b []) n (suc j)) i 0) from

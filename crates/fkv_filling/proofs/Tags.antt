@@ -1,5 +1,5 @@
 -- The words of a bucket's entries: each is an entry's, and no tag stands twice.
-use Rattle.std.proofs.Common.{◌≡◌, ◌⊎◌, inl, inr, ℕ, Bool, zero, suc, ◌+◌, ◌*◌, ◌^◌, ◌<◌, ◌≤◌, List, [], ◌∷◌, true, false, cond, length, map, get_or, refl, sym, ap, subst, ◌∙◌, arith}
+use Rattle.std.proofs.Common.{◌≡◌, inl, inr, ℕ, Bool, zero, suc, ◌+◌, ◌*◌, ◌^◌, ◌<◌, ◌≤◌, List, [], ◌∷◌, true, false, cond, length, map, get_or, refl, sym, ap, subst, ◌∙◌, arith}
 use Rattle.std.specs.Prelude.{nat_eq, sum_by, All, AllPairs, Contains}
 use Rattle.std.specs.List.{filter, AllByRecursion}
 use Rattle.std.specs.List.Sorted.{IsPermutation}
@@ -80,16 +80,16 @@ none_left b tag [] apart = refl
 none_left b tag (x ∷ xs) apart =
     count_cons tag b x xs
     ∙ none_more (nat_eq x.bucket b) (nat_eq (entry_tag (word_of x)) tag) (count tag (bucket_words b xs)) (none_left b tag xs apart.1)
-        (λ here same. apart.0 (same_of x.bucket b here) (sym (tag_of x) ∙ same_of (entry_tag (word_of x)) tag same))
+    (λ here same. apart.0 (same_of x.bucket b here) (sym (tag_of x) ∙ same_of (entry_tag (word_of x)) tag same))
 
 tags_few : (b tag : ℕ) (xs : List HomeEntry) → AllPairs AreApart xs → count tag (bucket_words b xs) ≤ 1
 tags_few b tag [] apart = let e : 0 ≤ 1 = omega arith in e
 tags_few b tag (x ∷ xs) apart =
     subst (λ n. n ≤ 1) (sym (count_cons tag b x xs))
     (one_more (nat_eq x.bucket b) (nat_eq (entry_tag (word_of x)) tag) (count tag (bucket_words b xs))
-        (tags_few b tag xs (λ i j d low within. apart (suc i) (suc j) d (omega (arith, low)) (omega (arith, within))))
-        (λ here same. none_left b tag xs (recursion_from_All (λ y. y.bucket ≡ b → y.entry.tag ≡ tag → ⊥) xs
-            (λ k d within in_b its. apart zero (suc k) d (omega arith) (omega (arith, within)) (same_of x.bucket b here ∙ sym in_b) (sym (tag_of x) ∙ same_of (entry_tag (word_of x)) tag same ∙ sym its)))))
+    (tags_few b tag xs (λ i j d low within. apart (suc i) (suc j) d (omega (arith, low)) (omega (arith, within))))
+    (λ here same. none_left b tag xs (recursion_from_All (λ y. y.bucket ≡ b → y.entry.tag ≡ tag → ⊥) xs
+    (λ k d within in_b its. apart zero (suc k) d (omega arith) (omega (arith, within)) (same_of x.bucket b here ∙ sym in_b) (sym (tag_of x) ∙ same_of (entry_tag (word_of x)) tag same ∙ sym its)))))
 
 one_count : (tag : ℕ) (words : List ℕ) (j : ℕ) → j < length words → entry_tag (get_or words j 0) ≡ tag → 1 ≤ count tag words
 one_count tag [] j low is = absurd (omega (arith, low))
@@ -114,12 +114,12 @@ tags_once b xs words apart same k l few low is =
     let one = tags_few b (entry_tag (get_or words l 0)) xs apart in
     let perm = sum_by-IsPermutation (has_tag (entry_tag (get_or words l 0))) (bucket_words b xs) words same in
     elim (below_or_not k l) [
-  | inl before ↦ let two = two_count (entry_tag (get_or words l 0)) words k l before low is refl in absurd (omega (arith, two, one, perm))
-  | inr behind ↦ elim (below_or_not l k) [
-    | inl before ↦ let two = two_count (entry_tag (get_or words l 0)) words l k before few refl is in absurd (omega (arith, two, one, perm))
-    | inr at ↦ omega (arith, at, behind)
-  ]
-]
+      | inl before ↦ let two = two_count (entry_tag (get_or words l 0)) words k l before low is refl in absurd (omega (arith, two, one, perm))
+      | inr behind ↦ elim (below_or_not l k) [
+        | inl before ↦ let two = two_count (entry_tag (get_or words l 0)) words l k before few refl is in absurd (omega (arith, two, one, perm))
+        | inr at ↦ omega (arith, at, behind)
+      ]
+    ]
 
 -- the word of an entry of the bucket
 pub record IsWordOf (b : ℕ) (xs : List HomeEntry) (word : ℕ) : Type 0 where

@@ -40,7 +40,12 @@ pub fn index_words(alloc: Global, shape: &Shape, entries: &[HomeEntry]) -> Resul
 }
 
 /// The words of a bucket's entries, by tag.
-fn sorted_words(alloc: Global, shape: &Shape, entries: &[HomeEntry], bucket: u64) -> Result<Vec<u64>, Fault>
+fn sorted_words(
+    alloc: Global,
+    shape: &Shape,
+    entries: &[HomeEntry],
+    bucket: u64,
+) -> Result<Vec<u64>, Fault>
     requires { length entries.now ≤ 7 * (2 ^ shape.now.bucket_bits + shape.now.overflow) }
     ensures ok { IfOk result (λ words. AreByTag (bucket_words bucket entries.now) words.items) }
     ensures few { IfOk result (λ words. length words.items ≤ all_slots) }

@@ -3,6 +3,8 @@
 
 mod filling;
 mod home_entries;
+mod laws;
 
-pub use home_entries::HomeEntry;
 pub use filling::{IndexWords, index_words};
+pub use home_entries::HomeEntry;
+pub use laws::law_filled_index_is_in_order;
