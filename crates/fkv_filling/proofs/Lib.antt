@@ -5,3 +5,4 @@ mod Laid
 mod Opening
 mod Positions
 mod Tags
+pub mod Shown
