@@ -1,0 +1,8 @@
+mod EntriesFound
+mod FilledBuckets
+mod FilledIndex
+mod Laid
+mod Opening
+mod Positions
+mod Tags
+pub mod Shown
