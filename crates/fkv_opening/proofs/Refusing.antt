@@ -1,24 +1,21 @@
 -- Why a stage is refused is why recovery is.
-use Rattle.std.proofs.Common.{◌≡◌, ℕ, ◌<◌, ◌≤◌, ◌*◌, ◌^◌, List, sym, ap, subst, ◌∙◌, arith}
-use Rattle.std.specs.Prelude.{IsTrue}
+use Rattle.std.proofs.Common.{◌≡◌, ℕ, ◌<◌, ◌≤◌, ◌*◌, ◌^◌, List, arith}
 use Rattle.std.proofs.Math.Nat.{mul-le-mul}
 use Rattle.fkv_base.proofs.Shown.{ring_between}
-use Rattle.fkv_base.specs.Limits.{min_page, max_page, max_disk_pages, is_ring_size}
+use Rattle.fkv_base.specs.Limits.{min_page, max_page}
 use Rattle.fkv_base.specs.declared.faults.Fault.{Fault}
 use Rattle.fkv_base.specs.declared.faults.Fault.TheVariants as fault
 use Rattle.fkv_base.specs.declared.faults.Damage.TheVariants as damage
 use Rattle.fkv_base.specs.declared.shapes.Shape.{Shape}
-use Rattle.fkv_disk.specs.Device.{Rose}
-use Rattle.fkv_record.specs.declared.triples.Triple.{Triple}
 use Rattle.fkv_scan.specs.declared.scans.Scanned.{Scanned}
-use Rattle.fkv_scan.specs.Checkpoint.{Checkpoint, checkpoint_in, IsUnread, IsTripleFault}
+use Rattle.fkv_scan.specs.Checkpoint.{checkpoint_in, IsUnread}
 use Rattle.fkv_scan.specs.Log.{Log}
 use Rattle.fkv_scan.proofs.Shown.{rose_before}
 use Rattle.fkv_room.specs.Refused.{IsRefused as IsRoomRefused, IsSound as IsRoomSound}
 use Rattle.fkv_newest.specs.declared.newest_slots.Newest.{Newest}
 use Rattle.fkv_newest.specs.Newest.{IsNewestOf}
 use Rattle.fkv_newest.specs.Refused.{IsRefused as IsNewestRefused}
-use Rattle.fkv_opening.specs.Faults.{log_of, HasCheckpoint, IsLogFault, of_room, IsFaultOf, of_newest, of_triples, of_log, IsRefused}
+use Rattle.fkv_opening.specs.Faults.{IsLogFault, of_room, IsFaultOf, of_newest, of_triples, IsRefused}
 
 -- a log is shorter than what an address can name
 pub log_short : (s : Shape) (end : ℕ) → end ≤ s.disk_pages * s.page → end < 2 ^ 48

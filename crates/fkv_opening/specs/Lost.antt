@@ -1,5 +1,5 @@
 -- The lost ranges that a store has in hand once it is opened.
-use Rattle.std.specs.Prelude.{◌≡◌, ℕ, ◌+◌, ◌++◌, Bool, true, false, List, [], ◌∷◌}
+use Rattle.std.specs.Prelude.{◌≡◌, ◌+◌, ◌++◌, Bool, true, false, List, [], ◌∷◌}
 use Rattle.fkv_record.specs.declared.lost_ranges.LostRange.{LostRange}
 use Rattle.fkv_scan.specs.Log.{Log}
 use Rattle.fkv_scan.specs.Scanned.{TellsNewer}

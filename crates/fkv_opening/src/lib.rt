@@ -13,3 +13,5 @@ pub use opened_store::{Checkpoint, MAX_LOST_IN_HAND, Opened};
 pub use opening_words::{OpeningWords, SessionWords};
 pub use recovery::recover;
 
+#[cfg(test)]
+mod tests;

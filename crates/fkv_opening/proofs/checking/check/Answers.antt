@@ -1,5 +1,5 @@
 use Rattle.std.proofs.Common.{◌≡◌, refl, sym, ap, subst}
-use Rattle.fkv_scan.specs.Log.{Log, log_in}
+use Rattle.fkv_scan.specs.Log.{log_in}
 use Rattle.fkv_scan.specs.Scanned.{AreScanned}
 use Rattle.fkv_chains.specs.Chains.{HasChains}
 use Rattle.fkv_opening.proofs.Refusing.{of_the_room}

@@ -1,4 +1,4 @@
-use Rattle.std.proofs.Common.{◌≡◌, [], ◌∷◌, ◌++◌, sym, ap, subst, ◌∙◌}
+use Rattle.std.proofs.Common.{[], ◌∷◌, ◌++◌, sym, ap, subst, ◌∙◌}
 use Rattle.fkv_scan.specs.Log.{log_in}
 use Rattle.fkv_opening.specs.Lost.{Extends}
 use Rattle.fkv_opening.proofs.making.lost_in_hand.Goals as goal

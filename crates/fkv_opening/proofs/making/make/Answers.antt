@@ -1,4 +1,4 @@
-use Rattle.std.proofs.Common.{◌≡◌, refl}
+use Rattle.std.proofs.Common.{refl}
 use Rattle.fkv_opening.specs.Faults.{log_of}
 use Rattle.fkv_opening.proofs.Refusing.{log_short}
 use Rattle.fkv_opening.proofs.Telling.{IsBounded, are_entries}
