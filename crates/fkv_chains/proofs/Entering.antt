@@ -18,7 +18,7 @@ use Rattle.fkv_chains.proofs.FollowedTo.{none_along}
 use Rattle.fkv_chains.proofs.Ways.{to_follow}
 use Rattle.fkv_chains.proofs.Reaching.{Told, of_scan, of_chain, told_of}
 
-along_some : (log : Log) (a b : ℕ) → IsAlong log a b → a ≢ 0
+pub along_some : (log : Log) (a b : ℕ) → IsAlong log a b → a ≢ 0
 along_some log a b (here _ some) = some
 along_some log a b (on _ _ x some stands rest) = some
 

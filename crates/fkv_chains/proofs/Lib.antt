@@ -5,3 +5,4 @@ mod Quieter
 mod Reaching
 mod Staging
 mod Ways
+pub mod Shown

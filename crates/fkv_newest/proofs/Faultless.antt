@@ -11,7 +11,7 @@ use Rattle.fkv_record.specs.Places.{open_number}
 use Rattle.fkv_newest.specs.declared.newest_slots.Newest.{Newest}
 use Rattle.fkv_newest.specs.Newest.{slot_place, IsStore, IsManifest, IsManifestFault, IsNewestFault, IsNewestOf, ShowSame}
 
-one_index : (a b : ℕ) → Some (slot_place a) ≡ Some (slot_place b) → a ≡ b
+pub one_index : (a b : ℕ) → Some (slot_place a) ≡ Some (slot_place b) → a ≡ b
 one_index a b is = (let same : slot_place a ≡ slot_place b = cc in omega (arith, same))
 
 pub no_fault : SpellsApart shape_bytes → (image : List ℕ) (n : Newest) (why : Fault) → IsNewestOf image n → IsNewestFault image why → ⊥

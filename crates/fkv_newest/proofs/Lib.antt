@@ -4,3 +4,4 @@ mod Finding
 mod Heading
 mod Losing
 mod Refusing
+pub mod Shown

@@ -49,7 +49,7 @@ told_none : (log : Log) (h : ℕ) (s : HomeScan) → IsHomeScan log h s → has_
 unfolding has_entry
 told_none log h s is has = entry_none log h s.newest is.way is.newest is.below (subst (λ b. (is_some s.newest || goes_on b) ≡ false) is.known has)
 
-unmet_none : (log : Log) (h : ℕ) → IsUnmet log h log.tail → IsEntryOf log h None
+pub unmet_none : (log : Log) (h : ℕ) → IsUnmet log h log.tail → IsEntryOf log h None
 unmet_none log h unmet = (λ b y from to counts. unmet.records b y from to counts.kept.here, record { there = by_none unmet.triples refl; alone = alone })
   where
     alone : (q : ℕ) → GoesOn log h log.tail q → q ≡ 0

@@ -3,3 +3,4 @@ mod Entering
 mod Filling
 mod Listing
 mod Unique
+pub mod Shown

@@ -54,7 +54,7 @@ sum_most f (x ∷ xs) ys apart among =
     omega (arith, sum_by-cons f x xs, here, rest)
 
 module _ (log : Log) (xs ys : List ℕ) (first : AreHomes log xs) (second : AreHomes log ys) where
-  same_count : (b : ℕ) → in_bucket xs b ≡ in_bucket ys b
+  pub same_count : (b : ℕ) → in_bucket xs b ≡ in_bucket ys b
   same_count b =
       let f = λ (h : ℕ). cond (nat_eq (h / 2 ^ 15) b) 1 0 in
       let le = sum_most f xs ys first.once (λ h has. (second.all h).1 ((first.all h).0 has)) in

@@ -12,3 +12,4 @@ mod Standing
 mod Taking
 mod Triples
 mod Ways
+pub mod Shown

@@ -1,0 +1,4 @@
+mod Exact
+mod Listing
+mod Refusing
+mod Telling

@@ -1,0 +1,7 @@
+use Rattle.std.proofs.Common.{◌≡◌, map, ◌++◌}
+use Rattle.fkv_opening.specs.Entries.{place_of}
+use Rattle.fkv_opening.specs.Listed.{listed}
+use Rattle.fkv_opening.proofs.entries.entries_of.Given as goal
+
+abbrev pub invariant-loop-home : goal.invariant-loop-home
+invariant-loop-home l = map place_of l.entries.items ++ listed l.home-iterator ≡ listed l.homes.entries

@@ -1,0 +1,31 @@
+use Rattle.std.proofs.Common.{refl}
+use Rattle.fkv_opening.specs.Faults.{log_of}
+use Rattle.fkv_opening.proofs.Refusing.{log_short}
+use Rattle.fkv_opening.proofs.Telling.{IsBounded, are_entries}
+use Rattle.fkv_opening.proofs.making.make.Goals as goal
+
+pub returns-clause-ok : goal.returns-clause-ok
+returns-clause-ok c = λ image triples has scanned sound.
+    let n = c.args.newest in
+    let log = log_of image n triples in
+    let bounds : IsBounded log = record { some = n.fits.log.some; upwards = n.fits.log.upwards; short = log_short n.shape n.slot.end.0 n.fits.log.on_disk } in
+    record {
+      newest = n;
+      triples = triples;
+      checkpoint = has;
+      sound = sound;
+      tells = record {
+        shape = refl;
+        number = refl;
+        tail = refl;
+        points = c.in_ok-points.ensures.ok;
+        gate_0 = c.gates-gates.ensures.gate_0;
+        gate_1 = c.gates-gates.ensures.gate_1;
+        checkpoint = refl;
+        first = refl;
+        triples = refl;
+        area = refl;
+      };
+      entries = are_entries log c.args.scanned.now c.law_entries.ensures bounds (λ i x is. (has.stored.each i x is).in_log) scanned sound.chains c.in_ok-entries.ensures.ordered c.in_ok-entries.entries.items c.in_ok-entries.ensures.ok;
+      lost = record { left_out = c.args.scanned.now.newer; tells = scanned.newer; extends = c.lost_in_hand-lost.ensures image n.shape triples };
+    }

@@ -1,0 +1,6 @@
+pub mod Entries
+pub mod Faults
+pub mod Listed
+pub mod Lost
+pub mod Opened
+pub mod Opening

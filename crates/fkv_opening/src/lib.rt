@@ -1,0 +1,17 @@
+//! Opening a store: recovery of any bytes, in each of the three formats, as one call.
+#![tactic(auto)]
+
+mod checking;
+mod entries;
+mod making;
+mod opened_store;
+mod opening_words;
+mod recovery;
+
+pub use entries::HomeEntry;
+pub use opened_store::{Checkpoint, MAX_LOST_IN_HAND, Opened};
+pub use opening_words::{OpeningWords, SessionWords};
+pub use recovery::recover;
+
+#[cfg(test)]
+mod tests;
