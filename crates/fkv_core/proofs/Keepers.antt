@@ -1,12 +1,13 @@
 -- The keeper's step, with and without a call of the device.
 use Rattle.std.proofs.Common.{◌≡◌, ◌∙◌, sym, ap, subst, ℕ, Bool, false, true, List, [], ◌++◌, refl, arith, rules, inl}
-use Rattle.std.specs.Prelude.{is_ok}
+use Rattle.std.specs.Prelude.{is_ok, Result, Ok, Err, OnErr, IsErr, ◌<◌}
 use Rattle.fkv_disk.specs.Calls.{Call}
-use Rattle.fkv_disk.specs.Device.{Elapses}
+use Rattle.fkv_base.specs.declared.faults.Fault.{Fault}
+use Rattle.fkv_disk.specs.Device.{Elapses, HasCause, MakesCalls, Rose}
 use Rattle.fkv_flush.specs.Devices.{Adds}
 use Rattle.fkv_keeper.specs.declared.answers.KeeperTold.{KeeperTold}
 use Rattle.fkv_keeper.specs.declared.answers.KeeperTold.TheVariants.{Device}
-use Rattle.fkv_keeper.specs.KeeperAsks.{IsDeviceStep, keeper_calls, keeper_read}
+use Rattle.fkv_keeper.specs.KeeperAsks.{IsDeviceStep, keeper_calls, keeper_made, keeper_read}
 use Rattle.fkv_keeper.specs.Keeping.{KeeperModel, KeeperState, keeper_ask, keeper_called}
 use Rattle.fkv_plane.specs.declared.asks.Ask.{Ask}
 use Rattle.fkv_plane.specs.declared.asks.Ask.TheVariants.{Done}
@@ -14,7 +15,7 @@ use Rattle.fkv_plane.specs.Passing.{is_done}
 use Rattle.fkv_plane.specs.Plane.{Plane}
 use Rattle.fkv_world.specs.Moves.{Near, keeper_asks, keeper_moved}
 use Rattle.fkv_world.specs.Past.{calls_after}
-use Rattle.fkv_core.specs.Worlds.{beside, IsKeeperMove}
+use Rattle.fkv_core.specs.Worlds.{beside, IsKeeperMove, MakesItsCalls, UsesDevice}
 
 -- a word's ask makes no call of the device
 no_calls : (ask : Ask KeeperTold) (made : List Call) → is_done ask ≡ false → calls_after ask made [] ≡ []
@@ -24,14 +25,20 @@ no_calls ask made word = refl
 adds_none : (made : List Call) (seen : List ℕ) (may_leave : List ℕ → Type 0) → made ≡ [] → Adds made seen seen may_leave may_leave
 adds_none made seen may_leave none = subst (λ (its : List Call). Adds its seen seen may_leave may_leave) (sym none) (λ opening calls was. was)
 
-pub word_move : (plane plane' : Plane) (k k' : KeeperModel) (honest : Type 0) (seen : List ℕ) (may_leave : List ℕ → Type 0) → is_done (keeper_ask k.shape k.places k.state) ≡ false
+-- nor does it come near the device
+spares_device : (ask : Ask KeeperTold) (count : ℕ) (done : Bool) (failed : ℕ) (refuses : ℕ → Bool) → is_done ask ≡ false → UsesDevice ask count done failed failed refuses refuses
+spares_device (Done told) count done failed refuses word = cc
+spares_device ask count done failed refuses word = (refl, refl)
+
+pub word_move : (plane plane' : Plane) (k k' : KeeperModel) (failed : ℕ) (refuses : ℕ → Bool) (honest : Type 0) (seen : List ℕ) (may_leave : List ℕ → Type 0) → is_done (keeper_ask k.shape k.places k.state) ≡ false
     → k' ≡ record k { state = k'.state } → (granted : Bool) × ((done : Bool) (read : List ℕ) → beside plane' k'.state ≡ keeper_moved k.shape k.places granted done read (beside plane k.state))
-    → IsKeeperMove plane k plane' k' honest seen seen may_leave may_leave
-word_move plane plane' k k' honest seen may_leave word store moved = record {
+    → IsKeeperMove plane k plane' k' failed failed refuses refuses honest seen seen may_leave may_leave
+word_move plane plane' k k' failed refuses honest seen may_leave word store moved = record {
   granted = moved.0;
   done = true;
   read = [];
   store = store;
+  uses = spares_device (keeper_ask k.shape k.places k.state) (keeper_made k.places k.state) true failed refuses word;
   moved = moved.1 true [];
   as_read = λ claim. moved.1 true (keeper_read k seen);
   wrote = λ claim. adds_none (calls_after (keeper_ask k.shape k.places k.state) (keeper_calls k.shape k.state true) []) seen may_leave (no_calls (keeper_ask k.shape k.places k.state) (keeper_calls k.shape k.state true) word);
@@ -52,8 +59,30 @@ made_all made = search rules
 calls_device : (ask : Ask KeeperTold) (made : List Call) → ask ≡ Done Device → calls_after ask made [] ≡ made
 calls_device ask made asks = ap (λ (it : Ask KeeperTold). calls_after it made []) asks ∙ made_all made
 
+-- what is told of the call's result is told of whether it succeeded
+is_false : {T : Type 0} (called : Result T Fault) (failed failed' : ℕ) → OnErr called (Rose failed failed') → is_ok called ≡ false → Rose failed failed'
+is_false (Ok its) failed failed' rose e = cc
+is_false (Err why) failed failed' rose e = rose
+
+is_err : {T : Type 0} (called : Result T Fault) → IsErr called → is_ok called ≡ false
+is_err (Ok its) is = cc
+is_err (Err why) is = refl
+
+used_so : {T : Type 0} (count : ℕ) (called : Result T Fault) (failed failed' : ℕ) (refuses refuses' : ℕ → Bool) → HasCause failed failed' called → MakesCalls count refuses refuses' called
+    → MakesItsCalls count (is_ok called) failed failed' refuses refuses'
+used_so count called failed failed' refuses refuses' cause made = record {
+  later = cause.later;
+  rose = is_false called failed failed' cause.rose;
+  counted = made.counted;
+  refused = λ i small it. is_err called (made.refused i small it);
+}
+
+uses_device : (ask : Ask KeeperTold) (count : ℕ) (done : Bool) (failed failed' : ℕ) (refuses refuses' : ℕ → Bool) → ask ≡ Done Device → MakesItsCalls count done failed failed' refuses refuses'
+    → UsesDevice ask count done failed failed' refuses refuses'
+uses_device ask count done failed failed' refuses refuses' asks made = rw asks made
+
 pub device_move : (plane : Plane) (k k' : KeeperModel) (honest : Type 0) (failed failed' : ℕ) (refuses refuses' : ℕ → Bool) (seen seen' : List ℕ) (may_leave may_leave' : List ℕ → Type 0)
-    → keeper_ask k.shape k.places k.state ≡ Done Device → IsDeviceStep k honest failed failed' refuses refuses' seen seen' may_leave may_leave' k' → IsKeeperMove plane k plane k' honest seen seen' may_leave may_leave'
+    → keeper_ask k.shape k.places k.state ≡ Done Device → IsDeviceStep k honest failed failed' refuses refuses' seen seen' may_leave may_leave' k' → IsKeeperMove plane k plane k' failed failed' refuses refuses' honest seen seen' may_leave may_leave'
 device_move plane k k' honest failed failed' refuses refuses' seen seen' may_leave may_leave' asks step =
     let n : Near KeeperState = beside plane k.state in
     let made : List Call = keeper_calls k.shape k.state (is_ok step.called) in
@@ -61,6 +90,7 @@ device_move plane k k' honest failed failed' refuses refuses' seen seen' may_lea
       granted = true;
       done = is_ok step.called;
       read = step.bytes;
+      uses = uses_device (keeper_ask k.shape k.places k.state) (keeper_made k.places k.state) (is_ok step.called) failed failed' refuses refuses' asks (used_so (keeper_made k.places k.state) step.called failed failed' refuses refuses' step.cause step.counted);
       store = step.went_on ∙ ap (λ (it : KeeperModel). record k { state = it.state }) (sym step.went_on);
       moved = ap (λ (it : KeeperModel). beside plane it.state) step.went_on ∙ called_moved k n (is_ok step.called) step.bytes true asks;
       as_read = λ claim. ap (λ (it : KeeperModel). beside plane it.state) (step.read claim) ∙ called_moved k n (is_ok step.called) (keeper_read k seen) true asks;

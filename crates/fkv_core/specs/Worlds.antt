@@ -1,11 +1,17 @@
 -- What the Rust world shows.
-use Rattle.std.specs.Prelude.{◌≡◌, ℕ, Bool, if◌then◌else◌, List, [], map, Option, None, Some, slice_get, slice_set}
+use Rattle.std.specs.Prelude.{◌≡◌, ◌<◌, ◌≤◌, ℕ, Bool, true, false, if◌then◌else◌, List, [], map, Option, None, Some, slice_get, slice_set}
 use Rattle.fkv_base.specs.declared.shapes.Shape.{Shape}
 use Rattle.fkv_disk.specs.Bytes.{bytes_at}
 use Rattle.fkv_disk.specs.Calls.{Call as DeviceCall}
+use Rattle.fkv_disk.specs.Device.{Rose}
+use Rattle.fkv_disk.specs.Device as device
 use Rattle.fkv_flush.specs.Serving.{mail_place}
 use Rattle.fkv_flush.specs.Devices.{Adds}
-use Rattle.fkv_keeper.specs.KeeperAsks.{keeper_calls, keeper_read}
+use Rattle.fkv_keeper.specs.declared.answers.KeeperTold.{KeeperTold}
+use Rattle.fkv_keeper.specs.declared.answers.KeeperTold.TheVariants.{Device}
+use Rattle.fkv_plane.specs.declared.asks.Ask.{Ask}
+use Rattle.fkv_plane.specs.declared.asks.Ask.TheVariants.{Done}
+use Rattle.fkv_keeper.specs.KeeperAsks.{keeper_calls, keeper_made, keeper_read}
 use Rattle.fkv_keeper.specs.Keeping.{KeeperModel, keeper_ask}
 use Rattle.fkv_map.specs.declared.operations.Call.{Call}
 use Rattle.fkv_plane.specs.declared.places.Places.{Places}
@@ -24,13 +30,38 @@ use Rattle.fkv_core.specs.Told.{IsNumbered, IsTold, may_begin, may_move}
 abbrev pub beside : {S : Type 0} → Plane → S → Near S
 beside plane machine = record { machine = machine; words = plane.words; actions = plane.actions }
 
+-- How a step uses the device. Where the keeper asks for it, so many calls are made, no fewer and no more; a call fails only where the device counts a
+-- failure then, and each that the device said it refuses does. No other ask comes near it.
+pub record MakesItsCalls (count : ℕ) (done : Bool) (failed failed' : ℕ) (refuses refuses' : ℕ → Bool) : Type 0 where
+  pub later : failed ≤ failed'
+  pub rose : done ≡ false → Rose failed failed'
+  pub counted : refuses' ≡ device.after count refuses
+  pub refused : (i : ℕ) → i < count → refuses i ≡ true → done ≡ false
+
+abbrev pub SparesDevice : ℕ → ℕ → (ℕ → Bool) → (ℕ → Bool) → Type 0
+SparesDevice failed failed' refuses refuses' = (failed' ≡ failed) × (refuses' ≡ refuses)
+
+abbrev pub UsesDevice : Ask KeeperTold → ℕ → Bool → ℕ → ℕ → (ℕ → Bool) → (ℕ → Bool) → Type 0
+UsesDevice (Done Device) count done failed failed' refuses refuses' = MakesItsCalls count done failed failed' refuses refuses'
+UsesDevice ask count done failed failed' refuses refuses' = SparesDevice failed failed' refuses refuses'
+
+-- so it is of an event: the keeper's moves alone use it, and after a crash nothing does
+abbrev pub LiveEventUses : Now → event.Event → Bool → ℕ → ℕ → (ℕ → Bool) → (ℕ → Bool) → Type 0
+LiveEventUses n events.KeeperMove done failed failed' refuses refuses' = UsesDevice (keeper_ask n.shape n.places n.keeper) (keeper_made n.places n.keeper) done failed failed' refuses refuses'
+LiveEventUses n its done failed failed' refuses refuses' = SparesDevice failed failed' refuses refuses'
+
+abbrev pub EventUses : Bool → Now → event.Event → Bool → ℕ → ℕ → (ℕ → Bool) → (ℕ → Bool) → Type 0
+EventUses true n its done failed failed' refuses refuses' = SparesDevice failed failed' refuses refuses'
+EventUses false n its done failed failed' refuses refuses' = LiveEventUses n its done failed failed' refuses refuses'
+
 -- The keeper's step beside the words and a device: whether memory was granted, whether the call of the device succeeded, and what it read. An honest device
 -- took what the keeper writes, and gave what it reads as.
-pub record IsKeeperMove (plane : Plane) (k : KeeperModel) (plane' : Plane) (k' : KeeperModel) (honest : Type 0) (seen seen' : List ℕ) (may_leave may_leave' : List ℕ → Type 0) : Type 0 where
+pub record IsKeeperMove (plane : Plane) (k : KeeperModel) (plane' : Plane) (k' : KeeperModel) (failed failed' : ℕ) (refuses refuses' : ℕ → Bool) (honest : Type 0) (seen seen' : List ℕ) (may_leave may_leave' : List ℕ → Type 0) : Type 0 where
   pub granted : Bool
   pub done : Bool
   pub read : List ℕ
   pub store : k' ≡ record k { state = k'.state }
+  pub uses : UsesDevice (keeper_ask k.shape k.places k.state) (keeper_made k.places k.state) done failed failed' refuses refuses'
   pub moved : beside plane' k'.state ≡ keeper_moved k.shape k.places granted done read (beside plane k.state)
   pub as_read : honest → beside plane' k'.state ≡ keeper_moved k.shape k.places granted done (keeper_read k seen) (beside plane k.state)
   pub wrote : honest → Adds (calls_after (keeper_ask k.shape k.places k.state) (keeper_calls k.shape k.state done) []) seen seen' may_leave may_leave'
@@ -103,12 +134,13 @@ calls_made n event = if n.crashed then [] else event_calls n event
 
 -- One step of the world, and what it told: with the event that took place it leaves what the rules of the world give, whatever the device read.
 -- Over an honest device, which took what the event writes and gave what it reads as, it goes on with the run of each list of events that shows this world.
-pub record IsStep (its : event.Event) (n after : Now) (told : Option Told) (honest : Type 0) (seen seen' : List ℕ) (may_leave may_leave' : List ℕ → Type 0) : Type 0 where
+pub record IsStep (its : event.Event) (n after : Now) (told : Option Told) (failed failed' : ℕ) (refuses refuses' : ℕ → Bool) (honest : Type 0) (seen seen' : List ℕ) (may_leave may_leave' : List ℕ → Type 0) : Type 0 where
   pub granted : Bool
   pub done : Bool
   pub read : List ℕ
   pub now : after ≡ happens_now n read (took_place its granted done)
   pub tells : IsTold n.crashed n after (took_place its granted done) told
+  pub uses : EventUses n.crashed n its done failed failed' refuses refuses'
   pub as_read : honest → after ≡ happens_now n (device_gives n seen) (took_place its granted done)
   pub wrote : honest → Adds (calls_made n (took_place its granted done)) seen seen' may_leave may_leave'
   pub life : honest → LeadsOn n after (took_place its granted done) told seen seen' may_leave may_leave'

@@ -47,7 +47,7 @@ pub(crate) fn keeper_move<D: Device>(
     keeper: &mut Keeper,
     device: &mut D,
 ) -> Option<Told>
-    ensures moved { IsKeeperMove words.old keeper.old words.new keeper.new (D.honest device.old) (D.seen device.old) (D.seen device.new) (D.may_leave device.old) (D.may_leave device.new) }
+    ensures moved { IsKeeperMove words.old keeper.old words.new keeper.new (D.failed device.old) (D.failed device.new) (D.refuses device.old) (D.refuses device.new) (D.honest device.old) (D.seen device.old) (D.seen device.new) (D.may_leave device.old) (D.may_leave device.new) }
     ensures told { IsKeeperEndTold (is_in_hand keeper.old.state.step) keeper.new.state result }
     ensures honest { D.honest device.old ↔ D.honest device.new }
     ensures time { D.honest device.old → Elapses (D.moment device.old) (D.moment device.new) (D.left_since device.old) (D.left_since device.new) (D.may_leave device.new) }

@@ -41,7 +41,7 @@ impl<D: Device> World<D> {
     /// What happens next. It tells the answer to the call that has ended in it; where an event finds nothing to do, nothing changes and
     /// nothing is told.
     pub fn step(&mut self, event: Event) -> Option<Told>
-        ensures step { IsStep event self.old.now self.new.now result (D.honest self.old.device) (D.seen self.old.device) (D.seen self.new.device) (D.may_leave self.old.device) (D.may_leave self.new.device) }
+        ensures step { IsStep event self.old.now self.new.now result (D.failed self.old.device) (D.failed self.new.device) (D.refuses self.old.device) (D.refuses self.new.device) (D.honest self.old.device) (D.seen self.old.device) (D.seen self.new.device) (D.may_leave self.old.device) (D.may_leave self.new.device) }
         ensures honest { D.honest self.old.device ↔ D.honest self.new.device }
         ensures time { D.honest self.old.device → Elapses (D.moment self.old.device) (D.moment self.new.device) (D.left_since self.old.device) (D.left_since self.new.device) (D.may_leave self.new.device) }
     {

@@ -1,11 +1,14 @@
 //! Tests of the engine's world: scripts of calls, each moved to its end before the next one begins, whose answers are compared one by
-//! one, and calls that are moved by hand beside each other. They stand in a crate of their own, since a crate with tests is proved twice.
+//! one, calls that are moved by hand beside each other, and what comes behind a crash. They stand in a crate of their own, since a
+//! crate with tests is proved twice.
 #![tactic(auto)]
 
 #[cfg(test)]
 mod beside_each_other;
 #[cfg(test)]
 mod commits;
+#[cfg(test)]
+mod crashes;
 #[cfg(test)]
 mod lines;
 #[cfg(test)]
