@@ -8,3 +8,6 @@ mod laws;
 pub use filling::{IndexWords, index_words};
 pub use home_entries::HomeEntry;
 pub use laws::law_filled_index_is_in_order;
+
+#[cfg(test)]
+mod tests;
