@@ -60,7 +60,7 @@ length-filled o index taken its =
     let f : length behind ≡ 8 * o.shape.overflow = length-up_to (8 * o.shape.overflow) (filled_by other_links 0 its.chains) in
     let sum : length first + length behind ≡ 8 * 2 ^ o.shape.bucket_bits + 8 * o.shape.overflow = omega (arith, e, f) in sum)
 
-length-before : (o : Opened) (index : List ℕ) (taken : ℕ) → IsFilled (2 ^ o.shape.bucket_bits) o.shape.overflow o.entries.items index taken
+pub length-before : (o : Opened) (index : List ℕ) (taken : ℕ) → IsFilled (2 ^ o.shape.bucket_bits) o.shape.overflow o.entries.items index taken
     → length (words_before_frames o index taken) ≡ 24 + 16 * o.shape.sessions + 8 * 2 ^ o.shape.bucket_bits + 8 * o.shape.overflow
 length-before o index taken its =
     let once : List ℕ = words_once o taken in

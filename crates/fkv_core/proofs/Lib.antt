@@ -5,6 +5,7 @@ mod Lengths
 mod Named
 mod SamePlaces
 mod Seated
+pub mod Shown
 mod Sitters
 mod Steps
 mod Written

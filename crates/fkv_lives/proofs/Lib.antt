@@ -1,0 +1,4 @@
+mod GuardOpens
+mod LatchesOpen
+mod Links
+mod Words

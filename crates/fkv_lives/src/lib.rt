@@ -1,0 +1,6 @@
+//! The lives of a store that was opened: what the laws of the engine's world suppose of an opening, from what an opened store tells.
+#![tactic(auto)]
+
+mod laws;
+
+pub use laws::{law_guard_opens, law_latches_open};
