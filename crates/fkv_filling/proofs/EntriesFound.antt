@@ -5,7 +5,7 @@ use Rattle.std.proofs.lemmas.Bool.Decides.{nat_tests}
 use Rattle.fkv_index.specs.Slots.{entry_tag}
 use Rattle.fkv_index.specs.Entries.{slots_from, order_of, entry_in}
 use Rattle.fkv_index.specs.Buckets.{overflow_bucket}
-use Rattle.fkv_filling.specs.Filled.{needed}
+use Rattle.fkv_entries.specs.Room.{needed}
 use Rattle.fkv_filling.specs.OpeningIndex.{numbers_from}
 use Rattle.fkv_filling.proofs.Positions.{truth, same_or_not}
 use Rattle.fkv_filling.proofs.Laid.{IsLaid, link_bucket, rest_of, slot_at, along_is}

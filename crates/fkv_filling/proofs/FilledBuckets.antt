@@ -12,8 +12,9 @@ use Rattle.std.proofs.lemmas.Bool.Decides.{nat_tests}
 use Rattle.std.proofs.Math.Pow.{pow_mono}
 use Rattle.fkv_base.specs.Limits.{max_bucket_bits, max_overflow}
 use Rattle.fkv_words.specs.Layout.{entry_word}
-use Rattle.fkv_filling.specs.Filled.{all_slots, needed, bucket_words, AreByTag, eight_words, IsFilled, up_to, filled_by, all_needed, link_words, links_behind, first_link, other_links}
-use Rattle.fkv_filling.specs.declared.home_entries.HomeEntry.{HomeEntry}
+use Rattle.fkv_entries.specs.Room.{needed, bucket_words}
+use Rattle.fkv_filling.specs.Filled.{all_slots, AreByTag, eight_words, IsFilled, up_to, filled_by, all_needed, link_words, links_behind, first_link, other_links}
+use Rattle.fkv_entries.specs.declared.home_entries.HomeEntry.{HomeEntry}
 
 truth : (b : Bool) → (b ≡ true) ⊎ (b ≡ false)
 truth true = inl refl

@@ -12,9 +12,10 @@ use Rattle.fkv_index.specs.Slots.{entry_tag}
 use Rattle.fkv_index.specs.Buckets as index
 use Rattle.fkv_index.specs.Entries.{entry_at, entry_in, order_of}
 use Rattle.fkv_index.specs.declared.homes.Home.{Home}
-use Rattle.fkv_filling.specs.Filled.{needed, bucket_words, IsFilled}
-use Rattle.fkv_filling.specs.OpeningIndex.{AreHomes, HaveIndex, taken_below, numbers_from, opening_lists, home, IsNoHome, IsOpeningIndex, FilledIsInOrder}
-use Rattle.fkv_filling.specs.declared.home_entries.HomeEntry.{HomeEntry}
+use Rattle.fkv_entries.specs.Room.{needed, bucket_words, taken_below, AreHomes}
+use Rattle.fkv_filling.specs.Filled.{IsFilled}
+use Rattle.fkv_filling.specs.OpeningIndex.{HaveIndex, numbers_from, opening_lists, home, IsNoHome, IsOpeningIndex, FilledIsInOrder, FilledHasRoom}
+use Rattle.fkv_entries.specs.declared.home_entries.HomeEntry.{HomeEntry}
 use Rattle.fkv_filling.proofs.Positions.{below_or_not, below_chain, below_start, below_step, below_all, bucket_at, overflow_at, nothing_at, index_of}
 use Rattle.fkv_filling.proofs.Laid.{IsEntry, IsLaid, below_grows, rest_of, there_if_some}
 use Rattle.fkv_filling.proofs.EntriesFound.{words_from, order_is, entry_found, no_entry_found}
@@ -33,6 +34,25 @@ none_outside buckets entries b homes high = elim (below_or_not 0 (length (bucket
   | inr none ↦ omega (arith, none)
 ]
 
+module _ (buckets overflow : ℕ) (entries : List HomeEntry) (filled : List ℕ) (taken : ℕ) where
+  chain_length : AreHomes buckets entries → (its : IsFilled buckets overflow entries filled taken) (b : ℕ) → length (get_or its.chains b []) ≡ length (bucket_words b entries)
+  chain_length homes its b = elim (below_or_not b buckets) [
+    | inl low ↦ length_permutation (bucket_words b entries) (get_or its.chains b []) (its.each b low).same
+    | inr high ↦
+        let many = its.many in
+        ap length (get_or_past its.chains b [] (omega (arith, many, high))) ∙ sym (none_outside buckets entries b homes high)
+  ]
+
+  below_taken : (its : IsFilled buckets overflow entries filled taken) → below_chain its.chains buckets ≡ taken
+  below_taken its = ap (below_chain its.chains) (sym its.many) ∙ below_all its.chains ∙ sym its.all_taken
+
+  -- they take what the entries need
+  taken_is : AreHomes buckets entries → IsFilled buckets overflow entries filled taken → taken ≡ taken_below entries buckets
+  taken_is homes its = sym (below_taken its) ∙ sym (below_is its.chains entries (chain_length homes its) buckets)
+
+pub filled_has_room : FilledHasRoom
+filled_has_room buckets overflow entries filled taken room its = omega (arith, taken_is buckets overflow entries filled taken room.homes its, room.enough)
+
 module _ (p : Places) (entries : List HomeEntry) (filled words : List ℕ) (taken : ℕ) (homes : AreHomes p.buckets entries) (its : IsFilled p.buckets p.overflow entries filled taken)
     (room : taken ≤ p.overflow) (have : HaveIndex p words filled taken) where
   abbrev chain : ℕ → List ℕ
@@ -45,15 +65,10 @@ module _ (p : Places) (entries : List HomeEntry) (filled words : List ℕ) (take
   indexed = index_of p.overflow its.chains
 
   same_length : (b : ℕ) → length (chain b) ≡ length (bucket_words b entries)
-  same_length b = elim (below_or_not b p.buckets) [
-    | inl low ↦ length_permutation (bucket_words b entries) (chain b) (its.each b low).same
-    | inr high ↦
-        let many = its.many in
-        ap length (get_or_past its.chains b [] (omega (arith, many, high))) ∙ sym (none_outside p.buckets entries b homes high)
-  ]
+  same_length = chain_length p.buckets p.overflow entries filled taken homes its
 
   all_below : below p.buckets ≡ taken
-  all_below = ap below (sym its.many) ∙ below_all its.chains ∙ sym its.all_taken
+  all_below = below_taken p.buckets p.overflow entries filled taken its
 
   at_place : (m i : ℕ) → m < p.buckets + p.overflow → i < 8 → index.bucket_words p words m i ≡ get_or filled (8 * m + i) 0
   at_place m i real low =
@@ -137,4 +152,5 @@ module _ (p : Places) (entries : List HomeEntry) (filled words : List ℕ) (take
   }
 
 pub filled_in_order : FilledIsInOrder
-filled_in_order p entries filled words taken homes its room have = opening p entries filled words taken homes its room have
+filled_in_order p entries filled words taken room its have =
+    opening p entries filled words taken room.homes its (filled_has_room p.buckets p.overflow entries filled taken room its) have

@@ -6,7 +6,8 @@ use Rattle.std.proofs.lemmas.Bool.Decides.{nat_tests}
 use Rattle.fkv_index.specs.Slots.{entry_tag, entry_addr, link_of}
 use Rattle.fkv_index.specs.Buckets.{overflow_bucket, IsLinked, IsAmong, AreFilled, HasOneEntry, IsMember, IsOnce}
 use Rattle.fkv_index.specs.OneEntry.{Owner, Nobody, ListedAt}
-use Rattle.fkv_filling.specs.Filled.{needed, link_words}
+use Rattle.fkv_entries.specs.Room.{needed}
+use Rattle.fkv_filling.specs.Filled.{link_words}
 use Rattle.fkv_filling.specs.OpeningIndex.{numbers_from}
 use Rattle.fkv_filling.proofs.Positions.{truth, below_or_not, same_or_not, link_slot, link_next}
 

@@ -7,9 +7,9 @@ use Rattle.fkv_index.specs.Buckets as index
 use Rattle.fkv_index.specs.Buckets.{overflow_bucket, IsMember, IsAmong}
 use Rattle.fkv_index.specs.IndexWorld.{taken_of, rested_actor}
 use Rattle.fkv_index.specs.OneEntry.{Owner, Nobody, SpareOf, ListedAt, AreOwned, IsSlotWord, IsFresh, IsIndex, spare_at}
-use Rattle.fkv_filling.specs.Filled.{needed, bucket_words}
-use Rattle.fkv_filling.specs.OpeningIndex.{taken_below, numbers_from}
-use Rattle.fkv_filling.specs.declared.home_entries.HomeEntry.{HomeEntry}
+use Rattle.fkv_entries.specs.Room.{needed, bucket_words, taken_below}
+use Rattle.fkv_filling.specs.OpeningIndex.{numbers_from}
+use Rattle.fkv_entries.specs.declared.home_entries.HomeEntry.{HomeEntry}
 use Rattle.fkv_filling.proofs.Positions.{below_or_not, below_chain, below_start, below_step}
 use Rattle.fkv_filling.proofs.Laid.{IsLaid, link_bucket, slot_at, leads_on, leads_nowhere, below_most, below_small, rest_of, linked_from, filled_from, among_from, one_from, member_in, member_of, numbers_once, holder, Holds, holder_holds, one_holds, owner_of, owner_there, owner_else, owner_zero}
 

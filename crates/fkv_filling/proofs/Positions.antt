@@ -4,7 +4,8 @@ use Rattle.std.specs.Prelude.{nat_lt, nat_eq, replicate, if◌then◌else◌}
 use Rattle.std.proofs.Math.ListN.{get_or-append}
 use Rattle.std.proofs.lemmas.List.{get_or-take, get_or-drop, get_or_past, get_or-append_right, get_or-replicate, length-append, length-take, length-replicate}
 use Rattle.std.proofs.lemmas.Bool.Decides.{nat_tests}
-use Rattle.fkv_filling.specs.Filled.{needed, eight_words, up_to, filled_by, all_needed, link_words, links_behind, first_link, other_links}
+use Rattle.fkv_entries.specs.Room.{needed}
+use Rattle.fkv_filling.specs.Filled.{eight_words, up_to, filled_by, all_needed, link_words, links_behind, first_link, other_links}
 
 pub truth : (b : Bool) → (b ≡ true) ⊎ (b ≡ false)
 truth true = inl refl

@@ -9,9 +9,8 @@ use Rattle.std.proofs.lemmas.List.Sorted.{sum_by-IsPermutation}
 use Rattle.std.proofs.lemmas.List.Elements.{All-map, All-filter, All-contains_itself, filter_passes, recursion_from_All}
 use Rattle.fkv_words.specs.Layout.{entry_word}
 use Rattle.fkv_index.specs.Slots.{entry_tag, entry_addr}
-use Rattle.fkv_filling.specs.Filled.{bucket_words}
-use Rattle.fkv_filling.specs.OpeningIndex.{AreApart}
-use Rattle.fkv_filling.specs.declared.home_entries.HomeEntry.{HomeEntry}
+use Rattle.fkv_entries.specs.Room.{bucket_words, AreApart}
+use Rattle.fkv_entries.specs.declared.home_entries.HomeEntry.{HomeEntry}
 use Rattle.fkv_filling.proofs.Laid.{IsEntry}
 use Rattle.fkv_filling.proofs.Positions.{below_or_not}
 

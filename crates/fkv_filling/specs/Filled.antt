@@ -1,23 +1,14 @@
 -- The index that a store opens with: the buckets are filled upwards, each with its homes by tag, seven to a bucket, and overflow buckets are taken in
 -- order by the buckets that need them.
-use Rattle.std.specs.Prelude.{◌≡◌, ℕ, zero, suc, ◌+◌, ◌-◌, ◌*◌, ◌/◌, ◌<◌, List, [], ◌∷◌, ◌++◌, length, map, take, drop, replicate, slice_index_or, nat_eq, nat_lt, if◌then◌else◌}
-use Rattle.std.specs.List.{filter}
+use Rattle.std.specs.Prelude.{◌≡◌, ℕ, zero, suc, ◌+◌, ◌-◌, ◌*◌, ◌<◌, List, [], ◌∷◌, ◌++◌, length, take, drop, replicate, slice_index_or, nat_lt, if◌then◌else◌}
 use Rattle.std.specs.List.Sorted.{IsPermutation, IsNonDecreasing}
 use Rattle.fkv_base.specs.Limits.{max_buckets, max_overflow}
-use Rattle.fkv_words.specs.Layout.{entry_word}
-use Rattle.fkv_filling.specs.declared.home_entries.HomeEntry.{HomeEntry}
+use Rattle.fkv_entries.specs.Room.{needed, bucket_words}
+use Rattle.fkv_entries.specs.declared.home_entries.HomeEntry.{HomeEntry}
 
 -- the slots of all buckets that a store may have, seven each
 abbrev pub all_slots : ℕ
 all_slots = 7 * (max_buckets + max_overflow)
-
--- how many overflow buckets a bucket needs for that many homes: each bucket has seven slots
-abbrev pub needed : ℕ → ℕ
-needed homes = (homes + 6) / 7 - 1
-
--- the words of the entries in a bucket
-abbrev pub bucket_words : ℕ → List HomeEntry → List ℕ
-bucket_words bucket entries = map (λ x. entry_word x.entry) (filter (λ x. nat_eq x.bucket bucket) entries)
 
 -- The same words ascending. A tag counts for more than an address in a word, so these are the homes by tag.
 pub record AreByTag (words sorted : List ℕ) : Type 0 where

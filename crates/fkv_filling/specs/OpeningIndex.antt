@@ -1,5 +1,5 @@
 -- The filled words as the index of a store that opens: where they stand, and that the index is in order then.
-use Rattle.std.specs.Prelude.{◌≡◌, ℕ, zero, suc, ◌+◌, ◌*◌, ◌^◌, ◌<◌, ◌≤◌, List, [], ◌∷◌, length, All, AllPairs, Contains}
+use Rattle.std.specs.Prelude.{◌≡◌, ℕ, zero, suc, ◌+◌, ◌*◌, ◌^◌, ◌<◌, ◌≤◌, List, [], ◌∷◌, length, All, Contains}
 use Rattle.fkv_words.specs.Layout.{entry_word}
 use Rattle.fkv_plane.specs.declared.places.Places.{Places}
 use Rattle.fkv_plane.specs.Places.{bucket_place, frames_start}
@@ -10,26 +10,13 @@ use Rattle.fkv_index.specs.Buckets as index
 use Rattle.fkv_index.specs.IndexWorld.{taken_of, index_opening}
 use Rattle.fkv_index.specs.OneEntry.{IsIndexAt}
 use Rattle.fkv_index.specs.Entries.{entry_at}
-use Rattle.fkv_filling.specs.Filled.{needed, bucket_words, IsFilled}
-use Rattle.fkv_filling.specs.declared.home_entries.HomeEntry.{HomeEntry}
-
--- entries of different homes
-abbrev pub AreApart : HomeEntry → HomeEntry → Type 0
-AreApart x y = x.bucket ≡ y.bucket → x.entry.tag ≡ y.entry.tag → ⊥
-
--- each home once, and each in a bucket that there is
-pub record AreHomes (buckets : ℕ) (entries : List HomeEntry) : Type 0 where
-  pub once : AllPairs AreApart entries
-  pub there : All (λ x. x.bucket < buckets) entries
+use Rattle.fkv_entries.specs.Room.{needed, bucket_words, taken_below, HaveRoom}
+use Rattle.fkv_filling.specs.Filled.{IsFilled}
+use Rattle.fkv_entries.specs.declared.home_entries.HomeEntry.{HomeEntry}
 
 -- the home of an entry
 abbrev pub home : HomeEntry → Home
 home x = record { bucket = x.bucket; tag = x.entry.tag }
-
--- how many overflow buckets the buckets below this one take
-unfoldable pub taken_below : List HomeEntry → ℕ → ℕ
-taken_below entries zero = 0
-taken_below entries (suc bucket) = taken_below entries bucket + needed (length (bucket_words bucket entries))
 
 -- so many numbers, upwards
 unfoldable pub numbers_from : ℕ → ℕ → List ℕ
@@ -58,7 +45,11 @@ pub record IsOpeningIndex (p : Places) (entries : List HomeEntry) (words : List 
   pub no_others : (its_home : Home) → its_home.bucket < p.buckets → IsNoHome entries its_home → entry_at p words (opening_lists entries) its_home ≡ 0
   pub no_latches : (m : ℕ) → m < p.buckets + p.overflow → index.bucket_words p words m bucket_slots < 2 ^ 48
 
--- What is filled from entries of distinct homes, with room for all, is an index in order wherever it stands at the places of the buckets.
+-- What is filled from entries for which there is room is an index in order wherever it stands at the places of the buckets.
 abbrev pub FilledIsInOrder : Type 0
-FilledIsInOrder = (p : Places) (entries : List HomeEntry) (filled words : List ℕ) (taken : ℕ) → AreHomes p.buckets entries → IsFilled p.buckets p.overflow entries filled taken
-    → taken ≤ p.overflow → HaveIndex p words filled taken → IsOpeningIndex p entries words
+FilledIsInOrder = (p : Places) (entries : List HomeEntry) (filled words : List ℕ) (taken : ℕ) → HaveRoom p.buckets p.overflow entries → IsFilled p.buckets p.overflow entries filled taken
+    → HaveIndex p words filled taken → IsOpeningIndex p entries words
+
+-- No more overflow buckets are taken than there are.
+abbrev pub FilledHasRoom : Type 0
+FilledHasRoom = (buckets overflow : ℕ) (entries : List HomeEntry) (filled : List ℕ) (taken : ℕ) → HaveRoom buckets overflow entries → IsFilled buckets overflow entries filled taken → taken ≤ overflow

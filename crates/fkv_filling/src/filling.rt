@@ -1,10 +1,11 @@
 //! The words of the index that a store opens with.
 ghost use Rattle.std.specs.Prelude.{◌≡◌, ◌+◌, ◌*◌, ◌^◌, ◌<◌, ◌≤◌, ◌++◌, drop, length, IfOk, OnOk, OnErr, Err};
 ghost use Rattle.fkv_base.specs.declared.faults.Fault.TheVariants.{Memory};
-ghost use Rattle.fkv_filling.specs.Filled.{all_slots, needed, bucket_words, AreByTag, eight_words, link_words, other_links, IsFilled};
+ghost use Rattle.fkv_entries.specs.Room.{bucket_words};
+ghost use Rattle.fkv_filling.specs.Filled.{all_slots, AreByTag, eight_words, link_words, other_links, IsFilled};
 
-use crate::home_entries::HomeEntry;
 use fkv_base::{Fault, Shape};
+use fkv_entries::{HomeEntry, needed};
 use std::alloc::Global;
 
 /// The words of an index, and how far it is filled.
@@ -69,14 +70,6 @@ fn words_in(alloc: Global, entries: &[HomeEntry], bucket: u64) -> Result<Vec<u64
         }
     }
     Ok(words)
-}
-
-/// How many overflow buckets a bucket with this many homes needs.
-fn needed(homes: u64) -> u64
-    requires { homes < 2 ^ 63 }
-    ensures { result ≡ needed homes }
-{
-    ((homes + 6) / 7).saturating_sub(1)
 }
 
 /// Pushes the eight words of a bucket.

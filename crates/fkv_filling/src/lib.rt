@@ -2,11 +2,9 @@
 #![tactic(auto)]
 
 mod filling;
-mod home_entries;
 mod laws;
 
 pub use filling::{IndexWords, index_words};
-pub use home_entries::HomeEntry;
 pub use laws::law_filled_index_is_in_order;
 
 #[cfg(test)]

@@ -1,7 +1,8 @@
 ghost use Rattle.std.specs.Prelude.{◌<◌};
 
-use crate::{HomeEntry, index_words};
+use crate::index_words;
 use fkv_base::{Addr, Shape};
+use fkv_entries::HomeEntry;
 use fkv_words::Entry;
 use std::test::Fail;
 

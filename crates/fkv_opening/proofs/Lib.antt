@@ -1,4 +1,5 @@
 mod Exact
+mod Fitting
 mod Listing
 mod Refusing
 mod Telling

@@ -3,7 +3,7 @@ use Rattle.std.specs.Prelude.{ℕ, ◌↔◌, List, map, Contains}
 use Rattle.std.specs.List.Sorted.{IsStrictlyIncreasing}
 use Rattle.fkv_scan.specs.Log.{Log, home}
 use Rattle.fkv_chains.specs.Entries.{IsEntry}
-use Rattle.fkv_opening.specs.declared.entries.HomeEntry.{HomeEntry}
+use Rattle.fkv_entries.specs.declared.home_entries.HomeEntry.{HomeEntry}
 
 -- the home of an entry
 abbrev pub entry_home : HomeEntry → ℕ

@@ -1,8 +1,8 @@
 -- The entries that the scan tells of.
-use Rattle.std.specs.Prelude.{◌≡◌, ℕ, ◌^◌, ◌&&◌, nat_lt, Bool, true, false, cond, Option, Some, None, List, [], ◌∷◌}
+use Rattle.std.specs.Prelude.{◌≡◌, ℕ, ◌<◌, ◌^◌, ◌/◌, ◌&&◌, nat_lt, Bool, true, false, cond, Option, Some, None, List, [], ◌∷◌}
 use Rattle.fkv_base.specs.declared.numbers.Addr.{Addr}
 use Rattle.fkv_scan.specs.declared.home_scans.HomeScan.{HomeScan}
-use Rattle.fkv_opening.specs.declared.entries.HomeEntry.{HomeEntry}
+use Rattle.fkv_entries.specs.declared.home_entries.HomeEntry.{HomeEntry}
 use Rattle.fkv_opening.specs.Entries.{place_of}
 
 -- an address, or else this number
@@ -18,12 +18,16 @@ addr_told s = addr_or s.newest (addr_or s.below 0)
 abbrev pub is_addr : ℕ → Bool
 is_addr a = nat_lt 0 a && nat_lt a (2 ^ 48)
 
+-- whether a home has an entry: one that can point there, in a bucket of an index of 2^bits
+abbrev pub has_entry : ℕ → ℕ → HomeScan → Bool
+has_entry bits its_home s = is_addr (addr_told s) && nat_lt (its_home / 2 ^ 15) (2 ^ bits)
+
 -- the entry of a home, or none
-abbrev pub told_of : ℕ → HomeScan → Option HomeEntry → Type 0
-told_of home s None = is_addr (addr_told s) ≡ false
-told_of home s (Some x) = (is_addr (addr_told s) ≡ true) × (place_of x ≡ (home, addr_told s))
+abbrev pub told_of : ℕ → ℕ → HomeScan → Option HomeEntry → Type 0
+told_of bits its_home s None = has_entry bits its_home s ≡ false
+told_of bits its_home s (Some x) = (has_entry bits its_home s ≡ true) × (place_of x ≡ (its_home, addr_told s)) × (x.bucket < 2 ^ bits)
 
 -- the homes that have an entry, each with its address
-abbrev pub listed : List (ℕ × HomeScan) → List (ℕ × ℕ)
-listed [] = []
-listed (e ∷ es) = cond (is_addr (addr_told e.1)) ((e.0, addr_told e.1) ∷ listed es) (listed es)
+abbrev pub listed : ℕ → List (ℕ × HomeScan) → List (ℕ × ℕ)
+listed bits [] = []
+listed bits (e ∷ es) = cond (has_entry bits e.0 e.1) ((e.0, addr_told e.1) ∷ listed bits es) (listed bits es)

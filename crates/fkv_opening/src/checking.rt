@@ -4,6 +4,8 @@ ghost use Rattle.fkv_base.specs.Limits.{last_version};
 ghost use Rattle.fkv_scan.specs.Log.{log_in, AreApart, AreBelow};
 ghost use Rattle.fkv_scan.specs.Quiet.{IsQuiet};
 ghost use Rattle.fkv_scan.specs.Scanned.{AreScanned};
+ghost use Rattle.fkv_room.specs.Counted.{homes_of};
+ghost use Rattle.fkv_room.specs.Room.{taken};
 ghost use Rattle.fkv_opening.specs.Faults.{IsSound, IsLogFault, IsRefused};
 
 use fkv_base::{Fault, Shape};
@@ -28,6 +30,7 @@ pub(crate) fn check<D: Device>(
     requires short { slot.now.end.0 < 2 ^ 48 }
     requires few { slot.now.number < last_version }
     ensures ok { D.honest d.old → IfOk result (λ scanned. AreScanned (log_in (D.seen d.old) shape slot.now triples.now) scanned × IsSound (log_in (D.seen d.old) shape slot.now triples.now)) }
+    ensures fits { IfOk result (λ scanned. taken (homes_of scanned.homes.entries) (2 ^ shape.bucket_bits) ≤ shape.overflow) }
     ensures err { IfErr result (IsRefused (D.failed d.old) (D.failed d.new) (D.honest d.old) (IsLogFault (log_in (D.seen d.old) shape slot.now triples.now))) }
     ensures quiet { IsQuiet D.honest D.seen D.may_leave D.moment D.left_since D.failed d.old d.new }
 {

@@ -8,7 +8,6 @@ mod opened_store;
 mod opening_words;
 mod recovery;
 
-pub use entries::HomeEntry;
 pub use opened_store::{Checkpoint, MAX_LOST_IN_HAND, Opened};
 pub use opening_words::{OpeningWords, SessionWords};
 pub use recovery::recover;

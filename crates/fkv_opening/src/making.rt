@@ -1,5 +1,5 @@
 //! The opened store of a log without a fault.
-ghost use Rattle.std.specs.Prelude.{◌≡◌, ◌<◌, ◌≤◌, ◌+◌, ℕ, List, length, All, IfOk, OnErr, Err};
+ghost use Rattle.std.specs.Prelude.{◌≡◌, ◌<◌, ◌≤◌, ◌+◌, ◌^◌, ℕ, List, length, All, IfOk, OnErr, Err};
 ghost use Rattle.fkv_base.specs.Limits.{last_version, last_serial};
 ghost use Rattle.fkv_base.specs.declared.shapes.Shape.{Shape};
 ghost use Rattle.fkv_scan.specs.Log.{log_in};
@@ -7,6 +7,8 @@ ghost use Rattle.arrayvec.specs.ArrayVec.{array_vec_len};
 ghost use Rattle.fkv_base.specs.declared.faults.Fault.TheVariants.{Memory};
 ghost use Rattle.fkv_record.specs.declared.triples.Triple.{Triple};
 ghost use Rattle.fkv_scan.specs.Scanned.{AreScanned};
+ghost use Rattle.fkv_room.specs.Counted.{homes_of};
+ghost use Rattle.fkv_room.specs.Room.{taken};
 ghost use Rattle.fkv_opening.specs.Faults.{HasCheckpoint, IsSound, log_of};
 ghost use Rattle.fkv_opening.specs.Lost.{Extends};
 ghost use Rattle.fkv_opening.specs.Opened.{IsStoreOf};
@@ -71,11 +73,12 @@ fn points_of(alloc: Global, slot: &ManifestSlot) -> Result<Vec<Serial>, Fault>
 
 /// The store with this newest slot, by what the scan told.
 pub(crate) fn make(alloc: Global, newest: Newest, scanned: &Scanned) -> Result<Opened, Fault>
+    requires { taken (homes_of scanned.now.homes.entries) (2 ^ newest.shape.bucket_bits) ≤ newest.shape.overflow }
     ensures ok { (image : List ℕ) (triples : List Triple) → HasCheckpoint image newest triples → AreScanned (log_of image newest triples) scanned.now → IsSound (log_of image newest triples) → IfOk result (IsStoreOf image) }
     ensures err { OnErr result (result ≡ Err Memory) }
 {
     law_entries();
-    let entries = entries_of(alloc, &scanned.homes)?;
+    let entries = entries_of(alloc, newest.shape.bucket_bits, &scanned.homes)?;
     let lost = lost_in_hand(&newest.slot, scanned.newer);
     let points = points_of(alloc, &newest.slot)?;
     let gates = newest.gates();

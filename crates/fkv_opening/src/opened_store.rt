@@ -1,11 +1,12 @@
 //! A store as its image defines it.
-ghost use Rattle.std.specs.Prelude.{◌≡◌, ◌*◌, ◌<◌, ◌≤◌, All, length};
+ghost use Rattle.std.specs.Prelude.{◌≡◌, ◌+◌, ◌*◌, ◌^◌, ◌<◌, ◌≤◌, All, length};
 ghost use Rattle.fkv_base.specs.Limits.{last_version, last_serial};
+ghost use Rattle.fkv_entries.specs.Room.{HaveRoom};
 ghost use Rattle.fkv_record.specs.Places.{most_triples};
 
-use crate::entries::HomeEntry;
 use arrayvec::ArrayVec;
 use fkv_base::{Addr, Serial, Shape, Version};
+use fkv_entries::HomeEntry;
 use fkv_record::LostRange;
 
 /// Lost ranges in hand, at most: those of a slot, and one more that recovery has found.
@@ -44,6 +45,8 @@ pub struct Opened {
     pub lost: ArrayVec<LostRange, MAX_LOST_IN_HAND>,
     /// The entries of the homes that have one, each home once, in ascending order of the homes.
     pub entries: Vec<HomeEntry>,
+    pub ghost room: { HaveRoom (2 ^ shape.bucket_bits) shape.overflow entries.items },
+    pub ghost few_entries: { length entries.items ≤ 7 * (2 ^ shape.bucket_bits + shape.overflow) },
     pub ghost few_commits: { number.0 < last_version },
     pub ghost some_tail: { 1 ≤ tail.0 },
     pub ghost tail_on_disk: { tail.0 ≤ shape.disk_pages * shape.page },

@@ -7,7 +7,8 @@ use Rattle.fkv_scan.specs.declared.scans.Scanned.{Scanned}
 use Rattle.fkv_scan.specs.Log.{Log}
 use Rattle.fkv_room.specs.Counted.{homes_of}
 use Rattle.fkv_room.specs.Refused.{IsSound}
-use Rattle.fkv_room.specs.Room.{HasRoom, IsFull, in_bucket, needed, taken}
+use Rattle.fkv_entries.specs.Room.{needed}
+use Rattle.fkv_room.specs.Room.{HasRoom, IsFull, in_bucket, taken}
 use Rattle.fkv_room.proofs.Entering.{AreEntries}
 use Rattle.fkv_room.proofs.Listing.{are_homes}
 

@@ -11,7 +11,8 @@ use Rattle.fkv_base.specs.declared.faults.Fault.{Fault}
 use Rattle.fkv_base.specs.declared.faults.Fault.TheVariants as fault
 use Rattle.fkv_base.specs.declared.faults.Damage.TheVariants as damage
 use Rattle.fkv_scan.specs.Log.{Log}
-use Rattle.fkv_room.specs.Room.{AreHomes, HasRoom, IsFull, IsRoomFault, in_bucket, taken, needed}
+use Rattle.fkv_entries.specs.Room.{needed}
+use Rattle.fkv_room.specs.Room.{AreHomes, HasRoom, IsFull, IsRoomFault, in_bucket, taken}
 use Rattle.fkv_room.proofs.Listing.{in_rest, in_head, in_tail, by_cond}
 
 -- a list without the first x

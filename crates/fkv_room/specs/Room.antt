@@ -1,8 +1,9 @@
 -- The last stage of recovery: whether each home with an entry finds a slot in the index.
-use Rattle.std.specs.Prelude.{◌≢◌, ℕ, zero, suc, ◌+◌, ◌-◌, ◌/◌, ◌^◌, ◌<◌, ◌≤◌, ◌↔◌, List, count_by, nat_eq, Contains, AllPairs}
+use Rattle.std.specs.Prelude.{◌≢◌, ℕ, zero, suc, ◌+◌, ◌/◌, ◌^◌, ◌<◌, ◌≤◌, ◌↔◌, List, count_by, nat_eq, Contains, AllPairs}
 use Rattle.fkv_base.specs.declared.faults.Fault.{Fault}
 use Rattle.fkv_base.specs.declared.faults.Fault.TheVariants.{Damaged}
 use Rattle.fkv_base.specs.declared.faults.Damage.TheVariants.{Full}
+use Rattle.fkv_entries.specs.Room.{needed}
 use Rattle.fkv_scan.specs.Log.{Log}
 use Rattle.fkv_chains.specs.Entries.{IsEntry}
 
@@ -14,10 +15,6 @@ pub record AreHomes (log : Log) (homes : List ℕ) : Type 0 where
 -- how many of them are in a bucket
 abbrev pub in_bucket : List ℕ → ℕ → ℕ
 in_bucket homes bucket = count_by (λ h. nat_eq (h / 2 ^ 15) bucket) homes
-
--- how many overflow buckets a bucket needs for that many homes: each bucket has seven slots
-abbrev pub needed : ℕ → ℕ
-needed homes = (homes + 6) / 7 - 1
 
 -- how many overflow buckets the buckets below this one take
 abbrev pub taken : List ℕ → ℕ → ℕ

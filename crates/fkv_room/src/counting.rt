@@ -1,11 +1,10 @@
 //! Counting the homes of each bucket.
-ghost use Rattle.std.specs.Prelude.{◌≡◌, ◌<◌, ◌≤◌, ◌^◌, IfOk, OnOk, OnErr, Err};
+ghost use Rattle.std.specs.Prelude.{◌≡◌, ◌≤◌, ◌^◌, IfOk, OnOk, OnErr, Err};
 ghost use Rattle.std.specs.Ordering.{nat_cmp};
 ghost use Rattle.std.specs.BTreeMap.{IsOrdered};
 ghost use Rattle.fkv_base.specs.declared.faults.Fault.TheVariants.{Memory};
 ghost use Rattle.fkv_base.specs.Limits.{max_bucket_bits};
 ghost use Rattle.fkv_room.specs.Counted.{has_entry, homes_of, AreCounts};
-ghost use Rattle.fkv_room.specs.Room.{needed};
 
 use fkv_base::Fault;
 use fkv_scan::HomeScan;
@@ -48,12 +47,4 @@ pub(crate) fn count_homes(
         }
     }
     Ok(counts)
-}
-
-/// How many overflow buckets a bucket with this many homes needs.
-pub(crate) fn needed(homes: u64) -> u64
-    requires { homes < 2 ^ 63 }
-    ensures { result ≡ needed homes }
-{
-    ((homes + 6) / 7).saturating_sub(1)
 }

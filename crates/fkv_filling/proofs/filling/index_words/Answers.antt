@@ -1,5 +1,5 @@
 use Rattle.std.proofs.Common.{◌+◌, ◌++◌, ap, ◌∙◌}
-use Rattle.fkv_filling.specs.Filled.{needed}
+use Rattle.fkv_entries.specs.Room.{needed}
 use Rattle.fkv_filling.specs.Filled.{first_link, other_links}
 use Rattle.fkv_filling.proofs.FilledBuckets.{filling_step}
 use Rattle.fkv_filling.proofs.filling.index_words.Goals as goal

@@ -1,8 +1,17 @@
-use Rattle.std.proofs.Common.{refl}
+use Rattle.std.proofs.Common.{refl, ◌^◌}
+use Rattle.fkv_entries.proofs.Shown.{in_room}
 use Rattle.fkv_opening.specs.Faults.{log_of}
+use Rattle.fkv_opening.proofs.Fitting.{have_room}
 use Rattle.fkv_opening.proofs.Refusing.{log_short}
 use Rattle.fkv_opening.proofs.Telling.{IsBounded, are_entries}
 use Rattle.fkv_opening.proofs.making.make.Goals as goal
+
+pub invariant_of-result-clause-room : goal.invariant_of-result-clause-room
+invariant_of-result-clause-room c =
+    have_room c.args.newest.shape.bucket_bits c.args.newest.shape.overflow c.args.scanned.now c.in_ok-entries.ensures.ordered c.in_ok-entries.entries.items c.in_ok-entries.ensures.ok c.in_ok-entries.ensures.there c.requires
+
+pub invariant_of-result-clause-few_entries : goal.invariant_of-result-clause-few_entries
+invariant_of-result-clause-few_entries c = in_room (2 ^ c.args.newest.shape.bucket_bits) c.args.newest.shape.overflow c.in_ok-entries.entries.items (invariant_of-result-clause-room c)
 
 pub returns-clause-ok : goal.returns-clause-ok
 returns-clause-ok c = λ image triples has scanned sound.

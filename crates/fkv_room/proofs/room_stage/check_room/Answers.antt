@@ -1,6 +1,7 @@
 use Rattle.std.proofs.Common.{◌≡◌, ◌≤◌, ◌<◌, ◌^◌, ◌+◌, arith, length, subst, ap}
 use Rattle.fkv_room.specs.Counted.{homes_of}
-use Rattle.fkv_room.specs.Room.{taken, needed, in_bucket}
+use Rattle.fkv_entries.specs.Room.{needed}
+use Rattle.fkv_room.specs.Room.{taken, in_bucket}
 use Rattle.fkv_room.proofs.Counts.{read_count, count_small}
 use Rattle.fkv_room.proofs.Filling.{is_full, has_room}
 use Rattle.fkv_room.proofs.room_stage.check_room.Goals as goal
@@ -28,3 +29,10 @@ returns-clause-ok c = λ log same sound.
     let end : c.loop-bucket.bucket ≡ 2 ^ c.args.shape.bucket_bits = omega (arith, c.loop-bucket-test.false, c.loop-bucket.auto, c.in_ok-counts.counts.ok.0, c.in_ok-counts.ensures.ok.each_bucket) in
     let enough : taken homes c.loop-bucket.bucket ≤ c.args.shape.overflow = omega (arith, c.loop-bucket.invariant.0, c.loop-bucket.invariant.1) in
     has_room c.args.scanned.now c.law_entries.ensures c.in_ok-counts.ensures.ordered c.args.shape log same sound (subst (λ n. taken homes n ≤ c.args.shape.overflow) end enough)
+
+pub returns-clause-fits : goal.returns-clause-fits
+returns-clause-fits c =
+    let homes = homes_of c.args.scanned.now.homes.entries in
+    let end : c.loop-bucket.bucket ≡ 2 ^ c.args.shape.bucket_bits = omega (arith, c.loop-bucket-test.false, c.loop-bucket.auto, c.in_ok-counts.counts.ok.0, c.in_ok-counts.ensures.ok.each_bucket) in
+    let enough : taken homes c.loop-bucket.bucket ≤ c.args.shape.overflow = omega (arith, c.loop-bucket.invariant.0, c.loop-bucket.invariant.1) in
+    subst (λ n. taken homes n ≤ c.args.shape.overflow) end enough
