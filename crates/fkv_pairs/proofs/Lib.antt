@@ -1,0 +1,7 @@
+mod Along
+mod Chained
+mod Faultless
+mod Meeting
+mod Pairing
+mod ShownPairs
+mod Ways
