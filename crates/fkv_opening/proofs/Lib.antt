@@ -1,3 +1,4 @@
+mod Ending
 mod Exact
 mod Fitting
 mod Listing
