@@ -17,11 +17,6 @@ serial_of (Some s) = s.serial
 abbrev pub serial_at : Now → ℕ → ℕ
 serial_at n session = serial_of (slice_get n.sessions session)
 
--- the version that it goes by
-abbrev pub version_of : Option SessionState → ℕ
-version_of None = 0
-version_of (Some s) = s.seen.version.0
-
 -- the versions of the serials that were taken
 abbrev pub versions_of : List TakenAt → List ℕ
 versions_of [] = []

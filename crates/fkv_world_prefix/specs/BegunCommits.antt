@@ -24,7 +24,6 @@ use Rattle.fkv_keeper.specs.Keeping.{Finality, KeeperState, lost_left}
 use Rattle.fkv_keeper.specs.KeeperRun.{KeeperEvent, Calls, keeper_run}
 use Rattle.fkv_standing.specs.Standing.{standing_opened}
 use Rattle.fkv_world.specs.OwnEvents.{keeper_events}
-use Rattle.fkv_world.specs.Past.{Traced, TraceEvent, KeeperAnswered}
 use Rattle.fkv_world.specs.Runs.{World}
 use Rattle.fkv_world.specs.World.{Event, Now}
 
@@ -121,19 +120,6 @@ commit_opened n opened = record {
 abbrev pub life_begun : World → List Event → List BegunCommit
 life_begun opening events =
     commits_begun opening.now.shape opening.now.places opening.now.keeper (commit_opened opening.now opening.past.opened ∷ []) (keeper_events opening events)
-
--- the numbers of those that are finished, and of those that were told so
-abbrev pub numbers_finished : List BegunCommit → List ℕ
-numbers_finished [] = []
-numbers_finished (c ∷ before) = if c.is_finished then c.number.0 ∷ numbers_finished before else numbers_finished before
-
-abbrev pub with_told : TraceEvent → List ℕ → List ℕ
-with_told (KeeperAnswered (Turned true full) last) before = last.number.0 ∷ before
-with_told event before = before
-
-abbrev pub numbers_told : List Traced → List ℕ
-numbers_told [] = []
-numbers_told (it ∷ before) = with_told it.its (numbers_told before)
 
 -- each of these is sealed and finished
 abbrev pub AreFinished : List BegunCommit → Type 0

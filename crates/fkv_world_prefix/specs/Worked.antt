@@ -1,7 +1,5 @@
 -- One piece for each way in which something of the past changes.
-use Rattle.std.specs.Prelude.{◌≡◌, ℕ, ◌+◌, ◌*◌, Bool, true, false, List, [], ◌∷◌, Option, Some, None}
-use Rattle.fkv_base.specs.declared.numbers.Version.{Version}
-use Rattle.fkv_base.specs.declared.phases.Phase.{Phase}
+use Rattle.std.specs.Prelude.{◌≡◌, ℕ, Bool, true, false, List, [], ◌∷◌, Some, None}
 use Rattle.fkv_base.specs.declared.phases.Phase.TheVariants.{Rest, Prepare, InProgress, WaitPending, WaitFlush}
 use Rattle.fkv_map.specs.declared.operations.Call.TheVariants as call
 use Rattle.fkv_plane.specs.declared.actions.Action.{Action}
@@ -9,7 +7,6 @@ use Rattle.fkv_plane.specs.declared.asks.Ask.TheVariants.{Load, Put}
 use Rattle.fkv_epoch.specs.declared.refreshing.Refreshing.TheVariants as refresh
 use Rattle.fkv_epoch.specs.declared.protecting.Protecting.TheVariants as protect
 use Rattle.fkv_commit.specs.declared.commits.Commit.{Commit}
-use Rattle.fkv_commit.specs.declared.commits.CommitKind.{CommitKind}
 use Rattle.fkv_manifest.specs.declared.gates.Gating.TheVariants.{WritesBody, Opens, SyncsOpen}
 use Rattle.fkv_keeper.specs.declared.answers.KeeperTold.TheVariants.{Turned}
 use Rattle.fkv_keeper.specs.declared.keepers.Keeping.TheVariants.{Ended, Starts, Maintains, Enters, Seeks, Finishes}
@@ -20,7 +17,7 @@ use Rattle.fkv_session.specs.declared.catching_up.Catching.TheVariants.{Refreshe
 use Rattle.fkv_session.specs.declared.sessions.CatchCause.{CatchCause}
 use Rattle.fkv_session.specs.declared.sessions.Sitting.TheVariants.{Idle, CatchesUp}
 use Rattle.fkv_session.specs.CatchingUp.{CatchState}
-use Rattle.fkv_world.specs.Past.{Traced, TraceEvent, Called, Answered, TurnAsked, KeeperAnswered}
+use Rattle.fkv_world.specs.Past.{Traced, Called, Answered, TurnAsked, KeeperAnswered}
 use Rattle.fkv_world.specs.World.{Turns, Now}
 use Rattle.fkv_world_prefix.specs.Accepted.{count_upto, serial_at}
 use Rattle.fkv_world_prefix.specs.BegunCommits.{BegunCommit, commit_opening, begun_at_gate, begun_at_end}
