@@ -1,0 +1,9 @@
+mod BegunStands
+mod Catches
+mod Counted
+mod Goes
+mod InTurn
+mod LifeBegun
+mod Pieces
+pub mod Shown
+mod Sights

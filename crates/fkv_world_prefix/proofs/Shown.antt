@@ -1,0 +1,4 @@
+-- What the crates above may cite of these proofs.
+pub use Rattle.fkv_world_prefix.proofs.Counted.{life_counted, life_risen, life_point}
+pub use Rattle.fkv_world_prefix.proofs.Sights.{view_seen, coming_seen}
+pub use Rattle.fkv_world_prefix.proofs.LifeBegun.{life_stands, life_turn}

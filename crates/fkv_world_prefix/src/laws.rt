@@ -1,0 +1,61 @@
+//! What holds of the past of a life, as the law of prefixes asks of it.
+ghost use Rattle.std.specs.Prelude.{◌≡◌, ◌+◌, ◌≤◌, ℕ, List, length};
+ghost use Rattle.fkv_session.specs.Sessions.{SessionState};
+ghost use Rattle.fkv_standing.specs.Opening.{AreNumbersInTurn};
+ghost use Rattle.fkv_world.specs.Opened.{HasBecome, IsOpenedWorld};
+ghost use Rattle.fkv_world.specs.OwnEvents.{keeper_events, session_events};
+ghost use Rattle.fkv_world.specs.Runs.{World, run};
+ghost use Rattle.fkv_world.specs.World.{Event, seat_at};
+ghost use Rattle.fkv_world_prefix.specs.Accepted.{HasRisingVersion, NeverFall, point, serial_at};
+ghost use Rattle.fkv_world_prefix.specs.BegunCommits.{AreInTurn, AtKeeping};
+ghost use Rattle.fkv_world_prefix.specs.PrefixPast.{prefix_past};
+ghost use Rattle.fkv_world_prefix.specs.Views.{IsComing, IsSeenAs};
+ghost use Rattle.fkv_world_prefix.specs.Worked.{AskedChanges, BegunChange, CountsUpto, RaisesChange, RanksInTurn, ToldChanges, ViewsChange};
+
+/// In every life of a store that was opened, whatever the other actors do, a session's serial is the one with which the life began, and one more for
+/// each update whose version is counted. As long as the version that the session goes by has never fallen, these versions never fall from an
+/// update to the next and none is above the session's; so its serial is its point of each version from its own on.
+pub fn law_versions_counted()
+    ensures counted { (opening : World) (events : List Event) (session : ℕ) (first its : SessionState) → HasBecome opening events session first its
+        → its.serial ≡ serial_at opening.now session + length ((prefix_past opening events).versions session) }
+    ensures risen { (opening : World) (events : List Event) (session : ℕ) (first its : SessionState) → HasBecome opening events session first its
+        → HasRisingVersion (seat_at opening.now session) first (session_events opening session events)
+        → NeverFall its.seen.version.0 ((prefix_past opening events).versions session) }
+    ensures point { (opening : World) (events : List Event) (session : ℕ) (first its : SessionState) (version : ℕ) → HasBecome opening events session first its
+        → HasRisingVersion (seat_at opening.now session) first (session_events opening session events)
+        → its.seen.version.0 ≤ version
+        → point opening events session version ≡ its.serial }
+{}
+
+/// In every life of a store that was opened, whatever the other actors do, a session goes at every moment by the phase and the version of its view. Where it
+/// doesn't catch up, none is coming; and where it does and has loaded all, it takes up the phase and the version of the one that is coming.
+pub fn law_view_is_seen()
+    ensures seen { (opening : World) (events : List Event) (session : ℕ) (first its : SessionState) → HasBecome opening events session first its
+        → IsSeenAs ((prefix_past opening events).sights session).view its.seen }
+    ensures coming { (opening : World) (events : List Event) (session : ℕ) (first its : SessionState) → HasBecome opening events session first its
+        → IsComing ((prefix_past opening events).sights session) its its.step }
+{}
+
+/// In every life of a store that was opened, whatever the sessions do, all commits that have begun are sealed and finished but at most the newest, and the
+/// newest that is finished says the number, the points and the checkpoint that the keeper has as the newest finished commit's. The newest may be open
+/// only while a commit is written or its words are stored, and for good where a call of the device has failed. Where a commit's words are stored it is the
+/// commit in hand, and sealed. As long as each commit that begins has the number behind the newest finished one's, their numbers come one behind the
+/// other, from the opening's on.
+pub fn law_begun()
+    ensures begun { (opening : World) (events : List Event) → IsOpenedWorld opening
+        → AtKeeping (prefix_past opening events).begun (run opening events).now.keeper (run opening events).now.keeper.step }
+    ensures in_turn { (opening : World) (events : List Event) → IsOpenedWorld opening
+        → AreNumbersInTurn opening.now.shape opening.now.places opening.now.keeper (keeper_events opening events)
+        → AreInTurn (prefix_past opening events).begun }
+{}
+
+/// Worked pieces, one for each way in which something of the past changes: they compute.
+pub fn law_of_worked_pieces()
+    ensures ranks { RanksInTurn }
+    ensures counts { CountsUpto }
+    ensures views { ViewsChange }
+    ensures raises { RaisesChange }
+    ensures begun { BegunChange }
+    ensures asked { AskedChanges }
+    ensures told { ToldChanges }
+{}

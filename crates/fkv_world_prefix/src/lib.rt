@@ -1,0 +1,6 @@
+//! What the law of prefixes asks of the past of a life, beside its run.
+#![tactic(auto)]
+
+mod laws;
+
+pub use laws::{law_begun, law_of_worked_pieces, law_versions_counted, law_view_is_seen};
