@@ -6,7 +6,7 @@ use Rattle.fkv_map.specs.declared.operations.Call.TheVariants as call
 use Rattle.fkv_map.specs.declared.operations.Op.{Op}
 use Rattle.fkv_map.specs.declared.operations.Op.TheVariants.{Upsert, Add, Read}
 use Rattle.fkv_map.specs.declared.operations.Reply.TheVariants.{Nothing, Number, Found}
-use Rattle.fkv_order.specs.Ghosts.{GhostEvent, Tells, FindsEntry, TakesValue, Reserves, Publishes, Changes, shown}
+use Rattle.fkv_order.specs.Ghosts.{GhostEvent, Tells, FindsEntry, TakesValue, Reserves, Publishes, Drops, Changes, Fixes, shown}
 use Rattle.fkv_order.specs.Trace.{Effect, CallsUpdate, GivesResult, CallsRead, AnswersRead}
 use Rattle.fkv_order.specs.Worked.{cell_of, empty_log, entry_of}
 use Rattle.fkv_plane.specs.declared.places.Places.{Places}
@@ -17,7 +17,7 @@ use Rattle.fkv_session.specs.Sessions.{SessionState}
 use Rattle.fkv_world.specs.Opened.{IsOpenedWorld}
 use Rattle.fkv_world.specs.Runs.{World}
 use Rattle.fkv_world.specs.World.{Event, Calls, Moves}
-use Rattle.fkv_world_order.specs.GhostEvents.{home_in, mapped, life_ghosts}
+use Rattle.fkv_world_order.specs.GhostEvents.{fixed_ghosts, home_in, mapped, life_ghosts}
 
 -- The words of a store for two sessions with one bucket and two frames of four records: the epoch is 1, the log begins at 1 and its limit is 8, and
 -- both sessions are awake.
@@ -79,7 +79,23 @@ worked_history =
     ∷ record { entry = entry_of 0 1 gives_70 Nothing; version = 1 }
     ∷ []
 
--- Such a store with this keeper is one that was opened, and its life is this to the log: which then has these effects, and shows 75 for key 5.
+-- Both sessions give the key a value, each having found its slot empty: the first publishes its record, and the other one's is lost, and given up.
+abbrev pub gives_8 : Op
+gives_8 = Upsert (record { 0 = 5 }) (record { 0 = 8 })
+
+abbrev pub lost_events : List Event
+lost_events =
+    replicate 8 (Moves 1) ++ (replicate 7 (Moves 0) ++ Moves 1 ∷ Moves 0 ∷ Calls 1 (call.Op gives_8) ∷ Calls 0 (call.Op gives_70) ∷ [])
+
+abbrev pub lost_ghosts : List GhostEvent
+lost_ghosts =
+    Drops 2 ∷ Reserves 2 (entry_of 1 1 gives_8 Nothing) (cell_of 5 8 0)
+    ∷ Tells (GivesResult 0 1 Nothing) ∷ Publishes 1 ∷ Reserves 1 (entry_of 0 1 gives_70 Nothing) (cell_of 5 70 0)
+    ∷ Tells (CallsUpdate 1 1 gives_8) ∷ Tells (CallsUpdate 0 1 gives_70)
+    ∷ []
+
+-- Such a store with this keeper is one that was opened, and its life is this to the log: which then has these effects, and shows 75 for key 5. So is
+-- the life in which a record is lost; and a safe read-only offset that rises from 1 to 5 fixes what lies below 5.
 pub record IsWorkedLife (keeper : KeeperState) (one other : SessionState) : Type 0 where
   pub shape : Shape
   pub places : Places
@@ -87,3 +103,5 @@ pub record IsWorkedLife (keeper : KeeperState) (one other : SessionState) : Type
   pub events : mapped (first_world shape places keeper one other) worked_events ≡ worked_ghosts
   pub history : (life_ghosts (first_world shape places keeper one other) empty_log worked_events).log.history ≡ worked_history
   pub value : shown (home_in shape.bucket_bits) (life_ghosts (first_world shape places keeper one other) empty_log worked_events).log 5 ≡ Some 75
+  pub lost : mapped (first_world shape places keeper one other) lost_events ≡ lost_ghosts
+  pub fixed : fixed_ghosts 1 5 ≡ Fixes 5 ∷ []

@@ -22,7 +22,7 @@ pub fn law_ghost_trace()
 
 /// In a life of two sessions of a store with one bucket, session 0 gives a key a value by a new record, session 1 adds to it in place, and a
 /// read that had found the record before answers the sum. To the log that life is these events, it has these two effects behind them, and
-/// shows the sum for the key.
+/// shows the sum for the key. In another, both give the key a value, and the record of the one that loses the slot is dropped.
 pub fn law_of_a_worked_life()
     ensures { (keeper : KeeperState) (one other : SessionState) → IsOpened keeper → IsWorkedLife keeper one other }
 {}
