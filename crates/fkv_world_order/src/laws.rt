@@ -1,0 +1,53 @@
+//! What the order law's log beside a life has to do with that life.
+ghost use Rattle.std.specs.Prelude.{◌≡◌, ℕ, [], List, Some, slice_get};
+ghost use Rattle.fkv_keeper.specs.KeeperRun.{IsOpened};
+ghost use Rattle.fkv_keeper.specs.Keeping.{KeeperState};
+ghost use Rattle.fkv_order.specs.Ghosts.{Ghosts};
+ghost use Rattle.fkv_session.specs.Sessions.{SessionState};
+ghost use Rattle.fkv_world.specs.Opened.{IsOpenedWorld};
+ghost use Rattle.fkv_world.specs.Runs.{World, run};
+ghost use Rattle.fkv_world.specs.World.{Event, seat_at};
+ghost use Rattle.fkv_world_guard.specs.Shows as guard;
+ghost use Rattle.fkv_world_order.specs.GhostEvents.{life_ghosts, safe_at, serials_in};
+ghost use Rattle.fkv_world_order.specs.Lines.{lines_of};
+ghost use Rattle.fkv_world_order.specs.Reserved.{IsUnbornFrom, MovesReserved, ReservationsAreApart, ReservationsAreOpen, tail_at};
+ghost use Rattle.fkv_world_order.specs.Worked.{IsWorkedLife};
+
+/// Over every life of a store that was opened, whatever its calls, commits, turns and the order of its steps: what the log beside it is told is
+/// the life's trace in the log's words, each call and each answer as the lines that it is, and nothing else.
+pub fn law_ghost_trace()
+    ensures { (opening : World) (ghosts : Ghosts) (events : List Event) → IsOpenedWorld opening → ghosts.trace ≡ []
+        → (life_ghosts opening ghosts events).trace ≡ lines_of (serials_in opening.now) (run opening events).past.trace }
+{}
+
+/// In a life of two sessions of a store with one bucket, session 0 gives a key a value by a new record, session 1 adds to it in place, and a
+/// read that had found the record before answers the sum. To the log that life is these events, it has these two effects behind them, and
+/// shows the sum for the key. In another, both give the key a value, and the record of the one that loses the slot is dropped.
+pub fn law_of_a_worked_life()
+    ensures { (keeper : KeeperState) (one other : SessionState) → IsOpened keeper → IsWorkedLife keeper one other }
+{}
+
+/// In every life that begins as the guard supposes, what the log has fixed is what lies below the safe read-only offset, as the word of that
+/// offset says.
+pub fn law_ghost_fixed()
+    ensures { (opening : World) (start : ℕ) (ghosts : Ghosts) (events : List Event) → guard.IsOpened opening.now start → ghosts.log.fixed ≡ safe_at opening.now
+        → (life_ghosts opening ghosts events).log.fixed ≡ safe_at (run opening events).now }
+{}
+
+/// At every moment of such a life a reply to a session, whatever it is, moves what the session has reserved just as the log's events of that step
+/// say: it stays, and then none of them takes, publishes or drops an address; the reply is the tail, which the ask raises by one, and
+/// that address is reserved, or given up at once; or the address that was reserved is published or dropped, and nothing is reserved any more.
+/// No two sessions have reserved one address, and each such address lies at or above the safe read-only offset and below the tail.
+pub fn law_ghost_reservations()
+    ensures moves { (opening : World) (start : ℕ) (events : List Event) (session reply : ℕ) (its : SessionState) → guard.IsOpened opening.now start
+        → slice_get (run opening events).now.sessions session ≡ Some its
+        → MovesReserved (seat_at (run opening events).now session) (run opening events).past.trace its reply }
+    ensures apart { (opening : World) (start : ℕ) (events : List Event) → guard.IsOpened opening.now start → ReservationsAreApart (run opening events).now }
+    ensures open { (opening : World) (start : ℕ) (events : List Event) → guard.IsOpened opening.now start → ReservationsAreOpen (run opening events).now }
+{}
+
+/// Where no address of the log from the tail up has a record as such a life begins, none has at any moment of it.
+pub fn law_ghost_unborn()
+    ensures { (opening : World) (start : ℕ) (ghosts : Ghosts) (events : List Event) → guard.IsOpened opening.now start → IsUnbornFrom (tail_at opening.now) ghosts
+        → IsUnbornFrom (tail_at (run opening events).now) (life_ghosts opening ghosts events) }
+{}
