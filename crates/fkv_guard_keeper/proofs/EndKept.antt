@@ -54,7 +54,7 @@ copy_words : (words : List ℕ) (its : Option Copier) → words_after words (cop
 copy_words words None = refl
 copy_words words (Some m) = copy_words_at words m.copying.base m.copying.step
 
-copy_quiet : (s : KeeperState) (its : Option Copier) (ask : Ask (Unit {0})) → IsQuietAs s (copy_ledto (record s { copy = its; step = keeping.Copies }) ask)
+pub copy_quiet : (s : KeeperState) (its : Option Copier) (ask : Ask (Unit {0})) → IsQuietAs s (copy_ledto (record s { copy = its; step = keeping.Copies }) ask)
 unfolding copy_ledto
 copy_quiet s its (Done told) = record { quiet = refl; sessions = refl }
 copy_quiet s its ask = record { quiet = refl; sessions = refl }
@@ -77,7 +77,7 @@ writes_quiet : (shape : Shape) (s : KeeperState) (its : Option Commit) → IsQui
 writes_quiet shape s None = record { quiet = refl; sessions = refl }
 writes_quiet shape s (Some c) = record { quiet = refl; sessions = refl }
 
-wait_quiet : (shape : Shape) (s : KeeperState) (t : WaitState) (ask : Ask WaitAnswer) → IsQuietAs s (wait_ledto shape (record s { wait = t; step = keeping.Waits }) ask)
+pub wait_quiet : (shape : Shape) (s : KeeperState) (t : WaitState) (ask : Ask WaitAnswer) → IsQuietAs s (wait_ledto shape (record s { wait = t; step = keeping.Waits }) ask)
 unfolding wait_ledto
 wait_quiet shape s t (Done waited.Flushed) = let its = writes_quiet shape (record s { wait = t; step = keeping.Waits }) s.commit in record { quiet = its.quiet; sessions = its.sessions }
 wait_quiet shape s t (Done waited.NotYet) = record { quiet = refl; sessions = refl }
@@ -98,7 +98,7 @@ finish_slot points s (finish.Ended its) = refl
 finish_slot points s (finish.StoresDurable session) = refl
 finish_slot points s finish.StoresRest = refl
 
-finish_quiet : (s : KeeperState) (its : Option Commit) → IsQuietAs s (finished s its)
+pub finish_quiet : (s : KeeperState) (its : Option Commit) → IsQuietAs s (finished s its)
 finish_quiet s None = record { quiet = refl; sessions = refl }
 finish_quiet s (Some c) = record { quiet = refl; sessions = refl }
 

@@ -51,7 +51,7 @@ use Rattle.fkv_guard_keeper.proofs.Started.{started_to}
 use Rattle.fkv_guard_keeper.proofs.TurnKept.{turn_kept, turn_shows}
 use Rattle.fkv_guard_keeper.proofs.TurnLed.{unsettled_led}
 
-turn_step : (P : ℕ → List ℕ → Type 0) (words : List ℕ) (ask : Ask MaintainAnswer) (its : KeeperTold) → P (reply_to words ask) (words_after words ask) → P (reply_to words (device_passed ask its)) (words_after words (device_passed ask its))
+pub turn_step : (P : ℕ → List ℕ → Type 0) (words : List ℕ) (ask : Ask MaintainAnswer) (its : KeeperTold) → P (reply_to words ask) (words_after words ask) → P (reply_to words (device_passed ask its)) (words_after words (device_passed ask its))
 unfolding device_passed passed
 turn_step P words (Done answer.Device) its p = p
 turn_step P words (Done answer.Through) its p = p

@@ -1,11 +1,13 @@
 mod Asked
 mod Begun
 mod Claimed
+mod CommitPuts
 mod Deferred
 mod EndKept
 mod Ends
 mod EnterKept
 mod Entered
+mod Finds
 mod Finished
 mod Flushed
 mod KeeperLed
@@ -16,6 +18,7 @@ mod Movers
 mod NoCalls
 mod PartLed
 mod PhaseKept
+mod Puts
 mod Quiet
 mod Scanned
 mod SeekKept

@@ -64,7 +64,7 @@ scan_goes n a x seen s next words ask e got idle same none led = record {
   busy = scan_busy next (ap is_done e);
 }
 
-scan_behind : (shape : Shape) (p : Places) (s : MaintainState) (next : Scanning) (ask : Ask (Unit {0})) → is_of_slot (maintain_ask shape p (scan_ledto (scan_at s next) ask)) ≡ false
+pub scan_behind : (shape : Shape) (p : Places) (s : MaintainState) (next : Scanning) (ask : Ask (Unit {0})) → is_of_slot (maintain_ask shape p (scan_ledto (scan_at s next) ask)) ≡ false
 unfolding scan_ledto maintaining_ask claim_ask passed
 scan_behind shape p s next (Done its) = refl
 scan_behind shape p s next ask = passed_slot (scan_ask next) answer.Through ∙ scan_slot next

@@ -109,7 +109,7 @@ moved_by w a x seen s granted done read ask sound got fits knows e rest =
     (keeper_ask n.shape n.places (keeper_next n.shape n.places s (reply_to n.words ask) granted)) step
 
 -- what a turn knows of its work
-turn_known : (w : GuardWorld) (a : ℕ) (x : Actor) (seen : LastSeen) (s : KeeperState) → IsSound w → slice_get w.now.actors a ≡ Some x → Fits (likeness seen (keeper_machine s) (keeper_work s)) x
+pub turn_known : (w : GuardWorld) (a : ℕ) (x : Actor) (seen : LastSeen) (s : KeeperState) → IsSound w → slice_get w.now.actors a ≡ Some x → Fits (likeness seen (keeper_machine s) (keeper_work s)) x
     → s.step ≡ keeping.Maintains → PartKnows w.now.shape (levels_of w.now.words) x.machine s.maintain s.maintain.step
 turn_known w a x seen s sound got fits at =
     let work = subst (λ (step : Keeping). FitsWork (keeping_work s step) x.work) at fits.work in

@@ -10,6 +10,7 @@ mod CatchesLed
 mod CatchesOuter
 mod Epochs
 mod Fair
+mod Finds
 mod FindsOuter
 mod Followed
 mod Kept

@@ -94,7 +94,7 @@ unfolding scan_ask
 scan_slot scan.AtRest = refl
 scan_slot s = refl
 
-scan_behind : (shape : Shape) (o : OwnTurnState) (next : Scanning) (ask : Ask (Unit {0})) → is_of_slot (own_turn_ask shape (scan_ledto (record o { scanning = next; step = Scans }) ask)) ≡ false
+pub scan_behind : (shape : Shape) (o : OwnTurnState) (next : Scanning) (ask : Ask (Unit {0})) → is_of_slot (own_turn_ask shape (scan_ledto (record o { scanning = next; step = Scans }) ask)) ≡ false
 unfolding scan_ledto own_turning_ask claim_ask passed
 scan_behind shape o next (Done its) = refl
 scan_behind shape o next ask = passed_slot {B = Unit {0}} (scan_ask next) tt ∙ scan_slot next
@@ -289,7 +289,7 @@ asks_next shape (turn.LoadsClosed OpensOnly limit) m reply opening = refl
 asks_next shape (turn.RaisesLimit limit) m reply opening = refl
 asks_next shape step m reply opening = absurd opening
 
-opening_busy : (step : Turning) (m : Mover) → IsOpening step → is_idle (guard.Turns (turn_at step m)) ≡ false
+pub opening_busy : (step : Turning) (m : Mover) → IsOpening step → is_idle (guard.Turns (turn_at step m)) ≡ false
 opening_busy (turn.LoadsLimit OpensOnly tail) m opening = refl
 opening_busy (turn.LoadsClosed OpensOnly limit) m opening = refl
 opening_busy (turn.RaisesLimit limit) m opening = refl
@@ -317,7 +317,7 @@ opens_to n a x seen o was (turn.RaisesLimit limit) none next rests same undecide
 }
 opens_to n a x seen o was there none next rests same undecided led = absurd next
 
-turn_is : (t : TurnState) (work : Work) → turn_rests t.step ≡ false → FitsWork (turn_work t) work → work ≡ guard.Turns t
+pub turn_is : (t : TurnState) (work : Work) → turn_rests t.step ≡ false → FitsWork (turn_work t) work → work ≡ guard.Turns t
 turn_is t work busy fits = subst (λ b. FitsWork (if b then None else Some (guard.Turns t)) work) busy fits
 
 pub opens_it : (n : GuardNow) (a : ℕ) (x : Actor) (seen : LastSeen) (o : OwnTurnState) → slice_get n.actors a ≡ Some x → o.turn.mover ≡ move_at_rest → IsOpening o.turn.step → Fits (own_turn_likeness_at seen o Opens) x

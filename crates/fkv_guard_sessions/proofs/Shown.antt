@@ -9,5 +9,6 @@ pub use Rattle.fkv_guard_sessions.proofs.Followed.{session_follows, call_follows
 pub use Rattle.fkv_guard_sessions.proofs.TurnFollowed.{turn_follows}
 pub use Rattle.fkv_guard_sessions.proofs.NoSlots.{session_slot}
 pub use Rattle.fkv_guard_sessions.proofs.WorldSteps.{move_follows}
+pub use Rattle.fkv_guard_sessions.proofs.Finds.{session_rests, session_puts, session_takes}
 pub use Rattle.fkv_guard_sessions.proofs.Owing.{run_above, run_owes, run_outer}
 pub use Rattle.fkv_guard_sessions.proofs.Fair.{moves_fair}

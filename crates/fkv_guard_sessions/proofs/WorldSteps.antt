@@ -26,7 +26,7 @@ use Rattle.fkv_guard_sessions.proofs.Outer.{no_event}
 use Rattle.fkv_guard_sessions.proofs.OwnTurns.{is_of_slot}
 use Rattle.fkv_guard_sessions.proofs.TurnFollowed.{turn_follows}
 
-clash : {X : Type 0} (b : Bool) → b ≡ true → b ≡ false → X
+pub clash : {X : Type 0} (b : Bool) → b ≡ true → b ≡ false → X
 clash b e f = cc
 
 settled_so : (k : Seat) (n : Near SessionState) (ask : Ask Told) → world.session_settled k n ask ≡ record { machine = session_settled k n.actions n.machine ask; words = n.words; actions = actions_settled n.actions ask }
@@ -46,7 +46,7 @@ actions_so actions (Take slot) e = cc
 actions_so actions ask e = refl
 
 -- behind its events a session sits again
-sits_on : (w : GuardWorld) (number : ℕ) (x : Actor) (s : SessionState) (events : List GuardEvent) (after : SessionState) (words : List ℕ) (actions : List (Option Action)) → Sits w number x s → (f : SessionFollows w.now number events after words actions)
+pub sits_on : (w : GuardWorld) (number : ℕ) (x : Actor) (s : SessionState) (events : List GuardEvent) (after : SessionState) (words : List ℕ) (actions : List (Option Action)) → Sits w number x s → (f : SessionFollows w.now number events after words actions)
     → Sits (record { now = put_near w.now number (near words actions f.follows.actor); past = (guard_run w events).past }) number f.follows.actor after
 sits_on w number x s events after words actions sits f =
     let there : GuardNow = put_near w.now number (near words actions f.follows.actor) in
@@ -60,29 +60,34 @@ sits_on w number x s events after words actions sits f =
       fits = f.follows.fits;
     }
 
-abbrev First : GuardWorld → ℕ → SessionState → SessionState
+abbrev pub First : GuardWorld → ℕ → SessionState → SessionState
 First w number s = session_next (seat_in w.now number) s (reply_to w.now.words (session_ask (seat_in w.now number) s))
 
-abbrev Final : GuardWorld → ℕ → SessionState → SessionState
+abbrev pub Final : GuardWorld → ℕ → SessionState → SessionState
 Final w number s = session_settled (seat_in w.now number) w.now.actions (First w number s) (session_ask (seat_in w.now number) (First w number s))
 
-abbrev Whole : GuardWorld → ℕ → SessionState → Type 0
+abbrev pub Whole : GuardWorld → ℕ → SessionState → Type 0
 Whole w number s =
     (let k : Seat = seat_in w.now number in
     let after : SessionState = Final w number s in
     SessionFollows w.now number (onward_events number (sitting_onward after after.step) ++ sitting_events k w.now.words s s.step (session_ask k s)) after (words_after w.now.words (session_ask k s)) (actions_settled w.now.actions (session_ask k (First w number s))))
 
--- a step of a session that doesn't turn settles nothing
+-- behind a step of a session that doesn't turn no slot is asked for, so it settles nothing
+pub first_slot : (w : GuardWorld) (number : ℕ) (x : Actor) (s : SessionState) → Sits w number x s → is_turning s.step ≡ false → SessionWritesOuter (seat_in w.now number) s → is_of_slot (session_ask (seat_in w.now number) (First w number s)) ≡ false
+first_slot w number x s sits other owes =
+    let f = session_follows w number x s sits.sound sits.got sits.below other sits.knows sits.protected owes sits.fits in
+    session_slot _ number f.follows.actor (First w number s) (sits_on w number x s _ (First w number s) _ w.now.actions sits f)
+
 whole_step : (w : GuardWorld) (number : ℕ) (x : Actor) (s : SessionState) → Sits w number x s → is_turning s.step ≡ false → SessionWritesOuter (seat_in w.now number) s → Whole w number s
 whole_step w number x s sits other owes =
     let k : Seat = seat_in w.now number in
     let first : SessionState = First w number s in
     let f = session_follows w number x s sits.sound sits.got sits.below other sits.knows sits.protected owes sits.fits in
-    let none : is_of_slot (session_ask k first) ≡ false = session_slot _ number f.follows.actor first (sits_on w number x s _ first _ w.now.actions sits f) in
+    let none : is_of_slot (session_ask k first) ≡ false = first_slot w number x s sits other owes in
     subst (λ (actions : List (Option Action)). SessionFollows w.now number (onward_events number (sitting_onward (Final w number s) (Final w number s).step) ++ sitting_events k w.now.words s s.step (session_ask k s)) (Final w number s) (words_after w.now.words (session_ask k s)) actions) (sym (actions_so w.now.actions (session_ask k first) none))
     (subst (λ (after : SessionState). SessionFollows w.now number (onward_events number (sitting_onward after after.step) ++ sitting_events k w.now.words s s.step (session_ask k s)) after (words_after w.now.words (session_ask k s)) w.now.actions) (sym (stays_so k w.now.actions first (session_ask k first) none)) f)
 
-whole : (w : GuardWorld) (number : ℕ) (x : Actor) (s : SessionState) (step : Sitting) → s.step ≡ step → Sits w number x s → is_done (session_ask (seat_in w.now number) s) ≡ false → SessionWritesOuter (seat_in w.now number) s → Whole w number s
+pub whole : (w : GuardWorld) (number : ℕ) (x : Actor) (s : SessionState) (step : Sitting) → s.step ≡ step → Sits w number x s → is_done (session_ask (seat_in w.now number) s) ≡ false → SessionWritesOuter (seat_in w.now number) s → Whole w number s
 whole w number x s (Turns its) at sits asks owes = turn_follows w number x s its sits at asks
 whole w number x s step at sits asks owes = whole_step w number x s sits (ap is_turning at) owes
 

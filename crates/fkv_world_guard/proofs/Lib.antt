@@ -1,4 +1,5 @@
 mod BelowTail
+mod Ends
 mod Fair
 mod Flushed
 mod KeeperSteps
@@ -11,4 +12,5 @@ mod PastCalls
 mod SessionCalls
 mod SessionSteps
 pub mod Shown
+mod Slots
 mod Worlds

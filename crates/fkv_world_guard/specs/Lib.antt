@@ -1,4 +1,6 @@
+pub mod EndsAlone
 pub mod GuardEvents
 pub mod KeptGuarded
 pub mod OpenedStore
 pub mod Shows
+pub mod SlotsFound

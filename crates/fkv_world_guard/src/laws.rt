@@ -1,5 +1,5 @@
 //! What the guard keeps holds of every life of the engine.
-ghost use Rattle.std.specs.Prelude.{◌∷◌, ◌≡◌, ◌<◌, ℕ, List};
+ghost use Rattle.std.specs.Prelude.{◌∷◌, ◌≡◌, ◌<◌, ◌≤◌, ◌-◌, ℕ, Bool, List, None, Some, false, length, slice_get};
 ghost use Rattle.fkv_epoch.specs.Once.{HasRunOnce};
 ghost use Rattle.fkv_plane.specs.declared.places.RecordWord.{RecordWord};
 ghost use Rattle.fkv_flush.specs.GuardFlushed.{IsSynced, calls_made, stands};
@@ -8,12 +8,20 @@ ghost use Rattle.fkv_flush.specs.GuardLimit.{EndsPages};
 ghost use Rattle.fkv_flush.specs.GuardReserved.{UndecidedApart};
 ghost use Rattle.fkv_flush.specs.GuardSeen.{SeenIsSafe};
 ghost use Rattle.fkv_flush.specs.Guarded.{GoesBy, IsCovered, UndecidedIsFresh, seen_of};
-ghost use Rattle.fkv_world.specs.World.{Event};
+ghost use Rattle.fkv_keeper.specs.Keeping.{keeper_ask};
+ghost use Rattle.fkv_session.specs.Sessions.{SessionState, session_ask};
+ghost use Rattle.fkv_world.specs.Actors.{slot_asked};
+ghost use Rattle.fkv_world.specs.Ends.{KeeperStandsAtNoSlot, StandsAtNoSlot, asks_left_of, asks_left_of_keeper, moves_alone};
+ghost use Rattle.fkv_world.specs.World.{Event, KeeperMoves, Moves, seat_at};
 ghost use Rattle.fkv_world.specs.Runs.{World, read_by_keeper, run};
+ghost use Rattle.fkv_world_guard.specs.EndsAlone.{AreKeeperMoves};
 ghost use Rattle.fkv_world_guard.specs.GuardEvents.{guard_events, mapped};
 ghost use Rattle.fkv_world_guard.specs.KeptGuarded.{ChangesOpenPlaces, FindTheirSlots, OpensNextPage};
 ghost use Rattle.fkv_world_guard.specs.OpenedStore.{IsOpenedStore};
 ghost use Rattle.fkv_world_guard.specs.Shows.{AreBelowTail, AreFair, IsFair, IsOpened, Shows, guard_opening, seen_by_guard};
+ghost use Rattle.fkv_world_guard.specs.SlotsFound.{FindsItsSlot};
+
+use fkv_world::law_of_ends;
 
 /// Over every life of the engine that begins as a store was opened, whatever its calls, commits, turns and the order of its steps:
 /// what the guard has of the life shows the engine's world, with an actor for each session and one for the keeper. So a word of a
@@ -58,6 +66,38 @@ pub fn law_world_once()
     ensures slots { (opening : World) (start : ℕ) (events : List Event) (event : Event) → IsOpened opening.now start
         → FindTheirSlots (seen_by_guard opening start events) (guard_events (run opening events).now (read_by_keeper (run opening events)) event) }
 {}
+
+/// In such a life, whatever its events: a step of a session or of the keeper that turns to a drain slot finds the slot empty where it
+/// gives it an action, and finds an action in it where it takes one, whether its ask turns there or the ask that goes with the reply to
+/// a word in the same step. And between two events no session and not the keeper stands at a slot: it comes to one only in the step that
+/// moves the action too.
+pub fn law_world_slots()
+    ensures finds { (opening : World) (start : ℕ) (events : List Event) (event : Event) → IsOpened opening.now start
+        → FindsItsSlot (run opening events).now event }
+    ensures session { (opening : World) (start : ℕ) (events : List Event) (session : ℕ) (its : SessionState) → IsOpened opening.now start
+        → slice_get (run opening events).now.sessions session ≡ Some its → slot_asked (session_ask (seat_at (run opening events).now session) its) ≡ None }
+    ensures keeper { (opening : World) (start : ℕ) (events : List Event) → IsOpened opening.now start
+        → slot_asked (keeper_ask (run opening events).now.shape (run opening events).now.places (run opening events).now.keeper) ≡ None }
+{}
+
+/// In such a life a call comes to its end by the asks that it has left, if its machine alone moves: no session and not the keeper ever
+/// stands before a slot whose action it takes, since it takes it in the step in which it comes there. So at every moment before a crash a
+/// move of a session leaves one ask fewer, if it has any left, and so does one of the keeper, whatever memory is granted and whatever its
+/// calls of the device come to. A session that alone makes as many moves as it had asks left has none left, and so it is of the keeper.
+pub fn law_world_ends()
+    ensures stands { (opening : World) (start : ℕ) (events : List Event) (session : ℕ) → IsOpened opening.now start → StandsAtNoSlot (run opening events).now session }
+    ensures keeper_stands { (opening : World) (start : ℕ) (events : List Event) → IsOpened opening.now start → KeeperStandsAtNoSlot (run opening events).now }
+    ensures session { (opening : World) (start : ℕ) (events : List Event) (session : ℕ) → IsOpened opening.now start → (run opening events).now.crashed ≡ false
+        → asks_left_of (run opening (Moves session ∷ events)).now session ≤ asks_left_of (run opening events).now session - 1 }
+    ensures keeper { (opening : World) (start : ℕ) (events : List Event) (granted done : Bool) → IsOpened opening.now start → (run opening events).now.crashed ≡ false
+        → 0 < asks_left_of_keeper (run opening events).now → asks_left_of_keeper (run opening (KeeperMoves granted done ∷ events)).now < asks_left_of_keeper (run opening events).now }
+    ensures alone { (opening : World) (start : ℕ) (events : List Event) (session count : ℕ) → IsOpened opening.now start → (run opening events).now.crashed ≡ false
+        → asks_left_of (run opening events).now session ≤ count → asks_left_of (moves_alone (run opening events) session count).now session ≡ 0 }
+    ensures keeper_alone { (opening : World) (start : ℕ) (events moves : List Event) → IsOpened opening.now start → AreKeeperMoves moves → (run opening events).now.crashed ≡ false
+        → asks_left_of_keeper (run opening events).now ≤ length moves → asks_left_of_keeper (run (run opening events) moves).now ≡ 0 }
+{
+    law_of_ends();
+}
 
 /// In such a life the keeper alone flushes. So where each step of a session does what it owes, at every moment a device that was
 /// called as the guard's run of the life calls it, by the flushes and by those writes of commits that end where the log begins,

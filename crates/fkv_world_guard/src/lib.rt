@@ -4,6 +4,6 @@
 mod laws;
 
 pub use laws::{
-    law_world_flushed, law_world_flushed_is_synced, law_world_is_guarded, law_world_once,
-    law_world_owes, law_world_seen,
+    law_world_ends, law_world_flushed, law_world_flushed_is_synced, law_world_is_guarded,
+    law_world_once, law_world_owes, law_world_seen, law_world_slots,
 };

@@ -1,0 +1,26 @@
+-- The law, by that of every life, and that nobody stands before a slot in one that was opened.
+use Rattle.std.proofs.Common.{arith}
+use Rattle.fkv_world.specs.Runs.{run}
+use Rattle.fkv_world_guard.proofs.Ends.{keeper_ends, life_free, life_keeper_stands, life_stands}
+use Rattle.fkv_world_guard.proofs.laws.law_world_ends.Goals as goal
+
+pub returns-clause-stands : goal.returns-clause-stands
+returns-clause-stands c = λ first start events session opened. life_stands first start events session opened
+
+pub returns-clause-keeper_stands : goal.returns-clause-keeper_stands
+returns-clause-keeper_stands c = λ first start events opened. life_keeper_stands first start events opened
+
+pub returns-clause-session : goal.returns-clause-session
+unfolding run
+returns-clause-session c = λ first start events session opened alive. c.law_of_ends.ensures.session (run first events) session alive (life_stands first start events session opened)
+
+pub returns-clause-keeper : goal.returns-clause-keeper
+unfolding run
+returns-clause-keeper c = λ first start events granted done opened alive some. c.law_of_ends.ensures.keeper (run first events) granted done alive some (life_keeper_stands first start events opened)
+
+pub returns-clause-alone : goal.returns-clause-alone
+returns-clause-alone c = λ first start events session count opened alive enough. c.law_of_ends.ensures.alone (run first events) session count alive (life_free first start events session count opened) enough
+
+pub returns-clause-keeper_alone : goal.returns-clause-keeper_alone
+returns-clause-keeper_alone c = λ first start events moves opened are alive enough.
+    let down = keeper_ends c.law_of_ends.ensures.keeper first start events moves opened are alive in omega (arith, down, enough)
