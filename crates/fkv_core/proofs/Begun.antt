@@ -10,7 +10,7 @@ use Rattle.fkv_keeper.specs.Keeping.{KeeperModel}
 use Rattle.fkv_keeper.specs.NewKeepers.{IsNewKeeper}
 use Rattle.fkv_plane.specs.Plane.{Plane}
 use Rattle.fkv_plane.specs.declared.places.Places.{Places}
-use Rattle.fkv_recover.specs.declared.opened_store.Opened.{Opened}
+use Rattle.fkv_opening.specs.declared.opened_store.Opened.{Opened}
 use Rattle.fkv_session.specs.Sessions.{Seat, Sitter, SessionState}
 use Rattle.fkv_world.specs.Opened.{IsOpenedWorld}
 use Rattle.fkv_world.specs.World.{Now}
@@ -27,7 +27,7 @@ abbrev seat_of : Places → Shape → ℕ → Seat
 seat_of places shape number = record { places = places; shape = shape; number = number }
 
 -- the sessions sit in the keeper's store
-pub seated : (o : Opened) (k : KeeperModel) (sitters : List Sitter) → IsNewKeeper o.shape (newest_commit o) [] k → AreOpeningSitters o sitters → AreSeated k.shape k.places sitters
+pub seated : (o : Opened) (k : KeeperModel) (sitters : List Sitter) → IsNewKeeper o.shape (newest_commit o) o.lost.items k → AreOpeningSitters o sitters → AreSeated k.shape k.places sitters
 seated o k sitters new sit i s found =
     let its = sit i s found in
     let places : s.seat.places ≡ k.places = one_store o.shape s.seat.places k.places its.places new.its_places in
@@ -48,7 +48,7 @@ its_sessions : (o : Opened) (sitters : List Sitter) → AreOpeningSitters o sitt
 its_sessions o sitters sit number s found = of_sitter o sitters number s (slice_get sitters number) sit refl (sym (slice_get-map state_of sitters number) ∙ found)
 
 pub is_opening : (o : Opened) (plane : Plane) (sitters : List Sitter) (k : KeeperModel) → AreWordsOfOpened o plane.words → plane.actions ≡ replicate drain_slots None → length sitters ≡ o.shape.sessions → AreOpeningSitters o sitters
-    → IsNewKeeper o.shape (newest_commit o) [] k → IsOpeningWorld o (begun plane sitters k)
+    → IsNewKeeper o.shape (newest_commit o) o.lost.items k → IsOpeningWorld o (begun plane sitters k)
 is_opening o plane sitters k words slots seats sit new = record {
   its_shape = new.its_shape;
   its_places = new.its_places;

@@ -5,9 +5,9 @@ use Rattle.std.proofs.lemmas.List.{append-nil, append_assoc, length-append, leng
 use Rattle.fkv_keeper.specs.NewKeepers.{ArePlacesOfStore}
 use Rattle.fkv_plane.specs.Places.{word_count}
 use Rattle.fkv_plane.specs.declared.places.Places.{Places}
-use Rattle.fkv_recover.specs.Filled.{IsFilled, eight_words, up_to, filled_by, link_words, first_link, other_links}
-use Rattle.fkv_recover.specs.Room.{needed}
-use Rattle.fkv_recover.specs.declared.opened_store.Opened.{Opened}
+use Rattle.fkv_entries.specs.Room.{needed}
+use Rattle.fkv_filling.specs.Filled.{IsFilled, eight_words, up_to, filled_by, link_words, first_link, other_links}
+use Rattle.fkv_opening.specs.declared.opened_store.Opened.{Opened}
 use Rattle.fkv_core.specs.OpeningWords.{AreWordsOfOpened, words_before_frames, words_of_session, words_of_sessions, words_once}
 
 -- one session more
@@ -51,7 +51,7 @@ length-first taken (words ∷ chains) =
 length-up_to : (n : ℕ) (words : List ℕ) → length (up_to n words) ≡ n
 length-up_to n words = omega (arith, length-append (take n words) (replicate (n - length words) 0), length-take n words, length-replicate {A = ℕ} (n - length words) 0)
 
-length-filled : (o : Opened) (index : List ℕ) (taken : ℕ) → IsFilled (2 ^ o.shape.bucket_bits) o.shape.overflow o.entries.items index taken → length index ≡ 8 * 2 ^ o.shape.bucket_bits + 8 * o.shape.overflow
+pub length-filled : (o : Opened) (index : List ℕ) (taken : ℕ) → IsFilled (2 ^ o.shape.bucket_bits) o.shape.overflow o.entries.items index taken → length index ≡ 8 * 2 ^ o.shape.bucket_bits + 8 * o.shape.overflow
 length-filled o index taken its =
     let first : List ℕ = filled_by first_link 0 its.chains in
     let behind : List ℕ = up_to (8 * o.shape.overflow) (filled_by other_links 0 its.chains) in

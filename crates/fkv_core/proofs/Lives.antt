@@ -31,7 +31,8 @@ use Rattle.fkv_world.specs.Past.{Past, TraceEvent, Called, Answered, CommitAsked
 use Rattle.fkv_world.specs.Runs.{World, run, happens}
 use Rattle.fkv_world.specs.World.{Event, Calls, Moves, Commits, Turns, KeeperMoves, Crashes, Now, seat_at, near, with_keeper, life_goes, happens_now}
 use Rattle.fkv_core.specs.declared.events.Told.{Told}
-use Rattle.fkv_core.specs.Lives.{answers_of, IsSaid, IsLedOn, LeadsOn}
+use Rattle.fkv_world.proofs.Shown.{asks_while_done}
+use Rattle.fkv_core.specs.Lives.{answers_of, IsSaid, IsLedOn, LeadsAnyOn, LeadsOn}
 use Rattle.fkv_core.specs.Told.{IsSittingTold, IsSessionEnd, IsKeepingTold, IsEventTold, IsTold, numbered, may_begin, may_move}
 use Rattle.fkv_core.specs.Worlds.{device_gives, event_calls, calls_made}
 
@@ -153,11 +154,15 @@ led w after event told seen seen' may_leave may_leave' was tells is wrote all =
       says = added.says;
     }
 
-pub leads_on : (n after : Now) (event : Event) (told : Option Told) (seen seen' : List ℕ) (may_leave may_leave' : List ℕ → Type 0) → IsTold n.crashed n after event told
-    → after ≡ happens_now n (device_gives n seen) event → Adds (calls_made n event) seen seen' may_leave may_leave' → LeadsOn n after event told seen seen' may_leave may_leave'
+pub leads_any_on : (n after : Now) (event : Event) (told : Option Told) (seen seen' : List ℕ) (may_leave may_leave' : List ℕ → Type 0) → IsTold n.crashed n after event told
+    → after ≡ happens_now n (device_gives n seen) event → Adds (calls_made n event) seen seen' may_leave may_leave' → LeadsAnyOn n after event told seen seen' may_leave may_leave'
 unfolding run
-leads_on n after event told seen seen' may_leave may_leave' tells is wrote = λ opening before shows was all.
+leads_any_on n after event told seen seen' may_leave may_leave' tells is wrote = λ opening before all shows was.
     let w : World = run opening before in
-    subst (λ (m : Now). IsTold m.crashed m after event told → after ≡ happens_now m (device_gives m seen) event → Adds (calls_made m event) seen seen' may_leave may_leave'
-    → (keeper_ask m.shape m.places m.keeper ≡ Done Device → AllDone w.past.calls) → IsLedOn w (happens w event) after told seen' may_leave')
-    shows (led w after event told seen seen' may_leave may_leave' was) tells is wrote all
+    subst (λ (m : Now). IsTold m.crashed m after event told → after ≡ happens_now m (device_gives m seen) event → Adds (calls_made m event) seen seen' may_leave may_leave' → IsLedOn w (happens w event) after told seen' may_leave')
+    shows (λ said goes adds. led w after event told seen seen' may_leave may_leave' was said goes adds all) tells is wrote
+
+-- the keeper of an opened store asks for the device only while all calls have succeeded
+pub leads_on : (n after : Now) (event : Event) (told : Option Told) (seen seen' : List ℕ) (may_leave may_leave' : List ℕ → Type 0) → LeadsAnyOn n after event told seen seen' may_leave may_leave'
+    → LeadsOn n after event told seen seen' may_leave may_leave'
+leads_on n after event told seen seen' may_leave may_leave' leads = λ opening before opened. leads opening before (asks_while_done opening before opened)

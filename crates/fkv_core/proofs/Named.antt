@@ -7,10 +7,10 @@ use Rattle.fkv_words.specs.Layout.{cut_word, phase_word}
 use Rattle.fkv_words.specs.Phases.{phase_number}
 use Rattle.fkv_words.specs.declared.cut_word.CutWord.{CutWord}
 use Rattle.fkv_words.specs.declared.phase_word.PhaseWord.{PhaseWord}
-use Rattle.fkv_recover.specs.Opening.{AreOpeningWords, AreSessionWords, IsOpeningCut, opening_limit, point_of}
-use Rattle.fkv_recover.specs.declared.opened_store.Opened.{Opened}
-use Rattle.fkv_recover.specs.declared.opening_words.OpeningWords.{OpeningWords}
-use Rattle.fkv_recover.specs.declared.opening_words.SessionWords.{SessionWords}
+use Rattle.fkv_opening.specs.Opening.{AreOpeningWords, AreSessionWords, IsOpeningCut, opening_limit, point_of}
+use Rattle.fkv_opening.specs.declared.opened_store.Opened.{Opened}
+use Rattle.fkv_opening.specs.declared.opening_words.OpeningWords.{OpeningWords}
+use Rattle.fkv_opening.specs.declared.opening_words.SessionWords.{SessionWords}
 use Rattle.fkv_core.specs.OpeningWords.{opening_cut, words_of_session, words_once}
 
 phase_so : (o : Opened) (its : PhaseWord) → its.version.0 ≡ o.number.0 + 1 → its.phase ≡ Rest → phase_word its ≡ o.number.0 + 1 + phase_number Rest * 2 ^ 16

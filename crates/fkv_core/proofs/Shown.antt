@@ -1,2 +1,2 @@
 -- What the crates above may cite of these proofs.
-pub use Rattle.fkv_core.proofs.Lengths.{length-before}
+pub use Rattle.fkv_core.proofs.Lengths.{length-before, length-filled}

@@ -3,14 +3,14 @@ use Rattle.std.proofs.Common.{◌≡◌, ◌∙◌, sym, ap, subst, arith, ⊎_e
 use Rattle.std.specs.Prelude.{Some, map}
 use Rattle.std.proofs.Math.ListN.{get_or-append}
 use Rattle.std.proofs.Math.Seq.{get_or-append_seam}
+use Rattle.std.proofs.lemmas.Bool.{cases_lt}
 use Rattle.std.proofs.lemmas.List.{get_or-map, length-append}
 use Rattle.std.proofs.lemmas.Option.{slice_get_within, slice_get-get_or, get_or_from_slice_get}
-use Rattle.fkv_recover.proofs.Shown.{equal_or_not}
-use Rattle.fkv_recover.specs.declared.opened_store.Opened.{Opened}
+use Rattle.fkv_opening.specs.declared.opened_store.Opened.{Opened}
 use Rattle.fkv_base.specs.declared.numbers.Serial.{Serial}
 use Rattle.fkv_ops.specs.declared.requests.Seen.{Seen}
 use Rattle.fkv_keeper.specs.NewKeepers.{ArePlacesOfStore}
-use Rattle.fkv_recover.specs.Opening.{point_of}
+use Rattle.fkv_opening.specs.Opening.{point_of}
 use Rattle.fkv_session.specs.Sessions.{IsOpened, Sitter}
 use Rattle.fkv_core.specs.Openings.{AreOpeningSitters, IsOpeningSeen, IsOpeningSitter}
 
@@ -20,11 +20,12 @@ none_sit o sitters none number s found = absurd (omega (arith, ap length none, s
 pub one_more_sits : (o : Opened) (sitters : List Sitter) (n : ℕ) (next : Sitter) → length sitters ≡ n → AreOpeningSitters o sitters → IsOpeningSitter o n next → AreOpeningSitters o (sitters ++ next ∷ [])
 one_more_sits o sitters n next many so_far its number s found =
     ⊎_elim
-    (λ same. let is : s ≡ next = sym (get_or_from_slice_get all number s next found) ∙ ap (λ (i : ℕ). get_or all i next) (same ∙ sym many) ∙ get_or-append_seam sitters next [] next in
+    (λ low. let before : number < length sitters = omega (arith, low, many) in
+    so_far number s (slice_get-get_or sitters number s before ∙ ap (λ (x : Sitter). Some x) (sym (get_or-append sitters (next ∷ []) s number before) ∙ get_or_from_slice_get all number s s found)))
+    (λ high. let same : number ≡ n = omega (arith, high, many, within, length-append sitters (next ∷ [])) in
+    let is : s ≡ next = sym (get_or_from_slice_get all number s next found) ∙ ap (λ (i : ℕ). get_or all i next) (same ∙ sym many) ∙ get_or-append_seam sitters next [] next in
     subst (λ (i : ℕ). IsOpeningSitter o i s) (sym same) (subst (λ (x : Sitter). IsOpeningSitter o n x) (sym is) its))
-    (λ other. let low : number < length sitters = omega (arith, other, many, within, length-append sitters (next ∷ [])) in
-    so_far number s (slice_get-get_or sitters number s low ∙ ap (λ (x : Sitter). Some x) (sym (get_or-append sitters (next ∷ []) s number low) ∙ get_or_from_slice_get all number s s found)))
-    (equal_or_not number n)
+    (cases_lt number n)
   where
     all : List Sitter
     all = sitters ++ next ∷ []

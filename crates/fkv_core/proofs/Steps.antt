@@ -16,7 +16,8 @@ use Rattle.fkv_core.specs.declared.events.Event.TheVariants as events
 use Rattle.fkv_core.specs.declared.events.Told.{Told}
 use Rattle.fkv_core.specs.Told.{IsEventTold, IsTold, IsKeeperEndTold}
 use Rattle.fkv_core.specs.Worlds.{AreSeated, AreSessionCalls, AreSessionMoves, EventUses, IsKeeperMove, IsStep, LiveEventUses, beside, states_of, took_place, device_gives, event_calls, calls_made}
-use Rattle.fkv_core.proofs.Lives.{leads_on}
+use Rattle.fkv_core.specs.Lives.{LeadsAnyOn}
+use Rattle.fkv_core.proofs.Lives.{leads_any_on, leads_on}
 use Rattle.fkv_core.proofs.Seated.{with_plane, session_called_so, session_moved_so}
 
 alive : {A : Type 0} (crashed : Bool) (was after : A) → crashed ≡ false → (if crashed then was else after) ≡ after
@@ -38,8 +39,15 @@ with_life its n after told failed failed' refuses refuses' honest seen seen' may
   uses = uses;
   as_read = as_read;
   wrote = wrote;
-  life = λ claim. leads_on n after (took_place its granted done) told seen seen' may_leave may_leave' tells (as_read claim) (wrote claim);
+  life = λ claim. leads_on n after took told seen seen' may_leave may_leave' (any claim);
+  any_life = any;
 }
+  where
+    took : Event
+    took = took_place its granted done
+
+    any : honest → LeadsAnyOn n after took told seen seen' may_leave may_leave'
+    any claim = leads_any_on n after took told seen seen' may_leave may_leave' tells (as_read claim) (wrote claim)
 
 -- after a crash nothing happens
 pub no_step : (its : event.Event) (n : Now) (failed : ℕ) (refuses : ℕ → Bool) (honest : Type 0) (seen : List ℕ) (may_leave : List ℕ → Type 0) → n.crashed ≡ true → IsStep its n n None failed failed refuses refuses honest seen seen may_leave may_leave

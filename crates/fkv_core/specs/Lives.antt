@@ -9,6 +9,7 @@ use Rattle.fkv_keeper.specs.declared.answers.KeeperTold.TheVariants.{Device, Tur
 use Rattle.fkv_plane.specs.declared.asks.Ask.TheVariants.{Done}
 use Rattle.fkv_session.specs.Answers.{IsAnswerTold}
 use Rattle.fkv_session.specs.declared.answers.Answer.{Answer}
+use Rattle.fkv_world.specs.Opened.{IsOpenedWorld}
 use Rattle.fkv_world.specs.Past.{TraceEvent, Answered, KeeperAnswered, Traced}
 use Rattle.fkv_world.specs.Runs.{World, run}
 use Rattle.fkv_world.specs.World.{Event, Now}
@@ -42,10 +43,23 @@ pub record IsLedOn (before after : World) (now : Now) (told : Option Told) (seen
   pub device : IsAfter after.past.opened after.past.calls seen may_leave
   pub says : IsSaid told (answers_of before.past.trace) (answers_of after.past.trace)
 
--- For every opening world and list of events whose run shows this world, over a device that reads as and may leave what the run's calls give: the step
--- leaves the run of that list with the event. Where the keeper asks for the device all calls of the run have succeeded.
+-- Where the run of this list from this opening shows this world, over a device that reads as and may leave what the run's calls give, the step leaves the
+-- run of that list with the event.
+abbrev pub GoesOn : World → List Event → Now → Now → Event → Option Told → List ℕ → List ℕ → (List ℕ → Type 0) → (List ℕ → Type 0) → Type 0
+GoesOn opening before n after event told seen seen' may_leave may_leave' =
+    (run opening before).now ≡ n → IsAfter (run opening before).past.opened (run opening before).past.calls seen may_leave
+    → IsLedOn (run opening before) (run opening (event ∷ before)) after told seen' may_leave'
+
+-- The step goes on with every life of a store that was opened.
 abbrev pub LeadsOn : Now → Now → Event → Option Told → List ℕ → List ℕ → (List ℕ → Type 0) → (List ℕ → Type 0) → Type 0
 LeadsOn n after event told seen seen' may_leave may_leave' =
-    (opening : World) (before : List Event) → (run opening before).now ≡ n → IsAfter (run opening before).past.opened (run opening before).past.calls seen may_leave
-    → (keeper_ask n.shape n.places n.keeper ≡ Done Device → AllDone (run opening before).past.calls)
-    → IsLedOn (run opening before) (run opening (event ∷ before)) after told seen' may_leave'
+    (opening : World) (before : List Event) → IsOpenedWorld opening → GoesOn opening before n after event told seen seen' may_leave may_leave'
+
+-- where the keeper asks for the device all calls so far have succeeded
+abbrev pub AsksWhileDone : World → Type 0
+AsksWhileDone w = keeper_ask w.now.shape w.now.places w.now.keeper ≡ Done Device → AllDone w.past.calls
+
+-- So it does with every run that leads to such a world, whatever world the run begins with. In the life of a store that was opened each world is one.
+abbrev pub LeadsAnyOn : Now → Now → Event → Option Told → List ℕ → List ℕ → (List ℕ → Type 0) → (List ℕ → Type 0) → Type 0
+LeadsAnyOn n after event told seen seen' may_leave may_leave' =
+    (opening : World) (before : List Event) → AsksWhileDone (run opening before) → GoesOn opening before n after event told seen seen' may_leave may_leave'

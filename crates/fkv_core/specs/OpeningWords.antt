@@ -7,9 +7,9 @@ use Rattle.fkv_plane.specs.declared.places.SharedWord.{SharedWord}
 use Rattle.fkv_plane.specs.declared.places.SharedWord.TheVariants as one
 use Rattle.fkv_plane.specs.declared.places.SessionWord.{SessionWord}
 use Rattle.fkv_plane.specs.declared.places.SessionWord.TheVariants as own
-use Rattle.fkv_recover.specs.Filled.{IsFilled}
-use Rattle.fkv_recover.specs.Opening.{opening_limit, point_of}
-use Rattle.fkv_recover.specs.declared.opened_store.Opened.{Opened}
+use Rattle.fkv_filling.specs.Filled.{IsFilled}
+use Rattle.fkv_opening.specs.Opening.{opening_limit, point_of}
+use Rattle.fkv_opening.specs.declared.opened_store.Opened.{Opened}
 
 -- The words that the store has once, where so many overflow buckets are taken: epoch 1 and none safe, at rest in the version behind the commit's, and
 -- all offsets at the log's end, but for the room that is open to new records.

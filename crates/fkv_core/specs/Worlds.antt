@@ -23,7 +23,7 @@ use Rattle.fkv_world.specs.World.{Event, Now, Calls, Moves, Commits, Turns, Keep
 use Rattle.fkv_core.specs.declared.events.Event as event
 use Rattle.fkv_core.specs.declared.events.Event.TheVariants as events
 use Rattle.fkv_core.specs.declared.events.Told.{Told}
-use Rattle.fkv_core.specs.Lives.{LeadsOn}
+use Rattle.fkv_core.specs.Lives.{LeadsOn, LeadsAnyOn}
 use Rattle.fkv_core.specs.Told.{IsNumbered, IsTold, may_begin, may_move}
 
 -- a machine beside the words and the actions
@@ -133,7 +133,7 @@ abbrev pub calls_made : Now → Event → List DeviceCall
 calls_made n event = if n.crashed then [] else event_calls n event
 
 -- One step of the world, and what it told: with the event that took place it leaves what the rules of the world give, whatever the device read.
--- Over an honest device, which took what the event writes and gave what it reads as, it goes on with the run of each list of events that shows this world.
+-- Over an honest device, which took what the event writes and gave what it reads as, it goes on with each life of an opened store that shows this world.
 pub record IsStep (its : event.Event) (n after : Now) (told : Option Told) (failed failed' : ℕ) (refuses refuses' : ℕ → Bool) (honest : Type 0) (seen seen' : List ℕ) (may_leave may_leave' : List ℕ → Type 0) : Type 0 where
   pub granted : Bool
   pub done : Bool
@@ -144,3 +144,4 @@ pub record IsStep (its : event.Event) (n after : Now) (told : Option Told) (fail
   pub as_read : honest → after ≡ happens_now n (device_gives n seen) (took_place its granted done)
   pub wrote : honest → Adds (calls_made n (took_place its granted done)) seen seen' may_leave may_leave'
   pub life : honest → LeadsOn n after (took_place its granted done) told seen seen' may_leave may_leave'
+  pub any_life : honest → LeadsAnyOn n after (took_place its granted done) told seen seen' may_leave may_leave'

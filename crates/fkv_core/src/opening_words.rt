@@ -5,8 +5,9 @@ ghost use Rattle.fkv_base.specs.declared.faults.Fault.TheVariants.{Memory};
 ghost use Rattle.fkv_core.specs.OpeningWords.{AreWordsOfOpened, words_before_frames, words_of_session, words_once};
 
 use fkv_base::Fault;
+use fkv_filling::{IndexWords, index_words};
+use fkv_opening::Opened;
 use fkv_plane::{Ask, Places, PlainWords};
-use fkv_recover::{IndexWords, Opened};
 use std::alloc::Global;
 
 /// The words and the empty slots of a store that opens. `Memory` where memory was refused.
@@ -16,7 +17,7 @@ pub(crate) fn opening_plane(alloc: Global, opened: &Opened) -> Result<PlainWords
     ensures slots { IfOk result (λ plane. plane.actions ≡ replicate drain_slots None) }
     ensures err { OnErr result (result ≡ Err Memory) }
 {
-    let index = opened.index(alloc)?;
+    let index = index_words(alloc, &opened.shape, &opened.entries)?;
     let words = words_in_order(alloc, opened, &index)?;
     let places = Places::of(&opened.shape);
     let mut plane = PlainWords::new(alloc, places.word_count())?;

@@ -1,27 +1,27 @@
 //! The world of a store that was opened.
-ghost use Rattle.std.specs.Prelude.{◌≡◌, ◌≤◌, ◌%◌, ◌==◌, if◌then◌else◌, [], length, IfOk, OnErr, Err};
+ghost use Rattle.std.specs.Prelude.{◌≡◌, ◌≤◌, length, IfOk, OnErr, Err};
 ghost use Rattle.fkv_base.specs.Limits.{max_sessions};
 ghost use Rattle.fkv_base.specs.declared.faults.Fault.TheVariants.{Memory};
-ghost use Rattle.fkv_keeper.specs.declared.last_commits.Area.TheVariants.{First, Second};
 ghost use Rattle.fkv_keeper.specs.KeeperRun.{IsOpened};
 ghost use Rattle.fkv_keeper.specs.NewKeepers.{IsNewKeeper};
-ghost use Rattle.fkv_core.specs.Openings.{AreOpeningSitters, IsOpeningSeen, IsOpeningWorld, beginning, newest_commit};
+ghost use Rattle.fkv_core.specs.Openings.{AreOpeningSitters, IsOpeningSeen, IsOpeningWorld, area_numbered, beginning, newest_commit};
 ghost use Rattle.fkv_world.specs.Opened.{IsOpenedWorld};
 
 use crate::opening_words::opening_plane;
 use crate::worlds::World;
 use arrayvec::ArrayVec;
-use fkv_base::{Fault, Serial, Version};
+use fkv_base::{Fault, Serial};
 use fkv_disk::Device;
-use fkv_keeper::{Area, Checkpoint, Keeper, LastCommit, MAX_POINTS};
+use fkv_keeper::{Area, Checkpoint, Keeper, LastCommit, MAX_LOST_IN_HAND, MAX_POINTS};
 use fkv_log::SeenOffsets;
+use fkv_opening::Opened;
 use fkv_ops::Seen;
-use fkv_recover::Opened;
+use fkv_record::LostRange;
 use fkv_session::Session;
 use std::alloc::Global;
 
 impl<D: Device + Drop> World<D> {
-    /// The world of a store that was created or recovered on this device: every session is awake, and nothing is in hand. `Memory`
+    /// The world of a store that was opened on this device: every session is awake, and nothing is in hand. `Memory`
     /// where memory was refused; then all that was handed in is dropped, the device too.
     pub fn open(alloc: Global, opened: Opened, device: D) -> Result<World<D>, Fault>
         ensures world { IfOk result (λ world. IsOpeningWorld opened world.now) }
@@ -72,27 +72,33 @@ fn seen_at_opening(opened: &Opened) -> Seen
     }
 }
 
-/// The keeper, at the newest finished commit.
+/// The keeper, at the newest finished commit, with the lost ranges in hand.
 fn opening_keeper(alloc: Global, opened: &Opened) -> Result<Keeper, Fault>
-    ensures made { IfOk result (λ keeper. IsNewKeeper opened.now.shape (newest_commit opened.now) [] keeper) }
+    ensures made { IfOk result (λ keeper. IsNewKeeper opened.now.shape (newest_commit opened.now) opened.now.lost.items keeper) }
     ensures opened { IfOk result (λ keeper. IsOpened keeper.state) }
     ensures err { OnErr result (result ≡ Err Memory) }
 {
-    Keeper::new(alloc, opened.shape, newest_commit(opened), ArrayVec::new())
+    Keeper::new(
+        alloc,
+        opened.shape,
+        newest_commit(opened),
+        ranges_listed(&opened.lost),
+    )
 }
 
-/// The newest finished commit. Its log ends where it starts, so its triples are the entries, and it has made its checkpoint itself.
+/// The newest finished commit, with the checkpoint that it uses.
 fn newest_commit(opened: &Opened) -> LastCommit
     ensures { record { number = result.number; points = result.points.items; checkpoint = result.checkpoint; gates = result.gates } ≡ newest_commit opened.now }
 {
+    let used = opened.checkpoint;
     LastCommit {
         number: opened.number,
         points: points_listed(&opened.points),
         checkpoint: Checkpoint {
-            number: opened.number,
-            first: opened.tail,
-            triples: opened.entries.len() as u64,
-            area: area_of(opened.number),
+            number: used.number,
+            first: used.first,
+            triples: used.triples,
+            area: area_numbered(used.area),
         },
         gates: opened.gates,
     }
@@ -108,11 +114,21 @@ fn points_listed(points: &[Serial]) -> ArrayVec<Serial, MAX_POINTS>
     listed
 }
 
-/// The area of a commit that has made its own checkpoint: areas take turns as slots do.
-fn area_of(number: Version) -> Area
-    ensures { result ≡ (if number.0 % 2 == 0 then First else Second) }
+/// The lost ranges, in the list that the keeper has.
+fn ranges_listed(ranges: &[LostRange]) -> ArrayVec<LostRange, MAX_LOST_IN_HAND>
+    requires { length ranges.now ≤ 9 }
+    ensures { result.items ≡ ranges.now }
 {
-    if number.0 % 2 == 0 {
+    let mut listed = ArrayVec::new();
+    let _ = listed.try_extend_from_slice(ranges);
+    listed
+}
+
+/// The area of this number, 0 or 1.
+fn area_numbered(number: u64) -> Area
+    ensures { result ≡ area_numbered number }
+{
+    if number == 0 {
         Area::First
     } else {
         Area::Second

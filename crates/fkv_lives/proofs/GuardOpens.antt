@@ -16,8 +16,8 @@ use Rattle.fkv_keeper.specs.KeeperRun as keeper
 use Rattle.fkv_keeper.specs.KeeperRun.{is_in_hand}
 use Rattle.fkv_plane.specs.Places.{word_count}
 use Rattle.fkv_plane.specs.Asked.{word_at}
-use Rattle.fkv_recover.specs.Opening.{opening_limit}
-use Rattle.fkv_recover.specs.declared.opened_store.Opened.{Opened}
+use Rattle.fkv_opening.specs.Opening.{opening_limit}
+use Rattle.fkv_opening.specs.declared.opened_store.Opened.{Opened}
 use Rattle.fkv_world.specs.World.{Now}
 use Rattle.fkv_core.specs.Openings.{IsOpeningSeen, IsOpeningWorld, beginning}
 use Rattle.fkv_ops.specs.declared.requests.Seen.{Seen}

@@ -1,4 +1,4 @@
 mod GuardOpens
+mod IndexOpens
 mod LatchesOpen
-mod Links
 mod Words

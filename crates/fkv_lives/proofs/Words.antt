@@ -4,7 +4,7 @@ use Rattle.std.specs.Prelude.{replicate}
 use Rattle.std.proofs.lemmas.Bool.{cases_lt}
 use Rattle.std.proofs.lemmas.List.{append_assoc, length-append, get_or_append_left, get_or-append_right}
 use Rattle.fkv_plane.specs.Asked.{word_at}
-use Rattle.fkv_recover.specs.declared.opened_store.Opened.{Opened}
+use Rattle.fkv_opening.specs.declared.opened_store.Opened.{Opened}
 use Rattle.fkv_core.specs.OpeningWords.{AreWordsOfOpened, words_of_session, words_of_sessions, words_once}
 
 length-sessions : (o : Opened) (n : ℕ) → length (words_of_sessions o n) ≡ 16 * n
@@ -57,10 +57,10 @@ session_word_at o words p s k few small =
     ∙ get_or_append_left (words_of_sessions o o.shape.sessions) p.rest 0 (16 * s + k) (omega (arith, many, few, small))
     ∙ own_word o o.shape.sessions s k few small
 
--- a word of the buckets
-pub rest_word : (o : Opened) (words : List ℕ) (are : AreWordsOfOpened o words) (place i : ℕ) (first others : List ℕ) → are.index ≡ first ++ others → place ≡ 24 + 16 * o.shape.sessions + i → i < length first → word_at words place ≡ word_at first i
+-- a word of the index
+pub index_word : (o : Opened) (words : List ℕ) (are : AreWordsOfOpened o words) (place i : ℕ) → place ≡ 24 + 16 * o.shape.sessions + i → i < length are.index → word_at words place ≡ word_at are.index i
 unfolding parted
-rest_word o words are place i first others split its few =
+index_word o words are place i its few =
     let p : IsParted o words = parted o words are in
     let many = length-sessions o o.shape.sessions in
     let frames : List ℕ = replicate (3 * (o.shape.frames * o.shape.page)) 0 in
@@ -70,9 +70,7 @@ rest_word o words are place i first others split its few =
     ∙ (let e : place - 24 ≡ 16 * o.shape.sessions + i = omega (arith, its) in ap (word_at (own ++ (are.index ++ frames))) e)
     ∙ get_or-append_right own (are.index ++ frames) (16 * o.shape.sessions) (16 * o.shape.sessions + i) 0 many (omega arith)
     ∙ (let e : 16 * o.shape.sessions + i - 16 * o.shape.sessions ≡ i = omega arith in ap (word_at (are.index ++ frames)) e)
-    ∙ get_or_append_left are.index frames 0 i (let whole = ap length split ∙ length-append first others in omega (arith, whole, few))
-    ∙ ap (λ (all : List ℕ). word_at all i) split
-    ∙ get_or_append_left first others 0 i few
+    ∙ get_or_append_left are.index frames 0 i few
 
 -- how many overflow buckets are taken
 pub taken_word : (o : Opened) (words : List ℕ) (are : AreWordsOfOpened o words) → word_at words 10 ≡ are.taken

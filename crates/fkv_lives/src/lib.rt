@@ -3,4 +3,4 @@
 
 mod laws;
 
-pub use laws::{law_guard_opens, law_latches_open};
+pub use laws::{law_guard_opens, law_index_opens, law_latches_open};

@@ -1,6 +1,6 @@
 -- One session after another.
 use Rattle.std.proofs.Common.{◌≡◌, ◌∙◌, ap, ℕ, List, ◌++◌}
-use Rattle.fkv_recover.specs.declared.opened_store.Opened.{Opened}
+use Rattle.fkv_opening.specs.declared.opened_store.Opened.{Opened}
 use Rattle.fkv_core.specs.OpeningWords.{words_of_session, words_once}
 use Rattle.fkv_core.proofs.Lengths.{sessions_start, sessions_step}
 use Rattle.fkv_core.proofs.opening_words.words_in_order.Goals as goal

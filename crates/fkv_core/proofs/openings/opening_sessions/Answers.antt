@@ -2,7 +2,7 @@
 use Rattle.std.proofs.Common.{◌≡◌, arith, ap, subst, sym, ℕ, ◌+◌, ◌<◌, List, [], ◌∷◌, ◌++◌, length}
 use Rattle.std.proofs.lemmas.List.{length-append}
 use Rattle.fkv_keeper.specs.NewKeepers.{ArePlacesOfStore}
-use Rattle.fkv_recover.specs.declared.opened_store.Opened.{Opened}
+use Rattle.fkv_opening.specs.declared.opened_store.Opened.{Opened}
 use Rattle.fkv_session.specs.Sessions.{Sitter}
 use Rattle.fkv_core.specs.Openings.{AreOpeningSitters, IsOpeningSitter}
 use Rattle.fkv_core.proofs.Sitters.{one_more_sits, sits_down}
