@@ -1,6 +1,6 @@
 # make run     runs a script and prints its answers (a build without proof): the stored one, or SCRIPT=path
 # make test    the gate: what crates name of each other, every proof from nothing, the must-fail edits, the tests and the
-#              program; then tools/compare, and what `make rows` and `make memory` do
+#              program; then tools/compare, tools/openings, and what `make rows` and `make memory` do
 # make fkv     proves the program and leaves it at build/fkv
 # make rows    runs the built program on whole scripts, and compares what it writes
 # make memory  runs the stored script, recovery's calls and a commit's copy, with each request for memory refused in turn
@@ -22,8 +22,10 @@ test: toolchain
 	rt ci
 	@tools/rows/run crates/fkv/out/fkv > /dev/null
 	@tools/compare/run > /dev/null
+	@tools/openings/run > /dev/null
 	@tools/memory/run crates/fkv/out/fkv > /dev/null
 	@tools/memory/recover > /dev/null
+	@tools/memory/opening > /dev/null
 	@tools/memory/keeper > /dev/null
 
 fkv: toolchain
@@ -36,9 +38,11 @@ rows: fkv
 
 memory: fkv
 	cd crates/fkv_images && rt test > /dev/null
+	cd crates/fkv_opening_tests && rt test > /dev/null
 	cd crates/fkv_keeper_tests && rt test > /dev/null
 	tools/memory/run build/fkv
 	tools/memory/recover
+	tools/memory/opening
 	tools/memory/keeper
 
 bench: fkv

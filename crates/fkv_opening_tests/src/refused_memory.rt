@@ -1,0 +1,58 @@
+//! Calls whose memory is refused, once: a tool outside lets each request fail in turn and runs this test.
+use crate::sizes::crowd;
+use crate::stores::{LOST, logged};
+use fkv_base::{Addr, Fault, Shape, Version};
+use fkv_creating::create;
+use fkv_disk::{Device, MemDisk};
+use fkv_opening::{Opened, recover};
+use std::alloc::Global;
+use std::test::Fail;
+
+fn recovered(alloc: Global, disk: &mut MemDisk) -> Result<Opened, Fault> {
+    match recover(alloc, disk) {
+        Err(Fault::Memory) => recover(alloc, disk),
+        // the device in memory asks for memory too
+        Err(Fault::Device) if disk.failures() == 1 => recover(alloc, disk),
+        answer => answer,
+    }
+}
+
+fn created(disk: &mut MemDisk, shape: Shape) -> Result<(), Fault> {
+    let answer = create(disk, shape);
+    if answer.is_err() && disk.failures() == 1 {
+        create(disk, shape)?;
+        return Ok(());
+    }
+    answer?;
+    Ok(())
+}
+
+#[test]
+fn a_refused_call_harms_no_later_one(rt: HostRuntime) -> Result<(), Fail> {
+    let alloc = rt.alloc();
+    let (Ok(image), Ok(kept), Ok(many)) = (
+        logged(alloc, LOST[1]),
+        logged(alloc, LOST[1]),
+        crowd(alloc),
+    ) else {
+        return Ok(());
+    };
+    let (Ok(mut disk), Ok(mut crowded)) = (
+        MemDisk::from_bytes(alloc, image),
+        MemDisk::from_bytes(alloc, many),
+    ) else {
+        return Ok(());
+    };
+    let opened = recovered(alloc, &mut disk)?;
+    assert_eq!(rt; (opened.number, opened.tail), (Version(2), Addr(6)));
+    assert_eq!(rt;
+        (opened.entries.len(), opened.lost.len(), opened.points.len()),
+        (1, 1, 1)
+    );
+    assert!(rt; disk.bytes() == kept.as_slice());
+    assert_eq!(rt; recovered(alloc, &mut crowded)?.entries.len(), 8);
+    let mut fresh = MemDisk::new(alloc);
+    created(&mut fresh, Shape::new(4, 16, 4, 2, 1, 0, 64)?)?;
+    assert_eq!(rt; recovered(alloc, &mut fresh)?.number, Version(0));
+    Ok(())
+}

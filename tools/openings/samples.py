@@ -1,0 +1,215 @@
+"""Images written by hand in each of the three formats, and images of these with a byte or two changed."""
+import random
+from dataclasses import dataclass, replace
+
+from slow_opening import OPEN, PLACES, TEXT, most_triples
+
+FIRST = 1 << 48  # the header of a record of version 1
+SECOND = 2 << 48
+THIRD = 3 << 48
+INVALID = 1 << 62
+
+
+def spelled(*numbers):
+    return b"".join(number.to_bytes(8, "little") for number in numbers)
+
+
+@dataclass(frozen=True)
+class Commit:
+    """What a slot says."""
+
+    number: int
+    start: int
+    tail: int
+    points: tuple
+    triples: tuple = ()  # bucket, tag and address
+    area: int = None  # by default that of the number's parity
+    checkpoint: int = None  # by default the commit's own
+    lost: tuple = ()  # end and version
+    form: int = 3
+
+    def place(self):
+        return 512 + 512 * (self.number % 2)
+
+    def its_area(self):
+        return self.number % 2 if self.area is None else self.area
+
+    def slot(self):
+        numbers = [OPEN, self.number, self.start, self.tail, len(self.triples), self.its_area(), len(self.points)]
+        numbers += self.points
+        places, checkpoint = PLACES[self.form]
+        if checkpoint is not None:
+            own = self.number if self.checkpoint is None else self.checkpoint
+            numbers += [0] * (checkpoint - len(numbers))
+            numbers += [own, len(self.lost), *(number for its in self.lost for number in its)]
+        numbers += [0] * (63 - len(numbers))
+        return spelled(*numbers, 0 if self.form == 1 else self.form)
+
+
+@dataclass(frozen=True)
+class Sample:
+    """A store, to be spelled as an image."""
+
+    commits: tuple
+    records: tuple  # header, key and value, from address 1 on
+    bits: int = 4
+    overflow: int = 0
+
+    def shape(self):
+        return (self.bits, 16, 4, 2, len(self.commits[0].points), self.overflow, 64)
+
+    def area_place(self, area):
+        return 1536 + 16 * most_triples(self.shape()) * area
+
+    def image(self):
+        image = bytearray(self.area_place(2) + 24 + 24 * len(self.records))
+
+        def put(at, part):
+            image[at : at + len(part)] = part
+
+        put(0, spelled(TEXT, *self.shape()))
+        for commit in self.commits:
+            put(commit.place(), commit.slot())
+            triples = [spelled(bucket | tag << 32, address) for bucket, tag, address in commit.triples]
+            put(self.area_place(commit.its_area()), b"".join(triples))
+        put(self.area_place(2) + 24, b"".join(spelled(*record) for record in self.records))
+        return bytes(image)
+
+    def front(self):
+        """Where the numbers of its block and its slots stand."""
+        places = set(range(64))
+        for commit in self.commits:
+            for start, end in [(0, 80), (120, 168), (312, 360), (500, 512)]:
+                places |= set(range(commit.place() + start, commit.place() + end))
+        return sorted(places)
+
+    def log(self):
+        """Where those of its triples stand, and the headers and keys of its records."""
+        places = set()
+        for commit in self.commits:
+            area = self.area_place(commit.its_area())
+            places |= set(range(area, area + 16 * len(commit.triples)))
+        for record in range(1, len(self.records) + 1):
+            at = self.area_place(2) + 24 * record
+            places |= set(range(at, at + 16))
+        return sorted(places)
+
+
+def changed(image, *changes):
+    """The image with these bytes changed, each a place and a byte."""
+    other = bytearray(image)
+    for at, byte in changes:
+        other[at] = byte
+    return bytes(other)
+
+
+# keys 1 and 524289 have one home where there are 16 buckets; keys 2 and 17 have others
+NEW = Commit(number=0, start=1, tail=1, points=(0,))
+HOME = (1, 0)
+ONE = Sample(
+    commits=(NEW, Commit(1, 2, 2, (1,), triples=((*HOME, 1),))),
+    records=((FIRST, 1, 10),),
+)
+LEFT_OUT = Sample(
+    commits=(NEW, Commit(1, 3, 5, (2,), triples=((*HOME, 4),))),
+    records=((FIRST, 1, 10), (FIRST + 1, 524289, 20), (SECOND + 2, 1, 12), (SECOND + 3, 524289, 21)),
+)
+LOGGED = Sample(
+    commits=(
+        LEFT_OUT.commits[1],
+        Commit(2, 3, 6, (3,), triples=((*HOME, 4),), area=1, checkpoint=1, lost=((5, 2),)),
+    ),
+    records=(*LEFT_OUT.records, (SECOND + 2, 1, 13)),
+)
+TWO_HOMES = Sample(
+    commits=(
+        Commit(3, 4, 4, (5, 6), triples=((2, 0, 3), (1, 1, 2), (*HOME, 1))),
+        Commit(4, 4, 10, (7, 8), triples=((2, 0, 3), (1, 1, 2), (*HOME, 1)), area=1, checkpoint=3, lost=((7, 4),)),
+    ),
+    records=(
+        (FIRST, 1, 10),
+        (SECOND, 17, 20),
+        (THIRD, 2, 30),
+        (4 * FIRST + 3, 2, 31),
+        (4 * FIRST + 1, 524289, 11),
+        (4 * FIRST + 2 + INVALID, 17, 21),
+        (4 * FIRST + 3, 2, 32),
+        (4 * FIRST + 7, 2, 33),
+        (5 * FIRST + 8, 2, 34),
+    ),
+)
+LIVES = Sample(
+    commits=(
+        Commit(3, 1, 4, (0,), checkpoint=0, lost=((2, 2), (3, 3)), area=0),
+        Commit(2, 1, 3, (0,), checkpoint=0, lost=((2, 2),), area=0),
+    ),
+    records=((SECOND, 1, 1), (THIRD, 1, 1), (4 * FIRST, 1, 1)),
+)
+# eight homes in each of two buckets, one more than a bucket has slots
+CROWD = Sample(
+    commits=(Commit(1, 1, 17, (16,), checkpoint=0, area=0),),
+    records=tuple((FIRST, key, 1) for key in range(16)),
+    bits=1,
+    overflow=2,
+)
+# fourteen in each: a key of the other bucket is one too many
+FULL = replace(
+    CROWD,
+    commits=(Commit(1, 1, 29, (28,), checkpoint=0, area=0),),
+    records=tuple((FIRST, key, 1) for key in range(28)),
+)
+
+
+def in_form(sample, form):
+    """The sample with all its slots in this format."""
+    return replace(sample, commits=tuple(replace(commit, form=form) for commit in sample.commits))
+
+
+SAMPLES = [
+    *((f"one commit, format {form}", in_form(ONE, form)) for form in (1, 2, 3)),
+    *((f"records left out, format {form}", in_form(LEFT_OUT, form)) for form in (1, 2, 3)),
+    *((f"a log commit, format {form}", in_form(LOGGED, form)) for form in (2, 3)),
+    ("four homes", TWO_HOMES),
+    ("three lives", LIVES),
+    ("two full buckets", CROWD),
+    ("two overflow buckets that are full", FULL),
+]
+
+TABLE = [
+    ("one", ONE, "commit 1 tail 2 points 1, checkpoint 1 from 2 triples 1 area 1, lost, entries 1.0:1"),
+    ("left out", LEFT_OUT, "commit 1 tail 5 points 2, checkpoint 1 from 3 triples 1 area 1, lost 5:2, entries 1.0:2"),
+    ("logged", LOGGED, "commit 2 tail 6 points 3, checkpoint 1 from 3 triples 1 area 1, lost 5:2, entries 1.0:5"),
+    (
+        "two homes",
+        TWO_HOMES,
+        "commit 4 tail 10 points 7 8, checkpoint 3 from 4 triples 3 area 1, lost 7:4 10:5, entries 1.0:1 1.1:2 2.0:8",
+    ),
+    ("lives", LIVES, "commit 3 tail 4 points 0, checkpoint 0 from 1 triples 0 area 0, lost 2:2 3:3 4:4, entries"),
+    (
+        "crowd",
+        CROWD,
+        "commit 1 tail 17 points 16, checkpoint 0 from 1 triples 0 area 0, lost, entries "
+        + " ".join(f"{bucket}.{tag}:{2 * tag + bucket + 1}" for bucket in (0, 1) for tag in range(8)),
+    ),
+    ("one overflow bucket", replace(CROWD, overflow=1), "Full 1"),
+    ("no overflow bucket", replace(CROWD, overflow=0), "Full 0"),
+]
+
+
+def changed_images():
+    """Each sample with one byte of its numbers changed, with two, and cut short. The same ones in each run."""
+    chosen = random.Random(1)
+    for name, sample in SAMPLES:
+        image = sample.image()
+        for places in (sample.front(), sample.log()):
+            for at in chosen.choices(places, k=45):
+                byte = image[at] ^ chosen.choice((1, 2, 3, 7, 0x40, 0xA5))
+                yield f"{name}: byte {at} is {byte}", changed(image, (at, byte))
+        for _ in range(20):
+            first, second = ((at, chosen.randrange(8)) for at in chosen.sample(sample.log(), 2))
+            yield f"{name}: bytes {first} and {second}", changed(image, first, second)
+        for record in chosen.choices(range(len(sample.records)), k=10):
+            at = sample.area_place(2) + 24 * (record + 1) + 8
+            yield f"{name}: key of record {record + 1}", changed(image, (at, chosen.randrange(64)))
+        for length in chosen.sample(sample.front() + sample.log(), 5):
+            yield f"{name}: {length} bytes", image[:length]
