@@ -1,6 +1,6 @@
 -- A turn and a commit that are asked for, where a call may be in hand; and what is known of the keeper as offsets rise.
-use Rattle.std.proofs.Common.{◌≡◌, ℕ, ◌≤◌, List, [], ◌∷◌, refl, Bool, true, false, arith}
-use Rattle.std.specs.Prelude.{Option, Some, None, slice_get, if◌then◌else◌}
+use Rattle.std.proofs.Common.{◌≡◌, ℕ, [], ◌∷◌, refl, Bool, true, false, arith}
+use Rattle.std.specs.Prelude.{Some, None, slice_get, if◌then◌else◌}
 use Rattle.fkv_plane.specs.declared.actions.Action.{Action}
 use Rattle.fkv_plane.specs.declared.actions.Action.TheVariants as act
 use Rattle.fkv_plane.specs.declared.places.Places.{Places}
@@ -18,7 +18,7 @@ use Rattle.fkv_commit.specs.Seeking.{SeekState}
 use Rattle.fkv_commit.specs.Starting.{StartState}
 use Rattle.fkv_flush.specs.GuardLevels.{Levels, levels_of, Rises}
 use Rattle.fkv_flush.specs.GuardSeen.{LastSeen, IsStored}
-use Rattle.fkv_flush.specs.GuardWorld.{Actor, GuardNow, GuardEvent, Begins, ToDo}
+use Rattle.fkv_flush.specs.GuardWorld.{Actor, GuardNow, Begins, ToDo}
 use Rattle.fkv_flush.proofs.Shown.{Fits}
 use Rattle.fkv_keeper.specs.declared.keepers.Keeping.{Keeping}
 use Rattle.fkv_keeper.specs.declared.keepers.Keeping.TheVariants as keeping

@@ -1,5 +1,5 @@
 -- A step of a turn's claims: an armed action is taken out of its slot with the claim, and run.
-use Rattle.std.proofs.Common.{◌≡◌, ℕ, List, [], ◌∷◌, ◌⊎◌, inl, inr, refl, ap, sym, ◌∙◌, Bool, true, false}
+use Rattle.std.proofs.Common.{◌≡◌, ℕ, List, [], ◌∷◌, refl, ap, sym, ◌∙◌, true, false}
 use Rattle.std.specs.Prelude.{Option, Some, None, slice_get, slice_set}
 use Rattle.fkv_base.specs.declared.shapes.Shape.{Shape}
 use Rattle.fkv_plane.specs.declared.actions.Action.{Action}
@@ -14,7 +14,6 @@ use Rattle.fkv_epoch.specs.declared.claiming.Claiming.{Claiming}
 use Rattle.fkv_epoch.specs.declared.claiming.Claiming.TheVariants as claim
 use Rattle.fkv_epoch.specs.Claiming.{claim_ask, claim_next, claim_given}
 use Rattle.fkv_epoch.specs.EpochWorld.{EpochNear, Claims, is_at_rest, claimed, received}
-use Rattle.fkv_epoch.specs.EpochWorld as epochs
 use Rattle.fkv_flush.specs.declared.flushing.Flushing.TheVariants as flush
 use Rattle.fkv_flush.specs.Flushing.{flush_ask}
 use Rattle.fkv_flush.specs.GuardSeen.{LastSeen}
@@ -25,7 +24,7 @@ use Rattle.fkv_maintain.specs.declared.maintaining.Maintaining.TheVariants as ma
 use Rattle.fkv_maintain.specs.Maintaining.{MaintainState, device_asked, maintaining_ask, maintaining_next, maintaining_given, maintain_ask, maintain_next, claim_ledto}
 use Rattle.fkv_guard_keeper.specs.MaintainEvents.{claim_events, maintain_events}
 use Rattle.fkv_guard_keeper.specs.MaintainShown.{maintain_machine, maintain_work}
-use Rattle.fkv_guard_keeper.specs.Settled.{settled, actions_settled, is_of_slot, maintain_gets}
+use Rattle.fkv_guard_keeper.specs.Settled.{is_of_slot, maintain_gets}
 use Rattle.fkv_guard_keeper.proofs.Led.{likeness, Led, one_ask, then_begins}
 use Rattle.fkv_guard_keeper.proofs.Slots.{passed_slot, emptied}
 use Rattle.fkv_guard_keeper.proofs.TurnLed.{TurnLed, slotless_led}

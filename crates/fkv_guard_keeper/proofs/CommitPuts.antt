@@ -1,5 +1,5 @@
 -- Where a part of a commit gives an action to a slot, this is empty: the epoch was raised for it.
-use Rattle.std.proofs.Common.{◌≡◌, ℕ, ◌∙◌, inl, inr, refl, ap, subst, true, false, List, [], ◌∷◌, ◌++◌, max}
+use Rattle.std.proofs.Common.{◌≡◌, ℕ, ◌∙◌, inl, inr, refl, ap, subst, false, List, [], ◌∷◌, ◌++◌, max}
 use Rattle.std.specs.Prelude.{Option, Some, None, slice_get, length, nat_lt, nat_le, ◌==◌, ◌+◌}
 use Rattle.fkv_base.specs.Limits.{last_version}
 use Rattle.fkv_base.specs.declared.phases.Phase.TheVariants.{Rest, InProgress, WaitPending}
@@ -16,7 +16,7 @@ use Rattle.fkv_plane.specs.Plane.{action_at}
 use Rattle.fkv_epoch.specs.declared.raising.Raising.TheVariants as raise
 use Rattle.fkv_epoch.specs.Raising.{raise_ask, raise_next, raise_next_ask, raise_on}
 use Rattle.fkv_epoch.specs.Arming.{arm_ask, arm_next}
-use Rattle.fkv_epoch.specs.EpochWorld.{EpochMachine, Raises}
+use Rattle.fkv_epoch.specs.EpochWorld.{Raises}
 use Rattle.fkv_epoch.proofs.Shown.{some_same}
 use Rattle.fkv_commit.specs.declared.deferring.DeferAnswer.{DeferAnswer}
 use Rattle.fkv_commit.specs.declared.deferring.DeferAnswer.TheVariants.{Held, Spent, Armed}

@@ -1,6 +1,6 @@
 -- A deferral inside a part of a commit.
-use Rattle.std.proofs.Common.{◌≡◌, ℕ, ◌-◌, ◌^◌, ◌<◌, ◌≤◌, List, [], ◌∷◌, ◌⊎◌, inl, inr, refl, ap, sym, ◌∙◌, Bool, true, false, arith}
-use Rattle.std.specs.Prelude.{Option, Some, None, slice_get, slice_set, nat_lt, nat_le, ◌==◌, ◌+◌, min}
+use Rattle.std.proofs.Common.{◌≡◌, ℕ, ◌^◌, ◌<◌, List, [], ◌∷◌, inl, inr, refl, ap, sym, ◌∙◌, true, arith}
+use Rattle.std.specs.Prelude.{Some, slice_get, slice_set, nat_lt, nat_le, ◌==◌, ◌+◌}
 use Rattle.std.proofs.lemmas.Bool.Decides.{nat_tests}
 use Rattle.fkv_base.specs.Limits.{drain_slots, last_epoch}
 use Rattle.fkv_plane.specs.declared.actions.Action.{Action}
@@ -28,7 +28,7 @@ use Rattle.fkv_commit.specs.Deferring.{DeferState, action_of, armed_epoch, defer
 use Rattle.fkv_flush.specs.GuardLevels.{Levels, levels_of}
 use Rattle.fkv_flush.specs.GuardSeen.{IsStored}
 use Rattle.fkv_flush.specs.GuardWorld.{Actor, GuardNow, GuardWorld, Moves, RaisesFor, near, put_near, is_idle, is_stored, epoch_world}
-use Rattle.fkv_flush.proofs.Shown.{runs_now, raises_for, FitsMachine, IsSound}
+use Rattle.fkv_flush.proofs.Shown.{runs_now, raises_for, IsSound}
 use Rattle.fkv_guard_keeper.specs.CommitShown.{IsSeeking, IsHolding, IsDeferring, IsSlotSought, IsSlotHeld, IsActionDeferred, defer_machine}
 use Rattle.fkv_guard_keeper.proofs.Led.{one_ask}
 use Rattle.fkv_guard_keeper.proofs.Slots.{truth}

@@ -1,5 +1,5 @@
 -- Where a machine inside the keeper is at its end, nothing of the guard's is under way.
-use Rattle.std.proofs.Common.{◌≡◌, ℕ, List, [], ◌∷◌, refl, ap, sym, subst, ◌∙◌, Bool, true, false}
+use Rattle.std.proofs.Common.{◌≡◌, ℕ, List, refl, ap, sym, subst, ◌∙◌, Bool, true, false}
 use Rattle.std.specs.Prelude.{Option, Some, None, slice_get, ⊤}
 use Rattle.fkv_base.specs.declared.shapes.Shape.{Shape}
 use Rattle.fkv_plane.specs.declared.actions.Action.{Action}
@@ -45,7 +45,7 @@ use Rattle.fkv_flush.specs.declared.answers.DeviceAnswer.TheVariants as device
 use Rattle.fkv_flush.specs.Flushing.{flush_ask}
 use Rattle.fkv_flush.specs.Serving.{serve_ask}
 use Rattle.fkv_flush.specs.GuardLevels.{Levels, levels_of}
-use Rattle.fkv_flush.specs.GuardWorld.{Actor, Work, Flushes, Serves, Shifts, Turns, GuardNow, GuardWorld, GuardEvent, near, put_near, is_idle, shift_rests, turn_rests, guard_run}
+use Rattle.fkv_flush.specs.GuardWorld.{Actor, Work, Flushes, Serves, GuardNow, GuardWorld, GuardEvent, near, put_near, is_idle, shift_rests, turn_rests, guard_run}
 use Rattle.fkv_flush.proofs.Shown.{run_now, put_there, Likeness, FitsWork, Follows, MoveKnows, ShiftKnows, TurnKnows, Knows, Awake, IsSound, run_sound}
 use Rattle.fkv_maintain.specs.declared.maintaining.MaintainAnswer.{MaintainAnswer}
 use Rattle.fkv_maintain.specs.declared.maintaining.MaintainAnswer.TheVariants as answer

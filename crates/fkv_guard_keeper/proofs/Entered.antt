@@ -1,5 +1,5 @@
 -- A step of a commit that goes on to wait-pending.
-use Rattle.std.proofs.Common.{◌≡◌, ℕ, List, [], ◌∷◌, refl, ap, sym, subst, ◌∙◌, Bool, true, false}
+use Rattle.std.proofs.Common.{◌≡◌, ℕ, List, [], ◌∷◌, refl, ap, sym, subst, ◌∙◌, true, false}
 use Rattle.std.specs.Prelude.{Option, Some, None, slice_get}
 use Rattle.fkv_base.specs.declared.phases.Phase.TheVariants.{WaitPending}
 use Rattle.fkv_plane.specs.declared.asks.Ask.{Ask}
@@ -10,7 +10,7 @@ use Rattle.fkv_epoch.specs.declared.raising.Raising.TheVariants as raise
 use Rattle.fkv_epoch.specs.declared.arming.Arming.TheVariants as arm
 use Rattle.fkv_epoch.specs.Raising.{raise_ask, raise_next, raise_next_ask, raise_on}
 use Rattle.fkv_epoch.specs.Arming.{arm_ask, arm_next}
-use Rattle.fkv_epoch.specs.EpochWorld.{EpochMachine, Raises, Arms, is_at_rest}
+use Rattle.fkv_epoch.specs.EpochWorld.{EpochMachine, Raises, Arms}
 use Rattle.fkv_commit.specs.declared.deferring.DeferAnswer.{DeferAnswer}
 use Rattle.fkv_commit.specs.declared.deferring.DeferAnswer.TheVariants.{Held, Spent}
 use Rattle.fkv_commit.specs.declared.deferring.Deferred.TheVariants.{EntersPhase}

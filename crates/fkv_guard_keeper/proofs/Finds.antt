@@ -1,5 +1,5 @@
 -- What the keeper finds in the drain slot that it turns to: where it gives an action to one, this is empty, and where it takes the action of one, there is one.
-use Rattle.std.proofs.Common.{◌≡◌, ℕ, ◌∙◌, ◌⊎◌, List, [], inl, inr, refl, sym, ap, subst, Bool, true, false}
+use Rattle.std.proofs.Common.{◌≡◌, ℕ, ◌∙◌, List, [], inl, inr, refl, sym, ap, subst, Bool, false}
 use Rattle.std.specs.Prelude.{Option, Some, None, slice_get}
 use Rattle.fkv_base.specs.declared.shapes.Shape.{Shape}
 use Rattle.fkv_base.specs.declared.numbers.Version.{Version}
@@ -10,9 +10,8 @@ use Rattle.fkv_plane.specs.declared.places.Places.{Places}
 use Rattle.fkv_plane.specs.Asked.{reply_to}
 use Rattle.fkv_plane.specs.Passing.{passed, is_done}
 use Rattle.fkv_plane.specs.Plane.{action_at}
-use Rattle.fkv_epoch.specs.declared.raising.Raising.TheVariants as raise
 use Rattle.fkv_epoch.specs.Raising.{raise_ask}
-use Rattle.fkv_epoch.specs.EpochWorld.{EpochMachine, Claims}
+use Rattle.fkv_epoch.specs.EpochWorld.{Claims}
 use Rattle.fkv_commit.specs.declared.entering.EnterAnswer.{EnterAnswer}
 use Rattle.fkv_commit.specs.declared.entering.EnterAnswer.TheVariants as entered
 use Rattle.fkv_commit.specs.declared.finishing.FinishAnswer.{FinishAnswer}
@@ -40,15 +39,13 @@ use Rattle.fkv_keeper.specs.Keeping.{KeeperState, copy_asked, copy_driven, copy_
 use Rattle.fkv_commit.specs.Waiting.{wait_ask, wait_next}
 use Rattle.fkv_words.specs.PhaseWords.{phase_said}
 use Rattle.fkv_world.specs.Actors.{slot_asked}
-use Rattle.fkv_guard_keeper.specs.CommitShown.{StartKnows}
-use Rattle.fkv_guard_keeper.specs.Followed.{IsKeepers, KeeperLed, keeper_likeness, likeness}
-use Rattle.fkv_guard_keeper.specs.KeeperEvents.{keeping_events}
-use Rattle.fkv_guard_keeper.specs.KeeperShown.{KeeperKnows, KeepingKnows, keeper_machine, keeper_work, keeping_machine, keeping_work}
+use Rattle.fkv_guard_keeper.specs.Followed.{IsKeepers, KeeperLed, likeness}
+use Rattle.fkv_guard_keeper.specs.KeeperShown.{KeepingKnows, keeping_machine, keeping_work}
 use Rattle.fkv_guard_keeper.specs.MaintainShown.{maintaining_machine}
 use Rattle.fkv_guard_keeper.specs.Settled.{is_of_slot, keeper_gets}
 use Rattle.fkv_guard_keeper.proofs.CommitPuts.{start_puts, enter_puts, seek_puts}
 use Rattle.fkv_guard_keeper.proofs.EndKept.{copy_quiet, wait_quiet, finish_quiet, finish_slot}
-use Rattle.fkv_guard_keeper.proofs.KeeperLed.{StepLed, keeper_settles}
+use Rattle.fkv_guard_keeper.proofs.KeeperLed.{keeper_settles}
 use Rattle.fkv_guard_keeper.proofs.Kept.{replied_to, turn_step}
 use Rattle.fkv_guard_keeper.proofs.Movers.{clash}
 use Rattle.fkv_guard_keeper.proofs.PhaseKept.{HasBegun, phase_so}

@@ -1,6 +1,6 @@
 -- A step of a commit that finishes: each word that it stores is none of the guard's.
-use Rattle.std.proofs.Common.{◌≡◌, ℕ, ◌<◌, List, [], ◌∷◌, ◌⊎◌, inl, inr, refl, Bool, true, false, arith}
-use Rattle.std.specs.Prelude.{Option, Some, None, slice_get, slice_set, nat_lt, ◌+◌}
+use Rattle.std.proofs.Common.{◌≡◌, ℕ, ◌<◌, List, inl, inr, false, arith}
+use Rattle.std.specs.Prelude.{Some, None, slice_get, nat_lt, ◌+◌}
 use Rattle.std.proofs.lemmas.Bool.Decides.{nat_tests}
 use Rattle.fkv_base.specs.declared.numbers.Serial.{Serial}
 use Rattle.fkv_base.specs.declared.phases.Phase.TheVariants.{Rest}
@@ -15,7 +15,7 @@ use Rattle.fkv_commit.specs.declared.finishing.Finishing.TheVariants as finish
 use Rattle.fkv_commit.specs.Commits.{version_after}
 use Rattle.fkv_commit.specs.Finishing.{FinishState, durable_from, point_of, finishing_ask, finishing_next}
 use Rattle.fkv_flush.specs.GuardSeen.{LastSeen}
-use Rattle.fkv_flush.specs.GuardWorld.{Actor, GuardNow, Changes}
+use Rattle.fkv_flush.specs.GuardWorld.{Actor, GuardNow}
 use Rattle.fkv_flush.proofs.Shown.{changes, Fits, Follows, session_is_outer, phase_is_outer}
 use Rattle.fkv_guard_keeper.specs.CommitEvents.{finishing_events}
 use Rattle.fkv_guard_keeper.specs.CommitShown.{FinishKnows}

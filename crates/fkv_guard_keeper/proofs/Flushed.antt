@@ -1,6 +1,6 @@
 -- A step of a turn's flush, and its call of the device.
 use Rattle.std.proofs.Common.{◌≡◌, ℕ, List, [], ◌∷◌, refl, ap, ◌∙◌, Bool, true, false}
-use Rattle.std.specs.Prelude.{Option, Some, None, slice_get}
+use Rattle.std.specs.Prelude.{Some, None, slice_get}
 use Rattle.fkv_base.specs.declared.shapes.Shape.{Shape}
 use Rattle.fkv_plane.specs.declared.asks.Ask.{Ask}
 use Rattle.fkv_plane.specs.declared.asks.Ask.TheVariants.{Done}
@@ -16,9 +16,9 @@ use Rattle.fkv_flush.specs.declared.flushing.Flushing.TheVariants as flush
 use Rattle.fkv_flush.specs.Flushing.{flush_ask, flush_next, flush_done, bytes_next, bytes_done}
 use Rattle.fkv_flush.specs.GuardSeen.{LastSeen}
 use Rattle.fkv_flush.specs.GuardWorld.{Actor, Flushes, Shifts, GuardNow, GuardEvent, Moves, Calls, ToShift, near, put_near, is_idle}
-use Rattle.fkv_flush.proofs.Shown.{runs_now, moves_work, calls, Fits, Follows}
+use Rattle.fkv_flush.proofs.Shown.{runs_now, moves_work, calls, Fits}
 use Rattle.fkv_maintain.specs.declared.maintaining.Maintaining.TheVariants as maintain
-use Rattle.fkv_maintain.specs.Maintaining.{MaintainState, device_asked, maintaining_ask, maintaining_next, maintaining_called, maintain_ask, maintain_next, maintain_called, flush_ledto}
+use Rattle.fkv_maintain.specs.Maintaining.{MaintainState, maintaining_ask, maintaining_next, maintaining_called, maintain_ask, maintain_next, maintain_called, flush_ledto}
 use Rattle.fkv_guard_keeper.specs.MaintainEvents.{flush_events, maintain_events, maintain_called_events}
 use Rattle.fkv_guard_keeper.specs.MaintainShown.{maintain_machine, maintain_work}
 use Rattle.fkv_guard_keeper.specs.Settled.{is_of_slot}

@@ -1,17 +1,15 @@
 -- Where a step of the keeper leads, with what is settled behind it.
-use Rattle.std.proofs.Common.{◌≡◌, ℕ, List, [], ◌∷◌, refl, ap, sym, subst, ◌∙◌, Bool, true, false}
-use Rattle.std.specs.Prelude.{Option, Some, None, slice_get}
+use Rattle.std.proofs.Common.{◌≡◌, ℕ, List, sym, subst, Bool, false}
+use Rattle.std.specs.Prelude.{Option, None}
 use Rattle.fkv_plane.specs.declared.actions.Action.{Action}
 use Rattle.fkv_plane.specs.declared.asks.Ask.{Ask}
 use Rattle.fkv_epoch.specs.EpochWorld.{EpochMachine}
-use Rattle.fkv_flush.specs.GuardLevels.{levels_of}
 use Rattle.fkv_flush.specs.GuardSeen.{LastSeen}
-use Rattle.fkv_flush.specs.GuardWorld.{Actor, Work, GuardNow, GuardEvent, near, put_near}
-use Rattle.fkv_flush.proofs.Shown.{runs_now, Fits, FitsMachine, FitsWork, Follows}
+use Rattle.fkv_flush.specs.GuardWorld.{Actor, Work, GuardNow, GuardEvent}
+use Rattle.fkv_flush.proofs.Shown.{Fits, FitsMachine, FitsWork, Follows}
 use Rattle.fkv_keeper.specs.declared.answers.KeeperTold.{KeeperTold}
 use Rattle.fkv_keeper.specs.Keeping.{KeeperState, keeper_ask, keeper_next}
 pub use Rattle.fkv_guard_keeper.specs.Followed.{KeeperLed}
-use Rattle.fkv_guard_keeper.specs.KeeperShown.{keeper_machine, keeper_work, KeeperKnows}
 use Rattle.fkv_guard_keeper.specs.Settled.{settled, actions_settled, is_of_slot, keeper_gets}
 use Rattle.fkv_guard_keeper.proofs.Led.{likeness}
 use Rattle.fkv_guard_keeper.proofs.Slots.{settled_stays, actions_stay}

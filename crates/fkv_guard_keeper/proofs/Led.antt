@@ -1,11 +1,11 @@
 -- Where events of an actor lead that is like a machine above: what it drives then is under way.
-use Rattle.std.proofs.Common.{◌≡◌, ℕ, List, [], ◌∷◌, refl, ap, ◌∙◌, Bool, true, false}
+use Rattle.std.proofs.Common.{◌≡◌, ℕ, List, [], ◌∷◌, refl, ap, ◌∙◌, true}
 use Rattle.std.specs.Prelude.{Option, Some, None, slice_get}
 use Rattle.fkv_plane.specs.declared.actions.Action.{Action}
 use Rattle.fkv_epoch.specs.EpochWorld.{EpochMachine, EpochNear, is_at_rest, machine_step, sight_of}
 use Rattle.fkv_flush.specs.GuardSeen.{LastSeen}
-use Rattle.fkv_flush.specs.GuardWorld.{Actor, Work, GuardTask, GuardNow, GuardEvent, Begins, Resumes, Moves, near, put_near, is_idle, may_work, started, epoch_step}
-use Rattle.fkv_flush.proofs.Shown.{runs_now, put_there, goes_on, begins, moves_machine, Likeness, Fits, Follows}
+use Rattle.fkv_flush.specs.GuardWorld.{Actor, Work, GuardTask, GuardNow, GuardEvent, Begins, Moves, near, put_near, is_idle, may_work, started}
+use Rattle.fkv_flush.proofs.Shown.{runs_now, put_there, goes_on, begins, moves_machine, Follows}
 pub use Rattle.fkv_guard_keeper.specs.Followed.{likeness}
 use Rattle.fkv_guard_keeper.specs.MaintainShown.{IsUnderWay}
 

@@ -4,7 +4,7 @@ use Rattle.std.specs.Prelude.{Option, Some, slice_get, nat_lt}
 use Rattle.fkv_base.specs.declared.shapes.Shape.{Shape}
 use Rattle.fkv_plane.specs.declared.actions.Action.{Action}
 use Rattle.fkv_plane.specs.declared.asks.Ask.{Ask}
-use Rattle.fkv_plane.specs.declared.asks.Ask.TheVariants.{Put, Take, Done}
+use Rattle.fkv_plane.specs.declared.asks.Ask.TheVariants.{Done}
 use Rattle.fkv_plane.specs.Passing.{passed, is_done}
 use Rattle.fkv_plane.proofs.Shown.{passed_done}
 use Rattle.fkv_epoch.specs.declared.raising.Raising.{Raising}
@@ -25,7 +25,7 @@ use Rattle.fkv_log.specs.Shifting.{ShiftState, shift_next, shift_next_ask, shift
 use Rattle.fkv_log.specs.Turning.{TurnState, turn_at, turn_next, turn_next_ask, turn_ask, turning_ask, turning_next, turning_next_ask, turn_led, turn_told}
 use Rattle.fkv_log.proofs.Shown.{move_goes_on, turn_asks}
 use Rattle.fkv_flush.specs.GuardLevels.{Levels, levels_of}
-use Rattle.fkv_flush.specs.GuardWorld.{Actor, Shifts, Turns, Work, GuardNow, GuardNear, GuardWorld, GuardEvent, put_near, is_idle, shift_rests, turn_rests, actions_after, guard_happens, past_after}
+use Rattle.fkv_flush.specs.GuardWorld.{Actor, Shifts, Turns, GuardNow, GuardNear, GuardWorld, GuardEvent, put_near, is_idle, shift_rests, turn_rests, actions_after, guard_happens, past_after}
 use Rattle.fkv_flush.proofs.Shown.{runs_now, put_there, FitsMachine, MoveKnows, ShiftKnows, TurnKnows, Knows, Awake, IsSound, happens_sound}
 use Rattle.fkv_guard_keeper.specs.MaintainShown.{moving_machine, shift_machine, turn_machine}
 

@@ -22,10 +22,10 @@ use Rattle.fkv_keeper.specs.declared.keepers.Keeping.TheVariants as keeping
 use Rattle.fkv_keeper.specs.Keeping.{KeeperState, keeping_ask, copies, part_begun, phase_ledto, turn_over}
 use Rattle.fkv_guard_keeper.specs.CommitEvents.{seek_begins}
 use Rattle.fkv_guard_keeper.specs.KeeperEvents.{part_begins}
-use Rattle.fkv_guard_keeper.proofs.KeeperLed.{KeeperLed, StepLed, slotless_step}
+use Rattle.fkv_guard_keeper.proofs.KeeperLed.{StepLed, slotless_step}
 use Rattle.fkv_guard_keeper.proofs.Led.{likeness}
 use Rattle.fkv_guard_keeper.proofs.PartLed.{PartLed, stays, raise_begins}
-use Rattle.fkv_guard_keeper.proofs.Quiet.{is_quiet, IsQuietAs, quiet_step, quiet_begins}
+use Rattle.fkv_guard_keeper.proofs.Quiet.{IsQuietAs, quiet_step, quiet_begins}
 use Rattle.fkv_guard_keeper.proofs.Slots.{passed_slot}
 use Rattle.fkv_guard_keeper.proofs.Sought.{seek_machine, SeekKnown, owing_led, owing_slot}
 

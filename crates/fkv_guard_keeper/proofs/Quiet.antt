@@ -1,20 +1,18 @@
 -- The keeper where none of the guard's machines is under way: it loads the phase, copies, waits or writes, or its call is at its end.
-use Rattle.std.proofs.Common.{◌≡◌, ℕ, List, [], ◌∷◌, refl, ap, sym, subst, ◌∙◌, Bool, true, false}
-use Rattle.std.specs.Prelude.{Option, Some, None, slice_get}
+use Rattle.std.proofs.Common.{◌≡◌, ℕ, List, [], refl, ◌∙◌, Bool, true, false}
+use Rattle.std.specs.Prelude.{Option, Some, None}
 use Rattle.fkv_base.specs.declared.shapes.Shape.{Shape}
 use Rattle.fkv_plane.specs.declared.actions.Action.{Action}
 use Rattle.fkv_plane.specs.declared.places.Places.{Places}
-use Rattle.fkv_plane.specs.Passing.{passed}
 use Rattle.fkv_checkpoint.specs.declared.copying.CopyStep.{CopyStep}
 use Rattle.fkv_checkpoint.specs.declared.copying.CopyStep.TheVariants as copy
-use Rattle.fkv_checkpoint.specs.Copying.{Copier, copy_step_ask, copy_ask}
+use Rattle.fkv_checkpoint.specs.Copying.{Copier, copy_step_ask}
 use Rattle.fkv_commit.specs.declared.waiting.Waiting.{Waiting}
 use Rattle.fkv_commit.specs.declared.waiting.Waiting.TheVariants as wait
 use Rattle.fkv_commit.specs.Waiting.{waiting_ask, wait_ask}
-use Rattle.fkv_flush.specs.GuardLevels.{levels_of}
 use Rattle.fkv_flush.specs.GuardSeen.{LastSeen}
-use Rattle.fkv_flush.specs.GuardWorld.{Actor, GuardNow, GuardEvent}
-use Rattle.fkv_flush.proofs.Shown.{Fits, Follows}
+use Rattle.fkv_flush.specs.GuardWorld.{GuardNow, GuardEvent}
+use Rattle.fkv_flush.proofs.Shown.{Follows}
 use Rattle.fkv_manifest.specs.declared.answers.WriteAnswer.{WriteAnswer}
 use Rattle.fkv_manifest.specs.declared.answers.WriteAnswer.TheVariants as write
 use Rattle.fkv_manifest.specs.Committing.{commit_answer}
@@ -23,7 +21,6 @@ use Rattle.fkv_keeper.specs.declared.keepers.Keeping.{Keeping}
 use Rattle.fkv_keeper.specs.declared.keepers.Keeping.TheVariants as keeping
 use Rattle.fkv_keeper.specs.Keeping.{KeeperState, copy_asked, write_asked, keeping_ask, keeper_ask, turn_over}
 use Rattle.fkv_guard_keeper.specs.KeeperEvents.{part_begins}
-use Rattle.fkv_guard_keeper.specs.KeeperShown.{keeper_machine, keeper_work}
 use Rattle.fkv_guard_keeper.specs.Settled.{is_of_slot}
 use Rattle.fkv_guard_keeper.proofs.KeeperLed.{KeeperLed, StepLed, slotless_step}
 use Rattle.fkv_guard_keeper.proofs.Led.{likeness}

@@ -1,6 +1,6 @@
 -- A step of a commit that seeks its points, as the keeper makes it.
-use Rattle.std.proofs.Common.{◌≡◌, ℕ, List, [], ◌∷◌, refl, ap, sym, subst, ◌∙◌, Bool, true, false}
-use Rattle.std.specs.Prelude.{Option, Some, None, slice_get, slice_set}
+use Rattle.std.proofs.Common.{◌≡◌, ℕ, List, refl, ap, sym, subst, Bool}
+use Rattle.std.specs.Prelude.{Option, Some, None, slice_set}
 use Rattle.fkv_plane.specs.declared.actions.Action.{Action}
 use Rattle.fkv_plane.specs.declared.asks.Ask.{Ask}
 use Rattle.fkv_plane.specs.declared.asks.Ask.TheVariants.{Put, Take, Done}
@@ -13,10 +13,8 @@ use Rattle.fkv_flush.specs.GuardLevels.{levels_of}
 use Rattle.fkv_flush.specs.GuardSeen.{LastSeen}
 use Rattle.fkv_flush.specs.GuardWorld.{GuardNow, GuardEvent}
 use Rattle.fkv_flush.proofs.Shown.{Follows}
-use Rattle.fkv_keeper.specs.declared.answers.KeeperTold.{KeeperTold}
 use Rattle.fkv_keeper.specs.declared.keepers.Keeping.TheVariants as keeping
 use Rattle.fkv_keeper.specs.Keeping.{KeeperState, keeping_ask, keeping_next, keeping_given, seek_ledto, turn_over}
-use Rattle.fkv_guard_keeper.specs.KeeperShown.{KeeperKnows}
 use Rattle.fkv_guard_keeper.specs.Settled.{settled, actions_settled, is_of_slot, takes_none, keeper_gets}
 use Rattle.fkv_guard_keeper.proofs.Ends.{seek_over}
 use Rattle.fkv_guard_keeper.proofs.KeeperLed.{KeeperLed, StepLed, step_by_ask, slotless_step, rest_follows}

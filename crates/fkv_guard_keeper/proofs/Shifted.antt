@@ -1,5 +1,5 @@
 -- A step of a turn's shift of the read-only offset.
-use Rattle.std.proofs.Common.{◌≡◌, ℕ, List, [], ◌∷◌, refl, sym, ap, subst, ◌∙◌, Bool, true, false}
+use Rattle.std.proofs.Common.{◌≡◌, ℕ, List, [], ◌∷◌, refl, sym, ap, subst, ◌∙◌, true, false}
 use Rattle.std.specs.Prelude.{Option, Some, None, slice_get, slice_set}
 use Rattle.fkv_base.specs.declared.numbers.Addr.{Addr}
 use Rattle.fkv_plane.specs.declared.actions.Action.{Action}
@@ -19,10 +19,9 @@ use Rattle.fkv_flush.specs.GuardSeen.{LastSeen}
 use Rattle.fkv_flush.specs.GuardWorld.{Actor, Work, Shifts, Turns, GuardNow, GuardNear, GuardWorld, Moves, ToTurnPage, near, put_near, is_idle, actions_after}
 use Rattle.fkv_flush.specs.GuardWorld as guard
 use Rattle.fkv_flush.proofs.Shown.{runs_now, moves_work, Fits, FitsMachine, Knows, Awake, IsSound, Goes, shift_goes}
-use Rattle.fkv_maintain.specs.declared.maintaining.MaintainAnswer.{MaintainAnswer}
 use Rattle.fkv_maintain.specs.declared.maintaining.MaintainAnswer.TheVariants as answer
 use Rattle.fkv_maintain.specs.declared.maintaining.Maintaining.TheVariants as maintain
-use Rattle.fkv_maintain.specs.Maintaining.{MaintainState, maintaining_ask, maintaining_next, maintain_ask, maintain_next, shift_ledto}
+use Rattle.fkv_maintain.specs.Maintaining.{MaintainState, maintaining_ask, maintaining_next, maintain_next, shift_ledto}
 use Rattle.fkv_guard_keeper.specs.MaintainEvents.{shift_events, maintain_events}
 use Rattle.fkv_guard_keeper.specs.MaintainShown.{maintain_machine, maintain_work, shift_machine}
 use Rattle.fkv_guard_keeper.proofs.Led.{likeness, Led, then_begins}

@@ -1,5 +1,5 @@
 -- A step of a commit that seeks its points, and makes the log read-only up to its end.
-use Rattle.std.proofs.Common.{◌≡◌, ℕ, ◌≤◌, ◌<◌, List, [], ◌∷◌, ◌++◌, ◌⊎◌, inl, inr, refl, ap, sym, subst, ◌∙◌, Bool, true, false, arith, max}
+use Rattle.std.proofs.Common.{◌≡◌, ℕ, ◌≤◌, ◌<◌, List, [], ◌∷◌, ◌++◌, inl, inr, refl, ap, sym, subst, ◌∙◌, true, false, arith, max}
 use Rattle.std.specs.Prelude.{Option, Some, None, slice_get, slice_set, length, nat_lt, nat_le, ◌==◌, ◌+◌}
 use Rattle.std.proofs.lemmas.Bool.Decides.{nat_tests}
 use Rattle.std.proofs.lemmas.List.{set-get_or}
@@ -17,22 +17,21 @@ use Rattle.fkv_epoch.specs.declared.arming.Arming.TheVariants as arm
 use Rattle.fkv_epoch.specs.Raising.{raise_ask, raise_next, raise_next_ask, raise_on}
 use Rattle.fkv_epoch.specs.Arming.{arm_ask, arm_next}
 use Rattle.fkv_epoch.specs.Claiming.{phase_stored}
-use Rattle.fkv_epoch.specs.EpochWorld.{EpochMachine, Raises, Arms, ToRaise, is_at_rest, resumed_machine}
+use Rattle.fkv_epoch.specs.EpochWorld.{EpochMachine, Raises, Arms, resumed_machine}
 use Rattle.fkv_epoch.proofs.Shown.{word_written}
 use Rattle.fkv_commit.specs.declared.deferring.DeferAnswer.{DeferAnswer}
 use Rattle.fkv_commit.specs.declared.deferring.DeferAnswer.TheVariants.{Held, Spent}
-use Rattle.fkv_commit.specs.declared.deferring.Deferred.TheVariants.{ShowsReadOnly}
 use Rattle.fkv_commit.specs.declared.deferring.Deferring.TheVariants as defer
 use Rattle.fkv_commit.specs.declared.seeking.SeekAnswer.TheVariants as answer
 use Rattle.fkv_commit.specs.declared.seeking.Seeking.{Seeking}
 use Rattle.fkv_commit.specs.declared.seeking.Seeking.TheVariants as seek
 use Rattle.fkv_commit.specs.Commits.{version_after}
 use Rattle.fkv_commit.specs.Cuts.{serial_said, version_said, cut_of, other_cut_of}
-use Rattle.fkv_commit.specs.Deferring.{DeferState, action_of, armed_epoch, defer_begun, defer_ask, defer_next, deferring_ask, deferring_next, deferring_on, raise_ledto, arm_ledto}
-use Rattle.fkv_commit.specs.Seeking.{SeekState, owing_from, seek_ask, seek_next, seeking_ask, seeking_next, points_from, point_taken, slot_led, defer_led}
+use Rattle.fkv_commit.specs.Deferring.{DeferState, action_of, armed_epoch, defer_ask, defer_next, deferring_ask, deferring_next, deferring_on, raise_ledto, arm_ledto}
+use Rattle.fkv_commit.specs.Seeking.{SeekState, owing_from, seek_ask, seek_next, seeking_ask, seeking_next, points_from, slot_led, defer_led}
 use Rattle.fkv_flush.specs.GuardLevels.{levels_of}
 use Rattle.fkv_flush.specs.GuardSeen.{LastSeen}
-use Rattle.fkv_flush.specs.GuardWorld.{Actor, Rests, GuardNow, GuardEvent, GuardWorld, Begins, Resumes, Moves, RaisesReadOnly, Changes, ToDo, near, put_near, is_idle}
+use Rattle.fkv_flush.specs.GuardWorld.{Actor, Rests, GuardNow, GuardEvent, GuardWorld, Resumes, Moves, RaisesReadOnly, Changes, near, put_near, is_idle}
 use Rattle.fkv_flush.proofs.Shown.{runs_now, raises_read_only, changes, Fits, FitsMachine, IsSound, phase_is_outer}
 use Rattle.fkv_guard_keeper.specs.CommitEvents.{seek_begins, seeking_events}
 use Rattle.fkv_guard_keeper.specs.CommitShown.{seeking_machine, defer_machine, SeekKnows, IsSlotHeld}

@@ -1,6 +1,6 @@
 -- A step of a commit's start, as the keeper makes it.
-use Rattle.std.proofs.Common.{◌≡◌, ℕ, List, [], ◌∷◌, refl, ap, sym, subst, ◌∙◌, Bool, true, false}
-use Rattle.std.specs.Prelude.{Option, Some, None, slice_get, slice_set}
+use Rattle.std.proofs.Common.{◌≡◌, ℕ, List, refl, ap, sym, subst, Bool}
+use Rattle.std.specs.Prelude.{Option, Some, None, slice_set}
 use Rattle.fkv_base.specs.declared.faults.Fault.TheVariants as fault
 use Rattle.fkv_plane.specs.declared.actions.Action.{Action}
 use Rattle.fkv_plane.specs.declared.asks.Ask.{Ask}
@@ -14,11 +14,9 @@ use Rattle.fkv_flush.specs.GuardLevels.{levels_of}
 use Rattle.fkv_flush.specs.GuardSeen.{LastSeen}
 use Rattle.fkv_flush.specs.GuardWorld.{GuardNow, GuardEvent}
 use Rattle.fkv_flush.proofs.Shown.{Follows}
-use Rattle.fkv_keeper.specs.declared.answers.KeeperTold.{KeeperTold}
 use Rattle.fkv_keeper.specs.declared.answers.KeeperTold.TheVariants.{CommitRefused}
 use Rattle.fkv_keeper.specs.declared.keepers.Keeping.TheVariants as keeping
 use Rattle.fkv_keeper.specs.Keeping.{KeeperState, keeping_ask, keeping_next, keeping_given, start_ledto}
-use Rattle.fkv_guard_keeper.specs.KeeperShown.{KeeperKnows}
 use Rattle.fkv_guard_keeper.specs.Settled.{settled, actions_settled, is_of_slot, takes_none, keeper_gets}
 use Rattle.fkv_guard_keeper.proofs.Ends.{start_over}
 use Rattle.fkv_guard_keeper.proofs.KeeperLed.{KeeperLed, StepLed, step_by_ask, slotless_step, rest_follows}

@@ -1,5 +1,5 @@
 -- A step of a turn, as the keeper makes it.
-use Rattle.std.proofs.Common.{◌≡◌, ℕ, List, [], ◌∷◌, refl, ap, sym, subst, ◌∙◌, Bool, true, false}
+use Rattle.std.proofs.Common.{◌≡◌, ℕ, List, refl, ap, Bool, false}
 use Rattle.std.specs.Prelude.{Option, Some, None, slice_get, slice_set}
 use Rattle.fkv_plane.specs.declared.actions.Action.{Action}
 use Rattle.fkv_plane.specs.declared.asks.Ask.{Ask}
@@ -11,11 +11,10 @@ use Rattle.fkv_flush.specs.GuardSeen.{LastSeen}
 use Rattle.fkv_flush.specs.GuardWorld.{Actor, GuardNow, GuardWorld, GuardEvent}
 use Rattle.fkv_flush.proofs.Shown.{Follows, IsSound}
 use Rattle.fkv_keeper.specs.declared.keepers.Keeping.TheVariants as keeping
-use Rattle.fkv_keeper.specs.Keeping.{KeeperState, device_passed, keeping_ask, keeping_next, keeping_given, keeper_ask, maintain_ledto, turn_over}
+use Rattle.fkv_keeper.specs.Keeping.{KeeperState, device_passed, keeping_ask, keeping_next, keeping_given, maintain_ledto, turn_over}
 use Rattle.fkv_maintain.specs.declared.maintaining.MaintainAnswer.{MaintainAnswer}
 use Rattle.fkv_maintain.specs.declared.maintaining.MaintainAnswer.TheVariants as answer
 use Rattle.fkv_maintain.specs.Maintaining.{MaintainState, maintain_ask, maintain_next, maintain_given}
-use Rattle.fkv_guard_keeper.specs.KeeperShown.{KeeperKnows}
 use Rattle.fkv_guard_keeper.specs.MaintainShown.{maintain_machine, maintain_work}
 use Rattle.fkv_guard_keeper.specs.Settled.{settled, actions_settled, is_of_slot, maintain_gets, keeper_gets}
 use Rattle.fkv_guard_keeper.proofs.Ends.{IsTurnOver, follows_known, part_known, is_device, turn_over_at}

@@ -1,11 +1,9 @@
 -- Where a step of a turn leads, with what is settled behind it.
-use Rattle.std.proofs.Common.{◌≡◌, ℕ, List, [], ◌∷◌, refl, ap, sym, subst, ◌∙◌, Bool, true, false}
-use Rattle.std.specs.Prelude.{Option, Some, None, slice_get}
-use Rattle.fkv_base.specs.declared.shapes.Shape.{Shape}
+use Rattle.std.proofs.Common.{◌≡◌, ℕ, List, refl, sym, subst, false}
+use Rattle.std.specs.Prelude.{Option}
 use Rattle.fkv_plane.specs.declared.actions.Action.{Action}
 use Rattle.fkv_plane.specs.declared.asks.Ask.{Ask}
-use Rattle.fkv_plane.specs.declared.asks.Ask.TheVariants.{Put, Take, Done}
-use Rattle.fkv_plane.specs.declared.places.Places.{Places}
+use Rattle.fkv_plane.specs.declared.asks.Ask.TheVariants.{Done}
 use Rattle.fkv_plane.specs.Passing.{passed}
 use Rattle.fkv_flush.specs.declared.answers.DeviceAnswer.{DeviceAnswer}
 use Rattle.fkv_flush.specs.declared.answers.DeviceAnswer.TheVariants as device
@@ -13,7 +11,7 @@ use Rattle.fkv_flush.specs.GuardSeen.{LastSeen}
 use Rattle.fkv_flush.specs.GuardWorld.{GuardNow, GuardEvent}
 use Rattle.fkv_maintain.specs.declared.maintaining.MaintainAnswer.{MaintainAnswer}
 use Rattle.fkv_maintain.specs.declared.maintaining.MaintainAnswer.TheVariants as answer
-use Rattle.fkv_maintain.specs.Maintaining.{MaintainState, device_asked, maintain_ask, maintain_next, maintain_given}
+use Rattle.fkv_maintain.specs.Maintaining.{MaintainState, device_asked, maintain_ask, maintain_next}
 use Rattle.fkv_guard_keeper.specs.MaintainShown.{maintain_machine, maintain_work}
 use Rattle.fkv_guard_keeper.specs.Settled.{settled, actions_settled, is_of_slot, maintain_gets}
 use Rattle.fkv_guard_keeper.proofs.Led.{Led}

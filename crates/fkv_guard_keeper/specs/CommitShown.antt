@@ -1,5 +1,5 @@
 -- What the guard has of the keeper as it works on a commit: the machine of the epochs that a deferral drives, and what is known of it.
-use Rattle.std.specs.Prelude.{ℕ, ◌<◌, ◌≤◌, Option, Some, None, ⊤}
+use Rattle.std.specs.Prelude.{◌<◌, ◌≤◌, Option, Some, None, ⊤}
 use Rattle.fkv_epoch.specs.declared.raising.Raising.{Raising}
 use Rattle.fkv_epoch.specs.declared.raising.Raising.TheVariants as raise
 use Rattle.fkv_epoch.specs.declared.arming.Arming.{Arming}

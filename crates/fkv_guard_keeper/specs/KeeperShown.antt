@@ -1,5 +1,5 @@
 -- What the guard has of the keeper, by what it is at: the machine of the epochs and the work of the machine inside that is under way, and what is known of it.
-use Rattle.std.specs.Prelude.{◌≡◌, Option, Some, None, ⊤}
+use Rattle.std.specs.Prelude.{◌≡◌, Option, None, ⊤}
 use Rattle.fkv_plane.specs.declared.places.Places.{Places}
 use Rattle.fkv_epoch.specs.EpochWorld.{EpochMachine}
 use Rattle.fkv_flush.specs.GuardLevels.{Levels}

@@ -7,7 +7,7 @@ use Rattle.fkv_plane.specs.declared.asks.Ask.TheVariants.{Done}
 use Rattle.fkv_plane.specs.declared.places.Places.{Places}
 use Rattle.fkv_epoch.specs.Scanning.{scan_ask, scan_next}
 use Rattle.fkv_epoch.specs.Claiming.{claim_ask, claim_next}
-use Rattle.fkv_epoch.specs.EpochWorld.{ToScan, ToClaim}
+use Rattle.fkv_epoch.specs.EpochWorld.{ToClaim}
 use Rattle.fkv_log.specs.declared.moving.MoveAnswer.{MoveAnswer}
 use Rattle.fkv_log.specs.declared.moving.MoveAnswer.TheVariants as moved
 use Rattle.fkv_log.specs.declared.shifting.ShiftAnswer.{ShiftAnswer}

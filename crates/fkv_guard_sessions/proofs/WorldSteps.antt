@@ -1,23 +1,22 @@
 -- A session's step in the engine's world is the guard's events.
-use Rattle.std.proofs.Common.{◌≡◌, ℕ, ◌∙◌, List, [], ◌∷◌, ◌++◌, refl, sym, ap, subst, inl, inr, Bool, true, false}
-use Rattle.std.specs.Prelude.{Option, Some, None, slice_get, if◌then◌else◌}
+use Rattle.std.proofs.Common.{◌≡◌, ℕ, ◌∙◌, List, [], ◌++◌, refl, sym, ap, subst, Bool, true, false}
+use Rattle.std.specs.Prelude.{Option, if◌then◌else◌}
 use Rattle.fkv_plane.specs.declared.actions.Action.{Action}
 use Rattle.fkv_plane.specs.declared.asks.Ask.{Ask}
-use Rattle.fkv_plane.specs.declared.asks.Ask.TheVariants.{Load, Store, Swap, Cas, Add, Max, Put, Take, Done}
+use Rattle.fkv_plane.specs.declared.asks.Ask.TheVariants.{Put, Take, Done}
 use Rattle.fkv_plane.specs.Asked.{words_after, reply_to}
 use Rattle.fkv_plane.specs.Passing.{is_done}
-use Rattle.fkv_plane.specs.Plane.{action_at}
 use Rattle.fkv_flush.specs.GuardWorld.{Actor, GuardNow, GuardWorld, GuardEvent, near, put_near, guard_run}
 use Rattle.fkv_flush.proofs.Shown.{IsSound, run_sound, run_now, put_there}
 use Rattle.fkv_session.specs.declared.answers.Told.{Told}
 use Rattle.fkv_session.specs.declared.sessions.Sitting.{Sitting}
-use Rattle.fkv_session.specs.declared.sessions.Sitting.TheVariants.{Idle, Attempts, CatchesUp, ClearsMail, Polls, StoresOwing, Turns, StoresCut, Leaves, LoadsDurable}
+use Rattle.fkv_session.specs.declared.sessions.Sitting.TheVariants.{Turns}
 use Rattle.fkv_session.specs.Sessions.{SessionState, Seat, session_ask, session_next}
 use Rattle.fkv_world.specs.Moves as world
 use Rattle.fkv_world.specs.Moves.{Near, session_replied, session_asks, session_moved}
 use Rattle.fkv_guard_sessions.specs.Followed.{Sits, SessionFollows, seat_in, is_turning}
 use Rattle.fkv_guard_sessions.specs.OwnTurns.{actions_settled}
-use Rattle.fkv_guard_sessions.specs.Sessions.{SessionWritesOuter, session_guard_events, session_likeness, session_settled, sitting_events, sitting_onward}
+use Rattle.fkv_guard_sessions.specs.Sessions.{SessionWritesOuter, session_settled, sitting_events, sitting_onward}
 use Rattle.fkv_guard_sessions.specs.Steps.{onward_events}
 use Rattle.fkv_guard_sessions.specs.WorldSteps.{MovesFollow, beside}
 use Rattle.fkv_guard_sessions.proofs.Followed.{session_follows}

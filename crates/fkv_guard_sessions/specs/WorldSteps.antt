@@ -1,8 +1,7 @@
 -- A session's step and its call in the engine's world, as the guard's events.
-use Rattle.std.specs.Prelude.{◌≡◌, ℕ, false, slice_get}
-use Rattle.fkv_map.specs.declared.operations.Call.{Call}
+use Rattle.std.specs.Prelude.{ℕ}
 use Rattle.fkv_flush.specs.GuardWorld.{Actor, GuardNow, GuardWorld}
-use Rattle.fkv_session.specs.Sessions.{SessionState, Seat, is_busy}
+use Rattle.fkv_session.specs.Sessions.{SessionState}
 use Rattle.fkv_world.specs.Moves.{Near, session_moved}
 use Rattle.fkv_guard_sessions.specs.Followed.{Sits, SessionFollows, seat_in}
 use Rattle.fkv_guard_sessions.specs.Sessions.{SessionWritesOuter, session_guard_events}

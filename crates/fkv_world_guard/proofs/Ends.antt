@@ -1,5 +1,5 @@
 -- Why a call comes to its end in every life of an opened world, where its machine alone moves: it stands at no slot.
-use Rattle.std.proofs.Common.{◌≡◌, ℕ, suc, ◌+◌, ◌-◌, ◌<◌, ◌≤◌, ◌∙◌, refl, ap, subst, arith, inl, inr, List, [], ◌∷◌, ◌++◌, Bool, true, false}
+use Rattle.std.proofs.Common.{◌≡◌, ℕ, suc, ◌-◌, ◌<◌, ◌≤◌, ◌∙◌, refl, ap, subst, arith, inl, inr, List, [], ◌∷◌, ◌++◌, Bool, true, false}
 use Rattle.std.specs.Prelude.{Option, Some, None, length, replicate, slice_get}
 use Rattle.std.proofs.lemmas.Bool.{cases_lt}
 use Rattle.fkv_base.specs.declared.shapes.Shape.{Shape}
@@ -11,11 +11,11 @@ use Rattle.fkv_keeper.specs.KeeperAsks.{keeper_asks_left}
 use Rattle.fkv_keeper.specs.Keeping.{KeeperState, keeper_ask}
 use Rattle.fkv_keeper.proofs.Shown.{keeper_left}
 use Rattle.fkv_plane.specs.declared.asks.Ask.{Ask}
-use Rattle.fkv_plane.specs.declared.asks.Ask.TheVariants.{Put, Take, Done}
+use Rattle.fkv_plane.specs.declared.asks.Ask.TheVariants.{Take, Done}
 use Rattle.fkv_plane.specs.declared.places.Places.{Places}
 use Rattle.fkv_session.specs.Sessions.{SessionState, session_ask}
 use Rattle.fkv_world.specs.Actors.{slot_asked}
-use Rattle.fkv_world.specs.Ends.{IsFreeToMove, KeeperStandsAtNoSlot, StandsAtNone, StandsAtNoSlot, asks_left_of_keeper, moves_alone}
+use Rattle.fkv_world.specs.Ends.{IsFreeToMove, KeeperStandsAtNoSlot, StandsAtNone, StandsAtNoSlot, asks_left_of_keeper}
 use Rattle.fkv_world.specs.Moves.{Near, keeper_asks, keeper_moved}
 use Rattle.fkv_world.specs.Runs.{World, happens, read_by_keeper, run}
 use Rattle.fkv_world.specs.World.{Event, KeeperMoves, Moves, Now, life_goes, near, seat_at, with_keeper}

@@ -1,5 +1,5 @@
 -- What each event of a life finds in the drain slot that it turns to, and that no machine stands at a slot between two events.
-use Rattle.std.proofs.Common.{◌≡◌, ℕ, List, refl, sym, ap, subst, ◌∙◌, Bool, true, false}
+use Rattle.std.proofs.Common.{◌≡◌, ℕ, List, refl, sym, ap, subst, ◌∙◌, Bool, false}
 use Rattle.std.specs.Prelude.{Option, Some, None, slice_get}
 use Rattle.fkv_plane.specs.declared.asks.Ask.{Ask}
 use Rattle.fkv_plane.specs.declared.asks.Ask.TheVariants.{Put, Take, Done}
@@ -9,7 +9,7 @@ use Rattle.fkv_epoch.specs.EpochWorld.{EpochPast}
 use Rattle.fkv_flush.specs.GuardSlots.{slot_put}
 use Rattle.fkv_flush.specs.GuardWorld.{Actor, GuardWorld}
 use Rattle.fkv_keeper.specs.declared.answers.KeeperTold.{KeeperTold}
-use Rattle.fkv_keeper.specs.Keeping.{KeeperState, keeper_ask}
+use Rattle.fkv_keeper.specs.Keeping.{keeper_ask}
 use Rattle.fkv_session.specs.declared.answers.Told.{Told}
 use Rattle.fkv_session.specs.Sessions.{SessionState, Seat, session_ask, session_next}
 use Rattle.fkv_guard_sessions.specs.Sessions.{SessionWritesOuter}
