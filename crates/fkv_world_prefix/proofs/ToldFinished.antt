@@ -31,7 +31,7 @@ use Rattle.fkv_world.specs.Past.{Traced, TraceEvent, Called, CommitAsked, TurnAs
 use Rattle.fkv_world.specs.Runs.{World, happens, read_by_keeper, run}
 use Rattle.fkv_world.specs.World as world
 use Rattle.fkv_world.specs.World.{Event, Now, near}
-use Rattle.fkv_world.proofs.Shown.{is_over, keeper_runs, keeper_runs_on, places_stay, shape_stays, trace_so}
+use Rattle.fkv_world.proofs.Shown.{is_over, keeper_runs, places_stay, shape_stays, trace_so}
 use Rattle.fkv_world_prefix.specs.BegunCommits.{BegunCommit, AtEnd, HaveFinished, IsInHand, OneIsOpen, begun_at_end, begun_at_gate, begun_at_writes, begun_by, commit_opened, commits_begun, life_begun, with_finished, with_opening, with_sealed}
 use Rattle.fkv_world_prefix.specs.FinishedNumbers.{numbers_finished, numbers_told, with_told}
 use Rattle.fkv_world_prefix.proofs.BegunStands.{StandsAt, run_stands}
@@ -137,14 +137,6 @@ run_numbers shape p opening first (event ∷ before) opened all =
     let s : KeeperState = keeper_run shape p opening before in
     event_numbers (commits_begun shape p opening first before) s a s.step event a.step refl (run_stands shape p opening first before opened all) (run_stands shape p opening first (event ∷ before) opened all)
     ∙ ap (λ (numbers : List ℕ). with_number a.step s.step a.last numbers) (run_numbers shape p opening first before opened all)
-
-made_on : (shape : Shape) (p : Places) (opening : KeeperState) (later before : List KeeperEvent) (first : List ℕ)
-    → numbers_made shape p opening (later ++ before) first ≡ numbers_made shape p (keeper_run shape p opening before) later (numbers_made shape p opening before first)
-unfolding numbers_made
-made_on shape p opening [] before first = refl
-made_on shape p opening (event ∷ later) before first =
-    rw (keeper_runs_on shape p opening later before, keeper_runs_on shape p opening (event ∷ later) before)
-    (ap (λ (numbers : List ℕ). with_number (keeper_run shape p (keeper_run shape p opening before) (event ∷ later)).step (keeper_run shape p (keeper_run shape p opening before) later).step (keeper_run shape p (keeper_run shape p opening before) (event ∷ later)).last numbers) (made_on shape p opening later before first))
 
 -- ---- what callers see of it
 told_more : List TraceEvent → List ℕ → List ℕ
