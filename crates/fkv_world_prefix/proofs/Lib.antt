@@ -7,3 +7,4 @@ mod LifeBegun
 mod Pieces
 pub mod Shown
 mod Sights
+mod ToldFinished

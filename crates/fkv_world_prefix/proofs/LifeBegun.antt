@@ -12,7 +12,7 @@ use Rattle.fkv_world_prefix.specs.BegunCommits.{AreInTurn, AtKeeping, HaveFinish
 use Rattle.fkv_world_prefix.proofs.BegunStands.{run_stands, said_so}
 use Rattle.fkv_world_prefix.proofs.InTurn.{run_turn}
 
-opening_finished : (opening : World) → HaveFinished (commit_opened opening.now opening.past.opened ∷ []) opening.now.keeper.last
+pub opening_finished : (opening : World) → HaveFinished (commit_opened opening.now opening.past.opened ∷ []) opening.now.keeper.last
 opening_finished opening = record {
   newest = commit_opened opening.now opening.past.opened;
   older = [];

@@ -1,5 +1,6 @@
 pub mod Accepted
 pub mod BegunCommits
+pub mod FinishedNumbers
 pub mod PrefixPast
 pub mod Raises
 pub mod Ranks

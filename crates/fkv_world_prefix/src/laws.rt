@@ -1,5 +1,5 @@
 //! What holds of the past of a life, as the law of prefixes asks of it.
-ghost use Rattle.std.specs.Prelude.{◌≡◌, ◌+◌, ◌≤◌, ℕ, List, length};
+ghost use Rattle.std.specs.Prelude.{◌≡◌, ◌+◌, ◌≤◌, ◌∷◌, ℕ, List, [], length};
 ghost use Rattle.fkv_session.specs.Sessions.{SessionState};
 ghost use Rattle.fkv_standing.specs.Opening.{AreNumbersInTurn};
 ghost use Rattle.fkv_world.specs.Opened.{HasBecome, IsOpenedWorld};
@@ -8,6 +8,7 @@ ghost use Rattle.fkv_world.specs.Runs.{World, run};
 ghost use Rattle.fkv_world.specs.World.{Event, seat_at};
 ghost use Rattle.fkv_world_prefix.specs.Accepted.{HasRisingVersion, NeverFall, point, serial_at};
 ghost use Rattle.fkv_world_prefix.specs.BegunCommits.{AreInTurn, AtKeeping};
+ghost use Rattle.fkv_world_prefix.specs.FinishedNumbers.{numbers_finished, numbers_told};
 ghost use Rattle.fkv_world_prefix.specs.PrefixPast.{prefix_past};
 ghost use Rattle.fkv_world_prefix.specs.Views.{IsComing, IsSeenAs};
 ghost use Rattle.fkv_world_prefix.specs.Worked.{AskedChanges, BegunChange, CountsUpto, RaisesChange, RanksInTurn, ToldChanges, ViewsChange};
@@ -40,13 +41,15 @@ pub fn law_view_is_seen()
 /// newest that is finished says the number, the points and the checkpoint that the keeper has as the newest finished commit's. The newest may be open
 /// only while a commit is written or its words are stored, and for good where a call of the device has failed. Where a commit's words are stored it is the
 /// commit in hand, and sealed. As long as each commit that begins has the number behind the newest finished one's, their numbers come one behind the
-/// other, from the opening's on.
+/// other, from the opening's on. Those that are finished are the opening's and those that callers were told as finished, in their order.
 pub fn law_begun()
     ensures begun { (opening : World) (events : List Event) → IsOpenedWorld opening
         → AtKeeping (prefix_past opening events).begun (run opening events).now.keeper (run opening events).now.keeper.step }
     ensures in_turn { (opening : World) (events : List Event) → IsOpenedWorld opening
         → AreNumbersInTurn opening.now.shape opening.now.places opening.now.keeper (keeper_events opening events)
         → AreInTurn (prefix_past opening events).begun }
+    ensures finished { (opening : World) (events : List Event) → IsOpenedWorld opening
+        → numbers_finished (prefix_past opening events).begun ≡ numbers_told (run opening events).past.trace (opening.now.keeper.last.number.0 ∷ []) }
 {}
 
 /// Worked pieces, one for each way in which something of the past changes: they compute.

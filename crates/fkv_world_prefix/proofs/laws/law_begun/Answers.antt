@@ -1,5 +1,6 @@
 -- The commits that have begun.
 use Rattle.fkv_world_prefix.proofs.LifeBegun.{life_stands, life_turn}
+use Rattle.fkv_world_prefix.proofs.ToldFinished.{life_finished}
 use Rattle.fkv_world_prefix.proofs.laws.law_begun.Goals as goal
 
 pub returns-clause-begun : goal.returns-clause-begun
@@ -7,3 +8,6 @@ returns-clause-begun c = λ opening events opened. life_stands opening events op
 
 pub returns-clause-in_turn : goal.returns-clause-in_turn
 returns-clause-in_turn c = λ opening events opened turn. life_turn opening events opened turn
+
+pub returns-clause-finished : goal.returns-clause-finished
+returns-clause-finished c = λ opening events opened. life_finished opening events opened
