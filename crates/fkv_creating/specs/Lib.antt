@@ -1,2 +1,4 @@
 pub mod Created
+pub mod Filled
 pub mod Long
+pub mod Moments

@@ -1,22 +1,24 @@
 //! Creating a store.
 ghost use Rattle.std.specs.Prelude.{◌≡◌, ◌+◌, ◌≤◌, ◌^◌, ◌<◌, ◌↔◌, List, length, drop, replicate, IfOk, OnOk};
 ghost use Rattle.fkv_disk.specs.Bytes.{written};
-ghost use Rattle.fkv_disk.specs.Device.{LeavesOnly, HasCause, MakesCalls};
+ghost use Rattle.fkv_disk.specs.Device.{LeavesOnly, AtEachMoment, HasCause, MakesCalls};
 ghost use Rattle.fkv_newest.specs.Newest.{IsNewestOf};
-ghost use Rattle.fkv_creating.specs.Created.{IsNew, SparesRest, laid};
+ghost use Rattle.fkv_creating.specs.Created.{IsNew, SparesRest};
+ghost use Rattle.fkv_creating.specs.Filled.{cleared, IsCleared, IsShutOrFilled, filled};
 ghost use Rattle.fkv_creating.specs.Long.{IsLong};
+ghost use Rattle.fkv_creating.specs.Moments.{IsTornOver, IsTornInFront, IsLaidInOrder};
 
 use crate::new_slots::new_store;
 use fkv_base::{Fault, Shape};
 use fkv_disk::Device;
-use fkv_manifest::put_slot;
 use fkv_newest::Newest;
-use fkv_record::{SHAPE_PLACE, SLOT_PLACES, write_newest_slot, write_shape};
+use fkv_record::{OPEN, SHAPE_PLACE, SLOT_PLACES, write_newest_slot, write_shape};
 
 /// One write, and a sync.
 fn write_synced<D: Device>(d: &mut D, at: u64, bytes: &[u8]) -> Result<(), Fault>
     ensures seen { D.honest d.old → OnOk result (D.seen d.new ≡ written (D.seen d.old) at bytes.now) }
     ensures synced { D.honest d.old → OnOk result (LeavesOnly (D.seen d.new) (D.may_leave d.new)) }
+    ensures moments { D.honest d.old → AtEachMoment D.moment D.left_since d.old d.new (IsTornOver (D.may_leave d.old) at (length bytes.now)) }
     ensures honest { D.honest d.old ↔ D.honest d.new }
     ensures cause { HasCause (D.failed d.old) (D.failed d.new) result }
     ensures counted { OnOk result (MakesCalls 2 (D.refuses d.old) (D.refuses d.new) result) }
@@ -26,17 +28,40 @@ fn write_synced<D: Device>(d: &mut D, at: u64, bytes: &[u8]) -> Result<(), Fault
     Ok(())
 }
 
-/// Zeros over the front, the block, and then slot 0, which is put in force behind its gate.
-fn lay<D: Device>(d: &mut D, block: &[u8; 64], slot: [u8; 512]) -> Result<(), Fault>
-    ensures seen { D.honest d.old → OnOk result (D.seen d.new ≡ laid (D.seen d.old) block.now slot) }
+/// Zeros over the front.
+#[tactic(auto, unfolding(crate::specs::Filled::cleared))]
+fn clear<D: Device>(d: &mut D) -> Result<(), Fault>
+    ensures seen { D.honest d.old → OnOk result (D.seen d.new ≡ cleared (D.seen d.old)) }
     ensures synced { D.honest d.old → OnOk result (LeavesOnly (D.seen d.new) (D.may_leave d.new)) }
+    ensures moments { D.honest d.old → AtEachMoment D.moment D.left_since d.old d.new (IsTornInFront (D.may_leave d.old)) }
     ensures honest { D.honest d.old ↔ D.honest d.new }
     ensures cause { HasCause (D.failed d.old) (D.failed d.new) result }
-    ensures counted { OnOk result (MakesCalls 8 (D.refuses d.old) (D.refuses d.new) result) }
+    ensures counted { OnOk result (MakesCalls 2 (D.refuses d.old) (D.refuses d.new) result) }
 {
-    write_synced(d, SHAPE_PLACE, &[0; 1536])?;
+    write_synced(d, SHAPE_PLACE, &[0; 1536])
+}
+
+/// The slot behind its gate.
+fn body(slot: &[u8]) -> &[u8]
+    requires { 8 ≤ length slot.now }
+    ensures { result.now ≡ drop 8 slot.now }
+{
+    &slot[8..]
+}
+
+/// The block, the slot behind its gate, and the gate, over a front that is cleared.
+fn fill<D: Device>(d: &mut D, block: &[u8; 64], slot: &[u8; 512]) -> Result<(), Fault>
+    ensures seen { D.honest d.old → OnOk result (D.seen d.new ≡ filled (D.seen d.old) block.now slot.now) }
+    ensures synced { D.honest d.old → OnOk result (LeavesOnly (D.seen d.new) (D.may_leave d.new)) }
+    ensures moments { D.honest d.old → LeavesOnly (D.seen d.old) (D.may_leave d.old) → IsCleared (D.seen d.old) → AtEachMoment D.moment D.left_since d.old d.new (IsShutOrFilled (D.seen d.old) block.now slot.now) }
+    ensures honest { D.honest d.old ↔ D.honest d.new }
+    ensures cause { HasCause (D.failed d.old) (D.failed d.new) result }
+    ensures counted { OnOk result (MakesCalls 6 (D.refuses d.old) (D.refuses d.new) result) }
+{
     write_synced(d, SHAPE_PLACE, block)?;
-    put_slot(d, SLOT_PLACES[0], 8, slot, false)
+    write_synced(d, SLOT_PLACES[0] + 8, body(slot))?;
+    write_synced(d, SLOT_PLACES[0], &[OPEN])?;
+    Ok(())
 }
 
 /// Makes an empty store of this shape over whatever the device holds, and tells what `read_newest` will tell of it. It
@@ -44,8 +69,8 @@ fn lay<D: Device>(d: &mut D, block: &[u8; 64], slot: [u8; 512]) -> Result<(), Fa
 /// each. It takes no memory.
 ///
 /// After `Ok` the device reads as the image of commit 0 of a store with an empty log, and a crash leaves just that. What
-/// lies behind the first 1,536 bytes stays, and means nothing. After a refusal nothing is known of the bytes. It is
-/// refused with `Device` alone, and only where the device failed in this call.
+/// lies behind the first 1,536 bytes stays, and means nothing. Once the zeros are synced a crash, or a refusal, leaves an image that
+/// is no store's, or the new one. It is refused with `Device` alone, and only where the device failed in this call.
 pub fn create<D: Device>(d: &mut D, shape: Shape) -> Result<Newest, Fault>
     ensures ok { D.honest d.old → IfOk result (IsNewestOf (D.seen d.new)) }
     ensures new { IfOk result (IsNew shape) }
@@ -55,8 +80,10 @@ pub fn create<D: Device>(d: &mut D, shape: Shape) -> Result<Newest, Fault>
     ensures honest { D.honest d.old ↔ D.honest d.new }
     ensures cause { HasCause (D.failed d.old) (D.failed d.new) result }
     ensures counted { OnOk result (MakesCalls 8 (D.refuses d.old) (D.refuses d.new) result) }
+    ensures moments { D.honest d.old → IsLaidInOrder D.may_leave D.moment D.left_since D.refuses shape d.old d.new result }
 {
     let newest = new_store(shape);
-    lay(d, &write_shape(shape), write_newest_slot(&newest.slot))?;
+    clear(d)?;
+    fill(d, &write_shape(shape), &write_newest_slot(&newest.slot))?;
     Ok(newest)
 }
