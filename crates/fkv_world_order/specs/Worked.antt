@@ -19,10 +19,10 @@ use Rattle.fkv_world.specs.Runs.{World}
 use Rattle.fkv_world.specs.World.{Event, Calls, Moves}
 use Rattle.fkv_world_order.specs.GhostEvents.{fixed_ghosts, home_in, mapped, life_ghosts}
 
--- The words of a store for two sessions with one bucket and two frames of four records: the epoch is 1, the log begins at 1 and its limit is 8, and
+-- The words of a store for two sessions with one bucket and two frames of four records: the epoch is 1, the phase is rest in version 1, the log begins at 1 and its limit is 8, and
 -- both sessions are awake.
 abbrev pub first_words : List ℕ
-first_words = 1 ∷ 0 ∷ 0 ∷ 1 ∷ 8 ∷ 1 ∷ 1 ∷ 1 ∷ 1 ∷ 1 ∷ replicate 14 0 ++ (1 ∷ replicate 15 0 ++ (1 ∷ replicate 47 0))
+first_words = 1 ∷ 0 ∷ 1 ∷ 1 ∷ 8 ∷ 1 ∷ 1 ∷ 1 ∷ 1 ∷ 1 ∷ replicate 14 0 ++ (1 ∷ replicate 15 0 ++ (1 ∷ replicate 47 0))
 
 -- a session as its store was opened
 abbrev pub first_session : SessionState → SessionState

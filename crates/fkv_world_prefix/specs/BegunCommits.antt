@@ -35,7 +35,8 @@ pub record BegunCommit : Type 0 where
   -- the bytes of the triples that it wrote: a log commit writes none
   pub triples : List ℕ
   pub points : List Serial
-  -- the checkpoint that it uses, with the area in which this lies, and the lost ranges that it names
+  -- the checkpoint that it uses, with the area in which this lies; and the lost ranges that it names, or of the opening's commit those in hand,
+  -- behind which recovery may have added one
   pub checkpoint : Checkpoint
   pub lost : List LostRange
   -- the sync behind its open gate has succeeded
@@ -98,9 +99,14 @@ commits_begun shape p opening first (event ∷ before) =
     begun_by (keeper_run shape p opening before) (keeper_run shape p opening before).step event (keeper_run shape p opening (event ∷ before)).step
     (commits_begun shape p opening first before)
 
--- the commit with which a store opens: its log ends at the tail, and it is a full one where it has made its own checkpoint
+-- The commit with which a store opens: its log ends at the tail, and it is a full one where it has made its own checkpoint. Where it is a log commit
+-- the first address is its checkpoint's, since nothing tells its own.
 abbrev pub kind_opened : Finality → CommitKind
 kind_opened last = if last.checkpoint.number.0 == last.number.0 then Full else Log
+
+abbrev pub triples_opened : CommitKind → List ℕ → List ℕ
+triples_opened Full triples = triples
+triples_opened Log triples = []
 
 abbrev pub commit_opened : Now → List ℕ → BegunCommit
 commit_opened n opened = record {
@@ -108,7 +114,7 @@ commit_opened n opened = record {
   kind = kind_opened n.keeper.last;
   first = n.keeper.last.checkpoint.first;
   end = record { 0 = word_at n.words (shared_place one.Tail) };
-  triples = (standing_opened n.shape opened n.keeper.last).triples;
+  triples = triples_opened (kind_opened n.keeper.last) (standing_opened n.shape opened n.keeper.last).triples;
   points = n.keeper.last.points;
   checkpoint = n.keeper.last.checkpoint;
   lost = n.keeper.lost;
