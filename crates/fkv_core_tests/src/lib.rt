@@ -16,4 +16,8 @@ mod operations;
 #[cfg(test)]
 mod paging;
 #[cfg(test)]
+mod recovered;
+#[cfg(test)]
+mod recoveries;
+#[cfg(test)]
 mod stores;
