@@ -20,4 +20,6 @@ mod recovered;
 #[cfg(test)]
 mod recoveries;
 #[cfg(test)]
+mod second_lives;
+#[cfg(test)]
 mod stores;

@@ -1,5 +1,5 @@
 //! What is recovered behind a crash, from the image that the life has left.
-use crate::stores::Store;
+use crate::stores::{Store, store_of};
 use fkv_base::{Addr, Fault, Serial, Version};
 use fkv_core::Event;
 use fkv_disk::MemDisk;
@@ -55,6 +55,11 @@ pub(crate) fn crash(mut store: Store, torn: u8) -> Result<MemDisk, Fault> {
 pub(crate) fn crash_and_recover(alloc: Global, store: Store, torn: u8) -> Result<Opened, Fault> {
     let mut image = crash(store, torn)?;
     recover(alloc, &mut image)
+}
+
+/// The life ends, and another one begins with what is recovered.
+pub(crate) fn crash_and_go_on(alloc: Global, store: Store) -> Result<Store, Fault> {
+    store_of(alloc, crash(store, 0)?)
 }
 
 /// The commit in a slot of an image, where its gate is open.

@@ -2,9 +2,10 @@
 use crate::lines::{Line, Says, beginning, is_phase, moving, told, turned};
 use fkv_base::{Fault, Shape};
 use fkv_core::{Event, Told, World};
+use fkv_creating::create;
 use fkv_disk::{Fuse, MemDisk};
+use fkv_opening::recover;
 use fkv_plane::SharedWord;
-use fkv_recover::create;
 use std::alloc::Global;
 use std::process::Abort;
 use std::test::Fail;
@@ -31,12 +32,20 @@ const ROUNDS: u64 = 64;
 /// The engine on a device in memory, which a fuse may make fail.
 pub(crate) type Store = World<Fuse<MemDisk>>;
 
-/// A new store.
+/// A new store, opened as recovery tells it.
 pub(crate) fn new_store(alloc: Global, sizes: Sizes) -> Result<Store, Fault> {
     let [bits, page, frames, mutable, sessions, overflow, pages] = sizes;
     let shape = Shape::new(bits, page, frames, mutable, sessions, overflow, pages)?;
     let mut disk = Fuse::new(MemDisk::new(alloc));
-    let opened = create(alloc, &mut disk, shape)?;
+    let _ = create(&mut disk, shape)?;
+    let opened = recover(alloc, &mut disk)?;
+    World::open(alloc, opened, disk)
+}
+
+/// The store that is recovered from an image.
+pub(crate) fn store_of(alloc: Global, image: MemDisk) -> Result<Store, Fault> {
+    let mut disk = Fuse::new(image);
+    let opened = recover(alloc, &mut disk)?;
     World::open(alloc, opened, disk)
 }
 
