@@ -1,17 +1,14 @@
 //! Commits, up to where a crash may come.
-use crate::lines::Line::{
-    Add, Commit, Finish, Get, LogCommit, Poll, Refresh, Sleep, Turn, Up, Wake,
-};
+use crate::lines::Line::{Add, Commit, Finish, Get, Poll, Refresh, Sleep, Turn, Up, Wake};
 use crate::lines::Says::{
     At, Begun, CommitRefused, Done, Found, Kept, KeptBoth, LateLeaves, Leaves, Nothing, Sees,
     Slept, StillWaits, TurnRefused, Waits, Wakes,
 };
 use crate::paging::four_updates_read_only;
 use crate::stores::{NARROW_FOR_TWO, Store, WIDE, WIDE_FOR_TWO, new_store, play, play_new};
+use fkv_base::Fault;
 use fkv_base::Phase::{InProgress, Prepare, Rest, WaitPending};
-use fkv_base::{Addr, Fault, Serial};
 use fkv_ops::Reason::Disk;
-use fkv_record::read_manifest_slot;
 use std::process::Abort;
 use std::test::Fail;
 
@@ -26,9 +23,8 @@ fn one_commit_runs_at_a_time(rt: HostRuntime) -> Result<(), Fail> {
     play_new(&rt, rt.alloc(), WIDE, &script)
 }
 
-/// Each session's point is fixed where it goes on to the next version, not where the commit ends.
-#[test]
-fn a_point_is_where_a_session_leaves_the_version(rt: HostRuntime) -> Result<(), Fail> {
+/// Two sessions that go on to the next version at different times.
+pub(crate) fn points_of_two_sessions(rt: &impl Abort, store: &mut Store) {
     let script = [
         (Up(0, 1, 10), Done(1)),
         (Up(1, 2, 20), Done(1)),
@@ -45,12 +41,19 @@ fn a_point_is_where_a_session_leaves_the_version(rt: HostRuntime) -> Result<(), 
         (Up(1, 1, 7), Done(4)),
         (Finish, KeptBoth(1, 2, 3)),
     ];
-    play_new(&rt, rt.alloc(), WIDE_FOR_TWO, &script)
+    play(rt, store, &script);
 }
 
-/// A session that sleeps through commits keeps its point, and one that wakes in the middle of a commit is in the next version.
+/// Each session's point is fixed where it goes on to the next version, not where the commit ends.
 #[test]
-fn a_sleepers_point_stays(rt: HostRuntime) -> Result<(), Fail> {
+fn a_point_is_where_a_session_leaves_the_version(rt: HostRuntime) -> Result<(), Fail> {
+    let mut store = new_store(rt.alloc(), WIDE_FOR_TWO)?;
+    points_of_two_sessions(&rt, &mut store);
+    Ok(())
+}
+
+/// A session that sleeps through two commits, and wakes in the middle of a third.
+pub(crate) fn a_sleeper_through_commits(rt: &impl Abort, store: &mut Store) {
     let script = [
         (Up(1, 2, 20), Done(1)),
         (Sleep(1), Slept),
@@ -68,11 +71,19 @@ fn a_sleepers_point_stays(rt: HostRuntime) -> Result<(), Fail> {
         (Sleep(1), Slept),
         (Finish, KeptBoth(3, 2, 1)),
     ];
-    play_new(&rt, rt.alloc(), WIDE_FOR_TWO, &script)
+    play(rt, store, &script);
+}
+
+/// A session that sleeps through commits keeps its point, and one that wakes in the middle of a commit is in the next version.
+#[test]
+fn a_sleepers_point_stays(rt: HostRuntime) -> Result<(), Fail> {
+    let mut store = new_store(rt.alloc(), WIDE_FOR_TWO)?;
+    a_sleeper_through_commits(&rt, &mut store);
+    Ok(())
 }
 
 /// Two keys of one home, and a commit behind which both are updated.
-fn one_home_through_a_commit(rt: &impl Abort, store: &mut Store) {
+pub(crate) fn one_home_through_a_commit(rt: &impl Abort, store: &mut Store) {
     let script = [
         (Up(0, 1, 10), Done(1)),
         (Up(0, 524289, 20), Done(2)),
@@ -95,35 +106,9 @@ fn updates_of_the_next_version_are_behind_the_point(rt: HostRuntime) -> Result<(
     Ok(())
 }
 
-/// The log commit writes no triples: its slot names the checkpoint of the commit before, and where that one's scan begins.
-#[test]
-fn a_log_commit_names_the_checkpoint_before_it(rt: HostRuntime) -> Result<(), Fail> {
-    let mut store = new_store(rt.alloc(), WIDE)?;
-    one_home_through_a_commit(&rt, &mut store);
-    let script = [
-        (Up(0, 1, 13), Done(6)),
-        (LogCommit, Begun(2)),
-        (Finish, Kept(2, 6)),
-    ];
-    play(&rt, &mut store, &script);
-    let disk = store.end().into_device();
-    let slot = disk.bytes().get(512..1024).ok_or("no slot")?;
-    let mut bytes = [0u8; 512];
-    for (to, from) in bytes.iter_mut().zip(slot.iter()) {
-        *to = *from;
-    }
-    let (_, said) = read_manifest_slot(&bytes).ok_or("no open slot")?;
-    assert_eq!(rt; (said.number, said.first, said.end), (2, Addr(3), Addr(6)));
-    assert_eq!(rt; (said.triples, said.area, said.checkpoint), (1, 1, 1));
-    assert_eq!(rt; said.points.serials.first().copied(), Some(Serial(6)));
-    Ok(())
-}
-
-/// A commit waits for the update of its version that is pending; an update of the next version waits for that one's latch.
-#[test]
-fn a_commit_waits_for_its_pending_update(rt: HostRuntime) -> Result<(), Fail> {
-    let mut store = new_store(rt.alloc(), NARROW_FOR_TWO)?;
-    four_updates_read_only(&rt, &mut store);
+/// A commit with an update of its version that is pending, on whose key another session makes one of the next version.
+pub(crate) fn pending_through_a_commit(rt: &impl Abort, store: &mut Store) {
+    four_updates_read_only(rt, store);
     let script = [
         (Commit, Begun(1)),
         (Refresh(0), Sees(Prepare, 1)),
@@ -139,7 +124,14 @@ fn a_commit_waits_for_its_pending_update(rt: HostRuntime) -> Result<(), Fail> {
         (Poll(1), LateLeaves(1, 111)),
         (Finish, KeptBoth(1, 5, 0)),
     ];
-    play(&rt, &mut store, &script);
+    play(rt, store, &script);
+}
+
+/// A commit waits for the update of its version that is pending; an update of the next version waits for that one's latch.
+#[test]
+fn a_commit_waits_for_its_pending_update(rt: HostRuntime) -> Result<(), Fail> {
+    let mut store = new_store(rt.alloc(), NARROW_FOR_TWO)?;
+    pending_through_a_commit(&rt, &mut store);
     Ok(())
 }
 

@@ -16,4 +16,10 @@ mod operations;
 #[cfg(test)]
 mod paging;
 #[cfg(test)]
+mod recovered;
+#[cfg(test)]
+mod recoveries;
+#[cfg(test)]
+mod second_lives;
+#[cfg(test)]
 mod stores;

@@ -42,6 +42,13 @@ pub(crate) fn new_store(alloc: Global, sizes: Sizes) -> Result<Store, Fault> {
     World::open(alloc, opened, disk)
 }
 
+/// The store that is recovered from an image.
+pub(crate) fn store_of(alloc: Global, image: MemDisk) -> Result<Store, Fault> {
+    let mut disk = Fuse::new(image);
+    let opened = recover(alloc, &mut disk)?;
+    World::open(alloc, opened, disk)
+}
+
 /// So many steps of one actor, or fewer where its call ends before.
 pub(crate) fn steps(store: &mut Store, moves: Event, count: u64) -> Option<Told> {
     for _ in 0..count {
