@@ -4,7 +4,7 @@
 # make fkv     proves the program and leaves it at build/fkv
 # make rows    runs the built program on whole scripts, and compares what it writes
 # make memory  runs the stored script, recovery's calls and a commit's copy, with each request for memory refused in turn
-# make bench   times the proved program on scripts of up to 65,536 lines
+# make bench   times the proved program on scripts of up to 65,536 lines, and recovery of images of up to 1,000,000 records
 # make gate    runs the gate, and writes the processor time of each crate into docs/GATE.md
 #
 # Each of them needs the Rattle toolchain, the command rt. Where the program ends with a status other than 0 make run fails, and says which
@@ -46,7 +46,9 @@ memory: fkv
 	tools/memory/keeper
 
 bench: fkv
+	cd crates/fkv_opening_tests && rt test > /dev/null
 	tools/bench/run
+	tools/bench/recovery
 
 gate: toolchain
 	tools/gate/measure

@@ -172,13 +172,12 @@ class Log:
             and any(a < to and self.version(a) == version for to, version in self.slot.lost)
         )
 
+    def is_spelled(self, a):
+        """The bytes there spell a record."""
+        return not self.bit(a, 61) and not self.bit(a, 63) and self.version(a) >= 1
+
     def is_record(self, a, last_version):
-        return (
-            not self.bit(a, 61)
-            and not self.bit(a, 63)
-            and 1 <= self.version(a) <= last_version
-            and self.previous(a) < a
-        )
+        return self.is_spelled(a) and self.version(a) <= last_version and self.previous(a) < a
 
     def triple_fault(self):
         homes = set()
@@ -238,10 +237,11 @@ class Log:
             self.known |= {address for _, _, address in self.triples()}
             found = list(self.known)
             while found:
-                a = self.previous(found.pop())
-                if a != 0 and a not in self.known:
-                    self.known.add(a)
-                    found.append(a)
+                a = found.pop()
+                below = self.previous(a) if self.is_spelled(a) else 0
+                if below != 0 and below not in self.known:
+                    self.known.add(below)
+                    found.append(below)
         return self.known
 
     def chain_faults(self):
@@ -249,13 +249,13 @@ class Log:
         leading = {}  # the homes that lead to an address
         for home, _, address in self.triples():
             leading.setdefault(address, set()).add(home)
-        for b in self.reached():
+        for b in filter(self.is_spelled, self.reached()):
             leading.setdefault(self.previous(b), set()).add(self.home(b))
         faults = []
         for a in sorted(a for a in self.reached() if a < self.start):
             if not self.is_record(a, self.slot.number):
                 faults.append(f"Record {a}")
-            if not self.is_valid(a) or leading[a] != {self.home(a)}:
+            if self.is_spelled(a) and (not self.is_valid(a) or leading[a] != {self.home(a)}):
                 faults.append(f"Link {a}")
         return faults
 
