@@ -1,4 +1,9 @@
+mod CommitStands
 mod GuardOpens
 mod IndexOpens
 mod LatchesOpen
+mod Led
+mod SlotNamed
+mod ToldOpens
 mod Words
+mod WorldOpens

@@ -1,0 +1,2 @@
+pub mod OpenedFrom
+pub mod Steps
