@@ -3,6 +3,7 @@ mod GuardOpens
 mod IndexOpens
 mod LatchesOpen
 mod Led
+mod LongOpens
 mod SlotNamed
 mod ToldOpens
 mod Words

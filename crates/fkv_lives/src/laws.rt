@@ -1,14 +1,18 @@
 //! The openings of which the laws of the engine's world speak.
-ghost use Rattle.std.specs.Prelude.{ℕ, List, []};
+ghost use Rattle.std.specs.Prelude.{ℕ, List, [], length};
+ghost use Rattle.fkv_creating.specs.Long.{IsLong};
 ghost use Rattle.fkv_disk.specs.Device.{IsAfter, LeavesOnly};
 ghost use Rattle.fkv_filling.specs.OpeningIndex.{IsOpeningIndex, opening_lists};
+ghost use Rattle.fkv_newest.specs.Newest.{IsNewestOf};
+ghost use Rattle.fkv_newest.specs.declared.newest_slots.Newest.{Newest};
+ghost use Rattle.fkv_opening.specs.Opened.{IsStoreOf};
 ghost use Rattle.fkv_opening.specs.declared.opened_store.Opened.{Opened};
-ghost use Rattle.fkv_standing.specs.Opening.{AreNumbersInTurn, IsToldBy};
+ghost use Rattle.fkv_standing.specs.Opening.{AreNumbersInTurn, IsBehind, IsToldBy};
 ghost use Rattle.fkv_world.specs.Keepers.{IsLifeTold};
 ghost use Rattle.fkv_world.specs.Opened.{IsOpenedWorld};
 ghost use Rattle.fkv_world.specs.OwnEvents.{keeper_events};
 ghost use Rattle.fkv_world.specs.World.{Event, Now};
-ghost use Rattle.fkv_core.specs.Openings.{IsOpeningWorld, beginning};
+ghost use Rattle.fkv_core.specs.Openings.{IsOpeningWorld, beginning, newest_commit};
 ghost use Rattle.fkv_world_guard.specs.OpenedStore.{IsOpenedStore};
 ghost use Rattle.fkv_world_index.specs.Shows as index;
 ghost use Rattle.fkv_world_latch.specs.Shows as latch;
@@ -16,6 +20,7 @@ ghost use Rattle.fkv_lives.specs.OpenedFrom.{IsOpenedFrom};
 ghost use Rattle.fkv_lives.specs.Steps.{AllLeadOn, AllLedOn, AreStepsOfOpened, OneCommitStands, Step, device_behind, events_of, now_behind};
 
 use fkv_disk::Device;
+use fkv_record::law_spellings_apart;
 
 /// The world of an opened store is one with which the guard begins, its log's records ending at the opened tail: its words and places are
 /// as the guard has them then, the drain slots are empty, each session and the keeper begin as their store was opened, and nothing has
@@ -55,6 +60,13 @@ pub fn law_device_opens<D: Device>(device: &D)
 pub fn law_told_opens()
     ensures { (bytes : List ℕ) (o : Opened) (n : Now) → IsOpenedFrom bytes o n → IsToldBy n.shape n.places bytes n.keeper }
 {}
+
+/// The bytes end so where they are as long as their newest slot asks: those of a new store are, as `create` tells.
+pub fn law_long_opens()
+    ensures { (bytes : List ℕ) (n : Newest) (o : Opened) → IsNewestOf bytes n → IsLong bytes n.shape n.slot → IsStoreOf bytes o → IsBehind o.shape (newest_commit o).checkpoint (length bytes) }
+{
+    law_spellings_apart();
+}
 
 /// So `law_world_one_commit_stands` speaks of each life of an opened store, as long as each commit that begins has the number behind the newest finished
 /// one's. And behind any steps of its world one commit stands in each image that a crash leaves of the device: the newest finished one, or, while the
