@@ -4,6 +4,7 @@ mod IndexOpens
 mod LatchesOpen
 mod Led
 mod LongOpens
+mod MadeSteps
 mod SlotNamed
 mod ToldOpens
 mod Words

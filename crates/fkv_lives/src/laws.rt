@@ -16,6 +16,7 @@ ghost use Rattle.fkv_core.specs.Openings.{IsOpeningWorld, beginning, newest_comm
 ghost use Rattle.fkv_world_guard.specs.OpenedStore.{IsOpenedStore};
 ghost use Rattle.fkv_world_index.specs.Shows as index;
 ghost use Rattle.fkv_world_latch.specs.Shows as latch;
+ghost use Rattle.fkv_lives.specs.Made.{AllMade};
 ghost use Rattle.fkv_lives.specs.OpenedFrom.{IsOpenedFrom};
 ghost use Rattle.fkv_lives.specs.Steps.{AllLeadOn, AllLedOn, AreStepsOfOpened, OneCommitStands, Step, device_behind, events_of, now_behind};
 
@@ -45,11 +46,12 @@ pub fn law_index_opens()
 
 /// Behind recovery and `World::open` a life begins, and each step of the world leads it on. A device of which a crash leaves just what is read, as
 /// `recover` and `create` leave an honest one, reads as and may leave what no calls give; and the world of an opened store begins over it as a life does.
-/// So where each of these steps goes on with every life of such a store, as `World::step` says of its own over an honest device, all of them are
-/// events of the life that begins here: it shows each world, gives each answer, and its calls are what the device has of each step.
+/// Each of the steps that calls of `World::step` make of an honest device goes on with every life of such a store. And where each of any steps does,
+/// all of them are events of the life that begins here: it shows each world, gives each answer, and its calls are what the device has of each step.
 pub fn law_device_opens<D: Device>(device: &D)
     ensures world { (o : Opened) (n : Now) (bytes : List ℕ) → IsOpeningWorld o n → IsOpenedWorld (beginning n bytes) }
     ensures device { LeavesOnly (D.seen device.now) (D.may_leave device.now) → IsAfter (D.seen device.now) [] (D.seen device.now) (D.may_leave device.now) }
+    ensures made { (n : Now) (steps : List (Step D)) → D.honest device.now → AllMade D.honest D.seen D.may_leave D.failed D.refuses n device.now steps → AllLeadOn D.seen D.may_leave n device.now steps }
     ensures steps { (n : Now) (steps : List (Step D)) → IsOpenedWorld (beginning n (D.seen device.now)) → LeavesOnly (D.seen device.now) (D.may_leave device.now)
         → AllLeadOn D.seen D.may_leave n device.now steps → AllLedOn D.seen D.may_leave (beginning n (D.seen device.now)) steps }
 {}

@@ -1,6 +1,7 @@
 -- The law, part by part.
 use Rattle.fkv_disk.proofs.Shown.{is_opened}
 use Rattle.fkv_lives.proofs.Led.{all_led_on}
+use Rattle.fkv_lives.proofs.MadeSteps.{all_lead_on}
 use Rattle.fkv_lives.proofs.WorldOpens.{world_opens}
 use Rattle.fkv_lives.proofs.laws.law_device_opens.Goals as goal
 
@@ -12,3 +13,6 @@ returns-clause-device g c = λ only. is_opened (g.D.Device.seen c.args.device.no
 
 pub returns-clause-steps : goal.returns-clause-steps
 returns-clause-steps g c = λ n steps opened only lead. all_led_on g.D.Device.seen g.D.Device.may_leave n c.args.device.now opened only steps lead
+
+pub returns-clause-made : goal.returns-clause-made
+returns-clause-made g c = λ n steps claim made. all_lead_on g.D.Device.honest g.D.Device.seen g.D.Device.may_leave g.D.Device.failed g.D.Device.refuses n c.args.device.now claim steps made
