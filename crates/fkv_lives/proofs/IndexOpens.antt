@@ -1,5 +1,5 @@
 -- The world of an opened store is one whose index is in order, with the entries of the store.
-use Rattle.std.proofs.Common.{◌≡◌, ◌∙◌, ap, sym, subst, arith, ℕ, ◌+◌, ◌*◌, ◌^◌, ◌<◌, ◌≤◌, List, length}
+use Rattle.std.proofs.Common.{◌∙◌, ap, sym, subst, arith, ℕ, ◌^◌, List, length}
 use Rattle.fkv_base.specs.declared.shapes.Shape.{Shape}
 use Rattle.fkv_plane.specs.Places.{bucket_place}
 use Rattle.fkv_entries.specs.Room.{HaveRoom}

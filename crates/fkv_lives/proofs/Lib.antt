@@ -1,4 +1,11 @@
+mod CommitStands
 mod GuardOpens
 mod IndexOpens
 mod LatchesOpen
+mod Led
+mod LongOpens
+mod MadeSteps
+mod SlotNamed
+mod ToldOpens
 mod Words
+mod WorldOpens

@@ -3,4 +3,7 @@
 
 mod laws;
 
-pub use laws::{law_guard_opens, law_index_opens, law_latches_open};
+pub use laws::{
+    law_device_opens, law_guard_opens, law_index_opens, law_latches_open, law_long_opens,
+    law_opened_commit_stands, law_told_opens,
+};
