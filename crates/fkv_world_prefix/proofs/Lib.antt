@@ -4,7 +4,10 @@ mod Counted
 mod Goes
 mod InTurn
 mod LifeBegun
+mod NewestWritten
 mod Pieces
 pub mod Shown
 mod Sights
 mod ToldFinished
+mod WorkedPast
+mod WorkedRuns

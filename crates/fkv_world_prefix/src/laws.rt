@@ -1,5 +1,7 @@
 //! What holds of the past of a life, as the law of prefixes asks of it.
 ghost use Rattle.std.specs.Prelude.{◌≡◌, ◌+◌, ◌≤◌, ◌∷◌, ℕ, List, [], length};
+ghost use Rattle.fkv_keeper.specs.declared.keepers.Keeping.TheVariants.{Finishes};
+ghost use Rattle.fkv_keeper.specs.Keeping.{KeeperState};
 ghost use Rattle.fkv_session.specs.Sessions.{SessionState};
 ghost use Rattle.fkv_standing.specs.Opening.{AreNumbersInTurn};
 ghost use Rattle.fkv_world.specs.Opened.{HasBecome, IsOpenedWorld};
@@ -12,6 +14,8 @@ ghost use Rattle.fkv_world_prefix.specs.FinishedNumbers.{numbers_finished, numbe
 ghost use Rattle.fkv_world_prefix.specs.PrefixPast.{prefix_past};
 ghost use Rattle.fkv_world_prefix.specs.Views.{IsComing, IsSeenAs};
 ghost use Rattle.fkv_world_prefix.specs.Worked.{AskedChanges, BegunChange, CountsUpto, RaisesChange, RanksInTurn, ToldChanges, ViewsChange};
+ghost use Rattle.fkv_world_prefix.specs.WorkedRuns.{IsWorkedPast, RaisesOfRuns};
+ghost use Rattle.fkv_world_prefix.specs.WrittenCommits.{NewestIsWritten, life_told, life_writing};
 
 /// In every life of a store that was opened, whatever the other actors do, a session's serial is the one with which the life began, and one more for
 /// each update whose version is counted. As long as the version that the session goes by has never fallen, these versions never fall from an
@@ -40,11 +44,15 @@ pub fn law_view_is_seen()
 /// In every life of a store that was opened, whatever the sessions do, all commits that have begun are sealed and finished but at most the newest, and the
 /// newest that is finished says the number, the points and the checkpoint that the keeper has as the newest finished commit's. The newest may be open
 /// only while a commit is written or its words are stored, and for good where a call of the device has failed. Where a commit's words are stored it is the
-/// commit in hand, and sealed. As long as each commit that begins has the number behind the newest finished one's, their numbers come one behind the
+/// commit in hand, and sealed: it is of the kind that was asked for, with the number and the first address that its start has told; its triples were
+/// written, and its slot, which names its number, end, points, checkpoint and lost ranges. As long as each commit that begins has the number behind the newest finished one's, their numbers come one behind the
 /// other, from the opening's on. Those that are finished are the opening's and those that callers were told as finished, in their order.
 pub fn law_begun()
     ensures begun { (opening : World) (events : List Event) → IsOpenedWorld opening
         → AtKeeping (prefix_past opening events).begun (run opening events).now.keeper (run opening events).now.keeper.step }
+    ensures written { (opening : World) (events : List Event) → IsOpenedWorld opening
+        → (run opening events).now.keeper.step ≡ Finishes
+        → NewestIsWritten opening.now.shape (life_told opening events) (life_writing opening events) (run opening events).now.keeper.last (prefix_past opening events).begun }
     ensures in_turn { (opening : World) (events : List Event) → IsOpenedWorld opening
         → AreNumbersInTurn opening.now.shape opening.now.places opening.now.keeper (keeper_events opening events)
         → AreInTurn (prefix_past opening events).begun }
@@ -61,4 +69,11 @@ pub fn law_of_worked_pieces()
     ensures begun { BegunChange }
     ensures asked { AskedChanges }
     ensures told { ToldChanges }
+{}
+
+/// Runs whose past is computed. A keeper raises the epoch for each of a commit's three parts. In a life of two sessions of a store with one bucket, session
+/// 0 refreshes twice, and between that session 1 gives a key a value, a commit begins, and session 1 adds to the value.
+pub fn law_of_worked_pasts()
+    ensures raises { RaisesOfRuns }
+    ensures past { (keeper : KeeperState) (one other : SessionState) → IsWorkedPast keeper one other }
 {}
