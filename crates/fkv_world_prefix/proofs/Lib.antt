@@ -8,6 +8,7 @@ mod NewestWritten
 mod Pieces
 pub mod Shown
 mod Sights
+mod Stamps
 mod ToldFinished
 mod WorkedPast
 mod WorkedRuns

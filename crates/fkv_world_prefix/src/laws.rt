@@ -12,7 +12,7 @@ ghost use Rattle.fkv_world_prefix.specs.Accepted.{HasRisingVersion, NeverFall, p
 ghost use Rattle.fkv_world_prefix.specs.BegunCommits.{AreInTurn, AtKeeping};
 ghost use Rattle.fkv_world_prefix.specs.FinishedNumbers.{numbers_finished, numbers_told};
 ghost use Rattle.fkv_world_prefix.specs.PrefixPast.{prefix_past};
-ghost use Rattle.fkv_world_prefix.specs.Views.{IsComing, IsSeenAs};
+ghost use Rattle.fkv_world_prefix.specs.Views.{IsComing, IsSeenAs, IsSightAfter};
 ghost use Rattle.fkv_world_prefix.specs.Worked.{AskedChanges, BegunChange, CountsUpto, RaisesChange, RanksInTurn, ToldChanges, ViewsChange};
 ghost use Rattle.fkv_world_prefix.specs.WorkedRuns.{IsWorkedPast, RaisesOfRuns};
 ghost use Rattle.fkv_world_prefix.specs.WrittenCommits.{NewestIsWritten, life_told, life_writing};
@@ -33,12 +33,15 @@ pub fn law_versions_counted()
 {}
 
 /// In every life of a store that was opened, whatever the other actors do, a session goes at every moment by the phase and the version of its view. Where it
-/// doesn't catch up, none is coming; and where it does and has loaded all, it takes up the phase and the version of the one that is coming.
+/// doesn't catch up, none is coming; and where it does and has loaded all, it takes up the phase and the version of the one that is coming. In whatever life,
+/// a view comes with the epoch and the tail as they stood before the event by which it comes, and keeps them as it becomes the view of a session.
 pub fn law_view_is_seen()
     ensures seen { (opening : World) (events : List Event) (session : ℕ) (first its : SessionState) → HasBecome opening events session first its
         → IsSeenAs ((prefix_past opening events).sights session).view its.seen }
     ensures coming { (opening : World) (events : List Event) (session : ℕ) (first its : SessionState) → HasBecome opening events session first its
         → IsComing ((prefix_past opening events).sights session) its its.step }
+    ensures stamped { (opening : World) (events : List Event) (event : Event) (session : ℕ)
+        → IsSightAfter (run opening events).now.words ((prefix_past opening events).sights session) ((prefix_past opening (event ∷ events)).sights session) }
 {}
 
 /// In every life of a store that was opened, whatever the sessions do, all commits that have begun are sealed and finished but at most the newest, and the
