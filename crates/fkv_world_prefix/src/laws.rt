@@ -13,7 +13,7 @@ ghost use Rattle.fkv_world_prefix.specs.BegunCommits.{AreInTurn, AtKeeping};
 ghost use Rattle.fkv_world_prefix.specs.FinishedNumbers.{numbers_finished, numbers_told};
 ghost use Rattle.fkv_world_prefix.specs.PrefixPast.{prefix_past};
 ghost use Rattle.fkv_world_prefix.specs.Views.{IsComing, IsSeenAs, IsSightAfter};
-ghost use Rattle.fkv_world_prefix.specs.Worked.{AskedChanges, BegunChange, CountsUpto, RaisesChange, RanksInTurn, ToldChanges, ViewsChange};
+ghost use Rattle.fkv_world_prefix.specs.Worked.{AskedChanges, BegunChange, CountsUpto, OpenedWith, RaisesChange, RanksInTurn, ToldChanges, ViewsChange};
 ghost use Rattle.fkv_world_prefix.specs.WorkedRuns.{IsWorkedPast, RaisesOfRuns};
 ghost use Rattle.fkv_world_prefix.specs.WrittenCommits.{NewestIsWritten, life_told, life_writing};
 
@@ -70,6 +70,7 @@ pub fn law_of_worked_pieces()
     ensures views { ViewsChange }
     ensures raises { RaisesChange }
     ensures begun { BegunChange }
+    ensures opened { OpenedWith }
     ensures asked { AskedChanges }
     ensures told { ToldChanges }
 {}
