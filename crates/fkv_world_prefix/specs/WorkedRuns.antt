@@ -5,6 +5,9 @@ use Rattle.fkv_base.specs.declared.shapes.Shape.{Shape}
 use Rattle.fkv_map.specs.declared.operations.Call.TheVariants as call
 use Rattle.fkv_map.specs.declared.operations.Op.TheVariants.{Upsert, Add}
 use Rattle.fkv_plane.specs.declared.places.Places.{Places}
+use Rattle.fkv_plane.specs.declared.places.SharedWord.TheVariants as word
+use Rattle.fkv_plane.specs.Asked.{word_at}
+use Rattle.fkv_plane.specs.Places.{shared_place}
 use Rattle.fkv_epoch.specs.declared.arming.Arming.TheVariants as arm
 use Rattle.fkv_epoch.specs.declared.raising.Raising.TheVariants as raise
 use Rattle.fkv_commit.specs.declared.commits.CommitKind.TheVariants.{Full}
@@ -109,9 +112,9 @@ events_loaded =
     replicate 2 (Moves 0) ++ (Calls 0 call.Refresh ∷ replicate 5 (Moves 1) ++ (Calls 1 (call.Op (Add (record { 0 = 5 }) 5))
     ∷ replicate 8 (KeeperMoves true true) ++ (Commits Full ∷ replicate 8 (Moves 1) ++ (Calls 1 (call.Op (Upsert (record { 0 = 5 }) (record { 0 = 70 }))) ∷ events_refreshed))))
 
--- then it has all
+-- Session 1 gives key 6 a value, which moves the tail, and then session 0 has all.
 abbrev pub events_caught_up : List Event
-events_caught_up = replicate 3 (Moves 0) ++ events_loaded
+events_caught_up = replicate 3 (Moves 0) ++ (replicate 10 (Moves 1) ++ (Calls 1 (call.Op (Upsert (record { 0 = 6 }) (record { 0 = 80 }))) ∷ events_loaded))
 
 abbrev pub first_view : View
 first_view = record { stamp = 1; phase = Rest; version = record { 0 = 1 }; tail = 1 }
@@ -119,8 +122,8 @@ first_view = record { stamp = 1; phase = Rest; version = record { 0 = 1 }; tail 
 abbrev pub second_view : View
 second_view = record { stamp = 2; phase = Prepare; version = record { 0 = 1 }; tail = 2 }
 
--- Such a store was opened. A refresh shows the epoch, the phase and the tail as they stood, and no later one: until the second refresh has all, the first
--- one's view is what session 0 goes by. What session 1 had accepted as the commit was asked for is one update, though it accepts another one behind
+-- Such a store was opened. A refresh shows the epoch, the phase and the tail as they stood where it loaded the phase, and no later ones. Until the
+-- second refresh has all, the first one's view is what session 0 goes by. What session 1 had accepted as the commit was asked for is one update, though it accepts another one behind
 -- it. The commit has raised the epoch once, from 1.
 pub record IsWorkedPast (keeper : KeeperState) (one other : SessionState) : Type 0 where
   pub shape : Shape
@@ -129,6 +132,7 @@ pub record IsWorkedPast (keeper : KeeperState) (one other : SessionState) : Type
   pub refreshed : (prefix_past (worked_world shape places keeper one other) events_refreshed).sights 0 ≡ record { view = first_view; coming = None }
   pub loaded : (prefix_past (worked_world shape places keeper one other) events_loaded).sights 0 ≡ record { view = first_view; coming = Some second_view }
   pub caught_up : (prefix_past (worked_world shape places keeper one other) events_caught_up).sights 0 ≡ record { view = second_view; coming = None }
+  pub tail : word_at (run (worked_world shape places keeper one other) events_caught_up).now.words (shared_place word.Tail) ≡ 3
   pub asked : (prefix_past (worked_world shape places keeper one other) events_loaded).asked 1 ≡ 1
   pub serial : serial_at (run (worked_world shape places keeper one other) events_loaded).now 1 ≡ 2
   pub versions : (prefix_past (worked_world shape places keeper one other) events_loaded).versions 1 ≡ 1 ∷ 1 ∷ []

@@ -76,7 +76,8 @@ pub fn law_of_worked_pieces()
 {}
 
 /// Runs whose past is computed. A keeper raises the epoch for each of a commit's three parts. In a life of two sessions of a store with one bucket, session
-/// 0 refreshes twice, and between that session 1 gives a key a value, a commit begins, and session 1 adds to the value.
+/// 0 refreshes twice. Between that session 1 gives a key a value, a commit begins, and session 1 adds to the value; and while session 0 refreshes for the
+/// second time, session 1 gives another key a value.
 pub fn law_of_worked_pasts()
     ensures raises { RaisesOfRuns }
     ensures past { (keeper : KeeperState) (one other : SessionState) → IsWorkedPast keeper one other }
