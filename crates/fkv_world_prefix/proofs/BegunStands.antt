@@ -60,7 +60,7 @@ still_finishing : (begun : List BegunCommit) (s : KeeperState) → s.step ≡ Fi
 still_finishing begun s e its = subst (λ (x : Keeping). StandsAt (begun_at_end x begun) s x) (sym e) its
 
 -- the state with its step told beside it, so that tables by step compute
-abbrev happens_at : Shape → Places → KeeperState → Keeping → KeeperEvent → KeeperState
+abbrev pub happens_at : Shape → Places → KeeperState → Keeping → KeeperEvent → KeeperState
 happens_at shape p s step BeginsTurn = begins s (is_in_hand step) (turn_asked s)
 happens_at shape p s step (BeginsCommit kind) = begins s (is_in_hand step) (commit_asked s kind)
 happens_at shape p s step (Replies reply granted) = keeping_next shape p s step reply granted
@@ -76,13 +76,13 @@ happens_so shape p s (Gets action) = refl
 happens_so shape p s (Calls done bytes) = refl
 
 -- ---- where no writes are near
-abbrev IsCalm : Keeping → Type 0
+abbrev pub IsCalm : Keeping → Type 0
 IsCalm Waits = ⊥
 IsCalm Writes = ⊥
 IsCalm Finishes = ⊥
 IsCalm step = Unit {0}
 
-no_writes : (step : Keeping) → IsCalm step → MayFollow step Writes → ⊥
+pub no_writes : (step : Keeping) → IsCalm step → MayFollow step Writes → ⊥
 no_writes (Ended its) calm follows = follows
 no_writes Starts calm follows = follows
 no_writes Maintains calm follows = follows
@@ -92,7 +92,7 @@ no_writes Copies calm follows = follows
 no_writes Seeks calm follows = follows
 no_writes step calm follows = absurd calm
 
-no_finish : (step : Keeping) → IsCalm step → MayFollow step Finishes → ⊥
+pub no_finish : (step : Keeping) → IsCalm step → MayFollow step Finishes → ⊥
 no_finish (Ended its) calm follows = follows
 no_finish Starts calm follows = follows
 no_finish Maintains calm follows = follows
@@ -189,7 +189,7 @@ gate_stands begun s gate.SyncsBody None e at here none its = rw (at, here, none)
 gate_stands begun s gate.SyncsBody (Some c) e at here found its = rw (at, here, found, e) its
 gate_stands begun s gate.Opens None e at here none its = rw (at, here, none) (at_end begun s s.is_broken its)
 gate_stands begun s gate.Opens (Some c) e at here found its =
-    rw (at, here, found, e) (record { commit = c; in_hand = refl; newest = _; older = begun; its = refl; number = refl; points = refl; checkpoint = refl; unfinished = refl; is_so = refl; others = its })
+    rw (at, here, found, e) (record { commit = c; in_hand = refl; newest = _; older = begun; its = refl; number = refl; kind = refl; first = refl; end = refl; triples = refl; points = refl; checkpoint = refl; lost = refl; unfinished = refl; is_so = refl; others = its })
 gate_stands begun s gate.SyncsOpen None e at here none its = absurd (none_found none its.in_hand)
   where
     none_found : s.commit ≡ None → s.commit ≡ Some its.commit → ⊥
@@ -203,8 +203,13 @@ gate_stands begun s gate.SyncsOpen (Some c) e at here found its =
       older = its.older;
       its = refl;
       number = its.number;
+      kind = its.kind;
+      first = its.first;
+      end = its.end;
+      triples = its.triples;
       points = its.points;
       checkpoint = its.checkpoint;
+      lost = its.lost;
       unfinished = its.unfinished;
       is_so = refl;
       others = its.others;
@@ -264,7 +269,7 @@ writing_stands shape p begun s (Calls true bytes) e its = made_stand begun s s.w
 writing_stands shape p begun s (Calls false bytes) e its = failed_stand begun s s.writes.step refl its
 
 -- ---- where a commit is finished
-same_commit : (c d : Commit) → Some c ≡ Some d → c ≡ d
+pub same_commit : (c d : Commit) → Some c ≡ Some d → c ≡ d
 same_commit c d e = cc
 
 finished_stands : (begun : List BegunCommit) (s : KeeperState) (found : Option Commit) → s.commit ≡ found → IsInHand begun s true → Stands (begun_at_end (finished s found).step begun) (finished s found)
@@ -296,12 +301,12 @@ finishing_stands shape p begun s BeginsTurn e its = still_finishing begun s e it
 finishing_stands shape p begun s (BeginsCommit kind) e its = still_finishing begun s e its
 finishing_stands shape p begun s (Replies reply granted) e its =
     finish_stands begun (record s { finish = finish_next s.finish reply }) (finish_ask s.seek.points (finish_next s.finish reply)) e
-    (record { commit = its.commit; in_hand = its.in_hand; newest = its.newest; older = its.older; its = its.its; number = its.number; points = its.points; checkpoint = its.checkpoint; unfinished = its.unfinished; is_so = its.is_so; others = its.others })
+    (record { commit = its.commit; in_hand = its.in_hand; newest = its.newest; older = its.older; its = its.its; number = its.number; kind = its.kind; first = its.first; end = its.end; triples = its.triples; points = its.points; checkpoint = its.checkpoint; lost = its.lost; unfinished = its.unfinished; is_so = its.is_so; others = its.others })
 finishing_stands shape p begun s (Gets action) e its = still_finishing begun s e its
 finishing_stands shape p begun s (Calls done bytes) e its = still_finishing begun s e its
 
 -- ---- each event
-there : (shape : Shape) (p : Places) (s : KeeperState) (event : KeeperEvent) (step : Keeping) → s.step ≡ step → happens_at shape p s step event ≡ keeper_happens shape p s event
+pub there : (shape : Shape) (p : Places) (s : KeeperState) (event : KeeperEvent) (step : Keeping) → s.step ≡ step → happens_at shape p s step event ≡ keeper_happens shape p s event
 there shape p s event step e = ap (λ (x : Keeping). happens_at shape p s x event) (sym e) ∙ happens_so shape p s event
 
 event_stands : (shape : Shape) (p : Places) (begun : List BegunCommit) (s : KeeperState) (event : KeeperEvent) (step : Keeping) → s.step ≡ step → StandsAt begun s step

@@ -4,7 +4,11 @@ mod Counted
 mod Goes
 mod InTurn
 mod LifeBegun
+mod NewestWritten
 mod Pieces
 pub mod Shown
 mod Sights
+mod Stamps
 mod ToldFinished
+mod WorkedPast
+mod WorkedRuns

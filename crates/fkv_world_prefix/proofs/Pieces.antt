@@ -1,7 +1,7 @@
 -- Each piece computes.
 use Rattle.std.proofs.Common.{refl}
 use Rattle.fkv_words.specs.PhaseWords.{phase_said}
-use Rattle.fkv_world_prefix.specs.Worked.{RanksInTurn, CountsUpto, ViewsChange, RaisesChange, BegunChange, AskedChanges, ToldChanges}
+use Rattle.fkv_world_prefix.specs.Worked.{RanksInTurn, CountsUpto, ViewsChange, RaisesChange, BegunChange, OpenedWith, AskedChanges, ToldChanges}
 
 pub ranks_so : RanksInTurn
 ranks_so = record { rests = refl; prepares = refl; in_progress = refl; wait_pending = refl; wait_flush = refl; rests_again = refl; of_prepare = refl; of_in_progress = refl }
@@ -42,6 +42,9 @@ begun_so = record {
   finishes = λ c before full. refl;
   goes_on = λ before. refl;
 }
+
+pub opened_so : OpenedWith
+opened_so = record { full = λ last used. refl; log = λ last used. refl; full_triples = refl; log_triples = refl; end = λ n opened. refl }
 
 pub asked_so : AskedChanges
 asked_so = record { asks = λ n before. refl; in_hand = λ n c before. refl; turns = λ n before. refl }

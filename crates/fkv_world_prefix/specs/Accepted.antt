@@ -1,11 +1,9 @@
 -- The versions at which a session has accepted its updates, and how far each version goes.
-use Rattle.std.specs.Prelude.{⊤, ℕ, ◌+◌, ◌≤◌, nat_le, cond, List, [], ◌∷◌, map, Option, Some, None, slice_get}
-use Rattle.fkv_order.specs.Trace as order
+use Rattle.std.specs.Prelude.{⊤, ℕ, ◌+◌, ◌≤◌, nat_le, cond, List, [], ◌∷◌, Option, Some, None, slice_get}
 use Rattle.fkv_session.specs.Sessions.{SessionState, Seat}
 use Rattle.fkv_session.specs.SessionRun.{SessionEvent, session_run}
 use Rattle.fkv_session.specs.Versions.{TakenAt, versions_taken}
 use Rattle.fkv_world.specs.OwnEvents.{session_events}
-use Rattle.fkv_world.specs.Past.{Effect}
 use Rattle.fkv_world.specs.Runs.{World}
 use Rattle.fkv_world.specs.World.{Event, Now, seat_at}
 
@@ -38,13 +36,6 @@ count_upto version (its ∷ before) = cond (nat_le its version) (count_upto vers
 -- The last serial that a session has given at a version or an earlier one: that with which the life began, and one more for each such update.
 abbrev pub point : World → List Event → ℕ → ℕ → ℕ
 point opening events session version = serial_at opening.now session + count_upto version (versions_accepted opening events session)
-
--- The history as the laws of order speak of it, and what of it a version keeps.
-abbrev pub as_effect : Effect → order.Effect
-as_effect its = record { entry = its.entry; version = its.version.0 }
-
-abbrev pub history_upto : ℕ → List Effect → List order.Effect
-history_upto version history = order.upto version (map as_effect history)
 
 -- versions never fall from an update to the next, and none is above the last one
 abbrev pub NeverFall : ℕ → List ℕ → Type 0

@@ -30,6 +30,8 @@ use Rattle.fkv_world.specs.World.{Event, Now}
 pub record BegunCommit : Type 0 where
   pub number : Version
   pub kind : CommitKind
+  -- the tail as it was in prepare, as its own start has told it. The slot of a full commit says it; that of a log commit says the first address of the
+  -- checkpoint that it uses
   pub first : Addr
   pub end : Addr
   -- the bytes of the triples that it wrote: a log commit writes none
@@ -163,7 +165,8 @@ pub record OneIsOpen (begun : List BegunCommit) (finality : Finality) : Type 0 w
   pub unfinished : newest.is_finished ≡ false
   pub others : HaveFinished older finality
 
--- The newest is the commit in hand, with the points and the checkpoint that are written, and it is sealed or not; all others have finished.
+-- The newest is the commit in hand, with the triples, the points, the checkpoint and the lost ranges that are written, and it is sealed or not; all others
+-- have finished.
 pub record IsInHand (begun : List BegunCommit) (s : KeeperState) (sealed : Bool) : Type 0 where
   pub commit : Commit
   pub in_hand : s.commit ≡ Some commit
@@ -171,8 +174,13 @@ pub record IsInHand (begun : List BegunCommit) (s : KeeperState) (sealed : Bool)
   pub older : List BegunCommit
   pub its : begun ≡ newest ∷ older
   pub number : newest.number ≡ commit.number
+  pub kind : newest.kind ≡ commit.kind
+  pub first : newest.first ≡ commit.first
+  pub end : newest.end ≡ commit.end
+  pub triples : newest.triples ≡ s.writes.triples
   pub points : newest.points ≡ s.seek.points
   pub checkpoint : newest.checkpoint ≡ s.used
+  pub lost : newest.lost ≡ lost_left commit.kind s.lost
   pub unfinished : newest.is_finished ≡ false
   pub is_so : newest.is_sealed ≡ sealed
   pub others : HaveFinished older s.last

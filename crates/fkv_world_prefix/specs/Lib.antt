@@ -7,3 +7,5 @@ pub mod Ranks
 pub mod ToldPoints
 pub mod Views
 pub mod Worked
+pub mod WorkedRuns
+pub mod WrittenCommits

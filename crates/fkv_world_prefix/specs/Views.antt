@@ -1,5 +1,5 @@
 -- What a session saw of the store as it loaded the phase: at its last refresh or wake that is complete, and at the one under way.
-use Rattle.std.specs.Prelude.{◌≡◌, ⊤, ℕ, Bool, true, false, List, [], ◌∷◌, Option, Some, None, slice_get}
+use Rattle.std.specs.Prelude.{◌≡◌, ◌⊎◌, ⊤, ℕ, Bool, true, false, List, [], ◌∷◌, Option, Some, None, slice_get}
 use Rattle.fkv_base.specs.declared.numbers.Version.{Version}
 use Rattle.fkv_base.specs.declared.phases.Phase.{Phase}
 use Rattle.fkv_base.specs.declared.phases.Phase.TheVariants.{Rest}
@@ -135,3 +135,18 @@ TakesUp its c step = IsTakenFrom its.coming c.seen
 abbrev pub IsComing : Sight → SessionState → Sitting → Type 0
 IsComing its s (CatchesUp cause) = TakesUp its s.catching s.catching.step
 IsComing its s step = its.coming ≡ None
+
+-- a view of the epoch and the tail as these words have them
+pub record IsStamped (words : List ℕ) (its : View) : Type 0 where
+  pub stamp : its.stamp ≡ word_at words (shared_place one.Epoch)
+  pub tail : its.tail ≡ word_at words (shared_place one.Tail)
+
+-- what is coming was coming before, or has come with the epoch and the tail of these words
+abbrev pub ComesFrom : List ℕ → Option View → Option View → Type 0
+ComesFrom words before None = ⊤
+ComesFrom words before (Some its) = (before ≡ Some its) ⊎ IsStamped words its
+
+-- A sight and the one behind an event, where the words stood so before it: no view is made up, and none gets another epoch or tail later.
+pub record IsSightAfter (words : List ℕ) (before after : Sight) : Type 0 where
+  pub view : (after.view ≡ before.view) ⊎ ((before.coming ≡ Some after.view) ⊎ IsStamped words after.view)
+  pub coming : ComesFrom words before.coming after.coming

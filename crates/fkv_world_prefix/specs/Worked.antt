@@ -7,9 +7,11 @@ use Rattle.fkv_plane.specs.declared.asks.Ask.TheVariants.{Load, Put}
 use Rattle.fkv_epoch.specs.declared.refreshing.Refreshing.TheVariants as refresh
 use Rattle.fkv_epoch.specs.declared.protecting.Protecting.TheVariants as protect
 use Rattle.fkv_commit.specs.declared.commits.Commit.{Commit}
+use Rattle.fkv_commit.specs.declared.commits.CommitKind.TheVariants.{Full, Log}
 use Rattle.fkv_manifest.specs.declared.gates.Gating.TheVariants.{WritesBody, Opens, SyncsOpen}
 use Rattle.fkv_keeper.specs.declared.answers.KeeperTold.TheVariants.{Turned}
 use Rattle.fkv_keeper.specs.declared.keepers.Keeping.TheVariants.{Ended, Starts, Maintains, Enters, Seeks, Finishes}
+use Rattle.fkv_keeper.specs.declared.last_commits.Checkpoint.{Checkpoint}
 use Rattle.fkv_keeper.specs.Keeping.{Finality, KeeperState}
 use Rattle.fkv_session.specs.declared.answers.Told.{Told}
 use Rattle.fkv_session.specs.declared.answers.Told.TheVariants.{Durable, Slept}
@@ -20,7 +22,7 @@ use Rattle.fkv_session.specs.CatchingUp.{CatchState}
 use Rattle.fkv_world.specs.Past.{Traced, Called, Answered, TurnAsked, KeeperAnswered}
 use Rattle.fkv_world.specs.World.{Turns, Now}
 use Rattle.fkv_world_prefix.specs.Accepted.{count_upto, serial_at}
-use Rattle.fkv_world_prefix.specs.BegunCommits.{BegunCommit, commit_opening, begun_at_gate, begun_at_end}
+use Rattle.fkv_world_prefix.specs.BegunCommits.{BegunCommit, commit_opened, commit_opening, begun_at_gate, begun_at_end, kind_opened, triples_opened}
 use Rattle.fkv_world_prefix.specs.PrefixPast.{asked_where, asked_by}
 use Rattle.fkv_world_prefix.specs.Raises.{Raises, no_raises, raises_with, raises_left}
 use Rattle.fkv_world_prefix.specs.Ranks.{rank, version_at}
@@ -81,6 +83,15 @@ pub record BegunChange : Type 0 where
   pub writes : (s : KeeperState) (done : Bool) (before : List BegunCommit) → begun_at_gate s WritesBody done before ≡ before
   pub finishes : (c : BegunCommit) (before : List BegunCommit) (full : Bool) → begun_at_end (Ended (Turned true full)) (c ∷ before) ≡ record c { is_finished = true } ∷ before
   pub goes_on : (before : List BegunCommit) → begun_at_end Finishes before ≡ before
+
+-- The opening's commit is a full one where its number is its checkpoint's, and a log commit where that is an earlier one's, whose triples aren't its own.
+-- It ends at the tail.
+pub record OpenedWith : Type 0 where
+  pub full : (last : Finality) (used : Checkpoint) → kind_opened (record last { number = record { 0 = 4 }; checkpoint = record used { number = record { 0 = 4 } } }) ≡ Full
+  pub log : (last : Finality) (used : Checkpoint) → kind_opened (record last { number = record { 0 = 4 }; checkpoint = record used { number = record { 0 = 3 } } }) ≡ Log
+  pub full_triples : triples_opened Full (7 ∷ 9 ∷ []) ≡ 7 ∷ 9 ∷ []
+  pub log_triples : triples_opened Log (7 ∷ 9 ∷ []) ≡ []
+  pub end : (n : Now) (opened : List ℕ) → (commit_opened (record n { words = words_in_prepare }) opened).end ≡ record { 0 = 40 }
 
 -- What each session had accepted is asked where a commit may begin; a call that is refused for the one in hand leaves it.
 pub record AskedChanges : Type 0 where

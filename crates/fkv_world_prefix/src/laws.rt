@@ -1,5 +1,7 @@
 //! What holds of the past of a life, as the law of prefixes asks of it.
 ghost use Rattle.std.specs.Prelude.{◌≡◌, ◌+◌, ◌≤◌, ◌∷◌, ℕ, List, [], length};
+ghost use Rattle.fkv_keeper.specs.declared.keepers.Keeping.TheVariants.{Finishes};
+ghost use Rattle.fkv_keeper.specs.Keeping.{KeeperState};
 ghost use Rattle.fkv_session.specs.Sessions.{SessionState};
 ghost use Rattle.fkv_standing.specs.Opening.{AreNumbersInTurn};
 ghost use Rattle.fkv_world.specs.Opened.{HasBecome, IsOpenedWorld};
@@ -10,8 +12,10 @@ ghost use Rattle.fkv_world_prefix.specs.Accepted.{HasRisingVersion, NeverFall, p
 ghost use Rattle.fkv_world_prefix.specs.BegunCommits.{AreInTurn, AtKeeping};
 ghost use Rattle.fkv_world_prefix.specs.FinishedNumbers.{numbers_finished, numbers_told};
 ghost use Rattle.fkv_world_prefix.specs.PrefixPast.{prefix_past};
-ghost use Rattle.fkv_world_prefix.specs.Views.{IsComing, IsSeenAs};
-ghost use Rattle.fkv_world_prefix.specs.Worked.{AskedChanges, BegunChange, CountsUpto, RaisesChange, RanksInTurn, ToldChanges, ViewsChange};
+ghost use Rattle.fkv_world_prefix.specs.Views.{IsComing, IsSeenAs, IsSightAfter};
+ghost use Rattle.fkv_world_prefix.specs.Worked.{AskedChanges, BegunChange, CountsUpto, OpenedWith, RaisesChange, RanksInTurn, ToldChanges, ViewsChange};
+ghost use Rattle.fkv_world_prefix.specs.WorkedRuns.{IsWorkedPast, RaisesOfRuns};
+ghost use Rattle.fkv_world_prefix.specs.WrittenCommits.{NewestIsWritten, life_told, life_writing};
 
 /// In every life of a store that was opened, whatever the other actors do, a session's serial is the one with which the life began, and one more for
 /// each update whose version is counted. As long as the version that the session goes by has never fallen, these versions never fall from an
@@ -29,22 +33,29 @@ pub fn law_versions_counted()
 {}
 
 /// In every life of a store that was opened, whatever the other actors do, a session goes at every moment by the phase and the version of its view. Where it
-/// doesn't catch up, none is coming; and where it does and has loaded all, it takes up the phase and the version of the one that is coming.
+/// doesn't catch up, none is coming; and where it does and has loaded all, it takes up the phase and the version of the one that is coming. In whatever life,
+/// a view comes with the epoch and the tail as they stood before the event by which it comes, and keeps them as it becomes the view of a session.
 pub fn law_view_is_seen()
     ensures seen { (opening : World) (events : List Event) (session : ℕ) (first its : SessionState) → HasBecome opening events session first its
         → IsSeenAs ((prefix_past opening events).sights session).view its.seen }
     ensures coming { (opening : World) (events : List Event) (session : ℕ) (first its : SessionState) → HasBecome opening events session first its
         → IsComing ((prefix_past opening events).sights session) its its.step }
+    ensures stamped { (opening : World) (events : List Event) (event : Event) (session : ℕ)
+        → IsSightAfter (run opening events).now.words ((prefix_past opening events).sights session) ((prefix_past opening (event ∷ events)).sights session) }
 {}
 
 /// In every life of a store that was opened, whatever the sessions do, all commits that have begun are sealed and finished but at most the newest, and the
 /// newest that is finished says the number, the points and the checkpoint that the keeper has as the newest finished commit's. The newest may be open
 /// only while a commit is written or its words are stored, and for good where a call of the device has failed. Where a commit's words are stored it is the
-/// commit in hand, and sealed. As long as each commit that begins has the number behind the newest finished one's, their numbers come one behind the
+/// commit in hand, and sealed: it is of the kind that was asked for, with the number and the first address that its start has told; its triples were
+/// written, and its slot, which names its number, end, points, checkpoint and lost ranges. As long as each commit that begins has the number behind the newest finished one's, their numbers come one behind the
 /// other, from the opening's on. Those that are finished are the opening's and those that callers were told as finished, in their order.
 pub fn law_begun()
     ensures begun { (opening : World) (events : List Event) → IsOpenedWorld opening
         → AtKeeping (prefix_past opening events).begun (run opening events).now.keeper (run opening events).now.keeper.step }
+    ensures written { (opening : World) (events : List Event) → IsOpenedWorld opening
+        → (run opening events).now.keeper.step ≡ Finishes
+        → NewestIsWritten opening.now.shape (life_told opening events) (life_writing opening events) (run opening events).now.keeper.last (prefix_past opening events).begun }
     ensures in_turn { (opening : World) (events : List Event) → IsOpenedWorld opening
         → AreNumbersInTurn opening.now.shape opening.now.places opening.now.keeper (keeper_events opening events)
         → AreInTurn (prefix_past opening events).begun }
@@ -59,6 +70,15 @@ pub fn law_of_worked_pieces()
     ensures views { ViewsChange }
     ensures raises { RaisesChange }
     ensures begun { BegunChange }
+    ensures opened { OpenedWith }
     ensures asked { AskedChanges }
     ensures told { ToldChanges }
+{}
+
+/// Runs whose past is computed. A keeper raises the epoch for each of a commit's three parts. In a life of two sessions of a store with one bucket, session
+/// 0 refreshes twice. Between that session 1 gives a key a value, a commit begins, and session 1 adds to the value; and while session 0 refreshes for the
+/// second time, session 1 gives another key a value.
+pub fn law_of_worked_pasts()
+    ensures raises { RaisesOfRuns }
+    ensures past { (keeper : KeeperState) (one other : SessionState) → IsWorkedPast keeper one other }
 {}

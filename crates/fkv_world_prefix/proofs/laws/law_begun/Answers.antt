@@ -1,10 +1,14 @@
 -- The commits that have begun.
 use Rattle.fkv_world_prefix.proofs.LifeBegun.{life_stands, life_turn}
+use Rattle.fkv_world_prefix.proofs.NewestWritten.{life_written}
 use Rattle.fkv_world_prefix.proofs.ToldFinished.{life_finished}
 use Rattle.fkv_world_prefix.proofs.laws.law_begun.Goals as goal
 
 pub returns-clause-begun : goal.returns-clause-begun
 returns-clause-begun c = λ opening events opened. life_stands opening events opened
+
+pub returns-clause-written : goal.returns-clause-written
+returns-clause-written c = λ opening events opened stores. life_written opening events opened stores
 
 pub returns-clause-in_turn : goal.returns-clause-in_turn
 returns-clause-in_turn c = λ opening events opened turn. life_turn opening events opened turn

@@ -1,5 +1,5 @@
 -- The pieces.
-use Rattle.fkv_world_prefix.proofs.Pieces.{ranks_so, counts_so, views_so, raises_so, begun_so, asked_so, told_so}
+use Rattle.fkv_world_prefix.proofs.Pieces.{ranks_so, counts_so, views_so, raises_so, begun_so, opened_so, asked_so, told_so}
 use Rattle.fkv_world_prefix.proofs.laws.law_of_worked_pieces.Goals as goal
 
 pub returns-clause-ranks : goal.returns-clause-ranks
@@ -16,6 +16,9 @@ returns-clause-raises c = raises_so
 
 pub returns-clause-begun : goal.returns-clause-begun
 returns-clause-begun c = begun_so
+
+pub returns-clause-opened : goal.returns-clause-opened
+returns-clause-opened c = opened_so
 
 pub returns-clause-asked : goal.returns-clause-asked
 returns-clause-asked c = asked_so
