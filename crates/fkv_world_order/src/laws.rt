@@ -22,7 +22,10 @@ pub fn law_ghost_trace()
 
 /// In a life of two sessions of a store with one bucket, session 0 gives a key a value by a new record, session 1 adds to it in place, and a
 /// read that had found the record before answers the sum. To the log that life is these events, it has these two effects behind them, and
-/// shows the sum for the key. In another, both give the key a value, and the record of the one that loses the slot is dropped.
+/// shows the sum for the key. In another, both give the key a value, and the record of the one that loses the slot is dropped. In a third a
+/// value is swapped in place, the compare-and-swap of the other session is lost and changes nothing, and a poll then gives its result. In the
+/// last an update is refused, which leaves its serial free, and a read finds no value. A trace in which a poll finishes an update and a read that
+/// wait has the lines that are written there.
 pub fn law_of_a_worked_life()
     ensures { (keeper : KeeperState) (one other : SessionState) → IsOpened keeper → IsWorkedLife keeper one other }
 {}
