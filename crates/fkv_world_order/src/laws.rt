@@ -8,9 +8,9 @@ ghost use Rattle.fkv_world.specs.Opened.{IsOpenedWorld};
 ghost use Rattle.fkv_world.specs.Runs.{World, run};
 ghost use Rattle.fkv_world.specs.World.{Event, seat_at};
 ghost use Rattle.fkv_world_guard.specs.Shows as guard;
-ghost use Rattle.fkv_world_order.specs.GhostEvents.{life_ghosts, safe_at, serials_in};
+ghost use Rattle.fkv_world_order.specs.GhostEvents.{home_in, life_ghosts, mapped, safe_at, serials_in};
 ghost use Rattle.fkv_world_order.specs.Lines.{lines_of};
-ghost use Rattle.fkv_world_order.specs.Reserved.{IsUnbornFrom, MovesReserved, ReservationsAreApart, ReservationsAreOpen, tail_at};
+ghost use Rattle.fkv_world_order.specs.Reserved.{AllMeetReserved, AreOfSessions, AreReserved, IsUnbornFrom, MovesReserved, ReservationsAreApart, ReservationsAreOpen, ReservesNothing, tail_at};
 ghost use Rattle.fkv_world_order.specs.Worked.{IsWorkedLife};
 
 /// Over every life of a store that was opened, whatever its calls, commits, turns and the order of its steps: what the log beside it is told is
@@ -53,4 +53,16 @@ pub fn law_ghost_reservations()
 pub fn law_ghost_unborn()
     ensures { (opening : World) (start : ℕ) (ghosts : Ghosts) (events : List Event) → guard.IsOpened opening.now start → IsUnbornFrom (tail_at opening.now) ghosts
         → IsUnbornFrom (tail_at (run opening events).now) (life_ghosts opening ghosts events) }
+{}
+
+/// Over every such life, from a log that reserves nothing and has no record from the tail up: what a session has reserved is reserved in the log
+/// beside the life, with its entry and its record, and what is reserved there is so by a session. Each record that the log's events publish or
+/// give up was reserved until then.
+pub fn law_ghost_reserved()
+    ensures reserved { (opening : World) (start : ℕ) (ghosts : Ghosts) (events : List Event) → guard.IsOpened opening.now start → IsUnbornFrom (tail_at opening.now) ghosts → ReservesNothing ghosts
+        → AreReserved (run opening events).now (life_ghosts opening ghosts events) }
+    ensures sessions { (opening : World) (start : ℕ) (ghosts : Ghosts) (events : List Event) → guard.IsOpened opening.now start → IsUnbornFrom (tail_at opening.now) ghosts → ReservesNothing ghosts
+        → AreOfSessions (run opening events).now (life_ghosts opening ghosts events) }
+    ensures meets { (opening : World) (start : ℕ) (ghosts : Ghosts) (events : List Event) → guard.IsOpened opening.now start → IsUnbornFrom (tail_at opening.now) ghosts → ReservesNothing ghosts
+        → AllMeetReserved (home_in opening.now.shape.bucket_bits) ghosts (mapped opening events) }
 {}
