@@ -5,7 +5,6 @@ use Rattle.fkv_base.specs.declared.faults.Fault.{Fault}
 use Rattle.fkv_map.specs.declared.operations.Call.{Call}
 use Rattle.fkv_map.specs.declared.operations.Call.TheVariants as call
 use Rattle.fkv_map.specs.declared.operations.Op.{Op}
-use Rattle.fkv_order.specs.Ghosts.{GhostEvent}
 use Rattle.fkv_plane.specs.declared.actions.Action.{Action}
 use Rattle.fkv_plane.specs.declared.asks.Ask.{Ask}
 use Rattle.fkv_plane.specs.declared.asks.Ask.TheVariants.{Put, Take, Done}
@@ -22,12 +21,12 @@ use Rattle.fkv_session.specs.declared.sessions.Sitting.{Sitting}
 use Rattle.fkv_session.specs.declared.sessions.Sitting.TheVariants.{Idle, Attempts, CatchesUp, ClearsMail, Polls, StoresOwing, Turns, StoresCut, Leaves, LoadsDurable}
 use Rattle.fkv_session.specs.CatchingUp.{catch_ask}
 use Rattle.fkv_session.specs.OwnTurns.{own_turn_ask, own_turn_given}
-use Rattle.fkv_session.specs.Sessions.{SessionState, Seat, is_busy, sitting_ask, session_ask, sitting_next, session_next, sitting_given, session_begun, polls_at, refusal_of, op_begun, refresh_call, poll_begun, poll_call, sleep_call, wake_call, catch_ledto, clear_ledto, turn_ledto, leave_ledto, caught, own_turn_moved, asks_after, is_word_ask}
+use Rattle.fkv_session.specs.Sessions.{SessionState, Seat, is_busy, sitting_ask, session_ask, sitting_next, session_next, sitting_given, session_begun, polls_at, refusal_of, op_begun, refresh_call, poll_begun, poll_call, sleep_call, wake_call, caught, own_turn_moved, asks_after, is_word_ask}
 use Rattle.fkv_world.specs.Moves.{Near, session_gets, session_settled, session_replied, session_asks}
 use Rattle.fkv_world.specs.Past.{Traced}
 use Rattle.fkv_world.specs.World.{session_called}
 use Rattle.fkv_world_order.specs.Reservations.{MovesOn, Keeps, Reservation}
-use Rattle.fkv_world_order.specs.Reserved.{MovesReserved, reserved_by, sitting_reserves}
+use Rattle.fkv_world_order.specs.Reserved.{reserved_by, sitting_reserves}
 use Rattle.fkv_world_order.specs.Sessions.{sitting_ghosts, step_ghosts}
 use Rattle.fkv_world_order.proofs.NoSlots.{IsOffSlots, passed_off, attempt_off_slots}
 use Rattle.fkv_world_order.proofs.SessionSteps.{IsFreeOf, either_free, attempts_free, polls_free, catch_free, clear_free, turn_free, leave_free}

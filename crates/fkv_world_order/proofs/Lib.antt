@@ -1,5 +1,6 @@
 mod Apart
 mod AppendSteps
+mod AttemptEffects
 mod AttemptSteps
 mod Between
 mod Fixed
@@ -7,9 +8,11 @@ mod NoSlots
 mod Own
 mod ReservedCells
 mod ReservedLife
+mod SessionEffects
 mod SessionSteps
 pub mod Shown
 mod Trace
+mod TryEffects
 mod TrySteps
 mod Unborn
 mod Worked

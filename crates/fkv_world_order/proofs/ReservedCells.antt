@@ -1,10 +1,10 @@
 -- A log's cells beside what sessions have reserved: just these are reserved, and a step that moves one reservation leaves it so.
 use Rattle.std.proofs.Common.{◌≡◌, ◌≢◌, ℕ, ◌∙◌, inl, inr, refl, sym, ap, subst, List, [], ◌∷◌, ◌++◌}
-use Rattle.std.specs.Prelude.{⊤, Option, Some, None}
+use Rattle.std.specs.Prelude.{Option, Some, None}
 use Rattle.fkv_map.specs.declared.history.HistoryEntry.{HistoryEntry}
 use Rattle.fkv_epoch.proofs.Shown.{none_some, same_or, some_same}
 use Rattle.fkv_order.specs.Chains.{Cell, Logged, Unborn, Reserved, Published, Dropped}
-use Rattle.fkv_order.specs.Ghosts.{Log, Ghosts, GhostEvent, Tells, FindsEntry, TakesValue, Reserves, Publishes, Drops, Changes, Fixes, set_at, published, dropped, changed, changed_by, log_after, ghosts_after, ghost_run}
+use Rattle.fkv_order.specs.Ghosts.{Log, Ghosts, GhostEvent, Reserves, Publishes, Drops, Changes, set_at, published, dropped, changed, changed_by, log_after, ghosts_after, ghost_run}
 use Rattle.fkv_order.proofs.Shown.{set_there, set_else, at_one}
 use Rattle.fkv_world_order.specs.Reservations.{is_still, AreStill, Reservation, TakesTail, MovesOn, Keeps, Behind, TakesOne, LosesOne, PublishesOne, DropsOne}
 use Rattle.fkv_world_order.specs.Reserved.{IsReserved, meets_reserved, AllMeetReserved}

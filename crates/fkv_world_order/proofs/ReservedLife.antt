@@ -1,12 +1,12 @@
 -- Beside a life the log has reserved just what sessions have.
-use Rattle.std.proofs.Common.{◌≡◌, ◌≢◌, ℕ, ◌≤◌, ◌∙◌, inl, inr, refl, sym, ap, subst, arith, Bool, true, false, List, [], ◌∷◌, ◌++◌}
+use Rattle.std.proofs.Common.{◌≡◌, ◌≢◌, ℕ, ◌∙◌, inl, inr, refl, sym, ap, subst, arith, Bool, true, false, List, [], ◌∷◌, ◌++◌}
 use Rattle.std.specs.Prelude.{map, ◌==◌, if◌then◌else◌, Option, Some, None, slice_get}
 use Rattle.std.proofs.lemmas.Bool.Decides.{nat_tests}
 use Rattle.fkv_map.specs.declared.history.HistoryEntry.{HistoryEntry}
 use Rattle.fkv_map.specs.declared.operations.Call.{Call}
 use Rattle.fkv_map.specs.declared.operations.Call.TheVariants.{Refresh}
 use Rattle.fkv_epoch.proofs.Shown.{none_some, same_or}
-use Rattle.fkv_order.specs.Chains.{Cell, Unborn, Reserved}
+use Rattle.fkv_order.specs.Chains.{Cell, Unborn}
 use Rattle.fkv_order.specs.Ghosts.{Ghosts, GhostEvent, Tells, Fixes, ghost_run}
 use Rattle.fkv_order.specs.Trace.{TraceLine}
 use Rattle.fkv_plane.specs.declared.asks.Ask.{Ask}
@@ -22,7 +22,7 @@ use Rattle.fkv_world.proofs.Shown.{is_over, no_session, session_apart, session_w
 use Rattle.fkv_world_guard.specs.Shows.{IsOpened}
 use Rattle.fkv_world_order.specs.GhostEvents.{home_in, moved_ghosts, own_ghosts, safe_at, fixed_ghosts, traced_by, serials_in, ghost_events, mapped, life_ghosts}
 use Rattle.fkv_world_order.specs.Lines.{lines_added}
-use Rattle.fkv_world_order.specs.Reservations.{AreStill, Reservation, TakesTail, MovesOn}
+use Rattle.fkv_world_order.specs.Reservations.{AreStill, Reservation, TakesTail}
 use Rattle.fkv_world_order.specs.Reserved.{reserved_by, HasReserved, tail_at, IsUnbornFrom, ReservesNothing, AreReserved, IsOfSession, AreOfSessions, AllMeetReserved}
 use Rattle.fkv_world_order.specs.Sessions.{step_ghosts}
 use Rattle.fkv_world_order.proofs.Apart.{reserved_apart}

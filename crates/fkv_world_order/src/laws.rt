@@ -8,6 +8,7 @@ ghost use Rattle.fkv_world.specs.Opened.{IsOpenedWorld};
 ghost use Rattle.fkv_world.specs.Runs.{World, run};
 ghost use Rattle.fkv_world.specs.World.{Event, seat_at};
 ghost use Rattle.fkv_world_guard.specs.Shows as guard;
+ghost use Rattle.fkv_world_order.specs.Effects.{TakesItsEffect, TriesUpdate};
 ghost use Rattle.fkv_world_order.specs.GhostEvents.{home_in, life_ghosts, mapped, safe_at, serials_in};
 ghost use Rattle.fkv_world_order.specs.Lines.{lines_of};
 ghost use Rattle.fkv_world_order.specs.Reserved.{AllMeetReserved, AreOfSessions, AreReserved, IsUnbornFrom, MovesReserved, ReservationsAreApart, ReservationsAreOpen, ReservesNothing, tail_at};
@@ -65,4 +66,13 @@ pub fn law_ghost_reserved()
         → AreOfSessions (run opening events).now (life_ghosts opening ghosts events) }
     ensures meets { (opening : World) (start : ℕ) (ghosts : Ghosts) (events : List Event) → guard.IsOpened opening.now start → IsUnbornFrom (tail_at opening.now) ghosts → ReservesNothing ghosts
         → AllMeetReserved (home_in opening.now.shape.bucket_bits) ghosts (mapped opening events) }
+{}
+
+/// At every moment of such a life, where a session attempts nothing or an update: whatever its next reply is, the effect that the reply makes is
+/// what takes effect by the log's events of that step. It is nothing where they neither change nor publish a record; the update that changes one
+/// in place, with its session, serial, operation and reply; or the one for which the session has reserved the record that is published.
+pub fn law_ghost_effects()
+    ensures { (opening : World) (start : ℕ) (events : List Event) (session reply : ℕ) (its : SessionState) → guard.IsOpened opening.now start
+        → slice_get (run opening events).now.sessions session ≡ Some its → TriesUpdate its its.step
+        → TakesItsEffect (seat_at (run opening events).now session) (run opening events).past.trace its reply }
 {}
