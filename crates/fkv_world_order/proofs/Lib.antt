@@ -3,6 +3,7 @@ mod AppendSteps
 mod AttemptEffects
 mod AttemptSteps
 mod Between
+mod EventEffects
 mod Fixed
 mod NoSlots
 mod Own

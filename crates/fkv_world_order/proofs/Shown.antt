@@ -1,5 +1,6 @@
 -- What the crates above may cite of these proofs.
 pub use Rattle.fkv_world_order.proofs.Apart.{reserved_apart, reserved_open}
+pub use Rattle.fkv_world_order.proofs.EventEffects.{life_makes}
 pub use Rattle.fkv_world_order.proofs.Fixed.{fixed_by, ghost_fixed, life_rises}
 pub use Rattle.fkv_world_order.proofs.Own.{AreOwn, own_own}
 pub use Rattle.fkv_world_order.proofs.ReservedLife.{life_meets, life_reserved, life_sessions}

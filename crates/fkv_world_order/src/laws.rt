@@ -5,11 +5,11 @@ ghost use Rattle.fkv_keeper.specs.Keeping.{KeeperState};
 ghost use Rattle.fkv_order.specs.Ghosts.{Ghosts};
 ghost use Rattle.fkv_session.specs.Sessions.{SessionState};
 ghost use Rattle.fkv_world.specs.Opened.{IsOpenedWorld};
-ghost use Rattle.fkv_world.specs.Runs.{World, run};
+ghost use Rattle.fkv_world.specs.Runs.{World, happens, run};
 ghost use Rattle.fkv_world.specs.World.{Event, seat_at};
 ghost use Rattle.fkv_world_guard.specs.Shows as guard;
-ghost use Rattle.fkv_world_order.specs.Effects.{TakesItsEffect, TriesUpdate};
-ghost use Rattle.fkv_world_order.specs.GhostEvents.{home_in, life_ghosts, mapped, safe_at, serials_in};
+ghost use Rattle.fkv_world_order.specs.Effects.{MakesEffect, MoverTriesUpdate, TakesItsEffect, TriesUpdate, reserved_before};
+ghost use Rattle.fkv_world_order.specs.GhostEvents.{ghost_events, home_in, life_ghosts, mapped, safe_at, serials_in};
 ghost use Rattle.fkv_world_order.specs.Lines.{lines_of};
 ghost use Rattle.fkv_world_order.specs.Reserved.{AllMeetReserved, AreOfSessions, AreReserved, IsUnbornFrom, MovesReserved, ReservationsAreApart, ReservationsAreOpen, ReservesNothing, tail_at};
 ghost use Rattle.fkv_world_order.specs.Worked.{IsWorkedLife};
@@ -70,9 +70,12 @@ pub fn law_ghost_reserved()
 
 /// At every moment of such a life, where a session attempts nothing or an update: whatever its next reply is, the effect that the reply makes is
 /// what takes effect by the log's events of that step. It is nothing where they neither change nor publish a record; the update that changes one
-/// in place, with its session, serial, operation and reply; or the one for which the session has reserved the record that is published.
+/// in place, with its session, serial, operation and reply; or the one for which the session has reserved the record that is published. And each
+/// event of such a life, whose session attempts nothing or an update, puts that effect at the front of the life's history, or leaves it.
 pub fn law_ghost_effects()
-    ensures { (opening : World) (start : ℕ) (events : List Event) (session reply : ℕ) (its : SessionState) → guard.IsOpened opening.now start
+    ensures steps { (opening : World) (start : ℕ) (events : List Event) (session reply : ℕ) (its : SessionState) → guard.IsOpened opening.now start
         → slice_get (run opening events).now.sessions session ≡ Some its → TriesUpdate its its.step
         → TakesItsEffect (seat_at (run opening events).now session) (run opening events).past.trace its reply }
+    ensures events { (opening : World) (start : ℕ) (events : List Event) (event : Event) → guard.IsOpened opening.now start → MoverTriesUpdate (run opening events).now event
+        → MakesEffect (run opening events).past.history (happens (run opening events) event).past.history (reserved_before (run opening events).now event) (ghost_events (serials_in opening.now) (run opening events) event) }
 {}
