@@ -43,14 +43,14 @@ use Rattle.fkv_world_order.proofs.AppendSteps.{passes}
 use Rattle.fkv_world_order.proofs.AttemptSteps.{attempt_begun_free, attempt_on}
 
 -- nothing is reserved by it
-abbrev IsFreeOf : ℕ → SessionState → Type 0
+abbrev pub IsFreeOf : ℕ → SessionState → Type 0
 IsFreeOf number s = reserved_by number s ≡ None
 
-either_free : (number : ℕ) (c : Bool) (a b : SessionState) → IsFreeOf number a → IsFreeOf number b → IsFreeOf number (if c then a else b)
+pub either_free : (number : ℕ) (c : Bool) (a b : SessionState) → IsFreeOf number a → IsFreeOf number b → IsFreeOf number (if c then a else b)
 either_free number true a b one other = one
 either_free number false a b one other = other
 
-attempts_free : (number : ℕ) (k : Seat) (s : SessionState) (has_shifted : Bool) → IsFreeOf number (attempts k s has_shifted)
+pub attempts_free : (number : ℕ) (k : Seat) (s : SessionState) (has_shifted : Bool) → IsFreeOf number (attempts k s has_shifted)
 unfolding attempts
 attempts_free number k s has_shifted = attempt_begun_free number k.places (bits_of k) s.attempt (request_in_hand s) s.seen AtCall s.spare s.is_orphaned
 
@@ -61,7 +61,7 @@ request_free : (number : ℕ) (k : Seat) (s : SessionState) (index : ℕ) (found
 request_free number k s index None = after_turn_free number s _
 request_free number k s index (Some pending) = attempt_begun_free number k.places (bits_of k) s.attempt pending s.seen AtPoll s.spare s.is_orphaned
 
-polls_free : (number : ℕ) (k : Seat) (s : SessionState) (index : ℕ) → IsFreeOf number (polls_at k s index)
+pub polls_free : (number : ℕ) (k : Seat) (s : SessionState) (index : ℕ) → IsFreeOf number (polls_at k s index)
 unfolding polls_at
 polls_free number k s index = request_free number k s index (slice_get s.requests index)
 
@@ -120,23 +120,23 @@ caught_free number k s cause.Refreshes = refl
 caught_free number k s cause.Wakes = refl
 caught_free number k s cause.Shifts = attempts_free number k s true
 
-catch_free : (number : ℕ) (k : Seat) (s : SessionState) (its : CatchCause) (ask : Ask (Unit {0})) → s.step ≡ CatchesUp its → IsFreeOf number (catch_ledto k s its ask)
+pub catch_free : (number : ℕ) (k : Seat) (s : SessionState) (its : CatchCause) (ask : Ask (Unit {0})) → s.step ≡ CatchesUp its → IsFreeOf number (catch_ledto k s its ask)
 unfolding catch_ledto
 catch_free number k s its (Done through) at = caught_free number k (record s { seen = s.catching.seen }) its
 catch_free number k s its ask at = ap (sitting_reserves number s) at
 
-clear_free : (number : ℕ) (k : Seat) (s : SessionState) (ask : Ask MailAnswer) → s.step ≡ ClearsMail → IsFreeOf number (clear_ledto k s ask)
+pub clear_free : (number : ℕ) (k : Seat) (s : SessionState) (ask : Ask MailAnswer) → s.step ≡ ClearsMail → IsFreeOf number (clear_ledto k s ask)
 unfolding clear_ledto
 clear_free number k s (Done Cleared) at = polls_free number k (record s { is_orphaned = false }) 0
 clear_free number k s (Done its) at = polls_free number k s 0
 clear_free number k s ask at = ap (sitting_reserves number s) at
 
-turn_free : (number : ℕ) (s : SessionState) (its : Told) (ask : Ask (Unit {0})) → s.step ≡ Turns its → IsFreeOf number (turn_ledto s its ask)
+pub turn_free : (number : ℕ) (s : SessionState) (its : Told) (ask : Ask (Unit {0})) → s.step ≡ Turns its → IsFreeOf number (turn_ledto s its ask)
 unfolding turn_ledto
 turn_free number s its (Done through) at = refl
 turn_free number s its ask at = ap (sitting_reserves number s) at
 
-leave_free : (number : ℕ) (s : SessionState) (ask : Ask (Unit {0})) → s.step ≡ Leaves → IsFreeOf number (leave_ledto s ask)
+pub leave_free : (number : ℕ) (s : SessionState) (ask : Ask (Unit {0})) → s.step ≡ Leaves → IsFreeOf number (leave_ledto s ask)
 unfolding leave_ledto
 leave_free number s (Done its) at = refl
 leave_free number s ask at = ap (sitting_reserves number s) at

@@ -1,4 +1,5 @@
 pub mod Appends
+pub mod Effects
 pub mod GhostEvents
 pub mod Lines
 pub mod Reservations

@@ -1,7 +1,8 @@
 -- What a session has reserved, and how a reply moves that beside the log's events of the step.
-use Rattle.std.specs.Prelude.{◌≡◌, ℕ, ◌<◌, ◌≤◌, List, Option, Some, None, slice_get}
-use Rattle.fkv_order.specs.Chains.{Unborn}
-use Rattle.fkv_order.specs.Ghosts.{Ghosts}
+use Rattle.std.specs.Prelude.{◌≡◌, ⊤, ℕ, ◌<◌, ◌≤◌, List, [], ◌∷◌, Option, Some, None, slice_get}
+use Rattle.fkv_map.specs.declared.history.HistoryEntry.{HistoryEntry}
+use Rattle.fkv_order.specs.Chains.{Cell, Logged, Unborn, Reserved}
+use Rattle.fkv_order.specs.Ghosts.{Log, Ghosts, GhostEvent, Publishes, Drops, ghost_run}
 use Rattle.fkv_plane.specs.declared.places.SharedWord.TheVariants as one
 use Rattle.fkv_plane.specs.Asked.{asked, asked_place, word_at}
 use Rattle.fkv_plane.specs.Places.{shared_place}
@@ -47,3 +48,37 @@ ReservationsAreOpen n = (number : ℕ) (its : Reservation) → HasReserved n num
 -- no address of the log from this one up has a record
 abbrev pub IsUnbornFrom : ℕ → Ghosts → Type 0
 IsUnbornFrom tail ghosts = (a : ℕ) → tail ≤ a → ghosts.log.cells a ≡ Unborn
+
+-- no address has a record that is reserved
+abbrev pub ReservesNothing : Ghosts → Type 0
+ReservesNothing ghosts = (a : ℕ) (entry : HistoryEntry) (cell : Cell) → ghosts.log.cells a ≡ Reserved entry cell → ⊥
+
+-- what a session has reserved is reserved in the log, with its entry and its record
+abbrev pub AreReserved : Now → Ghosts → Type 0
+AreReserved n ghosts = (number : ℕ) (its : Reservation) → HasReserved n number its → ghosts.log.cells its.addr ≡ Reserved its.entry its.cell
+
+-- and what is reserved in the log is so by a session
+pub record IsOfSession (n : Now) (a : ℕ) (entry : HistoryEntry) (cell : Cell) : Type 0 where
+  pub number : ℕ
+  pub its : Reservation
+  pub has : HasReserved n number its
+  pub its_addr : its.addr ≡ a
+  pub its_entry : its.entry ≡ entry
+  pub its_cell : its.cell ≡ cell
+
+abbrev pub AreOfSessions : Now → Ghosts → Type 0
+AreOfSessions n ghosts = (a : ℕ) (entry : HistoryEntry) (cell : Cell) → ghosts.log.cells a ≡ Reserved entry cell → IsOfSession n a entry cell
+
+-- each record that these events publish or give up was reserved until then
+abbrev pub IsReserved : Logged → Type 0
+IsReserved (Reserved entry cell) = ⊤
+IsReserved logged = ⊥
+
+abbrev pub meets_reserved : Log → GhostEvent → Type 0
+meets_reserved log (Publishes a) = IsReserved (log.cells a)
+meets_reserved log (Drops a) = IsReserved (log.cells a)
+meets_reserved log event = ⊤
+
+unfoldable pub AllMeetReserved : (ℕ → ℕ) → Ghosts → List GhostEvent → Type 0
+AllMeetReserved home ghosts [] = ⊤
+AllMeetReserved home ghosts (event ∷ before) = meets_reserved (ghost_run home ghosts before).log event × AllMeetReserved home ghosts before

@@ -5,12 +5,13 @@ ghost use Rattle.fkv_keeper.specs.Keeping.{KeeperState};
 ghost use Rattle.fkv_order.specs.Ghosts.{Ghosts};
 ghost use Rattle.fkv_session.specs.Sessions.{SessionState};
 ghost use Rattle.fkv_world.specs.Opened.{IsOpenedWorld};
-ghost use Rattle.fkv_world.specs.Runs.{World, run};
+ghost use Rattle.fkv_world.specs.Runs.{World, happens, run};
 ghost use Rattle.fkv_world.specs.World.{Event, seat_at};
 ghost use Rattle.fkv_world_guard.specs.Shows as guard;
-ghost use Rattle.fkv_world_order.specs.GhostEvents.{life_ghosts, safe_at, serials_in};
+ghost use Rattle.fkv_world_order.specs.Effects.{MakesEffect, MoverTriesUpdate, TakesItsEffect, TriesUpdate, reserved_before};
+ghost use Rattle.fkv_world_order.specs.GhostEvents.{ghost_events, home_in, life_ghosts, mapped, safe_at, serials_in};
 ghost use Rattle.fkv_world_order.specs.Lines.{lines_of};
-ghost use Rattle.fkv_world_order.specs.Reserved.{IsUnbornFrom, MovesReserved, ReservationsAreApart, ReservationsAreOpen, tail_at};
+ghost use Rattle.fkv_world_order.specs.Reserved.{AllMeetReserved, AreOfSessions, AreReserved, IsUnbornFrom, MovesReserved, ReservationsAreApart, ReservationsAreOpen, ReservesNothing, tail_at};
 ghost use Rattle.fkv_world_order.specs.Worked.{IsWorkedLife};
 
 /// Over every life of a store that was opened, whatever its calls, commits, turns and the order of its steps: what the log beside it is told is
@@ -22,7 +23,10 @@ pub fn law_ghost_trace()
 
 /// In a life of two sessions of a store with one bucket, session 0 gives a key a value by a new record, session 1 adds to it in place, and a
 /// read that had found the record before answers the sum. To the log that life is these events, it has these two effects behind them, and
-/// shows the sum for the key. In another, both give the key a value, and the record of the one that loses the slot is dropped.
+/// shows the sum for the key. In another, both give the key a value, and the record of the one that loses the slot is dropped. In a third a
+/// value is swapped in place, the compare-and-swap of the other session is lost and changes nothing, and a poll then gives its result. In the
+/// last an update is refused, which leaves its serial free, and a read finds no value. A trace in which a poll finishes an update and a read that
+/// wait has the lines that are written there.
 pub fn law_of_a_worked_life()
     ensures { (keeper : KeeperState) (one other : SessionState) → IsOpened keeper → IsWorkedLife keeper one other }
 {}
@@ -50,4 +54,28 @@ pub fn law_ghost_reservations()
 pub fn law_ghost_unborn()
     ensures { (opening : World) (start : ℕ) (ghosts : Ghosts) (events : List Event) → guard.IsOpened opening.now start → IsUnbornFrom (tail_at opening.now) ghosts
         → IsUnbornFrom (tail_at (run opening events).now) (life_ghosts opening ghosts events) }
+{}
+
+/// Over every such life, from a log that reserves nothing and has no record from the tail up: what a session has reserved is reserved in the log
+/// beside the life, with its entry and its record, and what is reserved there is so by a session. Each record that the log's events publish or
+/// give up was reserved until then.
+pub fn law_ghost_reserved()
+    ensures reserved { (opening : World) (start : ℕ) (ghosts : Ghosts) (events : List Event) → guard.IsOpened opening.now start → IsUnbornFrom (tail_at opening.now) ghosts → ReservesNothing ghosts
+        → AreReserved (run opening events).now (life_ghosts opening ghosts events) }
+    ensures sessions { (opening : World) (start : ℕ) (ghosts : Ghosts) (events : List Event) → guard.IsOpened opening.now start → IsUnbornFrom (tail_at opening.now) ghosts → ReservesNothing ghosts
+        → AreOfSessions (run opening events).now (life_ghosts opening ghosts events) }
+    ensures meets { (opening : World) (start : ℕ) (ghosts : Ghosts) (events : List Event) → guard.IsOpened opening.now start → IsUnbornFrom (tail_at opening.now) ghosts → ReservesNothing ghosts
+        → AllMeetReserved (home_in opening.now.shape.bucket_bits) ghosts (mapped opening events) }
+{}
+
+/// At every moment of such a life, where a session attempts nothing or an update: whatever its next reply is, the effect that the reply makes is
+/// what takes effect by the log's events of that step. It is nothing where they neither change nor publish a record; the update that changes one
+/// in place, with its session, serial, operation and reply; or the one for which the session has reserved the record that is published. And each
+/// event of such a life, whose session attempts nothing or an update, puts that effect at the front of the life's history, or leaves it.
+pub fn law_ghost_effects()
+    ensures steps { (opening : World) (start : ℕ) (events : List Event) (session reply : ℕ) (its : SessionState) → guard.IsOpened opening.now start
+        → slice_get (run opening events).now.sessions session ≡ Some its → TriesUpdate its its.step
+        → TakesItsEffect (seat_at (run opening events).now session) (run opening events).past.trace its reply }
+    ensures events { (opening : World) (start : ℕ) (events : List Event) (event : Event) → guard.IsOpened opening.now start → MoverTriesUpdate (run opening events).now event
+        → MakesEffect (run opening events).past.history (happens (run opening events) event).past.history (reserved_before (run opening events).now event) (ghost_events (serials_in opening.now) (run opening events) event) }
 {}
