@@ -1,3 +1,4 @@
+mod LoneMoves
 mod Ends
 mod Granted
 mod Keepers

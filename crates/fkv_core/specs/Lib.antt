@@ -1,3 +1,4 @@
+pub mod Alone
 pub mod Lives
 pub mod OpeningWords
 pub mod Openings

@@ -22,6 +22,14 @@ pub enum Event {
     Crash,
 }
 
+/// Who moves.
+#[derive(Clone, Copy, Debug, PartialEq, Eq)]
+pub enum Actor {
+    /// The session of this number.
+    Session(usize),
+    Keeper,
+}
+
 /// What a step tells: the answer to the call that has ended in it.
 #[derive(Debug, PartialEq, Eq, Drop)]
 pub enum Told {

@@ -1,6 +1,7 @@
 //! The engine: sessions, the keeper, the shared words and the device put together, one step at a time.
 #![tactic(auto)]
 
+mod alone;
 mod events;
 mod keeper_moves;
 mod opening_words;
@@ -8,5 +9,5 @@ mod openings;
 mod session_moves;
 mod worlds;
 
-pub use events::{Event, Told};
+pub use events::{Actor, Event, Told};
 pub use worlds::World;

@@ -3,8 +3,8 @@ use crate::lines::Line::{Add, Commit, Finish, Get, Poll, Refresh, Turn, Up};
 use crate::lines::Says::{
     At, Begun, Done, Found, KeptBoth, LateDone, Leaves, Nothing, Sees, Waits,
 };
-use crate::lines::{Line, Says, beginning, moving};
-use crate::stores::{MANY_STEPS, Store, WIDE_FOR_TWO, begin, is_said, new_store, play, steps};
+use crate::lines::{Line, Says, actor, beginning};
+use crate::stores::{Store, WIDE_FOR_TWO, begin, is_said, new_store, play};
 use fkv_base::Phase::{InProgress, Prepare};
 use fkv_ops::Reason::Contended;
 use std::test::Fail;
@@ -17,7 +17,7 @@ fn stops_behind(store: &mut Store, count: u64, line: Line) -> bool {
 
 /// Moves the line's call, which is in hand, to its end.
 fn goes_on(store: &mut Store, line: Line, says: Says) -> bool {
-    let came = steps(store, moving(beginning(line)), MANY_STEPS);
+    let came = store.finish(actor(beginning(line)));
     is_said(store, line, says, came)
 }
 

@@ -2,7 +2,7 @@
 use arrayvec::ArrayVec;
 use fkv_base::{Fault, Key, MAX_PENDING, Phase, Serial, Value, Version};
 use fkv_commit::CommitKind;
-use fkv_core::{Event, Told};
+use fkv_core::{Actor, Event, Told};
 use fkv_keeper::{MAX_POINTS, Turn};
 use fkv_map::{Call, Op, Reply};
 use fkv_ops::Reason;
@@ -102,6 +102,14 @@ pub(crate) fn moving(begins: Event) -> Event {
     match begins {
         Event::Call(session, _) => Event::Move(session),
         _ => Event::KeeperMove,
+    }
+}
+
+/// Who moves in the call that this event begins.
+pub(crate) fn actor(begins: Event) -> Actor {
+    match begins {
+        Event::Call(session, _) => Actor::Session(session),
+        _ => Actor::Keeper,
     }
 }
 

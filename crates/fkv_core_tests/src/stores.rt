@@ -1,5 +1,5 @@
 //! A store in memory, and scripts over it.
-use crate::lines::{Line, Says, beginning, is_phase, moving, told, turned};
+use crate::lines::{Line, Says, actor, beginning, is_phase, moving, told, turned};
 use fkv_base::{Fault, Shape};
 use fkv_core::{Event, Told, World};
 use fkv_creating::create;
@@ -22,9 +22,6 @@ pub(crate) const WIDE_FOR_TWO: Sizes = [4, 16, 4, 2, 2, 0, 64];
 pub(crate) const NARROW: Sizes = [4, 4, 2, 1, 1, 0, 64];
 
 pub(crate) const NARROW_FOR_TWO: Sizes = [4, 4, 2, 1, 2, 0, 64];
-
-/// More steps than a call has here.
-pub(crate) const MANY_STEPS: u64 = 40000;
 
 /// The rounds in which a commit is to finish.
 const ROUNDS: u64 = 64;
@@ -69,11 +66,20 @@ pub(crate) fn begin(store: &mut Store, begins: Event, count: u64) -> Option<Told
     steps(store, moving(begins), count)
 }
 
+/// Begins a call, and moves its actor to its end.
+pub(crate) fn call(store: &mut Store, begins: Event) -> Option<Told> {
+    let told = store.step(begins);
+    if told.is_some() {
+        return told;
+    }
+    store.finish(actor(begins))
+}
+
 /// What comes of a line, whose call is moved to its end.
 fn whole(store: &mut Store, line: Line) -> Option<Told> {
     match line {
         Line::Finish => finish(store),
-        line => begin(store, beginning(line), MANY_STEPS),
+        line => call(store, beginning(line)),
     }
 }
 
@@ -87,9 +93,9 @@ fn finish(store: &mut Store) -> Option<Told> {
             Line::Refresh(1),
             Line::Poll(1),
         ] {
-            let _ = begin(store, beginning(line), MANY_STEPS);
+            let _ = call(store, beginning(line));
         }
-        let turn = begin(store, Event::Turn, MANY_STEPS);
+        let turn = call(store, Event::Turn);
         if turn != turned(None, false) {
             return turn;
         }
