@@ -31,8 +31,11 @@ use Rattle.fkv_world_order.specs.Tries.{try_ghosts}
 use Rattle.fkv_map.specs.declared.history.HistoryEntry.{HistoryEntry}
 use Rattle.fkv_map.specs.declared.operations.Reply.{Reply}
 use Rattle.fkv_world_order.specs.Reservations.{try_reserves, Reservation, attempt_reserves}
-use Rattle.fkv_world_order.specs.Effects.{TakesEffect, Quietly, Behind}
+use Rattle.fkv_world_order.specs.Effects.{AreQuiet, TakesEffect, Quietly, Behind}
 use Rattle.fkv_world_order.specs.Sessions.{value_ghosts, tried_ghosts, attempt_ghosts}
+use Rattle.fkv_ops.specs.Requests.{is_read}
+use Rattle.fkv_world_order.proofs.ReadTries.{read_quiet}
+use Rattle.fkv_world_order.proofs.RequestNames.{ReadsAt, IsReadAttempt}
 use Rattle.fkv_world_order.proofs.TryEffects.{made_entry, quiet, try_takes}
 
 -- ---- where an attempt goes on or ends, what it has told as its effect stays
@@ -109,6 +112,20 @@ value_takes : (reserved : Option Reservation) (op : Op) (reader : ℕ) (ask : As
 value_takes reserved (Read key) reader (Done (answer.Found value)) events made its = Behind (TakesValue reader) tt its
 value_takes reserved (Read key) reader (Done answer.Absent) events made its = Behind (TakesValue reader) tt its
 value_takes reserved op reader ask events made its = its
+
+value_quiet : (op : Op) (reader : ℕ) (ask : Ask TryAnswer) (events : List GhostEvent) → AreQuiet events → AreQuiet (value_ghosts op reader ask ++ events)
+value_quiet (Read key) reader (Done (answer.Found value)) events its = (tt, its)
+value_quiet (Read key) reader (Done answer.Absent) events its = (tt, its)
+value_quiet op reader ask events its = its
+
+tried_quiet : (k : Seat) (reader : ℕ) (a : AttemptState) (step : Attempting) (reply : ℕ) → ReadsAt a.trial step → AreQuiet (tried_ghosts k reader a step reply)
+tried_quiet k reader a Tries reply reads = read_quiet k.places (room_of k) k.number reader a.pending a.trial a.trial.step reply reads.step
+tried_quiet k reader a step reply reads = tt
+
+-- by a read's attempt no update takes effect
+pub attempt_quiet : (k : Seat) (reader : ℕ) (a : AttemptState) (reply : ℕ) → is_read a.pending.request.op ≡ true → IsReadAttempt a → AreQuiet (attempt_ghosts k reader a reply)
+attempt_quiet k reader a reply read reads =
+    value_quiet a.pending.request.op reader (attempt_ask k.places k.number (attempt_next k.places (bits_of k) (room_of k) k.number a reply)) (tried_ghosts k reader a a.step reply) (tried_quiet k reader a a.step reply (reads read))
 
 pub attempt_takes : (k : Seat) (reader : ℕ) (a : AttemptState) (reply : ℕ) → AttemptRestsOrAsks a
     → TakesEffect (attempt_reserves k.number a a.step) (attempt_ghosts k reader a reply) (made_entry k.number a.pending (attempt_next k.places (bits_of k) (room_of k) k.number a reply).effect)

@@ -18,7 +18,7 @@ use Rattle.fkv_world.specs.Runs.{World, happens, run}
 use Rattle.fkv_world.specs.World.{Event, Calls, Moves, Commits, Turns, KeeperMoves, Crashes, seat_at}
 use Rattle.fkv_world.proofs.Shown.{history_so, is_over, no_session}
 use Rattle.fkv_world_guard.specs.Shows.{IsOpened}
-use Rattle.fkv_world_order.specs.Effects.{AreQuiet, TakesEffect, Quietly, Behind, MakesEffect, mover_reserved, reserved_before, mover_tries, MoverTriesUpdate}
+use Rattle.fkv_world_order.specs.Effects.{AreQuiet, TakesEffect, Quietly, Behind, MakesEffect, mover_reserved, reserved_before}
 use Rattle.fkv_world_order.specs.GhostEvents.{moved_ghosts, own_ghosts, safe_at, fixed_ghosts, traced_by, serials_in, ghost_events}
 use Rattle.fkv_world_order.specs.Lines.{lines_added}
 use Rattle.fkv_world_order.specs.Reservations.{Reservation}
@@ -58,25 +58,25 @@ nothing_makes : (before after : List Effect) (reserved : Option Reservation) →
 nothing_makes before after reserved same = record { made = None; version = record { 0 = 0 }; history = same; takes = Quietly [] tt }
 
 moved_makes : (opening : World) (start : ℕ) (before : List Event) (number : ℕ) (found : Option SessionState) → IsOpened opening.now start → (run opening before).now.crashed ≡ false
-    → slice_get (run opening before).now.sessions number ≡ found → mover_tries found
+    → slice_get (run opening before).now.sessions number ≡ found
     → MakesEffect (run opening before).past.history (happens (run opening before) (Moves number)).past.history (mover_reserved number found) (moved_ghosts (run opening before) number found)
-moved_makes opening start before number None opened alive e tries =
+moved_makes opening start before number None opened alive e =
     nothing_makes _ _ None (ap (λ (x : World). x.past.history) (no_session (run opening before) number Refresh e).1)
-moved_makes opening start before number (Some s) opened alive e tries =
+moved_makes opening start before number (Some s) opened alive e =
     let w : World = run opening before in
     let k : Seat = seat_at w.now number in
     let ask : Ask Told = session_ask k s in
-    let its = step_makes k w.past.trace s w.now.words ask w.past.history (mover_reserved number (Some s)) (life_takes opening start before number s (reply_to w.now.words ask) opened e tries) in
+    let its = step_makes k w.past.trace s w.now.words ask w.past.history (mover_reserved number (Some s)) (life_takes opening start before number s (reply_to w.now.words ask) opened e) in
     record { made = its.made; version = its.version; history = moved_history w number s alive e ∙ its.history; takes = its.takes }
 
-own_makes : (opening : World) (start : ℕ) (before : List Event) (event : Event) → IsOpened opening.now start → (run opening before).now.crashed ≡ false → MoverTriesUpdate (run opening before).now event
+own_makes : (opening : World) (start : ℕ) (before : List Event) (event : Event) → IsOpened opening.now start → (run opening before).now.crashed ≡ false
     → MakesEffect (run opening before).past.history (happens (run opening before) event).past.history (reserved_before (run opening before).now event) (own_ghosts (run opening before) event)
-own_makes opening start before (Moves number) opened alive tries = moved_makes opening start before number (slice_get (run opening before).now.sessions number) opened alive refl tries
-own_makes opening start before (Calls number call) opened alive tries = nothing_makes _ _ None (same_history (run opening before) (Calls number call) (λ n e. cc))
-own_makes opening start before (Commits kind) opened alive tries = nothing_makes _ _ None (same_history (run opening before) (Commits kind) (λ n e. cc))
-own_makes opening start before Turns opened alive tries = nothing_makes _ _ None (same_history (run opening before) Turns (λ n e. cc))
-own_makes opening start before (KeeperMoves granted done) opened alive tries = nothing_makes _ _ None (same_history (run opening before) (KeeperMoves granted done) (λ n e. cc))
-own_makes opening start before Crashes opened alive tries = nothing_makes _ _ None (same_history (run opening before) Crashes (λ n e. cc))
+own_makes opening start before (Moves number) opened alive = moved_makes opening start before number (slice_get (run opening before).now.sessions number) opened alive refl
+own_makes opening start before (Calls number call) opened alive = nothing_makes _ _ None (same_history (run opening before) (Calls number call) (λ n e. cc))
+own_makes opening start before (Commits kind) opened alive = nothing_makes _ _ None (same_history (run opening before) (Commits kind) (λ n e. cc))
+own_makes opening start before Turns opened alive = nothing_makes _ _ None (same_history (run opening before) Turns (λ n e. cc))
+own_makes opening start before (KeeperMoves granted done) opened alive = nothing_makes _ _ None (same_history (run opening before) (KeeperMoves granted done) (λ n e. cc))
+own_makes opening start before Crashes opened alive = nothing_makes _ _ None (same_history (run opening before) Crashes (λ n e. cc))
 
 -- ---- what is told and fixed has no effect
 told_quiet : (lines : List TraceLine) → AreQuiet (map Tells lines)
@@ -95,10 +95,10 @@ takes_behind reserved [] events made none its = its
 takes_behind reserved (event ∷ later) events made none its = Behind event none.0 (takes_behind reserved later events made none.1 its)
 
 -- ---- each event of a life
-pub life_makes : (opening : World) (start : ℕ) (before : List Event) (event : Event) → IsOpened opening.now start → MoverTriesUpdate (run opening before).now event
+pub life_makes : (opening : World) (start : ℕ) (before : List Event) (event : Event) → IsOpened opening.now start
     → MakesEffect (run opening before).past.history (happens (run opening before) event).past.history (reserved_before (run opening before).now event) (ghost_events (serials_in opening.now) (run opening before) event)
 unfolding ghost_events
-life_makes opening start before event opened tries = by_test w.now.crashed refl
+life_makes opening start before event opened = by_test w.now.crashed refl
   where
     w : World
     w = run opening before
@@ -112,7 +112,7 @@ life_makes opening start before event opened tries = by_test w.now.crashed refl
     by_test : (c : Bool) → w.now.crashed ≡ c → MakesEffect w.past.history (happens w event).past.history (reserved_before w.now event) (if c then [] else map Tells lines ++ (fresh ++ own_ghosts w event))
     by_test true e = nothing_makes _ _ (reserved_before w.now event) (ap (λ (x : World). x.past.history) (is_over w event e))
     by_test false e =
-        let its = own_makes opening start before event opened e tries in
+        let its = own_makes opening start before event opened e in
         record {
           made = its.made;
           version = its.version;

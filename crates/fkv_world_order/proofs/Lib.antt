@@ -7,6 +7,8 @@ mod EventEffects
 mod Fixed
 mod NoSlots
 mod Own
+mod ReadTries
+mod RequestNames
 mod ReservedCells
 mod ReservedLife
 mod SessionEffects

@@ -39,11 +39,13 @@ use Rattle.fkv_pending.specs.declared.pending_requests.RequestName.{RequestName}
 use Rattle.fkv_pending.specs.declared.pending_requests.RequestName.TheVariants.{Update, Read}
 use Rattle.fkv_session.proofs.Shown.{IsSameRequest, attempt_keeps}
 use Rattle.fkv_world_order.specs.Appends.{serial_of}
-use Rattle.fkv_world_order.specs.Effects.{IsUpdateName, TriesUpdate, TakesEffect, Quietly, TakesItsEffect}
+use Rattle.fkv_world_order.specs.Effects.{AreQuiet, TakesEffect, Quietly, TakesItsEffect, AttemptsRead, TakesNoEffect}
+use Rattle.fkv_world_order.specs.Names.{is_read_name}
 use Rattle.fkv_world_order.specs.Reservations.{attempt_reserves}
 use Rattle.fkv_world_order.specs.Reserved.{sitting_reserves}
 use Rattle.fkv_world_order.specs.Sessions.{attempt_ghosts, ticket_of, sitting_ghosts}
-use Rattle.fkv_world_order.proofs.AttemptEffects.{attempt_takes}
+use Rattle.fkv_world_order.proofs.AttemptEffects.{attempt_quiet, attempt_takes}
+use Rattle.fkv_world_order.proofs.RequestNames.{IsAttemptSo, StepIsSo, life_so}
 use Rattle.fkv_world_order.proofs.TryEffects.{made_entry}
 
 -- ---- where a session goes on, or its call is answered, what it has told as its effect stays
@@ -132,18 +134,14 @@ unfolding leave_ledto
 leave_keeps s (Done its) = refl
 leave_keeps s ask = refl
 
--- ---- an update's effect is the entry that it would make
+-- ---- an update's effect is the entry that it would make, and a read has none
 abbrev entry_with : ℕ → Serial → Op → Reply → Option HistoryEntry
 entry_with number serial op reply = Some (record { session = number; serial = serial; op = op; reply = reply })
 
-named_entry : (number : ℕ) (p q : PendingRequest) (name : RequestName) (made : Option Reply) → q.name ≡ name → IsUpdateName name → p.request.op ≡ q.request.op → entry_of number p name made ≡ made_entry number q made
-named_entry number p q (Update serial) None e update op = refl
-named_entry number p q (Update serial) (Some its) e update op =
+update_entry : (number : ℕ) (p q : PendingRequest) (serial : Serial) (made : Option Reply) → q.name ≡ Update serial → p.request.op ≡ q.request.op → entry_of number p (Update serial) made ≡ made_entry number q made
+update_entry number p q serial None e op = refl
+update_entry number p q serial (Some its) e op =
     ap (λ (o : Op). entry_with number serial o its) op ∙ ap (λ (n : RequestName). entry_with number (serial_of n) q.request.op its) (sym e)
-named_entry number p q (Read ticket) made e update op = absurd update
-
-same_entry : (number : ℕ) (p q : PendingRequest) (made : Option Reply) → IsSameRequest p q → IsUpdateName q.name → entry_of number p p.name made ≡ made_entry number q made
-same_entry number p q made same update = ap (λ (n : RequestName). entry_of number p n made) same.name ∙ named_entry number p q q.name made refl update same.op
 
 -- ---- each reply to a session
 rests_called : (s : SessionState) (has_shifted : Bool) → s.step ≡ Attempts has_shifted → SittingKnows s s.step → AttemptRestsOrAsks s.attempt
@@ -152,43 +150,90 @@ rests_called s has_shifted at knows = subst (SittingKnows s) at knows
 rests_polled : (s : SessionState) (index : ℕ) → s.step ≡ Polls index → SittingKnows s s.step → AttemptRestsOrAsks s.attempt
 rests_polled s index at knows = subst (SittingKnows s) at knows
 
-attempt_makes : (k : Seat) (reader : ℕ) (s : SessionState) (reply : ℕ) (made : Option HistoryEntry) → AttemptRestsOrAsks s.attempt → IsUpdateName s.attempt.pending.name → made ≡ (attempt_moved k s reply).effect
+attempt_makes : (k : Seat) (reader : ℕ) (s : SessionState) (reply : ℕ) (made : Option HistoryEntry) → AttemptRestsOrAsks s.attempt → IsAttemptSo s.attempt → made ≡ (attempt_moved k s reply).effect
     → TakesEffect (attempt_reserves k.number s.attempt s.attempt.step) (attempt_ghosts k reader s.attempt reply) made
-attempt_makes k reader s reply made rests update e =
-    let after : AttemptState = attempt_next k.places (bits_of k) (room_of k) k.number s.attempt reply in
-    subst (λ (x : Option HistoryEntry). TakesEffect (attempt_reserves k.number s.attempt s.attempt.step) (attempt_ghosts k reader s.attempt reply) x)
-    (sym (e ∙ same_entry k.number after.pending s.attempt.pending after.effect (attempt_keeps k.places (bits_of k) (room_of k) k.number s.attempt reply) update)) (attempt_takes k reader s.attempt reply rests)
+attempt_makes k reader s reply made rests so e = by_name s.attempt.pending.name refl
+  where
+    after : AttemptState
+    after = attempt_next k.places (bits_of k) (room_of k) k.number s.attempt reply
+
+    same : IsSameRequest after.pending s.attempt.pending
+    same = attempt_keeps k.places (bits_of k) (room_of k) k.number s.attempt reply
+
+    named : (name : RequestName) → s.attempt.pending.name ≡ name → made ≡ entry_of k.number after.pending name after.effect
+    named name at = e ∙ ap (λ (n : RequestName). entry_of k.number after.pending n after.effect) (same.name ∙ at)
+
+    by_name : (name : RequestName) → s.attempt.pending.name ≡ name → TakesEffect (attempt_reserves k.number s.attempt s.attempt.step) (attempt_ghosts k reader s.attempt reply) made
+    by_name (Update serial) at =
+        subst (λ (x : Option HistoryEntry). TakesEffect (attempt_reserves k.number s.attempt s.attempt.step) (attempt_ghosts k reader s.attempt reply) x)
+        (sym (named (Update serial) at ∙ update_entry k.number after.pending s.attempt.pending serial after.effect at same.op)) (attempt_takes k reader s.attempt reply rests)
+    by_name (Read ticket) at =
+        subst (λ (x : Option HistoryEntry). TakesEffect (attempt_reserves k.number s.attempt s.attempt.step) (attempt_ghosts k reader s.attempt reply) x) (sym (named (Read ticket) at))
+        (Quietly (attempt_ghosts k reader s.attempt reply) (attempt_quiet k reader s.attempt reply (sym so.named ∙ ap is_read_name at) so.reads))
+
+-- a read makes none
+read_none : (k : Seat) (s : SessionState) (reply : ℕ) → is_read s.attempt.pending.request.op ≡ true → IsAttemptSo s.attempt → (attempt_moved k s reply).effect ≡ None
+read_none k s reply reads so = by_name after.pending.name (ap is_read_name same.name ∙ (so.named ∙ reads))
+  where
+    after : AttemptState
+    after = attempt_next k.places (bits_of k) (room_of k) k.number s.attempt reply
+
+    same : IsSameRequest after.pending s.attempt.pending
+    same = attempt_keeps k.places (bits_of k) (room_of k) k.number s.attempt reply
+
+    by_name : (name : RequestName) → is_read_name name ≡ true → entry_of k.number after.pending name after.effect ≡ None
+    by_name (Update serial) e = cc
+    by_name (Read ticket) e = refl
 
 nothing_made : (made : Option HistoryEntry) → made ≡ None → TakesEffect None [] made
 nothing_made made none = rw none (Quietly [] tt)
 
-sitting_takes : (k : Seat) (trace : List Traced) (s : SessionState) (asks : ℕ) (step : Sitting) (reply : ℕ) → s.step ≡ step → SittingKnows s s.step → TriesUpdate s step
+sitting_takes : (k : Seat) (trace : List Traced) (s : SessionState) (asks : ℕ) (step : Sitting) (reply : ℕ) → s.step ≡ step → SittingKnows s s.step → StepIsSo s.attempt step
     → TakesEffect (sitting_reserves k.number s step) (sitting_ghosts k trace s step reply) (sitting_next k (record s { asks = asks; effect = None }) step reply).effect
 unfolding sitting_next
-sitting_takes k trace s asks (Idle its) reply at knows update = Quietly [] tt
-sitting_takes k trace s asks (Attempts has_shifted) reply at knows update =
+sitting_takes k trace s asks (Idle its) reply at knows so = Quietly [] tt
+sitting_takes k trace s asks (Attempts has_shifted) reply at knows so =
     let after : SessionState = attempt_moved k (record s { asks = asks; effect = None }) reply in
-    attempt_makes k (read_in_hand k.number trace) s reply _ (rests_called s has_shifted at knows) update (called_keeps after has_shifted (attempt_ask k.places k.number after.attempt))
-sitting_takes k trace s asks (Polls index) reply at knows update =
+    attempt_makes k (read_in_hand k.number trace) s reply _ (rests_called s has_shifted at knows) so (called_keeps after has_shifted (attempt_ask k.places k.number after.attempt))
+sitting_takes k trace s asks (Polls index) reply at knows so =
     let after : SessionState = attempt_moved k (record s { asks = asks; effect = None }) reply in
-    attempt_makes k (read_waiting k.number (ticket_of s.attempt.pending.name) trace) s reply _ (rests_polled s index at knows) update (polled_keeps k after index (attempt_ask k.places k.number after.attempt))
-sitting_takes k trace s asks (CatchesUp its) reply at knows update =
+    attempt_makes k (read_waiting k.number (ticket_of s.attempt.pending.name) trace) s reply _ (rests_polled s index at knows) so (polled_keeps k after index (attempt_ask k.places k.number after.attempt))
+sitting_takes k trace s asks (CatchesUp its) reply at knows so =
     let after : SessionState = caught k (record s { asks = asks; effect = None }) reply in
     nothing_made _ (catch_keeps k after its (catch_ask k.places k.number after.catching after.requests))
-sitting_takes k trace s asks ClearsMail reply at knows update =
+sitting_takes k trace s asks ClearsMail reply at knows so =
     nothing_made _ (clear_keeps k (record s { asks = asks; effect = None; mailing = mail_next s.mailing reply }) (mail_ask k.number (mail_next s.mailing reply)))
-sitting_takes k trace s asks (StoresOwing index) reply at knows update = nothing_made _ (polls_keeps k (record s { asks = asks; effect = None }) index)
-sitting_takes k trace s asks (Turns its) reply at knows update =
+sitting_takes k trace s asks (StoresOwing index) reply at knows so = nothing_made _ (polls_keeps k (record s { asks = asks; effect = None }) index)
+sitting_takes k trace s asks (Turns its) reply at knows so =
     let after : SessionState = own_turn_moved k (record s { asks = asks; effect = None }) reply in
     nothing_made _ (turn_keeps after its (own_turn_ask k.shape after.own_turn))
-sitting_takes k trace s asks StoresCut reply at knows update = Quietly [] tt
-sitting_takes k trace s asks Leaves reply at knows update =
+sitting_takes k trace s asks StoresCut reply at knows so = Quietly [] tt
+sitting_takes k trace s asks Leaves reply at knows so =
     nothing_made _ (leave_keeps (record s { asks = asks; effect = None; leaving = leave_next s.leaving }) (leave_ask k.number (leave_next s.leaving)))
-sitting_takes k trace s asks LoadsDurable reply at knows update = Quietly [] tt
+sitting_takes k trace s asks LoadsDurable reply at knows so = Quietly [] tt
 
 -- at every moment of a life
-pub life_takes : (opening : World) (start : ℕ) (events : List Event) (number : ℕ) (s : SessionState) (reply : ℕ) → IsOpened opening.now start → slice_get (run opening events).now.sessions number ≡ Some s → TriesUpdate s s.step
+pub life_takes : (opening : World) (start : ℕ) (events : List Event) (number : ℕ) (s : SessionState) (reply : ℕ) → IsOpened opening.now start → slice_get (run opening events).now.sessions number ≡ Some s
     → TakesItsEffect (seat_at (run opening events).now number) (run opening events).past.trace s reply
-life_takes opening start events number s reply opened found update =
+life_takes opening start events number s reply opened found =
     let k : Seat = seat_at (run opening events).now number in
-    sitting_takes k (run opening events).past.trace s (asks_after s.asks (is_word_ask (session_ask k s))) s.step reply refl ((life_shows opening start events opened).sessions number s found).sits.knows update
+    sitting_takes k (run opening events).past.trace s (asks_after s.asks (is_word_ask (session_ask k s))) s.step reply refl ((life_shows opening start events opened).sessions number s found).sits.knows (life_so opening start events number s opened found).sits
+
+-- a read's attempt makes none, and no update takes effect by its events
+read_takes : (k : Seat) (trace : List Traced) (s : SessionState) (asks : ℕ) (step : Sitting) (reply : ℕ) → AttemptsRead s step → StepIsSo s.attempt step
+    → AreQuiet (sitting_ghosts k trace s step reply) × ((sitting_next k (record s { asks = asks; effect = None }) step reply).effect ≡ None)
+unfolding sitting_next
+read_takes k trace s asks (Attempts has_shifted) reply reads so =
+    let after : SessionState = attempt_moved k (record s { asks = asks; effect = None }) reply in
+    (attempt_quiet k (read_in_hand k.number trace) s.attempt reply reads so.reads, called_keeps after has_shifted (attempt_ask k.places k.number after.attempt) ∙ read_none k s reply reads so)
+read_takes k trace s asks (Polls index) reply reads so =
+    let after : SessionState = attempt_moved k (record s { asks = asks; effect = None }) reply in
+    (attempt_quiet k (read_waiting k.number (ticket_of s.attempt.pending.name) trace) s.attempt reply reads so.reads, polled_keeps k after index (attempt_ask k.places k.number after.attempt) ∙ read_none k s reply reads so)
+read_takes k trace s asks step reply reads so = absurd reads
+
+pub life_reads : (opening : World) (start : ℕ) (events : List Event) (number : ℕ) (s : SessionState) (reply : ℕ) → IsOpened opening.now start → slice_get (run opening events).now.sessions number ≡ Some s → AttemptsRead s s.step
+    → TakesNoEffect (seat_at (run opening events).now number) (run opening events).past.trace s reply
+life_reads opening start events number s reply opened found reads =
+    let k : Seat = seat_at (run opening events).now number in
+    let its = read_takes k (run opening events).past.trace s (asks_after s.asks (is_word_ask (session_ask k s))) s.step reply reads (life_so opening start events number s opened found).sits in
+    record { quiet = its.0; none = its.1 }

@@ -279,7 +279,7 @@ walk_quiet : (p : Places) (reader : ℕ) (w : WalkState) (step : Walking) (reply
 walk_quiet p reader w Finds reply = find_quiet reader (find_next_ask p w.finding reply)
 walk_quiet p reader w step reply = tt
 
-search_quiet : (p : Places) (op : Op) (reader : ℕ) (w : WalkState) (reply : ℕ) → AreQuiet (search_ghosts p op reader w reply)
+pub search_quiet : (p : Places) (op : Op) (reader : ℕ) (w : WalkState) (reply : ℕ) → AreQuiet (search_ghosts p op reader w reply)
 search_quiet p (Read key) reader w reply = walk_quiet p reader w w.step reply
 search_quiet p op reader w reply = tt
 

@@ -1,10 +1,9 @@
 -- What takes effect by a step of a session, beside the log's events of that step.
-use Rattle.std.specs.Prelude.{◌≡◌, ⊤, ℕ, List, [], ◌∷◌, Option, Some, None, slice_get}
+use Rattle.std.specs.Prelude.{◌≡◌, ⊤, ℕ, true, List, [], ◌∷◌, Option, Some, None, slice_get}
 use Rattle.fkv_base.specs.declared.numbers.Version.{Version}
 use Rattle.fkv_map.specs.declared.history.HistoryEntry.{HistoryEntry}
 use Rattle.fkv_order.specs.Ghosts.{GhostEvent, Publishes, Changes}
-use Rattle.fkv_pending.specs.declared.pending_requests.RequestName.{RequestName}
-use Rattle.fkv_pending.specs.declared.pending_requests.RequestName.TheVariants.{Update, Read}
+use Rattle.fkv_ops.specs.Requests.{is_read}
 use Rattle.fkv_session.specs.declared.sessions.Sitting.{Sitting}
 use Rattle.fkv_session.specs.declared.sessions.Sitting.TheVariants.{Attempts, Polls}
 use Rattle.fkv_session.specs.Sessions.{SessionState, Seat, session_next}
@@ -32,22 +31,23 @@ pub data TakesEffect (reserved : Option Reservation) : List GhostEvent → Optio
   InPlace : (a : ℕ) (entry : HistoryEntry) → TakesEffect reserved (Changes a entry ∷ []) (Some entry)
   ByRecord : (its : Reservation) → reserved ≡ Some its → TakesEffect reserved (Publishes its.addr ∷ []) (Some its.entry)
 
--- what the session attempts, if it attempts a request, is named as an update
-abbrev pub IsUpdateName : RequestName → Type 0
-IsUpdateName (Update serial) = ⊤
-IsUpdateName (Read ticket) = ⊥
-
-abbrev pub TriesUpdate : SessionState → Sitting → Type 0
-TriesUpdate s (Attempts has_shifted) = IsUpdateName s.attempt.pending.name
-TriesUpdate s (Polls index) = IsUpdateName s.attempt.pending.name
-TriesUpdate s step = ⊤
-
 -- the effect that a reply to the session makes is what takes effect by the log's events of the step
 abbrev pub TakesItsEffect : Seat → List Traced → SessionState → ℕ → Type 0
 TakesItsEffect k trace s reply = TakesEffect (reserved_by k.number s) (sitting_ghosts k trace s s.step reply) (session_next k s reply).effect
 
+-- what the session attempts is a read
+abbrev pub AttemptsRead : SessionState → Sitting → Type 0
+AttemptsRead s (Attempts has_shifted) = is_read s.attempt.pending.request.op ≡ true
+AttemptsRead s (Polls index) = is_read s.attempt.pending.request.op ≡ true
+AttemptsRead s step = ⊥
+
+-- by a reply to it no update takes effect, and it makes none
+pub record TakesNoEffect (k : Seat) (trace : List Traced) (s : SessionState) (reply : ℕ) : Type 0 where
+  pub quiet : AreQuiet (sitting_ghosts k trace s s.step reply)
+  pub none : (session_next k s reply).effect ≡ None
+
 -- ---- of an event of a life
--- what the session that moves has reserved, and what it attempts
+-- what the session that moves has reserved
 abbrev pub mover_reserved : ℕ → Option SessionState → Option Reservation
 mover_reserved number None = None
 mover_reserved number (Some s) = reserved_by number s
@@ -55,14 +55,6 @@ mover_reserved number (Some s) = reserved_by number s
 abbrev pub reserved_before : Now → Event → Option Reservation
 reserved_before n (Moves number) = mover_reserved number (slice_get n.sessions number)
 reserved_before n event = None
-
-abbrev pub mover_tries : Option SessionState → Type 0
-mover_tries None = ⊤
-mover_tries (Some s) = TriesUpdate s s.step
-
-abbrev pub MoverTriesUpdate : Now → Event → Type 0
-MoverTriesUpdate n (Moves number) = mover_tries (slice_get n.sessions number)
-MoverTriesUpdate n event = ⊤
 
 -- from this history to that one: what takes effect by these events is put at its front, and where nothing does it stays
 pub record MakesEffect (before after : List Effect) (reserved : Option Reservation) (events : List GhostEvent) : Type 0 where
