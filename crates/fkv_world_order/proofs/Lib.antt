@@ -15,6 +15,7 @@ mod SessionEffects
 mod SessionSteps
 pub mod Shown
 mod Trace
+mod TryAppends
 mod TryEffects
 mod TrySteps
 mod Unborn

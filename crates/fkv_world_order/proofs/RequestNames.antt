@@ -1,4 +1,4 @@
--- A request of a session is named by its operation, and an attempt of a read tries as a read does.
+-- A request of a session is named by its operation, and its attempt tries it so: a read as a read does, and an update in its version.
 use Rattle.std.proofs.Common.{◌≡◌, ℕ, ◌+◌, ◌∙◌, zero, suc, List, [], ◌∷◌, ◌++◌, length, refl, ap, sym, subst, Bool, true, false, arith}
 use Rattle.std.specs.Prelude.{slice_get, slice_set, Option, Some, None, if◌then◌else◌, not, ◌==◌, ◌||◌, ⊤}
 use Rattle.std.specs.List.{remove}
@@ -65,55 +65,64 @@ use Rattle.fkv_world.proofs.Shown.{happens_session, no_session, session_apart}
 use Rattle.fkv_world_guard.specs.Shows as guard
 use Rattle.fkv_world_order.specs.Names.{is_read_name, IsNamedSo, AreNamedSo, AttemptsNamedSo, RequestsAreNamed}
 use Rattle.fkv_world_order.proofs.ReadTries.{IsReadTry, try_read, begun_read}
+use Rattle.fkv_world_order.proofs.TryAppends.{IsTryAt, begun_at, try_at}
 
 -- ---- an attempt
--- by its control state, with its try
-abbrev pub ReadsAt : TryState → Attempting → Type 0
-ReadsAt t Tries = IsReadTry t
-ReadsAt t step = ⊤
+-- the try of this request: a read's is one of a read, and what it appends is of the request's version
+pub record IsTryOf (pending : PendingRequest) (t : TryState) : Type 0 where
+  pub reads : is_read pending.request.op ≡ true → IsReadTry t
+  pub its_version : IsTryAt pending.request.version t
 
-abbrev pub IsReadAttempt : AttemptState → Type 0
-IsReadAttempt a = is_read a.pending.request.op ≡ true → ReadsAt a.trial a.step
+-- by the attempt's control state
+abbrev pub TriesAt : PendingRequest → TryState → Attempting → Type 0
+TriesAt pending t Tries = IsTryOf pending t
+TriesAt pending t step = ⊤
 
--- its request is named by its operation, and a read is tried as one
+abbrev pub TriesIts : AttemptState → Type 0
+TriesIts a = TriesAt a.pending a.trial a.step
+
+-- its request is named by its operation, and is tried so
 pub record IsAttemptSo (a : AttemptState) : Type 0 where
   pub named : IsNamedSo a.pending
-  pub reads : IsReadAttempt a
+  pub tries_so : TriesIts a
 
-either_reads : (c : Bool) (a b : AttemptState) → IsReadAttempt a → IsReadAttempt b → IsReadAttempt (if c then a else b)
-either_reads true a b one other = one
-either_reads false a b one other = other
+either_tries : (c : Bool) (a b : AttemptState) → TriesIts a → TriesIts b → TriesIts (if c then a else b)
+either_tries true a b one other = one
+either_tries false a b one other = other
 
-still_reads : (a : AttemptState) (step : Attempting) → a.step ≡ step → ReadsAt a.trial step → IsReadAttempt a
-still_reads a step at its = λ e. subst (ReadsAt a.trial) (sym at) its
+still_tries : (a : AttemptState) (step : Attempting) → a.step ≡ step → TriesAt a.pending a.trial step → TriesIts a
+still_tries a step at its = subst (TriesAt a.pending a.trial) (sym at) its
 
-puts_reads : (a : AttemptState) (sought : Option DiskRecord) → IsReadAttempt (puts_addr a sought)
-puts_reads a None = λ e. tt
-puts_reads a (Some sought) = λ e. tt
+puts_tries : (a : AttemptState) (sought : Option DiskRecord) → TriesIts (puts_addr a sought)
+puts_tries a None = tt
+puts_tries a (Some sought) = tt
 
-tries_reads : (p : Places) (bits : ℕ) (a : AttemptState) → IsReadAttempt (tries p bits a)
-tries_reads p bits a = λ e. begun_read p bits a.trial a.pending.request a.seen a.occasion a.spare e
+tries_anew : (p : Places) (bits : ℕ) (a : AttemptState) → TriesIts (tries p bits a)
+tries_anew p bits a = record {
+  reads = λ e. begun_read p bits a.trial a.pending.request a.seen a.occasion a.spare e;
+  its_version = begun_at p bits a.trial a.pending.request a.seen a.occasion a.spare;
+}
 
-read_on_reads : (a : AttemptState) (its : MailRecord) (said : HeaderSaid) → IsReadAttempt (read_on a its said)
-read_on_reads a its Spoiled = puts_reads a a.pending.sought
-read_on_reads a its (Says previous version) =
+read_on_tries : (a : AttemptState) (its : MailRecord) (said : HeaderSaid) → TriesIts (read_on a its said)
+read_on_tries a its Spoiled = puts_tries a a.pending.sought
+read_on_tries a its (Says previous version) =
     let next : AttemptState = record a { pending = with_sought a.pending (moved_on a.pending.sought previous) } in
-    either_reads (its.key.0 == (key_of a.pending.request.op).0) (attempt_ended a (told_value (value_of its.value))) (if previous.0 == 0 then attempt_ended a answer.Absent else puts next) (λ e. tt)
-    (either_reads (previous.0 == 0) (attempt_ended a answer.Absent) (puts next) (λ e. tt) (puts_reads next next.pending.sought))
+    either_tries (its.key.0 == (key_of a.pending.request.op).0) (attempt_ended a (told_value (value_of its.value))) (if previous.0 == 0 then attempt_ended a answer.Absent else puts next) (tt)
+    (either_tries (previous.0 == 0) (attempt_ended a answer.Absent) (puts next) (tt) (puts_tries next next.pending.sought))
 
-taken_reads : (p : Places) (bits : ℕ) (a : AttemptState) (its : MailRecord) (said : HeaderSaid) → IsReadAttempt (record_taken p bits a its said)
-taken_reads p bits a its said =
+taken_tries : (p : Places) (bits : ℕ) (a : AttemptState) (its : MailRecord) (said : HeaderSaid) → TriesIts (record_taken p bits a its said)
+taken_tries p bits a its said =
     let holds : AttemptState = record a { pending = with_held a.pending (held_of a.pending.sought its said) } in
-    either_reads (is_pending_read a) (read_on a its said) (tries p bits holds) (read_on_reads a its said) (tries_reads p bits holds)
+    either_tries (is_pending_read a) (read_on a its said) (tries p bits holds) (read_on_tries a its said) (tries_anew p bits holds)
 
-look_reads : (p : Places) (bits : ℕ) (a : AttemptState) (ask : Ask MailAnswer) → a.step ≡ Looks → IsReadAttempt (look_ledto p bits a ask)
+look_tries : (p : Places) (bits : ℕ) (a : AttemptState) (ask : Ask MailAnswer) → a.step ≡ Looks → TriesIts (look_ledto p bits a ask)
 unfolding look_ledto
-look_reads p bits a (Done (mail.Taken its)) at = taken_reads p bits (record a { is_emptied = true; pending = with_asked a.pending false }) its (header_said its.header)
-look_reads p bits a (Done other) at = either_reads (is_pending_read a) (waits_for_disk a) (tries p bits a) (λ e. tt) (tries_reads p bits a)
-look_reads p bits a ask at = still_reads a Looks at tt
+look_tries p bits a (Done (mail.Taken its)) at = taken_tries p bits (record a { is_emptied = true; pending = with_asked a.pending false }) its (header_said its.header)
+look_tries p bits a (Done other) at = either_tries (is_pending_read a) (waits_for_disk a) (tries p bits a) (tt) (tries_anew p bits a)
+look_tries p bits a ask at = still_tries a Looks at tt
 
-awaits_reads : (a : AttemptState) (sought : DiskRecord) → IsReadAttempt (awaits_record a sought)
-awaits_reads a sought = either_reads a.pending.has_asked (waits_for_disk its) (puts next) (λ e. tt) (puts_reads next next.pending.sought)
+awaits_tries : (a : AttemptState) (sought : DiskRecord) → TriesIts (awaits_record a sought)
+awaits_tries a sought = either_tries a.pending.has_asked (waits_for_disk its) (puts next) (tt) (puts_tries next next.pending.sought)
   where
     its : AttemptState
     its = record a { pending = with_held a.pending (held_kept a.pending.request.held sought.entry) }
@@ -121,36 +130,37 @@ awaits_reads a sought = either_reads a.pending.has_asked (waits_for_disk its) (p
     next : AttemptState
     next = record its { pending = with_sought its.pending (Some sought) }
 
-tried_reads : (a : AttemptState) (its : TryAnswer) → IsReadAttempt (tried a its)
-tried_reads a (answer.AwaitsDisk sought) = awaits_reads a sought
-tried_reads a (answer.Wait its) = λ e. tt
-tried_reads a its = λ e. tt
+tried_tries : (a : AttemptState) (its : TryAnswer) → TriesIts (tried a its)
+tried_tries a (answer.AwaitsDisk sought) = awaits_tries a sought
+tried_tries a (answer.Wait its) = tt
+tried_tries a its = tt
 
-led_reads : (a : AttemptState) (ask : Ask TryAnswer) → IsReadAttempt a → IsReadAttempt (try_ledto a ask)
+led_tries : (a : AttemptState) (ask : Ask TryAnswer) → TriesIts a → TriesIts (try_ledto a ask)
 unfolding try_ledto
-led_reads a (Done its) reads = tried_reads (record a { spare = a.trial.spare; pending = with_latch a.pending a.trial.has_shared }) its
-led_reads a ask reads = reads
+led_tries a (Done its) reads = tried_tries (record a { spare = a.trial.spare; pending = with_latch a.pending a.trial.has_shared }) its
+led_tries a ask reads = reads
 
-put_reads : (a : AttemptState) (ask : Ask MailAnswer) → a.step ≡ Puts → IsReadAttempt (put_ledto a ask)
+put_tries : (a : AttemptState) (ask : Ask MailAnswer) → a.step ≡ Puts → TriesIts (put_ledto a ask)
 unfolding put_ledto
-put_reads a (Done mail.Asked) at = λ e. tt
-put_reads a (Done other) at = λ e. tt
-put_reads a ask at = still_reads a Puts at tt
+put_tries a (Done mail.Asked) at = tt
+put_tries a (Done other) at = tt
+put_tries a ask at = still_tries a Puts at tt
 
 -- each reply to it
-attempting_reads : (p : Places) (bits room session : ℕ) (a : AttemptState) (step : Attempting) (reply : ℕ) → a.step ≡ step → IsReadAttempt a → IsReadAttempt (attempting_next p bits room session (record a { effect = None }) step reply)
+attempting_tries : (p : Places) (bits room session : ℕ) (a : AttemptState) (step : Attempting) (reply : ℕ) → a.step ≡ step → TriesIts a → TriesIts (attempting_next p bits room session (record a { effect = None }) step reply)
 unfolding attempting_next
-attempting_reads p bits room session a (Ended its) reply at reads = reads
-attempting_reads p bits room session a Looks reply at reads = look_reads p bits (mail_moved (record a { effect = None }) reply) (mail_ask session (mail_next a.mailing reply)) at
-attempting_reads p bits room session a Tries reply at reads =
+attempting_tries p bits room session a (Ended its) reply at reads = reads
+attempting_tries p bits room session a Looks reply at reads = look_tries p bits (mail_moved (record a { effect = None }) reply) (mail_ask session (mail_next a.mailing reply)) at
+attempting_tries p bits room session a Tries reply at reads =
     let its : AttemptState = try_moved p room (record a { effect = None }) reply in
-    led_reads its (try_ask p its.trial) (λ e. subst (ReadsAt its.trial) (sym at) (try_read p room a.trial reply (subst (ReadsAt a.trial) at (reads e))))
-attempting_reads p bits room session a Puts reply at reads = put_reads (mail_moved (record a { effect = None }) reply) (mail_ask session (mail_next a.mailing reply)) at
+    let so : IsTryOf a.pending a.trial = subst (TriesAt a.pending a.trial) at reads in
+    led_tries its (try_ask p its.trial) (still_tries its Tries at (record { reads = λ e. try_read p room a.trial reply (so.reads e); its_version = try_at p room a.pending.request.version a.trial reply so.its_version }))
+attempting_tries p bits room session a Puts reply at reads = put_tries (mail_moved (record a { effect = None }) reply) (mail_ask session (mail_next a.mailing reply)) at
 
 moved_so : (k : Seat) (a : AttemptState) (reply : ℕ) → IsAttemptSo a → IsAttemptSo (attempt_next k.places (bits_of k) (room_of k) k.number a reply)
 moved_so k a reply its =
     let same = attempt_keeps k.places (bits_of k) (room_of k) k.number a reply in
-    record { named = ap is_read_name same.name ∙ (its.named ∙ sym (ap is_read same.op)); reads = attempting_reads k.places (bits_of k) (room_of k) k.number a a.step reply refl its.reads }
+    record { named = ap is_read_name same.name ∙ (its.named ∙ sym (ap is_read same.op)); tries_so = attempting_tries k.places (bits_of k) (room_of k) k.number a a.step reply refl its.tries_so }
 
 -- and how it begins
 either_attempt : (c : Bool) (a b : AttemptState) → IsAttemptSo a → IsAttemptSo b → IsAttemptSo (if c then a else b)
@@ -158,15 +168,15 @@ either_attempt true a b one other = one
 either_attempt false a b one other = other
 
 puts_so : (a : AttemptState) (sought : Option DiskRecord) → IsNamedSo a.pending → IsAttemptSo (puts_addr a sought)
-puts_so a None named = record { named = named; reads = λ e. tt }
-puts_so a (Some sought) named = record { named = named; reads = λ e. tt }
+puts_so a None named = record { named = named; tries_so = tt }
+puts_so a (Some sought) named = record { named = named; tries_so = tt }
 
 begun_so : (p : Places) (bits : ℕ) (a : AttemptState) (pending : PendingRequest) (seen : Seen) (occasion : Occasion) (spare : ℕ) (is_orphaned : Bool) → IsNamedSo pending
     → IsAttemptSo (attempt_begun p bits a pending seen occasion spare is_orphaned)
 begun_so p bits a pending seen occasion spare is_orphaned named =
     let its : AttemptState = record a { pending = pending; seen = seen; occasion = occasion; spare = spare; is_orphaned = is_orphaned; is_emptied = false; effect = None } in
-    either_attempt pending.has_asked _ (goes_on p bits its) (record { named = named; reads = λ e. tt })
-    (either_attempt (is_pending_read its) (puts its) (tries p bits its) (puts_so its its.pending.sought named) (record { named = named; reads = tries_reads p bits its }))
+    either_attempt pending.has_asked _ (goes_on p bits its) (record { named = named; tries_so = tt })
+    (either_attempt (is_pending_read its) (puts its) (tries p bits its) (puts_so its its.pending.sought named) (record { named = named; tries_so = tries_anew p bits its }))
 
 -- ---- the requests that wait
 one_more : (requests : List PendingRequest) (pending : PendingRequest) → AreNamedSo requests → IsNamedSo pending → AreNamedSo (requests ++ pending ∷ [])

@@ -3,6 +3,7 @@ use Rattle.std.proofs.Common.{◌≡◌, ℕ, ◌+◌, ◌∙◌, refl, sym, ap,
 use Rattle.std.specs.Prelude.{◌||◌, if◌then◌else◌, Option, Some, None, slice_get, slice_set}
 use Rattle.fkv_plane.specs.declared.asks.Ask.{Ask}
 use Rattle.fkv_plane.specs.declared.asks.Ask.TheVariants.{Done}
+use Rattle.fkv_plane.specs.Passing.{passed}
 use Rattle.fkv_epoch.specs.Leaving.{leave_ask, leave_next}
 use Rattle.fkv_ops.specs.declared.answers.Reason.{Reason}
 use Rattle.fkv_ops.specs.declared.answers.Reason.TheVariants as reason
@@ -23,7 +24,7 @@ use Rattle.fkv_session.specs.declared.sessions.Sitting.{Sitting}
 use Rattle.fkv_session.specs.declared.sessions.Sitting.TheVariants.{Idle, Attempts, CatchesUp, ClearsMail, Polls, StoresOwing, Turns, StoresCut, Leaves, LoadsDurable}
 use Rattle.fkv_session.specs.CatchingUp.{catch_ask}
 use Rattle.fkv_session.specs.OwnTurns.{own_turn_ask, own_turn_begun}
-use Rattle.fkv_session.specs.Sessions.{SessionState, Seat, bits_of, room_of, session_ask, answers, answers_after_turn, attempts, polls_request, polls_at, update_done, is_no_room, with_request, serial_taken, ticket_after, accepts, shifts, attempted, attempt_left, attempt_ledto, caught_up, catch_ledto, clear_ledto, is_finished, is_owed, request_finished, finishes_request, lacks_room, keeps_request, poll_ledto, turn_ledto, leave_ledto, attempt_moved, caught, own_turn_moved, sitting_next, is_word_ask, asks_after, entry_of}
+use Rattle.fkv_session.specs.Sessions.{SessionState, Seat, bits_of, room_of, sitting_ask, session_ask, answers, answers_after_turn, attempts, polls_request, polls_at, update_done, is_no_room, with_request, serial_taken, ticket_after, accepts, shifts, attempted, attempt_left, attempt_ledto, caught_up, catch_ledto, clear_ledto, is_finished, is_owed, request_finished, finishes_request, lacks_room, keeps_request, poll_ledto, turn_ledto, leave_ledto, attempt_moved, caught, own_turn_moved, sitting_next, is_word_ask, asks_after, entry_of}
 use Rattle.fkv_world.specs.Past.{Traced}
 use Rattle.fkv_world.specs.Runs.{World, run}
 use Rattle.fkv_world.specs.World.{Event, seat_at}
@@ -39,14 +40,14 @@ use Rattle.fkv_pending.specs.declared.pending_requests.RequestName.{RequestName}
 use Rattle.fkv_pending.specs.declared.pending_requests.RequestName.TheVariants.{Update, Read}
 use Rattle.fkv_session.proofs.Shown.{IsSameRequest, attempt_keeps}
 use Rattle.fkv_world_order.specs.Appends.{serial_of}
-use Rattle.fkv_world_order.specs.Effects.{AreQuiet, TakesEffect, Quietly, TakesItsEffect, AttemptsRead, TakesNoEffect}
+use Rattle.fkv_world_order.specs.Effects.{AreQuiet, Stepped, stepped, TakesEffect, Quietly, TakesItsEffect, AttemptsRead, TakesNoEffect}
 use Rattle.fkv_world_order.specs.Names.{is_read_name}
 use Rattle.fkv_world_order.specs.Reservations.{attempt_reserves}
 use Rattle.fkv_world_order.specs.Reserved.{sitting_reserves}
 use Rattle.fkv_world_order.specs.Sessions.{attempt_ghosts, ticket_of, sitting_ghosts}
 use Rattle.fkv_world_order.proofs.AttemptEffects.{attempt_quiet, attempt_takes}
 use Rattle.fkv_world_order.proofs.RequestNames.{IsAttemptSo, StepIsSo, life_so}
-use Rattle.fkv_world_order.proofs.TryEffects.{made_entry}
+use Rattle.fkv_world_order.proofs.TryEffects.{made_entry, passes_on}
 
 -- ---- where a session goes on, or its call is answered, what it has told as its effect stays
 either_keeps : (c : Bool) (a b : SessionState) (made : Option HistoryEntry) → a.effect ≡ made → b.effect ≡ made → (if c then a else b).effect ≡ made
@@ -151,7 +152,7 @@ rests_polled : (s : SessionState) (index : ℕ) → s.step ≡ Polls index → S
 rests_polled s index at knows = subst (SittingKnows s) at knows
 
 attempt_makes : (k : Seat) (reader : ℕ) (s : SessionState) (reply : ℕ) (made : Option HistoryEntry) → AttemptRestsOrAsks s.attempt → IsAttemptSo s.attempt → made ≡ (attempt_moved k s reply).effect
-    → TakesEffect (attempt_reserves k.number s.attempt s.attempt.step) (attempt_ghosts k reader s.attempt reply) made
+    → TakesEffect (stepped k.places s.attempt.pending.request.version (attempt_reserves k.number s.attempt s.attempt.step) (passed (attempt_ask k.places k.number s.attempt) told.Slept) reply) (attempt_ghosts k reader s.attempt reply) made
 attempt_makes k reader s reply made rests so e = by_name s.attempt.pending.name refl
   where
     after : AttemptState
@@ -163,13 +164,13 @@ attempt_makes k reader s reply made rests so e = by_name s.attempt.pending.name 
     named : (name : RequestName) → s.attempt.pending.name ≡ name → made ≡ entry_of k.number after.pending name after.effect
     named name at = e ∙ ap (λ (n : RequestName). entry_of k.number after.pending n after.effect) (same.name ∙ at)
 
-    by_name : (name : RequestName) → s.attempt.pending.name ≡ name → TakesEffect (attempt_reserves k.number s.attempt s.attempt.step) (attempt_ghosts k reader s.attempt reply) made
+    by_name : (name : RequestName) → s.attempt.pending.name ≡ name → TakesEffect (stepped k.places s.attempt.pending.request.version (attempt_reserves k.number s.attempt s.attempt.step) (passed (attempt_ask k.places k.number s.attempt) told.Slept) reply) (attempt_ghosts k reader s.attempt reply) made
     by_name (Update serial) at =
-        subst (λ (x : Option HistoryEntry). TakesEffect (attempt_reserves k.number s.attempt s.attempt.step) (attempt_ghosts k reader s.attempt reply) x)
-        (sym (named (Update serial) at ∙ update_entry k.number after.pending s.attempt.pending serial after.effect at same.op)) (attempt_takes k reader s.attempt reply rests)
+        subst (λ (x : Option HistoryEntry). TakesEffect (stepped k.places s.attempt.pending.request.version (attempt_reserves k.number s.attempt s.attempt.step) (passed (attempt_ask k.places k.number s.attempt) told.Slept) reply) (attempt_ghosts k reader s.attempt reply) x)
+        (sym (named (Update serial) at ∙ update_entry k.number after.pending s.attempt.pending serial after.effect at same.op)) (passes_on k.places s.attempt.pending.request.version _ (attempt_ask k.places k.number s.attempt) told.Slept reply _ _ (attempt_takes k reader s.attempt reply rests so.tries_so))
     by_name (Read ticket) at =
-        subst (λ (x : Option HistoryEntry). TakesEffect (attempt_reserves k.number s.attempt s.attempt.step) (attempt_ghosts k reader s.attempt reply) x) (sym (named (Read ticket) at))
-        (Quietly (attempt_ghosts k reader s.attempt reply) (attempt_quiet k reader s.attempt reply (sym so.named ∙ ap is_read_name at) so.reads))
+        subst (λ (x : Option HistoryEntry). TakesEffect (stepped k.places s.attempt.pending.request.version (attempt_reserves k.number s.attempt s.attempt.step) (passed (attempt_ask k.places k.number s.attempt) told.Slept) reply) (attempt_ghosts k reader s.attempt reply) x) (sym (named (Read ticket) at))
+        (Quietly (attempt_ghosts k reader s.attempt reply) (attempt_quiet k reader s.attempt reply (sym so.named ∙ ap is_read_name at) so.tries_so))
 
 -- a read makes none
 read_none : (k : Seat) (s : SessionState) (reply : ℕ) → is_read s.attempt.pending.request.op ≡ true → IsAttemptSo s.attempt → (attempt_moved k s reply).effect ≡ None
@@ -185,12 +186,12 @@ read_none k s reply reads so = by_name after.pending.name (ap is_read_name same.
     by_name (Update serial) e = cc
     by_name (Read ticket) e = refl
 
-nothing_made : (made : Option HistoryEntry) → made ≡ None → TakesEffect None [] made
-nothing_made made none = rw none (Quietly [] tt)
+nothing_made : (its_step : Stepped) (made : Option HistoryEntry) → made ≡ None → TakesEffect its_step [] made
+nothing_made its_step made none = rw none (Quietly [] tt)
 
 sitting_takes : (k : Seat) (trace : List Traced) (s : SessionState) (asks : ℕ) (step : Sitting) (reply : ℕ) → s.step ≡ step → SittingKnows s s.step → StepIsSo s.attempt step
-    → TakesEffect (sitting_reserves k.number s step) (sitting_ghosts k trace s step reply) (sitting_next k (record s { asks = asks; effect = None }) step reply).effect
-unfolding sitting_next
+    → TakesEffect (stepped k.places s.attempt.pending.request.version (sitting_reserves k.number s step) (sitting_ask k s step) reply) (sitting_ghosts k trace s step reply) (sitting_next k (record s { asks = asks; effect = None }) step reply).effect
+unfolding sitting_next sitting_ask
 sitting_takes k trace s asks (Idle its) reply at knows so = Quietly [] tt
 sitting_takes k trace s asks (Attempts has_shifted) reply at knows so =
     let after : SessionState = attempt_moved k (record s { asks = asks; effect = None }) reply in
@@ -200,16 +201,16 @@ sitting_takes k trace s asks (Polls index) reply at knows so =
     attempt_makes k (read_waiting k.number (ticket_of s.attempt.pending.name) trace) s reply _ (rests_polled s index at knows) so (polled_keeps k after index (attempt_ask k.places k.number after.attempt))
 sitting_takes k trace s asks (CatchesUp its) reply at knows so =
     let after : SessionState = caught k (record s { asks = asks; effect = None }) reply in
-    nothing_made _ (catch_keeps k after its (catch_ask k.places k.number after.catching after.requests))
+    nothing_made _ _ (catch_keeps k after its (catch_ask k.places k.number after.catching after.requests))
 sitting_takes k trace s asks ClearsMail reply at knows so =
-    nothing_made _ (clear_keeps k (record s { asks = asks; effect = None; mailing = mail_next s.mailing reply }) (mail_ask k.number (mail_next s.mailing reply)))
-sitting_takes k trace s asks (StoresOwing index) reply at knows so = nothing_made _ (polls_keeps k (record s { asks = asks; effect = None }) index)
+    nothing_made _ _ (clear_keeps k (record s { asks = asks; effect = None; mailing = mail_next s.mailing reply }) (mail_ask k.number (mail_next s.mailing reply)))
+sitting_takes k trace s asks (StoresOwing index) reply at knows so = nothing_made _ _ (polls_keeps k (record s { asks = asks; effect = None }) index)
 sitting_takes k trace s asks (Turns its) reply at knows so =
     let after : SessionState = own_turn_moved k (record s { asks = asks; effect = None }) reply in
-    nothing_made _ (turn_keeps after its (own_turn_ask k.shape after.own_turn))
+    nothing_made _ _ (turn_keeps after its (own_turn_ask k.shape after.own_turn))
 sitting_takes k trace s asks StoresCut reply at knows so = Quietly [] tt
 sitting_takes k trace s asks Leaves reply at knows so =
-    nothing_made _ (leave_keeps (record s { asks = asks; effect = None; leaving = leave_next s.leaving }) (leave_ask k.number (leave_next s.leaving)))
+    nothing_made _ _ (leave_keeps (record s { asks = asks; effect = None; leaving = leave_next s.leaving }) (leave_ask k.number (leave_next s.leaving)))
 sitting_takes k trace s asks LoadsDurable reply at knows so = Quietly [] tt
 
 -- at every moment of a life
@@ -225,10 +226,10 @@ read_takes : (k : Seat) (trace : List Traced) (s : SessionState) (asks : ℕ) (s
 unfolding sitting_next
 read_takes k trace s asks (Attempts has_shifted) reply reads so =
     let after : SessionState = attempt_moved k (record s { asks = asks; effect = None }) reply in
-    (attempt_quiet k (read_in_hand k.number trace) s.attempt reply reads so.reads, called_keeps after has_shifted (attempt_ask k.places k.number after.attempt) ∙ read_none k s reply reads so)
+    (attempt_quiet k (read_in_hand k.number trace) s.attempt reply reads so.tries_so, called_keeps after has_shifted (attempt_ask k.places k.number after.attempt) ∙ read_none k s reply reads so)
 read_takes k trace s asks (Polls index) reply reads so =
     let after : SessionState = attempt_moved k (record s { asks = asks; effect = None }) reply in
-    (attempt_quiet k (read_waiting k.number (ticket_of s.attempt.pending.name) trace) s.attempt reply reads so.reads, polled_keeps k after index (attempt_ask k.places k.number after.attempt) ∙ read_none k s reply reads so)
+    (attempt_quiet k (read_waiting k.number (ticket_of s.attempt.pending.name) trace) s.attempt reply reads so.tries_so, polled_keeps k after index (attempt_ask k.places k.number after.attempt) ∙ read_none k s reply reads so)
 read_takes k trace s asks step reply reads so = absurd reads
 
 pub life_reads : (opening : World) (start : ℕ) (events : List Event) (number : ℕ) (s : SessionState) (reply : ℕ) → IsOpened opening.now start → slice_get (run opening events).now.sessions number ≡ Some s → AttemptsRead s s.step

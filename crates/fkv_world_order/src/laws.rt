@@ -8,7 +8,7 @@ ghost use Rattle.fkv_world.specs.Opened.{IsOpenedWorld};
 ghost use Rattle.fkv_world.specs.Runs.{World, happens, run};
 ghost use Rattle.fkv_world.specs.World.{Event, seat_at};
 ghost use Rattle.fkv_world_guard.specs.Shows as guard;
-ghost use Rattle.fkv_world_order.specs.Effects.{AttemptsRead, MakesEffect, TakesItsEffect, TakesNoEffect, reserved_before};
+ghost use Rattle.fkv_world_order.specs.Effects.{AttemptsRead, MakesEffect, TakesItsEffect, TakesNoEffect, step_at};
 ghost use Rattle.fkv_world_order.specs.GhostEvents.{ghost_events, home_in, life_ghosts, mapped, safe_at, serials_in};
 ghost use Rattle.fkv_world_order.specs.Lines.{lines_of};
 ghost use Rattle.fkv_world_order.specs.Names.{RequestsAreNamed};
@@ -71,15 +71,16 @@ pub fn law_ghost_reserved()
 
 /// At every moment of such a life, whatever the next reply to a session is: the effect that it makes is what takes effect by the log's events of
 /// that step. It is nothing where they neither change nor publish a record; the update that changes one in place, with its session, serial,
-/// operation and reply; or the one for which the session has reserved the record that is published. And each event of such a life puts that
-/// effect at the front of the life's history, or leaves it. By an attempt of a read nothing takes effect; and a request is named by its operation,
-/// a read by a ticket and an update by its serial.
+/// operation and reply, at the address of the value word that the step asks for; or the one for which the session has reserved the record that is
+/// published: of the request's version, and by a word that carries its address. And each event of such a life puts that effect at the front of the
+/// life's history, in the version of the request, or leaves it. By an attempt of a read nothing takes effect; and a request is named by its
+/// operation, a read by a ticket and an update by its serial.
 pub fn law_ghost_effects()
     ensures steps { (opening : World) (start : ℕ) (events : List Event) (session reply : ℕ) (its : SessionState) → guard.IsOpened opening.now start
         → slice_get (run opening events).now.sessions session ≡ Some its
         → TakesItsEffect (seat_at (run opening events).now session) (run opening events).past.trace its reply }
     ensures events { (opening : World) (start : ℕ) (events : List Event) (event : Event) → guard.IsOpened opening.now start
-        → MakesEffect (run opening events).past.history (happens (run opening events) event).past.history (reserved_before (run opening events).now event) (ghost_events (serials_in opening.now) (run opening events) event) }
+        → MakesEffect (run opening events).past.history (happens (run opening events) event).past.history (step_at (run opening events).now event) (ghost_events (serials_in opening.now) (run opening events) event) }
     ensures reads { (opening : World) (start : ℕ) (events : List Event) (session reply : ℕ) (its : SessionState) → guard.IsOpened opening.now start
         → slice_get (run opening events).now.sessions session ≡ Some its → AttemptsRead its its.step
         → TakesNoEffect (seat_at (run opening events).now session) (run opening events).past.trace its reply }
