@@ -107,8 +107,8 @@ read_on_tries : (a : AttemptState) (its : MailRecord) (said : HeaderSaid) → Tr
 read_on_tries a its Spoiled = puts_tries a a.pending.sought
 read_on_tries a its (Says previous version) =
     let next : AttemptState = record a { pending = with_sought a.pending (moved_on a.pending.sought previous) } in
-    either_tries (its.key.0 == (key_of a.pending.request.op).0) (attempt_ended a (told_value (value_of its.value))) (if previous.0 == 0 then attempt_ended a answer.Absent else puts next) (tt)
-    (either_tries (previous.0 == 0) (attempt_ended a answer.Absent) (puts next) (tt) (puts_tries next next.pending.sought))
+    either_tries (its.key.0 == (key_of a.pending.request.op).0) (attempt_ended a (told_value (value_of its.value))) (if previous.0 == 0 then attempt_ended a answer.Absent else puts next) tt
+    (either_tries (previous.0 == 0) (attempt_ended a answer.Absent) (puts next) tt (puts_tries next next.pending.sought))
 
 taken_tries : (p : Places) (bits : ℕ) (a : AttemptState) (its : MailRecord) (said : HeaderSaid) → TriesIts (record_taken p bits a its said)
 taken_tries p bits a its said =
@@ -118,11 +118,11 @@ taken_tries p bits a its said =
 look_tries : (p : Places) (bits : ℕ) (a : AttemptState) (ask : Ask MailAnswer) → a.step ≡ Looks → TriesIts (look_ledto p bits a ask)
 unfolding look_ledto
 look_tries p bits a (Done (mail.Taken its)) at = taken_tries p bits (record a { is_emptied = true; pending = with_asked a.pending false }) its (header_said its.header)
-look_tries p bits a (Done other) at = either_tries (is_pending_read a) (waits_for_disk a) (tries p bits a) (tt) (tries_anew p bits a)
+look_tries p bits a (Done other) at = either_tries (is_pending_read a) (waits_for_disk a) (tries p bits a) tt (tries_anew p bits a)
 look_tries p bits a ask at = still_tries a Looks at tt
 
 awaits_tries : (a : AttemptState) (sought : DiskRecord) → TriesIts (awaits_record a sought)
-awaits_tries a sought = either_tries a.pending.has_asked (waits_for_disk its) (puts next) (tt) (puts_tries next next.pending.sought)
+awaits_tries a sought = either_tries a.pending.has_asked (waits_for_disk its) (puts next) tt (puts_tries next next.pending.sought)
   where
     its : AttemptState
     its = record a { pending = with_held a.pending (held_kept a.pending.request.held sought.entry) }
@@ -137,8 +137,8 @@ tried_tries a its = tt
 
 led_tries : (a : AttemptState) (ask : Ask TryAnswer) → TriesIts a → TriesIts (try_ledto a ask)
 unfolding try_ledto
-led_tries a (Done its) reads = tried_tries (record a { spare = a.trial.spare; pending = with_latch a.pending a.trial.has_shared }) its
-led_tries a ask reads = reads
+led_tries a (Done its) so = tried_tries (record a { spare = a.trial.spare; pending = with_latch a.pending a.trial.has_shared }) its
+led_tries a ask so = so
 
 put_tries : (a : AttemptState) (ask : Ask MailAnswer) → a.step ≡ Puts → TriesIts (put_ledto a ask)
 unfolding put_ledto
@@ -149,13 +149,13 @@ put_tries a ask at = still_tries a Puts at tt
 -- each reply to it
 attempting_tries : (p : Places) (bits room session : ℕ) (a : AttemptState) (step : Attempting) (reply : ℕ) → a.step ≡ step → TriesIts a → TriesIts (attempting_next p bits room session (record a { effect = None }) step reply)
 unfolding attempting_next
-attempting_tries p bits room session a (Ended its) reply at reads = reads
-attempting_tries p bits room session a Looks reply at reads = look_tries p bits (mail_moved (record a { effect = None }) reply) (mail_ask session (mail_next a.mailing reply)) at
-attempting_tries p bits room session a Tries reply at reads =
+attempting_tries p bits room session a (Ended its) reply at so = so
+attempting_tries p bits room session a Looks reply at so = look_tries p bits (mail_moved (record a { effect = None }) reply) (mail_ask session (mail_next a.mailing reply)) at
+attempting_tries p bits room session a Tries reply at tries_so =
     let its : AttemptState = try_moved p room (record a { effect = None }) reply in
-    let so : IsTryOf a.pending a.trial = subst (TriesAt a.pending a.trial) at reads in
+    let so : IsTryOf a.pending a.trial = subst (TriesAt a.pending a.trial) at tries_so in
     led_tries its (try_ask p its.trial) (still_tries its Tries at (record { reads = λ e. try_read p room a.trial reply (so.reads e); its_version = try_at p room a.pending.request.version a.trial reply so.its_version }))
-attempting_tries p bits room session a Puts reply at reads = put_tries (mail_moved (record a { effect = None }) reply) (mail_ask session (mail_next a.mailing reply)) at
+attempting_tries p bits room session a Puts reply at so = put_tries (mail_moved (record a { effect = None }) reply) (mail_ask session (mail_next a.mailing reply)) at
 
 moved_so : (k : Seat) (a : AttemptState) (reply : ℕ) → IsAttemptSo a → IsAttemptSo (attempt_next k.places (bits_of k) (room_of k) k.number a reply)
 moved_so k a reply its =

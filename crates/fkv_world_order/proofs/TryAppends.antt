@@ -1,4 +1,4 @@
--- What a try appends is of its request's version, and is published by a word that carries the address which it has reserved.
+-- What a try appends is of its request's version, and is published by a word that carries the address which it has reserved, behind the record that was found.
 use Rattle.std.proofs.Common.{◌≡◌, ℕ, ◌^◌, ◌<◌, arith, refl, sym, subst, Bool, true, false}
 use Rattle.std.specs.Prelude.{◌==◌, ◌&&◌, not, nat_le, nat_lt, if◌then◌else◌, ⊤, Option, Some, None}
 use Rattle.std.proofs.lemmas.Bool.Decides.{nat_tests}
@@ -22,7 +22,7 @@ use Rattle.fkv_latch.specs.declared.latching.LatchAnswer.TheVariants as latch
 use Rattle.fkv_latch.specs.declared.latching.LatchTask.TheVariants.{TakeShared, DropShared, TakeExclusive, DropExclusive}
 use Rattle.fkv_index.specs.IndexWorld.{new_entry}
 use Rattle.fkv_index.specs.Publishing.{publish_next, publish_next_ask}
-use Rattle.fkv_index.specs.Slots.{home_of}
+use Rattle.fkv_index.specs.Slots.{entry_addr, home_of}
 use Rattle.fkv_index.specs.declared.publishing.PublishAnswer.TheVariants as publish
 use Rattle.fkv_index.specs.declared.publishing.Publishing.{Publishing}
 use Rattle.fkv_index.specs.declared.publishing.Publishing.TheVariants.{AtRest, SwapsEntry}
@@ -56,19 +56,22 @@ HoldsAt a (appending.Fills addr) = addr.0 < 2 ^ 48
 HoldsAt a (appending.Publishes addr) = (addr.0 < 2 ^ 48) × (a.publishing ≡ SwapsEntry a.slot.place a.slot.entry (new_entry addr.0 a.slot.tag))
 HoldsAt a step = ⊤
 
--- and its words are of this version
+-- its words are of this version, and the record before is the one that the entry names which was found
+abbrev pub WordsAre : Version → AppendState → Type 0
+WordsAre version a = (a.its_words.header.version ≡ version) × (a.its_words.header.previous.0 ≡ entry_addr a.slot.entry)
+
 pub record IsAppendOf (version : Version) (a : AppendState) : Type 0 where
-  pub same : a.its_words.header.version ≡ version
+  pub same : WordsAre version a
   pub holds : HoldsAt a a.step
 
-still : (version : Version) (a : AppendState) (step : Appending) → a.step ≡ step → a.its_words.header.version ≡ version → HoldsAt a step → IsAppendOf version a
+still : (version : Version) (a : AppendState) (step : Appending) → a.step ≡ step → WordsAre version a → HoldsAt a step → IsAppendOf version a
 still version a step at same its = record { same = same; holds = subst (HoldsAt a) (sym at) its }
 
 both_second : (b c : Bool) → (b && c) ≡ true → c ≡ true
 both_second true c e = e
 both_second false c e = cc
 
-reserved_of : (version : Version) (a : AppendState) (ask : Ask ReserveAnswer) → a.step ≡ appending.Reserves → a.its_words.header.version ≡ version → IsAppendOf version (reserve_ledto a ask)
+reserved_of : (version : Version) (a : AppendState) (ask : Ask ReserveAnswer) → a.step ≡ appending.Reserves → WordsAre version a → IsAppendOf version (reserve_ledto a ask)
 unfolding reserve_ledto
 reserved_of version a (Done (reserve.Reserved addr)) at same = by_test (nat_lt a.its_words.header.previous.0 addr.0 && nat_lt addr.0 (2 ^ 48)) refl
   where
@@ -84,12 +87,12 @@ reserved_of version a (Done reserve.NoRoom) at same = record { same = same; hold
 reserved_of version a (Done reserve.Contended) at same = record { same = same; holds = tt }
 reserved_of version a ask at same = still version a appending.Reserves at same tt
 
-filled_of : (version : Version) (a : AppendState) (addr : Addr) (ask : Ask (Unit {0})) → a.step ≡ appending.Fills addr → addr.0 < 2 ^ 48 → a.its_words.header.version ≡ version → IsAppendOf version (fill_ledto a addr ask)
+filled_of : (version : Version) (a : AppendState) (addr : Addr) (ask : Ask (Unit {0})) → a.step ≡ appending.Fills addr → addr.0 < 2 ^ 48 → WordsAre version a → IsAppendOf version (fill_ledto a addr ask)
 unfolding fill_ledto
 filled_of version a addr (Done told) at fits same = record { same = same; holds = (fits, refl) }
 filled_of version a addr ask at fits same = still version a (appending.Fills addr) at same fits
 
-published_of : (version : Version) (a : AppendState) (addr : Addr) (its : Publishing) (reply : ℕ) → a.its_words.header.version ≡ version
+published_of : (version : Version) (a : AppendState) (addr : Addr) (its : Publishing) (reply : ℕ) → WordsAre version a
     → IsAppendOf version (publish_ledto (record a { publishing = publish_next its reply }) addr (publish_next_ask its reply))
 unfolding publish_ledto publish_next publish_next_ask
 published_of version a addr AtRest reply same = record { same = same; holds = tt }
@@ -99,12 +102,12 @@ published_of version a addr (SwapsEntry place word entry) reply same = by_test (
     by_test true = record { same = same; holds = tt }
     by_test false = record { same = same; holds = tt }
 
-invalidated_of : (version : Version) (a : AppendState) (ask : Ask (Unit {0})) → a.step ≡ appending.Invalidates → a.its_words.header.version ≡ version → IsAppendOf version (invalidate_ledto a ask)
+invalidated_of : (version : Version) (a : AppendState) (ask : Ask (Unit {0})) → a.step ≡ appending.Invalidates → WordsAre version a → IsAppendOf version (invalidate_ledto a ask)
 unfolding invalidate_ledto
 invalidated_of version a (Done told) at same = record { same = same; holds = tt }
 invalidated_of version a ask at same = still version a appending.Invalidates at same tt
 
-appending_of : (p : Places) (room : ℕ) (version : Version) (a : AppendState) (step : Appending) (reply : ℕ) → a.step ≡ step → HoldsAt a step → a.its_words.header.version ≡ version → IsAppendOf version (appending_next p room a step reply)
+appending_of : (p : Places) (room : ℕ) (version : Version) (a : AppendState) (step : Appending) (reply : ℕ) → a.step ≡ step → HoldsAt a step → WordsAre version a → IsAppendOf version (appending_next p room a step reply)
 unfolding appending_next
 appending_of p room version a (appending.Ended told) reply at holds same = still version a (appending.Ended told) at same tt
 appending_of p room version a appending.Reserves reply at holds same = reserved_of version (record a { reserving = reserve_next a.reserving reply }) (reserve_next_ask room a.reserving reply) at same
@@ -139,7 +142,7 @@ takes_at p version t its e = ends_at p version (record t { effect = Some its }) 
 
 appends_at : (version : Version) (t : TryState) (old : ℕ) → t.request.version ≡ version → IsTryAt version (appends t old)
 unfolding appends
-appends_at version t old e = record { same = e; appends_so = record { same = e; holds = tt } }
+appends_at version t old e = record { same = e; appends_so = record { same = (e, refl); holds = tt } }
 
 from_at : (version : Version) (t : TryState) (old : OldValue) → t.request.version ≡ version → IsTryAt version (copies_from t old)
 unfolding copies_from

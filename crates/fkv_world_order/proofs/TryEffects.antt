@@ -1,6 +1,7 @@
 -- The effect of a reply to a try is what takes effect by the log's events of the step.
 use Rattle.std.proofs.Common.{◌≡◌, ℕ, ◌<◌, ◌∙◌, arith, refl, sym, ap, subst, Bool, true, false, List, [], ◌∷◌}
 use Rattle.std.specs.Prelude.{◌==◌, ◌&&◌, not, nat_le, if◌then◌else◌, Option, Some, None, nat_lt, ◌^◌}
+use Rattle.std.proofs.lemmas.Bool.Decides.{nat_tests}
 use Rattle.fkv_base.specs.declared.numbers.Addr.{Addr}
 use Rattle.fkv_base.specs.declared.numbers.Version.{Version}
 use Rattle.fkv_map.specs.declared.history.HistoryEntry.{HistoryEntry}
@@ -66,7 +67,7 @@ use Rattle.fkv_index.specs.Slots.{entry_addr}
 use Rattle.fkv_world_order.specs.Appends.{cell_of, entry_made, is_for_entry, reserved_ghosts, publish_ghosts, invalidate_ghosts, append_ghosts}
 use Rattle.fkv_world_order.specs.Effects.{AreQuiet, Stepped, stepped, TakesEffect, Quietly, InPlace, ByRecord}
 use Rattle.fkv_world_order.specs.Reservations.{Reservation, reservation, append_reserves, try_reserves}
-use Rattle.fkv_world_order.proofs.TryAppends.{HoldsAt, AppendsAt, IsTryAt}
+use Rattle.fkv_world_order.proofs.TryAppends.{HoldsAt, WordsAre, AppendsAt, IsTryAt}
 use Rattle.fkv_world_order.specs.Tries.{found_ghosts, find_ghosts, walk_ghosts, search_ghosts, try_ghosts}
 
 -- the entry of an effect with this reply
@@ -144,28 +145,31 @@ new_addr : (addr tag : ℕ) → addr < 2 ^ 48 → entry_addr (new_entry addr tag
 new_addr addr tag low = omega (arith, low)
 
 -- the Cas that publishes it
-publish_takes : (p : Places) (a : AppendState) (session : ℕ) (pending : PendingRequest) (its : Reply) (addr : Addr) (place word tag reply : ℕ) → addr.0 < 2 ^ 48 → a.its_words.header.version ≡ pending.request.version
+publish_takes : (p : Places) (a : AppendState) (session : ℕ) (pending : PendingRequest) (its : Reply) (addr : Addr) (place word tag reply : ℕ) → addr.0 < 2 ^ 48 → a.its_words.header.version ≡ pending.request.version → a.its_words.header.previous.0 ≡ entry_addr word
     → TakesEffect (stepped {A = PublishAnswer} p pending.request.version (Some (reservation a (entry_made session pending its) addr.0)) (Cas place word (new_entry addr.0 tag)) reply) (publish_ghosts addr.0 (Done (published_where word reply)))
     (made_entry session pending (published_reply its (append_ask p (publish_ledto (record a { publishing = AtRest }) addr (Done (published_where word reply))))))
 unfolding publish_ledto appending_ask
-publish_takes p a session pending its addr place word tag reply fits same = by_test (reply == word)
+publish_takes p a session pending its addr place word tag reply fits same behind = by_test (reply == word) refl
   where
-    by_test : (c : Bool)
-        → TakesEffect (record { places = p; place = Some place; word = if c then new_entry addr.0 tag else reply; version = pending.request.version; reserved = Some (reservation a (entry_made session pending its) addr.0) })
+    found : (reply == word) ≡ true → entry_addr reply ≡ a.its_words.header.previous.0
+    found e = let its_word : reply ≡ word = grind (arith, nat_tests, e) in ap entry_addr its_word ∙ sym behind
+
+    by_test : (c : Bool) → (reply == word) ≡ c
+        → TakesEffect (record { places = p; place = Some place; found = reply; word = if c then new_entry addr.0 tag else reply; version = pending.request.version; reserved = Some (reservation a (entry_made session pending its) addr.0) })
         (publish_ghosts addr.0 (Done (if c then publish.Won else publish.Lost)))
         (made_entry session pending (published_reply its (append_ask p (publish_ledto (record a { publishing = AtRest }) addr (Done (if c then publish.Won else publish.Lost))))))
-    by_test true = ByRecord (reservation a (entry_made session pending its) addr.0) refl (ap (λ (v : Version). v.0) same) (new_addr addr.0 tag fits)
-    by_test false = quiet session pending _ [] _ tt (going_none p (publish_ledto (record a { publishing = AtRest }) addr (Done publish.Lost)) appending.Invalidates its refl)
+    by_test true e = ByRecord (reservation a (entry_made session pending its) addr.0) refl (ap (λ (v : Version). v.0) same) (found e) (new_addr addr.0 tag fits)
+    by_test false e = quiet session pending _ [] _ tt (going_none p (publish_ledto (record a { publishing = AtRest }) addr (Done publish.Lost)) appending.Invalidates its refl)
 
 publish_so : (p : Places) (a : AppendState) (session : ℕ) (pending : PendingRequest) (its : Reply) (addr : Addr) (step : Publishing) (place word tag reply : ℕ) → step ≡ SwapsEntry place word (new_entry addr.0 tag) → addr.0 < 2 ^ 48
-    → a.its_words.header.version ≡ pending.request.version
+    → a.its_words.header.version ≡ pending.request.version → a.its_words.header.previous.0 ≡ entry_addr word
     → TakesEffect (stepped p pending.request.version (Some (reservation a (entry_made session pending its) addr.0)) (publish_ask step) reply) (publish_ghosts addr.0 (publish_next_ask step reply))
     (made_entry session pending (published_reply its (append_ask p (publish_ledto (record a { publishing = publish_next step reply }) addr (publish_next_ask step reply)))))
 unfolding publish_ask publish_next publish_next_ask
-publish_so p a session pending its addr step place word tag reply e fits same = rw e (publish_takes p a session pending its addr place word tag reply fits same)
+publish_so p a session pending its addr step place word tag reply e fits same behind = rw e (publish_takes p a session pending its addr place word tag reply fits same behind)
 
 append_takes : (p : Places) (room : ℕ) (a : AppendState) (session : ℕ) (pending : PendingRequest) (its : Reply) (step : Appending) (reply : ℕ) → a.step ≡ step → is_append_end step ≡ false
-    → HoldsAt a step → a.its_words.header.version ≡ pending.request.version
+    → HoldsAt a step → WordsAre pending.request.version a
     → TakesEffect (stepped p pending.request.version (append_reserves a (entry_made session pending its) step) (appending_ask p a step) reply) (append_ghosts room a (entry_made session pending its) step reply)
     (made_entry session pending (published_reply its (append_ask p (appending_next p room a step reply))))
 unfolding appending_next appending_ask
@@ -177,7 +181,7 @@ append_takes p room a session pending its (appending.Fills addr) reply at goes h
     quiet session pending _ [] _ tt (fill_none p (record a { filling = fill_next a.filling }) its addr (fill_ask p (fill_next a.filling)) at)
 append_takes p room a session pending its (appending.Publishes addr) reply at goes holds same =
     passes_on p pending.request.version (Some (reservation a (entry_made session pending its) addr.0)) (publish_ask a.publishing) append.Contended reply _ _
-    (publish_so p a session pending its addr a.publishing a.slot.place a.slot.entry a.slot.tag reply holds.1 holds.0 same)
+    (publish_so p a session pending its addr a.publishing a.slot.place a.slot.entry a.slot.tag reply holds.1 holds.0 same.0 same.1)
 append_takes p room a session pending its appending.Invalidates reply at goes holds same =
     quiet session pending _ (invalidate_ghosts a.invalidating) _ (invalidate_quiet a.invalidating) (invalidate_none p (record a { invalidating = invalidate_next a.invalidating }) its (invalidate_ask p (invalidate_next a.invalidating)) at)
 

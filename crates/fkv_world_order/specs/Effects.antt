@@ -29,27 +29,28 @@ abbrev pub AreQuiet : List GhostEvent → Type 0
 AreQuiet [] = ⊤
 AreQuiet (event ∷ before) = is_quiet event × AreQuiet before
 
--- A step: the place of the word that it asks for and the word that it leaves there, the version of the request that is attempted, and what the
--- session has reserved until then.
+-- A step: the place of the word that it asks for, the word that it finds there and the one that it leaves, the version of the request that is
+-- attempted, and what the session has reserved until then.
 pub record Stepped : Type 0 where
   pub places : Places
   pub place : Option ℕ
+  pub found : ℕ
   pub word : ℕ
   pub version : Version
   pub reserved : Option Reservation
 
 -- by its ask and the reply
 abbrev pub stepped : {A : Type 0} → Places → Version → Option Reservation → Ask A → ℕ → Stepped
-stepped p version reserved ask reply = record { places = p; place = asked_place ask; word = asked ask reply; version = version; reserved = reserved }
+stepped p version reserved ask reply = record { places = p; place = asked_place ask; found = reply; word = asked ask reply; version = version; reserved = reserved }
 
 -- By a step's events takes effect: nothing; the update that changes in place the record at the address of the value word that the step asks for; or
--- the one for which the record was reserved that is published. That record is of the request's version, and the word that the step leaves carries its
--- address.
+-- the one for which the record was reserved that is published. That record is of the request's version, the word that the step finds carries the
+-- address of the record before it, and the one that it leaves its own.
 pub data TakesEffect (its_step : Stepped) : List GhostEvent → Option HistoryEntry → Type 0 where
   Quietly : (events : List GhostEvent) → AreQuiet events → TakesEffect its_step events None
   Behind : (event : GhostEvent) {events : List GhostEvent} {made : Option HistoryEntry} → is_quiet event → TakesEffect its_step events made → TakesEffect its_step (event ∷ events) made
   InPlace : (a : ℕ) (entry : HistoryEntry) → its_step.place ≡ Some (record_place its_step.places a rec.Value) → TakesEffect its_step (Changes a entry ∷ []) (Some entry)
-  ByRecord : (its : Reservation) → its_step.reserved ≡ Some its → its.cell.version ≡ its_step.version.0 → entry_addr its_step.word ≡ its.addr → TakesEffect its_step (Publishes its.addr ∷ []) (Some its.entry)
+  ByRecord : (its : Reservation) → its_step.reserved ≡ Some its → its.cell.version ≡ its_step.version.0 → entry_addr its_step.found ≡ its.cell.previous → entry_addr its_step.word ≡ its.addr → TakesEffect its_step (Publishes its.addr ∷ []) (Some its.entry)
 
 -- the step of a session that gets this reply
 abbrev pub step_of : Seat → SessionState → ℕ → Stepped
@@ -73,7 +74,7 @@ pub record TakesNoEffect (k : Seat) (trace : List Traced) (s : SessionState) (re
 -- ---- of an event of a life
 -- the step of the session that moves; no other event makes one
 abbrev pub no_step : Now → Stepped
-no_step n = record { places = n.places; place = None; word = 0; version = record { 0 = 0 }; reserved = None }
+no_step n = record { places = n.places; place = None; found = 0; word = 0; version = record { 0 = 0 }; reserved = None }
 
 abbrev pub mover_step : Now → ℕ → Option SessionState → Stepped
 mover_step n number None = no_step n
