@@ -107,7 +107,7 @@ attempting_takes k reader a Tries reply at rests so =
     subst (λ (x : Option Reply). TakesEffect (stepped k.places a.pending.request.version (try_reserves k.number a.pending a.trial a.trial.step) (passed (try_ask k.places a.trial) answer.Shift) reply)
     (try_ghosts k.places (room_of k) k.number reader a.pending a.trial a.trial.step reply) (made_entry k.number a.pending x))
     (sym (try_keeps its (try_ask k.places t)))
-    (passes_on k.places a.pending.request.version _ (try_ask k.places a.trial) answer.Shift reply _ _ (try_takes k.places (room_of k) k.number reader a.pending a.trial reply (rests_at a at rests).0 so.its_version))
+    (passes_on k.places a.pending.request.version _ (try_ask k.places a.trial) answer.Shift reply _ _ (try_takes k.places (room_of k) k.number reader a.pending a.trial reply (rests_at a at rests).0 so.of_request))
 attempting_takes k reader a Puts reply at rests so =
     quiet k.number a.pending _ [] _ tt (put_keeps (mail_moved (record a { effect = None }) reply) (mail_ask k.number (mail_next a.mailing reply)))
 

@@ -68,10 +68,10 @@ use Rattle.fkv_world_order.proofs.ReadTries.{IsReadTry, try_read, begun_read}
 use Rattle.fkv_world_order.proofs.TryAppends.{IsTryAt, begun_at, try_at}
 
 -- ---- an attempt
--- the try of this request: a read's is one of a read, and what it appends is of the request's version
+-- the try of this request: a read's is one of a read, and what it appends is of the request's version and key
 pub record IsTryOf (pending : PendingRequest) (t : TryState) : Type 0 where
   pub reads : is_read pending.request.op ≡ true → IsReadTry t
-  pub its_version : IsTryAt pending.request.version t
+  pub of_request : IsTryAt pending.request t
 
 -- by the attempt's control state
 abbrev pub TriesAt : PendingRequest → TryState → Attempting → Type 0
@@ -100,7 +100,7 @@ puts_tries a (Some sought) = tt
 tries_anew : (p : Places) (bits : ℕ) (a : AttemptState) → TriesIts (tries p bits a)
 tries_anew p bits a = record {
   reads = λ e. begun_read p bits a.trial a.pending.request a.seen a.occasion a.spare e;
-  its_version = begun_at p bits a.trial a.pending.request a.seen a.occasion a.spare;
+  of_request = begun_at p bits a.trial a.pending.request a.seen a.occasion a.spare;
 }
 
 read_on_tries : (a : AttemptState) (its : MailRecord) (said : HeaderSaid) → TriesIts (read_on a its said)
@@ -154,7 +154,7 @@ attempting_tries p bits room session a Looks reply at so = look_tries p bits (ma
 attempting_tries p bits room session a Tries reply at tries_so =
     let its : AttemptState = try_moved p room (record a { effect = None }) reply in
     let so : IsTryOf a.pending a.trial = subst (TriesAt a.pending a.trial) at tries_so in
-    led_tries its (try_ask p its.trial) (still_tries its Tries at (record { reads = λ e. try_read p room a.trial reply (so.reads e); its_version = try_at p room a.pending.request.version a.trial reply so.its_version }))
+    led_tries its (try_ask p its.trial) (still_tries its Tries at (record { reads = λ e. try_read p room a.trial reply (so.reads e); of_request = try_at p room a.pending.request a.trial reply so.of_request }))
 attempting_tries p bits room session a Puts reply at so = put_tries (mail_moved (record a { effect = None }) reply) (mail_ask session (mail_next a.mailing reply)) at
 
 moved_so : (k : Seat) (a : AttemptState) (reply : ℕ) → IsAttemptSo a → IsAttemptSo (attempt_next k.places (bits_of k) (room_of k) k.number a reply)

@@ -2,6 +2,8 @@
 use Rattle.std.specs.Prelude.{◌≡◌, ⊤, ℕ, true, List, [], ◌∷◌, Option, Some, None, slice_get}
 use Rattle.fkv_base.specs.declared.numbers.Version.{Version}
 use Rattle.fkv_map.specs.declared.history.HistoryEntry.{HistoryEntry}
+use Rattle.fkv_map.specs.Keys.{key_of, value_applied, reply_from}
+use Rattle.fkv_ops.specs.Values.{value_of, word_of}
 use Rattle.fkv_order.specs.Ghosts.{GhostEvent, Publishes, Changes}
 use Rattle.fkv_ops.specs.Requests.{is_read}
 use Rattle.fkv_session.specs.declared.sessions.Sitting.{Sitting}
@@ -43,14 +45,28 @@ pub record Stepped : Type 0 where
 abbrev pub stepped : {A : Type 0} → Places → Version → Option Reservation → Ask A → ℕ → Stepped
 stepped p version reserved ask reply = record { places = p; place = asked_place ask; found = reply; word = asked ask reply; version = version; reserved = reserved }
 
--- By a step's events takes effect: nothing; the update that changes in place the record at the address of the value word that the step asks for; or
--- the one for which the record was reserved that is published. That record is of the request's version, the word that the step finds carries the
--- address of the record before it, and the one that it leaves its own.
+-- It asks for the value word of the record at this address, and leaves there what the entry's operation makes of the value that it finds. Of that
+-- value is the entry's reply.
+pub record ChangesAt (its_step : Stepped) (a : ℕ) (entry : HistoryEntry) : Type 0 where
+  pub there : its_step.place ≡ Some (record_place its_step.places a rec.Value)
+  pub value : its_step.word ≡ word_of (value_applied (value_of its_step.found) entry.op)
+  pub replied : entry.reply ≡ reply_from (value_of its_step.found) entry.op
+
+-- The record is the one that was reserved, of its entry's key and of the request's version. The word that the step finds carries the address of the
+-- record before it, and the one that it leaves its own.
+pub record PublishesIt (its_step : Stepped) (its : Reservation) : Type 0 where
+  pub reserved : its_step.reserved ≡ Some its
+  pub its_key : its.cell.key ≡ (key_of its.entry.op).0
+  pub its_version : its.cell.version ≡ its_step.version.0
+  pub previous : entry_addr its_step.found ≡ its.cell.previous
+  pub its_addr : entry_addr its_step.word ≡ its.addr
+
+-- By a step's events takes effect: nothing; the update that changes a record in place; or the one for which the record was reserved that is published.
 pub data TakesEffect (its_step : Stepped) : List GhostEvent → Option HistoryEntry → Type 0 where
   Quietly : (events : List GhostEvent) → AreQuiet events → TakesEffect its_step events None
   Behind : (event : GhostEvent) {events : List GhostEvent} {made : Option HistoryEntry} → is_quiet event → TakesEffect its_step events made → TakesEffect its_step (event ∷ events) made
-  InPlace : (a : ℕ) (entry : HistoryEntry) → its_step.place ≡ Some (record_place its_step.places a rec.Value) → TakesEffect its_step (Changes a entry ∷ []) (Some entry)
-  ByRecord : (its : Reservation) → its_step.reserved ≡ Some its → its.cell.version ≡ its_step.version.0 → entry_addr its_step.found ≡ its.cell.previous → entry_addr its_step.word ≡ its.addr → TakesEffect its_step (Publishes its.addr ∷ []) (Some its.entry)
+  InPlace : (a : ℕ) (entry : HistoryEntry) → ChangesAt its_step a entry → TakesEffect its_step (Changes a entry ∷ []) (Some entry)
+  ByRecord : (its : Reservation) → PublishesIt its_step its → TakesEffect its_step (Publishes its.addr ∷ []) (Some its.entry)
 
 -- the step of a session that gets this reply
 abbrev pub step_of : Seat → SessionState → ℕ → Stepped

@@ -70,11 +70,12 @@ pub fn law_ghost_reserved()
 {}
 
 /// At every moment of such a life, whatever the next reply to a session is: the effect that it makes is what takes effect by the log's events of
-/// that step. It is nothing where they neither change nor publish a record; the update that changes one in place, with its session, serial,
-/// operation and reply, at the address of the value word that the step asks for; or the one for which the session has reserved the record that is
-/// published: of the request's version, by a word that carries its address, behind the record that the word before named. And each event of such a life puts that effect at the front of the
-/// life's history, in the version of the request, or leaves it. By an attempt of a read nothing takes effect; and a request is named by its
-/// operation, a read by a ticket and an update by its serial.
+/// that step. It is nothing where they neither change nor publish a record; the update that changes one in place, at the address of the value
+/// word that the step asks for, with the reply and the new value that its operation makes of the value found; or the one for which the session has
+/// reserved the record that is published: of its key and the request's version, by a word that carries its address, behind the record that the word
+/// before named. And each event of such a life puts that effect, with its session, serial, operation and reply, at the front of the life's history,
+/// in the version of the request, or leaves it. By an attempt of a read nothing takes effect; and a request is named by its operation, a read by a
+/// ticket and an update by its serial.
 pub fn law_ghost_effects()
     ensures steps { (opening : World) (start : ℕ) (events : List Event) (session reply : ℕ) (its : SessionState) → guard.IsOpened opening.now start
         → slice_get (run opening events).now.sessions session ≡ Some its
