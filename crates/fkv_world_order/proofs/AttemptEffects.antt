@@ -8,6 +8,7 @@ use Rattle.fkv_order.specs.Ghosts.{GhostEvent, TakesValue}
 use Rattle.fkv_plane.specs.declared.asks.Ask.{Ask}
 use Rattle.fkv_plane.specs.declared.asks.Ask.TheVariants.{Done}
 use Rattle.fkv_plane.specs.declared.places.Places.{Places}
+use Rattle.fkv_plane.specs.Passing.{passed}
 use Rattle.fkv_ops.specs.declared.answers.DiskRecord.{DiskRecord}
 use Rattle.fkv_ops.specs.declared.answers.TryAnswer.{TryAnswer}
 use Rattle.fkv_ops.specs.declared.answers.TryAnswer.TheVariants as answer
@@ -24,16 +25,19 @@ use Rattle.fkv_pending.specs.declared.mailing.MailAnswer.TheVariants as mail
 use Rattle.fkv_pending.specs.declared.mailing.MailRecord.{MailRecord}
 use Rattle.fkv_pending.specs.Mailing.{mail_ask, mail_next}
 use Rattle.fkv_pending.specs.Pending.{with_sought, with_held, with_latch, with_asked}
-use Rattle.fkv_pending.specs.Attempting.{AttemptState, attempt_ask, attempt_ended, waits_for_disk, puts_addr, puts, tries, is_pending_read, held_of, moved_on, read_on, record_taken, look_ledto, held_kept, awaits_record, tried, try_ledto, put_ledto, mail_moved, try_moved, attempting_next, attempt_next}
+use Rattle.fkv_pending.specs.Attempting.{AttemptState, attempting_ask, attempt_ask, attempt_ended, waits_for_disk, puts_addr, puts, tries, is_pending_read, held_of, moved_on, read_on, record_taken, look_ledto, held_kept, awaits_record, tried, try_ledto, put_ledto, mail_moved, try_moved, attempting_next, attempt_next}
 use Rattle.fkv_pending.proofs.Shown.{AttemptRestsOrAsks}
 use Rattle.fkv_session.specs.Sessions.{Seat, bits_of, room_of}
 use Rattle.fkv_world_order.specs.Tries.{try_ghosts}
 use Rattle.fkv_map.specs.declared.history.HistoryEntry.{HistoryEntry}
 use Rattle.fkv_map.specs.declared.operations.Reply.{Reply}
-use Rattle.fkv_world_order.specs.Reservations.{try_reserves, Reservation, attempt_reserves}
-use Rattle.fkv_world_order.specs.Effects.{TakesEffect, Quietly, Behind}
+use Rattle.fkv_world_order.specs.Reservations.{try_reserves, attempt_reserves}
+use Rattle.fkv_world_order.specs.Effects.{AreQuiet, Stepped, stepped, TakesEffect, Quietly, Behind}
 use Rattle.fkv_world_order.specs.Sessions.{value_ghosts, tried_ghosts, attempt_ghosts}
-use Rattle.fkv_world_order.proofs.TryEffects.{made_entry, quiet, try_takes}
+use Rattle.fkv_ops.specs.Requests.{is_read}
+use Rattle.fkv_world_order.proofs.ReadTries.{read_quiet}
+use Rattle.fkv_world_order.proofs.RequestNames.{TriesAt, TriesIts}
+use Rattle.fkv_world_order.proofs.TryEffects.{made_entry, passes_on, quiet, try_takes}
 
 -- ---- where an attempt goes on or ends, what it has told as its effect stays
 either_keeps : (c : Bool) (a b : AttemptState) (made : Option Reply) → a.effect ≡ made → b.effect ≡ made → (if c then a else b).effect ≡ made
@@ -90,29 +94,45 @@ try_keeps a ask = refl
 rests_at : (a : AttemptState) → a.step ≡ Tries → AttemptRestsOrAsks a → TryRestsOrAsks a.trial × (is_try_end a.trial.step ≡ false)
 rests_at a at rests = subst (λ (x : Attempting). AttemptRestsOrAsks (record a { step = x })) at rests
 
-attempting_takes : (k : Seat) (reader : ℕ) (a : AttemptState) (step : Attempting) (reply : ℕ) → a.step ≡ step → AttemptRestsOrAsks a
-    → TakesEffect (attempt_reserves k.number a step) (tried_ghosts k reader a step reply)
+attempting_takes : (k : Seat) (reader : ℕ) (a : AttemptState) (step : Attempting) (reply : ℕ) → a.step ≡ step → AttemptRestsOrAsks a → TriesAt a.pending a.trial step
+    → TakesEffect (stepped k.places a.pending.request.version (attempt_reserves k.number a step) (attempting_ask k.places k.number a step) reply) (tried_ghosts k reader a step reply)
     (made_entry k.number a.pending (attempting_next k.places (bits_of k) (room_of k) k.number (record a { effect = None }) step reply).effect)
-unfolding attempting_next
-attempting_takes k reader a (Ended its) reply at rests = Quietly [] tt
-attempting_takes k reader a Looks reply at rests =
-    quiet k.number a.pending None [] _ tt (look_keeps k.places (bits_of k) (mail_moved (record a { effect = None }) reply) (mail_ask k.number (mail_next a.mailing reply)))
-attempting_takes k reader a Tries reply at rests =
+unfolding attempting_next attempting_ask
+attempting_takes k reader a (Ended its) reply at rests so = Quietly [] tt
+attempting_takes k reader a Looks reply at rests so =
+    quiet k.number a.pending _ [] _ tt (look_keeps k.places (bits_of k) (mail_moved (record a { effect = None }) reply) (mail_ask k.number (mail_next a.mailing reply)))
+attempting_takes k reader a Tries reply at rests so =
     let t : TryState = try_next k.places (room_of k) a.trial reply in
     let its : AttemptState = try_moved k.places (room_of k) (record a { effect = None }) reply in
-    subst (λ (x : Option Reply). TakesEffect (try_reserves k.number a.pending a.trial a.trial.step) (try_ghosts k.places (room_of k) k.number reader a.pending a.trial a.trial.step reply) (made_entry k.number a.pending x))
-    (sym (try_keeps its (try_ask k.places t))) (try_takes k.places (room_of k) k.number reader a.pending a.trial reply (rests_at a at rests).0)
-attempting_takes k reader a Puts reply at rests =
-    quiet k.number a.pending None [] _ tt (put_keeps (mail_moved (record a { effect = None }) reply) (mail_ask k.number (mail_next a.mailing reply)))
+    subst (λ (x : Option Reply). TakesEffect (stepped k.places a.pending.request.version (try_reserves k.number a.pending a.trial a.trial.step) (passed (try_ask k.places a.trial) answer.Shift) reply)
+    (try_ghosts k.places (room_of k) k.number reader a.pending a.trial a.trial.step reply) (made_entry k.number a.pending x))
+    (sym (try_keeps its (try_ask k.places t)))
+    (passes_on k.places a.pending.request.version _ (try_ask k.places a.trial) answer.Shift reply _ _ (try_takes k.places (room_of k) k.number reader a.pending a.trial reply (rests_at a at rests).0 so.of_request))
+attempting_takes k reader a Puts reply at rests so =
+    quiet k.number a.pending _ [] _ tt (put_keeps (mail_moved (record a { effect = None }) reply) (mail_ask k.number (mail_next a.mailing reply)))
 
-value_takes : (reserved : Option Reservation) (op : Op) (reader : ℕ) (ask : Ask TryAnswer) (events : List GhostEvent) (made : Option HistoryEntry) → TakesEffect reserved events made → TakesEffect reserved (value_ghosts op reader ask ++ events) made
-value_takes reserved (Read key) reader (Done (answer.Found value)) events made its = Behind (TakesValue reader) tt its
-value_takes reserved (Read key) reader (Done answer.Absent) events made its = Behind (TakesValue reader) tt its
-value_takes reserved op reader ask events made its = its
+value_takes : (its_step : Stepped) (op : Op) (reader : ℕ) (ask : Ask TryAnswer) (events : List GhostEvent) (made : Option HistoryEntry) → TakesEffect its_step events made → TakesEffect its_step (value_ghosts op reader ask ++ events) made
+value_takes its_step (Read key) reader (Done (answer.Found value)) events made its = Behind (TakesValue reader) tt its
+value_takes its_step (Read key) reader (Done answer.Absent) events made its = Behind (TakesValue reader) tt its
+value_takes its_step op reader ask events made its = its
 
-pub attempt_takes : (k : Seat) (reader : ℕ) (a : AttemptState) (reply : ℕ) → AttemptRestsOrAsks a
-    → TakesEffect (attempt_reserves k.number a a.step) (attempt_ghosts k reader a reply) (made_entry k.number a.pending (attempt_next k.places (bits_of k) (room_of k) k.number a reply).effect)
-attempt_takes k reader a reply rests =
+value_quiet : (op : Op) (reader : ℕ) (ask : Ask TryAnswer) (events : List GhostEvent) → AreQuiet events → AreQuiet (value_ghosts op reader ask ++ events)
+value_quiet (Read key) reader (Done (answer.Found value)) events its = (tt, its)
+value_quiet (Read key) reader (Done answer.Absent) events its = (tt, its)
+value_quiet op reader ask events its = its
+
+tried_quiet : (k : Seat) (reader : ℕ) (a : AttemptState) (step : Attempting) (reply : ℕ) → is_read a.pending.request.op ≡ true → TriesAt a.pending a.trial step → AreQuiet (tried_ghosts k reader a step reply)
+tried_quiet k reader a Tries reply read so = read_quiet k.places (room_of k) k.number reader a.pending a.trial a.trial.step reply (so.reads read).step
+tried_quiet k reader a step reply read so = tt
+
+-- by a read's attempt no update takes effect
+pub attempt_quiet : (k : Seat) (reader : ℕ) (a : AttemptState) (reply : ℕ) → is_read a.pending.request.op ≡ true → TriesIts a → AreQuiet (attempt_ghosts k reader a reply)
+attempt_quiet k reader a reply read so =
+    value_quiet a.pending.request.op reader (attempt_ask k.places k.number (attempt_next k.places (bits_of k) (room_of k) k.number a reply)) (tried_ghosts k reader a a.step reply) (tried_quiet k reader a a.step reply read so)
+
+pub attempt_takes : (k : Seat) (reader : ℕ) (a : AttemptState) (reply : ℕ) → AttemptRestsOrAsks a → TriesIts a
+    → TakesEffect (stepped k.places a.pending.request.version (attempt_reserves k.number a a.step) (attempt_ask k.places k.number a) reply) (attempt_ghosts k reader a reply)
+    (made_entry k.number a.pending (attempt_next k.places (bits_of k) (room_of k) k.number a reply).effect)
+attempt_takes k reader a reply rests so =
     let after : AttemptState = attempt_next k.places (bits_of k) (room_of k) k.number a reply in
-    value_takes (attempt_reserves k.number a a.step) a.pending.request.op reader (attempt_ask k.places k.number after) (tried_ghosts k reader a a.step reply) (made_entry k.number a.pending after.effect)
-    (attempting_takes k reader a a.step reply refl rests)
+    value_takes _ a.pending.request.op reader (attempt_ask k.places k.number after) (tried_ghosts k reader a a.step reply) (made_entry k.number a.pending after.effect) (attempting_takes k reader a a.step reply refl rests so)

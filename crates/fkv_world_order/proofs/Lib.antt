@@ -7,12 +7,15 @@ mod EventEffects
 mod Fixed
 mod NoSlots
 mod Own
+mod ReadTries
+mod RequestNames
 mod ReservedCells
 mod ReservedLife
 mod SessionEffects
 mod SessionSteps
 pub mod Shown
 mod Trace
+mod TryAppends
 mod TryEffects
 mod TrySteps
 mod Unborn

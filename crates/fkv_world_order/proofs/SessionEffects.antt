@@ -3,6 +3,7 @@ use Rattle.std.proofs.Common.{◌≡◌, ℕ, ◌+◌, ◌∙◌, refl, sym, ap,
 use Rattle.std.specs.Prelude.{◌||◌, if◌then◌else◌, Option, Some, None, slice_get, slice_set}
 use Rattle.fkv_plane.specs.declared.asks.Ask.{Ask}
 use Rattle.fkv_plane.specs.declared.asks.Ask.TheVariants.{Done}
+use Rattle.fkv_plane.specs.Passing.{passed}
 use Rattle.fkv_epoch.specs.Leaving.{leave_ask, leave_next}
 use Rattle.fkv_ops.specs.declared.answers.Reason.{Reason}
 use Rattle.fkv_ops.specs.declared.answers.Reason.TheVariants as reason
@@ -23,7 +24,7 @@ use Rattle.fkv_session.specs.declared.sessions.Sitting.{Sitting}
 use Rattle.fkv_session.specs.declared.sessions.Sitting.TheVariants.{Idle, Attempts, CatchesUp, ClearsMail, Polls, StoresOwing, Turns, StoresCut, Leaves, LoadsDurable}
 use Rattle.fkv_session.specs.CatchingUp.{catch_ask}
 use Rattle.fkv_session.specs.OwnTurns.{own_turn_ask, own_turn_begun}
-use Rattle.fkv_session.specs.Sessions.{SessionState, Seat, bits_of, room_of, session_ask, answers, answers_after_turn, attempts, polls_request, polls_at, update_done, is_no_room, with_request, serial_taken, ticket_after, accepts, shifts, attempted, attempt_left, attempt_ledto, caught_up, catch_ledto, clear_ledto, is_finished, is_owed, request_finished, finishes_request, lacks_room, keeps_request, poll_ledto, turn_ledto, leave_ledto, attempt_moved, caught, own_turn_moved, sitting_next, is_word_ask, asks_after, entry_of}
+use Rattle.fkv_session.specs.Sessions.{SessionState, Seat, bits_of, room_of, sitting_ask, session_ask, answers, answers_after_turn, attempts, polls_request, polls_at, update_done, is_no_room, with_request, serial_taken, ticket_after, accepts, shifts, attempted, attempt_left, attempt_ledto, caught_up, catch_ledto, clear_ledto, is_finished, is_owed, request_finished, finishes_request, lacks_room, keeps_request, poll_ledto, turn_ledto, leave_ledto, attempt_moved, caught, own_turn_moved, sitting_next, is_word_ask, asks_after, entry_of}
 use Rattle.fkv_world.specs.Past.{Traced}
 use Rattle.fkv_world.specs.Runs.{World, run}
 use Rattle.fkv_world.specs.World.{Event, seat_at}
@@ -39,12 +40,14 @@ use Rattle.fkv_pending.specs.declared.pending_requests.RequestName.{RequestName}
 use Rattle.fkv_pending.specs.declared.pending_requests.RequestName.TheVariants.{Update, Read}
 use Rattle.fkv_session.proofs.Shown.{IsSameRequest, attempt_keeps}
 use Rattle.fkv_world_order.specs.Appends.{serial_of}
-use Rattle.fkv_world_order.specs.Effects.{IsUpdateName, TriesUpdate, TakesEffect, Quietly, TakesItsEffect}
+use Rattle.fkv_world_order.specs.Effects.{AreQuiet, Stepped, stepped, TakesEffect, Quietly, TakesItsEffect, AttemptsRead, TakesNoEffect}
+use Rattle.fkv_world_order.specs.Names.{is_read_name}
 use Rattle.fkv_world_order.specs.Reservations.{attempt_reserves}
 use Rattle.fkv_world_order.specs.Reserved.{sitting_reserves}
 use Rattle.fkv_world_order.specs.Sessions.{attempt_ghosts, ticket_of, sitting_ghosts}
-use Rattle.fkv_world_order.proofs.AttemptEffects.{attempt_takes}
-use Rattle.fkv_world_order.proofs.TryEffects.{made_entry}
+use Rattle.fkv_world_order.proofs.AttemptEffects.{attempt_quiet, attempt_takes}
+use Rattle.fkv_world_order.proofs.RequestNames.{IsAttemptSo, StepIsSo, life_so}
+use Rattle.fkv_world_order.proofs.TryEffects.{made_entry, passes_on}
 
 -- ---- where a session goes on, or its call is answered, what it has told as its effect stays
 either_keeps : (c : Bool) (a b : SessionState) (made : Option HistoryEntry) → a.effect ≡ made → b.effect ≡ made → (if c then a else b).effect ≡ made
@@ -132,18 +135,14 @@ unfolding leave_ledto
 leave_keeps s (Done its) = refl
 leave_keeps s ask = refl
 
--- ---- an update's effect is the entry that it would make
+-- ---- an update's effect is the entry that it would make, and a read has none
 abbrev entry_with : ℕ → Serial → Op → Reply → Option HistoryEntry
 entry_with number serial op reply = Some (record { session = number; serial = serial; op = op; reply = reply })
 
-named_entry : (number : ℕ) (p q : PendingRequest) (name : RequestName) (made : Option Reply) → q.name ≡ name → IsUpdateName name → p.request.op ≡ q.request.op → entry_of number p name made ≡ made_entry number q made
-named_entry number p q (Update serial) None e update op = refl
-named_entry number p q (Update serial) (Some its) e update op =
+update_entry : (number : ℕ) (p q : PendingRequest) (serial : Serial) (made : Option Reply) → q.name ≡ Update serial → p.request.op ≡ q.request.op → entry_of number p (Update serial) made ≡ made_entry number q made
+update_entry number p q serial None e op = refl
+update_entry number p q serial (Some its) e op =
     ap (λ (o : Op). entry_with number serial o its) op ∙ ap (λ (n : RequestName). entry_with number (serial_of n) q.request.op its) (sym e)
-named_entry number p q (Read ticket) made e update op = absurd update
-
-same_entry : (number : ℕ) (p q : PendingRequest) (made : Option Reply) → IsSameRequest p q → IsUpdateName q.name → entry_of number p p.name made ≡ made_entry number q made
-same_entry number p q made same update = ap (λ (n : RequestName). entry_of number p n made) same.name ∙ named_entry number p q q.name made refl update same.op
 
 -- ---- each reply to a session
 rests_called : (s : SessionState) (has_shifted : Bool) → s.step ≡ Attempts has_shifted → SittingKnows s s.step → AttemptRestsOrAsks s.attempt
@@ -152,43 +151,90 @@ rests_called s has_shifted at knows = subst (SittingKnows s) at knows
 rests_polled : (s : SessionState) (index : ℕ) → s.step ≡ Polls index → SittingKnows s s.step → AttemptRestsOrAsks s.attempt
 rests_polled s index at knows = subst (SittingKnows s) at knows
 
-attempt_makes : (k : Seat) (reader : ℕ) (s : SessionState) (reply : ℕ) (made : Option HistoryEntry) → AttemptRestsOrAsks s.attempt → IsUpdateName s.attempt.pending.name → made ≡ (attempt_moved k s reply).effect
-    → TakesEffect (attempt_reserves k.number s.attempt s.attempt.step) (attempt_ghosts k reader s.attempt reply) made
-attempt_makes k reader s reply made rests update e =
-    let after : AttemptState = attempt_next k.places (bits_of k) (room_of k) k.number s.attempt reply in
-    subst (λ (x : Option HistoryEntry). TakesEffect (attempt_reserves k.number s.attempt s.attempt.step) (attempt_ghosts k reader s.attempt reply) x)
-    (sym (e ∙ same_entry k.number after.pending s.attempt.pending after.effect (attempt_keeps k.places (bits_of k) (room_of k) k.number s.attempt reply) update)) (attempt_takes k reader s.attempt reply rests)
+attempt_makes : (k : Seat) (reader : ℕ) (s : SessionState) (reply : ℕ) (made : Option HistoryEntry) → AttemptRestsOrAsks s.attempt → IsAttemptSo s.attempt → made ≡ (attempt_moved k s reply).effect
+    → TakesEffect (stepped k.places s.attempt.pending.request.version (attempt_reserves k.number s.attempt s.attempt.step) (passed (attempt_ask k.places k.number s.attempt) told.Slept) reply) (attempt_ghosts k reader s.attempt reply) made
+attempt_makes k reader s reply made rests so e = by_name s.attempt.pending.name refl
+  where
+    after : AttemptState
+    after = attempt_next k.places (bits_of k) (room_of k) k.number s.attempt reply
 
-nothing_made : (made : Option HistoryEntry) → made ≡ None → TakesEffect None [] made
-nothing_made made none = rw none (Quietly [] tt)
+    same : IsSameRequest after.pending s.attempt.pending
+    same = attempt_keeps k.places (bits_of k) (room_of k) k.number s.attempt reply
 
-sitting_takes : (k : Seat) (trace : List Traced) (s : SessionState) (asks : ℕ) (step : Sitting) (reply : ℕ) → s.step ≡ step → SittingKnows s s.step → TriesUpdate s step
-    → TakesEffect (sitting_reserves k.number s step) (sitting_ghosts k trace s step reply) (sitting_next k (record s { asks = asks; effect = None }) step reply).effect
-unfolding sitting_next
-sitting_takes k trace s asks (Idle its) reply at knows update = Quietly [] tt
-sitting_takes k trace s asks (Attempts has_shifted) reply at knows update =
+    named : (name : RequestName) → s.attempt.pending.name ≡ name → made ≡ entry_of k.number after.pending name after.effect
+    named name at = e ∙ ap (λ (n : RequestName). entry_of k.number after.pending n after.effect) (same.name ∙ at)
+
+    by_name : (name : RequestName) → s.attempt.pending.name ≡ name → TakesEffect (stepped k.places s.attempt.pending.request.version (attempt_reserves k.number s.attempt s.attempt.step) (passed (attempt_ask k.places k.number s.attempt) told.Slept) reply) (attempt_ghosts k reader s.attempt reply) made
+    by_name (Update serial) at =
+        subst (λ (x : Option HistoryEntry). TakesEffect (stepped k.places s.attempt.pending.request.version (attempt_reserves k.number s.attempt s.attempt.step) (passed (attempt_ask k.places k.number s.attempt) told.Slept) reply) (attempt_ghosts k reader s.attempt reply) x)
+        (sym (named (Update serial) at ∙ update_entry k.number after.pending s.attempt.pending serial after.effect at same.op)) (passes_on k.places s.attempt.pending.request.version _ (attempt_ask k.places k.number s.attempt) told.Slept reply _ _ (attempt_takes k reader s.attempt reply rests so.tries_so))
+    by_name (Read ticket) at =
+        subst (λ (x : Option HistoryEntry). TakesEffect (stepped k.places s.attempt.pending.request.version (attempt_reserves k.number s.attempt s.attempt.step) (passed (attempt_ask k.places k.number s.attempt) told.Slept) reply) (attempt_ghosts k reader s.attempt reply) x) (sym (named (Read ticket) at))
+        (Quietly (attempt_ghosts k reader s.attempt reply) (attempt_quiet k reader s.attempt reply (sym so.named ∙ ap is_read_name at) so.tries_so))
+
+-- a read makes none
+read_none : (k : Seat) (s : SessionState) (reply : ℕ) → is_read s.attempt.pending.request.op ≡ true → IsAttemptSo s.attempt → (attempt_moved k s reply).effect ≡ None
+read_none k s reply reads so = by_name after.pending.name (ap is_read_name same.name ∙ (so.named ∙ reads))
+  where
+    after : AttemptState
+    after = attempt_next k.places (bits_of k) (room_of k) k.number s.attempt reply
+
+    same : IsSameRequest after.pending s.attempt.pending
+    same = attempt_keeps k.places (bits_of k) (room_of k) k.number s.attempt reply
+
+    by_name : (name : RequestName) → is_read_name name ≡ true → entry_of k.number after.pending name after.effect ≡ None
+    by_name (Update serial) e = cc
+    by_name (Read ticket) e = refl
+
+nothing_made : (its_step : Stepped) (made : Option HistoryEntry) → made ≡ None → TakesEffect its_step [] made
+nothing_made its_step made none = rw none (Quietly [] tt)
+
+sitting_takes : (k : Seat) (trace : List Traced) (s : SessionState) (asks : ℕ) (step : Sitting) (reply : ℕ) → s.step ≡ step → SittingKnows s s.step → StepIsSo s.attempt step
+    → TakesEffect (stepped k.places s.attempt.pending.request.version (sitting_reserves k.number s step) (sitting_ask k s step) reply) (sitting_ghosts k trace s step reply) (sitting_next k (record s { asks = asks; effect = None }) step reply).effect
+unfolding sitting_next sitting_ask
+sitting_takes k trace s asks (Idle its) reply at knows so = Quietly [] tt
+sitting_takes k trace s asks (Attempts has_shifted) reply at knows so =
     let after : SessionState = attempt_moved k (record s { asks = asks; effect = None }) reply in
-    attempt_makes k (read_in_hand k.number trace) s reply _ (rests_called s has_shifted at knows) update (called_keeps after has_shifted (attempt_ask k.places k.number after.attempt))
-sitting_takes k trace s asks (Polls index) reply at knows update =
+    attempt_makes k (read_in_hand k.number trace) s reply _ (rests_called s has_shifted at knows) so (called_keeps after has_shifted (attempt_ask k.places k.number after.attempt))
+sitting_takes k trace s asks (Polls index) reply at knows so =
     let after : SessionState = attempt_moved k (record s { asks = asks; effect = None }) reply in
-    attempt_makes k (read_waiting k.number (ticket_of s.attempt.pending.name) trace) s reply _ (rests_polled s index at knows) update (polled_keeps k after index (attempt_ask k.places k.number after.attempt))
-sitting_takes k trace s asks (CatchesUp its) reply at knows update =
+    attempt_makes k (read_waiting k.number (ticket_of s.attempt.pending.name) trace) s reply _ (rests_polled s index at knows) so (polled_keeps k after index (attempt_ask k.places k.number after.attempt))
+sitting_takes k trace s asks (CatchesUp its) reply at knows so =
     let after : SessionState = caught k (record s { asks = asks; effect = None }) reply in
-    nothing_made _ (catch_keeps k after its (catch_ask k.places k.number after.catching after.requests))
-sitting_takes k trace s asks ClearsMail reply at knows update =
-    nothing_made _ (clear_keeps k (record s { asks = asks; effect = None; mailing = mail_next s.mailing reply }) (mail_ask k.number (mail_next s.mailing reply)))
-sitting_takes k trace s asks (StoresOwing index) reply at knows update = nothing_made _ (polls_keeps k (record s { asks = asks; effect = None }) index)
-sitting_takes k trace s asks (Turns its) reply at knows update =
+    nothing_made _ _ (catch_keeps k after its (catch_ask k.places k.number after.catching after.requests))
+sitting_takes k trace s asks ClearsMail reply at knows so =
+    nothing_made _ _ (clear_keeps k (record s { asks = asks; effect = None; mailing = mail_next s.mailing reply }) (mail_ask k.number (mail_next s.mailing reply)))
+sitting_takes k trace s asks (StoresOwing index) reply at knows so = nothing_made _ _ (polls_keeps k (record s { asks = asks; effect = None }) index)
+sitting_takes k trace s asks (Turns its) reply at knows so =
     let after : SessionState = own_turn_moved k (record s { asks = asks; effect = None }) reply in
-    nothing_made _ (turn_keeps after its (own_turn_ask k.shape after.own_turn))
-sitting_takes k trace s asks StoresCut reply at knows update = Quietly [] tt
-sitting_takes k trace s asks Leaves reply at knows update =
-    nothing_made _ (leave_keeps (record s { asks = asks; effect = None; leaving = leave_next s.leaving }) (leave_ask k.number (leave_next s.leaving)))
-sitting_takes k trace s asks LoadsDurable reply at knows update = Quietly [] tt
+    nothing_made _ _ (turn_keeps after its (own_turn_ask k.shape after.own_turn))
+sitting_takes k trace s asks StoresCut reply at knows so = Quietly [] tt
+sitting_takes k trace s asks Leaves reply at knows so =
+    nothing_made _ _ (leave_keeps (record s { asks = asks; effect = None; leaving = leave_next s.leaving }) (leave_ask k.number (leave_next s.leaving)))
+sitting_takes k trace s asks LoadsDurable reply at knows so = Quietly [] tt
 
 -- at every moment of a life
-pub life_takes : (opening : World) (start : ℕ) (events : List Event) (number : ℕ) (s : SessionState) (reply : ℕ) → IsOpened opening.now start → slice_get (run opening events).now.sessions number ≡ Some s → TriesUpdate s s.step
+pub life_takes : (opening : World) (start : ℕ) (events : List Event) (number : ℕ) (s : SessionState) (reply : ℕ) → IsOpened opening.now start → slice_get (run opening events).now.sessions number ≡ Some s
     → TakesItsEffect (seat_at (run opening events).now number) (run opening events).past.trace s reply
-life_takes opening start events number s reply opened found update =
+life_takes opening start events number s reply opened found =
     let k : Seat = seat_at (run opening events).now number in
-    sitting_takes k (run opening events).past.trace s (asks_after s.asks (is_word_ask (session_ask k s))) s.step reply refl ((life_shows opening start events opened).sessions number s found).sits.knows update
+    sitting_takes k (run opening events).past.trace s (asks_after s.asks (is_word_ask (session_ask k s))) s.step reply refl ((life_shows opening start events opened).sessions number s found).sits.knows (life_so opening start events number s opened found).sits
+
+-- a read's attempt makes none, and no update takes effect by its events
+read_takes : (k : Seat) (trace : List Traced) (s : SessionState) (asks : ℕ) (step : Sitting) (reply : ℕ) → AttemptsRead s step → StepIsSo s.attempt step
+    → AreQuiet (sitting_ghosts k trace s step reply) × ((sitting_next k (record s { asks = asks; effect = None }) step reply).effect ≡ None)
+unfolding sitting_next
+read_takes k trace s asks (Attempts has_shifted) reply reads so =
+    let after : SessionState = attempt_moved k (record s { asks = asks; effect = None }) reply in
+    (attempt_quiet k (read_in_hand k.number trace) s.attempt reply reads so.tries_so, called_keeps after has_shifted (attempt_ask k.places k.number after.attempt) ∙ read_none k s reply reads so)
+read_takes k trace s asks (Polls index) reply reads so =
+    let after : SessionState = attempt_moved k (record s { asks = asks; effect = None }) reply in
+    (attempt_quiet k (read_waiting k.number (ticket_of s.attempt.pending.name) trace) s.attempt reply reads so.tries_so, polled_keeps k after index (attempt_ask k.places k.number after.attempt) ∙ read_none k s reply reads so)
+read_takes k trace s asks step reply reads so = absurd reads
+
+pub life_reads : (opening : World) (start : ℕ) (events : List Event) (number : ℕ) (s : SessionState) (reply : ℕ) → IsOpened opening.now start → slice_get (run opening events).now.sessions number ≡ Some s → AttemptsRead s s.step
+    → TakesNoEffect (seat_at (run opening events).now number) (run opening events).past.trace s reply
+life_reads opening start events number s reply opened found reads =
+    let k : Seat = seat_at (run opening events).now number in
+    let its = read_takes k (run opening events).past.trace s (asks_after s.asks (is_word_ask (session_ask k s))) s.step reply reads (life_so opening start events number s opened found).sits in
+    record { quiet = its.0; none = its.1 }

@@ -1,17 +1,21 @@
 -- The effect of a reply to a try is what takes effect by the log's events of the step.
-use Rattle.std.proofs.Common.{◌≡◌, ℕ, ◌∙◌, refl, sym, ap, subst, Bool, true, false, List, [], ◌∷◌}
+use Rattle.std.proofs.Common.{◌≡◌, ℕ, ◌<◌, ◌∙◌, arith, refl, sym, ap, subst, Bool, true, false, List, [], ◌∷◌}
 use Rattle.std.specs.Prelude.{◌==◌, ◌&&◌, not, nat_le, if◌then◌else◌, Option, Some, None, nat_lt, ◌^◌}
+use Rattle.std.proofs.lemmas.Bool.Decides.{nat_tests}
 use Rattle.fkv_base.specs.declared.numbers.Addr.{Addr}
+use Rattle.fkv_base.specs.declared.numbers.Key.{Key}
 use Rattle.fkv_base.specs.declared.numbers.Version.{Version}
 use Rattle.fkv_map.specs.declared.history.HistoryEntry.{HistoryEntry}
 use Rattle.fkv_map.specs.declared.operations.Op.{Op}
-use Rattle.fkv_map.specs.declared.operations.Op.TheVariants.{Read}
+use Rattle.fkv_map.specs.declared.operations.Op.TheVariants.{Read, Upsert, Delete}
 use Rattle.fkv_map.specs.declared.operations.Reply.{Reply}
 use Rattle.fkv_map.specs.Map.{absent_word}
-use Rattle.fkv_map.specs.Keys.{key_of, reply_from}
+use Rattle.fkv_map.specs.Keys.{key_of, value_applied, reply_from}
 use Rattle.fkv_order.specs.Ghosts.{GhostEvent, Changes, Reserves as TakesAddr, Drops}
 use Rattle.fkv_plane.specs.declared.asks.Ask.{Ask}
-use Rattle.fkv_plane.specs.declared.asks.Ask.TheVariants.{Done}
+use Rattle.fkv_plane.specs.declared.asks.Ask.TheVariants.{Load, Store, Swap, Cas, Add, Max, Put, Take, Done}
+use Rattle.fkv_plane.specs.declared.places.RecordWord.TheVariants as rec
+use Rattle.fkv_plane.specs.Places.{record_place}
 use Rattle.fkv_plane.specs.declared.places.Places.{Places}
 use Rattle.fkv_plane.specs.Passing.{passed}
 use Rattle.fkv_log.specs.declared.regions.Region.{Region}
@@ -32,6 +36,7 @@ use Rattle.fkv_ops.specs.declared.appending.Appending.TheVariants as appending
 use Rattle.fkv_ops.specs.declared.appending.AppendAnswer.{AppendAnswer}
 use Rattle.fkv_ops.specs.declared.appending.AppendAnswer.TheVariants as append
 use Rattle.fkv_ops.specs.declared.requests.HeldRecord.{HeldRecord}
+use Rattle.fkv_ops.specs.declared.requests.Request.{Request}
 use Rattle.fkv_ops.specs.declared.trying.OldValue.{OldValue}
 use Rattle.fkv_ops.specs.declared.trying.OldValue.TheVariants.{InMemory, Known}
 use Rattle.fkv_ops.specs.declared.trying.Trying.{Trying}
@@ -41,10 +46,10 @@ use Rattle.fkv_ops.specs.declared.walking.WalkAnswer.TheVariants as walk
 use Rattle.fkv_ops.specs.declared.walking.Walking.{Walking}
 use Rattle.fkv_ops.specs.declared.walking.Walking.TheVariants.{Finds}
 use Rattle.fkv_ops.specs.Requests.{is_read, is_blind}
-use Rattle.fkv_ops.specs.Values.{value_of}
+use Rattle.fkv_ops.specs.Values.{value_of, word_of}
 use Rattle.fkv_ops.specs.Walking.{WalkState, walk_ask, walk_next, walk_on}
 use Rattle.fkv_ops.specs.Appending.{AppendState, append_ask, append_next, append_ended, appending_ask, reserve_ledto, fill_ledto, publish_ledto, invalidate_ledto, appending_next}
-use Rattle.fkv_ops.specs.Trying.{TryState, with_latch, is_wait, ended_without, ends, takes_effect, full_at, shared_ledto, must_shift, wants_exclusive, appends, copies_from, copies, awaits, held_used, met_nowhere, met_disk, changes, is_own_version, region_met, met_record, walked, has_walked, walk_ledto, safe_loaded, current_ledto, told_value, answer_ledto, exclusive_ledto, old_ledto, append_ledto, exclusive_dropped, shared_dropped, latch_moved, walk_moved, trying_next, try_next}
+use Rattle.fkv_ops.specs.Trying.{TryState, with_latch, is_wait, ended_without, ends, takes_effect, full_at, shared_ledto, must_shift, wants_exclusive, appends, copies_from, copies, awaits, held_used, met_nowhere, met_disk, changes, is_own_version, region_met, met_record, walked, has_walked, walk_ledto, safe_loaded, current_ledto, told_value, answer_ledto, exclusive_ledto, old_ledto, append_ledto, exclusive_dropped, shared_dropped, latch_moved, walk_moved, trying_ask, try_ask, trying_next, try_next}
 use Rattle.fkv_ops.proofs.Shown.{is_append_end, TryRestsOrAsks, IsAppendUnderWay}
 use Rattle.fkv_pending.specs.declared.pending_requests.PendingRequest.{PendingRequest}
 use Rattle.fkv_log.specs.declared.invalidating.Invalidating.{Invalidating}
@@ -56,10 +61,15 @@ use Rattle.fkv_log.specs.Filling.{fill_begun, fill_ask, fill_next}
 use Rattle.fkv_log.specs.Invalidating.{invalidate_ask, invalidate_next}
 use Rattle.fkv_index.specs.declared.publishing.PublishAnswer.{PublishAnswer}
 use Rattle.fkv_index.specs.declared.publishing.PublishAnswer.TheVariants as publish
-use Rattle.fkv_index.specs.Publishing.{publish_next, publish_next_ask}
+use Rattle.fkv_index.specs.declared.publishing.Publishing.{Publishing}
+use Rattle.fkv_index.specs.declared.publishing.Publishing.TheVariants.{AtRest, SwapsEntry}
+use Rattle.fkv_index.specs.IndexWorld.{new_entry}
+use Rattle.fkv_index.specs.Publishing.{publish_ask, publish_next, publish_next_ask, published_where}
+use Rattle.fkv_index.specs.Slots.{entry_addr}
 use Rattle.fkv_world_order.specs.Appends.{cell_of, entry_made, is_for_entry, reserved_ghosts, publish_ghosts, invalidate_ghosts, append_ghosts}
-use Rattle.fkv_world_order.specs.Effects.{AreQuiet, TakesEffect, Quietly, InPlace, ByRecord}
+use Rattle.fkv_world_order.specs.Effects.{AreQuiet, Stepped, stepped, ChangesAt, TakesEffect, Quietly, InPlace, ByRecord}
 use Rattle.fkv_world_order.specs.Reservations.{Reservation, reservation, append_reserves, try_reserves}
+use Rattle.fkv_world_order.proofs.TryAppends.{HoldsAt, WordsAre, KnowsAt, IsTryAt}
 use Rattle.fkv_world_order.specs.Tries.{found_ghosts, find_ghosts, walk_ghosts, search_ghosts, try_ghosts}
 
 -- the entry of an effect with this reply
@@ -67,8 +77,22 @@ abbrev pub made_entry : ℕ → PendingRequest → Option Reply → Option Histo
 made_entry session pending None = None
 made_entry session pending (Some its) = Some (entry_made session pending its)
 
-pub quiet : (session : ℕ) (pending : PendingRequest) (reserved : Option Reservation) (events : List GhostEvent) (made : Option Reply) → AreQuiet events → made ≡ None → TakesEffect reserved events (made_entry session pending made)
-quiet session pending reserved events made still none = rw none (Quietly events still)
+pub quiet : (session : ℕ) (pending : PendingRequest) (its_step : Stepped) (events : List GhostEvent) (made : Option Reply) → AreQuiet events → made ≡ None → TakesEffect its_step events (made_entry session pending made)
+quiet session pending its_step events made still none = rw none (Quietly events still)
+
+-- so it is of an ask that is passed on
+pub passes_on : {A B : Type 0} (p : Places) (version : Version) (reserved : Option Reservation) (ask : Ask A) (told : B) (reply : ℕ) (events : List GhostEvent) (made : Option HistoryEntry)
+    → TakesEffect (stepped p version reserved ask reply) events made → TakesEffect (stepped p version reserved (passed ask told) reply) events made
+unfolding passed
+passes_on p version reserved (Load place) told reply events made its = its
+passes_on p version reserved (Store place new) told reply events made its = its
+passes_on p version reserved (Swap place new) told reply events made its = its
+passes_on p version reserved (Cas place old new) told reply events made its = its
+passes_on p version reserved (Add place k) told reply events made its = its
+passes_on p version reserved (Max place k) told reply events made its = its
+passes_on p version reserved (Put slot action) told reply events made its = its
+passes_on p version reserved (Take slot) told reply events made its = its
+passes_on p version reserved (Done inner) told reply events made its = its
 
 -- ---- an append
 abbrev published_reply : Reply → Ask AppendAnswer → Option Reply
@@ -119,25 +143,50 @@ invalidate_quiet : (its : Invalidating) → AreQuiet (invalidate_ghosts its)
 invalidate_quiet invalidating.AtRest = tt
 invalidate_quiet (invalidating.StoresHeader addr header) = (tt, tt)
 
-publish_takes : (p : Places) (a : AppendState) (session : ℕ) (pending : PendingRequest) (its : Reply) (addr : Addr) (ask : Ask PublishAnswer) → a.step ≡ appending.Publishes addr
-    → TakesEffect (Some (reservation a (entry_made session pending its) addr.0)) (publish_ghosts addr.0 ask) (made_entry session pending (published_reply its (append_ask p (publish_ledto a addr ask))))
+new_addr : (addr tag : ℕ) → addr < 2 ^ 48 → entry_addr (new_entry addr tag) ≡ addr
+new_addr addr tag low = omega (arith, low)
+
+-- the Cas that publishes it
+publish_takes : (p : Places) (a : AppendState) (session : ℕ) (pending : PendingRequest) (its : Reply) (addr : Addr) (place word tag reply : ℕ) → addr.0 < 2 ^ 48 → WordsAre pending.request a.its_words word
+    → TakesEffect (stepped {A = PublishAnswer} p pending.request.version (Some (reservation a (entry_made session pending its) addr.0)) (Cas place word (new_entry addr.0 tag)) reply) (publish_ghosts addr.0 (Done (published_where word reply)))
+    (made_entry session pending (published_reply its (append_ask p (publish_ledto (record a { publishing = AtRest }) addr (Done (published_where word reply))))))
 unfolding publish_ledto appending_ask
-publish_takes p a session pending its addr (Done publish.Won) at = ByRecord (reservation a (entry_made session pending its) addr.0) refl
-publish_takes p a session pending its addr (Done publish.Lost) at = quiet session pending _ [] _ tt (going_none p (publish_ledto a addr (Done publish.Lost)) appending.Invalidates its refl)
-publish_takes p a session pending its addr ask at = quiet session pending _ [] _ tt (going_none p a a.step its (ap is_append_end at))
+publish_takes p a session pending its addr place word tag reply fits so = by_test (reply == word) refl
+  where
+    found : (reply == word) ≡ true → entry_addr reply ≡ a.its_words.header.previous.0
+    found e = let its_word : reply ≡ word = grind (arith, nat_tests, e) in ap entry_addr its_word ∙ sym so.previous
+
+    by_test : (c : Bool) → (reply == word) ≡ c
+        → TakesEffect (record { places = p; place = Some place; found = reply; word = if c then new_entry addr.0 tag else reply; version = pending.request.version; reserved = Some (reservation a (entry_made session pending its) addr.0) })
+        (publish_ghosts addr.0 (Done (if c then publish.Won else publish.Lost)))
+        (made_entry session pending (published_reply its (append_ask p (publish_ledto (record a { publishing = AtRest }) addr (Done (if c then publish.Won else publish.Lost))))))
+    by_test true e =
+        ByRecord (reservation a (entry_made session pending its) addr.0)
+        (record { reserved = refl; its_key = ap (λ (key : Key). key.0) so.its_key; its_version = ap (λ (v : Version). v.0) so.its_version; previous = found e; its_addr = new_addr addr.0 tag fits })
+    by_test false e = quiet session pending _ [] _ tt (going_none p (publish_ledto (record a { publishing = AtRest }) addr (Done publish.Lost)) appending.Invalidates its refl)
+
+publish_so : (p : Places) (a : AppendState) (session : ℕ) (pending : PendingRequest) (its : Reply) (addr : Addr) (step : Publishing) (place word tag reply : ℕ) → step ≡ SwapsEntry place word (new_entry addr.0 tag) → addr.0 < 2 ^ 48
+    → WordsAre pending.request a.its_words word
+    → TakesEffect (stepped p pending.request.version (Some (reservation a (entry_made session pending its) addr.0)) (publish_ask step) reply) (publish_ghosts addr.0 (publish_next_ask step reply))
+    (made_entry session pending (published_reply its (append_ask p (publish_ledto (record a { publishing = publish_next step reply }) addr (publish_next_ask step reply)))))
+unfolding publish_ask publish_next publish_next_ask
+publish_so p a session pending its addr step place word tag reply e fits so = rw e (publish_takes p a session pending its addr place word tag reply fits so)
 
 append_takes : (p : Places) (room : ℕ) (a : AppendState) (session : ℕ) (pending : PendingRequest) (its : Reply) (step : Appending) (reply : ℕ) → a.step ≡ step → is_append_end step ≡ false
-    → TakesEffect (append_reserves a (entry_made session pending its) step) (append_ghosts room a (entry_made session pending its) step reply) (made_entry session pending (published_reply its (append_ask p (appending_next p room a step reply))))
-unfolding appending_next
-append_takes p room a session pending its (appending.Ended told) reply at goes = cc
-append_takes p room a session pending its appending.Reserves reply at goes =
+    → HoldsAt a step → WordsAre pending.request a.its_words a.slot.entry
+    → TakesEffect (stepped p pending.request.version (append_reserves a (entry_made session pending its) step) (appending_ask p a step) reply) (append_ghosts room a (entry_made session pending its) step reply)
+    (made_entry session pending (published_reply its (append_ask p (appending_next p room a step reply))))
+unfolding appending_next appending_ask
+append_takes p room a session pending its (appending.Ended told) reply at goes holds same = cc
+append_takes p room a session pending its appending.Reserves reply at goes holds same =
     quiet session pending _ (reserved_ghosts a (entry_made session pending its) (reserve_next_ask room a.reserving reply)) _ (reserved_quiet a _ (reserve_next_ask room a.reserving reply))
     (reserve_none p (record a { reserving = reserve_next a.reserving reply }) its (reserve_next_ask room a.reserving reply) at)
-append_takes p room a session pending its (appending.Fills addr) reply at goes =
+append_takes p room a session pending its (appending.Fills addr) reply at goes holds same =
     quiet session pending _ [] _ tt (fill_none p (record a { filling = fill_next a.filling }) its addr (fill_ask p (fill_next a.filling)) at)
-append_takes p room a session pending its (appending.Publishes addr) reply at goes =
-    publish_takes p (record a { publishing = publish_next a.publishing reply }) session pending its addr (publish_next_ask a.publishing reply) at
-append_takes p room a session pending its appending.Invalidates reply at goes =
+append_takes p room a session pending its (appending.Publishes addr) reply at goes holds same =
+    passes_on p pending.request.version (Some (reservation a (entry_made session pending its) addr.0)) (publish_ask a.publishing) append.Contended reply _ _
+    (publish_so p a session pending its addr a.publishing a.slot.place a.slot.entry a.slot.tag reply holds.1 holds.0 same)
+append_takes p room a session pending its appending.Invalidates reply at goes holds same =
     quiet session pending _ (invalidate_ghosts a.invalidating) _ (invalidate_quiet a.invalidating) (invalidate_none p (record a { invalidating = invalidate_next a.invalidating }) its (invalidate_ask p (invalidate_next a.invalidating)) at)
 
 -- ---- where a try goes on or ends, what it has told as its effect stays
@@ -279,7 +328,7 @@ walk_quiet : (p : Places) (reader : ℕ) (w : WalkState) (step : Walking) (reply
 walk_quiet p reader w Finds reply = find_quiet reader (find_next_ask p w.finding reply)
 walk_quiet p reader w step reply = tt
 
-search_quiet : (p : Places) (op : Op) (reader : ℕ) (w : WalkState) (reply : ℕ) → AreQuiet (search_ghosts p op reader w reply)
+pub search_quiet : (p : Places) (op : Op) (reader : ℕ) (w : WalkState) (reply : ℕ) → AreQuiet (search_ghosts p op reader w reply)
 search_quiet p (Read key) reader w reply = walk_quiet p reader w w.step reply
 search_quiet p op reader w reply = tt
 
@@ -287,42 +336,66 @@ search_quiet p op reader w reply = tt
 under_way : (t : TryState) (its : Reply) → t.step ≡ Appends its → TryRestsOrAsks t → IsAppendUnderWay t.append
 under_way t its at rests = subst (λ (x : Trying). TryRestsOrAsks (record t { step = x })) at rests
 
-swap_takes : (session : ℕ) (pending : PendingRequest) (addr : ℕ) (its : Reply) (made : Option Reply) → made ≡ Some its → TakesEffect None (Changes addr (entry_made session pending its) ∷ []) (made_entry session pending made)
-swap_takes session pending addr its made e = rw e (InPlace addr (entry_made session pending its))
+swap_takes : (its_step : Stepped) (session : ℕ) (pending : PendingRequest) (addr : ℕ) (its : Reply) (made : Option Reply) → ChangesAt its_step addr (entry_made session pending its) → made ≡ Some its
+    → TakesEffect its_step (Changes addr (entry_made session pending its) ∷ []) (made_entry session pending made)
+swap_takes its_step session pending addr its made at e = rw e (InPlace addr (entry_made session pending its) at)
 
-change_takes : (p : Places) (session : ℕ) (pending : PendingRequest) (t : TryState) (addr : ℕ) (old found : ℕ) (c : Bool) → t.effect ≡ None
-    → TakesEffect None (if c then Changes addr (entry_made session pending (reply_from (value_of old) t.request.op)) ∷ [] else [])
+-- what doesn't count the old value
+blind_value : (op : Op) (old : Option ℕ) → is_blind op ≡ true → value_applied None op ≡ value_applied old op
+blind_value (Upsert key value) old blind = refl
+blind_value (Delete key) old blind = refl
+blind_value op old blind = cc
+
+blind_reply : (op : Op) (old : Option ℕ) → is_blind op ≡ true → reply_from None op ≡ reply_from old op
+blind_reply (Upsert key value) old blind = refl
+blind_reply (Delete key) old blind = refl
+blind_reply op old blind = cc
+
+change_takes : (p : Places) (session : ℕ) (pending : PendingRequest) (t : TryState) (addr : ℕ) (old found : ℕ) (c : Bool) → (found == old) ≡ c → t.effect ≡ None → t.request ≡ pending.request
+    → TakesEffect (record { places = p; place = Some (record_place p addr rec.Value); found = found; word = if c then word_of (value_applied (value_of old) t.request.op) else found; version = pending.request.version; reserved = None })
+    (if c then Changes addr (entry_made session pending (reply_from (value_of old) t.request.op)) ∷ [] else [])
     (made_entry session pending (if c then takes_effect p t (reply_from (value_of old) t.request.op) else ends p t (answer.Wait reason.Contended)).effect)
-change_takes p session pending t addr old found true none =
+change_takes p session pending t addr old found true e none same =
     let its : Reply = reply_from (value_of old) t.request.op in
-    swap_takes session pending addr its _ (ends_keeps p (record t { effect = Some its }) (answer.Done its))
-change_takes p session pending t addr old found false none = quiet session pending None [] _ tt (ends_keeps p t (answer.Wait reason.Contended) ∙ none)
+    let was : old ≡ found = grind (arith, nat_tests, e) in
+    swap_takes _ session pending addr its _ (record {
+      there = refl;
+      value = ap (λ (n : ℕ). word_of (value_applied (value_of n) t.request.op)) was ∙ ap (λ (r : Request). word_of (value_applied (value_of found) r.op)) same;
+      replied = ap (λ (n : ℕ). reply_from (value_of n) t.request.op) was ∙ ap (λ (r : Request). reply_from (value_of found) r.op) same;
+    }) (ends_keeps p (record t { effect = Some its }) (answer.Done its))
+change_takes p session pending t addr old found false e none same = quiet session pending _ [] _ tt (ends_keeps p t (answer.Wait reason.Contended) ∙ none)
 
-trying_takes : (p : Places) (room session reader : ℕ) (pending : PendingRequest) (t : TryState) (step : Trying) (reply : ℕ) → t.step ≡ step → TryRestsOrAsks t
-    → TakesEffect (try_reserves session pending t step) (try_ghosts p room session reader pending t step reply) (made_entry session pending (trying_next p room (record t { effect = None }) step reply).effect)
-unfolding trying_next
-trying_takes p room session reader pending t (Ended its) reply at rests = Quietly [] tt
-trying_takes p room session reader pending t TakesShared reply at rests = quiet session pending None [] _ tt (shared_keeps p (latch_moved (record t { effect = None }) reply) (latch_next_ask t.latching reply))
-trying_takes p room session reader pending t Walks reply at rests =
-    quiet session pending None (search_ghosts p pending.request.op reader t.walk reply) _ (search_quiet p pending.request.op reader t.walk reply) (walk_keeps p (walk_moved p (record t { effect = None }) reply) (walk_ask p (walk_next p t.walk reply)))
-trying_takes p room session reader pending t (LoadsSafe addr version) reply at rests = quiet session pending None [] _ tt (safe_keeps p (record t { effect = None }) addr version reply)
-trying_takes p room session reader pending t (SwapsValue addr) reply at rests =
+trying_takes : (p : Places) (room session reader : ℕ) (pending : PendingRequest) (t : TryState) (step : Trying) (reply : ℕ) → t.step ≡ step → TryRestsOrAsks t → t.request ≡ pending.request → KnowsAt pending.request t step
+    → TakesEffect (stepped p pending.request.version (try_reserves session pending t step) (trying_ask p t step) reply) (try_ghosts p room session reader pending t step reply)
+    (made_entry session pending (trying_next p room (record t { effect = None }) step reply).effect)
+unfolding trying_next trying_ask
+trying_takes p room session reader pending t (Ended its) reply at rests same so = Quietly [] tt
+trying_takes p room session reader pending t TakesShared reply at rests same so = quiet session pending _ [] _ tt (shared_keeps p (latch_moved (record t { effect = None }) reply) (latch_next_ask t.latching reply))
+trying_takes p room session reader pending t Walks reply at rests same so =
+    quiet session pending _ (search_ghosts p pending.request.op reader t.walk reply) _ (search_quiet p pending.request.op reader t.walk reply) (walk_keeps p (walk_moved p (record t { effect = None }) reply) (walk_ask p (walk_next p t.walk reply)))
+trying_takes p room session reader pending t (LoadsSafe addr version) reply at rests same so = quiet session pending _ [] _ tt (safe_keeps p (record t { effect = None }) addr version reply)
+trying_takes p room session reader pending t (SwapsValue addr) reply at rests same so =
     let its : Reply = reply_from None t.request.op in
-    swap_takes session pending addr.0 its _ (ends_keeps p (record t { effect = Some its }) (answer.Done its))
-trying_takes p room session reader pending t (LoadsCurrent addr) reply at rests = quiet session pending None [] _ tt (current_keeps p (walk_moved p (record t { effect = None }) reply) addr (walk_ask p (walk_next p t.walk reply)))
-trying_takes p room session reader pending t (ChangesValue addr old) reply at rests = change_takes p session pending (record t { effect = None }) addr.0 old reply (reply == old) refl
-trying_takes p room session reader pending t LoadsAnswer reply at rests = quiet session pending None [] _ tt (answer_keeps p (walk_moved p (record t { effect = None }) reply) (walk_ask p (walk_next p t.walk reply)))
-trying_takes p room session reader pending t (TakesExclusive old) reply at rests = quiet session pending None [] _ tt (exclusive_keeps p (latch_moved (record t { effect = None }) reply) old (latch_next_ask t.latching reply))
-trying_takes p room session reader pending t LoadsOld reply at rests = quiet session pending None [] _ tt (old_keeps p (walk_moved p (record t { effect = None }) reply) (walk_ask p (walk_next p t.walk reply)))
-trying_takes p room session reader pending t (Appends its) reply at rests =
+    swap_takes _ session pending addr.0 its _ (record {
+      there = refl;
+      value = ap word_of (blind_value t.request.op (value_of reply) so) ∙ ap (λ (r : Request). word_of (value_applied (value_of reply) r.op)) same;
+      replied = blind_reply t.request.op (value_of reply) so ∙ ap (λ (r : Request). reply_from (value_of reply) r.op) same;
+    }) (ends_keeps p (record t { effect = Some its }) (answer.Done its))
+trying_takes p room session reader pending t (LoadsCurrent addr) reply at rests same so = quiet session pending _ [] _ tt (current_keeps p (walk_moved p (record t { effect = None }) reply) addr (walk_ask p (walk_next p t.walk reply)))
+trying_takes p room session reader pending t (ChangesValue addr old) reply at rests same so = change_takes p session pending (record t { effect = None }) addr.0 old reply (reply == old) refl refl same
+trying_takes p room session reader pending t LoadsAnswer reply at rests same so = quiet session pending _ [] _ tt (answer_keeps p (walk_moved p (record t { effect = None }) reply) (walk_ask p (walk_next p t.walk reply)))
+trying_takes p room session reader pending t (TakesExclusive old) reply at rests same so = quiet session pending _ [] _ tt (exclusive_keeps p (latch_moved (record t { effect = None }) reply) old (latch_next_ask t.latching reply))
+trying_takes p room session reader pending t LoadsOld reply at rests same so = quiet session pending _ [] _ tt (old_keeps p (walk_moved p (record t { effect = None }) reply) (walk_ask p (walk_next p t.walk reply)))
+trying_takes p room session reader pending t (Appends its) reply at rests same so =
     let a : AppendState = append_next p room t.append reply in
     let way : IsAppendUnderWay t.append = under_way t its at rests in
     let made : (append_ledto p (record t { effect = None; append = a }) its (append_ask p a)).effect ≡ published_reply its (append_ask p a) = append_effect p (record t { effect = None; append = a }) its (append_ask p a) refl in
-    subst (λ (x : Option Reply). TakesEffect (append_reserves t.append (entry_made session pending its) t.append.step) (append_ghosts room t.append (entry_made session pending its) t.append.step reply) (made_entry session pending x)) (sym made)
-    (append_takes p room t.append session pending its t.append.step reply refl way.goes_on)
-trying_takes p room session reader pending t (DropsExclusive its) reply at rests = quiet session pending None [] _ tt (exclusive_dropped_keeps p (latch_moved (record t { effect = None }) reply) its (latch_next_ask t.latching reply))
-trying_takes p room session reader pending t (DropsShared its) reply at rests = quiet session pending None [] _ tt (shared_dropped_keeps (latch_moved (record t { effect = None }) reply) its (latch_next_ask t.latching reply))
+    subst (λ (x : Option Reply). TakesEffect (stepped p pending.request.version (append_reserves t.append (entry_made session pending its) t.append.step) (passed (append_ask p t.append) answer.Shift) reply)
+    (append_ghosts room t.append (entry_made session pending its) t.append.step reply) (made_entry session pending x)) (sym made)
+    (passes_on p pending.request.version _ (append_ask p t.append) answer.Shift reply _ _ (append_takes p room t.append session pending its t.append.step reply refl way.goes_on so.holds so.same))
+trying_takes p room session reader pending t (DropsExclusive its) reply at rests same so = quiet session pending _ [] _ tt (exclusive_dropped_keeps p (latch_moved (record t { effect = None }) reply) its (latch_next_ask t.latching reply))
+trying_takes p room session reader pending t (DropsShared its) reply at rests same so = quiet session pending _ [] _ tt (shared_dropped_keeps (latch_moved (record t { effect = None }) reply) its (latch_next_ask t.latching reply))
 
-pub try_takes : (p : Places) (room session reader : ℕ) (pending : PendingRequest) (t : TryState) (reply : ℕ) → TryRestsOrAsks t
-    → TakesEffect (try_reserves session pending t t.step) (try_ghosts p room session reader pending t t.step reply) (made_entry session pending (try_next p room t reply).effect)
-try_takes p room session reader pending t reply rests = trying_takes p room session reader pending t t.step reply refl rests
+pub try_takes : (p : Places) (room session reader : ℕ) (pending : PendingRequest) (t : TryState) (reply : ℕ) → TryRestsOrAsks t → IsTryAt pending.request t
+    → TakesEffect (stepped p pending.request.version (try_reserves session pending t t.step) (try_ask p t) reply) (try_ghosts p room session reader pending t t.step reply) (made_entry session pending (try_next p room t reply).effect)
+try_takes p room session reader pending t reply rests its = trying_takes p room session reader pending t t.step reply refl rests its.same its.knows

@@ -2,6 +2,7 @@ pub mod Appends
 pub mod Effects
 pub mod GhostEvents
 pub mod Lines
+pub mod Names
 pub mod Reservations
 pub mod Reserved
 pub mod Sessions

@@ -8,9 +8,10 @@ ghost use Rattle.fkv_world.specs.Opened.{IsOpenedWorld};
 ghost use Rattle.fkv_world.specs.Runs.{World, happens, run};
 ghost use Rattle.fkv_world.specs.World.{Event, seat_at};
 ghost use Rattle.fkv_world_guard.specs.Shows as guard;
-ghost use Rattle.fkv_world_order.specs.Effects.{MakesEffect, MoverTriesUpdate, TakesItsEffect, TriesUpdate, reserved_before};
+ghost use Rattle.fkv_world_order.specs.Effects.{AttemptsRead, MakesEffect, TakesItsEffect, TakesNoEffect, step_at};
 ghost use Rattle.fkv_world_order.specs.GhostEvents.{ghost_events, home_in, life_ghosts, mapped, safe_at, serials_in};
 ghost use Rattle.fkv_world_order.specs.Lines.{lines_of};
+ghost use Rattle.fkv_world_order.specs.Names.{RequestsAreNamed};
 ghost use Rattle.fkv_world_order.specs.Reserved.{AllMeetReserved, AreOfSessions, AreReserved, IsUnbornFrom, MovesReserved, ReservationsAreApart, ReservationsAreOpen, ReservesNothing, tail_at};
 ghost use Rattle.fkv_world_order.specs.Worked.{IsWorkedLife};
 
@@ -68,14 +69,22 @@ pub fn law_ghost_reserved()
         → AllMeetReserved (home_in opening.now.shape.bucket_bits) ghosts (mapped opening events) }
 {}
 
-/// At every moment of such a life, where a session attempts nothing or an update: whatever its next reply is, the effect that the reply makes is
-/// what takes effect by the log's events of that step. It is nothing where they neither change nor publish a record; the update that changes one
-/// in place, with its session, serial, operation and reply; or the one for which the session has reserved the record that is published. And each
-/// event of such a life, whose session attempts nothing or an update, puts that effect at the front of the life's history, or leaves it.
+/// At every moment of such a life, whatever the next reply to a session is: the effect that it makes is what takes effect by the log's events of
+/// that step. It is nothing where they neither change nor publish a record; the update that changes one in place, at the address of the value
+/// word that the step asks for, with the reply and the new value that its operation makes of the value found; or the one for which the session has
+/// reserved the record that is published: of its key and the request's version, by a word that carries its address, behind the record that the word
+/// before named. And each event of such a life puts that effect, with its session, serial, operation and reply, at the front of the life's history,
+/// in the version of the request, or leaves it. By an attempt of a read nothing takes effect; and a request is named by its operation, a read by a
+/// ticket and an update by its serial.
 pub fn law_ghost_effects()
     ensures steps { (opening : World) (start : ℕ) (events : List Event) (session reply : ℕ) (its : SessionState) → guard.IsOpened opening.now start
-        → slice_get (run opening events).now.sessions session ≡ Some its → TriesUpdate its its.step
+        → slice_get (run opening events).now.sessions session ≡ Some its
         → TakesItsEffect (seat_at (run opening events).now session) (run opening events).past.trace its reply }
-    ensures events { (opening : World) (start : ℕ) (events : List Event) (event : Event) → guard.IsOpened opening.now start → MoverTriesUpdate (run opening events).now event
-        → MakesEffect (run opening events).past.history (happens (run opening events) event).past.history (reserved_before (run opening events).now event) (ghost_events (serials_in opening.now) (run opening events) event) }
+    ensures events { (opening : World) (start : ℕ) (events : List Event) (event : Event) → guard.IsOpened opening.now start
+        → MakesEffect (run opening events).past.history (happens (run opening events) event).past.history (step_at (run opening events).now event) (ghost_events (serials_in opening.now) (run opening events) event) }
+    ensures reads { (opening : World) (start : ℕ) (events : List Event) (session reply : ℕ) (its : SessionState) → guard.IsOpened opening.now start
+        → slice_get (run opening events).now.sessions session ≡ Some its → AttemptsRead its its.step
+        → TakesNoEffect (seat_at (run opening events).now session) (run opening events).past.trace its reply }
+    ensures names { (opening : World) (start : ℕ) (events : List Event) (session : ℕ) (its : SessionState) → guard.IsOpened opening.now start
+        → slice_get (run opening events).now.sessions session ≡ Some its → RequestsAreNamed its }
 {}

@@ -1,10 +1,17 @@
 -- The law, by the effect of each reply, and by what that adds to the history.
 use Rattle.fkv_world_order.proofs.EventEffects.{life_makes}
-use Rattle.fkv_world_order.proofs.SessionEffects.{life_takes}
+use Rattle.fkv_world_order.proofs.RequestNames.{life_named}
+use Rattle.fkv_world_order.proofs.SessionEffects.{life_reads, life_takes}
 use Rattle.fkv_world_order.proofs.laws.law_ghost_effects.Goals as goal
 
 pub returns-clause-steps : goal.returns-clause-steps
-returns-clause-steps c = λ opening start events session reply its opened found update. life_takes opening start events session its reply opened found update
+returns-clause-steps c = λ opening start events session reply its opened found. life_takes opening start events session its reply opened found
 
 pub returns-clause-events : goal.returns-clause-events
-returns-clause-events c = λ opening start events event opened tries. life_makes opening start events event opened tries
+returns-clause-events c = λ opening start events event opened. life_makes opening start events event opened
+
+pub returns-clause-reads : goal.returns-clause-reads
+returns-clause-reads c = λ opening start events session reply its opened found reads. life_reads opening start events session its reply opened found reads
+
+pub returns-clause-names : goal.returns-clause-names
+returns-clause-names c = λ opening start events session its opened found. life_named opening start events session its opened found
