@@ -1,0 +1,6 @@
+mod Counted
+mod Opens
+mod Pairing
+mod Reaching
+mod Walking
+mod Words

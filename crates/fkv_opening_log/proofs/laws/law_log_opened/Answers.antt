@@ -1,0 +1,7 @@
+-- The law, by what the log has.
+use Rattle.fkv_opening_log.proofs.Counted.{of_store}
+use Rattle.fkv_opening_log.proofs.Opens.{is_opened}
+use Rattle.fkv_opening_log.proofs.laws.law_log_opened.Goals as goal
+
+pub returns : goal.returns
+returns c = λ image o store pairs are. is_opened image o store (of_store image o store c.law_spellings_apart.ensures.records (c.law_chain_of_entry.ensures image o store)) pairs are

@@ -1,0 +1,45 @@
+//! What the log has with which the life of an opened store begins, and that the laws of the log may begin with it.
+ghost use Rattle.std.specs.Prelude.{ℕ, List};
+ghost use Rattle.fkv_base.specs.declared.numbers.Key.{Key};
+ghost use Rattle.fkv_base.specs.declared.numbers.Value.{Value};
+ghost use Rattle.fkv_core.specs.Openings.{IsOpeningWorld};
+ghost use Rattle.fkv_opening.specs.Opened.{IsStoreOf};
+ghost use Rattle.fkv_opening.specs.declared.opened_store.Opened.{Opened};
+ghost use Rattle.fkv_order.specs.Owed.{IsOpened};
+ghost use Rattle.fkv_pairs.specs.Pairs.{ArePairs, log_of_store};
+ghost use Rattle.fkv_world.specs.World.{Now};
+ghost use Rattle.fkv_world_order.specs.GhostEvents.{home_in};
+ghost use Rattle.fkv_opening_log.specs.Begins.{Begins};
+ghost use Rattle.fkv_opening_log.specs.OpeningLog.{opening_ghosts, opening_log};
+ghost use Rattle.fkv_opening_log.specs.Records.{HasWhatCounts, map_of};
+
+use fkv_pairs::law_chain_of_entry;
+use fkv_record::law_spellings_apart;
+
+/// The log of an opened store has the records of its image that count, each at its address, with its key, its value and the address that it leads
+/// to, and no others. They are in the version of the store's commit, and each stands in the chain of its key's home.
+pub fn law_log_counted()
+    ensures { (image : List ℕ) (o : Opened) (store : IsStoreOf image o) → HasWhatCounts (log_of_store image o store) (opening_log image o) }
+{
+    law_spellings_apart();
+    law_chain_of_entry();
+}
+
+/// It is one with which the order law begins: each chain has just the published records of its home, each of which leads to the next, and addresses
+/// fall; all are fixed and in the version of the store's commit, none is reserved, and each key shows its value among the store's pairs. So the laws
+/// of such a log hold after all events that keep to their rules, from the map that has these pairs.
+pub fn law_log_opened()
+    ensures { (image : List ℕ) (o : Opened) (store : IsStoreOf image o) (pairs : List (Key × Value)) → ArePairs (log_of_store image o store) pairs → IsOpened (home_in o.shape.bucket_bits) (map_of pairs) o.number.0 (opening_ghosts image o) }
+{
+    law_spellings_apart();
+    law_chain_of_entry();
+}
+
+/// And it is one with which the life of the store's world begins: what is below the safe read-only offset is fixed, nothing is told, has taken effect or
+/// is reserved, and no address from the tail up has a record.
+pub fn law_log_begins()
+    ensures { (image : List ℕ) (o : Opened) (n : Now) → IsStoreOf image o → IsOpeningWorld o n → Begins n (opening_ghosts image o) }
+{
+    law_spellings_apart();
+    law_chain_of_entry();
+}
