@@ -4,3 +4,4 @@ mod Pairing
 mod Reaching
 mod Walking
 mod Words
+mod WorldOpens

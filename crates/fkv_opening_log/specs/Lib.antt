@@ -1,3 +1,4 @@
 pub mod Begins
+pub mod Lives
 pub mod OpeningLog
 pub mod Records

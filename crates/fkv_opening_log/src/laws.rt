@@ -7,14 +7,18 @@ ghost use Rattle.fkv_opening.specs.Opened.{IsStoreOf};
 ghost use Rattle.fkv_opening.specs.declared.opened_store.Opened.{Opened};
 ghost use Rattle.fkv_order.specs.Owed.{IsOpened};
 ghost use Rattle.fkv_pairs.specs.Pairs.{ArePairs, log_of_store};
-ghost use Rattle.fkv_world.specs.World.{Now};
+ghost use Rattle.fkv_world.specs.World.{Event, Now};
 ghost use Rattle.fkv_world_order.specs.GhostEvents.{home_in};
 ghost use Rattle.fkv_opening_log.specs.Begins.{Begins};
+ghost use Rattle.fkv_opening_log.specs.Lives.{IsBeside, IsOrdered, KeepsRules, ghosts_beside};
 ghost use Rattle.fkv_opening_log.specs.OpeningLog.{opening_ghosts, opening_log};
 ghost use Rattle.fkv_opening_log.specs.Records.{HasWhatCounts, map_of};
 
+use fkv_lives::law_guard_opens;
+use fkv_order::{law_calls_in_order, law_chains_show_content, law_versions_show_content};
 use fkv_pairs::law_chain_of_entry;
 use fkv_record::law_spellings_apart;
+use fkv_world_order::{law_ghost_fixed, law_ghost_reserved, law_ghost_trace, law_ghost_unborn};
 
 /// The log of an opened store has the records of its image that count, each at its address, with its key, its value and the address that it leads
 /// to, and no others. They are in the version of the store's commit, and each stands in the chain of its key's home.
@@ -42,4 +46,23 @@ pub fn law_log_begins()
 {
     law_spellings_apart();
     law_chain_of_entry();
+}
+
+/// So beside each life of a store's world there is such a log, from this one on: the laws of the log beside a life hold of it with no premise. And where
+/// each of its events keeps to its rule, the order law holds of it: its history is legal from the store's pairs, and so on.
+pub fn law_log_beside()
+    ensures beside { (bytes : List ℕ) (o : Opened) (n : Now) (events : List Event) → IsStoreOf bytes o → IsOpeningWorld o n → IsBeside o n bytes events }
+    ensures ordered { (bytes : List ℕ) (o : Opened) (n : Now) (events : List Event) (store : IsStoreOf bytes o) (pairs : List (Key × Value)) → IsOpeningWorld o n
+        → ArePairs (log_of_store bytes o store) pairs → KeepsRules o n bytes events → IsOrdered o (map_of pairs) (home_in n.shape.bucket_bits) (ghosts_beside o n bytes events) }
+{
+    law_log_begins();
+    law_log_opened();
+    law_guard_opens();
+    law_ghost_trace();
+    law_ghost_fixed();
+    law_ghost_unborn();
+    law_ghost_reserved();
+    law_chains_show_content();
+    law_versions_show_content();
+    law_calls_in_order();
 }
