@@ -6,7 +6,7 @@ use Rattle.fkv_chains.specs.Entries.{Counts, IsEntry}
 use Rattle.fkv_disk.specs.Bytes.{bytes_at}
 use Rattle.fkv_opening.specs.Opened.{IsStoreOf}
 use Rattle.fkv_opening.specs.declared.opened_store.Opened.{Opened}
-use Rattle.fkv_order.specs.Chains.{Cell, Unborn, Reserved, Published}
+use Rattle.fkv_order.specs.Chains.{Cell, Unborn, Reserved, Published, head_of}
 use Rattle.fkv_order.specs.Owed.{AreChains, IsLinked, previous_of}
 use Rattle.fkv_order.specs.Trace.{IsIn}
 use Rattle.fkv_pairs.specs.Pairs.{CountsAtHome, IsChainOf, log_of_store}
@@ -21,7 +21,7 @@ use Rattle.fkv_world_order.specs.GhostEvents.{home_in}
 use Rattle.fkv_opening_log.specs.OpeningLog.{cell_at, chain_down, chain_of, entry_of, is_in, logged_at, opening_log}
 use Rattle.fkv_opening_log.specs.Records.{cell_of, HasWhatCounts, IsCellOf}
 use Rattle.fkv_opening_log.proofs.Reaching.{IsOfStore, has_chain, one, reached_falls, reached_low}
-use Rattle.fkv_opening_log.proofs.Walking.{AllLead, along_in, down_in_some, down_linked, down_none, in_along, in_is, is_there}
+use Rattle.fkv_opening_log.proofs.Walking.{AllLead, along_in, down_head, down_in_some, down_linked, down_none, in_along, in_is, is_there}
 use Rattle.fkv_opening_log.proofs.Words.{cell_is}
 
 -- the home of a record is that of its key
@@ -82,6 +82,9 @@ module _ (image : List ℕ) (o : Opened) (store : IsStoreOf image o) (its : IsOf
 
   none_chain : (its_home : ℕ) → entry_of o.entries.items its_home ≡ 0 → chain_of image o its_home ≡ []
   none_chain its_home none = ap (λ (e : ℕ). chain_down (λ a. let cell = cell_at image o a in cell.previous) o.tail.0 e) none ∙ down_none _ o.tail.0
+
+  pub chain_head : (its_home : ℕ) → head_of (chain_of image o its_home) ≡ entry_of o.entries.items its_home
+  chain_head its_home = down_head _ o.tail.0 _ (elim (has_chain (log_of_store image o store) o.entries.items its its_home) [ inl entry ↦ entry_low its_home _ entry | inr none ↦ omega (arith, none.0) ])
 
   -- a chain has just the records that count for its home
   pub chain_counts : (its_home a : ℕ) → IsIn a (chain_of image o its_home) → Has (Counts (log_of_store image o store) its_home) a

@@ -1,4 +1,6 @@
 mod Counted
+mod Heads
+mod Left
 mod Opens
 mod Pairing
 mod Reaching

@@ -1,4 +1,6 @@
 pub mod Begins
+pub mod Heads
+pub mod Left
 pub mod Lives
 pub mod OpeningLog
 pub mod Records

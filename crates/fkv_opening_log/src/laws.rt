@@ -10,11 +10,13 @@ ghost use Rattle.fkv_pairs.specs.Pairs.{ArePairs, log_of_store};
 ghost use Rattle.fkv_world.specs.World.{Event, Now};
 ghost use Rattle.fkv_world_order.specs.GhostEvents.{home_in};
 ghost use Rattle.fkv_opening_log.specs.Begins.{Begins};
+ghost use Rattle.fkv_opening_log.specs.Heads.{LeadToHeads};
+ghost use Rattle.fkv_opening_log.specs.Left.{LosesTheRest};
 ghost use Rattle.fkv_opening_log.specs.Lives.{IsBeside, IsOrdered, KeepsRules, ghosts_beside};
 ghost use Rattle.fkv_opening_log.specs.OpeningLog.{opening_ghosts, opening_log};
 ghost use Rattle.fkv_opening_log.specs.Records.{HasWhatCounts, map_of};
 
-use fkv_lives::law_guard_opens;
+use fkv_lives::{law_guard_opens, law_index_opens};
 use fkv_order::{law_calls_in_order, law_chains_show_content, law_versions_show_content};
 use fkv_pairs::law_chain_of_entry;
 use fkv_record::law_spellings_apart;
@@ -43,6 +45,25 @@ pub fn law_log_opened()
 /// is reserved, and no address from the tail up has a record.
 pub fn law_log_begins()
     ensures { (image : List ℕ) (o : Opened) (n : Now) → IsStoreOf image o → IsOpeningWorld o n → Begins n (opening_ghosts image o) }
+{
+    law_spellings_apart();
+    law_chain_of_entry();
+}
+
+/// The index of the store's world has the entries of its chains: that of each home leads to where its chain begins, and a home whose chain is empty has
+/// none.
+pub fn law_log_heads()
+    ensures { (image : List ℕ) (o : Opened) (n : Now) → IsStoreOf image o → IsOpeningWorld o n → LeadToHeads o n (opening_log image o) }
+{
+    law_spellings_apart();
+    law_chain_of_entry();
+    law_index_opens();
+}
+
+/// Of the valid records that the scan met, the lost ranges in the store's hand lose just those that the log doesn't have. So a log commit, whose slot names
+/// these ranges, keeps of them what the log has.
+pub fn law_lost_is_the_rest()
+    ensures { (image : List ℕ) (o : Opened) (store : IsStoreOf image o) → LosesTheRest (log_of_store image o store) o (opening_log image o) }
 {
     law_spellings_apart();
     law_chain_of_entry();

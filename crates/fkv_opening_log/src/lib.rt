@@ -3,4 +3,7 @@
 
 mod laws;
 
-pub use laws::{law_log_begins, law_log_beside, law_log_counted, law_log_opened};
+pub use laws::{
+    law_log_begins, law_log_beside, law_log_counted, law_log_heads, law_log_opened,
+    law_lost_is_the_rest,
+};
