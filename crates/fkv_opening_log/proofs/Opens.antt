@@ -1,7 +1,7 @@
 -- The log is one with which the order law begins: its chains show the pairs of the store.
-use Rattle.std.proofs.Common.{◌≡◌, ◌⊎◌, inl, inr, ℕ, ◌<◌, ◌≤◌, Bool, true, false, cond, None, List, [], ◌∷◌, refl, sym, ap, subst, ◌∙◌, arith}
+use Rattle.std.proofs.Common.{◌≡◌, ◌⊎◌, inl, inr, ℕ, ◌<◌, ◌≤◌, Bool, true, false, cond, Some, None, List, [], ◌∷◌, refl, sym, ap, subst, ◌∙◌, arith}
 use Rattle.std.specs.FinMap.{get}
-use Rattle.std.specs.Prelude.{nat_eq}
+use Rattle.std.specs.Prelude.{◌↔◌, nat_eq}
 use Rattle.std.proofs.lemmas.Bool.Decides.{nat_tests}
 use Rattle.fkv_base.specs.declared.numbers.Key.{Key}
 use Rattle.fkv_base.specs.declared.numbers.Value.{Value}
@@ -14,7 +14,7 @@ use Rattle.fkv_order.specs.Chains.{Cell, Logged, Unborn, Reserved, Published, Dr
 use Rattle.fkv_order.specs.Ghosts.{newest_of, shown}
 use Rattle.fkv_order.specs.Owed.{IsLinked, IsOpened}
 use Rattle.fkv_order.specs.Trace.{IsIn}
-use Rattle.fkv_pairs.specs.Pairs.{ArePairs, CountsAtHome, IsNewest, log_of_store}
+use Rattle.fkv_pairs.specs.Pairs.{ArePairs, CountsAtHome, HasValue, IsNewest, log_of_store}
 use Rattle.fkv_plane.specs.Asked.{word_at}
 use Rattle.fkv_plane.specs.Places.{shared_place}
 use Rattle.fkv_plane.specs.declared.places.SharedWord.TheVariants as one_word
@@ -78,32 +78,34 @@ module _ (image : List ℕ) (o : Opened) (store : IsStoreOf image o) (its : IsOf
       let at : a ≡ b = omega (arith, up, down) in
       one (log_of_store image o store) o.entries.items its b x y (subst (λ (n : ℕ). Stands (log_of_store image o store) n x) at first.counts.valid.stands) second.counts.valid.stands
 
-  -- it shows the key's pair
-  module _ (pairs : List (Key × Value)) (are : ArePairs (log_of_store image o store) pairs) (key : ℕ) where
+  -- it shows the value that the key has
+  module _ (key : ℕ) where
+    abbrev ShowsValue : Type 0
+    ShowsValue = (v : ℕ) → (shown (home_in o.shape.bucket_bits) (opening_log image o) key ≡ Some v) ↔ HasValue (log_of_store image o store) (record { 0 = key }) (record { 0 = v })
+
     by_record : (a : ℕ) (x : Record) → newest_of (home_in o.shape.bucket_bits) (opening_log image o) key ≡ a → logged_at image o a ≡ Published (cell_of o.number.0 x)
-        → IsNewest (log_of_store image o store) (record { 0 = key }) a x → shown (home_in o.shape.bucket_bits) (opening_log image o) key ≡ get (map_of pairs) key
-    by_record a x is there newest =
-        let value : shown (home_in o.shape.bucket_bits) (opening_log image o) key ≡ value_of x.value = ap (λ (n : ℕ). value_at (logged_at image o n)) is ∙ ap value_at there in
-        value ∙ shows_pairs (log_of_store image o store) pairs are key (value_of x.value)
-        (λ v has.
-        let same = same_newest (record { 0 = key }) a has.addr x has.held newest has.newest in
-        value_some x.value v (ap (λ (y : Record). y.value) same ∙ has.written) has.present)
-        (λ v is_value.
-        let its_word = value_is x.value v is_value in
-        record { addr = a; held = x; newest = newest; written = its_word.0; present = its_word.1 })
+        → IsNewest (log_of_store image o store) (record { 0 = key }) a x → ShowsValue
+    by_record a x is there newest v =
+        let value : shown (home_in o.shape.bucket_bits) (opening_log image o) key ≡ value_of x.value = ap (λ (n : ℕ). value_at (logged_at image o n)) is ∙ ap value_at there in (
+          λ shows.
+              let its_word = value_is x.value v (sym value ∙ shows) in
+              record { addr = a; held = x; newest = newest; written = its_word.0; present = its_word.1 },
+          λ has.
+              let same = same_newest (record { 0 = key }) a has.addr x has.held newest has.newest in
+              value ∙ value_some x.value v (ap (λ (y : Record). y.value) same ∙ has.written) has.present,
+        )
 
-    by_none : newest_of (home_in o.shape.bucket_bits) (opening_log image o) key ≡ 0 → shown (home_in o.shape.bucket_bits) (opening_log image o) key ≡ get (map_of pairs) key
-    by_none is =
-        let value : shown (home_in o.shape.bucket_bits) (opening_log image o) key ≡ None = ap (λ (n : ℕ). value_at (logged_at image o n)) is ∙ ap value_at (zero_unborn image o store its) in
-        value ∙ shows_pairs (log_of_store image o store) pairs are key None
-        (λ v has.
-        let there = key_chain key has.addr has.held has.newest.counts has.newest.of_key in
-        let found = (first_newest (has_key key) (logged_at image o) _ ((are_chains image o store its).linked _) has.addr there.0 there.1).0 in
-        absurd (down_in_some _ o.tail.0 _ _ found is))
-        (λ v is_value. absurd (cc))
+    by_none : newest_of (home_in o.shape.bucket_bits) (opening_log image o) key ≡ 0 → ShowsValue
+    by_none is v =
+        let value : shown (home_in o.shape.bucket_bits) (opening_log image o) key ≡ None = ap (λ (n : ℕ). value_at (logged_at image o n)) is ∙ ap value_at (zero_unborn image o store its) in (
+          λ shows. let off : None ≡ Some v = sym value ∙ shows in absurd (cc),
+          λ has.
+              let there = key_chain key has.addr has.held has.newest.counts has.newest.of_key in
+              let found = (first_newest (has_key key) (logged_at image o) _ ((are_chains image o store its).linked _) has.addr there.0 there.1).0 in
+              absurd (down_in_some _ o.tail.0 _ _ found is),
+        )
 
-    by_cell : (a : ℕ) (logged : Logged) → newest_of (home_in o.shape.bucket_bits) (opening_log image o) key ≡ a → logged_at image o a ≡ logged → has_key key logged ≡ true
-        → shown (home_in o.shape.bucket_bits) (opening_log image o) key ≡ get (map_of pairs) key
+    by_cell : (a : ℕ) (logged : Logged) → newest_of (home_in o.shape.bucket_bits) (opening_log image o) key ≡ a → logged_at image o a ≡ logged → has_key key logged ≡ true → ShowsValue
     by_cell a (Published cell) is there own =
         let found = published_there image o store its a cell there in
         let x : Record = found.held in
@@ -114,11 +116,15 @@ module _ (image : List ℕ) (o : Opened) (store : IsStoreOf image o) (its : IsOf
     by_cell a (Reserved entry cell) is there own = absurd (cc)
     by_cell a (Dropped cell) is there own = absurd (cc)
 
-    pub shows : shown (home_in o.shape.bucket_bits) (opening_log image o) key ≡ get (map_of pairs) key
-    shows = elim (first_is (has_key key) (logged_at image o) (chain_of image o (home_in o.shape.bucket_bits key))) [
+    pub shows_value : ShowsValue
+    shows_value = elim (first_is (has_key key) (logged_at image o) (chain_of image o (home_in o.shape.bucket_bits key))) [
       | inl none ↦ by_none none
       | inr some ↦ by_cell _ _ refl refl some.1
     ]
+
+  -- so its pair
+  shows_pair : (pairs : List (Key × Value)) → ArePairs (log_of_store image o store) pairs → (key : ℕ) → shown (home_in o.shape.bucket_bits) (opening_log image o) key ≡ get (map_of pairs) key
+  shows_pair pairs are key = shows_pairs (log_of_store image o store) pairs are key _ (λ v has. (shows_value key v).1 has) (λ v is_value. (shows_value key v).0 is_value)
 
   -- and nothing was told or has taken effect
   pub is_opened : (pairs : List (Key × Value)) → ArePairs (log_of_store image o store) pairs → IsOpened (home_in o.shape.bucket_bits) (map_of pairs) o.number.0 (opening_ghosts image o)
@@ -129,7 +135,7 @@ module _ (image : List ℕ) (o : Opened) (store : IsStoreOf image o) (its : IsOf
     all_fixed = cell_low image o store its;
     one_version = λ a cell is. ap (λ (c : Cell). c.version) (published_there image o store its a cell is).its ∙ sym (its_version image o store its);
     none_reserved = never_reserved image o;
-    shows = shows pairs are;
+    shows = shows_pair pairs are;
     no_history = refl;
     no_trace = refl;
     no_reads = λ reader. refl;

@@ -8,8 +8,8 @@ use Rattle.fkv_scan.specs.Log as scan
 use Rattle.fkv_scan.specs.Log.{record_home}
 use Rattle.fkv_scan.specs.Records.{Stands, losses}
 
--- Of the valid records from the scan's start to the log's end those that the ranges in hand lose are the ones that the log doesn't have: so the slot of a log commit, which
--- names these ranges, keeps just what the log has.
+-- Of the valid records from the scan's start to the log's end the ranges in hand, which the slot of a log commit has to name, lose just those that
+-- the log doesn't have.
 abbrev pub LosesTheRest : scan.Log → Opened → Log → Type 0
 LosesTheRest log o ghosts =
     (a : ℕ) (x : Record) → log.start ≤ a → a < log.tail → Stands log a x → x.header.invalid ≡ false

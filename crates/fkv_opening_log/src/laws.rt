@@ -1,12 +1,13 @@
 //! What the log has with which the life of an opened store begins, and that the laws of the log may begin with it.
-ghost use Rattle.std.specs.Prelude.{ℕ, List};
+ghost use Rattle.std.specs.Prelude.{◌≡◌, ◌↔◌, ℕ, List, Some};
 ghost use Rattle.fkv_base.specs.declared.numbers.Key.{Key};
 ghost use Rattle.fkv_base.specs.declared.numbers.Value.{Value};
 ghost use Rattle.fkv_core.specs.Openings.{IsOpeningWorld};
 ghost use Rattle.fkv_opening.specs.Opened.{IsStoreOf};
 ghost use Rattle.fkv_opening.specs.declared.opened_store.Opened.{Opened};
+ghost use Rattle.fkv_order.specs.Ghosts.{shown};
 ghost use Rattle.fkv_order.specs.Owed.{IsOpened};
-ghost use Rattle.fkv_pairs.specs.Pairs.{ArePairs, log_of_store};
+ghost use Rattle.fkv_pairs.specs.Pairs.{ArePairs, HasValue, log_of_store};
 ghost use Rattle.fkv_world.specs.World.{Event, Now};
 ghost use Rattle.fkv_world_order.specs.GhostEvents.{home_in};
 ghost use Rattle.fkv_opening_log.specs.Begins.{Begins};
@@ -32,10 +33,11 @@ pub fn law_log_counted()
 }
 
 /// It is one with which the order law begins: each chain has just the published records of its home, each of which leads to the next, and addresses
-/// fall; all are fixed and in the version of the store's commit, none is reserved, and each key shows its value among the store's pairs. So the laws
+/// fall; all are fixed and in the version of the store's commit, none is reserved, and each key shows the value that it has in the store. So the laws
 /// of such a log hold after all events that keep to their rules, from the map that has these pairs.
 pub fn law_log_opened()
-    ensures { (image : List ℕ) (o : Opened) (store : IsStoreOf image o) (pairs : List (Key × Value)) → ArePairs (log_of_store image o store) pairs → IsOpened (home_in o.shape.bucket_bits) (map_of pairs) o.number.0 (opening_ghosts image o) }
+    ensures values { (image : List ℕ) (o : Opened) (store : IsStoreOf image o) (key : Key) (value : Value) → (shown (home_in o.shape.bucket_bits) (opening_log image o) key.0 ≡ Some value.0) ↔ HasValue (log_of_store image o store) key value }
+    ensures opened { (image : List ℕ) (o : Opened) (store : IsStoreOf image o) (pairs : List (Key × Value)) → ArePairs (log_of_store image o store) pairs → IsOpened (home_in o.shape.bucket_bits) (map_of pairs) o.number.0 (opening_ghosts image o) }
 {
     law_spellings_apart();
     law_chain_of_entry();
@@ -60,8 +62,8 @@ pub fn law_log_heads()
     law_index_opens();
 }
 
-/// Of the valid records that the scan met, the lost ranges in the store's hand lose just those that the log doesn't have. So a log commit, whose slot names
-/// these ranges, keeps of them what the log has.
+/// Of the valid records that the scan met, the lost ranges in the store's hand lose just those that the log doesn't have: each of them is lost or in the
+/// log, and none is both. The slot of a log commit has to name these ranges.
 pub fn law_lost_is_the_rest()
     ensures { (image : List ℕ) (o : Opened) (store : IsStoreOf image o) → LosesTheRest (log_of_store image o store) o (opening_log image o) }
 {

@@ -25,7 +25,7 @@ returns-clause-beside c = λ bytes o n events store world.
 pub returns-clause-ordered : goal.returns-clause-ordered
 returns-clause-ordered c = λ bytes o n events store pairs world are rules.
     let opened : IsOpened (home_in n.shape.bucket_bits) (map_of pairs) o.number.0 (opening_ghosts bytes o) =
-    subst (λ (s : Shape). IsOpened (home_in s.bucket_bits) (map_of pairs) o.number.0 (opening_ghosts bytes o)) (sym world.its_shape) (c.law_log_opened.ensures bytes o store pairs are) in
+    subst (λ (s : Shape). IsOpened (home_in s.bucket_bits) (map_of pairs) o.number.0 (opening_ghosts bytes o)) (sym world.its_shape) (c.law_log_opened.ensures.opened bytes o store pairs are) in
     record {
       legal = c.law_chains_show_content.ensures.legal _ _ _ _ _ opened rules;
       content = c.law_chains_show_content.ensures.content _ _ _ _ _ opened rules;
