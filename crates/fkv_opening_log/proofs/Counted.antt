@@ -63,7 +63,7 @@ module _ (image : List ℕ) (o : Opened) (store : IsStoreOf image o) (its : IsOf
   its_tail = ap (λ (a : Addr). a.0) store.tells.tail
 
   -- the record at an address, in the log's words
-  here_is : (a : ℕ) (x : Record) → Stands (log_of_store image o store) a x → cell_at image o a ≡ cell_of o.number.0 x
+  pub here_is : (a : ℕ) (x : Record) → Stands (log_of_store image o store) a x → cell_at image o a ≡ cell_of o.number.0 x
   here_is a x stands = cell_is image o a x (subst (λ (s : Shape). record_bytes x ≡ bytes_at image (record_place s a) 24) (sym store.tells.shape) stands)
 
   -- its home

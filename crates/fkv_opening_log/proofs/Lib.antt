@@ -1,6 +1,7 @@
 mod Counted
 mod Heads
 mod Left
+mod Mapping
 mod Opens
 mod Pairing
 mod Reaching

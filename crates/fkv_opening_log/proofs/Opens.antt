@@ -1,8 +1,9 @@
 -- The log is one with which the order law begins: its chains show the pairs of the store.
 use Rattle.std.proofs.Common.{◌≡◌, ◌⊎◌, inl, inr, ℕ, ◌<◌, ◌≤◌, Bool, true, false, cond, Some, None, List, [], ◌∷◌, refl, sym, ap, subst, ◌∙◌, arith}
-use Rattle.std.specs.FinMap.{get}
+use Rattle.std.specs.FinMap.{get, nat_cmp-IsAntisymmetric, same_map}
 use Rattle.std.specs.Prelude.{◌↔◌, nat_eq}
 use Rattle.std.proofs.lemmas.Bool.Decides.{nat_tests}
+use Rattle.std.proofs.lemmas.Cmp.{nat_cmp_total}
 use Rattle.fkv_base.specs.declared.numbers.Key.{Key}
 use Rattle.fkv_base.specs.declared.numbers.Value.{Value}
 use Rattle.fkv_core.specs.Openings.{IsOpeningWorld}
@@ -24,9 +25,11 @@ use Rattle.fkv_world.specs.World.{Now}
 use Rattle.fkv_world_order.specs.GhostEvents.{home_in, safe_at}
 use Rattle.fkv_world_order.specs.Reserved.{tail_at}
 use Rattle.fkv_opening_log.specs.Begins.{Begins}
+use Rattle.fkv_opening_log.specs.Maps.{opening_map}
 use Rattle.fkv_opening_log.specs.OpeningLog.{chain_of, logged_at, opening_ghosts, opening_log}
 use Rattle.fkv_opening_log.specs.Records.{cell_of, map_of}
-use Rattle.fkv_opening_log.proofs.Counted.{are_chains, at_home, cell_low, counted_there, counts_chain, its_version, never_reserved, published_there, tail_unborn, zero_unborn}
+use Rattle.fkv_opening_log.proofs.Counted.{are_chains, at_home, cell_low, counted_there, counts_chain, here_is, its_version, never_reserved, published_there, tail_unborn, zero_unborn}
+use Rattle.fkv_opening_log.proofs.Mapping.{get_value}
 use Rattle.fkv_opening_log.proofs.Pairing.{shows_pairs, value_is, value_some}
 use Rattle.fkv_opening_log.proofs.Reaching.{IsOfStore, one}
 use Rattle.fkv_opening_log.proofs.Walking.{down_in_some}
@@ -122,20 +125,32 @@ module _ (image : List ℕ) (o : Opened) (store : IsStoreOf image o) (its : IsOf
       | inr some ↦ by_cell _ _ refl refl some.1
     ]
 
-  -- so its pair
-  shows_pair : (pairs : List (Key × Value)) → ArePairs (log_of_store image o store) pairs → (key : ℕ) → shown (home_in o.shape.bucket_bits) (opening_log image o) key ≡ get (map_of pairs) key
-  shows_pair pairs are key = shows_pairs (log_of_store image o store) pairs are key _ (λ v has. (shows_value key v).1 has) (λ v is_value. (shows_value key v).0 is_value)
+  -- so does the map of the store
+  shows_map : (key : ℕ) → shown (home_in o.shape.bucket_bits) (opening_log image o) key ≡ get (opening_map image o) key
+  shows_map = get_value (shown (home_in o.shape.bucket_bits) (opening_log image o)) _ o.tail.0 (λ key v is.
+      let newest = ((shows_value key v).0 is).newest in
+      let a : ℕ = ((shows_value key v).0 is).addr in
+      let x : Record = ((shows_value key v).0 is).held in (
+        a,
+        cell_low image o store its a _ (counted_there image o store its a x newest.counts),
+        ap (λ (c : Cell). c.key) (here_is image o store its a x newest.counts.valid.stands) ∙ ap (λ (k : Key). k.0) newest.of_key,
+      ))
+
+  -- and that of its pairs
+  pub same_map_of : (pairs : List (Key × Value)) → ArePairs (log_of_store image o store) pairs → map_of pairs ≡ opening_map image o
+  same_map_of pairs are = same_map nat_cmp_total nat_cmp-IsAntisymmetric _ _ (λ key.
+      sym (shows_pairs (log_of_store image o store) pairs are key _ (λ v has. (shows_value key v).1 has) (λ v is_value. (shows_value key v).0 is_value)) ∙ shows_map key)
 
   -- and nothing was told or has taken effect
-  pub is_opened : (pairs : List (Key × Value)) → ArePairs (log_of_store image o store) pairs → IsOpened (home_in o.shape.bucket_bits) (map_of pairs) o.number.0 (opening_ghosts image o)
-  is_opened pairs are = record {
+  pub is_opened : IsOpened (home_in o.shape.bucket_bits) (opening_map image o) o.number.0 (opening_ghosts image o)
+  is_opened = record {
     chains = are_chains image o store its;
     none = zero_unborn image o store its;
     some_fixed = o.some_tail;
     all_fixed = cell_low image o store its;
     one_version = λ a cell is. ap (λ (c : Cell). c.version) (published_there image o store its a cell is).its ∙ sym (its_version image o store its);
     none_reserved = never_reserved image o;
-    shows = shows_pair pairs are;
+    shows = shows_map;
     no_history = refl;
     no_trace = refl;
     no_reads = λ reader. refl;

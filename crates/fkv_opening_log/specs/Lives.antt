@@ -11,6 +11,7 @@ use Rattle.fkv_world.specs.World.{Event, Now}
 use Rattle.fkv_world_order.specs.GhostEvents.{home_in, life_ghosts, mapped, safe_at, serials_in}
 use Rattle.fkv_world_order.specs.Lines.{lines_of}
 use Rattle.fkv_world_order.specs.Reserved.{AllMeetReserved, AreOfSessions, AreReserved, IsUnbornFrom, tail_at}
+use Rattle.fkv_opening_log.specs.Maps.{opening_map}
 use Rattle.fkv_opening_log.specs.OpeningLog.{opening_ghosts}
 
 -- the log beside the life of a store's world, over these bytes
@@ -31,12 +32,15 @@ pub record IsBeside (o : Opened) (n : Now) (bytes : List ℕ) (events : List Eve
 abbrev pub KeepsRules : Opened → Now → List ℕ → List Event → Type 0
 KeepsRules o n bytes events = AreOwed (home_in n.shape.bucket_bits) (opening_ghosts bytes o) (mapped (beginning n bytes) events)
 
--- what the order law says of a log that was opened with this map, in the version of the store's commit
-pub record IsOrdered (o : Opened) (m : Map) (home : ℕ → ℕ) (ghosts : Ghosts) : Type 0 where
-  pub legal : HistoryIsLegal home m o.number.0 ghosts
-  pub content : ChainsShowContent home m o.number.0 ghosts
-  pub versions_legal : VersionsAreLegal home m o.number.0 ghosts
-  pub versions_content : NewestShowsContent home m o.number.0 ghosts
-  pub versions_in_order : VersionsInOrder home m o.number.0 ghosts
-  pub calls_ordered : CallsAreOrdered home m o.number.0 ghosts
-  pub reads_fresh : ReadsGiveContent home m o.number.0 ghosts
+-- what the order law says of the log beside it, from the store's map and in the version of its commit
+abbrev pub HoldsBeside : ((ℕ → ℕ) → Map → ℕ → Ghosts → Type 0) → Opened → Now → List ℕ → List Event → Type 0
+HoldsBeside P o n bytes events = P (home_in n.shape.bucket_bits) (opening_map bytes o) o.number.0 (ghosts_beside o n bytes events)
+
+pub record IsOrdered (o : Opened) (n : Now) (bytes : List ℕ) (events : List Event) : Type 0 where
+  pub legal : HoldsBeside HistoryIsLegal o n bytes events
+  pub content : HoldsBeside ChainsShowContent o n bytes events
+  pub versions_legal : HoldsBeside VersionsAreLegal o n bytes events
+  pub versions_content : HoldsBeside NewestShowsContent o n bytes events
+  pub versions_in_order : HoldsBeside VersionsInOrder o n bytes events
+  pub calls_ordered : HoldsBeside CallsAreOrdered o n bytes events
+  pub reads_fresh : HoldsBeside ReadsGiveContent o n bytes events

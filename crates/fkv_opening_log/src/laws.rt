@@ -13,7 +13,8 @@ ghost use Rattle.fkv_world_order.specs.GhostEvents.{home_in};
 ghost use Rattle.fkv_opening_log.specs.Begins.{Begins};
 ghost use Rattle.fkv_opening_log.specs.Heads.{LeadToHeads};
 ghost use Rattle.fkv_opening_log.specs.Left.{LosesTheRest};
-ghost use Rattle.fkv_opening_log.specs.Lives.{IsBeside, IsOrdered, KeepsRules, ghosts_beside};
+ghost use Rattle.fkv_opening_log.specs.Lives.{IsBeside, IsOrdered, KeepsRules};
+ghost use Rattle.fkv_opening_log.specs.Maps.{opening_map};
 ghost use Rattle.fkv_opening_log.specs.OpeningLog.{opening_ghosts, opening_log};
 ghost use Rattle.fkv_opening_log.specs.Records.{HasWhatCounts, map_of};
 
@@ -34,10 +35,11 @@ pub fn law_log_counted()
 
 /// It is one with which the order law begins: each chain has just the published records of its home, each of which leads to the next, and addresses
 /// fall; all are fixed and in the version of the store's commit, none is reserved, and each key shows the value that it has in the store. So the laws
-/// of such a log hold after all events that keep to their rules, from the map that has these pairs.
+/// of such a log hold after all events that keep to their rules, from the map of these values, which is that of the store's pairs.
 pub fn law_log_opened()
     ensures values { (image : List ℕ) (o : Opened) (store : IsStoreOf image o) (key : Key) (value : Value) → (shown (home_in o.shape.bucket_bits) (opening_log image o) key.0 ≡ Some value.0) ↔ HasValue (log_of_store image o store) key value }
-    ensures opened { (image : List ℕ) (o : Opened) (store : IsStoreOf image o) (pairs : List (Key × Value)) → ArePairs (log_of_store image o store) pairs → IsOpened (home_in o.shape.bucket_bits) (map_of pairs) o.number.0 (opening_ghosts image o) }
+    ensures opened { (image : List ℕ) (o : Opened) → IsStoreOf image o → IsOpened (home_in o.shape.bucket_bits) (opening_map image o) o.number.0 (opening_ghosts image o) }
+    ensures pairs { (image : List ℕ) (o : Opened) (store : IsStoreOf image o) (pairs : List (Key × Value)) → ArePairs (log_of_store image o store) pairs → map_of pairs ≡ opening_map image o }
 {
     law_spellings_apart();
     law_chain_of_entry();
@@ -72,11 +74,10 @@ pub fn law_lost_is_the_rest()
 }
 
 /// So beside each life of a store's world there is such a log, from this one on: the laws of the log beside a life hold of it with no premise. And where
-/// each of its events keeps to its rule, the order law holds of it: its history is legal from the store's pairs, and so on.
+/// each of its events keeps to its rule, the order law holds of it: its history is legal from the store's map, and so on.
 pub fn law_log_beside()
     ensures beside { (bytes : List ℕ) (o : Opened) (n : Now) (events : List Event) → IsStoreOf bytes o → IsOpeningWorld o n → IsBeside o n bytes events }
-    ensures ordered { (bytes : List ℕ) (o : Opened) (n : Now) (events : List Event) (store : IsStoreOf bytes o) (pairs : List (Key × Value)) → IsOpeningWorld o n
-        → ArePairs (log_of_store bytes o store) pairs → KeepsRules o n bytes events → IsOrdered o (map_of pairs) (home_in n.shape.bucket_bits) (ghosts_beside o n bytes events) }
+    ensures ordered { (bytes : List ℕ) (o : Opened) (n : Now) (events : List Event) → IsStoreOf bytes o → IsOpeningWorld o n → KeepsRules o n bytes events → IsOrdered o n bytes events }
 {
     law_log_begins();
     law_log_opened();

@@ -4,8 +4,8 @@ use Rattle.fkv_base.specs.declared.shapes.Shape.{Shape}
 use Rattle.fkv_core.specs.Openings.{beginning}
 use Rattle.fkv_order.specs.Owed.{IsOpened}
 use Rattle.fkv_world_order.specs.GhostEvents.{home_in}
+use Rattle.fkv_opening_log.specs.Maps.{opening_map}
 use Rattle.fkv_opening_log.specs.OpeningLog.{opening_ghosts}
-use Rattle.fkv_opening_log.specs.Records.{map_of}
 use Rattle.fkv_opening_log.proofs.WorldOpens.{world_opens}
 use Rattle.fkv_opening_log.proofs.laws.law_log_beside.Goals as goal
 
@@ -23,9 +23,9 @@ returns-clause-beside c = λ bytes o n events store world.
     }
 
 pub returns-clause-ordered : goal.returns-clause-ordered
-returns-clause-ordered c = λ bytes o n events store pairs world are rules.
-    let opened : IsOpened (home_in n.shape.bucket_bits) (map_of pairs) o.number.0 (opening_ghosts bytes o) =
-    subst (λ (s : Shape). IsOpened (home_in s.bucket_bits) (map_of pairs) o.number.0 (opening_ghosts bytes o)) (sym world.its_shape) (c.law_log_opened.ensures.opened bytes o store pairs are) in
+returns-clause-ordered c = λ bytes o n events store world rules.
+    let opened : IsOpened (home_in n.shape.bucket_bits) (opening_map bytes o) o.number.0 (opening_ghosts bytes o) =
+    subst (λ (s : Shape). IsOpened (home_in s.bucket_bits) (opening_map bytes o) o.number.0 (opening_ghosts bytes o)) (sym world.its_shape) (c.law_log_opened.ensures.opened bytes o store) in
     record {
       legal = c.law_chains_show_content.ensures.legal _ _ _ _ _ opened rules;
       content = c.law_chains_show_content.ensures.content _ _ _ _ _ opened rules;
