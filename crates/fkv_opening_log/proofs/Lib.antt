@@ -1,0 +1,10 @@
+mod Counted
+mod Heads
+mod Left
+mod Mapping
+mod Opens
+mod Pairing
+mod Reaching
+mod Walking
+mod Words
+mod WorldOpens
