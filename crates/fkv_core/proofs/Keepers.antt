@@ -1,6 +1,6 @@
 -- The keeper's step, with and without a call of the device.
 use Rattle.std.proofs.Common.{◌≡◌, ◌∙◌, sym, ap, subst, ℕ, Bool, false, true, List, [], ◌++◌, refl, arith, rules, inl}
-use Rattle.std.specs.Prelude.{is_ok, Result, Ok, Err, OnErr, IsErr, ◌<◌}
+use Rattle.std.specs.Prelude.{is_ok, Result, Ok, Err, OnErr, IsErr}
 use Rattle.fkv_disk.specs.Calls.{Call}
 use Rattle.fkv_base.specs.declared.faults.Fault.{Fault}
 use Rattle.fkv_disk.specs.Device.{Elapses, HasCause, MakesCalls, Rose}

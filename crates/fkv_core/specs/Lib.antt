@@ -1,4 +1,5 @@
 pub mod Lives
+pub mod OpeningPlaces
 pub mod OpeningWords
 pub mod Openings
 pub mod Told
