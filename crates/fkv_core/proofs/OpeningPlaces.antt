@@ -10,7 +10,9 @@ use Rattle.fkv_opening.specs.Opening.{AreOpeningWords, AreSessionWords}
 use Rattle.fkv_opening.specs.declared.opened_store.Opened.{Opened}
 use Rattle.fkv_opening.specs.declared.opening_words.OpeningWords.{OpeningWords}
 use Rattle.fkv_opening.specs.declared.opening_words.SessionWords.{SessionWords}
-use Rattle.fkv_core.specs.OpeningPlaces.{StandAsTold, StandOfSession, StandOnce}
+use Rattle.fkv_session.specs.Sessions.{SessionState}
+use Rattle.fkv_core.specs.OpeningPlaces.{HasSeen, StandAsTold, StandOfSession, StandOnce}
+use Rattle.fkv_core.specs.Openings.{IsOpeningSession}
 use Rattle.fkv_core.specs.OpeningWords.{AreWordsOfOpened, words_of_session, words_of_sessions, words_once}
 use Rattle.fkv_core.proofs.Lengths.{length-sessions}
 use Rattle.fkv_core.proofs.Named.{cut_so, phase_so}
@@ -94,3 +96,14 @@ pub stand_as_told : (o : Opened) (words : List ℕ) → AreWordsOfOpened o words
 stand_as_told o words are =
     let p : IsParted o words = parted o words are in
     record { once = λ its told. stand_once o words p its told; sessions = λ session its few told. stand_of_session o words p session its few told }
+
+pub seen_as_told : (o : Opened) (session : ℕ) (s : SessionState) (once : OpeningWords) (its : SessionWords) → IsOpeningSession o session s → AreOpeningWords o once → AreSessionWords o session its → HasSeen once its s
+seen_as_told o session s once its opens are own =
+    let saw = opens.saw in
+    record {
+      phase = saw.phase ∙ sym are.phase;
+      version = saw.version ∙ sym are.version;
+      head = saw.head ∙ sym are.head;
+      read_only = saw.read_only ∙ sym are.read_only;
+      serial = opens.serial ∙ sym own.durable;
+    }

@@ -1,5 +1,5 @@
--- Where the words of a store that opens stand, as the opened store tells them.
-use Rattle.std.specs.Prelude.{◌≡◌, ℕ, ◌<◌, List}
+-- Where the words of a store that opens stand, as the opened store tells them, and that its sessions have seen them.
+use Rattle.std.specs.Prelude.{◌≡◌, ℕ, ◌<◌, List, Some, slice_get}
 use Rattle.fkv_base.specs.Limits.{drain_slots}
 use Rattle.fkv_words.specs.Layout.{cut_word, phase_word}
 use Rattle.fkv_plane.specs.Asked.{word_at}
@@ -10,6 +10,7 @@ use Rattle.fkv_opening.specs.Opening.{AreOpeningWords, AreSessionWords}
 use Rattle.fkv_opening.specs.declared.opened_store.Opened.{Opened}
 use Rattle.fkv_opening.specs.declared.opening_words.OpeningWords.{OpeningWords}
 use Rattle.fkv_opening.specs.declared.opening_words.SessionWords.{SessionWords}
+use Rattle.fkv_session.specs.Sessions.{SessionState}
 
 -- each word that the store has once stands at its place, and so does the word of each drain slot
 pub record StandOnce (its : OpeningWords) (words : List ℕ) : Type 0 where
@@ -42,3 +43,15 @@ pub record StandOfSession (session : ℕ) (its : SessionWords) (words : List ℕ
 pub record StandAsTold (o : Opened) (words : List ℕ) : Type 0 where
   pub once : (its : OpeningWords) → AreOpeningWords o its → StandOnce its words
   pub sessions : (session : ℕ) (its : SessionWords) → session < o.shape.sessions → AreSessionWords o session its → StandOfSession session its words
+
+-- a session has seen what these words show, and its last serial is its durable one
+pub record HasSeen (once : OpeningWords) (its : SessionWords) (s : SessionState) : Type 0 where
+  pub phase : s.seen.phase ≡ once.phase.phase
+  pub version : s.seen.version.0 ≡ once.phase.version.0
+  pub head : s.seen.offsets.head ≡ once.head
+  pub read_only : s.seen.offsets.read_only ≡ once.read_only
+  pub serial : s.serial ≡ its.durable.0
+
+-- So has each session of what the opened store tells.
+abbrev pub HaveSeen : Opened → List SessionState → Type 0
+HaveSeen o sessions = (session : ℕ) (s : SessionState) (once : OpeningWords) (its : SessionWords) → slice_get sessions session ≡ Some s → AreOpeningWords o once → AreSessionWords o session its → HasSeen once its s
