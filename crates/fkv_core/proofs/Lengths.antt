@@ -25,7 +25,7 @@ sessions_step o front words words' n so_far more =
     more ∙ ap (λ (all : List ℕ). all ++ words_of_session o n) so_far ∙ append_assoc front (words_of_sessions o n) (words_of_session o n)
     ∙ ap (λ (all : List ℕ). front ++ all) (sym (sessions_more o n)) ∙ ap (λ (m : ℕ). front ++ words_of_sessions o m) next
 
-length-sessions : (o : Opened) (n : ℕ) → length (words_of_sessions o n) ≡ 16 * n
+pub length-sessions : (o : Opened) (n : ℕ) → length (words_of_sessions o n) ≡ 16 * n
 unfolding words_of_sessions
 length-sessions o zero = refl
 length-sessions o (suc n) = length-append (words_of_sessions o n) (words_of_session o n) ∙ ap (λ (m : ℕ). m + 16) (length-sessions o n) ∙ (let e : 16 * n + 16 ≡ 16 * suc n = omega arith in e)

@@ -4,6 +4,7 @@ mod Granted
 mod Keepers
 mod Lengths
 mod Named
+mod OpeningPlaces
 mod SamePlaces
 mod Seated
 pub mod Shown

@@ -13,7 +13,7 @@ use Rattle.fkv_opening.specs.declared.opening_words.OpeningWords.{OpeningWords}
 use Rattle.fkv_opening.specs.declared.opening_words.SessionWords.{SessionWords}
 use Rattle.fkv_core.specs.OpeningWords.{opening_cut, words_of_session, words_once}
 
-phase_so : (o : Opened) (its : PhaseWord) → its.version.0 ≡ o.number.0 + 1 → its.phase ≡ Rest → phase_word its ≡ o.number.0 + 1 + phase_number Rest * 2 ^ 16
+pub phase_so : (o : Opened) (its : PhaseWord) → its.version.0 ≡ o.number.0 + 1 → its.phase ≡ Rest → phase_word its ≡ o.number.0 + 1 + phase_number Rest * 2 ^ 16
 phase_so o its version phase = ap (λ (n : ℕ). n + phase_number its.phase * 2 ^ 16) version ∙ ap (λ (it : Phase). o.number.0 + 1 + phase_number it * 2 ^ 16) phase
 
 pub once_so : (o : Opened) (its : OpeningWords) (packed taken : ℕ) → AreOpeningWords o its → packed ≡ phase_word its.phase
@@ -41,7 +41,7 @@ both_or_none : (b : Bool) (serial version : ℕ) → (if b then serial else 0) +
 both_or_none true serial version = refl
 both_or_none false serial version = refl
 
-cut_so : (o : Opened) (session parity : ℕ) (its : CutWord) → IsOpeningCut o session parity its → cut_word its ≡ opening_cut o session parity
+pub cut_so : (o : Opened) (session parity : ℕ) (its : CutWord) → IsOpeningCut o session parity its → cut_word its ≡ opening_cut o session parity
 cut_so o session parity its is =
     let of : Bool = nat_eq (o.number.0 % 2) parity in
     ap (λ (n : ℕ). n + its.version.0 * 2 ^ 48) is.serial ∙ ap (λ (n : ℕ). (if of then point_of o session else 0) + n * 2 ^ 48) is.version

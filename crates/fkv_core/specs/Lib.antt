@@ -1,5 +1,6 @@
 pub mod Alone
 pub mod Lives
+pub mod OpeningPlaces
 pub mod OpeningWords
 pub mod Openings
 pub mod Told

@@ -4,10 +4,12 @@
 mod alone;
 mod events;
 mod keeper_moves;
+mod laws;
 mod opening_words;
 mod openings;
 mod session_moves;
 mod worlds;
 
 pub use events::{Actor, Event, Told};
+pub use laws::law_words_open;
 pub use worlds::World;

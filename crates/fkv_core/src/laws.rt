@@ -1,0 +1,13 @@
+//! Laws of the world of a store that opens.
+ghost use Rattle.fkv_core.specs.OpeningPlaces.{HaveSeen, StandAsTold};
+ghost use Rattle.fkv_core.specs.Openings.{IsOpeningWorld};
+ghost use Rattle.fkv_opening.specs.declared.opened_store.Opened.{Opened};
+ghost use Rattle.fkv_world.specs.World.{Now};
+
+/// Each word by its name stands at its place in the world of an opened store, and is what the opened store tells: those that a store
+/// has once, those of the drain slots, and those of each session, its durable point among them. Each session has seen the phase, the
+/// version and the offsets that they show, and its last serial is its durable point.
+pub fn law_words_open()
+    ensures words { (o : Opened) (n : Now) → IsOpeningWorld o n → StandAsTold o n.words }
+    ensures seen { (o : Opened) (n : Now) → IsOpeningWorld o n → HaveSeen o n.sessions }
+{}
