@@ -7,6 +7,7 @@ mod LifeBegun
 mod NewestWritten
 mod Pieces
 pub mod Shown
+mod Rising
 mod Sights
 mod Stamps
 mod ToldFinished

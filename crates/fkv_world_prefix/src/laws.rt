@@ -11,6 +11,7 @@ ghost use Rattle.fkv_world.specs.World.{Event, seat_at};
 ghost use Rattle.fkv_world_prefix.specs.Accepted.{HasRisingVersion, NeverFall, point, serial_at};
 ghost use Rattle.fkv_world_prefix.specs.BegunCommits.{AreInTurn, AtKeeping};
 ghost use Rattle.fkv_world_prefix.specs.FinishedNumbers.{numbers_finished, numbers_told};
+ghost use Rattle.fkv_world_prefix.specs.PhaseVersions.{HasRisingPhase, NoneIsAhead, phase_version};
 ghost use Rattle.fkv_world_prefix.specs.PrefixPast.{prefix_past};
 ghost use Rattle.fkv_world_prefix.specs.Views.{IsComing, IsSeenAs, IsSightAfter};
 ghost use Rattle.fkv_world_prefix.specs.Worked.{AskedChanges, BegunChange, CountsUpto, OpenedWith, RaisesChange, RanksInTurn, ToldChanges, ViewsChange};
@@ -19,7 +20,8 @@ ghost use Rattle.fkv_world_prefix.specs.WrittenCommits.{NewestIsWritten, life_to
 
 /// In every life of a store that was opened, whatever the other actors do, a session's serial is the one with which the life began, and one more for
 /// each update whose version is counted. As long as the version that the session goes by has never fallen, these versions never fall from an
-/// update to the next and none is above the session's; so its serial is its point of each version from its own on.
+/// update to the next and none is above the session's; so its serial is its point of each version from its own on. It never falls as long as the version
+/// of the phase word never has, where no session was ahead of that as the life began; and then it is never above that of the phase word.
 pub fn law_versions_counted()
     ensures counted { (opening : World) (events : List Event) (session : ℕ) (first its : SessionState) → HasBecome opening events session first its
         → its.serial ≡ serial_at opening.now session + length ((prefix_past opening events).versions session) }
@@ -30,6 +32,12 @@ pub fn law_versions_counted()
         → HasRisingVersion (seat_at opening.now session) first (session_events opening session events)
         → its.seen.version.0 ≤ version
         → point opening events session version ≡ its.serial }
+    ensures rises { (opening : World) (events : List Event) (session : ℕ) (first its : SessionState) → HasBecome opening events session first its
+        → NoneIsAhead opening.now → HasRisingPhase opening events
+        → HasRisingVersion (seat_at opening.now session) first (session_events opening session events) }
+    ensures below { (opening : World) (events : List Event) (session : ℕ) (first its : SessionState) → HasBecome opening events session first its
+        → NoneIsAhead opening.now → HasRisingPhase opening events
+        → its.seen.version.0 ≤ phase_version (run opening events).now.words }
 {}
 
 /// In every life of a store that was opened, whatever the other actors do, a session goes at every moment by the phase and the version of its view. Where it
