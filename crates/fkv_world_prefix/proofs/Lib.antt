@@ -5,6 +5,7 @@ mod Goes
 mod InTurn
 mod LifeBegun
 mod NewestWritten
+mod NextNumbers
 mod Pieces
 pub mod Shown
 mod Rising

@@ -11,7 +11,7 @@ ghost use Rattle.fkv_world.specs.World.{Event, seat_at};
 ghost use Rattle.fkv_world_prefix.specs.Accepted.{HasRisingVersion, NeverFall, point, serial_at};
 ghost use Rattle.fkv_world_prefix.specs.BegunCommits.{AreInTurn, AtKeeping};
 ghost use Rattle.fkv_world_prefix.specs.FinishedNumbers.{numbers_finished, numbers_told};
-ghost use Rattle.fkv_world_prefix.specs.PhaseVersions.{HasRisingPhase, NoneIsAhead, phase_version};
+ghost use Rattle.fkv_world_prefix.specs.PhaseVersions.{HasRisingPhase, NoneIsAhead, RestsAreNext, phase_version};
 ghost use Rattle.fkv_world_prefix.specs.PrefixPast.{prefix_past};
 ghost use Rattle.fkv_world_prefix.specs.Views.{IsComing, IsSeenAs, IsSightAfter};
 ghost use Rattle.fkv_world_prefix.specs.Worked.{AskedChanges, BegunChange, CountsUpto, OpenedWith, RaisesChange, RanksInTurn, ToldChanges, ViewsChange};
@@ -57,7 +57,8 @@ pub fn law_view_is_seen()
 /// only while a commit is written or its words are stored, and for good where a call of the device has failed. Where a commit's words are stored it is the
 /// commit in hand, and sealed: it is of the kind that was asked for, with the number and the first address that its start has told; its triples were
 /// written, and its slot, which names its number, end, points, checkpoint and lost ranges. As long as each commit that begins has the number behind the newest finished one's, their numbers come one behind the
-/// other, from the opening's on. Those that are finished are the opening's and those that callers were told as finished, in their order.
+/// other, from the opening's on; and each has that number as long as the phase word says rest only of the version behind the newest finished one's
+/// number. Those that are finished are the opening's and those that callers were told as finished, in their order.
 pub fn law_begun()
     ensures begun { (opening : World) (events : List Event) → IsOpenedWorld opening
         → AtKeeping (prefix_past opening events).begun (run opening events).now.keeper (run opening events).now.keeper.step }
@@ -67,6 +68,8 @@ pub fn law_begun()
     ensures in_turn { (opening : World) (events : List Event) → IsOpenedWorld opening
         → AreNumbersInTurn opening.now.shape opening.now.places opening.now.keeper (keeper_events opening events)
         → AreInTurn (prefix_past opening events).begun }
+    ensures numbers { (opening : World) (events : List Event) → IsOpenedWorld opening → RestsAreNext opening events
+        → AreNumbersInTurn opening.now.shape opening.now.places opening.now.keeper (keeper_events opening events) }
     ensures finished { (opening : World) (events : List Event) → IsOpenedWorld opening
         → numbers_finished (prefix_past opening events).begun ≡ numbers_told (run opening events).past.trace (opening.now.keeper.last.number.0 ∷ []) }
 {}
