@@ -1,5 +1,5 @@
 //! What holds of the past of a life, as the law of prefixes asks of it.
-ghost use Rattle.std.specs.Prelude.{◌≡◌, ◌+◌, ◌≤◌, ◌∷◌, ℕ, List, [], length};
+ghost use Rattle.std.specs.Prelude.{◌≡◌, ◌+◌, ◌≤◌, ◌∷◌, ℕ, Bool, List, [], length};
 ghost use Rattle.fkv_keeper.specs.declared.keepers.Keeping.TheVariants.{Finishes};
 ghost use Rattle.fkv_keeper.specs.Keeping.{KeeperState};
 ghost use Rattle.fkv_session.specs.Sessions.{SessionState};
@@ -7,10 +7,11 @@ ghost use Rattle.fkv_standing.specs.Opening.{AreNumbersInTurn};
 ghost use Rattle.fkv_world.specs.Opened.{HasBecome, IsOpenedWorld};
 ghost use Rattle.fkv_world.specs.OwnEvents.{keeper_events, session_events};
 ghost use Rattle.fkv_world.specs.Runs.{World, run};
-ghost use Rattle.fkv_world.specs.World.{Event, seat_at};
+ghost use Rattle.fkv_world.specs.World.{Event, KeeperMoves, seat_at};
 ghost use Rattle.fkv_world_prefix.specs.Accepted.{HasRisingVersion, NeverFall, point, serial_at};
 ghost use Rattle.fkv_world_prefix.specs.BegunCommits.{AreInTurn, AtKeeping};
 ghost use Rattle.fkv_world_prefix.specs.FinishedNumbers.{numbers_finished, numbers_told};
+ghost use Rattle.fkv_world_prefix.specs.PhaseStores.{StoresItsPhase, phase_at};
 ghost use Rattle.fkv_world_prefix.specs.PhaseVersions.{HasRisingPhase, NoneIsAhead, RestsAreNext, phase_version};
 ghost use Rattle.fkv_world_prefix.specs.PrefixPast.{prefix_past};
 ghost use Rattle.fkv_world_prefix.specs.Views.{IsComing, IsSeenAs, IsSightAfter};
@@ -72,6 +73,14 @@ pub fn law_begun()
         → AreNumbersInTurn opening.now.shape opening.now.places opening.now.keeper (keeper_events opening events) }
     ensures finished { (opening : World) (events : List Event) → IsOpenedWorld opening
         → numbers_finished (prefix_past opening events).begun ≡ numbers_told (run opening events).past.trace (opening.now.keeper.last.number.0 ∷ []) }
+{}
+
+/// In every life of a store that was opened, whatever the sessions do, a step of the keeper leaves the phase word as it was, or makes it that of a phase that
+/// this step may store: prepare as a commit starts, wait-flush where its points are taken, rest as it is finished, and in a turn the phase that a claimed
+/// action says.
+pub fn law_phase_stored()
+    ensures { (opening : World) (events : List Event) (granted done : Bool) → IsOpenedWorld opening
+        → StoresItsPhase (run opening events).now.keeper (phase_at (run opening events).now) (phase_at (run opening (KeeperMoves granted done ∷ events)).now) }
 {}
 
 /// Worked pieces, one for each way in which something of the past changes: they compute.
