@@ -6,6 +6,7 @@ mod InTurn
 mod LifeBegun
 mod NewestWritten
 mod NextNumbers
+mod OwnTurnStores
 mod PhaseStores
 mod Pieces
 pub mod Shown

@@ -1,7 +1,9 @@
 //! What holds of the past of a life, as the law of prefixes asks of it.
-ghost use Rattle.std.specs.Prelude.{◌≡◌, ◌+◌, ◌≤◌, ◌∷◌, ℕ, Bool, List, [], length};
+ghost use Rattle.std.specs.Prelude.{◌≡◌, ◌⊎◌, ◌+◌, ◌≤◌, ◌∷◌, ℕ, Bool, List, [], length};
+ghost use Rattle.fkv_base.specs.declared.shapes.Shape.{Shape};
 ghost use Rattle.fkv_keeper.specs.declared.keepers.Keeping.TheVariants.{Finishes};
 ghost use Rattle.fkv_keeper.specs.Keeping.{KeeperState};
+ghost use Rattle.fkv_session.specs.OwnTurns.{OwnTurnState, own_turn_ask};
 ghost use Rattle.fkv_session.specs.Sessions.{SessionState};
 ghost use Rattle.fkv_standing.specs.Opening.{AreNumbersInTurn};
 ghost use Rattle.fkv_world.specs.Opened.{HasBecome, IsOpenedWorld};
@@ -11,7 +13,7 @@ ghost use Rattle.fkv_world.specs.World.{Event, KeeperMoves, seat_at};
 ghost use Rattle.fkv_world_prefix.specs.Accepted.{HasRisingVersion, NeverFall, point, serial_at};
 ghost use Rattle.fkv_world_prefix.specs.BegunCommits.{AreInTurn, AtKeeping};
 ghost use Rattle.fkv_world_prefix.specs.FinishedNumbers.{numbers_finished, numbers_told};
-ghost use Rattle.fkv_world_prefix.specs.PhaseStores.{StoresItsPhase, phase_at};
+ghost use Rattle.fkv_world_prefix.specs.PhaseStores.{SparesPhase, StoresClaimed, StoresItsPhase, phase_at};
 ghost use Rattle.fkv_world_prefix.specs.PhaseVersions.{HasRisingPhase, NoneIsAhead, RestsAreNext, phase_version};
 ghost use Rattle.fkv_world_prefix.specs.PrefixPast.{prefix_past};
 ghost use Rattle.fkv_world_prefix.specs.Views.{IsComing, IsSeenAs, IsSightAfter};
@@ -77,10 +79,11 @@ pub fn law_begun()
 
 /// In every life of a store that was opened, whatever the sessions do, a step of the keeper leaves the phase word as it was, or makes it that of a phase that
 /// this step may store: prepare as a commit starts, wait-flush where its points are taken, rest as it is finished, and in a turn the phase that a claimed
-/// action says.
+/// action says. A session stores in its own turn, at whatever moment, no phase but one that an action says which it has claimed.
 pub fn law_phase_stored()
-    ensures { (opening : World) (events : List Event) (granted done : Bool) → IsOpenedWorld opening
+    ensures keeper { (opening : World) (events : List Event) (granted done : Bool) → IsOpenedWorld opening
         → StoresItsPhase (run opening events).now.keeper (phase_at (run opening events).now) (phase_at (run opening (KeeperMoves granted done ∷ events)).now) }
+    ensures own_turn { (shape : Shape) (its : OwnTurnState) → SparesPhase (own_turn_ask shape its) ⊎ StoresClaimed shape its }
 {}
 
 /// Worked pieces, one for each way in which something of the past changes: they compute.
