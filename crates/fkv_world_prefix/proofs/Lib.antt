@@ -5,8 +5,12 @@ mod Goes
 mod InTurn
 mod LifeBegun
 mod NewestWritten
+mod NextNumbers
+mod OwnTurnStores
+mod PhaseStores
 mod Pieces
 pub mod Shown
+mod Rising
 mod Sights
 mod Stamps
 mod ToldFinished

@@ -139,7 +139,7 @@ event_sees words its k s (Begins call) sees = begins_sees its k s call (is_busy 
 event_sees words its k s (Replies reply) sees = next_sees words its k s (asks_after s.asks (is_word_ask (session_ask k s))) s.step reply refl sees
 event_sees words its k s (Gets action) sees = given_sees its k s s.step action refl sees
 
-through : (words : List ℕ) (its : Sight) (k : Seat) (s : SessionState) (events : List SessionEvent) → Sees its s → Sees (sight_through words k s events its) (session_run k s events)
+pub through : (words : List ℕ) (its : Sight) (k : Seat) (s : SessionState) (events : List SessionEvent) → Sees its s → Sees (sight_through words k s events its) (session_run k s events)
 unfolding sight_through session_run
 through words its k s [] sees = sees
 through words its k s (event ∷ before) sees = event_sees words (sight_through words k s before its) k (session_run k s before) event (through words its k s before sees)
@@ -149,7 +149,7 @@ opened_sees n first (Idle told) idle = (record { phase = refl; version = refl },
 opened_sees n first step idle = cc
 
 -- over a life
-life_sees : (opening : World) (session : ℕ) (first : SessionState) (events : List Event) → IsOpened first → Sees (sight_in opening session first events) (session_run (seat_at opening.now session) first (session_events opening session events))
+pub life_sees : (opening : World) (session : ℕ) (first : SessionState) (events : List Event) → IsOpened first → Sees (sight_in opening session first events) (session_run (seat_at opening.now session) first (session_events opening session events))
 unfolding sight_in session_events session_run
 life_sees opening session first [] opened = opened_sees opening.now first first.step opened.none_in_hand
 life_sees opening session first (event ∷ before) opened =
@@ -159,7 +159,7 @@ life_sees opening session first (event ∷ before) opened =
     subst (λ (x : SessionState). Sees (sight_in opening session first (event ∷ before)) x) (sym (session_runs_on k first part (session_events opening session before)))
     (through (run opening before).now.words (sight_in opening session first before) k s part (life_sees opening session first before opened))
 
-goes_by_view : (its : Sight) (s : SessionState) (step : Sitting) → SeesAt its s step → IsSeenAs its.view s.seen
+pub goes_by_view : (its : Sight) (s : SessionState) (step : Sitting) → SeesAt its s step → IsSeenAs its.view s.seen
 goes_by_view its s (CatchesUp cause) sees = sees.0
 goes_by_view its s (Idle told) sees = sees.0
 goes_by_view its s (Attempts has_shifted) sees = sees.0

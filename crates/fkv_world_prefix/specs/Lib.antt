@@ -1,6 +1,8 @@
 pub mod Accepted
 pub mod BegunCommits
 pub mod FinishedNumbers
+pub mod PhaseStores
+pub mod PhaseVersions
 pub mod PrefixPast
 pub mod Raises
 pub mod Ranks

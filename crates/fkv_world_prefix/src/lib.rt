@@ -4,5 +4,6 @@
 mod laws;
 
 pub use laws::{
-    law_begun, law_of_worked_pasts, law_of_worked_pieces, law_versions_counted, law_view_is_seen,
+    law_begun, law_of_worked_pasts, law_of_worked_pieces, law_phase_stored, law_versions_counted,
+    law_view_is_seen,
 };

@@ -2,6 +2,7 @@
 use Rattle.fkv_world_prefix.proofs.LifeBegun.{life_stands, life_turn}
 use Rattle.fkv_world_prefix.proofs.NewestWritten.{life_written}
 use Rattle.fkv_world_prefix.proofs.ToldFinished.{life_finished}
+use Rattle.fkv_world_prefix.proofs.NextNumbers.{numbers_in_turn}
 use Rattle.fkv_world_prefix.proofs.laws.law_begun.Goals as goal
 
 pub returns-clause-begun : goal.returns-clause-begun
@@ -15,3 +16,6 @@ returns-clause-in_turn c = λ opening events opened turn. life_turn opening even
 
 pub returns-clause-finished : goal.returns-clause-finished
 returns-clause-finished c = λ opening events opened. life_finished opening events opened
+
+pub returns-clause-numbers : goal.returns-clause-numbers
+returns-clause-numbers c = λ opening events opened next. numbers_in_turn opening events opened next
