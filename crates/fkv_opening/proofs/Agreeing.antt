@@ -1,20 +1,19 @@
 -- Images that agree on what recovery reads hold the same store, or have the same fault.
-use Rattle.std.proofs.Common.{◌≡◌, ◌⊎◌, inl, inr, ⊎_elim, ℕ, ◌+◌, ◌*◌, ◌<◌, ◌≤◌, List, Some, refl, sym, ap, ◌∙◌, arith}
+use Rattle.std.proofs.Common.{◌≡◌, inl, inr, ℕ, ◌<◌, ◌≤◌, List, Some, refl, sym, ap, ◌∙◌, arith}
 use Rattle.std.specs.Prelude.{length, slice_get}
 use Rattle.std.proofs.lemmas.Option.{slice_get_within}
 use Rattle.fkv_base.specs.declared.faults.Fault.{Fault}
 use Rattle.fkv_base.specs.declared.faults.Fault.TheVariants as fault
 use Rattle.fkv_base.specs.declared.faults.Damage.TheVariants as damage
-use Rattle.fkv_disk.specs.Bytes.{bytes_at}
 use Rattle.fkv_words.specs.Fields.{SpellsApart}
 use Rattle.fkv_manifest.specs.Newest.{slot_in, newer, newest}
 use Rattle.fkv_record.specs.declared.triples.Triple.{Triple}
 use Rattle.fkv_record.specs.Layout.{record_bytes}
-use Rattle.fkv_record.specs.Places.{open_number, area_place}
-use Rattle.fkv_scan.specs.Checkpoint.{Checkpoint, checkpoint_in, IsTripleAt, IsSoundTriple, IsTripleFault, AreTriples}
+use Rattle.fkv_record.specs.Places.{open_number}
+use Rattle.fkv_scan.specs.Checkpoint.{checkpoint_in, IsTripleAt, IsSoundTriple, AreTriples}
 use Rattle.fkv_scan.specs.Log.{AreBelow}
 use Rattle.fkv_newest.specs.declared.newest_slots.Newest.{Newest}
-use Rattle.fkv_newest.specs.Newest.{IsNewestOf, ShowSame}
+use Rattle.fkv_newest.specs.Newest.{ShowSame}
 use Rattle.fkv_newest.proofs.Shown.{told_alike, faults_alike}
 use Rattle.fkv_opening.specs.declared.opened_store.Opened.{Opened}
 use Rattle.fkv_opening.specs.Alike.{ShareLog, Agree, AreOne}

@@ -1,5 +1,5 @@
 -- Where the first call is refused, the stages behind it aren't reached.
-use Rattle.std.proofs.Common.{◌≡◌, ℕ, Bool, true, ◌∙◌, sym, ap, subst}
+use Rattle.std.proofs.Common.{◌≡◌, ℕ, Bool, ◌∙◌, ap}
 use Rattle.std.specs.Prelude.{Result, Ok, Err}
 use Rattle.fkv_base.specs.declared.faults.Fault.{Fault}
 use Rattle.fkv_base.specs.declared.faults.Fault.TheVariants.{Device}

@@ -1,5 +1,5 @@
 -- An image has one fault, or several of its chains.
-use Rattle.std.proofs.Common.{◌≡◌, ◌⊎◌, inl, inr, ⊎_elim, ℕ, ◌<◌, ◌≤◌, false, List, Some, refl, sym, ap, subst, ◌∙◌, arith}
+use Rattle.std.proofs.Common.{◌≡◌, ◌⊎◌, inl, inr, ⊎_elim, ℕ, ◌<◌, ◌≤◌, false, List, sym, ap, subst, ◌∙◌, arith}
 use Rattle.std.specs.Prelude.{slice_get}
 use Rattle.std.proofs.lemmas.Bool.{cases_lt}
 use Rattle.fkv_base.specs.declared.faults.Fault.{Fault}
@@ -9,14 +9,13 @@ use Rattle.fkv_record.specs.declared.records.Record.{Record}
 use Rattle.fkv_record.specs.declared.triples.Triple.{Triple}
 use Rattle.fkv_scan.specs.Checkpoint.{Checkpoint, checkpoint_in, AreTriples, IsTripleFault}
 use Rattle.fkv_scan.specs.Log.{Log}
-use Rattle.fkv_scan.specs.Scan.{IsLinked, IsOff, IsScanned, IsScannedTo, HasScan, IsRecordFault, IsRecordLinkFault, IsTripleLinkFault, IsScanFault}
+use Rattle.fkv_scan.specs.Scan.{IsLinked, IsOff, IsScanned, IsScannedTo, IsRecordFault, IsRecordLinkFault, IsTripleLinkFault, IsScanFault}
 use Rattle.fkv_scan.proofs.Shown.{no_fault as no_scan_fault, some_is}
-use Rattle.fkv_chains.specs.Chains.{IsChainFault}
 use Rattle.fkv_chains.proofs.Shown.{no_fault as no_chain_fault}
 use Rattle.fkv_room.specs.Room.{IsRoomFault}
-use Rattle.fkv_room.proofs.Shown.{no_fault as no_room_fault, one_full}
+use Rattle.fkv_room.proofs.Shown.{one_full}
 use Rattle.fkv_newest.specs.declared.newest_slots.Newest.{Newest}
-use Rattle.fkv_newest.specs.Newest.{IsNewestOf, IsNewestFault}
+use Rattle.fkv_newest.specs.Newest.{IsNewestOf}
 use Rattle.fkv_newest.proofs.Shown.{no_fault as no_newest_fault, one_fault as one_newest_fault}
 use Rattle.fkv_opening.specs.Alike.{AreOne}
 use Rattle.fkv_opening.specs.Faults.{log_of, HasCheckpoint, IsTriplesFault, IsLogFault, of_scan, of_chains, of_room, IsFaultOf, of_newest, of_triples, of_log}

@@ -1,5 +1,5 @@
 -- Images with the same records from address 1 to the log's end have the same scan.
-use Rattle.std.proofs.Common.{◌≡◌, ◌⊎◌, inl, inr, ℕ, ◌+◌, ◌<◌, ◌≤◌, List, refl, sym, ◌∙◌, arith}
+use Rattle.std.proofs.Common.{◌≡◌, inl, inr, ℕ, ◌+◌, ◌<◌, ◌≤◌, List, sym, ◌∙◌, arith}
 use Rattle.fkv_base.specs.declared.faults.Fault.{Fault}
 use Rattle.fkv_base.specs.declared.faults.Fault.TheVariants as fault
 use Rattle.fkv_base.specs.declared.faults.Damage.TheVariants as damage
@@ -9,9 +9,9 @@ use Rattle.fkv_record.specs.declared.manifest_slots.ManifestSlot.{ManifestSlot}
 use Rattle.fkv_record.specs.declared.records.Record.{Record}
 use Rattle.fkv_record.specs.declared.triples.Triple.{Triple}
 use Rattle.fkv_record.specs.Places.{record_place}
-use Rattle.fkv_scan.specs.Log.{Log, log_in, record_home, triple_home, HasTriple, HasNoTriple, AreBelow}
-use Rattle.fkv_scan.specs.Records.{Stands, IsValid, IsKept, IsCounted, IsNewer}
-use Rattle.fkv_scan.specs.Scan.{Has, HasNone, IsGreatest, GoesOn, by_triple, by_none, by_record, IsLinked, IsFit, IsScanned, IsScannedTo, IsLed, AreLed, HasScan, IsOff, IsScanFault}
+use Rattle.fkv_scan.specs.Log.{Log, log_in, record_home, triple_home, HasTriple, AreBelow}
+use Rattle.fkv_scan.specs.Records.{Stands, IsValid, IsKept, IsNewer}
+use Rattle.fkv_scan.specs.Scan.{Has, HasNone, IsGreatest, GoesOn, by_triple, by_none, by_record, IsLinked, IsFit, IsScanned, IsScannedTo, IsLed, HasScan, IsOff, IsScanFault}
 
 -- two images share the records of a log
 abbrev pub Share : Shape → ManifestSlot → List ℕ → List ℕ → Type 0

@@ -1,5 +1,5 @@
 -- And the same chains, entries and room.
-use Rattle.std.proofs.Common.{◌≡◌, ◌≢◌, ◌⊎◌, inl, inr, ⊎_elim, ℕ, ◌+◌, ◌<◌, ◌≤◌, Bool, true, false, List, refl, sym, ap, subst, ◌∙◌, arith}
+use Rattle.std.proofs.Common.{◌≡◌, ◌≢◌, ◌⊎◌, inl, inr, ⊎_elim, ℕ, ◌<◌, ◌≤◌, Bool, true, false, List, sym, subst, ◌∙◌, arith}
 use Rattle.std.proofs.lemmas.Bool.{cases_lt}
 use Rattle.fkv_base.specs.declared.faults.Fault.{Fault}
 use Rattle.fkv_base.specs.declared.faults.Fault.TheVariants as fault
@@ -15,12 +15,12 @@ use Rattle.fkv_scan.specs.Log.{Log, log_in, AreBelow, HasTriple, record_home}
 use Rattle.fkv_scan.specs.Records.{Stands, IsNewer}
 use Rattle.fkv_scan.specs.Scan.{HasScan}
 use Rattle.fkv_scan.specs.Scanned.{TellsNewer}
-use Rattle.fkv_chains.specs.Chains.{IsOld, IsChained, HasChains, IsChainFault}
+use Rattle.fkv_chains.specs.Chains.{IsChained, HasChains, IsChainFault}
 use Rattle.fkv_chains.specs.Entries.{Counts, IsEntry}
 use Rattle.fkv_chains.specs.Reached.{Reached, in_scan, led_to, linked, LeadsTo, from_triple, from_record}
 use Rattle.fkv_chains.proofs.Shown.{no_fault as no_chain_fault}
 use Rattle.fkv_entries.specs.declared.home_entries.HomeEntry.{HomeEntry}
-use Rattle.fkv_room.specs.Room.{AreHomes, IsFull, HasRoom, IsRoomFault}
+use Rattle.fkv_room.specs.Room.{AreHomes, HasRoom, IsRoomFault}
 use Rattle.fkv_opening.specs.Entries.{AreEntries}
 use Rattle.fkv_opening.specs.Lost.{Extends, AreInHand}
 use Rattle.fkv_opening.proofs.Shared.{Share, flip, has_on, none_on, stands_on, valid_on, newer_on, triple_on, scan_on}

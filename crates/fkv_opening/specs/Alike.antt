@@ -8,7 +8,7 @@ use Rattle.fkv_scan.specs.Scan.{HasScan}
 use Rattle.fkv_chains.specs.Chains.{IsChainFault}
 use Rattle.fkv_newest.specs.declared.newest_slots.Newest.{Newest}
 use Rattle.fkv_newest.specs.Newest.{IsNewestOf, ShowSame}
-use Rattle.fkv_opening.specs.Faults.{log_of, HasCheckpoint, IsFaultOf}
+use Rattle.fkv_opening.specs.Faults.{log_of, HasCheckpoint}
 
 -- Behind a newest slot two images have the same triples of its checkpoint, and the same records (headers, keys and values) from address 1 to below its log's
 -- end.
