@@ -1,4 +1,4 @@
--- Where the first call is refused, the stages behind it aren't reached.
+-- How many calls are made where the first is refused, or where the first two stages find a fault.
 use Rattle.std.proofs.Common.{◌≡◌, ℕ, Bool, List, ◌∙◌, ap}
 use Rattle.std.specs.Prelude.{Result, Ok, Err}
 use Rattle.fkv_base.specs.declared.faults.Fault.{Fault}
