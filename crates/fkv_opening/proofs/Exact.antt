@@ -36,7 +36,7 @@ module _ (apart : Apart) where
   one_triple at i x y first second = apart.triples x y (first.stands ∙ sym second.stands)
 
   -- a checkpoint has one list of triples
-  one_list : (at : Checkpoint) (xs ys : List Triple) → AreTriples at xs → AreTriples at ys → xs ≡ ys
+  pub one_list : (at : Checkpoint) (xs ys : List Triple) → AreTriples at xs → AreTriples at ys → xs ≡ ys
   one_list at xs ys first second = same_lists xs ys same_many (λ k d low.
       let low_y : k < length ys = omega (arith, low, same_many) in
       one_triple at k (get_or xs k d) (get_or ys k d) (first.each k (get_or xs k d) (slice_get-get_or xs k d low)) (second.each k (get_or ys k d) (slice_get-get_or ys k d low_y)))
@@ -44,7 +44,7 @@ module _ (apart : Apart) where
       same_many : length xs ≡ length ys
       same_many = first.many ∙ sym second.many
 
-  no_triple_fault : (at : Checkpoint) (triples : List Triple) (i : ℕ) → AreTriples at triples → AreApart triples → IsTripleFault at i → ⊥
+  pub no_triple_fault : (at : Checkpoint) (triples : List Triple) (i : ℕ) → AreTriples at triples → AreApart triples → IsTripleFault at i → ⊥
   no_triple_fault at triples i are alone found = by_cases (slice_get_cases triples i).1
     where
       counted : i < length triples
@@ -77,10 +77,10 @@ module _ (apart : Apart) where
     same_slot : n.slot ≡ m.slot
     same_slot = ap (λ (p : Format × ManifestSlot). p.1) (apart.slots (n.format, n.slot) (m.format, m.slot) (subst (λ o. IsSome o) (sym first.manifest.stands) refl) same_bytes)
 
-    same_checkpoint : checkpoint_in image m.shape m.slot ≡ checkpoint_in image n.shape n.slot
+    pub same_checkpoint : checkpoint_in image m.shape m.slot ≡ checkpoint_in image n.shape n.slot
     same_checkpoint = ap (λ (s : Shape). checkpoint_in image s m.slot) (sym same_shape) ∙ ap (λ (s : ManifestSlot). checkpoint_in image n.shape s) (sym same_slot)
 
-    same_log : (xs ys : List Triple) → ys ≡ xs → log_of image m ys ≡ log_of image n xs
+    pub same_log : (xs ys : List Triple) → ys ≡ xs → log_of image m ys ≡ log_of image n xs
     same_log xs ys same =
         ap (λ (s : Shape). log_in image s m.slot ys) (sym same_shape)
         ∙ ap (λ (s : ManifestSlot). log_in image n.shape s ys) (sym same_slot)

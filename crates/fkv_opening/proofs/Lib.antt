@@ -1,6 +1,10 @@
+mod Agreeing
 mod Ending
 mod Exact
 mod Fitting
 mod Listing
+mod OneFault
 mod Refusing
+mod Shared
+mod SharedChains
 mod Telling

@@ -4,7 +4,7 @@ ghost use Rattle.fkv_base.specs.declared.faults.Fault.{Fault};
 ghost use Rattle.fkv_disk.specs.Device.{LeavesOnly};
 ghost use Rattle.fkv_newest.specs.Newest.{IsNewestOf};
 ghost use Rattle.fkv_scan.specs.Quiet.{IsQuiet};
-ghost use Rattle.fkv_opening.specs.Calls.{EndsAtFirst};
+ghost use Rattle.fkv_opening.specs.Calls.{EndsAtFirst, EndsAtFront};
 ghost use Rattle.fkv_opening.specs.Faults.{IsFaultOf, IsRefused};
 ghost use Rattle.fkv_opening.specs.Opened.{IsStoreOf};
 
@@ -37,7 +37,8 @@ fn open<D: Device>(alloc: Global, d: &mut D, newest: Newest) -> Result<Opened, F
 }
 
 /// Opens the store whose image these bytes are, in whichever of the three formats, whatever bytes they are: those past the
-/// device's end count as 0. It makes one sync first, and no write; where that sync is refused, it makes no other call.
+/// device's end count as 0. It makes one sync first, and no write; where that sync is refused, it makes no other call, and
+/// one read behind it tells whether the image is a store's and what its newest slot says.
 ///
 /// The answer is what the image defines: `NotAStore`, the damage that the first of its six stages finds, or the store.
 /// `Device` comes only where the device failed in this call, `Memory` where memory was refused. It may be stopped at any
@@ -49,6 +50,7 @@ pub fn recover<D: Device>(alloc: Global, d: &mut D) -> Result<Opened, Fault>
     ensures synced { D.honest d.old → OnOk result (LeavesOnly (D.seen d.old) (D.may_leave d.new)) }
     ensures quiet { IsQuiet D.honest D.seen D.may_leave D.moment D.left_since D.failed d.old d.new }
     ensures first { EndsAtFirst (D.refuses d.old) (D.refuses d.new) result }
+    ensures front { D.honest d.old → EndsAtFront (D.refuses d.old) (D.refuses d.new) result }
 {
     law_formats_apart();
     law_spellings_apart();

@@ -30,6 +30,74 @@ const LOST: [u8; 32] = [
     1, 0, 0, 0, 0, 0, 0, 0, 1, 0, 0, 0, 0, 0, 0, 0, 5, 0, 0, 0, 0, 0, 0, 0, 2, 0, 0, 0, 0, 0, 0, 0,
 ];
 
+// Passes calls on to a device, and counts those of each kind.
+#[derive(Drop)]
+struct Counted<D: Device> {
+    device: D,
+    reads: u64,
+    writes: u64,
+    syncs: u64,
+    // How many of the reads and writes came before the first sync.
+    unsynced: u64,
+}
+
+impl<D: Device> Counted<D> {
+    fn new(device: D) -> Counted<D> {
+        Counted {
+            device,
+            reads: 0,
+            writes: 0,
+            syncs: 0,
+            unsynced: 0,
+        }
+    }
+}
+
+impl<D: Device> Device for Counted<D> {
+    ghost honest = { λ counted. D.Device.honest counted.device };
+
+    ghost seen = { λ counted. D.Device.seen counted.device };
+
+    ghost may_leave = { λ counted. D.Device.may_leave counted.device };
+
+    ghost moment = { λ counted. D.Device.moment counted.device };
+
+    ghost left_since = { λ counted. D.Device.left_since counted.device };
+
+    ghost failed = { λ counted. D.Device.failed counted.device };
+
+    ghost refuses = { λ counted. D.Device.refuses counted.device };
+
+    ghost counts_now = { λ counted. D.Device.counts_now counted.device };
+
+    ghost only_now = { λ counted. D.Device.only_now counted.device };
+
+    ghost leaves_seen = { λ counted. D.Device.leaves_seen counted.device };
+
+    ghost leaves_bytes = { λ counted. D.Device.leaves_bytes counted.device };
+
+    fn read(&mut self, at: u64, into: &mut [u8]) -> Result<(), Fault> {
+        self.reads = self.reads.saturating_add(1);
+        self.unsynced = self.unsynced.saturating_add((self.syncs == 0) as u64);
+        self.device.read(at, into)
+    }
+
+    fn write(&mut self, at: u64, bytes: &[u8]) -> Result<(), Fault> {
+        self.writes = self.writes.saturating_add(1);
+        self.unsynced = self.unsynced.saturating_add((self.syncs == 0) as u64);
+        self.device.write(at, bytes)
+    }
+
+    fn sync(&mut self) -> Result<(), Fault> {
+        self.syncs = self.syncs.saturating_add(1);
+        self.device.sync()
+    }
+
+    fn failures(&self) -> u64 {
+        self.device.failures()
+    }
+}
+
 // The triple of bucket 1 and tag 0, with address 2.
 const TRIPLE: [u8; 16] = [1, 0, 0, 0, 0, 0, 0, 0, 2, 0, 0, 0, 0, 0, 0, 0];
 
@@ -171,6 +239,40 @@ fn a_failed_call_is_answered(rt: HostRuntime) -> Result<(), Fail> {
         let mut disk = Once::new(second_commit(rt.alloc())?, passing);
         assert_eq!(rt; recover(rt.alloc(), &mut disk).err(), Some(Fault::Device));
         assert_eq!(rt; recover(rt.alloc(), &mut disk)?.number, Version(2));
+    }
+    Ok(())
+}
+
+// What is recovered over a device that counts: how many reads, writes and syncs, and how many reads and writes before a sync.
+fn calls<D: Device + Drop>(alloc: Global, device: D) -> ([u64; 4], Option<Fault>) {
+    let mut disk = Counted::new(device);
+    let fault = recover(alloc, &mut disk).err();
+    ([disk.reads, disk.writes, disk.syncs, disk.unsynced], fault)
+}
+
+#[test]
+fn one_sync_comes_before_all_reads(rt: HostRuntime) -> Result<(), Fail> {
+    let first = first_commit(rt.alloc())?;
+    assert_eq!(rt; calls(rt.alloc(), first), ([6, 0, 1, 0], None));
+    let second = second_commit(rt.alloc())?;
+    assert_eq!(rt; calls(rt.alloc(), second), ([8, 0, 1, 0], None));
+    for (at, byte, reads) in [
+        (0, 0, 1),
+        (552, 2, 1),
+        (3328, 16, 2),
+        (5192, 5, 3),
+        (5152, 2, 8),
+    ] {
+        let mut disk = second_commit(rt.alloc())?;
+        disk.write(at, &[byte])?;
+        assert_eq!(rt; calls(rt.alloc(), disk).0, [reads, 0, 1, 0]);
+    }
+    for passing in 0..9 {
+        let disk = Once::new(second_commit(rt.alloc())?, passing);
+        assert_eq!(rt;
+            calls(rt.alloc(), disk),
+            ([passing, 0, 1, 0], Some(Fault::Device))
+        );
     }
     Ok(())
 }

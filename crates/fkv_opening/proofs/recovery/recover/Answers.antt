@@ -1,8 +1,10 @@
 use Rattle.std.proofs.Common.{◌≡◌, sym, subst}
 use Rattle.fkv_newest.specs.Newest.{IsNewestOf}
 use Rattle.fkv_scan.proofs.Shown.{quiet_on}
+use Rattle.fkv_opening.specs.declared.opened_store.Opened.{Opened}
 use Rattle.fkv_opening.specs.Faults.{IsFaultOf}
 use Rattle.fkv_opening.specs.Opened.{IsStoreOf}
+use Rattle.fkv_opening.proofs.Ending.{front_there, front_behind}
 use Rattle.fkv_opening.proofs.Exact.{Apart, no_fault}
 use Rattle.fkv_opening.proofs.Refusing.{of_the_newest, refused_after}
 use Rattle.fkv_opening.proofs.recovery.recover.Goals as goal
@@ -38,3 +40,15 @@ returns-in-Err-open-clause-err g c =
     let same : mid ≡ old = quiet.same_bytes claim in
     ((quiet.premise.0 claim, subst (λ image. IsNewestOf image c.in-Ok.newest) (sym same) (c.in-Ok.ensures.ok claim)), λ why found. subst (λ image. IsFaultOf image why) same found))
     c.in-Err-open.fault c.in-Err-open.ensures.err
+
+pub returns-in-Err-clause-front : goal.returns-in-Err-clause-front
+returns-in-Err-clause-front g c = λ claim. front_there Opened (g.D.Device.refuses c.args.d.now) (g.D.Device.refuses c.read_newest.new.d) c.in-Err.fault c.in-Err.ensures.counted
+
+pub returns-in-Err-open-clause-front : goal.returns-in-Err-open-clause-front
+returns-in-Err-open-clause-front g c = λ claim.
+    let mid = g.D.Device.seen c.read_newest.new.d in
+    let quiet = c.in-Ok.ensures.quiet in
+    let told : IsNewestOf mid c.in-Ok.newest = subst (λ image. IsNewestOf image c.in-Ok.newest) (sym (quiet.same_bytes claim)) (c.in-Ok.ensures.ok claim) in
+    front_behind c.law_spellings_apart.ensures.shapes mid c.in-Ok.newest told Opened (g.D.Device.refuses c.args.d.now) (g.D.Device.refuses c.open.new.d)
+    (g.D.Device.failed c.read_newest.new.d) (g.D.Device.failed c.open.new.d) (g.D.Device.honest c.read_newest.new.d × IsNewestOf mid c.in-Ok.newest)
+    (quiet.premise.0 claim, told) c.in-Err-open.fault c.in-Err-open.ensures.err
