@@ -23,6 +23,7 @@ test: toolchain
 	@tools/rows/run crates/fkv/out/fkv > /dev/null
 	@tools/compare/run > /dev/null
 	@tools/openings/run > /dev/null
+	@tools/openings/files > /dev/null
 	@tools/memory/run crates/fkv/out/fkv > /dev/null
 	@tools/memory/recover > /dev/null
 	@tools/memory/opening > /dev/null

@@ -2,7 +2,7 @@
 import random
 from dataclasses import dataclass, replace
 
-from slow_opening import OPEN, PLACES, TEXT, most_triples
+from slow_opening import ABSENT, OPEN, PLACES, TEXT, most_triples
 
 FIRST = 1 << 48  # the header of a record of version 1
 SECOND = 2 << 48
@@ -83,6 +83,10 @@ class Sample:
                 places |= set(range(commit.place() + start, commit.place() + end))
         return sorted(places)
 
+    def values(self):
+        """Where the values of its records stand."""
+        return [self.area_place(2) + 24 * record + 16 for record in range(1, len(self.records) + 1)]
+
     def log(self):
         """Where those of its triples stand, and the headers and keys of its records."""
         places = set()
@@ -120,6 +124,10 @@ LOGGED = Sample(
         Commit(2, 3, 6, (3,), triples=((*HOME, 4),), area=1, checkpoint=1, lost=((5, 2),)),
     ),
     records=(*LEFT_OUT.records, (SECOND + 2, 1, 13)),
+)
+DELETED = Sample(
+    commits=(LEFT_OUT.commits[1], replace(LOGGED.commits[1], tail=7)),
+    records=(*LOGGED.records, (SECOND + 5, 524289, ABSENT)),
 )
 TWO_HOMES = Sample(
     commits=(
@@ -169,6 +177,7 @@ SAMPLES = [
     *((f"one commit, format {form}", in_form(ONE, form)) for form in (1, 2, 3)),
     *((f"records left out, format {form}", in_form(LEFT_OUT, form)) for form in (1, 2, 3)),
     *((f"a log commit, format {form}", in_form(LOGGED, form)) for form in (2, 3)),
+    ("a deleted key", DELETED),
     ("four homes", TWO_HOMES),
     ("three lives", LIVES),
     ("two full buckets", CROWD),
@@ -176,20 +185,36 @@ SAMPLES = [
 ]
 
 TABLE = [
-    ("one", ONE, "commit 1 tail 2 points 1, checkpoint 1 from 2 triples 1 area 1, lost, entries 1.0:1"),
-    ("left out", LEFT_OUT, "commit 1 tail 5 points 2, checkpoint 1 from 3 triples 1 area 1, lost 5:2, entries 1.0:2"),
-    ("logged", LOGGED, "commit 2 tail 6 points 3, checkpoint 1 from 3 triples 1 area 1, lost 5:2, entries 1.0:5"),
+    ("one", ONE, "commit 1 tail 2 points 1, checkpoint 1 from 2 triples 1 area 1, lost, entries 1.0:1, pairs 1=10"),
+    (
+        "left out",
+        LEFT_OUT,
+        "commit 1 tail 5 points 2, checkpoint 1 from 3 triples 1 area 1, lost 5:2, entries 1.0:2, pairs 1=10 524289=20",
+    ),
+    (
+        "logged",
+        LOGGED,
+        "commit 2 tail 6 points 3, checkpoint 1 from 3 triples 1 area 1, lost 5:2, entries 1.0:5, pairs 1=13 524289=20",
+    ),
+    (
+        "deleted",
+        DELETED,
+        "commit 2 tail 7 points 3, checkpoint 1 from 3 triples 1 area 1, lost 5:2, entries 1.0:6, pairs 1=13",
+    ),
     (
         "two homes",
         TWO_HOMES,
-        "commit 4 tail 10 points 7 8, checkpoint 3 from 4 triples 3 area 1, lost 7:4 10:5, entries 1.0:1 1.1:2 2.0:8",
+        "commit 4 tail 10 points 7 8, checkpoint 3 from 4 triples 3 area 1, lost 7:4 10:5, entries 1.0:1 1.1:2 2.0:8, "
+        "pairs 1=10 2=33 17=20",
     ),
-    ("lives", LIVES, "commit 3 tail 4 points 0, checkpoint 0 from 1 triples 0 area 0, lost 2:2 3:3 4:4, entries"),
+    ("lives", LIVES, "commit 3 tail 4 points 0, checkpoint 0 from 1 triples 0 area 0, lost 2:2 3:3 4:4, entries, pairs"),
     (
         "crowd",
         CROWD,
         "commit 1 tail 17 points 16, checkpoint 0 from 1 triples 0 area 0, lost, entries "
-        + " ".join(f"{bucket}.{tag}:{2 * tag + bucket + 1}" for bucket in (0, 1) for tag in range(8)),
+        + " ".join(f"{bucket}.{tag}:{2 * tag + bucket + 1}" for bucket in (0, 1) for tag in range(8))
+        + ", pairs "
+        + " ".join(f"{key}=1" for key in range(16)),
     ),
     ("one overflow bucket", replace(CROWD, overflow=1), "Full 1"),
     ("no overflow bucket", replace(CROWD, overflow=0), "Full 0"),
@@ -197,7 +222,8 @@ TABLE = [
 
 
 def changed_images():
-    """Each sample with one byte of its numbers changed, with two, and cut short. The same ones in each run."""
+    """Each sample with one byte of its numbers changed, with two, with another key or value, and cut short. The same ones in
+    each run."""
     chosen = random.Random(1)
     for name, sample in SAMPLES:
         image = sample.image()
@@ -211,5 +237,8 @@ def changed_images():
         for record in chosen.choices(range(len(sample.records)), k=10):
             at = sample.area_place(2) + 24 * (record + 1) + 8
             yield f"{name}: key of record {record + 1}", changed(image, (at, chosen.randrange(64)))
+        for at in chosen.choices(sample.values(), k=5):
+            value = spelled(chosen.choice((ABSENT, chosen.randrange(2**64))))
+            yield f"{name}: value {at}", image[:at] + value + image[at + 8 :]
         for length in chosen.sample(sample.front() + sample.log(), 5):
             yield f"{name}: {length} bytes", image[:length]

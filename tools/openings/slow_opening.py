@@ -6,6 +6,7 @@ MAX_LOST = 8
 TEXT = int.from_bytes(b"FKVSTOR1", "little")
 OPEN = 0xA5
 INVALID = 62
+ABSENT = 2**64 - 1
 # of each format: how many places its slot has for points, and where what it says of the checkpoint begins, in numbers of
 # eight bytes
 PLACES = {1: (8, None), 2: (8, 15), 3: (32, 39)}
@@ -159,11 +160,16 @@ class Log:
     def is_valid(self, a):
         return not self.bit(a, INVALID)
 
+    def key(self, a):
+        return number_at(self.image, self.records_at + 24 * a + 8)
+
+    def value(self, a):
+        return number_at(self.image, self.records_at + 24 * a + 16)
+
     def home(self, a):
         """Bucket and tag."""
         bits = self.shape[0]
-        key = number_at(self.image, self.records_at + 24 * a + 8)
-        return key % 2**bits, (key >> bits) % 2**15
+        return self.key(a) % 2**bits, (self.key(a) >> bits) % 2**15
 
     def is_lost(self, a):
         return (
@@ -259,15 +265,23 @@ class Log:
                 faults.append(f"Link {a}")
         return faults
 
-    def entries(self):
-        """For each home its greatest record that counts: bucket, tag and address."""
-        counted = sorted(
+    def counted(self):
+        """The records that count, upwards."""
+        return sorted(
             a
             for a in self.reached()
             if self.is_valid(a) and self.version(a) <= self.slot.number and not self.is_lost(a)
         )
-        greatest = {self.home(a): a for a in counted}
+
+    def entries(self):
+        """For each home its greatest record that counts: bucket, tag and address."""
+        greatest = {self.home(a): a for a in self.counted()}
         return sorted((bucket, tag, a) for (bucket, tag), a in greatest.items())
+
+    def pairs(self):
+        """Each key with the value of its greatest record that counts, without those that are deleted."""
+        greatest = {self.key(a): self.value(a) for a in self.counted()}
+        return sorted((key, value) for key, value in greatest.items() if value != ABSENT)
 
     def lost_in_hand(self):
         """The ranges that the slot names, and one more where a record is newer than its commit."""
@@ -282,9 +296,11 @@ class Log:
         points = "".join(f" {point}" for point in slot.points)
         lost = "".join(f" {to}:{version}" for to, version in self.lost_in_hand())
         entries = "".join(f" {bucket}.{tag}:{a}" for bucket, tag, a in self.entries())
+        pairs = "".join(f" {key}={value}" for key, value in self.pairs())
         return (
             f"commit {slot.number} tail {slot.tail} points{points}, checkpoint {slot.checkpoint} from {slot.start} "
-            f"triples {slot.count} area {slot.area}, lost{lost}, entries{entries}"
+            f"triples {slot.count} area {slot.area}, lost{lost}, entries{entries}, "
+            f"pairs{pairs}"
         )
 
 

@@ -1,12 +1,10 @@
-//! What recovery answers, in one line of text.
-use crate::images::changed;
-use fkv_base::Fault;
+//! What is answered of a store, in one line of text.
+use fkv_base::{Fault, Key, Value};
 use fkv_disk::{Device, MemDisk};
 use fkv_opening::{Opened, recover};
+use fkv_pairs::content;
 use std::alloc::{AllocError, Global};
 use std::fmt::Write;
-use std::process::Abort;
-use std::test::Fail;
 
 // The commit, the end of its log and its points; its checkpoint; the lost ranges, each its end and version; and the entries,
 // each bucket, tag and address.
@@ -35,33 +33,49 @@ fn line_of(alloc: Global, opened: &Opened) -> Result<String, AllocError> {
     Ok(line)
 }
 
-/// What recovery answers over a device: the store, or the name of its fault and the damaged part's place.
-pub(crate) fn answer<D: Device>(alloc: Global, d: &mut D) -> Result<String, AllocError> {
-    match recover(alloc, d) {
-        Ok(opened) => line_of(alloc, &opened),
-        Err(Fault::Damaged(part, place)) => format!(in alloc; "{} {place}", part.name()),
-        Err(fault) => format!(in alloc; "{}", fault.name()),
+// The pairs, each key and value.
+fn pairs_of(alloc: Global, pairs: &[(Key, Value)]) -> Result<String, AllocError> {
+    let mut line = format!(in alloc; ", pairs")?;
+    for pair in pairs {
+        write!(line, " {}={}", pair.0.0, pair.1.0)?;
+    }
+    Ok(line)
+}
+
+// The name of a fault, and the damaged part's place.
+fn name_of(alloc: Global, fault: Fault) -> Result<String, AllocError> {
+    match fault {
+        Fault::Damaged(part, place) => format!(in alloc; "{} {place}", part.name()),
+        fault => format!(in alloc; "{}", fault.name()),
     }
 }
 
-/// What recovery answers of an image.
+/// What recovery answers over a device: the store, or its fault.
+pub(crate) fn recovered<D: Device>(alloc: Global, d: &mut D) -> Result<String, AllocError> {
+    match recover(alloc, d) {
+        Ok(opened) => line_of(alloc, &opened),
+        Err(fault) => name_of(alloc, fault),
+    }
+}
+
+/// And with the store its pairs, or their fault alone.
+pub(crate) fn answer<D: Device>(alloc: Global, d: &mut D) -> Result<String, AllocError> {
+    let opened = match recover(alloc, d) {
+        Ok(opened) => opened,
+        Err(fault) => return name_of(alloc, fault),
+    };
+    match content(alloc, &opened, d) {
+        Ok(pairs) => {
+            let mut line = line_of(alloc, &opened)?;
+            line.push_str(pairs_of(alloc, &pairs)?.as_str())?;
+            Ok(line)
+        }
+        Err(fault) => name_of(alloc, fault),
+    }
+}
+
+/// What is answered of an image.
 pub(crate) fn told(alloc: Global, image: &[u8]) -> Result<String, Fault> {
     let mut disk = MemDisk::from_bytes(alloc, image.to_vec(alloc)?)?;
     Ok(answer(alloc, &mut disk)?)
-}
-
-/// Asserts what is answered of the image once bytes are changed: each line of the table has their places, and the answer.
-pub(crate) fn compare(
-    rt: &impl Abort,
-    alloc: Global,
-    image: &[u8],
-    table: &str,
-) -> Result<(), Fail> {
-    for line in table.lines() {
-        if let Some((places, wanted)) = line.split_once(": ") {
-            let found = told(alloc, &changed(alloc, image, places)?)?;
-            assert_eq!(rt; found.as_str(), wanted, "{places}");
-        }
-    }
-    Ok(())
 }

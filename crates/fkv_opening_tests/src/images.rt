@@ -30,13 +30,3 @@ pub(crate) fn image(alloc: Global, places: &[&str], records: &str) -> Result<Vec
     }
     Ok(bytes)
 }
-
-/// The image with these bytes at their places.
-pub(crate) fn changed(alloc: Global, image: &[u8], places: &str) -> Result<Vec<u8>, Fault> {
-    let mut disk = MemDisk::from_bytes(alloc, image.to_vec(alloc)?)?;
-    for word in places.split_whitespace() {
-        let (at, byte) = place_of(word)?;
-        disk.write(at, &[(byte % 256) as u8])?;
-    }
-    Ok(disk.into_bytes())
-}

@@ -1,10 +1,10 @@
 //! Calls whose memory is refused, once: a tool outside lets each request fail in turn and runs this test.
-use crate::sizes::crowd;
-use crate::stores::{LOST, logged};
-use fkv_base::{Addr, Fault, Shape, Version};
+use crate::stores::{crowd, logged};
+use fkv_base::{Addr, Fault, Key, Shape, Value, Version};
 use fkv_creating::create;
 use fkv_disk::{Device, MemDisk};
 use fkv_opening::{Opened, recover};
+use fkv_pairs::content;
 use std::alloc::Global;
 use std::test::Fail;
 
@@ -13,6 +13,13 @@ fn recovered(alloc: Global, disk: &mut MemDisk) -> Result<Opened, Fault> {
         Err(Fault::Memory) => recover(alloc, disk),
         // the device in memory asks for memory too
         Err(Fault::Device) if disk.failures() == 1 => recover(alloc, disk),
+        answer => answer,
+    }
+}
+
+fn pairs(alloc: Global, opened: &Opened, disk: &mut MemDisk) -> Result<Vec<(Key, Value)>, Fault> {
+    match content(alloc, opened, disk) {
+        Err(Fault::Memory) => content(alloc, opened, disk),
         answer => answer,
     }
 }
@@ -30,11 +37,7 @@ fn created(disk: &mut MemDisk, shape: Shape) -> Result<(), Fault> {
 #[test]
 fn a_refused_call_harms_no_later_one(rt: HostRuntime) -> Result<(), Fail> {
     let alloc = rt.alloc();
-    let (Ok(image), Ok(kept), Ok(many)) = (
-        logged(alloc, LOST[1]),
-        logged(alloc, LOST[1]),
-        crowd(alloc),
-    ) else {
+    let (Ok(image), Ok(kept), Ok(many)) = (logged(alloc), logged(alloc), crowd(alloc)) else {
         return Ok(());
     };
     let (Ok(mut disk), Ok(mut crowded)) = (
@@ -50,7 +53,14 @@ fn a_refused_call_harms_no_later_one(rt: HostRuntime) -> Result<(), Fail> {
         (1, 1, 1)
     );
     assert!(rt; disk.bytes() == kept.as_slice());
-    assert_eq!(rt; recovered(alloc, &mut crowded)?.entries.len(), 8);
+    let shown = pairs(alloc, &opened, &mut disk)?;
+    assert_eq!(rt;
+        shown.as_slice(),
+        [(Key(1), Value(13)), (Key(524289), Value(20))].as_slice()
+    );
+    let many = recovered(alloc, &mut crowded)?;
+    assert_eq!(rt; many.entries.len(), 8);
+    assert_eq!(rt; pairs(alloc, &many, &mut crowded)?.len(), 8);
     let mut fresh = MemDisk::new(alloc);
     created(&mut fresh, Shape::new(4, 16, 4, 2, 1, 0, 64)?)?;
     assert_eq!(rt; recovered(alloc, &mut fresh)?.number, Version(0));

@@ -1,6 +1,6 @@
 //! Calls of the device that fail, and crashes there.
 use crate::answers::{answer, told};
-use crate::stores::{FORMATS, LOST, logged, one};
+use crate::stores::{logged, one};
 use fkv_base::{Fault, Shape};
 use fkv_creating::create;
 use fkv_disk::{Device, Fuse, MemDisk, Once};
@@ -8,35 +8,31 @@ use std::alloc::Global;
 use std::test::Fail;
 
 const LOGGED: &str =
-    "commit 2 tail 6 points 3, checkpoint 1 from 3 triples 1 area 1, lost 5:2, entries 1.0:5";
+    "commit 2 tail 6 points 3, checkpoint 1 from 3 triples 1 area 1, lost 5:2, entries 1.0:5, pairs 1=13 524289=20";
 
 // Recovery of this image makes ten calls: a sync, and reads of the front, of the triple, of three records, of the one that a
-// lost record leads to, of the one that the triple leads to, and of two below the scan.
+// lost record leads to, of the one that the triple leads to, and of two below the scan. Its pairs are read in three more, one
+// for each record of its chain.
 #[test]
-fn each_call_of_recovery_fails(rt: HostRuntime) -> Result<(), Fail> {
-    for passing in 0..10 {
-        let disk = MemDisk::from_bytes(rt.alloc(), logged(rt.alloc(), LOST[1])?)?;
+fn each_call_of_an_opening_fails(rt: HostRuntime) -> Result<(), Fail> {
+    for passing in 0..13 {
+        let disk = MemDisk::from_bytes(rt.alloc(), logged(rt.alloc())?)?;
         let mut once = Once::new(disk, passing);
-        assert_eq!(rt;
-            answer(rt.alloc(), &mut once)?.as_str(),
-            "Device",
-            "call {passing}"
-        );
+        let found = answer(rt.alloc(), &mut once)?;
+        assert_eq!(rt; found.as_str(), "Device", "call {passing}");
         assert_eq!(rt; once.failures(), 1);
-        assert_eq!(rt;
-            answer(rt.alloc(), &mut once)?.as_str(),
-            LOGGED,
-            "behind {passing}"
-        );
+        let again = answer(rt.alloc(), &mut once)?;
+        assert_eq!(rt; again.as_str(), LOGGED, "behind {passing}");
     }
-    let disk = MemDisk::from_bytes(rt.alloc(), logged(rt.alloc(), LOST[1])?)?;
-    let mut once = Once::new(disk, 10);
+    let disk = MemDisk::from_bytes(rt.alloc(), logged(rt.alloc())?)?;
+    let mut once = Once::new(disk, 13);
     assert_eq!(rt; answer(rt.alloc(), &mut once)?.as_str(), LOGGED);
     assert_eq!(rt; once.failures(), 0);
     Ok(())
 }
 
-const NEW: &str = "commit 0 tail 1 points 0, checkpoint 0 from 1 triples 0 area 0, lost, entries";
+const NEW: &str =
+    "commit 0 tail 1 points 0, checkpoint 0 from 1 triples 0 area 0, lost, entries, pairs";
 
 fn shape() -> Result<Shape, Fault> {
     Shape::new(4, 16, 4, 2, 1, 0, 64)
@@ -49,17 +45,11 @@ fn each_call_of_creation_fails(rt: HostRuntime) -> Result<(), Fail> {
         let mut once = Once::new(MemDisk::new(rt.alloc()), passing);
         assert_eq!(rt; create(&mut once, shape()?).err(), Some(Fault::Device));
         let wanted = if passing < 7 { "NotAStore" } else { NEW };
-        assert_eq!(rt;
-            answer(rt.alloc(), &mut once)?.as_str(),
-            wanted,
-            "call {passing}"
-        );
+        let found = answer(rt.alloc(), &mut once)?;
+        assert_eq!(rt; found.as_str(), wanted, "call {passing}");
         create(&mut once, shape()?)?;
-        assert_eq!(rt;
-            answer(rt.alloc(), &mut once)?.as_str(),
-            NEW,
-            "behind {passing}"
-        );
+        let again = answer(rt.alloc(), &mut once)?;
+        assert_eq!(rt; again.as_str(), NEW, "behind {passing}");
     }
     let mut once = Once::new(MemDisk::new(rt.alloc()), 8);
     create(&mut once, shape()?)?;
@@ -80,7 +70,7 @@ fn created(alloc: Global, old: &[u8], passing: u64, torn: u8) -> Result<String, 
 // the gate on its own byte may be left, and before that no store is.
 #[test]
 fn a_crash_leaves_no_store_or_the_new_one(rt: HostRuntime) -> Result<(), Fail> {
-    for old in [Vec::new(rt.alloc()), one(rt.alloc(), FORMATS[0])?] {
+    for old in [Vec::new(rt.alloc()), one(rt.alloc())?] {
         for passing in 0..8 {
             for torn in [0, 165, 255] {
                 let wanted = if passing >= 6 && torn == 165 {
@@ -123,27 +113,29 @@ fn slot() -> [u8; 511] {
 
 // The ten calls of a second commit.
 fn commit<D: Device>(d: &mut D) -> Result<(), Fault> {
-    d.write(5168, &RECORD)?;
-    d.sync()?;
-    d.write(1536, &TRIPLE)?;
-    d.sync()?;
-    d.write(512, &[0])?;
-    d.sync()?;
-    d.write(513, &slot())?;
-    d.sync()?;
-    d.write(512, &[165])?;
-    d.sync()
+    let slot = slot();
+    for (at, bytes) in [
+        (5168, RECORD.as_slice()),
+        (1536, TRIPLE.as_slice()),
+        (512, [0].as_slice()),
+        (513, slot.as_slice()),
+        (512, [165].as_slice()),
+    ] {
+        d.write(at, bytes)?;
+        d.sync()?;
+    }
+    Ok(())
 }
 
 const FIRST: &str =
-    "commit 1 tail 2 points 1, checkpoint 1 from 2 triples 1 area 1, lost, entries 1.0:1";
+    "commit 1 tail 2 points 1, checkpoint 1 from 2 triples 1 area 1, lost, entries 1.0:1, pairs 1=10";
 
 const SECOND: &str =
-    "commit 2 tail 3 points 2, checkpoint 2 from 3 triples 1 area 0, lost, entries 1.0:2";
+    "commit 2 tail 3 points 2, checkpoint 2 from 3 triples 1 area 0, lost, entries 1.0:2, pairs 1=11";
 
 // What a crash leaves of a store of the first format in whose second commit so many calls pass.
 fn cut_off(alloc: Global, passing: u64, torn: u8) -> Result<Vec<u8>, Fault> {
-    let mut fuse = Fuse::new(MemDisk::from_bytes(alloc, one(alloc, FORMATS[0])?)?);
+    let mut fuse = Fuse::new(MemDisk::from_bytes(alloc, one(alloc)?)?);
     fuse.arm(passing);
     let _ = commit(&mut fuse);
     let left = fuse.crash(torn)?;

@@ -1,0 +1,332 @@
+"""Images of stores that are spelled number by number, and tables of them with bytes changed: the answer of each, worked out by
+hand."""
+
+
+def image(places, records=""):
+    """The image with these numbers of eight bytes at their places and zeros elsewhere, and from byte 5144 on the numbers of
+    its records: header, key and value."""
+    numbers = dict(map(int, word.split("=")) for word in places.split())
+    size = max(5144, *(at + 8 for at in numbers))
+    built = bytearray(size)
+    for at, number in numbers.items():
+        built[at : at + 8] = number.to_bytes(8, "little")
+    return bytes(built[:5144]) + b"".join(int(word).to_bytes(8, "little") for word in records.split())
+
+
+def changed(whole, places):
+    """The image with these bytes at their places."""
+    other = bytearray(whole)
+    for word in places.split():
+        at, byte = map(int, word.split("="))
+        other[at] = byte
+    return bytes(other)
+
+
+# a block of 16 buckets, pages of 16 records, four frames, one session, no overflow bucket and 64 pages: its areas are at 1536
+# and 3328, and its records begin at 5144
+BLOCK = "0=3553990279542754118 8=4 16=16 24=4 32=2 40=1 48=0 56=64 "
+# what slot 1 says besides in each format: in the second and the third, that the checkpoint is the commit's own
+FORMATS = (" 1528=0", " 1144=1 1528=2", " 1336=1 1528=3")
+NEW = BLOCK + "512=165 528=1 536=1 560=1 "  # commit 0 in slot 0
+
+# commit 1 in slot 1: its log ends at address 2, and a triple in area 1 leads key 1 to the record at address 1
+SLOT = "1024=165 1032=1 1040=2 1048=2 1056=1 1064=1 1072=1 1080=1 3328=1 3336=1"
+ONE = [image(NEW + SLOT + form, "281474976710656 1 10") for form in FORMATS]
+
+# commit 1, whose checkpoint was copied once two newer records were there: two records of version 1, and two of version 2 that
+# it leaves out; both keys have one home, bucket 1 and tag 0
+NEWER = "1024=165 1032=1 1040=3 1048=5 1056=1 1064=1 1072=1 1080=2 3328=1 3336=4"
+RECORDS = "281474976710656 1 10 281474976710657 524289 20 562949953421314 1 12 562949953421315 524289 21"
+LEFT_OUT = [image(NEW + NEWER + form, RECORDS) for form in FORMATS]
+
+# commit 2 in slot 0, a log commit over the checkpoint of commit 1, in the second format and in the third: its log ends at address
+# 6, behind a record of key 1 from the life behind commit 1, and version 2 is lost up to address 5
+LOG_SLOT = " 512=165 520=2 528=3 536=6 544=1 552=1 560=1 568=3"
+LOGGED = [
+    image(BLOCK + NEWER + FORMATS[2] + LOG_SLOT + form, RECORDS + " 562949953421314 1 13")
+    for form in (" 632=1 640=1 648=5 656=2 1016=2", " 824=1 832=1 840=5 848=2 1016=3")
+]
+
+# log commit 3 over the checkpoint of commit 0, which names two lost ranges and leaves a third record out
+LIVES = image(
+    BLOCK + "1024=165 1032=3 1040=1 1048=4 1072=1 1344=2 1352=2 1360=2 1368=3 1376=3 1528=3",
+    " ".join(f"{version << 48} 1 1" for version in range(2, 11)),
+)
+
+# the most sessions, of which the last alone has a point
+MOST = image(NEW + SLOT + FORMATS[2] + " 40=32 1072=32 1080=0 1328=1", "281474976710656 1 10")
+
+# commit 1 over the checkpoint of commit 0: seven homes of bucket 1, and one of bucket 2
+CROWD = image(
+    BLOCK + "1024=165 1032=1 1040=1 1048=9 1072=1 1080=8 1528=3",
+    " ".join(f"{1 << 48} {key} 10" for key in (1, 17, 33, 49, 65, 81, 97, 2)),
+)
+
+# what stands alike in all three formats
+ONE_CHANGED = """
+    0=0: NotAStore
+    512=0 1024=0: NotAStore
+    1024=0: commit 0 tail 1 points 0, checkpoint 0 from 1 triples 0 area 0, lost, entries, pairs
+    1025=1: Manifest 1
+    1032=2: Manifest 1
+    1048=1: Manifest 1
+    1086=1: Manifest 1
+    3328=16: Triple 0
+    3334=1: Triple 0
+    3336=2: Triple 0
+    5144=1: Record 1
+    5150=2: Record 1
+    5151=32: Record 1
+    5151=64: Link 1
+    5152=2: Link 1
+    5160=11: commit 1 tail 2 points 1, checkpoint 1 from 2 triples 1 area 1, lost, entries 1.0:1, pairs 1=11
+    1080=255 1081=255 1082=255 1083=255 1084=255 1085=255: commit 1 tail 2 points 281474976710655, checkpoint 1 from 2 triples 1 area 1, lost, entries 1.0:1, pairs 1=10
+    512=0: commit 1 tail 2 points 1, checkpoint 1 from 2 triples 1 area 1, lost, entries 1.0:1, pairs 1=10
+"""
+
+# another number may be the commit's, up to the last one; in the first format the checkpoint is always its own
+FIRST_NUMBER = """
+    1032=253 1033=31: commit 8189 tail 2 points 1, checkpoint 8189 from 2 triples 1 area 1, lost, entries 1.0:1, pairs 1=10
+    1032=255 1033=31: Manifest 1
+    1064=0: Manifest 1
+    1336=1: Manifest 1
+"""
+
+# and in the third
+THIRD_NUMBER = """
+    1032=253 1033=31: commit 8189 tail 2 points 1, checkpoint 1 from 2 triples 1 area 1, lost, entries 1.0:1, pairs 1=10
+    1032=255 1033=31: Manifest 1
+    1064=0: Triple 0
+    1144=1: Manifest 1
+"""
+
+# the block: a size outside its limits is no store's
+BLOCK_CHANGED = """
+    7=50: NotAStore
+    8=11: NotAStore
+    15=1: NotAStore
+    16=6: NotAStore
+    16=2: NotAStore
+    16=0 17=8: NotAStore
+    24=3: NotAStore
+    24=128: NotAStore
+    32=4: NotAStore
+    32=0: NotAStore
+    40=0: NotAStore
+    40=33: NotAStore
+    48=1 49=4: NotAStore
+    56=0: NotAStore
+    58=1: NotAStore
+    40=2: Manifest 1
+"""
+
+# records 3 and 4 are newer than the commit; the triple of their home leads to record 4
+LEFT_OUT_CHANGED = """
+    5216=2: Link 4
+    5198=3: Record 3
+    5199=64: Link 4
+    3336=2: commit 1 tail 5 points 2, checkpoint 1 from 3 triples 1 area 1, lost 5:2, entries 1.0:2, pairs 1=10 524289=20
+    3336=2 5216=2: Link 4
+    3336=2 5199=64: Link 4
+    3336=1: Link 3
+    5174=2: Record 2
+    5175=64: Link 2
+    5150=0: Record 1
+"""
+
+# a log commit's slot: the numbers that stand alike in the second format and in the third
+SLOT_CHANGED = """
+    513=1: Manifest 0
+    519=1: Manifest 0
+    520=3: Manifest 0
+    520=0: commit 1 tail 5 points 2, checkpoint 1 from 3 triples 1 area 1, lost 5:2, entries 1.0:2, pairs 1=10 524289=20
+    512=164: commit 1 tail 5 points 2, checkpoint 1 from 3 triples 1 area 1, lost 5:2, entries 1.0:2, pairs 1=10 524289=20
+    528=0: Manifest 0
+    528=5: Manifest 0
+    536=2: Manifest 0
+    536=4: Manifest 0
+    537=4: Manifest 0
+    544=113: Manifest 0
+    544=2: Triple 1
+    552=2: Manifest 0
+    552=0: Triple 0
+    560=2: Manifest 0
+    574=1: Manifest 0
+    576=1: Manifest 0
+"""
+
+# its checkpoint, ranges and format, where the third format has them
+THIRD_CHANGED = """
+    816=1: Manifest 0
+    824=3: Manifest 0
+    824=2: Manifest 0
+    824=0: commit 2 tail 6 points 3, checkpoint 0 from 3 triples 1 area 1, lost 5:2, entries 1.0:5, pairs 1=13 524289=20
+    832=0: Manifest 0
+    832=2: Manifest 0
+    832=9: Manifest 0
+    840=3: Manifest 0
+    840=4: Link 4
+    840=6: commit 2 tail 6 points 3, checkpoint 1 from 3 triples 1 area 1, lost 6:2, entries 1.0:2, pairs 1=10 524289=20
+    840=7: Manifest 0
+    848=1: Manifest 0
+    848=3: Manifest 0
+    856=1: Manifest 0
+    968=1: Manifest 0
+    1015=1: Manifest 0
+    1016=0: Manifest 0
+    1016=1: Manifest 0
+    1016=2: Manifest 0
+    1016=4: Manifest 0
+    1017=1: Manifest 0
+"""
+
+# and where the second has them
+SECOND_CHANGED = """
+    632=3: Manifest 0
+    632=2: Manifest 0
+    632=0: commit 2 tail 6 points 3, checkpoint 0 from 3 triples 1 area 1, lost 5:2, entries 1.0:5, pairs 1=13 524289=20
+    640=0: Manifest 0
+    640=2: Manifest 0
+    640=9: Manifest 0
+    648=3: Manifest 0
+    648=4: Link 4
+    648=6: commit 2 tail 6 points 3, checkpoint 1 from 3 triples 1 area 1, lost 6:2, entries 1.0:2, pairs 1=10 524289=20
+    648=7: Manifest 0
+    656=1: Manifest 0
+    656=3: Manifest 0
+    664=1: Manifest 0
+    776=1: Manifest 0
+    1016=0: Manifest 0
+    1016=3: Manifest 0
+"""
+
+# the triple of the home, which leads to record 4; where it leads below the scan, all the home's records have to
+TRIPLE_CHANGED = """
+    3336=3: commit 2 tail 6 points 3, checkpoint 1 from 3 triples 1 area 1, lost 5:2, entries 1.0:5, pairs 1=13 524289=20
+    3336=5: commit 2 tail 6 points 3, checkpoint 1 from 3 triples 1 area 1, lost 5:2, entries 1.0:5, pairs 1=13 524289=20
+    3336=2: commit 2 tail 6 points 3, checkpoint 1 from 3 triples 1 area 1, lost 5:2, entries 1.0:5, pairs 1=13 524289=20
+    3336=1: Link 3
+    3336=6: Triple 0
+    3328=2: Link 3
+    3333=128: Triple 0
+"""
+
+# the lost records
+LOST_CHANGED = """
+    5192=1: Link 5
+    5192=3: Record 3
+    5199=64: Link 4
+    5200=2: Link 3
+    5216=2: commit 2 tail 6 points 3, checkpoint 1 from 3 triples 1 area 1, lost 5:2, entries 1.0:5, pairs 1=13 524289=20
+    5216=1: Link 4
+    5216=4: Record 4
+    5222=3: Link 4
+    5222=1: Link 4
+    5223=64: Link 4
+    5224=2: Link 4
+"""
+
+# the record behind them
+KEPT_CHANGED = """
+    5240=1: Link 5
+    5240=3: Link 5
+    5240=4: Link 5
+    5240=5: Record 5
+    5246=0: Record 5
+    5246=1: commit 2 tail 6 points 3, checkpoint 1 from 3 triples 1 area 1, lost 5:2, entries 1.0:5, pairs 1=13 524289=20
+    5246=3: commit 2 tail 6 points 3, checkpoint 1 from 3 triples 1 area 1, lost 5:2 6:3, entries 1.0:2, pairs 1=10 524289=20
+    5246=4: Record 5
+    5247=32: Record 5
+    5247=64: commit 2 tail 6 points 3, checkpoint 1 from 3 triples 1 area 1, lost 5:2, entries 1.0:2, pairs 1=10 524289=20
+    5247=128: Record 5
+    5248=3: Link 5
+"""
+
+# those below the scan
+BELOW_CHANGED = """
+    5168=2: Record 2
+    5168=0: commit 2 tail 6 points 3, checkpoint 1 from 3 triples 1 area 1, lost 5:2, entries 1.0:5, pairs 1=13 524289=20
+    5174=2: commit 2 tail 6 points 3, checkpoint 1 from 3 triples 1 area 1, lost 5:2, entries 1.0:5, pairs 1=13 524289=20
+    5174=3: Record 2
+    5175=64: Link 2
+    5176=2: Link 2
+    5150=0: Record 1
+    5150=3: Record 1
+    5151=64: Link 1
+    5152=2: Link 1
+    5160=7: commit 2 tail 6 points 3, checkpoint 1 from 3 triples 1 area 1, lost 5:2, entries 1.0:5, pairs 1=13 524289=20
+"""
+
+# two places are damaged: the first stage that finds one tells it, and the scan goes upwards
+TWICE_CHANGED = """
+    0=0 552=2: NotAStore
+    552=2 3336=6: Manifest 0
+    3336=6 5192=3: Triple 0
+    5192=3 5200=2: Record 3
+    5192=3 5216=1: Record 3
+    5200=2 5240=5: Link 3
+    5223=64 5150=0: Link 4
+    5240=4 5150=0: Link 5
+"""
+
+# the versions of the ranges of commit 3 rise, and none ends before the one that it follows
+RANGES_CHANGED = """
+    1376=2: Manifest 1
+    1376=1: Manifest 1
+    1352=4: Manifest 1
+    1368=2: Link 3
+    1352=3: commit 3 tail 4 points 0, checkpoint 0 from 1 triples 0 area 0, lost 3:2 3:3 4:4, entries, pairs
+"""
+
+# the most sessions
+MOST_CHANGED = """
+    1080=0: commit 1 tail 2 points 0 0 0 0 0 0 0 0 0 0 0 0 0 0 0 0 0 0 0 0 0 0 0 0 0 0 0 0 0 0 0 1, checkpoint 1 from 2 triples 1 area 1, lost, entries 1.0:1, pairs 1=10
+    40=33: NotAStore
+    1072=33: Manifest 1
+    1528=0: Manifest 1
+    1334=1: Manifest 1
+"""
+
+# the key of the eighth record is another, or its header
+CROWD_CHANGED = """
+    5320=2: commit 1 tail 9 points 8, checkpoint 0 from 1 triples 0 area 0, lost, entries 1.0:1 1.1:2 1.2:3 1.3:4 1.4:5 1.5:6 1.6:7 2.0:8, pairs 1=10 2=10 17=10 33=10 49=10 65=10 81=10 97=10
+    5320=113: Full 1
+    5320=113 5319=64: commit 1 tail 9 points 8, checkpoint 0 from 1 triples 0 area 0, lost, entries 1.0:1 1.1:2 1.2:3 1.3:4 1.4:5 1.5:6 1.6:7, pairs 1=10 17=10 33=10 49=10 65=10 81=10 97=10
+    5320=97: Link 8
+    5320=97 5312=7: commit 1 tail 9 points 8, checkpoint 0 from 1 triples 0 area 0, lost, entries 1.0:1 1.1:2 1.2:3 1.3:4 1.4:5 1.5:6 1.6:8, pairs 1=10 17=10 33=10 49=10 65=10 81=10 97=10
+"""
+
+TABLES = [
+    *((f"one commit, format {form + 1}", ONE[form], ONE_CHANGED) for form in (0, 1, 2)),
+    ("one commit, format 1", ONE[0], FIRST_NUMBER),
+    ("one commit, format 1", ONE[0], BLOCK_CHANGED),
+    ("one commit, format 3", ONE[2], THIRD_NUMBER),
+    *((f"records left out, format {form + 1}", LEFT_OUT[form], LEFT_OUT_CHANGED) for form in (0, 1, 2)),
+    ("a log commit, format 2", LOGGED[0], SLOT_CHANGED + SECOND_CHANGED),
+    ("a log commit, format 3", LOGGED[1], SLOT_CHANGED + THIRD_CHANGED),
+    ("its log", LOGGED[1], TRIPLE_CHANGED + LOST_CHANGED + KEPT_CHANGED + BELOW_CHANGED + TWICE_CHANGED),
+    ("three lives", LIVES, RANGES_CHANGED),
+    ("32 sessions", MOST, MOST_CHANGED),
+    ("eight homes", CROWD, CROWD_CHANGED),
+]
+
+# an image that ends early has zeros from there on
+CUT = {
+    63: "NotAStore",
+    512: "NotAStore",
+    1024: "commit 0 tail 1 points 0, checkpoint 0 from 1 triples 0 area 0, lost, entries, pairs",
+    3336: "Triple 0",
+    5150: "Record 1",
+    5152: "Link 1",
+    5161: "commit 1 tail 2 points 1, checkpoint 1 from 2 triples 1 area 1, lost, entries 1.0:1, pairs 1=10",
+}
+
+
+def rows():
+    """The images, each with a name and its answer."""
+    for name, whole, table in TABLES:
+        for line in filter(None, map(str.strip, table.splitlines())):
+            places, wanted = line.split(": ", 1)
+            yield f"{name}: {places}", changed(whole, places), wanted
+    for size, wanted in CUT.items():
+        yield f"one commit: {size} bytes", ONE[0][:size], wanted
