@@ -7,6 +7,7 @@ use Rattle.std.proofs.lemmas.List.{length-drop, length-replicate}
 use Rattle.fkv_disk.specs.Bytes.{byte_at, covers, written, range_end}
 use Rattle.fkv_disk.specs.Device.{Torn}
 use Rattle.fkv_disk.proofs.Shown.{length-written, is_listed, in_range, before_range, after_range, range_end_is, byte_at-written_in, byte_at-written_out}
+use Rattle.fkv_manifest.specs.Tearing.{IsTornInOrder}
 use Rattle.fkv_creating.specs.Filled.{cleared, IsCleared, IsShut, filled, IsShutOrFilled}
 use Rattle.fkv_creating.specs.Created.{laid}
 use Rattle.fkv_creating.proofs.Laying.{zeros_at}
@@ -98,7 +99,7 @@ torn_gate old image cleared torn = elim (cases_eq (byte_at image 512) 165) [
     many : length image ≡ max (length old) (range_end 512 1)
     many = omega (arith, torn.no_shorter, torn.no_longer, cleared.long, range_end_is 512 1 (omega arith))
 
--- the three writes, as a crash leaves them
+-- the block and the slot, as a crash leaves them
 module _ (old block slot : List ℕ) (its_block : length block ≡ 64) (its_slot : length slot ≡ 512) (clear : IsCleared old) where
   abbrev body : List ℕ
   body = drop 8 slot
@@ -115,9 +116,13 @@ module _ (old block slot : List ℕ) (its_block : length block ≡ 64) (its_slot
   pub in_block : (image : List ℕ) → Torn 0 (length block) old image → IsShutOrFilled old block slot image
   in_block image torn = inl (torn_shut old image 0 (length block) (block_gateless (length block) its_block) clear torn)
 
-  pub in_body : (image : List ℕ) → Torn 520 (length body) (written old 0 block) image → IsShutOrFilled old block slot image
+  in_body : (image : List ℕ) → Torn 520 (length body) (written old 0 block) image → IsShutOrFilled old block slot image
   in_body image torn = inl (torn_shut (written old 0 block) image 520 (length body) (body_gateless (length body) many_body) clear_2 torn)
 
-  pub in_gate : (image : List ℕ) → Torn 512 1 (written (written old 0 block) 520 body) image → IsShutOrFilled old block slot image
+  in_gate : (image : List ℕ) → Torn 512 1 (written (written old 0 block) 520 body) image → IsShutOrFilled old block slot image
   unfolding filled
   in_gate image torn = torn_gate (written (written old 0 block) 520 body) image clear_3 torn
+
+  pub in_slot : (image : List ℕ) → IsTornInOrder 512 8 slot false (written old 0 block) image → IsShutOrFilled old block slot image
+  in_slot image (inl torn) = in_body image torn
+  in_slot image (inr torn) = in_gate image torn

@@ -1,4 +1,5 @@
 mod Counting
+mod Entryless
 mod Filling
 mod Laying
 mod Moving

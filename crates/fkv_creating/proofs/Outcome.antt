@@ -11,6 +11,7 @@ use Rattle.fkv_newest.specs.declared.newest_slots.Newest.{Newest}
 use Rattle.fkv_newest.specs.Newest.{IsStore, IsNewestOf, slot_place}
 use Rattle.fkv_record.specs.Places.{open_number, number_at}
 use Rattle.fkv_creating.specs.Created.{IsNew}
+use Rattle.fkv_creating.specs.Long.{IsLong}
 use Rattle.fkv_creating.specs.Filled.{IsShut, IsShutOrFilled, filled}
 use Rattle.fkv_creating.specs.Moments.{IsNoneOrNew}
 
@@ -29,9 +30,10 @@ no_store : (image : List ℕ) → IsShut image → IsStore image → ⊥
 no_store image shut store = none_some (slot_place store.index) (sym (shut_none image shut) ∙ store.in_force)
 
 -- no store's, or the new one's
-pub none_or_new : (old block slot : List ℕ) (shape : Shape) (n : Newest) → IsNew shape n → IsNewestOf (filled old block slot) n → (image : List ℕ) → IsShutOrFilled old block slot image → IsNoneOrNew shape image
-none_or_new old block slot shape n new told image (inl shut) = inl (no_store image shut)
-none_or_new old block slot shape n new told image (inr is) = inr (n, new, subst (λ bytes. IsNewestOf bytes n) (sym is) told)
+pub none_or_new : (old block slot : List ℕ) (shape : Shape) (n : Newest) → IsNew shape n → IsNewestOf (filled old block slot) n → IsLong (filled old block slot) n.shape n.slot → (image : List ℕ) → IsShutOrFilled old block slot image
+    → IsNoneOrNew shape image
+none_or_new old block slot shape n new told long image (inl shut) = inl (no_store image shut)
+none_or_new old block slot shape n new told long image (inr is) = inr (n, new, subst (λ bytes. IsNewestOf bytes n) (sym is) told, subst (λ bytes. IsLong bytes n.shape n.slot) (sym is) long)
 
 pub failed_too : {T E : Type 0} (r : Result T E) (P : E → Type 0) → IsErrAnd r P → IsErr r
 failed_too (Ok x) P is = absurd is

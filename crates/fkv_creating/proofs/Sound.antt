@@ -31,10 +31,10 @@ module _ (image : List ℕ) (shape : Shape) (n : Newest) (new : IsNew shape n) w
   log : Log
   log = log_in image n.shape n.slot []
 
-  empty : n.slot.end.0 ≤ n.slot.first.0
+  pub empty : n.slot.end.0 ≤ n.slot.first.0
   empty = omega (arith, new.slot.end, new.slot.first)
 
-  unreached : (a : ℕ) → Reached (log_in image n.shape n.slot []) a → ⊥
+  pub unreached : (a : ℕ) → Reached (log_in image n.shape n.slot []) a → ⊥
   unreached a reached = none_reached (log_in image n.shape n.slot []) a refl empty reached
 
   pub no_triples : AreTriples (checkpoint_in image n.shape n.slot) []

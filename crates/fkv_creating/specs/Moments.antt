@@ -7,6 +7,7 @@ use Rattle.fkv_disk.specs.Device.{Torn, AtEachMoment, after}
 use Rattle.fkv_newest.specs.declared.newest_slots.Newest.{Newest}
 use Rattle.fkv_newest.specs.Newest.{IsNewestOf, IsNewestFault}
 use Rattle.fkv_creating.specs.Created.{IsNew}
+use Rattle.fkv_creating.specs.Long.{IsLong}
 
 -- one of these images, with a write of n bytes over it that is torn
 abbrev pub IsTornOver : (List ℕ → Type 0) → ℕ → ℕ → List ℕ → Type 0
@@ -16,9 +17,9 @@ IsTornOver was at n image = (old : List ℕ) × was old × Torn at n old image
 abbrev pub IsTornInFront : (List ℕ → Type 0) → List ℕ → Type 0
 IsTornInFront was image = IsTornOver was 0 1536 image
 
--- no store's, or that of the new store
+-- no store's, or that of the new store, which is long
 abbrev pub IsNoneOrNew : Shape → List ℕ → Type 0
-IsNoneOrNew shape image = IsNewestFault image NotAStore ⊎ ((n : Newest) × IsNew shape n × IsNewestOf image n)
+IsNoneOrNew shape image = IsNewestFault image NotAStore ⊎ ((n : Newest) × IsNew shape n × IsNewestOf image n × IsLong image n.shape n.slot)
 
 -- The first two calls clear the front. Until then a crash leaves an image of before, with anything in its first 1,536 bytes; from then on one that is no
 -- store's, or that of the new store.

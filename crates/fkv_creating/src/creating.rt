@@ -11,8 +11,9 @@ ghost use Rattle.fkv_creating.specs.Moments.{IsTornOver, IsTornInFront, IsLaidIn
 use crate::new_slots::new_store;
 use fkv_base::{Fault, Shape};
 use fkv_disk::Device;
+use fkv_manifest::put_slot;
 use fkv_newest::Newest;
-use fkv_record::{OPEN, SHAPE_PLACE, SLOT_PLACES, write_newest_slot, write_shape};
+use fkv_record::{SHAPE_PLACE, SLOT_PLACES, write_newest_slot, write_shape};
 
 /// One write, and a sync.
 fn write_synced<D: Device>(d: &mut D, at: u64, bytes: &[u8]) -> Result<(), Fault>
@@ -41,15 +42,7 @@ fn clear<D: Device>(d: &mut D) -> Result<(), Fault>
     write_synced(d, SHAPE_PLACE, &[0; 1536])
 }
 
-/// The slot behind its gate.
-fn body(slot: &[u8]) -> &[u8]
-    requires { 8 ≤ length slot.now }
-    ensures { result.now ≡ drop 8 slot.now }
-{
-    &slot[8..]
-}
-
-/// The block, the slot behind its gate, and the gate, over a front that is cleared.
+/// The block, and the slot, which is put in force behind its gate, over a front that is cleared.
 fn fill<D: Device>(d: &mut D, block: &[u8; 64], slot: &[u8; 512]) -> Result<(), Fault>
     ensures seen { D.honest d.old → OnOk result (D.seen d.new ≡ filled (D.seen d.old) block.now slot.now) }
     ensures synced { D.honest d.old → OnOk result (LeavesOnly (D.seen d.new) (D.may_leave d.new)) }
@@ -59,18 +52,16 @@ fn fill<D: Device>(d: &mut D, block: &[u8; 64], slot: &[u8; 512]) -> Result<(), 
     ensures counted { OnOk result (MakesCalls 6 (D.refuses d.old) (D.refuses d.new) result) }
 {
     write_synced(d, SHAPE_PLACE, block)?;
-    write_synced(d, SLOT_PLACES[0] + 8, body(slot))?;
-    write_synced(d, SLOT_PLACES[0], &[OPEN])?;
-    Ok(())
+    put_slot(d, SLOT_PLACES[0], 8, *slot, false)
 }
 
 /// Makes an empty store of this shape over whatever the device holds, and tells what `read_newest` will tell of it. It
 /// makes eight calls: zeros over the first 1,536 bytes, the block, the slot behind its gate, and the gate, with a sync after
-/// each. It takes no memory.
+/// each; the slot's are those of `put_slot`, by which a commit's slot comes into force too. It takes no memory.
 ///
 /// After `Ok` the device reads as the image of commit 0 of a store with an empty log, and a crash leaves just that. What
 /// lies behind the first 1,536 bytes stays, and means nothing. Once the zeros are synced a crash, or a refusal, leaves an image that
-/// is no store's, or the new one. It is refused with `Device` alone, and only where the device failed in this call.
+/// is no store's, or the new one, which is long. It is refused with `Device` alone, and only where the device failed in this call.
 pub fn create<D: Device>(d: &mut D, shape: Shape) -> Result<Newest, Fault>
     ensures ok { D.honest d.old → IfOk result (IsNewestOf (D.seen d.new)) }
     ensures new { IfOk result (IsNew shape) }

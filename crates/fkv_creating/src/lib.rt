@@ -4,9 +4,11 @@
 mod creating;
 mod laws;
 mod new_slots;
+mod opening;
 
 pub use creating::create;
 pub use laws::law_new_is_sound;
+pub use opening::create_opened;
 
 #[cfg(test)]
 mod tests;

@@ -1,5 +1,5 @@
-use crate::{create, law_new_is_sound};
-use fkv_base::{Fault, Shape};
+use crate::{create, create_opened, law_new_is_sound};
+use fkv_base::{Addr, Fault, Shape, Version};
 use fkv_disk::{Device, MemDisk, Once};
 use fkv_newest::read_newest;
 use std::alloc::Global;
@@ -47,6 +47,19 @@ fn a_new_store_is_laid_and_read(rt: HostRuntime) -> Result<(), Fail> {
         assert_eq!(rt; newest.index, 0);
         assert_eq!(rt; newest.open_numbers, (Some(0), None));
     }
+    Ok(())
+}
+
+#[test]
+fn a_new_store_is_opened(rt: HostRuntime) -> Result<(), Fail> {
+    let mut disk = used(rt.alloc(), 700)?;
+    let store = create_opened(rt.alloc(), &mut disk, shape()?)?;
+    assert!(rt; disk.bytes() == image(rt.alloc(), 1536)?.as_slice());
+    assert_eq!(rt; store.number, Version(0));
+    assert_eq!(rt; store.tail, Addr(1));
+    assert_eq!(rt; store.gates, (true, false));
+    assert_eq!(rt; store.points.len(), 1);
+    assert_eq!(rt; store.entries.len(), 0);
     Ok(())
 }
 

@@ -9,4 +9,5 @@ mod Settled
 pub mod Shown
 mod Spelled
 mod Stages
+mod Tearing
 mod ToCome

@@ -1,6 +1,6 @@
 -- The calls that a slot's machine has yet to make, where each succeeds.
-use Rattle.std.proofs.Common.{◌≡◌, ℕ, suc, ◌+◌, List, [], ◌∷◌, ◌++◌, drop, Bool, true, false, refl, sym, ap}
-use Rattle.std.specs.Prelude.{Option, Some, None}
+use Rattle.std.proofs.Common.{◌≡◌, ℕ, suc, ◌+◌, List, [], ◌∷◌, ◌++◌, drop, Bool, true, false, refl, ap}
+use Rattle.std.specs.Prelude.{Some, None}
 use Rattle.fkv_disk.specs.Calls.{Call, Write, Sync}
 use Rattle.fkv_manifest.specs.Gating.{GateWriter, gate_start, gate_call, gate_step_call, gate_next, gate_calls_left, open_gate, closed_gate}
 use Rattle.fkv_manifest.specs.Made.{whole_gate}

@@ -4,3 +4,4 @@ pub mod Gating
 pub mod Kept
 pub mod Made
 pub mod Newest
+pub mod Tearing

@@ -1,7 +1,8 @@
 //! A slot that is put in force in one go.
 ghost use Rattle.std.specs.Prelude.{◌≡◌, ◌≤◌, ◌↔◌, OnOk, is_ok};
-ghost use Rattle.fkv_disk.specs.Device.{HasCause, MakesCalls, LeavesOnly};
+ghost use Rattle.fkv_disk.specs.Device.{AtEachMoment, HasCause, MakesCalls, LeavesOnly};
 ghost use Rattle.fkv_manifest.specs.Gating.{gate_start, gate_leads, gate_calls_left};
+ghost use Rattle.fkv_manifest.specs.Tearing.{IsTornInOrder};
 
 use crate::answers::WriteAnswer;
 use crate::gates::GateWrites;
@@ -10,8 +11,9 @@ use fkv_disk::Device;
 
 /// Puts a slot in force at its place, from `start` on behind its gate, which stands open or closed.
 ///
-/// After `Ok` the device reads as it did with the slot over it, and a crash leaves just that. `Fault::Device` where a call
-/// failed: it was the last one.
+/// After `Ok` the device reads as it did with the slot over it, and a crash leaves just that. Where all was synced before, a
+/// crash at any moment leaves what the writes before gave, with one of them torn; so does one behind a failure.
+/// `Fault::Device` where a call failed: it was the last one.
 pub fn put_slot<D: Device>(
     d: &mut D,
     place: u64,
@@ -23,6 +25,7 @@ pub fn put_slot<D: Device>(
     requires start { start ≤ 512 }
     ensures seen { D.honest d.old → OnOk result (D.seen d.new ≡ gate_leads place start slot (gate_start is_open) (D.seen d.old)) }
     ensures synced { D.honest d.old → OnOk result (LeavesOnly (D.seen d.new) (D.may_leave d.new)) }
+    ensures moments { D.honest d.old → LeavesOnly (D.seen d.old) (D.may_leave d.old) → AtEachMoment D.moment D.left_since d.old d.new (IsTornInOrder place start slot is_open (D.seen d.old)) }
     ensures honest { D.honest d.old ↔ D.honest d.new }
     ensures cause { HasCause (D.failed d.old) (D.failed d.new) result }
     ensures counted { OnOk result (MakesCalls (gate_calls_left (gate_start is_open)) (D.refuses d.old) (D.refuses d.new) result) }

@@ -1,5 +1,5 @@
 //! What the scan knows of a home.
-ghost use Rattle.std.specs.Prelude.{◌≡◌, ℕ};
+ghost use Rattle.std.specs.Prelude.{◌≡◌};
 
 use fkv_base::{Addr, Version};
 use fkv_record::Record;
@@ -19,8 +19,6 @@ pub struct HomeScan {
 }
 
 impl HomeScan {
-    ghost use Rattle.fkv_scan.specs.Log.{Log};
-    ghost use Rattle.fkv_scan.specs.Scanned.{IsHomeScan, IsEntryOf};
     ghost use Rattle.fkv_scan.specs.Steps.{is_way, is_next, is_first, links, met, led, unled};
 
     /// A home before the scan, by the address of its triple.
@@ -44,20 +42,6 @@ impl HomeScan {
             below: Some(Addr(0)),
             last: None,
             last_version: Version(0),
-        }
-    }
-
-    /// Where the home's entry points once all records are scanned: to the newest record that counts, or else to where the
-    /// chain goes on below the scan's start.
-    pub fn entry(&self) -> Option<Addr>
-        ensures { (log : Log) (its_home : ℕ) → IsHomeScan log its_home self.now → IsEntryOf log its_home result }
-    {
-        if let Some(addr) = self.newest {
-            return Some(addr);
-        }
-        match self.below {
-            Some(way) if way.0 != 0 => Some(way),
-            _ => None,
         }
     }
 

@@ -145,7 +145,6 @@ fn newer_records_are_left_out(rt: HostRuntime) -> Result<(), Fail> {
     let found = scanned.homes.get(&HOME).copied();
     assert_eq!(rt; found.map(|home| home.newest), Some(None));
     assert_eq!(rt; found.map(|home| home.below), Some(Some(Addr(2))));
-    assert_eq!(rt; found.map(|home| home.entry()), Some(Some(Addr(2))));
     assert_eq!(rt; scanned.newer, true);
     assert_eq!(rt; scanned.homes.len(), 1);
     Ok(())
@@ -166,7 +165,7 @@ fn a_checkpoint_is_read(rt: HostRuntime) -> Result<(), Fail> {
     let mut triple = [1, 0, 0, 0, 0, 0, 0, 0, 4, 0, 0, 0, 0, 0, 0, 0];
     let scanned = scan_behind(rt.alloc(), &triple)?;
     let found = scanned.homes.get(&HOME).copied();
-    assert_eq!(rt; found.map(|home| home.entry()), Some(Some(Addr(2))));
+    assert_eq!(rt; found.map(|home| home.below), Some(Some(Addr(2))));
     for (at, byte) in [(0, 16), (6, 1), (8, 5)] {
         let old = triple[at];
         triple[at] = byte;
@@ -217,7 +216,8 @@ fn a_lost_record_is_followed(rt: HostRuntime) -> Result<(), Fail> {
     let mut disk = image(rt.alloc(), &LEFT_OUT)?;
     let scanned = scan_led(rt.alloc(), &mut disk, &slot(2, 3, 5, range(5, 2)), 4)?;
     let found = scanned.homes.get(&HOME).copied();
-    assert_eq!(rt; found.map(|home| home.entry()), Some(Some(Addr(2))));
+    assert_eq!(rt; found.map(|home| home.newest), Some(None));
+    assert_eq!(rt; found.map(|home| home.below), Some(Some(Addr(2))));
     assert_eq!(rt; scanned.newer, false);
     Ok(())
 }
@@ -234,7 +234,7 @@ fn a_record_of_the_next_life_counts(rt: HostRuntime) -> Result<(), Fail> {
     let mut disk = image(rt.alloc(), &records)?;
     let scanned = scan_led(rt.alloc(), &mut disk, &slot(2, 3, 6, range(5, 2)), 4)?;
     let found = scanned.homes.get(&HOME).copied();
-    assert_eq!(rt; found.map(|home| home.entry()), Some(Some(Addr(5))));
+    assert_eq!(rt; found.map(|home| home.newest), Some(Some(Addr(5))));
     assert_eq!(rt; found.map(|home| home.below), Some(Some(Addr(2))));
     assert_eq!(rt; scanned.newer, false);
     Ok(())
@@ -262,7 +262,8 @@ fn lost_records_leave_no_entry(rt: HostRuntime) -> Result<(), Fail> {
         &[],
     )?;
     let found = scanned.homes.get(&HOME).copied();
-    assert_eq!(rt; found.map(|home| home.entry()), Some(None));
+    assert_eq!(rt; found.map(|home| home.newest), Some(None));
+    assert_eq!(rt; found.map(|home| home.below), Some(Some(Addr(0))));
     assert_eq!(rt; scanned.newer, true);
     Ok(())
 }
@@ -273,7 +274,7 @@ fn a_folded_log_has_its_triples_alone(rt: HostRuntime) -> Result<(), Fail> {
     let scanned = scan_led(rt.alloc(), &mut disk, &slot(2, 3, 3, no_range()), 2)?;
     let found = scanned.homes.get(&HOME).copied();
     assert_eq!(rt; found.map(|home| home.newest), Some(None));
-    assert_eq!(rt; found.map(|home| home.entry()), Some(Some(Addr(2))));
+    assert_eq!(rt; found.map(|home| home.below), Some(Some(Addr(2))));
     assert_eq!(rt; scanned.newer, false);
     Ok(())
 }

@@ -59,13 +59,14 @@ returns-clause-moments g c = λ claim.
     ap (λ s. filled s block slot) seen1 ∙ laid_is_filled old block slot ∙ ap (λ b. laid old b slot) c.write_shape.ensures ∙ ap (λ s. laid old (shape_bytes c.args.shape) s) c.write_newest_slot.ensures.said in
     let told : IsNewestOf (filled (d.seen c.clear.new.d) block slot) n = subst (λ image. IsNewestOf image n) (sym is_laid)
     (newest_told old n c.args.shape c.new_store-newest.ensures (ap (λ (s : List ℕ). Some s) (sym c.write_newest_slot.ensures.said) ∙ c.write_newest_slot.ensures.spelled)) in
+    let long : IsLong (filled (d.seen c.clear.new.d) block slot) n.shape n.slot = subst (λ image. IsLong image n.shape n.slot) (sym is_laid) (is_long old n c.args.shape c.new_store-newest.ensures) in
     let clear : IsCleared (d.seen c.clear.new.d) = subst IsCleared (sym seen1) (cleared_by_zeros old) in
     inl (record {
       cleared = c.clear.new.d;
       calls = c.in_ok-clear.ensures.counted.counted;
       until_then = c.in_ok-clear.ensures.moments claim;
       from_then = weaker d.may_leave d.moment d.left_since c.clear.new.d c.fill.new.d (IsShutOrFilled (d.seen c.clear.new.d) block slot) (IsNoneOrNew c.args.shape)
-          (none_or_new (d.seen c.clear.new.d) block slot c.args.shape n c.new_store-newest.ensures told) (c.in_ok-fill.ensures.moments claim1 (c.in_ok-clear.ensures.synced claim) clear);
+          (none_or_new (d.seen c.clear.new.d) block slot c.args.shape n c.new_store-newest.ensures told long) (c.in_ok-fill.ensures.moments claim1 (c.in_ok-clear.ensures.synced claim) clear);
     })
 
 pub returns-in_err-fill-clause-moments : goal.returns-in_err-fill-clause-moments
@@ -81,13 +82,14 @@ returns-in_err-fill-clause-moments g c = λ claim.
     ap (λ s. filled s block slot) seen1 ∙ laid_is_filled old block slot ∙ ap (λ b. laid old b slot) c.write_shape.ensures ∙ ap (λ s. laid old (shape_bytes c.args.shape) s) c.write_newest_slot.ensures.said in
     let told : IsNewestOf (filled (d.seen c.clear.new.d) block slot) n = subst (λ image. IsNewestOf image n) (sym is_laid)
     (newest_told old n c.args.shape c.new_store-newest.ensures (ap (λ (s : List ℕ). Some s) (sym c.write_newest_slot.ensures.said) ∙ c.write_newest_slot.ensures.spelled)) in
+    let long : IsLong (filled (d.seen c.clear.new.d) block slot) n.shape n.slot = subst (λ image. IsLong image n.shape n.slot) (sym is_laid) (is_long old n c.args.shape c.new_store-newest.ensures) in
     let clear : IsCleared (d.seen c.clear.new.d) = subst IsCleared (sym seen1) (cleared_by_zeros old) in
     inl (record {
       cleared = c.clear.new.d;
       calls = c.in_ok-clear.ensures.counted.counted;
       until_then = c.in_ok-clear.ensures.moments claim;
       from_then = weaker d.may_leave d.moment d.left_since c.clear.new.d c.fill.new.d (IsShutOrFilled (d.seen c.clear.new.d) block slot) (IsNoneOrNew c.args.shape)
-          (none_or_new (d.seen c.clear.new.d) block slot c.args.shape n c.new_store-newest.ensures told) (c.in_err-fill.ensures.moments claim1 (c.in_ok-clear.ensures.synced claim) clear);
+          (none_or_new (d.seen c.clear.new.d) block slot c.args.shape n c.new_store-newest.ensures told long) (c.in_err-fill.ensures.moments claim1 (c.in_ok-clear.ensures.synced claim) clear);
     })
 
 pub returns-in_err-clear-clause-moments : goal.returns-in_err-clear-clause-moments
