@@ -38,7 +38,7 @@ use Rattle.fkv_session.specs.declared.sessions.Sitting.TheVariants.{Idle, Attemp
 use Rattle.fkv_session.specs.AsksLeft.{session_asks_left}
 use Rattle.fkv_session.specs.CatchingUp.{catch_ask, catching_ask, refresh_begun, wake_begun}
 use Rattle.fkv_session.specs.OwnTurns.{own_turn_ask, own_turning_ask, own_turn_begun, own_turn_given}
-use Rattle.fkv_session.specs.Sessions.{Seat, SessionState, IsOpened, bits_of, is_busy, sitting_ask, session_ask, answers, refuses, answers_after_turn, request_in_hand, attempts, polls_request, polls_at, refusal_of, op_begun, refresh_call, poll_begun, poll_call, sleep_call, wake_call, call_begun, session_begun, attempt_left, serial_taken, is_no_room, with_request, ticket_after, accepts, shifts, attempted, attempt_ledto, caught_up, catch_ledto, clear_ledto, is_finished, is_owed, request_finished, finishes_request, lacks_room, keeps_request, poll_ledto, turn_ledto, leave_ledto, attempt_moved, caught, own_turn_moved, sitting_next, session_next, sitting_given, session_given, asks_after, is_word_ask}
+use Rattle.fkv_session.specs.Sessions.{Seat, SessionState, bits_of, is_busy, sitting_ask, session_ask, answers, refuses, answers_after_turn, request_in_hand, attempts, polls_request, polls_at, refusal_of, op_begun, refresh_call, poll_begun, poll_call, sleep_call, wake_call, call_begun, session_begun, attempt_left, serial_taken, is_no_room, with_request, ticket_after, accepts, shifts, attempted, attempt_ledto, caught_up, catch_ledto, clear_ledto, is_finished, is_owed, request_finished, finishes_request, lacks_room, keeps_request, poll_ledto, turn_ledto, leave_ledto, attempt_moved, caught, own_turn_moved, sitting_next, session_next, sitting_given, session_given, asks_after, is_word_ask}
 use Rattle.fkv_session.specs.SessionRun.{SessionEvent, Begins, Replies, Gets, begins, session_happens, session_run}
 use Rattle.fkv_session.proofs.SessionLeft.{session_left}
 
@@ -230,15 +230,15 @@ opening_asks k s idle busy = absurd (none (sym idle ∙ busy))
     none e = cc
 
 -- at every moment of a run
-run_asks : (k : Seat) (opening : SessionState) (events : List SessionEvent) → IsOpened opening → AsksInHand k (session_run k opening events)
+run_asks : (k : Seat) (opening : SessionState) (events : List SessionEvent) → is_busy opening.step ≡ false → AsksInHand k (session_run k opening events)
 unfolding session_run
-run_asks k opening [] opened = opening_asks k opening opened.none_in_hand
-run_asks k opening (event ∷ before) opened = event_asks k (session_run k opening before) event (run_asks k opening before opened)
+run_asks k opening [] idle = opening_asks k opening idle
+run_asks k opening (event ∷ before) idle = event_asks k (session_run k opening before) event (run_asks k opening before idle)
 
 -- so where no asks are left no call is in hand
 ended_by : (k : Seat) (s : SessionState) (busy : Bool) → is_busy s.step ≡ busy → AsksInHand k s → session_asks_left k s ≡ 0 → busy ≡ false
 ended_by k s false e held none = refl
 ended_by k s true e held none = let some = (session_left k s).0 (held e) in let no : ⊥ = omega (arith, some, none) in absurd no
 
-pub run_ended : (k : Seat) (opening : SessionState) (events : List SessionEvent) → IsOpened opening → session_asks_left k (session_run k opening events) ≡ 0 → is_busy (session_run k opening events).step ≡ false
-run_ended k opening events opened none = ended_by k (session_run k opening events) (is_busy (session_run k opening events).step) refl (run_asks k opening events opened) none
+pub run_ended : (k : Seat) (opening : SessionState) (events : List SessionEvent) → is_busy opening.step ≡ false → session_asks_left k (session_run k opening events) ≡ 0 → is_busy (session_run k opening events).step ≡ false
+run_ended k opening events idle none = ended_by k (session_run k opening events) (is_busy (session_run k opening events).step) refl (run_asks k opening events idle) none

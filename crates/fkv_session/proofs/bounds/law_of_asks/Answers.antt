@@ -11,4 +11,4 @@ pub returns-clause-requests : goal.returns-clause-requests
 returns-clause-requests c = λ seat opening events opened. (run_room seat opening events opened).few
 
 pub returns-clause-ended : goal.returns-clause-ended
-returns-clause-ended c = λ seat opening events opened none. run_ended seat opening events opened none
+returns-clause-ended c = λ seat opening events opened none. run_ended seat opening events opened.none_in_hand none
