@@ -32,7 +32,7 @@ use Rattle.fkv_pending.specs.declared.mailing.MailAnswer.TheVariants as mail
 use Rattle.fkv_pending.specs.declared.mailing.MailRecord.{MailRecord}
 use Rattle.fkv_pending.specs.declared.pending_requests.PendingRequest.{PendingRequest}
 use Rattle.fkv_pending.specs.Pending.{with_sought, with_held, with_latch, with_asked}
-use Rattle.fkv_pending.specs.Attempting.{AttemptState, is_poll, is_seeking_read, attempt_ended, waits_for_disk, puts_addr, puts, tries, goes_on, attempt_begun, read_on, moved_on, held_of, held_kept, look_ledto, awaits_record, tried, try_ledto, put_ledto, mail_moved, try_moved, attempting_ask, attempt_ask, attempting_next, attempt_next}
+use Rattle.fkv_pending.specs.Attempting.{AttemptState, is_seeking_read, attempt_ended, waits_for_disk, puts_addr, puts, tries, goes_on, attempt_begun, read_on, moved_on, held_of, held_kept, look_ledto, awaits_record, tried, try_ledto, put_ledto, mail_moved, try_moved, attempting_ask, attempt_ask, attempting_next, attempt_next}
 use Rattle.fkv_session.specs.Sessions.{Seat, bits_of, room_of}
 use Rattle.fkv_session.specs.Shares.{added_by, latch_of, HasItsBuckets}
 use Rattle.fkv_session.proofs.SharesSpared.{SharesNone, none_added, none_dropped, passed_added, passed_none, mail_none}
