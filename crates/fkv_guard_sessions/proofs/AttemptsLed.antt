@@ -29,7 +29,7 @@ use Rattle.fkv_pending.specs.declared.mailing.Mailing.TheVariants.{LoadsState}
 use Rattle.fkv_pending.specs.declared.pending_requests.PendingRequest.{PendingRequest}
 use Rattle.fkv_pending.specs.Mailing.{mail_ask, mail_next}
 use Rattle.fkv_pending.specs.Pending.{with_sought, with_held, with_latch, with_asked}
-use Rattle.fkv_pending.specs.Attempting.{AttemptState, attempt_ended, waits_for_disk, puts_addr, puts, tries, is_pending_read, goes_on, attempt_begun, held_of, moved_on, read_on, record_taken, look_ledto, held_kept, tried, try_ledto, put_ledto, mail_moved, attempting_next}
+use Rattle.fkv_pending.specs.Attempting.{AttemptState, attempt_ended, waits_for_disk, puts_addr, puts, tries, is_seeking_read, goes_on, attempt_begun, held_of, moved_on, read_on, record_taken, look_ledto, held_kept, tried, try_ledto, put_ledto, mail_moved, attempting_next}
 use Rattle.fkv_flush.specs.GuardSeen.{LastSeen}
 use Rattle.fkv_flush.proofs.Shown.{Likeness}
 use Rattle.fkv_guard_sessions.specs.Likenesses.{through}
@@ -58,7 +58,7 @@ module _ (protected : Bool) where
   tries_led p bits seen a = begun_free protected p bits seen a.trial a.pending.request a.seen a.occasion a.spare
 
   goes_led : (p : Places) (bits : ℕ) (seen : LastSeen) (a : AttemptState) → Free seen (goes_on p bits a)
-  goes_led p bits seen a = either_led (is_pending_read a) seen (puts a) (tries p bits a) (puts_led seen a a.pending.sought) (tries_led p bits seen a)
+  goes_led p bits seen a = either_led (is_seeking_read a) seen (puts a) (tries p bits a) (puts_led seen a a.pending.sought) (tries_led p bits seen a)
 
   pub attempt_begun_led : (p : Places) (bits : ℕ) (seen : LastSeen) (a : AttemptState) (pending : PendingRequest) (its_seen : Seen) (occasion : Occasion) (spare : ℕ) (is_orphaned : Bool) → Free seen (attempt_begun p bits a pending its_seen occasion spare is_orphaned)
   attempt_begun_led p bits seen a pending its_seen occasion spare is_orphaned =
@@ -75,12 +75,12 @@ module _ (protected : Bool) where
   record_led : (p : Places) (bits : ℕ) (seen : LastSeen) (a : AttemptState) (its : MailRecord) (said : HeaderSaid) → Free seen (record_taken p bits a its said)
   record_led p bits seen a its said =
       let held : AttemptState = record a { pending = with_held a.pending (held_of a.pending.sought its said) } in
-      either_led (is_pending_read a) seen (read_on a its said) (tries p bits held) (read_led seen a its said) (tries_led p bits seen held)
+      either_led (is_seeking_read a) seen (read_on a its said) (tries p bits held) (read_led seen a its said) (tries_led p bits seen held)
 
   look_led : (p : Places) (bits : ℕ) (seen : LastSeen) (a : AttemptState) (ask : Ask MailAnswer) → a.step ≡ Looks → Free seen (look_ledto p bits a ask)
   unfolding look_ledto
   look_led p bits seen a (Done (mail.Taken its)) at = record_led p bits seen (record a { is_emptied = true; pending = with_asked a.pending false }) its (header_said its.header)
-  look_led p bits seen a (Done other) at = either_led (is_pending_read a) seen (waits_for_disk a) (tries p bits a) (Keeps refl refl) (tries_led p bits seen a)
+  look_led p bits seen a (Done other) at = either_led (is_seeking_read a) seen (waits_for_disk a) (tries p bits a) (Keeps refl refl) (tries_led p bits seen a)
   look_led p bits seen a ask at = rw at (Keeps refl refl)
 
   put_led : (seen : LastSeen) (a : AttemptState) (ask : Ask MailAnswer) → a.step ≡ Puts → Free seen (put_ledto a ask)

@@ -28,7 +28,7 @@ use Rattle.fkv_pending.specs.declared.mailing.Mailing.TheVariants as mailing
 use Rattle.fkv_pending.specs.declared.pending_requests.PendingRequest.{PendingRequest}
 use Rattle.fkv_pending.specs.Mailing.{mail_ask, mail_next}
 use Rattle.fkv_pending.specs.Pending.{with_sought, with_held, with_latch, with_asked}
-use Rattle.fkv_pending.specs.Attempting.{AttemptState, attempting_ask, attempt_ended, waits_for_disk, puts_addr, puts, tries, is_pending_read, goes_on, attempt_begun, held_of, moved_on, read_on, record_taken, look_ledto, held_kept, tried, try_ledto, put_ledto, mail_moved, try_moved, attempting_next, attempt_next}
+use Rattle.fkv_pending.specs.Attempting.{AttemptState, attempting_ask, attempt_ended, waits_for_disk, puts_addr, puts, tries, is_seeking_read, goes_on, attempt_begun, held_of, moved_on, read_on, record_taken, look_ledto, held_kept, tried, try_ledto, put_ledto, mail_moved, try_moved, attempting_next, attempt_next}
 use Rattle.fkv_guard_sessions.specs.Attempts.{AttemptWritesOuter}
 use Rattle.fkv_guard_sessions.proofs.TriesOuter.{IsTryOuter, try_owes, try_next_outer, try_begun_outer}
 
@@ -67,7 +67,7 @@ tries_outer : (p : Places) (bits : ℕ) (a : AttemptState) → HomesAreLow p bit
 tries_outer p bits a homes = try_begun_outer p bits a.trial a.pending.request a.seen a.occasion a.spare (homes (key_of a.pending.request.op))
 
 goes_outer : (p : Places) (bits : ℕ) (a : AttemptState) → HomesAreLow p bits → IsAttemptOuter p (goes_on p bits a)
-goes_outer p bits a homes = either_outer (is_pending_read a) p (puts a) (tries p bits a) (puts_outer p a a.pending.sought) (tries_outer p bits a homes)
+goes_outer p bits a homes = either_outer (is_seeking_read a) p (puts a) (tries p bits a) (puts_outer p a a.pending.sought) (tries_outer p bits a homes)
 
 pub attempt_begun_outer : (p : Places) (bits : ℕ) (a : AttemptState) (pending : PendingRequest) (seen : Seen) (occasion : Occasion) (spare : ℕ) (is_orphaned : Bool) → HomesAreLow p bits
     → IsAttemptOuter p (attempt_begun p bits a pending seen occasion spare is_orphaned)
@@ -85,12 +85,12 @@ read_outer p a its (Says previous version) =
 record_outer : (p : Places) (bits : ℕ) (a : AttemptState) (its : MailRecord) (said : HeaderSaid) → HomesAreLow p bits → IsAttemptOuter p (record_taken p bits a its said)
 record_outer p bits a its said homes =
     let held : AttemptState = record a { pending = with_held a.pending (held_of a.pending.sought its said) } in
-    either_outer (is_pending_read a) p (read_on a its said) (tries p bits held) (read_outer p a its said) (tries_outer p bits held homes)
+    either_outer (is_seeking_read a) p (read_on a its said) (tries p bits held) (read_outer p a its said) (tries_outer p bits held homes)
 
 look_outer : (p : Places) (bits : ℕ) (a : AttemptState) (ask : Ask MailAnswer) → a.step ≡ Looks → HomesAreLow p bits → IsAttemptOuter p (look_ledto p bits a ask)
 unfolding look_ledto
 look_outer p bits a (Done (mail.Taken its)) at homes = record_outer p bits (record a { is_emptied = true; pending = with_asked a.pending false }) its (header_said its.header) homes
-look_outer p bits a (Done other) at homes = either_outer (is_pending_read a) p (waits_for_disk a) (tries p bits a) tt (tries_outer p bits a homes)
+look_outer p bits a (Done other) at homes = either_outer (is_seeking_read a) p (waits_for_disk a) (tries p bits a) tt (tries_outer p bits a homes)
 look_outer p bits a ask at homes = stays_outer p a Looks at tt
 
 put_outer : (p : Places) (a : AttemptState) (ask : Ask MailAnswer) → a.step ≡ Puts → IsAttemptOuter p (put_ledto a ask)

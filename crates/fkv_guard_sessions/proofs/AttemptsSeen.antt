@@ -25,7 +25,7 @@ use Rattle.fkv_pending.specs.declared.mailing.Mailing.TheVariants as mailing
 use Rattle.fkv_pending.specs.declared.pending_requests.PendingRequest.{PendingRequest}
 use Rattle.fkv_pending.specs.Mailing.{mail_ask, mail_next}
 use Rattle.fkv_pending.specs.Pending.{with_sought, with_held, with_latch, with_asked}
-use Rattle.fkv_pending.specs.Attempting.{AttemptState, attempt_ended, waits_for_disk, puts_addr, puts, tries, is_pending_read, goes_on, attempt_begun, held_of, moved_on, read_on, record_taken, look_ledto, held_kept, tried, try_ledto, put_ledto, mail_moved, try_moved, attempting_next, attempt_next}
+use Rattle.fkv_pending.specs.Attempting.{AttemptState, attempt_ended, waits_for_disk, puts_addr, puts, tries, is_seeking_read, goes_on, attempt_begun, held_of, moved_on, read_on, record_taken, look_ledto, held_kept, tried, try_ledto, put_ledto, mail_moved, try_moved, attempting_next, attempt_next}
 use Rattle.fkv_guard_sessions.proofs.TriesSeen.{IsTryAbove, try_next_above, try_begun_above}
 
 abbrev pub AttemptAbove : Seen → AttemptState → Attempting → Type 0
@@ -52,7 +52,7 @@ tries_above : (p : Places) (bits : ℕ) (seen : Seen) (a : AttemptState) → a.s
 tries_above p bits seen a same = record { same = same; above = subst (λ s. IsTryAbove s (tries p bits a).trial) same (try_begun_above p bits a.trial a.pending.request a.seen a.occasion a.spare) }
 
 goes_above : (p : Places) (bits : ℕ) (seen : Seen) (a : AttemptState) → a.seen ≡ seen → IsAttemptAbove seen (goes_on p bits a)
-goes_above p bits seen a same = either_above (is_pending_read a) seen (puts a) (tries p bits a) (puts_above seen a a.pending.sought same) (tries_above p bits seen a same)
+goes_above p bits seen a same = either_above (is_seeking_read a) seen (puts a) (tries p bits a) (puts_above seen a a.pending.sought same) (tries_above p bits seen a same)
 
 pub attempt_begun_above : (p : Places) (bits : ℕ) (a : AttemptState) (pending : PendingRequest) (seen : Seen) (occasion : Occasion) (spare : ℕ) (is_orphaned : Bool) → IsAttemptAbove seen (attempt_begun p bits a pending seen occasion spare is_orphaned)
 attempt_begun_above p bits a pending seen occasion spare is_orphaned =
@@ -69,12 +69,12 @@ read_above seen a its (Says previous version) same =
 record_above : (p : Places) (bits : ℕ) (seen : Seen) (a : AttemptState) (its : MailRecord) (said : HeaderSaid) → a.seen ≡ seen → IsAttemptAbove seen (record_taken p bits a its said)
 record_above p bits seen a its said same =
     let held : AttemptState = record a { pending = with_held a.pending (held_of a.pending.sought its said) } in
-    either_above (is_pending_read a) seen (read_on a its said) (tries p bits held) (read_above seen a its said same) (tries_above p bits seen held same)
+    either_above (is_seeking_read a) seen (read_on a its said) (tries p bits held) (read_above seen a its said same) (tries_above p bits seen held same)
 
 look_above : (p : Places) (bits : ℕ) (seen : Seen) (a : AttemptState) (ask : Ask MailAnswer) → a.step ≡ Looks → a.seen ≡ seen → IsAttemptAbove seen (look_ledto p bits a ask)
 unfolding look_ledto
 look_above p bits seen a (Done (mail.Taken its)) at same = record_above p bits seen (record a { is_emptied = true; pending = with_asked a.pending false }) its (header_said its.header) same
-look_above p bits seen a (Done other) at same = either_above (is_pending_read a) seen (waits_for_disk a) (tries p bits a) (record { same = same; above = tt }) (tries_above p bits seen a same)
+look_above p bits seen a (Done other) at same = either_above (is_seeking_read a) seen (waits_for_disk a) (tries p bits a) (record { same = same; above = tt }) (tries_above p bits seen a same)
 look_above p bits seen a ask at same = stays_above seen a Looks at same tt
 
 put_above : (seen : Seen) (a : AttemptState) (ask : Ask MailAnswer) → a.step ≡ Puts → a.seen ≡ seen → IsAttemptAbove seen (put_ledto a ask)

@@ -14,6 +14,7 @@ mod DrainParts
 mod DrainRuns
 mod DrainSought
 mod FewLost
+mod HandBusy
 mod KeeperBegun
 mod KeeperCalls
 mod KeeperDevice

@@ -1,4 +1,5 @@
 -- What the crates above may cite of these proofs.
+pub use Rattle.fkv_keeper.proofs.HandBusy.{run_ended}
 pub use Rattle.fkv_keeper.proofs.KeeperBegun.{begin_bounded, turn_bounded}
 pub use Rattle.fkv_keeper.proofs.KeeperDevice.{keeper_asked_calls}
 pub use Rattle.fkv_keeper.proofs.KeeperFewer.{keeper_fewer, keeper_given_fewer, keeper_called_fewer, ended_none}

@@ -1,23 +1,24 @@
 //! What a keeper does over every list of turns, commits, replies, actions and calls of the device.
-ghost use Rattle.std.specs.Prelude.{◌≡◌, ◌∷◌, Bool, List, true, Some};
+ghost use Rattle.std.specs.Prelude.{◌≡◌, ◌<◌, ◌∷◌, Bool, List, false, true, Some};
 ghost use Rattle.fkv_base.specs.declared.faults.Fault.TheVariants.{DrainFull, Memory};
 ghost use Rattle.fkv_base.specs.declared.shapes.Shape.{Shape};
 ghost use Rattle.fkv_plane.specs.declared.places.Places.{Places};
 ghost use Rattle.fkv_keeper.specs.declared.answers.KeeperTold.TheVariants.{CommitRefused, Turned, TurnRefused};
 ghost use Rattle.fkv_keeper.specs.declared.keepers.Keeping.TheVariants.{Ended, Finishes, Waits, Writes};
 ghost use Rattle.fkv_keeper.specs.CheckpointLaws.{AreWritesBegun, ChangesItsWords, CopiesOnce, DoesOneThing, HoldsCopy, IsBehindWait, IsBeingWritten, KeepsLists, SparesDurable, begun_with, copy_replies};
+ghost use Rattle.fkv_keeper.specs.KeeperAsks.{keeper_asks_left};
 ghost use Rattle.fkv_keeper.specs.Keeping.{KeeperState};
 ghost use Rattle.fkv_keeper.specs.KeeperLaws.{CopiesAgain, IsBrokenForGood, IsFinishOfBegun, IsMemoryRefused, IsWritten};
 ghost use Rattle.fkv_keeper.specs.PartLaws.{HasFound, IsPartBegun, KnowsParts, points_found};
 ghost use Rattle.fkv_keeper.specs.DrainLaws.{HasSoughtAll, call_told};
 ghost use Rattle.fkv_keeper.specs.SlotLaws.{CommitHasRoom, IsSlotWhole};
-ghost use Rattle.fkv_keeper.specs.KeeperRun.{IsOpened, KeeperEvent, has_failed, is_calling, keeper_happens, keeper_run, number_open, writing};
+ghost use Rattle.fkv_keeper.specs.KeeperRun.{IsOpened, KeeperEvent, has_failed, is_calling, is_in_hand, keeper_happens, keeper_run, number_open, writing};
 
 /// Whatever turns and commits are begun, and whatever the replies, the actions and the answers of the device are: once a call of the
 /// device has failed, nothing is asked any more, and each turn and each commit is refused as broken. The durable words and rest are
 /// stored only where all writes of the commit in hand have succeeded, to the last sync. Where memory is refused the turn ends and
 /// nothing else changes, so the commit isn't copied still; the next turn keeps it up to its part for it, where the copy begins again. A commit that is told as finished has the number that was told as begun last,
-/// and no number is told as finished again without being told as begun again.
+/// and no number is told as finished again without being told as begun again. With no asks left, in a store that has buckets, no call is in hand.
 pub fn law_of_the_keeper()
     ensures broken { (shape : Shape) (p : Places) (opening : KeeperState) (events : List KeeperEvent) → IsOpened opening
         → has_failed shape p opening events ≡ true
@@ -34,6 +35,9 @@ pub fn law_of_the_keeper()
         → is_calling (keeper_run shape p opening events).step event ≡ true
         → (keeper_run shape p opening (event ∷ events)).step ≡ Ended (Turned true full)
         → IsFinishOfBegun (number_open shape p opening events) (keeper_run shape p opening events) (keeper_run shape p opening (event ∷ events)) }
+    ensures over { (shape : Shape) (p : Places) (opening : KeeperState) (events : List KeeperEvent) → IsOpened opening → 0 < p.buckets
+        → keeper_asks_left shape p (keeper_run shape p opening events) ≡ 0
+        → is_in_hand (keeper_run shape p opening events).step ≡ false }
 {}
 
 /// Whatever turns and commits are begun, and whatever the replies, the actions, the answers of the device and the grants of memory are:

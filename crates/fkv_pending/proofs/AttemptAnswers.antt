@@ -31,10 +31,10 @@ use Rattle.fkv_pending.specs.declared.mailing.Mailing.TheVariants.{LoadsState}
 use Rattle.fkv_pending.specs.declared.pending_requests.PendingRequest.{PendingRequest}
 use Rattle.fkv_pending.specs.Mailing.{mail_ask, mail_next}
 use Rattle.fkv_pending.specs.Pending.{with_sought, with_held, with_latch, with_asked}
-use Rattle.fkv_pending.specs.Attempting.{AttemptState, attempting_ask, attempt_ask, attempt_ended, waits_for_disk, puts_addr, puts, tries, is_poll, is_pending_read, goes_on, held_of, moved_on, read_on, record_taken, not_ready, look_ledto, held_kept, awaits_record, tried, try_ledto, put_ledto, mail_moved, try_moved, attempting_next, attempt_next}
+use Rattle.fkv_pending.specs.Attempting.{AttemptState, attempting_ask, attempt_ask, attempt_ended, waits_for_disk, puts_addr, puts, tries, is_poll, is_seeking_read, goes_on, held_of, moved_on, read_on, record_taken, not_ready, look_ledto, held_kept, awaits_record, tried, try_ledto, put_ledto, mail_moved, try_moved, attempting_next, attempt_next}
 use Rattle.fkv_pending.specs.Attempts.{AttemptPast, look_told, try_told, address_told, put_told, attempt_told, attempt_run, attempt_past, is_under_way, AttemptGiven, begun_by, run_by, past_by, IsReadBy, IsReadEnd, IsTryEnd, IsBefore, ReadSeeksBy, ReadSeeks, TrySeeks, IsToBeTried, IsAnswered}
 use Rattle.fkv_pending.proofs.AttemptRests.{AttemptRestsOrAsks, is_attempt_end, attempt_done, attempt_begun_rests, attempt_rests}
-use Rattle.fkv_pending.proofs.AttemptTries.{is_read_on, put_same, address_same, same_told}
+use Rattle.fkv_pending.proofs.AttemptTries.{is_read_on, is_tried, is_read_then, put_same, address_same, same_told}
 
 -- behind the look of a read at a poll, or behind the try: by what the end is
 data IsBehind (first : PendingRequest) (is_on : Bool) (sought : Option DiskRecord) (taken : Option MailRecord) (met : Option TryAnswer) (its : TryAnswer) : Type 0 where
@@ -43,7 +43,7 @@ data IsBehind (first : PendingRequest) (is_on : Bool) (sought : Option DiskRecor
 
 record IsLooking (first : PendingRequest) (is_on : Bool) (a : AttemptState) (taken : Option MailRecord) (met : Option TryAnswer) : Type 0 where
   request : a.pending ≡ first
-  its_read : is_pending_read a ≡ is_on
+  its_read : is_seeking_read a ≡ is_on
   none_taken : taken ≡ None
   none_met : met ≡ None
 
@@ -156,31 +156,31 @@ read_on_answered first is_on a its (Says previous version) on e same op = tested
         puts_answered first is_on later (Some its) None (said_behind first is_on its said later.pending.sought None (answer.Wait reason.Disk) on e (behind (anothers key) (other_key previous.0 0 end)))
 
 taken_answered : (p : Places) (bits : ℕ) (a : AttemptState) (its : MailRecord)
-    → Answered a.pending (is_pending_read a) (record_taken p bits (record a { is_emptied = true; pending = with_asked a.pending false }) its (header_said its.header)) (Some its) None
+    → Answered a.pending (is_seeking_read a) (record_taken p bits (record a { is_emptied = true; pending = with_asked a.pending false }) its (header_said its.header)) (Some its) None
 unfolding with_asked with_held
-taken_answered p bits a its = tested (is_pending_read a) refl
+taken_answered p bits a its = tested (is_seeking_read a) refl
   where
     b : AttemptState
     b = record a { is_emptied = true; pending = with_asked a.pending false }
 
-    tested : (e : Bool) → is_pending_read a ≡ e
-        → Answered a.pending (is_pending_read a) (if e then read_on b its (header_said its.header) else tries p bits (record b { pending = with_held b.pending (held_of b.pending.sought its (header_said its.header)) })) (Some its) None
-    tested true e = read_on_answered a.pending (is_pending_read a) b its (header_said its.header) e refl refl refl
+    tested : (e : Bool) → is_seeking_read a ≡ e
+        → Answered a.pending (is_seeking_read a) (if e then read_on b its (header_said its.header) else tries p bits (record b { pending = with_held b.pending (held_of b.pending.sought its (header_said its.header)) })) (Some its) None
+    tested true e = read_on_answered a.pending (is_seeking_read a) b its (header_said its.header) e refl refl refl
     tested false e = record { no_read = e; sought = refl; under_way = refl; none_met = refl }
 
-not_ready_answered : (p : Places) (bits : ℕ) (a : AttemptState) → Answered a.pending (is_pending_read a) (not_ready p bits a) None None
-not_ready_answered p bits a = tested (is_pending_read a) refl
+not_ready_answered : (p : Places) (bits : ℕ) (a : AttemptState) → Answered a.pending (is_seeking_read a) (not_ready p bits a) None None
+not_ready_answered p bits a = tested (is_seeking_read a) refl
   where
-    tested : (b : Bool) → is_pending_read a ≡ b → Answered a.pending (is_pending_read a) (if b then waits_for_disk a else tries p bits a) None None
+    tested : (b : Bool) → is_seeking_read a ≡ b → Answered a.pending (is_seeking_read a) (if b then waits_for_disk a else tries p bits a) None None
     tested true e = OfRead e refl refl
     tested false e = record { no_read = e; sought = refl; under_way = refl; none_met = refl }
 
 look_answered : (p : Places) (bits : ℕ) (a : AttemptState) (ask : Ask MailAnswer) (past : AttemptPast) → a.step ≡ Looks → past.taken ≡ None → past.tried ≡ None
-    → Answered a.pending (is_pending_read a) (look_ledto p bits a ask) (look_told ask past).taken (look_told ask past).tried
+    → Answered a.pending (is_seeking_read a) (look_ledto p bits a ask) (look_told ask past).taken (look_told ask past).tried
 unfolding look_ledto
 look_answered p bits a (Done (mail.Taken its)) past at taken met = rw met (taken_answered p bits a its)
 look_answered p bits a (Done other) past at taken met = rw (taken, met) (not_ready_answered p bits a)
-look_answered p bits a ask past at taken met = subst (λ (step : Attempting). AnsweredAt a.pending (is_pending_read a) a past.taken past.tried step) (sym at) (record { request = refl; its_read = refl; none_taken = taken; none_met = met })
+look_answered p bits a ask past at taken met = subst (λ (step : Attempting). AnsweredAt a.pending (is_seeking_read a) a past.taken past.tried step) (sym at) (record { request = refl; its_read = refl; none_taken = taken; none_met = met })
 
 -- the try
 awaits_answered : (first : PendingRequest) (is_on : Bool) (a : AttemptState) (taken : Option MailRecord) (sought : DiskRecord) → IsTrying first is_on a.pending taken None
@@ -241,7 +241,7 @@ unfolding attempting_next
 next_answered c first is_on a past (Ended its) reply at told = rw at told
 next_answered c first is_on a past Looks reply at told =
     subst (λ (on : Bool). AnsweredBy c first on a past Looks reply) told.its_read
-    (subst (λ (pending : PendingRequest). AnsweredBy c pending (is_pending_read a) a past Looks reply) told.request
+    (subst (λ (pending : PendingRequest). AnsweredBy c pending (is_seeking_read a) a past Looks reply) told.request
     (look_answered c.places c.bits (mail_moved a reply) (mail_ask c.session (mail_next a.mailing reply)) past at told.none_taken told.none_met))
 next_answered c first is_on a past Tries reply at told = try_answered first is_on (try_moved c.places c.room a reply) past (try_ask c.places (try_next c.places c.room a.trial reply)) at told
 next_answered c first is_on a past Puts reply at told =
@@ -277,17 +277,6 @@ run_rests c before (reply ∷ others) = attempt_rests c.places c.bits c.room c.s
 -- what is said of it
 never : true ≡ false → ⊥
 never e = cc
-
-tried_no_read : (c : AttemptGiven) → IsToBeTried c → is_read_on c ≡ false
-tried_no_read c (inl call) = rw call refl
-tried_no_read c (inr update) = rw update (none (is_poll c.occasion))
-  where
-    none : (b : Bool) → (b && false) ≡ false
-    none true = refl
-    none false = refl
-
-read_is_on : (c : AttemptGiven) → c.occasion ≡ Poll → is_read c.pending.request.op ≡ true → is_read_on c ≡ true
-read_is_on c poll read = rw (poll, read) refl
 
 -- at its end an attempt's answer is that of its step
 end_is : (p : Places) (session : ℕ) (a : AttemptState) (step : Attempting) (its : TryAnswer) → is_attempt_end step ≡ true → attempting_ask p session a step ≡ Done its → step ≡ Ended its
@@ -333,8 +322,8 @@ answers_so c before replies =
     let at = (its : TryAnswer) → attempt_ask c.places c.session a ≡ Done its → IsBehind c.pending (is_read_on c) a.pending.sought past.taken past.tried its in
     let ended : at = λ its e. subst (λ (step : Attempting). AnsweredAt c.pending (is_read_on c) a past.taken past.tried step) (ended_is c.places c.session a its (run_rests c before replies) e) told in
     record {
-      read_end = λ poll read its e. (behind_read c a.pending.sought past.taken past.tried its (read_is_on c poll read) (ended its e)).1;
-      read_seeks = λ poll read. step_read c a past.taken past.tried a.step (read_is_on c poll read) told;
-      try_end = λ tried its e. (behind_try c a.pending.sought past.taken past.tried its (tried_no_read c tried) (ended its e)).1;
-      try_seeks = λ tried. step_try c a past.taken past.tried a.step (tried_no_read c tried) told;
+      read_end = λ poll read seeks its e. (behind_read c a.pending.sought past.taken past.tried its (is_read_then c poll read seeks) (ended its e)).1;
+      read_seeks = λ poll read seeks. step_read c a past.taken past.tried a.step (is_read_then c poll read seeks) told;
+      try_end = λ tried its e. (behind_try c a.pending.sought past.taken past.tried its (is_tried c tried) (ended its e)).1;
+      try_seeks = λ tried. step_try c a past.taken past.tried a.step (is_tried c tried) told;
     }

@@ -30,7 +30,7 @@ use Rattle.fkv_pending.specs.declared.mailing.Mailing.TheVariants.{LoadsState, S
 use Rattle.fkv_pending.specs.declared.pending_requests.PendingRequest.{PendingRequest}
 use Rattle.fkv_pending.specs.Mailing.{mail_ask, mail_next, mail_asks_left}
 use Rattle.fkv_pending.specs.Pending.{with_sought, with_held, with_latch, with_asked}
-use Rattle.fkv_pending.specs.Attempting.{AttemptState, attempting_ask, attempt_ask, attempt_ended, waits_for_disk, puts_addr, puts, tries, is_pending_read, goes_on, attempt_begun, held_of, moved_on, read_on, record_taken, not_ready, look_ledto, held_kept, awaits_record, tried, try_ledto, put_ledto, mail_moved, try_moved, attempting_next, attempt_next}
+use Rattle.fkv_pending.specs.Attempting.{AttemptState, attempting_ask, attempt_ask, attempt_ended, waits_for_disk, puts_addr, puts, tries, is_seeking_read, goes_on, attempt_begun, held_of, moved_on, read_on, record_taken, not_ready, look_ledto, held_kept, awaits_record, tried, try_ledto, put_ledto, mail_moved, try_moved, attempting_next, attempt_next}
 use Rattle.fkv_pending.specs.AsksLeft.{most_look_asks, most_try_asks, most_put_asks, attempting_asks_left, attempt_asks_left}
 use Rattle.fkv_pending.proofs.MailAsks.{mail_left, mail_fewer}
 
@@ -86,21 +86,21 @@ read_on_left p a its (Says previous version) = tested (its.key.0 == (key_of a.pe
     tested false false = puts_left p (record a { pending = with_sought a.pending (moved_on a.pending.sought previous) })
 
 record_taken_left : (p : Places) (bits : ℕ) (a : AttemptState) (its : MailRecord) (said : HeaderSaid) → attempt_asks_left p (record_taken p bits a its said) ≤ most_try_asks p + most_put_asks
-record_taken_left p bits a its said = tested (is_pending_read a)
+record_taken_left p bits a its said = tested (is_seeking_read a)
   where
     tested : (b : Bool) → attempt_asks_left p (if b then read_on a its said else tries p bits (record a { pending = with_held a.pending (held_of a.pending.sought its said) })) ≤ most_try_asks p + most_put_asks
     tested true = let few = read_on_left p a its said in omega (arith, few)
     tested false = tries_left p bits (record a { pending = with_held a.pending (held_of a.pending.sought its said) })
 
 not_ready_left : (p : Places) (bits : ℕ) (a : AttemptState) → attempt_asks_left p (not_ready p bits a) ≤ most_try_asks p + most_put_asks
-not_ready_left p bits a = tested (is_pending_read a)
+not_ready_left p bits a = tested (is_seeking_read a)
   where
     tested : (b : Bool) → attempt_asks_left p (if b then waits_for_disk a else tries p bits a) ≤ most_try_asks p + most_put_asks
     tested true = let none = ended_left p a (answer.Wait reason.Disk) in omega (arith, none)
     tested false = tries_left p bits a
 
 goes_on_left : (p : Places) (bits : ℕ) (a : AttemptState) → attempt_asks_left p (goes_on p bits a) ≤ most_try_asks p + most_put_asks
-goes_on_left p bits a = tested (is_pending_read a)
+goes_on_left p bits a = tested (is_seeking_read a)
   where
     tested : (b : Bool) → attempt_asks_left p (if b then puts a else tries p bits a) ≤ most_try_asks p + most_put_asks
     tested true = let few = puts_left p a in omega (arith, few)

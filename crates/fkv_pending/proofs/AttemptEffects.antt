@@ -22,7 +22,7 @@ use Rattle.fkv_pending.specs.declared.mailing.MailTask.TheVariants.{Take}
 use Rattle.fkv_pending.specs.declared.mailing.Mailing.TheVariants.{LoadsState}
 use Rattle.fkv_pending.specs.Mailing.{mail_ask, mail_next}
 use Rattle.fkv_pending.specs.Pending.{with_sought, with_held, with_latch, with_asked}
-use Rattle.fkv_pending.specs.Attempting.{AttemptState, attempt_ended, waits_for_disk, puts_addr, puts, tries, is_pending_read, goes_on, held_of, moved_on, read_on, record_taken, not_ready, look_ledto, held_kept, awaits_record, tried, try_ledto, put_ledto, mail_moved, try_moved, attempting_next}
+use Rattle.fkv_pending.specs.Attempting.{AttemptState, attempt_ended, waits_for_disk, puts_addr, puts, tries, is_seeking_read, goes_on, held_of, moved_on, read_on, record_taken, not_ready, look_ledto, held_kept, awaits_record, tried, try_ledto, put_ledto, mail_moved, try_moved, attempting_next}
 use Rattle.fkv_pending.specs.Attempts.{AttemptGiven, begun_by, run_by, attempt_run, effect_of_try, told_effect}
 
 puts_addr_effect : (a : AttemptState) (sought : Option DiskRecord) → (puts_addr a sought).effect ≡ a.effect
@@ -33,7 +33,7 @@ puts_effect : (a : AttemptState) → (puts a).effect ≡ a.effect
 puts_effect a = puts_addr_effect a a.pending.sought
 
 goes_effect : (p : Places) (bits : ℕ) (a : AttemptState) → (goes_on p bits a).effect ≡ a.effect
-goes_effect p bits a = tested (is_pending_read a)
+goes_effect p bits a = tested (is_seeking_read a)
   where
     tested : (b : Bool) → (if b then puts a else tries p bits a).effect ≡ a.effect
     tested true = puts_effect a
@@ -62,14 +62,14 @@ read_effect a its (Says previous version) = tested (its.key.0 == (key_of a.pendi
     tested false false = puts_effect on
 
 taken_effect : (p : Places) (bits : ℕ) (a : AttemptState) (its : MailRecord) (said : HeaderSaid) → (record_taken p bits a its said).effect ≡ a.effect
-taken_effect p bits a its said = tested (is_pending_read a)
+taken_effect p bits a its said = tested (is_seeking_read a)
   where
     tested : (b : Bool) → (if b then read_on a its said else tries p bits (record a { pending = with_held a.pending (held_of a.pending.sought its said) })).effect ≡ a.effect
     tested true = read_effect a its said
     tested false = refl
 
 not_ready_effect : (p : Places) (bits : ℕ) (a : AttemptState) → (not_ready p bits a).effect ≡ a.effect
-not_ready_effect p bits a = tested (is_pending_read a)
+not_ready_effect p bits a = tested (is_seeking_read a)
   where
     tested : (b : Bool) → (if b then waits_for_disk a else tries p bits a).effect ≡ a.effect
     tested true = refl

@@ -26,7 +26,7 @@ use Rattle.fkv_pending.specs.declared.mailing.Mailing.{Mailing}
 use Rattle.fkv_pending.specs.declared.mailing.Mailing.TheVariants as mailing
 use Rattle.fkv_pending.specs.Mailing.{mail_empty, mail_ask, mail_next}
 use Rattle.fkv_pending.specs.Pending.{with_sought, with_held, with_latch, with_asked}
-use Rattle.fkv_pending.specs.Attempting.{AttemptState, attempt_ended, waits_for_disk, puts_addr, puts, tries, is_pending_read, goes_on, held_of, moved_on, read_on, record_taken, not_ready, look_ledto, held_kept, awaits_record, tried, try_ledto, put_ledto, mail_moved, try_moved, attempting_next, attempt_next}
+use Rattle.fkv_pending.specs.Attempting.{AttemptState, attempt_ended, waits_for_disk, puts_addr, puts, tries, is_seeking_read, goes_on, held_of, moved_on, read_on, record_taken, not_ready, look_ledto, held_kept, awaits_record, tried, try_ledto, put_ledto, mail_moved, try_moved, attempting_next, attempt_next}
 use Rattle.fkv_pending.specs.Attempts.{AttemptPast, look_told, try_told, address_told, put_told, attempt_told, attempt_run, attempt_past, AttemptGiven, begun_by, run_by, past_by, state_met, state_of_put, met_state, IsFree, WasEmpty, WasTaken}
 use Rattle.fkv_pending.proofs.AttemptRuns.{same_place, state_apart}
 use Rattle.fkv_pending.proofs.AttemptTries.{nothing, same_told}
@@ -87,7 +87,7 @@ begun_free c before = tested c.pending.has_asked
 
     tested : (b : Bool) → Free (if b then record its { mailing = mailing.LoadsState Take; step = Looks } else goes_on c.places c.bits its) nothing None
     tested true = (refl, refl)
-    tested false = goes (is_pending_read its)
+    tested false = goes (is_seeking_read its)
 
 -- the look
 read_free : (a : AttemptState) (its : MailRecord) (said : HeaderSaid) (past : AttemptPast) (met : Option ℕ) → IsOpen a.is_emptied past met → Free (read_on a its said) past met
@@ -103,14 +103,14 @@ read_free a its (Says previous version) past met base = tested (its.key.0 == (ke
     tested false false = puts_free on past met base
 
 taken_free : (p : Places) (bits : ℕ) (a : AttemptState) (its : MailRecord) (past : AttemptPast) (met : Option ℕ) → IsOpen a.is_emptied past met → Free (record_taken p bits a its (header_said its.header)) past met
-taken_free p bits a its past met base = tested (is_pending_read a)
+taken_free p bits a its past met base = tested (is_seeking_read a)
   where
     tested : (b : Bool) → Free (if b then read_on a its (header_said its.header) else tries p bits (record a { pending = with_held a.pending (held_of a.pending.sought its (header_said its.header)) })) past met
     tested true = read_free a its (header_said its.header) past met base
     tested false = base
 
 not_ready_free : (p : Places) (bits : ℕ) (a : AttemptState) (past : AttemptPast) (met : Option ℕ) → IsOpen a.is_emptied past met → Free (not_ready p bits a) past met
-not_ready_free p bits a past met base = tested (is_pending_read a)
+not_ready_free p bits a past met base = tested (is_seeking_read a)
   where
     tested : (b : Bool) → Free (if b then waits_for_disk a else tries p bits a) past met
     tested true = open_over a.is_emptied past met base

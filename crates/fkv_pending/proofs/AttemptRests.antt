@@ -1,6 +1,7 @@
 -- An attempt that has begun is at its end, or it asks.
 use Rattle.std.proofs.Common.{◌≡◌, ℕ, ◌∙◌, refl, sym, subst, Bool, true, false}
-use Rattle.std.specs.Prelude.{◌==◌, if◌then◌else◌, Option, Some, None, ⊤}
+use Rattle.std.specs.Option.{is_some}
+use Rattle.std.specs.Prelude.{◌==◌, ◌&&◌, if◌then◌else◌, Option, Some, None, ⊤}
 use Rattle.fkv_map.specs.Keys.{key_of}
 use Rattle.fkv_plane.specs.declared.asks.Ask.{Ask}
 use Rattle.fkv_plane.specs.declared.asks.Ask.TheVariants.{Done}
@@ -15,6 +16,7 @@ use Rattle.fkv_ops.specs.declared.header_words.HeaderSaid.TheVariants.{Says, Spo
 use Rattle.fkv_ops.specs.declared.requests.Occasion.{Occasion}
 use Rattle.fkv_ops.specs.declared.requests.Seen.{Seen}
 use Rattle.fkv_ops.specs.HeaderWords.{header_said}
+use Rattle.fkv_ops.specs.Requests.{is_read}
 use Rattle.fkv_ops.specs.Values.{value_of}
 use Rattle.fkv_ops.specs.Trying.{told_value, try_ask, try_next}
 use Rattle.fkv_ops.proofs.Shown.{is_try_end, TryRestsOrAsks, try_done, try_begun_rests, try_begun_asks, try_rests}
@@ -29,7 +31,7 @@ use Rattle.fkv_pending.specs.declared.pending_requests.PendingRequest.{PendingRe
 use Rattle.fkv_pending.specs.Mailing.{mail_ask, mail_next}
 use Rattle.fkv_pending.specs.MailWorld.{is_at_end}
 use Rattle.fkv_pending.specs.Pending.{with_sought, with_held, with_latch, with_asked}
-use Rattle.fkv_pending.specs.Attempting.{AttemptState, attempting_ask, attempt_ask, attempt_ended, waits_for_disk, puts_addr, puts, tries, is_pending_read, goes_on, attempt_begun, held_of, moved_on, read_on, record_taken, not_ready, look_ledto, held_kept, awaits_record, tried, try_ledto, put_ledto, mail_moved, try_moved, attempting_next, attempt_next}
+use Rattle.fkv_pending.specs.Attempting.{AttemptState, attempting_ask, attempt_ask, attempt_ended, waits_for_disk, puts_addr, puts, tries, is_poll, is_seeking_read, goes_on, attempt_begun, held_of, moved_on, read_on, record_taken, not_ready, look_ledto, held_kept, awaits_record, tried, try_ledto, put_ledto, mail_moved, try_moved, attempting_next, attempt_next}
 use Rattle.fkv_pending.proofs.MailAsks.{mail_done}
 
 abbrev pub is_attempt_end : Attempting → Bool
@@ -74,7 +76,7 @@ tries_rests p bits a =
     (rests, sym (try_done p (tries p bits a).trial rests) ∙ try_begun_asks p bits a.trial a.pending.request a.seen a.occasion a.spare)
 
 goes_on_rests : (p : Places) (bits : ℕ) (a : AttemptState) → AttemptRestsOrAsks (goes_on p bits a)
-goes_on_rests p bits a = tested (is_pending_read a)
+goes_on_rests p bits a = tested (is_seeking_read a)
   where
     tested : (b : Bool) → AttemptRestsOrAsks (if b then puts a else tries p bits a)
     tested true = puts_rests a
@@ -91,6 +93,29 @@ attempt_begun_rests p bits a pending seen occasion spare is_orphaned = tested pe
     tested true = refl
     tested false = goes_on_rests p bits its
 
+-- and it asks as it begins: a read that is put off seeks a record
+goes_on_asks : (p : Places) (bits : ℕ) (a : AttemptState) → is_attempt_end (goes_on p bits a).step ≡ false
+goes_on_asks p bits a = tested a.pending.sought (is_poll a.occasion) (is_read a.pending.request.op)
+  where
+    tested : (sought : Option DiskRecord) (b c : Bool) → is_attempt_end (if b && (c && is_some sought) then puts_addr a sought else tries p bits a).step ≡ false
+    tested sought false c = refl
+    tested sought true false = refl
+    tested None true true = refl
+    tested (Some sought) true true = refl
+
+pub attempt_begun_asks : (p : Places) (bits session : ℕ) (a : AttemptState) (pending : PendingRequest) (seen : Seen) (occasion : Occasion) (spare : ℕ) (is_orphaned : Bool)
+    → is_done (attempt_ask p session (attempt_begun p bits a pending seen occasion spare is_orphaned)) ≡ false
+attempt_begun_asks p bits session a pending seen occasion spare is_orphaned =
+    let begun = attempt_begun p bits a pending seen occasion spare is_orphaned in
+    attempt_done p session begun (attempt_begun_rests p bits a pending seen occasion spare is_orphaned) ∙ tested pending.has_asked
+  where
+    its : AttemptState
+    its = record a { pending = pending; seen = seen; occasion = occasion; spare = spare; is_orphaned = is_orphaned; is_emptied = false; effect = None }
+
+    tested : (b : Bool) → is_attempt_end (if b then record its { mailing = LoadsState Take; step = Looks } else goes_on p bits its).step ≡ false
+    tested true = refl
+    tested false = goes_on_asks p bits its
+
 read_on_rests : (a : AttemptState) (its : MailRecord) (said : HeaderSaid) → AttemptRestsOrAsks (read_on a its said)
 read_on_rests a its Spoiled = puts_rests a
 read_on_rests a its (Says previous version) = tested (its.key.0 == (key_of a.pending.request.op).0) (previous.0 == 0)
@@ -102,14 +127,14 @@ read_on_rests a its (Says previous version) = tested (its.key.0 == (key_of a.pen
     tested false false = puts_rests (record a { pending = with_sought a.pending (moved_on a.pending.sought previous) })
 
 record_taken_rests : (p : Places) (bits : ℕ) (a : AttemptState) (its : MailRecord) (said : HeaderSaid) → AttemptRestsOrAsks (record_taken p bits a its said)
-record_taken_rests p bits a its said = tested (is_pending_read a)
+record_taken_rests p bits a its said = tested (is_seeking_read a)
   where
     tested : (b : Bool) → AttemptRestsOrAsks (if b then read_on a its said else tries p bits (record a { pending = with_held a.pending (held_of a.pending.sought its said) }))
     tested true = read_on_rests a its said
     tested false = tries_rests p bits (record a { pending = with_held a.pending (held_of a.pending.sought its said) })
 
 not_ready_rests : (p : Places) (bits : ℕ) (a : AttemptState) → AttemptRestsOrAsks (not_ready p bits a)
-not_ready_rests p bits a = tested (is_pending_read a)
+not_ready_rests p bits a = tested (is_seeking_read a)
   where
     tested : (b : Bool) → AttemptRestsOrAsks (if b then waits_for_disk a else tries p bits a)
     tested true = tt

@@ -34,7 +34,7 @@ use Rattle.fkv_pending.specs.declared.mailing.Mailing.TheVariants as mailing
 use Rattle.fkv_pending.specs.declared.pending_requests.PendingRequest.{PendingRequest}
 use Rattle.fkv_pending.specs.Mailing.{mail_empty, mail_ask, mail_next}
 use Rattle.fkv_pending.specs.Pending.{with_sought, with_held, with_latch, with_asked}
-use Rattle.fkv_pending.specs.Attempting.{AttemptState, attempting_ask, attempt_ask, attempt_ended, waits_for_disk, puts_addr, puts, tries, is_pending_read, goes_on, attempt_begun, held_of, moved_on, read_on, record_taken, not_ready, look_ledto, held_kept, awaits_record, tried, try_ledto, put_ledto, mail_moved, try_moved, attempting_next, attempt_next}
+use Rattle.fkv_pending.specs.Attempting.{AttemptState, attempting_ask, attempt_ask, attempt_ended, waits_for_disk, puts_addr, puts, tries, is_seeking_read, goes_on, attempt_begun, held_of, moved_on, read_on, record_taken, not_ready, look_ledto, held_kept, awaits_record, tried, try_ledto, put_ledto, mail_moved, try_moved, attempting_next, attempt_next}
 use Rattle.fkv_pending.specs.Attempts.{AttemptPast, look_told, try_told, address_told, put_told, attempt_told, attempt_run, attempt_past, is_finished, has_finished, is_under_way, HasAskedForSought, IsAwaiting, HasCome, IsAttemptTrue}
 use Rattle.fkv_pending.proofs.AttemptRests.{AttemptAsksAt, AttemptRestsOrAsks, attempt_done, attempt_begun_rests, attempt_rests}
 
@@ -159,7 +159,7 @@ begun_told p bits a pending seen occasion spare is_orphaned = tested pending.has
 
     tested : (b : Bool) → pending.has_asked ≡ b → Told pending is_orphaned (if b then record its { mailing = mailing.LoadsState Take; step = Looks } else goes_on p bits its) nothing
     tested true e = (refl, e, refl, refl)
-    tested false e = goes (is_pending_read its) e
+    tested false e = goes (is_seeking_read its) e
 
 -- the look
 held_come : (sought : Option DiskRecord) (its : MailRecord) (said : HeaderSaid) → header_said its.header ≡ said → (held : HeldRecord) → held_of sought its said ≡ Some held → HasCome sought (Some its) held
@@ -194,7 +194,7 @@ read_on_told first was a its past (Says previous version) base none = tested (it
 taken_told : (p : Places) (bits : ℕ) (was : Bool) (a : AttemptState) (its : MailRecord) → a.is_orphaned ≡ was
     → Told a.pending was (record_taken p bits (record a { is_emptied = true; pending = with_asked a.pending false }) its (header_said its.header)) (taken_past its)
 unfolding with_asked with_held
-taken_told p bits was a its same = tested (is_pending_read b)
+taken_told p bits was a its same = tested (is_seeking_read b)
   where
     b : AttemptState
     b = record a { is_emptied = true; pending = with_asked a.pending false }
@@ -209,7 +209,7 @@ taken_told p bits was a its same = tested (is_pending_read b)
     }
 
 not_ready_told : (p : Places) (bits : ℕ) (was : Bool) (a : AttemptState) → a.is_orphaned ≡ was → a.pending.has_asked ≡ true → Told a.pending was (not_ready p bits a) nothing
-not_ready_told p bits was a same asked = tested (is_pending_read a)
+not_ready_told p bits was a same asked = tested (is_seeking_read a)
   where
     base : IsBefore a.pending was a.pending a.is_orphaned nothing
     base = record { under_way = refl; same_orphan = same; none_put = refl; held = λ held e. inl e }

@@ -28,7 +28,7 @@ use Rattle.fkv_pending.specs.declared.mailing.Mailing.{Mailing}
 use Rattle.fkv_pending.specs.declared.mailing.Mailing.TheVariants as step
 use Rattle.fkv_pending.specs.Mailing.{mail_ask, mail_next}
 use Rattle.fkv_pending.specs.Pending.{with_sought, with_held, with_latch, with_asked}
-use Rattle.fkv_pending.specs.Attempting.{AttemptState, attempting_ask, attempt_ended, waits_for_disk, puts_addr, puts, tries, is_pending_read, goes_on, held_of, moved_on, read_on, record_taken, not_ready, look_ledto, held_kept, awaits_record, tried, try_ledto, put_ledto, mail_moved, try_moved, attempting_next}
+use Rattle.fkv_pending.specs.Attempting.{AttemptState, attempting_ask, attempt_ended, waits_for_disk, puts_addr, puts, tries, is_seeking_read, goes_on, held_of, moved_on, read_on, record_taken, not_ready, look_ledto, held_kept, awaits_record, tried, try_ledto, put_ledto, mail_moved, try_moved, attempting_next}
 use Rattle.fkv_pending.specs.Attempts.{AttemptPast, look_told, try_told, address_told, put_told, attempt_told, attempt_run, attempt_past, AttemptGiven, begun_by, run_by, past_by, trial_of, attempt_exchanges, IsSpareKept, SpareKept}
 use Rattle.fkv_pending.proofs.AttemptTries.{nothing, put_same, address_same}
 
@@ -101,7 +101,7 @@ begun_spare c before low = tested c.pending.has_asked
 
     tested : (b : Bool) → Spare c (if b then record its { mailing = step.LoadsState Take; step = Looks } else goes_on c.places c.bits its) nothing c.spare
     tested true = record { seen = refl; occasion = refl; spare = refl; none_tried = refl; few = low; its_told = refl }
-    tested false = goes (is_pending_read its)
+    tested false = goes (is_seeking_read its)
 
 -- the look
 read_on_spare : (c : AttemptGiven) (a : AttemptState) (past : AttemptPast) (told : ℕ) (its : MailRecord) (said : HeaderSaid) → IsSpareKept c past a.spare told → Spare c (read_on a its said) past told
@@ -117,7 +117,7 @@ read_on_spare c a past told its (Says previous version) kept = tested (its.key.0
     tested false false = puts_spare c on past told kept
 
 taken_spare : (c : AttemptGiven) (a : AttemptState) (past : AttemptPast) (told : ℕ) (its : MailRecord) (said : HeaderSaid) → IsUntried c a past told → Spare c (record_taken c.places c.bits a its said) past told
-taken_spare c a past told its said untried = tested (is_pending_read a)
+taken_spare c a past told its said untried = tested (is_seeking_read a)
   where
     held : AttemptState
     held = record a { pending = with_held a.pending (held_of a.pending.sought its said) }
@@ -127,7 +127,7 @@ taken_spare c a past told its said untried = tested (is_pending_read a)
     tested false = tries_spare c held past told (record { seen = untried.seen; occasion = untried.occasion; spare = untried.spare; none_tried = untried.none_tried; few = untried.few; its_told = untried.its_told })
 
 not_ready_spare : (c : AttemptGiven) (a : AttemptState) (past : AttemptPast) (told : ℕ) → IsUntried c a past told → Spare c (not_ready c.places c.bits a) past told
-not_ready_spare c a past told untried = tested (is_pending_read a)
+not_ready_spare c a past told untried = tested (is_seeking_read a)
   where
     tested : (b : Bool) → Spare c (if b then waits_for_disk a else tries c.places c.bits a) past told
     tested true = left c a past told untried

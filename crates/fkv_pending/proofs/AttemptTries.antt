@@ -1,4 +1,5 @@
 -- The try of an attempt is its request's own, and what it leaves is kept.
+use Rattle.std.specs.Option.{is_some}
 use Rattle.std.proofs.Common.{◌≡◌, ℕ, List, [], ◌∷◌, arith, refl, sym, ap, subst, ◌∙◌, inl, inr, Bool, true, false}
 use Rattle.std.specs.Prelude.{◌==◌, ◌&&◌, if◌then◌else◌, Option, Some, None}
 use Rattle.std.proofs.lemmas.Bool.Decides.{nat_tests}
@@ -28,15 +29,15 @@ use Rattle.fkv_pending.specs.declared.mailing.Mailing.TheVariants.{LoadsState}
 use Rattle.fkv_pending.specs.declared.pending_requests.PendingRequest.{PendingRequest}
 use Rattle.fkv_pending.specs.Mailing.{mail_ask, mail_next}
 use Rattle.fkv_pending.specs.Pending.{with_sought, with_held, with_latch, with_asked}
-use Rattle.fkv_pending.specs.Attempting.{AttemptState, attempt_ended, waits_for_disk, puts_addr, puts, tries, is_poll, is_pending_read, goes_on, held_of, moved_on, read_on, record_taken, not_ready, look_ledto, held_kept, awaits_record, tried, try_ledto, put_ledto, mail_moved, try_moved, attempting_next, attempt_next}
+use Rattle.fkv_pending.specs.Attempting.{AttemptState, attempt_ended, waits_for_disk, puts_addr, puts, tries, is_poll, is_seeking_read, goes_on, held_of, moved_on, read_on, record_taken, not_ready, look_ledto, held_kept, awaits_record, tried, try_ledto, put_ledto, mail_moved, try_moved, attempting_next, attempt_next}
 use Rattle.fkv_pending.specs.Attempts.{AttemptPast, look_told, try_told, address_told, put_told, attempt_told, attempt_run, attempt_past, AttemptGiven, begun_by, run_by, past_by, try_reply, try_replies, HoldsMail, HoldsSo, IsItsTry, TryStands, NotTried, UnderWay, HasEnded, IsSameRequest, HoldsFromEntry, IsTryKept, IsToBeTried, HoldsBehind, IsHeldKept, HeldKept}
 
--- a read at a poll
+-- a read at a poll that seeks a record
 abbrev pub is_read_on : AttemptGiven → Bool
-is_read_on c = is_poll c.occasion && is_read c.pending.request.op
+is_read_on c = is_poll c.occasion && (is_read c.pending.request.op && is_some c.pending.sought)
 
 abbrev ReadsSo : AttemptGiven → List ℕ → Type 0
-ReadsSo c replies = c.occasion ≡ Poll → is_read c.pending.request.op ≡ true → replies ≡ []
+ReadsSo c replies = c.occasion ≡ Poll → is_read c.pending.request.op ≡ true → is_some c.pending.sought ≡ true → replies ≡ []
 
 -- what is held: a read at a poll keeps what it held
 abbrev HeldAt : AttemptGiven → Bool → Option MailRecord → Option TryAnswer → Option HeldRecord → Type 0
@@ -82,10 +83,10 @@ never : true ≡ false → ⊥
 never e = cc
 
 reads_no : (c : AttemptGiven) (replies : List ℕ) → is_read_on c ≡ false → ReadsSo c replies
-reads_no c replies other poll read = absurd (never (sym both ∙ other))
+reads_no c replies other poll read seeks = absurd (never (sym both ∙ other))
   where
     both : is_read_on c ≡ true
-    both = rw (poll, read) refl
+    both = rw (poll, read, seeks) refl
 
 puts_addr_kept : (c : AttemptGiven) (a : AttemptState) (past : AttemptPast) (replies : List ℕ) (found : Option DiskRecord) → IsBehind c a.pending a.spare a.trial past replies → Kept c (puts_addr a found) past replies
 puts_addr_kept c a past replies None its = its
@@ -100,13 +101,14 @@ held_at c taken tried held no_read behind = subst (λ (b : Bool). HeldAt c b tak
 -- what an attempt has before its try
 record IsUntried (c : AttemptGiven) (a : AttemptState) (past : AttemptPast) : Type 0 where
   same : IsSameRequest c.pending a.pending
+  sought : a.pending.sought ≡ c.pending.sought
   seen : a.seen ≡ c.seen
   occasion : a.occasion ≡ c.occasion
   latch : a.pending.request.has_latch ≡ c.pending.request.has_latch
   spare : a.spare ≡ c.spare
   none_tried : past.tried ≡ None
 
-tries_kept : (c : AttemptGiven) (a : AttemptState) (past : AttemptPast) → IsUntried c a past → is_pending_read a ≡ false → HoldsSo c.pending past.taken a.pending.request.held → Kept c (tries c.places c.bits a) past []
+tries_kept : (c : AttemptGiven) (a : AttemptState) (past : AttemptPast) → IsUntried c a past → is_seeking_read a ≡ false → HoldsSo c.pending past.taken a.pending.request.held → Kept c (tries c.places c.bits a) past []
 tries_kept c a past its other held = record {
   same = its.same;
   its_try = record {
@@ -121,21 +123,21 @@ tries_kept c a past its other held = record {
   none_tried = its.none_tried;
   latch = its.latch;
   spare = its.spare;
-  no_read = let occasion = its.occasion in let op = its.same.op in rw (sym occasion, sym op) other;
+  no_read = let occasion = its.occasion in let op = its.same.op in let sought = its.sought in rw (sym occasion, sym op, sym sought) other;
   came = held;
 }
 
-untried_behind : (c : AttemptGiven) (a : AttemptState) (past : AttemptPast) → IsUntried c a past → is_pending_read a ≡ true → a.pending.request.held ≡ c.pending.request.held → IsBehind c a.pending a.spare a.trial past []
+untried_behind : (c : AttemptGiven) (a : AttemptState) (past : AttemptPast) → IsUntried c a past → is_seeking_read a ≡ true → a.pending.request.held ≡ c.pending.request.held → IsBehind c a.pending a.spare a.trial past []
 untried_behind c a past its read had = record {
   same = its.same;
   stands = NotTried refl its.none_tried its.latch its.spare;
-  reads = λ poll read. refl;
+  reads = λ poll read seeks. refl;
   held = λ sought e held is. let none = its.none_tried in cc;
   came = subst (λ (b : Bool). HeldAt c b past.taken past.tried a.pending.request.held) (sym reads) had;
 }
   where
     reads : is_read_on c ≡ true
-    reads = let occasion = its.occasion in let op = its.same.op in rw (sym occasion, sym op) read
+    reads = let occasion = its.occasion in let op = its.same.op in let sought = its.sought in rw (sym occasion, sym op, sym sought) read
 
 -- nothing is told
 abbrev pub nothing : AttemptPast
@@ -148,15 +150,15 @@ begun_kept c before = tested c.pending.has_asked
     its = record before { pending = c.pending; seen = c.seen; occasion = c.occasion; spare = c.spare; is_orphaned = c.is_orphaned; is_emptied = false; effect = None }
 
     untried : IsUntried c its nothing
-    untried = record { same = record { name = refl; op = refl; version = refl }; seen = refl; occasion = refl; latch = refl; spare = refl; none_tried = refl }
+    untried = record { same = record { name = refl; op = refl; version = refl }; sought = refl; seen = refl; occasion = refl; latch = refl; spare = refl; none_tried = refl }
 
-    goes : (b : Bool) → is_pending_read its ≡ b → Kept c (if b then puts its else tries c.places c.bits its) nothing []
+    goes : (b : Bool) → is_seeking_read its ≡ b → Kept c (if b then puts its else tries c.places c.bits its) nothing []
     goes true e = puts_kept c its nothing [] (untried_behind c its nothing untried e refl)
     goes false e = tries_kept c its nothing untried e refl
 
     tested : (b : Bool) → Kept c (if b then record its { mailing = LoadsState Take; step = Looks } else goes_on c.places c.bits its) nothing []
     tested true = record { request = refl; seen = refl; occasion = refl; spare = refl; none_taken = refl; none_tried = refl; none_met = refl }
-    tested false = goes (is_pending_read its) refl
+    tested false = goes (is_seeking_read its) refl
 
 -- the look
 read_on_kept : (c : AttemptGiven) (a : AttemptState) (past : AttemptPast) (its : MailRecord) (said : HeaderSaid) → IsBehind c a.pending a.spare a.trial past [] → Kept c (read_on a its said) past []
@@ -183,7 +185,7 @@ holds_mail (Some sought) its (Says previous version) = refl
 taken_kept : (c : AttemptGiven) (a : AttemptState) (past : AttemptPast) (its : MailRecord) → IsLooking c a past []
     → Kept c (record_taken c.places c.bits (record a { is_emptied = true; pending = with_asked a.pending false }) its (header_said its.header)) (record past { taken = Some its }) []
 unfolding with_asked with_held
-taken_kept c a past its looking = tested (is_pending_read b) refl
+taken_kept c a past its looking = tested (is_seeking_read b) refl
   where
     b : AttemptState
     b = record a { is_emptied = true; pending = with_asked a.pending false }
@@ -198,6 +200,7 @@ taken_kept c a past its looking = tested (is_pending_read b) refl
         op = ap (λ (pending : PendingRequest). pending.request.op) looking.request;
         version = ap (λ (pending : PendingRequest). pending.request.version) looking.request;
       };
+      sought = ap (λ (pending : PendingRequest). pending.sought) looking.request;
       seen = looking.seen;
       occasion = looking.occasion;
       latch = ap (λ (pending : PendingRequest). pending.request.has_latch) looking.request;
@@ -211,6 +214,7 @@ taken_kept c a past its looking = tested (is_pending_read b) refl
     held_untried : IsUntried c held then_past
     held_untried = record {
       same = record { name = untried.same.name; op = untried.same.op; version = untried.same.version };
+      sought = untried.sought;
       seen = untried.seen;
       occasion = untried.occasion;
       latch = untried.latch;
@@ -221,12 +225,12 @@ taken_kept c a past its looking = tested (is_pending_read b) refl
     holds : HoldsSo c.pending (Some its) held.pending.request.held
     holds = subst (λ (pending : PendingRequest). HoldsSo pending (Some its) held.pending.request.held) looking.request (holds_mail a.pending.sought its (header_said its.header))
 
-    tested : (e : Bool) → is_pending_read b ≡ e → Kept c (if e then read_on b its (header_said its.header) else tries c.places c.bits held) then_past []
+    tested : (e : Bool) → is_seeking_read b ≡ e → Kept c (if e then read_on b its (header_said its.header) else tries c.places c.bits held) then_past []
     tested true e = read_on_kept c b then_past its (header_said its.header) (untried_behind c b then_past untried e (ap (λ (pending : PendingRequest). pending.request.held) looking.request))
     tested false e = tries_kept c held then_past held_untried e holds
 
 not_ready_kept : (c : AttemptGiven) (a : AttemptState) (past : AttemptPast) → IsLooking c a past [] → Kept c (not_ready c.places c.bits a) past []
-not_ready_kept c a past looking = tested (is_pending_read a) refl
+not_ready_kept c a past looking = tested (is_seeking_read a) refl
   where
     untried : IsUntried c a past
     untried = record {
@@ -235,6 +239,7 @@ not_ready_kept c a past looking = tested (is_pending_read a) refl
         op = ap (λ (pending : PendingRequest). pending.request.op) looking.request;
         version = ap (λ (pending : PendingRequest). pending.request.version) looking.request;
       };
+      sought = ap (λ (pending : PendingRequest). pending.sought) looking.request;
       seen = looking.seen;
       occasion = looking.occasion;
       latch = ap (λ (pending : PendingRequest). pending.request.has_latch) looking.request;
@@ -245,7 +250,7 @@ not_ready_kept c a past looking = tested (is_pending_read a) refl
     holds : HoldsSo c.pending past.taken a.pending.request.held
     holds = rw looking.none_taken (ap (λ (pending : PendingRequest). pending.request.held) looking.request)
 
-    tested : (b : Bool) → is_pending_read a ≡ b → Kept c (if b then waits_for_disk a else tries c.places c.bits a) past []
+    tested : (b : Bool) → is_seeking_read a ≡ b → Kept c (if b then waits_for_disk a else tries c.places c.bits a) past []
     tested true e = untried_behind c a past untried e (ap (λ (pending : PendingRequest). pending.request.held) looking.request)
     tested false e = tries_kept c a past untried e holds
 
@@ -412,7 +417,7 @@ kept_so c a past replies Looks kept = record {
     version = ap (λ (pending : PendingRequest). pending.request.version) kept.request;
   };
   stands = NotTried kept.none_met kept.none_tried (ap (λ (pending : PendingRequest). pending.request.has_latch) kept.request) kept.spare;
-  reads = λ poll read. kept.none_met;
+  reads = λ poll read seeks. kept.none_met;
   held = λ sought e held is. let none = kept.none_tried in cc;
 }
 kept_so c a past replies Tries kept = record {
@@ -426,31 +431,32 @@ kept_so c a past replies Puts kept = record { same = kept.same; stands = kept.st
 pub tries_are_kept : (c : AttemptGiven) (before : AttemptState) (replies : List ℕ) → IsTryKept c (run_by c before replies) (past_by c before replies) (try_replies c before replies)
 tries_are_kept c before replies = kept_so c (run_by c before replies) (past_by c before replies) (try_replies c before replies) (run_by c before replies).step (run_kept c before replies)
 
-is_tried : (c : AttemptGiven) → IsToBeTried c → is_read_on c ≡ false
-is_tried c (inl call) = rw call refl
-is_tried c (inr update) = rw update (none (is_poll c.occasion))
-  where
-    none : (b : Bool) → (b && false) ≡ false
-    none true = refl
-    none false = refl
+none_both : (b : Bool) → (b && false) ≡ false
+none_both true = refl
+none_both false = refl
 
-is_read_then : (c : AttemptGiven) → c.occasion ≡ Poll → is_read c.pending.request.op ≡ true → is_read_on c ≡ true
-is_read_then c poll read = rw (poll, read) refl
+pub is_tried : (c : AttemptGiven) → IsToBeTried c → is_read_on c ≡ false
+is_tried c (inl call) = rw call refl
+is_tried c (inr (inl update)) = rw update (none_both (is_poll c.occasion))
+is_tried c (inr (inr sought)) = rw (sought, none_both (is_read c.pending.request.op)) (none_both (is_poll c.occasion))
+
+pub is_read_then : (c : AttemptGiven) → c.occasion ≡ Poll → is_read c.pending.request.op ≡ true → is_some c.pending.sought ≡ true → is_read_on c ≡ true
+is_read_then c poll read seeks = rw (poll, read, seeks) refl
 
 at_held : (c : AttemptGiven) (past : AttemptPast) (held : Option HeldRecord) → HeldAt c (is_read_on c) past.taken past.tried held → IsHeldKept c past held
 at_held c past held came = record {
-  read = λ poll read. subst (λ (b : Bool). HeldAt c b past.taken past.tried held) (is_read_then c poll read) came;
+  read = λ poll read seeks. subst (λ (b : Bool). HeldAt c b past.taken past.tried held) (is_read_then c poll read seeks) came;
   other = λ its. subst (λ (b : Bool). HeldAt c b past.taken past.tried held) (is_tried c its) came;
 }
 
 held_so : (c : AttemptGiven) (a : AttemptState) (past : AttemptPast) (replies : List ℕ) (step : Attempting) → KeptAt c a past replies step → IsHeldKept c past a.pending.request.held
 held_so c a past replies (Ended its) kept = at_held c past a.pending.request.held kept.came
-held_so c a past replies Looks kept = record { read = λ poll read. same; other = λ its. rw (kept.none_tried, kept.none_taken) same }
+held_so c a past replies Looks kept = record { read = λ poll read seeks. same; other = λ its. rw (kept.none_tried, kept.none_taken) same }
   where
     same : a.pending.request.held ≡ c.pending.request.held
     same = ap (λ (pending : PendingRequest). pending.request.held) kept.request
 held_so c a past replies Tries kept = record {
-  read = λ poll read. absurd (never (sym (is_read_then c poll read) ∙ kept.no_read));
+  read = λ poll read seeks. absurd (never (sym (is_read_then c poll read seeks) ∙ kept.no_read));
   other = λ its. rw kept.none_tried kept.came;
 }
 held_so c a past replies Puts kept = at_held c past a.pending.request.held kept.came

@@ -1,6 +1,7 @@
 -- What is attempted for one request: a look into the mailbox where it has asked there, a try, and the address that it puts into the
 -- mailbox where it awaits a record of the device.
 use Rattle.std.specs.Prelude.{ℕ, ◌==◌, ◌&&◌, ◌||◌, if◌then◌else◌, Bool, true, false, Option, Some, None}
+use Rattle.std.specs.Option.{is_some}
 use Rattle.fkv_base.specs.declared.numbers.Addr.{Addr}
 use Rattle.fkv_map.specs.declared.operations.Reply.{Reply}
 use Rattle.fkv_map.specs.Keys.{key_of}
@@ -93,13 +94,13 @@ abbrev pub is_poll : Occasion → Bool
 is_poll Call = false
 is_poll Poll = true
 
--- a read that is pending is answered from its walk, so it waits for the mailbox alone
-abbrev pub is_pending_read : AttemptState → Bool
-is_pending_read a = is_poll a.occasion && is_read a.pending.request.op
+-- a pending read that seeks a record of the device is answered from its walk, so it waits for the mailbox alone; one that seeks none is tried again
+abbrev pub is_seeking_read : AttemptState → Bool
+is_seeking_read a = is_poll a.occasion && (is_read a.pending.request.op && is_some a.pending.sought)
 
 -- without a look into the mailbox, or behind one
 abbrev pub goes_on : Places → ℕ → AttemptState → AttemptState
-goes_on p bits a = if is_pending_read a then puts a else tries p bits a
+goes_on p bits a = if is_seeking_read a then puts a else tries p bits a
 
 abbrev pub attempt_begun : Places → ℕ → AttemptState → PendingRequest → Seen → Occasion → ℕ → Bool → AttemptState
 attempt_begun p bits a pending seen occasion spare is_orphaned =
@@ -127,11 +128,11 @@ read_on a its (Says previous version) =
 
 -- an update holds the record and is tried with it
 abbrev pub record_taken : Places → ℕ → AttemptState → MailRecord → HeaderSaid → AttemptState
-record_taken p bits a its said = if is_pending_read a then read_on a its said else tries p bits (record a { pending = with_held a.pending (held_of a.pending.sought its said) })
+record_taken p bits a its said = if is_seeking_read a then read_on a its said else tries p bits (record a { pending = with_held a.pending (held_of a.pending.sought its said) })
 
 -- where no record is ready, a read goes on waiting and an update is tried all the same
 abbrev pub not_ready : Places → ℕ → AttemptState → AttemptState
-not_ready p bits a = if is_pending_read a then waits_for_disk a else tries p bits a
+not_ready p bits a = if is_seeking_read a then waits_for_disk a else tries p bits a
 
 unfoldable pub look_ledto : Places → ℕ → AttemptState → Ask MailAnswer → AttemptState
 look_ledto p bits a (Done (mail.Taken its)) = record_taken p bits (record a { is_emptied = true; pending = with_asked a.pending false }) its (header_said its.header)

@@ -1,5 +1,6 @@
 -- What comes of an attempt, over every list of replies.
 use Rattle.std.specs.Prelude.{◌≡◌, ◌≢◌, ◌⊎◌, ℕ, ◌^◌, ◌≤◌, ◌==◌, ◌&&◌, ◌||◌, if◌then◌else◌, Bool, true, false, List, [], ◌∷◌, Option, Some, None, ⊤}
+use Rattle.std.specs.Option.{is_some}
 use Rattle.fkv_base.specs.declared.numbers.Addr.{Addr}
 use Rattle.fkv_base.specs.declared.numbers.Version.{Version}
 use Rattle.fkv_map.specs.declared.operations.Reply.{Reply}
@@ -232,8 +233,8 @@ HoldsFromEntry tried held = (sought : DiskRecord) → tried ≡ Some (answer.Awa
 pub record IsTryKept (c : AttemptGiven) (a : AttemptState) (past : AttemptPast) (replies : List ℕ) : Type 0 where
   pub same : IsSameRequest c.pending a.pending
   pub stands : TryStands c a.pending.request.has_latch a.spare a.trial past.taken past.tried replies
-  -- a read that is pending is not tried at a poll
-  pub reads : c.occasion ≡ Poll → is_read c.pending.request.op ≡ true → replies ≡ []
+  -- a read that seeks a record is not tried at a poll
+  pub reads : c.occasion ≡ Poll → is_read c.pending.request.op ≡ true → is_some c.pending.sought ≡ true → replies ≡ []
   pub held : HoldsFromEntry past.tried a.pending.request.held
 
 abbrev pub TriesKept : Type 0
@@ -284,14 +285,14 @@ abbrev pub TrySeeks : PendingRequest → Option MailRecord → Option TryAnswer 
 TrySeeks first taken (Some (answer.AwaitsDisk its)) sought = sought ≡ (if is_under_way None taken first.has_asked then first.sought else Some its)
 TrySeeks first taken tried sought = sought ≡ first.sought
 
--- an update, or a read at its call
+-- an update, a read at its call, or a read that seeks no record
 abbrev pub IsToBeTried : AttemptGiven → Type 0
-IsToBeTried c = (c.occasion ≡ Call) ⊎ (is_read c.pending.request.op ≡ false)
+IsToBeTried c = (c.occasion ≡ Call) ⊎ ((is_read c.pending.request.op ≡ false) ⊎ (is_some c.pending.sought ≡ false))
 
 -- What an attempt is answered, and what its request seeks then.
 pub record IsAnswered (c : AttemptGiven) (a : AttemptState) (past : AttemptPast) (ask : Ask TryAnswer) : Type 0 where
-  pub read_end : c.occasion ≡ Poll → is_read c.pending.request.op ≡ true → (its : TryAnswer) → ask ≡ Done its → IsReadEnd c.pending past.taken its
-  pub read_seeks : c.occasion ≡ Poll → is_read c.pending.request.op ≡ true → ReadSeeks c.pending past.taken a.pending.sought
+  pub read_end : c.occasion ≡ Poll → is_read c.pending.request.op ≡ true → is_some c.pending.sought ≡ true → (its : TryAnswer) → ask ≡ Done its → IsReadEnd c.pending past.taken its
+  pub read_seeks : c.occasion ≡ Poll → is_read c.pending.request.op ≡ true → is_some c.pending.sought ≡ true → ReadSeeks c.pending past.taken a.pending.sought
   pub try_end : IsToBeTried c → (its : TryAnswer) → ask ≡ Done its → IsTryEnd past.tried its
   pub try_seeks : IsToBeTried c → TrySeeks c.pending past.taken past.tried a.pending.sought
 
@@ -333,7 +334,7 @@ HoldsBehind first taken tried held = HoldsSo first taken held
 
 -- What a request holds, at each moment. A read at a poll holds what it held.
 pub record IsHeldKept (c : AttemptGiven) (past : AttemptPast) (held : Option HeldRecord) : Type 0 where
-  pub read : c.occasion ≡ Poll → is_read c.pending.request.op ≡ true → held ≡ c.pending.request.held
+  pub read : c.occasion ≡ Poll → is_read c.pending.request.op ≡ true → is_some c.pending.sought ≡ true → held ≡ c.pending.request.held
   pub other : IsToBeTried c → HoldsBehind c.pending past.taken past.tried held
 
 abbrev pub HeldKept : Type 0

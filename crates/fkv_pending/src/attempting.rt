@@ -4,7 +4,7 @@ ghost use Rattle.fkv_base.specs.Limits.{max_sessions};
 ghost use Rattle.fkv_map.specs.Keys.{as_number};
 ghost use Rattle.fkv_plane.specs.AsksLeft.{AsksWhereLeft};
 ghost use Rattle.fkv_pending.specs.AsksLeft.{attempt_asks_left};
-ghost use Rattle.fkv_pending.specs.Attempting.{attempt_begun, attempt_ask, attempt_next, puts, tries, waits_for_disk, is_pending_read, goes_on, held_of, held_kept, moved_on, read_on, record_taken, not_ready, look_ledto, awaits_record, tried, try_ledto, put_ledto};
+ghost use Rattle.fkv_pending.specs.Attempting.{attempt_begun, attempt_ask, attempt_next, puts, tries, waits_for_disk, is_seeking_read, goes_on, held_of, held_kept, moved_on, read_on, record_taken, not_ready, look_ledto, awaits_record, tried, try_ledto, put_ledto};
 
 use crate::mailing::{Mail, MailAnswer, MailRecord, MailTask};
 use crate::pending_requests::PendingRequest;
@@ -30,8 +30,8 @@ pub(crate) enum Attempting {
 }
 
 /// Attempts one request: where it has asked for a record it looks into the mailbox, then it is tried, and where it awaits a
-/// record of the device it asks for that, if the mailbox is empty. A read that is pending is not tried again: it is answered by
-/// the records that come. One that awaits the device ends as `Wait(Reason::Disk)`.
+/// record of the device it asks for that, if the mailbox is empty. A pending read that seeks a record is not tried again: it is
+/// answered by the records that come. One that awaits the device ends as `Wait(Reason::Disk)`.
 #[derive(Drop)]
 pub struct Attempt {
     pending: PendingRequest,
@@ -196,17 +196,19 @@ impl Attempt {
         self.is_orphaned
     }
 
-    fn is_pending_read(&self) -> bool
-        ensures { result ≡ is_pending_read self.now.state }
+    fn is_seeking_read(&self) -> bool
+        ensures { result ≡ is_seeking_read self.now.state }
     {
-        self.occasion == Occasion::Poll && self.pending.request.is_read()
+        self.occasion == Occasion::Poll
+            && self.pending.request.is_read()
+            && self.pending.sought.is_some()
     }
 
     /// Without a look into the mailbox, or behind one.
     fn goes_on(&mut self)
         ensures { self.new ≡ record self.old { state = goes_on self.old.places self.old.bits self.old.state } }
     {
-        if self.is_pending_read() {
+        if self.is_seeking_read() {
             self.puts();
         } else {
             self.tries();
@@ -261,11 +263,11 @@ impl Attempt {
         }
     }
 
-    /// An update holds the record and is tried with it.
+    /// A read goes on from the record, and any other request holds it and is tried with it.
     fn record_taken(&mut self, its: MailRecord, said: HeaderSaid)
         ensures { self.new ≡ record self.old { state = record_taken self.old.places self.old.bits self.old.state its said } }
     {
-        if self.is_pending_read() {
+        if self.is_seeking_read() {
             self.read_on(its, said);
         } else {
             let held = held_of(self.pending.sought, its, said);
@@ -294,11 +296,11 @@ impl Attempt {
         }
     }
 
-    /// A read goes on waiting, and an update is tried all the same.
+    /// A read that seeks a record goes on waiting, and any other request is tried all the same.
     fn not_ready(&mut self)
         ensures { self.new ≡ record self.old { state = not_ready self.old.places self.old.bits self.old.state } }
     {
-        if self.is_pending_read() {
+        if self.is_seeking_read() {
             self.waits_for_disk();
         } else {
             self.tries();

@@ -303,6 +303,22 @@ fn an_add_of_a_record_on_the_device(rt: HostRuntime) -> Result<(), Fail> {
     Ok(())
 }
 
+/// No life leads to it: a read whose call ended without a record to seek is tried again.
+#[test]
+fn a_pending_read_that_seeks_nothing(rt: HostRuntime) -> Result<(), Fail> {
+    let mut plane = words(rt.alloc())?;
+    let asks = [
+        Ask::Load(SLOT),
+        Ask::Load(STATE),
+        Ask::Store(ADDRESS, 4),
+        Ask::Store(STATE, 1),
+        Ask::Done(AWAITED),
+    ];
+    let machine = attempts(&rt, &mut plane, numbered(1), Occasion::Poll, &asks)?;
+    assert!(rt; machine.pending().has_asked);
+    Ok(())
+}
+
 #[test]
 fn a_read_of_a_record_on_the_device(rt: HostRuntime) -> Result<(), Fail> {
     let mut plane = words(rt.alloc())?;

@@ -21,7 +21,7 @@ use Rattle.fkv_pending.specs.declared.mailing.MailRecord.{MailRecord}
 use Rattle.fkv_pending.specs.declared.pending_requests.PendingRequest.{PendingRequest}
 use Rattle.fkv_pending.specs.Mailing.{mail_ask, mail_next}
 use Rattle.fkv_pending.specs.Pending.{with_sought, with_held, with_latch, with_asked}
-use Rattle.fkv_pending.specs.Attempting.{AttemptState, is_pending_read, puts_addr, puts, goes_on, attempt_begun, record_taken, read_on, moved_on, held_of, held_kept, not_ready, look_ledto, awaits_record, tried, try_ledto, put_ledto, mail_moved, try_moved, attempting_next, attempt_next}
+use Rattle.fkv_pending.specs.Attempting.{AttemptState, is_seeking_read, puts_addr, puts, goes_on, attempt_begun, record_taken, read_on, moved_on, held_of, held_kept, not_ready, look_ledto, awaits_record, tried, try_ledto, put_ledto, mail_moved, try_moved, attempting_next, attempt_next}
 use Rattle.fkv_ops.specs.declared.requests.Occasion.{Occasion}
 use Rattle.fkv_ops.specs.declared.requests.Seen.{Seen}
 use Rattle.fkv_session.proofs.Requests.{IsSameRequest}
@@ -51,7 +51,7 @@ either_same true a b o one other = one
 either_same false a b o one other = other
 
 goes_same : (p : Places) (bits : ℕ) (a : AttemptState) (o : PendingRequest) → IsSameRequest a.pending o → IsSameRequest (goes_on p bits a).pending o
-goes_same p bits a o same = either_same (is_pending_read a) (puts a) _ o (puts_same a o a.pending.sought same) same
+goes_same p bits a o same = either_same (is_seeking_read a) (puts a) _ o (puts_same a o a.pending.sought same) same
 
 read_same : (a : AttemptState) (its : MailRecord) (said : HeaderSaid) (o : PendingRequest) → IsSameRequest a.pending o → IsSameRequest (read_on a its said).pending o
 read_same a its Spoiled o same = puts_same a o a.pending.sought same
@@ -63,10 +63,10 @@ read_same a its (Says previous version) o same =
 
 taken_same : (p : Places) (bits : ℕ) (a : AttemptState) (its : MailRecord) (said : HeaderSaid) (o : PendingRequest) → IsSameRequest a.pending o → IsSameRequest (record_taken p bits a its said).pending o
 taken_same p bits a its said o same =
-    either_same (is_pending_read a) (read_on a its said) _ o (read_same a its said o same) (held_same a.pending o (held_of a.pending.sought its said) same)
+    either_same (is_seeking_read a) (read_on a its said) _ o (read_same a its said o same) (held_same a.pending o (held_of a.pending.sought its said) same)
 
 waits_same : (p : Places) (bits : ℕ) (a : AttemptState) (o : PendingRequest) → IsSameRequest a.pending o → IsSameRequest (not_ready p bits a).pending o
-waits_same p bits a o same = either_same (is_pending_read a) _ _ o same same
+waits_same p bits a o same = either_same (is_seeking_read a) _ _ o same same
 
 look_same : (p : Places) (bits : ℕ) (a : AttemptState) (ask : Ask MailAnswer) (o : PendingRequest) → IsSameRequest a.pending o → IsSameRequest (look_ledto p bits a ask).pending o
 unfolding look_ledto

@@ -25,10 +25,11 @@ use Rattle.fkv_pending.specs.declared.mailing.MailAnswer.TheVariants as mail
 use Rattle.fkv_pending.specs.declared.mailing.MailRecord.{MailRecord}
 use Rattle.fkv_pending.specs.declared.pending_requests.PendingRequest.{PendingRequest}
 use Rattle.fkv_pending.specs.Pending.{with_sought, with_held, with_latch, with_asked}
-use Rattle.fkv_pending.specs.Attempting.{AttemptState, is_poll, is_pending_read, attempt_ended, waits_for_disk, puts_addr, puts, tries, goes_on, attempt_begun, read_on, moved_on, held_of, held_kept, look_ledto, tried, try_ledto, put_ledto, mail_moved, try_moved, attempting_next, attempt_next}
+use Rattle.fkv_pending.specs.Attempting.{AttemptState, is_seeking_read, attempt_ended, waits_for_disk, puts_addr, puts, tries, goes_on, attempt_begun, read_on, moved_on, held_of, held_kept, look_ledto, tried, try_ledto, put_ledto, mail_moved, try_moved, attempting_next, attempt_next}
 use Rattle.fkv_session.specs.Sessions.{Seat, bits_of, room_of}
 use Rattle.fkv_session.specs.Shares.{HasItsBuckets}
 use Rattle.fkv_session.proofs.AttemptShares.{trial_at}
+use Rattle.fkv_session.proofs.AttemptMade.{read_of}
 
 -- a try by what the session has seen
 pub record IsTryIn (k : Seat) (its : HasItsBuckets k) (seen : Seen) (op : Op) (t : TryState) : Type 0 where
@@ -68,13 +69,9 @@ tries_in : (k : Seat) (its : HasItsBuckets k) (seen : Seen) (a : AttemptState) �
 tries_in k its seen a same = subst (λ (x : Seen). IsTryIn k its x a.pending.request.op (tries k.places (bits_of k) a).trial) same
     (record { request = a.pending.request; occasion = a.occasion; its_op = refl; trying = begun_trying (trial_at k its a.pending.request a.seen a.occasion) a.trial a.spare })
 
-both_second : (b c : Bool) → (b && c) ≡ true → c ≡ true
-both_second true c e = e
-both_second false c e = cc
-
 goes_in : (k : Seat) (its : HasItsBuckets k) (seen : Seen) (a : AttemptState) → a.seen ≡ seen → InLatch k its seen (goes_on k.places (bits_of k) a)
 goes_in k its seen a same =
-    either_in (is_pending_read a) k its seen (puts a) (tries k.places (bits_of k) a) (λ read. puts_in k its seen a a.pending.sought (of_read seen a.pending (both_second (is_poll a.occasion) (is_read a.pending.request.op) read))) (tries_in k its seen a same)
+    either_in (is_seeking_read a) k its seen (puts a) (tries k.places (bits_of k) a) (λ read. puts_in k its seen a a.pending.sought (of_read seen a.pending (read_of a read))) (tries_in k its seen a same)
 
 pub begun_in : (k : Seat) (its : HasItsBuckets k) (a : AttemptState) (pending : PendingRequest) (seen : Seen) (occasion : Occasion) (spare : ℕ) (is_orphaned : Bool)
     → InLatch k its seen (attempt_begun k.places (bits_of k) a pending seen occasion spare is_orphaned)
@@ -114,10 +111,10 @@ unfolding look_ledto
 look_in k its seen a (Done (mail.Taken it)) s same =
     let emptied : AttemptState = record a { is_emptied = true; pending = with_asked a.pending false } in
     let holding : AttemptState = record emptied { pending = with_held emptied.pending (held_of emptied.pending.sought it (header_said it.header)) } in
-    either_in (is_pending_read emptied) k its seen (read_on emptied it (header_said it.header)) (tries k.places (bits_of k) holding)
-    (λ read. read_in k its seen emptied it (header_said it.header) (both_second (is_poll emptied.occasion) (is_read emptied.pending.request.op) read)) (tries_in k its seen holding same)
+    either_in (is_seeking_read emptied) k its seen (read_on emptied it (header_said it.header)) (tries k.places (bits_of k) holding)
+    (λ read. read_in k its seen emptied it (header_said it.header) (read_of emptied read)) (tries_in k its seen holding same)
 look_in k its seen a (Done other) s same =
-    either_in (is_pending_read a) k its seen (waits_for_disk a) (tries k.places (bits_of k) a) (λ read. λ waits. of_read seen a.pending (both_second (is_poll a.occasion) (is_read a.pending.request.op) read)) (tries_in k its seen a same)
+    either_in (is_seeking_read a) k its seen (waits_for_disk a) (tries k.places (bits_of k) a) (λ read. λ waits. of_read seen a.pending (read_of a read)) (tries_in k its seen a same)
 look_in k its seen a ask s same = still_in k its seen a Looks s same
 
 put_in : (k : Seat) (its : HasItsBuckets k) (seen : Seen) (a : AttemptState) (ask : Ask MailAnswer) → a.step ≡ Puts → HasIt seen a.pending → InLatch k its seen (put_ledto a ask)

@@ -1,4 +1,5 @@
 -- What an attempt makes is what its try makes; and an attempt of an update never ends as a read's does.
+use Rattle.std.specs.Option.{is_some}
 use Rattle.std.proofs.Common.{◌≡◌, ℕ, refl, sym, subst, ap, ◌∙◌, Bool, true, false}
 use Rattle.std.specs.Prelude.{Option, Some, None, if◌then◌else◌, ◌==◌, ◌&&◌}
 use Rattle.fkv_map.specs.declared.operations.Reply.{Reply}
@@ -31,7 +32,7 @@ use Rattle.fkv_pending.specs.declared.mailing.MailAnswer.TheVariants as mail
 use Rattle.fkv_pending.specs.declared.mailing.MailRecord.{MailRecord}
 use Rattle.fkv_pending.specs.declared.pending_requests.PendingRequest.{PendingRequest}
 use Rattle.fkv_pending.specs.Pending.{with_sought, with_held, with_latch, with_asked}
-use Rattle.fkv_pending.specs.Attempting.{AttemptState, is_poll, is_pending_read, attempt_ended, waits_for_disk, puts_addr, puts, tries, goes_on, attempt_begun, read_on, moved_on, held_of, held_kept, look_ledto, awaits_record, tried, try_ledto, put_ledto, mail_moved, try_moved, attempting_ask, attempt_ask, attempting_next, attempt_next}
+use Rattle.fkv_pending.specs.Attempting.{AttemptState, is_poll, is_seeking_read, attempt_ended, waits_for_disk, puts_addr, puts, tries, goes_on, attempt_begun, read_on, moved_on, held_of, held_kept, look_ledto, awaits_record, tried, try_ledto, put_ledto, mail_moved, try_moved, attempting_ask, attempt_ask, attempting_next, attempt_next}
 use Rattle.fkv_pending.proofs.Shown.{is_attempt_end, AttemptRestsOrAsks, attempt_done}
 use Rattle.fkv_session.proofs.Made.{reply_of, made_by, MadeFrom, try_made, try_ended}
 use Rattle.fkv_session.proofs.UpdateEnds.{IsUpdateEnd, IsUpdateStep, IsUpdateTry, try_update, begun_update}
@@ -84,7 +85,7 @@ tries_so : (p : Places) (bits : ℕ) (a : AttemptState) → a.effect ≡ None �
 tries_so p bits a e = quiet _ None e (trial_none p bits a.trial a.pending.request a.seen a.occasion a.spare) (λ update. begun_update p bits a.trial a.pending.request a.seen a.occasion a.spare update)
 
 goes_so : (p : Places) (bits : ℕ) (a : AttemptState) → a.effect ≡ None → IsMadeSo None (goes_on p bits a)
-goes_so p bits a e = either_so (is_pending_read a) (puts a) (tries p bits a) None (puts_so a a.pending.sought None (from_none a.effect e)) (tries_so p bits a e)
+goes_so p bits a e = either_so (is_seeking_read a) (puts a) (tries p bits a) None (puts_so a a.pending.sought None (from_none a.effect e)) (tries_so p bits a e)
 
 -- an attempt begins with nothing made
 pub begun_so : (p : Places) (bits : ℕ) (a : AttemptState) (pending : PendingRequest) (seen : Seen) (occasion : Occasion) (spare : ℕ) (is_orphaned : Bool)
@@ -106,11 +107,16 @@ pub begun_nothing : (p : Places) (bits : ℕ) (a : AttemptState) (pending : Pend
 begun_nothing p bits a pending seen occasion spare is_orphaned =
     let its : AttemptState = record a { pending = pending; seen = seen; occasion = occasion; spare = spare; is_orphaned = is_orphaned; is_emptied = false; effect = None } in
     either_nothing pending.has_asked _ (goes_on p bits its) refl
-    (either_nothing (is_pending_read its) (puts its) (tries p bits its) (puts_nothing its its.pending.sought) (trial_none p bits its.trial its.pending.request its.seen its.occasion its.spare))
+    (either_nothing (is_seeking_read its) (puts its) (tries p bits its) (puts_nothing its its.pending.sought) (trial_none p bits its.trial its.pending.request its.seen its.occasion its.spare))
 
-both_second : (b c : Bool) → (b && c) ≡ true → c ≡ true
-both_second true c e = e
-both_second false c e = cc
+-- a read that seeks a record is a read
+both_read : (b c d : Bool) → (b && (c && d)) ≡ true → c ≡ true
+both_read true true d e = refl
+both_read true false d e = cc
+both_read false c d e = cc
+
+pub read_of : (a : AttemptState) → is_seeking_read a ≡ true → is_read a.pending.request.op ≡ true
+read_of a read = both_read (is_poll a.occasion) (is_read a.pending.request.op) (is_some a.pending.sought) read
 
 told_none : (value : Option ℕ) → reply_of (told_value value) ≡ None
 told_none None = refl
@@ -126,17 +132,17 @@ read_so a its (Says previous version) e read =
     either_so (its.key.0 == (key_of a.pending.request.op).0) found (if previous.0 == 0 then absent else puts moved) None (quiet found None e (told_none (value_of its.value)) (λ update. cc))
     (either_so (previous.0 == 0) absent (puts moved) None (quiet absent None e refl (λ update. cc)) (puts_so moved moved.pending.sought None (from_none a.effect e)))
 
-record_so : (p : Places) (bits : ℕ) (a : AttemptState) (its : MailRecord) (said : HeaderSaid) (read : Bool) → is_pending_read a ≡ read → a.effect ≡ None
+record_so : (p : Places) (bits : ℕ) (a : AttemptState) (its : MailRecord) (said : HeaderSaid) (read : Bool) → is_seeking_read a ≡ read → a.effect ≡ None
     → IsMadeSo None (if read then read_on a its said else tries p bits (record a { pending = with_held a.pending (held_of a.pending.sought its said) }))
-record_so p bits a its said true r e = read_so a its said e (both_second (is_poll a.occasion) (is_read a.pending.request.op) r)
+record_so p bits a its said true r e = read_so a its said e (read_of a r)
 record_so p bits a its said false r e = tries_so p bits (record a { pending = with_held a.pending (held_of a.pending.sought its said) }) e
 
 look_so : (p : Places) (bits : ℕ) (a : AttemptState) (ask : Ask MailAnswer) → a.effect ≡ None → a.step ≡ Looks → IsMadeSo None (look_ledto p bits a ask)
 unfolding look_ledto
 look_so p bits a (Done (mail.Taken its)) e s =
     let emptied : AttemptState = record a { is_emptied = true; pending = with_asked a.pending false } in
-    record_so p bits emptied its (header_said its.header) (is_pending_read emptied) refl e
-look_so p bits a (Done other) e s = either_so (is_pending_read a) _ (tries p bits a) None (quiet _ None e refl (λ update. tt)) (tries_so p bits a e)
+    record_so p bits emptied its (header_said its.header) (is_seeking_read emptied) refl e
+look_so p bits a (Done other) e s = either_so (is_seeking_read a) _ (tries p bits a) None (quiet _ None e refl (λ update. tt)) (tries_so p bits a e)
 look_so p bits a ask e s = quiet a None e (ap (made_in a) s) (λ update. subst (λ (x : Attempting). KnowsUpdate a x) (sym s) tt)
 
 awaits_so : (a : AttemptState) (sought : DiskRecord) (before : Option Reply) → MadeFrom a.effect None before → IsMadeSo before (awaits_record a sought)

@@ -32,10 +32,11 @@ use Rattle.fkv_pending.specs.declared.mailing.MailAnswer.TheVariants as mail
 use Rattle.fkv_pending.specs.declared.mailing.MailRecord.{MailRecord}
 use Rattle.fkv_pending.specs.declared.pending_requests.PendingRequest.{PendingRequest}
 use Rattle.fkv_pending.specs.Pending.{with_sought, with_held, with_latch, with_asked}
-use Rattle.fkv_pending.specs.Attempting.{AttemptState, is_poll, is_pending_read, attempt_ended, waits_for_disk, puts_addr, puts, tries, goes_on, attempt_begun, read_on, moved_on, held_of, held_kept, look_ledto, awaits_record, tried, try_ledto, put_ledto, mail_moved, try_moved, attempting_ask, attempt_ask, attempting_next, attempt_next}
+use Rattle.fkv_pending.specs.Attempting.{AttemptState, is_seeking_read, attempt_ended, waits_for_disk, puts_addr, puts, tries, goes_on, attempt_begun, read_on, moved_on, held_of, held_kept, look_ledto, awaits_record, tried, try_ledto, put_ledto, mail_moved, try_moved, attempting_ask, attempt_ask, attempting_next, attempt_next}
 use Rattle.fkv_session.specs.Sessions.{Seat, bits_of, room_of}
 use Rattle.fkv_session.specs.Shares.{added_by, latch_of, HasItsBuckets}
 use Rattle.fkv_session.proofs.SharesSpared.{SharesNone, none_added, none_dropped, passed_added, passed_none, mail_none}
+use Rattle.fkv_session.proofs.AttemptMade.{read_of}
 
 -- a number that counts where the test holds
 abbrev pub there : Bool → ℕ → ℕ
@@ -106,7 +107,7 @@ tries_so k its owed a owes reads =
     }
 
 goes_so : (k : Seat) (its : HasItsBuckets k) (owed : ℕ) (a : AttemptState) → OwesSo owed a → ReadsNone a.pending → IsShareSo k its owed (goes_on k.places (bits_of k) a)
-goes_so k its owed a owes reads = either_so (is_pending_read a) k its owed (puts a) (tries k.places (bits_of k) a) (puts_so k its owed a a.pending.sought owes reads) (tries_so k its owed a owes reads)
+goes_so k its owed a owes reads = either_so (is_seeking_read a) k its owed (puts a) (tries k.places (bits_of k) a) (puts_so k its owed a a.pending.sought owes reads) (tries_so k its owed a owes reads)
 
 -- it begins with what its request shares
 pub begun_shares : (k : Seat) (its : HasItsBuckets k) (a : AttemptState) (pending : PendingRequest) (seen : Seen) (occasion : Occasion) (spare : ℕ) (is_orphaned : Bool) → ReadsNone pending
@@ -115,10 +116,6 @@ begun_shares k its a pending seen occasion spare is_orphaned reads =
     let first : AttemptState = record a { pending = pending; seen = seen; occasion = occasion; spare = spare; is_orphaned = is_orphaned; is_emptied = false; effect = None } in
     either_so pending.has_asked k its (bit_of pending.request.has_latch) _ (goes_on k.places (bits_of k) first) (record { owes = refl; reads = reads; knows = tt })
     (goes_so k its (bit_of pending.request.has_latch) first refl reads)
-
-both_second : (b c : Bool) → (b && c) ≡ true → c ≡ true
-both_second true c e = e
-both_second false c e = cc
 
 -- what changes of a request besides its latch
 sought_latch : (p : PendingRequest) (sought : Option DiskRecord) → ((with_sought p sought).request.has_latch ≡ p.request.has_latch) × ((with_sought p sought).request.op ≡ p.request.op)
@@ -151,9 +148,9 @@ read_so k its owed a mail (Says previous version) owes reads read =
     (either_so (previous.0 == 0) k its owed absent (puts moved) (record { owes = owes; reads = reads; knows = λ e. reads read })
     (puts_so k its owed moved next.sought (owes_as a.pending next owed same owes) (reads_as a.pending next same reads)))
 
-record_so : (k : Seat) (its : HasItsBuckets k) (owed : ℕ) (a : AttemptState) (mail : MailRecord) (said : HeaderSaid) (read : Bool) → is_pending_read a ≡ read → OwesSo owed a → ReadsNone a.pending
+record_so : (k : Seat) (its : HasItsBuckets k) (owed : ℕ) (a : AttemptState) (mail : MailRecord) (said : HeaderSaid) (read : Bool) → is_seeking_read a ≡ read → OwesSo owed a → ReadsNone a.pending
     → IsShareSo k its owed (if read then read_on a mail said else tries k.places (bits_of k) (record a { pending = with_held a.pending (held_of a.pending.sought mail said) }))
-record_so k its owed a mail said true r owes reads = read_so k its owed a mail said owes reads (both_second (is_poll a.occasion) (is_read a.pending.request.op) r)
+record_so k its owed a mail said true r owes reads = read_so k its owed a mail said owes reads (read_of a r)
 record_so k its owed a mail said false r owes reads =
     let next : PendingRequest = with_held a.pending (held_of a.pending.sought mail said) in
     let same = held_latch a.pending (held_of a.pending.sought mail said) in
@@ -165,9 +162,9 @@ look_so k its owed a (Done (mail.Taken it)) s owes reads =
     let next : PendingRequest = with_asked a.pending false in
     let same = asked_latch a.pending false in
     let emptied : AttemptState = record a { is_emptied = true; pending = next } in
-    record_so k its owed emptied it (header_said it.header) (is_pending_read emptied) refl (owes_as a.pending next owed same owes) (reads_as a.pending next same reads)
+    record_so k its owed emptied it (header_said it.header) (is_seeking_read emptied) refl (owes_as a.pending next owed same owes) (reads_as a.pending next same reads)
 look_so k its owed a (Done other) s owes reads =
-    either_so (is_pending_read a) k its owed (waits_for_disk a) (tries k.places (bits_of k) a) (record { owes = owes; reads = reads; knows = λ e. cc }) (tries_so k its owed a owes reads)
+    either_so (is_seeking_read a) k its owed (waits_for_disk a) (tries k.places (bits_of k) a) (record { owes = owes; reads = reads; knows = λ e. cc }) (tries_so k its owed a owes reads)
 look_so k its owed a ask s owes reads = still_so k its owed a Looks s owes reads tt
 
 put_so : (k : Seat) (its : HasItsBuckets k) (owed : ℕ) (a : AttemptState) (ask : Ask MailAnswer) → a.step ≡ Puts → OwesSo owed a → ReadsNone a.pending → IsShareSo k its owed (put_ledto a ask)

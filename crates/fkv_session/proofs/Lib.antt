@@ -23,6 +23,7 @@ mod CatchKeeps
 mod CatchLatched
 mod CatchShares
 mod CutsTold
+mod HandAsks
 mod Latched
 mod EpochLast
 mod Made

@@ -10,6 +10,7 @@ pub use Rattle.fkv_session.proofs.Books.{AreBooksKept}
 pub use Rattle.fkv_session.proofs.CatchKeeps.{catch_serial}
 pub use Rattle.fkv_session.proofs.CutsTold.{run_cuts}
 pub use Rattle.fkv_session.proofs.EpochLast.{run_epoch}
+pub use Rattle.fkv_session.proofs.HandAsks.{run_ended}
 pub use Rattle.fkv_session.proofs.Made.{made_by, IsMade, try_made, try_ended}
 pub use Rattle.fkv_session.proofs.MarkRuns.{event_marks, run_marks, run_told_marks, run_stores}
 pub use Rattle.fkv_session.proofs.Marked.{IsMarked, HasCut, HasOwing, IsCatching, StepMarks}

@@ -1,25 +1,32 @@
 -- Why a call comes to its end in every life of an opened world, where its machine alone moves: it stands at no slot.
-use Rattle.std.proofs.Common.{◌≡◌, ℕ, suc, ◌-◌, ◌<◌, ◌≤◌, ◌∙◌, refl, ap, subst, arith, inl, inr, List, [], ◌∷◌, ◌++◌, Bool, true, false}
+use Rattle.std.proofs.Common.{◌≡◌, ℕ, suc, ◌-◌, ◌<◌, ◌≤◌, ◌∙◌, refl, sym, ap, subst, arith, inl, inr, List, [], ◌∷◌, ◌++◌, Bool, true, false}
 use Rattle.std.specs.Prelude.{Option, Some, None, length, replicate, slice_get}
 use Rattle.std.proofs.lemmas.Bool.{cases_lt}
+use Rattle.std.proofs.lemmas.Nat.{pow_pos}
 use Rattle.fkv_base.specs.declared.shapes.Shape.{Shape}
 use Rattle.fkv_epoch.specs.Claiming.{takes_action}
+use Rattle.fkv_epoch.proofs.Shown.{some_same}
 use Rattle.fkv_keeper.specs.declared.answers.KeeperTold.{KeeperTold}
 use Rattle.fkv_keeper.specs.declared.answers.KeeperTold.TheVariants as told
 use Rattle.fkv_keeper.specs.Answers.{is_busy}
 use Rattle.fkv_keeper.specs.KeeperAsks.{keeper_asks_left}
 use Rattle.fkv_keeper.specs.Keeping.{KeeperState, keeper_ask}
-use Rattle.fkv_keeper.proofs.Shown.{keeper_left}
+use Rattle.fkv_keeper.specs.KeeperRun.{is_in_hand, keeper_run}
+use Rattle.fkv_keeper.proofs.Shown.{keeper_left, run_ended as keeper_ended}
 use Rattle.fkv_plane.specs.declared.asks.Ask.{Ask}
 use Rattle.fkv_plane.specs.declared.asks.Ask.TheVariants.{Take, Done}
 use Rattle.fkv_plane.specs.declared.places.Places.{Places}
-use Rattle.fkv_session.specs.Sessions.{SessionState, session_ask}
+use Rattle.fkv_session.specs.AsksLeft.{session_asks_left}
+use Rattle.fkv_session.specs.SessionRun.{session_run}
+use Rattle.fkv_session.specs.Sessions.{Seat, SessionState, session_ask, is_busy as session_busy}
+use Rattle.fkv_session.proofs.Shown.{run_ended}
 use Rattle.fkv_world.specs.Actors.{slot_asked}
-use Rattle.fkv_world.specs.Ends.{IsFreeToMove, KeeperStandsAtNoSlot, StandsAtNone, StandsAtNoSlot, asks_left_of_keeper}
+use Rattle.fkv_world.specs.Ends.{IsFreeToMove, KeeperStandsAtNoSlot, StandsAtNone, StandsAtNoSlot, asks_left_of, asks_left_of_keeper, left_at, moves_alone}
 use Rattle.fkv_world.specs.Moves.{Near, keeper_asks, keeper_moved}
+use Rattle.fkv_world.specs.OwnEvents.{keeper_events, session_events}
 use Rattle.fkv_world.specs.Runs.{World, happens, read_by_keeper, run}
 use Rattle.fkv_world.specs.World.{Event, KeeperMoves, Moves, Now, life_goes, near, seat_at, with_keeper}
-use Rattle.fkv_world.proofs.Shown.{lives, runs_on}
+use Rattle.fkv_world.proofs.Shown.{keeper_runs, lives, places_stay, runs_on, same_seat, session_runs, shape_stays}
 use Rattle.fkv_world_guard.specs.EndsAlone.{AreKeeperMoves}
 use Rattle.fkv_world_guard.specs.Shows.{IsOpened}
 use Rattle.fkv_world_guard.proofs.Slots.{life_keeper_rests, life_session_rests}
@@ -104,3 +111,43 @@ keeper_ends fewer first start events (KeeperMoves granted done ∷ before) opene
           omega (arith, stays)
     ]
 keeper_ends fewer first start events (event ∷ before) opened are alive = absurd are.0
+
+-- a session that has no asks left has no call in hand
+pub life_ended : (opening : World) (start : ℕ) (events : List Event) (session : ℕ) (first its : SessionState) → IsOpened opening.now start → slice_get opening.now.sessions session ≡ Some first
+    → slice_get (run opening events).now.sessions session ≡ Some its → asks_left_of (run opening events).now session ≡ 0 → session_busy its.step ≡ false
+life_ended opening start events session first its opened was now none =
+    let n : Now = (run opening events).now in
+    let ran = session_run (seat_at opening.now session) first (session_events opening session events) in
+    let same : its ≡ ran = some_same its ran (sym now ∙ session_runs opening session first events was) in
+    let there : session_asks_left (seat_at n session) its ≡ 0 = ap (left_at n session) (sym now) ∙ none in
+    let seated : session_asks_left (seat_at opening.now session) its ≡ 0 = subst (λ (k : Seat). session_asks_left k its ≡ 0) (same_seat opening events session) there in
+    let own : session_asks_left (seat_at opening.now session) ran ≡ 0 = subst (λ (s : SessionState). session_asks_left (seat_at opening.now session) s ≡ 0) same seated in
+    subst (λ (s : SessionState). session_busy s.step ≡ false) (sym same)
+    (run_ended (seat_at opening.now session) first (session_events opening session events) (opened.sessions session first was).none_in_hand own)
+
+pub life_alone : (opening : World) (start : ℕ) (events : List Event) (session count : ℕ) (first its : SessionState) → IsOpened opening.now start → slice_get opening.now.sessions session ≡ Some first
+    → slice_get (moves_alone (run opening events) session count).now.sessions session ≡ Some its → asks_left_of (moves_alone (run opening events) session count).now session ≡ 0 → session_busy its.step ≡ false
+life_alone opening start events session count first its opened was now none =
+    let moves = replicate count (Moves session) in
+    let whole = sym (runs_on opening moves events) in
+    life_ended opening start (moves ++ events) session first its opened was
+    (subst (λ (w : World). slice_get w.now.sessions session ≡ Some its) whole now) (subst (λ (w : World). asks_left_of w.now session ≡ 0) whole none)
+
+-- nor has the keeper, since a store has buckets
+pub life_keeper_ended : (opening : World) (start : ℕ) (events : List Event) → IsOpened opening.now start → asks_left_of_keeper (run opening events).now ≡ 0 → is_in_hand (run opening events).now.keeper.step ≡ false
+life_keeper_ended opening start events opened none =
+    let n : Now = (run opening events).now in
+    let own = keeper_events opening events in
+    let ran = keeper_run opening.now.shape opening.now.places opening.now.keeper own in
+    let same : n.keeper ≡ ran = keeper_runs opening events in
+    let its : keeper_asks_left n.shape n.places ran ≡ 0 = subst (λ (s : KeeperState). keeper_asks_left n.shape n.places s ≡ 0) same none in
+    let placed : keeper_asks_left n.shape opening.now.places ran ≡ 0 = subst (λ (p : Places). keeper_asks_left n.shape p ran ≡ 0) (places_stay opening events) its in
+    let shaped : keeper_asks_left opening.now.shape opening.now.places ran ≡ 0 = subst (λ (shape : Shape). keeper_asks_left shape opening.now.places ran ≡ 0) (shape_stays opening events) placed in
+    let buckets : 0 < opening.now.places.buckets = subst (λ (count : ℕ). 0 < count) (sym opened.buckets) (pow_pos opening.now.shape.bucket_bits) in
+    subst (λ (s : KeeperState). is_in_hand s.step ≡ false) (sym same) (keeper_ended opening.now.shape opening.now.places opening.now.keeper own buckets opened.keeper.none_in_hand shaped)
+
+pub life_keeper_alone : (opening : World) (start : ℕ) (events moves : List Event) → IsOpened opening.now start → asks_left_of_keeper (run (run opening events) moves).now ≡ 0
+    → is_in_hand (run (run opening events) moves).now.keeper.step ≡ false
+life_keeper_alone opening start events moves opened none =
+    let whole = sym (runs_on opening moves events) in
+    subst (λ (w : World). is_in_hand w.now.keeper.step ≡ false) (sym whole) (life_keeper_ended opening start (moves ++ events) opened (subst (λ (w : World). asks_left_of_keeper w.now ≡ 0) whole none))

@@ -8,8 +8,9 @@ ghost use Rattle.fkv_flush.specs.GuardLimit.{EndsPages};
 ghost use Rattle.fkv_flush.specs.GuardReserved.{UndecidedApart};
 ghost use Rattle.fkv_flush.specs.GuardSeen.{SeenIsSafe};
 ghost use Rattle.fkv_flush.specs.Guarded.{GoesBy, IsCovered, UndecidedIsFresh, seen_of};
+ghost use Rattle.fkv_keeper.specs.KeeperRun.{is_in_hand};
 ghost use Rattle.fkv_keeper.specs.Keeping.{keeper_ask};
-ghost use Rattle.fkv_session.specs.Sessions.{SessionState, session_ask};
+ghost use Rattle.fkv_session.specs.Sessions.{SessionState, is_busy, session_ask};
 ghost use Rattle.fkv_world.specs.Actors.{slot_asked};
 ghost use Rattle.fkv_world.specs.Ends.{KeeperStandsAtNoSlot, StandsAtNoSlot, asks_left_of, asks_left_of_keeper, moves_alone};
 ghost use Rattle.fkv_world.specs.World.{Event, KeeperMoves, Moves, seat_at};
@@ -83,7 +84,8 @@ pub fn law_world_slots()
 /// In such a life a call comes to its end by the asks that it has left, if its machine alone moves: no session and not the keeper ever
 /// stands before a slot whose action it takes, since it takes it in the step in which it comes there. So at every moment before a crash a
 /// move of a session leaves one ask fewer, if it has any left, and so does one of the keeper, whatever memory is granted and whatever its
-/// calls of the device come to. A session that alone makes as many moves as it had asks left has none left, and so it is of the keeper.
+/// calls of the device come to. A session that alone makes as many moves as it had asks left has none left, and no call in hand; and so it
+/// is of the keeper.
 pub fn law_world_ends()
     ensures stands { (opening : World) (start : ℕ) (events : List Event) (session : ℕ) → IsOpened opening.now start → StandsAtNoSlot (run opening events).now session }
     ensures keeper_stands { (opening : World) (start : ℕ) (events : List Event) → IsOpened opening.now start → KeeperStandsAtNoSlot (run opening events).now }
@@ -95,6 +97,11 @@ pub fn law_world_ends()
         → asks_left_of (run opening events).now session ≤ count → asks_left_of (moves_alone (run opening events) session count).now session ≡ 0 }
     ensures keeper_alone { (opening : World) (start : ℕ) (events moves : List Event) → IsOpened opening.now start → AreKeeperMoves moves → (run opening events).now.crashed ≡ false
         → asks_left_of_keeper (run opening events).now ≤ length moves → asks_left_of_keeper (run (run opening events) moves).now ≡ 0 }
+    ensures over { (opening : World) (start : ℕ) (events : List Event) (session count : ℕ) (first its : SessionState) → IsOpened opening.now start → (run opening events).now.crashed ≡ false
+        → asks_left_of (run opening events).now session ≤ count → slice_get opening.now.sessions session ≡ Some first
+        → slice_get (moves_alone (run opening events) session count).now.sessions session ≡ Some its → is_busy its.step ≡ false }
+    ensures keeper_over { (opening : World) (start : ℕ) (events moves : List Event) → IsOpened opening.now start → AreKeeperMoves moves → (run opening events).now.crashed ≡ false
+        → asks_left_of_keeper (run opening events).now ≤ length moves → is_in_hand (run (run opening events) moves).now.keeper.step ≡ false }
 {
     law_of_ends();
 }

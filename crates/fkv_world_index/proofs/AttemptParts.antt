@@ -30,7 +30,7 @@ use Rattle.fkv_pending.specs.declared.mailing.Mailing.TheVariants.{LoadsState}
 use Rattle.fkv_pending.specs.declared.pending_requests.PendingRequest.{PendingRequest}
 use Rattle.fkv_pending.specs.Mailing.{mail_ask, mail_next}
 use Rattle.fkv_pending.specs.Pending.{with_sought, with_held, with_latch, with_asked}
-use Rattle.fkv_pending.specs.Attempting.{AttemptState, attempt_ended, waits_for_disk, puts_addr, puts, tries, is_pending_read, goes_on, attempt_begun, held_of, moved_on, read_on, record_taken, look_ledto, held_kept, tried, try_ledto, put_ledto, mail_moved, try_moved, attempting_next, attempt_next}
+use Rattle.fkv_pending.specs.Attempting.{AttemptState, attempt_ended, waits_for_disk, puts_addr, puts, tries, is_seeking_read, goes_on, attempt_begun, held_of, moved_on, read_on, record_taken, look_ledto, held_kept, tried, try_ledto, put_ledto, mail_moved, try_moved, attempting_next, attempt_next}
 use Rattle.fkv_pending.proofs.Shown.{is_attempt_end, AttemptAsksAt, AttemptRestsOrAsks}
 use Rattle.fkv_world_index.specs.Finders.{NoWork, IndexPart, try_part, attempt_part}
 use Rattle.fkv_world_index.proofs.Goes.{Drops, Goes, part, leads_on}
@@ -69,7 +69,7 @@ tries_free p bits reply a homes =
     record { knows = its.knows; goes = its.goes }
 
 goes_free : (p : Places) (bits reply : ℕ) (a : AttemptState) → HaveHomes p bits → Free p reply (goes_on p bits a) a.spare
-goes_free p bits reply a homes = either_free (is_pending_read a) (puts a) (tries p bits a) (puts_free p reply a a.pending.sought) (tries_free p bits reply a homes)
+goes_free p bits reply a homes = either_free (is_seeking_read a) (puts a) (tries p bits a) (puts_free p reply a a.pending.sought) (tries_free p bits reply a homes)
 
 pub attempt_begun_goes : (p : Places) (bits reply : ℕ) (a : AttemptState) (pending : PendingRequest) (seen : Seen) (occasion : Occasion) (spare : ℕ) (is_orphaned : Bool) → HaveHomes p bits
     → AttemptGoes p reply (part NoWork spare) (attempt_begun p bits a pending seen occasion spare is_orphaned)
@@ -90,7 +90,7 @@ read_free p reply a its (Says previous version) =
 record_free : (p : Places) (bits reply : ℕ) (a : AttemptState) (its : MailRecord) (said : HeaderSaid) → HaveHomes p bits → Free p reply (record_taken p bits a its said) a.spare
 record_free p bits reply a its said homes =
     let held : AttemptState = record a { pending = with_held a.pending (held_of a.pending.sought its said) } in
-    either_free (is_pending_read a) (read_on a its said) (tries p bits held) (read_free p reply a its said) (tries_free p bits reply held homes)
+    either_free (is_seeking_read a) (read_on a its said) (tries p bits held) (read_free p reply a its said) (tries_free p bits reply held homes)
 
 stays_free : (p : Places) (reply : ℕ) (a : AttemptState) (step : Attempting) → a.step ≡ step → AttemptKnows p a step → attempt_part a step ≡ part NoWork a.spare → Free p reply a a.spare
 stays_free p reply a step at knows none = record {
@@ -101,7 +101,7 @@ stays_free p reply a step at knows none = record {
 look_free : (p : Places) (bits reply : ℕ) (a : AttemptState) (ask : Ask MailAnswer) → a.step ≡ Looks → HaveHomes p bits → Free p reply (look_ledto p bits a ask) a.spare
 unfolding look_ledto
 look_free p bits reply a (Done (mail.Taken its)) at homes = record_free p bits reply (record a { is_emptied = true; pending = with_asked a.pending false }) its (header_said its.header) homes
-look_free p bits reply a (Done other) at homes = either_free (is_pending_read a) (waits_for_disk a) (tries p bits a) (ended_free p reply a _) (tries_free p bits reply a homes)
+look_free p bits reply a (Done other) at homes = either_free (is_seeking_read a) (waits_for_disk a) (tries p bits a) (ended_free p reply a _) (tries_free p bits reply a homes)
 look_free p bits reply a ask at homes = stays_free p reply a Looks at tt refl
 
 put_free : (p : Places) (reply : ℕ) (a : AttemptState) (ask : Ask MailAnswer) → a.step ≡ Puts → Free p reply (put_ledto a ask) a.spare

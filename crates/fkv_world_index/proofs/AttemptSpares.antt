@@ -27,7 +27,7 @@ use Rattle.fkv_pending.specs.declared.mailing.Mailing.TheVariants as mailing
 use Rattle.fkv_pending.specs.declared.pending_requests.PendingRequest.{PendingRequest}
 use Rattle.fkv_pending.specs.Mailing.{mail_ask, mail_next}
 use Rattle.fkv_pending.specs.Pending.{with_sought, with_held, with_latch, with_asked}
-use Rattle.fkv_pending.specs.Attempting.{AttemptState, attempting_ask, attempt_ask, attempt_ended, waits_for_disk, puts_addr, puts, tries, is_pending_read, goes_on, attempt_begun, held_of, moved_on, read_on, record_taken, look_ledto, held_kept, tried, try_ledto, put_ledto, mail_moved, try_moved, attempting_next, attempt_next}
+use Rattle.fkv_pending.specs.Attempting.{AttemptState, attempting_ask, attempt_ask, attempt_ended, waits_for_disk, puts_addr, puts, tries, is_seeking_read, goes_on, attempt_begun, held_of, moved_on, read_on, record_taken, look_ledto, held_kept, tried, try_ledto, put_ledto, mail_moved, try_moved, attempting_next, attempt_next}
 use Rattle.fkv_world_index.specs.Finders.{attempt_part, search_in, entry_in}
 use Rattle.fkv_world_index.proofs.AttemptParts.{AttemptKnows}
 use Rattle.fkv_world_index.proofs.Leaves.{LeavesIndex, passed_spares}
@@ -81,7 +81,7 @@ tries_at : (p : Places) (bits : ℕ) (a : AttemptState) → IsAttemptAtLatch p (
 tries_at p bits a = try_begun_at p bits a.trial a.pending.request a.seen a.occasion a.spare
 
 goes_at : (p : Places) (bits : ℕ) (a : AttemptState) → IsAttemptAtLatch p (goes_on p bits a)
-goes_at p bits a = either_at (is_pending_read a) p (puts a) (tries p bits a) (puts_at p a a.pending.sought) (tries_at p bits a)
+goes_at p bits a = either_at (is_seeking_read a) p (puts a) (tries p bits a) (puts_at p a a.pending.sought) (tries_at p bits a)
 
 pub attempt_begun_at : (p : Places) (bits : ℕ) (a : AttemptState) (pending : PendingRequest) (seen : Seen) (occasion : Occasion) (spare : ℕ) (is_orphaned : Bool) → IsAttemptAtLatch p (attempt_begun p bits a pending seen occasion spare is_orphaned)
 attempt_begun_at p bits a pending seen occasion spare is_orphaned =
@@ -98,12 +98,12 @@ read_at p a its (Says previous version) =
 record_at : (p : Places) (bits : ℕ) (a : AttemptState) (its : MailRecord) (said : HeaderSaid) → IsAttemptAtLatch p (record_taken p bits a its said)
 record_at p bits a its said =
     let held : AttemptState = record a { pending = with_held a.pending (held_of a.pending.sought its said) } in
-    either_at (is_pending_read a) p (read_on a its said) (tries p bits held) (read_at p a its said) (tries_at p bits held)
+    either_at (is_seeking_read a) p (read_on a its said) (tries p bits held) (read_at p a its said) (tries_at p bits held)
 
 look_at : (p : Places) (bits : ℕ) (a : AttemptState) (ask : Ask MailAnswer) → a.step ≡ Looks → IsAttemptAtLatch p (look_ledto p bits a ask)
 unfolding look_ledto
 look_at p bits a (Done (mail.Taken its)) at = record_at p bits (record a { is_emptied = true; pending = with_asked a.pending false }) its (header_said its.header)
-look_at p bits a (Done other) at = either_at (is_pending_read a) p (waits_for_disk a) (tries p bits a) tt (tries_at p bits a)
+look_at p bits a (Done other) at = either_at (is_seeking_read a) p (waits_for_disk a) (tries p bits a) tt (tries_at p bits a)
 look_at p bits a ask at = stays_at p a Looks at tt
 
 put_at : (p : Places) (a : AttemptState) (ask : Ask MailAnswer) → a.step ≡ Puts → IsAttemptAtLatch p (put_ledto a ask)

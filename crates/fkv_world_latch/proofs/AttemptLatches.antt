@@ -37,7 +37,7 @@ use Rattle.fkv_pending.specs.declared.mailing.Mailing.TheVariants.{LoadsState}
 use Rattle.fkv_pending.specs.declared.pending_requests.PendingRequest.{PendingRequest}
 use Rattle.fkv_pending.specs.Mailing.{mail_ask, mail_next}
 use Rattle.fkv_pending.specs.Pending.{with_sought, with_held, with_latch, with_asked}
-use Rattle.fkv_pending.specs.Attempting.{AttemptState, attempt_ended, waits_for_disk, puts_addr, puts, tries, is_pending_read, goes_on, attempt_begun, held_of, moved_on, read_on, record_taken, look_ledto, held_kept, tried, try_ledto, put_ledto, mail_moved, try_moved, attempting_next, attempt_next}
+use Rattle.fkv_pending.specs.Attempting.{AttemptState, attempt_ended, waits_for_disk, puts_addr, puts, tries, is_seeking_read, goes_on, attempt_begun, held_of, moved_on, read_on, record_taken, look_ledto, held_kept, tried, try_ledto, put_ledto, mail_moved, try_moved, attempting_next, attempt_next}
 use Rattle.fkv_pending.proofs.Shown.{AttemptAsksAt, AttemptRestsOrAsks}
 use Rattle.fkv_world_latch.specs.Latchers.{try_latching, try_alone, attempt_latching, attempt_alone}
 use Rattle.fkv_world_latch.proofs.TryLatches.{alone_left, alone_given, is_first, HasHeld, Fits, Keeps, Starts, IsTry, TryLed, try_led, begun_led}
@@ -93,7 +93,7 @@ tries_led p bits a homes =
     record { knows = its.its; fits = at_bucket p (tries p bits a).trial.home.bucket latching.AtRest [] _ _ its.its.low its.fits }
 
 goes_led : (p : Places) (bits : ℕ) (a : AttemptState) → HomesAreLow p bits → AttemptLed p latching.AtRest [] (goes_on p bits a)
-goes_led p bits a homes = either_led (is_pending_read a) p (puts a) (tries p bits a) (puts_led p a a.pending.sought) (tries_led p bits a homes)
+goes_led p bits a homes = either_led (is_seeking_read a) p (puts a) (tries p bits a) (puts_led p a a.pending.sought) (tries_led p bits a homes)
 
 pub attempt_begun_led : (p : Places) (bits : ℕ) (a : AttemptState) (pending : PendingRequest) (seen : Seen) (occasion : Occasion) (spare : ℕ) (is_orphaned : Bool) → HomesAreLow p bits
     → AttemptLed p latching.AtRest [] (attempt_begun p bits a pending seen occasion spare is_orphaned)
@@ -114,7 +114,7 @@ read_led p a its (Says previous version) =
 record_led : (p : Places) (bits : ℕ) (a : AttemptState) (its : MailRecord) (said : HeaderSaid) → HomesAreLow p bits → AttemptLed p latching.AtRest [] (record_taken p bits a its said)
 record_led p bits a its said homes =
     let held : AttemptState = record a { pending = with_held a.pending (held_of a.pending.sought its said) } in
-    either_led (is_pending_read a) p (read_on a its said) (tries p bits held) (read_led p a its said) (tries_led p bits held homes)
+    either_led (is_seeking_read a) p (read_on a its said) (tries p bits held) (read_led p a its said) (tries_led p bits held homes)
 
 -- a machine besides that for latches goes on
 stays_led : (p : Places) (a : AttemptState) (step : Attempting) → a.step ≡ step → AttemptKnows p a step → attempt_latching a step ≡ latching.AtRest → attempt_alone p a step ≡ [] → AttemptLed p latching.AtRest [] a
@@ -128,7 +128,7 @@ stays_led p a step at knows rests none =
 look_led : (p : Places) (bits : ℕ) (a : AttemptState) (ask : Ask MailAnswer) → a.step ≡ Looks → HomesAreLow p bits → AttemptLed p latching.AtRest [] (look_ledto p bits a ask)
 unfolding look_ledto
 look_led p bits a (Done (mail.Taken its)) at homes = record_led p bits (record a { is_emptied = true; pending = with_asked a.pending false }) its (header_said its.header) homes
-look_led p bits a (Done other) at homes = either_led (is_pending_read a) p (waits_for_disk a) (tries p bits a) (ended_led p a _) (tries_led p bits a homes)
+look_led p bits a (Done other) at homes = either_led (is_seeking_read a) p (waits_for_disk a) (tries p bits a) (ended_led p a _) (tries_led p bits a homes)
 look_led p bits a ask at homes = stays_led p a Looks at tt refl refl
 
 put_led : (p : Places) (a : AttemptState) (ask : Ask MailAnswer) → a.step ≡ Puts → AttemptLed p latching.AtRest [] (put_ledto a ask)

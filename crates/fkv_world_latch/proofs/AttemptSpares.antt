@@ -28,7 +28,7 @@ use Rattle.fkv_pending.specs.declared.mailing.Mailing.TheVariants as mailing
 use Rattle.fkv_pending.specs.declared.pending_requests.PendingRequest.{PendingRequest}
 use Rattle.fkv_pending.specs.Mailing.{mail_ask, mail_next}
 use Rattle.fkv_pending.specs.Pending.{with_sought, with_held, with_latch, with_asked}
-use Rattle.fkv_pending.specs.Attempting.{AttemptState, attempting_ask, attempt_ask, attempt_ended, waits_for_disk, puts_addr, puts, tries, is_pending_read, goes_on, attempt_begun, held_of, moved_on, read_on, record_taken, look_ledto, held_kept, tried, try_ledto, put_ledto, mail_moved, try_moved, attempting_next, attempt_next}
+use Rattle.fkv_pending.specs.Attempting.{AttemptState, attempting_ask, attempt_ask, attempt_ended, waits_for_disk, puts_addr, puts, tries, is_seeking_read, goes_on, attempt_begun, held_of, moved_on, read_on, record_taken, look_ledto, held_kept, tried, try_ledto, put_ledto, mail_moved, try_moved, attempting_next, attempt_next}
 use Rattle.fkv_world_latch.specs.Latchers.{attempt_latching}
 use Rattle.fkv_world_latch.proofs.NoLatch.{TouchesNoLatch, passed_none, session_none}
 use Rattle.fkv_world_latch.proofs.TrySpares.{IsTrySparing, try_none, try_next_none, try_begun_none}
@@ -78,7 +78,7 @@ tries_none : (p : Places) (bits : ℕ) (a : AttemptState) → IsAttemptSparing p
 tries_none p bits a = try_begun_none p bits a.trial a.pending.request a.seen a.occasion a.spare
 
 goes_none : (p : Places) (bits : ℕ) (a : AttemptState) → IsAttemptSparing p (goes_on p bits a)
-goes_none p bits a = either_none (is_pending_read a) p (puts a) (tries p bits a) (puts_none p a a.pending.sought) (tries_none p bits a)
+goes_none p bits a = either_none (is_seeking_read a) p (puts a) (tries p bits a) (puts_none p a a.pending.sought) (tries_none p bits a)
 
 pub attempt_begun_none : (p : Places) (bits : ℕ) (a : AttemptState) (pending : PendingRequest) (seen : Seen) (occasion : Occasion) (spare : ℕ) (is_orphaned : Bool) → IsAttemptSparing p (attempt_begun p bits a pending seen occasion spare is_orphaned)
 attempt_begun_none p bits a pending seen occasion spare is_orphaned =
@@ -95,12 +95,12 @@ read_none p a its (Says previous version) =
 record_none : (p : Places) (bits : ℕ) (a : AttemptState) (its : MailRecord) (said : HeaderSaid) → IsAttemptSparing p (record_taken p bits a its said)
 record_none p bits a its said =
     let held : AttemptState = record a { pending = with_held a.pending (held_of a.pending.sought its said) } in
-    either_none (is_pending_read a) p (read_on a its said) (tries p bits held) (read_none p a its said) (tries_none p bits held)
+    either_none (is_seeking_read a) p (read_on a its said) (tries p bits held) (read_none p a its said) (tries_none p bits held)
 
 look_none : (p : Places) (bits : ℕ) (a : AttemptState) (ask : Ask MailAnswer) → a.step ≡ Looks → IsAttemptSparing p (look_ledto p bits a ask)
 unfolding look_ledto
 look_none p bits a (Done (mail.Taken its)) at = record_none p bits (record a { is_emptied = true; pending = with_asked a.pending false }) its (header_said its.header)
-look_none p bits a (Done other) at = either_none (is_pending_read a) p (waits_for_disk a) (tries p bits a) tt (tries_none p bits a)
+look_none p bits a (Done other) at = either_none (is_seeking_read a) p (waits_for_disk a) (tries p bits a) tt (tries_none p bits a)
 look_none p bits a ask at = stays_none p a Looks at tt
 
 put_none : (p : Places) (a : AttemptState) (ask : Ask MailAnswer) → a.step ≡ Puts → IsAttemptSparing p (put_ledto a ask)

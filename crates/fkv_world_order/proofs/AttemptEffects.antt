@@ -25,7 +25,11 @@ use Rattle.fkv_pending.specs.declared.mailing.MailAnswer.TheVariants as mail
 use Rattle.fkv_pending.specs.declared.mailing.MailRecord.{MailRecord}
 use Rattle.fkv_pending.specs.Mailing.{mail_ask, mail_next}
 use Rattle.fkv_pending.specs.Pending.{with_sought, with_held, with_latch, with_asked}
+<<<<<<< HEAD
 use Rattle.fkv_pending.specs.Attempting.{AttemptState, attempting_ask, attempt_ask, attempt_ended, waits_for_disk, puts_addr, puts, tries, is_pending_read, held_of, moved_on, read_on, record_taken, look_ledto, held_kept, awaits_record, tried, try_ledto, put_ledto, mail_moved, try_moved, attempting_next, attempt_next}
+=======
+use Rattle.fkv_pending.specs.Attempting.{AttemptState, attempt_ask, attempt_ended, waits_for_disk, puts_addr, puts, tries, is_seeking_read, held_of, moved_on, read_on, record_taken, look_ledto, held_kept, awaits_record, tried, try_ledto, put_ledto, mail_moved, try_moved, attempting_next, attempt_next}
+>>>>>>> ends
 use Rattle.fkv_pending.proofs.Shown.{AttemptRestsOrAsks}
 use Rattle.fkv_session.specs.Sessions.{Seat, bits_of, room_of}
 use Rattle.fkv_world_order.specs.Tries.{try_ghosts}
@@ -57,12 +61,12 @@ read_keeps a its (Says previous version) =
 
 taken_keeps : (p : Places) (bits : ℕ) (a : AttemptState) (its : MailRecord) (said : HeaderSaid) → (record_taken p bits a its said).effect ≡ a.effect
 taken_keeps p bits a its said =
-    either_keeps (is_pending_read a) (read_on a its said) (tries p bits (record a { pending = with_held a.pending (held_of a.pending.sought its said) })) a.effect (read_keeps a its said) refl
+    either_keeps (is_seeking_read a) (read_on a its said) (tries p bits (record a { pending = with_held a.pending (held_of a.pending.sought its said) })) a.effect (read_keeps a its said) refl
 
 look_keeps : (p : Places) (bits : ℕ) (a : AttemptState) (ask : Ask MailAnswer) → (look_ledto p bits a ask).effect ≡ a.effect
 unfolding look_ledto
 look_keeps p bits a (Done (mail.Taken its)) = taken_keeps p bits (record a { is_emptied = true; pending = with_asked a.pending false }) its (header_said its.header)
-look_keeps p bits a (Done other) = either_keeps (is_pending_read a) (waits_for_disk a) (tries p bits a) a.effect refl refl
+look_keeps p bits a (Done other) = either_keeps (is_seeking_read a) (waits_for_disk a) (tries p bits a) a.effect refl refl
 look_keeps p bits a ask = refl
 
 put_keeps : (a : AttemptState) (ask : Ask MailAnswer) → (put_ledto a ask).effect ≡ a.effect

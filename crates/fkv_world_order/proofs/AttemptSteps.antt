@@ -33,7 +33,7 @@ use Rattle.fkv_pending.specs.declared.mailing.Mailing.TheVariants.{LoadsState}
 use Rattle.fkv_pending.specs.declared.pending_requests.PendingRequest.{PendingRequest}
 use Rattle.fkv_pending.specs.Mailing.{mail_ask, mail_next}
 use Rattle.fkv_pending.specs.Pending.{with_sought, with_held, with_latch, with_asked}
-use Rattle.fkv_pending.specs.Attempting.{AttemptState, attempting_ask, attempt_ask, attempt_ended, waits_for_disk, puts_addr, puts, tries, is_pending_read, goes_on, attempt_begun, held_of, moved_on, read_on, record_taken, look_ledto, held_kept, awaits_record, tried, try_ledto, put_ledto, mail_moved, try_moved, attempting_next, attempt_next}
+use Rattle.fkv_pending.specs.Attempting.{AttemptState, attempting_ask, attempt_ask, attempt_ended, waits_for_disk, puts_addr, puts, tries, is_seeking_read, goes_on, attempt_begun, held_of, moved_on, read_on, record_taken, look_ledto, held_kept, awaits_record, tried, try_ledto, put_ledto, mail_moved, try_moved, attempting_next, attempt_next}
 use Rattle.fkv_pending.proofs.Shown.{AttemptRestsOrAsks}
 use Rattle.fkv_session.specs.Sessions.{Seat, bits_of, room_of}
 use Rattle.fkv_world_order.specs.Reservations.{MovesOn, Keeps, Behind, Reservation, try_reserves, attempt_reserves}
@@ -58,7 +58,7 @@ tries_free : (session : ℕ) (p : Places) (bits : ℕ) (a : AttemptState) → Is
 tries_free session p bits a = begun_free p bits a.trial a.pending.request a.seen a.occasion a.spare session a.pending
 
 goes_free : (session : ℕ) (p : Places) (bits : ℕ) (a : AttemptState) → IsFreeOf session (goes_on p bits a)
-goes_free session p bits a = either_free session (is_pending_read a) (puts a) (tries p bits a) (puts_addr_free session a a.pending.sought) (tries_free session p bits a)
+goes_free session p bits a = either_free session (is_seeking_read a) (puts a) (tries p bits a) (puts_addr_free session a a.pending.sought) (tries_free session p bits a)
 
 pub attempt_begun_free : (session : ℕ) (p : Places) (bits : ℕ) (a : AttemptState) (pending : PendingRequest) (seen : Seen) (occasion : Occasion) (spare : ℕ) (is_orphaned : Bool)
     → IsFreeOf session (attempt_begun p bits a pending seen occasion spare is_orphaned)
@@ -77,12 +77,12 @@ read_free session a its (Says previous version) =
 taken_free : (session : ℕ) (p : Places) (bits : ℕ) (a : AttemptState) (its : MailRecord) (said : HeaderSaid) → IsFreeOf session (record_taken p bits a its said)
 taken_free session p bits a its said =
     let held : AttemptState = record a { pending = with_held a.pending (held_of a.pending.sought its said) } in
-    either_free session (is_pending_read a) (read_on a its said) (tries p bits held) (read_free session a its said) (tries_free session p bits held)
+    either_free session (is_seeking_read a) (read_on a its said) (tries p bits held) (read_free session a its said) (tries_free session p bits held)
 
 look_free : (session : ℕ) (p : Places) (bits : ℕ) (a : AttemptState) (ask : Ask MailAnswer) → a.step ≡ Looks → IsFreeOf session (look_ledto p bits a ask)
 unfolding look_ledto
 look_free session p bits a (Done (mail.Taken its)) at = taken_free session p bits (record a { is_emptied = true; pending = with_asked a.pending false }) its (header_said its.header)
-look_free session p bits a (Done other) at = either_free session (is_pending_read a) (waits_for_disk a) (tries p bits a) refl (tries_free session p bits a)
+look_free session p bits a (Done other) at = either_free session (is_seeking_read a) (waits_for_disk a) (tries p bits a) refl (tries_free session p bits a)
 look_free session p bits a ask at = ap (attempt_reserves session a) at
 
 put_free : (session : ℕ) (a : AttemptState) (ask : Ask MailAnswer) → a.step ≡ Puts → IsFreeOf session (put_ledto a ask)

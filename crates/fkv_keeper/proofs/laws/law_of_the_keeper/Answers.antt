@@ -1,4 +1,5 @@
 -- The law, by what holds at every moment.
+use Rattle.fkv_keeper.proofs.HandBusy.{run_ended}
 use Rattle.fkv_keeper.proofs.KeeperRuns.{copy_again, run_broken, run_finished, run_memory, run_number}
 use Rattle.fkv_keeper.proofs.laws.law_of_the_keeper.Goals as goal
 
@@ -16,3 +17,6 @@ returns-clause-number c = λ shape p opening events event full opened calling en
 
 pub returns-clause-again : goal.returns-clause-again
 returns-clause-again c = λ shape p s. copy_again shape p s
+
+pub returns-clause-over : goal.returns-clause-over
+returns-clause-over c = λ shape p opening events opened buckets none. run_ended shape p opening events buckets opened.none_in_hand none

@@ -1,7 +1,7 @@
 -- The law, by that of every life, and that nobody stands before a slot in one that was opened.
 use Rattle.std.proofs.Common.{arith}
 use Rattle.fkv_world.specs.Runs.{run}
-use Rattle.fkv_world_guard.proofs.Ends.{keeper_ends, life_free, life_keeper_stands, life_stands}
+use Rattle.fkv_world_guard.proofs.Ends.{keeper_ends, life_alone, life_free, life_keeper_alone, life_keeper_stands, life_stands}
 use Rattle.fkv_world_guard.proofs.laws.law_world_ends.Goals as goal
 
 pub returns-clause-stands : goal.returns-clause-stands
@@ -24,3 +24,12 @@ returns-clause-alone c = λ first start events session count opened alive enough
 pub returns-clause-keeper_alone : goal.returns-clause-keeper_alone
 returns-clause-keeper_alone c = λ first start events moves opened are alive enough.
     let down = keeper_ends c.law_of_ends.ensures.keeper first start events moves opened are alive in omega (arith, down, enough)
+
+pub returns-clause-over : goal.returns-clause-over
+returns-clause-over c = λ first start events session count was its opened alive enough found now.
+    life_alone first start events session count was its opened found now (c.law_of_ends.ensures.alone (run first events) session count alive (life_free first start events session count opened) enough)
+
+pub returns-clause-keeper_over : goal.returns-clause-keeper_over
+returns-clause-keeper_over c = λ first start events moves opened are alive enough.
+    let down = keeper_ends c.law_of_ends.ensures.keeper first start events moves opened are alive in
+    life_keeper_alone first start events moves opened (omega (arith, down, enough))
