@@ -42,7 +42,7 @@ use Rattle.fkv_pending.specs.declared.pending_requests.PendingRequest.{PendingRe
 use Rattle.fkv_pending.specs.declared.pending_requests.RequestName.{RequestName}
 use Rattle.fkv_pending.specs.Mailing.{mail_ask, mail_next}
 use Rattle.fkv_pending.specs.Pending.{with_sought, with_held, with_latch, with_asked}
-use Rattle.fkv_pending.specs.Attempting.{AttemptState, attempt_begun, attempt_ask, attempt_ended, waits_for_disk, puts_addr, puts, tries, is_pending_read, goes_on, held_of, moved_on, read_on, record_taken, look_ledto, held_kept, awaits_record, tried, try_ledto, put_ledto, mail_moved, try_moved, attempting_next, attempt_next}
+use Rattle.fkv_pending.specs.Attempting.{AttemptState, attempt_begun, attempt_ask, attempt_ended, waits_for_disk, puts_addr, puts, tries, is_seeking_read, goes_on, held_of, moved_on, read_on, record_taken, look_ledto, held_kept, awaits_record, tried, try_ledto, put_ledto, mail_moved, try_moved, attempting_next, attempt_next}
 use Rattle.fkv_session.specs.declared.answers.Told.{Told}
 use Rattle.fkv_session.specs.declared.answers.Told.TheVariants as told
 use Rattle.fkv_session.specs.declared.catching_up.Catching.{Catching}
@@ -113,12 +113,12 @@ read_on_tries a its (Says previous version) =
 taken_tries : (p : Places) (bits : ℕ) (a : AttemptState) (its : MailRecord) (said : HeaderSaid) → TriesIts (record_taken p bits a its said)
 taken_tries p bits a its said =
     let holds : AttemptState = record a { pending = with_held a.pending (held_of a.pending.sought its said) } in
-    either_tries (is_pending_read a) (read_on a its said) (tries p bits holds) (read_on_tries a its said) (tries_anew p bits holds)
+    either_tries (is_seeking_read a) (read_on a its said) (tries p bits holds) (read_on_tries a its said) (tries_anew p bits holds)
 
 look_tries : (p : Places) (bits : ℕ) (a : AttemptState) (ask : Ask MailAnswer) → a.step ≡ Looks → TriesIts (look_ledto p bits a ask)
 unfolding look_ledto
 look_tries p bits a (Done (mail.Taken its)) at = taken_tries p bits (record a { is_emptied = true; pending = with_asked a.pending false }) its (header_said its.header)
-look_tries p bits a (Done other) at = either_tries (is_pending_read a) (waits_for_disk a) (tries p bits a) tt (tries_anew p bits a)
+look_tries p bits a (Done other) at = either_tries (is_seeking_read a) (waits_for_disk a) (tries p bits a) tt (tries_anew p bits a)
 look_tries p bits a ask at = still_tries a Looks at tt
 
 awaits_tries : (a : AttemptState) (sought : DiskRecord) → TriesIts (awaits_record a sought)
@@ -176,7 +176,7 @@ begun_so : (p : Places) (bits : ℕ) (a : AttemptState) (pending : PendingReques
 begun_so p bits a pending seen occasion spare is_orphaned named =
     let its : AttemptState = record a { pending = pending; seen = seen; occasion = occasion; spare = spare; is_orphaned = is_orphaned; is_emptied = false; effect = None } in
     either_attempt pending.has_asked _ (goes_on p bits its) (record { named = named; tries_so = tt })
-    (either_attempt (is_pending_read its) (puts its) (tries p bits its) (puts_so its its.pending.sought named) (record { named = named; tries_so = tries_anew p bits its }))
+    (either_attempt (is_seeking_read its) (puts its) (tries p bits its) (puts_so its its.pending.sought named) (record { named = named; tries_so = tries_anew p bits its }))
 
 -- ---- the requests that wait
 one_more : (requests : List PendingRequest) (pending : PendingRequest) → AreNamedSo requests → IsNamedSo pending → AreNamedSo (requests ++ pending ∷ [])
