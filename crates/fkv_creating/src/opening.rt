@@ -67,7 +67,7 @@ pub fn create_opened<D: Device>(alloc: Global, d: &mut D, shape: Shape) -> Resul
     ensures honest { D.honest d.old ↔ D.honest d.new }
     ensures err { IfErr result (IsHindrance (D.failed d.old) (D.failed d.new)) }
     ensures counted { OnOk result (MakesCalls 8 (D.refuses d.old) (D.refuses d.new) result) }
-    ensures moments { D.honest d.old → IsLaidInOrder D.may_leave D.moment D.left_since D.refuses shape d.old d.new result }
+    ensures moments { D.honest d.old → IsLaidInOrder D.seen D.may_leave D.moment D.left_since D.refuses shape d.old d.new result }
 {
     let newest = create(d, shape)?;
     let store = opened(alloc, &newest)?;
