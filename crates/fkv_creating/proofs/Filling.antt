@@ -31,6 +31,10 @@ cleared_is : (old : List ℕ) → cleared old ≡ written old 0 zeros
 unfolding cleared zeros
 cleared_is old = refl
 
+pub cleared_by : (old : List ℕ) → cleared old ≡ written old 0 (replicate 1536 0)
+unfolding cleared
+cleared_by old = refl
+
 -- zeros over the front clear it
 pub cleared_by_zeros : (old : List ℕ) → IsCleared (cleared old)
 cleared_by_zeros old = subst IsCleared (sym (cleared_is old)) (record {

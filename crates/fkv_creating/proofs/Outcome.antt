@@ -1,6 +1,6 @@
 -- An image whose gates are closed is no store's.
 use Rattle.std.proofs.Common.{◌≡◌, ◌≢◌, inl, inr, ℕ, false, List, Option, Some, None, refl, sym, ◌∙◌, ap, subst, arith}
-use Rattle.std.specs.Prelude.{◌==◌, if◌then◌else◌, Result, Ok, Err, IsErr}
+use Rattle.std.specs.Prelude.{◌==◌, if◌then◌else◌, Result, Ok, Err, IsErr, IfErr}
 use Rattle.std.specs.Result.{IsErrAnd}
 use Rattle.std.proofs.lemmas.Bool.Decides.{nat_tests}
 use Rattle.fkv_base.specs.declared.shapes.Shape.{Shape}
@@ -38,3 +38,8 @@ none_or_new old block slot shape n new told long image (inr is) = inr (n, new, s
 pub failed_too : {T E : Type 0} (r : Result T E) (P : E → Type 0) → IsErrAnd r P → IsErr r
 failed_too (Ok x) P is = absurd is
 failed_too (Err e) P is = refl
+
+-- what holds of each fault holds of the one that is answered
+pub each_fault : {T E : Type 0} (r : Result T E) (P : E → Type 0) → ((e : E) → P e) → IfErr r P
+each_fault (Ok x) P each = tt
+each_fault (Err e) P each = each e

@@ -1,11 +1,15 @@
 -- What a new store is.
-use Rattle.std.specs.Prelude.{◌≡◌, ℕ, ◌≤◌, List, [], ◌∷◌, length, drop, max, replicate, Some, None}
+use Rattle.std.specs.Prelude.{◌≡◌, ℕ, ◌≤◌, Bool, true, false, List, [], ◌∷◌, length, drop, max, replicate, Some, None}
 use Rattle.fkv_base.specs.declared.shapes.Shape.{Shape}
 use Rattle.fkv_disk.specs.Bytes.{byte_at, written}
+use Rattle.fkv_disk.specs.Device.{LeavesOnly, after}
 use Rattle.fkv_newest.specs.declared.newest_slots.Newest.{Newest}
+use Rattle.fkv_newest.specs.Newest.{IsNewestOf}
+use Rattle.fkv_opening.specs.declared.opened_store.Opened.{Opened}
 use Rattle.fkv_record.specs.declared.formats.Format.TheVariants.{Third}
 use Rattle.fkv_record.specs.declared.manifest_slots.ManifestSlot.{ManifestSlot}
 use Rattle.fkv_record.specs.Points.{serial_numbers}
+use Rattle.fkv_creating.specs.Long.{IsLong}
 
 -- A slot of commit 0: the log begins and ends at address 1, the checkpoint is its own and has no triples, no session has taken a serial, and no record
 -- is lost.
@@ -28,10 +32,36 @@ pub record IsNew (shape : Shape) (n : Newest) : Type 0 where
   pub open_0 : n.open_numbers.0 ≡ Some 0
   pub open_1 : n.open_numbers.1 ≡ None
 
+-- An opened store of this shape is new: commit 0 is its newest and its checkpoint, the log begins and ends at address 1, no session has taken a serial, no home
+-- has an entry, no record is lost, and the gate of slot 0 alone is open.
+pub record IsNewStore (shape : Shape) (store : Opened) : Type 0 where
+  pub its_shape : store.shape ≡ shape
+  pub number : store.number.0 ≡ 0
+  pub tail : store.tail.0 ≡ 1
+  pub points : serial_numbers store.points.items ≡ replicate shape.sessions 0
+  pub gate_0 : store.gates.0 ≡ true
+  pub gate_1 : store.gates.1 ≡ false
+  pub checkpoint : store.checkpoint.number.0 ≡ 0
+  pub first : store.checkpoint.first.0 ≡ 1
+  pub triples : store.checkpoint.triples ≡ 0
+  pub area : store.checkpoint.area ≡ 0
+  pub entries : store.entries.items ≡ []
+  pub lost : store.lost.items ≡ []
+
 -- behind the first 1,536 bytes all is as it was, and the image ends where it ended, or with those bytes where it was shorter
 pub record SparesRest (old image : List ℕ) : Type 0 where
   pub end : length image ≡ max (length old) 1536
   pub same : (i : ℕ) → 1536 ≤ i → byte_at image i ≡ byte_at old i
+
+-- A new store of this shape was made by eight calls: the device reads as one, which is long, and a crash leaves just that.
+pub record HoldsNew {D : Type 0} (seen : D → List ℕ) (may_leave : D → List ℕ → Type 0) (refuses : D → ℕ → Bool) (shape : Shape) (old new : D) : Type 0 where
+  pub newest : Newest
+  pub is_new : IsNew shape newest
+  pub told : IsNewestOf (seen new) newest
+  pub long : IsLong (seen new) newest.shape newest.slot
+  pub spared : SparesRest (seen old) (seen new)
+  pub synced : LeavesOnly (seen new) (may_leave new)
+  pub calls : refuses new ≡ after 8 (refuses old)
 
 -- the bytes after the four writes: zeros at the front, the block over them, the slot from its ninth byte on, and its gate
 unfoldable pub laid : List ℕ → List ℕ → List ℕ → List ℕ

@@ -6,7 +6,7 @@ ghost use Rattle.fkv_disk.specs.Device.{LeavesOnly, MakesCalls};
 ghost use Rattle.fkv_newest.specs.Newest.{IsNewestOf};
 ghost use Rattle.fkv_scan.specs.Quiet.{IsHindrance};
 ghost use Rattle.fkv_opening.specs.Opened.{IsStoreOf};
-ghost use Rattle.fkv_creating.specs.Created.{IsNew, SparesRest};
+ghost use Rattle.fkv_creating.specs.Created.{IsNew, IsNewStore, HoldsNew, SparesRest};
 ghost use Rattle.fkv_creating.specs.Moments.{IsLaidInOrder};
 
 use crate::creating::create;
@@ -34,7 +34,7 @@ fn points_of(alloc: Global, slot: &ManifestSlot) -> Result<Vec<Serial>, Fault>
 fn opened(alloc: Global, newest: &Newest) -> Result<Opened, Fault>
     requires { IsNew newest.now.shape newest.now }
     ensures ok { (image : List ℕ) → IsNewestOf image newest.now → IfOk result (IsStoreOf image) }
-    ensures shape { IfOk result (λ store. store.shape ≡ newest.now.shape) }
+    ensures new { IfOk result (IsNewStore newest.now.shape) }
     ensures err { OnErr result (result ≡ Err Memory) }
 {
     let points = points_of(alloc, &newest.slot)?;
@@ -56,18 +56,21 @@ fn opened(alloc: Global, newest: &Newest) -> Result<Opened, Fault>
     })
 }
 
-/// Makes an empty store as `create` does, by the same eight calls, and gives it opened: what `recover` gives of the image.
+/// Makes an empty store as `create` does, by the same eight calls, and gives it opened: what `recover` gives of the image, which is
+/// commit 0 with an empty log, no entries, and points that are 0.
 ///
-/// Where memory is refused the store is made all the same, and `recover` opens it.
+/// Where memory is refused the store is made all the same: the device reads as it, a crash leaves just that, and no stage of
+/// recovery finds a fault in it, as `law_new_is_sound` says.
 pub fn create_opened<D: Device>(alloc: Global, d: &mut D, shape: Shape) -> Result<Opened, Fault>
     ensures ok { D.honest d.old → IfOk result (IsStoreOf (D.seen d.new)) }
-    ensures shape { IfOk result (λ store. store.shape ≡ shape) }
+    ensures new { IfOk result (IsNewStore shape) }
     ensures spared { D.honest d.old → OnOk result (SparesRest (D.seen d.old) (D.seen d.new)) }
     ensures synced { D.honest d.old → OnOk result (LeavesOnly (D.seen d.new) (D.may_leave d.new)) }
     ensures honest { D.honest d.old ↔ D.honest d.new }
     ensures err { IfErr result (IsHindrance (D.failed d.old) (D.failed d.new)) }
+    ensures memory { D.honest d.old → IfErr result (λ e. e ≡ Memory → HoldsNew D.seen D.may_leave D.refuses shape d.old d.new) }
     ensures counted { OnOk result (MakesCalls 8 (D.refuses d.old) (D.refuses d.new) result) }
-    ensures moments { D.honest d.old → IsLaidInOrder D.may_leave D.moment D.left_since D.refuses shape d.old d.new result }
+    ensures moments { D.honest d.old → IsLaidInOrder D.seen D.may_leave D.moment D.left_since D.refuses shape d.old d.new result }
 {
     let newest = create(d, shape)?;
     let store = opened(alloc, &newest)?;

@@ -2,6 +2,7 @@ use crate::{create, create_opened, law_new_is_sound};
 use fkv_base::{Addr, Fault, Shape, Version};
 use fkv_disk::{Device, MemDisk, Once};
 use fkv_newest::read_newest;
+use fkv_opening::{Opened, recover};
 use std::alloc::Global;
 use std::test::Fail;
 
@@ -60,6 +61,36 @@ fn a_new_store_is_opened(rt: HostRuntime) -> Result<(), Fail> {
     assert_eq!(rt; store.gates, (true, false));
     assert_eq!(rt; store.points.len(), 1);
     assert_eq!(rt; store.entries.len(), 0);
+    Ok(())
+}
+
+fn recovered(alloc: Global, disk: &mut MemDisk) -> Result<Opened, Fault> {
+    match recover(alloc, disk) {
+        Err(Fault::Memory) => recover(alloc, disk),
+        // the device in memory asks for memory too
+        Err(Fault::Device) if disk.failures() == 1 => recover(alloc, disk),
+        answer => answer,
+    }
+}
+
+// A tool outside lets each request for memory fail in turn and runs this test.
+#[test]
+fn a_store_is_made_where_memory_is_refused(rt: HostRuntime) -> Result<(), Fail> {
+    let alloc = rt.alloc();
+    let (Ok(mut disk), Ok(made)) = (used(alloc, 1600), image(alloc, 1600)) else {
+        return Ok(());
+    };
+    match create_opened(alloc, &mut disk, shape()?) {
+        Ok(_) | Err(Fault::Memory) => {}
+        Err(Fault::Device) if disk.failures() == 1 => {
+            create(&mut disk, shape()?)?;
+        }
+        Err(fault) => return Err(fault.into()),
+    }
+    assert!(rt; disk.bytes() == made.as_slice());
+    let store = recovered(alloc, &mut disk)?;
+    assert_eq!(rt; (store.number, store.tail), (Version(0), Addr(1)));
+    assert_eq!(rt; (store.points.len(), store.entries.len()), (1, 0));
     Ok(())
 }
 

@@ -8,7 +8,7 @@ use Rattle.fkv_creating.specs.Filled.{filled, IsCleared, IsShutOrFilled}
 use Rattle.fkv_creating.specs.Moments.{IsNoneOrNew}
 use Rattle.fkv_creating.proofs.Moving.{weaker}
 use Rattle.fkv_creating.proofs.Outcome.{none_or_new, failed_too}
-use Rattle.fkv_creating.proofs.Filling.{laid_is_filled, cleared_by_zeros}
+use Rattle.fkv_creating.proofs.Filling.{laid_is_filled, cleared_by, cleared_by_zeros}
 use Rattle.fkv_creating.specs.Long.{IsLong}
 use Rattle.fkv_creating.proofs.Counting.{passed_on}
 use Rattle.fkv_creating.proofs.Newly.{newest_told, spared, is_long}
@@ -64,6 +64,7 @@ returns-clause-moments g c = λ claim.
     inl (record {
       cleared = c.clear.new.d;
       calls = c.in_ok-clear.ensures.counted.counted;
+      front = record { zeros = seen1 ∙ cleared_by old; synced = c.in_ok-clear.ensures.synced claim };
       until_then = c.in_ok-clear.ensures.moments claim;
       from_then = weaker d.may_leave d.moment d.left_since c.clear.new.d c.fill.new.d (IsShutOrFilled (d.seen c.clear.new.d) block slot) (IsNoneOrNew c.args.shape)
           (none_or_new (d.seen c.clear.new.d) block slot c.args.shape n c.new_store-newest.ensures told long) (c.in_ok-fill.ensures.moments claim1 (c.in_ok-clear.ensures.synced claim) clear);
@@ -87,10 +88,15 @@ returns-in_err-fill-clause-moments g c = λ claim.
     inl (record {
       cleared = c.clear.new.d;
       calls = c.in_ok-clear.ensures.counted.counted;
+      front = record { zeros = seen1 ∙ cleared_by old; synced = c.in_ok-clear.ensures.synced claim };
       until_then = c.in_ok-clear.ensures.moments claim;
       from_then = weaker d.may_leave d.moment d.left_since c.clear.new.d c.fill.new.d (IsShutOrFilled (d.seen c.clear.new.d) block slot) (IsNoneOrNew c.args.shape)
           (none_or_new (d.seen c.clear.new.d) block slot c.args.shape n c.new_store-newest.ensures told long) (c.in_err-fill.ensures.moments claim1 (c.in_ok-clear.ensures.synced claim) clear);
     })
 
 pub returns-in_err-clear-clause-moments : goal.returns-in_err-clear-clause-moments
-returns-in_err-clear-clause-moments g c = λ claim. inr (failed_too c.from_residual.result _ c.from_residual.ensures.1, c.in_err-clear.ensures.moments claim)
+returns-in_err-clear-clause-moments g c = λ claim. inr (record {
+  refused = failed_too c.from_residual.result _ c.from_residual.ensures.1;
+  stopped = c.in_err-clear.ensures.stopped claim;
+  so_far = c.in_err-clear.ensures.moments claim;
+})

@@ -1,4 +1,6 @@
-use Rattle.std.proofs.Common.{ap, [], length, ◌^◌, refl, arith}
+use Rattle.std.proofs.Common.{ap, [], length, ◌^◌, refl, ◌∙◌, arith}
+use Rattle.std.specs.Option.{is_some}
+use Rattle.fkv_record.specs.Points.{serial_numbers}
 use Rattle.fkv_creating.proofs.Entryless.{no_entry_room, is_checkpoint, is_sound, no_entries, none_in_hand}
 use Rattle.fkv_creating.proofs.opening.opened.Goals as goal
 
@@ -30,4 +32,23 @@ returns-clause-ok c = λ image told.
       };
       entries = no_entries image n.shape n c.requires c.new-2.result.items c.new-2.ensures.items;
       lost = none_in_hand image n.shape n c.requires c.new.result.items c.new.ensures;
+    }
+
+pub returns-clause-new : goal.returns-clause-new
+returns-clause-new c =
+    let n = c.args.newest.now in
+    let new = c.requires in
+    record {
+      its_shape = refl;
+      number = new.slot.number;
+      tail = new.slot.end;
+      points = ap serial_numbers c.in_ok-points.ensures.ok ∙ new.slot.points;
+      gate_0 = c.gates-gates.ensures.gate_0 ∙ ap is_some new.open_0;
+      gate_1 = c.gates-gates.ensures.gate_1 ∙ ap is_some new.open_1;
+      checkpoint = new.slot.checkpoint;
+      first = new.slot.first;
+      triples = new.slot.triples;
+      area = new.slot.area;
+      entries = c.new-2.ensures.items;
+      lost = c.new.ensures;
     }
