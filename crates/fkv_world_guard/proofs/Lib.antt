@@ -5,6 +5,7 @@ mod Flushed
 mod KeeperSteps
 mod Kept
 mod LifeCalls
+mod LoadedSince
 mod OfLives
 mod OneStep
 mod Outer

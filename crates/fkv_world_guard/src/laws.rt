@@ -1,6 +1,7 @@
 //! What the guard keeps holds of every life of the engine.
 ghost use Rattle.std.specs.Prelude.{◌∷◌, ◌≡◌, ◌<◌, ◌≤◌, ◌-◌, ℕ, Bool, List, None, Some, false, length, slice_get};
-ghost use Rattle.fkv_epoch.specs.Once.{HasRunOnce};
+ghost use Rattle.fkv_epoch.specs.EpochWorld.{Claimed, Ran, safe_of};
+ghost use Rattle.fkv_epoch.specs.Once.{Among, HasRunOnce};
 ghost use Rattle.fkv_plane.specs.declared.places.RecordWord.{RecordWord};
 ghost use Rattle.fkv_flush.specs.GuardFlushed.{IsSynced, calls_made, stands};
 ghost use Rattle.fkv_flush.specs.GuardLevels.{AreInOrder, Rises, levels_of};
@@ -18,6 +19,7 @@ ghost use Rattle.fkv_world.specs.Runs.{World, read_by_keeper, run};
 ghost use Rattle.fkv_world_guard.specs.EndsAlone.{AreKeeperMoves};
 ghost use Rattle.fkv_world_guard.specs.GuardEvents.{guard_events, mapped};
 ghost use Rattle.fkv_world_guard.specs.KeptGuarded.{ChangesOpenPlaces, FindTheirSlots, OpensNextPage};
+ghost use Rattle.fkv_world_guard.specs.LoadedSince.{HaveLoadedSince};
 ghost use Rattle.fkv_world_guard.specs.OpenedStore.{IsOpenedStore};
 ghost use Rattle.fkv_world_guard.specs.Shows.{AreBelowTail, AreFair, IsFair, IsOpened, Shows, guard_opening, seen_by_guard};
 ghost use Rattle.fkv_world_guard.specs.SlotsFound.{FindsItsSlot};
@@ -60,12 +62,21 @@ pub fn law_world_seen()
 {}
 
 /// In such a life each epoch arms one action at most, which is claimed once at most, and run once at most by the actor that
-/// claimed it. A slot that is given an action is empty, and one that is taken has the action that was armed there.
+/// claimed it. A slot that is given an action is empty, and one that is taken has the action that was armed there. Before the event
+/// that claims an action, and before the one that runs it, each protected session that isn't in the middle of protecting itself goes by
+/// values that it loaded after the action's epoch was raised; at every moment it does so for each epoch that is safe. While a refresh is
+/// under way that is said of both loads, the last one and the one before, by which the session still goes.
 pub fn law_world_once()
     ensures once { (opening : World) (start : ℕ) (events : List Event) → IsOpened opening.now start
         → HasRunOnce (seen_by_guard opening start events).past }
     ensures slots { (opening : World) (start : ℕ) (events : List Event) (event : Event) → IsOpened opening.now start
         → FindTheirSlots (seen_by_guard opening start events) (guard_events (run opening events).now (read_by_keeper (run opening events)) event) }
+    ensures seen { (opening : World) (start : ℕ) (events : List Event) (event : Event) (claim : Claimed) → IsOpened opening.now start
+        → Among claim (seen_by_guard opening start (event ∷ events)).past.claims → HaveLoadedSince (seen_by_guard opening start events) claim.epoch }
+    ensures ran { (opening : World) (start : ℕ) (events : List Event) (event : Event) (action : Ran) → IsOpened opening.now start
+        → Among action (seen_by_guard opening start (event ∷ events)).past.runs → HaveLoadedSince (seen_by_guard opening start events) action.epoch }
+    ensures safe { (opening : World) (start : ℕ) (events : List Event) (epoch : ℕ) → IsOpened opening.now start
+        → epoch ≤ safe_of (run opening events).now.words → HaveLoadedSince (seen_by_guard opening start events) epoch }
 {}
 
 /// In such a life, whatever its events: a step of a session or of the keeper that turns to a drain slot finds the slot empty where it
