@@ -1,6 +1,7 @@
 mod BelowTail
 mod Ends
 mod Fair
+mod FewAsks
 mod Flushed
 mod KeeperSteps
 mod Kept

@@ -1,5 +1,6 @@
 //! What the guard keeps holds of every life of the engine.
-ghost use Rattle.std.specs.Prelude.{◌∷◌, ◌≡◌, ◌<◌, ◌≤◌, ◌-◌, ℕ, Bool, List, None, Some, false, length, slice_get};
+ghost use Rattle.std.specs.Prelude.{◌∷◌, ◌≡◌, ◌<◌, ◌≤◌, ◌-◌, ◌^◌, ℕ, Bool, List, None, Some, false, length, slice_get};
+ghost use Rattle.fkv_base.specs.declared.shapes.Shape.{Shape};
 ghost use Rattle.fkv_epoch.specs.EpochWorld.{Claimed, Ran, safe_of};
 ghost use Rattle.fkv_epoch.specs.Once.{Among, HasRunOnce};
 ghost use Rattle.fkv_plane.specs.declared.places.RecordWord.{RecordWord};
@@ -16,7 +17,7 @@ ghost use Rattle.fkv_world.specs.Actors.{slot_asked};
 ghost use Rattle.fkv_world.specs.Ends.{KeeperStandsAtNoSlot, StandsAtNoSlot, asks_left_of, asks_left_of_keeper, moves_alone};
 ghost use Rattle.fkv_world.specs.World.{Event, KeeperMoves, Moves, seat_at};
 ghost use Rattle.fkv_world.specs.Runs.{World, read_by_keeper, run};
-ghost use Rattle.fkv_world_guard.specs.EndsAlone.{AreKeeperMoves};
+ghost use Rattle.fkv_world_guard.specs.EndsAlone.{AreKeeperMoves, most_session_asks};
 ghost use Rattle.fkv_world_guard.specs.GuardEvents.{guard_events, mapped};
 ghost use Rattle.fkv_world_guard.specs.KeptGuarded.{ChangesOpenPlaces, FindTheirSlots, OpensNextPage};
 ghost use Rattle.fkv_world_guard.specs.LoadedSince.{HaveLoadedSince};
@@ -96,7 +97,8 @@ pub fn law_world_slots()
 /// stands before a slot whose action it takes, since it takes it in the step in which it comes there. So at every moment before a crash a
 /// move of a session leaves one ask fewer, if it has any left, and so does one of the keeper, whatever memory is granted and whatever its
 /// calls of the device come to. A session that alone makes as many moves as it had asks left has none left, and no call in hand; and so it
-/// is of the keeper.
+/// is of the keeper. In a life of a store that was just opened a session never has more asks left than a poll may ask, by the sizes of the
+/// store's shape: in every shape less than 2^64 - 1.
 pub fn law_world_ends()
     ensures stands { (opening : World) (start : ℕ) (events : List Event) (session : ℕ) → IsOpened opening.now start → StandsAtNoSlot (run opening events).now session }
     ensures keeper_stands { (opening : World) (start : ℕ) (events : List Event) → IsOpened opening.now start → KeeperStandsAtNoSlot (run opening events).now }
@@ -113,6 +115,9 @@ pub fn law_world_ends()
         → slice_get (moves_alone (run opening events) session count).now.sessions session ≡ Some its → is_busy its.step ≡ false }
     ensures keeper_over { (opening : World) (start : ℕ) (events moves : List Event) → IsOpened opening.now start → AreKeeperMoves moves → (run opening events).now.crashed ≡ false
         → asks_left_of_keeper (run opening events).now ≤ length moves → is_in_hand (run (run opening events) moves).now.keeper.step ≡ false }
+    ensures few { (opening : World) (start : ℕ) (events : List Event) (session : ℕ) → IsOpenedStore opening start
+        → asks_left_of (run opening events).now session ≤ most_session_asks opening.now.shape }
+    ensures few_of_shape { (shape : Shape) → most_session_asks shape < 2 ^ 64 - 1 }
 {
     law_of_ends();
 }

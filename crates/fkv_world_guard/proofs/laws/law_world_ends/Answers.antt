@@ -2,6 +2,7 @@
 use Rattle.std.proofs.Common.{arith}
 use Rattle.fkv_world.specs.Runs.{run}
 use Rattle.fkv_world_guard.proofs.Ends.{keeper_ends, life_alone, life_free, life_keeper_alone, life_keeper_stands, life_stands}
+use Rattle.fkv_world_guard.proofs.FewAsks.{life_few, shape_few}
 use Rattle.fkv_world_guard.proofs.laws.law_world_ends.Goals as goal
 
 pub returns-clause-stands : goal.returns-clause-stands
@@ -33,3 +34,9 @@ pub returns-clause-keeper_over : goal.returns-clause-keeper_over
 returns-clause-keeper_over c = λ first start events moves opened are alive enough.
     let down = keeper_ends c.law_of_ends.ensures.keeper first start events moves opened are alive in
     life_keeper_alone first start events moves opened (omega (arith, down, enough))
+
+pub returns-clause-few : goal.returns-clause-few
+returns-clause-few c = λ first start events session store. life_few first start events session store
+
+pub returns-clause-few_of_shape : goal.returns-clause-few_of_shape
+returns-clause-few_of_shape c = λ shape. shape_few shape
