@@ -2,7 +2,9 @@ mod BelowTail
 mod Ends
 mod Fair
 mod FewAsks
+mod FewKeeperAsks
 mod Flushed
+mod KeeperSeeks
 mod KeeperSteps
 mod Kept
 mod LifeCalls

@@ -1,5 +1,6 @@
 //! What the guard keeps holds of every life of the engine.
 ghost use Rattle.std.specs.Prelude.{◌∷◌, ◌≡◌, ◌<◌, ◌≤◌, ◌-◌, ◌^◌, ℕ, Bool, List, None, Some, false, length, slice_get};
+ghost use Rattle.fkv_base.specs.Limits.{max_sessions};
 ghost use Rattle.fkv_base.specs.declared.shapes.Shape.{Shape};
 ghost use Rattle.fkv_epoch.specs.EpochWorld.{Claimed, Ran, safe_of};
 ghost use Rattle.fkv_epoch.specs.Once.{Among, HasRunOnce};
@@ -17,7 +18,7 @@ ghost use Rattle.fkv_world.specs.Actors.{slot_asked};
 ghost use Rattle.fkv_world.specs.Ends.{KeeperStandsAtNoSlot, StandsAtNoSlot, asks_left_of, asks_left_of_keeper, moves_alone};
 ghost use Rattle.fkv_world.specs.World.{Event, KeeperMoves, Moves, seat_at};
 ghost use Rattle.fkv_world.specs.Runs.{World, read_by_keeper, run};
-ghost use Rattle.fkv_world_guard.specs.EndsAlone.{AreKeeperMoves, most_session_asks};
+ghost use Rattle.fkv_world_guard.specs.EndsAlone.{AreKeeperMoves, most_keeper_asks, most_session_asks};
 ghost use Rattle.fkv_world_guard.specs.GuardEvents.{guard_events, mapped};
 ghost use Rattle.fkv_world_guard.specs.KeptGuarded.{ChangesOpenPlaces, FindTheirSlots, OpensNextPage};
 ghost use Rattle.fkv_world_guard.specs.LoadedSince.{HaveLoadedSince};
@@ -98,7 +99,8 @@ pub fn law_world_slots()
 /// move of a session leaves one ask fewer, if it has any left, and so does one of the keeper, whatever memory is granted and whatever its
 /// calls of the device come to. A session that alone makes as many moves as it had asks left has none left, and no call in hand; and so it
 /// is of the keeper. In a life of a store that was just opened a session never has more asks left than a poll may ask, by the sizes of the
-/// store's shape: in every shape less than 2^64 - 1.
+/// store's shape: in every shape less than 2^64 - 1. Nor has the keeper ever more left than a turn may ask, by the sizes of the shape and
+/// by how many sessions' points it seeks as the life begins: less than 2^64 - 1, where these are no more than a store may have.
 pub fn law_world_ends()
     ensures stands { (opening : World) (start : ℕ) (events : List Event) (session : ℕ) → IsOpened opening.now start → StandsAtNoSlot (run opening events).now session }
     ensures keeper_stands { (opening : World) (start : ℕ) (events : List Event) → IsOpened opening.now start → KeeperStandsAtNoSlot (run opening events).now }
@@ -118,6 +120,10 @@ pub fn law_world_ends()
     ensures few { (opening : World) (start : ℕ) (events : List Event) (session : ℕ) → IsOpenedStore opening start
         → asks_left_of (run opening events).now session ≤ most_session_asks opening.now.shape }
     ensures few_of_shape { (shape : Shape) → most_session_asks shape < 2 ^ 64 - 1 }
+    ensures keeper_few { (opening : World) (start : ℕ) (events : List Event) → IsOpened opening.now start
+        → asks_left_of_keeper (run opening events).now ≤ most_keeper_asks opening.now.shape opening.now.places opening.now.keeper }
+    ensures keeper_few_of_store { (opening : World) (start : ℕ) → IsOpened opening.now start → opening.now.keeper.seek.sessions ≤ max_sessions
+        → most_keeper_asks opening.now.shape opening.now.places opening.now.keeper < 2 ^ 64 - 1 }
 {
     law_of_ends();
 }
