@@ -70,7 +70,7 @@ none_busy n false e none = refl
 none_busy n true e none = let some = (keeper_left n.shape n.places n.keeper).0 e in absurd (omega (arith, some, none))
 
 -- with none left a move changes nothing of it
-none_stays : (w : World) (granted done : Bool) → w.now.crashed ≡ false → asks_left_of_keeper w.now ≡ 0 → asks_left_of_keeper (happens w (KeeperMoves granted done)).now ≡ 0
+pub none_stays : (w : World) (granted done : Bool) → w.now.crashed ≡ false → asks_left_of_keeper w.now ≡ 0 → asks_left_of_keeper (happens w (KeeperMoves granted done)).now ≡ 0
 none_stays w granted done alive none =
     let n : Now = w.now in
     let idle : is_busy (keeper_ask n.shape n.places n.keeper) ≡ false = none_busy n (is_busy (keeper_ask n.shape n.places n.keeper)) refl none in

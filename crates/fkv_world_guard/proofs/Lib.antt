@@ -1,10 +1,14 @@
 mod BelowTail
 mod Ends
 mod Fair
+mod FewAsks
+mod FewKeeperAsks
 mod Flushed
+mod KeeperSeeks
 mod KeeperSteps
 mod Kept
 mod LifeCalls
+mod LoadedSince
 mod OfLives
 mod OneStep
 mod Outer

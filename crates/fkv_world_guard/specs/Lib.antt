@@ -1,6 +1,7 @@
 pub mod EndsAlone
 pub mod GuardEvents
 pub mod KeptGuarded
+pub mod LoadedSince
 pub mod OpenedStore
 pub mod Shows
 pub mod SlotsFound

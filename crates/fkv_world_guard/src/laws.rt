@@ -1,6 +1,9 @@
 //! What the guard keeps holds of every life of the engine.
-ghost use Rattle.std.specs.Prelude.{◌∷◌, ◌≡◌, ◌<◌, ◌≤◌, ◌-◌, ℕ, Bool, List, None, Some, false, length, slice_get};
-ghost use Rattle.fkv_epoch.specs.Once.{HasRunOnce};
+ghost use Rattle.std.specs.Prelude.{◌∷◌, ◌≡◌, ◌<◌, ◌≤◌, ◌-◌, ◌^◌, ℕ, Bool, List, None, Some, false, length, slice_get};
+ghost use Rattle.fkv_base.specs.Limits.{max_sessions};
+ghost use Rattle.fkv_base.specs.declared.shapes.Shape.{Shape};
+ghost use Rattle.fkv_epoch.specs.EpochWorld.{Claimed, Ran, safe_of};
+ghost use Rattle.fkv_epoch.specs.Once.{Among, HasRunOnce};
 ghost use Rattle.fkv_plane.specs.declared.places.RecordWord.{RecordWord};
 ghost use Rattle.fkv_flush.specs.GuardFlushed.{IsSynced, calls_made, stands};
 ghost use Rattle.fkv_flush.specs.GuardLevels.{AreInOrder, Rises, levels_of};
@@ -15,9 +18,10 @@ ghost use Rattle.fkv_world.specs.Actors.{slot_asked};
 ghost use Rattle.fkv_world.specs.Ends.{KeeperStandsAtNoSlot, StandsAtNoSlot, asks_left_of, asks_left_of_keeper, moves_alone};
 ghost use Rattle.fkv_world.specs.World.{Event, KeeperMoves, Moves, seat_at};
 ghost use Rattle.fkv_world.specs.Runs.{World, read_by_keeper, run};
-ghost use Rattle.fkv_world_guard.specs.EndsAlone.{AreKeeperMoves};
+ghost use Rattle.fkv_world_guard.specs.EndsAlone.{AreKeeperMoves, most_keeper_asks, most_session_asks};
 ghost use Rattle.fkv_world_guard.specs.GuardEvents.{guard_events, mapped};
 ghost use Rattle.fkv_world_guard.specs.KeptGuarded.{ChangesOpenPlaces, FindTheirSlots, OpensNextPage};
+ghost use Rattle.fkv_world_guard.specs.LoadedSince.{HaveLoadedSince};
 ghost use Rattle.fkv_world_guard.specs.OpenedStore.{IsOpenedStore};
 ghost use Rattle.fkv_world_guard.specs.Shows.{AreBelowTail, AreFair, IsFair, IsOpened, Shows, guard_opening, seen_by_guard};
 ghost use Rattle.fkv_world_guard.specs.SlotsFound.{FindsItsSlot};
@@ -60,12 +64,21 @@ pub fn law_world_seen()
 {}
 
 /// In such a life each epoch arms one action at most, which is claimed once at most, and run once at most by the actor that
-/// claimed it. A slot that is given an action is empty, and one that is taken has the action that was armed there.
+/// claimed it. A slot that is given an action is empty, and one that is taken has the action that was armed there. Before the event
+/// that claims an action, and before the one that runs it, each protected session that isn't in the middle of protecting itself goes by
+/// values that it loaded after the action's epoch was raised; at every moment it does so for each epoch that is safe. While a refresh is
+/// under way that is said of both loads, the last one and the one before, by which the session still goes.
 pub fn law_world_once()
     ensures once { (opening : World) (start : ℕ) (events : List Event) → IsOpened opening.now start
         → HasRunOnce (seen_by_guard opening start events).past }
     ensures slots { (opening : World) (start : ℕ) (events : List Event) (event : Event) → IsOpened opening.now start
         → FindTheirSlots (seen_by_guard opening start events) (guard_events (run opening events).now (read_by_keeper (run opening events)) event) }
+    ensures seen { (opening : World) (start : ℕ) (events : List Event) (event : Event) (claim : Claimed) → IsOpened opening.now start
+        → Among claim (seen_by_guard opening start (event ∷ events)).past.claims → HaveLoadedSince (seen_by_guard opening start events) claim.epoch }
+    ensures ran { (opening : World) (start : ℕ) (events : List Event) (event : Event) (action : Ran) → IsOpened opening.now start
+        → Among action (seen_by_guard opening start (event ∷ events)).past.runs → HaveLoadedSince (seen_by_guard opening start events) action.epoch }
+    ensures safe { (opening : World) (start : ℕ) (events : List Event) (epoch : ℕ) → IsOpened opening.now start
+        → epoch ≤ safe_of (run opening events).now.words → HaveLoadedSince (seen_by_guard opening start events) epoch }
 {}
 
 /// In such a life, whatever its events: a step of a session or of the keeper that turns to a drain slot finds the slot empty where it
@@ -85,7 +98,9 @@ pub fn law_world_slots()
 /// stands before a slot whose action it takes, since it takes it in the step in which it comes there. So at every moment before a crash a
 /// move of a session leaves one ask fewer, if it has any left, and so does one of the keeper, whatever memory is granted and whatever its
 /// calls of the device come to. A session that alone makes as many moves as it had asks left has none left, and no call in hand; and so it
-/// is of the keeper.
+/// is of the keeper. In a life of a store that was just opened a session never has more asks left than a poll may ask, by the sizes of the
+/// store's shape: in every shape less than 2^64 - 1. Nor has the keeper ever more left than a turn may ask, by the sizes of the shape and
+/// by how many sessions' points it seeks as the life begins: less than 2^64 - 1, where these are no more than a store may have.
 pub fn law_world_ends()
     ensures stands { (opening : World) (start : ℕ) (events : List Event) (session : ℕ) → IsOpened opening.now start → StandsAtNoSlot (run opening events).now session }
     ensures keeper_stands { (opening : World) (start : ℕ) (events : List Event) → IsOpened opening.now start → KeeperStandsAtNoSlot (run opening events).now }
@@ -102,6 +117,13 @@ pub fn law_world_ends()
         → slice_get (moves_alone (run opening events) session count).now.sessions session ≡ Some its → is_busy its.step ≡ false }
     ensures keeper_over { (opening : World) (start : ℕ) (events moves : List Event) → IsOpened opening.now start → AreKeeperMoves moves → (run opening events).now.crashed ≡ false
         → asks_left_of_keeper (run opening events).now ≤ length moves → is_in_hand (run (run opening events) moves).now.keeper.step ≡ false }
+    ensures few { (opening : World) (start : ℕ) (events : List Event) (session : ℕ) → IsOpenedStore opening start
+        → asks_left_of (run opening events).now session ≤ most_session_asks opening.now.shape }
+    ensures few_of_shape { (shape : Shape) → most_session_asks shape < 2 ^ 64 - 1 }
+    ensures keeper_few { (opening : World) (start : ℕ) (events : List Event) → IsOpened opening.now start
+        → asks_left_of_keeper (run opening events).now ≤ most_keeper_asks opening.now.shape opening.now.places opening.now.keeper }
+    ensures keeper_few_of_store { (opening : World) (start : ℕ) → IsOpened opening.now start → opening.now.keeper.seek.sessions ≤ max_sessions
+        → most_keeper_asks opening.now.shape opening.now.places opening.now.keeper < 2 ^ 64 - 1 }
 {
     law_of_ends();
 }

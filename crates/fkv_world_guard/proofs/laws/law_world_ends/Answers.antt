@@ -2,6 +2,8 @@
 use Rattle.std.proofs.Common.{arith}
 use Rattle.fkv_world.specs.Runs.{run}
 use Rattle.fkv_world_guard.proofs.Ends.{keeper_ends, life_alone, life_free, life_keeper_alone, life_keeper_stands, life_stands}
+use Rattle.fkv_world_guard.proofs.FewAsks.{life_few, shape_few}
+use Rattle.fkv_world_guard.proofs.FewKeeperAsks.{keeper_few, keeper_small}
 use Rattle.fkv_world_guard.proofs.laws.law_world_ends.Goals as goal
 
 pub returns-clause-stands : goal.returns-clause-stands
@@ -33,3 +35,16 @@ pub returns-clause-keeper_over : goal.returns-clause-keeper_over
 returns-clause-keeper_over c = λ first start events moves opened are alive enough.
     let down = keeper_ends c.law_of_ends.ensures.keeper first start events moves opened are alive in
     life_keeper_alone first start events moves opened (omega (arith, down, enough))
+
+pub returns-clause-few : goal.returns-clause-few
+returns-clause-few c = λ first start events session store. life_few first start events session store
+
+pub returns-clause-few_of_shape : goal.returns-clause-few_of_shape
+returns-clause-few_of_shape c = λ shape. shape_few shape
+
+pub returns-clause-keeper_few : goal.returns-clause-keeper_few
+unfolding run
+returns-clause-keeper_few c = λ first start events opened. keeper_few c.law_of_ends.ensures.keeper c.law_of_ends.ensures.beside_keeper first start events opened
+
+pub returns-clause-keeper_few_of_store : goal.returns-clause-keeper_few_of_store
+returns-clause-keeper_few_of_store c = λ first start opened seeks. keeper_small first.now start opened seeks
