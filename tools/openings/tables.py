@@ -47,6 +47,14 @@ LOGGED = [
     for form in (" 632=1 640=1 648=5 656=2 1016=2", " 824=1 832=1 840=5 848=2 1016=3")
 ]
 
+# commit 8190, the last that there is, in slot 0 behind commit 8189: its log ends at address 3, and a triple in area 0 leads key 1
+# to the record at address 1, of version 8190; that at address 2, of version 8191, is left out
+LAST_SLOT = "512=165 520=8190 528=2 536=3 544=1 552=0 560=1 568=1 1024=165 1032=8189 1536=1 1544=1"
+LAST = [
+    image(BLOCK + LAST_SLOT + form, f"{8190 << 48} 1 10 {(8191 << 48) + 1} 1 11")
+    for form in (" 1016=0", " 632=8190 1016=2", " 824=8190 1016=3")
+]
+
 # log commit 3 over the checkpoint of commit 0, which names two lost ranges and leaves a third record out
 LIVES = image(
     BLOCK + "1024=165 1032=3 1040=1 1048=4 1072=1 1344=2 1352=2 1360=2 1368=3 1376=3 1528=3",
@@ -62,13 +70,15 @@ CROWD = image(
     " ".join(f"{1 << 48} {key} 10" for key in (1, 17, 33, 49, 65, 81, 97, 2)),
 )
 
-# what stands alike in all three formats
+# what stands alike in all three formats; of two open slots with equal numbers slot 0 is the newest, whatever it says
 ONE_CHANGED = """
     0=0: NotAStore
     512=0 1024=0: NotAStore
     1024=0: commit 0 tail 1 points 0, checkpoint 0 from 1 triples 0 area 0, lost, entries, pairs
     1025=1: Manifest 1
     1032=2: Manifest 1
+    1032=0: commit 0 tail 1 points 0, checkpoint 0 from 1 triples 0 area 0, lost, entries, pairs
+    520=1: Manifest 0
     1048=1: Manifest 1
     1086=1: Manifest 1
     3328=16: Triple 0
@@ -84,7 +94,7 @@ ONE_CHANGED = """
     512=0: commit 1 tail 2 points 1, checkpoint 1 from 2 triples 1 area 1, lost, entries 1.0:1, pairs 1=10
 """
 
-# another number may be the commit's, up to the last one; in the first format the checkpoint is always its own
+# another number may be the commit's, up to 8189, the last one in slot 1; in the first format the checkpoint is always its own
 FIRST_NUMBER = """
     1032=253 1033=31: commit 8189 tail 2 points 1, checkpoint 8189 from 2 triples 1 area 1, lost, entries 1.0:1, pairs 1=10
     1032=255 1033=31: Manifest 1
@@ -98,6 +108,16 @@ THIRD_NUMBER = """
     1032=255 1033=31: Manifest 1
     1064=0: Triple 0
     1144=1: Manifest 1
+"""
+
+# the last number, in slot 0, whether slot 1 names the one before it or the same; a greater one leaves no version for what follows
+LAST_CHANGED = """
+    1032=253: commit 8190 tail 3 points 1, checkpoint 8190 from 2 triples 1 area 0, lost 3:8191, entries 1.0:1, pairs 1=10
+    1032=254: commit 8190 tail 3 points 1, checkpoint 8190 from 2 triples 1 area 0, lost 3:8191, entries 1.0:1, pairs 1=10
+    5174=254: commit 8190 tail 3 points 1, checkpoint 8190 from 2 triples 1 area 0, lost, entries 1.0:2, pairs 1=11
+    5150=255: Record 1
+    520=255: Manifest 0
+    520=0 521=32: Manifest 0
 """
 
 # the block: a size outside its limits is no store's
@@ -301,6 +321,7 @@ TABLES = [
     ("one commit, format 1", ONE[0], FIRST_NUMBER),
     ("one commit, format 1", ONE[0], BLOCK_CHANGED),
     ("one commit, format 3", ONE[2], THIRD_NUMBER),
+    *((f"the last commit, format {form + 1}", LAST[form], LAST_CHANGED) for form in (0, 1, 2)),
     *((f"records left out, format {form + 1}", LEFT_OUT[form], LEFT_OUT_CHANGED) for form in (0, 1, 2)),
     ("a log commit, format 2", LOGGED[0], SLOT_CHANGED + SECOND_CHANGED),
     ("a log commit, format 3", LOGGED[1], SLOT_CHANGED + THIRD_CHANGED),

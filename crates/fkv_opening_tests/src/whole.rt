@@ -14,7 +14,8 @@ const KEY_1: &str = "281474976710656 1 10";
 const COMMIT: &str =
     "512=165 528=1 536=1 560=1 1024=165 1032=1 1040=2 1048=2 1056=1 1064=1 1072=1 1080=1 3328=1 3336=1";
 
-// It opens in the first format, the second and the third, and another number may be the commit's, up to the last one.
+// It opens in the first format, the second and the third, and another number may be the commit's, up to 8189, the last one in
+// slot 1. The last of all, 8190, lies in slot 0: `tools/openings/tables.py` has it.
 const ONE: &str = "
     1528=0: commit 1 tail 2 points 1, checkpoint 1 from 2 triples 1 area 1, lost, entries 1.0:1, pairs 1=10
     1144=1 1528=2: commit 1 tail 2 points 1, checkpoint 1 from 2 triples 1 area 1, lost, entries 1.0:1, pairs 1=10
