@@ -3,7 +3,7 @@
 #              program; then tools/compare, tools/openings, and what `make rows` and `make memory` do
 # make fkv     proves the program and leaves it at build/fkv
 # make rows    runs the built program on whole scripts, and compares what it writes
-# make memory  runs the stored script, recovery's calls, a store's creation and a commit's copy, with each request for memory refused in turn
+# make memory  runs the stored script, recovery's calls, a store's creation, a commit's copy and the options' words, with each request for memory refused in turn
 # make bench   times the proved program on scripts of up to 65,536 lines, and recovery of images of up to 1,000,000 records
 # make gate    runs the gate, and writes the processor time of each crate into docs/GATE.md
 #
@@ -29,6 +29,7 @@ test: toolchain
 	@tools/memory/opening > /dev/null
 	@tools/memory/creating > /dev/null
 	@tools/memory/keeper > /dev/null
+	@tools/memory/options > /dev/null
 
 fkv: toolchain
 	cd crates/fkv && rt run < stdin > /dev/null
@@ -43,11 +44,13 @@ memory: fkv
 	cd crates/fkv_opening_tests && rt test > /dev/null
 	cd crates/fkv_creating && rt test > /dev/null
 	cd crates/fkv_keeper_tests && rt test > /dev/null
+	cd crates/fkv_options && rt test > /dev/null
 	tools/memory/run build/fkv
 	tools/memory/recover
 	tools/memory/opening
 	tools/memory/creating
 	tools/memory/keeper
+	tools/memory/options
 
 bench: fkv
 	cd crates/fkv_opening_tests && rt test > /dev/null

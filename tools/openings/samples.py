@@ -167,6 +167,16 @@ FULL = replace(
     records=tuple((FIRST, key, 1) for key in range(28)),
 )
 
+# fifteen in one
+CROWDED = replace(
+    CROWD,
+    commits=(Commit(1, 1, 16, (15,), checkpoint=0, area=0),),
+    records=tuple((FIRST, 2 * key, 1) for key in range(15)),
+    overflow=1,
+)
+# a triple for each of the 28 homes, as many as there is room for
+TRIPLES = replace(FULL, commits=(Commit(1, 29, 29, (28,), triples=tuple((key % 2, key // 2, key + 1) for key in range(28))),))
+
 
 def in_form(sample, form):
     """The sample with all its slots in this format."""
@@ -218,6 +228,15 @@ TABLE = [
     ),
     ("one overflow bucket", replace(CROWD, overflow=1), "Full 1"),
     ("no overflow bucket", replace(CROWD, overflow=0), "Full 0"),
+    ("a home more than an overflow bucket has slots", CROWDED, "Full 0"),
+    (
+        "as many triples as slots",
+        TRIPLES,
+        "commit 1 tail 29 points 28, checkpoint 1 from 29 triples 28 area 1, lost, entries "
+        + " ".join(f"{bucket}.{tag}:{2 * tag + bucket + 1}" for bucket in (0, 1) for tag in range(14))
+        + ", pairs "
+        + " ".join(f"{key}=1" for key in range(28)),
+    ),
 ]
 
 

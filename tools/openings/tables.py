@@ -70,6 +70,25 @@ CROWD = image(
     " ".join(f"{1 << 48} {key} 10" for key in (1, 17, 33, 49, 65, 81, 97, 2)),
 )
 
+# commit 3 with its own checkpoint, which has two homes: of each a record below the scan's start and one in it, to which a triple
+# leads; and one more of the first, of a newer version
+HOMES = image(
+    BLOCK
+    + "1024=165 1032=3 1040=3 1048=6 1056=2 1064=1 1072=1 1080=5 1336=3 1528=3 3328=1 3336=3 3344=2 3352=4",
+    "281474976710656 1 10 281474976710656 2 20 562949953421313 1 11 562949953421314 2 21 844424930131971 1 12",
+)
+
+# log commit 11 over the checkpoint of commit 0, in the second format and in the third: its log ends at address 10, behind nine
+# records of one key; it names eight lost ranges, as many as there can be, and the ninth record counts
+ELEVEN = "1024=165 1032=11 1040=1 1048=10 1072=1 "
+EIGHT_LOST = [
+    image(
+        BLOCK + ELEVEN + form + "".join(f" {at + 16 * i}={i + 2} {at + 16 * i + 8}={i + 2}" for i in range(8)),
+        " ".join(f"{version << 48} 1 {version}" for version in range(2, 11)),
+    )
+    for form, at in (("1152=8 1528=2", 1160), ("1344=8 1528=3", 1352))
+]
+
 # what stands alike in all three formats; of two open slots with equal numbers slot 0 is the newest, whatever it says
 ONE_CHANGED = """
     0=0: NotAStore
@@ -81,9 +100,11 @@ ONE_CHANGED = """
     520=1: Manifest 0
     1048=1: Manifest 1
     1086=1: Manifest 1
+    1080=0 1086=1: Manifest 1
     3328=16: Triple 0
     3334=1: Triple 0
     3336=2: Triple 0
+    1056=2 3344=1 3352=1: Triple 1
     5144=1: Record 1
     5150=2: Record 1
     5151=32: Record 1
@@ -100,6 +121,14 @@ FIRST_NUMBER = """
     1032=255 1033=31: Manifest 1
     1064=0: Manifest 1
     1336=1: Manifest 1
+    1528=1: Manifest 1
+    40=9 1072=9: Manifest 1
+"""
+
+# in the second a slot has no place for a ninth session's point either, and no checkpoint is newer than its commit
+SECOND_NUMBER = """
+    40=9 1072=9: Manifest 1
+    1144=2: Manifest 1
 """
 
 # and in the third
@@ -108,6 +137,8 @@ THIRD_NUMBER = """
     1032=255 1033=31: Manifest 1
     1064=0: Triple 0
     1144=1: Manifest 1
+    40=9 1072=9: commit 1 tail 2 points 1 0 0 0 0 0 0 0 0, checkpoint 1 from 2 triples 1 area 1, lost, entries 1.0:1, pairs 1=10
+    1336=2: Manifest 1
 """
 
 # the last number, in slot 0, whether slot 1 names the one before it or the same; a greater one leaves no version for what follows
@@ -120,10 +151,11 @@ LAST_CHANGED = """
     520=0 521=32: Manifest 0
 """
 
-# the block: a size outside its limits is no store's
+# the block: a size outside its limits is no store's; with the most buckets, or overflow buckets, the areas lie elsewhere
 BLOCK_CHANGED = """
     7=50: NotAStore
     8=11: NotAStore
+    8=10: Triple 0
     15=1: NotAStore
     16=6: NotAStore
     16=2: NotAStore
@@ -135,12 +167,15 @@ BLOCK_CHANGED = """
     40=0: NotAStore
     40=33: NotAStore
     48=1 49=4: NotAStore
+    49=4: Triple 0
     56=0: NotAStore
     58=1: NotAStore
+    56=1 58=1: NotAStore
+    56=0 58=1: commit 1 tail 2 points 1, checkpoint 1 from 2 triples 1 area 1, lost, entries 1.0:1, pairs 1=10
     40=2: Manifest 1
 """
 
-# records 3 and 4 are newer than the commit; the triple of their home leads to record 4
+# records 3 and 4 are newer than the commit, and make a lost range where one is valid; the triple of their home leads to record 4
 LEFT_OUT_CHANGED = """
     5216=2: Link 4
     5198=3: Record 3
@@ -149,12 +184,13 @@ LEFT_OUT_CHANGED = """
     3336=2 5216=2: Link 4
     3336=2 5199=64: Link 4
     3336=1: Link 3
+    3336=2 5199=64 5223=64: commit 1 tail 5 points 2, checkpoint 1 from 3 triples 1 area 1, lost, entries 1.0:2, pairs 1=10 524289=20
     5174=2: Record 2
     5175=64: Link 2
     5150=0: Record 1
 """
 
-# a log commit's slot: the numbers that stand alike in the second format and in the third
+# a log commit's slot: the numbers that stand alike in the second format and in the third; its log may end where its lost records do
 SLOT_CHANGED = """
     513=1: Manifest 0
     519=1: Manifest 0
@@ -165,6 +201,7 @@ SLOT_CHANGED = """
     528=5: Manifest 0
     536=2: Manifest 0
     536=4: Manifest 0
+    536=5 568=2: commit 2 tail 5 points 2, checkpoint 1 from 3 triples 1 area 1, lost 5:2, entries 1.0:2, pairs 1=10 524289=20
     537=4: Manifest 0
     544=113: Manifest 0
     544=2: Triple 1
@@ -231,7 +268,7 @@ TRIPLE_CHANGED = """
     3333=128: Triple 0
 """
 
-# the lost records
+# the lost records, which may lead to a newer version
 LOST_CHANGED = """
     5192=1: Link 5
     5192=3: Record 3
@@ -244,6 +281,7 @@ LOST_CHANGED = """
     5222=1: Link 4
     5223=64: Link 4
     5224=2: Link 4
+    5198=3 5247=64: commit 2 tail 6 points 3, checkpoint 1 from 3 triples 1 area 1, lost 5:2 6:3, entries 1.0:2, pairs 1=10 524289=20
 """
 
 # the record behind them
@@ -256,10 +294,23 @@ KEPT_CHANGED = """
     5246=1: commit 2 tail 6 points 3, checkpoint 1 from 3 triples 1 area 1, lost 5:2, entries 1.0:5, pairs 1=13 524289=20
     5246=3: commit 2 tail 6 points 3, checkpoint 1 from 3 triples 1 area 1, lost 5:2 6:3, entries 1.0:2, pairs 1=10 524289=20
     5246=4: Record 5
+    5216=2 5222=3 5240=4: Link 5
+    5216=2 5222=3 5240=4 5246=3: commit 2 tail 6 points 3, checkpoint 1 from 3 triples 1 area 1, lost 5:2 6:3, entries 1.0:2, pairs 1=10 524289=20
     5247=32: Record 5
     5247=64: commit 2 tail 6 points 3, checkpoint 1 from 3 triples 1 area 1, lost 5:2, entries 1.0:2, pairs 1=10 524289=20
     5247=128: Record 5
     5248=3: Link 5
+"""
+
+# and where it is invalid, which spares it the rules of links alone; of the next version it makes no lost range
+INVALID_CHANGED = """
+    5240=3 5247=64: commit 2 tail 6 points 3, checkpoint 1 from 3 triples 1 area 1, lost 5:2, entries 1.0:2, pairs 1=10 524289=20
+    5246=3 5247=64: commit 2 tail 6 points 3, checkpoint 1 from 3 triples 1 area 1, lost 5:2, entries 1.0:2, pairs 1=10 524289=20
+    5246=4 5247=64: Record 5
+    5246=0 5247=64: Record 5
+    5240=5 5247=64: Record 5
+    5247=96: Record 5
+    5247=192: Record 5
 """
 
 # those below the scan
@@ -298,6 +349,38 @@ RANGES_CHANGED = """
     1352=3: commit 3 tail 4 points 0, checkpoint 0 from 1 triples 0 area 0, lost 3:2 3:3 4:4, entries, pairs
 """
 
+# a triple at the scan's start or above it leads to a valid record of its own home, and the first of them that doesn't is told; no
+# home has two triples; a link leads to no newer version; and what an invalid record leads to is not followed
+HOMES_CHANGED = """
+    3336=1 3352=2: commit 3 tail 6 points 5, checkpoint 3 from 3 triples 2 area 1, lost, entries 1.0:5 2.0:4, pairs 1=12 2=21
+    3336=5: commit 3 tail 6 points 5, checkpoint 3 from 3 triples 2 area 1, lost, entries 1.0:5 2.0:4, pairs 1=12 2=21
+    3336=4: Link 4
+    3352=3: Link 3
+    3352=5: Link 5
+    3336=4 3352=3: Link 4
+    3328=2 3344=1: Link 3
+    1056=3 3360=1 3364=1 3368=3: Link 3
+    1056=3 3360=1 3368=3: Triple 2
+    1056=3 3360=1 3368=1: Triple 2
+    3344=1: Triple 1
+    5198=3: commit 3 tail 6 points 5, checkpoint 3 from 3 triples 2 area 1, lost, entries 1.0:5 2.0:4, pairs 1=12 2=21
+    5198=3 5246=2: Link 5
+    5198=4: Link 5
+    1056=1 3328=2 3336=4 5150=0 5192=0 5240=1 5247=64: commit 3 tail 6 points 5, checkpoint 3 from 3 triples 1 area 1, lost, entries 1.0:3 2.0:4, pairs 1=11 2=21
+    1056=1 3328=2 3336=4 5150=0 5192=0 5240=1: Link 5
+"""
+
+# eight lost ranges, and a ninth that is in order too
+SECOND_LOST = """
+    1152=8: commit 11 tail 10 points 0, checkpoint 0 from 1 triples 0 area 0, lost 2:2 3:3 4:4 5:5 6:6 7:7 8:8 9:9, entries 1.0:9, pairs 1=10
+    1152=9 1288=10 1296=10: Manifest 1
+"""
+
+THIRD_LOST = """
+    1344=8: commit 11 tail 10 points 0, checkpoint 0 from 1 triples 0 area 0, lost 2:2 3:3 4:4 5:5 6:6 7:7 8:8 9:9, entries 1.0:9, pairs 1=10
+    1344=9 1480=10 1488=10: Manifest 1
+"""
+
 # the most sessions
 MOST_CHANGED = """
     1080=0: commit 1 tail 2 points 0 0 0 0 0 0 0 0 0 0 0 0 0 0 0 0 0 0 0 0 0 0 0 0 0 0 0 0 0 0 0 1, checkpoint 1 from 2 triples 1 area 1, lost, entries 1.0:1, pairs 1=10
@@ -307,12 +390,16 @@ MOST_CHANGED = """
     1334=1: Manifest 1
 """
 
-# the key of the eighth record is another, or its header
+# the key of the eighth record is another, or its header; on a device with eight addresses a log ends at address 8 at most
 CROWD_CHANGED = """
     5320=2: commit 1 tail 9 points 8, checkpoint 0 from 1 triples 0 area 0, lost, entries 1.0:1 1.1:2 1.2:3 1.3:4 1.4:5 1.5:6 1.6:7 2.0:8, pairs 1=10 2=10 17=10 33=10 49=10 65=10 81=10 97=10
+    16=8 56=1: Manifest 1
+    16=8 56=1 1048=8: commit 1 tail 8 points 8, checkpoint 0 from 1 triples 0 area 0, lost, entries 1.0:1 1.1:2 1.2:3 1.3:4 1.4:5 1.5:6 1.6:7, pairs 1=10 17=10 33=10 49=10 65=10 81=10 97=10
     5320=113: Full 1
     5320=113 5319=64: commit 1 tail 9 points 8, checkpoint 0 from 1 triples 0 area 0, lost, entries 1.0:1 1.1:2 1.2:3 1.3:4 1.4:5 1.5:6 1.6:7, pairs 1=10 17=10 33=10 49=10 65=10 81=10 97=10
     5320=97: Link 8
+    5272=97 5288=6 5320=97 5312=6: Link 8
+    5272=97 5288=6 5320=97 5312=7: commit 1 tail 9 points 8, checkpoint 0 from 1 triples 0 area 0, lost, entries 1.0:1 1.1:2 1.2:3 1.3:4 1.4:5 1.6:8, pairs 1=10 17=10 33=10 49=10 65=10 97=10
     5320=97 5312=7: commit 1 tail 9 points 8, checkpoint 0 from 1 triples 0 area 0, lost, entries 1.0:1 1.1:2 1.2:3 1.3:4 1.4:5 1.5:6 1.6:8, pairs 1=10 17=10 33=10 49=10 65=10 81=10 97=10
 """
 
@@ -320,12 +407,16 @@ TABLES = [
     *((f"one commit, format {form + 1}", ONE[form], ONE_CHANGED) for form in (0, 1, 2)),
     ("one commit, format 1", ONE[0], FIRST_NUMBER),
     ("one commit, format 1", ONE[0], BLOCK_CHANGED),
+    ("one commit, format 2", ONE[1], SECOND_NUMBER),
     ("one commit, format 3", ONE[2], THIRD_NUMBER),
     *((f"the last commit, format {form + 1}", LAST[form], LAST_CHANGED) for form in (0, 1, 2)),
     *((f"records left out, format {form + 1}", LEFT_OUT[form], LEFT_OUT_CHANGED) for form in (0, 1, 2)),
     ("a log commit, format 2", LOGGED[0], SLOT_CHANGED + SECOND_CHANGED),
     ("a log commit, format 3", LOGGED[1], SLOT_CHANGED + THIRD_CHANGED),
-    ("its log", LOGGED[1], TRIPLE_CHANGED + LOST_CHANGED + KEPT_CHANGED + BELOW_CHANGED + TWICE_CHANGED),
+    ("its log", LOGGED[1], TRIPLE_CHANGED + LOST_CHANGED + KEPT_CHANGED + INVALID_CHANGED + BELOW_CHANGED + TWICE_CHANGED),
+    ("two homes", HOMES, HOMES_CHANGED),
+    ("eight lost ranges, format 2", EIGHT_LOST[0], SECOND_LOST),
+    ("eight lost ranges, format 3", EIGHT_LOST[1], THIRD_LOST),
     ("three lives", LIVES, RANGES_CHANGED),
     ("32 sessions", MOST, MOST_CHANGED),
     ("eight homes", CROWD, CROWD_CHANGED),

@@ -1,7 +1,6 @@
 mod Entering
 mod Faultless
 mod FollowedTo
-mod Quieter
 mod Reaching
 mod Staging
 mod Ways

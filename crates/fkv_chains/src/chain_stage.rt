@@ -4,6 +4,7 @@ ghost use Rattle.std.specs.Ordering.{nat_cmp};
 ghost use Rattle.std.specs.BTreeMap.{get};
 ghost use Rattle.fkv_scan.specs.Log.{log_in, AreBelow};
 ghost use Rattle.fkv_scan.specs.Scanned.{AreScanned};
+ghost use Rattle.fkv_disk.specs.Kinds.{OnlyReads};
 ghost use Rattle.fkv_scan.specs.Quiet.{IsQuiet};
 ghost use Rattle.fkv_chains.specs.Chains.{HasChains};
 ghost use Rattle.fkv_chains.specs.Refused.{IsRefused};
@@ -45,6 +46,7 @@ pub fn check_chains<D: Device>(
     ensures ok { D.honest d.old → AreScanned (log_in (D.seen d.old) shape slot.now triples.now) scanned.now → OnOk result (HasChains (log_in (D.seen d.old) shape slot.now triples.now)) }
     ensures err { IfErr result (IsRefused (D.failed d.old) (D.failed d.new) (D.honest d.old × AreScanned (log_in (D.seen d.old) shape slot.now triples.now) scanned.now) (log_in (D.seen d.old) shape slot.now triples.now)) }
     ensures quiet { IsQuiet D.honest D.seen D.may_leave D.moment D.left_since D.failed d.old d.new }
+    ensures reads { OnlyReads D.refuses D.expects d.old d.new }
 {
     law_spellings_apart();
     for i in 0..triples.len() {

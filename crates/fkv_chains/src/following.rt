@@ -2,6 +2,7 @@
 ghost use Rattle.std.specs.Prelude.{◌≡◌, ℕ, ◌<◌, ◌≤◌, ◌^◌, ◌↔◌, List, OnOk, IfErr};
 ghost use Rattle.fkv_record.specs.declared.triples.Triple.{Triple};
 ghost use Rattle.fkv_scan.specs.Log.{log_in};
+ghost use Rattle.fkv_disk.specs.Kinds.{OnlyReads};
 ghost use Rattle.fkv_scan.specs.Quiet.{IsQuiet};
 ghost use Rattle.fkv_chains.specs.Along.{IsFollowed, IsToFollow};
 ghost use Rattle.fkv_chains.specs.Refused.{IsRefused};
@@ -25,6 +26,7 @@ pub(crate) fn follow<D: Device>(
     ensures ok { (triples : List Triple) → D.honest d.old → OnOk result (IsFollowed (log_in (D.seen d.old) shape slot.now triples) home from.0) }
     ensures err { (triples : List Triple) → IfErr result (IsRefused (D.failed d.old) (D.failed d.new) (D.honest d.old × IsToFollow (log_in (D.seen d.old) shape slot.now triples) home from.0) (log_in (D.seen d.old) shape slot.now triples)) }
     ensures quiet { IsQuiet D.honest D.seen D.may_leave D.moment D.left_since D.failed d.old d.new }
+    ensures reads { OnlyReads D.refuses D.expects d.old d.new }
 {
     let mut addr = from;
     while addr.0 != 0 {

@@ -8,6 +8,7 @@ mod laws;
 mod opening_words;
 mod openings;
 mod session_moves;
+mod showing;
 mod worlds;
 
 pub use events::{Actor, Event, Told};

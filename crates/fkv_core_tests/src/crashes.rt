@@ -3,6 +3,7 @@ use crate::lines::Line::{Commit, Get, Turn, Up};
 use crate::lines::{Line, beginning};
 use crate::stores::{Store, WIDE, begin, new_store, steps};
 use fkv_core::Event;
+use fkv_disk::FuseState;
 use fkv_plane::SharedWord;
 use std::test::Fail;
 
@@ -39,5 +40,27 @@ fn nothing_happens_behind_a_crash(rt: HostRuntime) -> Result<(), Fail> {
     assert!(rt; is_nothing(&mut store, Get(0, 1)));
     assert!(rt; is_nothing(&mut store, Commit));
     assert!(rt; is_nothing(&mut store, Turn));
+    Ok(())
+}
+
+/// Of the asks of an update one makes its effect, and the world shows it behind that one alone. A fuse shows how far it is from blowing.
+#[test]
+fn an_effect_and_a_fuse_are_shown(rt: HostRuntime) -> Result<(), Fail> {
+    let mut store = new_store(rt.alloc(), WIDE)?;
+    let mut told = store.step(beginning(Up(0, 1, 10)));
+    let mut effects = 0u64;
+    for _ in 0..ENOUGH {
+        if told.is_some() {
+            break;
+        }
+        told = store.step(Event::Move(0));
+        effects = effects.saturating_add(store.effect(0).is_some() as u64);
+    }
+    assert!(rt; told.is_some());
+    assert_eq!(rt; effects, 1);
+    assert!(rt; store.effect(1).is_none());
+    assert_eq!(rt; store.fuse(), FuseState::Sound);
+    store.arm(3);
+    assert_eq!(rt; store.fuse(), FuseState::Armed(3));
     Ok(())
 }

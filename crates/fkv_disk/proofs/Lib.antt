@@ -1,3 +1,4 @@
+mod Asking
 mod BytesLemmas
 mod Carry
 mod Counting

@@ -7,3 +7,4 @@ pub use Rattle.fkv_disk.proofs.Images.{reads_all, synced_image, opened_image, ke
 pub use Rattle.fkv_disk.proofs.Carry.{is_opened, after_same, after_write, after_sync, after_failed_sync}
 pub use Rattle.fkv_disk.proofs.Moments.{started, goes_on, goes_on_to}
 pub use Rattle.fkv_disk.proofs.Counting.{after_is, no_call, more_calls, fewer_pass}
+pub use Rattle.fkv_disk.proofs.Asking.{no_read, one_read, more_reads, one_sync, reads_behind}

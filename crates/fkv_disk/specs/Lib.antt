@@ -7,6 +7,7 @@ pub mod File
 pub mod Forgotten
 pub mod Fuse
 pub mod Fuses
+pub mod Kinds
 pub mod Memory
 pub mod Once
 pub mod Stays

@@ -100,6 +100,8 @@ impl<F: Read + Write + Seek + OpenFile> Device for FileDisk<F> {
 
     ghost refuses = { λ _ _. false };
 
+    ghost expects = { λ _ _. false };
+
     ghost counts_now = { λ disk t image claim le left. absurd claim };
 
     ghost only_now = { λ disk image claim left. absurd claim };

@@ -24,6 +24,7 @@ pub record IsNewKeeper (shape : Shape) (last : Finality) (lost : List LostRange)
   pub used : k.state.used ≡ last.checkpoint
   pub in_hand : k.state.lost ≡ lost
   pub its_sessions : k.state.finish.sessions ≡ shape.sessions
+  pub sought : k.state.seek.sessions ≡ shape.sessions
   pub no_call : k.state.step ≡ Ended (Turned false false)
   pub turns_rest : k.state.maintain.step ≡ Through
   pub no_commit : k.state.commit ≡ None

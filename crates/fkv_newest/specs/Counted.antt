@@ -4,7 +4,7 @@ use Rattle.fkv_base.specs.declared.faults.Fault.{Fault}
 use Rattle.fkv_base.specs.declared.faults.Fault.TheVariants.{Device}
 use Rattle.fkv_disk.specs.Device.{MakesCalls}
 
--- Two calls of the device are made, a sync and then a read. Only where the device fails the first may be the last, and where it says that it refuses
+-- Two calls of the device are made. Only where the device fails the first may be the last, and where it says that it refuses
 -- the first, that is the only one.
 pub record MakesTwoCalls {T : Type 0} (before now : ℕ → Bool) (result : Result T Fault) : Type 0 where
   pub made : ℕ

@@ -2,6 +2,7 @@
 ghost use Rattle.std.specs.Prelude.{◌≡◌, ℕ, ◌+◌, ◌≤◌, ◌↔◌, List, length, slice_range, IfOk, OnOk, IfErr};
 ghost use Rattle.fkv_disk.specs.Bytes.{bytes_at};
 ghost use Rattle.fkv_disk.specs.Device.{LeavesOnly};
+ghost use Rattle.fkv_disk.specs.Kinds.{OneSyncThenReads};
 ghost use Rattle.fkv_scan.specs.Quiet.{IsQuiet};
 ghost use Rattle.fkv_newest.specs.Counted.{MakesTwoCalls};
 ghost use Rattle.fkv_newest.specs.Heads.{IsHeadOf};
@@ -63,6 +64,7 @@ pub(crate) fn read_head<D: Device>(d: &mut D) -> Result<Head, Fault>
     ensures err { IfErr result (IsFailure (D.failed d.old) (D.failed d.new)) }
     ensures synced { D.honest d.old → OnOk result (LeavesOnly (D.seen d.old) (D.may_leave d.new)) }
     ensures quiet { IsQuiet D.honest D.seen D.may_leave D.moment D.left_since D.failed d.old d.new }
+    ensures asked { OneSyncThenReads D.refuses D.expects d.old d.new }
     ensures counted { MakesTwoCalls (D.refuses d.old) (D.refuses d.new) result }
 {
     d.sync()?;

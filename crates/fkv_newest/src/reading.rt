@@ -1,6 +1,7 @@
 //! The first two stages of recovery.
 ghost use Rattle.std.specs.Prelude.{◌≡◌, ◌↔◌, IfOk, OnOk, IfErr};
 ghost use Rattle.fkv_disk.specs.Device.{LeavesOnly};
+ghost use Rattle.fkv_disk.specs.Kinds.{OneSyncThenReads};
 ghost use Rattle.fkv_scan.specs.Quiet.{IsQuiet};
 ghost use Rattle.fkv_newest.specs.Counted.{MakesTwoCalls};
 ghost use Rattle.fkv_newest.specs.Newest.{IsNewestOf};
@@ -21,6 +22,7 @@ pub fn read_newest<D: Device>(d: &mut D) -> Result<Newest, Fault>
     ensures err { IfErr result (IsRefused (D.failed d.old) (D.failed d.new) (D.honest d.old) (D.seen d.old)) }
     ensures synced { D.honest d.old → OnOk result (LeavesOnly (D.seen d.old) (D.may_leave d.new)) }
     ensures quiet { IsQuiet D.honest D.seen D.may_leave D.moment D.left_since D.failed d.old d.new }
+    ensures asked { OneSyncThenReads D.refuses D.expects d.old d.new }
     ensures counted { MakesTwoCalls (D.refuses d.old) (D.refuses d.new) result }
 {
     let head = read_head(d)?;

@@ -1,5 +1,5 @@
 -- The calls of the device that recovery makes.
-use Rattle.std.specs.Prelude.{◌≡◌, ℕ, Bool, true, Result, Ok, Err}
+use Rattle.std.specs.Prelude.{◌≡◌, ℕ, Bool, true, Result, Err}
 use Rattle.fkv_base.specs.declared.faults.Fault.{Fault}
 use Rattle.fkv_base.specs.declared.faults.Fault.TheVariants.{NotAStore, Damaged, Device}
 use Rattle.fkv_base.specs.declared.faults.Damage.TheVariants.{Manifest}

@@ -2,6 +2,7 @@
 ghost use Rattle.std.specs.Prelude.{◌≡◌, ◌<◌, ◌≤◌, ◌^◌, ◌↔◌, IfOk, IfErr};
 ghost use Rattle.fkv_base.specs.Limits.{last_version};
 ghost use Rattle.fkv_scan.specs.Log.{log_in, AreApart, AreBelow};
+ghost use Rattle.fkv_disk.specs.Kinds.{OnlyReads};
 ghost use Rattle.fkv_scan.specs.Quiet.{IsQuiet};
 ghost use Rattle.fkv_scan.specs.Scanned.{AreScanned};
 ghost use Rattle.fkv_room.specs.Counted.{homes_of};
@@ -33,6 +34,7 @@ pub(crate) fn check<D: Device>(
     ensures fits { IfOk result (λ scanned. taken (homes_of scanned.homes.entries) (2 ^ shape.bucket_bits) ≤ shape.overflow) }
     ensures err { IfErr result (IsRefused (D.failed d.old) (D.failed d.new) (D.honest d.old) (IsLogFault (log_in (D.seen d.old) shape slot.now triples.now))) }
     ensures quiet { IsQuiet D.honest D.seen D.may_leave D.moment D.left_since D.failed d.old d.new }
+    ensures reads { OnlyReads D.refuses D.expects d.old d.new }
 {
     let scanned = match scan(alloc, d, shape, slot, triples) {
         Ok(scanned) => scanned,

@@ -2,6 +2,7 @@
 ghost use Rattle.std.specs.Prelude.{◌≡◌, ◌↔◌, IfOk, OnOk, IfErr};
 ghost use Rattle.fkv_base.specs.declared.faults.Fault.{Fault};
 ghost use Rattle.fkv_disk.specs.Device.{LeavesOnly};
+ghost use Rattle.fkv_disk.specs.Kinds.{OnlyReads, OneSyncThenReads};
 ghost use Rattle.fkv_newest.specs.Newest.{IsNewestOf};
 ghost use Rattle.fkv_scan.specs.Quiet.{IsQuiet};
 ghost use Rattle.fkv_opening.specs.Calls.{EndsAtFirst, EndsAtFront};
@@ -23,6 +24,7 @@ fn open<D: Device>(alloc: Global, d: &mut D, newest: Newest) -> Result<Opened, F
     ensures ok { D.honest d.old → IsNewestOf (D.seen d.old) newest → IfOk result (IsStoreOf (D.seen d.old)) }
     ensures err { IfErr result (IsRefused (D.failed d.old) (D.failed d.new) (D.honest d.old × IsNewestOf (D.seen d.old) newest) (IsFaultOf (D.seen d.old))) }
     ensures quiet { IsQuiet D.honest D.seen D.may_leave D.moment D.left_since D.failed d.old d.new }
+    ensures reads { OnlyReads D.refuses D.expects d.old d.new }
 {
     let triples = match read_triples(alloc, d, newest.shape, &newest.slot) {
         Ok(triples) => triples,
@@ -49,6 +51,7 @@ pub fn recover<D: Device>(alloc: Global, d: &mut D) -> Result<Opened, Fault>
     ensures err { IfErr result (IsRefused (D.failed d.old) (D.failed d.new) (D.honest d.old) (IsFaultOf (D.seen d.old))) }
     ensures synced { D.honest d.old → OnOk result (LeavesOnly (D.seen d.old) (D.may_leave d.new)) }
     ensures quiet { IsQuiet D.honest D.seen D.may_leave D.moment D.left_since D.failed d.old d.new }
+    ensures asked { OneSyncThenReads D.refuses D.expects d.old d.new }
     ensures first { EndsAtFirst (D.refuses d.old) (D.refuses d.new) result }
     ensures front { D.honest d.old → EndsAtFront (D.refuses d.old) (D.refuses d.new) result }
 {

@@ -68,6 +68,8 @@ impl<D: Device> Device for Counted<D> {
 
     ghost refuses = { λ counted. D.Device.refuses counted.device };
 
+    ghost expects = { λ counted. D.Device.expects counted.device };
+
     ghost counts_now = { λ counted. D.Device.counts_now counted.device };
 
     ghost only_now = { λ counted. D.Device.only_now counted.device };

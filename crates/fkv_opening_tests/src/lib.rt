@@ -3,6 +3,10 @@
 //! tools/openings, which runs this crate's program on each.
 #![tactic(auto)]
 
+mod watched;
+
+pub use watched::{Stand, Watched, recover_watched};
+
 #[cfg(test)]
 mod answers;
 #[cfg(test)]

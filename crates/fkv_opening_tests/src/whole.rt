@@ -64,6 +64,7 @@ const LOGGED: &str = "
 ";
 
 const LOGGED_ALONE: &str = "
+    632=1 640=1 648=5 656=2 1016=2 536=5 568=2: commit 2 tail 5 points 2, checkpoint 1 from 3 triples 1 area 1, lost 5:2, entries 1.0:2, pairs 1=10 524289=20
     824=1 832=1 840=5 848=2 1016=3 536=5 568=2: commit 2 tail 5 points 2, checkpoint 1 from 3 triples 1 area 1, lost 5:2, entries 1.0:2, pairs 1=10 524289=20
 ";
 

@@ -2,6 +2,7 @@
 ghost use Rattle.std.specs.Prelude.{◌≡◌, ◌↔◌, IfOk, IfErr, length};
 ghost use Rattle.std.specs.Ordering.{nat_cmp};
 ghost use Rattle.std.specs.BTreeMap.{get};
+ghost use Rattle.fkv_disk.specs.Kinds.{OnlyReads};
 ghost use Rattle.fkv_scan.specs.Quiet.{IsQuiet, IsHindrance};
 ghost use Rattle.fkv_opening.specs.Opened.{IsStoreOf};
 ghost use Rattle.fkv_pairs.specs.Pairs.{log_of_store, ArePairs};
@@ -25,6 +26,7 @@ fn values_of<D: Device>(
     ensures ok { D.honest d.old → (store : IsStoreOf (D.seen d.old) opened.now) → IfOk result (λ values. AreGathered (log_of_store (D.seen d.old) opened.now store) (get nat_cmp values) opened.now.entries.items (length opened.now.entries.items)) }
     ensures err { IfErr result (IsHindrance (D.failed d.old) (D.failed d.new)) }
     ensures quiet { IsQuiet D.honest D.seen D.may_leave D.moment D.left_since D.failed d.old d.new }
+    ensures reads { OnlyReads D.refuses D.expects d.old d.new }
 {
     let mut values = BTreeMap::new(alloc);
     for i in 0..opened.entries.len() {
@@ -48,6 +50,7 @@ pub fn content<D: Device>(
     ensures ok { D.honest d.old → (store : IsStoreOf (D.seen d.old) opened.now) → IfOk result (λ pairs. ArePairs (log_of_store (D.seen d.old) opened.now store) pairs.items) }
     ensures err { IfErr result (IsHindrance (D.failed d.old) (D.failed d.new)) }
     ensures quiet { IsQuiet D.honest D.seen D.may_leave D.moment D.left_since D.failed d.old d.new }
+    ensures reads { OnlyReads D.refuses D.expects d.old d.new }
 {
     law_spellings_apart();
     let values = values_of(alloc, opened, d)?;

@@ -3,6 +3,7 @@ ghost use Rattle.std.specs.Prelude.{◌≡◌, ◌<◌, ◌^◌, ◌↔◌, ℕ,
 ghost use Rattle.std.specs.Ordering.{nat_cmp};
 ghost use Rattle.std.specs.BTreeMap.{get};
 ghost use Rattle.fkv_scan.specs.Log.{Log};
+ghost use Rattle.fkv_disk.specs.Kinds.{OnlyReads};
 ghost use Rattle.fkv_scan.specs.Quiet.{IsQuiet, IsHindrance};
 ghost use Rattle.fkv_chains.specs.Entries.{IsEntry};
 ghost use Rattle.fkv_pairs.specs.Gathered.{IsReadFrom, AreNewest, IsGathered, lower_or_none};
@@ -33,6 +34,7 @@ pub(crate) fn gather<D: Device>(
     ensures ok { (log : Log) (its_home : ℕ) → D.honest d.old → IsReadFrom (D.seen d.old) shape log → IsEntry log its_home entry.0 → AreNewest log (get nat_cmp values.old) → OnOk result (IsGathered log its_home (get nat_cmp values.old) (get nat_cmp values.new)) }
     ensures err { IfErr result (IsHindrance (D.failed d.old) (D.failed d.new)) }
     ensures quiet { IsQuiet D.honest D.seen D.may_leave D.moment D.left_since D.failed d.old d.new }
+    ensures reads { OnlyReads D.refuses D.expects d.old d.new }
 {
     law_spellings_apart();
     let mut addr = entry;

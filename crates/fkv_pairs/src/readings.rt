@@ -2,6 +2,7 @@
 ghost use Rattle.std.specs.Prelude.{◌≡◌, ◌<◌, ◌^◌, ◌↔◌, IfOk, IfErr};
 ghost use Rattle.fkv_words.specs.Fields.{Reads};
 ghost use Rattle.fkv_disk.specs.Bytes.{bytes_at};
+ghost use Rattle.fkv_disk.specs.Kinds.{OnlyReads};
 ghost use Rattle.fkv_record.specs.Layout.{record_bytes};
 ghost use Rattle.fkv_record.specs.Places.{record_place};
 ghost use Rattle.fkv_scan.specs.Quiet.{IsQuiet, IsHindrance};
@@ -20,6 +21,7 @@ pub(crate) fn record_at<D: Device>(
     ensures ok { D.honest d.old → IfOk result (λ read. Reads record_bytes (bytes_at (D.seen d.old) (record_place shape addr.0) 24) read) }
     ensures err { IfErr result (IsHindrance (D.failed d.old) (D.failed d.new)) }
     ensures quiet { IsQuiet D.honest D.seen D.may_leave D.moment D.left_since D.failed d.old d.new }
+    ensures reads { OnlyReads D.refuses D.expects d.old d.new }
 {
     let mut bytes = [0; 24];
     d.read(record_place(shape, addr), &mut bytes)?;

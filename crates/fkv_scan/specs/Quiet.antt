@@ -1,4 +1,4 @@
--- A stretch of calls of a device that only reads and syncs.
+-- A stretch of calls that leaves a device as it was.
 use Rattle.std.specs.Prelude.{◌≡◌, ◌↔◌, ℕ, ◌≤◌, List}
 use Rattle.fkv_base.specs.declared.faults.Fault.{Fault}
 use Rattle.fkv_base.specs.declared.faults.Fault.TheVariants.{Device, Memory}

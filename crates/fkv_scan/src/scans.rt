@@ -11,6 +11,7 @@ ghost use Rattle.fkv_base.specs.Limits.{last_version};
 ghost use Rattle.fkv_scan.specs.Log.{log_in, AreApart, AreBelow};
 ghost use Rattle.fkv_scan.specs.Scanned.{AreScanned, TellsNewer};
 ghost use Rattle.fkv_scan.specs.Known.{KnowsAll};
+ghost use Rattle.fkv_disk.specs.Kinds.{OnlyReads};
 ghost use Rattle.fkv_scan.specs.Quiet.{IsQuiet, IsHindrance};
 ghost use Rattle.fkv_scan.specs.Refused.{IsRefused};
 
@@ -64,6 +65,7 @@ fn meet_all<D: Device>(
     ensures newer { (triples : List Triple) → D.honest d.old → IfOk result (TellsNewer (log_in (D.seen d.old) shape slot.now triples) slot.now.end.0) }
     ensures err { (triples : List Triple) → IfErr result (IsRefused (D.failed d.old) (D.failed d.new) (D.honest d.old × KnowsAll (log_in (D.seen d.old) shape slot.now triples) slot.now.first.0 (get nat_cmp homes.old)) (log_in (D.seen d.old) shape slot.now triples)) }
     ensures quiet { IsQuiet D.honest D.seen D.may_leave D.moment D.left_since D.failed d.old d.new }
+    ensures reads { OnlyReads D.refuses D.expects d.old d.new }
 {
     let mut newer = false;
     for addr in slot.first.0..slot.end.0 {
@@ -85,6 +87,7 @@ fn is_led<D: Device>(
     ensures ok { D.honest d.old → IfOk result (λ led. (triples : List Triple) → (led ≡ true) ↔ IsLed (log_in (D.seen d.old) shape slot.now triples) triple.now) }
     ensures err { IfErr result (IsHindrance (D.failed d.old) (D.failed d.new)) }
     ensures quiet { IsQuiet D.honest D.seen D.may_leave D.moment D.left_since D.failed d.old d.new }
+    ensures reads { OnlyReads D.refuses D.expects d.old d.new }
 {
     if triple.addr.0 < slot.first.0 {
         return Ok(true);
@@ -103,6 +106,7 @@ fn check_led<D: Device>(
     ensures ok { D.honest d.old → OnOk result (AreLed (log_in (D.seen d.old) shape slot.now triples.now) (length triples.now)) }
     ensures err { IfErr result (IsRefused (D.failed d.old) (D.failed d.new) (D.honest d.old × IsScannedTo (log_in (D.seen d.old) shape slot.now triples.now) slot.now.end.0) (log_in (D.seen d.old) shape slot.now triples.now)) }
     ensures quiet { IsQuiet D.honest D.seen D.may_leave D.moment D.left_since D.failed d.old d.new }
+    ensures reads { OnlyReads D.refuses D.expects d.old d.new }
 {
     for i in 0..triples.len() {
         let triple = triples[i];
@@ -114,7 +118,7 @@ fn check_led<D: Device>(
     Ok(())
 }
 
-/// Scans the records from the slot's first address to its end, upwards, each once, behind a checkpoint of these triples.
+/// Scans the records from the slot's first address to its end, upwards, behind a checkpoint of these triples.
 pub fn scan<D: Device>(
     alloc: Global,
     d: &mut D,
@@ -130,6 +134,7 @@ pub fn scan<D: Device>(
     ensures ok { D.honest d.old → IfOk result (AreScanned (log_in (D.seen d.old) shape slot.now triples.now)) }
     ensures err { IfErr result (IsRefused (D.failed d.old) (D.failed d.new) (D.honest d.old) (log_in (D.seen d.old) shape slot.now triples.now)) }
     ensures quiet { IsQuiet D.honest D.seen D.may_leave D.moment D.left_since D.failed d.old d.new }
+    ensures reads { OnlyReads D.refuses D.expects d.old d.new }
 {
     let mut homes = led_homes(alloc, triples, slot.first)?;
     let newer = match meet_all(d, shape, slot, &mut homes) {

@@ -10,6 +10,7 @@ ghost use Rattle.fkv_scan.specs.Records.{IsValid, IsNewer, losses};
 ghost use Rattle.fkv_scan.specs.Scan.{Has, IsLinked, IsScanned};
 ghost use Rattle.fkv_scan.specs.Known.{KnowsAll, IsMeeting};
 ghost use Rattle.fkv_scan.specs.Steps.{known_or};
+ghost use Rattle.fkv_disk.specs.Kinds.{OnlyReads};
 ghost use Rattle.fkv_scan.specs.Quiet.{IsQuiet, IsHindrance};
 ghost use Rattle.fkv_scan.specs.Refused.{IsUnlinked, IsUnscanned};
 
@@ -45,6 +46,7 @@ pub(crate) fn stands<D: Device>(
     ensures ok { D.honest d.old → IfOk result (λ there. (slot : ManifestSlot) (triples : List Triple) → (there ≡ true) ↔ Has (IsValid (log_in (D.seen d.old) shape slot triples) home) addr.0) }
     ensures err { IfErr result (IsHindrance (D.failed d.old) (D.failed d.new)) }
     ensures quiet { IsQuiet D.honest D.seen D.may_leave D.moment D.left_since D.failed d.old d.new }
+    ensures reads { OnlyReads D.refuses D.expects d.old d.new }
 {
     let read = record_at(d, shape, addr)?;
     Ok(match read {
@@ -76,6 +78,7 @@ fn leads_within<D: Device>(
     ensures ok { D.honest d.old → IfOk result (λ leads. (triples : List Triple) → is_lost ≡ true → slot.now.first.0 ≤ previous.0 → (leads ≡ true) ↔ Has (IsValid (log_in (D.seen d.old) shape slot.now triples) home) previous.0) }
     ensures err { IfErr result (IsHindrance (D.failed d.old) (D.failed d.new)) }
     ensures quiet { IsQuiet D.honest D.seen D.may_leave D.moment D.left_since D.failed d.old d.new }
+    ensures reads { OnlyReads D.refuses D.expects d.old d.new }
 {
     if is_lost && slot.first.0 <= previous.0 {
         let there = stands(d, shape, previous, home)?;
@@ -96,6 +99,7 @@ fn take_in<D: Device>(
     ensures ok { (triples : List Triple) → D.honest d.old → IsMeeting (log_in (D.seen d.old) shape slot.now triples) addr.0 found.now (get nat_cmp homes.old) → OnOk result (IsLinked (log_in (D.seen d.old) shape slot.now triples) addr.0 found.now × KnowsAll (log_in (D.seen d.old) shape slot.now triples) (addr.0 + 1) (get nat_cmp homes.new)) }
     ensures err { (triples : List Triple) → IfErr result (IsUnlinked (D.failed d.old) (D.failed d.new) (D.honest d.old × IsMeeting (log_in (D.seen d.old) shape slot.now triples) addr.0 found.now (get nat_cmp homes.old)) (log_in (D.seen d.old) shape slot.now triples) addr.0 found.now) }
     ensures quiet { IsQuiet D.honest D.seen D.may_leave D.moment D.left_since D.failed d.old d.new }
+    ensures reads { OnlyReads D.refuses D.expects d.old d.new }
 {
     let home = record_home(found, shape.bucket_bits);
     let known = known_of(homes, home);
@@ -123,6 +127,7 @@ pub(crate) fn meet<D: Device>(
     ensures newer { (triples : List Triple) → D.honest d.old → IfOk result (λ newer. (newer ≡ true) ↔ Has (IsNewer (log_in (D.seen d.old) shape slot.now triples)) addr.0) }
     ensures err { (triples : List Triple) → IfErr result (IsUnscanned (D.failed d.old) (D.failed d.new) (D.honest d.old × KnowsAll (log_in (D.seen d.old) shape slot.now triples) addr.0 (get nat_cmp homes.old)) (log_in (D.seen d.old) shape slot.now triples) addr.0) }
     ensures quiet { IsQuiet D.honest D.seen D.may_leave D.moment D.left_since D.failed d.old d.new }
+    ensures reads { OnlyReads D.refuses D.expects d.old d.new }
 {
     let Some(found) = record_at(d, shape, addr)? else {
         return Err(Fault::Damaged(Damage::Record, addr.0));

@@ -4,6 +4,7 @@ ghost use Rattle.fkv_record.specs.Places.{most_triples};
 ghost use Rattle.fkv_record.specs.declared.triples.Triple.{Triple};
 ghost use Rattle.fkv_scan.specs.Checkpoint.{checkpoint_in, IsTripleAt, AreTriples, IsUnread};
 ghost use Rattle.fkv_scan.specs.Log.{AreApart, AreBelow};
+ghost use Rattle.fkv_disk.specs.Kinds.{OnlyReads};
 ghost use Rattle.fkv_scan.specs.Quiet.{IsQuiet, IsHindrance};
 
 use crate::homes::triple_home;
@@ -26,6 +27,7 @@ fn triple_at<D: Device>(
     ensures in_log { IfOk result (λ read. (x : Triple) → read ≡ Some x → x.addr.0 < slot.now.end.0) }
     ensures err { IfErr result (IsHindrance (D.failed d.old) (D.failed d.new)) }
     ensures quiet { IsQuiet D.honest D.seen D.may_leave D.moment D.left_since D.failed d.old d.new }
+    ensures reads { OnlyReads D.refuses D.expects d.old d.new }
 {
     let mut bytes = [0; 16];
     d.read(area_place(shape, slot.area) + 16 * i, &mut bytes)?;
@@ -52,6 +54,7 @@ pub fn read_triples<D: Device>(
     ensures in_log { IfOk result (λ triples. AreBelow slot.now.end.0 triples.items) }
     ensures err { IfErr result (IsUnread (D.failed d.old) (D.failed d.new) (D.honest d.old) (checkpoint_in (D.seen d.old) shape slot.now)) }
     ensures quiet { IsQuiet D.honest D.seen D.may_leave D.moment D.left_since D.failed d.old d.new }
+    ensures reads { OnlyReads D.refuses D.expects d.old d.new }
 {
     let mut triples = Vec::new(alloc);
     let mut homes: BTreeMap<u64, u64> = BTreeMap::new(alloc);

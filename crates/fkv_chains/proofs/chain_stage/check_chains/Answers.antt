@@ -1,9 +1,10 @@
 use Rattle.std.proofs.Common.{◌≡◌, length, sym, ap, subst, ◌∙◌, arith}
 use Rattle.std.specs.Prelude.{Some, slice_get}
 use Rattle.std.proofs.lemmas.Option.{slice_get-get_or}
+use Rattle.fkv_disk.proofs.Shown.{more_reads}
 use Rattle.fkv_scan.specs.Log.{Log, log_in}
 use Rattle.fkv_chains.specs.Along.{IsFollowed, IsToFollow}
-use Rattle.fkv_chains.proofs.Quieter.{quiet_on}
+use Rattle.fkv_scan.proofs.Shown.{quiet_on}
 use Rattle.fkv_chains.proofs.Reaching.{has_chains}
 use Rattle.fkv_chains.proofs.Staging.{refused_after, follows_from, one_more, each_way, AreFollowed}
 use Rattle.fkv_chains.proofs.Ways.{all_ways}
@@ -31,6 +32,7 @@ loop-i-preserved g c =
     let stands : slice_get c.args.triples.now c.loop-i.i ≡ Some triple = slice_get-get_or c.args.triples.now c.loop-i.i triple c.loop-i-test.true ∙ ap Some (sym c.index-triples-i.is) in
     record {
       quiet = quiet_on g.D.Device.honest g.D.Device.seen g.D.Device.may_leave g.D.Device.moment g.D.Device.left_since g.D.Device.failed c.args.d.now c.loop-i.d c.follow.new.d quiet c.in_default.ensures.quiet;
+      reads = more_reads g.D.Device.refuses g.D.Device.expects c.args.d.now c.loop-i.d c.follow.new.d c.loop-i.invariant.reads c.in_default.ensures.reads;
       followed = λ claim.
           let same = ap (λ image. log_in image c.args.shape c.args.slot.now c.args.triples.now) (quiet.same_bytes claim) in
           one_more log c.args.scanned.now c.loop-i.i (c.loop-i.invariant.followed claim) triple stands c.triple_home-home.result c.way_of-from.result.0 c.triple_home-home.ensures c.way_of-from.ensures.way
@@ -45,3 +47,7 @@ returns-clause-ok g c = λ claim are.
     let at_end : c.loop-i.i ≡ length c.args.triples.now = omega (arith, last, most) in
     has_chains c.law_spellings_apart.ensures.records log c.requires.in_log c.args.scanned.now are
     (all_ways log (each_way log c.args.scanned.now are (subst (λ n. AreFollowed log c.args.scanned.now n) at_end (c.loop-i.invariant.followed claim))))
+
+pub returns-in-Err-clause-reads : goal.returns-in-Err-clause-reads
+returns-in-Err-clause-reads g c =
+    more_reads g.D.Device.refuses g.D.Device.expects c.args.d.now c.loop-i.d c.follow.new.d c.loop-i.invariant.reads c.in-Err.ensures.reads

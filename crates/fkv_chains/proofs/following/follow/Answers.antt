@@ -1,10 +1,11 @@
 use Rattle.std.proofs.Common.{◌<◌, sym, subst, ◌∙◌, arith}
+use Rattle.fkv_disk.proofs.Shown.{more_reads}
 use Rattle.fkv_words.specs.Fields.{Reads}
 use Rattle.fkv_disk.specs.Bytes.{bytes_at}
 use Rattle.fkv_record.specs.Layout.{record_bytes}
 use Rattle.fkv_record.specs.Places.{record_place}
 use Rattle.fkv_scan.specs.Log.{log_in}
-use Rattle.fkv_chains.proofs.Quieter.{quiet_on}
+use Rattle.fkv_scan.proofs.Shown.{quiet_on}
 use Rattle.fkv_chains.proofs.FollowedTo.{IsFollowedTo, read_stands, read_alone, follow_on, led_on, all_followed, invalid_fault, home_fault}
 use Rattle.fkv_chains.proofs.following.follow.Goals as goal
 use Rattle.fkv_chains.proofs.following.follow.Goals.{then-found-via-then-found, then-found-via-else-found+then-record_home-home}
@@ -33,6 +34,7 @@ loop-addr-preserved g c =
     record {
       low = omega (arith, lower, low);
       quiet = quiet_on g.D.Device.honest g.D.Device.seen g.D.Device.may_leave g.D.Device.moment g.D.Device.left_since g.D.Device.failed c.args.d.now c.loop-addr.d c.record_at.new.d quiet c.in_ok-found.ensures.quiet;
+      reads = more_reads g.D.Device.refuses g.D.Device.expects c.args.d.now c.loop-addr.d c.record_at.new.d c.loop-addr.invariant.reads c.in_ok-found.ensures.reads;
       above = λ triples claim.
           let log = log_in (g.D.Device.seen c.args.d.now) c.args.shape c.args.slot.now triples in
           let all : Reads record_bytes (bytes_at (g.D.Device.seen c.args.d.now) (record_place c.args.shape a) 24) c.in_ok-found.field-0 =
@@ -53,3 +55,19 @@ pub returns-clause-ok : goal.returns-clause-ok
 returns-clause-ok g c = λ triples claim.
     let log = log_in (g.D.Device.seen c.args.d.now) c.args.shape c.args.slot.now triples in
     all_followed log c.args.home c.args.from.0 (subst (λ n. IsFollowedTo log c.args.home c.args.from.0 n) c.loop-addr-test.false (c.loop-addr.invariant.above triples claim))
+
+pub returns-in_err-found-clause-reads : goal.returns-in_err-found-clause-reads
+returns-in_err-found-clause-reads g c =
+    more_reads g.D.Device.refuses g.D.Device.expects c.args.d.now c.loop-addr.d c.record_at.new.d c.loop-addr.invariant.reads c.record_at.ensures.reads
+
+pub returns-in_default-clause-reads : goal.returns-in_default-clause-reads
+returns-in_default-clause-reads g c =
+    more_reads g.D.Device.refuses g.D.Device.expects c.args.d.now c.loop-addr.d c.record_at.new.d c.loop-addr.invariant.reads c.in_ok-found.ensures.reads
+
+pub returns-then-found-slot-clause-reads : goal.returns-then-found-slot-clause-reads
+returns-then-found-slot-clause-reads g c =
+    more_reads g.D.Device.refuses g.D.Device.expects c.args.d.now c.loop-addr.d c.record_at.new.d c.loop-addr.invariant.reads c.in_ok-found.ensures.reads
+
+pub returns-then-found-clause-reads : goal.returns-then-found-clause-reads
+returns-then-found-clause-reads g c =
+    more_reads g.D.Device.refuses g.D.Device.expects c.args.d.now c.loop-addr.d c.record_at.new.d c.loop-addr.invariant.reads c.in_ok-found.ensures.reads

@@ -1,4 +1,5 @@
 use Rattle.std.proofs.Common.{◌≡◌, refl, sym, ap, subst}
+use Rattle.fkv_disk.proofs.Shown.{more_reads}
 use Rattle.fkv_scan.specs.Log.{log_in}
 use Rattle.fkv_scan.specs.Scanned.{AreScanned}
 use Rattle.fkv_chains.specs.Chains.{HasChains}
@@ -28,3 +29,15 @@ returns-clause-ok g c = λ claim.
     let chained = subst (λ l. HasChains l) same (c.in_default.ensures.ok (quiet.premise.0 claim) (subst (λ l. AreScanned l c.in-Ok.scanned) (sym same) scanned)) in
     let room = c.in_default-check_room.ensures.ok log refl (record { below = c.requires.in_log; scanned = scanned; chained = chained }) in
     (scanned, record { scan = scanned.sound; chains = chained; room = room })
+
+pub returns-in-Err-check_chains-clause-reads : goal.returns-in-Err-check_chains-clause-reads
+returns-in-Err-check_chains-clause-reads g c =
+    more_reads g.D.Device.refuses g.D.Device.expects c.args.d.now c.scan.new.d c.check_chains.new.d c.in-Ok.ensures.reads c.in-Err-check_chains.ensures.reads
+
+pub returns-in-Err-check_room-clause-reads : goal.returns-in-Err-check_room-clause-reads
+returns-in-Err-check_room-clause-reads g c =
+    more_reads g.D.Device.refuses g.D.Device.expects c.args.d.now c.scan.new.d c.check_chains.new.d c.in-Ok.ensures.reads c.in_default.ensures.reads
+
+pub returns-clause-reads : goal.returns-clause-reads
+returns-clause-reads g c =
+    more_reads g.D.Device.refuses g.D.Device.expects c.args.d.now c.scan.new.d c.check_chains.new.d c.in-Ok.ensures.reads c.in_default.ensures.reads

@@ -1,4 +1,5 @@
 use Rattle.std.proofs.Common.{◌≡◌, ap, subst, ◌∙◌}
+use Rattle.fkv_disk.proofs.Shown.{more_reads}
 use Rattle.fkv_scan.specs.Log.{log_in}
 use Rattle.fkv_scan.specs.Scanned.{AreScanned}
 use Rattle.fkv_newest.specs.Newest.{IsNewestOf}
@@ -36,3 +37,15 @@ returns-clause-ok g c = λ claim is.
     let has : HasCheckpoint old n c.in-Ok.triples.items = record { newest = is; stored = c.in-Ok.ensures.ok claim; apart = c.in-Ok.ensures.apart } in
     let told = c.in-Ok-check.ensures.ok (quiet.premise.0 claim) in
     c.in_ok-opened.ensures.ok old c.in-Ok.triples.items has (subst (λ l. AreScanned l c.in-Ok-check.scanned) same told.0) (subst (λ l. IsSound l) same told.1)
+
+pub returns-in-Err-check-clause-reads : goal.returns-in-Err-check-clause-reads
+returns-in-Err-check-clause-reads g c =
+    more_reads g.D.Device.refuses g.D.Device.expects c.args.d.now c.read_triples.new.d c.check.new.d c.in-Ok.ensures.reads c.in-Err-check.ensures.reads
+
+pub returns-in_err-opened-clause-reads : goal.returns-in_err-opened-clause-reads
+returns-in_err-opened-clause-reads g c =
+    more_reads g.D.Device.refuses g.D.Device.expects c.args.d.now c.read_triples.new.d c.check.new.d c.in-Ok.ensures.reads c.in-Ok-check.ensures.reads
+
+pub returns-clause-reads : goal.returns-clause-reads
+returns-clause-reads g c =
+    more_reads g.D.Device.refuses g.D.Device.expects c.args.d.now c.read_triples.new.d c.check.new.d c.in-Ok.ensures.reads c.in-Ok-check.ensures.reads

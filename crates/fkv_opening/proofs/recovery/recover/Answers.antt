@@ -1,4 +1,5 @@
 use Rattle.std.proofs.Common.{◌≡◌, sym, subst}
+use Rattle.fkv_disk.proofs.Shown.{reads_behind}
 use Rattle.fkv_newest.specs.Newest.{IsNewestOf}
 use Rattle.fkv_scan.proofs.Shown.{quiet_on}
 use Rattle.fkv_opening.specs.declared.opened_store.Opened.{Opened}
@@ -52,3 +53,11 @@ returns-in-Err-open-clause-front g c = λ claim.
     front_behind c.law_spellings_apart.ensures.shapes mid c.in-Ok.newest told Opened (g.D.Device.refuses c.args.d.now) (g.D.Device.refuses c.open.new.d)
     (g.D.Device.failed c.read_newest.new.d) (g.D.Device.failed c.open.new.d) (g.D.Device.honest c.read_newest.new.d × IsNewestOf mid c.in-Ok.newest)
     (quiet.premise.0 claim, told) c.in-Err-open.fault c.in-Err-open.ensures.err
+
+pub returns-in-Ok-open-clause-asked : goal.returns-in-Ok-open-clause-asked
+returns-in-Ok-open-clause-asked g c =
+    reads_behind g.D.Device.refuses g.D.Device.expects c.args.d.now c.read_newest.new.d c.open.new.d c.in-Ok.ensures.asked c.in-Ok-open.ensures.reads
+
+pub returns-in-Err-open-clause-asked : goal.returns-in-Err-open-clause-asked
+returns-in-Err-open-clause-asked g c =
+    reads_behind g.D.Device.refuses g.D.Device.expects c.args.d.now c.read_newest.new.d c.open.new.d c.in-Ok.ensures.asked c.in-Err-open.ensures.reads

@@ -3,6 +3,7 @@ use Rattle.std.specs.Prelude.{Some, slice_get}
 use Rattle.std.proofs.lemmas.Option.{slice_get-get_or}
 use Rattle.std.specs.Ordering.{nat_cmp}
 use Rattle.std.specs.BTreeMap.{get}
+use Rattle.fkv_disk.proofs.Shown.{more_reads}
 use Rattle.fkv_scan.proofs.Shown.{quiet_on}
 use Rattle.fkv_opening.specs.Entries.{entry_home}
 use Rattle.fkv_pairs.specs.Gathered.{IsReadFrom, AreGathered}
@@ -16,6 +17,7 @@ loop-i-preserved g c =
     let quiet = c.loop-i.invariant.quiet in
     record {
       quiet = quiet_on g.D.Device.honest g.D.Device.seen g.D.Device.may_leave g.D.Device.moment g.D.Device.left_since g.D.Device.failed c.args.d.now c.loop-i.d c.gather.new.d quiet c.in_ok-gather.ensures.quiet;
+      reads = more_reads g.D.Device.refuses g.D.Device.expects c.args.d.now c.loop-i.d c.gather.new.d c.loop-i.invariant.reads c.in_ok-gather.ensures.reads;
       gathered = λ claim store.
           let image = g.D.Device.seen c.args.d.now in
           let opened = c.args.opened.now in
@@ -38,3 +40,7 @@ returns-clause-ok g c = λ claim store.
     let most = c.loop-i.auto.i-end in
     let at_end : c.loop-i.i ≡ length c.args.opened.now.entries.items = omega (arith, last, most) in
     subst (λ n. AreGathered (log_of_store (g.D.Device.seen c.args.d.now) c.args.opened.now store) (get nat_cmp c.loop-i.values) c.args.opened.now.entries.items n) at_end (c.loop-i.invariant.gathered claim store)
+
+pub returns-in_err-gather-clause-reads : goal.returns-in_err-gather-clause-reads
+returns-in_err-gather-clause-reads g c =
+    more_reads g.D.Device.refuses g.D.Device.expects c.args.d.now c.loop-i.d c.gather.new.d c.loop-i.invariant.reads c.gather.ensures.reads

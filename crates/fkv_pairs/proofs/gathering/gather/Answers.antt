@@ -2,6 +2,7 @@ use Rattle.std.proofs.Common.{◌≡◌, ℕ, false, refl, sym, subst, ◌∙◌
 use Rattle.std.specs.Ordering.{nat_cmp}
 use Rattle.std.specs.Option.{is_some}
 use Rattle.std.specs.BTreeMap.{BTreeMap, get}
+use Rattle.fkv_disk.proofs.Shown.{no_read, more_reads}
 use Rattle.fkv_words.specs.Fields.{Reads}
 use Rattle.fkv_disk.specs.Bytes.{bytes_at}
 use Rattle.fkv_record.specs.Layout.{record_bytes}
@@ -16,6 +17,7 @@ pub loop-addr-init : goal.loop-addr-init
 loop-addr-init g c = record {
   short = c.requires;
   quiet = no_call g.D.Device.honest g.D.Device.seen g.D.Device.may_leave g.D.Device.moment g.D.Device.left_since g.D.Device.failed c.args.d.now;
+  reads = no_read g.D.Device.refuses g.D.Device.expects c.args.d.now;
   gathering = λ log its_home claim reads entry newest. gather_first c.law_spellings_apart.ensures.records log reads.faultless its_home (get nat_cmp c.args.values.now) c.args.entry.0 entry newest;
 }
 
@@ -38,6 +40,7 @@ loop-addr-preserved g c =
     record {
       short = next_short x.header.previous.0 a c.lower_or_none-addr.result.0 is c.loop-addr.invariant.short;
       quiet = quiet_on g.D.Device.honest g.D.Device.seen g.D.Device.may_leave g.D.Device.moment g.D.Device.left_since g.D.Device.failed c.args.d.now c.loop-addr.d c.record_at.new.d quiet c.in_ok-found.ensures.quiet;
+      reads = more_reads g.D.Device.refuses g.D.Device.expects c.args.d.now c.loop-addr.d c.record_at.new.d c.loop-addr.invariant.reads c.in_ok-found.ensures.reads;
       gathering = λ log its_home claim reads entry newest.
           let so_far = c.loop-addr.invariant.gathering log its_home claim reads entry newest in
           let before = get nat_cmp c.args.values.now in
@@ -60,3 +63,15 @@ pub returns-clause-ok : goal.returns-clause-ok
 returns-clause-ok g c = λ log its_home claim reads entry newest.
     all_gathered c.law_spellings_apart.ensures.records log reads.faultless its_home (get nat_cmp c.args.values.now) (get nat_cmp c.loop-addr.values)
     (subst (λ n. IsGathering log its_home (get nat_cmp c.args.values.now) (get nat_cmp c.loop-addr.values) n) c.loop-addr-test.false (c.loop-addr.invariant.gathering log its_home claim reads entry newest))
+
+pub returns-in_err-found-clause-reads : goal.returns-in_err-found-clause-reads
+returns-in_err-found-clause-reads g c =
+    more_reads g.D.Device.refuses g.D.Device.expects c.args.d.now c.loop-addr.d c.record_at.new.d c.loop-addr.invariant.reads c.record_at.ensures.reads
+
+pub returns-in_default-clause-reads : goal.returns-in_default-clause-reads
+returns-in_default-clause-reads g c =
+    more_reads g.D.Device.refuses g.D.Device.expects c.args.d.now c.loop-addr.d c.record_at.new.d c.loop-addr.invariant.reads c.in_ok-found.ensures.reads
+
+pub returns-in_err-insert-clause-reads : goal.returns-in_err-insert-clause-reads
+returns-in_err-insert-clause-reads g c =
+    more_reads g.D.Device.refuses g.D.Device.expects c.args.d.now c.loop-addr.d c.record_at.new.d c.loop-addr.invariant.reads c.in_ok-found.ensures.reads

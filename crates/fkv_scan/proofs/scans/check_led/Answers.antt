@@ -1,6 +1,7 @@
 use Rattle.std.proofs.Common.{◌≡◌, length, refl, sym, ap, subst, ◌∙◌, arith, inr, true, false}
 use Rattle.std.specs.Prelude.{Some, slice_get}
 use Rattle.std.proofs.lemmas.Option.{slice_get-get_or}
+use Rattle.fkv_disk.proofs.Shown.{more_reads}
 use Rattle.fkv_scan.specs.Log.{log_in}
 use Rattle.fkv_scan.specs.Scan.{IsLed, AreLed}
 use Rattle.fkv_scan.proofs.Leading.{led_to_more}
@@ -33,6 +34,7 @@ loop-i-preserved g c =
     let quiet = c.loop-i.invariant.quiet in
     record {
       quiet = quiet_on g.D.Device.honest g.D.Device.seen g.D.Device.may_leave g.D.Device.moment g.D.Device.left_since g.D.Device.failed c.args.d.now c.loop-i.d c.is_led.new.d quiet c.in_ok-led.ensures.quiet;
+      reads = more_reads g.D.Device.refuses g.D.Device.expects c.args.d.now c.loop-i.d c.is_led.new.d c.loop-i.invariant.reads c.in_ok-led.ensures.reads;
       led = λ claim.
           let log = log_in (g.D.Device.seen c.args.d.now) c.args.shape c.args.slot.now c.args.triples.now in
           let log_mid = log_in (g.D.Device.seen c.loop-i.d) c.args.shape c.args.slot.now c.args.triples.now in
@@ -50,3 +52,11 @@ returns-clause-ok g c = λ claim.
     let most = c.loop-i.auto.i-end in
     let at_end : c.loop-i.i ≡ length c.args.triples.now = omega (arith, last, most) in
     subst (λ n. AreLed log n) at_end (c.loop-i.invariant.led claim)
+
+pub returns-in_err-led-clause-reads : goal.returns-in_err-led-clause-reads
+returns-in_err-led-clause-reads g c =
+    more_reads g.D.Device.refuses g.D.Device.expects c.args.d.now c.loop-i.d c.is_led.new.d c.loop-i.invariant.reads c.is_led.ensures.reads
+
+pub returns-then-not-led-clause-reads : goal.returns-then-not-led-clause-reads
+returns-then-not-led-clause-reads g c =
+    more_reads g.D.Device.refuses g.D.Device.expects c.args.d.now c.loop-i.d c.is_led.new.d c.loop-i.invariant.reads c.in_ok-led.ensures.reads

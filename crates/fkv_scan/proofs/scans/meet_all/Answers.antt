@@ -2,6 +2,7 @@ use Rattle.std.proofs.Common.{◌≡◌, sym, ap, subst, true, ◌+◌, arith}
 use Rattle.std.specs.Prelude.{◌||◌, ◌↔◌}
 use Rattle.std.specs.Ordering.{nat_cmp}
 use Rattle.std.specs.BTreeMap.{get}
+use Rattle.fkv_disk.proofs.Shown.{more_reads}
 use Rattle.fkv_scan.specs.Log.{log_in}
 use Rattle.fkv_scan.specs.Records.{IsNewer}
 use Rattle.fkv_scan.specs.Scan.{Has, IsScanned, IsScannedTo}
@@ -41,6 +42,7 @@ loop-addr-preserved g c =
     ] in
     record {
       quiet = quiet_on g.D.Device.honest g.D.Device.seen g.D.Device.may_leave g.D.Device.moment g.D.Device.left_since g.D.Device.failed c.args.d.now c.loop-addr.d c.meet.new.d quiet c.in-Ok.ensures.quiet;
+      reads = more_reads g.D.Device.refuses g.D.Device.expects c.args.d.now c.loop-addr.d c.meet.new.d c.loop-addr.invariant.reads c.in-Ok.ensures.reads;
       known = λ triples claim all.
           let log = log_in old c.args.shape c.args.slot.now triples in
           let log_mid = log_in mid c.args.shape c.args.slot.now triples in
@@ -73,3 +75,7 @@ returns-clause-newer g c = λ triples claim.
     let most = c.loop-addr.auto.addr-end c.requires.upwards in
     let at_end : c.loop-addr.addr ≡ c.args.slot.now.end.0 = omega (arith, last, most) in
     subst (λ n. TellsNewer log n c.loop-addr.newer) at_end (c.loop-addr.invariant.newer triples claim)
+
+pub returns-in-Err-clause-reads : goal.returns-in-Err-clause-reads
+returns-in-Err-clause-reads g c =
+    more_reads g.D.Device.refuses g.D.Device.expects c.args.d.now c.loop-addr.d c.meet.new.d c.loop-addr.invariant.reads c.in-Err.ensures.reads

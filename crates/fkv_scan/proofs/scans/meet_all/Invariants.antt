@@ -6,12 +6,14 @@ use Rattle.fkv_scan.specs.Log.{log_in}
 use Rattle.fkv_scan.specs.Scan.{IsScannedTo}
 use Rattle.fkv_scan.specs.Scanned.{TellsNewer}
 use Rattle.fkv_scan.specs.Known.{KnowsAll}
+use Rattle.fkv_disk.specs.Kinds.{OnlyReads}
 use Rattle.fkv_scan.specs.Quiet.{IsQuiet}
 use Rattle.fkv_scan.proofs.scans.meet_all.Given as goal
 
 abbrev pub invariant-loop-addr : goal.invariant-loop-addr
 invariant-loop-addr g l = record {
   quiet : IsQuiet g.D.Device.honest g.D.Device.seen g.D.Device.may_leave g.D.Device.moment g.D.Device.left_since g.D.Device.failed l.fn.d l.d;
+  reads : OnlyReads g.D.Device.refuses g.D.Device.expects l.fn.d l.d;
   known : (triples : List Triple) → g.D.Device.honest l.fn.d → KnowsAll (log_in (g.D.Device.seen l.fn.d) l.shape l.slot triples) l.slot.first.0 (get nat_cmp l.fn.homes)
       → IsScannedTo (log_in (g.D.Device.seen l.fn.d) l.shape l.slot triples) l.addr × KnowsAll (log_in (g.D.Device.seen l.fn.d) l.shape l.slot triples) l.addr (get nat_cmp l.homes);
   newer : (triples : List Triple) → g.D.Device.honest l.fn.d → TellsNewer (log_in (g.D.Device.seen l.fn.d) l.shape l.slot triples) l.addr l.newer;

@@ -1,6 +1,7 @@
 use Rattle.std.proofs.Common.{◌≡◌, arith, refl, sym, ap, subst, length}
 use Rattle.std.specs.Ordering.{nat_cmp}
 use Rattle.std.specs.BTreeMap.{get}
+use Rattle.fkv_disk.proofs.Shown.{more_reads}
 use Rattle.fkv_scan.specs.Log.{log_in}
 use Rattle.fkv_scan.specs.Scan.{IsScannedTo, AreLed}
 use Rattle.fkv_scan.specs.Known.{KnowsAll}
@@ -40,3 +41,11 @@ returns-clause-ok g c = λ claim.
     let met = c.in-Ok.ensures.ok c.args.triples.now claim (c.in_ok-homes.ensures.ok old c.args.shape c.args.slot.now refl) in
     are_scanned log c.requires.in_log met.0 (subst (λ l. AreLed l (length c.args.triples.now)) same (c.in_default.ensures.ok (quiet.premise.0 claim)))
     (record { homes = c.meet_all.new.homes; newer = c.in-Ok.newer }) met.1 (c.in-Ok.ensures.newer c.args.triples.now claim)
+
+pub returns-in-Err-check_led-clause-reads : goal.returns-in-Err-check_led-clause-reads
+returns-in-Err-check_led-clause-reads g c =
+    more_reads g.D.Device.refuses g.D.Device.expects c.args.d.now c.meet_all.new.d c.check_led.new.d c.in-Ok.ensures.reads c.in-Err-check_led.ensures.reads
+
+pub returns-clause-reads : goal.returns-clause-reads
+returns-clause-reads g c =
+    more_reads g.D.Device.refuses g.D.Device.expects c.args.d.now c.meet_all.new.d c.check_led.new.d c.in-Ok.ensures.reads c.in_default.ensures.reads

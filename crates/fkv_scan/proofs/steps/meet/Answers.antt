@@ -1,6 +1,7 @@
 use Rattle.std.proofs.Common.{◌≡◌, sym, ap, subst, ◌+◌}
 use Rattle.std.specs.Ordering.{nat_cmp}
 use Rattle.std.specs.BTreeMap.{get}
+use Rattle.fkv_disk.proofs.Shown.{more_reads}
 use Rattle.fkv_scan.specs.Log.{log_in}
 use Rattle.fkv_scan.specs.Scan.{IsLinked}
 use Rattle.fkv_scan.specs.Known.{KnowsAll, IsMeeting}
@@ -48,3 +49,11 @@ pub returns-clause-newer : goal.returns-clause-newer
 returns-clause-newer g c = λ triples claim.
     newer_is (log_in (g.D.Device.seen c.args.d.now) c.args.shape c.args.slot.now triples) c.args.addr.0 c.in_ok-found.field-0 (c.in_ok-found.ensures.ok claim) c.in-Some.found c.in-Some.is
     c.if-found-slot.false c.if-found-addr.false c.if-found.false
+
+pub returns-in-Err-clause-reads : goal.returns-in-Err-clause-reads
+returns-in-Err-clause-reads g c =
+    more_reads g.D.Device.refuses g.D.Device.expects c.args.d.now c.record_at.new.d c.take_in.new.d c.in_ok-found.ensures.reads c.in-Err.ensures.reads
+
+pub returns-clause-reads : goal.returns-clause-reads
+returns-clause-reads g c =
+    more_reads g.D.Device.refuses g.D.Device.expects c.args.d.now c.record_at.new.d c.take_in.new.d c.in_ok-found.ensures.reads c.in_default-take_in.ensures.reads

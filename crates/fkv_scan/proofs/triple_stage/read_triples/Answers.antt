@@ -2,6 +2,7 @@ use Rattle.std.proofs.Common.{◌≡◌, Some, sym, ap, subst, ◌∙◌, arith,
 use Rattle.std.specs.Prelude.{◌↔◌, ◌∷◌, [], ◌++◌}
 use Rattle.std.specs.Ordering.{nat_cmp}
 use Rattle.std.specs.BTreeMap.{get}
+use Rattle.fkv_disk.proofs.Shown.{more_reads}
 use Rattle.fkv_record.specs.declared.triples.Triple.{Triple}
 use Rattle.fkv_scan.specs.Checkpoint.{checkpoint_in, IsTripleAt}
 use Rattle.fkv_scan.proofs.Quieter.{quiet_on}
@@ -32,6 +33,7 @@ loop-i-preserved g c =
     let pushed : c.push.new.self.items ≡ c.loop-i.triples.items ++ c.in-Some.triple ∷ [] = c.in_ok-push.ensures.items in
     record {
       quiet = quiet_on g.D.Device.honest g.D.Device.seen g.D.Device.may_leave g.D.Device.moment g.D.Device.left_since g.D.Device.failed c.args.d.now c.loop-i.d c.triple_at.new.d quiet c.in_ok-triple.ensures.quiet;
+      reads = more_reads g.D.Device.refuses g.D.Device.expects c.args.d.now c.loop-i.d c.triple_at.new.d c.loop-i.invariant.reads c.in_ok-triple.ensures.reads;
       seen = subst (λ triples. AreSeen triples (get nat_cmp c.insert.new.self) (c.loop-i.i + 1) c.args.slot.now.end.0) (sym pushed)
           (seen_next c.loop-i.triples.items (get nat_cmp c.loop-i.homes) c.loop-i.i c.args.slot.now.end.0 c.loop-i.invariant.seen c.in-Some.triple c.triple_home-home.result c.triple_home-home.ensures
           (sym c.contains_key.ensures ∙ c.if-contains_key.false) (get nat_cmp c.insert.new.self) (c.in_ok-triple.ensures.in_log c.in-Some.triple c.in-Some.is) c.in_ok-insert.ensures.updates.0);
@@ -48,3 +50,23 @@ returns-clause-ok g c = λ claim. record {
   many = (let many = c.loop-i.invariant.seen.many in let last = c.loop-i-test.false in let most = c.loop-i.auto.i-end in omega (arith, many, last, most));
   each = λ i x is. (c.loop-i.invariant.read claim).each i x is;
 }
+
+pub returns-in_err-triple-clause-reads : goal.returns-in_err-triple-clause-reads
+returns-in_err-triple-clause-reads g c =
+    more_reads g.D.Device.refuses g.D.Device.expects c.args.d.now c.loop-i.d c.triple_at.new.d c.loop-i.invariant.reads c.triple_at.ensures.reads
+
+pub returns-in_default-clause-reads : goal.returns-in_default-clause-reads
+returns-in_default-clause-reads g c =
+    more_reads g.D.Device.refuses g.D.Device.expects c.args.d.now c.loop-i.d c.triple_at.new.d c.loop-i.invariant.reads c.in_ok-triple.ensures.reads
+
+pub returns-then-contains_key-clause-reads : goal.returns-then-contains_key-clause-reads
+returns-then-contains_key-clause-reads g c =
+    more_reads g.D.Device.refuses g.D.Device.expects c.args.d.now c.loop-i.d c.triple_at.new.d c.loop-i.invariant.reads c.in_ok-triple.ensures.reads
+
+pub returns-in_err-insert-clause-reads : goal.returns-in_err-insert-clause-reads
+returns-in_err-insert-clause-reads g c =
+    more_reads g.D.Device.refuses g.D.Device.expects c.args.d.now c.loop-i.d c.triple_at.new.d c.loop-i.invariant.reads c.in_ok-triple.ensures.reads
+
+pub returns-in_err-push-clause-reads : goal.returns-in_err-push-clause-reads
+returns-in_err-push-clause-reads g c =
+    more_reads g.D.Device.refuses g.D.Device.expects c.args.d.now c.loop-i.d c.triple_at.new.d c.loop-i.invariant.reads c.in_ok-triple.ensures.reads

@@ -1,0 +1,5 @@
+mod Alone
+mod Begun
+mod Moved
+mod OneEvent
+mod Tells

@@ -1,0 +1,11 @@
+//! What the words after the program's name ask for, and how a run ends.
+#![tactic(auto)]
+
+mod endings;
+mod options;
+
+pub use endings::{RunFault, Verdict};
+pub use options::{Options, options_of};
+
+#[cfg(test)]
+mod tests;
