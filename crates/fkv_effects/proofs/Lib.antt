@@ -1,0 +1,4 @@
+mod Moved
+mod Quiet
+mod Stepped
+mod Told

@@ -1,0 +1,35 @@
+-- The effects that somebody keeps who asks for them behind each move.
+use Rattle.std.specs.Prelude.{ℕ, if◌then◌else◌, List, [], ◌∷◌, map, Option, None}
+use Rattle.fkv_core.specs.Alone.{in_hand}
+use Rattle.fkv_core.specs.Showing.{effect_of}
+use Rattle.fkv_core.specs.declared.events.Actor.TheVariants.{Session}
+use Rattle.fkv_core.specs.declared.events.Event as asked
+use Rattle.fkv_core.specs.declared.events.Event.TheVariants as ask
+use Rattle.fkv_map.specs.declared.history.HistoryEntry.{HistoryEntry}
+use Rattle.fkv_session.specs.Replies.{with_effect}
+use Rattle.fkv_world.specs.Past.{Effect}
+use Rattle.fkv_world.specs.Runs.{World, run}
+use Rattle.fkv_world.specs.World.{Event, Moves, Now}
+
+-- the updates of a history, without the versions of their requests
+abbrev pub updates : List Effect → List HistoryEntry
+updates history = map (λ its. its.entry) history
+
+-- What is told of this session behind its move, from the world before to the one after. Where it had no call in hand nothing is asked: a move then
+-- changes nothing, and the session still tells what its last ask made.
+abbrev pub told_of_move : Now → Now → ℕ → Option HistoryEntry
+told_of_move n after number = if in_hand n (Session number) then effect_of after number else None
+
+-- what is told behind an event, and behind one that is asked of the engine: behind those that move no session nothing is asked
+abbrev pub told_behind : Now → Now → Event → Option HistoryEntry
+told_behind n after (Moves number) = told_of_move n after number
+told_behind n after event = None
+
+abbrev pub told_behind_step : Now → Now → asked.Event → Option HistoryEntry
+told_behind_step n after (ask.Move number) = told_of_move n after number
+told_behind_step n after event = None
+
+-- what is kept of a life, the newest first
+unfoldable pub effects_kept : World → List Event → List HistoryEntry
+effects_kept opening [] = []
+effects_kept opening (event ∷ before) = with_effect (told_behind (run opening before).now (run opening (event ∷ before)).now event) (effects_kept opening before)
