@@ -1,5 +1,5 @@
 -- The effects that somebody keeps who asks for them behind each move.
-use Rattle.std.specs.Prelude.{ℕ, if◌then◌else◌, List, [], ◌∷◌, map, Option, None}
+use Rattle.std.specs.Prelude.{ℕ, if◌then◌else◌, List, [], ◌∷◌, map, Option, Some, None}
 use Rattle.fkv_core.specs.Alone.{in_hand}
 use Rattle.fkv_core.specs.Showing.{effect_of}
 use Rattle.fkv_core.specs.declared.events.Actor.TheVariants.{Session}
@@ -28,6 +28,11 @@ told_behind n after event = None
 abbrev pub told_behind_step : Now → Now → asked.Event → Option HistoryEntry
 told_behind_step n after (ask.Move number) = told_of_move n after number
 told_behind_step n after event = None
+
+-- as a list, for who keeps the oldest first
+abbrev pub listed : Option HistoryEntry → List HistoryEntry
+listed None = []
+listed (Some its) = its ∷ []
 
 -- what is kept of a life, the newest first
 unfoldable pub effects_kept : World → List Event → List HistoryEntry

@@ -1,5 +1,5 @@
 //! The effects that are told are the history.
-ghost use Rattle.std.specs.Prelude.{◌≡◌, ◌∷◌, ℕ, List, Option};
+ghost use Rattle.std.specs.Prelude.{◌≡◌, ◌∷◌, ◌++◌, ℕ, List, Option, reverse};
 ghost use Rattle.fkv_answered.specs.Calls.{IsStepped};
 ghost use Rattle.fkv_answered.specs.Lives.{IsOfLife};
 ghost use Rattle.fkv_core.specs.Worlds.{WorldModel, took_place};
@@ -11,7 +11,7 @@ ghost use Rattle.fkv_world.specs.Runs as runs;
 ghost use Rattle.fkv_world.specs.Runs.{run};
 ghost use Rattle.fkv_world.specs.World.{Event};
 ghost use Rattle.fkv_world_guard.specs.OpenedStore.{IsOpenedStore};
-ghost use Rattle.fkv_effects.specs.Kept.{effects_kept, told_behind, told_behind_step, updates};
+ghost use Rattle.fkv_effects.specs.Kept.{effects_kept, listed, told_behind, told_behind_step, updates};
 
 use fkv_core::World;
 use fkv_disk::Device;
@@ -29,11 +29,15 @@ pub fn law_effects_told()
     law_world_slots();
 }
 
-/// So it is behind each step of the engine, by what `World::is_in_hand` says of the session before it, and `World::effect` behind it.
+/// So it is behind each step of the engine, by what `World::is_in_hand` says of the session before it, and `World::effect` behind it; and for
+/// who keeps the oldest first.
 pub fn law_step_tells_effect<D: Device>(world: &World<D>)
-    ensures { (opening : runs.World) (start : ℕ) (events : List Event) (its : asked.Event) (after : WorldModel D) (told : Option Told) → IsOfLife D.honest D.seen D.may_leave opening start events world.now
+    ensures newest_first { (opening : runs.World) (start : ℕ) (events : List Event) (its : asked.Event) (after : WorldModel D) (told : Option Told) → IsOfLife D.honest D.seen D.may_leave opening start events world.now
         → (step : IsStepped D.honest D.seen D.may_leave D.failed D.refuses its world.now after told)
         → updates (run opening (took_place its step.granted step.done ∷ events)).past.history ≡ with_effect (told_behind_step world.now.now after.now its) (updates (run opening events).past.history) }
+    ensures oldest_first { (opening : runs.World) (start : ℕ) (events : List Event) (its : asked.Event) (after : WorldModel D) (told : Option Told) → IsOfLife D.honest D.seen D.may_leave opening start events world.now
+        → (step : IsStepped D.honest D.seen D.may_leave D.failed D.refuses its world.now after told)
+        → reverse (updates (run opening (took_place its step.granted step.done ∷ events)).past.history) ≡ reverse (updates (run opening events).past.history) ++ listed (told_behind_step world.now.now after.now its) }
 {
     law_effects_told();
 }
