@@ -1,0 +1,88 @@
+-- A beat of a play: one step of the engine, what it tells, and what is printed of it.
+use Rattle.std.specs.Prelude.{◌≡◌, ℕ, Bool, true, false, if◌then◌else◌, List, [], ◌∷◌, ◌++◌, Option, Some, None, Result, Ok, Err}
+use Rattle.fkv_base.specs.declared.faults.Fault.{Fault}
+use Rattle.fkv_core.specs.Showing.{effect_of}
+use Rattle.fkv_core.specs.Worlds.{WorldModel}
+use Rattle.fkv_core.specs.declared.events.Event as events
+use Rattle.fkv_core.specs.declared.events.Event.TheVariants as event
+use Rattle.fkv_core.specs.declared.events.Told.{Told}
+use Rattle.fkv_core.specs.declared.events.Told.TheVariants as told
+use Rattle.fkv_disk.specs.declared.fuses.Fuse.{Fuse}
+use Rattle.fkv_keeper.specs.declared.answers.Finished.{Finished}
+use Rattle.fkv_keeper.specs.declared.answers.Turn.Turn as turns
+use Rattle.fkv_map.specs.declared.history.HistoryEntry.{HistoryEntry}
+use Rattle.fkv_map.specs.declared.operations.Call.{Call}
+use Rattle.fkv_map.specs.declared.operations.Call.TheVariants.{Refresh}
+use Rattle.fkv_world.specs.World.{Now}
+use Rattle.fkv_playing.specs.Players.{PlayerState, is_struck}
+use Rattle.fkv_playing.specs.Seats.{SeatState, seats_answered}
+use Rattle.fkv_playing.specs.Texts.{text_heard}
+use Rattle.fkv_playing.specs.declared.calls.ActorCall.{ActorCall}
+use Rattle.fkv_playing.specs.declared.calls.ActorCall.TheVariants.{Session, Commit, Turn}
+use Rattle.fkv_playing.specs.declared.calls.Outcome.{Outcome}
+use Rattle.fkv_playing.specs.declared.calls.Outcome.TheVariants.{GoesOn, Answered, Closed, Struck}
+use Rattle.fkv_playing.specs.declared.calls.Stage.{Stage}
+use Rattle.fkv_playing.specs.declared.calls.Stage.TheVariants.{Begins, Moves}
+use Rattle.fkv_playing.specs.declared.calls.Telling.{Telling}
+
+-- a call is begun by its own event, and goes on by its actor's moves
+abbrev pub event_of : Stage → ActorCall → events.Event
+event_of Begins (Session number call) = event.Call number call
+event_of Begins (Commit kind) = event.Commit kind
+event_of Begins Turn = event.Turn
+event_of Moves (Session number call) = event.Move number
+event_of Moves (Commit kind) = event.KeeperMove
+event_of Moves Turn = event.KeeperMove
+
+-- what a session was asked; of the keeper's calls nothing is looked at
+abbrev pub asked_of : ActorCall → Call
+asked_of (Session number call) = call
+asked_of other = Refresh
+
+-- a turn closes a finish where it has finished a commit, or is refused
+abbrev pub outcome_of_finished : Option Finished → Outcome
+outcome_of_finished (Some commit) = Closed
+outcome_of_finished None = Answered
+
+abbrev pub outcome_of_turn : Result turns.Turn Fault → Outcome
+outcome_of_turn (Ok turn) = outcome_of_finished turn.finished
+outcome_of_turn (Err fault) = Closed
+
+abbrev pub outcome_of_told : Told → Outcome
+outcome_of_told (told.Session number answer) = Answered
+outcome_of_told (told.Commit begun) = Answered
+outcome_of_told (told.Turn its) = outcome_of_turn its
+
+-- where a crash has struck nobody hears what was told
+abbrev pub outcome_of : Bool → Option Told → Outcome
+outcome_of true its = Struck
+outcome_of false None = GoesOn
+outcome_of false (Some its) = outcome_of_told its
+
+abbrev pub heard : Bool → Option Told → Option Told
+heard true its = None
+heard false its = its
+
+-- the seats behind what was heard
+abbrev pub seats_behind : Call → List SeatState → Option Told → List SeatState
+seats_behind call seats (Some (told.Session number answer)) = seats_answered number call answer seats
+seats_behind call seats other = seats
+
+-- the update whose effect is told behind a session's move, as a list
+abbrev pub listed : Option HistoryEntry → List HistoryEntry
+listed None = []
+listed (Some entry) = entry ∷ []
+
+abbrev pub effects_behind : Bool → events.Event → Now → List HistoryEntry
+effects_behind true (event.Move number) n = listed (effect_of n number)
+effects_behind keeps other n = []
+
+-- One step of the engine with the event of this call's stage; of what it told, where no crash has struck, this is printed and noted.
+pub record IsBeat {D : Type 0} (engine : events.Event → WorldModel (Fuse D) → WorldModel (Fuse D) → Option Told → Type 0) (telling : Telling) (call : ActorCall) (stage : Stage) (before after : PlayerState D) (outcome : Outcome) (text : List ℕ) : Type 0 where
+  pub its : Option Told
+  pub step : engine (event_of stage call) before.world after.world its
+  pub same : after ≡ record before { world = after.world; seats = after.seats; history = after.history }
+  pub ends : outcome ≡ outcome_of (is_struck after) its
+  pub says : text ≡ text_heard telling (asked_of call) before.seats after.world.now (heard (is_struck after) its)
+  pub seats : after.seats ≡ seats_behind (asked_of call) before.seats (heard (is_struck after) its)
+  pub history : after.history ≡ before.history ++ effects_behind before.keeps_history (event_of stage call) after.world.now

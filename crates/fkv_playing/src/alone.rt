@@ -1,0 +1,51 @@
+//! Calls that are played alone, each to its end.
+ghost use Rattle.std.specs.Prelude.{◌≡◌, ◌≤◌, IfOk, length, take};
+ghost use Rattle.fkv_playing.specs.Finishes.{IsPlayedAlone};
+ghost use Rattle.fkv_playing.specs.InTurn.{InTurn, Writes};
+ghost use Rattle.fkv_playing.specs.Players.{EngineStep};
+
+use crate::calls::{ActorCall, Outcome, Stage, Telling};
+use crate::players::Player;
+use fkv_disk::{Device, Fuse};
+use std::io::{self, Write};
+
+impl<D: Device> Player<D> {
+    /// Begins a call, and moves its actor alone until it has ended.
+    pub(crate) fn play_alone<W: Write>(
+        &mut self,
+        output: &mut W,
+        telling: Telling,
+        call: ActorCall,
+    ) -> io::Result<Outcome>
+        ensures { IfOk result (λ outcome. Writes (IsPlayedAlone (EngineStep ⟦<Fuse<D> as Device>⟧.honest ⟦<Fuse<D> as Device>⟧.seen ⟦<Fuse<D> as Device>⟧.may_leave ⟦<Fuse<D> as Device>⟧.failed ⟦<Fuse<D> as Device>⟧.refuses) telling call self.old self.new outcome) (W.contents output.old) (W.contents output.new)) }
+    {
+        let mut outcome = self.beat(output, telling, call, Stage::Begins)?;
+        for _ in 0..u64::MAX {
+            if outcome != Outcome::GoesOn {
+                return Ok(outcome);
+            }
+            outcome = self.beat(output, telling, call, Stage::Moves)?;
+        }
+        // No call of a life has so many moves.
+        Err(io::ErrorKind::Other.into())
+    }
+
+    /// Plays these calls, each alone, up to one that isn't just answered.
+    pub(crate) fn play_calls<W: Write>(
+        &mut self,
+        output: &mut W,
+        telling: Telling,
+        calls: &[ActorCall],
+    ) -> io::Result<Outcome>
+        ensures { IfOk result (λ outcome. (count : ℕ) × (outcome ≡ Outcome.Answered → length calls.now ≤ count)
+            × Writes (InTurn (IsPlayedAlone (EngineStep ⟦<Fuse<D> as Device>⟧.honest ⟦<Fuse<D> as Device>⟧.seen ⟦<Fuse<D> as Device>⟧.may_leave ⟦<Fuse<D> as Device>⟧.failed ⟦<Fuse<D> as Device>⟧.refuses) telling) Outcome.Answered (take count calls.now) self.old self.new outcome) (W.contents output.old) (W.contents output.new)) }
+    {
+        for call in calls {
+            let outcome = self.play_alone(output, telling, *call)?;
+            if outcome != Outcome::Answered {
+                return Ok(outcome);
+            }
+        }
+        Ok(Outcome::Answered)
+    }
+}

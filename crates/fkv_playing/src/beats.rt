@@ -1,0 +1,80 @@
+//! A beat: one step of the engine, and what is printed of what it tells.
+ghost use Rattle.std.specs.Prelude.{◌≡◌, ◌++◌, IfOk, OnOk, Some};
+ghost use Rattle.std.specs.Io.KnownBytes.{Appends};
+ghost use Rattle.fkv_playing.specs.Beats.{IsBeat, effects_behind, event_of, outcome_of_told, seats_behind};
+ghost use Rattle.fkv_playing.specs.InTurn.{Writes};
+ghost use Rattle.fkv_playing.specs.Players.{EngineStep};
+ghost use Rattle.fkv_playing.specs.Texts.{phase_shown, text_of};
+
+use crate::calls::{ActorCall, Outcome, Stage, Telling};
+use crate::players::Player;
+use crate::seats::note_answer;
+use crate::telling::{outcome_of_told, tell_answer, tell_turn};
+use fkv_core::{Event, Told};
+use fkv_disk::{Device, Fuse};
+use fkv_map::Call;
+use fkv_texts::write_commit;
+use std::io::{self, Write};
+
+impl<D: Device> Player<D> {
+    /// One step of this call at its stage. Where a crash strikes in it, nobody hears what was told.
+    pub(crate) fn beat<W: Write>(
+        &mut self,
+        output: &mut W,
+        telling: Telling,
+        call: ActorCall,
+        stage: Stage,
+    ) -> io::Result<Outcome>
+        ensures { IfOk result (λ outcome. Writes (IsBeat (EngineStep ⟦<Fuse<D> as Device>⟧.honest ⟦<Fuse<D> as Device>⟧.seen ⟦<Fuse<D> as Device>⟧.may_leave ⟦<Fuse<D> as Device>⟧.failed ⟦<Fuse<D> as Device>⟧.refuses) telling call stage self.old self.new outcome) (W.contents output.old) (W.contents output.new)) }
+    {
+        let event = call.event(stage);
+        let told = self.world.step(event);
+        self.note_effect(event)?;
+        if self.is_struck() {
+            return Ok(Outcome::Struck);
+        }
+        match told {
+            None => Ok(Outcome::GoesOn),
+            Some(told) => {
+                self.hear(output, telling, call.asked(), &told)?;
+                Ok(outcome_of_told(&told))
+            }
+        }
+    }
+
+    /// Keeps the update whose effect was just told, if there is one.
+    fn note_effect(&mut self, event: Event) -> io::Result<()>
+        ensures { OnOk result (self.new ≡ record self.old { history = self.old.history ++ effects_behind self.old.keeps_history event self.old.world.now }) }
+    {
+        if !self.keeps_history {
+            return Ok(());
+        }
+        if let Event::Move(number) = event {
+            if let Some(entry) = self.world.effect(number) {
+                self.history.push(entry)?;
+            }
+        }
+        Ok(())
+    }
+
+    /// Prints what was told, and notes it.
+    fn hear<W: Write>(
+        &mut self,
+        output: &mut W,
+        telling: Telling,
+        call: Call,
+        told: &Told,
+    ) -> io::Result<()>
+        ensures text { OnOk result (Appends (W.contents output.old) (W.contents output.new) (text_of telling call self.old.seats self.old.world.now told.now)) }
+        ensures seats { OnOk result (self.new ≡ record self.old { seats = seats_behind call self.old.seats (Some told.now) }) }
+    {
+        match told {
+            Told::Session(number, answer) => {
+                tell_answer(output, telling, *number, call, answer, self.seats.get(*number))?;
+                note_answer(&mut self.seats, *number, call, answer)
+            }
+            Told::Commit(begun) => write_commit(output, *begun),
+            Told::Turn(its) => tell_turn(output, telling, self.phase(), its),
+        }
+    }
+}

@@ -1,0 +1,25 @@
+//! A life that is played: calls of sessions and of the keeper, each begun and moved to its end by steps of the engine, alone or
+//! interleaved, with what is printed of each. Nothing here knows a script, nor how a store was opened.
+#![tactic(auto)]
+
+mod alone;
+mod beats;
+mod calls;
+mod finishes;
+mod groups;
+mod players;
+mod queues;
+mod seats;
+mod telling;
+
+pub use calls::{ActorCall, Outcome};
+pub use groups::Picks;
+pub use players::{Player, Waits};
+pub use queues::{Queue, queues_of};
+pub use seats::Seat;
+
+#[cfg(test)]
+mod tests {
+    #[test]
+    fn nothing(_rt: HostRuntime) {}
+}
