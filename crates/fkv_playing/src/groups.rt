@@ -16,6 +16,7 @@ use rand_pcg::Pcg64;
 use std::io::{self, Write};
 
 /// Who steps next among the actors that have a step left.
+#[derive(Drop)]
 pub struct Picks {
     generator: Option<Pcg64>,
 }
