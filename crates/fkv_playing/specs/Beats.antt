@@ -9,7 +9,7 @@ use Rattle.fkv_core.specs.declared.events.Told.{Told}
 use Rattle.fkv_core.specs.declared.events.Told.TheVariants as told
 use Rattle.fkv_disk.specs.declared.fuses.Fuse.{Fuse}
 use Rattle.fkv_keeper.specs.declared.answers.Finished.{Finished}
-use Rattle.fkv_keeper.specs.declared.answers.Turn.Turn as turns
+use Rattle.fkv_keeper.specs.declared.answers.Turn as turns
 use Rattle.fkv_map.specs.declared.history.HistoryEntry.{HistoryEntry}
 use Rattle.fkv_map.specs.declared.operations.Call.{Call}
 use Rattle.fkv_map.specs.declared.operations.Call.TheVariants.{Refresh}

@@ -6,7 +6,7 @@ use Rattle.fkv_base.specs.declared.phases.Phase.{Phase}
 use Rattle.fkv_base.specs.declared.phases.Phase.TheVariants.{Rest}
 use Rattle.fkv_core.specs.declared.events.Told.{Told}
 use Rattle.fkv_core.specs.declared.events.Told.TheVariants.{Session, Commit, Turn}
-use Rattle.fkv_keeper.specs.declared.answers.Turn.Turn as turns
+use Rattle.fkv_keeper.specs.declared.answers.Turn as turns
 use Rattle.fkv_map.specs.declared.operations.Call.{Call}
 use Rattle.fkv_plane.specs.Asked.{word_at}
 use Rattle.fkv_plane.specs.Places.{shared_place}

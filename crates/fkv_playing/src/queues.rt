@@ -1,5 +1,5 @@
 //! The calls of a group, by their actors.
-ghost use Rattle.std.specs.Prelude.{◌≡◌, ◌<◌, ◌≤◌, ◌∷◌, [], ◌++◌, IfOk, IfSome, IfNone, OnOk, length, map, slice_get, Some, None};
+ghost use Rattle.std.specs.Prelude.{◌≡◌, ◌<◌, ◌≤◌, ◌∷◌, [], ◌++◌, ℕ, List, IfOk, IfSome, IfNone, OnOk, is_some, length, map, slice_get, Some, None};
 ghost use Rattle.fkv_playing.specs.Queues.{AreQueuesOf, HasSteps, NobodyHasSteps, QueueState, given_up, held, is_of, next_step, queue_behind, rank_of};
 
 use crate::calls::{ActorCall, Outcome, Stage};
@@ -17,7 +17,7 @@ pub struct Queue {
 }
 
 impl Model for Queue {
-    ghost use Rattle.std.specs.Prelude.{drop};
+    ghost use Rattle.std.specs.Prelude.{◌≤◌, drop, length};
     ghost use Rattle.fkv_playing.specs.Queues.{QueueState, rank_of};
 
     ghost Value = { QueueState };
