@@ -1,5 +1,5 @@
 -- The calls of a group, by their actors.
-use Rattle.std.specs.Prelude.{◌≡◌, ◌<◌, ℕ, ◌^◌, Bool, true, false, not, nat_eq, List, [], ◌∷◌, map, Option, Some, None, slice_get, filter, Contains, Any}
+use Rattle.std.specs.Prelude.{◌≡◌, ◌<◌, ℕ, ◌^◌, Bool, nat_eq, List, [], ◌∷◌, Option, Some, None, slice_get, filter}
 use Rattle.fkv_playing.specs.declared.calls.ActorCall.{ActorCall}
 use Rattle.fkv_playing.specs.declared.calls.ActorCall.TheVariants.{Session, Commit, Turn}
 use Rattle.fkv_playing.specs.declared.calls.Outcome.{Outcome}

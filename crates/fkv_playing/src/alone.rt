@@ -1,5 +1,5 @@
 //! Calls that are played alone, each to its end.
-ghost use Rattle.std.specs.Prelude.{◌≡◌, ◌≤◌, IfOk, length, take};
+ghost use Rattle.std.specs.Prelude.{◌≡◌, ◌≤◌, ℕ, IfOk, length, take};
 ghost use Rattle.fkv_playing.specs.Finishes.{IsPlayedAlone};
 ghost use Rattle.fkv_playing.specs.InTurn.{InTurn, Writes};
 ghost use Rattle.fkv_playing.specs.Players.{EngineStep};

@@ -1,5 +1,5 @@
 //! The calls that are played, and how a step of one comes out.
-ghost use Rattle.std.specs.Prelude.{◌≡◌};
+ghost use Rattle.std.specs.Prelude.{◌≡◌, nat_lt};
 ghost use Rattle.fkv_playing.specs.Beats.{asked_of, event_of};
 ghost use Rattle.fkv_playing.specs.Queues.{rank_of};
 

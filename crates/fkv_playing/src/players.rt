@@ -1,6 +1,7 @@
 //! A life that is played.
 ghost use Rattle.std.specs.Prelude.{◌≡◌, IfOk, replicate};
-ghost use Rattle.fkv_disk.specs.declared.fuses.Fuse.{Fuse};
+ghost use Rattle.fkv_disk.specs.Fuse.{is_blown};
+ghost use Rattle.fkv_disk.specs.Fuses.{fuse_state};
 ghost use Rattle.fkv_playing.specs.Players.{IsArmed, PlayerState, is_struck, waits_for_crash};
 ghost use Rattle.fkv_playing.specs.Seats.{first_seat};
 ghost use Rattle.fkv_playing.specs.Texts.{phase_shown};

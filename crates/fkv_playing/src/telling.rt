@@ -1,5 +1,6 @@
 //! What is printed of what the engine tells.
-ghost use Rattle.std.specs.Prelude.{◌≡◌, OnOk, slice_get};
+ghost use Rattle.std.specs.Prelude.{◌≡◌, OnOk, option_map};
+ghost use Rattle.fkv_words.specs.PhaseWords as words;
 ghost use Rattle.std.specs.Io.KnownBytes.{Appends};
 ghost use Rattle.fkv_playing.specs.Beats.{outcome_of_told, outcome_of_turn};
 ghost use Rattle.fkv_playing.specs.Texts.{answer_told, phase_told, turn_told};
@@ -19,7 +20,7 @@ use std::io::{self, Write};
 
 /// The phase and the version that a phase word says.
 pub(crate) fn phase_told(word: u64) -> (Phase, Version)
-    ensures { result ≡ phase_told (Rattle.fkv_words.specs.PhaseWords.phase_said word) }
+    ensures { result ≡ phase_told (words.phase_said word) }
 {
     match phase_said(word) {
         PhaseSaid::Says(phase, version) => (phase, version),
