@@ -7,7 +7,6 @@ use Rattle.fkv_core.specs.declared.events.Event as events
 use Rattle.fkv_core.specs.declared.events.Event.TheVariants as event
 use Rattle.fkv_core.specs.declared.events.Told.{Told}
 use Rattle.fkv_core.specs.declared.events.Told.TheVariants as told
-use Rattle.fkv_disk.specs.declared.fuses.Fuse.{Fuse}
 use Rattle.fkv_keeper.specs.declared.answers.Finished.{Finished}
 use Rattle.fkv_keeper.specs.declared.answers.Turn as turns
 use Rattle.fkv_map.specs.declared.history.HistoryEntry.{HistoryEntry}
@@ -78,11 +77,12 @@ effects_behind true (event.Move number) n = listed (effect_of n number)
 effects_behind keeps other n = []
 
 -- One step of the engine with the event of this call's stage; of what it told, where no crash has struck, this is printed and noted.
-pub record IsBeat {D : Type 0} (engine : events.Event → WorldModel (Fuse D) → WorldModel (Fuse D) → Option Told → Type 0) (telling : Telling) (call : ActorCall) (stage : Stage) (before after : PlayerState D) (outcome : Outcome) (text : List ℕ) : Type 0 where
+pub record IsBeat {D : Type 0} (engine : events.Event → WorldModel D → WorldModel D → Option Told → Bool → Type 0) (telling : Telling) (call : ActorCall) (stage : Stage) (before after : PlayerState D) (outcome : Outcome) (text : List ℕ) : Type 0 where
   pub its : Option Told
-  pub step : engine (event_of stage call) before.world after.world its
+  pub broken : Bool
+  pub step : engine (event_of stage call) before.world after.world its broken
   pub same : after ≡ record before { world = after.world; seats = after.seats; history = after.history }
-  pub ends : outcome ≡ outcome_of (is_struck after) its
-  pub says : text ≡ text_heard telling (asked_of call) before.seats after.world.now (heard (is_struck after) its)
-  pub seats : after.seats ≡ seats_behind (asked_of call) before.seats (heard (is_struck after) its)
+  pub ends : outcome ≡ outcome_of (is_struck before.waits broken) its
+  pub says : text ≡ text_heard telling (asked_of call) before.seats after.world.now (heard (is_struck before.waits broken) its)
+  pub seats : after.seats ≡ seats_behind (asked_of call) before.seats (heard (is_struck before.waits broken) its)
   pub history : after.history ≡ before.history ++ effects_behind before.keeps_history (event_of stage call) after.world.now

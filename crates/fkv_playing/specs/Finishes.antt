@@ -6,7 +6,6 @@ use Rattle.fkv_base.specs.declared.phases.Phase.TheVariants as phase
 use Rattle.fkv_core.specs.Worlds.{WorldModel}
 use Rattle.fkv_core.specs.declared.events.Event.{Event}
 use Rattle.fkv_core.specs.declared.events.Told.{Told}
-use Rattle.fkv_disk.specs.declared.fuses.Fuse.{Fuse}
 use Rattle.fkv_map.specs.declared.operations.Call.TheVariants.{Refresh, Poll}
 use Rattle.fkv_texts.specs.Keeper.{nothing_to_finish, not_finished}
 use Rattle.fkv_playing.specs.Beats.{IsBeat}
@@ -24,7 +23,7 @@ use Rattle.fkv_playing.specs.declared.calls.Telling.{Telling}
 use Rattle.fkv_playing.specs.declared.calls.Telling.TheVariants.{Finished}
 
 -- a call that is begun, and moved alone as long as it goes on
-pub record IsPlayedAlone {D : Type 0} (engine : Event → WorldModel (Fuse D) → WorldModel (Fuse D) → Option Told → Type 0) (telling : Telling) (call : ActorCall) (before after : PlayerState D) (outcome : Outcome) (text : List ℕ) : Type 0 where
+pub record IsPlayedAlone {D : Type 0} (engine : Event → WorldModel D → WorldModel D → Option Told → Bool → Type 0) (telling : Telling) (call : ActorCall) (before after : PlayerState D) (outcome : Outcome) (text : List ℕ) : Type 0 where
   pub moves : ℕ
   pub beats : InTurn (IsBeat engine telling call) GoesOn (Begins ∷ replicate moves Moves) before after outcome text
   pub over : outcome ≢ GoesOn
@@ -56,7 +55,7 @@ abbrev pub behind_rounds : Outcome → List ℕ
 behind_rounds Answered = not_finished
 behind_rounds other = []
 
-pub record AreRounds {D : Type 0} (engine : Event → WorldModel (Fuse D) → WorldModel (Fuse D) → Option Told → Type 0) (before after : PlayerState D) (outcome : Outcome) (text : List ℕ) : Type 0 where
+pub record AreRounds {D : Type 0} (engine : Event → WorldModel D → WorldModel D → Option Told → Bool → Type 0) (before after : PlayerState D) (outcome : Outcome) (text : List ℕ) : Type 0 where
   pub count : ℕ
   pub said : List ℕ
   pub calls : InTurn (IsPlayedAlone engine Finished) Answered (take count (rounds most_rounds (round_of before.seats))) before after outcome said
@@ -64,9 +63,9 @@ pub record AreRounds {D : Type 0} (engine : Event → WorldModel (Fuse D) → Wo
   pub says : text ≡ said ++ behind_rounds outcome
 
 -- a finish where the phase word says rest has nothing to do
-abbrev pub IsFinishIn : {D : Type 0} → (Event → WorldModel (Fuse D) → WorldModel (Fuse D) → Option Told → Type 0) → Phase → PlayerState D → PlayerState D → Outcome → List ℕ → Type 0
+abbrev pub IsFinishIn : {D : Type 0} → (Event → WorldModel D → WorldModel D → Option Told → Bool → Type 0) → Phase → PlayerState D → PlayerState D → Outcome → List ℕ → Type 0
 IsFinishIn engine phase.Rest before after outcome text = (after ≡ before) × (outcome ≡ Answered) × (text ≡ nothing_to_finish)
 IsFinishIn engine other before after outcome text = AreRounds engine before after outcome text
 
-abbrev pub IsFinish : {D : Type 0} → (Event → WorldModel (Fuse D) → WorldModel (Fuse D) → Option Told → Type 0) → PlayerState D → PlayerState D → Outcome → List ℕ → Type 0
+abbrev pub IsFinish : {D : Type 0} → (Event → WorldModel D → WorldModel D → Option Told → Bool → Type 0) → PlayerState D → PlayerState D → Outcome → List ℕ → Type 0
 IsFinish engine before after outcome text = IsFinishIn engine (phase_shown before.world.now).0 before after outcome text

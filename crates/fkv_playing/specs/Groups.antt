@@ -4,7 +4,6 @@ use Rattle.fkv_base.specs.declared.faults.Fault.TheVariants.{NoSession}
 use Rattle.fkv_core.specs.Worlds.{WorldModel}
 use Rattle.fkv_core.specs.declared.events.Event.{Event}
 use Rattle.fkv_core.specs.declared.events.Told.{Told}
-use Rattle.fkv_disk.specs.declared.fuses.Fuse.{Fuse}
 use Rattle.fkv_texts.specs.Refusals.{session_refusal}
 use Rattle.fkv_playing.specs.Beats.{IsBeat}
 use Rattle.fkv_playing.specs.InTurn.{InTurn}
@@ -24,7 +23,7 @@ missing_session seats (Session number call) = if nat_lt number (length seats) th
 missing_session seats other = None
 
 -- A call of a session that the store hasn't is refused, and is over with that. Any other one's step is a beat.
-abbrev pub IsBeatOf : {D : Type 0} → (Event → WorldModel (Fuse D) → WorldModel (Fuse D) → Option Told → Type 0) → ActorCall → Stage → PlayerState D → PlayerState D → Outcome → List ℕ → Option ℕ → Type 0
+abbrev pub IsBeatOf : {D : Type 0} → (Event → WorldModel D → WorldModel D → Option Told → Bool → Type 0) → ActorCall → Stage → PlayerState D → PlayerState D → Outcome → List ℕ → Option ℕ → Type 0
 IsBeatOf engine call stage before after outcome text (Some number) = (after ≡ before) × (outcome ≡ Answered) × (text ≡ session_refusal number NoSession)
 IsBeatOf engine call stage before after outcome text None = IsBeat engine Whole call stage before after outcome text
 
@@ -38,7 +37,7 @@ is_struck_by Struck = true
 is_struck_by other = false
 
 -- The actor whose queue stands at this place has a step left, and makes it; whether a crash has struck in it.
-pub record IsPick {D : Type 0} (engine : Event → WorldModel (Fuse D) → WorldModel (Fuse D) → Option Told → Type 0) (at : ℕ) (before after : GroupState D) (struck : Bool) (text : List ℕ) : Type 0 where
+pub record IsPick {D : Type 0} (engine : Event → WorldModel D → WorldModel D → Option Told → Bool → Type 0) (at : ℕ) (before after : GroupState D) (struck : Bool) (text : List ℕ) : Type 0 where
   pub queue : QueueState
   pub stands : slice_get before.queues at ≡ Some queue
   pub call : ActorCall
@@ -54,7 +53,7 @@ abbrev pub queues_behind : Bool → List QueueState → List QueueState
 queues_behind true queues = map given_up queues
 queues_behind false queues = queues
 
-pub record IsGroup {D : Type 0} (engine : Event → WorldModel (Fuse D) → WorldModel (Fuse D) → Option Told → Type 0) (before after : GroupState D) (struck : Bool) (text : List ℕ) : Type 0 where
+pub record IsGroup {D : Type 0} (engine : Event → WorldModel D → WorldModel D → Option Told → Bool → Type 0) (before after : GroupState D) (struck : Bool) (text : List ℕ) : Type 0 where
   pub picks : List ℕ
   pub last : List QueueState
   pub played : InTurn (IsPick engine) false picks before (record after { queues = last }) struck text

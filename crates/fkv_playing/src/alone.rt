@@ -4,12 +4,12 @@ ghost use Rattle.fkv_playing.specs.Finishes.{IsPlayedAlone};
 ghost use Rattle.fkv_playing.specs.InTurn.{InTurn, Writes};
 ghost use Rattle.fkv_playing.specs.Players.{EngineStep};
 
+use crate::breaking::Breaks;
 use crate::calls::{ActorCall, Outcome, Stage, Telling};
 use crate::players::Player;
-use fkv_disk::{Device, Fuse};
 use std::io::{self, Write};
 
-impl<D: Device> Player<D> {
+impl<D: Breaks> Player<D> {
     /// Begins a call, and moves its actor alone until it has ended.
     pub(crate) fn play_alone<W: Write>(
         &mut self,
@@ -17,7 +17,7 @@ impl<D: Device> Player<D> {
         telling: Telling,
         call: ActorCall,
     ) -> io::Result<Outcome>
-        ensures { IfOk result (λ outcome. Writes (IsPlayedAlone (EngineStep ⟦<Fuse<D> as Device>⟧.honest ⟦<Fuse<D> as Device>⟧.seen ⟦<Fuse<D> as Device>⟧.may_leave ⟦<Fuse<D> as Device>⟧.failed ⟦<Fuse<D> as Device>⟧.refuses) telling call self.old self.new outcome) (W.contents output.old) (W.contents output.new)) }
+        ensures { IfOk result (λ outcome. Writes (IsPlayedAlone (EngineStep D.honest D.seen D.may_leave D.failed D.refuses D.broken) telling call self.old self.new outcome) (W.contents output.old) (W.contents output.new)) }
     {
         let mut outcome = self.beat(output, telling, call, Stage::Begins)?;
         for _ in 0..u64::MAX {
@@ -38,7 +38,7 @@ impl<D: Device> Player<D> {
         calls: &[ActorCall],
     ) -> io::Result<Outcome>
         ensures { IfOk result (λ outcome. (count : ℕ) × (outcome ≡ Outcome.Answered → length calls.now ≤ count)
-            × Writes (InTurn (IsPlayedAlone (EngineStep ⟦<Fuse<D> as Device>⟧.honest ⟦<Fuse<D> as Device>⟧.seen ⟦<Fuse<D> as Device>⟧.may_leave ⟦<Fuse<D> as Device>⟧.failed ⟦<Fuse<D> as Device>⟧.refuses) telling) Outcome.Answered (take count calls.now) self.old self.new outcome) (W.contents output.old) (W.contents output.new)) }
+            × Writes (InTurn (IsPlayedAlone (EngineStep D.honest D.seen D.may_leave D.failed D.refuses D.broken) telling) Outcome.Answered (take count calls.now) self.old self.new outcome) (W.contents output.old) (W.contents output.new)) }
     {
         for call in calls {
             let outcome = self.play_alone(output, telling, *call)?;

@@ -1,22 +1,24 @@
 //! A beat: one step of the engine, and what is printed of what it tells.
-ghost use Rattle.std.specs.Prelude.{◌≡◌, ◌++◌, IfOk, OnOk, Some};
+ghost use Rattle.std.specs.Prelude.{◌≡◌, ◌++◌, IfOk, OnOk, Some, slice_get};
 ghost use Rattle.std.specs.Io.KnownBytes.{Appends};
 ghost use Rattle.fkv_playing.specs.Beats.{IsBeat, effects_behind, event_of, outcome_of_told, seats_behind};
 ghost use Rattle.fkv_playing.specs.InTurn.{Writes};
 ghost use Rattle.fkv_playing.specs.Players.{EngineStep};
-ghost use Rattle.fkv_playing.specs.Texts.{phase_shown, text_of};
+ghost use Rattle.fkv_playing.specs.Seats.{seats_answered};
+ghost use Rattle.fkv_playing.specs.Texts.{answer_told, phase_shown, text_of};
 
+use crate::breaking::Breaks;
 use crate::calls::{ActorCall, Outcome, Stage, Telling};
 use crate::players::Player;
-use crate::seats::note_answer;
+use crate::seats::Seat;
 use crate::telling::{outcome_of_told, tell_answer, tell_turn};
 use fkv_core::{Event, Told};
-use fkv_disk::{Device, Fuse};
 use fkv_map::Call;
+use fkv_session::Answer;
 use fkv_texts::write_commit;
 use std::io::{self, Write};
 
-impl<D: Device> Player<D> {
+impl<D: Breaks> Player<D> {
     /// One step of this call at its stage. Where a crash strikes in it, nobody hears what was told.
     pub(crate) fn beat<W: Write>(
         &mut self,
@@ -25,7 +27,7 @@ impl<D: Device> Player<D> {
         call: ActorCall,
         stage: Stage,
     ) -> io::Result<Outcome>
-        ensures { IfOk result (λ outcome. Writes (IsBeat (EngineStep ⟦<Fuse<D> as Device>⟧.honest ⟦<Fuse<D> as Device>⟧.seen ⟦<Fuse<D> as Device>⟧.may_leave ⟦<Fuse<D> as Device>⟧.failed ⟦<Fuse<D> as Device>⟧.refuses) telling call stage self.old self.new outcome) (W.contents output.old) (W.contents output.new)) }
+        ensures { IfOk result (λ outcome. Writes (IsBeat (EngineStep D.honest D.seen D.may_leave D.failed D.refuses D.broken) telling call stage self.old self.new outcome) (W.contents output.old) (W.contents output.new)) }
     {
         let event = call.event(stage);
         let told = self.world.step(event);
@@ -70,11 +72,31 @@ impl<D: Device> Player<D> {
     {
         match told {
             Told::Session(number, answer) => {
-                tell_answer(output, telling, *number, call, answer, self.seats.get(*number))?;
-                note_answer(&mut self.seats, *number, call, answer)
+                hear_answer(&mut self.seats, output, telling, *number, call, answer)
             }
             Told::Commit(begun) => write_commit(output, *begun),
             Told::Turn(its) => tell_turn(output, telling, self.phase(), its),
         }
+    }
+}
+
+/// Prints an answer to this session's call, and notes what it says of the session, where there is a seat of this number.
+fn hear_answer<W: Write>(
+    seats: &mut Vec<Seat>,
+    output: &mut W,
+    telling: Telling,
+    number: usize,
+    call: Call,
+    answer: &Answer,
+) -> io::Result<()>
+    ensures text { OnOk result (Appends (W.contents output.old) (W.contents output.new) (answer_told telling number call answer.now (slice_get seats.old.items number))) }
+    ensures seats { OnOk result (seats.new.items ≡ seats_answered number call answer.now seats.old.items) }
+{
+    match seats.get_mut(number) {
+        Some(seat) => {
+            tell_answer(output, telling, number, call, answer, seat)?;
+            seat.note(call, answer)
+        }
+        None => Ok(()),
     }
 }

@@ -4,11 +4,11 @@ ghost use Rattle.fkv_playing.specs.Finishes.{AreRounds, IsFinish, calls_of_seats
 ghost use Rattle.fkv_playing.specs.InTurn.{Writes};
 ghost use Rattle.fkv_playing.specs.Players.{EngineStep};
 
+use crate::breaking::Breaks;
 use crate::calls::{ActorCall, Outcome, Telling};
 use crate::players::Player;
 use crate::seats::Seat;
 use fkv_base::Phase;
-use fkv_disk::{Device, Fuse};
 use fkv_map::Call;
 use fkv_texts::{write_not_finished, write_nothing_to_finish};
 use std::alloc::Global;
@@ -17,11 +17,11 @@ use std::io::{self, Write};
 /// A finish has at most so many rounds.
 const MOST_ROUNDS: usize = 64;
 
-impl<D: Device> Player<D> {
+impl<D: Breaks> Player<D> {
     /// Finishes the commit that runs: rounds in which each session that is awake is refreshed and polled, and the keeper takes a
     /// turn, until a turn has finished the commit or is refused, or a crash strikes. It prints what is finished on the way.
     pub fn finish<W: Write>(&mut self, alloc: Global, output: &mut W) -> io::Result<Outcome>
-        ensures { IfOk result (λ outcome. Writes (IsFinish (EngineStep ⟦<Fuse<D> as Device>⟧.honest ⟦<Fuse<D> as Device>⟧.seen ⟦<Fuse<D> as Device>⟧.may_leave ⟦<Fuse<D> as Device>⟧.failed ⟦<Fuse<D> as Device>⟧.refuses) self.old self.new outcome) (W.contents output.old) (W.contents output.new)) }
+        ensures { IfOk result (λ outcome. Writes (IsFinish (EngineStep D.honest D.seen D.may_leave D.failed D.refuses D.broken) self.old self.new outcome) (W.contents output.old) (W.contents output.new)) }
     {
         if self.phase().0 == Phase::Rest {
             write_nothing_to_finish(output)?;
@@ -31,7 +31,7 @@ impl<D: Device> Player<D> {
     }
 
     fn play_rounds<W: Write>(&mut self, alloc: Global, output: &mut W) -> io::Result<Outcome>
-        ensures { IfOk result (λ outcome. Writes (AreRounds (EngineStep ⟦<Fuse<D> as Device>⟧.honest ⟦<Fuse<D> as Device>⟧.seen ⟦<Fuse<D> as Device>⟧.may_leave ⟦<Fuse<D> as Device>⟧.failed ⟦<Fuse<D> as Device>⟧.refuses) self.old self.new outcome) (W.contents output.old) (W.contents output.new)) }
+        ensures { IfOk result (λ outcome. Writes (AreRounds (EngineStep D.honest D.seen D.may_leave D.failed D.refuses D.broken) self.old self.new outcome) (W.contents output.old) (W.contents output.new)) }
     {
         let calls = calls_of_rounds(alloc, &self.seats)?;
         let outcome = self.play_calls(output, Telling::Finished, calls.as_slice())?;

@@ -5,11 +5,11 @@ ghost use Rattle.fkv_playing.specs.InTurn.{Writes};
 ghost use Rattle.fkv_playing.specs.Players.{EngineStep};
 ghost use Rattle.fkv_playing.specs.Queues.{HasSteps, QueueState, held, next_step, queue_behind};
 
+use crate::breaking::Breaks;
 use crate::calls::{ActorCall, Outcome, Stage, Telling};
 use crate::players::Player;
 use crate::queues::{Queue, count_steps, give_up, picked};
 use fkv_base::Fault;
-use fkv_disk::{Device, Fuse};
 use fkv_texts::write_session_refusal;
 use rand_core::{Rng, SeedableRng};
 use rand_pcg::Pcg64;
@@ -38,7 +38,7 @@ impl Picks {
     }
 }
 
-impl<D: Device> Player<D> {
+impl<D: Breaks> Player<D> {
     /// Plays what is left of these queues, one step of a picked actor at a time, until nobody has a step left, or a crash strikes: then each
     /// call in hand is given up. It answers whether one has.
     pub fn play_group<W: Write>(
@@ -47,7 +47,7 @@ impl<D: Device> Player<D> {
         queues: &mut Vec<Queue>,
         picks: &mut Picks,
     ) -> io::Result<bool>
-        ensures { IfOk result (λ struck. Writes (IsGroup (EngineStep ⟦<Fuse<D> as Device>⟧.honest ⟦<Fuse<D> as Device>⟧.seen ⟦<Fuse<D> as Device>⟧.may_leave ⟦<Fuse<D> as Device>⟧.failed ⟦<Fuse<D> as Device>⟧.refuses) (record { player = self.old; queues = queues.old.items }) (record { player = self.new; queues = queues.new.items }) struck) (W.contents output.old) (W.contents output.new)) }
+        ensures { IfOk result (λ struck. Writes (IsGroup (EngineStep D.honest D.seen D.may_leave D.failed D.refuses D.broken) (record { player = self.old; queues = queues.old.items }) (record { player = self.new; queues = queues.new.items }) struck) (W.contents output.old) (W.contents output.new)) }
     {
         for _ in 0..u64::MAX {
             let nth = picks.next(count_steps(queues));
@@ -66,7 +66,7 @@ impl<D: Device> Player<D> {
     /// One step of the actor with this queue.
     fn pick<W: Write>(&mut self, output: &mut W, queue: &mut Queue) -> io::Result<Outcome>
         ensures { HasSteps queue.old → IfOk result (λ outcome. (call : ActorCall) × (stage : Stage) × (next_step queue.old ≡ Some (call, stage)) × (queue.new ≡ queue_behind outcome (held queue.old))
-            × Writes (λ text. IsBeatOf (EngineStep ⟦<Fuse<D> as Device>⟧.honest ⟦<Fuse<D> as Device>⟧.seen ⟦<Fuse<D> as Device>⟧.may_leave ⟦<Fuse<D> as Device>⟧.failed ⟦<Fuse<D> as Device>⟧.refuses) call stage self.old self.new outcome text (missing_session self.old.seats call)) (W.contents output.old) (W.contents output.new)) }
+            × Writes (λ text. IsBeatOf (EngineStep D.honest D.seen D.may_leave D.failed D.refuses D.broken) call stage self.old self.new outcome text (missing_session self.old.seats call)) (W.contents output.old) (W.contents output.new)) }
     {
         let Some((call, stage)) = queue.take_step() else {
             return Ok(Outcome::Answered);
@@ -78,7 +78,7 @@ impl<D: Device> Player<D> {
 
     /// One step of this call. A session that the store hasn't is refused.
     fn step_of<W: Write>(&mut self, output: &mut W, call: ActorCall, stage: Stage) -> io::Result<Outcome>
-        ensures { IfOk result (λ outcome. Writes (λ text. IsBeatOf (EngineStep ⟦<Fuse<D> as Device>⟧.honest ⟦<Fuse<D> as Device>⟧.seen ⟦<Fuse<D> as Device>⟧.may_leave ⟦<Fuse<D> as Device>⟧.failed ⟦<Fuse<D> as Device>⟧.refuses) call stage self.old self.new outcome text (missing_session self.old.seats call)) (W.contents output.old) (W.contents output.new)) }
+        ensures { IfOk result (λ outcome. Writes (λ text. IsBeatOf (EngineStep D.honest D.seen D.may_leave D.failed D.refuses D.broken) call stage self.old self.new outcome text (missing_session self.old.seats call)) (W.contents output.old) (W.contents output.new)) }
     {
         match self.missing_session(call) {
             Some(number) => {

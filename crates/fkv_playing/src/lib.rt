@@ -4,6 +4,7 @@
 
 mod alone;
 mod beats;
+mod breaking;
 mod calls;
 mod finishes;
 mod groups;
@@ -12,6 +13,7 @@ mod queues;
 mod seats;
 mod telling;
 
+pub use breaking::Breaks;
 pub use calls::{ActorCall, Outcome};
 pub use groups::Picks;
 pub use players::{Player, Waits};

@@ -6,11 +6,12 @@ ghost use Rattle.fkv_playing.specs.Players.{IsArmed, PlayerState, is_struck, wai
 ghost use Rattle.fkv_playing.specs.Seats.{first_seat};
 ghost use Rattle.fkv_playing.specs.Texts.{phase_shown};
 
+use crate::breaking::Breaks;
 use crate::seats::{Seat, first_seats};
 use crate::telling::phase_told;
 use fkv_base::{Phase, Version};
 use fkv_core::World;
-use fkv_disk::{Device, Fuse, FuseState};
+use fkv_disk::{Device, Fuse};
 use fkv_map::HistoryEntry;
 use fkv_plane::SharedWord;
 use std::alloc::Global;
@@ -33,7 +34,7 @@ pub enum Waits {
 /// A life that is played: the engine's world, and what is kept beside it to print its answers.
 #[derive(Drop)]
 pub struct Player<D: Device> {
-    pub(crate) world: World<Fuse<D>>,
+    pub(crate) world: World<D>,
     pub(crate) seats: Vec<Seat>,
     pub(crate) history: Vec<HistoryEntry>,
     pub(crate) keeps_history: bool,
@@ -46,12 +47,12 @@ impl<D: Device> Model for Player<D> {
     ghost view = { λ m. record { world = m.world; seats = m.seats.items; history = m.history.items; keeps_history = m.keeps_history; waits = m.waits } };
 }
 
-impl<D: Device + Drop> Player<D> {
+impl<D: Breaks + Drop> Player<D> {
     /// A life that begins with this world, in which so many sessions sit, all awake. Behind these updates each that takes effect is kept,
     /// where updates are kept.
     pub fn new(
         alloc: Global,
-        world: World<Fuse<D>>,
+        world: World<D>,
         sessions: usize,
         history: Vec<HistoryEntry>,
         keeps_history: bool,
@@ -69,7 +70,7 @@ impl<D: Device + Drop> Player<D> {
     }
 }
 
-impl<D: Device> Player<D> {
+impl<D: Breaks> Player<D> {
     /// What is to come of the device.
     pub fn waits(&self) -> Waits
         ensures { result ≡ self.now.waits }
@@ -77,6 +78,31 @@ impl<D: Device> Player<D> {
         self.waits
     }
 
+    /// The device as the life has left it, and the updates that were kept.
+    pub fn end(self) -> (D, Vec<HistoryEntry>)
+        ensures device { result.0 ≡ self.world.device }
+        ensures history { result.1.items ≡ self.history }
+    {
+        let Player { world, history, .. } = self;
+        (world.end(), history)
+    }
+
+    /// Whether the crash that was waited for has struck.
+    pub(crate) fn is_struck(&self) -> bool
+        ensures { result ≡ is_struck self.now.waits (D.broken self.now.world.device) }
+    {
+        self.waits == Waits::Crash && D::is_broken(&self.world)
+    }
+
+    /// The phase and the version that the phase word says.
+    pub(crate) fn phase(&self) -> (Phase, Version)
+        ensures { result ≡ phase_shown self.now.world.now }
+    {
+        phase_told(self.world.word(SharedWord::Phase.place()))
+    }
+}
+
+impl<D: Device> Player<Fuse<D>> {
     /// So many calls of the device pass from now on, and then each fails.
     pub fn fail_behind(&mut self, count: u64)
         ensures { IsArmed count Waits.Failure self.old self.new }
@@ -89,45 +115,12 @@ impl<D: Device> Player<D> {
     pub fn crash_behind(&mut self, count: u64)
         ensures { IsArmed count (waits_for_crash (is_blown (fuse_state self.old.world.device))) self.old self.new }
     {
-        let has_failed = self.has_failed();
+        let has_failed = Fuse::<D>::is_broken(&self.world);
         self.world.arm(count);
         self.waits = if has_failed {
             Waits::CrashAtEnd
         } else {
             Waits::Crash
         };
-    }
-
-    /// The device as the life has left it, and the updates that were kept.
-    pub fn end(self) -> (Fuse<D>, Vec<HistoryEntry>)
-        ensures device { result.0 ≡ self.world.device }
-        ensures history { result.1.items ≡ self.history }
-    {
-        let Player { world, history, .. } = self;
-        (world.end(), history)
-    }
-
-    /// Whether each call of the device fails by now.
-    fn has_failed(&self) -> bool
-        ensures { result ≡ is_blown (fuse_state self.now.world.device) }
-    {
-        match self.world.fuse() {
-            FuseState::Blown | FuseState::BlownAt(_, _) => true,
-            FuseState::Sound | FuseState::Armed(_) => false,
-        }
-    }
-
-    /// Whether the crash that was waited for has struck.
-    pub(crate) fn is_struck(&self) -> bool
-        ensures { result ≡ is_struck self.now }
-    {
-        self.waits == Waits::Crash && self.has_failed()
-    }
-
-    /// The phase and the version that the phase word says.
-    pub(crate) fn phase(&self) -> (Phase, Version)
-        ensures { result ≡ phase_shown self.now.world.now }
-    {
-        phase_told(self.world.word(SharedWord::Phase.place()))
     }
 }

@@ -1,6 +1,6 @@
 //! What a player knows of a session beside its life.
 ghost use Rattle.std.specs.Prelude.{◌≡◌, IfOk, OnOk, length, All, replicate};
-ghost use Rattle.fkv_playing.specs.Seats.{SeatState, first_seat, seat_behind, seats_answered};
+ghost use Rattle.fkv_playing.specs.Seats.{SeatState, first_seat, seat_behind};
 
 use fkv_map::{Call, Op};
 use fkv_session::Answer;
@@ -63,19 +63,4 @@ pub(crate) fn first_seats(alloc: Global, count: usize) -> io::Result<Vec<Seat>>
         seats.push(Seat::new(alloc))?;
     }
     Ok(seats)
-}
-
-/// Notes what the answer to this session's call says of it, where there is a seat of this number.
-pub(crate) fn note_answer(
-    seats: &mut Vec<Seat>,
-    number: usize,
-    call: Call,
-    answer: &Answer,
-) -> io::Result<()>
-    ensures { OnOk result (seats.new.items ≡ seats_answered number call answer.now seats.old.items) }
-{
-    match seats.get_mut(number) {
-        Some(seat) => seat.note(call, answer),
-        None => Ok(()),
-    }
 }

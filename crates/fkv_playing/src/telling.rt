@@ -1,5 +1,5 @@
 //! What is printed of what the engine tells.
-ghost use Rattle.std.specs.Prelude.{◌≡◌, OnOk, option_map};
+ghost use Rattle.std.specs.Prelude.{◌≡◌, OnOk, Some};
 ghost use Rattle.fkv_words.specs.PhaseWords as words;
 ghost use Rattle.std.specs.Io.KnownBytes.{Appends};
 ghost use Rattle.fkv_playing.specs.Beats.{outcome_of_told, outcome_of_turn};
@@ -35,13 +35,10 @@ pub(crate) fn tell_answer<W: Write>(
     number: usize,
     call: Call,
     answer: &Answer,
-    seat: Option<&Seat>,
+    seat: &Seat,
 ) -> io::Result<()>
-    ensures { OnOk result (Appends (W.contents output.old) (W.contents output.new) (answer_told telling number call answer.now (option_map (λ it. it.now) seat))) }
+    ensures { OnOk result (Appends (W.contents output.old) (W.contents output.new) (answer_told telling number call answer.now (Some seat.now))) }
 {
-    let Some(seat) = seat else {
-        return Ok(());
-    };
     let waiting = seat.waiting.as_slice();
     match telling {
         Telling::Whole => write_answer(output, number as u64, call, waiting, answer),
