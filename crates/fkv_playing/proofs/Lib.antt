@@ -1,1 +1,2 @@
+pub mod Silence
 pub mod Turns
