@@ -1,6 +1,6 @@
 -- Parts of a play, one behind the other.
-use Rattle.std.proofs.Common.{◌≡◌, ℕ, ◌+◌, List, [], ◌∷◌, ◌++◌, Option, replicate, refl, sym, ap, subst, ◌∙◌, append_assoc}
-use Rattle.std.proofs.lemmas.List.{replicate_more}
+use Rattle.std.proofs.Common.{◌≡◌, ℕ, ◌+◌, ◌<◌, List, [], ◌∷◌, ◌++◌, Option, length, get_or, take, replicate, refl, sym, ap, subst, ◌∙◌, append_assoc}
+use Rattle.std.proofs.lemmas.List.{replicate_more, take_more}
 use Rattle.fkv_playing.specs.InTurn.{InTurn, Writes}
 use Rattle.fkv_texts.proofs.Shown.{appends_both, appends_nothing}
 
@@ -37,3 +37,12 @@ pub one_more_alike : {Part State Outcome : Type 0} (Its : Part → State → Sta
 one_more_alike {Part} Its goes_on first part count before between after outcome a b c h k =
     subst (λ (parts : List Part). Writes (InTurn Its goes_on (first ∷ parts) before after outcome) a c) (replicate_more count part)
     (one_more_written Its goes_on (first ∷ replicate count part) part before between after outcome a b c h k)
+
+-- of a list of parts the next one comes
+pub next_taken : {Part State Outcome : Type 0} (Its : Part → State → State → Outcome → List ℕ → Type 0) (goes_on : Outcome) (parts : List Part) (count : ℕ) (d : Part)
+    (before between after : State) (outcome : Outcome) (a b c : Option (List ℕ)) → count < length parts
+    → Writes (InTurn Its goes_on (take count parts) before between goes_on) a b → Writes (Its (get_or parts count d) between after outcome) b c
+    → Writes (InTurn Its goes_on (take (count + 1) parts) before after outcome) a c
+next_taken {Part} Its goes_on parts count d before between after outcome a b c below h k =
+    subst (λ (its : List Part). Writes (InTurn Its goes_on its before after outcome) a c) (sym (take_more parts count d below))
+    (one_more_written Its goes_on (take count parts) (get_or parts count d) before between after outcome a b c h k)
