@@ -1,3 +1,5 @@
 pub mod Silence
 pub mod Comparing
+pub mod Putting
+pub mod Queuing
 pub mod Turns
