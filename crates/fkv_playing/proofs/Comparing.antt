@@ -1,5 +1,5 @@
 -- Outcomes that were compared.
-use Rattle.std.proofs.Common.{◌≡◌, ◌≢◌, Bool, true, false, not, sym, rules}
+use Rattle.std.proofs.Common.{◌≡◌, ◌≢◌, true, false, not, sym, rules}
 use denote.Enum.Bare.{sameb, differs_false, differs_true, same_false, same_true}
 use Rattle.fkv_playing.specs.contracts.calls.Outcome.{the_type}
 use Rattle.fkv_playing.specs.declared.calls.Outcome.{Outcome}

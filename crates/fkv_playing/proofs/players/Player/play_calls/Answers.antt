@@ -16,7 +16,9 @@ loop-call-preserved g c =
 
 pub returns-then-ne : goal.returns-then-ne
 returns-then-ne g c =
-    let calls = IsPlayedAlone (EngineStep g.D.Device.honest g.D.Device.seen g.D.Device.may_leave g.D.Device.failed g.D.Device.refuses g.D.Breaks.broken) c.args.telling in
-    (c.loop-call.call-index + 1, λ answered. absurd (is_another c.in_ok-outcome.outcome Answered c.if-ne.ensures answered),
-    next_taken calls Answered c.args.calls.now c.loop-call.call-index _ c.args.self.now c.loop-call.self c.play_alone.new.self c.in_ok-outcome.outcome _ _ _
-    c.loop-call-test.true c.loop-call.invariant c.in_ok-outcome.ensures)
+    let calls = IsPlayedAlone (EngineStep g.D.Device.honest g.D.Device.seen g.D.Device.may_leave g.D.Device.failed g.D.Device.refuses g.D.Breaks.broken) c.args.telling in (
+      c.loop-call.call-index + 1,
+      λ answered. absurd (is_another c.in_ok-outcome.outcome Answered c.if-ne.ensures answered),
+      next_taken calls Answered c.args.calls.now c.loop-call.call-index _ c.args.self.now c.loop-call.self c.play_alone.new.self c.in_ok-outcome.outcome _ _ _
+          c.loop-call-test.true c.loop-call.invariant c.in_ok-outcome.ensures,
+    )
