@@ -2,4 +2,5 @@ pub mod Silence
 pub mod Comparing
 pub mod Putting
 pub mod Queuing
+pub mod Rounds
 pub mod Turns

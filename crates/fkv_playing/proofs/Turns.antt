@@ -1,5 +1,5 @@
 -- Parts of a play, one behind the other.
-use Rattle.std.proofs.Common.{◌≡◌, ℕ, ◌+◌, ◌<◌, List, [], ◌∷◌, ◌++◌, Option, length, get_or, take, replicate, refl, sym, ap, subst, ◌∙◌, append_assoc}
+use Rattle.std.proofs.Common.{ℕ, ◌+◌, ◌<◌, List, [], ◌∷◌, ◌++◌, Option, length, get_or, take, replicate, refl, sym, ap, subst, ◌∙◌, append_assoc}
 use Rattle.std.proofs.lemmas.List.{replicate_more, take_more}
 use Rattle.fkv_playing.specs.InTurn.{InTurn, Writes}
 use Rattle.fkv_texts.proofs.Shown.{appends_both, appends_nothing}
@@ -12,9 +12,14 @@ one_more {Part} {State} {Outcome} Its goes_on [] part before between after outco
     let its : Its part before after outcome more = subst (λ (state : State). Its part state after outcome more) h.0 k in
     subst (λ (text : List ℕ). Its part before after outcome (text ++ more)) (sym h.2) its
 one_more Its goes_on (first ∷ []) part before between after outcome said more h k = (between, said, more, h, k, refl)
-one_more Its goes_on (first ∷ next ∷ later) part before between after outcome said more h k =
-    (h.0, h.1, h.2 ++ more, h.3, one_more Its goes_on (next ∷ later) part h.0 between after outcome h.2 more h.4 k,
-    ap (λ (text : List ℕ). text ++ more) h.5 ∙ append_assoc h.1 h.2 more)
+one_more Its goes_on (first ∷ next ∷ later) part before between after outcome said more h k = (
+  h.0,
+  h.1,
+  h.2 ++ more,
+  h.3,
+  one_more Its goes_on (next ∷ later) part h.0 between after outcome h.2 more h.4 k,
+  ap (λ (text : List ℕ). text ++ more) h.5 ∙ append_assoc h.1 h.2 more,
+)
 
 -- no parts write nothing
 pub none_written : {Part State Outcome : Type 0} (Its : Part → State → State → Outcome → List ℕ → Type 0) (goes_on : Outcome) (state : State) (known : Option (List ℕ))

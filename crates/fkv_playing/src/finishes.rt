@@ -1,6 +1,6 @@
 //! The finish of a commit.
 ghost use Rattle.std.specs.Prelude.{◌≡◌, ◌++◌, IfOk, OnOk};
-ghost use Rattle.fkv_playing.specs.Finishes.{AreRounds, IsFinish, calls_of_seats, most_rounds, round_of, rounds};
+ghost use Rattle.fkv_playing.specs.Finishes.{AreRounds, IsFinish, most_rounds, round_of, rounds};
 ghost use Rattle.fkv_playing.specs.InTurn.{Writes};
 ghost use Rattle.fkv_playing.specs.Players.{EngineStep};
 
