@@ -1,3 +1,4 @@
+pub mod Shown
 pub mod Silence
 pub mod Comparing
 pub mod Putting
