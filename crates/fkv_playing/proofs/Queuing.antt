@@ -1,12 +1,10 @@
 -- What is left of a queue of calls, and lists with an element more or a written one.
-use Rattle.std.proofs.Common.{◌≡◌, ◌<◌, ◌≤◌, ℕ, zero, suc, ◌+◌, Bool, true, false, cond, List, [], ◌∷◌, ◌++◌, Option, Some, None, refl, sym, ap, subst, ◌∙◌, arith, inl, inr, ⊎_elim, ◌⊎◌, length, take, drop, nat_eq, nat_lt, is_some, slice_get, filter, append_assoc}
+use Rattle.std.proofs.Common.{◌≡◌, ◌<◌, ◌≤◌, ℕ, zero, suc, Bool, false, cond, List, [], ◌∷◌, ◌++◌, Option, Some, None, refl, sym, ap, ◌∙◌, arith, inl, inr, ⊎_elim, ◌⊎◌, length, drop, nat_lt, is_some, slice_get, filter}
 use Rattle.std.specs.List.{insert, slice_set}
-use Rattle.std.proofs.lemmas.List.{append-nil}
-use Rattle.std.proofs.lemmas.Bool.{lt-ltb, le-ltb, cases_lt, eq-eqb, eqb-true, false≢true}
-use Rattle.std.proofs.lemmas.Option.{none-some, same_Some, slice_get_within, slice_get_past, slice_get_cases}
-use Rattle.std.proofs.lemmas.List.Elements.{filter-append}
+use Rattle.std.proofs.lemmas.Bool.{lt-ltb, le-ltb, cases_lt, false≢true}
+use Rattle.std.proofs.lemmas.Option.{none-some, same_Some}
 use Rattle.fkv_playing.specs.declared.calls.ActorCall.{ActorCall}
-use Rattle.fkv_playing.specs.Queues.{QueueState, AreQueuesOf, step_of, rank_of, is_of}
+use Rattle.fkv_playing.specs.Queues.{step_of}
 
 -- what is dropped up to a place has an element just where the place is within the list
 some_left : (calls : List ActorCall) (next : ℕ) → (nat_lt next (length calls) ≡ is_some (step_of None (drop next calls)))
@@ -53,16 +51,11 @@ module _ {X : Type 0} where
   from_insert (z ∷ xs) (suc i) y (suc k) x le h before here behind =
       from_insert xs i y k x (omega arith) h (λ lt e. before (omega arith) e) (λ e s. here (ap suc e) s) (λ j e from g. behind (suc j) (ap suc e) (omega arith) g)
 
+  -- an element behind a write: the one that is written, and another
   pub set_at_same : (xs : List X) (i : ℕ) (y : X) → i < length xs → slice_get (slice_set xs i y) i ≡ Some y
   set_at_same [] i y lt = absurd (omega arith)
   set_at_same (x ∷ xs) zero y lt = refl
   set_at_same (x ∷ xs) (suc i) y lt = set_at_same xs i y (omega arith)
-
-  -- an element written where it stands
-  pub set_same : (xs : List X) (i : ℕ) (x : X) → slice_get xs i ≡ Some x → slice_set xs i x ≡ xs
-  set_same [] i x h = refl
-  set_same (z ∷ xs) zero x h = ap (λ y. y ∷ xs) (sym (same_Some z x h))
-  set_same (z ∷ xs) (suc i) x h = ap (λ l. z ∷ l) (set_same xs i x h)
 
   pub set_at_other : (xs : List X) (i k : ℕ) (y : X) → (k ≡ i → ⊥) → slice_get (slice_set xs i y) k ≡ slice_get xs k
   set_at_other [] i k y ne = refl
@@ -70,6 +63,12 @@ module _ {X : Type 0} where
   set_at_other (x ∷ xs) zero (suc k) y ne = refl
   set_at_other (x ∷ xs) (suc i) zero y ne = refl
   set_at_other (x ∷ xs) (suc i) (suc k) y ne = set_at_other xs i k y (λ e. ne (ap suc e))
+
+  -- an element written where it stands
+  pub set_same : (xs : List X) (i : ℕ) (x : X) → slice_get xs i ≡ Some x → slice_set xs i x ≡ xs
+  set_same [] i x h = refl
+  set_same (z ∷ xs) zero x h = ap (λ y. y ∷ xs) (sym (same_Some z x h))
+  set_same (z ∷ xs) (suc i) x h = ap (λ l. z ∷ l) (set_same xs i x h)
 
   -- an element behind a write at i: the one that is written, or another of the list
   pub from_set : {P : Type 0} (xs : List X) (i : ℕ) (y : X) (k : ℕ) (x : X) → slice_get (slice_set xs i y) k ≡ Some x → (k ≡ i → y ≡ x → P) → ((k ≡ i → ⊥) → slice_get xs k ≡ Some x → P) → P

@@ -1,5 +1,5 @@
 -- One queue more has no call in hand.
-use Rattle.std.proofs.Common.{◌≡◌, ◌<◌, ap, sym, ◌∙◌, length, arith, map, take, drop, ◌++◌}
+use Rattle.std.proofs.Common.{ap, sym, ◌∙◌, length, arith}
 use Rattle.std.proofs.lemmas.List.Edits.{map_over_more}
 use Rattle.std.specs.List.{slice_set}
 use Rattle.fkv_playing.specs.Queues.{given_up}

@@ -1,5 +1,5 @@
 -- The queue that stands at the call's place is its actor's, or stands behind it.
-use Rattle.std.proofs.Common.{◌≡◌, ◌<◌, ◌≤◌, ℕ, Some, refl, sym, ap, subst, ◌∙◌, arith, slice_get, length}
+use Rattle.std.proofs.Common.{◌≡◌, ◌≤◌, Some, refl, sym, ap, ◌∙◌, arith, slice_get, length}
 use Rattle.std.proofs.lemmas.Bool.{ltb-true, ltb-false}
 use Rattle.std.proofs.lemmas.Option.{slice_get_read, slice_get_within, same_Some}
 use Rattle.std.proofs.lemmas.Result.{on_ok_weaker}
@@ -28,17 +28,17 @@ returns c =
     let within : at ≤ length items = rw c.deref.ensures.value at c.place_of-at.ensures.within in
     let below = rw c.deref.ensures.value at c.place_of-at.ensures.below in
     λ calls old. elim c.match-get_mut.branch [
-        in-Some+else-not-comes_before w ↦
-            let queue = w.in-Some.queue.now in
-            let it : slice_get items at ≡ Some queue = slice_get_read items (length items) at queue refl w.in-Some.ensures.item.3.0 w.in-Some.ensures.value in
-            let high = ltb-true (rank_of c.args.call) (rank_of w.queue.inside.first) (sym w.comes_before.ensures ∙ w.if-not-comes_before.false) in
-            let first : rank_of w.queue.inside.first ≡ queue.rank = ap (λ (q : QueueState). q.rank) w.queue.view_is in
-            put_between calls c.args.call items old at c.match-get_mut.queues.items _ c.in_ok-of.field-0 (ap (λ v. v.items) w.queues-is ∙ set_same items at queue it) c.in_ok-insert.ensures.items
-            c.in_ok-of.ensures within below
-            (λ other e. let same : queue.rank ≡ other.rank = ap (λ (q : QueueState). q.rank) (same_Some queue other (sym it ∙ e)) in omega arith)
-        | in_default w ↦
-            let past : length items ≤ at = w.in_default.ensures.item.3 in
-            put_between calls c.args.call items old at c.match-get_mut.queues.items _ c.in_ok-of.field-0 (ap (λ v. v.items) w.queues-is) c.in_ok-insert.ensures.items
-            c.in_ok-of.ensures within below
-            (λ other e. let lt = slice_get_within items at other e in absurd (omega arith))
+      | in-Some+else-not-comes_before w ↦
+          let queue = w.in-Some.queue.now in
+          let it : slice_get items at ≡ Some queue = slice_get_read items (length items) at queue refl w.in-Some.ensures.item.3.0 w.in-Some.ensures.value in
+          let high = ltb-true (rank_of c.args.call) (rank_of w.queue.inside.first) (sym w.comes_before.ensures ∙ w.if-not-comes_before.false) in
+          let first : rank_of w.queue.inside.first ≡ queue.rank = ap (λ (q : QueueState). q.rank) w.queue.view_is in
+          put_between calls c.args.call items old at c.match-get_mut.queues.items _ c.in_ok-of.field-0 (ap (λ v. v.items) w.queues-is ∙ set_same items at queue it) c.in_ok-insert.ensures.items
+          c.in_ok-of.ensures within below
+          (λ other e. let same : queue.rank ≡ other.rank = ap (λ (q : QueueState). q.rank) (same_Some queue other (sym it ∙ e)) in omega arith)
+      | in_default w ↦
+          let past : length items ≤ at = w.in_default.ensures.item.3 in
+          put_between calls c.args.call items old at c.match-get_mut.queues.items _ c.in_ok-of.field-0 (ap (λ v. v.items) w.queues-is) c.in_ok-insert.ensures.items
+          c.in_ok-of.ensures within below
+          (λ other e. let lt = slice_get_within items at other e in absurd (omega arith))
     ]
