@@ -1,5 +1,5 @@
 -- A beat of a play: one step of the engine, what it tells, and what is printed of it.
-use Rattle.std.specs.Prelude.{◌≡◌, ℕ, Bool, true, false, if◌then◌else◌, List, [], ◌∷◌, ◌++◌, Option, Some, None, Result, Ok, Err}
+use Rattle.std.specs.Prelude.{◌≡◌, ℕ, Bool, true, false, List, [], ◌∷◌, ◌++◌, Option, Some, None, Result, Ok, Err}
 use Rattle.fkv_base.specs.declared.faults.Fault.{Fault}
 use Rattle.fkv_core.specs.Showing.{effect_of}
 use Rattle.fkv_core.specs.Worlds.{WorldModel}

@@ -9,7 +9,7 @@ use Rattle.fkv_disk.specs.declared.fuses.Fuse.{Fuse}
 use Rattle.fkv_map.specs.declared.history.HistoryEntry.{HistoryEntry}
 use Rattle.fkv_playing.specs.Seats.{SeatState}
 use Rattle.fkv_playing.specs.declared.players.Waits.{Waits}
-use Rattle.fkv_playing.specs.declared.players.Waits.TheVariants.{Nothing, Failure, Crash, CrashAtEnd}
+use Rattle.fkv_playing.specs.declared.players.Waits.TheVariants.{Crash, CrashAtEnd}
 
 -- The world, the seats of its sessions, the updates whose effect was told, the oldest first, where they are kept, and what is to come of the device.
 pub record PlayerState (D : Type 0) : Type 0 where

@@ -1,11 +1,11 @@
 //! A beat: one step of the engine, and what is printed of what it tells.
 ghost use Rattle.std.specs.Prelude.{◌≡◌, ◌++◌, IfOk, OnOk, Some, slice_get};
 ghost use Rattle.std.specs.Io.KnownBytes.{Appends};
-ghost use Rattle.fkv_playing.specs.Beats.{IsBeat, effects_behind, event_of, outcome_of_told, seats_behind};
+ghost use Rattle.fkv_playing.specs.Beats.{IsBeat, effects_behind, seats_behind};
 ghost use Rattle.fkv_playing.specs.InTurn.{Writes};
 ghost use Rattle.fkv_playing.specs.Players.{EngineStep};
 ghost use Rattle.fkv_playing.specs.Seats.{seats_answered};
-ghost use Rattle.fkv_playing.specs.Texts.{answer_told, phase_shown, text_of};
+ghost use Rattle.fkv_playing.specs.Texts.{answer_told, text_of};
 
 use crate::breaking::Breaks;
 use crate::calls::{ActorCall, Outcome, Stage, Telling};

@@ -1,5 +1,5 @@
 //! What a player knows of a session beside its life.
-ghost use Rattle.std.specs.Prelude.{◌≡◌, IfOk, OnOk, length, All, replicate};
+ghost use Rattle.std.specs.Prelude.{◌≡◌, IfOk, OnOk, replicate};
 ghost use Rattle.fkv_playing.specs.Seats.{SeatState, first_seat, seat_behind};
 
 use fkv_map::{Call, Op};

@@ -2,7 +2,7 @@
 ghost use Rattle.std.specs.Prelude.{◌≡◌, OnOk, Some};
 ghost use Rattle.fkv_words.specs.PhaseWords as words;
 ghost use Rattle.std.specs.Io.KnownBytes.{Appends};
-ghost use Rattle.fkv_playing.specs.Beats.{outcome_of_told, outcome_of_turn};
+ghost use Rattle.fkv_playing.specs.Beats.{outcome_of_told};
 ghost use Rattle.fkv_playing.specs.Texts.{answer_told, phase_told, turn_told};
 
 use crate::calls::{Outcome, Telling};
