@@ -1,1 +1,2 @@
+pub mod Picking
 pub mod Turns
