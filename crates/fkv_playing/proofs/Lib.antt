@@ -4,4 +4,5 @@ pub mod Comparing
 pub mod Putting
 pub mod Queuing
 pub mod Rounds
+pub mod Picking
 pub mod Turns

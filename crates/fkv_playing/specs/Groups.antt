@@ -1,5 +1,5 @@
 -- Calls of several actors, interleaved.
-use Rattle.std.specs.Prelude.{◌≡◌, ◌<◌, ℕ, Bool, true, false, if◌then◌else◌, nat_lt, List, map, length, Option, Some, None, slice_get, slice_set}
+use Rattle.std.specs.Prelude.{◌≡◌, ℕ, Bool, true, false, if◌then◌else◌, nat_lt, List, map, length, Option, Some, None, slice_get, slice_set}
 use Rattle.fkv_base.specs.declared.faults.Fault.TheVariants.{NoSession}
 use Rattle.fkv_core.specs.Worlds.{WorldModel}
 use Rattle.fkv_core.specs.declared.events.Event.{Event}

@@ -1,6 +1,6 @@
 //! Calls of several actors, interleaved.
-ghost use Rattle.std.specs.Prelude.{◌≡◌, IfOk, slice_get, slice_set, Some};
-ghost use Rattle.fkv_playing.specs.Groups.{GroupState, IsBeatOf, IsGroup, IsPick, missing_session};
+ghost use Rattle.std.specs.Prelude.{◌≡◌, ◌<◌, IfOk, length, slice_get, Some};
+ghost use Rattle.fkv_playing.specs.Groups.{GroupState, IsBeatOf, IsGroup, IsPick, is_struck_by, missing_session};
 ghost use Rattle.fkv_playing.specs.InTurn.{Writes};
 ghost use Rattle.fkv_playing.specs.Players.{EngineStep};
 ghost use Rattle.fkv_playing.specs.Queues.{HasSteps, QueueState, held, next_step, queue_behind};
@@ -54,13 +54,26 @@ impl<D: Breaks> Player<D> {
             let Some(at) = picked(queues, nth) else {
                 return Ok(false);
             };
-            if self.pick(output, &mut queues[at])? == Outcome::Struck {
+            if self.pick_at(output, queues, at)? == Outcome::Struck {
                 give_up(queues);
                 return Ok(true);
             }
         }
         // No group has so many steps.
         Err(io::ErrorKind::Other.into())
+    }
+
+    /// One step of the actor whose queue stands at this place.
+    fn pick_at<W: Write>(
+        &mut self,
+        output: &mut W,
+        queues: &mut Vec<Queue>,
+        at: usize,
+    ) -> io::Result<Outcome>
+        requires { at < length queues.old.items }
+        ensures { (queue : QueueState) → slice_get queues.old.items at ≡ Some queue → HasSteps queue → IfOk result (λ outcome. Writes (IsPick (EngineStep D.honest D.seen D.may_leave D.failed D.refuses D.broken) at (record { player = self.old; queues = queues.old.items }) (record { player = self.new; queues = queues.new.items }) (is_struck_by outcome)) (W.contents output.old) (W.contents output.new)) }
+    {
+        self.pick(output, &mut queues[at])
     }
 
     /// One step of the actor with this queue.
@@ -77,7 +90,12 @@ impl<D: Breaks> Player<D> {
     }
 
     /// One step of this call. A session that the store hasn't is refused.
-    fn step_of<W: Write>(&mut self, output: &mut W, call: ActorCall, stage: Stage) -> io::Result<Outcome>
+    fn step_of<W: Write>(
+        &mut self,
+        output: &mut W,
+        call: ActorCall,
+        stage: Stage,
+    ) -> io::Result<Outcome>
         ensures { IfOk result (λ outcome. Writes (λ text. IsBeatOf (EngineStep D.honest D.seen D.may_leave D.failed D.refuses D.broken) call stage self.old self.new outcome text (missing_session self.old.seats call)) (W.contents output.old) (W.contents output.new)) }
     {
         match self.missing_session(call) {
