@@ -19,9 +19,3 @@ pub use groups::Picks;
 pub use players::{Player, Waits};
 pub use queues::{Queue, queues_of};
 pub use seats::Seat;
-
-#[cfg(test)]
-mod tests {
-    #[test]
-    fn nothing(_rt: HostRuntime) {}
-}
