@@ -1,7 +1,7 @@
 -- The calls of a group, by their actors.
 use Rattle.std.specs.Prelude.{◌≡◌, ◌<◌, ℕ, ◌^◌, Bool, nat_eq, List, [], ◌∷◌, Option, Some, None, slice_get, filter}
 use Rattle.fkv_playing.specs.declared.calls.ActorCall.{ActorCall}
-use Rattle.fkv_playing.specs.declared.calls.ActorCall.TheVariants.{Session, Commit, Turn}
+use Rattle.fkv_playing.specs.declared.calls.ActorCall.TheVariants.{Session}
 use Rattle.fkv_playing.specs.declared.calls.Outcome.{Outcome}
 use Rattle.fkv_playing.specs.declared.calls.Outcome.TheVariants.{GoesOn}
 use Rattle.fkv_playing.specs.declared.calls.Stage.{Stage}
