@@ -1,0 +1,5 @@
+mod Recovery
+mod Replays
+mod Reported
+pub mod Joining
+pub mod Turning

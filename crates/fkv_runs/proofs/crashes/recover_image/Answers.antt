@@ -1,0 +1,13 @@
+use Rattle.std.proofs.Common.{rules}
+use Rattle.fkv_runs.proofs.Recovery.{cause_of_refusal, recovered_before}
+use Rattle.fkv_runs.proofs.crashes.recover_image.Goals as goal
+
+pub returns-in_err-opened-clause-cause : goal.returns-in_err-opened-clause-cause
+returns-in_err-opened-clause-cause g c = λ honest.
+    let cause = cause_of_refusal (g.D.Device.seen c.args.device) (g.D.Device.failed c.args.device) (g.D.Device.failed c.recover.new.d) (g.D.Device.honest c.args.device) c.in_err-opened.field-0.0 c.in_err-opened.ensures.err honest in
+    search (rules, cause)
+
+pub returns-clause-store : goal.returns-clause-store
+returns-clause-store g c = λ honest.
+    let quiet = c.recover.ensures.quiet in
+    recovered_before _ _ _ _ (quiet.same_bytes honest) (c.in_ok-opened.ensures.ok honest) (c.in_ok-pairs.ensures.ok (quiet.premise.0 honest))

@@ -1,0 +1,5 @@
+pub mod Crashes
+pub mod Files
+pub mod Openings
+pub mod Pieces
+pub mod Runs

@@ -1,0 +1,38 @@
+-- A life that begins with a store that was opened.
+use Rattle.std.specs.Prelude.{◌≡◌, ℕ, Bool, List, Option, replicate}
+use Rattle.fkv_base.specs.declared.numbers.Key.{Key}
+use Rattle.fkv_base.specs.declared.numbers.Value.{Value}
+use Rattle.fkv_core.specs.Openings.{IsOpeningWorld}
+use Rattle.fkv_core.specs.Worlds.{WorldModel}
+use Rattle.fkv_core.specs.declared.events.Event.{Event}
+use Rattle.fkv_core.specs.declared.events.Told.{Told}
+use Rattle.fkv_map.specs.declared.history.HistoryEntry.{HistoryEntry}
+use Rattle.fkv_opening.specs.Opened.{IsStoreOf}
+use Rattle.fkv_opening.specs.declared.opened_store.Opened.{Opened}
+use Rattle.fkv_pairs.specs.Pairs.{ArePairs, log_of_store}
+use Rattle.fkv_playing.specs.Players.{EngineStep, PlayerState}
+use Rattle.fkv_playing.specs.Seats.{first_seat}
+use Rattle.fkv_playing.specs.declared.players.Waits.{Waits}
+use Rattle.fkv_playing.specs.declared.players.Waits.TheVariants.{Nothing}
+
+-- an image holds this store, with these pairs
+pub record IsRecovered (image : List ℕ) (opened : Opened) (pairs : List (Key × Value)) : Type 0 where
+  pub store : IsStoreOf image opened
+  pub are_pairs : ArePairs (log_of_store image opened store) pairs
+
+-- What a run goes by of the device of a store: what a step of the engine over it is, the image that a crash leaves of it, which is set to this byte where it
+-- isn't synced, whether it has failed for good, and how it is made to fail behind so many calls.
+pub record Medium (D : Type 0) : Type 1 where
+  pub engine : Event → WorldModel D → WorldModel D → Option Told → Bool → Type 0
+  pub image : D → ℕ → List ℕ
+  pub broken : D → Bool
+  pub armed : ℕ → Waits → PlayerState D → PlayerState D → Type 0
+
+abbrev pub medium_of : {D : Type 0} → (D → Type 0) → (D → List ℕ) → (D → List ℕ → Type 0) → (D → ℕ) → (D → ℕ → Bool) → (D → Bool) → (D → ℕ → List ℕ) → (ℕ → Waits → PlayerState D → PlayerState D → Type 0) → Medium D
+medium_of honest seen may_leave failed refuses broken image armed = record { engine = EngineStep honest seen may_leave failed refuses broken; image = image; broken = broken; armed = armed }
+
+-- A player begins with the world of this opened store over this device: all sessions are awake, nothing is to come of the device, and these updates are kept.
+pub record Begins {D : Type 0} (opened : Opened) (device : D) (history : List HistoryEntry) (keeps_history : Bool) (player : PlayerState D) : Type 0 where
+  pub world : IsOpeningWorld opened player.world.now
+  pub over : player.world.device ≡ device
+  pub same : player ≡ record { world = player.world; seats = replicate opened.shape.sessions first_seat; history = history; keeps_history = keeps_history; waits = Nothing }

@@ -1,0 +1,21 @@
+//! Whole runs: the pieces of a script are played, life behind life of a store in memory, each behind the crash that ended the one before it,
+//! or over the one life of a store that lies on a device of its own.
+#![tactic(auto)]
+
+mod crashes;
+mod crashing;
+mod files;
+mod groups;
+mod openings;
+mod pieces;
+mod runs;
+mod settings;
+
+#[cfg(test)]
+mod tests;
+
+pub use crashing::Crashes;
+pub use files::play_life;
+pub use pieces::{Piece, pieces_of};
+pub use runs::play_lives;
+pub use settings::Settings;

@@ -1,0 +1,168 @@
+//! A run of a store in memory: its lives, piece by piece.
+ghost use Rattle.std.specs.Prelude.{◌≡◌, ◌-◌, Bool, [], IfOk, is_none, true, false};
+ghost use Rattle.fkv_playing.specs.Players.{PlayerState, waits_for_crash};
+ghost use Rattle.fkv_playing.specs.InTurn.{Writes};
+ghost use Rattle.fkv_runs.specs.Openings.{Begins, medium_of};
+ghost use Rattle.fkv_runs.specs.Runs.{IsCrashed, IsCrashedWhere, IsFinishStruck, IsLegOf, IsPiece, IsRun, KeepsSettings, Prepares, RunState, is_due, state_behind, status_of};
+
+use crate::crashes::take_crash;
+use crate::crashing::Crashes;
+use crate::openings::begin;
+use crate::pieces::Piece;
+use crate::settings::Settings;
+use fkv_opening::Opened;
+use fkv_playing::{Outcome, Picks, Player, Waits};
+use std::alloc::Global;
+use std::io::{self, Write};
+use std::marker::Model;
+
+/// A run: the life in hand, and whether all reports so far have agreed with their checks.
+#[derive(Drop)]
+pub(crate) struct Run<D: Crashes> {
+    pub(crate) alloc: Global,
+    pub(crate) player: Player<D>,
+    pub(crate) agrees: bool,
+    pub(crate) settings: Settings,
+}
+
+impl<D: Crashes> Model for Run<D> {
+    ghost use Rattle.fkv_runs.specs.Runs.{RunModel};
+
+    ghost Value = { RunModel D };
+
+    ghost view = { λ m. record { state = record { player = m.player; agrees = m.agrees }; settings = m.settings } };
+}
+
+/// Plays these pieces over the lives of a store in memory, the first of which begins with this opened store over this device. The status: 3
+/// where a crash's image was refused, and that is printed; 1 where a report did not agree with its check; else 0.
+pub fn play_lives<D: Crashes, W: Write>(
+    alloc: Global,
+    output: &mut W,
+    opened: Opened,
+    device: D,
+    pieces: &[Piece],
+    picks: &mut Picks,
+    settings: Settings,
+) -> io::Result<u8>
+    ensures { IfOk result (λ status. (player : PlayerState D) × Begins opened device [] settings.checks player
+        × Writes (IsRun (medium_of D.honest D.seen D.may_leave D.failed D.refuses D.broken D.image D.armed) settings pieces.now (record { player = player; agrees = true }) status) (W.contents output.old) (W.contents output.new)) }
+{
+    let player = begin(alloc, opened, device, Vec::new(alloc), settings.checks)?;
+    let run = Run {
+        alloc,
+        player,
+        agrees: true,
+        settings,
+    };
+    run.play(output, pieces, picks)
+}
+
+impl<D: Crashes> Run<D> {
+    /// Plays these pieces, and takes the crash that still is to come behind the last.
+    fn play<W: Write>(self, output: &mut W, pieces: &[Piece], picks: &mut Picks) -> io::Result<u8>
+        ensures { IfOk result (λ status. Writes (IsRun (medium_of D.honest D.seen D.may_leave D.failed D.refuses D.broken D.image D.armed) self.settings pieces.now self.state status) (W.contents output.old) (W.contents output.new)) }
+    {
+        let mut run = self;
+        for piece in pieces {
+            let Some(next) = run.piece(output, piece, picks)? else {
+                return Ok(3);
+            };
+            run = next;
+        }
+        run.end(output)
+    }
+
+    /// Takes the crash that still is to come, where there is one.
+    fn end<W: Write>(self, output: &mut W) -> io::Result<u8>
+        ensures { IfOk result (λ status. (over : Bool) × (after : RunState D) × (status ≡ status_of over after.agrees) × Writes (IsCrashedWhere (is_due self.state.player.waits) (medium_of D.honest D.seen D.may_leave D.failed D.refuses D.broken D.image D.armed) self.settings self.state after over) (W.contents output.old) (W.contents output.new)) }
+    {
+        let mut agrees = self.agrees;
+        if is_due(self.player.waits()) {
+            let Some(run) = self.crash(output)? else {
+                return Ok(3);
+            };
+            agrees = run.agrees;
+        }
+        Ok(if agrees { 0 } else { 1 })
+    }
+
+    /// Plays one piece. None where the run was refused.
+    fn piece<W: Write>(
+        self,
+        output: &mut W,
+        piece: &Piece,
+        picks: &mut Picks,
+    ) -> io::Result<Option<Run<D>>>
+        ensures { IfOk result (λ next. (KeepsSettings self.settings next) × Writes (IsPiece (medium_of D.honest D.seen D.may_leave D.failed D.refuses D.broken D.image D.armed) self.settings piece.now self.state (state_behind self.state next) (is_none next)) (W.contents output.old) (W.contents output.new)) }
+    {
+        match piece {
+            Piece::Group(calls) => self.group(output, calls, picks),
+            Piece::Finish => self.finish(output),
+            Piece::Crash => self.crash(output),
+            Piece::CrashAt(call) => Ok(Some(self.prepare_crash(*call))),
+            Piece::FailAt(call) => Ok(Some(self.prepare_failure(*call))),
+        }
+    }
+
+    /// A crash is to strike at the device's call of this number, counted from 1.
+    fn prepare_crash(self, call: u64) -> Run<D>
+        ensures run { Prepares (medium_of D.honest D.seen D.may_leave D.failed D.refuses D.broken D.image D.armed) (call - 1) (waits_for_crash (D.broken self.state.player.world.device)) self.state result.state false [] }
+        ensures settings { result.settings ≡ self.settings }
+    {
+        let mut run = self;
+        D::crash_behind(&mut run.player, call.saturating_sub(1));
+        run
+    }
+
+    /// The device's call of this number is to fail, counted from 1, and each later one.
+    fn prepare_failure(self, call: u64) -> Run<D>
+        ensures run { Prepares (medium_of D.honest D.seen D.may_leave D.failed D.refuses D.broken D.image D.armed) (call - 1) Waits.Failure self.state result.state false [] }
+        ensures settings { result.settings ≡ self.settings }
+    {
+        let mut run = self;
+        D::fail_behind(&mut run.player, call.saturating_sub(1));
+        run
+    }
+
+    /// Finishes the commit that runs, and takes a crash that strikes in it.
+    fn finish<W: Write>(self, output: &mut W) -> io::Result<Option<Run<D>>>
+        ensures { IfOk result (λ next. (KeepsSettings self.settings next) × Writes (IsLegOf (IsFinishStruck (medium_of D.honest D.seen D.may_leave D.failed D.refuses D.broken D.image D.armed)) (medium_of D.honest D.seen D.may_leave D.failed D.refuses D.broken D.image D.armed) self.settings self.state (state_behind self.state next) (is_none next)) (W.contents output.old) (W.contents output.new)) }
+    {
+        let mut run = self;
+        if run.player.finish(run.alloc, output)? == Outcome::Struck {
+            return run.crash(output);
+        }
+        Ok(Some(run))
+    }
+
+    /// Takes a crash, and goes on with the next life. None where its image was refused, and that is printed.
+    pub(crate) fn crash<W: Write>(self, output: &mut W) -> io::Result<Option<Run<D>>>
+        ensures { IfOk result (λ next. (KeepsSettings self.settings next) × Writes (IsCrashed (medium_of D.honest D.seen D.may_leave D.failed D.refuses D.broken D.image D.armed) self.settings self.state (state_behind self.state next) (is_none next)) (W.contents output.old) (W.contents output.new)) }
+    {
+        let Run {
+            alloc,
+            player,
+            agrees,
+            settings,
+        } = self;
+        let Some(next) = take_crash(alloc, output, player, settings)? else {
+            return Ok(None);
+        };
+        Ok(Some(Run {
+            alloc,
+            player: next.player,
+            agrees: agrees && next.agrees,
+            settings,
+        }))
+    }
+}
+
+/// A crash that still is to come is taken at the end.
+fn is_due(waits: Waits) -> bool
+    ensures { result ≡ is_due waits }
+{
+    match waits {
+        Waits::Crash | Waits::CrashAtEnd => true,
+        Waits::Nothing | Waits::Failure => false,
+    }
+}
