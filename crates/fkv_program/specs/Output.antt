@@ -1,0 +1,154 @@
+-- What the program writes, and its status, by its words and its script.
+use Rattle.std.specs.Prelude.{◌≡◌, ◌⊎◌, ◌*◌, ◌+◌, ℕ, Bool, true, false, List, [], ◌++◌, codes, decimal, take, is_some, Option, Some, None, Result, Ok, Err}
+use Rattle.fkv_base.specs.declared.numbers.Key.{Key}
+use Rattle.fkv_base.specs.declared.numbers.Value.{Value}
+use Rattle.fkv_base.specs.Fault.{script_fault_name}
+use Rattle.fkv_base.specs.Limits.{IsShape}
+use Rattle.fkv_base.specs.declared.faults.Fault.{Fault}
+use Rattle.fkv_base.specs.declared.faults.Fault.TheVariants.{BadShape, Device}
+use Rattle.fkv_base.specs.declared.shapes.Shape.{Shape}
+use Rattle.fkv_creating.specs.Created.{IsNewStore}
+use Rattle.fkv_core.specs.Worlds.{WorldModel}
+use Rattle.fkv_core.specs.declared.events.Event.{Event}
+use Rattle.fkv_core.specs.declared.events.Told.{Told}
+use Rattle.fkv_lines.specs.Script.{LineFault, ScriptText, script_of}
+use Rattle.fkv_lines.specs.declared.scripts.Line.{Line}
+use Rattle.fkv_lines.specs.declared.scripts.Mode.{Mode}
+use Rattle.fkv_lines.specs.declared.scripts.Mode.TheVariants as mode
+use Rattle.fkv_lines.specs.declared.scripts.Opening as openings
+use Rattle.fkv_lines.specs.declared.scripts.Opening.TheVariants as opening
+use Rattle.fkv_lines.specs.declared.scripts.Sizes.{Sizes}
+use Rattle.fkv_opening.specs.declared.opened_store.Opened.{Opened}
+use Rattle.fkv_options.specs.CommandLine.{AreAccepted}
+use Rattle.fkv_options.specs.Options.{AreMatchesOf}
+use Rattle.fkv_options.specs.declared.options.Options.{Options}
+use Rattle.fkv_playing.specs.Players.{PlayerState}
+use Rattle.fkv_runs.specs.Files.{IsRunOfLife}
+use Rattle.fkv_runs.specs.Openings.{Begins, Medium}
+use Rattle.fkv_runs.specs.Pieces.{ArePieces}
+use Rattle.fkv_runs.specs.Runs.{IsRun}
+use Rattle.fkv_runs.specs.declared.pieces.Piece.{Piece}
+use Rattle.fkv_runs.specs.declared.settings.Settings.{Settings}
+use Rattle.fkv_texts.specs.Lines.{line_of}
+use Rattle.fkv_texts.specs.Refusals.{last_refusal}
+use Rattle.fkv_texts.specs.Reports.{report_text}
+use Rattle.fkv_texts.specs.declared.reports.Opening.TheVariants as reports
+
+-- a longer script has its first faulty line among its first so many bytes
+abbrev pub script_limit : ℕ
+script_limit = 65536 * 201 + 1
+
+-- `script line 7 Count`
+abbrev pub line_fault_text : LineFault → List ℕ
+line_fault_text fault = line_of (codes "script line " ++ decimal fault.line ++ codes " " ++ script_fault_name fault.kind)
+
+-- a run that ends with a refusal
+abbrev pub Refuses : Fault → ℕ → ℕ → List ℕ → Type 0
+Refuses fault wanted status text = (status ≡ wanted) × (text ≡ last_refusal fault)
+
+-- the shape of these sizes
+pub record HasSizes (sizes : Sizes) (shape : Shape) : Type 0 where
+  pub bucket_bits : shape.bucket_bits ≡ sizes.bucket_bits
+  pub page : shape.page ≡ sizes.page
+  pub frames : shape.frames ≡ sizes.frames
+  pub mutable : shape.mutable ≡ sizes.mutable
+  pub sessions : shape.sessions ≡ sizes.sessions
+  pub overflow : shape.overflow ≡ sizes.overflow
+  pub disk_pages : shape.disk_pages ≡ sizes.disk_pages
+
+abbrev pub AreSizes : Sizes → Type 0
+AreSizes sizes = IsShape sizes.bucket_bits sizes.page sizes.frames sizes.mutable sizes.sessions sizes.overflow sizes.disk_pages
+
+-- crashes are taken as the options say
+abbrev pub settings_of : Options → Settings
+settings_of options = record { torn = options.torn; checks = options.check }
+
+-- What a run goes by: of a device in memory, and the steps of the engine over a file.
+pub record Devices (M F : Type 0) : Type 1 where
+  pub memory : Medium M
+  pub file : Event → WorldModel F → WorldModel F → Option Told → Bool → Type 0
+
+-- A new store in memory, and its lives. Where the store is refused, the device has failed.
+pub record IsRunInMemory {M : Type 0} (medium : Medium M) (options : Options) (shape : Shape) (pieces : List Piece) (status : ℕ) (text : List ℕ) : Type 0 where
+  pub opened : Opened
+  pub is_new : IsNewStore shape opened
+  pub device : M
+  pub player : PlayerState M
+  pub begins : Begins opened device [] options.check player
+  pub run : IsRun medium (settings_of options) pieces (record { player = player; agrees = true }) status text
+
+-- a new store in a file, and its one life
+pub record IsRunInNewFile {F : Type 0} (engine : Event → WorldModel F → WorldModel F → Option Told → Bool → Type 0) (shape : Shape) (pieces : List Piece) (status : ℕ) (text : List ℕ) : Type 0 where
+  pub opened : Opened
+  pub is_new : IsNewStore shape opened
+  pub device : F
+  pub player : PlayerState F
+  pub begins : Begins opened device [] false player
+  pub run : IsRunOfLife engine pieces player text
+  pub answers : status ≡ 0
+
+-- the store that a file holds: its report, and its one life
+pub record IsRunInFile {F : Type 0} (engine : Event → WorldModel F → WorldModel F → Option Told → Bool → Type 0) (pieces : List Piece) (status : ℕ) (text : List ℕ) : Type 0 where
+  pub opened : Opened
+  pub pairs : List (Key × Value)
+  pub device : F
+  pub player : PlayerState F
+  pub begins : Begins opened device [] false player
+  pub said : List ℕ
+  pub run : IsRunOfLife engine pieces player said
+  pub says : text ≡ report_text reports.Open opened.number opened.points.items pairs ++ said
+  pub answers : status ≡ 0
+
+-- The store that a file holds; or it is refused. In memory no store is opened.
+abbrev pub IsRunOfOldStore : {F : Type 0} → (Event → WorldModel F → WorldModel F → Option Told → Bool → Type 0) → List Piece → ℕ → List ℕ → Bool → Type 0
+IsRunOfOldStore engine pieces status text false = (text ≡ []) × (status ≡ 0)
+IsRunOfOldStore engine pieces status text true = IsRunInFile engine pieces status text ⊎ ((fault : Fault) × Refuses fault 3 status text)
+
+-- A new store, in memory or in the file that the options name; or it is refused, since the device failed.
+abbrev pub IsRunOfStore : {M F : Type 0} → Devices M F → Options → Option Shape → List Piece → ℕ → List ℕ → Bool → Type 0
+IsRunOfStore devices options None pieces status text in_file = IsRunOfOldStore devices.file pieces status text in_file
+IsRunOfStore devices options (Some shape) pieces status text false = IsRunInMemory devices.memory options shape pieces status text ⊎ Refuses Device 3 status text
+IsRunOfStore devices options (Some shape) pieces status text true = IsRunInNewFile devices.file shape pieces status text ⊎ Refuses Device 3 status text
+
+-- The line that opens the store: sizes that are none of a shape are refused.
+abbrev pub IsRunOfShape : {M F : Type 0} → Devices M F → Options → openings.Opening → List Piece → ℕ → List ℕ → Type 0
+IsRunOfShape devices options opening.Open pieces status text = IsRunOfStore devices options None pieces status text (is_some options.file)
+IsRunOfShape devices options (opening.Shape sizes) pieces status text =
+    ((shape : Shape) × HasSizes sizes shape × IsRunOfStore devices options (Some shape) pieces status text (is_some options.file))
+    ⊎ ((AreSizes sizes → ⊥) × Refuses BadShape 2 status text)
+
+-- A script without a faulty line; one that says nothing prints nothing.
+abbrev pub IsRunOfScript : {M F : Type 0} → Devices M F → Options → Option openings.Opening → List Line → ℕ → List ℕ → Type 0
+IsRunOfScript devices options None lines status text = (status ≡ 0) × (text ≡ [])
+IsRunOfScript devices options (Some first) lines status text =
+    (pieces : List Piece) × ArePieces (is_some options.seed) lines pieces × IsRunOfShape devices options first pieces status text
+
+-- The bytes of a script: its run, or its first faulty line.
+abbrev pub IsRunOfText : {M F : Type 0} → Devices M F → Options → Result ScriptText LineFault → ℕ → List ℕ → Type 0
+IsRunOfText devices options (Ok script) status text = IsRunOfScript devices options script.opening script.lines status text
+IsRunOfText devices options (Err fault) status text = (status ≡ 2) × (text ≡ line_fault_text fault)
+
+-- a store lies in the file that the options name, or in memory
+abbrev pub mode_of : Bool → Mode
+mode_of false = mode.Memory
+mode_of true = mode.File
+
+-- Words that are refused: the line `options`.
+pub record AreRefusedWords (words : List (List ℕ)) (status : ℕ) (text : List ℕ) : Type 0 where
+  pub refused : AreAccepted words → ⊥
+  pub answers : status ≡ 2
+  pub says : text ≡ line_of (codes "options")
+
+-- What is written for these words and this script, and the status.
+pub record IsRunOfWords {M F : Type 0} (devices : Devices M F) (words : List (List ℕ)) (bytes : List ℕ) (status : ℕ) (text : List ℕ) : Type 0 where
+  pub options : Options
+  pub asked : AreMatchesOf words options
+  pub run : IsRunOfText devices options (script_of (mode_of (is_some options.file)) (take script_limit bytes)) status text
+
+abbrev pub IsOutput : {M F : Type 0} → Devices M F → List (List ℕ) → List ℕ → ℕ → List ℕ → Type 0
+IsOutput devices words bytes status text = AreRefusedWords words status text ⊎ IsRunOfWords devices words bytes status text
+
+-- Where the status isn't 4, which says that memory or a stream failed, this is written, for a reader whose bytes are known.
+abbrev pub IsOutputOf : {M F : Type 0} → Devices M F → List (List ℕ) → Option (List ℕ) → ℕ → List ℕ → Type 0
+IsOutputOf devices words None status text = Unit {0}
+IsOutputOf devices words (Some bytes) status text = IsOutput devices words bytes status text

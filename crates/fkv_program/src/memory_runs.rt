@@ -1,0 +1,38 @@
+//! Stores in memory.
+ghost use Rattle.std.specs.Prelude.{◌⊎◌, IfOk};
+ghost use Rattle.fkv_base.specs.declared.faults.Fault.TheVariants.{Device};
+ghost use Rattle.fkv_playing.specs.InTurn.{Writes};
+ghost use Rattle.fkv_runs.specs.Openings.{medium_of};
+ghost use Rattle.fkv_program.specs.Output.{IsRunInMemory, Refuses};
+
+use crate::scripts::refuse;
+use fkv_base::Shape;
+use fkv_creating::create_opened;
+use fkv_options::Options;
+use fkv_playing::Picks;
+use fkv_runs::{Crashes, Piece, Settings, play_lives};
+use std::alloc::Global;
+use std::io::{self, Write};
+
+/// A new store in memory, and the pieces of its script over its lives.
+pub(crate) fn play_memory<M: Crashes, W: Write>(
+    alloc: Global,
+    options: &Options,
+    memory: M,
+    shape: Shape,
+    pieces: &[Piece],
+    picks: &mut Picks,
+    output: &mut W,
+) -> io::Result<u8>
+    ensures { IfOk result (λ status. Writes (λ text. IsRunInMemory (medium_of M.honest M.seen M.may_leave M.failed M.refuses M.broken M.image M.armed) options.now shape pieces.now status text ⊎ Refuses Device 3 status text) (W.contents output.old) (W.contents output.new)) }
+{
+    let settings = Settings {
+        torn: options.torn,
+        checks: options.check,
+    };
+    let mut device = memory;
+    match create_opened(alloc, &mut device, shape) {
+        Ok(opened) => play_lives(alloc, output, opened, device, pieces, picks, settings),
+        Err(fault) => refuse(output, fault, 3),
+    }
+}

@@ -1,0 +1,117 @@
+//! Whole runs of the program.
+ghost use Rattle.std.specs.Prelude.{◌≡◌, ◌⊎◌, IfOk, IfSome, OnOk, is_some, string_bytes, take};
+ghost use Rattle.std.specs.Io.KnownBytes.{Appends};
+ghost use Rattle.fkv_lines.specs.Script.{script_of};
+ghost use Rattle.clap.specs.Walk.{texts};
+ghost use Rattle.fkv_playing.specs.InTurn.{Writes};
+ghost use Rattle.fkv_playing.specs.Players.{EngineStep};
+ghost use Rattle.fkv_runs.specs.Openings.{medium_of};
+ghost use Rattle.fkv_program.specs.Output.{IsOutputOf, IsRunOfText, line_fault_text, mode_of, script_limit};
+
+use crate::scripts::run_script;
+use fkv_base::{Fault, ScriptFault};
+use fkv_disk::{Device, FileDisk, Fuse, MemDisk};
+use fkv_lines::{Mode, script_of};
+use fkv_options::{Options, RunFault, options_of};
+use fkv_playing::Breaks;
+use fkv_runs::Crashes;
+use std::alloc::Global;
+use std::io::{self, Read, Write};
+use std::rt::Files;
+
+/// A longer script has its first faulty line among its first so many bytes.
+const SCRIPT_LIMIT: u64 = 65536 * 201 + 1;
+
+/// Runs the program: by the words after its name and the script that the input gives, writes its answers. The status: 0; 1 where a check
+/// differs; 2 where the words, the script or its shape are refused; 3 where a store is; 4 where memory was refused outside of a line's own answer,
+/// or a stream failed: then the output may break off anywhere.
+pub fn run<H: Files, R: Read + Drop, W: Write>(
+    rt: &H,
+    alloc: Global,
+    words: &[&str],
+    input: R,
+    output: &mut W,
+) -> u8
+    ensures { (result ≡ 4) ⊎ Writes (IsOutputOf (record { memory = medium_of ⟦<Fuse<MemDisk> as Device>⟧.honest ⟦<Fuse<MemDisk> as Device>⟧.seen ⟦<Fuse<MemDisk> as Device>⟧.may_leave ⟦<Fuse<MemDisk> as Device>⟧.failed ⟦<Fuse<MemDisk> as Device>⟧.refuses ⟦<Fuse<MemDisk> as Breaks>⟧.broken ⟦<Fuse<MemDisk> as Crashes>⟧.image ⟦<Fuse<MemDisk> as Crashes>⟧.armed; file = EngineStep ⟦<FileDisk<H::File> as Device>⟧.honest ⟦<FileDisk<H::File> as Device>⟧.seen ⟦<FileDisk<H::File> as Device>⟧.may_leave ⟦<FileDisk<H::File> as Device>⟧.failed ⟦<FileDisk<H::File> as Device>⟧.refuses ⟦<FileDisk<H::File> as Breaks>⟧.broken }) (texts words.now) (R.remaining input) result) (W.contents output.old) (W.contents output.new) }
+{
+    let memory = Fuse::new(MemDisk::new(alloc));
+    match run_words(rt, alloc, words, memory, input, output) {
+        Ok(status) => status,
+        Err(_) => 4,
+    }
+}
+
+/// The same, over this device in memory, with what stopped it.
+fn run_words<H: Files, M: Crashes, R: Read + Drop, W: Write>(
+    rt: &H,
+    alloc: Global,
+    words: &[&str],
+    memory: M,
+    input: R,
+    output: &mut W,
+) -> io::Result<u8>
+    ensures { IfOk result (λ status. Writes (IsOutputOf (record { memory = medium_of M.honest M.seen M.may_leave M.failed M.refuses M.broken M.image M.armed; file = EngineStep ⟦<FileDisk<H::File> as Device>⟧.honest ⟦<FileDisk<H::File> as Device>⟧.seen ⟦<FileDisk<H::File> as Device>⟧.may_leave ⟦<FileDisk<H::File> as Device>⟧.failed ⟦<FileDisk<H::File> as Device>⟧.refuses ⟦<FileDisk<H::File> as Breaks>⟧.broken }) (texts words.now) (R.remaining input) status) (W.contents output.old) (W.contents output.new)) }
+{
+    let status = match options_of(alloc, words) {
+        Ok(options) => {
+            let bytes = script_bytes(alloc, input)?;
+            run_text(rt, alloc, &options, memory, &bytes, output)?
+        }
+        Err(fault) => refuse_words(output, &fault)?,
+    };
+    output.flush()?;
+    Ok(status)
+}
+
+/// The first bytes of a script, as many as are looked at.
+fn script_bytes<R: Read + Drop>(alloc: Global, input: R) -> io::Result<Vec<u8>>
+    ensures { IfOk result (λ bytes. IfSome (R.remaining input) (λ script. bytes.items ≡ take script_limit script)) }
+{
+    let mut bytes = Vec::new(alloc);
+    input.take(SCRIPT_LIMIT).read_to_end(&mut bytes)?;
+    Ok(bytes)
+}
+
+/// Prints why the words are refused, where it isn't for want of memory.
+fn refuse_words<W: Write>(output: &mut W, fault: &RunFault) -> io::Result<u8>
+    ensures { IfOk result (λ status. (status ≡ fault.now.status) × (¬ (fault.now.status ≡ 4)) × Appends (W.contents output.old) (W.contents output.new) (string_bytes fault.now.text)) }
+{
+    if fault.status == 4 {
+        return Err(io::ErrorKind::OutOfMemory.into());
+    }
+    output.write_all(fault.text.as_bytes())?;
+    Ok(fault.status)
+}
+
+/// Runs the script of these bytes, or prints its first faulty line.
+fn run_text<H: Files, M: Crashes, W: Write>(
+    rt: &H,
+    alloc: Global,
+    options: &Options,
+    memory: M,
+    bytes: &[u8],
+    output: &mut W,
+) -> io::Result<u8>
+    ensures { IfOk result (λ status. Writes (IsRunOfText (record { memory = medium_of M.honest M.seen M.may_leave M.failed M.refuses M.broken M.image M.armed; file = EngineStep ⟦<FileDisk<H::File> as Device>⟧.honest ⟦<FileDisk<H::File> as Device>⟧.seen ⟦<FileDisk<H::File> as Device>⟧.may_leave ⟦<FileDisk<H::File> as Device>⟧.failed ⟦<FileDisk<H::File> as Device>⟧.refuses ⟦<FileDisk<H::File> as Breaks>⟧.broken }) options.now (script_of (mode_of (is_some options.now.file)) bytes.now) status) (W.contents output.old) (W.contents output.new)) }
+{
+    let mode = match &options.file {
+        Some(_) => Mode::File,
+        None => Mode::Memory,
+    };
+    match script_of(alloc, bytes, mode) {
+        Ok(script) => run_script(rt, alloc, options, memory, &script, output),
+        Err(Fault::Script(line, kind)) => {
+            write_line_fault(output, line, kind)?;
+            Ok(2)
+        }
+        Err(_) => Err(io::ErrorKind::OutOfMemory.into()),
+    }
+}
+
+/// The first faulty line of a script: `script line 7 Count`.
+fn write_line_fault<W: Write>(output: &mut W, line: u64, kind: ScriptFault) -> io::Result<()>
+    ensures { OnOk result (Appends (W.contents output.old) (W.contents output.new) (line_fault_text (record { line = line; kind = kind }))) }
+{
+    let name = kind.name();
+    writeln!(output, "script line {line} {name}")
+}
