@@ -1,5 +1,6 @@
+pub mod Joining
+mod Legs
 mod Recovery
 mod Replays
 mod Reported
-pub mod Joining
 pub mod Turning

@@ -10,7 +10,6 @@ mod openings;
 mod pieces;
 mod runs;
 mod settings;
-
 #[cfg(test)]
 mod tests;
 

@@ -3,7 +3,7 @@ ghost use Rattle.std.specs.Prelude.{◌≡◌, ◌-◌, Bool, [], IfOk, is_none,
 ghost use Rattle.fkv_playing.specs.Players.{PlayerState, waits_for_crash};
 ghost use Rattle.fkv_playing.specs.InTurn.{Writes};
 ghost use Rattle.fkv_runs.specs.Openings.{Begins, medium_of};
-ghost use Rattle.fkv_runs.specs.Runs.{IsCrashed, IsCrashedWhere, IsFinishStruck, IsLegOf, IsPiece, IsRun, KeepsSettings, Prepares, RunState, is_due, state_behind, status_of};
+ghost use Rattle.fkv_runs.specs.Runs.{IsCrashed, IsCrashedWhere, IsFinishStruck, IsLegOf, IsPiece, IsRun, KeepsSettings, Prepares, RunState, is_due, is_struck_at, state_behind, status_of};
 
 use crate::crashes::take_crash;
 use crate::crashing::Crashes;
@@ -76,14 +76,13 @@ impl<D: Crashes> Run<D> {
     fn end<W: Write>(self, output: &mut W) -> io::Result<u8>
         ensures { IfOk result (λ status. (over : Bool) × (after : RunState D) × (status ≡ status_of over after.agrees) × Writes (IsCrashedWhere (is_due self.state.player.waits) (medium_of D.honest D.seen D.may_leave D.failed D.refuses D.broken D.image D.armed) self.settings self.state after over) (W.contents output.old) (W.contents output.new)) }
     {
-        let mut agrees = self.agrees;
-        if is_due(self.player.waits()) {
-            let Some(run) = self.crash(output)? else {
-                return Ok(3);
-            };
-            agrees = run.agrees;
+        if !is_due(self.player.waits()) {
+            return Ok(status_of(self.agrees));
         }
-        Ok(if agrees { 0 } else { 1 })
+        let Some(run) = self.crash(output)? else {
+            return Ok(3);
+        };
+        Ok(status_of(run.agrees))
     }
 
     /// Plays one piece. None where the run was refused.
@@ -129,7 +128,7 @@ impl<D: Crashes> Run<D> {
         ensures { IfOk result (λ next. (KeepsSettings self.settings next) × Writes (IsLegOf (IsFinishStruck (medium_of D.honest D.seen D.may_leave D.failed D.refuses D.broken D.image D.armed)) (medium_of D.honest D.seen D.may_leave D.failed D.refuses D.broken D.image D.armed) self.settings self.state (state_behind self.state next) (is_none next)) (W.contents output.old) (W.contents output.new)) }
     {
         let mut run = self;
-        if run.player.finish(run.alloc, output)? == Outcome::Struck {
+        if has_struck(run.player.finish(run.alloc, output)?) {
             return run.crash(output);
         }
         Ok(Some(run))
@@ -164,5 +163,22 @@ fn is_due(waits: Waits) -> bool
     match waits {
         Waits::Crash | Waits::CrashAtEnd => true,
         Waits::Nothing | Waits::Failure => false,
+    }
+}
+
+/// The status of a run that came to its end: 0 where all reports have agreed with their checks, and else 1.
+fn status_of(agrees: bool) -> u8
+    ensures { result ≡ status_of false agrees }
+{
+    if agrees { 0 } else { 1 }
+}
+
+/// A crash has struck in a finish that comes out so.
+fn has_struck(outcome: Outcome) -> bool
+    ensures { result ≡ is_struck_at outcome }
+{
+    match outcome {
+        Outcome::Struck => true,
+        Outcome::GoesOn | Outcome::Answered | Outcome::Closed => false,
     }
 }

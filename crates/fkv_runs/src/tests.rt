@@ -1,6 +1,6 @@
 //! Runs that are played whole: what they print, by the worked rows.
-use crate::{Settings, pieces_of, play_life, play_lives};
 use crate::pieces::Piece;
+use crate::{Settings, pieces_of, play_life, play_lives};
 use fkv_base::{Key, Shape, Value};
 use fkv_commit::CommitKind;
 use fkv_creating::create_opened;
@@ -28,7 +28,15 @@ fn played(alloc: Global, lines: &[Line], seed: Option<u64>) -> Result<(u8, Vec<u
     let pieces = pieces_of(alloc, lines, seed.is_some())?;
     let mut output = Vec::new(alloc);
     let mut picks = Picks::new(seed);
-    let status = play_lives(alloc, &mut output, opened, device, &pieces, &mut picks, CHECKED)?;
+    let status = play_lives(
+        alloc,
+        &mut output,
+        opened,
+        device,
+        &pieces,
+        &mut picks,
+        CHECKED,
+    )?;
     Ok((status, output))
 }
 
@@ -44,7 +52,8 @@ fn a_commit_keeps_what_was_done_before_it(rt: HostRuntime) -> Result<(), Fail> {
     ];
     let (status, output) = played(rt.alloc(), &lines, None)?;
     assert_eq!(rt; status, 0);
-    let text = "0 #1 done\nk commit 1\nk finished 1 points 1 0\n0 #2 done\ncrash commit 1 points 1 0 pairs 1\npair 7 10\ncheck recovered equals replay\n0 get 7 pending @1\n";
+    let text =
+        "0 #1 done\nk commit 1\nk finished 1 points 1 0\n0 #2 done\ncrash commit 1 points 1 0 pairs 1\npair 7 10\ncheck recovered equals replay\n0 get 7 pending @1\n";
     assert_eq!(rt; output.as_slice(), text.as_bytes());
     Ok(())
 }
@@ -86,7 +95,14 @@ fn a_life_on_a_device_of_its_own_leaves_out_crashes(rt: HostRuntime) -> Result<(
     let opened = create_opened(alloc, &mut device, Shape::new(4, 16, 4, 2, 2, 1, 64)?)?;
     let pieces = pieces_of(alloc, &[Line::Crash, up(1, 7, 10)], false)?;
     let mut output = Vec::new(alloc);
-    play_life(alloc, &mut output, opened, device, &pieces, &mut Picks::new(None))?;
+    play_life(
+        alloc,
+        &mut output,
+        opened,
+        device,
+        &pieces,
+        &mut Picks::new(None),
+    )?;
     assert_eq!(rt; output.as_slice(), "1 #1 done\n".as_bytes());
     Ok(())
 }
