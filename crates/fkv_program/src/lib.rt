@@ -7,3 +7,6 @@ mod programs;
 mod scripts;
 
 pub use programs::run;
+
+#[cfg(test)]
+mod tests;
