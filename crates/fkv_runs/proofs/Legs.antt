@@ -24,7 +24,7 @@ use Rattle.fkv_runs.proofs.Turning.{next_taken}
 -- the next life begins behind a report
 pub crash_taken : {D : Type 0} (medium : Medium D) (settings : Settings) (before : RunState D) (player : PlayerState D) (agrees both : Bool) (a b : Option (List ℕ))
     → both ≡ (before.agrees && agrees)
-    → Writes (IsCrash (medium.image before.player.world.device settings.torn) settings.checks before.player player agrees) a b
+    → Writes (IsCrash medium.holds (medium.image before.player.world.device settings.torn) settings.checks before.player player agrees) a b
     → Writes (IsCrashed medium settings before (record { player = player; agrees = both }) false) a b
 crash_taken medium settings before player agrees both a b is h =
     (h.0, record { crash = λ on. (agrees, h.1, is); refusal = λ (over : false ≡ true). absurd (cc) }, h.2)
@@ -32,7 +32,7 @@ crash_taken medium settings before player agrees both a b is h =
 -- so of a run beside its settings
 pub run_crashed : {D : Type 0} (medium : Medium D) (run : RunModel D) (settings : Settings) (before : RunState D) (player : PlayerState D) (agrees both : Bool) (a b : Option (List ℕ))
     → record { state = before; settings = settings } ≡ run → both ≡ (before.agrees && agrees)
-    → Writes (IsCrash (medium.image before.player.world.device settings.torn) settings.checks before.player player agrees) a b
+    → Writes (IsCrash medium.holds (medium.image before.player.world.device settings.torn) settings.checks before.player player agrees) a b
     → (settings ≡ run.settings) × Writes (IsCrashed medium run.settings run.state (record { player = player; agrees = both }) false) a b
 run_crashed {D} medium run settings before player agrees both a b is joined h =
     subst (λ (its : RunModel D). (settings ≡ its.settings) × Writes (IsCrashed medium its.settings its.state (record { player = player; agrees = both }) false) a b) is

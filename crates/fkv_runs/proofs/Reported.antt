@@ -59,14 +59,15 @@ reported_unchecked checks opened device history after pairs shown points player 
     (subst (λ (b : Bool). IsReported false opened device history pairs player b before behind) (sym its_told) whole)
 
 -- A crash is what is recovered from its image, and told.
-pub crash_taken : {D : Type 0} (image seen : List ℕ) (opened : Opened) (device : D) (pairs : List (Key × Value)) (before after : PlayerState D) (history : List HistoryEntry)
+pub crash_taken : {D : Type 0} (holds : List ℕ → D → Type 0) (image seen : List ℕ) (opened : Opened) (device : D) (pairs : List (Key × Value)) (before after : PlayerState D) (history : List HistoryEntry)
     (checks agrees : Bool) (written behind : Option (List ℕ))
-    → seen ≡ image → history ≡ before.history → IsRecovered seen opened pairs → IsReported checks opened device history pairs after agrees written behind
-    → Writes (IsCrash image checks before after agrees) written behind
-crash_taken image seen opened device pairs before after history checks agrees written behind its_image its_history recovered reported =
+    → seen ≡ image → history ≡ before.history → IsRecovered seen opened pairs → holds seen device → IsReported checks opened device history pairs after agrees written behind
+    → Writes (IsCrash holds image checks before after agrees) written behind
+crash_taken holds image seen opened device pairs before after history checks agrees written behind its_image its_history recovered its_device reported =
     let told : IsReported checks opened device before.history pairs after agrees written behind =
     subst (λ (its : List HistoryEntry). IsReported checks opened device its pairs after agrees written behind) its_history reported in
     let its_store : IsRecovered image opened pairs = subst (λ (its : List ℕ). IsRecovered its opened pairs) its_image recovered in
-    let crash : IsCrash image checks before after agrees (crash_text checks opened pairs agrees) =
-    record { opened = opened; pairs = pairs; recovered = its_store; device = device; begins = told.0; checked = told.1; says = refl } in
+    let reads : holds image device = subst (λ (its : List ℕ). holds its device) its_image its_device in
+    let crash : IsCrash holds image checks before after agrees (crash_text checks opened pairs agrees) =
+    record { opened = opened; pairs = pairs; recovered = its_store; device = device; reads = reads; begins = told.0; checked = told.1; says = refl } in
     (crash_text checks opened pairs agrees, crash, told.2)

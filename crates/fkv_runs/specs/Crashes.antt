@@ -38,12 +38,13 @@ Agrees false history pairs agrees = agrees ≡ true
 abbrev pub crash_text : Bool → Opened → List (Key × Value) → Bool → List ℕ
 crash_text checks opened pairs agrees = report_text opening.Crash opened.number opened.points.items pairs ++ check_behind checks agrees
 
--- The store is recovered from the image of the crash, over a new device, and with it the next life begins; the report shows it.
-pub record IsCrash {D : Type 0} (image : List ℕ) (checks : Bool) (before after : PlayerState D) (agrees : Bool) (text : List ℕ) : Type 0 where
+-- The store is recovered from the image of the crash, over a new device that holds that image, and with it the next life begins; the report shows it.
+pub record IsCrash {D : Type 0} (holds : List ℕ → D → Type 0) (image : List ℕ) (checks : Bool) (before after : PlayerState D) (agrees : Bool) (text : List ℕ) : Type 0 where
   pub opened : Opened
   pub pairs : List (Key × Value)
   pub recovered : IsRecovered image opened pairs
   pub device : D
+  pub reads : holds image device
   pub begins : Begins opened device (kept_behind checks before.history opened) checks after
   pub checked : Agrees checks (kept before.history opened.points.items) pairs agrees
   pub says : text ≡ crash_text checks opened pairs agrees

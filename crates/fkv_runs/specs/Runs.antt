@@ -37,7 +37,7 @@ KeepsSettings settings (Some run) = run.settings ≡ settings
 
 -- A crash is taken: the run goes on with the next life behind the report, or ends with a refusal.
 pub record IsCrashed {D : Type 0} (medium : Medium D) (settings : Settings) (before after : RunState D) (over : Bool) (text : List ℕ) : Type 0 where
-  pub crash : over ≡ false → (agrees : Bool) × IsCrash (medium.image before.player.world.device settings.torn) settings.checks before.player after.player agrees text × (after.agrees ≡ (before.agrees && agrees))
+  pub crash : over ≡ false → (agrees : Bool) × IsCrash medium.holds (medium.image before.player.world.device settings.torn) settings.checks before.player after.player agrees text × (after.agrees ≡ (before.agrees && agrees))
   pub refusal : over ≡ true → IsRefusal (medium.image before.player.world.device settings.torn) text
 
 -- A crash that has struck is taken; where none has, all stays.

@@ -1,4 +1,4 @@
-use Rattle.std.proofs.Common.{rules}
+use Rattle.std.proofs.Common.{rules, ◌∙◌}
 use Rattle.fkv_runs.proofs.Recovery.{cause_of_refusal, recovered_before}
 use Rattle.fkv_runs.proofs.crashes.recover_image.Goals as goal
 
@@ -11,3 +11,10 @@ pub returns-clause-store : goal.returns-clause-store
 returns-clause-store g c = λ honest.
     let quiet = c.recover.ensures.quiet in
     recovered_before _ _ _ _ (quiet.same_bytes honest) (c.in_ok-opened.ensures.ok honest) (c.in_ok-pairs.ensures.ok (quiet.premise.0 honest))
+
+pub returns-clause-reads : goal.returns-clause-reads
+returns-clause-reads g c = λ honest.
+    let quiet = c.recover.ensures.quiet in
+    let later = c.content.ensures.quiet in
+    let still = quiet.premise.0 honest in
+    (later.premise.0 still, later.same_bytes still ∙ quiet.same_bytes honest)
