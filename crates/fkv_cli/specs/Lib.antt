@@ -1,14 +1,1 @@
-pub mod Codes
-pub mod Commits
-pub mod Crashes
-pub mod FreshLog
-pub mod Holds
-pub mod Homes
-pub mod Index
-pub mod Life
 pub mod Output
-pub mod Placed
-pub mod Planned
-pub mod Replays
-pub mod Stops
-pub mod Stores

@@ -1,116 +1,57 @@
--- What the program writes for a script, and the status it ends with.
-use Rattle.std.specs.Prelude.{◌≡◌, ◌⊎◌, ℕ, ◌+◌, ◌*◌, ◌<◌, ◌-◌, Bool, true, false, List, [], ◌∷◌, ◌++◌, take, if◌then◌else◌, Option, Some, None, option_map, Result, Ok, Err, string_bytes}
-use Rattle.std.specs.FinMap.{entries}
-use Rattle.std.specs.Io.KnownBytes.{Appends}
+-- What the program writes, and its status, by its words and its script.
+use Rattle.std.specs.Prelude.{◌≡◌, ◌⊎◌, ◌*◌, ◌+◌, ℕ, Bool, true, false, List, [], ◌++◌, codes, decimal, take, is_some, IfSome, Option, Some, None, Result, Ok, Err}
+use Rattle.fkv_base.specs.declared.numbers.Key.{Key}
+use Rattle.fkv_base.specs.declared.numbers.Value.{Value}
+use Rattle.fkv_base.specs.Fault.{script_fault_name}
+use Rattle.fkv_base.specs.Limits.{IsShape}
 use Rattle.fkv_base.specs.declared.faults.Fault.{Fault}
-use Rattle.fkv_base.specs.declared.faults.Fault.TheVariants.{BadShape, Device, Memory}
+use Rattle.fkv_base.specs.declared.faults.Fault.TheVariants.{BadShape, Device}
 use Rattle.fkv_base.specs.declared.shapes.Shape.{Shape}
-use Rattle.fkv_base.specs.Limits.{is_shape}
-use Rattle.fkv_disk.specs.Bytes.{AreBytes}
-use Rattle.fkv_recover.specs.Created.{IsLaid, new_head}
-use Rattle.fkv_recover.specs.Faults.{IsFaultOf}
-use Rattle.fkv_script.specs.declared.options.RunFault.{RunFault}
-use Rattle.fkv_script.specs.declared.options.Verdict.{Verdict}
-use Rattle.fkv_script.specs.declared.options.Verdict.TheVariants.{Agrees}
-use Rattle.fkv_script.specs.declared.scripts.Command.{Command}
-use Rattle.fkv_script.specs.declared.scripts.Command.TheVariants.{Operation, Commit, Finish, Crash, CrashAt}
-use Rattle.fkv_script.specs.declared.scripts.Sizes.{Sizes}
-use Rattle.fkv_script.specs.Script.{ScriptText, LineFault, most_bytes, most_lines, script_of}
-use Rattle.fkv_script.specs.RunFault.{IsWant, line_fault_text}
-use Rattle.fkv_script.specs.Texts.{ended, refusal_text, session_text, commit_text, finish_text, report_text}
-use Rattle.fkv_cli.specs.Life.{Life, new_life, last_commit, answer_to, after_operation, answer_to_commit, after_commit}
-use Rattle.fkv_cli.specs.Commits.{answer_to_finish, after_finish}
-use Rattle.fkv_cli.specs.Crashes.{struck_after, struck_image, crash_image, IsRecovered}
+use Rattle.fkv_creating.specs.Created.{IsNewStore}
+use Rattle.fkv_core.specs.Worlds.{WorldModel}
+use Rattle.fkv_core.specs.declared.events.Event.{Event}
+use Rattle.fkv_core.specs.declared.events.Told.{Told}
+use Rattle.fkv_lines.specs.Script.{LineFault, ScriptText, script_of}
+use Rattle.fkv_lines.specs.declared.scripts.Line.{Line}
+use Rattle.fkv_lines.specs.declared.scripts.Mode.{Mode}
+use Rattle.fkv_lines.specs.declared.scripts.Mode.TheVariants as mode
+use Rattle.fkv_lines.specs.declared.scripts.Opening as openings
+use Rattle.fkv_lines.specs.declared.scripts.Opening.TheVariants as opening
+use Rattle.fkv_lines.specs.declared.scripts.Sizes.{Sizes}
+use Rattle.fkv_opening.specs.Opened.{IsStoreOf}
+use Rattle.fkv_opening.specs.declared.opened_store.Opened.{Opened}
+use Rattle.fkv_options.specs.CommandLine.{AreAccepted}
+use Rattle.fkv_options.specs.Options.{AreMatchesOf}
+use Rattle.fkv_options.specs.declared.options.Options.{Options}
+use Rattle.fkv_playing.specs.Players.{PlayerState}
+use Rattle.fkv_runs.specs.Files.{IsPartOfLife, IsRunOfLife}
+use Rattle.fkv_runs.specs.Openings.{Begins, Medium}
+use Rattle.fkv_runs.specs.Pieces.{ArePieces}
+use Rattle.fkv_runs.specs.Runs.{IsPartOfRun, IsRun, RunState}
+use Rattle.fkv_runs.specs.declared.pieces.Piece.{Piece}
+use Rattle.fkv_runs.specs.declared.settings.Settings.{Settings}
+use Rattle.fkv_texts.specs.Lines.{line_of}
+use Rattle.fkv_texts.specs.Refusals.{last_refusal}
+use Rattle.fkv_texts.specs.Reports.{report_text}
+use Rattle.fkv_texts.specs.declared.reports.Opening.TheVariants as reports
 
--- the report of a store that was just recovered
-abbrev pub recovery_text : Life → List ℕ
-recovery_text life = report_text (last_commit life) (entries life.map)
+-- a longer script has its first faulty line among its first so many bytes
+abbrev pub script_limit : ℕ
+script_limit = 65536 * 201 + 1
 
--- ---- lines that don't crash
+-- `script line 7 Count`
+abbrev pub line_fault_text : LineFault → List ℕ
+line_fault_text fault = line_of (codes "script line " ++ decimal fault.line ++ codes " " ++ script_fault_name fault.kind)
 
--- `crash J` lets J - 1 calls of the device pass
-abbrev pub after_crash_at : Life → ℕ → Life
-after_crash_at life call = record life { left = Some (call - 1) }
+-- a run comes to this status, or breaks off with status 4
+abbrev pub ComesTo : ℕ → ℕ → Type 0
+ComesTo wanted status = (status ≡ wanted) ⊎ (status ≡ 4)
 
--- what a line prints, and what it leaves
-abbrev pub command_text : Life → Command → List ℕ
-command_text life (Operation session op) = session_text session (answer_to life session op)
-command_text life Commit = commit_text (answer_to_commit life)
-command_text life Finish = finish_text (answer_to_finish life)
-command_text life Crash = []
-command_text life (CrashAt call) = []
+-- a run that ends with a refusal
+abbrev pub Refuses : Fault → ℕ → ℕ → List ℕ → Type 0
+Refuses fault wanted status text = ComesTo wanted status × (text ≡ last_refusal fault)
 
-abbrev pub after_command : Life → Command → Life
-after_command life (Operation session op) = after_operation life session op
-after_command life Commit = after_commit life
-after_command life Finish = after_finish life
-after_command life Crash = life
-after_command life (CrashAt call) = after_crash_at life call
-
--- ---- lines that do
-
--- the image of the crash that a line takes, or in which it is given up; torn is what torn bytes hold
-abbrev pub image_of : ℕ → Life → Command → Option (List ℕ)
-image_of torn life (Operation session op) = None
-image_of torn life Commit = None
-image_of torn life Finish = if life.is_committing then option_map (λ passed. struck_image torn passed life) (struck_after life) else None
-image_of torn life Crash = Some (crash_image torn life)
-image_of torn life (CrashAt call) = None
-
--- memory was refused: the store says so, and a device in memory that can't grow fails
-abbrev pub IsWantOfMemory : Fault → Type 0
-IsWantOfMemory Memory = Unit {0}
-IsWantOfMemory Device = Unit {0}
-IsWantOfMemory fault = ⊥
-
--- why nothing is recovered: a fault of the image, or memory was refused
-abbrev pub IsRefusal : List ℕ → Fault → Type 0
-IsRefusal image fault = IsWantOfMemory fault ⊎ IsFaultOf image fault
-
--- what a crash with this image prints: the report of what is recovered, or the refusal with which the run stops
-abbrev pub IsCrashed : Life → List ℕ → Life → List ℕ → Bool → Type 0
-IsCrashed life image after text true = IsRecovered life image after × (text ≡ recovery_text after)
-IsCrashed life image after text false = (fault : Fault) × IsRefusal image fault × (text ≡ ended (refusal_text fault))
-
--- ---- all lines
-
--- What these lines print, each from what the ones before it left, and the status that they end with.
-pub data Plays (torn : ℕ) : Life → List Command → List ℕ → ℕ → Type 0 where
-  -- no line is left
-  ends : (life : Life) → life.left ≡ None → Plays torn life [] [] 0
-  -- no line is left, and a crash that hasn't struck is taken here
-  ends_in_crash : (life : Life) (left : ℕ) (text : List ℕ) (status : ℕ) → life.left ≡ Some left → Plays torn life (Crash ∷ []) text status → Plays torn life [] text status
-  -- a line is answered
-  answers : (life : Life) (command : Command) (commands : List Command) (text : List ℕ) (status : ℕ) → image_of torn life command ≡ None → Plays torn (after_command life command) commands text status
-      → Plays torn life (command ∷ commands) (command_text life command ++ text) status
-  -- a store is recovered from the image of a crash, and reported
-  recovers : (life : Life) (command : Command) (commands : List Command) (image : List ℕ) (after : Life) (text : List ℕ) (status : ℕ) → image_of torn life command ≡ Some image → IsRecovered life image after
-      → Plays torn after commands text status → Plays torn life (command ∷ commands) (recovery_text after ++ text) status
-  -- recovery is refused, which ends the run
-  refuses : (life : Life) (command : Command) (commands : List Command) (image : List ℕ) (fault : Fault) → image_of torn life command ≡ Some image → IsRefusal image fault
-      → Plays torn life (command ∷ commands) (ended (refusal_text fault)) 3
-
--- what is printed before the next line's text
-abbrev pub GoesOn : ℕ → Life → Command → Life → List ℕ → Type 0
-GoesOn torn life command after text =
-    (commands : List Command) (rest : List ℕ) (status : ℕ) → Plays torn after commands rest status → Plays torn life (command ∷ commands) (text ++ rest) status
-
--- what is printed as the last line's text
-abbrev pub Stops : ℕ → Life → Command → List ℕ → Type 0
-Stops torn life command text = (commands : List Command) → Plays torn life (command ∷ commands) text 3
-
--- a command prints this text, and the run goes on or stops
-abbrev pub IsPlayed : ℕ → Life → Command → Life → List ℕ → Bool → Type 0
-IsPlayed torn life command after text true = GoesOn torn life command after text
-IsPlayed torn life command after text false = Stops torn life command text
-
--- ---- the script
-
--- the sizes are those of a shape
-abbrev pub is_accepted : Sizes → Bool
-is_accepted s = is_shape s.bucket_bits s.page s.frames s.mutable s.sessions s.overflow s.disk_pages
-
--- the shape has these sizes
+-- the shape of these sizes
 pub record HasSizes (sizes : Sizes) (shape : Shape) : Type 0 where
   pub bucket_bits : shape.bucket_bits ≡ sizes.bucket_bits
   pub page : shape.page ≡ sizes.page
@@ -120,52 +61,104 @@ pub record HasSizes (sizes : Sizes) (shape : Shape) : Type 0 where
   pub overflow : shape.overflow ≡ sizes.overflow
   pub disk_pages : shape.disk_pages ≡ sizes.disk_pages
 
--- a device is empty, and then has these bytes, when a store of this shape is created on it
-pub record IsCreated (shape : Shape) (bytes : List ℕ) : Type 0 where
-  pub laid : IsLaid [] (new_head shape) bytes
-  pub are_bytes : AreBytes bytes
+abbrev pub AreSizes : Sizes → Type 0
+AreSizes sizes = IsShape sizes.bucket_bits sizes.page sizes.frames sizes.mutable sizes.sessions sizes.overflow sizes.disk_pages
 
--- the lines are answered by a store that was just created
-pub record PlaysAnew (torn : ℕ) (shape : Shape) (commands : List Command) (text : List ℕ) (status : ℕ) : Type 0 where
-  pub bytes : List ℕ
-  pub created : IsCreated shape bytes
-  pub plays : Plays torn (new_life shape bytes) commands text status
+-- crashes are taken as the options say
+abbrev pub settings_of : Options → Settings
+settings_of options = record { torn = options.torn; checks = options.check }
 
--- creating it is refused, where memory is
-abbrev pub IsNotCreated : List ℕ → ℕ → Type 0
-IsNotCreated text status = (fault : Fault) × IsWantOfMemory fault × (text ≡ ended (refusal_text fault)) × (status ≡ 3)
+-- What a run goes by: of a device in memory, and the steps of the engine over a file.
+pub record Devices (M F : Type 0) : Type 1 where
+  pub memory : Medium M
+  pub file : Event → WorldModel F → WorldModel F → Option Told → Bool → Type 0
 
-abbrev pub PlaysNew : ℕ → Shape → List Command → List ℕ → ℕ → Type 0
-PlaysNew torn shape commands text status = PlaysAnew torn shape commands text status ⊎ IsNotCreated text status
+-- all lives of a store in memory, or a part of them where the run breaks off
+abbrev pub AreLives : {M : Type 0} → Medium M → Settings → List Piece → RunState M → ℕ → List ℕ → Type 0
+AreLives medium settings pieces before status text = IsRun medium settings pieces before status text ⊎ ((status ≡ 4) × IsPartOfRun medium settings pieces before text)
 
-abbrev pub PlaysShape : Bool → ℕ → Sizes → List Command → List ℕ → ℕ → Type 0
-PlaysShape true torn sizes commands text status = (shape : Shape) × HasSizes sizes shape × PlaysNew torn shape commands text status
-PlaysShape false torn sizes commands text status = (text ≡ ended (refusal_text BadShape)) × (status ≡ 2)
+-- A new store in memory, over a device that holds it, and its lives.
+pub record IsRunInMemory {M : Type 0} (medium : Medium M) (options : Options) (shape : Shape) (pieces : List Piece) (status : ℕ) (text : List ℕ) : Type 0 where
+  pub opened : Opened
+  pub is_new : IsNewStore shape opened
+  pub image : List ℕ
+  pub store : IsStoreOf image opened
+  pub device : M
+  pub reads : medium.holds image device
+  pub player : PlayerState M
+  pub begins : Begins opened device [] options.check player
+  pub lives : AreLives medium (settings_of options) pieces (record { player = player; agrees = true }) status text
 
--- a script that opens no store prints nothing
-unfoldable pub PlaysOpening : ℕ → Option Sizes → List Command → List ℕ → ℕ → Type 0
-PlaysOpening torn None commands text status = (text ≡ []) × (status ≡ 0)
-PlaysOpening torn (Some sizes) commands text status = PlaysShape (is_accepted sizes) torn sizes commands text status
+-- the one life of a store in a file, or a part of it where the run breaks off
+abbrev pub IsPlayed : {F : Type 0} → (Event → WorldModel F → WorldModel F → Option Told → Bool → Type 0) → List Piece → PlayerState F → ℕ → List ℕ → Type 0
+IsPlayed engine pieces player status text = ((status ≡ 0) × IsRunOfLife engine pieces player text) ⊎ ((status ≡ 4) × IsPartOfLife engine pieces player text)
 
--- a script's text and status, or the line that names its first faulty line
-unfoldable pub PlaysScript : ℕ → Result ScriptText LineFault → List ℕ → ℕ → Type 0
-PlaysScript torn (Ok script) text status = PlaysOpening torn script.opening script.commands text status
-PlaysScript torn (Err fault) text status = (text ≡ line_fault_text fault) × (status ≡ 2)
+pub record IsLifeInFile {F : Type 0} (engine : Event → WorldModel F → WorldModel F → Option Told → Bool → Type 0) (opened : Opened) (pieces : List Piece) (status : ℕ) (text : List ℕ) : Type 0 where
+  pub device : F
+  pub player : PlayerState F
+  pub begins : Begins opened device [] false player
+  pub played : IsPlayed engine pieces player status text
 
--- so many bytes of a script are read, one more than all its lines may have with their ends: a longer one has its first faulty line among them
-abbrev pub script_limit : ℕ
-script_limit = most_lines * (most_bytes + 1) + 1
+-- a new store in a file, and its life
+pub record IsRunInNewFile {F : Type 0} (engine : Event → WorldModel F → WorldModel F → Option Told → Bool → Type 0) (shape : Shape) (pieces : List Piece) (status : ℕ) (text : List ℕ) : Type 0 where
+  pub opened : Opened
+  pub is_new : IsNewStore shape opened
+  pub life : IsLifeInFile engine opened pieces status text
 
--- what is written for these bytes, and the status that the run ends with
-abbrev pub IsOutputOf : ℕ → List ℕ → List ℕ → ℕ → Type 0
-IsOutputOf torn bytes text status = PlaysScript torn (script_of (take script_limit bytes)) text status
+-- The store that a file holds: its report, and its life, which may not begin where the run breaks off.
+pub record IsRunInFile {F : Type 0} (engine : Event → WorldModel F → WorldModel F → Option Told → Bool → Type 0) (pieces : List Piece) (status : ℕ) (text : List ℕ) : Type 0 where
+  pub opened : Opened
+  pub pairs : List (Key × Value)
+  pub said : List ℕ
+  pub life : IsLifeInFile engine opened pieces status said ⊎ ((status ≡ 4) × (said ≡ []))
+  pub says : text ≡ report_text reports.Open opened.number opened.points.items pairs ++ said
 
--- A run says how it ended: the stated text was written and the status is the stated one, or memory or a stream
--- failed, and then the status is 4. Nothing is left to print.
-abbrev pub Ends : (List ℕ → ℕ → Type 0) → Option (List ℕ) → Option (List ℕ) → Result Verdict RunFault → Type 0
-Ends Prints old new (Ok verdict) = (verdict ≡ Agrees) × ((text : List ℕ) × Prints text 0 × Appends old new text)
-Ends Prints old new (Err fault) =
-    IsWant fault ⊎ ((0 < fault.status) × (string_bytes fault.text ≡ []) × ((text : List ℕ) × Prints text fault.status × Appends old new text))
+-- The store that a file holds; or it is refused. In memory no store is opened.
+abbrev pub IsRunOfOldStore : {F : Type 0} → (Event → WorldModel F → WorldModel F → Option Told → Bool → Type 0) → List Piece → ℕ → List ℕ → Bool → Type 0
+IsRunOfOldStore engine pieces status text false = ComesTo 0 status × (text ≡ [])
+IsRunOfOldStore engine pieces status text true = IsRunInFile engine pieces status text ⊎ ((fault : Fault) × Refuses fault 3 status text)
 
-abbrev pub IsRunOf : ℕ → List ℕ → Option (List ℕ) → Option (List ℕ) → Result Verdict RunFault → Type 0
-IsRunOf torn bytes old new result = Ends (IsOutputOf torn bytes) old new result
+-- A new store, in memory or in the file that the options name; or it is refused, since the device failed.
+abbrev pub IsRunOfStore : {M F : Type 0} → Devices M F → Options → Option Shape → List Piece → ℕ → List ℕ → Bool → Type 0
+IsRunOfStore devices options None pieces status text in_file = IsRunOfOldStore devices.file pieces status text in_file
+IsRunOfStore devices options (Some shape) pieces status text false = IsRunInMemory devices.memory options shape pieces status text ⊎ Refuses Device 3 status text
+IsRunOfStore devices options (Some shape) pieces status text true = IsRunInNewFile devices.file shape pieces status text ⊎ Refuses Device 3 status text
+
+-- The line that opens the store: sizes that are none of a shape are refused.
+abbrev pub IsRunOfShape : {M F : Type 0} → Devices M F → Options → openings.Opening → List Piece → ℕ → List ℕ → Type 0
+IsRunOfShape devices options opening.Open pieces status text = IsRunOfStore devices options None pieces status text (is_some options.file)
+IsRunOfShape devices options (opening.Shape sizes) pieces status text =
+    ((shape : Shape) × HasSizes sizes shape × IsRunOfStore devices options (Some shape) pieces status text (is_some options.file))
+    ⊎ ((AreSizes sizes → ⊥) × Refuses BadShape 2 status text)
+
+-- A script without a faulty line; one that says nothing prints nothing.
+abbrev pub IsRunOfScript : {M F : Type 0} → Devices M F → Options → Option openings.Opening → List Line → ℕ → List ℕ → Type 0
+IsRunOfScript devices options None lines status text = ComesTo 0 status × (text ≡ [])
+IsRunOfScript devices options (Some first) lines status text =
+    (pieces : List Piece) × ArePieces (is_some options.seed) lines pieces × IsRunOfShape devices options first pieces status text
+
+-- The bytes of a script: its run, or its first faulty line.
+abbrev pub IsRunOfText : {M F : Type 0} → Devices M F → Options → Result ScriptText LineFault → ℕ → List ℕ → Type 0
+IsRunOfText devices options (Ok script) status text = IsRunOfScript devices options script.opening script.lines status text
+IsRunOfText devices options (Err fault) status text = ComesTo 2 status × (text ≡ line_fault_text fault)
+
+-- a store lies in the file that the options name, or in memory
+abbrev pub mode_of : Bool → Mode
+mode_of false = mode.Memory
+mode_of true = mode.File
+
+-- Words that are refused: the line `options`.
+pub record AreRefusedWords (words : List (List ℕ)) (status : ℕ) (text : List ℕ) : Type 0 where
+  pub refused : AreAccepted words → ⊥
+  pub answers : ComesTo 2 status
+  pub says : text ≡ line_of (codes "options")
+
+-- words that are accepted: of a reader whose bytes are known this is written
+pub record IsRunOfWords {M F : Type 0} (devices : Devices M F) (words : List (List ℕ)) (known : Option (List ℕ)) (status : ℕ) (text : List ℕ) : Type 0 where
+  pub options : Options
+  pub asked : AreMatchesOf words options
+  pub run : IfSome known (λ bytes. IsRunOfText devices options (script_of (mode_of (is_some options.file)) (take script_limit bytes)) status text)
+
+-- What is written for these words and a script, by the status. With status 4 it is what would stand behind a beginning: the run breaks off in it.
+abbrev pub IsOutputOf : {M F : Type 0} → Devices M F → List (List ℕ) → Option (List ℕ) → ℕ → List ℕ → Type 0
+IsOutputOf devices words known status text = AreRefusedWords words status text ⊎ IsRunOfWords devices words known status text

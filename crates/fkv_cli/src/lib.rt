@@ -1,17 +1,12 @@
-//! Runs of session scripts on a plain world: a map, its history, and records on a device in memory.
+//! The program: its words and its script in, its output and its status out.
 #![tactic(auto)]
 
-mod commit_calls;
-mod crashes;
-mod finishes;
-mod fresh_logs;
-mod indexes;
-mod laws;
-mod number_maps;
-mod planned_calls;
+mod file_runs;
+mod memory_runs;
 mod programs;
-mod recoveries;
-mod worlds;
+mod scripts;
 
-pub use laws::law_reports;
 pub use programs::run;
+
+#[cfg(test)]
+mod tests;

@@ -1,81 +1,70 @@
-//! Runs of the program: a script in, its answers out.
-ghost use Rattle.std.specs.Prelude.{◌≡◌, ◌⊎◌, OnOk, IfOk, IfErr, IfSome, [], ℕ, List, take, is_ok, string_bytes};
+//! Whole runs of the program.
+ghost use Rattle.std.specs.Prelude.{◌≡◌, ◌≢◌, IfOk, IfSome, OnErr, OnOk, is_some, string_bytes, take};
 ghost use Rattle.std.specs.Io.KnownBytes.{Appends};
-ghost use Rattle.fkv_base.specs.declared.faults.Fault.TheVariants.{BadShape};
-ghost use Rattle.fkv_script.specs.RunFault.{IsWant};
-ghost use Rattle.fkv_script.specs.declared.scripts.Command.TheVariants.{Finish};
-ghost use Rattle.fkv_cli.specs.Replays.{IsReplayRunOf};
-ghost use Rattle.fkv_cli.specs.Output.{IsRunOf, Ends, Plays, PlaysOpening, PlaysNew, IsPlayed, IsCrashed, HasSizes, is_accepted, script_limit};
-ghost use Rattle.fkv_script.specs.Texts.{ended, refusal_text};
+ghost use Rattle.fkv_lines.specs.Script.{script_of};
+ghost use Rattle.clap.specs.Walk.{texts};
+ghost use Rattle.fkv_playing.specs.InTurn.{Writes};
+ghost use Rattle.fkv_playing.specs.Players.{EngineStep};
+ghost use Rattle.fkv_runs.specs.Beginnings.{BreaksOff};
+ghost use Rattle.fkv_runs.specs.Openings.{medium_of};
+ghost use Rattle.fkv_cli.specs.Output.{IsOutputOf, IsRunOfText, line_fault_text, mode_of, script_limit};
 
-use crate::worlds::PlainWorld;
-use fkv_base::{Fault, Shape};
-use fkv_script::{
-    Command, MOST_BYTES, MOST_LINES, Options, RunFault, Script, Sizes, Verdict, script_of,
-    write_answer, write_commit, write_finish, write_refusal, write_report,
-};
+use crate::scripts::run_script;
+use fkv_base::{Fault, ScriptFault};
+use fkv_disk::{Device, FileDisk, Fuse, MemDisk};
+use fkv_lines::{Mode, script_of};
+use fkv_options::{Options, RunFault, options_of};
+use fkv_playing::Breaks;
+use fkv_runs::{Crashes, write_text};
 use std::alloc::Global;
 use std::io::{self, Read, Write};
-use thiserror::Error;
+use std::rt::Files;
 
 /// A longer script has its first faulty line among its first so many bytes.
-const SCRIPT_LIMIT: u64 = MOST_LINES * (MOST_BYTES as u64 + 1) + 1;
+const SCRIPT_LIMIT: u64 = 65536 * 201 + 1;
 
-/// Memory was refused, or a stream failed.
-#[derive(Clone, Copy, Debug, PartialEq, Eq, Error)]
-#[error("memory or a stream failed")]
-struct Want;
-
-impl From<io::Error> for Want {
-    fn from(_error: io::Error) -> Want {
-        Want
+/// Runs the program: by the words after its name and the script that the input gives, writes its answers. The status: 0; 1 where a check
+/// differs; 2 where the words, the script or its shape are refused; 3 where a store is; 4 where memory was refused outside of a line's own answer,
+/// or a stream failed: then what is written is a beginning of what the script writes.
+pub fn run<H: Files, R: Read + Drop, W: Write>(
+    rt: &H,
+    alloc: Global,
+    words: &[&str],
+    input: R,
+    output: &mut W,
+) -> u8
+    ensures whole { result ≢ 4 → Writes (IsOutputOf (record { memory = medium_of ⟦<Fuse<MemDisk> as Device>⟧.honest ⟦<Fuse<MemDisk> as Device>⟧.seen ⟦<Fuse<MemDisk> as Device>⟧.may_leave ⟦<Fuse<MemDisk> as Device>⟧.failed ⟦<Fuse<MemDisk> as Device>⟧.refuses ⟦<Fuse<MemDisk> as Breaks>⟧.broken ⟦<Fuse<MemDisk> as Crashes>⟧.image ⟦<Fuse<MemDisk> as Crashes>⟧.armed; file = EngineStep ⟦<FileDisk<H::File> as Device>⟧.honest ⟦<FileDisk<H::File> as Device>⟧.seen ⟦<FileDisk<H::File> as Device>⟧.may_leave ⟦<FileDisk<H::File> as Device>⟧.failed ⟦<FileDisk<H::File> as Device>⟧.refuses ⟦<FileDisk<H::File> as Breaks>⟧.broken }) (texts words.now) (R.remaining input) result) (W.contents output.old) (W.contents output.new) }
+    ensures part { result ≡ 4 → BreaksOff (IsOutputOf (record { memory = medium_of ⟦<Fuse<MemDisk> as Device>⟧.honest ⟦<Fuse<MemDisk> as Device>⟧.seen ⟦<Fuse<MemDisk> as Device>⟧.may_leave ⟦<Fuse<MemDisk> as Device>⟧.failed ⟦<Fuse<MemDisk> as Device>⟧.refuses ⟦<Fuse<MemDisk> as Breaks>⟧.broken ⟦<Fuse<MemDisk> as Crashes>⟧.image ⟦<Fuse<MemDisk> as Crashes>⟧.armed; file = EngineStep ⟦<FileDisk<H::File> as Device>⟧.honest ⟦<FileDisk<H::File> as Device>⟧.seen ⟦<FileDisk<H::File> as Device>⟧.may_leave ⟦<FileDisk<H::File> as Device>⟧.failed ⟦<FileDisk<H::File> as Device>⟧.refuses ⟦<FileDisk<H::File> as Breaks>⟧.broken }) (texts words.now) (R.remaining input) 4) (W.contents output.old) (W.contents output.new) }
+{
+    let memory = Fuse::new(MemDisk::new(alloc));
+    match run_words(rt, alloc, words, memory, input, output) {
+        Ok(status) => status,
+        Err(_) => 4,
     }
 }
 
-impl From<Fault> for Want {
-    fn from(_error: Fault) -> Want {
-        Want
-    }
-}
-
-/// Reads a script, runs it on a store of its own that lies on a device in memory, and writes the answers to its lines and
-/// nothing else.
-///
-/// `Ok` is status 0. An `Err` has status 2 where the script has a faulty line or a bad shape, whose line is written;
-/// status 3 where creating or recovering a store was refused, whose line is the last that is written; and status 4 where
-/// memory was refused elsewhere or a stream failed: then the output may break off anywhere.
-///
-/// Each crash that is reported is answered by a replay, as `law_reports` has it.
-pub fn run<R: Read + Drop, W: Write>(
+/// The same, over this device in memory, with what stopped it.
+fn run_words<H: Files, M: Crashes, R: Read + Drop, W: Write>(
+    rt: &H,
     alloc: Global,
+    words: &[&str],
+    memory: M,
     input: R,
     output: &mut W,
-    options: &Options,
-) -> Result<Verdict, RunFault>
-    ensures output { IfSome (R.remaining input) (λ bytes. IsRunOf options.now.torn bytes (W.contents output.old) (W.contents output.new) result) }
-    ensures replays { IfSome (R.remaining input) (λ bytes. IsReplayRunOf options.now.torn bytes (W.contents output.old) (W.contents output.new) result) }
+) -> io::Result<u8>
+    requires sound { M.honest memory }
+    ensures whole { IfOk result (λ status. Writes (IsOutputOf (record { memory = medium_of M.honest M.seen M.may_leave M.failed M.refuses M.broken M.image M.armed; file = EngineStep ⟦<FileDisk<H::File> as Device>⟧.honest ⟦<FileDisk<H::File> as Device>⟧.seen ⟦<FileDisk<H::File> as Device>⟧.may_leave ⟦<FileDisk<H::File> as Device>⟧.failed ⟦<FileDisk<H::File> as Device>⟧.refuses ⟦<FileDisk<H::File> as Breaks>⟧.broken }) (texts words.now) (R.remaining input) status) (W.contents output.old) (W.contents output.new)) }
+    ensures part { OnErr result (BreaksOff (IsOutputOf (record { memory = medium_of M.honest M.seen M.may_leave M.failed M.refuses M.broken M.image M.armed; file = EngineStep ⟦<FileDisk<H::File> as Device>⟧.honest ⟦<FileDisk<H::File> as Device>⟧.seen ⟦<FileDisk<H::File> as Device>⟧.may_leave ⟦<FileDisk<H::File> as Device>⟧.failed ⟦<FileDisk<H::File> as Device>⟧.refuses ⟦<FileDisk<H::File> as Breaks>⟧.broken }) (texts words.now) (R.remaining input) 4) (W.contents output.old) (W.contents output.new)) }
 {
-    // The proof learns that it is a byte.
-    let _torn = options.torn;
-    run_bytes(alloc, input, output, options)
-}
-
-#[tactic(auto, unfolding(crate::specs::Output::PlaysScript))]
-fn run_bytes<R: Read + Drop, W: Write>(
-    alloc: Global,
-    input: R,
-    output: &mut W,
-    options: &Options,
-) -> Result<Verdict, RunFault>
-    ensures { IfSome (R.remaining input) (λ bytes. IsRunOf options.now.torn bytes (W.contents output.old) (W.contents output.new) result) }
-{
-    let Ok(bytes) = script_bytes(alloc, input) else {
-        return Err(RunFault::want(alloc));
+    let status = match options_of(alloc, words) {
+        Ok(options) => {
+            let bytes = script_bytes(alloc, input)?;
+            run_text(rt, alloc, &options, memory, &bytes, output)?
+        }
+        Err(fault) => refuse_words(output, &fault)?,
     };
-    match script_of(alloc, bytes.as_slice(), options) {
-        Ok(script) => run_script(alloc, output, &script, options.torn),
-        Err(fault) => Err(write_fault(alloc, output, fault)),
-    }
+    output.flush()?;
+    Ok(status)
 }
 
 /// The first bytes of a script, as many as are looked at.
@@ -87,189 +76,57 @@ fn script_bytes<R: Read + Drop>(alloc: Global, input: R) -> io::Result<Vec<u8>>
     Ok(bytes)
 }
 
-/// Writes the line that a fault has left, so that none is left.
-fn write_fault<W: Write>(alloc: Global, output: &mut W, fault: RunFault) -> RunFault
-    ensures { IsWant result ⊎ ((result.status ≡ fault.status) × (string_bytes result.text ≡ []) × Appends (W.contents output.old) (W.contents output.new) (string_bytes fault.text)) }
+/// Prints why the words are refused, where it isn't for want of memory.
+fn refuse_words<W: Write>(output: &mut W, fault: &RunFault) -> io::Result<u8>
+    ensures whole { IfOk result (λ status. (status ≡ fault.now.status) × (¬ (fault.now.status ≡ 4)) × Appends (W.contents output.old) (W.contents output.new) (string_bytes fault.now.text)) }
+    ensures part { OnErr result (BreaksOff (λ text. (¬ (fault.now.status ≡ 4)) × (text ≡ string_bytes fault.now.text)) (W.contents output.old) (W.contents output.new)) }
 {
-    let RunFault { status, text } = fault;
-    if write_text(output, text.as_str()).is_err() {
-        return RunFault::want(alloc);
+    if fault.status == 4 {
+        return Err(io::ErrorKind::OutOfMemory.into());
     }
-    RunFault::printed(alloc, status)
+    write_text(output, fault.text.as_bytes())?;
+    Ok(fault.status)
 }
 
-fn write_text<W: Write>(output: &mut W, text: &str) -> io::Result<()>
-    ensures { OnOk result (Appends (W.contents output.old) (W.contents output.new) text.now) }
-{
-    output.write_all(text.as_bytes())?;
-    output.flush()
-}
-
-/// Runs a script without a faulty line.
-#[tactic(auto, using(fkv_script::proofs::Shown::appends_nothing), unfolding(crate::specs::Output::PlaysOpening))]
-fn run_script<W: Write>(
+/// Runs the script of these bytes, or prints its first faulty line.
+fn run_text<H: Files, M: Crashes, W: Write>(
+    rt: &H,
     alloc: Global,
+    options: &Options,
+    memory: M,
+    bytes: &[u8],
     output: &mut W,
-    script: &Script,
-    torn: u8,
-) -> Result<Verdict, RunFault>
-    ensures { Ends (PlaysOpening torn script.now.opening script.now.commands.items) (W.contents output.old) (W.contents output.new) result }
+) -> io::Result<u8>
+    requires sound { M.honest memory }
+    ensures whole { IfOk result (λ status. Writes (IsRunOfText (record { memory = medium_of M.honest M.seen M.may_leave M.failed M.refuses M.broken M.image M.armed; file = EngineStep ⟦<FileDisk<H::File> as Device>⟧.honest ⟦<FileDisk<H::File> as Device>⟧.seen ⟦<FileDisk<H::File> as Device>⟧.may_leave ⟦<FileDisk<H::File> as Device>⟧.failed ⟦<FileDisk<H::File> as Device>⟧.refuses ⟦<FileDisk<H::File> as Breaks>⟧.broken }) options.now (script_of (mode_of (is_some options.now.file)) bytes.now) status) (W.contents output.old) (W.contents output.new)) }
+    ensures part { OnErr result (BreaksOff (IsRunOfText (record { memory = medium_of M.honest M.seen M.may_leave M.failed M.refuses M.broken M.image M.armed; file = EngineStep ⟦<FileDisk<H::File> as Device>⟧.honest ⟦<FileDisk<H::File> as Device>⟧.seen ⟦<FileDisk<H::File> as Device>⟧.may_leave ⟦<FileDisk<H::File> as Device>⟧.failed ⟦<FileDisk<H::File> as Device>⟧.refuses ⟦<FileDisk<H::File> as Breaks>⟧.broken }) options.now (script_of (mode_of (is_some options.now.file)) bytes.now) 4) (W.contents output.old) (W.contents output.new)) }
 {
-    let Some(sizes) = script.opening else {
-        return Ok(Verdict::Agrees);
+    let mode = match &options.file {
+        Some(_) => Mode::File,
+        None => Mode::Memory,
     };
-    match shape_of(sizes) {
-        Ok(shape) => run_store(alloc, output, shape, script.commands.as_slice(), torn),
-        Err(fault) => Err(refuse(alloc, output, fault, 2)),
+    match script_of(alloc, bytes, mode) {
+        Ok(script) => run_script(rt, alloc, options, memory, &script, output),
+        Err(Fault::Script(line, kind)) => {
+            write_line_fault(alloc, output, line, kind)?;
+            Ok(2)
+        }
+        Err(_) => Err(io::ErrorKind::OutOfMemory.into()),
     }
 }
 
-fn shape_of(sizes: Sizes) -> Result<Shape, Fault>
-    ensures accepted { is_ok result ≡ is_accepted sizes }
-    ensures sized { IfOk result (HasSizes sizes) }
-    ensures refused { IfErr result (λ fault. fault ≡ BadShape) }
-{
-    Shape::new(
-        sizes.bucket_bits,
-        sizes.page,
-        sizes.frames,
-        sizes.mutable,
-        sizes.sessions,
-        sizes.overflow,
-        sizes.disk_pages,
-    )
-}
-
-/// Writes the refusal that ends a run.
-fn refuse<W: Write>(alloc: Global, output: &mut W, fault: Fault, status: u8) -> RunFault
-    ensures { IsWant result ⊎ ((result.status ≡ status) × (string_bytes result.text ≡ []) × Appends (W.contents output.old) (W.contents output.new) (ended (refusal_text fault))) }
-{
-    if write_refusal(output, fault).is_err() || output.flush().is_err() {
-        return RunFault::want(alloc);
-    }
-    RunFault::printed(alloc, status)
-}
-
-/// Creates a store, and lets it answer the commands.
-fn run_store<W: Write>(
+/// The first faulty line of a script: `script line 7 Count`.
+fn write_line_fault<W: Write>(
     alloc: Global,
     output: &mut W,
-    shape: Shape,
-    commands: &[Command],
-    torn: u8,
-) -> Result<Verdict, RunFault>
-    ensures { Ends (PlaysNew torn shape commands.now) (W.contents output.old) (W.contents output.new) result }
+    line: u64,
+    kind: ScriptFault,
+) -> io::Result<()>
+    ensures whole { OnOk result (Appends (W.contents output.old) (W.contents output.new) (line_fault_text (record { line = line; kind = kind }))) }
+    ensures part { OnErr result (BreaksOff (λ text. text ≡ line_fault_text (record { line = line; kind = kind })) (W.contents output.old) (W.contents output.new)) }
 {
-    match PlainWorld::create(alloc, shape) {
-        Ok(world) => match run_commands(output, world, commands, torn) {
-            Ok(0) => Ok(Verdict::Agrees),
-            Ok(status) => Err(RunFault::printed(alloc, status)),
-            Err(Want) => Err(RunFault::want(alloc)),
-        },
-        Err(fault) => Err(refuse(alloc, output, fault, 3)),
-    }
-}
-
-/// Answers the commands one after another, and takes a crash at their end that hasn't struck. The status is 0, or 3 where
-/// recovery was refused.
-fn run_commands<W: Write>(
-    output: &mut W,
-    mut world: PlainWorld,
-    commands: &[Command],
-    torn: u8,
-) -> Result<u8, Want>
-    ensures { IfOk result (λ status. (text : List ℕ) × Plays torn world commands.now text status × Appends (W.contents output.old) (W.contents output.new) text) }
-{
-    for command in commands {
-        if !run_command(output, &mut world, *command, torn)? {
-            output.flush()?;
-            return Ok(3);
-        }
-    }
-    let status = run_end(output, &mut world, torn)?;
-    output.flush()?;
-    Ok(status)
-}
-
-/// Takes a crash that hasn't struck.
-fn run_end<W: Write>(output: &mut W, world: &mut PlainWorld, torn: u8) -> Result<u8, Want>
-    ensures { IfOk result (λ status. (text : List ℕ) × Plays torn world.old [] text status × Appends (W.contents output.old) (W.contents output.new) text) }
-{
-    if !world.awaits_crash() {
-        return Ok(0);
-    }
-    let image = world.crash_image(torn)?;
-    if run_crash(output, world, image)? {
-        Ok(0)
-    } else {
-        Ok(3)
-    }
-}
-
-/// Answers a command. `false` where recovery was refused, which ends the run.
-fn run_command<W: Write>(
-    output: &mut W,
-    world: &mut PlainWorld,
-    command: Command,
-    torn: u8,
-) -> Result<bool, Want>
-    ensures { IfOk result (λ goes_on. (text : List ℕ) × IsPlayed torn world.old command world.new text goes_on × Appends (W.contents output.old) (W.contents output.new) text) }
-{
-    match command {
-        Command::Operation(session, op) => {
-            let answer = world.operate(session, op)?;
-            write_answer(output, session, answer)?;
-        }
-        Command::Commit => {
-            let answer = world.commit();
-            write_commit(output, answer)?;
-        }
-        Command::Finish => return run_finish(output, world, torn),
-        Command::Crash => {
-            let image = world.crash_image(torn)?;
-            return run_crash(output, world, image);
-        }
-        Command::CrashAt(call) => world.crash_at(call),
-    }
-    Ok(true)
-}
-
-/// Finishes the commit that runs, if one does, or crashes in it.
-fn run_finish<W: Write>(output: &mut W, world: &mut PlainWorld, torn: u8) -> Result<bool, Want>
-    ensures { IfOk result (λ goes_on. (text : List ℕ) × IsPlayed torn world.old Finish world.new text goes_on × Appends (W.contents output.old) (W.contents output.new) text) }
-{
-    if !world.is_committing() {
-        write_finish(output, None)?;
-        return Ok(true);
-    }
-    let calls = world.finish_calls()?;
-    match world.strikes_after(&calls) {
-        Some(passed) => {
-            let image = world.struck_image(&calls, passed, torn)?;
-            run_crash(output, world, image)
-        }
-        None => {
-            let commit = world.finish(&calls)?;
-            write_finish(output, Some(commit))?;
-            Ok(true)
-        }
-    }
-}
-
-/// Recovers the store of an image and reports it.
-fn run_crash<W: Write>(output: &mut W, world: &mut PlainWorld, image: Vec<u8>) -> Result<bool, Want>
-    ensures { IfOk result (λ goes_on. (text : List ℕ) × IsCrashed world.old image.items world.new text goes_on × Appends (W.contents output.old) (W.contents output.new) text) }
-{
-    match world.recovered(image) {
-        Ok(after) => {
-            *world = after;
-            let pairs = world.pairs()?;
-            write_report(output, world.last_commit(), pairs.as_slice())?;
-            Ok(true)
-        }
-        Err(fault) => {
-            write_refusal(output, fault)?;
-            Ok(false)
-        }
-    }
+    let name = kind.name();
+    let mut text = Vec::new(alloc);
+    writeln!(text, "script line {line} {name}")?;
+    write_text(output, text.as_slice())
 }

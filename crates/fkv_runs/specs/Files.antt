@@ -1,5 +1,5 @@
 -- A run over one life: of a store in a file, which its script doesn't crash.
-use Rattle.std.specs.Prelude.{◌≡◌, ℕ, Bool, false, List, [], Option}
+use Rattle.std.specs.Prelude.{◌≡◌, ℕ, Bool, false, List, [], take, Option}
 use Rattle.fkv_core.specs.Worlds.{WorldModel}
 use Rattle.fkv_core.specs.declared.events.Event.{Event}
 use Rattle.fkv_core.specs.declared.events.Told.{Told}
@@ -30,3 +30,7 @@ IsPieceOfLife engine other before after over text = (over ≡ false) × (after �
 pub record IsRunOfLife {D : Type 0} (engine : Event → WorldModel D → WorldModel D → Option Told → Bool → Type 0) (pieces : List Piece) (before : PlayerState D) (text : List ℕ) : Type 0 where
   pub after : PlayerState D
   pub played : InTurn (IsPieceOfLife engine) false pieces before after false text
+
+-- the first pieces of such a run
+abbrev pub IsPartOfLife : {D : Type 0} → (Event → WorldModel D → WorldModel D → Option Told → Bool → Type 0) → List Piece → PlayerState D → List ℕ → Type 0
+IsPartOfLife engine pieces before text = (count : ℕ) × IsRunOfLife engine (take count pieces) before text

@@ -1,3 +1,4 @@
+pub mod Beginnings
 pub mod Crashes
 pub mod Files
 pub mod Openings

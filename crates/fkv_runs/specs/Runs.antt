@@ -1,5 +1,5 @@
 -- A run of a store in memory: its lives, piece by piece.
-use Rattle.std.specs.Prelude.{◌≡◌, ◌≤◌, ◌-◌, ◌&&◌, ℕ, Bool, true, false, List, [], ◌++◌, length, take, Option, Some, None}
+use Rattle.std.specs.Prelude.{◌≡◌, ◌≤◌, ◌-◌, ◌&&◌, ◌⊎◌, ℕ, Bool, true, false, List, [], ◌++◌, length, take, Option, Some, None}
 use Rattle.fkv_playing.specs.Finishes.{IsFinish}
 use Rattle.fkv_playing.specs.Groups.{GroupState, IsGroup}
 use Rattle.fkv_playing.specs.InTurn.{InTurn}
@@ -118,3 +118,9 @@ pub record IsRun {D : Type 0} (medium : Medium D) (settings : Settings) (pieces 
   pub ends : refused ≡ true → (over ≡ true) × (reported ≡ [])
   pub says : text ≡ said ++ reported
   pub answers : status ≡ status_of over after.agrees
+
+-- The first pieces of a run; or all of them, and the crash that still is to come.
+abbrev pub IsPartOfRun : {D : Type 0} → Medium D → Settings → List Piece → RunState D → List ℕ → Type 0
+IsPartOfRun {D} medium settings pieces before text =
+    ((count : ℕ) × (last : RunState D) × (refused : Bool) × InTurn (IsPiece medium settings) false (take count pieces) before last refused text)
+    ⊎ ((status : ℕ) × IsRun medium settings pieces before status text)

@@ -10,6 +10,7 @@ mod openings;
 mod pieces;
 mod runs;
 mod settings;
+mod telling;
 #[cfg(test)]
 mod tests;
 
@@ -18,3 +19,4 @@ pub use files::play_life;
 pub use pieces::{Piece, pieces_of};
 pub use runs::play_lives;
 pub use settings::Settings;
+pub use telling::write_text;

@@ -1,15 +1,17 @@
 //! A run of a store in memory: its lives, piece by piece.
-ghost use Rattle.std.specs.Prelude.{◌≡◌, ◌-◌, Bool, [], IfOk, is_none, true, false};
+ghost use Rattle.std.specs.Prelude.{◌≡◌, ◌-◌, Bool, [], IfOk, OnErr, is_none, true, false};
 ghost use Rattle.fkv_playing.specs.Players.{PlayerState, waits_for_crash};
 ghost use Rattle.fkv_playing.specs.InTurn.{Writes};
+ghost use Rattle.fkv_runs.specs.Beginnings.{BreaksOff};
 ghost use Rattle.fkv_runs.specs.Openings.{Begins, medium_of};
-ghost use Rattle.fkv_runs.specs.Runs.{IsCrashed, IsCrashedWhere, IsFinishStruck, IsLegOf, IsPiece, IsRun, KeepsSettings, Prepares, RunState, is_due, is_struck_at, state_behind, status_of};
+ghost use Rattle.fkv_runs.specs.Runs.{IsCrashed, IsCrashedWhere, IsFinishStruck, IsLegOf, IsPartOfRun, IsPiece, IsRun, KeepsSettings, Prepares, RunState, is_due, is_struck_at, state_behind, status_of};
 
 use crate::crashes::take_crash;
 use crate::crashing::Crashes;
 use crate::openings::begin;
 use crate::pieces::Piece;
 use crate::settings::Settings;
+use crate::telling::write_text;
 use fkv_opening::Opened;
 use fkv_playing::{Outcome, Picks, Player, Waits};
 use std::alloc::Global;
@@ -34,7 +36,8 @@ impl<D: Crashes> Model for Run<D> {
 }
 
 /// Plays these pieces over the lives of a store in memory, the first of which begins with this opened store over this device. The status: 3
-/// where a crash's image was refused, and that is printed; 1 where a report did not agree with its check; else 0.
+/// where a crash's image was refused, and that is printed; 1 where a report did not agree with its check; else 0. Where memory is refused
+/// or the writer fails, what is written is a beginning of what these pieces write.
 pub fn play_lives<D: Crashes, W: Write>(
     alloc: Global,
     output: &mut W,
@@ -44,8 +47,10 @@ pub fn play_lives<D: Crashes, W: Write>(
     picks: &mut Picks,
     settings: Settings,
 ) -> io::Result<u8>
-    ensures { IfOk result (λ status. (player : PlayerState D) × Begins opened device [] settings.checks player
+    ensures whole { IfOk result (λ status. (player : PlayerState D) × Begins opened device [] settings.checks player
         × Writes (IsRun (medium_of D.honest D.seen D.may_leave D.failed D.refuses D.broken D.image D.armed) settings pieces.now (record { player = player; agrees = true }) status) (W.contents output.old) (W.contents output.new)) }
+    ensures part { OnErr result (BreaksOff (λ text. (player : PlayerState D) × Begins opened device [] settings.checks player
+        × IsPartOfRun (medium_of D.honest D.seen D.may_leave D.failed D.refuses D.broken D.image D.armed) settings pieces.now (record { player = player; agrees = true }) text) (W.contents output.old) (W.contents output.new)) }
 {
     let player = begin(alloc, opened, device, Vec::new(alloc), settings.checks)?;
     let run = Run {
@@ -60,11 +65,12 @@ pub fn play_lives<D: Crashes, W: Write>(
 impl<D: Crashes> Run<D> {
     /// Plays these pieces, and takes the crash that still is to come behind the last.
     fn play<W: Write>(self, output: &mut W, pieces: &[Piece], picks: &mut Picks) -> io::Result<u8>
-        ensures { IfOk result (λ status. Writes (IsRun (medium_of D.honest D.seen D.may_leave D.failed D.refuses D.broken D.image D.armed) self.settings pieces.now self.state status) (W.contents output.old) (W.contents output.new)) }
+        ensures whole { IfOk result (λ status. Writes (IsRun (medium_of D.honest D.seen D.may_leave D.failed D.refuses D.broken D.image D.armed) self.settings pieces.now self.state status) (W.contents output.old) (W.contents output.new)) }
+        ensures part { OnErr result (BreaksOff (IsPartOfRun (medium_of D.honest D.seen D.may_leave D.failed D.refuses D.broken D.image D.armed) self.settings pieces.now self.state) (W.contents output.old) (W.contents output.new)) }
     {
         let mut run = self;
         for piece in pieces {
-            let Some(next) = run.piece(output, piece, picks)? else {
+            let Some(next) = run.tell_piece(output, piece, picks)? else {
                 return Ok(3);
             };
             run = next;
@@ -74,15 +80,35 @@ impl<D: Crashes> Run<D> {
 
     /// Takes the crash that still is to come, where there is one.
     fn end<W: Write>(self, output: &mut W) -> io::Result<u8>
-        ensures { IfOk result (λ status. (over : Bool) × (after : RunState D) × (status ≡ status_of over after.agrees) × Writes (IsCrashedWhere (is_due self.state.player.waits) (medium_of D.honest D.seen D.may_leave D.failed D.refuses D.broken D.image D.armed) self.settings self.state after over) (W.contents output.old) (W.contents output.new)) }
+        ensures whole { IfOk result (λ status. (over : Bool) × (after : RunState D) × (status ≡ status_of over after.agrees) × Writes (IsCrashedWhere (is_due self.state.player.waits) (medium_of D.honest D.seen D.may_leave D.failed D.refuses D.broken D.image D.armed) self.settings self.state after over) (W.contents output.old) (W.contents output.new)) }
+        ensures part { OnErr result (BreaksOff (λ text. (over : Bool) × (after : RunState D) × IsCrashedWhere (is_due self.state.player.waits) (medium_of D.honest D.seen D.may_leave D.failed D.refuses D.broken D.image D.armed) self.settings self.state after over text) (W.contents output.old) (W.contents output.new)) }
     {
         if !is_due(self.player.waits()) {
             return Ok(status_of(self.agrees));
         }
-        let Some(run) = self.crash(output)? else {
-            return Ok(3);
-        };
-        Ok(status_of(run.agrees))
+        let mut said = Vec::new(self.alloc);
+        let next = self.crash(&mut said)?;
+        write_text(output, said.as_slice())?;
+        match next {
+            Some(run) => Ok(status_of(run.agrees)),
+            None => Ok(3),
+        }
+    }
+
+    /// Plays one piece, and then writes what it says. None where the run was refused.
+    fn tell_piece<W: Write>(
+        self,
+        output: &mut W,
+        piece: &Piece,
+        picks: &mut Picks,
+    ) -> io::Result<Option<Run<D>>>
+        ensures whole { IfOk result (λ next. (KeepsSettings self.settings next) × Writes (IsPiece (medium_of D.honest D.seen D.may_leave D.failed D.refuses D.broken D.image D.armed) self.settings piece.now self.state (state_behind self.state next) (is_none next)) (W.contents output.old) (W.contents output.new)) }
+        ensures part { OnErr result (BreaksOff (λ text. (over : Bool) × (after : RunState D) × IsPiece (medium_of D.honest D.seen D.may_leave D.failed D.refuses D.broken D.image D.armed) self.settings piece.now self.state after over text) (W.contents output.old) (W.contents output.new)) }
+    {
+        let mut said = Vec::new(self.alloc);
+        let next = self.piece(&mut said, piece, picks)?;
+        write_text(output, said.as_slice())?;
+        Ok(next)
     }
 
     /// Plays one piece. None where the run was refused.

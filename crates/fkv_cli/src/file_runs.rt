@@ -1,0 +1,87 @@
+//! Stores in a file.
+ghost use Rattle.std.specs.Prelude.{◌⊎◌, IfOk, OnErr};
+ghost use Rattle.fkv_base.specs.declared.faults.Fault.TheVariants.{Device};
+ghost use Rattle.fkv_playing.specs.InTurn.{Writes};
+ghost use Rattle.fkv_playing.specs.Players.{EngineStep};
+ghost use Rattle.fkv_runs.specs.Beginnings.{BreaksOff};
+ghost use Rattle.fkv_cli.specs.Output.{IsRunInFile, IsRunInNewFile, Refuses};
+
+use crate::scripts::refuse;
+use fkv_base::{Fault, Key, Shape, Value};
+use fkv_creating::create_opened;
+use fkv_disk::{Device, FileDisk, make_file, open_file};
+use fkv_opening::{Opened, recover};
+use fkv_pairs::content;
+use fkv_playing::{Breaks, Picks};
+use fkv_runs::{Piece, play_life, write_text};
+use fkv_texts::{Opening, write_report};
+use std::alloc::Global;
+use std::io::{self, Write};
+use std::rt::Files;
+
+/// A new store in the file of this path, and the pieces of its script.
+pub(crate) fn play_new_file<H: Files, W: Write>(
+    rt: &H,
+    alloc: Global,
+    path: &str,
+    shape: Shape,
+    pieces: &[Piece],
+    picks: &mut Picks,
+    output: &mut W,
+) -> io::Result<u8>
+    ensures whole { IfOk result (λ status. Writes (λ text. IsRunInNewFile (EngineStep ⟦<FileDisk<H::File> as Device>⟧.honest ⟦<FileDisk<H::File> as Device>⟧.seen ⟦<FileDisk<H::File> as Device>⟧.may_leave ⟦<FileDisk<H::File> as Device>⟧.failed ⟦<FileDisk<H::File> as Device>⟧.refuses ⟦<FileDisk<H::File> as Breaks>⟧.broken) shape pieces.now status text ⊎ Refuses Device 3 status text) (W.contents output.old) (W.contents output.new)) }
+    ensures part { OnErr result (BreaksOff (λ text. IsRunInNewFile (EngineStep ⟦<FileDisk<H::File> as Device>⟧.honest ⟦<FileDisk<H::File> as Device>⟧.seen ⟦<FileDisk<H::File> as Device>⟧.may_leave ⟦<FileDisk<H::File> as Device>⟧.failed ⟦<FileDisk<H::File> as Device>⟧.refuses ⟦<FileDisk<H::File> as Breaks>⟧.broken) shape pieces.now 4 text ⊎ Refuses Device 3 4 text) (W.contents output.old) (W.contents output.new)) }
+{
+    let mut device = match make_file(rt, path) {
+        Ok(device) => device,
+        Err(fault) => return refuse(alloc, output, fault, 3),
+    };
+    match create_opened(alloc, &mut device, shape) {
+        Ok(opened) => {
+            play_life(alloc, output, opened, device, pieces, picks)?;
+            Ok(0)
+        }
+        Err(fault) => refuse(alloc, output, fault, 3),
+    }
+}
+
+/// The store that the file of this path holds, its report, and the pieces of its script.
+pub(crate) fn play_old_file<H: Files, W: Write>(
+    rt: &H,
+    alloc: Global,
+    path: &str,
+    pieces: &[Piece],
+    picks: &mut Picks,
+    output: &mut W,
+) -> io::Result<u8>
+    ensures whole { IfOk result (λ status. Writes (λ text. IsRunInFile (EngineStep ⟦<FileDisk<H::File> as Device>⟧.honest ⟦<FileDisk<H::File> as Device>⟧.seen ⟦<FileDisk<H::File> as Device>⟧.may_leave ⟦<FileDisk<H::File> as Device>⟧.failed ⟦<FileDisk<H::File> as Device>⟧.refuses ⟦<FileDisk<H::File> as Breaks>⟧.broken) pieces.now status text ⊎ ((fault : Fault) × Refuses fault 3 status text)) (W.contents output.old) (W.contents output.new)) }
+    ensures part { OnErr result (BreaksOff (λ text. IsRunInFile (EngineStep ⟦<FileDisk<H::File> as Device>⟧.honest ⟦<FileDisk<H::File> as Device>⟧.seen ⟦<FileDisk<H::File> as Device>⟧.may_leave ⟦<FileDisk<H::File> as Device>⟧.failed ⟦<FileDisk<H::File> as Device>⟧.refuses ⟦<FileDisk<H::File> as Breaks>⟧.broken) pieces.now 4 text ⊎ ((fault : Fault) × Refuses fault 3 4 text)) (W.contents output.old) (W.contents output.new)) }
+{
+    let mut device = match open_file(rt, path) {
+        Ok(device) => device,
+        Err(fault) => return refuse(alloc, output, fault, 3),
+    };
+    match opened(alloc, &mut device) {
+        Ok((opened, pairs)) => {
+            let mut report = Vec::new(alloc);
+            write_report(
+                &mut report,
+                Opening::Open,
+                opened.number,
+                opened.points.as_slice(),
+                &pairs,
+            )?;
+            write_text(output, report.as_slice())?;
+            play_life(alloc, output, opened, device, pieces, picks)?;
+            Ok(0)
+        }
+        Err(fault) => refuse(alloc, output, fault, 3),
+    }
+}
+
+/// The store that a device holds, with its pairs.
+fn opened<D: Device>(alloc: Global, device: &mut D) -> Result<(Opened, Vec<(Key, Value)>), Fault> {
+    let opened = recover(alloc, device)?;
+    let pairs = content(alloc, &opened, device)?;
+    Ok((opened, pairs))
+}

@@ -1,0 +1,41 @@
+//! Stores in memory.
+ghost use Rattle.std.specs.Prelude.{◌⊎◌, IfOk, OnErr};
+ghost use Rattle.fkv_base.specs.declared.faults.Fault.TheVariants.{Device};
+ghost use Rattle.fkv_playing.specs.InTurn.{Writes};
+ghost use Rattle.fkv_runs.specs.Beginnings.{BreaksOff};
+ghost use Rattle.fkv_runs.specs.Openings.{medium_of};
+ghost use Rattle.fkv_cli.specs.Output.{IsRunInMemory, Refuses};
+
+use crate::scripts::refuse;
+use fkv_base::Shape;
+use fkv_creating::create_opened;
+use fkv_options::Options;
+use fkv_playing::Picks;
+use fkv_runs::{Crashes, Piece, Settings, play_lives};
+use std::alloc::Global;
+use std::io::{self, Write};
+
+/// A new store over this sound device in memory, and the pieces of its script over its lives.
+pub(crate) fn play_memory<M: Crashes, W: Write>(
+    alloc: Global,
+    options: &Options,
+    memory: M,
+    shape: Shape,
+    pieces: &[Piece],
+    picks: &mut Picks,
+    output: &mut W,
+) -> io::Result<u8>
+    requires sound { M.honest memory }
+    ensures whole { IfOk result (λ status. Writes (λ text. IsRunInMemory (medium_of M.honest M.seen M.may_leave M.failed M.refuses M.broken M.image M.armed) options.now shape pieces.now status text ⊎ Refuses Device 3 status text) (W.contents output.old) (W.contents output.new)) }
+    ensures part { OnErr result (BreaksOff (λ text. IsRunInMemory (medium_of M.honest M.seen M.may_leave M.failed M.refuses M.broken M.image M.armed) options.now shape pieces.now 4 text ⊎ Refuses Device 3 4 text) (W.contents output.old) (W.contents output.new)) }
+{
+    let settings = Settings {
+        torn: options.torn,
+        checks: options.check,
+    };
+    let mut device = memory;
+    match create_opened(alloc, &mut device, shape) {
+        Ok(opened) => play_lives(alloc, output, opened, device, pieces, picks, settings),
+        Err(fault) => refuse(alloc, output, fault, 3),
+    }
+}

@@ -1,0 +1,122 @@
+//! A script without a faulty line.
+ghost use Rattle.std.specs.Prelude.{◌≡◌, IfErr, IfOk, OnErr, Some, is_some};
+ghost use Rattle.fkv_base.specs.declared.faults.Fault.TheVariants.{BadShape, Memory};
+ghost use Rattle.fkv_playing.specs.InTurn.{Writes};
+ghost use Rattle.fkv_playing.specs.Players.{EngineStep};
+ghost use Rattle.fkv_runs.specs.Beginnings.{BreaksOff};
+ghost use Rattle.fkv_runs.specs.Openings.{medium_of};
+ghost use Rattle.fkv_cli.specs.Output.{AreSizes, HasSizes, IsRunOfOldStore, IsRunOfScript, IsRunOfStore, Refuses};
+
+use crate::file_runs::{play_new_file, play_old_file};
+use crate::memory_runs::play_memory;
+use fkv_base::{Fault, Shape};
+use fkv_disk::{Device, FileDisk};
+use fkv_lines::{Opening, Script, Sizes};
+use fkv_options::Options;
+use fkv_playing::{Breaks, Picks};
+use fkv_runs::{Crashes, Piece, pieces_of, write_text};
+use fkv_texts::write_refusal;
+use std::alloc::Global;
+use std::io::{self, Write};
+use std::rt::Files;
+
+/// Runs a script: its store is created or opened, and its lines are played.
+pub(crate) fn run_script<H: Files, M: Crashes, W: Write>(
+    rt: &H,
+    alloc: Global,
+    options: &Options,
+    memory: M,
+    script: &Script,
+    output: &mut W,
+) -> io::Result<u8>
+    requires sound { M.honest memory }
+    ensures whole { IfOk result (λ status. Writes (IsRunOfScript (record { memory = medium_of M.honest M.seen M.may_leave M.failed M.refuses M.broken M.image M.armed; file = EngineStep ⟦<FileDisk<H::File> as Device>⟧.honest ⟦<FileDisk<H::File> as Device>⟧.seen ⟦<FileDisk<H::File> as Device>⟧.may_leave ⟦<FileDisk<H::File> as Device>⟧.failed ⟦<FileDisk<H::File> as Device>⟧.refuses ⟦<FileDisk<H::File> as Breaks>⟧.broken }) options.now script.now.opening script.now.lines.items status) (W.contents output.old) (W.contents output.new)) }
+    ensures part { OnErr result (BreaksOff (IsRunOfScript (record { memory = medium_of M.honest M.seen M.may_leave M.failed M.refuses M.broken M.image M.armed; file = EngineStep ⟦<FileDisk<H::File> as Device>⟧.honest ⟦<FileDisk<H::File> as Device>⟧.seen ⟦<FileDisk<H::File> as Device>⟧.may_leave ⟦<FileDisk<H::File> as Device>⟧.failed ⟦<FileDisk<H::File> as Device>⟧.refuses ⟦<FileDisk<H::File> as Breaks>⟧.broken }) options.now script.now.opening script.now.lines.items 4) (W.contents output.old) (W.contents output.new)) }
+{
+    let Some(opening) = script.opening else {
+        return Ok(0);
+    };
+    let pieces = pieces_of(alloc, &script.lines, options.seed.is_some())?;
+    match opening {
+        Opening::Shape(sizes) => match shape_of(sizes) {
+            Ok(shape) => run_new(rt, alloc, options, memory, shape, &pieces, output),
+            Err(fault) => refuse(alloc, output, fault, 2),
+        },
+        Opening::Open => run_old(rt, alloc, options, &pieces, output),
+    }
+}
+
+/// A new store of this shape, in memory or in a file.
+fn run_new<H: Files, M: Crashes, W: Write>(
+    rt: &H,
+    alloc: Global,
+    options: &Options,
+    memory: M,
+    shape: Shape,
+    pieces: &[Piece],
+    output: &mut W,
+) -> io::Result<u8>
+    requires sound { M.honest memory }
+    ensures whole { IfOk result (λ status. Writes (λ text. IsRunOfStore (record { memory = medium_of M.honest M.seen M.may_leave M.failed M.refuses M.broken M.image M.armed; file = EngineStep ⟦<FileDisk<H::File> as Device>⟧.honest ⟦<FileDisk<H::File> as Device>⟧.seen ⟦<FileDisk<H::File> as Device>⟧.may_leave ⟦<FileDisk<H::File> as Device>⟧.failed ⟦<FileDisk<H::File> as Device>⟧.refuses ⟦<FileDisk<H::File> as Breaks>⟧.broken }) options.now (Some shape) pieces.now status text (is_some options.now.file)) (W.contents output.old) (W.contents output.new)) }
+    ensures part { OnErr result (BreaksOff (λ text. IsRunOfStore (record { memory = medium_of M.honest M.seen M.may_leave M.failed M.refuses M.broken M.image M.armed; file = EngineStep ⟦<FileDisk<H::File> as Device>⟧.honest ⟦<FileDisk<H::File> as Device>⟧.seen ⟦<FileDisk<H::File> as Device>⟧.may_leave ⟦<FileDisk<H::File> as Device>⟧.failed ⟦<FileDisk<H::File> as Device>⟧.refuses ⟦<FileDisk<H::File> as Breaks>⟧.broken }) options.now (Some shape) pieces.now 4 text (is_some options.now.file)) (W.contents output.old) (W.contents output.new)) }
+{
+    let mut picks = Picks::new(options.seed);
+    match &options.file {
+        None => play_memory(alloc, options, memory, shape, pieces, &mut picks, output),
+        Some(path) => play_new_file(rt, alloc, path.as_str(), shape, pieces, &mut picks, output),
+    }
+}
+
+/// The store that a file holds.
+fn run_old<H: Files, W: Write>(
+    rt: &H,
+    alloc: Global,
+    options: &Options,
+    pieces: &[Piece],
+    output: &mut W,
+) -> io::Result<u8>
+    ensures whole { IfOk result (λ status. Writes (λ text. IsRunOfOldStore (EngineStep ⟦<FileDisk<H::File> as Device>⟧.honest ⟦<FileDisk<H::File> as Device>⟧.seen ⟦<FileDisk<H::File> as Device>⟧.may_leave ⟦<FileDisk<H::File> as Device>⟧.failed ⟦<FileDisk<H::File> as Device>⟧.refuses ⟦<FileDisk<H::File> as Breaks>⟧.broken) pieces.now status text (is_some options.now.file)) (W.contents output.old) (W.contents output.new)) }
+    ensures part { OnErr result (BreaksOff (λ text. IsRunOfOldStore (EngineStep ⟦<FileDisk<H::File> as Device>⟧.honest ⟦<FileDisk<H::File> as Device>⟧.seen ⟦<FileDisk<H::File> as Device>⟧.may_leave ⟦<FileDisk<H::File> as Device>⟧.failed ⟦<FileDisk<H::File> as Device>⟧.refuses ⟦<FileDisk<H::File> as Breaks>⟧.broken) pieces.now 4 text (is_some options.now.file)) (W.contents output.old) (W.contents output.new)) }
+{
+    let mut picks = Picks::new(options.seed);
+    match &options.file {
+        Some(path) => play_old_file(rt, alloc, path.as_str(), pieces, &mut picks, output),
+        None => Ok(0),
+    }
+}
+
+/// The shape of these sizes.
+fn shape_of(sizes: Sizes) -> Result<Shape, Fault>
+    ensures sized { IfOk result (HasSizes sizes) }
+    ensures refused { IfErr result (λ fault. (¬ (AreSizes sizes)) × (fault ≡ BadShape)) }
+{
+    Shape::new(
+        sizes.bucket_bits,
+        sizes.page,
+        sizes.frames,
+        sizes.mutable,
+        sizes.sessions,
+        sizes.overflow,
+        sizes.disk_pages,
+    )
+}
+
+/// Prints the refusal that ends a run. Memory that was refused ends it without one.
+pub(crate) fn refuse<W: Write>(
+    alloc: Global,
+    output: &mut W,
+    fault: Fault,
+    status: u8,
+) -> io::Result<u8>
+    ensures text { IfOk result (λ told. Writes (Refuses fault status told) (W.contents output.old) (W.contents output.new)) }
+    ensures memory { IfOk result (λ told. ¬ (fault ≡ Memory)) }
+    ensures part { OnErr result (BreaksOff (λ text. (¬ (fault ≡ Memory)) × Refuses fault status 4 text) (W.contents output.old) (W.contents output.new)) }
+{
+    if fault == Fault::Memory {
+        return Err(io::ErrorKind::OutOfMemory.into());
+    }
+    let mut refusal = Vec::new(alloc);
+    write_refusal(&mut refusal, fault)?;
+    write_text(output, refusal.as_slice())?;
+    Ok(status)
+}

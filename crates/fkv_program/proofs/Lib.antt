@@ -1,3 +1,0 @@
-mod Appending
-mod Endings
-mod Outputs

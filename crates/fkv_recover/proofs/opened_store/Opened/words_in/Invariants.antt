@@ -1,7 +1,0 @@
-use Rattle.std.proofs.Common.{◌≡◌}
-use Rattle.std.specs.Prelude.{take}
-use Rattle.fkv_recover.specs.Filled.{bucket_words}
-use Rattle.fkv_recover.proofs.opened_store.Opened.words_in.Given as goal
-
-abbrev pub invariant-loop-home : goal.invariant-loop-home
-invariant-loop-home l = l.words.items ≡ bucket_words l.bucket (take l.home-index l.self.entries.items)

@@ -1,8 +1,0 @@
-use Rattle.std.proofs.Common.{◌≡◌, length, take, drop}
-use Rattle.fkv_script.specs.Reading.{texts}
-use Rattle.fkv_script.specs.Script.{numbers_of}
-use Rattle.fkv_script.proofs.Arguments.{with_front}
-use Rattle.fkv_script.proofs.reading.numbers.arguments_of.Given as goal
-
-abbrev pub invariant-loop-i : goal.invariant-loop-i
-invariant-loop-i g l = (length l.numbers ≡ length l.words) × (with_front (take l.i l.numbers) (numbers_of (texts (drop l.i l.words))) ≡ numbers_of (texts l.words))

@@ -1,5 +1,0 @@
-pub mod Options
-pub mod Reading
-pub mod RunFault
-pub mod Script
-pub mod Texts
