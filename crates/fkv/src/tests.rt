@@ -1,6 +1,5 @@
 //! Whole scripts: what a run writes, and the status it ends with. tools/rows has more rows, for the built program.
 use super::*;
-use fkv_cli::law_reports;
 use std::io::{ErrorKind, Read, Write};
 
 const SCRIPT: &str =
@@ -9,38 +8,35 @@ const SCRIPT: &str =
 const ANSWERS: &str =
     "0 #1 done\n0 get 1 = 10\nk commit 1\nk finished 1 points 1\n0 #2 done\ncrash commit 1 points 1 pairs 1\npair 1 10\n";
 
-/// Scripts, each with what torn bytes hold, what is written, and the status.
-const ROWS: [(&str, u8, &str, u8); 4] = [
-    (SCRIPT, 0, ANSWERS, 0),
+/// The program's words, a script, what is written, and the status.
+const ROWS: [([&str; 2], &str, &str, u8); 5] = [
+    (["--torn", "0"], SCRIPT, ANSWERS, 0),
     (
+        ["--torn", "165"],
         "shape 4 16 4 2 1 0 64\n0 up 1 10\ncrash 7\nk commit\nk finish\n",
-        165,
         "0 #1 done\nk commit 1\ncrash commit 1 points 1 pairs 1\npair 1 10\n",
         0,
     ),
     (
+        ["--seed", "1"],
         "shape 4 16 4 2 1 0 64\n0 up 1\n",
-        0,
         "script line 2 Count\n",
         2,
     ),
-    ("shape 4 6 4 2 1 0 64\n", 0, "refused 1 BadShape\n", 2),
+    (
+        ["--seed", "1"],
+        "shape 4 6 4 2 1 0 64\n",
+        "refused 1 BadShape\n",
+        2,
+    ),
+    (["--torn", "256"], SCRIPT, "options\n", 2),
 ];
 
 #[test]
 fn scripts_print_their_answers(rt: HostRuntime) {
-    law_reports();
-    for (script, torn, wanted, status) in ROWS {
+    for (words, script, wanted, status) in ROWS {
         let mut output = Vec::new(rt.alloc());
-        let ended = match run(
-            rt.alloc(),
-            script.as_bytes(),
-            &mut output,
-            &Options { torn },
-        ) {
-            Ok(_) => 0,
-            Err(fault) => fault.status,
-        };
+        let ended = run(&rt, rt.alloc(), &words, script.as_bytes(), &mut output);
         assert_eq!(rt; output.as_slice(), wanted.as_bytes(), "{script}");
         assert_eq!(rt; ended, status, "{script}");
     }
@@ -63,10 +59,8 @@ impl Read for BrokenReader<'_> {
 fn a_reader_that_fails_ends_the_run(rt: HostRuntime) {
     let mut output = Vec::new(rt.alloc());
     let reader = BrokenReader(SCRIPT.as_bytes());
-    match run(rt.alloc(), reader, &mut output, &Options::default()) {
-        Ok(_) => assert!(rt; false, "the run went on"),
-        Err(fault) => assert_eq!(rt; fault.status, 4),
-    }
+    let status = run(&rt, rt.alloc(), &[], reader, &mut output);
+    assert_eq!(rt; status, 4);
     assert!(rt; output.is_empty());
 }
 
@@ -100,15 +94,8 @@ fn a_writer_that_fails_ends_the_run(rt: HostRuntime) {
             taken: Vec::new(rt.alloc()),
             room,
         };
-        match run(
-            rt.alloc(),
-            SCRIPT.as_bytes(),
-            &mut output,
-            &Options::default(),
-        ) {
-            Ok(_) => assert!(rt; false, "the run went on"),
-            Err(fault) => assert_eq!(rt; fault.status, 4),
-        }
-        assert!(rt; ANSWERS.as_bytes().starts_with(output.taken.as_slice()));
+        let status = run(&rt, rt.alloc(), &[], SCRIPT.as_bytes(), &mut output);
+        assert_eq!(rt; status, 4);
+        assert!(rt; ANSWERS.as_bytes()[..room] == *output.taken.as_slice(), "{room}");
     }
 }

@@ -1,0 +1,176 @@
+"""Operations of sessions, requests that wait, and how much a script may hold."""
+from rows import Row, told, whole
+from shapes import FOUR, ONE, SEVEN, SMALL, SMALL_TWO
+
+MOST = 2**64 - 1
+
+OPERATIONS = [
+    told("a value is set and read", f"{ONE}\n0 up 1 10 | 0 #1 done\n0 get 1 | 0 get 1 = 10"),
+    Row("the last line needs no end", f"{ONE}\n0 up 1 10\n0 get 1", "0 #1 done\n0 get 1 = 10\n"),
+    told(
+        "a sum, and one that begins anew",
+        f"""
+        {ONE}
+        0 add 5 7 | 0 #1 = 7
+        0 add 5 7 | 0 #2 = 14
+        0 del 5   | 0 #3 done
+        0 get 5   | 0 get 5 absent
+        0 add 5 1 | 0 #4 = 1
+        """,
+    ),
+    told(
+        "the greatest value, and one above it",
+        f"""
+        {ONE}
+        0 up 1 {MOST}     | 0 refused 2 ValueReserved
+        0 up 1 {MOST - 1} | 0 #1 done
+        0 add 1 1         | 0 #2 = {MOST - 1}
+        0 max 1 5         | 0 #3 = {MOST - 1}
+        0 max 2 0         | 0 #4 = 0
+        """,
+    ),
+    told(
+        "two keys of one home",
+        f"""
+        {ONE}
+        0 up 3 30      | 0 #1 done
+        0 up 524291 40 | 0 #2 done
+        0 del 3        | 0 #3 done
+        0 get 3        | 0 get 3 absent
+        0 get 524291   | 0 get 524291 = 40
+        """,
+    ),
+    told(
+        "an index that is full",
+        "shape 0 16 4 2 1 0 64\n"
+        + whole(f"0 up {key} 1 | 0 #{key} done" for key in range(1, 8))
+        + "0 up 8 1 | 0 refused 4 IndexFull\n0 up 1 2 | 0 #8 done",
+    ),
+    told(
+        "an overflow bucket takes one more",
+        "shape 0 16 4 2 1 1 64\n" + whole(f"0 up {key % 9 + key // 9} 1 | 0 #{key} done" for key in range(1, 10)),
+    ),
+    told(
+        "a log that is full, and a session that the shape hasn't",
+        """
+        shape 4 4 2 1 1 0 1
+        0 up 1 1 | 0 #1 done
+        0 up 2 2 | 0 #2 done
+        0 up 3 3 | 0 #3 done
+        0 up 4 4 | 0 refused 5 LogFull
+        0 up 1 5 | 0 #4 done
+        9 get 1  | 9 refused 19 NoSession
+        """,
+    ),
+    told("a number is printed as a number", f"# a comment\n\n{ONE}\n007 get 1 | 7 refused 19 NoSession\n  0  get   1 | 0 get 1 absent"),
+    Row("spaces before a line, and more than one between words", f"{ONE}\n  0  get   1\n", "0 get 1 absent\n"),
+]
+
+PENDING = [
+    told(
+        "a read that waits for the disk",
+        f"""
+        {SMALL}
+        {SEVEN}
+        k turn    | k turn rest 1
+        0 refresh | 0 refresh rest 1
+        k turn    | k turn rest 1
+        0 refresh | 0 refresh rest 1
+        k turn    | k turn rest 1
+        0 up 8 80 | 0 #8 done
+        0 get 1   | 0 get 1 pending @1
+        k turn    | k turn rest 1
+        0 poll    | 0 @1 get 1 = 10
+                  | 0 poll left 0
+        0 get 8   | 0 get 8 = 80
+        """,
+    ),
+    told(
+        "an update waits until all have seen that its page is read-only",
+        f"""
+        {SMALL_TWO}
+        {FOUR}
+        k turn    | k turn rest 1
+        0 refresh | 0 refresh rest 1
+        0 add 1 1 | 0 #5 pending
+        k turn    | k turn rest 1
+        0 poll    | 0 poll left 1
+        1 refresh | 1 refresh rest 1
+        k turn    | k turn rest 1
+        0 poll    | 0 #5 = 11
+                  | 0 poll left 0
+        0 get 1   | 0 get 1 = 11
+        """,
+    ),
+    told(
+        "who has a request left doesn't sleep",
+        f"""
+        {SMALL}
+        {SEVEN}
+        0 up 8 80 | 0 #8 pending
+        0 sleep   | 0 refused 11 PendingLeft
+        0 poll    | 0 poll left 1
+        k turn    | k turn rest 1
+        0 refresh | 0 refresh rest 1
+        k turn    | k turn rest 1
+        0 refresh | 0 refresh rest 1
+        k turn    | k turn rest 1
+        0 poll    | 0 #8 done
+                  | 0 poll left 0
+        0 sleep   | 0 sleep
+        0 get 8   | 0 refused 12 Asleep
+        0 wake    | 0 wake rest 1
+        0 wake    | 0 refused 20 Awake
+        """,
+    ),
+    told(
+        "a session turns pages beside the keeper",
+        f"""
+        {SMALL}
+        {SEVEN}
+        0 up 8 80 | 0 #8 pending
+        0 refresh | 0 refresh rest 1
+        0 poll    | 0 poll left 1
+        k turn    | k turn rest 1
+        0 refresh | 0 refresh rest 1
+        0 poll    | 0 poll left 1
+        0 poll    | 0 #8 done
+                  | 0 poll left 0
+        """,
+    ),
+    told(
+        "sixty-four requests wait, and no more",
+        f"{SMALL}\n{SEVEN}\n"
+        + whole(f"0 up {key} {key} | 0 #{key} pending" for key in range(8, 72))
+        + "0 up 72 72 | 0 refused 3 PendingFull\n0 get 1 | 0 refused 3 PendingFull",
+    ),
+    told(
+        "each drain slot is held",
+        "shape 4 4 64 1 2 0 64\n"
+        + "".join(
+            whole(f"0 up {key} {key} | 0 #{key} done" for key in range(4 * turn - 3, 4 * turn + 1))
+            + f"k turn | k turn rest 1{' drain full' * (turn == 9)}\n"
+            for turn in range(1, 10)
+        )
+        + """
+        k commit  | k refused 9 DrainFull
+        0 refresh | 0 refresh rest 1
+        1 refresh | 1 refresh rest 1
+        k turn    | k turn rest 1
+        k commit  | k commit 1
+        """,
+    ),
+]
+
+LIMITS = [
+    Row("an empty script", "", ""),
+    Row("lines that say nothing", "\n  \n# open\n", ""),
+    Row("a line of 200 bytes", "#" * 200, ""),
+    Row("a line of 200 bytes and its end", "#" * 200 + "\n", ""),
+    Row("65,536 lines", "\n" * 65536, ""),
+    Row("65,536 lines that are answered", ONE + "\n9 get 1" * 65535, "9 refused 19 NoSession\n" * 65535),
+]
+
+
+def operations():
+    return [*OPERATIONS, *PENDING, *LIMITS]

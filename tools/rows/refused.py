@@ -1,0 +1,118 @@
+"""What is refused before anything runs: words of the program, lines of a script, and shapes."""
+from rows import Row
+from shapes import ONE
+
+SHAPE = f"{ONE}\n"
+
+# the first faulty line of a script
+LINES = [
+    ("0 up 1 2\n", "1 Order"),
+    (SHAPE + SHAPE, "2 Order"),
+    (SHAPE + "crash\nopen", "3 Order"),
+    (SHAPE + "open 1 2\n", "2 Order"),
+    ("# a store\n\n  \n0 get 1\n", "4 Order"),
+    ("  # no comment\n", "1 Order"),
+    (SHAPE + "0 put 1 2", "2 Word"),
+    (SHAPE + "up 0 1", "2 Word"),
+    (SHAPE + "crash\r\n", "2 Word"),
+    (SHAPE + " # no comment\n", "2 Word"),
+    (SHAPE + "kü commit\n", "2 Word"),
+    (SHAPE + "\udcff\n", "2 Word"),
+    ("# a store\n\n  \n" + SHAPE + "#\n\nk tur\n", "7 Word"),
+    (SHAPE + "k commit full\n", "2 Word"),
+    (SHAPE + "k commit lo log\n", "2 Word"),
+    (SHAPE + "9x put 1\n", "2 Word"),
+    (SHAPE + "0 up 1\n", "2 Count"),
+    (SHAPE + "0 up 1 x 3\n", "2 Count"),
+    (SHAPE + "k\n", "2 Count"),
+    (SHAPE + "3", "2 Count"),
+    (SHAPE + "0 wake 1\n", "2 Count"),
+    (SHAPE + "k commit log log\n", "2 Count"),
+    (SHAPE + "k finish 1\n", "2 Count"),
+    (SHAPE + "crash 1 2\n", "2 Count"),
+    (SHAPE + "crash 0 x\n", "2 Count"),
+    (SHAPE + "fail\n", "2 Count"),
+    ("shape 4 16 4 2 1 0\n", "1 Count"),
+    ("open 1\n", "1 Count"),
+    (SHAPE + "0x up 1 2\n", "2 Number"),
+    (SHAPE + "9x get 1\n", "2 Number"),
+    (SHAPE + "0 up +1 2\n", "2 Number"),
+    (SHAPE + "0 up 1 18446744073709551616\n", "2 Number"),
+    (SHAPE + "0 up 1 99999999999999999999\n", "2 Number"),
+    (SHAPE + "crash 0\n", "2 Number"),
+    (SHAPE + "crash 000\n", "2 Number"),
+    (SHAPE + "crash x\n", "2 Number"),
+    (SHAPE + "crash -1\n", "2 Number"),
+    (SHAPE + "crash 18446744073709551616\n", "2 Number"),
+    (SHAPE + "fail 0\n", "2 Number"),
+    ("shape 4 16 4 2 1 0 -64\n", "1 Number"),
+    ("open\n", "1 Mode"),
+    # a line has at most 200 bytes, and a script at most 65,536 lines
+    (SHAPE + "0 get " + "1" * 195, "2 Size"),
+    (" " * 201, "1 Size"),
+    ("#" * 200 + "\n" + "#" * 201, "2 Size"),
+    ("\n" * 65536 + "#", "65537 Size"),
+    ("#\n" * 65537, "65537 Size"),
+    # and a longer one is read no further than its first faulty line can stand
+    (("#" * 200 + "\n") * 65537, "65537 Size"),
+]
+
+# each size outside of its limits, one at a time
+SHAPES = [
+    "11 16 4 2 1 0 64",
+    "4 6 4 2 1 0 64",
+    "4 2 4 2 1 0 64",
+    "4 2048 4 2 1 0 64",
+    "4 16 3 2 1 0 64",
+    "4 16 1 1 1 0 64",
+    "4 16 128 2 1 0 64",
+    "4 16 4 0 1 0 64",
+    "4 16 4 4 1 0 64",
+    "4 16 4 2 0 0 64",
+    "4 16 4 2 33 0 64",
+    "4 16 4 2 1 1025 64",
+    "4 16 4 2 1 0 0",
+    "4 16 4 2 1 0 65537",
+    "18446744073709551615 16 4 2 1 0 64",
+]
+
+WORDS = [
+    ("x",),
+    ("",),
+    ("--",  "x"),
+    ("--seed",),
+    ("--seed", "x"),
+    ("--seed", "-1"),
+    ("--seed", "18446744073709551616"),
+    ("--seed", "1", "--seed", "1"),
+    ("--torn", "256"),
+    ("--torn=",),
+    ("--torn", "1.5"),
+    ("--check=1",),
+    ("--check", "--check"),
+    ("--file",),
+    ("--threads",),
+    ("--seed", "1", "--threads"),
+    ("--help",),
+    ("-h",),
+    ("--version",),
+    (b"\xff",),
+    ("--file", b"store\xff"),
+    (b"--se\xed", "1"),
+]
+
+ACCEPTED = [
+    ("--",),
+    ("--check", "--"),
+    ("--seed", "18446744073709551615", "--check", "--torn", "255"),
+    ("--torn=0", "--seed=0"),
+    ("--torn", "+7", "--seed", "007"),
+]
+
+
+def refused():
+    yield from (Row(f"script line {fault}", script, f"script line {fault}\n", 2) for script, fault in LINES)
+    yield from (Row(f"shape {sizes}", f"shape {sizes}\n0 get 1\n", "refused 1 BadShape\n", 2) for sizes in SHAPES)
+    # before the script is looked at
+    yield from (Row(f"the words {words}", "0 up\n", "options\n", 2, words) for words in WORDS)
+    yield from (Row(f"the words {words}", SHAPE + "0 get 1\n", "0 get 1 absent\n", 0, words) for words in ACCEPTED)

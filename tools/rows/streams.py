@@ -1,0 +1,99 @@
+"""Streams that fail: the script's and the answers'. What is written then is a beginning of the answers, and the status is 4."""
+import os
+import resource
+import signal
+import subprocess
+import tempfile
+
+from files import COMMITTED, FILE
+from rows import SECONDS, STORE, contents, side_by_side, spelled
+from shapes import TWO
+
+SCRIPT = f"""
+    {TWO}
+    0 up 1 10    | 0 #1 done
+    1 up 2 20    | 1 #1 done
+    k commit     | k commit 1
+    k finish     | k finished 1 points 1 1
+    0 get 1      | 0 get 1 = 10
+    1 up 2 21    | 1 #2 done
+    crash        | crash commit 1 points 1 1 pairs 2
+                 | pair 1 10
+                 | pair 2 20
+    0 get 1      | 0 get 1 pending @1
+    k commit log | k commit 2
+    k finish     | 0 @1 get 1 = 10
+                 | k finished 2 points 1 1
+"""
+
+
+def ended(program, words, script, room=None, **more):
+    """The status, where the program's answers go to a stream that isn't read here; or, with room for so many bytes of them, the
+    status and what a file that takes no more has taken."""
+    with tempfile.TemporaryFile() as given:
+        given.write(spelled(script))
+        given.seek(0)
+        how = {"stdin": given, "timeout": SECONDS, **more}
+        if room is None:
+            return subprocess.run([program, *words], **how).returncode
+
+        def limit():
+            signal.signal(signal.SIGXFSZ, signal.SIG_IGN)
+            resource.setrlimit(resource.RLIMIT_FSIZE, (room, room))
+
+        with tempfile.TemporaryFile() as taken:
+            status = subprocess.run([program, *words], stdout=taken, preexec_fn=limit, **how).returncode
+            taken.seek(0)
+            return status, taken.read()
+
+
+def beside_store(program):
+    """The status where answers go to a stream that is closed, and whether they went into the store's file instead."""
+    with tempfile.TemporaryDirectory() as folder:
+        script, answers = side_by_side(COMMITTED)
+        status = ended(program, FILE.split(), script, preexec_fn=lambda: os.close(1), cwd=folder)
+        held = contents(os.path.join(folder, STORE))
+        return status, held is not None and spelled(answers).split(b"\n")[0] in held
+
+
+def to_nobody(program, script):
+    reader, writer = os.pipe()
+    os.close(reader)
+    status = ended(program, (), script, stdout=writer)
+    os.close(writer)
+    return status
+
+
+def streams(program):
+    """How many runs there were, and what was otherwise."""
+    script, answers = side_by_side(SCRIPT)
+    wanted = spelled(answers)
+    seen = []
+
+    def expect(name, got, wished):
+        seen.append(None if got == wished else f"{name}: {got}, and not {wished}")
+
+    for words in ((), ("--check", "--seed", "3")):
+        with open("/dev/full", "wb") as full:
+            expect(f"answers to /dev/full, with {words}", ended(program, words, script, stdout=full), 4)
+    with open("/dev/full", "wb") as full:
+        expect("an empty script's to /dev/full", ended(program, (), "", stdout=full), 0)
+        expect("a faulty line's to /dev/full", ended(program, (), "0 up 1", stdout=full), 4)
+        expect("options to /dev/full", ended(program, ("--threads",), script, stdout=full), 4)
+    expect("answers to a stream that is closed", ended(program, (), script, preexec_fn=lambda: os.close(1)), 4)
+    expect("the same beside a store in a file", beside_store(program), (4, False))
+    expect("answers to a pipe that nobody reads", to_nobody(program, script), 4)
+    for room in range(len(wanted) + 1):
+        got = ended(program, (), script, room)
+        expect(f"answers to a file that takes {room} bytes", got, (4 if room < len(wanted) else 0, wanted[:room]))
+    folder = os.open("/", os.O_RDONLY)  # a read of it fails
+    for name, words, wished in (
+        ("a script that can't be read", (), (4, b"")),
+        ("words that are refused before the script is read", ("x",), (2, b"options\n")),
+    ):
+        run = subprocess.run([program, *words], stdin=folder, stdout=subprocess.PIPE, timeout=SECONDS)
+        expect(name, (run.returncode, run.stdout), wished)
+    os.close(folder)
+    run = subprocess.run([program], preexec_fn=lambda: os.close(0), stdout=subprocess.PIPE, timeout=SECONDS)
+    expect("a script's stream that is closed", (run.returncode, run.stdout), (4, b""))
+    return len(seen), [it for it in seen if it]
