@@ -3,4 +3,5 @@ mod Legs
 mod Recovery
 mod Replays
 mod Reported
+pub mod Told
 pub mod Turning
