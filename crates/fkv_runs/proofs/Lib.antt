@@ -3,5 +3,6 @@ mod Legs
 mod Recovery
 mod Replays
 mod Reported
+pub mod Shown
 pub mod Told
 pub mod Turning
