@@ -1,3 +1,4 @@
+mod Breaking
 pub mod Joining
 mod Legs
 mod Recovery

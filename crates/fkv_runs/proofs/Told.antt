@@ -1,5 +1,5 @@
 -- What is written of a text so far.
-use Rattle.std.proofs.Common.{◌≡◌, ℕ, ◌+◌, ◌-◌, ◌≤◌, List, [], ◌++◌, length, take, drop, Option, Some, None, refl, sym, ap, ◌∙◌, subst, inl, inr, arith, append_assoc, append-nil}
+use Rattle.std.proofs.Common.{◌≡◌, ℕ, ◌+◌, ◌-◌, ◌≤◌, List, [], ◌++◌, length, take, drop, Option, Some, None, Result, Ok, Err, OnErr, refl, sym, ap, ◌∙◌, subst, inl, inr, arith, append_assoc, append-nil}
 use Rattle.std.specs.Io.KnownBytes.{Appends, Keeps}
 use Rattle.std.proofs.lemmas.List.{length-drop, take-append-drop, take_all}
 use Rattle.std.proofs.Math.Seq.{take-add}
@@ -66,3 +66,18 @@ breaks_behind Its Other first a b c h own weaker (said, inl nothing, k) =
     (first ++ said, inr ([], subst Other (sym (append-nil (first ++ said) ∙ ap (λ (xs : List ℕ). first ++ xs) nothing ∙ append-nil first)) own), appends_both a b c first said h k)
 breaks_behind Its Other first a b c h own weaker (said, inr (rest, its), k) =
     (first ++ said, inr (rest, subst Other (sym (append_assoc first said rest)) (weaker (said ++ rest) its)), appends_both a b c first said h k)
+
+-- what holds anyway holds behind an error
+pub on_err : {A E X : Type 0} (result : Result A E) → X → OnErr result X
+on_err (Ok value) x = tt
+on_err (Err error) x = x
+
+-- what was written into memory breaks off where its bytes do
+pub told_breaks : (Its : List ℕ → Type 0) (none said shown : List ℕ) (a b : Option (List ℕ)) → none ≡ [] → shown ≡ said → Writes Its (Some none) (Some said) → BreaksOff (λ its. its ≡ shown) a b → BreaksOff Its a b
+told_breaks Its none said shown a b nothing same h k =
+    text_breaks Its shown a b (subst Its (sym (same ∙ h.2 ∙ ap (λ (xs : List ℕ). xs ++ h.0) nothing)) h.1) k
+
+pub told_err : {A E : Type 0} (Its : List ℕ → Type 0) (none said shown : List ℕ) (a b : Option (List ℕ)) (result : Result A E) → none ≡ [] → shown ≡ said → Writes Its (Some none) (Some said)
+    → OnErr result (BreaksOff (λ its. its ≡ shown) a b) → OnErr result (BreaksOff Its a b)
+told_err Its none said shown a b (Ok value) nothing same h k = tt
+told_err Its none said shown a b (Err error) nothing same h k = told_breaks Its none said shown a b nothing same h k
