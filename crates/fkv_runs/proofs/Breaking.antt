@@ -1,5 +1,5 @@
 -- Runs that break off.
-use Rattle.std.proofs.Common.{◌≡◌, ◌≤◌, ◌<◌, ◌+◌, ℕ, Bool, true, false, List, [], ◌++◌, Option, Result, Ok, Err, OnErr, inl, inr, refl, length, get_or, take, subst, sym}
+use Rattle.std.proofs.Common.{◌≡◌, ◌≤◌, ◌<◌, ◌+◌, ℕ, Bool, true, false, List, [], Option, Result, Ok, Err, OnErr, inl, inr, refl, length, get_or, take, subst, sym}
 use Rattle.fkv_core.specs.Worlds.{WorldModel}
 use Rattle.fkv_core.specs.declared.events.Event.{Event}
 use Rattle.fkv_core.specs.declared.events.Told.{Told}
@@ -33,8 +33,13 @@ piece_breaks {D} medium settings pieces count piece first run a b c below is h k
     let played = h.1 in
     breaks_behind (λ text. (over : Bool) × (after : RunState D) × IsPiece medium run.settings piece run.state after over text) (IsPartOfRun medium settings pieces first) played.0 a b c played.2
     (inl (count, run.state, false, played.1))
-    (λ text its. inl (count + 1, its.1, its.0, next_played (IsPiece medium settings) false pieces count piece first run.state its.1 its.0 played.0 text below is played.1
-    (subst (λ (settings : Settings). IsPiece medium settings piece run.state its.1 its.0 text) h.0 its.2)))
+    (λ text its. inl (
+      count + 1,
+      its.1,
+      its.0,
+      next_played (IsPiece medium settings) false pieces count piece first run.state its.1 its.0 played.0 text below is played.1
+          (subst (λ (settings : Settings). IsPiece medium settings piece run.state its.1 its.0 text) h.0 its.2),
+    ))
     k
 
 -- or behind the last

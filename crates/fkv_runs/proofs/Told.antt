@@ -5,7 +5,7 @@ use Rattle.std.proofs.lemmas.List.{length-drop, take-append-drop, take_all}
 use Rattle.std.proofs.Math.Seq.{take-add}
 use Rattle.fkv_texts.proofs.Shown.{appends_both, appends_nothing}
 use Rattle.fkv_playing.specs.InTurn.{Writes}
-use Rattle.fkv_runs.specs.Beginnings.{BreaksOff, IsBeginning}
+use Rattle.fkv_runs.specs.Beginnings.{BreaksOff}
 
 -- where nothing more is written, what was written stays
 pub appends_kept : (a b c : Option (List ℕ)) (x : List ℕ) → Appends a b x → Keeps b c → Appends a c x
@@ -39,7 +39,7 @@ more_written text at count a b c within bound h k =
     let same : length (take (length text - at) (drop at text)) ≡ length (drop at text) = ap length all in (
       omega arith,
       subst (λ (xs : List ℕ). Appends a c xs) (sym (take-add at count text))
-      (appends_both a b c (take at text) (take count (drop at text)) h (subst (λ (xs : List ℕ). Appends b c (take count xs)) all k)),
+          (appends_both a b c (take at text) (take count (drop at text)) h (subst (λ (xs : List ℕ). Appends b c (take count xs)) all k)),
     )
 
 -- what is written into memory, and then from there

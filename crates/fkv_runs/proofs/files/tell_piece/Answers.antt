@@ -1,4 +1,4 @@
-use Rattle.std.proofs.Common.{List, ℕ, false}
+use Rattle.std.proofs.Common.{false}
 use Rattle.fkv_playing.specs.Players.{EngineStep, PlayerState}
 use Rattle.fkv_runs.specs.Files.{IsPieceOfLife}
 use Rattle.fkv_runs.proofs.Told.{told_err}

@@ -1,4 +1,4 @@
-use Rattle.std.proofs.Common.{◌≡◌, ◌≤◌, ◌+◌, ℕ, length, take, subst, sym}
+use Rattle.std.proofs.Common.{◌≤◌, ℕ, length, take, subst, sym}
 use Rattle.std.specs.Io.KnownBytes.{Appends}
 use Rattle.fkv_runs.proofs.Told.{appends_kept, first_kept, first_not_more, first_written, more_written}
 use Rattle.fkv_runs.proofs.telling.write_text.Goals.{in-Ok, in-Err}

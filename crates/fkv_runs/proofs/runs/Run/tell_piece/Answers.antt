@@ -1,4 +1,4 @@
-use Rattle.std.proofs.Common.{Bool, List, ℕ, is_none}
+use Rattle.std.proofs.Common.{Bool, is_none}
 use Rattle.fkv_runs.specs.Openings.{medium_of}
 use Rattle.fkv_runs.specs.Runs.{IsPiece, RunState, state_behind}
 use Rattle.fkv_runs.proofs.Told.{breaks_at_once, on_err, told_breaks}
