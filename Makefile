@@ -1,9 +1,9 @@
-# make run     runs a script and prints its answers (a build without proof): the stored one, or SCRIPT=path
+# make run     runs a script and prints its answers (a build without proof): the stored one, or SCRIPT=path, by the words of WORDS
 # make test    the gate: what crates name of each other, every proof from nothing, the must-fail edits, the tests and the
-#              program; then tools/compare, tools/openings, and what `make rows` and `make memory` do
+#              program; then tools/openings, and what `make rows` and `make memory` do
 # make fkv     proves the program and leaves it at build/fkv
 # make rows    runs the built program on whole scripts, and compares what it writes
-# make memory  runs the stored script, recovery's calls, a store's creation, a commit's copy and the options' words, with each request for memory refused in turn
+# make memory  runs stored scripts, a store's creation and its opening, a commit's copy and the options' words, with each request for memory refused in turn
 # make bench   times the proved program on scripts of up to 65,536 lines, and recovery of images of up to 1,000,000 records
 # make gate    runs the gate, and writes the processor time of each crate into docs/GATE.md
 #
@@ -11,21 +11,21 @@
 # it was.
 
 SCRIPT ?= crates/fkv/stdin
+# The words behind the program's name, as WORDS="--check --torn 165".
+WORDS ?=
 
 .PHONY: run test fkv rows memory bench gate toolchain
 
 run: toolchain
-	@tools/script/run "$(SCRIPT)"
+	@tools/script/run "$(SCRIPT)" $(WORDS)
 
 test: toolchain
 	tools/names/check
 	rt ci
 	@tools/rows/run crates/fkv/out/fkv > /dev/null
-	@tools/compare/run > /dev/null
 	@tools/openings/run > /dev/null
 	@tools/openings/files > /dev/null
 	@tools/memory/run crates/fkv/out/fkv > /dev/null
-	@tools/memory/recover > /dev/null
 	@tools/memory/opening > /dev/null
 	@tools/memory/creating > /dev/null
 	@tools/memory/keeper > /dev/null
@@ -40,13 +40,11 @@ rows: fkv
 	tools/rows/run build/fkv
 
 memory: fkv
-	cd crates/fkv_images && rt test > /dev/null
 	cd crates/fkv_opening_tests && rt test > /dev/null
 	cd crates/fkv_creating && rt test > /dev/null
 	cd crates/fkv_keeper_tests && rt test > /dev/null
 	cd crates/fkv_options && rt test > /dev/null
 	tools/memory/run build/fkv
-	tools/memory/recover
 	tools/memory/opening
 	tools/memory/creating
 	tools/memory/keeper
@@ -54,7 +52,7 @@ memory: fkv
 
 bench: fkv
 	cd crates/fkv_opening_tests && rt test > /dev/null
-	tools/bench/run
+	tools/bench/run build/fkv
 	tools/bench/recovery
 
 gate: toolchain

@@ -1,6 +1,6 @@
 -- One line more behind the lines of pieces.
 use Prim.Native.Nat.{zero}
-use Rattle.std.proofs.Common.{◌≡◌, ℕ, ◌+◌, ◌<◌, ◌≤◌, suc, Bool, true, false, List, [], ◌∷◌, ◌++◌, map, length, set, take, refl, sym, ap, ◌∙◌, append_assoc, append-nil, arith, Some, None, subst, get_or}
+use Rattle.std.proofs.Common.{◌≡◌, ◌≢◌, ℕ, ◌+◌, ◌<◌, ◌≤◌, suc, Bool, true, false, List, [], ◌∷◌, ◌++◌, map, length, set, take, refl, sym, ap, ◌∙◌, append_assoc, append-nil, arith, Some, None, subst, get_or}
 use Rattle.std.specs.Prelude.{slice_get}
 use Rattle.std.specs.List.{flat_map}
 use Rattle.std.proofs.lemmas.Grind.{flat_map-append}
@@ -45,11 +45,27 @@ apart_more (first ∷ second ∷ rest) more apart ends (suc at) piece next here 
     apart_more (second ∷ rest) more (λ n. apart (suc n)) (λ is n. ends is (suc n)) at piece next here there group
 
 -- what holds of each piece, and of one more
-alone_more : (pieces : List Piece) (more : Piece) → ((at : ℕ) (piece : Piece) → slice_get pieces at ≡ Some piece → IsAlone piece) → IsAlone more → (at : ℕ) (piece : Piece) → slice_get (pieces ++ more ∷ []) at ≡ Some piece → IsAlone piece
-alone_more [] more alone its zero piece here = let same : more ≡ piece = cc in subst IsAlone same its
-alone_more [] more alone its (suc at) piece here = cc
-alone_more (first ∷ rest) more alone its zero piece here = alone 0 piece here
-alone_more (first ∷ rest) more alone its (suc at) piece here = alone_more rest more (λ n. alone (suc n)) its at piece here
+all_more : (Its : Piece → Type 0) (pieces : List Piece) (more : Piece) → ((at : ℕ) (piece : Piece) → slice_get pieces at ≡ Some piece → Its piece) → Its more → (at : ℕ) (piece : Piece) → slice_get (pieces ++ more ∷ []) at ≡ Some piece → Its piece
+all_more Its [] more all its zero piece here = let same : more ≡ piece = cc in subst Its same its
+all_more Its [] more all its (suc at) piece here = cc
+all_more Its (first ∷ rest) more all its zero piece here = all 0 piece here
+all_more Its (first ∷ rest) more all its (suc at) piece here = all_more Its rest more (λ n. all (suc n)) its at piece here
+
+-- and in the place of one
+all_in_place : (Its : Piece → Type 0) (pieces : List Piece) (at : ℕ) (more : Piece) → ((n : ℕ) (piece : Piece) → slice_get pieces n ≡ Some piece → Its piece) → Its more → (n : ℕ) (piece : Piece) → slice_get (set pieces at more) n ≡ Some piece → Its piece
+all_in_place Its [] at more all its n piece here = cc
+all_in_place Its (first ∷ rest) zero more all its zero piece here = let same : more ≡ piece = cc in subst Its same its
+all_in_place Its (first ∷ rest) zero more all its (suc n) piece here = all (suc n) piece here
+all_in_place Its (first ∷ rest) (suc at) more all its zero piece here = all 0 piece here
+all_in_place Its (first ∷ rest) (suc at) more all its (suc n) piece here = all_in_place Its rest at more (λ m. all (suc m)) its n piece here
+
+-- lines with one behind them are some
+some_lines : (front its : List Line) (line : Line) → its ≡ front ++ line ∷ [] → its ≢ []
+some_lines [] its line same none = let both : [] ≡ line ∷ [] = sym none ∙ same in cc
+some_lines (first ∷ rest) its line same none = let both : [] ≡ first ∷ (rest ++ line ∷ []) = sym none ∙ same in cc
+
+abbrev HasLine : Piece → Type 0
+HasLine piece = lines_of piece ≢ []
 
 -- behind pieces one of this line alone
 pub piece_more : (interleaved : Bool) (lines : List Line) (line : Line) (pieces : List Piece) (more : Piece) → ArePieces interleaved lines pieces → lines_of more ≡ line ∷ [] → (interleaved ≡ true → is_group more ≡ true → EndsApart pieces)
@@ -57,7 +73,8 @@ pub piece_more : (interleaved : Bool) (lines : List Line) (line : Line) (pieces 
 piece_more interleaved lines line pieces more are its ends alone = record {
   joined = flat_map-append lines_of pieces (more ∷ []) ∙ ap (λ (front : List Line). front ++ (lines_of more ++ [])) are.joined ∙ ap (λ (back : List Line). lines ++ back) (append-nil (lines_of more) ∙ its);
   apart = λ is. apart_more pieces more (are.apart is) (ends is);
-  alone = λ is. alone_more pieces more (are.alone is) (alone is);
+  alone = λ is. all_more IsAlone pieces more (are.alone is) (alone is);
+  filled = all_more HasLine pieces more are.filled (some_lines [] (lines_of more) line its);
 }
 
 alone_mark : (piece : Piece) → is_group piece ≡ false → IsAlone piece
@@ -116,6 +133,7 @@ call_joined interleaved lines line pieces at last joined together are here past 
   joined = joined_in_place pieces at last joined line here past its ∙ ap (λ (front : List Line). front ++ line ∷ []) are.joined;
   apart = λ is. apart_in_place pieces at last joined here (group ∙ sym joined_group) (are.apart is);
   alone = λ is. absurd (not_both interleaved together is);
+  filled = all_in_place HasLine pieces at joined are.filled (some_lines (lines_of last) (lines_of joined) line its);
 }
 
 -- nothing ends with a group

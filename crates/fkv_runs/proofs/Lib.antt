@@ -1,6 +1,9 @@
+mod Breaking
 pub mod Joining
 mod Legs
 mod Recovery
 mod Replays
 mod Reported
+pub mod Shown
+pub mod Told
 pub mod Turning

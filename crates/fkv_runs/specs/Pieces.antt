@@ -38,15 +38,10 @@ abbrev pub IsAlone : Piece → Type 0
 IsAlone (Group calls) = length calls.items ≡ 1
 IsAlone other = Unit {0}
 
--- a group has a call
-abbrev pub IsFilled : Piece → Type 0
-IsFilled (Group calls) = calls.items ≢ []
-IsFilled other = Unit {0}
-
 -- The pieces of these lines: a line that is no call is one of its own. Where calls are interleaved, all that stand together are one piece: no two groups
--- are neighbours. Where they are not, each is one of its own. No group is empty.
+-- are neighbours. Where they are not, each is one of its own. Each piece has a line.
 pub record ArePieces (interleaved : Bool) (lines : List Line) (pieces : List Piece) : Type 0 where
   pub joined : flat_map lines_of pieces ≡ lines
   pub apart : interleaved ≡ true → (at : ℕ) (piece next : Piece) → slice_get pieces at ≡ Some piece → slice_get pieces (suc at) ≡ Some next → is_group piece ≡ true → is_group next ≡ false
   pub alone : interleaved ≡ false → (at : ℕ) (piece : Piece) → slice_get pieces at ≡ Some piece → IsAlone piece
-  pub filled : (at : ℕ) (piece : Piece) → slice_get pieces at ≡ Some piece → IsFilled piece
+  pub filled : (at : ℕ) (piece : Piece) → slice_get pieces at ≡ Some piece → lines_of piece ≢ []

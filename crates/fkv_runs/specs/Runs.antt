@@ -1,7 +1,7 @@
 -- A run of a store in memory: its lives, piece by piece.
 use Rattle.std.specs.Prelude.{◌≡◌, ◌≤◌, ◌-◌, ◌&&◌, ◌⊎◌, ℕ, Bool, true, false, List, [], ◌++◌, length, take, Option, Some, None}
 use Rattle.fkv_playing.specs.Finishes.{IsFinish}
-use Rattle.fkv_playing.specs.Groups.{GroupState, IsGroup}
+use Rattle.fkv_playing.specs.Groups.{IsGroup}
 use Rattle.fkv_playing.specs.InTurn.{InTurn}
 use Rattle.fkv_playing.specs.Players.{PlayerState, waits_for_crash}
 use Rattle.fkv_playing.specs.Queues.{AreQueuesOf, QueueState}

@@ -86,13 +86,21 @@ impl<D: Crashes> Run<D> {
         if !is_due(self.player.waits()) {
             return Ok(status_of(self.agrees));
         }
+        let Some(run) = self.tell_crash(output)? else {
+            return Ok(3);
+        };
+        Ok(status_of(run.agrees))
+    }
+
+    /// Takes a crash, and then writes what is printed of it. None where its image was refused.
+    fn tell_crash<W: Write>(self, output: &mut W) -> io::Result<Option<Run<D>>>
+        ensures whole { IfOk result (λ next. (KeepsSettings self.settings next) × Writes (IsCrashed (medium_of D.honest D.seen D.may_leave D.failed D.refuses D.broken D.image D.armed) self.settings self.state (state_behind self.state next) (is_none next)) (W.contents output.old) (W.contents output.new)) }
+        ensures part { OnErr result (BreaksOff (λ text. (over : Bool) × (after : RunState D) × IsCrashed (medium_of D.honest D.seen D.may_leave D.failed D.refuses D.broken D.image D.armed) self.settings self.state after over text) (W.contents output.old) (W.contents output.new)) }
+    {
         let mut said = Vec::new(self.alloc);
         let next = self.crash(&mut said)?;
         write_text(output, said.as_slice())?;
-        match next {
-            Some(run) => Ok(status_of(run.agrees)),
-            None => Ok(3),
-        }
+        Ok(next)
     }
 
     /// Plays one piece, and then writes what it says. None where the run was refused.

@@ -10,14 +10,14 @@ pub fn write_text<W: Write>(output: &mut W, text: &[u8]) -> io::Result<()>
     ensures whole { OnOk result (Appends (W.contents output.old) (W.contents output.new) text.now) }
     ensures part { OnErr result (BreaksOff (λ its. its ≡ text.now) (W.contents output.old) (W.contents output.new)) }
 {
-    let mut rest = text;
+    let mut at = 0;
     for _ in 0..u64::MAX {
-        if rest.is_empty() {
+        if at >= text.len() {
             return Ok(());
         }
-        match output.write(rest) {
+        match output.write(&text[at..]) {
             Ok(0) => return Err(io::ErrorKind::WriteZero.into()),
-            Ok(count) => rest = &rest[count..],
+            Ok(count) => at += count,
             Err(error) if error.kind() == io::ErrorKind::Interrupted => {}
             Err(error) => return Err(error),
         }

@@ -1,0 +1,2 @@
+-- What the crates above may cite of these proofs.
+pub use Rattle.fkv_runs.proofs.Told.{appends_kept, breaks_at_once, breaks_behind, breaks_weaker, text_breaks, written_on}
