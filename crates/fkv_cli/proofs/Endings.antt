@@ -1,6 +1,6 @@
 -- How the runs of a store end.
-use Rattle.std.proofs.Common.{◌≡◌, ◌⊎◌, inl, inr, ℕ, ◌++◌, Bool, true, false, List, [], Option, refl, subst, Result, Ok, Err, IfOk}
-use Rattle.std.proofs.lemmas.Result.{IfOk-weaker}
+use Rattle.std.proofs.Common.{◌≡◌, ◌⊎◌, inl, inr, ℕ, ◌++◌, Bool, true, false, List, [], Option, refl, sym, ap, ◌∙◌, subst, append-nil, Result, Ok, Err, IfOk, OnErr}
+use Rattle.std.proofs.lemmas.Result.{IfOk-weaker, on_err_weaker}
 use Rattle.std.specs.Io.KnownBytes.{Appends}
 use Rattle.fkv_base.specs.declared.faults.Fault.{Fault}
 use Rattle.fkv_base.specs.declared.faults.Fault.TheVariants.{Memory, Device}
@@ -12,20 +12,23 @@ use Rattle.fkv_core.specs.Worlds.{WorldModel}
 use Rattle.fkv_core.specs.declared.events.Event.{Event}
 use Rattle.fkv_core.specs.declared.events.Told.{Told}
 use Rattle.fkv_creating.specs.Created.{IsNewStore}
+use Rattle.fkv_opening.specs.Opened.{IsStoreOf}
 use Rattle.fkv_opening.specs.declared.opened_store.Opened.{Opened}
 use Rattle.fkv_options.specs.declared.options.Options.{Options}
 use Rattle.fkv_playing.specs.InTurn.{Writes}
 use Rattle.fkv_playing.specs.Players.{PlayerState}
-use Rattle.fkv_runs.specs.Files.{IsRunOfLife}
+use Rattle.fkv_runs.specs.Beginnings.{BreaksOff}
+use Rattle.fkv_runs.specs.Files.{IsPartOfLife, IsRunOfLife}
 use Rattle.fkv_runs.specs.Openings.{Begins, Medium}
-use Rattle.fkv_runs.specs.Runs.{IsRun}
+use Rattle.fkv_runs.specs.Runs.{IsPartOfRun, IsRun}
 use Rattle.fkv_runs.specs.declared.pieces.Piece.{Piece}
 use Rattle.fkv_scan.specs.Quiet.{IsHindrance}
 use Rattle.fkv_texts.specs.Reports.{report_text}
 use Rattle.fkv_texts.specs.declared.reports.Opening.TheVariants as reports
 use Rattle.fkv_texts.proofs.Shown.{appends_both}
+use Rattle.fkv_runs.proofs.Shown.{breaks_at_once, breaks_behind, breaks_weaker, text_breaks}
 use Rattle.fkv_cli.proofs.Appending.{writes_weaker}
-use Rattle.fkv_cli.specs.Output.{IsRunInFile, IsRunInMemory, IsRunInNewFile, Refuses, settings_of}
+use Rattle.fkv_cli.specs.Output.{IsLifeInFile, IsRunInFile, IsRunInMemory, IsRunInNewFile, Refuses, settings_of}
 
 -- what was hindered, and not by memory, was hindered by the device
 hindered : (before now : ℕ) (fault : Fault) → IsHindrance before now fault → (fault ≡ Memory → ⊥) → fault ≡ Device
@@ -56,17 +59,50 @@ refused_old Its fault a b result h =
     (λ told. writes_weaker (Refuses fault 3 told) (λ text. Its told text ⊎ ((why : Fault) × Refuses why 3 told text)) a b (λ text said. inr (fault, said)))
     h
 
+-- such a refusal breaks off
+pub refusal_breaks : {E F : Type 0} (engine : Event → WorldModel F → WorldModel F → Option Told → Bool → Type 0) (pieces : List Piece) (fault : Fault) (a b : Option (List ℕ)) (result : Result ℕ E)
+    → OnErr result (BreaksOff (λ text. (fault ≡ Memory → ⊥) × Refuses fault 3 4 text) a b)
+    → OnErr result (BreaksOff (λ text. IsRunInFile engine pieces 4 text ⊎ ((why : Fault) × Refuses why 3 4 text)) a b)
+refusal_breaks engine pieces fault a b result h =
+    on_err_weaker result
+    (breaks_weaker (λ text. (fault ≡ Memory → ⊥) × Refuses fault 3 4 text) (λ text. IsRunInFile engine pieces 4 text ⊎ ((why : Fault) × Refuses why 3 4 text)) a b (λ text said. inr (fault, said.1)))
+    h
+
 -- the lives of a new store in memory
-pub lives_in_memory : {E M : Type 0} (medium : Medium M) (options : Options) (shape : Shape) (opened : Opened) (device : M) (pieces : List Piece) (a b : Option (List ℕ)) (result : Result ℕ E)
-    → IsNewStore shape opened
+pub lives_in_memory : {E M : Type 0} (medium : Medium M) (options : Options) (shape : Shape) (opened : Opened) (image : List ℕ) (device : M) (pieces : List Piece) (a b : Option (List ℕ)) (result : Result ℕ E)
+    → IsNewStore shape opened → IsStoreOf image opened → medium.holds image device
     → IfOk result (λ status. (player : PlayerState M) × Begins opened device [] options.check player
     × Writes (IsRun medium (settings_of options) pieces (record { player = player; agrees = true }) status) a b)
     → IfOk result (λ status. Writes (λ text. IsRunInMemory medium options shape pieces status text ⊎ Refuses Device 3 status text) a b)
-lives_in_memory medium options shape opened device pieces a b (Err error) new h = tt
-lives_in_memory medium options shape opened device pieces a b (Ok status) new h =
+lives_in_memory medium options shape opened image device pieces a b (Err error) new store reads h = tt
+lives_in_memory medium options shape opened image device pieces a b (Ok status) new store reads h =
     writes_weaker (IsRun medium (settings_of options) pieces (record { player = h.0; agrees = true }) status) (λ text. IsRunInMemory medium options shape pieces status text ⊎ Refuses Device 3 status text) a b
-    (λ text run. inl (record { opened = opened; is_new = new; device = device; player = h.0; begins = h.1; run = run }))
+    (λ text run. inl (record { opened = opened; is_new = new; image = image; store = store; device = device; reads = reads; player = h.0; begins = h.1; lives = inl run }))
     h.2
+
+-- they break off
+pub lives_break : {E M : Type 0} (medium : Medium M) (options : Options) (shape : Shape) (opened : Opened) (image : List ℕ) (device : M) (pieces : List Piece) (a b : Option (List ℕ)) (result : Result ℕ E)
+    → IsNewStore shape opened → IsStoreOf image opened → medium.holds image device
+    → OnErr result (BreaksOff (λ text. (player : PlayerState M) × Begins opened device [] options.check player
+    × IsPartOfRun medium (settings_of options) pieces (record { player = player; agrees = true }) text) a b)
+    → OnErr result (BreaksOff (λ text. IsRunInMemory medium options shape pieces 4 text ⊎ Refuses Device 3 4 text) a b)
+lives_break {E} {M} medium options shape opened image device pieces a b result new store reads h =
+    let Its : List ℕ → Type 0 = λ text. (player : PlayerState M) × Begins opened device [] options.check player
+    × IsPartOfRun medium (settings_of options) pieces (record { player = player; agrees = true }) text in
+    let Other : List ℕ → Type 0 = λ text. IsRunInMemory medium options shape pieces 4 text ⊎ Refuses Device 3 4 text in
+    on_err_weaker result
+    (breaks_weaker Its Other a b
+    (λ text part. inl (record { opened = opened; is_new = new; image = image; store = store; device = device; reads = reads; player = part.0; begins = part.1; lives = inr (refl, part.2) })))
+    h
+
+-- the life of a store in a file
+life_whole : {F : Type 0} (engine : Event → WorldModel F → WorldModel F → Option Told → Bool → Type 0) (opened : Opened) (device : F) (pieces : List Piece) (player : PlayerState F) (text : List ℕ)
+    → Begins opened device [] false player → IsRunOfLife engine pieces player text → IsLifeInFile engine opened pieces 0 text
+life_whole engine opened device pieces player text begins run = record { device = device; player = player; begins = begins; played = inl (refl, run) }
+
+life_part : {F : Type 0} (engine : Event → WorldModel F → WorldModel F → Option Told → Bool → Type 0) (opened : Opened) (device : F) (pieces : List Piece) (text : List ℕ)
+    → (player : PlayerState F) × Begins opened device [] false player × IsPartOfLife engine pieces player text → IsLifeInFile engine opened pieces 4 text
+life_part engine opened device pieces text part = record { device = device; player = part.0; begins = part.1; played = inr (refl, part.2) }
 
 -- the life of a new store in a file
 pub life_in_new_file : {F : Type 0} (engine : Event → WorldModel F → WorldModel F → Option Told → Bool → Type 0) (shape : Shape) (opened : Opened) (device : F) (pieces : List Piece) (a b : Option (List ℕ))
@@ -75,21 +111,71 @@ pub life_in_new_file : {F : Type 0} (engine : Event → WorldModel F → WorldMo
     → Writes (λ text. IsRunInNewFile engine shape pieces 0 text ⊎ Refuses Device 3 0 text) a b
 life_in_new_file engine shape opened device pieces a b new h =
     writes_weaker (IsRunOfLife engine pieces h.0) (λ text. IsRunInNewFile engine shape pieces 0 text ⊎ Refuses Device 3 0 text) a b
-    (λ text run. inl (record { opened = opened; is_new = new; device = device; player = h.0; begins = h.1; run = run; answers = refl }))
+    (λ text run. inl (record { opened = opened; is_new = new; life = life_whole engine opened device pieces h.0 text h.1 run }))
     h.2
 
--- the report of the store that a file holds, and behind it its life
-pub life_in_file : {F : Type 0} (engine : Event → WorldModel F → WorldModel F → Option Told → Bool → Type 0) (opened : Opened) (pairs listed : List (Key × Value)) (points : List Serial) (device : F) (pieces : List Piece) (a b c : Option (List ℕ))
-    → points ≡ opened.points.items → listed ≡ pairs → Appends a b (report_text reports.Open opened.number points listed)
+-- it breaks off
+pub life_breaks_in_new_file : {F : Type 0} (engine : Event → WorldModel F → WorldModel F → Option Told → Bool → Type 0) (shape : Shape) (opened : Opened) (device : F) (pieces : List Piece) (a b : Option (List ℕ))
+    → IsNewStore shape opened
+    → BreaksOff (λ text. (player : PlayerState F) × Begins opened device [] false player × IsPartOfLife engine pieces player text) a b
+    → BreaksOff (λ text. IsRunInNewFile engine shape pieces 4 text ⊎ Refuses Device 3 4 text) a b
+life_breaks_in_new_file {F} engine shape opened device pieces a b new =
+    breaks_weaker (λ text. (player : PlayerState F) × Begins opened device [] false player × IsPartOfLife engine pieces player text) (λ text. IsRunInNewFile engine shape pieces 4 text ⊎ Refuses Device 3 4 text) a b
+    (λ text part. inl (record { opened = opened; is_new = new; life = life_part engine opened device pieces text part }))
+
+-- the report of the store that a file holds, as what was called says it
+report_written : (opened : Opened) (pairs listed : List (Key × Value)) (points : List Serial) (said : List ℕ) (a b : Option (List ℕ))
+    → points ≡ opened.points.items → listed ≡ pairs → said ≡ report_text reports.Open opened.number points listed → Appends a b said
+    → Appends a b (report_text reports.Open opened.number opened.points.items pairs)
+report_written opened pairs listed points said a b same_points same_pairs told h =
+    subst (λ (its : List (Key × Value)). Appends a b (report_text reports.Open opened.number opened.points.items its)) same_pairs
+    (subst (λ (its : List Serial). Appends a b (report_text reports.Open opened.number its listed)) same_points
+    (subst (λ (its : List ℕ). Appends a b its) told h))
+
+-- nothing is written yet
+pub file_unsaid : {F : Type 0} (engine : Event → WorldModel F → WorldModel F → Option Told → Bool → Type 0) (pieces : List Piece) (a : Option (List ℕ))
+    → BreaksOff (λ text. IsRunInFile engine pieces 4 text ⊎ ((fault : Fault) × Refuses fault 3 4 text)) a a
+file_unsaid engine pieces = breaks_at_once (λ text. IsRunInFile engine pieces 4 text ⊎ ((fault : Fault) × Refuses fault 3 4 text))
+
+-- behind the report its life
+pub life_in_file : {F : Type 0} (engine : Event → WorldModel F → WorldModel F → Option Told → Bool → Type 0) (opened : Opened) (pairs listed : List (Key × Value)) (points : List Serial) (report : List ℕ) (device : F) (pieces : List Piece)
+    (a b c : Option (List ℕ)) → points ≡ opened.points.items → listed ≡ pairs → report ≡ report_text reports.Open opened.number points listed → Appends a b report
     → (player : PlayerState F) × Begins opened device [] false player × Writes (IsRunOfLife engine pieces player) b c
     → Writes (λ text. IsRunInFile engine pieces 0 text ⊎ ((fault : Fault) × Refuses fault 3 0 text)) a c
-life_in_file engine opened pairs listed points device pieces a b c same_points same_pairs reported h =
+life_in_file engine opened pairs listed points report device pieces a b c same_points same_pairs told reported h =
     let said : List ℕ = h.2.0 in
-    let report : List ℕ = report_text reports.Open opened.number opened.points.items pairs in
-    let written : Appends a b report =
-    subst (λ (its : List (Key × Value)). Appends a b (report_text reports.Open opened.number opened.points.items its)) same_pairs
-    (subst (λ (its : List Serial). Appends a b (report_text reports.Open opened.number its listed)) same_points reported) in (
-      report ++ said,
-      inl (record { opened = opened; pairs = pairs; device = device; player = h.0; begins = h.1; said = said; run = h.2.1; says = refl; answers = refl }),
-      appends_both a b c report said written h.2.2,
+    let its : List ℕ = report_text reports.Open opened.number opened.points.items pairs in (
+      its ++ said,
+      inl (record { opened = opened; pairs = pairs; said = said; life = inl (life_whole engine opened device pieces h.0 said h.1 h.2.1); says = refl }),
+      appends_both a b c its said (report_written opened pairs listed points report a b same_points same_pairs told reported) h.2.2,
     )
+
+-- the report, where no life begins behind it
+report_alone : {F : Type 0} (engine : Event → WorldModel F → WorldModel F → Option Told → Bool → Type 0) (opened : Opened) (pairs : List (Key × Value)) (pieces : List Piece)
+    → IsRunInFile engine pieces 4 (report_text reports.Open opened.number opened.points.items pairs)
+report_alone engine opened pairs pieces =
+    record { opened = opened; pairs = pairs; said = []; life = inr (refl, refl); says = sym (append-nil (report_text reports.Open opened.number opened.points.items pairs)) }
+
+-- behind the report its life breaks off
+pub life_breaks_in_file : {F : Type 0} (engine : Event → WorldModel F → WorldModel F → Option Told → Bool → Type 0) (opened : Opened) (pairs listed : List (Key × Value)) (points : List Serial) (report : List ℕ) (device : F) (pieces : List Piece)
+    (a b c : Option (List ℕ)) → points ≡ opened.points.items → listed ≡ pairs → report ≡ report_text reports.Open opened.number points listed → Appends a b report
+    → BreaksOff (λ text. (player : PlayerState F) × Begins opened device [] false player × IsPartOfLife engine pieces player text) b c
+    → BreaksOff (λ text. IsRunInFile engine pieces 4 text ⊎ ((fault : Fault) × Refuses fault 3 4 text)) a c
+life_breaks_in_file {F} engine opened pairs listed points report device pieces a b c same_points same_pairs told reported =
+    let its : List ℕ = report_text reports.Open opened.number opened.points.items pairs in
+    breaks_behind (λ text. (player : PlayerState F) × Begins opened device [] false player × IsPartOfLife engine pieces player text) (λ text. IsRunInFile engine pieces 4 text ⊎ ((fault : Fault) × Refuses fault 3 4 text)) its
+    a b c
+    (report_written opened pairs listed points report a b same_points same_pairs told reported)
+    (inl (report_alone engine opened pairs pieces))
+    (λ text part. inl (record { opened = opened; pairs = pairs; said = text; life = inl (life_part engine opened device pieces text part); says = refl }))
+
+-- the report breaks off
+pub report_breaks : {F : Type 0} (engine : Event → WorldModel F → WorldModel F → Option Told → Bool → Type 0) (opened : Opened) (pairs listed : List (Key × Value)) (points : List Serial) (report : List ℕ) (pieces : List Piece) (a b : Option (List ℕ))
+    → points ≡ opened.points.items → listed ≡ pairs → report ≡ report_text reports.Open opened.number points listed → BreaksOff (λ its. its ≡ report) a b
+    → BreaksOff (λ text. IsRunInFile engine pieces 4 text ⊎ ((fault : Fault) × Refuses fault 3 4 text)) a b
+report_breaks engine opened pairs listed points report pieces a b same_points same_pairs told =
+    let its : List ℕ = report_text reports.Open opened.number opened.points.items pairs in
+    let same : its ≡ report =
+    sym (told ∙ ap (λ (p : List Serial). report_text reports.Open opened.number p listed) same_points ∙ ap (λ (p : List (Key × Value)). report_text reports.Open opened.number opened.points.items p) same_pairs) in
+    text_breaks (λ text. IsRunInFile engine pieces 4 text ⊎ ((fault : Fault) × Refuses fault 3 4 text)) report a b
+    (inl (subst (λ (text : List ℕ). IsRunInFile engine pieces 4 text) same (report_alone engine opened pairs pieces)))

@@ -1,3 +1,4 @@
 mod Appending
 mod Endings
 mod Outputs
+mod Words

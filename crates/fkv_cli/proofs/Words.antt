@@ -1,0 +1,213 @@
+-- What is written for the bytes of a script, and for the words of a run.
+use Rattle.std.proofs.Common.{◌≡◌, ◌∙◌, inl, inr, ℕ, Bool, true, false, List, length, take, Option, Some, None, refl, sym, ap, subst, arith, Result, Ok, Err, IfSome, is_some, string_bytes}
+use Rattle.std.proofs.lemmas.List.{take_all}
+use Rattle.std.specs.Io.KnownBytes.{Appends, Keeps}
+use Rattle.fkv_base.specs.declared.faults.Fault.{Fault}
+use Rattle.fkv_base.specs.declared.faults.Fault.TheVariants.{Script}
+use Rattle.fkv_base.specs.declared.faults.ScriptFault.{ScriptFault}
+use Rattle.fkv_base.specs.declared.shapes.Shape.{Shape}
+use Rattle.fkv_core.specs.Worlds.{WorldModel}
+use Rattle.fkv_core.specs.declared.events.Event.{Event}
+use Rattle.fkv_core.specs.declared.events.Told.{Told}
+use Rattle.fkv_lines.specs.Reading.{TellsFault}
+use Rattle.fkv_lines.specs.Script.{LineFault, ScriptText, script_of}
+use Rattle.fkv_lines.specs.declared.scripts.Line.{Line}
+use Rattle.fkv_lines.specs.declared.scripts.Mode.{Mode}
+use Rattle.fkv_lines.specs.declared.scripts.Opening as openings
+use Rattle.fkv_lines.specs.declared.scripts.Opening.TheVariants as opening
+use Rattle.fkv_opening.specs.declared.opened_store.Opened.{Opened}
+use Rattle.fkv_options.specs.Options.{AreMatchesOf, TellsMatches}
+use Rattle.fkv_options.specs.declared.endings.RunFault.{RunFault}
+use Rattle.fkv_options.specs.declared.options.Options.{Options}
+use Rattle.fkv_playing.specs.InTurn.{Writes}
+use Rattle.fkv_playing.specs.Players.{PlayerState}
+use Rattle.fkv_runs.specs.Beginnings.{BreaksOff}
+use Rattle.fkv_runs.specs.Files.{IsRunOfLife}
+use Rattle.fkv_runs.specs.Openings.{Medium}
+use Rattle.fkv_runs.specs.Runs.{RunState}
+use Rattle.fkv_runs.specs.declared.settings.Settings.{Settings}
+use Rattle.fkv_runs.specs.declared.pieces.Piece.{Piece}
+use Rattle.fkv_runs.proofs.Shown.{breaks_weaker, text_breaks}
+use Rattle.fkv_cli.proofs.Appending.{writes_broken, writes_kept, writes_weaker}
+use Rattle.fkv_cli.specs.Output.{Devices, IsLifeInFile, IsOutputOf, IsPlayed, AreLives, IsRunInFile, IsRunInMemory, IsRunInNewFile, IsRunOfOldStore, IsRunOfScript, IsRunOfShape, IsRunOfStore, IsRunOfText, Refuses, line_fault_text, mode_of, script_limit, settings_of}
+
+-- the first faulty line of a script breaks off
+pub fault_breaks : {M F : Type 0} (devices : Devices M F) (options : Options) (read : Mode) (bytes : List ℕ) (fault : Fault) (line : ℕ) (kind : ScriptFault) (a b : Option (List ℕ))
+    → read ≡ mode_of (is_some options.file) → fault ≡ Script line kind → TellsFault (script_of read bytes) fault
+    → BreaksOff (λ text. text ≡ line_fault_text (record { line = line; kind = kind })) a b
+    → BreaksOff (IsRunOfText devices options (script_of (mode_of (is_some options.file)) bytes) 4) a b
+fault_breaks devices options read bytes fault line kind a b e f told =
+    let said : script_of read bytes ≡ Err (record { line = line; kind = kind }) = subst (TellsFault (script_of read bytes)) f told in
+    let wanted : Err (record { line = line; kind = kind }) ≡ script_of (mode_of (is_some options.file)) bytes = sym said ∙ ap (λ (m : Mode). script_of m bytes) e in
+    let text : List ℕ = line_fault_text (record { line = line; kind = kind }) in
+    text_breaks (IsRunOfText devices options (script_of (mode_of (is_some options.file)) bytes) 4) text a b
+    (subst (λ (read : Result ScriptText LineFault). IsRunOfText devices options read 4 text) wanted (inr refl, refl))
+
+-- ---- status 4, where all is written
+
+refuses_at_4 : (fault : Fault) (wanted status : ℕ) (text : List ℕ) → Refuses fault wanted status text → Refuses fault wanted 4 text
+refuses_at_4 fault wanted status text h = (inr refl, h.1)
+
+lives_at_4 : {M : Type 0} (medium : Medium M) (settings : Settings) (pieces : List Piece) (before : RunState M) (status : ℕ) (text : List ℕ) → AreLives medium settings pieces before status text → AreLives medium settings pieces before 4 text
+lives_at_4 medium settings pieces before status text (inl whole) = inr (refl, inr (status, whole))
+lives_at_4 medium settings pieces before status text (inr part) = inr (refl, part.1)
+
+memory_at_4 : {M F : Type 0} (devices : Devices M F) (options : Options) (shape : Shape) (pieces : List Piece) (status : ℕ) (text : List ℕ)
+    → IsRunInMemory devices.memory options shape pieces status text → IsRunInMemory devices.memory options shape pieces 4 text
+memory_at_4 devices options shape pieces status text run =
+    record {
+      opened = run.opened;
+      is_new = run.is_new;
+      image = run.image;
+      store = run.store;
+      device = run.device;
+      reads = run.reads;
+      player = run.player;
+      begins = run.begins;
+      lives = lives_at_4 devices.memory (settings_of options) pieces (record { player = run.player; agrees = true }) status text run.lives;
+    }
+
+-- all pieces are as many as there are
+all_played : {F : Type 0} (engine : Event → WorldModel F → WorldModel F → Option Told → Bool → Type 0) (pieces : List Piece) (player : PlayerState F) (status : ℕ) (text : List ℕ) → IsPlayed engine pieces player status text → IsPlayed engine pieces player 4 text
+all_played engine pieces player status text (inl whole) =
+    inr (refl, (length pieces, subst (λ (its : List Piece). IsRunOfLife engine its player text) (sym (take_all (length pieces) pieces (omega arith))) whole.1))
+all_played engine pieces player status text (inr part) = inr (refl, part.1)
+
+life_at_4 : {F : Type 0} (engine : Event → WorldModel F → WorldModel F → Option Told → Bool → Type 0) (opened : Opened) (pieces : List Piece) (status : ℕ) (text : List ℕ) → IsLifeInFile engine opened pieces status text → IsLifeInFile engine opened pieces 4 text
+life_at_4 engine opened pieces status text life = record { device = life.device; player = life.player; begins = life.begins; played = all_played engine pieces life.player status text life.played }
+
+new_file_at_4 : {F : Type 0} (engine : Event → WorldModel F → WorldModel F → Option Told → Bool → Type 0) (shape : Shape) (pieces : List Piece) (status : ℕ) (text : List ℕ) → IsRunInNewFile engine shape pieces status text → IsRunInNewFile engine shape pieces 4 text
+new_file_at_4 engine shape pieces status text run = record { opened = run.opened; is_new = run.is_new; life = life_at_4 engine run.opened pieces status text run.life }
+
+file_at_4 : {F : Type 0} (engine : Event → WorldModel F → WorldModel F → Option Told → Bool → Type 0) (pieces : List Piece) (status : ℕ) (text : List ℕ) → IsRunInFile engine pieces status text → IsRunInFile engine pieces 4 text
+file_at_4 engine pieces status text run = elim run.life [
+  | inl life ↦ record { opened = run.opened; pairs = run.pairs; said = run.said; life = inl (life_at_4 engine run.opened pieces status run.said life); says = run.says }
+  | inr none ↦ record { opened = run.opened; pairs = run.pairs; said = run.said; life = inr (refl, none.1); says = run.says }
+]
+
+old_at_4 : {F : Type 0} (engine : Event → WorldModel F → WorldModel F → Option Told → Bool → Type 0) (pieces : List Piece) (status : ℕ) (text : List ℕ) (in_file : Bool) → IsRunOfOldStore engine pieces status text in_file → IsRunOfOldStore engine pieces 4 text in_file
+old_at_4 engine pieces status text false h = (inr refl, h.1)
+old_at_4 engine pieces status text true (inl run) = inl (file_at_4 engine pieces status text run)
+old_at_4 engine pieces status text true (inr (fault, refusal)) = inr (fault, refuses_at_4 fault 3 status text refusal)
+
+store_at_4 : {M F : Type 0} (devices : Devices M F) (options : Options) (shape : Option Shape) (pieces : List Piece) (status : ℕ) (text : List ℕ) (in_file : Bool)
+    → IsRunOfStore devices options shape pieces status text in_file → IsRunOfStore devices options shape pieces 4 text in_file
+store_at_4 devices options None pieces status text in_file h = old_at_4 devices.file pieces status text in_file h
+store_at_4 devices options (Some shape) pieces status text false (inl run) = inl (memory_at_4 devices options shape pieces status text run)
+store_at_4 devices options (Some shape) pieces status text false (inr refusal) = inr (inr refl, refusal.1)
+store_at_4 devices options (Some shape) pieces status text true (inl run) = inl (new_file_at_4 devices.file shape pieces status text run)
+store_at_4 devices options (Some shape) pieces status text true (inr refusal) = inr (inr refl, refusal.1)
+
+shape_at_4 : {M F : Type 0} (devices : Devices M F) (options : Options) (first : openings.Opening) (pieces : List Piece) (status : ℕ) (text : List ℕ)
+    → IsRunOfShape devices options first pieces status text → IsRunOfShape devices options first pieces 4 text
+shape_at_4 devices options opening.Open pieces status text h = store_at_4 devices options None pieces status text (is_some options.file) h
+shape_at_4 devices options (opening.Shape sizes) pieces status text (inl (shape, has, run)) = inl (shape, has, store_at_4 devices options (Some shape) pieces status text (is_some options.file) run)
+shape_at_4 devices options (opening.Shape sizes) pieces status text (inr (none, refusal)) = inr (none, (inr refl, refusal.1))
+
+script_at_4 : {M F : Type 0} (devices : Devices M F) (options : Options) (said : Option openings.Opening) (lines : List Line) (status : ℕ) (text : List ℕ)
+    → IsRunOfScript devices options said lines status text → IsRunOfScript devices options said lines 4 text
+script_at_4 devices options None lines status text h = (inr refl, h.1)
+script_at_4 devices options (Some first) lines status text (pieces, are, run) = (pieces, are, shape_at_4 devices options first pieces status text run)
+
+text_at_4 : {M F : Type 0} (devices : Devices M F) (options : Options) (read : Result ScriptText LineFault) (status : ℕ) (text : List ℕ)
+    → IsRunOfText devices options read status text → IsRunOfText devices options read 4 text
+text_at_4 devices options (Ok script) status text h = script_at_4 devices options script.opening script.lines status text h
+text_at_4 devices options (Err fault) status text h = (inr refl, h.1)
+
+-- ---- words and bytes
+
+-- what is written of a script's bytes is written of the words and the script, where it is known
+known_text : {M F : Type 0} (devices : Devices M F) (options : Options) (known : Option (List ℕ)) (items : List ℕ) (status : ℕ) (text : List ℕ)
+    → IfSome known (λ script. items ≡ take script_limit script)
+    → IsRunOfText devices options (script_of (mode_of (is_some options.file)) items) status text
+    → IfSome known (λ bytes. IsRunOfText devices options (script_of (mode_of (is_some options.file)) (take script_limit bytes)) status text)
+known_text devices options None items status text taken run = tt
+known_text devices options (Some script) items status text taken run =
+    subst (λ (front : List ℕ). IsRunOfText devices options (script_of (mode_of (is_some options.file)) front) status text) taken run
+
+known_run : {M F : Type 0} (devices : Devices M F) (words : List (List ℕ)) (options : Options) (known : Option (List ℕ)) (bytes items : List ℕ) (status : ℕ) (text : List ℕ)
+    → AreMatchesOf words options → bytes ≡ items → IfSome known (λ script. items ≡ take script_limit script)
+    → IsRunOfText devices options (script_of (mode_of (is_some options.file)) bytes) status text → IsOutputOf devices words known status text
+known_run devices words options known bytes items status text asked same taken run =
+    inr (record {
+      options = options;
+      asked = asked;
+      run = known_text devices options known items status text taken
+          (subst (λ (its : List ℕ). IsRunOfText devices options (script_of (mode_of (is_some options.file)) its) status text) same run);
+    })
+
+-- Words that are accepted: what is written of them, and a flush behind it keeps all of it.
+pub runs_words : {M F W : Type 0} (devices : Devices M F) (words : List (List ℕ)) (options : Options) (known : Option (List ℕ)) (bytes items : List ℕ) (status said : ℕ) (contents : W → Option (List ℕ)) (a : Option (List ℕ))
+    (between output after : W) → AreMatchesOf words options → bytes ≡ items → IfSome known (λ script. items ≡ take script_limit script)
+    → Writes (IsRunOfText devices options (script_of (mode_of (is_some options.file)) bytes) said) a (contents output) → status ≡ said → between ≡ output → Keeps (contents between) (contents after)
+    → Writes (IsOutputOf devices words known status) a (contents after)
+runs_words {M} {F} {W} devices words options known bytes items status said contents a between output after asked same taken h same_status same_output kept =
+    subst (λ (n : ℕ). Writes (IsOutputOf devices words known n) a (contents after)) (sym same_status)
+    (writes_kept (IsOutputOf devices words known said) a (contents output) (contents after)
+    (writes_weaker (IsRunOfText devices options (script_of (mode_of (is_some options.file)) bytes) said) (IsOutputOf devices words known said) a (contents output)
+    (λ text. known_run devices words options known bytes items said text asked same taken)
+    h)
+    (subst (λ (o : W). Keeps (contents o) (contents after)) same_output kept))
+
+-- all is written, and then the flush fails
+pub words_flushed : {M F W : Type 0} (devices : Devices M F) (words : List (List ℕ)) (options : Options) (known : Option (List ℕ)) (bytes items : List ℕ) (said : ℕ) (contents : W → Option (List ℕ)) (a : Option (List ℕ))
+    (between output after : W) → AreMatchesOf words options → bytes ≡ items → IfSome known (λ script. items ≡ take script_limit script)
+    → Writes (IsRunOfText devices options (script_of (mode_of (is_some options.file)) bytes) said) a (contents output) → between ≡ output → Keeps (contents between) (contents after)
+    → BreaksOff (IsOutputOf devices words known 4) a (contents after)
+words_flushed {M} {F} {W} devices words options known bytes items said contents a between output after asked same taken h same_output kept =
+    writes_broken (IsOutputOf devices words known 4) a (contents after)
+    (writes_kept (IsOutputOf devices words known 4) a (contents output) (contents after)
+    (writes_weaker (IsRunOfText devices options (script_of (mode_of (is_some options.file)) bytes) said) (IsOutputOf devices words known 4) a (contents output)
+    (λ text run. known_run devices words options known bytes items 4 text asked same taken (text_at_4 devices options (script_of (mode_of (is_some options.file)) bytes) said text run))
+    h)
+    (subst (λ (o : W). Keeps (contents o) (contents after)) same_output kept))
+
+-- it breaks off
+pub words_break : {M F : Type 0} (devices : Devices M F) (words : List (List ℕ)) (options : Options) (known : Option (List ℕ)) (bytes items : List ℕ) (a b : Option (List ℕ))
+    → AreMatchesOf words options → bytes ≡ items → IfSome known (λ script. items ≡ take script_limit script)
+    → BreaksOff (IsRunOfText devices options (script_of (mode_of (is_some options.file)) bytes) 4) a b → BreaksOff (IsOutputOf devices words known 4) a b
+words_break devices words options known bytes items a b asked same taken =
+    breaks_weaker (IsRunOfText devices options (script_of (mode_of (is_some options.file)) bytes) 4) (IsOutputOf devices words known 4) a b
+    (λ text. known_run devices words options known bytes items 4 text asked same taken)
+
+-- words that are refused
+refused_text : {M F : Type 0} (devices : Devices M F) (words : List (List ℕ)) (fault : RunFault) (known : Option (List ℕ)) (text : List ℕ)
+    → TellsMatches words (Err fault) → (fault.status ≡ 4 → ⊥) → text ≡ string_bytes fault.text → IsOutputOf devices words known fault.status text
+refused_text devices words fault known text (inl want) other says = absurd (other want.0)
+refused_text devices words fault known text (inr (refused, line)) other says = inl (record { refused = refused; answers = inl line.0; says = says ∙ line.1 })
+
+refused_at_4 : {M F : Type 0} (devices : Devices M F) (words : List (List ℕ)) (fault : RunFault) (known : Option (List ℕ)) (text : List ℕ)
+    → TellsMatches words (Err fault) → (fault.status ≡ 4 → ⊥) → text ≡ string_bytes fault.text → IsOutputOf devices words known 4 text
+refused_at_4 devices words fault known text (inl want) other says = absurd (other want.0)
+refused_at_4 devices words fault known text (inr (refused, line)) other says = inl (record { refused = refused; answers = inr refl; says = says ∙ line.1 })
+
+pub refuses_words : {M F W : Type 0} (devices : Devices M F) (words : List (List ℕ)) (fault : RunFault) (known : Option (List ℕ)) (status said : ℕ) (contents : W → Option (List ℕ)) (a : Option (List ℕ)) (between output after : W)
+    → TellsMatches words (Err fault) → said ≡ fault.status → (fault.status ≡ 4 → ⊥) → Appends a (contents output) (string_bytes fault.text) → status ≡ said → between ≡ output
+    → Keeps (contents between) (contents after) → Writes (IsOutputOf devices words known status) a (contents after)
+refuses_words {M} {F} {W} devices words fault known status said contents a between output after told same other h same_status same_output kept =
+    subst (λ (n : ℕ). Writes (IsOutputOf devices words known n) a (contents after)) (sym (same_status ∙ same))
+    (writes_kept (IsOutputOf devices words known fault.status) a (contents output) (contents after)
+    (string_bytes fault.text, refused_text devices words fault known (string_bytes fault.text) told other refl, h)
+    (subst (λ (o : W). Keeps (contents o) (contents after)) same_output kept))
+
+-- the line is written, and then the flush fails
+pub refusal_flushed : {M F W : Type 0} (devices : Devices M F) (words : List (List ℕ)) (fault : RunFault) (known : Option (List ℕ)) (contents : W → Option (List ℕ)) (a : Option (List ℕ)) (between output after : W)
+    → TellsMatches words (Err fault) → (fault.status ≡ 4 → ⊥) → Appends a (contents output) (string_bytes fault.text) → between ≡ output
+    → Keeps (contents between) (contents after) → BreaksOff (IsOutputOf devices words known 4) a (contents after)
+refusal_flushed {M} {F} {W} devices words fault known contents a between output after told other h same_output kept =
+    writes_broken (IsOutputOf devices words known 4) a (contents after)
+    (writes_kept (IsOutputOf devices words known 4) a (contents output) (contents after)
+    (string_bytes fault.text, refused_at_4 devices words fault known (string_bytes fault.text) told other refl, h)
+    (subst (λ (o : W). Keeps (contents o) (contents after)) same_output kept))
+
+-- the line breaks off
+pub refusal_breaks : {M F : Type 0} (devices : Devices M F) (words : List (List ℕ)) (fault : RunFault) (known : Option (List ℕ)) (a b : Option (List ℕ)) → TellsMatches words (Err fault)
+    → BreaksOff (λ text. (fault.status ≡ 4 → ⊥) × (text ≡ string_bytes fault.text)) a b → BreaksOff (IsOutputOf devices words known 4) a b
+refusal_breaks devices words fault known a b told =
+    breaks_weaker (λ text. (fault.status ≡ 4 → ⊥) × (text ≡ string_bytes fault.text)) (IsOutputOf devices words known 4) a b
+    (λ text h. refused_at_4 devices words fault known text told h.0 h.1)
+
+-- a run that comes to status 4 by itself
+pub ends_at_4 : {M F : Type 0} (devices : Devices M F) (words : List (List ℕ)) (known : Option (List ℕ)) (status : ℕ) (a b : Option (List ℕ)) → Writes (IsOutputOf devices words known status) a b → status ≡ 4
+    → BreaksOff (IsOutputOf devices words known 4) a b
+ends_at_4 devices words known status a b h e = writes_broken (IsOutputOf devices words known 4) a b (subst (λ (n : ℕ). Writes (IsOutputOf devices words known n) a b) e h)
