@@ -78,8 +78,9 @@ AGREES = ["check recovered equals replay"]
 
 
 def calls_of(number, kind, has_records):
-    """The device calls of a commit in a life without a crash. Each write is synced before the next is made. A gate is shut where it
-    stands open: that of commit 1 has never been opened, each other one is that of an older commit."""
+    """The device calls of a commit in a life without a crash. Each write is synced before the next is made, and the copy is synced
+    also where there is none. The gate of the slot is shut where it stands open: commit 1 has a slot that has never been opened, each
+    other one that of an older commit."""
     calls = ["records", "sync"] if has_records else []
     calls += ["copy of the index"] if has_records and kind == "commit" else []
     calls += ["sync"]
@@ -90,9 +91,9 @@ def calls_of(number, kind, has_records):
 def is_kept(calls, call, torn):
     """Whether the commit stands where the device fails at this call and is crashed.
 
-    Until the gate is written its slot is closed or holds an older commit, and nothing that the commit before it needs is written
-    over, so that one stands, whatever the torn bytes hold. While the write of the gate isn't synced the gate is a torn byte: it is
-    open where that is the byte of an open gate. Behind its sync nothing is left to be torn."""
+    Until the gate is written its slot is closed, or open with an older commit, and nothing that the newest commit needs is written
+    over: so that one stands, whatever the torn bytes hold. As long as the write of the gate isn't synced the gate is a torn byte, and
+    open where torn bytes hold what opens a gate; all else of the commit is synced by then. Behind the last sync nothing can be torn."""
     return call > len(calls) or (call > calls.index("gate is opened") and torn == OPEN)
 
 
@@ -105,19 +106,19 @@ def swept(history, kind, call, torn, way):
     """A commit behind others of these kinds, each of one update. The device fails at the call of this number: by `crash J`, or by
     `fail J` and a crash behind it, with one more commit in the next life."""
     script, answers = [ONE], []
-    number, pairs = len(history) + 1, {1: number_of_update(len(history))} if history else {}
+    number = len(history) + 1
     for n, earlier in enumerate(history, 1):
-        script += [f"0 up 1 {number_of_update(n)}", f"k {earlier}", "k finish"]
+        script += [f"0 up 1 {10 * n}", f"k {earlier}", "k finish"]
         answers += [f"0 #{n} done", f"k commit {n}", f"k finished {n} points {n}"]
     calls = calls_of(number, kind, True)
-    script += [f"0 up 1 {number_of_update(number)}", f"{way} {call}", f"k {kind}", "k finish"]
+    script += [f"0 up 1 {10 * number}", f"{way} {call}", f"k {kind}", "k finish"]
     answers += [f"0 #{number} done", f"k commit {number}"]
     if call > len(calls):
         answers += [f"k finished {number} points {number}"]
     elif way == "fail":
         answers += ["k refused 14 Device"]
     stands = number if is_kept(calls, call, torn) else number - 1
-    pairs = {1: number_of_update(stands)} if stands else {}
+    pairs = {1: 10 * stands} if stands else {}
     answers += report(stands, stands, pairs)
     if way == "fail":
         script += ["crash", "0 up 2 7", f"k {kind}", "k finish", "crash"]
@@ -125,11 +126,6 @@ def swept(history, kind, call, torn, way):
         answers += report(stands + 1, stands + 1, {**pairs, 2: 7})
     name = f"a {kind} behind {len(history)}, {way} {call}, torn bytes of {torn}"
     return Row(name, whole(script), whole(answers), words=("--check", "--torn", str(torn)))
-
-
-def number_of_update(commit):
-    """What the update of this commit sets its key to."""
-    return 10 * commit
 
 
 def sweeps():
@@ -153,8 +149,8 @@ def of_nothing():
 
 
 def twenty():
-    """Twenty commits, every third of both kinds' copies the index, with an update in prepare and one behind the point, which the crash
-    behind the commit loses. The sum waits for its record on the disk, but in the first life."""
+    """Twenty commits, of which every third copies the index, each with an update in prepare, one behind the point and a crash behind
+    it. The crash loses the update behind the point. From the second life on the sum waits for its record, which is on the disk."""
     script, answers, pairs, point = [ONE], [], {}, 0
     for number in range(1, 21):
         kind = KINDS[number % 3 > 0]

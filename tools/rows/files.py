@@ -10,9 +10,12 @@ from shapes import ONE as SHAPE
 
 FILE = f"--file {STORE}"
 COMMITTED = f"{SHAPE}\n0 up 1 10 | 0 #1 done\nk commit | k commit 1\nk finish | k finished 1 points 1\n"
+# under a seed the update has ended before the commit begins
+UPDATED_FIRST = COMMITTED.replace("k commit ", "k finish | k finish nothing\nk commit ", 1)
 OPENED = "open | open commit 1 points 1 pairs 1\n     | pair 1 10\n"
 TWO_LEFT = "open | open commit 1 points 2 pairs 2\n     | pair 1 10\n     | pair 524289 20\n"
 AGAIN = "0 up 1 11 | 0 #2 done\nk commit | k commit 2\nk finish | k finished 2 points 2\n"
+NEW_FRONT = Sample((NEW,), ()).image()[:1536]  # the block and the slots, which is all that is written
 # the second commit's slot is in the newest format, the first's as it was
 SECOND_COMMIT = Commit(2, 3, 3, (2,), triples=((*HOME, 2),))
 
@@ -24,10 +27,13 @@ def after_again(form):
 
 LEFT = [
     told("a store is made in a file", COMMITTED, FILE, left=ONE.image()),
-    told("and under a seed", COMMITTED.replace("k commit ", "k finish | k finish nothing\nk commit ", 1), f"{FILE} --seed 5 --check --torn 165", left=ONE.image()),
-    told("a store without a commit", SHAPE, FILE, left=Sample((NEW,), ()).image()[:1536]),
-    told("a store is made over an older one, which is not cut", SHAPE, FILE, image=ONE.image(), left=Sample((NEW,), ()).image()[:1536] + ONE.image()[1536:]),
-    *(told(f"one more commit over format {form}", OPENED + AGAIN, FILE, image=in_form(ONE, form).image(), left=after_again(form)) for form in (1, 2, 3)),
+    told("and under a seed", UPDATED_FIRST, f"{FILE} --seed 5 --check --torn 165", left=ONE.image()),
+    told("a store without a commit", SHAPE, FILE, left=NEW_FRONT),
+    told("a store is made over an older one, which is not cut", SHAPE, FILE, image=ONE.image(), left=NEW_FRONT + ONE.image()[1536:]),
+    *(
+        told(f"one more commit over format {form}", OPENED + AGAIN, FILE, image=in_form(ONE, form).image(), left=after_again(form))
+        for form in (1, 2, 3)
+    ),
     told(
         "records of the next version stay in the file",
         f"""

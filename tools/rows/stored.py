@@ -1,7 +1,8 @@
 """The runs that are stored in runs/, and the scripts of a page.
 
 A run is a file: the program's words, the status, perhaps an image (packed by zlib, in base64) that the file `store` holds before the
-run, the script and what is written. They are random scripts of each kind, played by another model of the program:
+run, the script and what is written. The scripts are random ones, of each kind those that reach most together, and what they write was told
+by a model of the program that is none of its code:
 
     line_by_line    one script, with a check behind each crash
     lives           many short lives with commits of both kinds and torn bytes
@@ -16,7 +17,7 @@ import re
 import sys
 import zlib
 
-from rows import Row, whole
+from rows import Row
 
 HERE = pathlib.Path(__file__).resolve().parent
 PAGE = HERE.parent.parent / "docs" / "SCRIPTS.md"
@@ -24,7 +25,10 @@ RUN = re.compile(
     r"words(?P<words>[^\n]*)\nstatus (?P<status>\d)\n(== image\n(?P<image>[\w+/=\n]*))?== script\n(?P<script>.*)== output\n(?P<output>.*)",
     re.DOTALL,
 )
-EXAMPLE = re.compile(r"^```script(?P<words>[^\n]*)\n(?P<script>.*?)^```\n(?P<between>.*?)^```output\n(?P<output>.*?)^```$", re.DOTALL | re.MULTILINE)
+EXAMPLE = re.compile(
+    r"^```script(?P<words>[^\n]*)\n(?P<script>.*?)^```\n.*?^```output\n(?P<output>.*?)^```$",
+    re.DOTALL | re.MULTILINE,
+)
 
 
 def stored_run(path):
