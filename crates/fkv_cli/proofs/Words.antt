@@ -200,13 +200,6 @@ refusal_flushed {M} {F} {W} devices words fault known contents a between output 
     (string_bytes fault.text, refused_at_4 devices words fault known (string_bytes fault.text) told other refl, h)
     (subst (λ (o : W). Keeps (contents o) (contents after)) same_output kept))
 
--- the line breaks off
-pub refusal_breaks : {M F : Type 0} (devices : Devices M F) (words : List (List ℕ)) (fault : RunFault) (known : Option (List ℕ)) (a b : Option (List ℕ)) → TellsMatches words (Err fault)
-    → BreaksOff (λ text. (fault.status ≡ 4 → ⊥) × (text ≡ string_bytes fault.text)) a b → BreaksOff (IsOutputOf devices words known 4) a b
-refusal_breaks devices words fault known a b told =
-    breaks_weaker (λ text. (fault.status ≡ 4 → ⊥) × (text ≡ string_bytes fault.text)) (IsOutputOf devices words known 4) a b
-    (λ text h. refused_at_4 devices words fault known text told h.0 h.1)
-
 -- a run that comes to status 4 by itself
 pub ends_at_4 : {M F : Type 0} (devices : Devices M F) (words : List (List ℕ)) (known : Option (List ℕ)) (status : ℕ) (a b : Option (List ℕ)) → Writes (IsOutputOf devices words known status) a b → status ≡ 4
     → BreaksOff (IsOutputOf devices words known 4) a b

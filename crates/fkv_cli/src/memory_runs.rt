@@ -15,7 +15,7 @@ use fkv_runs::{Crashes, Piece, Settings, play_lives};
 use std::alloc::Global;
 use std::io::{self, Write};
 
-/// A new store over this sound device in memory, and the pieces of its script over its lives.
+/// A new store over this honest device in memory, and the pieces of its script over its lives.
 pub(crate) fn play_memory<M: Crashes, W: Write>(
     alloc: Global,
     options: &Options,
@@ -25,7 +25,7 @@ pub(crate) fn play_memory<M: Crashes, W: Write>(
     picks: &mut Picks,
     output: &mut W,
 ) -> io::Result<u8>
-    requires sound { M.honest memory }
+    requires honest { M.honest memory }
     ensures whole { IfOk result (λ status. Writes (λ text. IsRunInMemory (medium_of M.honest M.seen M.may_leave M.failed M.refuses M.broken M.image M.armed) options.now shape pieces.now status text ⊎ Refuses Device 3 status text) (W.contents output.old) (W.contents output.new)) }
     ensures part { OnErr result (BreaksOff (λ text. IsRunInMemory (medium_of M.honest M.seen M.may_leave M.failed M.refuses M.broken M.image M.armed) options.now shape pieces.now 4 text ⊎ Refuses Device 3 4 text) (W.contents output.old) (W.contents output.new)) }
 {

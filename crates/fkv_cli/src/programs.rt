@@ -52,7 +52,7 @@ fn run_words<H: Files, M: Crashes, R: Read + Drop, W: Write>(
     input: R,
     output: &mut W,
 ) -> io::Result<u8>
-    requires sound { M.honest memory }
+    requires honest { M.honest memory }
     ensures whole { IfOk result (λ status. Writes (IsOutputOf (record { memory = medium_of M.honest M.seen M.may_leave M.failed M.refuses M.broken M.image M.armed; file = EngineStep ⟦<FileDisk<H::File> as Device>⟧.honest ⟦<FileDisk<H::File> as Device>⟧.seen ⟦<FileDisk<H::File> as Device>⟧.may_leave ⟦<FileDisk<H::File> as Device>⟧.failed ⟦<FileDisk<H::File> as Device>⟧.refuses ⟦<FileDisk<H::File> as Breaks>⟧.broken }) (texts words.now) (R.remaining input) status) (W.contents output.old) (W.contents output.new)) }
     ensures part { OnErr result (BreaksOff (IsOutputOf (record { memory = medium_of M.honest M.seen M.may_leave M.failed M.refuses M.broken M.image M.armed; file = EngineStep ⟦<FileDisk<H::File> as Device>⟧.honest ⟦<FileDisk<H::File> as Device>⟧.seen ⟦<FileDisk<H::File> as Device>⟧.may_leave ⟦<FileDisk<H::File> as Device>⟧.failed ⟦<FileDisk<H::File> as Device>⟧.refuses ⟦<FileDisk<H::File> as Breaks>⟧.broken }) (texts words.now) (R.remaining input) 4) (W.contents output.old) (W.contents output.new)) }
 {
@@ -97,7 +97,7 @@ fn run_text<H: Files, M: Crashes, W: Write>(
     bytes: &[u8],
     output: &mut W,
 ) -> io::Result<u8>
-    requires sound { M.honest memory }
+    requires honest { M.honest memory }
     ensures whole { IfOk result (λ status. Writes (IsRunOfText (record { memory = medium_of M.honest M.seen M.may_leave M.failed M.refuses M.broken M.image M.armed; file = EngineStep ⟦<FileDisk<H::File> as Device>⟧.honest ⟦<FileDisk<H::File> as Device>⟧.seen ⟦<FileDisk<H::File> as Device>⟧.may_leave ⟦<FileDisk<H::File> as Device>⟧.failed ⟦<FileDisk<H::File> as Device>⟧.refuses ⟦<FileDisk<H::File> as Breaks>⟧.broken }) options.now (script_of (mode_of (is_some options.now.file)) bytes.now) status) (W.contents output.old) (W.contents output.new)) }
     ensures part { OnErr result (BreaksOff (IsRunOfText (record { memory = medium_of M.honest M.seen M.may_leave M.failed M.refuses M.broken M.image M.armed; file = EngineStep ⟦<FileDisk<H::File> as Device>⟧.honest ⟦<FileDisk<H::File> as Device>⟧.seen ⟦<FileDisk<H::File> as Device>⟧.may_leave ⟦<FileDisk<H::File> as Device>⟧.failed ⟦<FileDisk<H::File> as Device>⟧.refuses ⟦<FileDisk<H::File> as Breaks>⟧.broken }) options.now (script_of (mode_of (is_some options.now.file)) bytes.now) 4) (W.contents output.old) (W.contents output.new)) }
 {

@@ -29,7 +29,7 @@ pub(crate) fn run_script<H: Files, M: Crashes, W: Write>(
     script: &Script,
     output: &mut W,
 ) -> io::Result<u8>
-    requires sound { M.honest memory }
+    requires honest { M.honest memory }
     ensures whole { IfOk result (λ status. Writes (IsRunOfScript (record { memory = medium_of M.honest M.seen M.may_leave M.failed M.refuses M.broken M.image M.armed; file = EngineStep ⟦<FileDisk<H::File> as Device>⟧.honest ⟦<FileDisk<H::File> as Device>⟧.seen ⟦<FileDisk<H::File> as Device>⟧.may_leave ⟦<FileDisk<H::File> as Device>⟧.failed ⟦<FileDisk<H::File> as Device>⟧.refuses ⟦<FileDisk<H::File> as Breaks>⟧.broken }) options.now script.now.opening script.now.lines.items status) (W.contents output.old) (W.contents output.new)) }
     ensures part { OnErr result (BreaksOff (IsRunOfScript (record { memory = medium_of M.honest M.seen M.may_leave M.failed M.refuses M.broken M.image M.armed; file = EngineStep ⟦<FileDisk<H::File> as Device>⟧.honest ⟦<FileDisk<H::File> as Device>⟧.seen ⟦<FileDisk<H::File> as Device>⟧.may_leave ⟦<FileDisk<H::File> as Device>⟧.failed ⟦<FileDisk<H::File> as Device>⟧.refuses ⟦<FileDisk<H::File> as Breaks>⟧.broken }) options.now script.now.opening script.now.lines.items 4) (W.contents output.old) (W.contents output.new)) }
 {
@@ -56,7 +56,7 @@ fn run_new<H: Files, M: Crashes, W: Write>(
     pieces: &[Piece],
     output: &mut W,
 ) -> io::Result<u8>
-    requires sound { M.honest memory }
+    requires honest { M.honest memory }
     ensures whole { IfOk result (λ status. Writes (λ text. IsRunOfStore (record { memory = medium_of M.honest M.seen M.may_leave M.failed M.refuses M.broken M.image M.armed; file = EngineStep ⟦<FileDisk<H::File> as Device>⟧.honest ⟦<FileDisk<H::File> as Device>⟧.seen ⟦<FileDisk<H::File> as Device>⟧.may_leave ⟦<FileDisk<H::File> as Device>⟧.failed ⟦<FileDisk<H::File> as Device>⟧.refuses ⟦<FileDisk<H::File> as Breaks>⟧.broken }) options.now (Some shape) pieces.now status text (is_some options.now.file)) (W.contents output.old) (W.contents output.new)) }
     ensures part { OnErr result (BreaksOff (λ text. IsRunOfStore (record { memory = medium_of M.honest M.seen M.may_leave M.failed M.refuses M.broken M.image M.armed; file = EngineStep ⟦<FileDisk<H::File> as Device>⟧.honest ⟦<FileDisk<H::File> as Device>⟧.seen ⟦<FileDisk<H::File> as Device>⟧.may_leave ⟦<FileDisk<H::File> as Device>⟧.failed ⟦<FileDisk<H::File> as Device>⟧.refuses ⟦<FileDisk<H::File> as Breaks>⟧.broken }) options.now (Some shape) pieces.now 4 text (is_some options.now.file)) (W.contents output.old) (W.contents output.new)) }
 {

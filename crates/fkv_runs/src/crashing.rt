@@ -19,7 +19,7 @@ pub trait Crashes: Breaks + Drop {
     /// It is made to fail behind so many calls.
     ghost armed: { ℕ → Waits → PlayerState Self → PlayerState Self → Type 0 };
 
-    /// A sound device with the image of a crash here.
+    /// An honest device with the image of a crash here.
     fn crash(self, torn: u8) -> Result<Self, Fault>
         ensures honest { IfOk result (λ next. Self.honest next) }
         ensures image { IfOk result (λ next. Self.seen next ≡ image self torn) };

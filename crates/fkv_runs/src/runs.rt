@@ -64,7 +64,12 @@ pub fn play_lives<D: Crashes, W: Write>(
 
 impl<D: Crashes> Run<D> {
     /// Plays these pieces, and takes the crash that still is to come behind the last.
-    fn play<W: Write>(self, output: &mut W, pieces: &[Piece], picks: &mut Picks) -> io::Result<u8>
+    pub(crate) fn play<W: Write>(
+        self,
+        output: &mut W,
+        pieces: &[Piece],
+        picks: &mut Picks,
+    ) -> io::Result<u8>
         ensures whole { IfOk result (λ status. Writes (IsRun (medium_of D.honest D.seen D.may_leave D.failed D.refuses D.broken D.image D.armed) self.settings pieces.now self.state status) (W.contents output.old) (W.contents output.new)) }
         ensures part { OnErr result (BreaksOff (IsPartOfRun (medium_of D.honest D.seen D.may_leave D.failed D.refuses D.broken D.image D.armed) self.settings pieces.now self.state) (W.contents output.old) (W.contents output.new)) }
     {

@@ -1,12 +1,14 @@
-//! Runs that are played whole: what they print, by the worked rows.
+//! Runs that are played whole, and what they print.
+use crate::openings::begin;
 use crate::pieces::Piece;
+use crate::runs::Run;
 use crate::{Settings, pieces_of, play_life, play_lives};
-use fkv_base::{Key, Shape, Value};
+use fkv_base::{Key, Serial, Shape, Value};
 use fkv_commit::CommitKind;
 use fkv_creating::create_opened;
 use fkv_disk::{Fuse, MemDisk};
 use fkv_lines::Line;
-use fkv_map::{Call, Op};
+use fkv_map::{Call, HistoryEntry, Op, Reply};
 use fkv_playing::Picks;
 use std::alloc::Global;
 use std::io;
@@ -73,6 +75,33 @@ fn a_crash_that_does_not_strike_is_taken_at_the_end(rt: HostRuntime) -> Result<(
     let (status, output) = played(rt.alloc(), &[Line::CrashAt(9), up(0, 7, 10)], None)?;
     assert_eq!(rt; status, 0);
     let text = "0 #1 done\ncrash commit 0 points 0 0 pairs 0\ncheck recovered equals replay\n";
+    assert_eq!(rt; output.as_slice(), text.as_bytes());
+    Ok(())
+}
+
+// No life keeps an update that a point of 0 holds: a report that lacks its pair differs from the replay.
+#[test]
+fn a_report_that_differs_from_its_replay_has_status_1(rt: HostRuntime) -> Result<(), Fail> {
+    let alloc = rt.alloc();
+    let mut device = Fuse::new(MemDisk::new(alloc));
+    let opened = create_opened(alloc, &mut device, Shape::new(4, 16, 4, 2, 2, 1, 64)?)?;
+    let mut history = Vec::new(alloc);
+    history.push(HistoryEntry {
+        session: 0,
+        serial: Serial(0),
+        op: Op::Upsert(Key(7), Value(10)),
+        reply: Reply::Nothing,
+    })?;
+    let run = Run {
+        alloc,
+        player: begin(alloc, opened, device, history, true)?,
+        agrees: true,
+        settings: CHECKED,
+    };
+    let mut output = Vec::new(alloc);
+    let status = run.play(&mut output, &[Piece::Crash], &mut Picks::new(None))?;
+    assert_eq!(rt; status, 1);
+    let text = "crash commit 0 points 0 0 pairs 0\ncheck recovered differs\n";
     assert_eq!(rt; output.as_slice(), text.as_bytes());
     Ok(())
 }
