@@ -57,6 +57,18 @@ fn each_call_of_creation_fails(rt: HostRuntime) -> Result<(), Fail> {
     Ok(())
 }
 
+// The call behind the refused one would be refused too, and none is made.
+#[test]
+fn no_call_of_creation_comes_behind_a_refused_one(rt: HostRuntime) -> Result<(), Fail> {
+    for passing in 0..8 {
+        let first = Once::new(MemDisk::new(rt.alloc()), passing);
+        let mut both = Once::new(first, passing + 1);
+        assert_eq!(rt; create(&mut both, shape()?).err(), Some(Fault::Device));
+        assert_eq!(rt; both.failures(), 1, "call {passing}");
+    }
+    Ok(())
+}
+
 // What is answered after a crash in the creation of a store over these bytes, where so many calls pass.
 fn created(alloc: Global, old: &[u8], passing: u64, torn: u8) -> Result<String, Fault> {
     let mut fuse = Fuse::new(MemDisk::from_bytes(alloc, old.to_vec(alloc)?)?);
