@@ -1,6 +1,6 @@
 """Commits of both kinds, and sessions that sleep through them."""
-from rows import Row, told
-from shapes import FOUR, ONE, SMALL_TWO, TWO
+from rows import Row, told, whole
+from shapes import FOUR, ONE, SMALL, SMALL_TWO, TWO
 
 # two keys of one home, updated before a commit's point and behind it
 HOME = f"""
@@ -295,5 +295,22 @@ def interleaved():
             yield Row(row.name, row.script, AGREES, words=row.words, ends=True)
 
 
+# One turn reads one record from the device, so each round of a finish ends one of the sums that wait for theirs.
+SERVED = ["k turn", "0 refresh", "k turn", "0 poll"]
+
+
+def rounds(sums, wanted):
+    """So many sums of keys whose records have left memory, and a commit that has to wait for them."""
+    lines = [SMALL]
+    for key in range(1, 73):
+        lines += [f"0 up {key} {key}", *(SERVED if key % 4 == 0 else [])]
+    lines += [*SERVED, "0 refresh", *(f"0 add {key} 1" for key in range(1, sums + 1)), "k commit", "k finish"]
+    return Row(f"a finish with {sums} sums that wait", whole(lines), whole([wanted]), ends=True)
+
+
+# two rounds more take the commit to its end, and 64 are all that a finish makes
+ROUNDS = [rounds(62, "k finished 1 points 134"), rounds(63, "k finish not finished")]
+
+
 def commits():
-    return [*COMMITS, *LOG_COMMITS, *interleaved()]
+    return [*COMMITS, *LOG_COMMITS, *ROUNDS, *interleaved()]

@@ -4,9 +4,10 @@ import sys
 from dataclasses import replace
 
 sys.path.append(os.path.join(os.path.dirname(os.path.abspath(__file__)), "..", "openings"))
-from rows import STORE, Row, told
+from rows import STORE, Row, told, whole
 from samples import HOME, LEFT_OUT, LOGGED, NEW, ONE, SECOND, Commit, Sample, changed, in_form
 from shapes import ONE as SHAPE
+from shapes import TWO
 
 FILE = f"--file {STORE}"
 COMMITTED = f"{SHAPE}\n0 up 1 10 | 0 #1 done\nk commit | k commit 1\nk finish | k finished 1 points 1\n"
@@ -70,6 +71,22 @@ LEFT = [
     Row("a faulty line is told before a mode", f"{SHAPE}\nfail 0\n", "script line 2 Number\n", 2, tuple(FILE.split()), left=None),
     Row("a bad shape", "shape 4 6 4 2 1 0 64\n", "refused 1 BadShape\n", 2, tuple(FILE.split()), left=None),
     Row("an empty script", "", "", 0, tuple(FILE.split()), left=None),
+]
+
+# Under a seed a store in memory, one in a new file and an opened one of commit 0 are stepped alike.
+LINES = ["0 up 1 10", "1 up 2 20", "0 get 1", "1 add 2 1", "0 add 2 5", "1 get 2", "k turn", "0 get 2"]
+STEPPED = whole(["1 #1 done", "1 #2 = 21", "0 #1 done", "1 get 2 = 21", "k turn rest 1", "0 get 1 = 10", "0 #2 = 26", "0 get 2 = 26"])
+NEW_OF_TWO = Sample((Commit(0, 1, 1, (0, 0)),), ()).image()
+SEEDED = [
+    Row("a seed in memory", whole([TWO, *LINES]), STEPPED, words=("--seed", "2")),
+    Row("a seed over a new file", whole([TWO, *LINES]), STEPPED, words=(*FILE.split(), "--seed", "2")),
+    Row(
+        "a seed over an opened file",
+        whole(["open", *LINES]),
+        f"open commit 0 points 0 0 pairs 0\n{STEPPED}",
+        words=(*FILE.split(), "--seed", "2"),
+        image=NEW_OF_TWO,
+    ),
 ]
 
 # bytes of the image of one commit that are changed, in the first format and the newest
@@ -150,4 +167,4 @@ def unmade():
 
 
 def files():
-    return [*LEFT, *opened(), *unmade()]
+    return [*LEFT, *SEEDED, *opened(), *unmade()]
