@@ -10,9 +10,10 @@ use crate::recovered::{
     EVEN_SLOT, ODD_SLOT, Recovered, checkpoint, crash, crash_and_recover, is_recovered, lost,
     slot_in,
 };
-use crate::stores::{NARROW_FOR_TWO, Store, WIDE, WIDE_FOR_TWO, new_store, play};
+use crate::stores::{NARROW_FOR_TWO, Store, WIDE, WIDE_FOR_TWO, new_store, play, store_of};
 use fkv_base::Phase::{InProgress, Prepare, WaitFlush, WaitPending};
 use fkv_base::{Addr, Fault, Serial, Version};
+use fkv_disk::MemDisk;
 use fkv_opening::recover;
 use std::alloc::Global;
 use std::process::Abort;
@@ -168,16 +169,10 @@ fn a_commit_under_way_is_not_recovered(rt: HostRuntime) -> Result<(), Fail> {
     Ok(())
 }
 
-/// The number and the point that are recovered where so many calls of the device pass in a commit of one more update.
-fn kept_behind_calls(
-    rt: &impl Abort,
-    alloc: Global,
-    commits: u64,
-    passing: u64,
-    torn: u8,
-) -> Result<(Version, Option<Serial>), Fault> {
+/// A store behind so many commits of one update each.
+fn committed(rt: &impl Abort, alloc: Global, commits: u64) -> Result<Store, Fault> {
     let mut store = new_store(alloc, WIDE)?;
-    for number in 1..commits {
+    for number in 1..commits + 1 {
         let script = [
             (Up(0, 1, number), Done(number)),
             (Commit, Begun(number)),
@@ -185,10 +180,22 @@ fn kept_behind_calls(
         ];
         play(rt, &mut store, &script);
     }
-    play(rt, &mut store, &[(Up(0, 1, commits), Done(commits))]);
+    Ok(store)
+}
+
+/// The number and the point that are recovered where so many calls of the device pass in this commit, of one more update.
+fn kept_behind_calls(
+    rt: &impl Abort,
+    alloc: Global,
+    mut store: Store,
+    number: u64,
+    passing: u64,
+    torn: u8,
+) -> Result<(Version, Option<Serial>), Fault> {
+    play(rt, &mut store, &[(Up(0, 1, number), Done(number))]);
     store.arm(passing);
     let script = [
-        (Commit, Begun(commits)),
+        (Commit, Begun(number)),
         (Finish, TurnRefused(Fault::Device)),
     ];
     play(rt, &mut store, &script);
@@ -200,9 +207,11 @@ fn kept_behind_calls(
 #[test]
 fn a_first_commit_stops_at_each_call(rt: HostRuntime) -> Result<(), Fail> {
     for passing in 0..8 {
-        let kept = kept_behind_calls(&rt, rt.alloc(), 1, passing, 0)?;
+        let store = committed(&rt, rt.alloc(), 0)?;
+        let kept = kept_behind_calls(&rt, rt.alloc(), store, 1, passing, 0)?;
         assert_eq!(rt; kept, (Version(0), Some(Serial(0))));
-        let kept = kept_behind_calls(&rt, rt.alloc(), 1, passing, 165)?;
+        let store = committed(&rt, rt.alloc(), 0)?;
+        let kept = kept_behind_calls(&rt, rt.alloc(), store, 1, passing, 165)?;
         let number = if passing < 6 { 0 } else { 1 };
         assert_eq!(rt; kept, (Version(number), Some(Serial(number))));
     }
@@ -213,7 +222,8 @@ fn a_first_commit_stops_at_each_call(rt: HostRuntime) -> Result<(), Fail> {
 #[test]
 fn a_second_commit_stops_at_each_call(rt: HostRuntime) -> Result<(), Fail> {
     for passing in 0..10 {
-        let kept = kept_behind_calls(&rt, rt.alloc(), 2, passing, 0)?;
+        let store = committed(&rt, rt.alloc(), 1)?;
+        let kept = kept_behind_calls(&rt, rt.alloc(), store, 2, passing, 0)?;
         assert_eq!(rt; kept, (Version(1), Some(Serial(1))));
     }
     Ok(())
@@ -222,9 +232,35 @@ fn a_second_commit_stops_at_each_call(rt: HostRuntime) -> Result<(), Fail> {
 #[test]
 fn a_torn_byte_opens_the_gate_of_a_second_commit(rt: HostRuntime) -> Result<(), Fail> {
     for passing in 0..10 {
-        let kept = kept_behind_calls(&rt, rt.alloc(), 2, passing, 165)?;
+        let store = committed(&rt, rt.alloc(), 1)?;
+        let kept = kept_behind_calls(&rt, rt.alloc(), store, 2, passing, 165)?;
         let number = if passing < 8 { 1 } else { 2 };
         assert_eq!(rt; kept, (Version(number), Some(Serial(number))));
+    }
+    Ok(())
+}
+
+/// The store's one commit as the first layout spells it: without a checkpoint of its own, lost ranges and a format.
+fn in_first_layout(alloc: Global, store: Store) -> Result<Store, Fault> {
+    let mut bytes = crash(store, 0)?.into_bytes();
+    for (at, byte) in bytes.iter_mut().enumerate() {
+        if at >= ODD_SLOT.start + 312 && at < ODD_SLOT.end {
+            *byte = 0;
+        }
+    }
+    store_of(alloc, MemDisk::from_bytes(alloc, bytes)?)
+}
+
+/// A first commit of the first layout stands, until the gate of the second one, of the newest, is open.
+#[test]
+fn a_commit_over_the_first_layout_stops_at_each_call(rt: HostRuntime) -> Result<(), Fail> {
+    for passing in 0..10 {
+        for torn in [0, 165] {
+            let store = in_first_layout(rt.alloc(), committed(&rt, rt.alloc(), 1)?)?;
+            let kept = kept_behind_calls(&rt, rt.alloc(), store, 2, passing, torn)?;
+            let number = if passing >= 8 && torn == 165 { 2 } else { 1 };
+            assert_eq!(rt; kept, (Version(number), Some(Serial(number))));
+        }
     }
     Ok(())
 }
