@@ -1,0 +1,7 @@
+mod AtHome
+mod Entries
+mod LifeHeads
+mod Reserved
+pub mod Shown
+mod Steps
+mod Won

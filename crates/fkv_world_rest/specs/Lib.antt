@@ -1,0 +1,4 @@
+pub mod Logs
+pub mod Machines
+pub mod Resting
+pub mod Sessions
