@@ -1,18 +1,9 @@
-//! How a run ends.
+//! How a run ends early.
 ghost use Rattle.std.specs.Prelude.{◌≡◌, ◌⊎◌, ◌++◌, ◌∷◌, [], IfOk, string_bytes};
 ghost use Rattle.fkv_options.specs.RunFault.{IsWant, LeavesLine};
 
 use std::alloc::{AllocError, Global};
 use thiserror::Error;
-
-/// How a run ended that found no fault.
-#[derive(Clone, Copy, Debug, PartialEq, Eq)]
-pub enum Verdict {
-    /// Each check agreed, or none was asked for: status 0.
-    Agrees,
-    /// A check differed: status 1.
-    Differs,
-}
 
 /// Why a run ended early: its exit status, and the text that is left to print.
 #[derive(Debug, Drop, Error)]
