@@ -153,6 +153,10 @@ pub record AreRefusedWords (words : List (List ℕ)) (status : ℕ) (text : List
   pub answers : ComesTo 2 status
   pub says : text ≡ line_of (codes "options")
 
+-- words of which one is no text: the line `options`, as of words that are refused
+abbrev pub AreUnreadWords : ℕ → List ℕ → Type 0
+AreUnreadWords status text = ComesTo 2 status × (text ≡ line_of (codes "options"))
+
 -- words that are accepted: of a reader whose bytes are known this is written
 pub record IsRunOfWords {M F : Type 0} (devices : Devices M F) (words : List (List ℕ)) (known : Option (List ℕ)) (status : ℕ) (text : List ℕ) : Type 0 where
   pub options : Options

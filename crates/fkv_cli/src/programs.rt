@@ -7,7 +7,7 @@ ghost use Rattle.fkv_playing.specs.InTurn.{Writes};
 ghost use Rattle.fkv_playing.specs.Players.{EngineStep};
 ghost use Rattle.fkv_runs.specs.Beginnings.{BreaksOff};
 ghost use Rattle.fkv_runs.specs.Openings.{medium_of};
-ghost use Rattle.fkv_cli.specs.Output.{IsOutputOf, IsRunOfText, line_fault_text, mode_of, script_limit};
+ghost use Rattle.fkv_cli.specs.Output.{AreUnreadWords, IsOutputOf, IsRunOfText, line_fault_text, mode_of, script_limit};
 
 use crate::scripts::run_script;
 use fkv_base::{Fault, ScriptFault};
@@ -43,7 +43,27 @@ pub fn run<H: Files, R: Read + Drop, W: Write>(
     }
 }
 
-/// The same, over this device in memory, with what stopped it.
+/// Words of which one is no text are none that the program takes: writes the line `options`. The status: 2; 4 where the writer failed.
+pub fn refuse_unread<W: Write>(output: &mut W) -> u8
+    ensures whole { result ≢ 4 → Writes (AreUnreadWords result) (W.contents output.old) (W.contents output.new) }
+    ensures part { result ≡ 4 → BreaksOff (AreUnreadWords 4) (W.contents output.old) (W.contents output.new) }
+{
+    match write_options(output) {
+        Ok(()) => 2,
+        Err(_failed) => 4,
+    }
+}
+
+/// The line of words that are refused.
+fn write_options<W: Write>(output: &mut W) -> io::Result<()>
+    ensures whole { OnOk result (Writes (AreUnreadWords 2) (W.contents output.old) (W.contents output.new)) }
+    ensures part { OnErr result (BreaksOff (AreUnreadWords 4) (W.contents output.old) (W.contents output.new)) }
+{
+    write_text(output, "options\n".as_bytes())?;
+    output.flush()
+}
+
+/// The same as `run`, over this device in memory, with what stopped it.
 fn run_words<H: Files, M: Crashes, R: Read + Drop, W: Write>(
     rt: &H,
     alloc: Global,
