@@ -6,7 +6,7 @@ ghost use Rattle.clap.specs.Walk.{texts};
 ghost use Rattle.fkv_playing.specs.InTurn.{Writes};
 ghost use Rattle.fkv_playing.specs.Players.{EngineStep};
 ghost use Rattle.fkv_runs.specs.Beginnings.{BreaksOff};
-ghost use Rattle.fkv_runs.specs.Openings.{medium_of};
+ghost use Rattle.fkv_runs.specs.Openings.{RefusesNoCall, medium_of};
 ghost use Rattle.fkv_cli.specs.Output.{AreUnreadWords, IsOutputOf, IsRunOfText, line_fault_text, mode_of, script_limit};
 
 use crate::scripts::run_script;
@@ -73,6 +73,7 @@ fn run_words<H: Files, M: Crashes, R: Read + Drop, W: Write>(
     output: &mut W,
 ) -> io::Result<u8>
     requires honest { M.honest memory }
+    requires sound { RefusesNoCall M.refuses memory }
     ensures whole { IfOk result (λ status. Writes (IsOutputOf (record { memory = medium_of M.honest M.seen M.may_leave M.failed M.refuses M.broken M.image M.armed; file = EngineStep ⟦<FileDisk<H::File> as Device>⟧.honest ⟦<FileDisk<H::File> as Device>⟧.seen ⟦<FileDisk<H::File> as Device>⟧.may_leave ⟦<FileDisk<H::File> as Device>⟧.failed ⟦<FileDisk<H::File> as Device>⟧.refuses ⟦<FileDisk<H::File> as Breaks>⟧.broken }) (texts words.now) (R.remaining input) status) (W.contents output.old) (W.contents output.new)) }
     ensures part { OnErr result (BreaksOff (IsOutputOf (record { memory = medium_of M.honest M.seen M.may_leave M.failed M.refuses M.broken M.image M.armed; file = EngineStep ⟦<FileDisk<H::File> as Device>⟧.honest ⟦<FileDisk<H::File> as Device>⟧.seen ⟦<FileDisk<H::File> as Device>⟧.may_leave ⟦<FileDisk<H::File> as Device>⟧.failed ⟦<FileDisk<H::File> as Device>⟧.refuses ⟦<FileDisk<H::File> as Breaks>⟧.broken }) (texts words.now) (R.remaining input) 4) (W.contents output.old) (W.contents output.new)) }
 {
@@ -118,6 +119,7 @@ fn run_text<H: Files, M: Crashes, W: Write>(
     output: &mut W,
 ) -> io::Result<u8>
     requires honest { M.honest memory }
+    requires sound { RefusesNoCall M.refuses memory }
     ensures whole { IfOk result (λ status. Writes (IsRunOfText (record { memory = medium_of M.honest M.seen M.may_leave M.failed M.refuses M.broken M.image M.armed; file = EngineStep ⟦<FileDisk<H::File> as Device>⟧.honest ⟦<FileDisk<H::File> as Device>⟧.seen ⟦<FileDisk<H::File> as Device>⟧.may_leave ⟦<FileDisk<H::File> as Device>⟧.failed ⟦<FileDisk<H::File> as Device>⟧.refuses ⟦<FileDisk<H::File> as Breaks>⟧.broken }) options.now (script_of (mode_of (is_some options.now.file)) bytes.now) status) (W.contents output.old) (W.contents output.new)) }
     ensures part { OnErr result (BreaksOff (IsRunOfText (record { memory = medium_of M.honest M.seen M.may_leave M.failed M.refuses M.broken M.image M.armed; file = EngineStep ⟦<FileDisk<H::File> as Device>⟧.honest ⟦<FileDisk<H::File> as Device>⟧.seen ⟦<FileDisk<H::File> as Device>⟧.may_leave ⟦<FileDisk<H::File> as Device>⟧.failed ⟦<FileDisk<H::File> as Device>⟧.refuses ⟦<FileDisk<H::File> as Breaks>⟧.broken }) options.now (script_of (mode_of (is_some options.now.file)) bytes.now) 4) (W.contents output.old) (W.contents output.new)) }
 {
