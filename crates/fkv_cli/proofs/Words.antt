@@ -1,5 +1,5 @@
 -- What is written for the bytes of a script, and for the words of a run.
-use Rattle.std.proofs.Common.{◌≡◌, ◌∙◌, inl, inr, ℕ, Bool, true, false, List, length, take, Option, Some, None, refl, sym, ap, subst, arith, Result, Ok, Err, IfSome, is_some, string_bytes}
+use Rattle.std.proofs.Common.{◌≡◌, ◌∙◌, inl, inr, ℕ, Bool, true, false, List, length, take, Option, Some, None, refl, sym, ap, subst, arith, Result, Ok, Err, IfSome, OnErr, OnOk, codes, is_some, string_bytes}
 use Rattle.std.proofs.lemmas.List.{take_all}
 use Rattle.std.specs.Io.KnownBytes.{Appends, Keeps}
 use Rattle.fkv_base.specs.declared.faults.Fault.{Fault}
@@ -27,9 +27,10 @@ use Rattle.fkv_runs.specs.Openings.{Medium}
 use Rattle.fkv_runs.specs.Runs.{RunState}
 use Rattle.fkv_runs.specs.declared.settings.Settings.{Settings}
 use Rattle.fkv_runs.specs.declared.pieces.Piece.{Piece}
-use Rattle.fkv_runs.proofs.Shown.{breaks_weaker, text_breaks}
+use Rattle.fkv_texts.specs.Lines.{line_of}
+use Rattle.fkv_runs.proofs.Shown.{appends_kept, breaks_weaker, text_breaks}
 use Rattle.fkv_cli.proofs.Appending.{writes_broken, writes_kept, writes_weaker}
-use Rattle.fkv_cli.specs.Output.{Devices, IsLifeInFile, IsOutputOf, IsPlayed, AreLives, IsRunInFile, IsRunInMemory, IsRunInNewFile, IsRunOfOldStore, IsRunOfScript, IsRunOfShape, IsRunOfStore, IsRunOfText, Refuses, line_fault_text, mode_of, script_limit, settings_of}
+use Rattle.fkv_cli.specs.Output.{AreUnreadWords, Devices, IsLifeInFile, IsOutputOf, IsPlayed, AreLives, IsRunInFile, IsRunInMemory, IsRunInNewFile, IsRunOfOldStore, IsRunOfScript, IsRunOfShape, IsRunOfStore, IsRunOfText, Refuses, line_fault_text, mode_of, script_limit, settings_of}
 
 -- the first faulty line of a script breaks off
 pub fault_breaks : {M F : Type 0} (devices : Devices M F) (options : Options) (read : Mode) (bytes : List ℕ) (fault : Fault) (line : ℕ) (kind : ScriptFault) (a b : Option (List ℕ))
@@ -204,3 +205,16 @@ refusal_flushed {M} {F} {W} devices words fault known contents a between output 
 pub ends_at_4 : {M F : Type 0} (devices : Devices M F) (words : List (List ℕ)) (known : Option (List ℕ)) (status : ℕ) (a b : Option (List ℕ)) → Writes (IsOutputOf devices words known status) a b → status ≡ 4
     → BreaksOff (IsOutputOf devices words known 4) a b
 ends_at_4 devices words known status a b h e = writes_broken (IsOutputOf devices words known 4) a b (subst (λ (n : ℕ). Writes (IsOutputOf devices words known n) a b) e h)
+
+-- words of which one is no text
+pub unread_breaks : (told : List ℕ) (a b : Option (List ℕ)) → told ≡ line_of (codes "options") → BreaksOff (λ text. text ≡ told) a b → BreaksOff (AreUnreadWords 4) a b
+unread_breaks told a b same = breaks_weaker (λ text. text ≡ told) (AreUnreadWords 4) a b (λ text is. (inr refl, is ∙ same))
+
+pub unread_told : {T E : Type 0} (result : Result T E) (told : List ℕ) (a b c : Option (List ℕ)) → told ≡ line_of (codes "options") → Appends a b told → Keeps b c → OnOk result (Writes (AreUnreadWords 2) a c)
+unread_told (Ok value) told a b c same h k = (told, (inl refl, same), appends_kept a b c told h k)
+unread_told (Err error) told a b c same h k = tt
+
+-- the line is written, and then the flush fails
+pub unread_flushed : {T E : Type 0} (result : Result T E) (told : List ℕ) (a b c : Option (List ℕ)) → told ≡ line_of (codes "options") → Appends a b told → Keeps b c → OnErr result (BreaksOff (AreUnreadWords 4) a c)
+unread_flushed (Ok value) told a b c same h k = tt
+unread_flushed (Err error) told a b c same h k = writes_broken (AreUnreadWords 4) a c (told, (inr refl, same), appends_kept a b c told h k)

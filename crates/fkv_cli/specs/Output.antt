@@ -77,7 +77,7 @@ pub record Devices (M F : Type 0) : Type 1 where
 abbrev pub AreLives : {M : Type 0} → Medium M → Settings → List Piece → RunState M → ℕ → List ℕ → Type 0
 AreLives medium settings pieces before status text = IsRun medium settings pieces before status text ⊎ ((status ≡ 4) × IsPartOfRun medium settings pieces before text)
 
--- A new store in memory, over a device that holds it, and its lives.
+-- A new store in memory, over a device that holds it and refuses no call, and its lives.
 pub record IsRunInMemory {M : Type 0} (medium : Medium M) (options : Options) (shape : Shape) (pieces : List Piece) (status : ℕ) (text : List ℕ) : Type 0 where
   pub opened : Opened
   pub is_new : IsNewStore shape opened
@@ -152,6 +152,10 @@ pub record AreRefusedWords (words : List (List ℕ)) (status : ℕ) (text : List
   pub refused : AreAccepted words → ⊥
   pub answers : ComesTo 2 status
   pub says : text ≡ line_of (codes "options")
+
+-- words of which one is no text: the line `options`, as of words that are refused
+abbrev pub AreUnreadWords : ℕ → List ℕ → Type 0
+AreUnreadWords status text = ComesTo 2 status × (text ≡ line_of (codes "options"))
 
 -- words that are accepted: of a reader whose bytes are known this is written
 pub record IsRunOfWords {M F : Type 0} (devices : Devices M F) (words : List (List ℕ)) (known : Option (List ℕ)) (status : ℕ) (text : List ℕ) : Type 0 where

@@ -6,7 +6,7 @@ mod memory_runs;
 mod programs;
 mod scripts;
 
-pub use programs::run;
+pub use programs::{refuse_unread, run};
 
 #[cfg(test)]
 mod tests;

@@ -3,7 +3,7 @@ ghost use Rattle.std.specs.Prelude.{◌⊎◌, IfOk, OnErr};
 ghost use Rattle.fkv_base.specs.declared.faults.Fault.TheVariants.{Device};
 ghost use Rattle.fkv_playing.specs.InTurn.{Writes};
 ghost use Rattle.fkv_runs.specs.Beginnings.{BreaksOff};
-ghost use Rattle.fkv_runs.specs.Openings.{medium_of};
+ghost use Rattle.fkv_runs.specs.Openings.{RefusesNoCall, medium_of};
 ghost use Rattle.fkv_cli.specs.Output.{IsRunInMemory, Refuses};
 
 use crate::scripts::refuse;
@@ -15,7 +15,7 @@ use fkv_runs::{Crashes, Piece, Settings, play_lives};
 use std::alloc::Global;
 use std::io::{self, Write};
 
-/// A new store over this honest device in memory, and the pieces of its script over its lives.
+/// A new store over this honest device in memory, which refuses no call, and the pieces of its script over its lives.
 pub(crate) fn play_memory<M: Crashes, W: Write>(
     alloc: Global,
     options: &Options,
@@ -26,6 +26,7 @@ pub(crate) fn play_memory<M: Crashes, W: Write>(
     output: &mut W,
 ) -> io::Result<u8>
     requires honest { M.honest memory }
+    requires sound { RefusesNoCall M.refuses memory }
     ensures whole { IfOk result (λ status. Writes (λ text. IsRunInMemory (medium_of M.honest M.seen M.may_leave M.failed M.refuses M.broken M.image M.armed) options.now shape pieces.now status text ⊎ Refuses Device 3 status text) (W.contents output.old) (W.contents output.new)) }
     ensures part { OnErr result (BreaksOff (λ text. IsRunInMemory (medium_of M.honest M.seen M.may_leave M.failed M.refuses M.broken M.image M.armed) options.now shape pieces.now 4 text ⊎ Refuses Device 3 4 text) (W.contents output.old) (W.contents output.new)) }
 {

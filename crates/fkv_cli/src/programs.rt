@@ -6,8 +6,8 @@ ghost use Rattle.clap.specs.Walk.{texts};
 ghost use Rattle.fkv_playing.specs.InTurn.{Writes};
 ghost use Rattle.fkv_playing.specs.Players.{EngineStep};
 ghost use Rattle.fkv_runs.specs.Beginnings.{BreaksOff};
-ghost use Rattle.fkv_runs.specs.Openings.{medium_of};
-ghost use Rattle.fkv_cli.specs.Output.{IsOutputOf, IsRunOfText, line_fault_text, mode_of, script_limit};
+ghost use Rattle.fkv_runs.specs.Openings.{RefusesNoCall, medium_of};
+ghost use Rattle.fkv_cli.specs.Output.{AreUnreadWords, IsOutputOf, IsRunOfText, line_fault_text, mode_of, script_limit};
 
 use crate::scripts::run_script;
 use fkv_base::{Fault, ScriptFault};
@@ -43,7 +43,27 @@ pub fn run<H: Files, R: Read + Drop, W: Write>(
     }
 }
 
-/// The same, over this device in memory, with what stopped it.
+/// Words of which one is no text are none that the program takes: writes the line `options`. The status: 2; 4 where the writer failed.
+pub fn refuse_unread<W: Write>(output: &mut W) -> u8
+    ensures whole { result ≢ 4 → Writes (AreUnreadWords result) (W.contents output.old) (W.contents output.new) }
+    ensures part { result ≡ 4 → BreaksOff (AreUnreadWords 4) (W.contents output.old) (W.contents output.new) }
+{
+    match write_options(output) {
+        Ok(()) => 2,
+        Err(_failed) => 4,
+    }
+}
+
+/// The line of words that are refused.
+fn write_options<W: Write>(output: &mut W) -> io::Result<()>
+    ensures whole { OnOk result (Writes (AreUnreadWords 2) (W.contents output.old) (W.contents output.new)) }
+    ensures part { OnErr result (BreaksOff (AreUnreadWords 4) (W.contents output.old) (W.contents output.new)) }
+{
+    write_text(output, "options\n".as_bytes())?;
+    output.flush()
+}
+
+/// The same as `run`, over this device in memory, with what stopped it.
 fn run_words<H: Files, M: Crashes, R: Read + Drop, W: Write>(
     rt: &H,
     alloc: Global,
@@ -53,6 +73,7 @@ fn run_words<H: Files, M: Crashes, R: Read + Drop, W: Write>(
     output: &mut W,
 ) -> io::Result<u8>
     requires honest { M.honest memory }
+    requires sound { RefusesNoCall M.refuses memory }
     ensures whole { IfOk result (λ status. Writes (IsOutputOf (record { memory = medium_of M.honest M.seen M.may_leave M.failed M.refuses M.broken M.image M.armed; file = EngineStep ⟦<FileDisk<H::File> as Device>⟧.honest ⟦<FileDisk<H::File> as Device>⟧.seen ⟦<FileDisk<H::File> as Device>⟧.may_leave ⟦<FileDisk<H::File> as Device>⟧.failed ⟦<FileDisk<H::File> as Device>⟧.refuses ⟦<FileDisk<H::File> as Breaks>⟧.broken }) (texts words.now) (R.remaining input) status) (W.contents output.old) (W.contents output.new)) }
     ensures part { OnErr result (BreaksOff (IsOutputOf (record { memory = medium_of M.honest M.seen M.may_leave M.failed M.refuses M.broken M.image M.armed; file = EngineStep ⟦<FileDisk<H::File> as Device>⟧.honest ⟦<FileDisk<H::File> as Device>⟧.seen ⟦<FileDisk<H::File> as Device>⟧.may_leave ⟦<FileDisk<H::File> as Device>⟧.failed ⟦<FileDisk<H::File> as Device>⟧.refuses ⟦<FileDisk<H::File> as Breaks>⟧.broken }) (texts words.now) (R.remaining input) 4) (W.contents output.old) (W.contents output.new)) }
 {
@@ -98,6 +119,7 @@ fn run_text<H: Files, M: Crashes, W: Write>(
     output: &mut W,
 ) -> io::Result<u8>
     requires honest { M.honest memory }
+    requires sound { RefusesNoCall M.refuses memory }
     ensures whole { IfOk result (λ status. Writes (IsRunOfText (record { memory = medium_of M.honest M.seen M.may_leave M.failed M.refuses M.broken M.image M.armed; file = EngineStep ⟦<FileDisk<H::File> as Device>⟧.honest ⟦<FileDisk<H::File> as Device>⟧.seen ⟦<FileDisk<H::File> as Device>⟧.may_leave ⟦<FileDisk<H::File> as Device>⟧.failed ⟦<FileDisk<H::File> as Device>⟧.refuses ⟦<FileDisk<H::File> as Breaks>⟧.broken }) options.now (script_of (mode_of (is_some options.now.file)) bytes.now) status) (W.contents output.old) (W.contents output.new)) }
     ensures part { OnErr result (BreaksOff (IsRunOfText (record { memory = medium_of M.honest M.seen M.may_leave M.failed M.refuses M.broken M.image M.armed; file = EngineStep ⟦<FileDisk<H::File> as Device>⟧.honest ⟦<FileDisk<H::File> as Device>⟧.seen ⟦<FileDisk<H::File> as Device>⟧.may_leave ⟦<FileDisk<H::File> as Device>⟧.failed ⟦<FileDisk<H::File> as Device>⟧.refuses ⟦<FileDisk<H::File> as Breaks>⟧.broken }) options.now (script_of (mode_of (is_some options.now.file)) bytes.now) 4) (W.contents output.old) (W.contents output.new)) }
 {

@@ -4,7 +4,7 @@ ghost use Rattle.fkv_base.specs.declared.faults.Fault.TheVariants.{BadShape, Mem
 ghost use Rattle.fkv_playing.specs.InTurn.{Writes};
 ghost use Rattle.fkv_playing.specs.Players.{EngineStep};
 ghost use Rattle.fkv_runs.specs.Beginnings.{BreaksOff};
-ghost use Rattle.fkv_runs.specs.Openings.{medium_of};
+ghost use Rattle.fkv_runs.specs.Openings.{RefusesNoCall, medium_of};
 ghost use Rattle.fkv_cli.specs.Output.{AreSizes, HasSizes, IsRunOfOldStore, IsRunOfScript, IsRunOfStore, Refuses};
 
 use crate::file_runs::{play_new_file, play_old_file};
@@ -30,6 +30,7 @@ pub(crate) fn run_script<H: Files, M: Crashes, W: Write>(
     output: &mut W,
 ) -> io::Result<u8>
     requires honest { M.honest memory }
+    requires sound { RefusesNoCall M.refuses memory }
     ensures whole { IfOk result (λ status. Writes (IsRunOfScript (record { memory = medium_of M.honest M.seen M.may_leave M.failed M.refuses M.broken M.image M.armed; file = EngineStep ⟦<FileDisk<H::File> as Device>⟧.honest ⟦<FileDisk<H::File> as Device>⟧.seen ⟦<FileDisk<H::File> as Device>⟧.may_leave ⟦<FileDisk<H::File> as Device>⟧.failed ⟦<FileDisk<H::File> as Device>⟧.refuses ⟦<FileDisk<H::File> as Breaks>⟧.broken }) options.now script.now.opening script.now.lines.items status) (W.contents output.old) (W.contents output.new)) }
     ensures part { OnErr result (BreaksOff (IsRunOfScript (record { memory = medium_of M.honest M.seen M.may_leave M.failed M.refuses M.broken M.image M.armed; file = EngineStep ⟦<FileDisk<H::File> as Device>⟧.honest ⟦<FileDisk<H::File> as Device>⟧.seen ⟦<FileDisk<H::File> as Device>⟧.may_leave ⟦<FileDisk<H::File> as Device>⟧.failed ⟦<FileDisk<H::File> as Device>⟧.refuses ⟦<FileDisk<H::File> as Breaks>⟧.broken }) options.now script.now.opening script.now.lines.items 4) (W.contents output.old) (W.contents output.new)) }
 {
@@ -57,6 +58,7 @@ fn run_new<H: Files, M: Crashes, W: Write>(
     output: &mut W,
 ) -> io::Result<u8>
     requires honest { M.honest memory }
+    requires sound { RefusesNoCall M.refuses memory }
     ensures whole { IfOk result (λ status. Writes (λ text. IsRunOfStore (record { memory = medium_of M.honest M.seen M.may_leave M.failed M.refuses M.broken M.image M.armed; file = EngineStep ⟦<FileDisk<H::File> as Device>⟧.honest ⟦<FileDisk<H::File> as Device>⟧.seen ⟦<FileDisk<H::File> as Device>⟧.may_leave ⟦<FileDisk<H::File> as Device>⟧.failed ⟦<FileDisk<H::File> as Device>⟧.refuses ⟦<FileDisk<H::File> as Breaks>⟧.broken }) options.now (Some shape) pieces.now status text (is_some options.now.file)) (W.contents output.old) (W.contents output.new)) }
     ensures part { OnErr result (BreaksOff (λ text. IsRunOfStore (record { memory = medium_of M.honest M.seen M.may_leave M.failed M.refuses M.broken M.image M.armed; file = EngineStep ⟦<FileDisk<H::File> as Device>⟧.honest ⟦<FileDisk<H::File> as Device>⟧.seen ⟦<FileDisk<H::File> as Device>⟧.may_leave ⟦<FileDisk<H::File> as Device>⟧.failed ⟦<FileDisk<H::File> as Device>⟧.refuses ⟦<FileDisk<H::File> as Breaks>⟧.broken }) options.now (Some shape) pieces.now 4 text (is_some options.now.file)) (W.contents output.old) (W.contents output.new)) }
 {

@@ -1,7 +1,7 @@
 mod Breaking
 pub mod Joining
 mod Legs
-mod Recovery
+pub mod Recovery
 mod Replays
 mod Reported
 pub mod Shown

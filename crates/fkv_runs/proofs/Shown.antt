@@ -1,2 +1,3 @@
 -- What the crates above may cite of these proofs.
+pub use Rattle.fkv_runs.proofs.Recovery.{none_behind_calls}
 pub use Rattle.fkv_runs.proofs.Told.{appends_kept, breaks_at_once, breaks_behind, breaks_weaker, text_breaks, written_on}

@@ -38,7 +38,7 @@ Agrees false history pairs agrees = agrees ≡ true
 abbrev pub crash_text : Bool → Opened → List (Key × Value) → Bool → List ℕ
 crash_text checks opened pairs agrees = report_text opening.Crash opened.number opened.points.items pairs ++ check_behind checks agrees
 
--- The store is recovered from the image of the crash, over a new device that holds that image, and with it the next life begins; the report shows it.
+-- The store is recovered from the image of the crash, over a new device that holds that image and refuses no call, and with it the next life begins; the report shows it.
 pub record IsCrash {D : Type 0} (holds : List ℕ → D → Type 0) (image : List ℕ) (checks : Bool) (before after : PlayerState D) (agrees : Bool) (text : List ℕ) : Type 0 where
   pub opened : Opened
   pub pairs : List (Key × Value)
@@ -49,12 +49,12 @@ pub record IsCrash {D : Type 0} (holds : List ℕ → D → Type 0) (image : Lis
   pub checked : Agrees checks (kept before.history opened.points.items) pairs agrees
   pub says : text ≡ crash_text checks opened pairs agrees
 
--- a refusal has its cause: a fault of the image, or the device failed
+-- a refusal has its cause: a fault of the image, or the device failed, or memory was refused
 abbrev pub IsCause : List ℕ → Fault → Type 0
 IsCause image Memory = Unit {0}
 IsCause image Device = Unit {0}
 IsCause image other = IsFaultOf image other
 
--- A run that can't go on prints the refusal, and ends with it.
+-- A run that can't go on prints the refusal, and ends with it; memory that is refused is none.
 abbrev pub IsRefusal : List ℕ → List ℕ → Type 0
-IsRefusal image text = (fault : Fault) × IsCause image fault × (text ≡ last_refusal fault)
+IsRefusal image text = (fault : Fault) × (fault ≡ Memory → ⊥) × IsCause image fault × (text ≡ last_refusal fault)

@@ -1,5 +1,5 @@
 -- A life that begins with a store that was opened.
-use Rattle.std.specs.Prelude.{◌≡◌, ℕ, Bool, List, Option, replicate}
+use Rattle.std.specs.Prelude.{◌≡◌, ℕ, Bool, false, List, Option, replicate}
 use Rattle.fkv_base.specs.declared.numbers.Key.{Key}
 use Rattle.fkv_base.specs.declared.numbers.Value.{Value}
 use Rattle.fkv_core.specs.Openings.{IsOpeningWorld}
@@ -20,9 +20,13 @@ pub record IsRecovered (image : List ℕ) (opened : Opened) (pairs : List (Key �
   pub store : IsStoreOf image opened
   pub are_pairs : ArePairs (log_of_store image opened store) pairs
 
--- a device is honest, and reads as this image
-abbrev pub Holds : {D : Type 0} → (D → Type 0) → (D → List ℕ) → List ℕ → D → Type 0
-Holds honest seen image device = honest device × (seen device ≡ image)
+-- a device says of no call to come that it refuses it
+abbrev pub RefusesNoCall : {D : Type 0} → (D → ℕ → Bool) → D → Type 0
+RefusesNoCall refuses device = (call : ℕ) → refuses device call ≡ false
+
+-- a device is honest, reads as this image, and refuses no call
+abbrev pub Holds : {D : Type 0} → (D → Type 0) → (D → List ℕ) → (D → ℕ → Bool) → List ℕ → D → Type 0
+Holds honest seen refuses image device = honest device × (seen device ≡ image) × RefusesNoCall refuses device
 
 -- What a run goes by of the device of a store: what a step of the engine over it is, the image that a crash leaves of it, which is set to this byte where it
 -- isn't synced, when it holds an image, whether it has failed for good, and how it is made to fail behind so many calls.
@@ -34,7 +38,7 @@ pub record Medium (D : Type 0) : Type 1 where
   pub armed : ℕ → Waits → PlayerState D → PlayerState D → Type 0
 
 abbrev pub medium_of : {D : Type 0} → (D → Type 0) → (D → List ℕ) → (D → List ℕ → Type 0) → (D → ℕ) → (D → ℕ → Bool) → (D → Bool) → (D → ℕ → List ℕ) → (ℕ → Waits → PlayerState D → PlayerState D → Type 0) → Medium D
-medium_of honest seen may_leave failed refuses broken image armed = record { engine = EngineStep honest seen may_leave failed refuses broken; image = image; holds = Holds honest seen; broken = broken; armed = armed }
+medium_of honest seen may_leave failed refuses broken image armed = record { engine = EngineStep honest seen may_leave failed refuses broken; image = image; holds = Holds honest seen refuses; broken = broken; armed = armed }
 
 -- A player begins with the world of this opened store over this device: all sessions are awake, nothing is to come of the device, and these updates are kept.
 pub record Begins {D : Type 0} (opened : Opened) (device : D) (history : List HistoryEntry) (keeps_history : Bool) (player : PlayerState D) : Type 0 where

@@ -6,6 +6,7 @@ ghost use Rattle.fkv_disk.specs.Fuses.{fuse_device, fuse_state};
 ghost use Rattle.fkv_disk.specs.Memory.{disk_calls, disk_opening};
 ghost use Rattle.fkv_playing.specs.Players.{IsArmed, PlayerState, waits_for_crash};
 ghost use Rattle.fkv_playing.specs.declared.players.Waits.{Waits};
+ghost use Rattle.fkv_runs.specs.Openings.{RefusesNoCall};
 
 use fkv_base::Fault;
 use fkv_disk::{Fuse, MemDisk};
@@ -19,10 +20,11 @@ pub trait Crashes: Breaks + Drop {
     /// It is made to fail behind so many calls.
     ghost armed: { ℕ → Waits → PlayerState Self → PlayerState Self → Type 0 };
 
-    /// An honest device with the image of a crash here.
+    /// An honest device with the image of a crash here, which refuses no call.
     fn crash(self, torn: u8) -> Result<Self, Fault>
         ensures honest { IfOk result (λ next. Self.honest next) }
-        ensures image { IfOk result (λ next. Self.seen next ≡ image self torn) };
+        ensures image { IfOk result (λ next. Self.seen next ≡ image self torn) }
+        ensures sound { IfOk result (RefusesNoCall Self.refuses) };
 
     /// So many calls of the device pass from now on, and then each fails.
     fn fail_behind(player: &mut Player<Self>, count: u64)

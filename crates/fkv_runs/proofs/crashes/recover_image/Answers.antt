@@ -1,5 +1,5 @@
 use Rattle.std.proofs.Common.{rules, ◌∙◌}
-use Rattle.fkv_runs.proofs.Recovery.{cause_of_refusal, recovered_before}
+use Rattle.fkv_runs.proofs.Recovery.{cause_of_refusal, none_behind_reads, none_behind_sync, recovered_before}
 use Rattle.fkv_runs.proofs.crashes.recover_image.Goals as goal
 
 pub returns-in_err-opened-clause-cause : goal.returns-in_err-opened-clause-cause
@@ -13,8 +13,9 @@ returns-clause-store g c = λ honest.
     recovered_before _ _ _ _ (quiet.same_bytes honest) (c.in_ok-opened.ensures.ok honest) (c.in_ok-pairs.ensures.ok (quiet.premise.0 honest))
 
 pub returns-clause-reads : goal.returns-clause-reads
-returns-clause-reads g c = λ honest.
+returns-clause-reads g c = λ honest none.
     let quiet = c.recover.ensures.quiet in
     let later = c.content.ensures.quiet in
     let still = quiet.premise.0 honest in
-    (later.premise.0 still, later.same_bytes still ∙ quiet.same_bytes honest)
+    let none_behind = none_behind_sync _ _ _ _ c.recover.ensures.asked none in
+    (later.premise.0 still, later.same_bytes still ∙ quiet.same_bytes honest, none_behind_reads _ _ _ _ c.content.ensures.reads none_behind)
