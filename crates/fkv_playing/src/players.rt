@@ -75,7 +75,8 @@ impl<D: Breaks> Player<D> {
     pub fn waits(&self) -> Waits
         ensures { result ≡ self.now.waits }
     {
-        self.waits
+        let Player { waits, .. } = self;
+        *waits
     }
 
     /// The device as the life has left it, and the updates that were kept.
