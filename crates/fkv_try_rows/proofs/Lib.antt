@@ -1,0 +1,25 @@
+mod AttemptGrows
+mod AttemptSteps
+mod AttemptTells
+mod Changes
+mod HeldSteps
+mod Keeping
+mod Lows
+mod Made
+mod MailRows
+mod OnWay
+mod OwnEvents
+mod ReadAttempts
+mod ReadWalks
+pub mod Shown
+mod Tells
+mod Tests
+mod TrialKept
+mod TryBegins
+mod TryEnds
+mod TryGrows
+mod TrySteps
+mod TryWalks
+mod WalkKept
+mod WalkRows
+mod Words

@@ -1,0 +1,14 @@
+pub mod AttemptLaws
+pub mod AttemptRows
+pub mod Changes
+pub mod HeldRows
+pub mod Kept
+pub mod Laws
+pub mod MailRows
+pub mod OnWay
+pub mod ReadRows
+pub mod Replies
+pub mod Tells
+pub mod TryRows
+pub mod WalkRows
+pub mod WordsShow
