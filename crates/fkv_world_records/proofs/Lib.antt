@@ -1,0 +1,21 @@
+mod AppendRows
+mod AttemptRows
+mod Below
+mod FrameEvents
+mod FrameOwners
+mod FrameSteps
+mod FrameWords
+mod Frames
+mod GhostFits
+mod Life
+mod LogShows
+mod Meets
+mod Numbers
+mod OneEvent
+mod RowsStay
+mod SessionRows
+pub mod Shown
+mod Standing
+mod TryRows
+mod Writers
+mod Wrote
