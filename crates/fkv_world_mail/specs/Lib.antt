@@ -1,0 +1,7 @@
+pub mod MailEvents
+pub mod Mailers
+pub mod Reads
+pub mod Servers
+pub mod Shows
+pub mod Spares
+pub mod Stood
