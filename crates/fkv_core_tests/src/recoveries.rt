@@ -172,7 +172,8 @@ fn a_commit_under_way_is_not_recovered(rt: HostRuntime) -> Result<(), Fail> {
 /// A store behind so many commits of one update each.
 fn committed(rt: &impl Abort, alloc: Global, commits: u64) -> Result<Store, Fault> {
     let mut store = new_store(alloc, WIDE)?;
-    for number in 1..commits + 1 {
+    for made in 0..commits {
+        let number = made + 1;
         let script = [
             (Up(0, 1, number), Done(number)),
             (Commit, Begun(number)),
