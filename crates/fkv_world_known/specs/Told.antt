@@ -1,0 +1,43 @@
+-- What sessions are told by the words of the store where that is true of the log, and how their tickets stand apart.
+use Rattle.std.specs.Prelude.{◌≡◌, ⊤, ℕ, true, List, [], ◌∷◌, slice_get, Some}
+use Rattle.fkv_order.specs.Ghosts.{Ghosts, Log}
+use Rattle.fkv_pending.specs.declared.attempting.Attempting.TheVariants.{Looks}
+use Rattle.fkv_pending.specs.declared.pending_requests.RequestName.{RequestName}
+use Rattle.fkv_plane.specs.Asked.{reply_to}
+use Rattle.fkv_session.specs.Accounts.{names_of}
+use Rattle.fkv_session.specs.Sessions.{SessionState, session_ask}
+use Rattle.fkv_session_rows.specs.Known.{is_attempting}
+use Rattle.fkv_try_rows.specs.AttemptRows.{IsTrueOfAttempt}
+use Rattle.fkv_try_rows.specs.MailRows.{IsTrueOfLook}
+use Rattle.fkv_world.specs.Runs.{World, run}
+use Rattle.fkv_world.specs.World.{Event, Now, seat_at}
+
+-- the reply that the words give to a session's ask
+abbrev pub reply_in : Now → ℕ → SessionState → ℕ
+reply_in n session s = reply_to n.words (session_ask (seat_at n session) s)
+
+-- it is true of the log, for the attempt that is under way
+abbrev pub IsToldTruly : (ℕ → ℕ) → Log → Now → ℕ → SessionState → Type 0
+IsToldTruly home log n session s = is_attempting s.step ≡ true → IsTrueOfAttempt home log n.places s.attempt s.attempt.step (reply_in n session s)
+
+abbrev pub AreToldTruly : (ℕ → ℕ) → Log → Now → Type 0
+AreToldTruly home log n = (session : ℕ) (s : SessionState) → slice_get n.sessions session ≡ Some s → IsToldTruly home log n session s
+
+-- so it is of what is loaded from the mailbox
+abbrev pub LooksTruly : Log → Now → ℕ → SessionState → Type 0
+LooksTruly log n session s = is_attempting s.step ≡ true → s.attempt.step ≡ Looks → IsTrueOfLook log s.attempt.pending.sought s.attempt.mailing (reply_in n session s)
+
+abbrev pub LookTruly : Log → Now → Type 0
+LookTruly log n = (session : ℕ) (s : SessionState) → slice_get n.sessions session ≡ Some s → LooksTruly log n session s
+
+-- no two requests that wait have one name. Tickets come again when all have been given, so this may fail behind 2^64 - 1 reads that had to wait
+abbrev pub AreApart : List RequestName → Type 0
+AreApart names = (i j : ℕ) (name : RequestName) → slice_get names i ≡ Some name → slice_get names j ≡ Some name → i ≡ j
+
+abbrev pub NamesAreApart : Now → Type 0
+NamesAreApart n = (session : ℕ) (s : SessionState) → slice_get n.sessions session ≡ Some s → AreApart (names_of s.requests)
+
+-- at each moment of a life
+unfoldable pub TicketsAreApart : World → List Event → Type 0
+TicketsAreApart opening [] = NamesAreApart (run opening []).now
+TicketsAreApart opening (event ∷ before) = TicketsAreApart opening before × NamesAreApart (run opening (event ∷ before)).now
