@@ -59,7 +59,7 @@ the_previous a b v w e = cc
 
 -- what its header says it leads to
 pub leads_to : (logged : Logged) (its : MailRecord) (of : IsRecordOf logged its) (previous : Addr) (version : Version) → header_said its.header ≡ Says previous version → of.cell.previous ≡ previous.0
-leads_to logged its of previous version e = ap (λ (a : Addr). a.0) (the_previous (record { 0 = of.cell.previous }) previous (record { 0 = of.cell.version }) version (sym of.says ∙ e))
+leads_to logged its of previous version e = ap (λ (a : Addr). a.0) (the_previous (record { 0 = of.cell.previous }) previous of.leads.version version (sym of.leads.says ∙ e))
 
 pub held_knows : (home : ℕ → ℕ) (log : Log) (key low : ℕ) (sought : Option DiskRecord) (its : MailRecord) (said : HeaderSaid) → AreChains home log → SoughtKnows home log key low sought → TakenOf log sought its → header_said its.header ≡ said
     → HeldKnows home log key low (held_of sought its said)

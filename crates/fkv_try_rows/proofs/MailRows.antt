@@ -19,14 +19,19 @@ use Rattle.fkv_pending.specs.declared.mailing.Mailing.{Mailing}
 use Rattle.fkv_pending.specs.declared.mailing.Mailing.TheVariants.{Ended, LoadsState, LoadsHeader, LoadsKey, LoadsValue, StoresEmpty, StoresAddress, StoresAsked}
 use Rattle.fkv_pending.specs.Mailing.{mail_ready, mail_empty, mail_ask, mail_next}
 use Rattle.fkv_try_rows.specs.HeldRows.{SoughtKnows}
-use Rattle.fkv_try_rows.specs.MailRows.{IsKeyOf, IsRecordOf, TakenKnows, MailRow, MailKnows, IsTrueOfMail, IsTrueOfLook, PutsThere, PutsSought}
-use Rattle.fkv_try_rows.proofs.WalkRows.{header_grows, published_there}
+use Rattle.fkv_try_rows.specs.MailRows.{LeadsAs, IsKeyOf, IsRecordOf, TakenKnows, MailRow, MailKnows, IsTrueOfMail, IsTrueOfLook, PutsThere, PutsSought}
+use Rattle.fkv_try_rows.proofs.WalkRows.{published_there}
 
 -- ---- as the log grows
 key_grows : (home : ℕ → ℕ) (m : Map) (log log' : Log) (at word : ℕ) → Grows home m log log' → IsKeyOf (log.cells at) word → IsKeyOf (log'.cells at) word
 key_grows home m log log' at word grows its =
     let stays = grows.published at its.cell its.its in
     record { cell = record its.cell { value = stays.value }; its = stays.still; same = its.same }
+
+lead_grows : (home : ℕ → ℕ) (m : Map) (log log' : Log) (at word : ℕ) → Grows home m log log' → LeadsAs (log.cells at) word → LeadsAs (log'.cells at) word
+lead_grows home m log log' at word grows its =
+    let stays = grows.published at its.cell its.its in
+    record { cell = record its.cell { value = stays.value }; its = stays.still; leads = its.leads }
 
 not_below : (a b : ℕ) → a < b → b ≤ a → ⊥
 not_below a b low high = omega (arith, low, high)
@@ -38,7 +43,7 @@ record_grows home m log log' at it grows fixed its =
     record {
       cell = record its.cell { value = stays.value };
       its = stays.still;
-      says = its.says;
+      leads = its.leads;
       key = its.key;
       value = its.value ∙ elim stays.kept [
         | inl same ↦ sym same
@@ -51,8 +56,8 @@ taken_grows home m log log' at (mail.Taken it) grows fixed knows = record_grows 
 taken_grows home m log log' at its grows fixed knows = tt
 
 mail_row_grows : (home : ℕ → ℕ) (m : Map) (log log' : Log) (at : ℕ) (step : Mailing) → Grows home m log log' → at < log.fixed → MailRow (log.cells at) step → MailRow (log'.cells at) step
-mail_row_grows home m log log' at (LoadsKey header) grows fixed row = header_grows home m log log' at header grows row
-mail_row_grows home m log log' at (LoadsValue header key) grows fixed row = (header_grows home m log log' at header grows row.0, key_grows home m log log' at key grows row.1)
+mail_row_grows home m log log' at (LoadsKey header) grows fixed row = lead_grows home m log log' at header grows row
+mail_row_grows home m log log' at (LoadsValue header key) grows fixed row = (lead_grows home m log log' at header grows row.0, key_grows home m log log' at key grows row.1)
 mail_row_grows home m log log' at (StoresEmpty its) grows fixed row = taken_grows home m log log' at its grows fixed row
 mail_row_grows home m log log' at (Ended its) grows fixed row = taken_grows home m log log' at its grows fixed row
 mail_row_grows home m log log' at (LoadsState task) grows fixed row = tt
@@ -93,12 +98,12 @@ mail_row_leads : (logged : Logged) (cell : Cell) (step : Mailing) (reply : ℕ) 
 unfolding mail_next
 mail_row_leads logged cell (Ended its) reply is row says = row
 mail_row_leads logged cell (LoadsState task) reply is row says = state_leads logged task reply
-mail_row_leads logged cell LoadsHeader reply is row says = record { cell = cell; its = is; says = says cell is }
+mail_row_leads logged cell LoadsHeader reply is row says = record { cell = cell; its = is; leads = says cell is }
 mail_row_leads logged cell (LoadsKey header) reply is row says = (row, record { cell = cell; its = is; same = says cell is })
 mail_row_leads logged cell (LoadsValue header key) reply is row says = record {
   cell = row.0.cell;
   its = row.0.its;
-  says = row.0.says;
+  leads = row.0.leads;
   key = row.1.same ∙ ap (λ (c : Cell). c.key) (the_cell row.1.cell row.0.cell (sym row.1.its ∙ row.0.its));
   value = says row.0.cell row.0.its;
 }

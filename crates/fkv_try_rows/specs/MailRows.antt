@@ -1,6 +1,7 @@
 -- What an attempt knows of the record that it takes from the mailbox, and of the address that it puts there.
 use Rattle.std.specs.Prelude.{◌≡◌, ℕ, ⊤, Option, Some, None}
 use Rattle.fkv_base.specs.declared.numbers.Addr.{Addr}
+use Rattle.fkv_base.specs.declared.numbers.Version.{Version}
 use Rattle.fkv_order.specs.Chains.{Cell, Logged, Published}
 use Rattle.fkv_order.specs.Ghosts.{Log}
 use Rattle.fkv_ops.specs.declared.answers.DiskRecord.{DiskRecord}
@@ -13,8 +14,19 @@ use Rattle.fkv_pending.specs.declared.mailing.MailRecord.{MailRecord}
 use Rattle.fkv_pending.specs.declared.mailing.MailTask.TheVariants.{Put}
 use Rattle.fkv_pending.specs.declared.mailing.Mailing.{Mailing}
 use Rattle.fkv_pending.specs.declared.mailing.Mailing.TheVariants.{Ended, LoadsState, LoadsHeader, LoadsKey, LoadsValue, StoresEmpty, StoresAddress}
-use Rattle.fkv_try_rows.specs.Replies.{SaysHeader, SaysKey, SaysValue}
-use Rattle.fkv_try_rows.specs.WalkRows.{IsHeaderOf}
+use Rattle.fkv_try_rows.specs.Replies.{SaysKey, SaysValue}
+
+-- The word is a header that leads to this address, of whatever version: all that a store was opened with counts as of one version, and its headers say older
+-- ones too. Nobody asks a record that comes by the mailbox for its version.
+pub record LeadsTo (previous word : ℕ) : Type 0 where
+  pub version : Version
+  pub says : header_said word ≡ Says (record { 0 = previous }) version
+
+-- a published record is there, and this header leads where it does
+pub record LeadsAs (logged : Logged) (word : ℕ) : Type 0 where
+  pub cell : Cell
+  pub its : logged ≡ Published cell
+  pub leads : LeadsTo cell.previous word
 
 -- a published record is there, and this is its key
 pub record IsKeyOf (logged : Logged) (word : ℕ) : Type 0 where
@@ -22,11 +34,11 @@ pub record IsKeyOf (logged : Logged) (word : ℕ) : Type 0 where
   pub its : logged ≡ Published cell
   pub same : word ≡ cell.key
 
--- and these are its words
+-- and these words lead where it does, and are its key and its value
 pub record IsRecordOf (logged : Logged) (it : MailRecord) : Type 0 where
   pub cell : Cell
   pub its : logged ≡ Published cell
-  pub says : header_said it.header ≡ Says (record { 0 = cell.previous }) (record { 0 = cell.version })
+  pub leads : LeadsTo cell.previous it.header
   pub key : it.key.0 ≡ cell.key
   pub value : value_of it.value ≡ cell.value
 
@@ -36,8 +48,8 @@ TakenKnows logged (Taken it) = IsRecordOf logged it
 TakenKnows logged its = ⊤
 
 abbrev pub MailRow : Logged → Mailing → Type 0
-MailRow logged (LoadsKey header) = IsHeaderOf logged header
-MailRow logged (LoadsValue header key) = IsHeaderOf logged header × IsKeyOf logged key
+MailRow logged (LoadsKey header) = LeadsAs logged header
+MailRow logged (LoadsValue header key) = LeadsAs logged header × IsKeyOf logged key
 MailRow logged (StoresEmpty its) = TakenKnows logged its
 MailRow logged (Ended its) = TakenKnows logged its
 MailRow logged step = ⊤
@@ -48,8 +60,11 @@ MailKnows log None step = ⊤
 MailKnows log (Some it) step = MailRow (log.cells it.addr.0) step
 
 -- ---- what the words tell that are loaded there
+abbrev pub SaysPrevious : Logged → ℕ → Type 0
+SaysPrevious logged word = (cell : Cell) → logged ≡ Published cell → LeadsTo cell.previous word
+
 abbrev pub IsTrueOfMail : Logged → Mailing → ℕ → Type 0
-IsTrueOfMail logged LoadsHeader reply = SaysHeader logged reply
+IsTrueOfMail logged LoadsHeader reply = SaysPrevious logged reply
 IsTrueOfMail logged (LoadsKey header) reply = SaysKey logged reply
 IsTrueOfMail logged (LoadsValue header key) reply = SaysValue logged reply
 IsTrueOfMail logged step reply = ⊤
