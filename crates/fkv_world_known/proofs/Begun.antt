@@ -11,7 +11,7 @@ use Rattle.fkv_world_known.specs.Begins.{BeginsLife, home_of_world}
 use Rattle.fkv_world_known.specs.Knows.{AreKnown}
 
 pub begun_known : (opening : World) (start : ℕ) (lists : ℕ → List ℕ) (version : Version) (m : Map) (number : ℕ) (ghosts : Ghosts) → BeginsLife opening start lists version m number ghosts → AreKnown opening ghosts []
-unfolding AreKnown, run
+unfolding AreKnown run
 begun_known opening start lists version m number ghosts begins = λ session s there.
     opened_known (λ pending. PendingKnows (home_of_world opening) (life_ghosts opening ghosts []).log pending s.seen) (λ a. AttemptKnows (home_of_world opening) (life_ghosts opening ghosts []).log a) s
     (begins.world.sessions session s there)
