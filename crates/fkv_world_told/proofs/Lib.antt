@@ -1,0 +1,4 @@
+mod Lines
+mod Owed
+mod Runs
+pub mod Shown
