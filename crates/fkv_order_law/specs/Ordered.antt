@@ -1,0 +1,82 @@
+-- The order law of an opened store's life, in the words of the life itself.
+use Rattle.std.specs.Prelude.{◌≡◌, ℕ, ◌+◌, List, ◌∷◌, ◌++◌}
+use Rattle.fkv_base.specs.declared.numbers.Version.{Version}
+use Rattle.fkv_core.specs.Openings.{IsOpeningWorld, beginning}
+use Rattle.fkv_epoch.specs.Once.{HasRunOnce}
+use Rattle.fkv_flush.specs.GuardLevels.{AreInOrder, levels_of}
+use Rattle.fkv_flush.specs.GuardLimit.{EndsPages}
+use Rattle.fkv_flush.specs.GuardWorld.{GuardWorld}
+use Rattle.fkv_flush.specs.Guarded.{IsCovered}
+use Rattle.fkv_map.specs.History.{IsLegal}
+use Rattle.fkv_opening.specs.Opened.{IsStoreOf}
+use Rattle.fkv_opening.specs.declared.opened_store.Opened.{Opened}
+use Rattle.fkv_opening_log.specs.Lives.{KeepsRules}
+use Rattle.fkv_opening_log.specs.Maps.{opening_map}
+use Rattle.fkv_opening_log.specs.OpeningLog.{opening_ghosts}
+use Rattle.fkv_order.specs.Trace.{Effect, OrdersCalls, ReadsAreFresh, TraceLine, history_of}
+use Rattle.fkv_world.specs.Runs.{run}
+use Rattle.fkv_world.specs.World.{Event, Now}
+use Rattle.fkv_world_calls.specs.Calls.{effects_of_life, lines_of_life}
+use Rattle.fkv_world_guard.specs.KeptGuarded.{ChangesOpenPlaces, OpensNextPage}
+use Rattle.fkv_world_guard.specs.Shows.{AreFair, Shows, seen_by_guard}
+use Rattle.fkv_world_records.specs.Changes.{AreChangesPublished}
+
+-- an opened store rests in the version behind its commit's
+abbrev pub opening_version : Opened → Version
+opening_version o = record { 0 = o.number.0 + 1 }
+
+-- what has taken effect in a life so far, and what its calls were told, each the newest first
+abbrev pub effects_so_far : Now → List ℕ → List Event → List Effect
+effects_so_far n bytes events = effects_of_life (beginning n bytes) events
+
+abbrev pub lines_so_far : Now → List ℕ → List Event → List TraceLine
+lines_so_far n bytes events = lines_of_life (beginning n bytes) events
+
+-- the world after these events
+abbrev pub now_after : Now → List ℕ → List Event → Now
+now_after n bytes events = (run (beginning n bytes) events).now
+
+-- ---- one history
+-- it is legal from the store's map on, with the replies of its entries
+abbrev pub HasLegalHistory : Opened → Now → List ℕ → List Event → Type 0
+HasLegalHistory o n bytes events = IsLegal (opening_map bytes o) (history_of (effects_so_far n bytes events))
+
+-- it orders the calls that were told
+abbrev pub OrdersItsCalls : Opened → Now → List ℕ → List Event → Type 0
+OrdersItsCalls o n bytes events = OrdersCalls (effects_so_far n bytes events) (lines_so_far n bytes events)
+
+-- and reads are answered from it
+abbrev pub ReadsFreshly : Opened → Now → List ℕ → List Event → Type 0
+ReadsFreshly o n bytes events = ReadsAreFresh (opening_map bytes o) (effects_so_far n bytes events) (lines_so_far n bytes events)
+
+-- ---- guarded
+-- what the guard has of the life so far
+abbrev pub guard_so_far : Opened → Now → List ℕ → List Event → GuardWorld
+guard_so_far o n bytes events = seen_by_guard (beginning n bytes) o.tail.0 events
+
+-- from the world before each event of the life to the one behind it
+abbrev pub AtEachEvent : (Now → Now → GuardWorld → Type 0) → Opened → Now → List ℕ → List Event → Type 0
+AtEachEvent P o n bytes events =
+    (later before : List Event) (event : Event) → events ≡ later ++ event ∷ before → P (now_after n bytes before) (now_after n bytes (event ∷ before)) (guard_so_far o n bytes before)
+
+-- What the guard has shows the world, and each step does what it owes. A word of a frame that an event changes is one of an open address at or above the safe
+-- read-only offset and below the tail; a raise of the limit opens the next page, all of whose frame is flushed and which no session goes by any more. The
+-- offsets are in order, the frames hold all that may still be needed, and the limit ends whole pages.
+pub record IsGuarded (o : Opened) (n : Now) (bytes : List ℕ) (events : List Event) : Type 0 where
+  pub shows : Shows (now_after n bytes events) (guard_so_far o n bytes events)
+  pub fair : AreFair (beginning n bytes) events
+  pub writes : AtEachEvent ChangesOpenPlaces o n bytes events
+  pub limit : AtEachEvent OpensNextPage o n bytes events
+  pub order : AreInOrder (levels_of (now_after n bytes events).words)
+  pub covered : IsCovered (guard_so_far o n bytes events)
+  pub paged : EndsPages n.shape (levels_of (now_after n bytes events).words).limit
+
+-- ---- each epoch arms one action at most, which is claimed once and run once at most
+abbrev pub RunsActionsOnce : Opened → Now → List ℕ → List Event → Type 0
+RunsActionsOnce o n bytes events = HasRunOnce (guard_so_far o n bytes events).past
+
+-- So it is in each life of an opened store in which each event of the log keeps to its rule, and what a session changes in place is published.
+abbrev pub OfEachKept : (Opened → Now → List ℕ → List Event → Type 0) → Type 0
+OfEachKept P =
+    (bytes : List ℕ) (o : Opened) (n : Now) (events : List Event) → IsStoreOf bytes o → IsOpeningWorld o n → KeepsRules o n bytes events → AreChangesPublished (beginning n bytes) (opening_ghosts bytes o) events
+    → P o n bytes events

@@ -1,0 +1,19 @@
+-- What the device gives for a record that is flushed, beside the log.
+use Rattle.std.specs.Prelude.{◌≡◌, ℕ, ◌<◌, List, ◌++◌}
+use Rattle.fkv_base.specs.declared.numbers.Addr.{Addr}
+use Rattle.fkv_flush.specs.GuardLevels.{levels_of}
+use Rattle.fkv_order.specs.Chains.{Cell, Published}
+use Rattle.fkv_order.specs.Ghosts.{Ghosts}
+use Rattle.fkv_pending.specs.declared.mailing.MailRecord.{MailRecord}
+use Rattle.fkv_try_rows.specs.MailRows.{IsRecordOf}
+use Rattle.fkv_world.specs.Runs.{World, run}
+use Rattle.fkv_world.specs.World.{Event}
+use Rattle.fkv_world_mail.specs.Reads.{record_there}
+use Rattle.fkv_world_order.specs.GhostEvents.{life_ghosts}
+
+-- What it gave at an earlier moment, at an address that was flushed and where a record was published by then, is the record that is there now.
+abbrev pub ServedShow : World → Ghosts → List Event → Type 0
+ServedShow opening ghosts events =
+    (session : ℕ) (addr : Addr) (its : MailRecord) (earlier later : List Event) (cell : Cell) → events ≡ later ++ earlier → its ≡ record_there (run opening earlier) addr.0
+    → (life_ghosts opening ghosts earlier).log.cells addr.0 ≡ Published cell → addr.0 < (levels_of (run opening earlier).now.words).flushed
+    → IsRecordOf ((life_ghosts opening ghosts events).log.cells addr.0) its

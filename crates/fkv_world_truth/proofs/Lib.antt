@@ -1,0 +1,6 @@
+mod Attempts
+mod Frames
+mod Searches
+pub mod Shown
+mod Truth
+mod Words

@@ -1,0 +1,78 @@
+-- What a session's search finds is where the chain of its key begins, and what it loads from its mailbox is true: so its attempt meets the log.
+use Rattle.std.proofs.Common.{◌≡◌, ℕ, ◌∙◌, refl, ap, subst, sym, true}
+use Rattle.std.specs.Prelude.{Some}
+use Rattle.fkv_base.specs.declared.numbers.Key.{Key}
+use Rattle.fkv_map.specs.Keys.{key_of}
+use Rattle.fkv_plane.specs.declared.asks.Ask.{Ask}
+use Rattle.fkv_plane.specs.declared.asks.Ask.TheVariants.{Done}
+use Rattle.fkv_plane.specs.declared.places.Places.{Places}
+use Rattle.fkv_index.specs.declared.finding.FindAnswer.{FindAnswer}
+use Rattle.fkv_index.specs.declared.finding.Found.{Found}
+use Rattle.fkv_index.specs.declared.finding.Found.TheVariants.{Slot, NoSlot}
+use Rattle.fkv_index.specs.Finding.{find_next_ask}
+use Rattle.fkv_order.specs.Chains.{head_of}
+use Rattle.fkv_order.specs.Ghosts.{Log}
+use Rattle.fkv_ops.specs.declared.requests.Request.{Request}
+use Rattle.fkv_ops.specs.declared.trying.Trying.{Trying}
+use Rattle.fkv_ops.specs.declared.trying.Trying.TheVariants.{Walks}
+use Rattle.fkv_ops.specs.declared.walking.Walking.{Walking}
+use Rattle.fkv_ops.specs.declared.walking.Walking.TheVariants.{Finds}
+use Rattle.fkv_ops.specs.Requests.{purpose_of}
+use Rattle.fkv_ops.specs.Trying.{TryState}
+use Rattle.fkv_pending.specs.declared.attempting.Attempting.{Attempting}
+use Rattle.fkv_pending.specs.declared.attempting.Attempting.TheVariants.{Looks, Tries}
+use Rattle.fkv_pending.specs.Attempting.{AttemptState}
+use Rattle.fkv_session.specs.declared.sessions.Sitting.{Sitting}
+use Rattle.fkv_session.specs.declared.sessions.Sitting.TheVariants.{Attempts, Polls}
+use Rattle.fkv_session.specs.Sessions.{SessionState}
+use Rattle.fkv_session_rows.specs.Known.{is_attempting}
+use Rattle.fkv_try_rows.specs.AttemptRows.{AttemptRow}
+use Rattle.fkv_try_rows.specs.MailRows.{IsTrueOfLook}
+use Rattle.fkv_try_rows.specs.Replies.{LeadsToHead, EndsAtHead}
+use Rattle.fkv_try_rows.specs.TryRows.{TryRow}
+use Rattle.fkv_try_rows.specs.WordsShow.{WalkSearches, TrySearches, AttemptMeets}
+use Rattle.fkv_world_heads.specs.Searches.{IsHeadFound, IsHeadAnswered}
+use Rattle.fkv_world_index.specs.Finders.{Search, SessionWork, attempt_part, search_in, sitting_part, try_work, walk_work}
+
+-- ---- what a search finds
+leads_to_head : (head : ℕ) (its : Found) → IsHeadFound head its → LeadsToHead head its
+leads_to_head head (Slot place word) found = found
+leads_to_head head NoSlot found = found
+leads_to_head head its found = tt
+
+ends_at_head : (head : ℕ) (ask : Ask FindAnswer) → IsHeadAnswered head ask → EndsAtHead head ask
+ends_at_head head (Done its) found = leads_to_head head its.found found
+ends_at_head head ask found = tt
+
+-- the search that is under way, if any, finds by this reply where the chain begins
+abbrev pub FindsBy : Places → ℕ → ℕ → SessionWork → Type 0
+FindsBy p head reply work = (its : Search) → search_in work ≡ Some its → IsHeadAnswered head (find_next_ask p its.finding reply)
+
+-- and that is the chain of this key
+abbrev pub BeginsFor : (ℕ → ℕ) → Log → ℕ → Key → Type 0
+BeginsFor home log head key = head_of (log.chains (home key.0)) ≡ head
+
+walk_searches : (home : ℕ → ℕ) (log : Log) (p : Places) (head reply : ℕ) (t : TryState) (step : Walking) → BeginsFor home log head t.walk.key → FindsBy p head reply (walk_work t step) → WalkSearches home log p t.walk step reply
+walk_searches home log p head reply t Finds begins finds =
+    subst (λ (x : ℕ). EndsAtHead x (find_next_ask p t.walk.finding reply)) (sym begins) (ends_at_head head (find_next_ask p t.walk.finding reply) (finds (record { finding = t.walk.finding; purpose = purpose_of t.request.op }) refl))
+walk_searches home log p head reply t step begins finds = tt
+
+try_searches : (home : ℕ → ℕ) (log : Log) (p : Places) (head reply : ℕ) (request : Request) (t : TryState) (step : Trying) → t.request ≡ request → BeginsFor home log head (key_of request.op) → TryRow home log t step
+    → FindsBy p head reply (try_work t step) → TrySearches home log p t step reply
+try_searches home log p head reply request t Walks same begins row finds =
+    walk_searches home log p head reply t t.walk.step
+    (subst (BeginsFor home log head) (sym (row.0.its_key ∙ ap (λ (x : Request). key_of x.op) same)) begins) finds
+try_searches home log p head reply request t step same begins row finds = tt
+
+-- ---- so the attempt meets the log
+pub attempt_meets : (home : ℕ → ℕ) (log : Log) (p : Places) (head reply : ℕ) (a : AttemptState) (step : Attempting) → BeginsFor home log head (key_of a.pending.request.op) → AttemptRow home log a step
+    → FindsBy p head reply (attempt_part a step).work → (step ≡ Looks → IsTrueOfLook log a.pending.sought a.mailing reply) → AttemptMeets home log p a step reply
+attempt_meets home log p head reply a Looks begins row finds look = look refl
+attempt_meets home log p head reply a Tries begins row finds look = try_searches home log p head reply a.pending.request a.trial a.trial.step row.its_request begins row.knows.row finds
+attempt_meets home log p head reply a step begins row finds look = tt
+
+-- the search of the session is that of its attempt
+pub finds_by : (p : Places) (head reply : ℕ) (s : SessionState) (step : Sitting) → is_attempting step ≡ true → FindsBy p head reply (sitting_part s step).work → FindsBy p head reply (attempt_part s.attempt s.attempt.step).work
+finds_by p head reply s (Attempts has_shifted) attempts finds = finds
+finds_by p head reply s (Polls index) attempts finds = finds
+finds_by p head reply s step attempts finds = cc
