@@ -1,0 +1,83 @@
+-- How a try ends that is for what a session has seen outside prepare, and that none asks for a slot.
+use Rattle.std.proofs.Common.{◌≡◌, ℕ, ◌^◌, ◌∙◌, refl, sym, ap, Bool, true, false, List, ◌∷◌}
+use Rattle.std.specs.Prelude.{⊤}
+use Rattle.fkv_plane.specs.declared.asks.Ask.{Ask}
+use Rattle.fkv_plane.specs.declared.asks.Ask.TheVariants.{Put, Take, Done}
+use Rattle.fkv_plane.specs.declared.places.Places.{Places}
+use Rattle.fkv_plane.specs.Passing.{passed}
+use Rattle.fkv_ops.specs.declared.answers.TryAnswer.{TryAnswer}
+use Rattle.fkv_ops.specs.declared.answers.TryAnswer.TheVariants as answer
+use Rattle.fkv_ops.specs.declared.requests.Occasion.{Occasion}
+use Rattle.fkv_ops.specs.declared.requests.Occasion.TheVariants.{Call}
+use Rattle.fkv_ops.specs.declared.requests.Request.{Request}
+use Rattle.fkv_ops.specs.declared.requests.Seen.{Seen}
+use Rattle.fkv_ops.specs.EachAsk.{AskIsSo}
+use Rattle.fkv_ops.specs.Reasons.{IsTrue}
+use Rattle.fkv_ops.specs.Trying.{TryState, is_prepare, try_ask, try_next}
+use Rattle.fkv_ops.specs.TryRun.{Trial, Told, told_by, trial_begun, try_run}
+use Rattle.fkv_ops.proofs.Shown.{each_ask, each_is_true}
+use Rattle.fkv_pending.specs.declared.mailing.Mailing.{Mailing}
+use Rattle.fkv_pending.specs.declared.mailing.Mailing.TheVariants as mailing
+use Rattle.fkv_pending.specs.Mailing.{mail_ask}
+
+-- an ask of a slot
+abbrev pub is_slot : {A : Type 0} → Ask A → Bool
+is_slot (Put slot action) = true
+is_slot (Take slot) = true
+is_slot ask = false
+
+pub passed_slot : {A B : Type 0} (ask : Ask A) (told : B) → is_slot (passed ask told) ≡ is_slot ask
+unfolding passed
+passed_slot (Done inner) told = refl
+passed_slot ask told = refl
+
+pub mail_slot : (session : ℕ) (step : Mailing) → is_slot (mail_ask session step) ≡ false
+unfolding mail_ask
+mail_slot session (mailing.Ended its) = refl
+mail_slot session step = refl
+
+ask_slot : (c : Trial) (told : Told) (ask : Ask TryAnswer) (reply : ℕ) (effect : _) → AskIsSo c told ask reply effect → is_slot ask ≡ false
+ask_slot c told (Put slot action) reply effect so = absurd so
+ask_slot c told (Take slot) reply effect so = absurd so
+ask_slot c told ask reply effect so = refl
+
+-- how it may end
+abbrev pub TryEndsSo : Occasion → TryAnswer → Type 0
+TryEndsSo occasion answer.Shift = ⊥
+TryEndsSo occasion answer.IndexFull = occasion ≡ Call
+TryEndsSo occasion answer.LogFull = occasion ≡ Call
+TryEndsSo occasion its = ⊤
+
+not_prepare : {A : Type 0} (c : Bool) → c ≡ true → c ≡ false → A
+not_prepare c one other = cc
+
+true_ends : (c : Trial) (told : Told) (its : TryAnswer) → is_prepare c.seen.phase ≡ false → IsTrue c told its → TryEndsSo c.occasion its
+true_ends c told answer.Shift none so = not_prepare (is_prepare c.seen.phase) so.in_prepare none
+true_ends c told answer.IndexFull none so = so.0
+true_ends c told answer.LogFull none so = so.0
+true_ends c told its none so = tt
+
+module _ (p : Places) (bits room : ℕ) (buckets : p.buckets ≡ 2 ^ bits) where
+  abbrev pub trial_of : Request → Seen → Occasion → Trial
+  trial_of request seen occasion = record { places = p; bits = bits; its_buckets = buckets; room = room; request = request; seen = seen; occasion = occasion }
+
+  -- some request's, by what was seen and at this occasion, behind some replies
+  pub record IsTryRun (seen : Seen) (occasion : Occasion) (t : TryState) : Type 0 where
+    pub request : Request
+    pub before : TryState
+    pub spare : ℕ
+    pub replies : List ℕ
+    pub run : t ≡ try_run (trial_of request seen occasion) (trial_begun (trial_of request seen occasion) before spare) replies
+
+  pub next_run : (seen : Seen) (occasion : Occasion) (t : TryState) (reply : ℕ) → IsTryRun seen occasion t → IsTryRun seen occasion (try_next p room t reply)
+  next_run seen occasion t reply its = record { request = its.request; before = its.before; spare = its.spare; replies = reply ∷ its.replies; run = ap (λ (x : TryState). try_next p room x reply) its.run }
+
+  pub run_ends : (seen : Seen) (occasion : Occasion) (t : TryState) (its : TryAnswer) → IsTryRun seen occasion t → is_prepare seen.phase ≡ false → try_ask p t ≡ Done its → TryEndsSo occasion its
+  run_ends seen occasion t its is none ends =
+      let c : Trial = trial_of is.request seen occasion in
+      true_ends c (told_by c (trial_begun c is.before is.spare) is.replies) its none (each_is_true c is.before is.spare is.replies its (ap (try_ask p) (sym is.run) ∙ ends))
+
+  pub run_slot : (seen : Seen) (occasion : Occasion) (t : TryState) → IsTryRun seen occasion t → is_slot (try_ask p t) ≡ false
+  run_slot seen occasion t is =
+      let c : Trial = trial_of is.request seen occasion in
+      ap (λ (x : TryState). is_slot (try_ask p x)) is.run ∙ ask_slot c (told_by c (trial_begun c is.before is.spare) is.replies) _ 0 _ (each_ask c is.before is.spare is.replies 0)
