@@ -1,0 +1,19 @@
+-- The law, by those of its parts.
+use Rattle.fkv_order_law.specs.Ordered.{HasLegalHistory, IsGuarded, OrdersItsCalls, ReadsFreshly, RunsActionsOnce}
+use Rattle.fkv_one_history.proofs.EachLife.{of_each_life}
+use Rattle.fkv_one_history.proofs.laws.law_order.Goals as goal
+
+pub returns-clause-legal : goal.returns-clause-legal
+returns-clause-legal c = of_each_life HasLegalHistory c.law_life_begins.ensures c.law_opening_fits.ensures c.law_world_ordered.ensures c.law_order_of_rules.ensures.legal
+
+pub returns-clause-ordered : goal.returns-clause-ordered
+returns-clause-ordered c = of_each_life OrdersItsCalls c.law_life_begins.ensures c.law_opening_fits.ensures c.law_world_ordered.ensures c.law_order_of_rules.ensures.ordered
+
+pub returns-clause-fresh : goal.returns-clause-fresh
+returns-clause-fresh c = of_each_life ReadsFreshly c.law_life_begins.ensures c.law_opening_fits.ensures c.law_world_ordered.ensures c.law_order_of_rules.ensures.fresh
+
+pub returns-clause-guarded : goal.returns-clause-guarded
+returns-clause-guarded c = of_each_life IsGuarded c.law_life_begins.ensures c.law_opening_fits.ensures c.law_world_ordered.ensures c.law_order_of_rules.ensures.guarded
+
+pub returns-clause-once : goal.returns-clause-once
+returns-clause-once c = of_each_life RunsActionsOnce c.law_life_begins.ensures c.law_opening_fits.ensures c.law_world_ordered.ensures c.law_order_of_rules.ensures.once

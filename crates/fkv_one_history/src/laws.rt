@@ -1,0 +1,25 @@
+//! The order law of the engine, in every life without commits.
+ghost use Rattle.fkv_one_history.specs.EachLife.{InEachLife};
+ghost use Rattle.fkv_order_law.specs.Ordered.{HasLegalHistory, IsGuarded, OrdersItsCalls, ReadsFreshly, RunsActionsOnce};
+
+use fkv_opening_fits::law_opening_fits;
+use fkv_order_law::{law_life_begins, law_order_of_rules};
+use fkv_world_ordered::law_world_ordered;
+
+/// Over every list of events without commits, of sessions that turn pages, sleep, wake, stall in the middle of calls, meet the disk and fill overflow buckets,
+/// of a device whose calls fail, with any actor at any step and a crash anywhere: what has taken effect so far is one history, legal from the store's map
+/// on, with the replies that were given. It orders the calls: each update whose result was given took effect once, with that reply, none took effect but
+/// those that were called, and one whose result was given before another was called took effect before it. Each read is answered by its key's
+/// value at some moment between its call and its answer. No step writes a flushed record or a frame that an epoch protects, and each action is run once at most.
+pub fn law_order()
+    ensures legal { InEachLife HasLegalHistory }
+    ensures ordered { InEachLife OrdersItsCalls }
+    ensures fresh { InEachLife ReadsFreshly }
+    ensures guarded { InEachLife IsGuarded }
+    ensures once { InEachLife RunsActionsOnce }
+{
+    law_life_begins();
+    law_order_of_rules();
+    law_opening_fits();
+    law_world_ordered();
+}

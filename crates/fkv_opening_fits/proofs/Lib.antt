@@ -1,0 +1,2 @@
+mod Fits
+pub mod Shown

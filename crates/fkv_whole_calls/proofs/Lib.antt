@@ -1,0 +1,4 @@
+mod Fresh
+pub mod Shown
+mod Updated
+mod Whole

@@ -1,0 +1,56 @@
+-- No head that a session has seen lies above what is flushed.
+use Rattle.std.proofs.Common.{◌≡◌, ℕ, ◌≤◌, ◌∙◌, refl, ap, subst, arith, List}
+use Rattle.std.specs.Prelude.{Some, slice_get}
+use Rattle.fkv_flush.specs.Guarded.{seen_at, seen_of}
+use Rattle.fkv_flush.specs.GuardLevels.{levels_of}
+use Rattle.fkv_flush.specs.GuardSeen.{LastSeen}
+use Rattle.fkv_flush.specs.GuardWorld.{Actor, GuardWorld}
+use Rattle.fkv_guard_sessions.specs.Attempts.{attempt_likeness_at}
+use Rattle.fkv_guard_sessions.specs.Followed.{Sits}
+use Rattle.fkv_guard_sessions.specs.Likenesses.{last_seen}
+use Rattle.fkv_guard_sessions.specs.Sessions.{sitting_likeness}
+use Rattle.fkv_guard_sessions.specs.Tries.{try_likeness_at}
+use Rattle.fkv_ops.specs.declared.trying.Trying.{Trying}
+use Rattle.fkv_ops.specs.declared.trying.Trying.TheVariants.{Appends}
+use Rattle.fkv_ops.specs.Trying.{TryState}
+use Rattle.fkv_pending.specs.declared.attempting.Attempting.{Attempting}
+use Rattle.fkv_pending.specs.declared.attempting.Attempting.TheVariants.{Tries}
+use Rattle.fkv_pending.specs.Attempting.{AttemptState}
+use Rattle.fkv_session.specs.declared.sessions.Sitting.{Sitting}
+use Rattle.fkv_session.specs.declared.sessions.Sitting.TheVariants.{Attempts, Polls}
+use Rattle.fkv_session.specs.Sessions.{SessionState}
+use Rattle.fkv_world.specs.Runs.{World, run}
+use Rattle.fkv_world.specs.World.{Event}
+use Rattle.fkv_world_guard.specs.Shows.{IsOpened, seen_by_guard}
+use Rattle.fkv_world_guard.proofs.Shown.{life_shows}
+use Rattle.fkv_world_records.specs.Frames.{IsAttempting}
+
+-- ---- the guard's actor has seen what its session has
+try_seen : (seen : LastSeen) (t : TryState) (step : Trying) → (try_likeness_at seen t step).seen ≡ seen
+try_seen seen t (Appends made) = refl
+try_seen seen t step = refl
+
+attempt_seen : (seen : LastSeen) (a : AttemptState) (step : Attempting) → (attempt_likeness_at seen a step).seen ≡ seen
+attempt_seen seen a Tries = try_seen seen a.trial a.trial.step
+attempt_seen seen a step = refl
+
+sitting_seen : (s : SessionState) (step : Sitting) → IsAttempting step → (sitting_likeness s step).seen ≡ last_seen s.seen
+sitting_seen s (Attempts has_shifted) attempts = attempt_seen (last_seen s.seen) s.attempt s.attempt.step
+sitting_seen s (Polls index) attempts = attempt_seen (last_seen s.seen) s.attempt s.attempt.step
+sitting_seen s step attempts = absurd attempts
+
+seen_so : (w : GuardWorld) (number : ℕ) (x : Actor) (s : SessionState) → IsAttempting s.step → Sits w number x s → seen_of w.now.actors number ≡ last_seen s.seen
+seen_so w number x s attempts sits = ap seen_at sits.got ∙ (sits.fits.seen ∙ sitting_seen s s.step attempts)
+
+-- ---- the head has come as far, and no further than what is flushed
+pub head_flushed : (opening : World) (start : ℕ) (events : List Event) (session : ℕ) (s : SessionState) → IsOpened opening.now start → slice_get (run opening events).now.sessions session ≡ Some s → IsAttempting s.step
+    → s.seen.offsets.head.0 ≤ (levels_of (run opening events).now.words).flushed
+head_flushed opening start events session s opened found attempts =
+    let w : GuardWorld = seen_by_guard opening start events in
+    let shows = life_shows opening start events opened in
+    let seat = shows.sessions session s found in
+    let same : seen_of w.now.actors session ≡ last_seen s.seen = seen_so w session seat.actor s attempts seat.sits in
+    let seen : (seen_of w.now.actors session).head ≤ (levels_of w.now.words).head = shows.sound.guard.safe.head_below session in
+    let below : (levels_of w.now.words).head ≤ (levels_of w.now.words).flushed = shows.sound.guard.in_order.head_below in
+    let flushed : (seen_of w.now.actors session).head ≤ (levels_of w.now.words).flushed = omega (arith, seen, below) in
+    subst (λ (words : List ℕ). s.seen.offsets.head.0 ≤ (levels_of words).flushed) shows.words (subst (λ (its : LastSeen). its.head ≤ (levels_of w.now.words).flushed) same flushed)

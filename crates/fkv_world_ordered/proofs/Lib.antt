@@ -1,0 +1,3 @@
+mod Answered
+mod Ordered
+pub mod Shown

@@ -1,0 +1,6 @@
+mod Apart
+mod Begun
+mod Events
+mod Life
+pub mod Shown
+mod Tickets
