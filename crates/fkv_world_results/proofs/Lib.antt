@@ -1,0 +1,7 @@
+mod Counted
+mod Given
+mod InCall
+mod MadeInCall
+mod Opened
+mod OwnCall
+pub mod Shown

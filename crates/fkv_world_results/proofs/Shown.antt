@@ -1,0 +1,3 @@
+-- What crates above may cite.
+pub use Rattle.fkv_world_results.proofs.Given.{all_given}
+pub use Rattle.fkv_world_results.proofs.InCall.{effects_in_call, result_told}

@@ -1,0 +1,13 @@
+-- The law, by a call's own run and by what answers tell.
+use Rattle.fkv_world_results.proofs.Given.{all_given}
+use Rattle.fkv_world_results.proofs.InCall.{effects_in_call, result_told}
+use Rattle.fkv_world_results.proofs.laws.law_world_results.Goals as goal
+
+pub returns-clause-effects_in_call : goal.returns-clause-effects_in_call
+returns-clause-effects_in_call c = λ opening before number moves op s opened alive found idle. effects_in_call opening before number moves op s opened alive found idle
+
+pub returns-clause-result_told : goal.returns-clause-result_told
+returns-clause-result_told c = λ opening before number moves op s its answer opened alive found idle is_now at. result_told opening before number moves op s its answer opened alive found idle is_now at
+
+pub returns-clause-all_given : goal.returns-clause-all_given
+returns-clause-all_given c = λ opening events number s its opened found idle is_in mine. all_given opening events number s its opened found idle is_in mine
