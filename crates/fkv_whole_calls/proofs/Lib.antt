@@ -1,3 +1,5 @@
+mod CallTold
+mod Calls
 mod Fresh
 pub mod Shown
 mod Updated

@@ -3,4 +3,4 @@
 
 mod laws;
 
-pub use laws::law_answered_alone;
+pub use laws::{law_answered_alone, law_whole_calls};
