@@ -11,7 +11,7 @@ use std::collections::BTreeMap;
 use std::marker::Model;
 
 /// A map from keys to values, to which operations are applied one after another.
-#[derive(Debug, Drop)]
+#[derive(Drop)]
 pub struct PlainMap {
     values: BTreeMap<Key, Value>,
     alloc: Global,
