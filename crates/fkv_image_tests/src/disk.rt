@@ -1,6 +1,9 @@
 //! What no clause says: that calls succeed, what a real file does, and bytes written by hand.
 use fkv_base::Fault;
-use fkv_disk::*;
+use fkv_disk::{
+    Device, FileDisk, Fuse, FuseState, MemDisk, Once, law_anything_in_range, law_forgotten,
+    law_fuse_says, law_synced, law_torn, law_written_and_synced, make_file, open_file,
+};
 use std::test::Fail;
 
 #[test]

@@ -1,5 +1,5 @@
 use fkv_base::{Fault, Key, Serial, Value};
-use fkv_map::*;
+use fkv_map::{HistoryEntry, Op, Reply, kept, replay};
 use std::test::Fail;
 
 fn adds(session: usize, serial: u64, n: u64, sum: u64) -> HistoryEntry {

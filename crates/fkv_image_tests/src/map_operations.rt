@@ -1,5 +1,5 @@
 use fkv_base::{Key, Value};
-use fkv_map::*;
+use fkv_map::{Op, Reply};
 
 #[test]
 fn an_operation_goes_by_its_keys_value(rt: HostRuntime) {

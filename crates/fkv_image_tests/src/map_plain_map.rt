@@ -1,5 +1,5 @@
 use fkv_base::{Fault, Key, Value};
-use fkv_map::*;
+use fkv_map::{Op, PlainMap, Reply};
 use std::test::Fail;
 
 #[test]

@@ -1,7 +1,12 @@
 use arrayvec::ArrayVec;
 use byteorder::{ByteOrder, LittleEndian};
 use fkv_base::{Addr, Key, MAX_SESSIONS, Serial, Shape, Version};
-use fkv_record::*;
+use fkv_record::{
+    Format, LostRange, LostRanges, ManifestSlot, OPEN, Points, Record, Slot, Triple, area_place,
+    law_first_format, law_formats_apart, law_spellings_apart, most_triples, open_number,
+    read_manifest_slot, read_record, read_shape, read_slot, read_triple, record_place,
+    write_manifest_slot, write_newest_slot, write_record, write_shape, write_slot, write_triple,
+};
 use fkv_words::Header;
 use std::process::Abort;
 use std::test::Fail;

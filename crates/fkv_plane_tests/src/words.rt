@@ -1,5 +1,8 @@
 use fkv_base::{Addr, Key, Phase, Serial, Version};
-use fkv_words::*;
+use fkv_words::{
+    BucketTail, CutWord, Entry, Header, PhaseSaid, PhaseWord, bucket_of, law_words_apart,
+    phase_said, tag_of,
+};
 
 #[test]
 fn headers_have_their_words(rt: HostRuntime) {
