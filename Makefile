@@ -41,9 +41,9 @@ rows: fkv
 
 memory: fkv
 	cd crates/fkv_opening_tests && rt test > /dev/null
-	cd crates/fkv_creating && rt test > /dev/null
+	cd crates/fkv_image_tests && rt test > /dev/null
 	cd crates/fkv_keeper_tests && rt test > /dev/null
-	cd crates/fkv_options && rt test > /dev/null
+	cd crates/fkv_text_tests && rt test > /dev/null
 	tools/memory/run build/fkv
 	tools/memory/opening
 	tools/memory/creating

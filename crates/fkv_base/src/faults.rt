@@ -191,22 +191,3 @@ impl<T: Drop> From<AllocFailed<T>> for Fault {
         Fault::Memory
     }
 }
-
-#[cfg(test)]
-mod tests {
-    use super::*;
-    use std::test::Fail;
-
-    #[test]
-    fn a_fault_has_its_number_and_name(rt: HostRuntime) -> Result<(), Fail> {
-        let damaged = Fault::Damaged(Damage::Record, 1);
-        assert_eq!(rt; damaged.number(), 16);
-        assert_eq!(rt; damaged.name(), "Damaged");
-        assert_eq!(rt; Damage::Record.name(), "Record");
-        assert_eq!(rt; ScriptFault::Count.name(), "Count");
-        assert_eq!(rt; Fault::LostFull.number(), 21);
-        let shown = format!(in rt.alloc(); "{damaged}")?;
-        assert_eq!(rt; shown.as_str(), "the image is damaged: record 1");
-        Ok(())
-    }
-}

@@ -26,14 +26,3 @@ impl Phase {
         }
     }
 }
-
-#[cfg(test)]
-mod tests {
-    use super::*;
-
-    #[test]
-    fn each_phase_has_its_name(rt: HostRuntime) {
-        assert_eq!(rt; Phase::Rest.name(), "rest");
-        assert_eq!(rt; Phase::WaitFlush.name(), "wait-flush");
-    }
-}

@@ -82,17 +82,3 @@ fn is_ring_size(size: u64, least: u64, most: u64) -> bool
 {
     size.is_power_of_two() && least <= size && size <= most
 }
-
-#[cfg(test)]
-mod tests {
-    use super::*;
-
-    #[test]
-    fn a_shape_within_its_limits_is_kept(rt: HostRuntime) {
-        assert!(rt; Shape::new(4, 16, 4, 2, 1, 0, 64).is_ok());
-        assert!(rt; Shape::new(10, 1024, 64, 63, 32, 1024, 65536).is_ok());
-        assert_eq!(rt; Shape::new(4, 16, 4, 2, 33, 0, 64), Err(Fault::BadShape));
-        assert_eq!(rt; Shape::new(4, 6, 4, 2, 1, 0, 64), Err(Fault::BadShape));
-        assert_eq!(rt; Shape::new(0, 4, 2, 2, 1, 0, 1), Err(Fault::BadShape));
-    }
-}

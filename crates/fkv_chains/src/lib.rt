@@ -8,6 +8,3 @@ mod readings;
 
 pub use chain_stage::check_chains;
 pub use laws::{law_entries, law_no_fault};
-
-#[cfg(test)]
-mod tests;

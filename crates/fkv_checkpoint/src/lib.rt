@@ -7,6 +7,3 @@ mod triple_buffers;
 
 pub use copying::IndexCopy;
 pub use laws::{law_copied, law_fuzzy_copy, law_of_a_fuzzy_copy};
-
-#[cfg(test)]
-mod tests;

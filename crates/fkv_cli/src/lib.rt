@@ -7,6 +7,3 @@ mod programs;
 mod scripts;
 
 pub use programs::{refuse_unread, run};
-
-#[cfg(test)]
-mod tests;

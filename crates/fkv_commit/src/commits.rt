@@ -14,7 +14,7 @@ pub enum CommitKind {
 }
 
 /// What is known of the commit in hand, but for its points, which the machine that seeks them keeps.
-#[derive(Clone, Copy, Debug, PartialEq, Eq)]
+#[derive(Clone, Copy)]
 pub struct Commit {
     /// The commit's number, and the version that it commits.
     pub number: Version,

@@ -20,6 +20,3 @@ pub use laws::{law_of_phases, law_of_points};
 pub use seeking::{SeekAnswer, SeekPoints};
 pub use starting::{StartAnswer, StartCommit};
 pub use waiting::{WaitAnswer, WaitFlush};
-
-#[cfg(test)]
-mod tests;

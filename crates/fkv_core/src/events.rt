@@ -6,7 +6,7 @@ use fkv_map::Call;
 use fkv_session::Answer;
 
 /// What may happen next.
-#[derive(Clone, Copy, Debug, PartialEq, Eq)]
+#[derive(Clone, Copy)]
 pub enum Event {
     /// The session of this number begins a call, where it has none in hand.
     Call(usize, Call),
@@ -23,7 +23,7 @@ pub enum Event {
 }
 
 /// Who moves.
-#[derive(Clone, Copy, Debug, PartialEq, Eq)]
+#[derive(Clone, Copy)]
 pub enum Actor {
     /// The session of this number.
     Session(usize),

@@ -9,6 +9,3 @@ mod opening;
 pub use creating::create;
 pub use laws::law_new_is_sound;
 pub use opening::create_opened;
-
-#[cfg(test)]
-mod tests;

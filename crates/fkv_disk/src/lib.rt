@@ -20,6 +20,3 @@ pub use laws::{
 };
 pub use memory::MemDisk;
 pub use single::Once;
-
-#[cfg(test)]
-mod tests;

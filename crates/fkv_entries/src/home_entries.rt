@@ -2,7 +2,7 @@
 use fkv_words::Entry;
 
 /// A home of the index that has an entry.
-#[derive(Clone, Copy, Debug, PartialEq, Eq)]
+#[derive(Clone, Copy)]
 pub struct HomeEntry {
     /// The bucket, below 2^bucket_bits.
     pub bucket: u64,

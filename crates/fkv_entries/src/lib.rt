@@ -8,6 +8,3 @@ mod needing;
 pub use home_entries::HomeEntry;
 pub use laws::law_entries_in_room;
 pub use needing::needed;
-
-#[cfg(test)]
-mod tests;

@@ -21,6 +21,3 @@ pub use raising::{Raise, RaiseAnswer};
 pub use refreshing::{Refresh, RefreshAnswer};
 pub use scanning::Scan;
 pub use values::Seen;
-
-#[cfg(test)]
-mod tests;

@@ -6,6 +6,3 @@ mod laws;
 
 pub use filling::{IndexWords, index_words};
 pub use laws::law_filled_index_is_in_order;
-
-#[cfg(test)]
-mod tests;

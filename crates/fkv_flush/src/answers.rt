@@ -1,7 +1,7 @@
 //! What the machines come to.
 
 /// What a machine that uses the device has come to.
-#[derive(Clone, Copy, Debug, PartialEq, Eq)]
+#[derive(Clone, Copy)]
 pub enum DeviceAnswer {
     /// Its next step is one call of the device, which `device_step` makes.
     Device,

@@ -20,7 +20,7 @@ use std::marker::Model;
 
 /// The records of one page that one write takes to the device: those from an address on and below another. The whole
 /// flush goes on to its end.
-#[derive(Clone, Copy, Debug, PartialEq, Eq)]
+#[derive(Clone, Copy)]
 pub(crate) struct Part {
     from: u64,
     stop: u64,
@@ -28,7 +28,7 @@ pub(crate) struct Part {
 }
 
 /// How far the machine has come.
-#[derive(Clone, Copy, Debug, PartialEq, Eq)]
+#[derive(Clone, Copy)]
 pub(crate) enum Flushing {
     AtRest,
     LoadsFlushed,

@@ -17,6 +17,3 @@ pub use laws::{
     law_of_the_ring, law_seen,
 };
 pub use serving::Serve;
-
-#[cfg(test)]
-mod tests;

@@ -16,7 +16,7 @@ use fkv_record::record_place;
 use std::marker::Model;
 
 /// The words of a record that was read for a session.
-#[derive(Clone, Copy, Debug, PartialEq, Eq)]
+#[derive(Clone, Copy)]
 pub(crate) struct Mail {
     header: u64,
     key: u64,
@@ -24,7 +24,7 @@ pub(crate) struct Mail {
 }
 
 /// How far the machine has come: the session that is met, the address that it asks for, and what was read there.
-#[derive(Clone, Copy, Debug, PartialEq, Eq)]
+#[derive(Clone, Copy)]
 pub(crate) enum Serving {
     AtRest,
     LoadsState(usize),

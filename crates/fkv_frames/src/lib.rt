@@ -6,6 +6,3 @@ mod pages;
 
 pub use laws::{law_places_in_frames, law_places_of_open_pages};
 pub use pages::{frame_of, page_of, place_of};
-
-#[cfg(test)]
-mod tests;

@@ -11,7 +11,7 @@ use fkv_plane::{Ask, Places, SharedWord};
 use std::marker::Model;
 
 /// What a slot is sought for.
-#[derive(Clone, Copy, Debug, PartialEq, Eq)]
+#[derive(Clone, Copy)]
 pub enum Purpose {
     Read,
     Update,

@@ -14,6 +14,3 @@ pub use laws::{
     law_entries, law_homes, law_of_the_eighth_entry, law_one_entry, law_orders, law_searches,
 };
 pub use publishing::{Publish, PublishAnswer};
-
-#[cfg(test)]
-mod tests;

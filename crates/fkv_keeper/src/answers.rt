@@ -39,7 +39,7 @@ pub enum KeeperAsk {
 }
 
 /// What the keeper has come to, without the points of a finished commit, which stay in the keeper.
-#[derive(Clone, Copy, Debug, PartialEq, Eq)]
+#[derive(Clone, Copy)]
 pub enum KeeperTold {
     /// Its next step is one call of the device.
     Device,

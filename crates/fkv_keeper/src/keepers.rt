@@ -39,7 +39,7 @@ use std::marker::Model;
 pub const MAX_LOST_IN_HAND: usize = 9;
 
 /// How far the call in hand has come. What the last call was told is kept up to the next one.
-#[derive(Clone, Copy, Debug, PartialEq, Eq)]
+#[derive(Clone, Copy)]
 pub(crate) enum Keeping {
     Ended(KeeperTold),
     /// A commit starts.

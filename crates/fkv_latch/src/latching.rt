@@ -10,7 +10,7 @@ const ONE_SHARE: u64 = 1 << 48;
 const EXCLUSIVE_BIT: u64 = 1 << 63;
 
 /// What is to be done with a latch.
-#[derive(Clone, Copy, Debug, PartialEq, Eq)]
+#[derive(Clone, Copy)]
 pub enum LatchTask {
     TakeShared,
     DropShared,

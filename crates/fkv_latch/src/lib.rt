@@ -7,6 +7,3 @@ mod laws;
 
 pub use latching::{Latch, LatchAnswer, LatchTask};
 pub use laws::{law_latched, law_of_a_meeting, law_tasks};
-
-#[cfg(test)]
-mod tests;

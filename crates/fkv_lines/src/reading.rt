@@ -6,8 +6,6 @@ ghost use Rattle.fkv_lines.specs.Reading.{Reads};
 mod calls;
 mod kinds;
 mod numbers;
-#[cfg(test)]
-mod tests;
 mod words;
 
 use crate::scripts::{Mode, Script};

@@ -3,7 +3,7 @@ use fkv_commit::CommitKind;
 use fkv_map::Call;
 
 /// Where the store of a run lies. A store in memory is crashed by its script, and one in a file is opened again.
-#[derive(Clone, Copy, Debug, PartialEq, Eq)]
+#[derive(Clone, Copy)]
 pub enum Mode {
     /// In memory: `open` is not served.
     Memory,
@@ -53,7 +53,7 @@ pub enum Line {
 }
 
 /// A script without a faulty line.
-#[derive(Debug, Drop)]
+#[derive(Drop)]
 pub struct Script {
     /// The line that opens the store; none where no line says anything.
     pub opening: Option<Opening>,

@@ -7,7 +7,7 @@ use fkv_plane::{Ask, Places, RecordWord};
 use std::marker::Model;
 
 /// How far the machine has come, with the address and the record.
-#[derive(Clone, Copy, Debug, PartialEq, Eq)]
+#[derive(Clone, Copy)]
 pub(crate) enum Filling {
     AtRest,
     StoresValue(Addr, RecordWords),

@@ -7,7 +7,7 @@ use fkv_words::Header;
 use std::marker::Model;
 
 /// How far the machine has come, with the address and the header that the record has there.
-#[derive(Clone, Copy, Debug, PartialEq, Eq)]
+#[derive(Clone, Copy)]
 pub(crate) enum Invalidating {
     AtRest,
     StoresHeader(Addr, Header),

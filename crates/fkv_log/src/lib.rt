@@ -28,6 +28,3 @@ pub use regions::{Region, SeenOffsets};
 pub use reserving::{Reserve, ReserveAnswer};
 pub use shifting::{ShiftAnswer, ShiftReadOnly};
 pub use turning::{TurnForm, TurnPage};
-
-#[cfg(test)]
-mod tests;

@@ -6,7 +6,7 @@ use fkv_plane::{Ask, Places, RecordWord};
 use std::marker::Model;
 
 /// How far the machine has come, with the address and the words that it has loaded.
-#[derive(Clone, Copy, Debug, PartialEq, Eq)]
+#[derive(Clone, Copy)]
 pub(crate) enum Loading {
     AtRest,
     LoadsHeader(Addr),

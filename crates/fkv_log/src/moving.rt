@@ -10,7 +10,7 @@ use fkv_plane::{Action, Ask, SharedWord, passed};
 use std::marker::Model;
 
 /// An offset that is moved before all have seen it.
-#[derive(Clone, Copy, Debug, PartialEq, Eq)]
+#[derive(Clone, Copy)]
 pub enum Offset {
     /// The read-only offset. Once all have seen it, the safe read-only offset follows.
     ReadOnly,
@@ -30,14 +30,14 @@ pub enum MoveAnswer {
 }
 
 /// An offset, and where it is moved.
-#[derive(Clone, Copy, Debug, PartialEq, Eq)]
+#[derive(Clone, Copy)]
 pub(crate) struct Target {
     offset: Offset,
     to: u64,
 }
 
 /// How far the machine has come.
-#[derive(Clone, Copy, Debug, PartialEq, Eq)]
+#[derive(Clone, Copy)]
 pub(crate) enum Moving {
     AtRest,
     /// A slot is sought; or the offset is moved, and the epoch is raised.

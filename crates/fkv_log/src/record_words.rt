@@ -3,7 +3,7 @@ use fkv_base::Key;
 use fkv_words::Header;
 
 /// A record as it is written to its three words.
-#[derive(Clone, Copy, Debug, PartialEq, Eq)]
+#[derive(Clone, Copy)]
 pub struct RecordWords {
     /// The record before it in the chain of its home, and the version that writes it.
     pub header: Header,

@@ -7,7 +7,7 @@ use fkv_plane::{Ask, SharedWord};
 use std::marker::Model;
 
 /// How far the machine has come, with the offsets that it has loaded.
-#[derive(Clone, Copy, Debug, PartialEq, Eq)]
+#[derive(Clone, Copy)]
 pub(crate) enum Reserving {
     AtRest,
     LoadsLimit,

@@ -21,7 +21,7 @@ pub enum ShiftAnswer {
 }
 
 /// How far the machine has come, and the tail once it is loaded.
-#[derive(Clone, Copy, Debug, PartialEq, Eq)]
+#[derive(Clone, Copy)]
 pub(crate) enum Shifting {
     AtRest,
     LoadsTail,

@@ -10,7 +10,7 @@ use fkv_plane::{Ask, SharedWord, passed};
 use std::marker::Model;
 
 /// How far a turn of pages goes.
-#[derive(Clone, Copy, Debug, PartialEq, Eq)]
+#[derive(Clone, Copy)]
 pub enum TurnForm {
     /// It opens the page, or else moves the head so that the frame gets free: the background actor's turn.
     Whole,
@@ -19,7 +19,7 @@ pub enum TurnForm {
 }
 
 /// How far the machine has come.
-#[derive(Clone, Copy, Debug, PartialEq, Eq)]
+#[derive(Clone, Copy)]
 pub(crate) enum Turning {
     AtRest,
     /// The tail.

@@ -35,7 +35,7 @@ pub enum MaintainAnswer {
 }
 
 /// How far the machine has come. At rest it says how the last turn ended.
-#[derive(Clone, Copy, Debug, PartialEq, Eq)]
+#[derive(Clone, Copy)]
 pub(crate) enum Maintaining {
     Through,
     Spent,

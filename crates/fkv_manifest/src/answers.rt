@@ -2,7 +2,7 @@
 use fkv_base::Fault;
 
 /// How far the writes have come.
-#[derive(Clone, Copy, Debug, PartialEq, Eq)]
+#[derive(Clone, Copy, PartialEq, Eq)]
 pub enum WriteAnswer {
     /// A call of the device comes next.
     Device,

@@ -7,7 +7,7 @@ use fkv_base::Fault;
 use fkv_disk::Device;
 
 /// The call of the device that comes next.
-#[derive(Clone, Copy, Debug)]
+#[derive(Clone, Copy)]
 pub enum NextCall<'a> {
     /// A write of these bytes from this offset on.
     Writes(u64, &'a [u8]),

@@ -11,7 +11,7 @@ use fkv_disk::Device;
 use std::marker::Model;
 
 /// How far the machine has come.
-#[derive(Clone, Copy, Debug, PartialEq, Eq)]
+#[derive(Clone, Copy)]
 pub(crate) enum Committing {
     WritesTriples,
     SyncsTriples,

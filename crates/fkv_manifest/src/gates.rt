@@ -15,7 +15,7 @@ use std::marker::Model;
 const CLOSED: u8 = 0;
 
 /// How far the machine has come.
-#[derive(Clone, Copy, Debug, PartialEq, Eq)]
+#[derive(Clone, Copy)]
 pub(crate) enum Gating {
     Closes,
     SyncsClosed,

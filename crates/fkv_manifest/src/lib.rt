@@ -15,6 +15,3 @@ pub use commits::CommitWrites;
 pub use gates::GateWrites;
 pub use laws::{law_commits_follow, law_gates, law_order, law_slots_are_named};
 pub use slots::put_slot;
-
-#[cfg(test)]
-mod tests;

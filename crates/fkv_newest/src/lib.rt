@@ -11,6 +11,3 @@ mod suiting;
 pub use laws::{law_no_fault, law_one_fault, law_read_alike};
 pub use newest_slots::Newest;
 pub use reading::read_newest;
-
-#[cfg(test)]
-mod tests;

@@ -7,7 +7,7 @@ use fkv_base::Shape;
 use fkv_record::{Format, ManifestSlot};
 
 /// The shape of a store, and what its newest manifest slot says.
-#[derive(Debug, Drop)]
+#[derive(Drop)]
 pub struct Newest {
     pub shape: Shape,
     /// Which of the two slots is the newest, 0 or 1.

@@ -13,6 +13,3 @@ pub use laws::{law_one_fault, law_opens_alike};
 pub use opened_store::{Checkpoint, MAX_LOST_IN_HAND, Opened};
 pub use opening_words::{OpeningWords, SessionWords};
 pub use recovery::recover;
-
-#[cfg(test)]
-mod tests;

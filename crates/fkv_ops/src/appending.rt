@@ -12,7 +12,7 @@ use fkv_words::{Entry, Header};
 use std::marker::Model;
 
 /// The slot in which an entry is to be published: its place, the word that was found there, and the tag of the home.
-#[derive(Clone, Copy, Debug, PartialEq, Eq)]
+#[derive(Clone, Copy)]
 pub struct FoundSlot {
     pub place: usize,
     pub entry: u64,

@@ -6,7 +6,7 @@ use fkv_base::{Addr, Version};
 use fkv_words::Header;
 
 /// What a header's word says.
-#[derive(Clone, Copy, Debug, PartialEq, Eq)]
+#[derive(Clone, Copy)]
 pub enum HeaderSaid {
     /// The record before it in its chain, and the version that wrote it.
     Says(Addr, Version),

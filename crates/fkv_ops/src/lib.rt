@@ -23,6 +23,3 @@ pub use requests::{HeldRecord, Occasion, Request, Seen};
 pub use trying::Try;
 pub use values::{value_of_word, word_of_value};
 pub use walking::{Walk, WalkAnswer};
-
-#[cfg(test)]
-mod tests;

@@ -50,7 +50,7 @@ pub struct Seen {
 }
 
 /// When a request is tried. Where the index or the log is full a new request is refused, and one that is pending waits.
-#[derive(Clone, Copy, Debug, PartialEq, Eq)]
+#[derive(Clone, Copy)]
 pub enum Occasion {
     Call,
     Poll,

@@ -6,6 +6,3 @@ mod options;
 
 pub use endings::RunFault;
 pub use options::{Options, options_of};
-
-#[cfg(test)]
-mod tests;

@@ -9,6 +9,3 @@ mod showing;
 
 pub use contents::content;
 pub use laws::law_chain_of_entry;
-
-#[cfg(test)]
-mod tests;

@@ -13,6 +13,3 @@ pub use laws::{law_attempts, law_mailbox};
 pub use mailing::{Mail, MailAnswer, MailRecord, MailTask};
 pub use pending_lists::PendingList;
 pub use pending_requests::{PendingRequest, RequestName, Ticket};
-
-#[cfg(test)]
-mod tests;

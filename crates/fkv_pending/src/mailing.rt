@@ -21,7 +21,7 @@ pub struct MailRecord {
 }
 
 /// What is to be done with the mailbox.
-#[derive(Clone, Copy, Debug, PartialEq, Eq)]
+#[derive(Clone, Copy)]
 pub enum MailTask {
     /// To empty it where a record is ready that nobody waits for any more.
     Clear,

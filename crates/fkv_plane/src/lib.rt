@@ -15,6 +15,3 @@ pub use laws::law_places_apart;
 pub use passing::passed;
 pub use places::{Places, RecordWord, SessionWord, SharedWord, drain_place};
 pub use plain_words::PlainWords;
-
-#[cfg(test)]
-mod tests;

@@ -6,7 +6,7 @@ ghost use Rattle.fkv_base.specs.Limits.{max_sessions, max_buckets, max_overflow,
 use fkv_base::{Addr, Shape};
 
 /// The words that the store has once.
-#[derive(Clone, Copy, Debug, PartialEq, Eq)]
+#[derive(Clone, Copy)]
 pub enum SharedWord {
     Epoch,
     SafeEpoch,
@@ -23,7 +23,7 @@ pub enum SharedWord {
 }
 
 /// The words of one session.
-#[derive(Clone, Copy, Debug, PartialEq, Eq)]
+#[derive(Clone, Copy)]
 pub enum SessionWord {
     /// The session's epoch, 0 where it is not protected.
     Epoch,
@@ -39,7 +39,7 @@ pub enum SessionWord {
 }
 
 /// The three words of a record in memory.
-#[derive(Clone, Copy, Debug, PartialEq, Eq)]
+#[derive(Clone, Copy)]
 pub enum RecordWord {
     Header,
     Key,

@@ -35,6 +35,3 @@ pub use slot_bytes::{read_slot, write_slot};
 pub use slots::Slot;
 pub use triple_bytes::{read_triple, write_triple};
 pub use triples::Triple;
-
-#[cfg(test)]
-mod tests;

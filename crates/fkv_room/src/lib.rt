@@ -7,6 +7,3 @@ mod room_stage;
 
 pub use laws::law_no_fault;
 pub use room_stage::check_room;
-
-#[cfg(test)]
-mod tests;

@@ -11,8 +11,6 @@ mod pieces;
 mod runs;
 mod settings;
 mod telling;
-#[cfg(test)]
-mod tests;
 
 pub use crashing::Crashes;
 pub use files::play_life;

@@ -8,7 +8,7 @@ use std::alloc::Global;
 use std::io;
 
 /// A piece of a script: what is played before anything else begins.
-#[derive(Debug, Drop)]
+#[derive(Drop)]
 pub enum Piece {
     /// Calls of sessions and of the keeper: one, or some that are interleaved.
     Group(Vec<ActorCall>),

@@ -5,7 +5,7 @@ use fkv_base::{Addr, Version};
 use fkv_record::Record;
 
 /// What the scan found of a home.
-#[derive(Clone, Copy, Debug, PartialEq, Eq)]
+#[derive(Clone, Copy)]
 pub struct HomeScan {
     /// The newest record of the home that the scan met and that counts.
     pub newest: Option<Addr>,

@@ -13,6 +13,3 @@ pub use home_scans::HomeScan;
 pub use laws::law_no_fault;
 pub use scans::{Scanned, scan};
 pub use triple_stage::read_triples;
-
-#[cfg(test)]
-mod tests;

@@ -23,7 +23,7 @@ use fkv_plane::{Action, Ask, Places, SessionWord, passed};
 use std::marker::Model;
 
 /// Why a session catches up with the store.
-#[derive(Clone, Copy, Debug, PartialEq, Eq)]
+#[derive(Clone, Copy)]
 pub(crate) enum CatchCause {
     Refreshes,
     Wakes,

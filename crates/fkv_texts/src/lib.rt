@@ -16,6 +16,3 @@ pub use polls::{WaitingRead, write_finished};
 pub use refusals::{write_keeper_refusal, write_refusal, write_session_refusal};
 pub use reports::{Opening, write_check, write_report};
 pub use sessions::write_answer;
-
-#[cfg(test)]
-mod tests;

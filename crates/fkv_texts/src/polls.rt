@@ -11,7 +11,7 @@ use fkv_session::Finished;
 use std::io::{self, Write};
 
 /// A read that went pending: the ticket that it was given, and the key that it asks for.
-#[derive(Clone, Copy, Debug, PartialEq, Eq)]
+#[derive(Clone, Copy)]
 pub struct WaitingRead {
     pub ticket: Ticket,
     pub key: Key,

@@ -20,6 +20,3 @@ pub use home::{bucket_of, tag_of};
 pub use laws::law_words_apart;
 pub use phase_word::PhaseWord;
 pub use phase_words::{PhaseSaid, phase_said};
-
-#[cfg(test)]
-mod tests;

@@ -1,0 +1,92 @@
+//! What no clause says: that calls succeed, what a real file does, and bytes written by hand.
+use fkv_base::Fault;
+use fkv_disk::{
+    Device, FileDisk, Fuse, FuseState, MemDisk, Once, law_anything_in_range, law_forgotten,
+    law_fuse_says, law_synced, law_torn, law_written_and_synced, make_file, open_file,
+};
+use std::test::Fail;
+
+#[test]
+fn memory_reads_back(rt: HostRuntime) -> Result<(), Fail> {
+    let mut disk = MemDisk::new(rt.alloc());
+    disk.write(2, &[7, 8])?;
+    disk.sync()?;
+    assert!(rt; disk.write(u64::MAX, &[1]).is_err());
+    assert!(rt; disk.failures() == 1);
+    disk.write(0, &[6])?;
+    disk.forget_synced()?;
+    assert!(rt; disk.bytes() == [6, 0, 7, 8].as_slice());
+    let mut disk = MemDisk::from_bytes(rt.alloc(), disk.into_bytes())?;
+    let mut read = [9; 4];
+    disk.read(3, &mut read)?;
+    assert!(rt; read == [8, 0, 0, 0]);
+    Ok(())
+}
+
+#[test]
+fn a_fuse_tears_what_was_not_synced(rt: HostRuntime) -> Result<(), Fail> {
+    let opening = [1, 2, 3, 4].to_vec(rt.alloc())?;
+    let mut fuse = Fuse::new(MemDisk::from_bytes(rt.alloc(), opening)?);
+    fuse.write(0, &[5])?;
+    fuse.arm(2);
+    fuse.sync()?;
+    fuse.forget_synced()?;
+    fuse.write(1, &[6])?;
+    assert!(rt; fuse.write(3, &[7, 8, 9]).is_err());
+    assert!(rt; fuse.failures() == 1);
+    assert!(rt; fuse.state() == FuseState::BlownAt(3, 3));
+    assert!(rt; fuse.device().bytes() == [5, 6, 3, 4].as_slice());
+    let image = fuse.crash(165)?;
+    assert!(rt; image.bytes() == [5, 165, 3, 165, 165, 165].as_slice());
+    Ok(())
+}
+
+#[test]
+fn one_call_fails_alone(rt: HostRuntime) -> Result<(), Fail> {
+    let mut once = Once::new(MemDisk::new(rt.alloc()), 1);
+    once.write(0, &[1])?;
+    assert!(rt; once.write(0, &[2]).is_err());
+    assert!(rt; once.device().bytes() == [1].as_slice());
+    once.write(0, &[3])?;
+    assert!(rt; once.failures() == 1);
+    let fuse = Fuse::new(once.into_device());
+    assert!(rt; fuse.into_device().bytes() == [3].as_slice());
+    Ok(())
+}
+
+#[test]
+fn a_file_reads_back(rt: HostRuntime) -> Result<(), Fail> {
+    let path = "fkv_disk_test_file";
+    let mut disk = make_file(&rt, path)?;
+    disk.write(1, &[7, 8])?;
+    disk.sync()?;
+    let mut read = [9; 5];
+    disk.read(0, &mut read)?;
+    assert!(rt; read == [0, 7, 8, 0, 0]);
+    drop(disk);
+    let mut again = open_file(&rt, path)?;
+    again.read(2, &mut read)?;
+    assert!(rt; read == [8, 0, 0, 0, 0]);
+    let mut shut = FileDisk::new(std::fs::open(&rt, path)?);
+    assert!(rt; shut.write(0, &[1]).is_err());
+    assert!(rt; shut.failures() == 1);
+    // The system syncs no such file, and says so.
+    let mut endless = FileDisk::new(std::fs::open(&rt, "/dev/zero")?);
+    endless.read(0, &mut read)?;
+    assert!(rt; endless.sync().is_err());
+    assert!(rt; endless.failures() == 1);
+    std::fs::remove_file(&rt, path)?;
+    assert!(rt; open_file(&rt, path).is_err());
+    Ok(())
+}
+
+#[test]
+fn laws_hold(_rt: HostRuntime) -> Result<(), Fail> {
+    law_torn();
+    law_synced();
+    law_written_and_synced();
+    law_anything_in_range();
+    law_forgotten();
+    law_fuse_says();
+    Ok(())
+}

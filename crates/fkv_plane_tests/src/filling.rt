@@ -1,0 +1,69 @@
+ghost use Rattle.std.specs.Prelude.{◌<◌};
+
+use fkv_base::{Addr, Shape};
+use fkv_entries::HomeEntry;
+use fkv_filling::index_words;
+use fkv_words::Entry;
+use std::test::Fail;
+
+// The word of an entry with tag 1 and address 2, less that with tag 0 and address 1.
+const NEXT: u64 = 281474976710657;
+
+// The home of this tag in bucket 0, whose address is one above the tag.
+fn home(tag: u16) -> HomeEntry
+    requires { tag < 100 }
+{
+    HomeEntry {
+        bucket: 0,
+        entry: Entry {
+            addr: Addr(u64::from(tag) + 1),
+            tag,
+        },
+    }
+}
+
+/// Eight homes of one bucket fill its seven slots by tag, and the last one stands in an overflow bucket. A second one stays empty.
+#[test]
+fn the_eighth_home_stands_in_an_overflow_bucket(rt: HostRuntime) -> Result<(), Fail> {
+    let shape = Shape::new(0, 4, 2, 1, 1, 2, 8)?;
+    let entries = [
+        home(7),
+        home(2),
+        home(0),
+        home(1),
+        home(6),
+        home(3),
+        home(5),
+        home(4),
+    ];
+    let index = index_words(rt.alloc(), &shape, &entries)?;
+    let words = [
+        1,
+        1 + NEXT,
+        1 + 2 * NEXT,
+        1 + 3 * NEXT,
+        1 + 4 * NEXT,
+        1 + 5 * NEXT,
+        1 + 6 * NEXT,
+        1,
+        1 + 7 * NEXT,
+        0,
+        0,
+        0,
+        0,
+        0,
+        0,
+        0,
+        0,
+        0,
+        0,
+        0,
+        0,
+        0,
+        0,
+        0,
+    ];
+    assert_eq!(rt; index.taken, 1);
+    assert!(rt; index.words.as_slice() == words.as_slice());
+    Ok(())
+}

@@ -1,0 +1,16 @@
+//! A whole run of the program.
+use fkv_cli::run;
+
+const SCRIPT: &str = "shape 4 16 4 2 2 1 64\n0 up 7 10\nk commit\nk finish\n1 add 7 1\ncrash\n";
+
+const ANSWERS: &str =
+    "0 #1 done\nk commit 1\nk finished 1 points 1 0\n1 #1 = 11\ncrash commit 1 points 1 0 pairs 1\npair 7 10\ncheck recovered equals replay\n";
+
+#[test]
+fn a_script_prints_its_answers(rt: HostRuntime) {
+    let mut output = Vec::new(rt.alloc());
+    let words = ["--check", "--torn", "165"];
+    let status = run(&rt, rt.alloc(), &words, SCRIPT.as_bytes(), &mut output);
+    assert_eq!(rt; output.as_slice(), ANSWERS.as_bytes());
+    assert_eq!(rt; status, 0);
+}

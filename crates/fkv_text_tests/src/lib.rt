@@ -1,0 +1,15 @@
+//! Tests of the program's words, of the lines of its scripts, of its texts and of whole runs. They stand in a crate of their own, since a crate with tests is proved twice.
+#![tactic(auto)]
+
+#[cfg(test)]
+mod cli;
+#[cfg(test)]
+mod lines;
+#[cfg(test)]
+mod options;
+#[cfg(test)]
+mod programs;
+#[cfg(test)]
+mod runs;
+#[cfg(test)]
+mod texts;
