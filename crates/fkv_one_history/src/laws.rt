@@ -1,5 +1,6 @@
 //! The order law of the engine, in every life without commits.
 ghost use Rattle.fkv_one_history.specs.EachLife.{InEachLife};
+ghost use Rattle.fkv_order_law.specs.InTime.{ReadsInTime};
 ghost use Rattle.fkv_order_law.specs.Ordered.{HasLegalHistory, IsGuarded, OrdersItsCalls, ReadsFreshly, RunsActionsOnce};
 
 use fkv_opening_fits::law_opening_fits;
@@ -10,11 +11,13 @@ use fkv_world_ordered::law_world_ordered;
 /// of a device whose calls fail, with any actor at any step and a crash anywhere: what has taken effect so far is one history, legal from the store's map
 /// on, with the replies that were given. It orders the calls: each update whose result was given took effect once, with that reply, none took effect but
 /// those that were called, and one whose result was given before another was called took effect before it. Each read is answered by its key's
-/// value at some moment between its call and its answer. No step writes a flushed record or a frame that an epoch protects, and each action is run once at most.
+/// value at some moment between its call and its answer. No step writes a flushed record or a frame that an epoch protects, and each action is run once at most, and when each
+/// protected session goes by what it loaded since its epoch was raised. The calls are of numbers below 2^64, and the events are fewer than 2^64 - 1.
 pub fn law_order()
     ensures legal { InEachLife HasLegalHistory }
     ensures ordered { InEachLife OrdersItsCalls }
     ensures fresh { InEachLife ReadsFreshly }
+    ensures in_time { InEachLife ReadsInTime }
     ensures guarded { InEachLife IsGuarded }
     ensures once { InEachLife RunsActionsOnce }
 {

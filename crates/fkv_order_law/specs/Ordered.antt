@@ -2,8 +2,9 @@
 use Rattle.std.specs.Prelude.{◌≡◌, ℕ, ◌+◌, List, ◌∷◌, ◌++◌}
 use Rattle.fkv_base.specs.declared.numbers.Version.{Version}
 use Rattle.fkv_core.specs.Openings.{IsOpeningWorld, beginning}
-use Rattle.fkv_epoch.specs.Once.{HasRunOnce}
-use Rattle.fkv_flush.specs.GuardLevels.{AreInOrder, levels_of}
+use Rattle.fkv_epoch.specs.EpochWorld.{Claimed, Ran}
+use Rattle.fkv_epoch.specs.Once.{Among, HasRunOnce}
+use Rattle.fkv_flush.specs.GuardLevels.{AreInOrder, Rises, levels_of}
 use Rattle.fkv_flush.specs.GuardLimit.{EndsPages}
 use Rattle.fkv_flush.specs.GuardWorld.{GuardWorld}
 use Rattle.fkv_flush.specs.Guarded.{IsCovered}
@@ -18,6 +19,7 @@ use Rattle.fkv_world.specs.Runs.{run}
 use Rattle.fkv_world.specs.World.{Event, Now}
 use Rattle.fkv_world_calls.specs.Calls.{effects_of_life, lines_of_life}
 use Rattle.fkv_world_guard.specs.KeptGuarded.{ChangesOpenPlaces, OpensNextPage}
+use Rattle.fkv_world_guard.specs.LoadedSince.{HaveLoadedSince}
 use Rattle.fkv_world_guard.specs.Shows.{AreFair, Shows, seen_by_guard}
 use Rattle.fkv_world_records.specs.Changes.{AreChangesPublished}
 
@@ -59,21 +61,31 @@ abbrev pub AtEachEvent : (Now → Now → GuardWorld → Type 0) → Opened → 
 AtEachEvent P o n bytes events =
     (later before : List Event) (event : Event) → events ≡ later ++ event ∷ before → P (now_after n bytes before) (now_after n bytes (event ∷ before)) (guard_so_far o n bytes before)
 
+-- no offset falls
+abbrev pub KeepsOffsets : Now → Now → GuardWorld → Type 0
+KeepsOffsets n after w = Rises (levels_of n.words) (levels_of after.words)
+
 -- What the guard has shows the world, and each step does what it owes. A word of a frame that an event changes is one of an open address at or above the safe
 -- read-only offset and below the tail; a raise of the limit opens the next page, all of whose frame is flushed and which no session goes by any more. The
--- offsets are in order, the frames hold all that may still be needed, and the limit ends whole pages.
+-- offsets are in order and never fall, the frames hold all that may still be needed, and the limit ends whole pages.
 pub record IsGuarded (o : Opened) (n : Now) (bytes : List ℕ) (events : List Event) : Type 0 where
   pub shows : Shows (now_after n bytes events) (guard_so_far o n bytes events)
   pub fair : AreFair (beginning n bytes) events
   pub writes : AtEachEvent ChangesOpenPlaces o n bytes events
   pub limit : AtEachEvent OpensNextPage o n bytes events
   pub order : AreInOrder (levels_of (now_after n bytes events).words)
+  pub rises : AtEachEvent KeepsOffsets o n bytes events
   pub covered : IsCovered (guard_so_far o n bytes events)
   pub paged : EndsPages n.shape (levels_of (now_after n bytes events).words).limit
 
--- ---- each epoch arms one action at most, which is claimed once and run once at most
-abbrev pub RunsActionsOnce : Opened → Now → List ℕ → List Event → Type 0
-RunsActionsOnce o n bytes events = HasRunOnce (guard_so_far o n bytes events).past
+-- ---- each epoch arms one action at most, which is claimed once and run once at most. Before the event that claims it, and before the one that runs it, each
+-- protected session that isn't in the middle of protecting itself goes by values that it loaded after that epoch was raised.
+pub record RunsActionsOnce (o : Opened) (n : Now) (bytes : List ℕ) (events : List Event) : Type 0 where
+  pub once : HasRunOnce (guard_so_far o n bytes events).past
+  pub claimed : (later before : List Event) (event : Event) (claim : Claimed) → events ≡ later ++ event ∷ before → Among claim (guard_so_far o n bytes (event ∷ before)).past.claims
+      → HaveLoadedSince (guard_so_far o n bytes before) claim.epoch
+  pub ran : (later before : List Event) (event : Event) (action : Ran) → events ≡ later ++ event ∷ before → Among action (guard_so_far o n bytes (event ∷ before)).past.runs
+      → HaveLoadedSince (guard_so_far o n bytes before) action.epoch
 
 -- So it is in each life of an opened store in which each event of the log keeps to its rule, and what a session changes in place is published.
 abbrev pub OfEachKept : (Opened → Now → List ℕ → List Event → Type 0) → Type 0

@@ -8,6 +8,7 @@ ghost use Rattle.fkv_opening_log.specs.Maps.{opening_map};
 ghost use Rattle.fkv_opening_log.specs.OpeningLog.{opening_ghosts};
 ghost use Rattle.fkv_world.specs.World.{Now};
 ghost use Rattle.fkv_world_known.specs.Begins.{BeginsLife};
+ghost use Rattle.fkv_order_law.specs.InTime.{ReadsInTime};
 ghost use Rattle.fkv_order_law.specs.Ordered.{HasLegalHistory, IsGuarded, OfEachKept, OrdersItsCalls, ReadsFreshly, RunsActionsOnce, opening_version};
 
 use fkv_core::law_words_open;
@@ -38,15 +39,18 @@ pub fn law_life_begins()
 /// Where each event of the log beside such a life keeps to its rule, and what a session changes in place is published, the life itself has one history: what
 /// has taken effect so far is legal from the store's map on, with the replies that were given. It orders the calls: each update whose result was given took
 /// effect once, with that reply, none took effect but those that were called, and one whose result was given before another was called took effect before it.
-/// And each read is answered by its key's value at some moment between its call and its answer. The life is guarded, and each action is run once at most.
+/// And each read is answered by its key's value at some moment between its call and its answer. The life is guarded, and each action is run once at most,
+/// and when each protected session goes by what it loaded since.
 pub fn law_order_of_rules()
     ensures legal { OfEachKept HasLegalHistory }
     ensures ordered { OfEachKept OrdersItsCalls }
     ensures fresh { OfEachKept ReadsFreshly }
+    ensures in_time { OfEachKept ReadsInTime }
     ensures guarded { OfEachKept IsGuarded }
     ensures once { OfEachKept RunsActionsOnce }
 {
     law_guard_opens();
+    law_log_opened();
     law_log_begins();
     law_log_beside();
     law_world_is_guarded();

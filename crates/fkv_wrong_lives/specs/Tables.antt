@@ -8,7 +8,6 @@ use Rattle.fkv_session.specs.declared.answers.Told.TheVariants.{Found, Absent}
 use Rattle.fkv_session.specs.declared.sessions.Sitting.{Sitting}
 use Rattle.fkv_session.specs.declared.sessions.Sitting.TheVariants.{Idle}
 use Rattle.fkv_session.specs.Sessions.{SessionState}
-use Rattle.fkv_world.specs.Past.{Past}
 use Rattle.fkv_world.specs.Runs.{World, past_after, read_by_keeper}
 use Rattle.fkv_world.specs.World.{Event, Moves, Now, happens_now}
 

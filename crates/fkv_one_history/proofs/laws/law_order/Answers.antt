@@ -1,4 +1,5 @@
 -- The law, by those of its parts.
+use Rattle.fkv_order_law.specs.InTime.{ReadsInTime}
 use Rattle.fkv_order_law.specs.Ordered.{HasLegalHistory, IsGuarded, OrdersItsCalls, ReadsFreshly, RunsActionsOnce}
 use Rattle.fkv_one_history.proofs.EachLife.{of_each_life}
 use Rattle.fkv_one_history.proofs.laws.law_order.Goals as goal
@@ -11,6 +12,9 @@ returns-clause-ordered c = of_each_life OrdersItsCalls c.law_life_begins.ensures
 
 pub returns-clause-fresh : goal.returns-clause-fresh
 returns-clause-fresh c = of_each_life ReadsFreshly c.law_life_begins.ensures c.law_opening_fits.ensures c.law_world_ordered.ensures c.law_order_of_rules.ensures.fresh
+
+pub returns-clause-in_time : goal.returns-clause-in_time
+returns-clause-in_time c = of_each_life ReadsInTime c.law_life_begins.ensures c.law_opening_fits.ensures c.law_world_ordered.ensures c.law_order_of_rules.ensures.in_time
 
 pub returns-clause-guarded : goal.returns-clause-guarded
 returns-clause-guarded c = of_each_life IsGuarded c.law_life_begins.ensures c.law_opening_fits.ensures c.law_world_ordered.ensures c.law_order_of_rules.ensures.guarded

@@ -1,16 +1,21 @@
 -- The laws, from the log beside the life to the life itself.
-use Rattle.std.proofs.Common.{subst, List}
+use Rattle.std.proofs.Common.{subst, sym, List, [], ◌∷◌}
+use Rattle.fkv_base.specs.declared.shapes.Shape.{Shape}
 use Rattle.fkv_core.specs.Openings.{beginning}
 use Rattle.fkv_map.specs.History.{IsLegal}
 use Rattle.fkv_order.specs.Ghosts.{Ghosts}
+use Rattle.fkv_order.specs.Owed.{IsOpened}
 use Rattle.fkv_order.specs.Trace.{OrdersCalls, ReadsAreFresh, TraceLine}
 use Rattle.fkv_opening_log.specs.Lives.{ghosts_beside}
 use Rattle.fkv_opening_log.specs.Maps.{opening_map}
 use Rattle.fkv_opening_log.specs.OpeningLog.{opening_ghosts}
 use Rattle.fkv_world_calls.proofs.Shown.{same_history}
+use Rattle.fkv_world.specs.Runs.{run}
 use Rattle.fkv_world_guard.specs.Shows.{AreFair}
+use Rattle.fkv_world_order.specs.GhostEvents.{home_in}
 use Rattle.fkv_world_records.proofs.Shown.{published_fair}
 use Rattle.fkv_order_law.specs.Ordered.{effects_so_far, lines_so_far}
+use Rattle.fkv_order_law.proofs.InTime.{reads_in_time}
 use Rattle.fkv_order_law.proofs.Kept.{fair_at, same_entries}
 use Rattle.fkv_order_law.proofs.SameEntries.{fresh_by, orders_by}
 use Rattle.fkv_order_law.proofs.laws.law_order_of_rules.Goals as goal
@@ -35,7 +40,13 @@ returns-clause-fresh c = λ bytes o n events store world rules published.
     fresh_by beside.log.history (effects_so_far n bytes events) same (opening_map bytes o) (lines_so_far n bytes events)
     (subst (λ (trace : List TraceLine). ReadsAreFresh (opening_map bytes o) beside.log.history trace) (c.law_log_beside.ensures.beside bytes o n events store world).trace (c.law_log_beside.ensures.ordered bytes o n events store world rules).reads_fresh)
 
+pub returns-clause-in_time : goal.returns-clause-in_time
+returns-clause-in_time c = λ bytes o n events store world rules published.
+    reads_in_time bytes o n events world (c.law_guard_opens.ensures o n bytes world).now (c.law_log_begins.ensures bytes o n store world)
+    (subst (λ (shape : Shape). IsOpened (home_in shape.bucket_bits) (opening_map bytes o) o.number.0 (opening_ghosts bytes o)) (sym world.its_shape) (c.law_log_opened.ensures.opened bytes o store)) rules published
+
 pub returns-clause-guarded : goal.returns-clause-guarded
+unfolding run
 returns-clause-guarded c = λ bytes o n events store world rules published.
     let opened = (c.law_guard_opens.ensures o n bytes world).now in
     let begins = c.law_log_begins.ensures bytes o n store world in
@@ -47,9 +58,16 @@ returns-clause-guarded c = λ bytes o n events store world rules published.
           (fair_at (beginning n bytes) later before event (subst (AreFair (beginning n bytes)) whole fair));
       limit = λ later before event whole. c.law_world_is_guarded.ensures.limit (beginning n bytes) o.tail.0 before event opened;
       order = c.law_world_is_guarded.ensures.order (beginning n bytes) o.tail.0 events opened;
+      rises = λ later before event whole. c.law_world_is_guarded.ensures.rises (beginning n bytes) o.tail.0 before (event ∷ []) opened;
       covered = c.law_world_is_guarded.ensures.covered (beginning n bytes) o.tail.0 events opened;
       paged = c.law_world_is_guarded.ensures.paged (beginning n bytes) o.tail.0 events opened;
     }
 
 pub returns-clause-once : goal.returns-clause-once
-returns-clause-once c = λ bytes o n events store world rules published. c.law_world_once.ensures.once (beginning n bytes) o.tail.0 events (c.law_guard_opens.ensures o n bytes world).now
+returns-clause-once c = λ bytes o n events store world rules published.
+    let opened = (c.law_guard_opens.ensures o n bytes world).now in
+    record {
+      once = c.law_world_once.ensures.once (beginning n bytes) o.tail.0 events opened;
+      claimed = λ later before event claim whole among. c.law_world_once.ensures.seen (beginning n bytes) o.tail.0 before event claim opened among;
+      ran = λ later before event action whole among. c.law_world_once.ensures.ran (beginning n bytes) o.tail.0 before event action opened among;
+    }
