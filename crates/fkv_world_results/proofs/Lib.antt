@@ -5,3 +5,4 @@ mod MadeInCall
 mod Opened
 mod OwnCall
 pub mod Shown
+mod There

@@ -1,17 +1,22 @@
 -- What takes effect while a session's call of an operation is in hand, and what its answer says of that.
-use Rattle.std.specs.Prelude.{◌≡◌, ◌⊎◌, ℕ, true, false, replicate, List, ◌∷◌, ◌++◌}
+use Rattle.std.specs.Prelude.{◌≡◌, ◌⊎◌, ℕ, true, false, replicate, List, ◌∷◌, ◌++◌, Some, slice_get}
 use Rattle.fkv_map.specs.declared.operations.Call.TheVariants as call
 use Rattle.fkv_map.specs.declared.operations.Op.{Op}
 use Rattle.fkv_ops.specs.Requests.{is_read}
 use Rattle.fkv_session.specs.declared.answers.Told.{Told}
 use Rattle.fkv_session.specs.declared.answers.Told.TheVariants as told
+use Rattle.fkv_session.specs.Sessions.{SessionState, is_busy}
 use Rattle.fkv_world.specs.Past.{Effect}
 use Rattle.fkv_world.specs.Runs.{World, run}
-use Rattle.fkv_world.specs.World.{Event, Calls, Moves}
+use Rattle.fkv_world.specs.World.{Event, Calls, Moves, Now}
 
 -- the session of this number begins a call of an operation, and then makes so many moves, and nobody else does anything
 abbrev pub in_call : ℕ → ℕ → Op → List Event → List Event
 in_call number moves op before = replicate moves (Moves number) ++ Calls number (call.Op op) ∷ before
+
+-- no session has a call in hand
+abbrev pub NobodyCalls : Now → Type 0
+NobodyCalls n = (number : ℕ) (s : SessionState) → slice_get n.sessions number ≡ Some s → is_busy s.step ≡ false
 
 -- what has taken effect in a life so far, the newest first
 abbrev pub history_at : World → List Event → List Effect

@@ -10,12 +10,13 @@ ghost use Rattle.fkv_world.specs.Past.{Effect};
 ghost use Rattle.fkv_world.specs.Runs.{World, run};
 ghost use Rattle.fkv_world.specs.World.{Event};
 ghost use Rattle.fkv_world_calls.specs.Calls.{lines_of_life};
-ghost use Rattle.fkv_world_results.specs.Results.{IsResult, StaysOrTakes, history_at, in_call};
+ghost use Rattle.fkv_world_results.specs.Results.{IsResult, NobodyCalls, StaysOrTakes, history_at, in_call};
 
 /// In every life of a store that was opened, whatever its calls, commits, turns and the order of its steps: while a session that had no call in hand begins
 /// one of an operation and moves alone, nothing takes effect, or the operation does, once, as an update of the session under its next serial. Where the
 /// call has been answered by then, the update has taken effect just where it is told as done, and with the reply that is told; and what a read is
-/// told is told to a read. Once a session has no call in hand, each of its updates that has taken effect has had its result given.
+/// told is told to a read. Once a session has no call in hand, each of its updates that has taken effect has had its result given; and once no session
+/// has one, each update that has.
 pub fn law_world_results()
     ensures effects_in_call { (opening : World) (before : List Event) (number moves : ℕ) (op : Op) (s : SessionState) → IsOpenedWorld opening → (run opening before).now.crashed ≡ false
         → slice_get (run opening before).now.sessions number ≡ Some s → is_busy s.step ≡ false
@@ -28,4 +29,6 @@ pub fn law_world_results()
         → slice_get (run opening events).now.sessions number ≡ Some s → is_busy s.step ≡ false
         → IsIn its (history_at opening events) → its.entry.session ≡ number
         → IsIn (GivesResult number its.entry.serial.0 its.entry.reply) (lines_of_life opening events) }
+    ensures given_at_rest { (opening : World) (events : List Event) (its : Effect) → IsOpenedWorld opening → NobodyCalls (run opening events).now → IsIn its (history_at opening events)
+        → IsIn (GivesResult its.entry.session its.entry.serial.0 its.entry.reply) (lines_of_life opening events) }
 {}

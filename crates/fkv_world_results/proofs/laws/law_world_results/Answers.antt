@@ -1,6 +1,7 @@
 -- The law, by a call's own run and by what answers tell.
 use Rattle.fkv_world_results.proofs.Given.{all_given}
 use Rattle.fkv_world_results.proofs.InCall.{effects_in_call, result_told}
+use Rattle.fkv_world_results.proofs.There.{given_at_rest}
 use Rattle.fkv_world_results.proofs.laws.law_world_results.Goals as goal
 
 pub returns-clause-effects_in_call : goal.returns-clause-effects_in_call
@@ -11,3 +12,6 @@ returns-clause-result_told c = λ opening before number moves op s its answer op
 
 pub returns-clause-all_given : goal.returns-clause-all_given
 returns-clause-all_given c = λ opening events number s its opened found idle is_in mine. all_given opening events number s its opened found idle is_in mine
+
+pub returns-clause-given_at_rest : goal.returns-clause-given_at_rest
+returns-clause-given_at_rest c = λ opening events its opened nobody is_in. given_at_rest opening events its opened nobody is_in
