@@ -109,9 +109,9 @@ module _ {D : Type 0} (medium : Medium D) (settings : Settings) (calls : List Ac
     are_queues = its.are_queues;
     left = its.left;
     group =
-      subst (λ (x : List ℕ). IsGroup medium.engine (record { player = before.player; queues = its.queues }) (record { player = after.player; queues = its.left }) false x) its_text
-      (subst (λ (x : PlayerState D). IsGroup medium.engine (record { player = before.player; queues = its.queues }) (record { player = x; queues = its.left }) false its.leg.said) its_player
-      (subst (λ (x : Bool). IsGroup medium.engine (record { player = before.player; queues = its.queues }) (record { player = its.leg.player; queues = its.left }) x its.leg.said) its_calm.0 its.leg.part));
+        subst (λ (x : List ℕ). IsGroup medium.engine (record { player = before.player; queues = its.queues }) (record { player = after.player; queues = its.left }) false x) its_text
+        (subst (λ (x : PlayerState D). IsGroup medium.engine (record { player = before.player; queues = its.queues }) (record { player = x; queues = its.left }) false its.leg.said) its_player
+        (subst (λ (x : Bool). IsGroup medium.engine (record { player = before.player; queues = its.queues }) (record { player = its.leg.player; queues = its.left }) x its.leg.said) its_calm.0 its.leg.part));
   }
 
   pub stays_calm : after.player.waits ≡ Nothing

@@ -2,6 +2,7 @@ mod Beats
 mod Calm
 mod InLife
 mod OneCall
+mod Pieces
 mod Replies
 mod Scripts
 mod Steps

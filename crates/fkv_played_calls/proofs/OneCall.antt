@@ -112,7 +112,7 @@ module _ {D : Type 0} (engine : events.Event → WorldModel D → WorldModel D �
         beat = subst (λ (x : ActorCall × Stage). IsBeatOf engine x.0 x.1 before.player after.player pick.outcome text (missing_session before.player.seats x.0)) step pick.beat;
         ends = pick.ends;
         queues = pick.queues ∙ (ap (λ (x : ℕ). slice_set before.queues x (queue_behind pick.outcome (held pick.queue))) same
-        ∙ ap (λ (x : QueueState). slice_set before.queues place (queue_behind pick.outcome x)) (ap held here ∙ its_held at call its.queue its.stands));
+            ∙ ap (λ (x : QueueState). slice_set before.queues place (queue_behind pick.outcome x)) (ap held here ∙ its_held at call its.queue its.stands));
       }
 
   -- ---- a whole group

@@ -36,8 +36,9 @@ use Rattle.fkv_world_results.specs.Results.{NobodyCalls, in_call}
 use Rattle.fkv_world_served.specs.Fits.{OpFits}
 use Rattle.fkv_world_tickets.specs.Few.{HasFewCalls, calls_in}
 use Rattle.fkv_played_calls.specs.PlayedCalls.{IsLineOfSession, IsQuietLife, IsRefusedSession, LinesReplyAsMap}
-use Rattle.fkv_played_calls.specs.Scripts.{AreOperations, EachFits, FilesPlayMap, IsLineOfMap, IsOperation, IsPlayOfMap, LivesPlayMap, SessionOp}
+use Rattle.fkv_played_calls.specs.Scripts.{EachFits, FilesPlayMap, IsLineOfMap, IsPlayOfMap, LivesPlayMap, SessionOp}
 use Rattle.fkv_played_calls.proofs.Calm.{IsPlayedGroup, played_group, stays_calm}
+use Rattle.fkv_played_calls.proofs.Pieces.{AreOperations, IsOperation, operations}
 
 -- ---- one line
 calls_counted : (number moves : ℕ) (op : Op) (life : List Event) → calls_in (in_call number moves op life) ≡ suc (calls_in life)
@@ -71,23 +72,23 @@ goes_on_by_map bytes o first life number op before after text quiet nobody (inr 
       nobody = reply.rests;
       few = omega (arith, count);
       line =
-        inr (record {
-          answer = reply.answer;
-          its = reply.its;
-          finished = reply.finished;
-          is_told = reply.is_told;
-          waiting = its.seat.waiting;
-          says = reply.says ∙ ap (answer_told Whole number (call.Op op) reply.answer) its.sits;
-          reply = reply.by_map.reply;
-          leaves = reply.by_map.leaves;
-        });
+          inr (record {
+            answer = reply.answer;
+            its = reply.its;
+            finished = reply.finished;
+            is_told = reply.is_told;
+            waiting = its.seat.waiting;
+            says = reply.says ∙ ap (answer_told Whole number (call.Op op) reply.answer) its.sits;
+            reply = reply.by_map.reply;
+            leaves = reply.by_map.leaves;
+          });
     }
 
 -- ---- the pieces of a script, over what is played in
 module _ {D S : Type 0} (engine : events.Event → WorldModel D → WorldModel D → Option tells.Told → Bool → Type 0) (lines : LinesReplyAsMap engine) (player_of : S → PlayerState D) (Its : Piece → S → S → Bool → List ℕ → Type 0)
     (IsCalm : S → Type 0)
     (one_piece : (piece : Piece) (one : SessionOp) (before after : S) (over : Bool) (text : List ℕ) → IsOperation piece one → IsCalm before → Its piece before after over text
-      → IsPlayedGroup engine (Session one.0 (call.Op one.1) ∷ []) (player_of before) (player_of after) over text × IsCalm after)
+    → IsPlayedGroup engine (Session one.0 (call.Op one.1) ∷ []) (player_of before) (player_of after) over text × IsCalm after)
     (bytes : List ℕ) (o : Opened) (first : Now) where
   one_line : (piece : Piece) (one : SessionOp) (life : List Event) (before after : S) (over : Bool) (text : List ℕ) → IsOperation piece one → IsCalm before → OpFits one.1 → HasFewCalls (Calls one.0 (call.Op one.1) ∷ life)
       → IsQuietLife bytes o first life (player_of before).world.now → NobodyCalls (player_of before).world.now → Its piece before after over text
@@ -172,13 +173,16 @@ same_length [] (one ∷ others) are = absurd are
 same_length (piece ∷ later) (one ∷ others) are = ap suc (same_length later others are.1)
 
 pub lives_play_map : {D : Type 0} (medium : Medium D) → LinesReplyAsMap medium.engine → LivesPlayMap medium
-lives_play_map {D} medium lines image opened device history keeps_history agrees player settings pieces ops status text store begins are fit few its =
+lives_play_map {D} medium lines image opened device history keeps_history agrees player settings pieces ops status text store begins so fit few its =
     subst (λ (x : Map). IsPlayOfMap x ops text) (opening_shows image opened player.world.now)
     (subst (λ (x : List ℕ). IsPlayOfMap (map_after opened player.world.now image []) ops x) (sym says)
     (subst (λ (x : List SessionOp). IsPlayOfMap (map_after opened player.world.now image []) x its.said) all_ops part.prints))
   where
     before : RunState D
     before = record { player = player; agrees = agrees }
+
+    are : AreOperations pieces ops
+    are = operations ops pieces so
 
     some : AreTaken its.count pieces ops
     some = taken its.count pieces ops are fit
@@ -204,13 +208,13 @@ file_piece : {D : Type 0} (engine : events.Event → WorldModel D → WorldModel
     → IsPieceOfLife engine piece before after over text → IsPlayedGroup engine (Session one.0 (call.Op one.1) ∷ []) before after over text × Unit {0}
 file_piece engine (Group calls) one before after over text is calm played = (
   subst (λ (x : List ActorCall). IsPlayedGroup engine x before after over text) is
-  (record { goes_on = played.0; queues = played.1.queues; are_queues = played.1.are_queues; left = played.1.left; group = played.1.played }),
+      (record { goes_on = played.0; queues = played.1.queues; are_queues = played.1.are_queues; left = played.1.left; group = played.1.played }),
   tt,
 )
 file_piece engine piece one before after over text is calm played = absurd is
 
 pub files_play_map : {D : Type 0} (engine : events.Event → WorldModel D → WorldModel D → Option tells.Told → Bool → Type 0) → LinesReplyAsMap engine → FilesPlayMap engine
-files_play_map {D} engine lines image opened device history keeps_history player pieces ops text store begins are fit few its =
-    let all = play engine lines (λ (x : PlayerState D). x) (IsPieceOfLife engine) (λ (x : PlayerState D). Unit {0}) (file_piece engine) image opened player.world.now pieces ops [] player its.after false text are fit (omega (arith, few)) tt
+files_play_map {D} engine lines image opened device history keeps_history player pieces ops text store begins so fit few its =
+    let all = play engine lines (λ (x : PlayerState D). x) (IsPieceOfLife engine) (λ (x : PlayerState D). Unit {0}) (file_piece engine) image opened player.world.now pieces ops [] player its.after false text (operations ops pieces so) fit (omega (arith, few)) tt
     (opening_quiet image opened player.world.now store begins.world) (opening_idle opened player.world.now begins.world) its.played in
     subst (λ (x : Map). IsPlayOfMap x ops text) (opening_shows image opened player.world.now) all.prints

@@ -1,9 +1,11 @@
 -- Scripts of operations alone, one behind the other: what they print, by the plain map.
-use Rattle.std.specs.Prelude.{◌≡◌, ◌⊎◌, ◌-◌, ◌^◌, ◌<◌, ⊤, ℕ, Bool, List, [], ◌∷◌, ◌++◌, length, Option}
+use Rattle.std.specs.Prelude.{◌≡◌, ◌⊎◌, ◌-◌, ◌^◌, ◌<◌, ⊤, ℕ, Bool, false, List, [], ◌∷◌, ◌++◌, length, map, Option}
 use Rattle.fkv_base.specs.declared.faults.Fault.TheVariants.{NoSession}
 use Rattle.fkv_core.specs.Worlds.{WorldModel}
 use Rattle.fkv_core.specs.declared.events.Event as events
 use Rattle.fkv_core.specs.declared.events.Told as tells
+use Rattle.fkv_lines.specs.declared.scripts.Line.{Line}
+use Rattle.fkv_lines.specs.declared.scripts.Line.TheVariants as line
 use Rattle.fkv_map.specs.Map.{Map}
 use Rattle.fkv_map.specs.declared.history.HistoryEntry.{HistoryEntry}
 use Rattle.fkv_map.specs.declared.operations.Call.TheVariants as call
@@ -12,12 +14,11 @@ use Rattle.fkv_opening.specs.Opened.{IsStoreOf}
 use Rattle.fkv_opening.specs.declared.opened_store.Opened.{Opened}
 use Rattle.fkv_opening_log.specs.Maps.{opening_map}
 use Rattle.fkv_playing.specs.Players.{PlayerState}
-use Rattle.fkv_playing.specs.declared.calls.ActorCall.TheVariants.{Session}
 use Rattle.fkv_runs.specs.Files.{IsRunOfLife}
 use Rattle.fkv_runs.specs.Openings.{Begins, Medium}
+use Rattle.fkv_runs.specs.Pieces.{ArePieces}
 use Rattle.fkv_runs.specs.Runs.{IsRun}
 use Rattle.fkv_runs.specs.declared.pieces.Piece.{Piece}
-use Rattle.fkv_runs.specs.declared.pieces.Piece.TheVariants.{Group}
 use Rattle.fkv_runs.specs.declared.settings.Settings.{Settings}
 use Rattle.fkv_session.specs.Answers.{IsAnswerTold}
 use Rattle.fkv_session.specs.declared.answers.Answer.{Answer}
@@ -56,32 +57,29 @@ IsPlayOfMap m [] text = text ≡ []
 IsPlayOfMap m (one ∷ later) text = (after : Map) × (first : List ℕ) × (rest : List ℕ) × IsLineOfMap m after one.0 one.1 first × IsPlayOfMap after later rest × (text ≡ first ++ rest)
 
 -- ---- the scripts
--- a piece is the line of this operation
-abbrev pub IsOperation : Piece → SessionOp → Type 0
-IsOperation (Group calls) one = calls.items ≡ Session one.0 (call.Op one.1) ∷ []
-IsOperation other one = ⊥
+-- the line of an operation
+abbrev pub op_line : SessionOp → Line
+op_line one = line.Call one.0 (call.Op one.1)
 
--- so is each of these
-abbrev pub AreOperations : List Piece → List SessionOp → Type 0
-AreOperations [] [] = ⊤
-AreOperations (piece ∷ later) (one ∷ others) = IsOperation piece one × AreOperations later others
-AreOperations pieces ops = ⊥
+-- these lines, each a piece of its own
+abbrev pub ArePiecesOf : List SessionOp → List Piece → Type 0
+ArePiecesOf ops pieces = ArePieces false (map op_line ops) pieces
 
 -- their numbers fit in words, as all do that a script can name
 abbrev pub EachFits : List SessionOp → Type 0
 EachFits [] = ⊤
 EachFits (one ∷ later) = OpFits one.1 × EachFits later
 
--- Such pieces that are played over a life of a store in memory print what the map says that the store holds as the life begins.
+-- The pieces of such lines that are played over a life of a store in memory print what the map says that the store holds as the life begins.
 abbrev pub LivesPlayMap : {D : Type 0} → Medium D → Type 0
 LivesPlayMap {D} medium =
     (image : List ℕ) (opened : Opened) (device : D) (history : List HistoryEntry) (keeps_history agrees : Bool) (player : PlayerState D) (settings : Settings) (pieces : List Piece) (ops : List SessionOp) (status : ℕ) (text : List ℕ)
-    → IsStoreOf image opened → Begins opened device history keeps_history player → AreOperations pieces ops → EachFits ops → length ops < 2 ^ 64 - 1
+    → IsStoreOf image opened → Begins opened device history keeps_history player → ArePiecesOf ops pieces → EachFits ops → length ops < 2 ^ 64 - 1
     → IsRun medium settings pieces (record { player = player; agrees = agrees }) status text → IsPlayOfMap (opening_map image opened) ops text
 
 -- so do those over the life of a store in a file, where that holds this image
 abbrev pub FilesPlayMap : {D : Type 0} → (events.Event → WorldModel D → WorldModel D → Option tells.Told → Bool → Type 0) → Type 0
 FilesPlayMap {D} engine =
     (image : List ℕ) (opened : Opened) (device : D) (history : List HistoryEntry) (keeps_history : Bool) (player : PlayerState D) (pieces : List Piece) (ops : List SessionOp) (text : List ℕ)
-    → IsStoreOf image opened → Begins opened device history keeps_history player → AreOperations pieces ops → EachFits ops → length ops < 2 ^ 64 - 1
+    → IsStoreOf image opened → Begins opened device history keeps_history player → ArePiecesOf ops pieces → EachFits ops → length ops < 2 ^ 64 - 1
     → IsRunOfLife engine pieces player text → IsPlayOfMap (opening_map image opened) ops text
