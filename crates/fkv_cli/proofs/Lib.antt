@@ -1,4 +1,5 @@
 mod Appending
 mod Endings
 mod Outputs
+mod Replies
 mod Words

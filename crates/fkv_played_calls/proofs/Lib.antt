@@ -1,6 +1,7 @@
 mod Beats
 mod Calm
 mod InLife
+mod NewStores
 mod OneCall
 mod Pieces
 mod Replies

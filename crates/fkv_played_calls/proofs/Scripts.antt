@@ -36,8 +36,9 @@ use Rattle.fkv_world_results.specs.Results.{NobodyCalls, in_call}
 use Rattle.fkv_world_served.specs.Fits.{OpFits}
 use Rattle.fkv_world_tickets.specs.Few.{HasFewCalls, calls_in}
 use Rattle.fkv_played_calls.specs.PlayedCalls.{IsLineOfSession, IsQuietLife, IsRefusedSession, LinesReplyAsMap}
-use Rattle.fkv_played_calls.specs.Scripts.{EachFits, FilesPlayMap, IsLineOfMap, IsPlayOfMap, LivesPlayMap, SessionOp}
+use Rattle.fkv_played_calls.specs.Scripts.{EachFits, FilesPlayMap, IsLineOfMap, IsPlayOfMap, LivesPlayMap, NewStoresPlayMap, SessionOp}
 use Rattle.fkv_played_calls.proofs.Calm.{IsPlayedGroup, played_group, stays_calm}
+use Rattle.fkv_played_calls.proofs.NewStores.{PairsAreMap, new_is_empty}
 use Rattle.fkv_played_calls.proofs.Pieces.{AreOperations, IsOperation, operations}
 
 -- ---- one line
@@ -202,6 +203,11 @@ lives_play_map {D} medium lines image opened device history keeps_history agrees
 
     says : text ≡ its.said
     says = its.says ∙ (ap (λ (x : List ℕ). its.said ++ x) (not_due medium settings its.last its.after its.over its.reported part.calm (its.crashed part.goes_on)) ∙ append-nil its.said)
+
+pub new_stores_play_map : {D : Type 0} (medium : Medium D) → PairsAreMap → LinesReplyAsMap medium.engine → NewStoresPlayMap medium
+new_stores_play_map medium pairs lines shape image opened device history keeps_history agrees player settings pieces ops status text new store begins so fit few its =
+    subst (λ (x : Map). IsPlayOfMap x ops text) (new_is_empty pairs shape image opened store new)
+    (lives_play_map medium lines image opened device history keeps_history agrees player settings pieces ops status text store begins so fit few its)
 
 -- ---- over the life of a store in a file
 file_piece : {D : Type 0} (engine : events.Event → WorldModel D → WorldModel D → Option tells.Told → Bool → Type 0) (piece : Piece) (one : SessionOp) (before after : PlayerState D) (over : Bool) (text : List ℕ) → IsOperation piece one → Unit {0}

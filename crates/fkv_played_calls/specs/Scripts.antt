@@ -1,9 +1,12 @@
 -- Scripts of operations alone, one behind the other: what they print, by the plain map.
 use Rattle.std.specs.Prelude.{◌≡◌, ◌⊎◌, ◌-◌, ◌^◌, ◌<◌, ⊤, ℕ, Bool, false, List, [], ◌∷◌, ◌++◌, length, map, Option}
+use Rattle.std.specs.FinMap.{empty}
 use Rattle.fkv_base.specs.declared.faults.Fault.TheVariants.{NoSession}
+use Rattle.fkv_base.specs.declared.shapes.Shape.{Shape}
 use Rattle.fkv_core.specs.Worlds.{WorldModel}
 use Rattle.fkv_core.specs.declared.events.Event as events
 use Rattle.fkv_core.specs.declared.events.Told as tells
+use Rattle.fkv_creating.specs.Created.{IsNewStore}
 use Rattle.fkv_lines.specs.declared.scripts.Line.{Line}
 use Rattle.fkv_lines.specs.declared.scripts.Line.TheVariants as line
 use Rattle.fkv_map.specs.Map.{Map}
@@ -83,3 +86,10 @@ FilesPlayMap {D} engine =
     (image : List ℕ) (opened : Opened) (device : D) (history : List HistoryEntry) (keeps_history : Bool) (player : PlayerState D) (pieces : List Piece) (ops : List SessionOp) (text : List ℕ)
     → IsStoreOf image opened → Begins opened device history keeps_history player → ArePiecesOf ops pieces → EachFits ops → length ops < 2 ^ 64 - 1
     → IsRunOfLife engine pieces player text → IsPlayOfMap (opening_map image opened) ops text
+
+-- So the map of a new store is empty, and such pieces that are played over it print what a map says that begins empty.
+abbrev pub NewStoresPlayMap : {D : Type 0} → Medium D → Type 0
+NewStoresPlayMap {D} medium =
+    (shape : Shape) (image : List ℕ) (opened : Opened) (device : D) (history : List HistoryEntry) (keeps_history agrees : Bool) (player : PlayerState D) (settings : Settings) (pieces : List Piece) (ops : List SessionOp) (status : ℕ) (text : List ℕ)
+    → IsNewStore shape opened → IsStoreOf image opened → Begins opened device history keeps_history player → ArePiecesOf ops pieces → EachFits ops → length ops < 2 ^ 64 - 1
+    → IsRun medium settings pieces (record { player = player; agrees = agrees }) status text → IsPlayOfMap empty ops text
