@@ -1,6 +1,6 @@
 -- What the trace gets by a call whose session alone moves: its call, and its answer once that has come.
 use Rattle.std.proofs.Common.{◌≡◌, ◌∙◌, ℕ, zero, suc, Bool, true, false, List, [], ◌∷◌, ◌++◌, ap, arith, refl, sym, subst}
-use Rattle.std.specs.Prelude.{length, slice_get, Option, Some, None, if◌then◌else◌, ◌==◌}
+use Rattle.std.specs.Prelude.{length, slice_get, Option, Some, if◌then◌else◌}
 use Rattle.std.proofs.lemmas.Bool.Decides.{nat_tests}
 use Rattle.fkv_epoch.proofs.Shown.{some_same}
 use Rattle.fkv_map.specs.declared.operations.Call.TheVariants as call
@@ -10,10 +10,10 @@ use Rattle.fkv_session.specs.declared.answers.Told.{Told}
 use Rattle.fkv_session.specs.declared.sessions.Sitting.{Sitting}
 use Rattle.fkv_session.specs.declared.sessions.Sitting.TheVariants.{Idle}
 use Rattle.fkv_session.specs.SessionRun.{telling}
-use Rattle.fkv_session.specs.Sessions.{SessionState, is_busy, session_ask, sitting_ask}
+use Rattle.fkv_session.specs.Sessions.{SessionState, is_busy, sitting_ask}
 use Rattle.fkv_world.specs.Actors.{session_goes}
 use Rattle.fkv_world.specs.Added.{begun_by, call_answered, call_begun, ended_by, is_calling, session_answered, told_at, told_by}
-use Rattle.fkv_world.specs.Moves.{session_asks, session_moved}
+use Rattle.fkv_world.specs.Moves.{session_asks}
 use Rattle.fkv_world.specs.Past.{Answered, Called, TraceEvent, Traced}
 use Rattle.fkv_world.specs.Runs.{World, happens, run}
 use Rattle.fkv_world.specs.World.{Calls, Event, Moves, Now, near, seat_at}

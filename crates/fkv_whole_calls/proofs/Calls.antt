@@ -1,5 +1,5 @@
 -- A call whose session alone moves is an operation that is alone, so it is answered by the map.
-use Rattle.std.proofs.Common.{◌≡◌, ◌∙◌, ℕ, ◌+◌, Bool, true, false, List, [], ◌∷◌, ◌++◌, ap, arith, refl, sym, subst}
+use Rattle.std.proofs.Common.{◌≡◌, ◌∙◌, ℕ, ◌+◌, Bool, true, false, List, [], ◌∷◌, ap, arith, inl, inr, refl, sym, subst}
 use Rattle.std.specs.Prelude.{length, slice_get, Some, if◌then◌else◌, ◌==◌}
 use Rattle.std.proofs.lemmas.Bool.Decides.{nat_tests}
 use Rattle.fkv_base.specs.declared.numbers.Key.{Key}
@@ -12,7 +12,8 @@ use Rattle.fkv_map.specs.declared.operations.Reply.TheVariants as reply
 use Rattle.fkv_opening.specs.declared.opened_store.Opened.{Opened}
 use Rattle.fkv_opening_log.specs.Maps.{opening_map}
 use Rattle.fkv_ops.specs.Requests.{is_read}
-use Rattle.fkv_order.specs.Trace.{AnswersRead, CallsRead, TraceLine}
+use Rattle.fkv_order.specs.Trace as order
+use Rattle.fkv_order.specs.Trace.{AnswersRead, CallsRead, GivesResult, IsIn, TraceLine}
 use Rattle.fkv_order_law.specs.Ordered.{HasLegalHistory, OrdersItsCalls, ReadsFreshly, effects_so_far, lines_so_far}
 use Rattle.fkv_order_law.proofs.Shown.{world_opens}
 use Rattle.fkv_session.specs.declared.answers.Finished.{Finished}
@@ -28,8 +29,8 @@ use Rattle.fkv_world.specs.World.{Event, Now}
 use Rattle.fkv_world_calls.specs.Calls.{effect_in_log, effects_in_log}
 use Rattle.fkv_world_order.specs.GhostEvents.{serials_in}
 use Rattle.fkv_world_order.specs.Lines.{last_call, lines_of, number_of_call}
-use Rattle.fkv_world_results.specs.Results.{IsResult, history_at, in_call}
-use Rattle.fkv_world_results.proofs.Shown.{result_told}
+use Rattle.fkv_world_results.specs.Results.{IsResult, NobodyCalls, history_at, in_call}
+use Rattle.fkv_world_results.proofs.Shown.{given_at_rest, result_told}
 use Rattle.fkv_whole_calls.specs.WholeCalls.{AreGivenSoFar, HasHappenedAlone, HasReadAlone, IsAnsweredByMap, TellsAlone, TellsRead}
 use Rattle.fkv_whole_calls.proofs.CallTold.{TraceAt, in_call_told}
 use Rattle.fkv_whole_calls.proofs.Whole.{answered_alone}
@@ -81,12 +82,32 @@ happened_alone number op serial before after (told.PendingRead ticket) result = 
 happened_alone number op serial before after (told.Refused why) result = ap effects_in_log result
 happened_alone number op serial before after its result = absurd result
 
+-- ---- what was given before
+-- an effect in the log's words is one of the life
+record IsOneOf (effects : List Effect) (effect : order.Effect) : Type 0 where
+  its : Effect
+  is_in : IsIn its effects
+  same : effect_in_log its ≡ effect
+
+one_of : (effects : List Effect) (effect : order.Effect) → IsIn effect (effects_in_log effects) → IsOneOf effects effect
+one_of [] effect is_in = absurd is_in
+one_of (it ∷ before) effect (inl same) = record { its = it; is_in = inl refl; same = same }
+one_of (it ∷ before) effect (inr older) = let found = one_of before effect older in record { its = found.its; is_in = inr found.is_in; same = found.same }
+
+-- where nobody calls, all of it
+pub all_given_so_far : (o : Opened) (n : Now) (bytes : List ℕ) (events : List Event) → IsOpeningWorld o n → NobodyCalls (run (beginning n bytes) events).now → AreGivenSoFar n bytes events
+all_given_so_far o n bytes events world nobody = λ effect is_in.
+    let found = one_of (history_at (beginning n bytes) events) effect is_in in
+    subst (λ (x : order.Effect). IsIn (GivesResult x.entry.session x.entry.serial.0 x.entry.reply) (lines_so_far n bytes events)) found.same
+    (given_at_rest (beginning n bytes) events found.its (world_opens o n bytes world) nobody found.is_in)
+
 -- ---- the whole call
-pub whole_call : (bytes : List ℕ) (o : Opened) (n : Now) (before : List Event) (number moves : ℕ) (op : Op) (s its : SessionState) (answer : Told) → IsOpeningWorld o n
+-- from a moment at which all results were given
+pub given_call : (bytes : List ℕ) (o : Opened) (n : Now) (before : List Event) (number moves : ℕ) (op : Op) (s its : SessionState) (answer : Told) → IsOpeningWorld o n
     → HasLegalHistory o n bytes (in_call number moves op before) → OrdersItsCalls o n bytes (in_call number moves op before) → ReadsFreshly o n bytes (in_call number moves op before) → AreGivenSoFar n bytes before
     → (run (beginning n bytes) before).now.crashed ≡ false → slice_get (run (beginning n bytes) before).now.sessions number ≡ Some s → is_busy s.step ≡ false
     → slice_get (run (beginning n bytes) (in_call number moves op before)).now.sessions number ≡ Some its → its.step ≡ Idle answer → IsAnsweredByMap o n bytes before (in_call number moves op before) op answer
-whole_call bytes o n before number moves op s its answer world legal ordered reads given alive found idle is_now at =
+given_call bytes o n before number moves op s its answer world legal ordered reads given alive found idle is_now at =
     let opening : World = beginning n bytes in
     let events : List Event = in_call number moves op before in
     let result = result_told opening before number moves op s its answer (world_opens o n bytes world) alive found idle is_now at in
@@ -99,3 +120,11 @@ whole_call bytes o n before number moves op s its answer world legal ordered rea
     (happened_alone number op (s.serial + 1) (history_at opening before) (history_at opening events) answer result)
     (told_alone (serials_in opening.now) number op (run opening before).past.trace (run opening events).past.trace its.finished answer trace) in
     record { reply = both.0; leaves = both.1 }
+
+-- from one at which no session has a call in hand
+pub whole_call : (bytes : List ℕ) (o : Opened) (n : Now) (before : List Event) (number moves : ℕ) (op : Op) (s its : SessionState) (answer : Told) → IsOpeningWorld o n
+    → HasLegalHistory o n bytes (in_call number moves op before) → OrdersItsCalls o n bytes (in_call number moves op before) → ReadsFreshly o n bytes (in_call number moves op before) → NobodyCalls (run (beginning n bytes) before).now
+    → (run (beginning n bytes) before).now.crashed ≡ false → slice_get (run (beginning n bytes) before).now.sessions number ≡ Some s
+    → slice_get (run (beginning n bytes) (in_call number moves op before)).now.sessions number ≡ Some its → its.step ≡ Idle answer → IsAnsweredByMap o n bytes before (in_call number moves op before) op answer
+whole_call bytes o n before number moves op s its answer world legal ordered reads nobody alive found is_now at =
+    given_call bytes o n before number moves op s its answer world legal ordered reads (all_given_so_far o n bytes before world nobody) alive found (nobody number s found) is_now at

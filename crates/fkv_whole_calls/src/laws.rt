@@ -6,10 +6,10 @@ ghost use Rattle.fkv_opening.specs.declared.opened_store.Opened.{Opened};
 ghost use Rattle.fkv_order_law.specs.Ordered.{HasLegalHistory, OrdersItsCalls, ReadsFreshly};
 ghost use Rattle.fkv_session.specs.declared.answers.Told.{Told};
 ghost use Rattle.fkv_session.specs.declared.sessions.Sitting.TheVariants.{Idle};
-ghost use Rattle.fkv_session.specs.Sessions.{SessionState, is_busy};
+ghost use Rattle.fkv_session.specs.Sessions.{SessionState};
 ghost use Rattle.fkv_world.specs.Runs.{run};
 ghost use Rattle.fkv_world.specs.World.{Event, Now};
-ghost use Rattle.fkv_world_results.specs.Results.{in_call};
+ghost use Rattle.fkv_world_results.specs.Results.{NobodyCalls, in_call};
 ghost use Rattle.fkv_whole_calls.specs.WholeCalls.{AreGivenSoFar, HappensAlone, IsAnsweredByMap, IsToldAlone};
 
 /// Let a life have one legal history that orders its calls and answers its reads. From a moment at which the result of each update that has taken effect
@@ -20,13 +20,12 @@ pub fn law_answered_alone()
         → AreGivenSoFar n bytes before → HappensAlone n bytes before events op its → IsToldAlone n bytes before events op its → IsAnsweredByMap o n bytes before events op its }
 {}
 
-/// So it is with a call of a session that had none in hand, where that session alone moves until it is answered, in a life that has one legal history which orders its calls and
-/// answers its reads, from a moment at which the result of each update that has taken effect was given: each reply is the map's on the history so far, and each read gives its
-/// key's value in its content.
+/// So it is with a call from a moment at which no session has one in hand, where the session that makes it alone moves until it is answered, in a life that has one legal history which
+/// orders its calls and answers its reads: each reply is the map's on the history so far, and each read gives its key's value in its content.
 pub fn law_whole_calls()
     ensures { (bytes : List ℕ) (o : Opened) (n : Now) (before : List Event) (number moves : ℕ) (op : Op) (s its : SessionState) (answer : Told) → IsOpeningWorld o n
-        → HasLegalHistory o n bytes (in_call number moves op before) → OrdersItsCalls o n bytes (in_call number moves op before) → ReadsFreshly o n bytes (in_call number moves op before) → AreGivenSoFar n bytes before
-        → (run (beginning n bytes) before).now.crashed ≡ false → slice_get (run (beginning n bytes) before).now.sessions number ≡ Some s → is_busy s.step ≡ false
+        → HasLegalHistory o n bytes (in_call number moves op before) → OrdersItsCalls o n bytes (in_call number moves op before) → ReadsFreshly o n bytes (in_call number moves op before)
+        → NobodyCalls (run (beginning n bytes) before).now → (run (beginning n bytes) before).now.crashed ≡ false → slice_get (run (beginning n bytes) before).now.sessions number ≡ Some s
         → slice_get (run (beginning n bytes) (in_call number moves op before)).now.sessions number ≡ Some its → its.step ≡ Idle answer
         → IsAnsweredByMap o n bytes before (in_call number moves op before) op answer }
 {}
