@@ -11,6 +11,7 @@ use Rattle.fkv_lines.specs.declared.scripts.Opening as openings
 use Rattle.fkv_lines.specs.declared.scripts.Opening.TheVariants as opening
 use Rattle.fkv_lines.specs.declared.scripts.Sizes.{Sizes}
 use Rattle.fkv_options.specs.declared.options.Options.{Options}
+use Rattle.fkv_playing.specs.InTurn.{Writes}
 use Rattle.fkv_played_calls.specs.Scripts.{IsPlayOfMap, NewStoresPlayMap, SessionOp, op_line}
 use Rattle.fkv_runs.specs.Pieces.{ArePieces}
 use Rattle.fkv_runs.specs.declared.pieces.Piece.{Piece}
@@ -62,3 +63,8 @@ prints_map devices plays words known text (inr its) plain bytes sizes ops is scr
     let none = plain its.options its.asked in
     of_text devices plays its.options sizes ops bytes script text none.0 none.1
     (subst (λ (x : Option (List ℕ)). IfSome x (λ (y : List ℕ). IsRunOfText devices its.options (script_of (mode_of (is_some its.options.file)) (take script_limit y)) 0 text)) is its.run)
+
+-- so it is of what a run with status 0 has written
+pub writes_map : {M F : Type 0} (devices : Devices M F) (words : List (List ℕ)) (known : Option (List ℕ)) (status : ℕ) (a b : Option (List ℕ)) → Writes (IsOutputOf devices words known status) a b → NewStoresPlayMap devices.memory → status ≡ 0
+    → Writes (PrintsMapOfScript words known) a b
+writes_map devices words known status a b h plays e = (h.0, prints_map devices plays words known h.0 (subst (λ (n : ℕ). IsOutputOf devices words known n h.0) e h.1), h.2)
