@@ -17,12 +17,12 @@ use Rattle.fkv_playing.specs.Seats.{SeatState}
 use Rattle.fkv_playing.specs.Texts.{text_heard, text_of}
 use Rattle.fkv_playing.specs.declared.calls.ActorCall.TheVariants.{Session}
 use Rattle.fkv_playing.specs.declared.calls.Outcome.{Outcome}
-use Rattle.fkv_playing.specs.declared.calls.Outcome.TheVariants.{Answered, Closed, GoesOn, Struck}
+use Rattle.fkv_playing.specs.declared.calls.Outcome.TheVariants.{GoesOn, Struck}
 use Rattle.fkv_playing.specs.declared.calls.Stage.{Stage}
 use Rattle.fkv_playing.specs.declared.calls.Stage.TheVariants as stage
 use Rattle.fkv_playing.specs.declared.calls.Telling.{Telling}
 use Rattle.fkv_world.specs.Runs.{World, run}
-use Rattle.fkv_world.specs.World.{Event, Moves, Now}
+use Rattle.fkv_world.specs.World.{Event, Moves}
 use Rattle.fkv_played_calls.proofs.Steps.{GoesByRules, IsAnsweredNow, IsRuled, answered_now, led_on, stage_event}
 
 -- ---- by the outcome

@@ -1,5 +1,5 @@
 -- A session's call that is moved alone, in a life.
-use Rattle.std.proofs.Common.{◌≡◌, ◌≢◌, ◌∙◌, ◌⊎◌, ℕ, zero, suc, List, [], ◌∷◌, ◌++◌, Bool, true, false, ap, arith, inl, inr, refl, replicate, sym, subst}
+use Rattle.std.proofs.Common.{◌≡◌, ◌≢◌, ◌∙◌, ◌⊎◌, ℕ, zero, suc, List, ◌∷◌, Bool, true, false, ap, arith, inl, inr, refl, sym}
 use Rattle.std.specs.Prelude.{Option, Some, None, slice_get, ◌==◌}
 use Rattle.std.proofs.lemmas.Bool.Decides.{nat_tests}
 use Rattle.fkv_epoch.proofs.Shown.{none_some, same_or, some_same}
@@ -9,7 +9,7 @@ use Rattle.fkv_session.specs.Sessions.{SessionState, is_busy}
 use Rattle.fkv_session.specs.declared.answers.Told.{Told}
 use Rattle.fkv_session.specs.declared.sessions.Sitting.TheVariants.{Idle}
 use Rattle.fkv_world.specs.Runs.{World, happens, run}
-use Rattle.fkv_world.specs.World.{Calls, Event, Moves, Now}
+use Rattle.fkv_world.specs.World.{Calls, Event, Moves}
 use Rattle.fkv_world.proofs.Shown.{is_over, no_session, session_apart}
 use Rattle.fkv_world_rest.specs.Resting.{HasNoCommit}
 use Rattle.fkv_world_results.specs.Results.{NobodyCalls, in_call}

@@ -1,6 +1,6 @@
 -- A group of one call is that call, played alone.
-use Rattle.std.proofs.Common.{◌≡◌, ◌≢◌, ◌∙◌, ◌⊎◌, ◌<◌, ◌+◌, ℕ, zero, suc, List, [], ◌∷◌, ◌++◌, Bool, true, false, ap, arith, inl, inr, length, refl, replicate, sym, subst}
-use Rattle.std.specs.Prelude.{Option, Some, None, filter, nat_eq, nat_lt, slice_get, slice_set, if◌then◌else◌}
+use Rattle.std.proofs.Common.{◌≡◌, ◌≢◌, ◌∙◌, ◌⊎◌, ◌<◌, ℕ, suc, List, [], ◌∷◌, ◌++◌, Bool, true, false, ap, arith, inl, inr, refl, replicate, sym, subst}
+use Rattle.std.specs.Prelude.{Option, Some, None, filter, nat_lt, slice_get, slice_set}
 use Rattle.std.proofs.lemmas.Bool.Decides.{nat_tests}
 use Rattle.fkv_base.specs.declared.faults.Fault.TheVariants.{NoSession}
 use Rattle.fkv_core.specs.Worlds.{WorldModel}
@@ -8,7 +8,7 @@ use Rattle.fkv_core.specs.declared.events.Event as events
 use Rattle.fkv_core.specs.declared.events.Told as tells
 use Rattle.fkv_epoch.proofs.Shown.{item_spared, item_written, none_some, same_or, some_same}
 use Rattle.fkv_playing.specs.Beats.{IsBeat, asked_of, seats_behind}
-use Rattle.fkv_playing.specs.Groups.{GroupState, IsBeatOf, IsGroup, IsPick, is_struck_by, missing_session}
+use Rattle.fkv_playing.specs.Groups.{GroupState, IsBeatOf, IsPick, is_struck_by, missing_session}
 use Rattle.fkv_playing.specs.InTurn.{InTurn}
 use Rattle.fkv_playing.specs.Players.{PlayerState, is_struck}
 use Rattle.fkv_playing.specs.Queues.{AreQueuesOf, NobodyHasSteps, QueueState, given_up, held, held_by, is_of, next_step, queue_behind, rank_of, step_of}

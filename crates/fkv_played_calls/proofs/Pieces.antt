@@ -1,9 +1,8 @@
 -- The pieces of lines of operations, where none is interleaved: each is a group of one call.
-use Rattle.std.proofs.Common.{◌≡◌, ◌≢◌, ◌∙◌, ℕ, zero, suc, List, [], ◌∷◌, ◌++◌, ap, length, map, refl, sym, subst}
+use Rattle.std.proofs.Common.{◌≡◌, ◌≢◌, ℕ, zero, suc, List, [], ◌∷◌, ◌++◌, ap, length, map, refl}
 use Rattle.std.specs.List.{flat_map}
-use Rattle.std.specs.Prelude.{false, Some, slice_get, ⊤}
+use Rattle.std.specs.Prelude.{Some, slice_get, ⊤}
 use Rattle.fkv_lines.specs.declared.scripts.Line.{Line}
-use Rattle.fkv_lines.specs.declared.scripts.Line.TheVariants as line
 use Rattle.fkv_map.specs.declared.operations.Call.TheVariants as call
 use Rattle.fkv_playing.specs.declared.calls.ActorCall.{ActorCall}
 use Rattle.fkv_playing.specs.declared.calls.ActorCall.TheVariants.{Session, Commit, Turn}

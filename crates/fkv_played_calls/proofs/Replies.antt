@@ -1,5 +1,5 @@
 -- An operation that is played alone is answered by the map, in a life without commits.
-use Rattle.std.proofs.Common.{◌≡◌, ◌≢◌, ◌∙◌, ◌⊎◌, ℕ, zero, suc, List, [], ◌∷◌, Bool, true, false, ap, arith, inl, inr, length, refl, sym, subst}
+use Rattle.std.proofs.Common.{◌≡◌, ◌∙◌, ◌⊎◌, ℕ, zero, suc, List, [], ◌∷◌, Bool, true, false, ap, arith, inl, inr, length, refl, sym, subst}
 use Rattle.std.specs.Prelude.{Option, Some, None, if◌then◌else◌, nat_lt, slice_get}
 use Rattle.std.proofs.lemmas.Bool.Decides.{nat_tests}
 use Rattle.fkv_base.specs.declared.faults.Fault.TheVariants.{NoSession}
@@ -13,13 +13,11 @@ use Rattle.fkv_map.specs.declared.operations.Op.{Op}
 use Rattle.fkv_one_history.specs.EachLife.{InEachLife}
 use Rattle.fkv_opening.specs.declared.opened_store.Opened.{Opened}
 use Rattle.fkv_order_law.specs.Ordered.{HasLegalHistory, OrdersItsCalls, ReadsFreshly}
-use Rattle.fkv_playing.specs.Finishes.{IsPlayedAlone}
 use Rattle.fkv_playing.specs.Groups.{missing_session}
 use Rattle.fkv_playing.specs.Players.{PlayerState}
 use Rattle.fkv_playing.specs.Seats.{SeatState}
 use Rattle.fkv_playing.specs.Texts.{text_of}
 use Rattle.fkv_playing.specs.declared.calls.ActorCall.TheVariants.{Session}
-use Rattle.fkv_playing.specs.declared.calls.Outcome.{Outcome}
 use Rattle.fkv_playing.specs.declared.calls.Outcome.TheVariants.{Answered}
 use Rattle.fkv_playing.specs.declared.calls.Stage.TheVariants as stage
 use Rattle.fkv_playing.specs.declared.calls.Telling.{Telling}

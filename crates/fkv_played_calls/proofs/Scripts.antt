@@ -1,8 +1,8 @@
 -- A script of operations alone prints what the plain map says.
-use Rattle.std.proofs.Common.{◌≡◌, ◌∙◌, ◌⊎◌, ◌+◌, ◌-◌, ◌^◌, ◌<◌, ◌≤◌, ℕ, zero, suc, List, [], ◌∷◌, ◌++◌, Bool, true, false, ap, arith, inl, inr, length, refl, sym, subst, take}
-use Rattle.std.specs.Prelude.{Option, Some, slice_get}
+use Rattle.std.proofs.Common.{◌≡◌, ◌∙◌, ◌⊎◌, ◌+◌, ◌-◌, ◌^◌, ◌<◌, ◌≤◌, ℕ, zero, suc, List, [], ◌∷◌, ◌++◌, Bool, false, ap, arith, inl, inr, length, refl, sym, subst, take}
+use Rattle.std.specs.Prelude.{Option}
 use Rattle.std.proofs.lemmas.List.{append-nil, take_all}
-use Rattle.fkv_core.specs.Openings.{IsOpeningSession, IsOpeningWorld, beginning}
+use Rattle.fkv_core.specs.Openings.{IsOpeningSession, IsOpeningWorld}
 use Rattle.fkv_core.specs.Worlds.{WorldModel}
 use Rattle.fkv_core.specs.declared.events.Event as events
 use Rattle.fkv_core.specs.declared.events.Told as tells
@@ -12,23 +12,20 @@ use Rattle.fkv_map.specs.declared.operations.Op.{Op}
 use Rattle.fkv_opening.specs.Opened.{IsStoreOf}
 use Rattle.fkv_opening.specs.declared.opened_store.Opened.{Opened}
 use Rattle.fkv_opening_log.specs.Maps.{opening_map}
-use Rattle.fkv_playing.specs.Groups.{IsGroup}
 use Rattle.fkv_playing.specs.InTurn.{InTurn}
 use Rattle.fkv_playing.specs.Players.{PlayerState}
-use Rattle.fkv_playing.specs.Seats.{SeatState}
 use Rattle.fkv_playing.specs.Texts.{answer_told}
 use Rattle.fkv_playing.specs.declared.calls.ActorCall.{ActorCall}
 use Rattle.fkv_playing.specs.declared.calls.ActorCall.TheVariants.{Session}
 use Rattle.fkv_playing.specs.declared.calls.Telling.TheVariants.{Whole}
 use Rattle.fkv_playing.specs.declared.players.Waits.{Waits}
 use Rattle.fkv_playing.specs.declared.players.Waits.TheVariants.{Nothing}
-use Rattle.fkv_runs.specs.Files.{IsPieceOfLife, IsRunOfLife}
-use Rattle.fkv_runs.specs.Openings.{Begins, Medium}
-use Rattle.fkv_runs.specs.Runs.{IsCrashedWhere, IsPiece, IsRun, RunState, is_due}
+use Rattle.fkv_runs.specs.Files.{IsPieceOfLife}
+use Rattle.fkv_runs.specs.Openings.{Medium}
+use Rattle.fkv_runs.specs.Runs.{IsCrashedWhere, IsPiece, RunState, is_due}
 use Rattle.fkv_runs.specs.declared.pieces.Piece.{Piece}
 use Rattle.fkv_runs.specs.declared.pieces.Piece.TheVariants.{Group}
 use Rattle.fkv_runs.specs.declared.settings.Settings.{Settings}
-use Rattle.fkv_session.specs.Sessions.{SessionState, is_busy}
 use Rattle.fkv_whole_calls.specs.WholeCalls.{map_after}
 use Rattle.fkv_world.specs.Runs.{run}
 use Rattle.fkv_world.specs.World.{Calls, Event, Now}

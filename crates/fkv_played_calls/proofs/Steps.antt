@@ -1,7 +1,7 @@
 -- A step of a session in the world, and the answer that it tells.
 use Rattle.std.proofs.Common.{◌≡◌, ◌∙◌, ℕ, List, ◌∷◌, Bool, true, false, ap, refl, sym, subst}
 use Rattle.std.specs.Prelude.{Option, Some, None, if◌then◌else◌, slice_get}
-use Rattle.fkv_core.specs.Told.{IsNumbered, IsSessionEnd, IsSittingTold, IsTold, may_begin, may_move, numbered}
+use Rattle.fkv_core.specs.Told.{IsSessionEnd, IsSittingTold, IsTold, may_begin, may_move, numbered}
 use Rattle.fkv_core.specs.Worlds.{WorldModel}
 use Rattle.fkv_core.specs.declared.events.Event as events
 use Rattle.fkv_core.specs.declared.events.Told as tells
@@ -16,7 +16,6 @@ use Rattle.fkv_playing.specs.declared.calls.Stage.TheVariants as stage
 use Rattle.fkv_session.specs.Answers.{IsAnswerTold}
 use Rattle.fkv_session.specs.Sessions.{SessionState}
 use Rattle.fkv_session.specs.declared.answers.Answer.{Answer}
-use Rattle.fkv_session.specs.declared.answers.Finished.{Finished}
 use Rattle.fkv_session.specs.declared.answers.Told.{Told}
 use Rattle.fkv_session.specs.declared.sessions.Sitting.{Sitting}
 use Rattle.fkv_session.specs.declared.sessions.Sitting.TheVariants.{Idle}

@@ -11,7 +11,7 @@ use Rattle.fkv_map.specs.declared.operations.Op.{Op}
 use Rattle.fkv_opening.specs.Opened.{IsStoreOf}
 use Rattle.fkv_opening.specs.declared.opened_store.Opened.{Opened}
 use Rattle.fkv_playing.specs.Finishes.{IsPlayedAlone}
-use Rattle.fkv_playing.specs.Groups.{GroupState, IsGroup}
+use Rattle.fkv_playing.specs.Groups.{IsGroup}
 use Rattle.fkv_playing.specs.Players.{PlayerState}
 use Rattle.fkv_playing.specs.Queues.{AreQueuesOf, QueueState}
 use Rattle.fkv_playing.specs.Seats.{SeatState}
