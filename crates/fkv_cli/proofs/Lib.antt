@@ -2,4 +2,5 @@ mod Appending
 mod Endings
 mod Outputs
 mod Replies
+mod ScriptFits
 mod Words

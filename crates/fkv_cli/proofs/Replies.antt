@@ -16,7 +16,8 @@ use Rattle.fkv_played_calls.specs.Scripts.{IsPlayOfMap, NewStoresPlayMap, Sessio
 use Rattle.fkv_runs.specs.Pieces.{ArePieces}
 use Rattle.fkv_runs.specs.declared.pieces.Piece.{Piece}
 use Rattle.fkv_cli.specs.Output.{AreLives, ComesTo, Devices, IsOutputOf, IsRunInMemory, IsRunOfScript, IsRunOfShape, IsRunOfStore, IsRunOfText, IsRunOfWords, mode_of, script_limit, settings_of}
-use Rattle.fkv_cli.specs.Replies.{IsScriptOf, NameNoFileOrSeed, PrintsMapOfScript}
+use Rattle.fkv_cli.specs.Replies.{IsScriptOf, PrintsMapOfScript}
+use Rattle.fkv_cli.proofs.ScriptFits.{AreFitting, fitting}
 
 -- status 0 is none of a refusal's
 not_2 : ComesTo 2 0 → ⊥
@@ -34,8 +35,11 @@ module _ {M F : Type 0} (devices : Devices M F) (plays : NewStoresPlayMap device
   in_memory : (shape : Shape) (pieces : List Piece) → ArePieces false (map op_line ops) pieces → IsRunInMemory devices.memory options shape pieces 0 text → IsPlayOfMap empty ops text
   in_memory shape pieces are its = by_end its.lives
     where
+      numbers : AreFitting ops
+      numbers = fitting mode.Memory (take script_limit bytes) ops (record { opening = Some (opening.Shape sizes); lines = map op_line ops }) script refl
+
       by_end : AreLives devices.memory (settings_of options) pieces (record { player = its.player; agrees = true }) 0 text → IsPlayOfMap empty ops text
-      by_end (inl run) = plays shape its.image its.opened its.device [] options.check true its.player (settings_of options) pieces ops 0 text its.is_new its.store its.begins are script.fits script.few run
+      by_end (inl run) = plays shape its.image its.opened its.device [] options.check true its.player (settings_of options) pieces ops 0 text its.is_new its.store its.begins are numbers.fit numbers.few run
       by_end (inr off) = absurd (zero_is_4 off.0)
 
   of_store : (shape : Shape) (pieces : List Piece) (in_file : Bool) → in_file ≡ false → ArePieces false (map op_line ops) pieces → IsRunOfStore devices options (Some shape) pieces 0 text in_file → IsPlayOfMap empty ops text
@@ -54,7 +58,7 @@ module _ {M F : Type 0} (devices : Devices M F) (plays : NewStoresPlayMap device
   of_text : options.file ≡ None → options.seed ≡ None → IsRunOfText devices options (script_of (mode_of (is_some options.file)) (take script_limit bytes)) 0 text → IsPlayOfMap empty ops text
   of_text file seed its =
       let said : script_of (mode_of (is_some options.file)) (take script_limit bytes) ≡ Ok (record { opening = Some (opening.Shape sizes); lines = map op_line ops })
-      = ap (λ (x : Option _). script_of (mode_of (is_some x)) (take script_limit bytes)) file ∙ script.says in
+      = ap (λ (x : Option _). script_of (mode_of (is_some x)) (take script_limit bytes)) file ∙ script in
       of_script file seed (subst (λ (x : Result ScriptText LineFault). IsRunOfText devices options x 0 text) said its)
 
 pub prints_map : {M F : Type 0} (devices : Devices M F) → NewStoresPlayMap devices.memory → (words : List (List ℕ)) (known : Option (List ℕ)) (text : List ℕ) → IsOutputOf devices words known 0 text → PrintsMapOfScript words known text
