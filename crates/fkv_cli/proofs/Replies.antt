@@ -1,13 +1,10 @@
 -- What is written of a script of operations is the plain map's, by what is written of any script.
-use Rattle.std.proofs.Common.{◌≡◌, ◌∙◌, ◌⊎◌, ℕ, List, [], Bool, true, false, ap, arith, inl, inr, refl, sym, subst, take}
+use Rattle.std.proofs.Common.{◌≡◌, ◌∙◌, ℕ, List, [], Bool, true, false, ap, arith, inl, inr, refl, subst, take}
 use Rattle.std.specs.Prelude.{IfSome, Option, Some, None, Ok, Result, is_some, map}
 use Rattle.std.specs.FinMap.{empty}
 use Rattle.fkv_base.specs.declared.shapes.Shape.{Shape}
 use Rattle.fkv_lines.specs.Script.{LineFault, ScriptText, script_of}
-use Rattle.fkv_lines.specs.declared.scripts.Line.{Line}
-use Rattle.fkv_lines.specs.declared.scripts.Mode.{Mode}
 use Rattle.fkv_lines.specs.declared.scripts.Mode.TheVariants as mode
-use Rattle.fkv_lines.specs.declared.scripts.Opening as openings
 use Rattle.fkv_lines.specs.declared.scripts.Opening.TheVariants as opening
 use Rattle.fkv_lines.specs.declared.scripts.Sizes.{Sizes}
 use Rattle.fkv_options.specs.declared.options.Options.{Options}
@@ -15,7 +12,7 @@ use Rattle.fkv_playing.specs.InTurn.{Writes}
 use Rattle.fkv_played_calls.specs.Scripts.{IsPlayOfMap, NewStoresPlayMap, SessionOp, op_line}
 use Rattle.fkv_runs.specs.Pieces.{ArePieces}
 use Rattle.fkv_runs.specs.declared.pieces.Piece.{Piece}
-use Rattle.fkv_cli.specs.Output.{AreLives, ComesTo, Devices, IsOutputOf, IsRunInMemory, IsRunOfScript, IsRunOfShape, IsRunOfStore, IsRunOfText, IsRunOfWords, mode_of, script_limit, settings_of}
+use Rattle.fkv_cli.specs.Output.{AreLives, ComesTo, Devices, IsOutputOf, IsRunInMemory, IsRunOfScript, IsRunOfShape, IsRunOfStore, IsRunOfText, mode_of, script_limit, settings_of}
 use Rattle.fkv_cli.specs.Replies.{IsScriptOf, PrintsMapOfScript}
 use Rattle.fkv_cli.proofs.ScriptFits.{AreFitting, fitting}
 

@@ -1,13 +1,12 @@
 -- The operations of a script have numbers that fit in words, and are few.
-use Rattle.std.proofs.Common.{◌≡◌, ◌∙◌, ℕ, ◌+◌, ◌-◌, ◌^◌, ◌<◌, ◌≤◌, Bool, true, false, ◌||◌, List, [], ◌∷◌, All, ap, arith, length, map, refl, sym, subst}
-use Rattle.std.specs.Prelude.{Option, Some, Result, Ok, Err, if◌then◌else◌, nat_lt}
+use Rattle.std.proofs.Common.{◌≡◌, ℕ, ◌+◌, ◌-◌, ◌^◌, ◌<◌, ◌≤◌, Bool, true, false, List, [], ◌∷◌, All, ap, arith, length, map, refl, subst}
+use Rattle.std.specs.Prelude.{Some, Result, Ok, Err, if◌then◌else◌}
 use Rattle.std.proofs.lemmas.Bool.Decides.{nat_tests}
 use Rattle.std.proofs.lemmas.List.Elements.{All-head, All-tail}
-use Rattle.fkv_base.specs.declared.faults.ScriptFault.{ScriptFault}
 use Rattle.fkv_base.specs.declared.faults.ScriptFault.TheVariants.{Size}
 use Rattle.fkv_lines.specs.Lines.{later_line, opening_line}
 use Rattle.fkv_lines.specs.Numbers.{◌>>=◌}
-use Rattle.fkv_lines.specs.Script.{LineFault, ScriptText, at_line, lines_from, script_from, script_of}
+use Rattle.fkv_lines.specs.Script.{ScriptText, at_line, lines_from, script_from, script_of}
 use Rattle.fkv_lines.specs.Words.{is_oversized, lines_of, most_lines, says_nothing, words_of}
 use Rattle.fkv_lines.specs.declared.scripts.Line.{Line}
 use Rattle.fkv_lines.specs.declared.scripts.Mode.{Mode}
