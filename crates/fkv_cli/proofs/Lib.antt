@@ -1,4 +1,6 @@
 mod Appending
 mod Endings
 mod Outputs
+mod Replies
+mod ScriptFits
 mod Words

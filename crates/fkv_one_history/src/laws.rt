@@ -12,7 +12,7 @@ use fkv_world_ordered::law_world_ordered;
 /// on, with the replies that were given. It orders the calls: each update whose result was given took effect once, with that reply, none took effect but
 /// those that were called, and one whose result was given before another was called took effect before it. Each read is answered by its key's
 /// value at some moment between its call and its answer. No step writes a flushed record or a frame that an epoch protects, and each action is run once at most, and when each
-/// protected session goes by what it loaded since its epoch was raised. The calls are of numbers below 2^64, and the events are fewer than 2^64 - 1.
+/// protected session goes by what it loaded since its epoch was raised. The calls are of numbers below 2^64, and fewer than 2^64 - 1 calls of sessions begin.
 pub fn law_order()
     ensures legal { InEachLife HasLegalHistory }
     ensures ordered { InEachLife OrdersItsCalls }

@@ -1,5 +1,5 @@
--- For a session an event of a life begins one call at most, and no session comes that wasn't there.
-use Rattle.std.proofs.Common.{◌≡◌, ℕ, ◌≤◌, ◌∙◌, refl, ap, arith, Bool, true, false, List, [], ◌∷◌, ◌++◌, length}
+-- For a session no more calls begin than in its life, and no session comes that wasn't there.
+use Rattle.std.proofs.Common.{◌≡◌, ℕ, ◌+◌, ◌≤◌, ◌∙◌, refl, ap, arith, Bool, true, false, List, [], ◌∷◌, ◌++◌}
 use Rattle.std.specs.Prelude.{Option, Some, None, slice_get, if◌then◌else◌}
 use Rattle.std.proofs.lemmas.Bool.Decides.{nat_tests}
 use Rattle.fkv_map.specs.declared.operations.Call.TheVariants.{Poll}
@@ -17,9 +17,10 @@ use Rattle.fkv_world.specs.OwnEvents.{session_events, session_got, session_part,
 use Rattle.fkv_world.specs.Runs.{World, happens, run}
 use Rattle.fkv_world.specs.World.{Event, Calls, Moves, Now, near, seat_at}
 use Rattle.fkv_world.proofs.Shown.{no_session, session_apart}
+use Rattle.fkv_world_tickets.specs.Few.{HasFewCalls, calls_in, with_begun}
 use Rattle.fkv_world_tickets.proofs.Begun.{begun_on, calls_begun}
 
--- ---- an event begins one call at most
+-- ---- an event begins a call of one session at most, where it is a call
 got_none : (found : Option Action) → calls_begun (session_got found) ≡ 0
 got_none None = refl
 got_none (Some action) = refl
@@ -43,35 +44,45 @@ steps_none k n (Put slot action) = slots_none n.actions (Put slot action)
 steps_none k n (Take slot) = slots_none n.actions (Take slot)
 steps_none k n ask = replied_none n.actions (session_ask k (session_next k n.machine (reply_to n.words ask))) (reply_to n.words ask)
 
-part_one : (k : Seat) (n : Near SessionState) (event : Event) → calls_begun (session_part k n event) ≤ 1
+part_few : (k : Seat) (n : Near SessionState) (event : Event) → calls_begun (session_part k n event) ≤ with_begun event 0
 unfolding session_part
-part_one k n (Calls number its) = omega arith
-part_one k n (Moves number) = let none = steps_none k n (session_ask k n.machine) in omega (arith, none)
-part_one k n event = omega arith
+part_few k n (Calls number its) = omega arith
+part_few k n (Moves number) = let none = steps_none k n (session_ask k n.machine) in omega (arith, none)
+part_few k n event = omega arith
 
-found_one : (n : Now) (number : ℕ) (event : Event) (found : Option SessionState) → calls_begun (session_part_found n number event found) ≤ 1
-found_one n number event None = omega arith
-found_one n number event (Some s) = by_own (is_of_session number event)
+found_few : (n : Now) (number : ℕ) (event : Event) (found : Option SessionState) → calls_begun (session_part_found n number event found) ≤ with_begun event 0
+found_few n number event None = omega arith
+found_few n number event (Some s) = by_own (is_of_session number event)
   where
-    by_own : (own : Bool) → calls_begun (if own then session_part (seat_at n number) (near n s) event else []) ≤ 1
-    by_own true = part_one (seat_at n number) (near n s) event
+    by_own : (own : Bool) → calls_begun (if own then session_part (seat_at n number) (near n s) event else []) ≤ with_begun event 0
+    by_own true = part_few (seat_at n number) (near n s) event
     by_own false = omega arith
 
-event_one : (n : Now) (number : ℕ) (event : Event) → calls_begun (session_part_of n number event) ≤ 1
-event_one n number event = by_crash n.crashed
+event_few : (n : Now) (number : ℕ) (event : Event) → calls_begun (session_part_of n number event) ≤ with_begun event 0
+event_few n number event = by_crash n.crashed
   where
-    by_crash : (crashed : Bool) → calls_begun (if crashed then [] else session_part_found n number event (slice_get n.sessions number)) ≤ 1
+    by_crash : (crashed : Bool) → calls_begun (if crashed then [] else session_part_found n number event (slice_get n.sessions number)) ≤ with_begun event 0
     by_crash true = omega arith
-    by_crash false = found_one n number event (slice_get n.sessions number)
+    by_crash false = found_few n number event (slice_get n.sessions number)
 
-pub begun_few : (opening : World) (number : ℕ) (events : List Event) → calls_begun (session_events opening number events) ≤ length events
+-- one more or none
+counted : (event : Event) (count : ℕ) → with_begun event count ≡ with_begun event 0 + count
+counted (Calls number its) count = omega arith
+counted event count = omega arith
+
+pub begun_few : (opening : World) (number : ℕ) (events : List Event) → calls_begun (session_events opening number events) ≤ calls_in events
 unfolding session_events
 begun_few opening number [] = omega arith
 begun_few opening number (event ∷ before) =
     let both = begun_on (session_part_of (run opening before).now number event) (session_events opening number before) in
-    let one = event_one (run opening before).now number event in
+    let one = event_few (run opening before).now number event in
     let rest = begun_few opening number before in
-    omega (arith, both, one, rest)
+    let so = counted event (calls_in before) in
+    omega (arith, both, one, rest, so)
+
+-- no fewer begin in a longer life
+pub before_few : (event : Event) (before : List Event) → HasFewCalls (event ∷ before) → HasFewCalls before
+before_few event before few = let so = counted event (calls_in before) in omega (arith, so, few)
 
 -- ---- a session that wasn't there never is
 none_stays : (w : World) (event : Event) (number : ℕ) (own : Bool) → is_of_session number event ≡ own → slice_get w.now.sessions number ≡ None → slice_get (happens w event).now.sessions number ≡ None

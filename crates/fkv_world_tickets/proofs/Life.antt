@@ -1,5 +1,5 @@
--- In a life of fewer than 2^64 - 1 events the names of each session's waiting requests are apart at each moment.
-use Rattle.std.proofs.Common.{◌≡◌, ℕ, ◌-◌, ◌^◌, ◌<◌, ◌≤◌, ◌∙◌, refl, sym, arith, List, [], ◌∷◌, length}
+-- In a life of fewer than 2^64 - 1 calls the names of each session's waiting requests are apart at each moment.
+use Rattle.std.proofs.Common.{◌≡◌, ℕ, ◌^◌, ◌<◌, ◌≤◌, ◌∙◌, refl, sym, arith, List, [], ◌∷◌}
 use Rattle.std.specs.Prelude.{Option, Some, None, slice_get}
 use Rattle.fkv_epoch.proofs.Shown.{none_some}
 use Rattle.fkv_session.specs.Accounts.{names_of, number_of}
@@ -12,9 +12,10 @@ use Rattle.fkv_world.specs.Runs.{World, run}
 use Rattle.fkv_world.specs.World.{Event, seat_at}
 use Rattle.fkv_world.proofs.Shown.{of_run}
 use Rattle.fkv_world_known.specs.Told.{AreApart, NamesAreApart, TicketsAreApart}
+use Rattle.fkv_world_tickets.specs.Few.{HasFewCalls}
 use Rattle.fkv_world_tickets.proofs.Apart.{apart, rise_once}
 use Rattle.fkv_world_tickets.proofs.Begun.{calls_begun, told_few}
-use Rattle.fkv_world_tickets.proofs.Events.{begun_few, never_comes}
+use Rattle.fkv_world_tickets.proofs.Events.{before_few, begun_few, never_comes}
 use Rattle.fkv_world_tickets.proofs.Tickets.{is_ticket, left_once, tickets_few}
 
 -- ---- a session's own run in which fewer than 2^64 calls begin
@@ -36,7 +37,7 @@ run_apart k opening events opened few = apart (names_of now.requests) (λ n. ris
         omega (arith, left, where_it_is)
 
 -- ---- at each moment
-names_apart : (opening : World) (events : List Event) → IsOpenedWorld opening → length events < 2 ^ 64 - 1 → NamesAreApart (run opening events).now
+names_apart : (opening : World) (events : List Event) → IsOpenedWorld opening → HasFewCalls events → NamesAreApart (run opening events).now
 names_apart opening events opened few session s found = by_first (slice_get opening.now.sessions session) refl
   where
     by_first : (first : Option SessionState) → slice_get opening.now.sessions session ≡ first → AreApart (names_of s.requests)
@@ -46,7 +47,7 @@ names_apart opening events opened few session s found = by_first (slice_get open
         of_run (λ (x : SessionState). AreApart (names_of x.requests)) opening events session first s (record { opened = opened; was = was; is_now = found })
         (run_apart (seat_at opening.now session) first (session_events opening session events) (opened.sessions session first was) (omega (arith, begun, few)))
 
-pub tickets_apart : (opening : World) (events : List Event) → IsOpenedWorld opening → length events < 2 ^ 64 - 1 → TicketsAreApart opening events
+pub tickets_apart : (opening : World) (events : List Event) → IsOpenedWorld opening → HasFewCalls events → TicketsAreApart opening events
 unfolding TicketsAreApart
 tickets_apart opening [] opened few = names_apart opening [] opened few
-tickets_apart opening (event ∷ before) opened few = (tickets_apart opening before opened (omega (arith, few)), names_apart opening (event ∷ before) opened few)
+tickets_apart opening (event ∷ before) opened few = (tickets_apart opening before opened (before_few event before few), names_apart opening (event ∷ before) opened few)

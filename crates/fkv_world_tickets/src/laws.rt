@@ -1,13 +1,13 @@
-//! That no two requests of a session that wait have one name, in every life of fewer than 2^64 - 1 events.
-ghost use Rattle.std.specs.Prelude.{ℕ, ◌-◌, ◌^◌, ◌<◌, List, length};
+//! That no two requests of a session that wait have one name, in every life of fewer than 2^64 - 1 calls.
+ghost use Rattle.std.specs.Prelude.{List};
 ghost use Rattle.fkv_world.specs.Opened.{IsOpenedWorld};
 ghost use Rattle.fkv_world.specs.Runs.{World};
 ghost use Rattle.fkv_world.specs.World.{Event};
 ghost use Rattle.fkv_world_known.specs.Told.{TicketsAreApart};
+ghost use Rattle.fkv_world_tickets.specs.Few.{HasFewCalls};
 
-/// Tickets are given one after another, and come again when all have been given. Each read that has to wait takes one, at the end of its call, and a call
-/// begins by an event of its own. So in a life of fewer than 2^64 - 1 events no ticket comes again, and at each moment no two requests of a session that
-/// wait have one name.
+/// Tickets are given one after another, and come again when all have been given. Each read that has to wait takes one, at the end of its call. So in a life
+/// in which fewer than 2^64 - 1 calls of sessions begin no ticket comes again, and at each moment no two requests of a session that wait have one name.
 pub fn law_tickets_apart()
-    ensures { (opening : World) (events : List Event) → IsOpenedWorld opening → length events < 2 ^ 64 - 1 → TicketsAreApart opening events }
+    ensures { (opening : World) (events : List Event) → IsOpenedWorld opening → HasFewCalls events → TicketsAreApart opening events }
 {}

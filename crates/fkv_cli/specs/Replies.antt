@@ -1,0 +1,23 @@
+-- A script of operations alone for a new store in memory, played one by one: what is written is the plain map's.
+use Rattle.std.specs.Prelude.{◌≡◌, ℕ, List, map, take, Option, Some, None, Ok}
+use Rattle.std.specs.FinMap.{empty}
+use Rattle.fkv_lines.specs.Script.{script_of}
+use Rattle.fkv_lines.specs.declared.scripts.Mode.TheVariants as mode
+use Rattle.fkv_lines.specs.declared.scripts.Opening.TheVariants as opening
+use Rattle.fkv_lines.specs.declared.scripts.Sizes.{Sizes}
+use Rattle.fkv_options.specs.Options.{AreMatchesOf}
+use Rattle.fkv_options.specs.declared.options.Options.{Options}
+use Rattle.fkv_played_calls.specs.Scripts.{IsPlayOfMap, SessionOp, op_line}
+use Rattle.fkv_cli.specs.Output.{script_limit}
+
+-- words that name no file, and no seed by which calls are interleaved
+abbrev pub NameNoFileOrSeed : List (List ℕ) → Type 0
+NameNoFileOrSeed words = (options : Options) → AreMatchesOf words options → (options.file ≡ None) × (options.seed ≡ None)
+
+-- a script of operations alone: behind the line that makes a store of these sizes come just the lines of these operations
+abbrev pub IsScriptOf : List ℕ → Sizes → List SessionOp → Type 0
+IsScriptOf bytes sizes ops = script_of mode.Memory (take script_limit bytes) ≡ Ok (record { opening = Some (opening.Shape sizes); lines = map op_line ops })
+
+-- Such a script, by such words, prints what a map says that begins empty: each reply is the map's on the operations so far, and each read gives its key's value.
+abbrev pub PrintsMapOfScript : List (List ℕ) → Option (List ℕ) → List ℕ → Type 0
+PrintsMapOfScript words known text = NameNoFileOrSeed words → (bytes : List ℕ) (sizes : Sizes) (ops : List SessionOp) → known ≡ Some bytes → IsScriptOf bytes sizes ops → IsPlayOfMap empty ops text

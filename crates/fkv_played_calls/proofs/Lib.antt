@@ -1,0 +1,9 @@
+mod Beats
+mod Calm
+mod InLife
+mod NewStores
+mod OneCall
+mod Pieces
+mod Replies
+mod Scripts
+mod Steps

@@ -1,0 +1,117 @@
+-- An operation that is played alone is answered by the map, in a life without commits.
+use Rattle.std.proofs.Common.{◌≡◌, ◌∙◌, ◌⊎◌, ℕ, zero, suc, List, [], ◌∷◌, Bool, true, false, ap, arith, inl, inr, length, refl, sym, subst}
+use Rattle.std.specs.Prelude.{Option, Some, None, if◌then◌else◌, nat_lt, slice_get}
+use Rattle.std.proofs.lemmas.Bool.Decides.{nat_tests}
+use Rattle.fkv_base.specs.declared.faults.Fault.TheVariants.{NoSession}
+use Rattle.fkv_core.specs.Openings.{IsOpeningWorld, beginning}
+use Rattle.fkv_core.specs.Worlds.{WorldModel}
+use Rattle.fkv_core.specs.declared.events.Event as events
+use Rattle.fkv_core.specs.declared.events.Told as tells
+use Rattle.fkv_epoch.proofs.Shown.{none_some, some_same}
+use Rattle.fkv_map.specs.declared.operations.Call.TheVariants as call
+use Rattle.fkv_map.specs.declared.operations.Op.{Op}
+use Rattle.fkv_one_history.specs.EachLife.{InEachLife}
+use Rattle.fkv_opening.specs.declared.opened_store.Opened.{Opened}
+use Rattle.fkv_order_law.specs.Ordered.{HasLegalHistory, OrdersItsCalls, ReadsFreshly}
+use Rattle.fkv_playing.specs.Groups.{missing_session}
+use Rattle.fkv_playing.specs.Players.{PlayerState}
+use Rattle.fkv_playing.specs.Seats.{SeatState}
+use Rattle.fkv_playing.specs.Texts.{text_of}
+use Rattle.fkv_playing.specs.declared.calls.ActorCall.TheVariants.{Session}
+use Rattle.fkv_playing.specs.declared.calls.Outcome.TheVariants.{Answered}
+use Rattle.fkv_playing.specs.declared.calls.Stage.TheVariants as stage
+use Rattle.fkv_playing.specs.declared.calls.Telling.{Telling}
+use Rattle.fkv_playing.specs.declared.calls.Telling.TheVariants.{Whole}
+use Rattle.fkv_session.specs.Sessions.{SessionState}
+use Rattle.fkv_session.specs.declared.answers.Told.{Told}
+use Rattle.fkv_session.specs.declared.sessions.Sitting.TheVariants.{Idle}
+use Rattle.fkv_texts.specs.Refusals.{session_refusal}
+use Rattle.fkv_whole_calls.specs.WholeCalls.{IsAnsweredByMap}
+use Rattle.fkv_world.specs.Runs.{World, run}
+use Rattle.fkv_world.specs.World.{Calls, Event, Now}
+use Rattle.fkv_world_results.specs.Results.{NobodyCalls, in_call}
+use Rattle.fkv_world_served.specs.Fits.{OpFits}
+use Rattle.fkv_world_tickets.specs.Few.{HasFewCalls}
+use Rattle.fkv_played_calls.specs.PlayedCalls.{IsLineOfSession, IsQuietLife, IsRefusedSession, IsReplyOfMap, LinesReplyAsMap, RepliesAsMap}
+use Rattle.fkv_played_calls.proofs.Beats.{EndsCall, beats_end}
+use Rattle.fkv_played_calls.proofs.InLife.{calls_few, calls_fit, no_commits, nobody_behind, was_alive, was_there}
+use Rattle.fkv_played_calls.proofs.OneCall.{HasOneCall, first_call, played_out, refused_out}
+use Rattle.fkv_played_calls.proofs.Steps.{GoesByRules}
+
+-- what the law of whole calls says
+abbrev pub AnswersWholeCalls : Type 0
+AnswersWholeCalls = (bytes : List ℕ) (o : Opened) (n : Now) (before : List Event) (number moves : ℕ) (op : Op) (s its : SessionState) (answer : Told) → IsOpeningWorld o n
+    → HasLegalHistory o n bytes (in_call number moves op before) → OrdersItsCalls o n bytes (in_call number moves op before) → ReadsFreshly o n bytes (in_call number moves op before)
+    → NobodyCalls (run (beginning n bytes) before).now → (run (beginning n bytes) before).now.crashed ≡ false → slice_get (run (beginning n bytes) before).now.sessions number ≡ Some s
+    → slice_get (run (beginning n bytes) (in_call number moves op before)).now.sessions number ≡ Some its → its.step ≡ Idle answer → IsAnsweredByMap o n bytes before (in_call number moves op before) op answer
+
+-- the session that is missing is the call's
+missing_number : (number its : ℕ) (c : Bool) → (if c then None else Some number) ≡ Some its → number ≡ its
+missing_number number its true e = none_some its e
+missing_number number its false e = some_same _ _ e
+
+there_number : (number : ℕ) (c : Bool) → (if c then None else Some number) ≡ None → c ≡ true
+there_number number true e = refl
+there_number number false e = none_some number (sym e)
+
+seat_there : (seats : List SeatState) (number : ℕ) → nat_lt number (length seats) ≡ true → (seat : SeatState) × (slice_get seats number ≡ Some seat)
+seat_there [] number below = absurd (grind (arith, nat_tests, below))
+seat_there (seat ∷ later) zero below = (seat, refl)
+seat_there (seat ∷ later) (suc number) below = seat_there later number (grind (arith, nat_tests, below))
+
+module _ (legal : InEachLife HasLegalHistory) (ordered : InEachLife OrdersItsCalls) (fresh : InEachLife ReadsFreshly) (whole : AnswersWholeCalls) where
+  -- a call that has ended in a life is the map's reply
+  pub reply_of : {D : Type 0} (telling : Telling) (number moves : ℕ) (op : Op) (bytes : List ℕ) (o : Opened) (first : Now) (life : List Event) (before after : PlayerState D) (text : List ℕ)
+      → IsQuietLife bytes o first life before.world.now → NobodyCalls before.world.now → OpFits op → HasFewCalls (Calls number (call.Op op) ∷ life)
+      → EndsCall telling number (call.Op op) before.seats (beginning first bytes) (in_call number moves op life) after text
+      → IsReplyOfMap telling number op bytes o first life before after text
+  reply_of telling number moves op bytes o first life before after text quiet nobody fits few ends =
+      let opening : World = beginning first bytes in
+      let all : List Event = in_call number moves op life in
+      let answered = ends.answered in
+      let here : NobodyCalls (run opening life).now = subst NobodyCalls (sym quiet.shows) nobody in
+      let no_commit = no_commits number moves op life quiet.rests in
+      let all_fit = calls_fit number moves op life fits quiet.fits in
+      let small : HasFewCalls all = calls_few number moves op life few in
+      let alive : (run opening life).now.crashed ≡ false = was_alive opening life number moves op (ap (λ (x : Now). x.crashed) ends.shows ∙ answered.alive) in
+      let is_now : slice_get (run opening all).now.sessions number ≡ Some answered.s = ap (λ (x : Now). slice_get x.sessions number) ends.shows ∙ answered.found in
+      let there = was_there opening life number moves op answered.s is_now in
+      let by_map = whole bytes o first life number moves op there.s answered.s answered.its quiet.opening
+      (legal bytes o first all quiet.store quiet.opening no_commit all_fit small)
+      (ordered bytes o first all quiet.store quiet.opening no_commit all_fit small)
+      (fresh bytes o first all quiet.store quiet.opening no_commit all_fit small)
+      here alive there.found is_now answered.at_rest in
+      record {
+        answer = answered.answer;
+        its = answered.its;
+        finished = answered.s.finished;
+        is_told = answered.is_told;
+        says = ends.says ∙ ap (text_of telling (call.Op op) before.seats after.world.now) answered.same;
+        moves = moves;
+        by_map = by_map;
+        goes_on = record { store = quiet.store; opening = quiet.opening; rests = no_commit; fits = all_fit; few = small; shows = ends.shows };
+        rests = subst NobodyCalls ends.shows (nobody_behind opening life number moves op answered.s answered.its here is_now answered.at_rest);
+      }
+
+  pub replies : {D : Type 0} (engine : events.Event → WorldModel D → WorldModel D → Option tells.Told → Bool → Type 0) → GoesByRules engine → RepliesAsMap engine
+  replies engine rules bytes o first life telling number op before after text quiet nobody fits few played =
+      reply_of telling number played.moves op bytes o first life before after text quiet nobody fits few
+      (beats_end engine rules telling number (call.Op op) (beginning first bytes) stage.Begins played.moves life before after Answered text quiet.shows (played.over, refl) played.beats)
+
+  -- so it is of a line
+  pub lines_reply : {D : Type 0} (engine : events.Event → WorldModel D → WorldModel D → Option tells.Told → Bool → Type 0) → GoesByRules engine → LinesReplyAsMap engine
+  lines_reply {D} engine rules bytes o first life number op queues left before after text quiet nobody fits few are played = by_seat (missing_session before.seats (Session number (call.Op op))) refl
+    where
+      one : (place : ℕ) × HasOneCall stage.Begins (Session number (call.Op op)) place queues
+      one = first_call (Session number (call.Op op)) queues are
+
+      by_seat : (missing : Option ℕ) → missing_session before.seats (Session number (call.Op op)) ≡ missing → IsRefusedSession number before after text ⊎ IsLineOfSession number op bytes o first life before after text
+      by_seat None there =
+          let out = played_out engine (Session number (call.Op op)) played.picks stage.Begins one.0 (record { player = before; queues = queues }) (record { player = after; queues = played.last }) text one.1 there (played.over refl) played.played in
+          let seat = seat_there before.seats number (there_number number (nat_lt number (length before.seats)) there) in
+          let reply = reply_of Whole number out.moves op bytes o first life before after text quiet nobody fits few
+          (beats_end engine rules Whole number (call.Op op) (beginning first bytes) stage.Begins out.moves life before after out.outcome text quiet.shows out.ended out.beats) in
+          inr (record { seat = seat.0; sits = seat.1; reply = reply })
+      by_seat (Some its) missing =
+          let out = refused_out engine (Session number (call.Op op)) played.picks one.0 its (record { player = before; queues = queues }) (record { player = after; queues = played.last }) text one.1 missing (played.over refl) played.played in
+          inl (out.0, out.1 ∙ ap (λ (x : ℕ). session_refusal x NoSession) (sym (missing_number number its (nat_lt number (length before.seats)) missing)))

@@ -1,0 +1,10 @@
+-- The law, by the order law and the law of whole calls.
+use Rattle.fkv_played_calls.proofs.Replies.{lines_reply, replies}
+use Rattle.fkv_played_calls.proofs.Steps.{engine_rules}
+use Rattle.fkv_played_calls.proofs.laws.law_played_calls.Goals as goal
+
+pub returns-clause-calls : goal.returns-clause-calls
+returns-clause-calls g c = replies c.law_order.ensures.legal c.law_order.ensures.ordered c.law_order.ensures.fresh c.law_whole_calls.ensures _ (engine_rules _ _ _ _ _ _)
+
+pub returns-clause-lines : goal.returns-clause-lines
+returns-clause-lines g c = lines_reply c.law_order.ensures.legal c.law_order.ensures.ordered c.law_order.ensures.fresh c.law_whole_calls.ensures _ (engine_rules _ _ _ _ _ _)
