@@ -1,6 +1,6 @@
 -- What is written of a script of operations is the plain map's, by what is written of any script.
 use Rattle.std.proofs.Common.{◌≡◌, ◌∙◌, ℕ, List, [], Bool, true, false, ap, arith, inl, inr, refl, subst, take}
-use Rattle.std.specs.Prelude.{IfSome, Option, Some, None, Ok, Result, is_some, map}
+use Rattle.std.specs.Prelude.{IfSome, Option, Some, None, Ok, Result, is_some, map, option_map, string_bytes}
 use Rattle.std.specs.FinMap.{empty}
 use Rattle.fkv_base.specs.declared.shapes.Shape.{Shape}
 use Rattle.fkv_lines.specs.Script.{LineFault, ScriptText, script_of}
@@ -13,7 +13,7 @@ use Rattle.fkv_played_calls.specs.Scripts.{IsPlayOfMap, NewStoresPlayMap, Sessio
 use Rattle.fkv_runs.specs.Pieces.{ArePieces}
 use Rattle.fkv_runs.specs.declared.pieces.Piece.{Piece}
 use Rattle.fkv_cli.specs.Output.{AreLives, ComesTo, Devices, IsOutputOf, IsRunInMemory, IsRunOfScript, IsRunOfShape, IsRunOfStore, IsRunOfText, mode_of, script_limit, settings_of}
-use Rattle.fkv_cli.specs.Replies.{IsScriptOf, PrintsMapOfScript}
+use Rattle.fkv_cli.specs.Replies.{IsScriptOf, NameNoFileOrSeed, PrintsMapOfScript}
 use Rattle.fkv_cli.proofs.ScriptFits.{AreFitting, fitting}
 
 -- status 0 is none of a refusal's
@@ -27,6 +27,10 @@ not_3 (inr e) = omega (arith, e)
 
 zero_is_4 : ◌≡◌ {A = ℕ} 0 4 → ⊥
 zero_is_4 e = omega (arith, e)
+
+none_kept : {A B : Type 0} (f : A → B) (its : Option A) → option_map f its ≡ None → its ≡ None
+none_kept f None e = refl
+none_kept f (Some x) e = cc
 
 module _ {M F : Type 0} (devices : Devices M F) (plays : NewStoresPlayMap devices.memory) (options : Options) (sizes : Sizes) (ops : List SessionOp) (bytes : List ℕ) (script : IsScriptOf bytes sizes ops) (text : List ℕ) where
   in_memory : (shape : Shape) (pieces : List Piece) → ArePieces false (map op_line ops) pieces → IsRunInMemory devices.memory options shape pieces 0 text → IsPlayOfMap empty ops text
@@ -61,11 +65,14 @@ module _ {M F : Type 0} (devices : Devices M F) (plays : NewStoresPlayMap device
 pub prints_map : {M F : Type 0} (devices : Devices M F) → NewStoresPlayMap devices.memory → (words : List (List ℕ)) (known : Option (List ℕ)) (text : List ℕ) → IsOutputOf devices words known 0 text → PrintsMapOfScript words known text
 prints_map devices plays words known text (inl refused) plain bytes sizes ops is script = absurd (not_2 refused.answers)
 prints_map devices plays words known text (inr its) plain bytes sizes ops is script =
-    let none = plain its.options its.asked in
-    of_text devices plays its.options sizes ops bytes script text none.0 none.1
+    of_text devices plays its.options sizes ops bytes script text (none_kept string_bytes its.options.file (its.asked.file ∙ plain.0)) (its.asked.seed ∙ plain.1)
     (subst (λ (x : Option (List ℕ)). IfSome x (λ (y : List ℕ). IsRunOfText devices its.options (script_of (mode_of (is_some its.options.file)) (take script_limit y)) 0 text)) is its.run)
 
 -- so it is of what a run with status 0 has written
 pub writes_map : {M F : Type 0} (devices : Devices M F) (words : List (List ℕ)) (known : Option (List ℕ)) (status : ℕ) (a b : Option (List ℕ)) → Writes (IsOutputOf devices words known status) a b → NewStoresPlayMap devices.memory → status ≡ 0
     → Writes (PrintsMapOfScript words known) a b
 writes_map devices words known status a b h plays e = (h.0, prints_map devices plays words known h.0 (subst (λ (n : ℕ). IsOutputOf devices words known n h.0) e h.1), h.2)
+
+-- a run without words is such a one
+no_words : NameNoFileOrSeed []
+no_words = (refl, refl)

@@ -5,14 +5,13 @@ use Rattle.fkv_lines.specs.Script.{script_of}
 use Rattle.fkv_lines.specs.declared.scripts.Mode.TheVariants as mode
 use Rattle.fkv_lines.specs.declared.scripts.Opening.TheVariants as opening
 use Rattle.fkv_lines.specs.declared.scripts.Sizes.{Sizes}
-use Rattle.fkv_options.specs.Options.{AreMatchesOf}
-use Rattle.fkv_options.specs.declared.options.Options.{Options}
+use Rattle.fkv_options.specs.Options.{file_in, seed_in}
 use Rattle.fkv_played_calls.specs.Scripts.{IsPlayOfMap, SessionOp, op_line}
 use Rattle.fkv_cli.specs.Output.{script_limit}
 
--- words that name no file, and no seed by which calls are interleaved
+-- clap's matches of these words hold no file, and no seed by which calls are interleaved
 abbrev pub NameNoFileOrSeed : List (List ℕ) → Type 0
-NameNoFileOrSeed words = (options : Options) → AreMatchesOf words options → (options.file ≡ None) × (options.seed ≡ None)
+NameNoFileOrSeed words = (file_in words ≡ None) × (seed_in words ≡ None)
 
 -- a script of operations alone: behind the line that makes a store of these sizes come just the lines of these operations
 abbrev pub IsScriptOf : List ℕ → Sizes → List SessionOp → Type 0
