@@ -13,13 +13,13 @@ use Rattle.fkv_world_calls.specs.Calls.{EachOwes, OwesCall, effects_of_life, eve
 use Rattle.fkv_world_calls.specs.Published as calls
 use Rattle.fkv_world_calls.specs.Published.{entries_of}
 use Rattle.fkv_world_calls.proofs.Shown.{event_owes, life_entries, same_reply, same_update}
+use Rattle.fkv_world_known.specs.Answered.{AnswerOwed, EachAnswered, acted, acted_ghosts}
 use Rattle.fkv_world_known.specs.Begins.{BeginsLife, home_of_world}
 use Rattle.fkv_world_order.specs.GhostEvents.{ghost_events, life_ghosts, mapped}
 use Rattle.fkv_world_order.proofs.Shown.{ghost_trace}
 use Rattle.fkv_world_records.specs.Changes.{AllMeetPublished, AreChangesPublished}
 use Rattle.fkv_world_records.proofs.Shown.{life_meets_published}
 use Rattle.fkv_world_rest.specs.Resting.{HasNoCommit}
-use Rattle.fkv_world_told.specs.Answered.{AnswerOwed, EachAnswered, acted, acted_ghosts}
 use Rattle.fkv_world_told.proofs.Lines.{acted_trace, told_log, told_trace}
 use Rattle.fkv_world_told.proofs.Runs.{free_read, owed_on, run_on}
 
