@@ -5,17 +5,12 @@ use Rattle.fkv_opening.specs.declared.opened_store.Opened.{Opened}
 use Rattle.fkv_opening_log.specs.Begins.{Begins}
 use Rattle.fkv_opening_log.specs.Lives.{ghosts_beside}
 use Rattle.fkv_opening_log.specs.OpeningLog.{opening_ghosts}
-use Rattle.fkv_order.specs.Chains.{Logged, Published}
-use Rattle.fkv_order.specs.Ghosts.{Changes, GhostEvent, Ghosts, Log, ghost_run}
 use Rattle.fkv_world.specs.Runs.{World, run}
 use Rattle.fkv_world.specs.World.{Event, Now}
 use Rattle.fkv_world_calls.proofs.Shown.{life_entries}
-use Rattle.fkv_world_calls.specs.Published as calls
-use Rattle.fkv_world_calls.specs.Published.{entries_of}
+use Rattle.fkv_world_calls.specs.Calls.{entries_of}
 use Rattle.fkv_world_guard.specs.Shows.{AreFair, IsFair, IsOpened}
-use Rattle.fkv_world_order.specs.GhostEvents.{home_in, mapped}
 use Rattle.fkv_world_records.proofs.Shown.{life_meets_published}
-use Rattle.fkv_world_records.specs.Changes as records
 use Rattle.fkv_world_records.specs.Changes.{AreChangesPublished}
 use Rattle.fkv_order_law.specs.Ordered.{effects_so_far}
 use Rattle.fkv_order_law.proofs.Beginning.{world_opens}
@@ -25,24 +20,9 @@ pub fair_at : (opening : World) (later before : List Event) (event : Event) → 
 fair_at opening [] before event fair = fair.0
 fair_at opening (it ∷ later) before event fair = fair_at opening later before event fair.1
 
--- ---- two crates say in their own words that each record that is changed in place was published until then
-published_so : (logged : Logged) → records.IsPublished logged → calls.IsPublished logged
-published_so (Published cell) its = tt
-published_so logged its = absurd its
-
-event_so : (log : Log) (event : GhostEvent) → records.meets_published log event → calls.meets_published log event
-event_so log (Changes a entry) its = published_so (log.cells a) its
-event_so log event its = tt
-
-meets_so : (home : ℕ → ℕ) (ghosts : Ghosts) (events : List GhostEvent) → records.AllMeetPublished home ghosts events → calls.AllMeetPublished home ghosts events
-unfolding records.AllMeetPublished calls.AllMeetPublished
-meets_so home ghosts [] its = tt
-meets_so home ghosts (event ∷ before) its = (event_so (ghost_run home ghosts before).log event its.0, meets_so home ghosts before its.1)
-
 -- ---- the life's history
 pub same_entries : (bytes : List ℕ) (o : Opened) (n : Now) (events : List Event) → IsOpeningWorld o n → IsOpened n o.tail.0 → Begins n (opening_ghosts bytes o) → AreChangesPublished (beginning n bytes) (opening_ghosts bytes o) events
     → (let beside = ghosts_beside o n bytes events in entries_of beside.log.history ≡ entries_of (effects_so_far n bytes events))
 same_entries bytes o n events world opened begins published =
     life_entries (beginning n bytes) o.tail.0 (opening_ghosts bytes o) events (world_opens o n bytes world) opened begins.unborn begins.reserves_nothing begins.no_history
-    (meets_so (home_in n.shape.bucket_bits) (opening_ghosts bytes o) (mapped (beginning n bytes) events)
-    (life_meets_published (beginning n bytes) o.tail.0 (opening_ghosts bytes o) opened begins.unborn begins.reserves_nothing events published))
+    (life_meets_published (beginning n bytes) o.tail.0 (opening_ghosts bytes o) opened begins.unborn begins.reserves_nothing events published)

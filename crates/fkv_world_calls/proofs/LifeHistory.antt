@@ -12,11 +12,11 @@ use Rattle.fkv_world.specs.World.{Event, Calls, Moves, Commits, Turns, KeeperMov
 use Rattle.fkv_world_guard.specs.Shows as guard
 use Rattle.fkv_world_order.specs.Effects.{mover_step, step_at, MakesEffect}
 use Rattle.fkv_world_order.specs.GhostEvents.{serials_in, ghost_events, home_in, mapped, life_ghosts}
+use Rattle.fkv_world_order.specs.Published.{AllMeetPublished}
 use Rattle.fkv_world_order.specs.Reservations.{Reservation}
 use Rattle.fkv_world_order.specs.Reserved.{HasReserved, IsUnbornFrom, ReservesNothing, tail_at}
 use Rattle.fkv_world_order.proofs.Shown.{life_makes, life_reserved}
-use Rattle.fkv_world_calls.specs.Calls.{effects_in_log, effects_of_life}
-use Rattle.fkv_world_calls.specs.Published.{AllMeetPublished, entries_of}
+use Rattle.fkv_world_calls.specs.Calls.{effects_in_log, effects_of_life, entries_of}
 use Rattle.fkv_world_calls.proofs.SameHistory.{takes_entries, made_entries, meets_behind}
 
 -- what is reserved by the session that moves

@@ -10,9 +10,9 @@ use Rattle.fkv_order.specs.Trace.{Effect, IsIn, HasUpdate, HasReply, history_of}
 use Rattle.fkv_session.specs.Replies.{with_effect}
 use Rattle.fkv_world.specs.Past as world
 use Rattle.fkv_world_order.specs.Effects.{is_quiet, AreQuiet, Stepped, TakesEffect, Quietly, Behind, InPlace, ByRecord}
+use Rattle.fkv_world_order.specs.Published.{IsPublished, AllMeetPublished}
 use Rattle.fkv_world_order.specs.Reservations.{Reservation}
-use Rattle.fkv_world_calls.specs.Calls.{effects_in_log}
-use Rattle.fkv_world_calls.specs.Published.{IsPublished, AllMeetPublished, entries_of}
+use Rattle.fkv_world_calls.specs.Calls.{effects_in_log, entries_of}
 
 -- ---- one event
 dropped_history : (log : Log) (a : ℕ) (logged : Logged) → (dropped log a logged).history ≡ log.history

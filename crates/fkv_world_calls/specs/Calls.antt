@@ -27,6 +27,11 @@ lines_of_life opening events = lines_of (serials_in opening.now) (run opening ev
 abbrev pub event_adds : World → List Event → Event → List TraceLine
 event_adds opening before event = lines_added (serials_in opening.now) (run opening before).past.trace (traced_by (run opening before) event)
 
+-- what took effect, whatever the versions, the newest first
+abbrev pub entries_of : List Effect → List HistoryEntry
+entries_of [] = []
+entries_of (effect ∷ before) = effect.entry ∷ entries_of before
+
 -- an update was called, and not refused since, and has not taken effect
 pub record IsUpdateInHand (effects : List Effect) (lines : List TraceLine) (entry : HistoryEntry) : Type 0 where
   pub called : called_as lines entry.session entry.serial.0 ≡ Some entry.op

@@ -7,10 +7,10 @@ ghost use Rattle.fkv_world.specs.Opened.{IsOpenedWorld};
 ghost use Rattle.fkv_world.specs.Past.{Effect};
 ghost use Rattle.fkv_world.specs.Runs.{World, run};
 ghost use Rattle.fkv_world.specs.World.{Event};
-ghost use Rattle.fkv_world_calls.specs.Calls.{EachOwes, IsUpdateInHand, OwesCall, effects_of_life, event_adds, lines_of_life};
-ghost use Rattle.fkv_world_calls.specs.Published.{AllMeetPublished, entries_of};
+ghost use Rattle.fkv_world_calls.specs.Calls.{EachOwes, IsUpdateInHand, OwesCall, effects_of_life, entries_of, event_adds, lines_of_life};
 ghost use Rattle.fkv_world_guard.specs.Shows as guard;
 ghost use Rattle.fkv_world_order.specs.GhostEvents.{home_in, life_ghosts, mapped};
+ghost use Rattle.fkv_world_order.specs.Published.{AllMeetPublished};
 ghost use Rattle.fkv_world_order.specs.Reserved.{IsUnbornFrom, ReservesNothing, tail_at};
 
 /// In every life of a store that was opened, whatever its calls, commits, turns and the order of its steps: an update that takes effect by an event was

@@ -1,3 +1,4 @@
+pub mod Answered
 pub mod Begins
 pub mod Knows
 pub mod Told

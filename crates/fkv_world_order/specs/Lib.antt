@@ -3,6 +3,7 @@ pub mod Effects
 pub mod GhostEvents
 pub mod Lines
 pub mod Names
+pub mod Published
 pub mod Reservations
 pub mod Reserved
 pub mod Sessions

@@ -1,3 +1,2 @@
-mod Answered
 mod Ordered
 pub mod Shown

@@ -7,6 +7,7 @@ use Rattle.fkv_order.specs.Owed.{AreOwed}
 use Rattle.fkv_world.specs.Runs.{World, run}
 use Rattle.fkv_world.specs.World.{Event}
 use Rattle.fkv_world_calls.specs.Calls.{event_adds}
+use Rattle.fkv_world_known.specs.Answered.{EachAnswered, acted_ghosts}
 use Rattle.fkv_world_known.specs.Begins.{BeginsLife, home_of_world}
 use Rattle.fkv_world_known.specs.Knows.{AllKnowBehind, AreKnown}
 use Rattle.fkv_world_known.specs.Told.{AreToldTruly, TicketsAreApart}
@@ -14,7 +15,6 @@ use Rattle.fkv_world_known.proofs.Shown.{begun_known}
 use Rattle.fkv_world_order.specs.GhostEvents.{life_ghosts, mapped}
 use Rattle.fkv_world_looks.proofs.Shown.{looks_true}
 use Rattle.fkv_world_owes.proofs.Shown.{changes_published, own_owed}
-use Rattle.fkv_world_reads.specs.Answered as reads
 use Rattle.fkv_world_reads.proofs.Shown.{answers_owed, reads_begin_so, reads_go_on}
 use Rattle.fkv_world_records.specs.Changes.{AreChangesPublished}
 use Rattle.fkv_world_rest.specs.Resting.{HasNoCommit}
@@ -22,11 +22,9 @@ use Rattle.fkv_world_rows.proofs.Shown.{rows_go_on}
 use Rattle.fkv_world_served.specs.Fits.{CallsFit, CellsFit}
 use Rattle.fkv_world_served.specs.Served.{ServedShow}
 use Rattle.fkv_world_served.proofs.Shown.{CallsLaw, WordsLaw, served_show}
-use Rattle.fkv_world_told.specs.Answered.{acted_ghosts}
 use Rattle.fkv_world_told.proofs.Shown.{lines_owed, mapped_crashed}
 use Rattle.fkv_world_truth.proofs.Shown.{words_true}
 use Rattle.fkv_world_ordered.specs.Keeps.{KeepsOrder}
-use Rattle.fkv_world_ordered.proofs.Answered.{answered_so}
 
 -- ---- at first nothing has happened
 pub begins_ordered : (opening : World) (start : ℕ) (lists : ℕ → List ℕ) (version : Version) (m : Map) (number : ℕ) (ghosts : Ghosts) → BeginsLife opening start lists version m number ghosts → KeepsOrder opening ghosts []
@@ -65,7 +63,7 @@ module _ (calls : CallsLaw) (words : WordsLaw) (opening : World) (start : ℕ) (
       → AreToldTruly H (life_ghosts opening ghosts before).log (run opening before).now → AreChangesPublished opening ghosts (event ∷ before) → AreOwed H ghosts (mapped opening (event ∷ before))
   event_owed before event none apart its truly published = by_crash (run opening before).now.crashed refl
     where
-      answered : reads.EachAnswered H (acted_ghosts opening ghosts before event) (event_adds opening before event)
+      answered : EachAnswered H (acted_ghosts opening ghosts before event) (event_adds opening before event)
       answered = answers_owed opening start lists version m number ghosts before event begins none its.owed its.published its.known apart truly its.reads
 
       by_crash : (crashed : Bool) → (run opening before).now.crashed ≡ crashed → AreOwed H ghosts (mapped opening (event ∷ before))
@@ -73,7 +71,7 @@ module _ (calls : CallsLaw) (words : WordsLaw) (opening : World) (start : ℕ) (
       by_crash false alive =
           lines_owed opening start lists version m number ghosts before event begins none its.owed published
           (own_owed opening start lists version m number ghosts before event begins none its.owed its.published its.known truly alive)
-          (answered_so H (acted_ghosts opening ghosts before event) (event_adds opening before event) answered)
+          answered
 
   pub goes_on : (before : List Event) (event : Event) → HasNoCommit (event ∷ before) → CallsFit (event ∷ before) → TicketsAreApart opening (event ∷ before) → KeepsOrder opening ghosts before
       → KeepsOrder opening ghosts (event ∷ before)

@@ -22,7 +22,8 @@ use Rattle.fkv_try_rows.specs.TryRows.{TryRow}
 use Rattle.fkv_world.specs.Runs.{World, run}
 use Rattle.fkv_world.specs.World.{Event, Moves}
 use Rattle.fkv_world_order.specs.GhostEvents.{life_ghosts}
-use Rattle.fkv_world_records.specs.Changes.{ChangesPublished, IsPublished, SessionChangesPublished}
+use Rattle.fkv_world_order.specs.Published.{IsPublished}
+use Rattle.fkv_world_records.specs.Changes.{ChangesPublished, SessionChangesPublished}
 use Rattle.fkv_world_known.specs.Begins.{BeginsLife, home_of_world}
 use Rattle.fkv_world_known.specs.Knows.{AllKnowBehind, AreKnown, SessionKnows}
 

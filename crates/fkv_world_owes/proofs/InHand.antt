@@ -4,8 +4,7 @@ use Rattle.std.specs.Prelude.{Option, Some}
 use Rattle.fkv_base.specs.declared.numbers.Version.{Version}
 use Rattle.fkv_map.specs.declared.history.HistoryEntry.{HistoryEntry}
 use Rattle.fkv_map.specs.Map.{Map}
-use Rattle.fkv_order.specs.Chains.{Logged, Published}
-use Rattle.fkv_order.specs.Ghosts.{Log, Ghosts, GhostEvent, Changes, ghost_run}
+use Rattle.fkv_order.specs.Ghosts.{Ghosts}
 use Rattle.fkv_order.specs.Owed.{IsInHand}
 use Rattle.fkv_order.specs.Trace.{TraceLine, called_as, Effect as LogEffect}
 use Rattle.fkv_world.specs.Added.{IsEffectOf, IsHistoryAfter}
@@ -13,30 +12,13 @@ use Rattle.fkv_world.specs.Past.{Effect, effect_made}
 use Rattle.fkv_world.specs.Runs.{World, happens, run}
 use Rattle.fkv_world.specs.World.{Event}
 use Rattle.fkv_world.proofs.Shown.{history_so}
-use Rattle.fkv_world_calls.specs.Calls.{IsUpdateInHand, effects_of_life, lines_of_life}
-use Rattle.fkv_world_calls.specs.Published as calls
-use Rattle.fkv_world_calls.specs.Published.{entries_of}
+use Rattle.fkv_world_calls.specs.Calls.{IsUpdateInHand, effects_of_life, entries_of, lines_of_life}
 use Rattle.fkv_world_calls.proofs.Shown.{effect_in_hand, life_entries, same_update}
-use Rattle.fkv_world_known.specs.Begins.{BeginsLife, home_of_world}
-use Rattle.fkv_world_order.specs.GhostEvents.{life_ghosts, mapped}
+use Rattle.fkv_world_known.specs.Begins.{BeginsLife}
+use Rattle.fkv_world_order.specs.GhostEvents.{life_ghosts}
 use Rattle.fkv_world_order.proofs.Shown.{ghost_trace}
-use Rattle.fkv_world_records.specs.Changes as records
 use Rattle.fkv_world_records.specs.Changes.{AreChangesPublished}
 use Rattle.fkv_world_records.proofs.Shown.{life_meets_published}
-
--- ---- published records that change in place, in the words of the one crate and of the other
-logged_same : (logged : Logged) → records.IsPublished logged → calls.IsPublished logged
-logged_same (Published cell) its = tt
-logged_same logged its = absurd its
-
-event_same : (log : Log) (event : GhostEvent) → records.meets_published log event → calls.meets_published log event
-event_same log (Changes a entry) its = logged_same (log.cells a) its
-event_same log event its = tt
-
-all_same : (home : ℕ → ℕ) (g : Ghosts) (events : List GhostEvent) → records.AllMeetPublished home g events → calls.AllMeetPublished home g events
-unfolding records.AllMeetPublished calls.AllMeetPublished
-all_same home g [] its = tt
-all_same home g (event ∷ before) its = (event_same (ghost_run home g before).log event its.0, all_same home g before its.1)
 
 -- ---- the log's trace and history beside a life are the life's
 pub life_same_trace : (opening : World) (start : ℕ) (lists : ℕ → List ℕ) (version : Version) (m : Map) (number : ℕ) (ghosts : Ghosts) (events : List Event) → BeginsLife opening start lists version m number ghosts
@@ -47,7 +29,7 @@ pub life_same_entries : (opening : World) (start : ℕ) (lists : ℕ → List �
     → AreChangesPublished opening ghosts events → entries_of (life_ghosts opening ghosts events).log.history ≡ entries_of (effects_of_life opening events)
 life_same_entries opening start lists version m number ghosts events begins published =
     life_entries opening start ghosts events begins.world begins.store.now begins.unborn begins.reserves begins.log.no_history
-    (all_same (home_of_world opening) ghosts (mapped opening events) (life_meets_published opening start ghosts begins.store.now begins.unborn begins.reserves events published))
+    (life_meets_published opening start ghosts begins.store.now begins.unborn begins.reserves events published)
 
 in_log : (g : Ghosts) (effects : List LogEffect) (lines : List TraceLine) (entry : HistoryEntry) → g.trace ≡ lines → entries_of g.log.history ≡ entries_of effects → IsUpdateInHand effects lines entry → IsInHand g entry
 in_log g effects lines entry same_trace same_entries its = record {

@@ -27,9 +27,9 @@ use Rattle.fkv_try_rows.specs.ReadRows.{IsCalledFor, HasRead, SoughtReads, Attem
 use Rattle.fkv_try_rows.specs.TryRows.{key_in}
 use Rattle.fkv_world.specs.Added.{call_answered, told_at}
 use Rattle.fkv_world.specs.Past.{Traced, Answered}
+use Rattle.fkv_world_known.specs.Answered.{EachAnswered}
 use Rattle.fkv_world_order.specs.Lines.{CallMade, read_in_hand, read_waiting, is_ticket, gives_ticket, read_reply, next_serial, last_call, refused_call, refused_lines, finished_line, finished_lines, answer_lines}
 use Rattle.fkv_world_order.specs.Sessions.{ticket_of}
-use Rattle.fkv_world_reads.specs.Answered.{EachAnswered}
 use Rattle.fkv_world_reads.specs.Reads.{SessionReadings, is_given, readings_of, WaitsSo, AllWait, TriedAs, AllFinished, CatchReads, TurnReads, SitsReads}
 use Rattle.fkv_world_reads.proofs.Coming.{with_told, TellsReads, ComesTo}
 use Rattle.fkv_world_reads.proofs.Numbers.{with_answered, answered_gives}

@@ -19,11 +19,11 @@ use Rattle.fkv_world.specs.Runs.{World, happens, run}
 use Rattle.fkv_world.specs.World.{Event, seat_at, near}
 use Rattle.fkv_world.proofs.Shown.{trace_so}
 use Rattle.fkv_world_calls.specs.Calls.{event_adds}
+use Rattle.fkv_world_known.specs.Answered.{EachAnswered}
 use Rattle.fkv_world_known.specs.Begins.{home_of_world}
 use Rattle.fkv_world_order.specs.GhostEvents.{fixed_ghosts, life_ghosts, mapped, own_ghosts, safe_at, serials_in, ghost_events}
 use Rattle.fkv_world_order.specs.Lines.{read_in_hand, read_waiting, call_lines, event_lines, lines_added}
 use Rattle.fkv_world_order.specs.Sessions.{step_ghosts}
-use Rattle.fkv_world_reads.specs.Answered.{EachAnswered}
 use Rattle.fkv_world_reads.specs.Reads.{SessionReadings, readings_of, AllWait, SitsReads, SessionReads, ReadsKnown}
 use Rattle.fkv_world_reads.proofs.Answers.{AreSame, same_wait, same_sits, tell, AllCallOther, told_reads, both_other, end_lines, end_calls, end_each, end_sits}
 use Rattle.fkv_world_reads.proofs.Coming.{IsInHandAs, Comes, IsFreshly, begun_comes}

@@ -24,6 +24,7 @@ use Rattle.fkv_world.specs.Runs.{World, happens, run}
 use Rattle.fkv_world.specs.World.{Event, seat_at}
 use Rattle.fkv_world.proofs.Shown.{is_over, same_seat, session_runs}
 use Rattle.fkv_world_calls.specs.Calls.{event_adds}
+use Rattle.fkv_world_known.specs.Answered.{EachAnswered, acted_ghosts}
 use Rattle.fkv_world_known.specs.Begins.{home_of_world, BeginsLife}
 use Rattle.fkv_world_known.specs.Knows.{AllKnowBehind, AreKnown}
 use Rattle.fkv_world_known.specs.Told.{AreToldTruly, NamesAreApart, TicketsAreApart}
@@ -32,7 +33,6 @@ use Rattle.fkv_world_order.specs.Lines.{lines_added}
 use Rattle.fkv_world_order.proofs.Shown.{life_named}
 use Rattle.fkv_world_records.specs.Changes.{AreChangesPublished}
 use Rattle.fkv_world_rest.specs.Resting.{HasNoCommit}
-use Rattle.fkv_world_reads.specs.Answered.{EachAnswered, acted_ghosts}
 use Rattle.fkv_world_reads.specs.Reads.{readings_of, SitsReads, SessionReads, ReadsKnown, AreReadsKnown}
 use Rattle.fkv_world_reads.proofs.Coming.{IsFreshly}
 use Rattle.fkv_world_reads.proofs.Life.{IsAnsweredSo, life_next, life_over, rests_so, begins_so, goes_so}

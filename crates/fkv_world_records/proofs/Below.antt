@@ -11,8 +11,9 @@ use Rattle.fkv_world_guard.specs.Shows.{IsOpened, SessionIsBelowTail, ChangesBel
 use Rattle.fkv_world_guard.proofs.Shown.{below_fair}
 use Rattle.fkv_world_order.specs.GhostEvents.{life_ghosts}
 use Rattle.fkv_world_order.specs.Reserved.{tail_at, IsUnbornFrom}
+use Rattle.fkv_world_order.specs.Published.{IsPublished}
 use Rattle.fkv_world_order.proofs.Shown.{ghost_unborn}
-use Rattle.fkv_world_records.specs.Changes.{IsPublished, SessionChangesPublished, ChangesPublished, AreChangesPublished}
+use Rattle.fkv_world_records.specs.Changes.{SessionChangesPublished, ChangesPublished, AreChangesPublished}
 
 published_born : (logged : Logged) → IsPublished logged → logged ≡ Unborn → ⊥
 published_born (Published cell) its e = cc

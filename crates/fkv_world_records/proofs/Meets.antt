@@ -19,8 +19,9 @@ use Rattle.fkv_world_order.specs.Lines.{lines_added}
 use Rattle.fkv_world_order.specs.Reservations.{Reservation}
 use Rattle.fkv_world_order.specs.Reserved.{reserved_by, tail_at, IsUnbornFrom, ReservesNothing}
 use Rattle.fkv_world_order.specs.Sessions.{sitting_ghosts, step_ghosts}
+use Rattle.fkv_world_order.specs.Published.{IsPublished, AllMeetPublished, meets_published}
 use Rattle.fkv_world_order.proofs.Shown.{life_takes}
-use Rattle.fkv_world_records.specs.Changes.{IsPublished, SessionChangesPublished, ChangesPublished, AreChangesPublished, AllMeetPublished, meets_published}
+use Rattle.fkv_world_records.specs.Changes.{SessionChangesPublished, ChangesPublished, AreChangesPublished}
 use Rattle.fkv_world_records.proofs.AppendRows.{Standing}
 use Rattle.fkv_world_records.proofs.FrameWords.{FrameWord, sitting_word}
 use Rattle.fkv_world_records.proofs.GhostFits.{Fit, sitting_fit}

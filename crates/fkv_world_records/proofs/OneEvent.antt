@@ -33,9 +33,10 @@ use Rattle.fkv_world_order.specs.Lines.{lines_added}
 use Rattle.fkv_world_order.specs.Reservations.{Reservation}
 use Rattle.fkv_world_order.specs.Reserved.{reserved_by, tail_at, IsUnbornFrom, ReservesNothing}
 use Rattle.fkv_world_order.specs.Sessions.{sitting_ghosts, step_ghosts}
+use Rattle.fkv_world_order.specs.Published.{IsPublished}
 use Rattle.fkv_world_order.proofs.Shown.{ghost_unborn, life_reserved, life_rises, life_takes, reserved_apart, reserved_open}
 use Rattle.fkv_world_records.specs.Cells.{ShowsCell, StandsShowLog}
-use Rattle.fkv_world_records.specs.Changes.{IsPublished, SessionChangesPublished, ChangesPublished}
+use Rattle.fkv_world_records.specs.Changes.{SessionChangesPublished, ChangesPublished}
 use Rattle.fkv_world_records.proofs.AppendRows.{Standing}
 use Rattle.fkv_world_records.proofs.AttemptRows.{IsAllowed}
 use Rattle.fkv_world_records.proofs.FrameOwners.{IsOwner, ByChange, ByReservation}

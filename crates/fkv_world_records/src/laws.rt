@@ -12,8 +12,9 @@ ghost use Rattle.fkv_world_guard.specs.Shows as guard;
 ghost use Rattle.fkv_world_guard.specs.Shows.{AreBelowTail, AreFair, ChangesBelowTail, guard_opening};
 ghost use Rattle.fkv_world_order.specs.GhostEvents.{home_in, life_ghosts, mapped};
 ghost use Rattle.fkv_world_order.specs.Reserved.{IsUnbornFrom, ReservesNothing, tail_at};
+ghost use Rattle.fkv_world_order.specs.Published.{AllMeetPublished};
 ghost use Rattle.fkv_world_records.specs.Cells.{StandsShowLog};
-ghost use Rattle.fkv_world_records.specs.Changes.{AllMeetPublished, AreChangesPublished, ChangesPublished};
+ghost use Rattle.fkv_world_records.specs.Changes.{AreChangesPublished, ChangesPublished};
 ghost use Rattle.fkv_world_records.specs.Frames.{DeviceShowsLog, FindsFramed, FramesShow, FramesShowLog, IsAttempting};
 
 use fkv_world_guard::law_world_flushed_is_synced;

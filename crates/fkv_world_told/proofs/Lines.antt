@@ -5,9 +5,9 @@ use Rattle.fkv_order.specs.Ghosts.{Ghosts, GhostEvent, Tells, FindsEntry, TakesV
 use Rattle.fkv_order.specs.Trace.{TraceLine}
 use Rattle.fkv_world.specs.Runs.{World, run}
 use Rattle.fkv_world.specs.World.{Event}
+use Rattle.fkv_world_known.specs.Answered.{acted}
 use Rattle.fkv_world_order.specs.GhostEvents.{fixed_ghosts, own_ghosts, safe_at}
 use Rattle.fkv_world_order.proofs.Shown.{AreOwn, own_own}
-use Rattle.fkv_world_told.specs.Answered.{acted}
 
 pub told_log : (home : ℕ → ℕ) (g : Ghosts) (lines : List TraceLine) → (ghost_run home g (map Tells lines)).log ≡ g.log
 unfolding ghost_run ghosts_after

@@ -9,17 +9,15 @@ use Rattle.fkv_order.specs.Trace.{Effect, TraceLine, CallsUpdate, RefusesUpdate,
 use Rattle.fkv_order.proofs.Shown.{IsSound, run_sound}
 use Rattle.fkv_world.specs.Runs.{World, run}
 use Rattle.fkv_world.specs.World.{Event}
-use Rattle.fkv_world_calls.specs.Calls.{EachOwes, OwesCall, effects_of_life, event_adds, lines_of_life}
-use Rattle.fkv_world_calls.specs.Published as calls
-use Rattle.fkv_world_calls.specs.Published.{entries_of}
+use Rattle.fkv_world_calls.specs.Calls.{EachOwes, OwesCall, effects_of_life, entries_of, event_adds, lines_of_life}
 use Rattle.fkv_world_calls.proofs.Shown.{event_owes, life_entries, same_reply, same_update}
+use Rattle.fkv_world_known.specs.Answered.{AnswerOwed, EachAnswered, acted, acted_ghosts}
 use Rattle.fkv_world_known.specs.Begins.{BeginsLife, home_of_world}
 use Rattle.fkv_world_order.specs.GhostEvents.{ghost_events, life_ghosts, mapped}
 use Rattle.fkv_world_order.proofs.Shown.{ghost_trace}
-use Rattle.fkv_world_records.specs.Changes.{AllMeetPublished, AreChangesPublished}
+use Rattle.fkv_world_records.specs.Changes.{AreChangesPublished}
 use Rattle.fkv_world_records.proofs.Shown.{life_meets_published}
 use Rattle.fkv_world_rest.specs.Resting.{HasNoCommit}
-use Rattle.fkv_world_told.specs.Answered.{AnswerOwed, EachAnswered, acted, acted_ghosts}
 use Rattle.fkv_world_told.proofs.Lines.{acted_trace, told_log, told_trace}
 use Rattle.fkv_world_told.proofs.Runs.{free_read, owed_on, run_on}
 
@@ -62,12 +60,6 @@ pub mapped_crashed : (opening : World) (before : List Event) (event : Event) →
 unfolding mapped ghost_events run
 mapped_crashed opening before event crashed = ap (λ (c : Bool). (if c then [] else map Tells (event_adds opening before event) ++ acted opening before event) ++ mapped opening before) crashed
 
--- what is changed in place is published until then, in the words of the calls
-meets_so : (home : ℕ → ℕ) (g : Ghosts) (events : List GhostEvent) → AllMeetPublished home g events → calls.AllMeetPublished home g events
-unfolding AllMeetPublished calls.AllMeetPublished
-meets_so home g [] meets = tt
-meets_so home g (event ∷ before) meets = (meets.0, meets_so home g before meets.1)
-
 module _ (opening : World) (start : ℕ) (lists : ℕ → List ℕ) (version : Version) (m : Map) (number : ℕ) (ghosts : Ghosts) (before : List Event) (event : Event) (begins : BeginsLife opening start lists version m number ghosts) where
   abbrev H : ℕ → ℕ
   H = home_of_world opening
@@ -96,7 +88,7 @@ module _ (opening : World) (start : ℕ) (lists : ℕ → List ℕ) (version : V
       ∙ (sym (ap (λ (x : Ghosts). entries_of x.log.history) (run_on H ghosts (map Tells told) behind))
       ∙ (sym (ap (λ (x : List GhostEvent). entries_of (ghost_run H ghosts x).log.history) (mapped_alive opening before event alive))
       ∙ life_entries opening start ghosts (event ∷ before) begins.world begins.store.now begins.unborn begins.reserves begins.log.no_history
-      (meets_so H ghosts (mapped opening (event ∷ before)) (life_meets_published opening start ghosts begins.store.now begins.unborn begins.reserves (event ∷ before) published))))
+      (life_meets_published opening start ghosts begins.store.now begins.unborn begins.reserves (event ∷ before) published)))
 
   alive_owed : (run opening before).now.crashed ≡ false → AreOwed H ghosts (mapped opening before) → AreChangesPublished opening ghosts (event ∷ before) → AreOwed H (life_ghosts opening ghosts before) (acted opening before event)
       → EachAnswered H base told → AreOwed H ghosts (mapped opening (event ∷ before))

@@ -7,11 +7,11 @@ ghost use Rattle.fkv_order.specs.Owed.{AreOwed};
 ghost use Rattle.fkv_world.specs.Runs.{World};
 ghost use Rattle.fkv_world.specs.World.{Event};
 ghost use Rattle.fkv_world_calls.specs.Calls.{event_adds};
+ghost use Rattle.fkv_world_known.specs.Answered.{EachAnswered, acted, acted_ghosts};
 ghost use Rattle.fkv_world_known.specs.Begins.{BeginsLife, home_of_world};
 ghost use Rattle.fkv_world_order.specs.GhostEvents.{life_ghosts, mapped};
 ghost use Rattle.fkv_world_records.specs.Changes.{AreChangesPublished};
 ghost use Rattle.fkv_world_rest.specs.Resting.{HasNoCommit};
-ghost use Rattle.fkv_world_told.specs.Answered.{EachAnswered, acted, acted_ghosts};
 
 /// In a life without commits whose log's events have been owed so far: where what an event's session does to the log is owed, with the raise of the
 /// safe read-only offset behind it, and each answer of a read among the lines that the event tells is the value that the read has, each
