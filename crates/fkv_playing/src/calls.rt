@@ -8,7 +8,7 @@ use fkv_core::Event;
 use fkv_map::Call;
 
 /// A call of an actor.
-#[derive(Clone, Copy)]
+#[derive(Clone, Copy, PartialEq, Eq)]
 pub enum ActorCall {
     /// The session of this number makes a call; the store may have no such session.
     Session(usize, Call),
@@ -19,7 +19,7 @@ pub enum ActorCall {
 }
 
 /// Where a call stands.
-#[derive(Clone, Copy)]
+#[derive(Clone, Copy, PartialEq, Eq)]
 pub enum Stage {
     /// It is to be begun.
     Begins,
@@ -28,7 +28,7 @@ pub enum Stage {
 }
 
 /// What is printed of an answer.
-#[derive(Clone, Copy)]
+#[derive(Clone, Copy, PartialEq, Eq)]
 pub enum Telling {
     /// All of it, as of a line of its own.
     Whole,
@@ -37,7 +37,7 @@ pub enum Telling {
 }
 
 /// How a step of a call, or the call, comes out.
-#[derive(Clone, Copy)]
+#[derive(Clone, Copy, PartialEq, Eq)]
 pub enum Outcome {
     /// The call is in hand still.
     GoesOn,

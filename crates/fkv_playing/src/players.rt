@@ -19,7 +19,7 @@ use std::io;
 use std::marker::Model;
 
 /// What is to come of the device.
-#[derive(Clone, Copy)]
+#[derive(Clone, Copy, PartialEq, Eq)]
 pub enum Waits {
     /// Nothing.
     Nothing,

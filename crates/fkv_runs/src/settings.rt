@@ -1,7 +1,7 @@
 //! What a run is told beside its script.
 
 /// How crashes are taken.
-#[derive(Clone, Copy)]
+#[derive(Clone, Copy, PartialEq, Eq)]
 pub struct Settings {
     /// The byte to which a crash sets each byte of the image that isn't synced.
     pub torn: u8,
