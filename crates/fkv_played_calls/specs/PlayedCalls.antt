@@ -1,11 +1,12 @@
 -- Played calls: what an operation prints that is played alone, by the map that the store shows before it.
-use Rattle.std.specs.Prelude.{◌≡◌, ◌⊎◌, ℕ, Bool, false, List, [], ◌∷◌, Option, Some, slice_get}
+use Rattle.std.specs.Prelude.{◌≡◌, ◌⊎◌, ℕ, Bool, false, List, [], ◌∷◌, Option, Some, slice_get, ◌++◌, replicate}
 use Rattle.fkv_base.specs.declared.faults.Fault.TheVariants.{NoSession}
 use Rattle.fkv_core.specs.Openings.{IsOpeningWorld, beginning}
 use Rattle.fkv_core.specs.Worlds.{WorldModel}
 use Rattle.fkv_core.specs.declared.events.Event as events
 use Rattle.fkv_core.specs.declared.events.Told as tells
 use Rattle.fkv_core.specs.declared.events.Told.TheVariants as told
+use Rattle.fkv_map.specs.declared.operations.Call.{Call}
 use Rattle.fkv_map.specs.declared.operations.Call.TheVariants as call
 use Rattle.fkv_map.specs.declared.operations.Op.{Op}
 use Rattle.fkv_opening.specs.Opened.{IsStoreOf}
@@ -27,10 +28,10 @@ use Rattle.fkv_session.specs.declared.answers.Told.{Told}
 use Rattle.fkv_texts.specs.Refusals.{session_refusal}
 use Rattle.fkv_whole_calls.specs.WholeCalls.{IsAnsweredByMap}
 use Rattle.fkv_world.specs.Runs.{run}
-use Rattle.fkv_world.specs.World.{Calls, Event, Now}
+use Rattle.fkv_world.specs.World.{Calls, Event, Moves, Now}
 use Rattle.fkv_world_rest.specs.Resting.{HasNoCommit}
 use Rattle.fkv_world_results.specs.Results.{NobodyCalls, in_call}
-use Rattle.fkv_world_served.specs.Fits.{CallsFit, OpFits}
+use Rattle.fkv_world_served.specs.Fits.{CallFits, CallsFit, OpFits}
 use Rattle.fkv_world_tickets.specs.Few.{HasFewCalls}
 
 -- A life without commits of a store that these bytes hold, which began with its first world: one of which the order law speaks. It shows this world.
@@ -80,3 +81,24 @@ LinesReplyAsMap {D} engine =
     → IsQuietLife bytes o first life before.world.now → NobodyCalls before.world.now → OpFits op → HasFewCalls (Calls number (call.Op op) ∷ life)
     → AreQueuesOf (Session number (call.Op op) ∷ []) queues → IsGroup engine (record { player = before; queues = queues }) (record { player = after; queues = left }) false text
     → IsRefusedSession number before after text ⊎ IsLineOfSession number op bytes o first life before after text
+
+-- ---- any other call of a session
+-- the session of this number begins a call, and then makes so many moves, and nobody else does anything
+abbrev pub called_alone : ℕ → ℕ → Call → List Event → List Event
+called_alone number moves asked before = replicate moves (Moves number) ++ Calls number asked ∷ before
+
+-- What is printed is an answer of the session, the life has gone on with the call alone, and no session has a call in hand.
+pub record IsAnsweredAlone {D : Type 0} (number : ℕ) (asked : Call) (bytes : List ℕ) (o : Opened) (first : Now) (life : List Event) (before after : PlayerState D) (text : List ℕ) : Type 0 where
+  pub answer : Answer
+  pub says : text ≡ text_of Whole asked before.seats after.world.now (told.Session number answer)
+  pub moves : ℕ
+  pub goes_on : IsQuietLife bytes o first (called_alone number moves asked life) after.world.now
+  pub rests : NobodyCalls after.world.now
+
+-- So a life without commits goes on by each line of a session, and what the law says of a line of an operation it says behind such lines too.
+abbrev pub LinesGoOn : {D : Type 0} → (events.Event → WorldModel D → WorldModel D → Option tells.Told → Bool → Type 0) → Type 0
+LinesGoOn {D} engine =
+    (bytes : List ℕ) (o : Opened) (first : Now) (life : List Event) (number : ℕ) (asked : Call) (queues left : List QueueState) (before after : PlayerState D) (text : List ℕ)
+    → IsQuietLife bytes o first life before.world.now → NobodyCalls before.world.now → CallFits asked → HasFewCalls (Calls number asked ∷ life)
+    → AreQueuesOf (Session number asked ∷ []) queues → IsGroup engine (record { player = before; queues = queues }) (record { player = after; queues = left }) false text
+    → IsRefusedSession number before after text ⊎ IsAnsweredAlone number asked bytes o first life before after text
