@@ -1,5 +1,5 @@
 -- An operation that is played alone is answered by the map, in a life without commits.
-use Rattle.std.proofs.Common.{◌≡◌, ◌∙◌, ◌⊎◌, ℕ, zero, suc, List, [], ◌∷◌, Bool, true, false, ap, arith, inl, inr, length, refl, sym, subst}
+use Rattle.std.proofs.Common.{◌≡◌, ◌∙◌, ◌⊎◌, ℕ, zero, suc, List, [], ◌∷◌, Bool, true, false, ap, arith, inl, inr, length, refl, sym, subst, ◌+◌}
 use Rattle.std.specs.Prelude.{Option, Some, None, if◌then◌else◌, nat_lt, slice_get}
 use Rattle.std.proofs.lemmas.Bool.Decides.{nat_tests}
 use Rattle.fkv_base.specs.declared.faults.Fault.TheVariants.{NoSession}
@@ -14,6 +14,7 @@ use Rattle.fkv_map.specs.declared.operations.Op.{Op}
 use Rattle.fkv_one_history.specs.EachLife.{InEachLife}
 use Rattle.fkv_opening.specs.declared.opened_store.Opened.{Opened}
 use Rattle.fkv_order_law.specs.Ordered.{HasLegalHistory, OrdersItsCalls, ReadsFreshly}
+use Rattle.fkv_order_law.proofs.Shown.{world_opens}
 use Rattle.fkv_playing.specs.Groups.{IsGroup, missing_session}
 use Rattle.fkv_playing.specs.Players.{PlayerState}
 use Rattle.fkv_playing.specs.Queues.{AreQueuesOf, QueueState}
@@ -26,15 +27,18 @@ use Rattle.fkv_playing.specs.declared.calls.Telling.{Telling}
 use Rattle.fkv_playing.specs.declared.calls.Telling.TheVariants.{Whole}
 use Rattle.fkv_session.specs.Sessions.{SessionState}
 use Rattle.fkv_session.specs.declared.answers.Told.{Told}
+use Rattle.fkv_session.specs.declared.answers.Told.TheVariants as tellings
 use Rattle.fkv_session.specs.declared.sessions.Sitting.TheVariants.{Idle}
 use Rattle.fkv_texts.specs.Refusals.{session_refusal}
 use Rattle.fkv_whole_calls.specs.WholeCalls.{IsAnsweredByMap}
+use Rattle.fkv_world.specs.Past.{Effect}
 use Rattle.fkv_world.specs.Runs.{World, run}
 use Rattle.fkv_world.specs.World.{Calls, Event, Now}
-use Rattle.fkv_world_results.specs.Results.{NobodyCalls, in_call}
+use Rattle.fkv_world_results.specs.Results.{IsResult, NobodyCalls, history_at, in_call}
+use Rattle.fkv_world_results.proofs.Shown.{result_told}
 use Rattle.fkv_world_served.specs.Fits.{CallFits, OpFits}
 use Rattle.fkv_world_tickets.specs.Few.{HasFewCalls}
-use Rattle.fkv_played_calls.specs.PlayedCalls.{IsAnsweredAlone, IsLineOfSession, IsQuietLife, IsRefusedSession, IsReplyOfMap, LinesGoOn, LinesReplyAsMap, RepliesAsMap, called_alone}
+use Rattle.fkv_played_calls.specs.PlayedCalls.{IsAnsweredAlone, IsLineOfSession, IsQuietLife, IsRefusedSession, IsReplyOfMap, IsToldTo, LinesGoOn, LinesReplyAsMap, RepliesAsMap, called_alone}
 use Rattle.fkv_played_calls.proofs.Beats.{EndsCall, beats_end}
 use Rattle.fkv_played_calls.proofs.InLife.{calls_few, calls_fit, no_commits, nobody_behind, was_alive, was_there}
 use Rattle.fkv_played_calls.proofs.OneCall.{HasOneCall, first_call, played_out, refused_out}
@@ -120,6 +124,16 @@ lines_go_on {D} engine rules bytes o first life number asked queues left before 
     by_end (inr its) = inr (answered_alone number asked bytes o first life before after text quiet nobody fits few its)
 
 -- ---- an operation
+-- what an operation is told, by what has taken effect in its call
+told_to : (number : ℕ) (op : Op) (serial : ℕ) (before after : List Effect) (its : Told) → IsResult number op serial before after its → IsToldTo op its
+told_to number op serial before after (tellings.Done given its) result = result.0.update
+told_to number op serial before after (tellings.Pending given why) result = result.1
+told_to number op serial before after (tellings.Found value) result = result.1
+told_to number op serial before after tellings.Absent result = result.1
+told_to number op serial before after (tellings.PendingRead ticket) result = result.1
+told_to number op serial before after (tellings.Refused why) result = tt
+told_to number op serial before after other result = absurd result
+
 module _ (legal : InEachLife HasLegalHistory) (ordered : InEachLife OrdersItsCalls) (fresh : InEachLife ReadsFreshly) (whole : AnswersWholeCalls) where
   -- a call that has ended in a life is the map's reply
   pub reply_of : {D : Type 0} (telling : Telling) (number moves : ℕ) (op : Op) (bytes : List ℕ) (o : Opened) (first : Now) (life : List Event) (before after : PlayerState D) (text : List ℕ)
@@ -137,6 +151,7 @@ module _ (legal : InEachLife HasLegalHistory) (ordered : InEachLife OrdersItsCal
       let alive : (run opening life).now.crashed ≡ false = was_alive opening life number moves (call.Op op) (ap (λ (x : Now). x.crashed) ends.shows ∙ answered.alive) in
       let is_now : slice_get (run opening all).now.sessions number ≡ Some answered.s = ap (λ (x : Now). slice_get x.sessions number) ends.shows ∙ answered.found in
       let there = was_there opening life number moves (call.Op op) answered.s is_now in
+      let result = result_told opening life number moves op there.s answered.s answered.its (world_opens o first bytes quiet.opening) alive there.found (here number there.s there.found) is_now answered.at_rest in
       let by_map = whole bytes o first life number moves op there.s answered.s answered.its quiet.opening
       (legal bytes o first all quiet.store quiet.opening no_commit all_fit small)
       (ordered bytes o first all quiet.store quiet.opening no_commit all_fit small)
@@ -147,6 +162,7 @@ module _ (legal : InEachLife HasLegalHistory) (ordered : InEachLife OrdersItsCal
         its = answered.its;
         finished = answered.s.finished;
         is_told = answered.is_told;
+        told_to = told_to number op (there.s.serial + 1) (history_at opening life) (history_at opening all) answered.its result;
         says = ends.says ∙ ap (text_of telling (call.Op op) before.seats after.world.now) answered.same;
         moves = moves;
         by_map = by_map;

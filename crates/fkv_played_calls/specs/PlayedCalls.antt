@@ -1,5 +1,5 @@
 -- Played calls: what an operation prints that is played alone, by the map that the store shows before it.
-use Rattle.std.specs.Prelude.{◌≡◌, ◌⊎◌, ℕ, Bool, false, List, [], ◌∷◌, Option, Some, slice_get, ◌++◌, replicate}
+use Rattle.std.specs.Prelude.{◌≡◌, ◌⊎◌, ℕ, Bool, false, List, [], ◌∷◌, Option, Some, slice_get, ◌++◌, replicate, true, ⊤}
 use Rattle.fkv_base.specs.declared.faults.Fault.TheVariants.{NoSession}
 use Rattle.fkv_core.specs.Openings.{IsOpeningWorld, beginning}
 use Rattle.fkv_core.specs.Worlds.{WorldModel}
@@ -11,6 +11,7 @@ use Rattle.fkv_map.specs.declared.operations.Call.TheVariants as call
 use Rattle.fkv_map.specs.declared.operations.Op.{Op}
 use Rattle.fkv_opening.specs.Opened.{IsStoreOf}
 use Rattle.fkv_opening.specs.declared.opened_store.Opened.{Opened}
+use Rattle.fkv_ops.specs.Requests.{is_read}
 use Rattle.fkv_playing.specs.Finishes.{IsPlayedAlone}
 use Rattle.fkv_playing.specs.Groups.{IsGroup}
 use Rattle.fkv_playing.specs.Players.{PlayerState}
@@ -25,6 +26,7 @@ use Rattle.fkv_session.specs.Answers.{IsAnswerTold}
 use Rattle.fkv_session.specs.declared.answers.Answer.{Answer}
 use Rattle.fkv_session.specs.declared.answers.Finished.{Finished}
 use Rattle.fkv_session.specs.declared.answers.Told.{Told}
+use Rattle.fkv_session.specs.declared.answers.Told.TheVariants as tellings
 use Rattle.fkv_texts.specs.Refusals.{session_refusal}
 use Rattle.fkv_whole_calls.specs.WholeCalls.{IsAnsweredByMap}
 use Rattle.fkv_world.specs.Runs.{run}
@@ -43,6 +45,16 @@ pub record IsQuietLife (bytes : List ℕ) (o : Opened) (first : Now) (life : Lis
   pub few : HasFewCalls life
   pub shows : (run (beginning first bytes) life).now ≡ n
 
+-- An operation is told nothing but this: an update that it is done or has to wait, a read what it found or that it has to wait; and each may be refused.
+abbrev pub IsToldTo : Op → Told → Type 0
+IsToldTo op (tellings.Done serial its) = is_read op ≡ false
+IsToldTo op (tellings.Pending serial why) = is_read op ≡ false
+IsToldTo op (tellings.Found value) = is_read op ≡ true
+IsToldTo op tellings.Absent = is_read op ≡ true
+IsToldTo op (tellings.PendingRead ticket) = is_read op ≡ true
+IsToldTo op (tellings.Refused why) = ⊤
+IsToldTo op other = ⊥
+
 -- What is printed is an answer of the session, and that is the map's: of the map that the store shows before the call, and it leaves the map that the store shows
 -- behind it. The life has gone on with the call and so many moves of its session, and no session has a call in hand.
 pub record IsReplyOfMap {D : Type 0} (telling : Telling) (number : ℕ) (op : Op) (bytes : List ℕ) (o : Opened) (first : Now) (life : List Event) (before after : PlayerState D) (text : List ℕ) : Type 0 where
@@ -50,6 +62,7 @@ pub record IsReplyOfMap {D : Type 0} (telling : Telling) (number : ℕ) (op : Op
   pub its : Told
   pub finished : List Finished
   pub is_told : IsAnswerTold its finished answer
+  pub told_to : IsToldTo op its
   pub says : text ≡ text_of telling (call.Op op) before.seats after.world.now (told.Session number answer)
   pub moves : ℕ
   pub by_map : IsAnsweredByMap o first bytes life (in_call number moves op life) op its
