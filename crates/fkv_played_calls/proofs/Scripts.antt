@@ -75,6 +75,7 @@ goes_on_by_map bytes o first life number op before after text quiet nobody (inr 
             its = reply.its;
             finished = reply.finished;
             is_told = reply.is_told;
+            told_to = reply.told_to;
             waiting = its.seat.waiting;
             says = reply.says ∙ ap (answer_told Whole number (call.Op op) reply.answer) its.sits;
             reply = reply.by_map.reply;

@@ -32,6 +32,7 @@ use Rattle.fkv_texts.specs.Sessions.{session_text}
 use Rattle.fkv_texts.specs.declared.polls.WaitingRead.{WaitingRead}
 use Rattle.fkv_whole_calls.specs.WholeCalls.{IsMapsReply, LeavesMap}
 use Rattle.fkv_world_served.specs.Fits.{OpFits}
+use Rattle.fkv_played_calls.specs.PlayedCalls.{IsToldTo}
 
 -- ---- by the plain map
 -- The line of an answer that is what this map replies, behind which the map is as the answer says: with the operation applied, if it is an update that is
@@ -41,6 +42,7 @@ pub record IsAnswerOfMap (before after : Map) (number : ℕ) (op : Op) (text : L
   pub its : Told
   pub finished : List Finished
   pub is_told : IsAnswerTold its finished answer
+  pub told_to : IsToldTo op its
   pub waiting : List WaitingRead
   pub says : text ≡ session_text number (call.Op op) waiting answer
   pub reply : IsMapsReply before op its

@@ -1,6 +1,6 @@
 //! What an operation prints that is played alone.
 ghost use Rattle.fkv_playing.specs.Players.{EngineStep};
-ghost use Rattle.fkv_played_calls.specs.PlayedCalls.{LinesReplyAsMap, RepliesAsMap};
+ghost use Rattle.fkv_played_calls.specs.PlayedCalls.{LinesGoOn, LinesReplyAsMap, RepliesAsMap};
 ghost use Rattle.fkv_played_calls.specs.Scripts.{FilesPlayMap, LivesPlayMap, NewStoresPlayMap};
 ghost use Rattle.fkv_runs.specs.Openings.{medium_of};
 
@@ -12,10 +12,11 @@ use fkv_whole_calls::law_whole_calls;
 
 /// In a life without commits of an opened store, in which no session has a call in hand, an operation that is played alone prints an answer that is the
 /// map's: each reply is the map's on the history so far, and each read gives its key's value in its content. The life goes on with it, and again no session
-/// has a call in hand. So it is of the engine's steps over any device, whatever is supposed of its honesty.
+/// has a call in hand; and so it goes on by each other line of a session. So it is of the engine's steps over any device, whatever is supposed of its honesty.
 pub fn law_played_calls<D: Breaks>()
     ensures calls { RepliesAsMap (EngineStep D.honest D.seen D.may_leave D.failed D.refuses D.broken) }
     ensures lines { LinesReplyAsMap (EngineStep D.honest D.seen D.may_leave D.failed D.refuses D.broken) }
+    ensures goes_on { LinesGoOn (EngineStep D.honest D.seen D.may_leave D.failed D.refuses D.broken) }
 {
     law_order();
     law_whole_calls();

@@ -1,5 +1,5 @@
 -- The law, by the order law and the law of whole calls.
-use Rattle.fkv_played_calls.proofs.Replies.{lines_reply, replies}
+use Rattle.fkv_played_calls.proofs.Replies.{lines_go_on, lines_reply, replies}
 use Rattle.fkv_played_calls.proofs.Steps.{engine_rules}
 use Rattle.fkv_played_calls.proofs.laws.law_played_calls.Goals as goal
 
@@ -8,3 +8,6 @@ returns-clause-calls g c = replies c.law_order.ensures.legal c.law_order.ensures
 
 pub returns-clause-lines : goal.returns-clause-lines
 returns-clause-lines g c = lines_reply c.law_order.ensures.legal c.law_order.ensures.ordered c.law_order.ensures.fresh c.law_whole_calls.ensures _ (engine_rules _ _ _ _ _ _)
+
+pub returns-clause-goes_on : goal.returns-clause-goes_on
+returns-clause-goes_on g c = lines_go_on _ (engine_rules _ _ _ _ _ _)
