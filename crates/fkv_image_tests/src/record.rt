@@ -295,7 +295,7 @@ fn the_third_format_has_places_for_32_points(rt: HostRuntime) {
     });
     assert_eq!(rt; counts, Some((Format::Third, 32, 1)));
     let slot = read.map(|(_, slot)| slot);
-    assert_eq!(rt; slot.as_ref().map(write_newest_slot), Some(bytes));
+    assert_eq!(rt; slot.as_ref().map(|it| write_newest_slot(it)), Some(bytes));
     let second = slot.and_then(|slot| write_manifest_slot(&slot, Format::Second));
     assert_eq!(rt; second, None);
 }
