@@ -1,11 +1,15 @@
 -- A script of operations alone for a new store in memory, played one by one: what is written is the plain map's.
-use Rattle.std.specs.Prelude.{◌≡◌, ℕ, List, map, take, Option, Some, None, Ok}
+use Rattle.std.specs.Prelude.{◌≡◌, ℕ, Bool, List, map, take, Option, Some, None, Ok}
 use Rattle.std.specs.FinMap.{empty}
+use Rattle.fkv_core.specs.Worlds.{WorldModel}
+use Rattle.fkv_core.specs.declared.events.Event.{Event}
+use Rattle.fkv_core.specs.declared.events.Told.{Told}
 use Rattle.fkv_lines.specs.Script.{script_of}
 use Rattle.fkv_lines.specs.declared.scripts.Mode.TheVariants as mode
 use Rattle.fkv_lines.specs.declared.scripts.Opening.TheVariants as opening
 use Rattle.fkv_lines.specs.declared.scripts.Sizes.{Sizes}
 use Rattle.fkv_options.specs.Options.{file_in, seed_in}
+use Rattle.fkv_played_calls.specs.PlayedCalls.{LinesGoOn, LinesReplyAsMap}
 use Rattle.fkv_played_calls.specs.Scripts.{IsPlayOfMap, SessionOp, op_line}
 use Rattle.fkv_cli.specs.Output.{script_limit}
 
@@ -20,3 +24,8 @@ IsScriptOf bytes sizes ops = script_of mode.Memory (take script_limit bytes) ≡
 -- Such a script, by such words, prints what a map says that begins empty: each reply is the map's on the operations so far, and each read gives its key's value.
 abbrev pub PrintsMapOfScript : List (List ℕ) → Option (List ℕ) → List ℕ → Type 0
 PrintsMapOfScript words known text = NameNoFileOrSeed words → (bytes : List ℕ) (sizes : Sizes) (ops : List SessionOp) → known ≡ Some bytes → IsScriptOf bytes sizes ops → IsPlayOfMap empty ops text
+
+-- By these steps of the engine each line of an operation is replied as the map of the history so far does, in every script whose lines aren't interleaved, where a life
+-- without commits shows the world before it and no session has a call in hand; and such a life goes on by each line of a session.
+abbrev pub ReplyLineByLine : {D : Type 0} → (Event → WorldModel D → WorldModel D → Option Told → Bool → Type 0) → Type 0
+ReplyLineByLine engine = LinesReplyAsMap engine × LinesGoOn engine
