@@ -104,6 +104,14 @@ fn refresh(plane: &mut PlainWords) -> Option<Seen> {
     None
 }
 
+/// The head that a refresh of session 0 shows.
+fn refreshed_head(plane: &mut PlainWords) -> Option<Addr> {
+    match refresh(plane) {
+        Some(seen) => Some(seen.head),
+        None => None,
+    }
+}
+
 /// Session 0 leaves.
 fn leave(plane: &mut PlainWords) {
     let mut machine = Leave::new(0);
@@ -115,10 +123,10 @@ fn leave(plane: &mut PlainWords) {
 /// An action is armed at epoch 5, and 8 becomes safe.
 fn eight_is_safe(rt: &impl Abort, plane: &mut PlainWords) {
     store(plane, 5, 16);
-    assert_eq!(rt; arm(plane, Action::SafeReadOnly(Addr(16))), Some(5));
+    assert!(rt; arm(plane, Action::SafeReadOnly(Addr(16))) == Some(5));
     plane.perform::<()>(&Ask::Add(0, 3));
     scan(plane, 1);
-    assert_eq!(rt; plane.word(1), 8);
+    assert!(rt; plane.word(1) == 8);
 }
 
 /// A session loads the epoch as 5 and stalls, 8 becomes safe, and it stores 5. What it loads then is fresh, and what was
@@ -131,10 +139,10 @@ fn the_stall(rt: HostRuntime) -> Result<(), Fail> {
     let loads = machine.start();
     machine.drive(plane.perform(&loads));
     eight_is_safe(&rt, &mut plane);
-    assert_eq!(rt; machine.ask(), Ask::Store(24, 5));
+    assert!(rt; machine.ask() == Ask::Store(24, 5));
     let phase = machine.drive(plane.perform(&machine.ask()));
     claim(&mut plane);
-    assert_eq!(rt; (plane.word(24), plane.word(6)), (5, 16));
+    assert!(rt; (plane.word(24), plane.word(6)) == (5, 16));
     let read_only = machine.drive(plane.perform(&phase));
     let head = machine.drive(plane.perform(&read_only));
     let seen = Seen {
@@ -142,21 +150,20 @@ fn the_stall(rt: HostRuntime) -> Result<(), Fail> {
         read_only: Addr(16),
         head: Addr(0),
     };
-    assert_eq!(rt; machine.drive(plane.perform(&head)), Ask::Done(seen));
+    assert!(rt; machine.drive(plane.perform(&head)) == Ask::Done(seen));
     Ok(())
 }
 
 /// A session that has not refreshed since the raise keeps the action waiting, and one that has lets it run.
 fn protected(rt: &impl Abort, plane: &mut PlainWords) {
     store(plane, 8, 4);
-    assert_eq!(rt; arm(plane, Action::Close(Addr(4))), Some(1));
+    assert!(rt; arm(plane, Action::Close(Addr(4))) == Some(1));
     for (safe, closed, slot) in [(0, 0, 3), (1, 4, 0)] {
         scan(plane, 1);
         claim(plane);
         let words = (plane.word(1), plane.word(9), plane.word(16));
         assert_eq!(rt; words, (safe, closed, slot));
-        let seen = refresh(plane);
-        assert_eq!(rt; seen.map(|seen| seen.head), Some(Addr(4)));
+        assert!(rt; refreshed_head(plane) == Some(Addr(4)));
     }
 }
 
@@ -164,10 +171,10 @@ fn protected(rt: &impl Abort, plane: &mut PlainWords) {
 fn left(rt: &impl Abort, plane: &mut PlainWords) {
     leave(plane);
     let action = Action::Phase(Phase::InProgress, Version(2));
-    assert_eq!(rt; arm(plane, action), Some(2));
+    assert!(rt; arm(plane, action) == Some(2));
     scan(plane, 1);
     claim(plane);
-    assert_eq!(rt; plane.word(2), 2 * 65536 + 2);
+    assert!(rt; plane.word(2) == 2 * 65536 + 2);
 }
 
 #[test]
@@ -185,15 +192,15 @@ fn a_session_is_waited_for_until_it_leaves(rt: HostRuntime) -> Result<(), Fail> 
 fn two_claims_of_one_slot(rt: HostRuntime) -> Result<(), Fail> {
     let mut plane = PlainWords::new(rt.alloc(), 64)?;
     store(&mut plane, 0, 1);
-    assert_eq!(rt; arm(&mut plane, Action::Close(Addr(4))), Some(1));
+    assert!(rt; arm(&mut plane, Action::Close(Addr(4))) == Some(1));
     scan(&mut plane, 0);
     let mut slow = Claim::new();
     slow.start();
     claim_on(&mut plane, &mut slow);
-    assert_eq!(rt; claim_on(&mut plane, &mut slow), Ask::Cas(16, 3, 1));
+    assert!(rt; claim_on(&mut plane, &mut slow) == Ask::Cas(16, 3, 1));
     claim(&mut plane);
-    assert_eq!(rt; plane.word(9), 4);
-    assert_eq!(rt; claim_on(&mut plane, &mut slow), Ask::Load(17));
+    assert!(rt; plane.word(9) == 4);
+    assert!(rt; claim_on(&mut plane, &mut slow) == Ask::Load(17));
     Ok(())
 }
 
@@ -210,8 +217,8 @@ fn a_raise_is_refused(rt: HostRuntime) -> Result<(), Fail> {
         (7, RaiseAnswer::NoSlot, 7),
     ] {
         store(&mut plane, 0, epoch);
-        assert_eq!(rt; raise(&mut plane), answer);
-        assert_eq!(rt; plane.word(0), after);
+        let came = (raise(&mut plane), plane.word(0));
+        assert_eq!(rt; came, (answer, after));
     }
     Ok(())
 }

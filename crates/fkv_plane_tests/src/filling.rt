@@ -50,7 +50,7 @@ fn the_eighth_home_stands_in_an_overflow_bucket(rt: HostRuntime) -> Result<(), F
         home(4),
     ];
     let index = index_words(rt.alloc(), &shape, &entries)?;
-    assert_eq!(rt; (index.taken, index.words.len()), (1, 24));
+    assert!(rt; (index.taken, index.words.len()) == (1, 24));
     for (at, word) in index.words.iter().enumerate() {
         let wanted = if at < 7 {
             1 + at as u64 * NEXT

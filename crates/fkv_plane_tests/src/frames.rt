@@ -16,9 +16,12 @@ fn pages_take_the_frames_in_turn(rt: HostRuntime) -> Result<(), Fail> {
         (127, 7, 3, 189),
     ] {
         let addr = Addr(addr);
-        let found = (page_of(&shape, addr), frame_of(&shape, addr));
-        assert_eq!(rt; found, (page, frame));
-        assert_eq!(rt; place_of(&shape, addr), place);
+        let found = (
+            page_of(&shape, addr),
+            frame_of(&shape, addr),
+            place_of(&shape, addr),
+        );
+        assert_eq!(rt; found, (page, frame, place));
     }
     Ok(())
 }

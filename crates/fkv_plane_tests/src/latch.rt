@@ -46,8 +46,8 @@ fn tries(rt: &impl Abort, plane: &mut PlainWords) {
         (TakeShared, Busy, LINK + ALONE),
         (DropExclusive, Dropped, LINK),
     ] {
-        assert_eq!(rt; tried(plane, task), Some(answer));
-        assert_eq!(rt; plane.word(PLACE), word);
+        let came = (tried(plane, task), plane.word(PLACE));
+        assert_eq!(rt; came, (Some(answer), word));
     }
 }
 
@@ -55,12 +55,12 @@ fn tries(rt: &impl Abort, plane: &mut PlainWords) {
 fn another_is_quicker(rt: &impl Abort, plane: &mut PlainWords) {
     let mut slow = Latch::new();
     let loads = slow.start(TakeExclusive, PLACE);
-    assert_eq!(rt; loads, Ask::Load(PLACE));
+    assert!(rt; loads == Ask::Load(PLACE));
     let sets = slow.drive(plane.perform(&loads));
-    assert_eq!(rt; sets, Ask::Cas(PLACE, LINK, LINK + ALONE));
-    assert_eq!(rt; tried(plane, TakeShared), Some(Taken));
-    assert_eq!(rt; go_on(plane, &mut slow), Some(Busy));
-    assert_eq!(rt; plane.word(PLACE), LINK + SHARE);
+    assert!(rt; sets == Ask::Cas(PLACE, LINK, LINK + ALONE));
+    assert!(rt; tried(plane, TakeShared) == Some(Taken));
+    assert!(rt; go_on(plane, &mut slow) == Some(Busy));
+    assert!(rt; plane.word(PLACE) == LINK + SHARE);
 }
 
 #[test]
