@@ -3,7 +3,7 @@ from rows import Row, told, whole
 from shapes import FOUR, ONE, SMALL, SMALL_TWO, TWO
 
 # two keys of one home, updated before a commit's point and behind it
-HOME = f"""
+HOME_COMMITTED = f"""
     {ONE}
     0 up 1 10      | 0 #1 done
     0 up 524289 20 | 0 #2 done
@@ -14,12 +14,13 @@ HOME = f"""
     0 up 1 11      | 0 #3 done
     0 up 524289 21 | 0 #4 done
     0 up 1 12      | 0 #5 done
-    k finish       | k finished 1 points 2
+    k finish       | k finished 1 points 2"""
+HOME = f"""{HOME_COMMITTED}
     crash          | crash commit 1 points 2 pairs 2
                    | pair 1 10
                    | pair 524289 20
 """
-NOBODY_STOPS = f"""
+TWO_POINTS = f"""
     {TWO}
     0 up 1 10   | 0 #1 done
     1 up 2 20   | 1 #1 done
@@ -34,11 +35,13 @@ NOBODY_STOPS = f"""
     0 add 1 100 | 0 #3 = 115
     1 up 2 22   | 1 #3 done
     1 up 1 7    | 1 #4 done
-    k finish    | k finished 1 points 2 3
+    k finish    | k finished 1 points 2 3"""
+STAND = """
     crash       | crash commit 1 points 2 3 pairs 2
                 | pair 1 15
                 | pair 2 22
 """
+NOBODY_STOPS = TWO_POINTS + STAND
 SLEEPER = f"""
     {TWO}
     1 up 2 20 | 1 #1 done
@@ -115,6 +118,14 @@ COMMITS = [
         """,
     ),
     told("a commit that stops nobody, and a point for each session", NOBODY_STOPS),
+    told(
+        "updates behind the points and behind the commit are gone",
+        f"""{TWO_POINTS}
+        0 up 2 30 | 0 #4 done
+        1 up 3 40 | 1 #5 done
+        {STAND}
+        """,
+    ),
     told("a session that sleeps through two commits and wakes in a third", SLEEPER),
     told("records of the next version are left out", HOME),
     told("a commit waits for the update that a session owes", OWING),
@@ -221,6 +232,17 @@ COMMITS = [
 
 LOG_COMMITS = [
     told(
+        "a log commit behind a full one",
+        f"""{HOME_COMMITTED}
+        0 up 1 13    | 0 #6 done
+        k commit log | k commit 2
+        k finish     | k finished 2 points 6
+        crash        | crash commit 2 points 6 pairs 2
+                     | pair 1 13
+                     | pair 524289 21
+        """,
+    ),
+    told(
         "a log commit behind a crash that lost records",
         f"""{HOME}
         0 up 1 13    | 0 #3 done
@@ -236,6 +258,13 @@ LOG_COMMITS = [
         f"""{HOME}
         k commit log | k commit 2
         k finish     | k finished 2 points 2
+        crash        | crash commit 2 points 2 pairs 2
+                     | pair 1 10
+                     | pair 524289 20
+        0 get 524289 | 0 get 524289 pending @1
+        k turn       | k turn rest 3
+        0 poll       | 0 @1 get 524289 = 20
+                     | 0 poll left 0
         crash        | crash commit 2 points 2 pairs 2
                      | pair 1 10
                      | pair 524289 20
@@ -275,10 +304,13 @@ LOG_COMMITS = [
             for number in range(1, 10)
         )
         + """
+        0 get 1      | 0 get 1 absent
         k commit log | k refused 21 LostFull
         k commit     | k commit 10
         k finish     | k finished 10 points 0
         k commit log | k commit 11
+        k finish     | k finished 11 points 0
+        k finish     | k finish nothing
         """,
     ),
 ]

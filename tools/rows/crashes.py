@@ -14,6 +14,7 @@ CRASHES = [
         0 up 1 11 | 0 #2 done
         0 get 1   | 0 get 1 = 11
         k turn    | k refused 13 Broken
+        k commit  | k refused 13 Broken
         crash     | crash commit 0 points 0 pairs 0
         """,
     ),
@@ -148,6 +149,32 @@ def of_nothing():
                 yield Row(name, whole([ONE, f"crash {call}", f"k {kind}", "k finish"]), whole(answers), words=("--check", "--torn", str(torn)))
 
 
+# a commit that stands, and the next one in each of its phases
+UNDER_WAY = f"""
+    {ONE}
+    0 up 1 10 | 0 #1 done
+    k commit  | k commit 1
+    k finish  | k finished 1 points 1
+    0 up 1 11 | 0 #2 done
+    k commit  | k commit 2
+    0 refresh | 0 refresh prepare 2
+    k turn    | k turn in-progress 3
+    0 refresh | 0 refresh in-progress 3
+    k turn    | k turn wait-pending 3
+    k turn    | k turn wait-flush 3
+    0 refresh | 0 refresh wait-flush 3
+"""
+
+
+def under_way():
+    """The first commit stands where the life ends behind so many lines of the second one."""
+    lines = UNDER_WAY.strip().splitlines()
+    crash = ["crash | crash commit 1 points 1 pairs 1", "| pair 1 10", f"| {AGREES[0]}"]
+    for count in range(4, len(lines) + 1):
+        for torn in TORN:
+            yield told(f"{count} lines of a commit, torn bytes of {torn}", whole([*lines[:count], *crash]), f"--check --torn {torn}")
+
+
 def twenty():
     """Twenty commits, of which every third copies the index, each with an update in prepare, one behind the point and a crash behind
     it. The crash loses the update behind the point. From the second life on the sum waits for its record, which is on the disk."""
@@ -178,4 +205,4 @@ def twenty():
 
 
 def crashes():
-    return [*CRASHES, *sweeps(), *of_nothing(), *twenty()]
+    return [*CRASHES, *sweeps(), *of_nothing(), *under_way(), *twenty()]

@@ -1,8 +1,6 @@
 //! Calls that are moved by hand in the middle of others.
 use crate::lines::Line::{Add, Commit, Finish, Get, Poll, Refresh, Turn, Up};
-use crate::lines::Says::{
-    At, Begun, Done, Found, KeptBoth, LateDone, Leaves, Nothing, Sees, Waits,
-};
+use crate::lines::Says::{At, Begun, Done, Found, Kept, LateDone, Leaves, Nothing, Sees, Waits};
 use crate::lines::{Line, Says, actor, beginning};
 use crate::stores::{Store, WIDE_FOR_TWO, begin, is_said, new_store, play};
 use fkv_base::Phase::{InProgress, Prepare};
@@ -49,7 +47,7 @@ fn two_sessions_and_the_keeper_meet_in_the_middle_of_calls(rt: HostRuntime) -> R
         (Refresh(0), Sees(InProgress, 2)),
         (Add(0, 1, 100), Leaves(2, 115)),
         (Get(1, 1), Found(115)),
-        (Finish, KeptBoth(1, 1, 2)),
+        (Finish, Kept(1, 1, 2)),
     ];
     play(&rt, &mut store, &script);
     Ok(())

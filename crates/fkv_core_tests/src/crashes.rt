@@ -1,8 +1,8 @@
-//! What comes behind a crash.
+//! What comes behind a crash, and what a life shows of itself.
 use crate::lines::Line::{Commit, Get, Turn, Up};
 use crate::lines::{Line, beginning};
 use crate::stores::{Store, WIDE, begin, new_store, steps};
-use fkv_core::Event;
+use fkv_core::{Actor, Event};
 use fkv_disk::FuseState;
 use fkv_plane::SharedWord;
 use std::test::Fail;
@@ -28,36 +28,50 @@ fn is_nothing(store: &mut Store, line: Line) -> bool {
     told.is_none() && shared_words(store) == before
 }
 
+/// Whether the life ends here, and the call that session 0 has in hand with it: nothing moves it any more.
+fn ends_in_hand(store: &mut Store) -> bool {
+    let before = shared_words(store);
+    let was_in_hand = store.is_in_hand(Actor::Session(0));
+    let told = store.step(Event::Crash);
+    let moved = steps(store, Event::Move(0), ENOUGH);
+    was_in_hand
+        && !store.is_in_hand(Actor::Session(0))
+        && told.is_none()
+        && moved.is_none()
+        && shared_words(store) == before
+}
+
 /// An update has reserved its address when the life ends: it is never answered, and neither another call nor the keeper does anything.
 #[test]
 fn nothing_happens_behind_a_crash(rt: HostRuntime) -> Result<(), Fail> {
     let mut store = new_store(rt.alloc(), WIDE)?;
     assert!(rt; begin(&mut store, beginning(Up(0, 1, 10)), 4).is_none());
-    let before = shared_words(&store);
-    assert!(rt; store.step(Event::Crash).is_none());
-    assert!(rt; steps(&mut store, Event::Move(0), ENOUGH).is_none());
-    assert!(rt; shared_words(&store) == before);
-    assert!(rt; is_nothing(&mut store, Get(0, 1)));
-    assert!(rt; is_nothing(&mut store, Commit));
-    assert!(rt; is_nothing(&mut store, Turn));
+    assert!(rt; ends_in_hand(&mut store));
+    for line in [Get(0, 1), Commit, Turn] {
+        assert!(rt; is_nothing(&mut store, line));
+    }
     Ok(())
+}
+
+/// The effects that session 0 shows up to the end of its call, each behind one of its asks; none where it doesn't end.
+fn effects_of_a_call(store: &mut Store) -> Option<u64> {
+    let mut effects = 0u64;
+    for _ in 0..ENOUGH {
+        let told = store.step(Event::Move(0));
+        effects = effects.saturating_add(store.effect(0).is_some() as u64);
+        if told.is_some() {
+            return Some(effects);
+        }
+    }
+    None
 }
 
 /// Of the asks of an update one makes its effect, and the world shows it behind that one alone. A fuse shows how far it is from blowing.
 #[test]
 fn an_effect_and_a_fuse_are_shown(rt: HostRuntime) -> Result<(), Fail> {
     let mut store = new_store(rt.alloc(), WIDE)?;
-    let mut told = store.step(beginning(Up(0, 1, 10)));
-    let mut effects = 0u64;
-    for _ in 0..ENOUGH {
-        if told.is_some() {
-            break;
-        }
-        told = store.step(Event::Move(0));
-        effects = effects.saturating_add(store.effect(0).is_some() as u64);
-    }
-    assert!(rt; told.is_some());
-    assert_eq!(rt; effects, 1);
+    assert!(rt; store.step(beginning(Up(0, 1, 10))).is_none());
+    assert_eq!(rt; effects_of_a_call(&mut store), Some(1));
     assert!(rt; store.effect(1).is_none());
     assert_eq!(rt; store.fuse(), FuseState::Sound);
     store.arm(3);

@@ -1,12 +1,11 @@
 //! Lines of a script, and what each is to be answered.
 use arrayvec::ArrayVec;
-use fkv_base::{Fault, Key, MAX_PENDING, Phase, Serial, Value, Version};
+use fkv_base::{Key, MAX_PENDING, Phase, Serial, Value, Version};
 use fkv_commit::CommitKind;
 use fkv_core::{Actor, Event, Told};
 use fkv_keeper::{MAX_POINTS, Turn};
 use fkv_map::{Call, Op, Reply};
 use fkv_ops::Reason;
-use fkv_pending::Ticket;
 use fkv_session::{Answer, Finished};
 use fkv_words::{PhaseSaid, phase_said};
 
@@ -16,7 +15,6 @@ pub(crate) enum Line {
     Up(usize, u64, u64),
     Del(usize, u64),
     Add(usize, u64, u64),
-    Max(usize, u64, u64),
     Get(usize, u64),
     Refresh(usize),
     Poll(usize),
@@ -27,6 +25,8 @@ pub(crate) enum Line {
     Turn,
     /// Refreshes and polls of all sessions, and turns, up to the one that finishes the commit that runs.
     Finish,
+    /// The life ends.
+    Crash,
 }
 
 /// What a line is answered.
@@ -39,39 +39,17 @@ pub(crate) enum Says {
     /// It waits, for this reason.
     Waits(u64, Reason),
     Found(u64),
-    Absent,
-    /// The read of this ticket waits.
-    ReadWaits(u64),
     /// What a refresh shows: the phase and the version.
     Sees(Phase, u64),
-    /// What a wake shows.
-    Wakes(Phase, u64),
-    /// A poll has finished nothing, and so many requests wait.
-    StillWaits(usize),
     /// A poll has finished an update, and nothing waits.
     LateDone(u64),
-    /// It has, which leaves this value.
-    LateLeaves(u64, u64),
-    /// A poll has finished the read of this ticket, and nothing waits.
-    LateFound(u64, u64),
-    Slept,
-    /// A session's call is refused.
-    Refused(Fault),
     /// A turn is over, and the store is in this phase and version.
     At(Phase, u64),
-    /// It is, and found no drain slot free.
-    AtWithFullDrain(Phase, u64),
-    /// It is refused.
-    TurnRefused(Fault),
     /// The commit of this number has begun.
     Begun(u64),
-    /// It is refused.
-    CommitRefused(Fault),
-    /// It is finished, with the point of one session.
-    Kept(u64, u64),
-    /// It is, with those of two.
-    KeptBoth(u64, u64, u64),
-    /// Nothing is told: there is no such session, or no commit to finish.
+    /// It is finished, with the points of two sessions.
+    Kept(u64, u64, u64),
+    /// Nothing is told.
     Nothing,
 }
 
@@ -81,7 +59,6 @@ pub(crate) fn beginning(line: Line) -> Event {
         Line::Up(session, key, value) => operation(session, Op::Upsert(Key(key), Value(value))),
         Line::Del(session, key) => operation(session, Op::Delete(Key(key))),
         Line::Add(session, key, number) => operation(session, Op::Add(Key(key), number)),
-        Line::Max(session, key, number) => operation(session, Op::Max(Key(key), number)),
         Line::Get(session, key) => operation(session, Op::Read(Key(key))),
         Line::Refresh(session) => Event::Call(session, Call::Refresh),
         Line::Poll(session) => Event::Call(session, Call::Poll),
@@ -90,6 +67,7 @@ pub(crate) fn beginning(line: Line) -> Event {
         Line::Commit => Event::Commit(CommitKind::Full),
         Line::LogCommit => Event::Commit(CommitKind::Log),
         Line::Turn | Line::Finish => Event::Turn,
+        Line::Crash => Event::Crash,
     }
 }
 
@@ -123,18 +101,12 @@ pub(crate) fn told(begins: Event, says: Says) -> Option<Told> {
 
 /// Whether this is the word of the phase behind the line.
 pub(crate) fn is_phase(says: Says, word: u64) -> bool {
-    match says {
-        Says::At(phase, version) | Says::AtWithFullDrain(phase, version) => {
-            is_word_of(word, phase, version)
+    match (says, phase_said(word)) {
+        (Says::At(phase, version), PhaseSaid::Says(its_phase, its_version)) => {
+            its_phase == phase && its_version.0 == version
         }
+        (Says::At(_, _), PhaseSaid::Spoiled) => false,
         _ => true,
-    }
-}
-
-fn is_word_of(word: u64, phase: Phase, version: u64) -> bool {
-    match phase_said(word) {
-        PhaseSaid::Says(its_phase, its_version) => its_phase == phase && its_version.0 == version,
-        PhaseSaid::Spoiled => false,
     }
 }
 
@@ -145,18 +117,8 @@ fn answer(says: Says) -> Option<Answer> {
         Says::Leaves(serial, value) => Answer::Done(Serial(serial), Reply::Number(Value(value))),
         Says::Waits(serial, why) => Answer::Pending(Serial(serial), why),
         Says::Found(value) => Answer::Found(Value(value)),
-        Says::Absent => Answer::Absent,
-        Says::ReadWaits(ticket) => Answer::PendingRead(Ticket(ticket)),
         Says::Sees(phase, version) => Answer::Refreshed(phase, Version(version)),
-        Says::Wakes(phase, version) => Answer::Woken(phase, Version(version)),
-        Says::StillWaits(left) => Answer::Polled(ArrayVec::new(), left),
         Says::LateDone(serial) => late(Finished::Update(Serial(serial), Reply::Nothing)),
-        Says::LateLeaves(serial, value) => {
-            late(Finished::Update(Serial(serial), Reply::Number(Value(value))))
-        }
-        Says::LateFound(ticket, value) => late(Finished::Read(Ticket(ticket), Some(Value(value)))),
-        Says::Slept => Answer::Slept,
-        Says::Refused(why) => Answer::Refused(why),
         _ => return None,
     };
     Some(answer)
@@ -172,21 +134,16 @@ fn late(finished: Finished) -> Answer {
 /// What the keeper tells.
 fn keeper_told(says: Says) -> Option<Told> {
     match says {
-        Says::At(_, _) => turned(None, false),
-        Says::AtWithFullDrain(_, _) => turned(None, true),
-        Says::TurnRefused(why) => Some(Told::Turn(Err(why))),
+        Says::At(_, _) => turned(None),
         Says::Begun(number) => Some(Told::Commit(Ok(Version(number)))),
-        Says::CommitRefused(why) => Some(Told::Commit(Err(why))),
-        Says::Kept(number, point) => turned(Some(kept(number, &[point])), false),
-        Says::KeptBoth(number, first, second) => {
-            turned(Some(kept(number, &[first, second])), false)
-        }
+        Says::Kept(number, first, second) => turned(Some(kept(number, first, second))),
         _ => None,
     }
 }
 
 /// A turn that has finished this commit, if one.
-pub(crate) fn turned(finished: Option<fkv_keeper::Finished>, drain_full: bool) -> Option<Told> {
+pub(crate) fn turned(finished: Option<fkv_keeper::Finished>) -> Option<Told> {
+    let drain_full = false;
     Some(Told::Turn(Ok(Turn {
         finished,
         drain_full,
@@ -194,11 +151,10 @@ pub(crate) fn turned(finished: Option<fkv_keeper::Finished>, drain_full: bool) -
 }
 
 /// The commit of this number, with these points.
-fn kept(number: u64, its_points: &[u64]) -> fkv_keeper::Finished {
+fn kept(number: u64, first: u64, second: u64) -> fkv_keeper::Finished {
     let mut points: ArrayVec<Serial, MAX_POINTS> = ArrayVec::new();
-    for point in its_points {
-        let _ = points.try_push(Serial(*point));
-    }
+    let _ = points.try_push(Serial(first));
+    let _ = points.try_push(Serial(second));
     fkv_keeper::Finished {
         number: Version(number),
         points,

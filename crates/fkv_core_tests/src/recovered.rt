@@ -3,46 +3,31 @@ use crate::stores::{Store, store_of};
 use fkv_base::{Addr, Fault, Serial, Version};
 use fkv_core::Event;
 use fkv_disk::MemDisk;
-use fkv_opening::{Checkpoint, Opened, recover};
+use fkv_opening::{Checkpoint, Opened};
 use fkv_record::{LostRange, ManifestSlot, read_manifest_slot};
 use std::alloc::Global;
 use std::ops::Range;
 use std::process::Abort;
 
 /// Where the slot of commits of even and of odd numbers lies in an image.
-pub(crate) const EVEN_SLOT: Range<usize> = 512..1024;
+const EVEN_SLOT: Range<usize> = 512..1024;
 
 pub(crate) const ODD_SLOT: Range<usize> = 1024..1536;
 
-/// What is recovered: a commit, and what the life behind it has to know.
+/// A commit that is recovered.
 #[derive(Clone, Copy)]
 pub(crate) struct Recovered<'a> {
     pub(crate) number: u64,
     /// The address at which the commit's log ends.
     pub(crate) tail: u64,
-    pub(crate) points: &'a [Serial],
-    pub(crate) checkpoint: Checkpoint,
-    pub(crate) lost: &'a [LostRange],
+    pub(crate) points: &'a [u64],
+    /// The commit that made its checkpoint, where the scan behind that one starts, and how many triples it has.
+    pub(crate) checkpoint: (u64, u64, u64),
+    /// The lost ranges that its slot names, and those that the life behind it has to know: up to which address, and of which version.
+    pub(crate) named: &'a [(u64, u64)],
+    pub(crate) lost: &'a [(u64, u64)],
     /// The bucket of each home that has an entry, and the address of its newest record. All homes of these tests have tag 0.
     pub(crate) entries: &'a [(u64, u64)],
-}
-
-/// The checkpoint that this commit made, by its parity: where its scan starts, and how many triples it has.
-pub(crate) fn checkpoint(number: u64, first: u64, triples: u64) -> Checkpoint {
-    Checkpoint {
-        number: Version(number),
-        first: Addr(first),
-        triples,
-        area: number % 2,
-    }
-}
-
-/// The records of this version up to this address.
-pub(crate) fn lost(to: u64, version: u64) -> LostRange {
-    LostRange {
-        to: Addr(to),
-        version: Version(version),
-    }
 }
 
 /// The life ends, and leaves this image: each byte that isn't synced is torn.
@@ -51,19 +36,14 @@ pub(crate) fn crash(mut store: Store, torn: u8) -> Result<MemDisk, Fault> {
     store.end().crash(torn)
 }
 
-/// The life ends, and the store is recovered.
-pub(crate) fn crash_and_recover(alloc: Global, store: Store, torn: u8) -> Result<Opened, Fault> {
-    let mut image = crash(store, torn)?;
-    recover(alloc, &mut image)
-}
-
 /// The life ends, and another one begins with what is recovered.
 pub(crate) fn crash_and_go_on(alloc: Global, store: Store) -> Result<Store, Fault> {
     store_of(alloc, crash(store, 0)?)
 }
 
-/// The commit in a slot of an image, where its gate is open.
-pub(crate) fn slot_in(image: &MemDisk, slot: Range<usize>) -> Option<ManifestSlot> {
+/// The slot of the commit of this number in an image, where its gate is open.
+pub(crate) fn slot_in(image: &MemDisk, number: u64) -> Option<ManifestSlot> {
+    let slot = if number % 2 == 0 { EVEN_SLOT } else { ODD_SLOT };
     let from = image.bytes().get(slot)?;
     let mut bytes = [0u8; 512];
     for (to, from) in bytes.iter_mut().zip(from.iter()) {
@@ -71,6 +51,20 @@ pub(crate) fn slot_in(image: &MemDisk, slot: Range<usize>) -> Option<ManifestSlo
     }
     let (_, said) = read_manifest_slot(&bytes)?;
     Some(said)
+}
+
+fn are_points(points: &[Serial], numbers: &[u64]) -> bool {
+    points.len() == numbers.len()
+        && points
+            .iter()
+            .zip(numbers.iter())
+            .all(|(point, number)| point.0 == *number)
+}
+
+fn are_ranges(ranges: &[LostRange], numbers: &[(u64, u64)]) -> bool {
+    ranges.len() == numbers.len()
+        && ranges.iter().zip(numbers.iter()).all(|(range, (to, version))| range.to.0 == *to
+            && range.version.0 == *version)
 }
 
 /// Whether a store opens with these entries and no others.
@@ -81,12 +75,36 @@ fn are_entries(opened: &Opened, entries: &[(u64, u64)]) -> bool {
         })
 }
 
+/// Just this commit is in its slot.
+pub(crate) fn is_in_slot(rt: &impl Abort, slot: &ManifestSlot, what: &Recovered) {
+    let (checkpoint, first, triples) = what.checkpoint;
+    assert_eq!(rt;
+        (slot.number, slot.first, slot.end),
+        (what.number, Addr(first), Addr(what.tail))
+    );
+    assert_eq!(rt;
+        (slot.triples, slot.area, slot.checkpoint),
+        (triples, checkpoint % 2, checkpoint)
+    );
+    assert!(rt; are_points(slot.points.serials.as_slice(), what.points));
+    assert!(rt; are_ranges(slot.lost.ranges.as_slice(), what.named));
+}
+
 /// Just this is recovered.
 pub(crate) fn is_recovered(rt: &impl Abort, opened: &Opened, what: &Recovered) {
-    assert_eq!(rt; opened.number, Version(what.number));
-    assert_eq!(rt; opened.tail, Addr(what.tail));
-    assert_eq!(rt; opened.points.as_slice(), what.points);
-    assert_eq!(rt; opened.checkpoint, what.checkpoint);
-    assert_eq!(rt; opened.lost.as_slice(), what.lost);
+    let (number, first, triples) = what.checkpoint;
+    let checkpoint = Checkpoint {
+        number: Version(number),
+        first: Addr(first),
+        triples,
+        area: number % 2,
+    };
+    assert_eq!(rt;
+        (opened.number, opened.tail),
+        (Version(what.number), Addr(what.tail))
+    );
+    assert!(rt; are_points(opened.points.as_slice(), what.points));
+    assert_eq!(rt; opened.checkpoint, checkpoint);
+    assert!(rt; are_ranges(opened.lost.as_slice(), what.lost));
     assert!(rt; are_entries(opened, what.entries));
 }

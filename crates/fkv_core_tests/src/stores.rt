@@ -1,4 +1,4 @@
-//! A store in memory, and scripts over it.
+//! A store in memory, and lines that are played over it.
 use crate::lines::{Line, Says, actor, beginning, is_phase, moving, told, turned};
 use fkv_base::{Fault, Shape};
 use fkv_core::{Event, Told, World};
@@ -8,7 +8,6 @@ use fkv_opening::recover;
 use fkv_plane::SharedWord;
 use std::alloc::Global;
 use std::process::Abort;
-use std::test::Fail;
 
 /// Bucket bits, page, frames, mutable pages, sessions, overflow buckets, and pages on the device.
 pub(crate) type Sizes = [u64; 7];
@@ -19,8 +18,6 @@ pub(crate) const WIDE: Sizes = [4, 16, 4, 2, 1, 0, 64];
 pub(crate) const WIDE_FOR_TWO: Sizes = [4, 16, 4, 2, 2, 0, 64];
 
 /// Two frames of four records, of which one page is mutable.
-pub(crate) const NARROW: Sizes = [4, 4, 2, 1, 1, 0, 64];
-
 pub(crate) const NARROW_FOR_TWO: Sizes = [4, 4, 2, 1, 2, 0, 64];
 
 /// The rounds in which a commit is to finish.
@@ -33,10 +30,9 @@ pub(crate) type Store = World<Fuse<MemDisk>>;
 pub(crate) fn new_store(alloc: Global, sizes: Sizes) -> Result<Store, Fault> {
     let [bits, page, frames, mutable, sessions, overflow, pages] = sizes;
     let shape = Shape::new(bits, page, frames, mutable, sessions, overflow, pages)?;
-    let mut disk = Fuse::new(MemDisk::new(alloc));
+    let mut disk = MemDisk::new(alloc);
     let _ = create(&mut disk, shape)?;
-    let opened = recover(alloc, &mut disk)?;
-    World::open(alloc, opened, disk)
+    store_of(alloc, disk)
 }
 
 /// The store that is recovered from an image.
@@ -67,7 +63,7 @@ pub(crate) fn begin(store: &mut Store, begins: Event, count: u64) -> Option<Told
 }
 
 /// Begins a call, and moves its actor to its end.
-pub(crate) fn call(store: &mut Store, begins: Event) -> Option<Told> {
+fn call(store: &mut Store, begins: Event) -> Option<Told> {
     let told = store.step(begins);
     if told.is_some() {
         return told;
@@ -76,7 +72,7 @@ pub(crate) fn call(store: &mut Store, begins: Event) -> Option<Told> {
 }
 
 /// What comes of a line, whose call is moved to its end.
-fn whole(store: &mut Store, line: Line) -> Option<Told> {
+pub(crate) fn whole(store: &mut Store, line: Line) -> Option<Told> {
     match line {
         Line::Finish => finish(store),
         line => call(store, beginning(line)),
@@ -96,7 +92,7 @@ fn finish(store: &mut Store) -> Option<Told> {
             let _ = call(store, beginning(line));
         }
         let turn = call(store, Event::Turn);
-        if turn != turned(None, false) {
+        if turn != turned(None) {
             return turn;
         }
     }
@@ -109,7 +105,7 @@ pub(crate) fn is_said(store: &Store, line: Line, says: Says, came: Option<Told>)
 }
 
 /// The first line that isn't answered as it says, if any.
-pub(crate) fn first_wrong(store: &mut Store, script: &[(Line, Says)]) -> Option<usize> {
+fn first_wrong(store: &mut Store, script: &[(Line, Says)]) -> Option<usize> {
     for (at, (line, says)) in script.iter().enumerate() {
         let came = whole(store, *line);
         if !is_said(store, *line, *says, came) {
@@ -119,19 +115,7 @@ pub(crate) fn first_wrong(store: &mut Store, script: &[(Line, Says)]) -> Option<
     None
 }
 
-/// Plays a script over a store.
+/// Plays lines over a store, each of which has to be answered as it says.
 pub(crate) fn play(rt: &impl Abort, store: &mut Store, script: &[(Line, Says)]) {
     assert_eq!(rt; first_wrong(store, script), None);
-}
-
-/// Plays a script over a new store.
-pub(crate) fn play_new(
-    rt: &impl Abort,
-    alloc: Global,
-    sizes: Sizes,
-    script: &[(Line, Says)],
-) -> Result<(), Fail> {
-    let mut store = new_store(alloc, sizes)?;
-    play(rt, &mut store, script);
-    Ok(())
 }

@@ -1,54 +1,66 @@
+//! Epochs, the actions that wait for them, and who is waited for.
 ghost use Rattle.std.specs.Prelude.{◌≤◌};
 ghost use Rattle.fkv_base.specs.Limits.{max_sessions};
 
 use fkv_base::{Addr, DRAIN_SLOTS, LAST_EPOCH, Phase, Version};
 use fkv_epoch::{
     Arm, Claim, Leave, Protect, Raise, RaiseAnswer, Refresh, RefreshAnswer, Scan, Seen,
-    law_of_the_stall, law_of_what_is_loaded, law_once, law_owned, law_protected,
 };
 use fkv_plane::{Action, Ask, PlainWords};
+use std::process::Abort;
 use std::test::Fail;
+
+fn store(plane: &mut PlainWords, place: usize, word: u64) {
+    plane.perform::<()>(&Ask::Store(place, word));
+}
 
 /// Moves a scan to its end.
 fn scan(plane: &mut PlainWords, sessions: usize)
     requires { sessions ≤ max_sessions }
 {
     let mut machine = Scan::new(sessions);
-    let mut ask = machine.start();
+    machine.start();
     for _ in 0..16 {
-        ask = match ask {
-            Ask::Done(()) => return,
-            other => machine.drive(plane.perform(&other)),
-        };
+        let reply = plane.perform(&machine.ask());
+        machine.drive(reply);
+    }
+}
+
+/// One ask of a claim.
+fn claim_on(plane: &mut PlainWords, machine: &mut Claim) -> Ask<()> {
+    match machine.ask() {
+        Ask::Take(slot) => match plane.take(slot) {
+            Some(action) => machine.given(action),
+            None => Ask::Done(()),
+        },
+        other => machine.drive(plane.perform(&other)),
     }
 }
 
 /// Moves a claim to its end.
 fn claim(plane: &mut PlainWords) {
     let mut machine = Claim::new();
-    let mut ask = machine.start();
+    machine.start();
     for _ in 0..64 {
-        ask = match ask {
-            Ask::Done(()) => return,
-            Ask::Take(slot) => match plane.take(slot) {
-                Some(action) => machine.given(action),
-                None => return,
-            },
-            other => machine.drive(plane.perform(&other)),
-        };
+        if let Ask::Done(()) = claim_on(plane, &mut machine) {
+            return;
+        }
     }
 }
 
 /// Holds a slot and raises the epoch, and tells how that ended.
 fn raise(plane: &mut PlainWords) -> RaiseAnswer {
     let mut machine = Raise::new();
-    let mut ask = machine.start();
+    machine.start();
     for _ in 0..32 {
-        ask = match ask {
-            Ask::Done(RaiseAnswer::HasSlot(_)) => machine.raise(),
+        let reply = plane.perform(&machine.ask());
+        match machine.drive(reply) {
+            Ask::Done(RaiseAnswer::HasSlot(_)) => {
+                machine.raise();
+            }
             Ask::Done(answer) => return answer,
-            other => machine.drive(plane.perform(&other)),
-        };
+            _ => {}
+        }
     }
     RaiseAnswer::NoSlot
 }
@@ -62,36 +74,59 @@ fn arm(plane: &mut PlainWords, action: Action) -> Option<u64> {
         return None;
     }
     let mut machine = Arm::new();
-    let mut ask = machine.start(slot, epoch, action);
-    for _ in 0..4 {
-        ask = match ask {
-            Ask::Done(()) => return Some(epoch),
-            Ask::Put(slot, action) => {
-                let _ = plane.put(slot, action);
-                machine.drive(0)
-            }
-            other => machine.drive(plane.perform(&other)),
-        };
+    if let Ask::Put(slot, action) = machine.start(slot, epoch, action) {
+        let _ = plane.put(slot, action);
     }
-    None
+    machine.drive(0);
+    let reply = plane.perform(&machine.ask());
+    match machine.drive(reply) {
+        Ask::Done(()) => Some(epoch),
+        _ => None,
+    }
 }
 
 /// Moves a refresh of session 0 to its end.
 fn refresh(plane: &mut PlainWords) -> Option<Seen> {
     let mut machine = Refresh::new(0);
-    let mut ask = machine.start();
+    machine.start();
     let mut found = None;
     for _ in 0..8 {
-        ask = match ask {
+        let reply = plane.perform(&machine.ask());
+        match machine.drive(reply) {
             Ask::Done(RefreshAnswer::Loaded(seen)) => {
                 found = Some(seen);
-                machine.finish()
+                machine.finish();
             }
             Ask::Done(RefreshAnswer::Stored) => return found,
-            other => machine.drive(plane.perform(&other)),
-        };
+            _ => {}
+        }
     }
     None
+}
+
+/// The head that a refresh of session 0 shows.
+fn refreshed_head(plane: &mut PlainWords) -> Option<Addr> {
+    match refresh(plane) {
+        Some(seen) => Some(seen.head),
+        None => None,
+    }
+}
+
+/// Session 0 leaves.
+fn leave(plane: &mut PlainWords) {
+    let mut machine = Leave::new(0);
+    machine.start();
+    let reply = plane.perform(&machine.ask());
+    machine.drive(reply);
+}
+
+/// An action is armed at epoch 5, and 8 becomes safe.
+fn eight_is_safe(rt: &impl Abort, plane: &mut PlainWords) {
+    store(plane, 5, 16);
+    assert!(rt; arm(plane, Action::SafeReadOnly(Addr(16))) == Some(5));
+    plane.perform::<()>(&Ask::Add(0, 3));
+    scan(plane, 1);
+    assert!(rt; plane.word(1) == 8);
 }
 
 /// A session loads the epoch as 5 and stalls, 8 becomes safe, and it stores 5. What it loads then is fresh, and what was
@@ -99,130 +134,91 @@ fn refresh(plane: &mut PlainWords) -> Option<Seen> {
 #[test]
 fn the_stall(rt: HostRuntime) -> Result<(), Fail> {
     let mut plane = PlainWords::new(rt.alloc(), 64)?;
-    plane.perform::<()>(&Ask::Store(0, 5));
-    let mut protecting = Protect::new(0);
-    let loads = protecting.start();
-    let stores = protecting.drive(plane.perform(&loads));
-    assert_eq!(rt; stores, Ask::Store(24, 5));
-    assert_eq!(rt; protecting.ask(), stores);
-    plane.perform::<()>(&Ask::Max(5, 16));
-    assert_eq!(rt; arm(&mut plane, Action::SafeReadOnly(Addr(16))), Some(5));
-    plane.perform::<()>(&Ask::Add(0, 3));
-    scan(&mut plane, 1);
-    assert_eq!(rt; plane.word(1), 8);
-    let phase = protecting.drive(plane.perform(&stores));
-    assert_eq!(rt; plane.word(24), 5);
+    store(&mut plane, 0, 5);
+    let mut machine = Protect::new(0);
+    let loads = machine.start();
+    machine.drive(plane.perform(&loads));
+    eight_is_safe(&rt, &mut plane);
+    assert!(rt; machine.ask() == Ask::Store(24, 5));
+    let phase = machine.drive(plane.perform(&machine.ask()));
     claim(&mut plane);
-    assert_eq!(rt; plane.word(6), 16);
-    let read_only = protecting.drive(plane.perform(&phase));
-    let head = protecting.drive(plane.perform(&read_only));
-    let done = protecting.drive(plane.perform(&head));
+    assert!(rt; (plane.word(24), plane.word(6)) == (5, 16));
+    let read_only = machine.drive(plane.perform(&phase));
+    let head = machine.drive(plane.perform(&read_only));
     let seen = Seen {
         phase: 0,
         read_only: Addr(16),
         head: Addr(0),
     };
-    assert_eq!(rt; done, Ask::Done(seen));
+    assert!(rt; machine.drive(plane.perform(&head)) == Ask::Done(seen));
     Ok(())
 }
 
 /// A session that has not refreshed since the raise keeps the action waiting, and one that has lets it run.
-#[test]
-fn a_protected_session_is_waited_for(rt: HostRuntime) -> Result<(), Fail> {
-    let mut plane = PlainWords::new(rt.alloc(), 64)?;
-    plane.perform::<()>(&Ask::Store(0, 1));
-    plane.perform::<()>(&Ask::Store(24, 1));
-    plane.perform::<()>(&Ask::Store(8, 4));
-    assert_eq!(rt; arm(&mut plane, Action::Close(Addr(4))), Some(1));
-    scan(&mut plane, 1);
-    claim(&mut plane);
-    assert_eq!(rt; (plane.word(1), plane.word(9), plane.word(16)), (0, 0, 3));
-    let seen = refresh(&mut plane);
-    assert_eq!(rt; seen.map(|seen| seen.head), Some(Addr(4)));
-    scan(&mut plane, 1);
-    claim(&mut plane);
-    assert_eq!(rt; (plane.word(1), plane.word(9), plane.word(16)), (1, 4, 0));
-    Ok(())
+fn protected(rt: &impl Abort, plane: &mut PlainWords) {
+    store(plane, 8, 4);
+    assert!(rt; arm(plane, Action::Close(Addr(4))) == Some(1));
+    for (safe, closed, slot) in [(0, 0, 3), (1, 4, 0)] {
+        scan(plane, 1);
+        claim(plane);
+        let words = (plane.word(1), plane.word(9), plane.word(16));
+        assert_eq!(rt; words, (safe, closed, slot));
+        assert!(rt; refreshed_head(plane) == Some(Addr(4)));
+    }
 }
 
 /// Nobody waits for a session that has left.
+fn left(rt: &impl Abort, plane: &mut PlainWords) {
+    leave(plane);
+    let action = Action::Phase(Phase::InProgress, Version(2));
+    assert!(rt; arm(plane, action) == Some(2));
+    scan(plane, 1);
+    claim(plane);
+    assert!(rt; plane.word(2) == 2 * 65536 + 2);
+}
+
 #[test]
-fn a_session_that_left_is_not_waited_for(rt: HostRuntime) -> Result<(), Fail> {
+fn a_session_is_waited_for_until_it_leaves(rt: HostRuntime) -> Result<(), Fail> {
     let mut plane = PlainWords::new(rt.alloc(), 64)?;
-    plane.perform::<()>(&Ask::Store(0, 1));
-    plane.perform::<()>(&Ask::Store(24, 1));
-    let mut leaving = Leave::new(0);
-    let stores = leaving.start();
-    assert_eq!(rt; leaving.ask(), stores);
-    assert_eq!(rt; leaving.drive(plane.perform(&stores)), Ask::Done(()));
-    assert_eq!(rt;
-        arm(&mut plane, Action::Phase(Phase::InProgress, Version(2))),
-        Some(1)
-    );
-    scan(&mut plane, 1);
-    claim(&mut plane);
-    assert_eq!(rt; plane.word(2), 2 * 65536 + 2);
+    store(&mut plane, 0, 1);
+    store(&mut plane, 24, 1);
+    protected(&rt, &mut plane);
+    left(&rt, &mut plane);
     Ok(())
 }
 
-/// Two actors find the same slot armed; the one whose Cas comes second claims nothing.
+/// Two actors find the same slot armed; the one whose Cas comes second claims nothing, and goes on to the next slot.
 #[test]
 fn two_claims_of_one_slot(rt: HostRuntime) -> Result<(), Fail> {
     let mut plane = PlainWords::new(rt.alloc(), 64)?;
-    plane.perform::<()>(&Ask::Store(0, 1));
-    assert_eq!(rt; arm(&mut plane, Action::Close(Addr(4))), Some(1));
+    store(&mut plane, 0, 1);
+    assert!(rt; arm(&mut plane, Action::Close(Addr(4))) == Some(1));
     scan(&mut plane, 0);
     let mut slow = Claim::new();
-    let meets = slow.start();
-    let safe = slow.drive(plane.perform(&meets));
-    let takes = slow.drive(plane.perform(&safe));
-    assert_eq!(rt; takes, Ask::Cas(16, 3, 1));
-    assert_eq!(rt; slow.ask(), takes);
+    slow.start();
+    claim_on(&mut plane, &mut slow);
+    assert!(rt; claim_on(&mut plane, &mut slow) == Ask::Cas(16, 3, 1));
     claim(&mut plane);
-    assert_eq!(rt; plane.word(9), 4);
-    assert_eq!(rt; slow.drive(plane.perform(&takes)), Ask::Load(17));
+    assert!(rt; plane.word(9) == 4);
+    assert!(rt; claim_on(&mut plane, &mut slow) == Ask::Load(17));
     Ok(())
 }
 
-/// A raise finds no slot, or no epoch left.
+/// A raise finds no epoch left, or a slot, or none.
 #[test]
 fn a_raise_is_refused(rt: HostRuntime) -> Result<(), Fail> {
     let mut plane = PlainWords::new(rt.alloc(), 64)?;
-    plane.perform::<()>(&Ask::Store(0, LAST_EPOCH));
-    assert_eq!(rt; raise(&mut plane), RaiseAnswer::Spent);
-    plane.perform::<()>(&Ask::Store(0, 7));
     for slot in 16..23 {
-        plane.perform::<()>(&Ask::Store(slot, 1));
+        store(&mut plane, slot, 1);
     }
-    assert_eq!(rt; raise(&mut plane), RaiseAnswer::Raised(7, 7));
-    assert_eq!(rt; plane.word(0), 8);
-    assert_eq!(rt; raise(&mut plane), RaiseAnswer::NoSlot);
-    Ok(())
-}
-
-/// What a machine asks now is what it asked last, until the reply comes. The laws are called.
-#[test]
-fn asks_are_told_again(rt: HostRuntime) -> Result<(), Fail> {
-    let mut scanning = Scan::new(1);
-    let epoch = scanning.start();
-    assert_eq!(rt; scanning.ask(), epoch);
-    let mut raising = Raise::new();
-    let epoch = raising.start();
-    assert_eq!(rt; raising.ask(), epoch);
-    let mut refreshing = Refresh::new(0);
-    let epoch = refreshing.start();
-    assert_eq!(rt; refreshing.ask(), epoch);
-    let mut arming = Arm::new();
-    assert_eq!(rt;
-        arming.start(3, 7, Action::Close(Addr(4))),
-        Ask::Put(3, Action::Close(Addr(4)))
-    );
-    assert_eq!(rt; arming.drive(0), Ask::Store(19, 9));
-    assert_eq!(rt; arming.ask(), Ask::Store(19, 9));
-    law_once();
-    law_protected();
-    law_owned();
-    law_of_the_stall();
-    law_of_what_is_loaded();
+    for (epoch, answer, after) in [
+        (LAST_EPOCH, RaiseAnswer::Spent, LAST_EPOCH),
+        (7, RaiseAnswer::Raised(7, 7), 8),
+        (7, RaiseAnswer::NoSlot, 7),
+    ] {
+        store(&mut plane, 0, epoch);
+        let came = (raise(&mut plane), plane.word(0));
+        assert_eq!(rt; came, (answer, after));
+    }
     Ok(())
 }

@@ -1,115 +1,134 @@
+//! Words that were spelled by hand, and what each says; none where it says nothing.
 use fkv_base::{Addr, Key, Phase, Serial, Version};
 use fkv_words::{
-    BucketTail, CutWord, Entry, Header, PhaseSaid, PhaseWord, bucket_of, law_words_apart,
-    phase_said, tag_of,
+    BucketTail, CutWord, Entry, Header, PhaseSaid, PhaseWord, bucket_of, phase_said, tag_of,
 };
+use std::process::Abort;
 
-#[test]
-fn headers_have_their_words(rt: HostRuntime) {
+const BIT_13: u64 = 8192;
+
+const BIT_19: u64 = 524288;
+
+const BIT_61: u64 = 2305843009213693952;
+
+const BIT_63: u64 = 9223372036854775808;
+
+/// A header has a version, and bits 61 and 63 are 0.
+fn headers(rt: &impl Abort) {
     let first = Header {
         previous: Addr(0),
         version: Version(1),
         invalid: false,
     };
-    assert_eq!(rt; first.pack(), 281474976710656);
-    assert_eq!(rt; Header::unpack(281474976710656), Some(first));
     let given_up = Header {
         previous: Addr(0),
         version: Version(1),
         invalid: true,
     };
-    assert_eq!(rt; given_up.pack(), 4611967493404098560);
-    assert_eq!(rt; Header::unpack(4611967493404098560), Some(given_up));
-    assert_eq!(rt; Header::unpack(0), None, "version 0");
-    assert_eq!(rt;
-        Header::unpack(2305843009213693952 + 281474976710656),
-        None,
-        "bit 61"
-    );
-    assert_eq!(rt;
-        Header::unpack(9223372036854775808 + 281474976710656),
-        None,
-        "bit 63"
-    );
+    for (word, said) in [
+        (281474976710656, Some(first)),
+        (4611967493404098560, Some(given_up)),
+        (0, None),
+        (BIT_61 + 281474976710656, None),
+        (BIT_63 + 281474976710656, None),
+    ] {
+        assert!(rt; Header::unpack(word) == said, "{word}");
+        if let Some(header) = said {
+            assert!(rt; header.pack() == word);
+        }
+    }
 }
 
-#[test]
-fn entries_have_their_words(rt: HostRuntime) {
+/// A slot may be empty. No entry has address 0, and bit 63 is 0.
+fn entries(rt: &impl Abort) {
     let entry = Entry {
         addr: Addr(5),
         tag: 3,
     };
-    assert_eq!(rt; entry.pack(), 844424930131973);
-    assert_eq!(rt; Entry::unpack(844424930131973), Some(entry));
-    assert_eq!(rt; Entry::unpack(0), None, "an empty slot");
-    assert_eq!(rt; Entry::unpack(844424930131968), None, "address 0");
-    assert_eq!(rt; Entry::unpack(9223372036854775808 + 5), None, "bit 63");
+    for (word, said) in [
+        (844424930131973, Some(entry)),
+        (0, None),
+        (844424930131968, None),
+        (BIT_63 + 5, None),
+    ] {
+        assert!(rt; Entry::unpack(word) == said, "{word}");
+        if let Some(entry) = said {
+            assert!(rt; entry.pack() == word);
+        }
+    }
 }
 
-#[test]
-fn tails_have_their_words(rt: HostRuntime) {
+fn tails(rt: &impl Abort) {
     let tail = BucketTail {
         overflow: 2,
         shared: 1,
         exclusive: true,
     };
-    assert_eq!(rt; tail.pack(), 9223653511831486466);
-    assert_eq!(rt; BucketTail::unpack(9223653511831486466), Some(tail));
+    assert!(rt; tail.pack() == 9223653511831486466);
+    assert!(rt; BucketTail::unpack(9223653511831486466) == Some(tail));
 }
 
-#[test]
-fn a_word_says_a_phase_or_is_spoiled(rt: HostRuntime) {
-    let word = PhaseWord {
-        version: Version(7),
-        phase: Phase::WaitPending,
-    }
-    .pack();
-    assert!(rt;
-        matches!(
-            phase_said(word),
-            PhaseSaid::Says(Phase::WaitPending, Version(7))
-        )
-    );
-    assert!(rt;
-        matches!(phase_said(word + 8192), PhaseSaid::Spoiled),
-        "bit 13"
-    );
-    assert!(rt;
-        matches!(phase_said(65536), PhaseSaid::Spoiled),
-        "version 0"
-    );
-}
-
-#[test]
-fn phases_have_their_words(rt: HostRuntime) {
-    let wait = PhaseWord {
-        version: Version(7),
-        phase: Phase::WaitFlush,
-    };
-    assert_eq!(rt; wait.pack(), 262151);
-    assert_eq!(rt; PhaseWord::unpack(262151), Some(wait));
-    assert_eq!(rt; PhaseWord::unpack(262144), None, "version 0");
-    assert_eq!(rt; PhaseWord::unpack(327687), None, "phase 5");
-    assert_eq!(rt; PhaseWord::unpack(8192 + 7), None, "bit 13");
-    assert_eq!(rt; PhaseWord::unpack(524288 + 7), None, "bit 19");
-}
-
-#[test]
-fn cuts_have_their_words(rt: HostRuntime) {
+/// Bit 61 of a cut is 0.
+fn cuts(rt: &impl Abort) {
     let cut = CutWord {
         serial: Serial(9),
         version: Version(2),
     };
-    assert_eq!(rt; cut.pack(), 562949953421321);
-    assert_eq!(rt; CutWord::unpack(562949953421321), Some(cut));
-    assert_eq!(rt; CutWord::unpack(2305843009213693952), None, "bit 61");
+    assert!(rt; cut.pack() == 562949953421321);
+    assert!(rt; CutWord::unpack(562949953421321) == Some(cut));
+    assert!(rt; CutWord::unpack(BIT_61).is_none());
+}
+
+/// The phase stands above bit 16. There is no version 0 and no phase 5, and bits 13 and 19 are 0.
+fn phases(rt: &impl Abort) {
+    let flush = PhaseWord {
+        version: Version(7),
+        phase: Phase::WaitFlush,
+    };
+    let pending = PhaseWord {
+        version: Version(7),
+        phase: Phase::WaitPending,
+    };
+    for (word, said) in [
+        (262151, Some(flush)),
+        (196615, Some(pending)),
+        (262144, None),
+        (65536, None),
+        (327687, None),
+        (BIT_13 + 7, None),
+        (BIT_19 + 7, None),
+    ] {
+        assert!(rt; PhaseWord::unpack(word) == said, "{word}");
+        if let Some(phase) = said {
+            assert!(rt; phase.pack() == word);
+        }
+    }
+}
+
+/// A word that says no phase is spoiled.
+fn phases_are_said(rt: &impl Abort) {
+    let said = phase_said(196615);
+    assert!(rt; matches!(said, PhaseSaid::Says(Phase::WaitPending, Version(7))));
+    for word in [65536, 196615 + BIT_13] {
+        assert!(rt; matches!(phase_said(word), PhaseSaid::Spoiled), "{word}");
+    }
+}
+
+/// By key and bits: the bucket and the tag.
+fn homes(rt: &impl Abort) {
+    for (key, bits, bucket, tag) in [(524291, 4, 3, 0), (19, 4, 3, 1), (19, 0, 0, 19)] {
+        let found = (bucket_of(Key(key), bits), tag_of(Key(key), bits));
+        assert_eq!(rt; found, (bucket, tag));
+    }
 }
 
 #[test]
-fn keys_have_their_homes(rt: HostRuntime) {
-    assert_eq!(rt; bucket_of(Key(524291), 4), 3);
-    assert_eq!(rt; tag_of(Key(524291), 4), 0);
-    assert_eq!(rt; tag_of(Key(19), 4), 1);
-    assert_eq!(rt; bucket_of(Key(19), 0), 0);
-    law_words_apart();
+fn words_are_as_they_were_spelled(rt: HostRuntime) {
+    headers(&rt);
+    entries(&rt);
+    tails(&rt);
+    cuts(&rt);
+    phases(&rt);
+    phases_are_said(&rt);
+    homes(&rt);
 }

@@ -1,0 +1,62 @@
+//! A commit over one of the first layout, which stops at each call of the device. A script can't say so: it opens an image in a file
+//! alone, where no call can be made to fail.
+use crate::lines::Line;
+use crate::lines::Line::{Commit, Finish, LogCommit, Up};
+use crate::recovered::{ODD_SLOT, crash};
+use crate::stores::{Store, WIDE, new_store, store_of, whole};
+use fkv_base::{Fault, Serial, Version};
+use fkv_disk::MemDisk;
+use fkv_opening::recover;
+use std::alloc::Global;
+use std::test::Fail;
+
+fn play(store: &mut Store, lines: &[Line]) {
+    for line in lines {
+        let _ = whole(store, *line);
+    }
+}
+
+/// A store's first commit as the first layout spells it: without a checkpoint of its own, lost ranges and a format.
+fn in_first_layout(alloc: Global, store: Store) -> Result<Store, Fault> {
+    let mut bytes = crash(store, 0)?.into_bytes();
+    for (at, byte) in bytes.iter_mut().enumerate() {
+        if at >= ODD_SLOT.start + 312 && at < ODD_SLOT.end {
+            *byte = 0;
+        }
+    }
+    store_of(alloc, MemDisk::from_bytes(alloc, bytes)?)
+}
+
+/// The number and the point that are recovered where so many calls of the device pass in the second commit.
+fn kept(
+    alloc: Global,
+    kind: Line,
+    passing: u64,
+    torn: u8,
+) -> Result<(Version, Option<Serial>), Fault> {
+    let mut store = new_store(alloc, WIDE)?;
+    play(&mut store, &[Up(0, 1, 1), Commit, Finish]);
+    let mut store = in_first_layout(alloc, store)?;
+    play(&mut store, &[Up(0, 1, 2)]);
+    store.arm(passing);
+    play(&mut store, &[kind, Finish]);
+    let opened = recover(alloc, &mut crash(store, torn)?)?;
+    Ok((opened.number, opened.points.first().copied()))
+}
+
+/// The first commit stands until the gate of the second one, of the newest layout, is open: a torn byte may have opened it two calls
+/// before the last one, which syncs it. A full commit makes ten calls, and a log commit nine, since it copies no index.
+#[test]
+fn a_commit_over_the_first_layout_stops_at_each_call(rt: HostRuntime) -> Result<(), Fail> {
+    for (kind, calls) in [(Commit, 10), (LogCommit, 9)] {
+        for passing in 0..calls + 1 {
+            for torn in [0, 165, 255] {
+                let is_open = passing == calls || (torn == 165 && passing + 2 >= calls);
+                let number = if is_open { 2 } else { 1 };
+                let kept = kept(rt.alloc(), kind, passing, torn)?;
+                assert_eq!(rt; kept, (Version(number), Some(Serial(number))));
+            }
+        }
+    }
+    Ok(())
+}
