@@ -6,8 +6,9 @@ use fkv_index::Purpose;
 use fkv_log::{RecordWords, SeenOffsets};
 use fkv_map::{Op, Reply};
 use fkv_ops::{
-    Append, AppendAnswer, DiskRecord, FoundSlot, HeldRecord, Occasion, Reason, Request, Seen, Try,
-    TryAnswer, Walk, WalkAnswer, law_reasons, value_of_word, word_of_value,
+    Append, AppendAnswer, DiskRecord, FoundSlot, HeaderSaid, HeldRecord, Occasion, Reason, Request,
+    Seen, Try, TryAnswer, Walk, WalkAnswer, header_said, law_reasons, told_value, value_of_word,
+    word_of_value,
 };
 use fkv_plane::{Ask, Places, PlainWords};
 use fkv_words::Header;
@@ -212,6 +213,7 @@ fn moves(rt: &impl Abort, alloc: Global, shape: &Shape, case: &Case<'_>) -> Resu
     store(&mut plane, &USUAL_WORDS);
     store(&mut plane, case.words);
     let mut machine = Try::new(shape);
+    assert_eq!(rt; machine.places(), Places::of(shape));
     start(&mut machine, case, case.op, case.phase);
     let mut told = None;
     for number in 0..case.skips.saturating_add(case.asks.len()) {
@@ -293,6 +295,8 @@ fn a_record_is_sought_and_appended(rt: HostRuntime) -> Result<(), Fail> {
     appends(&rt, rt.alloc(), &shape)?;
     assert_eq!(rt; word_of_value(value_of_word(11)), 11);
     assert_eq!(rt; value_of_word(word_of_value(None)), None);
+    assert_eq!(rt; told_value(Some(Value(7))), TryAnswer::Found(Value(7)));
+    assert!(rt; matches!(header_said(HEADER), HeaderSaid::Says(Addr(5), Version(2))));
     law_reasons();
     Ok(())
 }

@@ -99,6 +99,9 @@ fn a_list_keeps_its_order(rt: HostRuntime) -> Result<(), Fail> {
     assert!(rt; list.is_full());
     assert_eq!(rt; list.first_unlatched(), None);
     let delete = request(Op::Delete(KEY), None);
+    assert!(rt;
+        delete.is_unlatched() && delete.is_update_of(Version(2)) && !delete.request.is_read()
+    );
     list.set(9, delete);
     list.set(11, delete.with_latch(true));
     assert_eq!(rt; list.first_unlatched(), Some(9));
