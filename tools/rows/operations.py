@@ -4,6 +4,9 @@ from shapes import FOUR, ONE, SEVEN, SMALL, SMALL_TWO
 
 MOST = 2**64 - 1
 
+# a page that is full is flushed, and its frame can be used again
+TURNED = whole(["k turn | k turn rest 1", "0 refresh | 0 refresh rest 1"] * 3)
+
 OPERATIONS = [
     told("a value is set and read", f"{ONE}\n0 up 1 10 | 0 #1 done\n0 get 1 | 0 get 1 = 10"),
     Row("the last line needs no end", f"{ONE}\n0 up 1 10\n0 get 1", "0 #1 done\n0 get 1 = 10\n"),
@@ -143,6 +146,22 @@ PENDING = [
         f"{SMALL}\n{SEVEN}\n"
         + whole(f"0 up {key} {key} | 0 #{key} pending" for key in range(8, 72))
         + "0 up 72 72 | 0 refused 3 PendingFull\n0 get 1 | 0 refused 3 PendingFull",
+    ),
+    told(
+        "frames are used again up to the end of the log, and each record is on the device",
+        "shape 4 4 2 1 1 0 8\n"
+        + "".join(f"0 up {key} {key} | 0 #{key} done\n" + TURNED * (key % 4 == 3) for key in range(1, 32))
+        + "0 up 32 32 | 0 refused 5 LogFull\n"
+        + "".join(
+            f"""
+            0 get {key} | 0 get {key} pending @{key}
+            k turn      | k turn rest 1
+            0 poll      | 0 @{key} get {key} = {key}
+                        | 0 poll left 0
+            """
+            for key in range(1, 24)
+        )
+        + "0 get 24 | 0 get 24 = 24",
     ),
     told(
         "each drain slot is held",

@@ -1,270 +1,391 @@
+//! Commits moved by hand over plain words, of stores with up to two sessions, whose blocks begin at places 24 and 40.
+use crate::words::{make, store};
 use fkv_base::{Addr, Fault, LAST_EPOCH, Phase, Serial, Version};
 use fkv_commit::{
     Commit, CommitKind, EnterAnswer, EnterWaitPending, FinishAnswer, FinishCommit, SeekAnswer,
     SeekPoints, StartAnswer, StartCommit, WaitAnswer, WaitFlush, law_of_phases, law_of_points,
 };
 use fkv_plane::{Action, Ask, PlainWords};
+use std::alloc::Global;
+use std::process::Abort;
 use std::test::Fail;
 
-/// Sets the word at a place.
-fn set(plane: &mut PlainWords, place: usize, word: u64) {
-    plane.perform::<()>(&Ask::Store(place, word));
+/// One of a version.
+const ONE: u64 = 1 << 48;
+
+const EPOCH: usize = 0;
+
+const PHASE: usize = 2;
+
+const TAIL: usize = 3;
+
+const READ_ONLY: usize = 5;
+/// The first of eight drain slots.
+const DRAIN: usize = 16;
+
+/// A commit that starts over these words, with so many ranges of lost records, its asks, and words that stand there in the end.
+struct Start<'a> {
+    words: &'a [(usize, u64)],
+    kind: CommitKind,
+    lost: usize,
+    asks: &'a [Ask<StartAnswer>],
+    left: &'a [(usize, u64)],
 }
 
-/// Sets epoch, phase word and tail.
-fn opened(plane: &mut PlainWords, epoch: u64, phase: u64, tail: u64) {
-    set(plane, 0, epoch);
-    set(plane, 2, phase);
-    set(plane, 3, tail);
+/// Prepare is stored before the tail is loaded, and in-progress waits for epoch 1; also in the last drain slot, of the last version
+/// but one.
+const BEGUN: [Start<'static>; 2] = [
+    Start {
+        words: &[(EPOCH, 1), (PHASE, 1), (TAIL, 5)],
+        kind: CommitKind::Full,
+        lost: 0,
+        asks: &[
+            Ask::Load(PHASE),
+            Ask::Load(EPOCH),
+            Ask::Load(DRAIN),
+            Ask::Cas(DRAIN, 0, 1),
+            Ask::Store(PHASE, 65537),
+            Ask::Load(TAIL),
+            Ask::Add(EPOCH, 1),
+            Ask::Put(0, Action::Phase(Phase::InProgress, Version(2))),
+            Ask::Store(DRAIN, 3),
+            Ask::Done(StartAnswer::Begun(Version(1), Addr(5))),
+        ],
+        left: &[(EPOCH, 2), (DRAIN, 3)],
+    },
+    Start {
+        words: &[
+            (EPOCH, 7),
+            (PHASE, 8190),
+            (TAIL, 5),
+            (DRAIN, 1),
+            (DRAIN + 1, 1),
+            (DRAIN + 2, 1),
+            (DRAIN + 3, 1),
+            (DRAIN + 4, 1),
+            (DRAIN + 5, 1),
+            (DRAIN + 6, 1),
+        ],
+        kind: CommitKind::Log,
+        lost: 8,
+        asks: &[
+            Ask::Load(PHASE),
+            Ask::Load(EPOCH),
+            Ask::Load(DRAIN),
+            Ask::Load(DRAIN + 1),
+            Ask::Load(DRAIN + 2),
+            Ask::Load(DRAIN + 3),
+            Ask::Load(DRAIN + 4),
+            Ask::Load(DRAIN + 5),
+            Ask::Load(DRAIN + 6),
+            Ask::Load(DRAIN + 7),
+            Ask::Cas(DRAIN + 7, 0, 1),
+            Ask::Store(PHASE, 65536 + 8190),
+            Ask::Load(TAIL),
+            Ask::Add(EPOCH, 1),
+            Ask::Put(7, Action::Phase(Phase::InProgress, Version(8191))),
+            Ask::Store(DRAIN + 7, 9),
+            Ask::Done(StartAnswer::Begun(Version(8190), Addr(5))),
+        ],
+        left: &[(EPOCH, 8), (DRAIN + 7, 9)],
+    },
+];
+
+/// A start that is refused, and why; it ends without a change, after so many asks.
+struct Refusal<'a> {
+    words: &'a [(usize, u64)],
+    kind: CommitKind,
+    lost: usize,
+    after: usize,
+    why: Fault,
 }
 
-/// A cut word.
-fn cut(serial: u64, version: u64) -> u64 {
-    serial | version << 48
+/// In the order in which they are tested: each is also one by the tests that come later.
+const REFUSED: [Refusal<'static>; 7] = [
+    Refusal {
+        words: &[(EPOCH, LAST_EPOCH), (PHASE, 65537)],
+        kind: CommitKind::Log,
+        lost: 9,
+        after: 1,
+        why: Fault::CommitRunning,
+    },
+    Refusal {
+        words: &[(EPOCH, LAST_EPOCH), (PHASE, 1 << 40)],
+        kind: CommitKind::Log,
+        lost: 9,
+        after: 1,
+        why: Fault::CommitRunning,
+    },
+    Refusal {
+        words: &[(EPOCH, LAST_EPOCH), (PHASE, 8191)],
+        kind: CommitKind::Log,
+        lost: 9,
+        after: 1,
+        why: Fault::VersionsSpent,
+    },
+    Refusal {
+        words: &[(EPOCH, LAST_EPOCH), (PHASE, 8190)],
+        kind: CommitKind::Log,
+        lost: 9,
+        after: 1,
+        why: Fault::LostFull,
+    },
+    Refusal {
+        words: &[(EPOCH, LAST_EPOCH), (PHASE, 8190)],
+        kind: CommitKind::Full,
+        lost: 9,
+        after: 2,
+        why: Fault::EpochsSpent,
+    },
+    Refusal {
+        words: &[(EPOCH, LAST_EPOCH), (PHASE, 8190)],
+        kind: CommitKind::Log,
+        lost: 8,
+        after: 2,
+        why: Fault::EpochsSpent,
+    },
+    Refusal {
+        words: &[
+            (EPOCH, 7),
+            (PHASE, 8190),
+            (DRAIN, 1),
+            (DRAIN + 1, 1),
+            (DRAIN + 2, 1),
+            (DRAIN + 3, 1),
+            (DRAIN + 4, 1),
+            (DRAIN + 5, 1),
+            (DRAIN + 6, 1),
+            (DRAIN + 7, 1),
+        ],
+        kind: CommitKind::Full,
+        lost: 0,
+        after: 10,
+        why: Fault::DrainFull,
+    },
+];
+
+/// Looks at the words at these places.
+fn has_words(rt: &impl Abort, plane: &PlainWords, words: &[(usize, u64)]) {
+    for (place, word) in words {
+        assert_eq!(rt; plane.word(*place), *word, "at place {place}");
+    }
 }
 
-fn start(plane: &mut PlainWords, kind: CommitKind, lost: usize) -> Option<StartAnswer> {
+fn begins(rt: &impl Abort, alloc: Global, start: &Start<'_>) -> Result<(), Fail> {
+    let mut plane = PlainWords::new(alloc, 64)?;
+    store(&mut plane, start.words);
     let mut machine = StartCommit::new();
-    let mut ask = machine.start(kind, lost);
-    for _ in 0..32 {
-        ask = match ask {
-            Ask::Done(answer) => return Some(answer),
-            Ask::Put(slot, action) => {
-                let _ = plane.put(slot, action);
-                machine.drive(0)
-            }
-            other => machine.drive(plane.perform(&other)),
-        };
+    let mut ask = machine.start(start.kind, start.lost);
+    for (number, wanted) in start.asks.iter().enumerate() {
+        assert_eq!(rt; ask, *wanted, "at ask {number}");
+        assert_eq!(rt; machine.ask(), *wanted);
+        ask = machine.drive(make(&mut plane, ask));
     }
-    None
+    assert_eq!(rt; machine.kind(), start.kind);
+    has_words(rt, &plane, start.left);
+    Ok(())
 }
 
-fn seek(plane: &mut PlainWords, machine: &mut SeekPoints, number: Version) -> Option<SeekAnswer> {
-    let mut ask = machine.start(number);
-    for _ in 0..64 {
-        ask = match ask {
-            Ask::Done(answer) => return Some(answer),
-            Ask::Put(slot, action) => {
-                let _ = plane.put(slot, action);
-                machine.drive(0)
-            }
-            other => machine.drive(plane.perform(&other)),
-        };
-    }
-    None
-}
-
-/// A commit of version 1 starts: prepare is stored before the tail is loaded, and in-progress waits for epoch 1.
-#[test]
-fn a_commit_starts(rt: HostRuntime) -> Result<(), Fail> {
-    let mut plane = PlainWords::new(rt.alloc(), 64)?;
-    opened(&mut plane, 1, 1, 5);
+fn is_refused(rt: &impl Abort, alloc: Global, refusal: &Refusal<'_>) -> Result<(), Fail> {
+    let mut plane = PlainWords::new(alloc, 64)?;
+    store(&mut plane, refusal.words);
     let mut machine = StartCommit::new();
     assert_eq!(rt; machine.ask(), Ask::Done(StartAnswer::Idle));
-    let mut ask = machine.start(CommitKind::Full, 0);
-    assert_eq!(rt; ask, Ask::Load(2));
-    ask = machine.drive(plane.perform(&ask));
-    assert_eq!(rt; ask, Ask::Load(0));
-    ask = machine.drive(plane.perform(&ask));
-    assert_eq!(rt; ask, Ask::Load(16));
-    ask = machine.drive(plane.perform(&ask));
-    assert_eq!(rt; ask, Ask::Cas(16, 0, 1));
-    ask = machine.drive(plane.perform(&ask));
-    assert_eq!(rt; ask, Ask::Store(2, 65537));
-    ask = machine.drive(plane.perform(&ask));
-    assert_eq!(rt; ask, Ask::Load(3));
-    ask = machine.drive(plane.perform(&ask));
-    assert_eq!(rt; ask, Ask::Add(0, 1));
-    ask = machine.drive(plane.perform(&ask));
-    assert_eq!(rt;
-        ask,
-        Ask::Put(0, Action::Phase(Phase::InProgress, Version(2)))
-    );
-    ask = machine.drive(0);
-    assert_eq!(rt; ask, Ask::Store(16, 3));
-    ask = machine.drive(plane.perform(&ask));
-    assert_eq!(rt; ask, Ask::Done(StartAnswer::Begun(Version(1), Addr(5))));
-    assert_eq!(rt; machine.ask(), ask);
-    assert_eq!(rt; machine.kind(), CommitKind::Full);
-    machine.start(CommitKind::Log, 0);
-    assert_eq!(rt; machine.kind(), CommitKind::Log);
+    let mut ask = machine.start(refusal.kind, refusal.lost);
+    for _ in 0..refusal.after {
+        assert!(rt; matches!(ask, Ask::Load(_)), "before {:?}", refusal.why);
+        ask = machine.drive(make(&mut plane, ask));
+    }
+    assert_eq!(rt; ask, Ask::Done(StartAnswer::Refused(refusal.why)));
+    has_words(rt, &plane, refusal.words);
+    Ok(())
+}
+
+#[test]
+fn a_commit_starts_or_is_refused(rt: HostRuntime) -> Result<(), Fail> {
+    for start in &BEGUN {
+        begins(&rt, rt.alloc(), start)?;
+    }
+    for refusal in &REFUSED {
+        is_refused(&rt, rt.alloc(), refusal)?;
+    }
     let commit = Commit::begun(Version(1), CommitKind::Log, Addr(5));
     assert!(rt; commit.is_copied);
     law_of_phases();
     Ok(())
 }
 
-/// Each refusal, in the order in which they are tested; none changes a word.
-#[test]
-fn a_start_is_refused(rt: HostRuntime) -> Result<(), Fail> {
-    let mut plane = PlainWords::new(rt.alloc(), 64)?;
-    let refused = |why: Fault| Some(StartAnswer::Refused(why));
-    opened(&mut plane, LAST_EPOCH, 65537, 5);
-    assert_eq!(rt;
-        start(&mut plane, CommitKind::Log, 9),
-        refused(Fault::CommitRunning)
-    );
-    set(&mut plane, 2, 1 << 40);
-    assert_eq!(rt;
-        start(&mut plane, CommitKind::Log, 9),
-        refused(Fault::CommitRunning)
-    );
-    set(&mut plane, 2, 8191);
-    assert_eq!(rt;
-        start(&mut plane, CommitKind::Log, 9),
-        refused(Fault::VersionsSpent)
-    );
-    set(&mut plane, 2, 8190);
-    assert_eq!(rt;
-        start(&mut plane, CommitKind::Log, 9),
-        refused(Fault::LostFull)
-    );
-    assert_eq!(rt;
-        start(&mut plane, CommitKind::Full, 9),
-        refused(Fault::EpochsSpent)
-    );
-    assert_eq!(rt;
-        start(&mut plane, CommitKind::Log, 8),
-        refused(Fault::EpochsSpent)
-    );
-    set(&mut plane, 0, 7);
-    for slot in 0..8 {
-        set(&mut plane, 16 + slot, 1);
+/// A search for the points of a commit, over the words of so many sessions.
+struct Search<'a> {
+    words: &'a [(usize, u64)],
+    sessions: usize,
+    number: Version,
+    /// The words that others store before the ask of this number.
+    between: (usize, &'a [(usize, u64)]),
+    asks: &'a [Ask<SeekAnswer>],
+    points: &'a [Serial],
+    left: &'a [(usize, u64)],
+}
+
+/// One session has left version 3, and another has slept through it, and its newer word says how far it came; a session wakes between
+/// the loads of its two words, of which the first is loaded again; and one owes an update still.
+const SEARCHES: [Search<'static>; 3] = [
+    Search {
+        words: &[
+            (EPOCH, 4),
+            (PHASE, 196612),
+            (TAIL, 12),
+            (25, 9 + 4 * ONE),
+            (26, 7 + 3 * ONE),
+            (41, 6 + 2 * ONE),
+            (42, 4 + ONE),
+        ],
+        sessions: 2,
+        number: Version(3),
+        between: (0, &[]),
+        asks: &[
+            Ask::Load(27),
+            Ask::Load(43),
+            Ask::Load(EPOCH),
+            Ask::Load(DRAIN),
+            Ask::Cas(DRAIN, 0, 1),
+            Ask::Load(26),
+            Ask::Load(42),
+            Ask::Load(41),
+            Ask::Store(PHASE, 262148),
+            Ask::Load(TAIL),
+            Ask::Max(READ_ONLY, 12),
+            Ask::Add(EPOCH, 1),
+            Ask::Put(0, Action::SafeReadOnly(Addr(12))),
+            Ask::Store(DRAIN, 6),
+            Ask::Done(SeekAnswer::Taken(Addr(12), 4)),
+        ],
+        points: &[Serial(7), Serial(6)],
+        left: &[(EPOCH, 5), (PHASE, 262148), (READ_ONLY, 12), (DRAIN, 6)],
+    },
+    Search {
+        words: &[(EPOCH, 4), (PHASE, 196610), (TAIL, 12)],
+        sessions: 1,
+        number: Version(1),
+        between: (5, &[(26, 8 + ONE), (25, 9 + 2 * ONE)]),
+        asks: &[
+            Ask::Load(27),
+            Ask::Load(EPOCH),
+            Ask::Load(DRAIN),
+            Ask::Cas(DRAIN, 0, 1),
+            Ask::Load(26),
+            Ask::Load(25),
+            Ask::Load(26),
+            Ask::Store(PHASE, 262146),
+        ],
+        points: &[Serial(8)],
+        left: &[],
+    },
+    Search {
+        words: &[(EPOCH, 4), (PHASE, 196610), (TAIL, 12), (43, 1)],
+        sessions: 2,
+        number: Version(1),
+        between: (0, &[]),
+        asks: &[Ask::Load(27), Ask::Load(43), Ask::Done(SeekAnswer::Owing)],
+        points: &[],
+        left: &[(EPOCH, 4), (DRAIN, 0)],
+    },
+];
+
+fn searches(rt: &impl Abort, alloc: Global, search: &Search<'_>) -> Result<(), Fail> {
+    let mut plane = PlainWords::new(alloc, 64)?;
+    store(&mut plane, search.words);
+    assert!(rt; search.sessions <= 2);
+    let mut machine = SeekPoints::new(search.sessions);
+    let mut ask = machine.start(search.number);
+    for (number, wanted) in search.asks.iter().enumerate() {
+        let (before, words) = search.between;
+        if before == number {
+            store(&mut plane, words);
+        }
+        assert_eq!(rt; ask, *wanted, "at ask {number}");
+        assert_eq!(rt; machine.ask(), *wanted);
+        ask = machine.drive(make(&mut plane, ask));
     }
-    assert_eq!(rt;
-        start(&mut plane, CommitKind::Full, 0),
-        refused(Fault::DrainFull)
-    );
-    assert_eq!(rt; plane.word(0), 7);
-    assert_eq!(rt; plane.word(2), 8190);
-    set(&mut plane, 23, 0);
-    assert_eq!(rt;
-        start(&mut plane, CommitKind::Full, 0),
-        Some(StartAnswer::Begun(Version(8190), Addr(5)))
-    );
-    assert_eq!(rt; plane.word(23), 9);
+    assert_eq!(rt; machine.points(), search.points);
+    has_words(rt, &plane, search.left);
     Ok(())
 }
 
-/// Wait-pending waits for the epoch that was raised for it.
 #[test]
-fn wait_pending_is_entered(rt: HostRuntime) -> Result<(), Fail> {
-    let mut plane = PlainWords::new(rt.alloc(), 64)?;
-    opened(&mut plane, 4, 131074, 9);
-    set(&mut plane, 16, 3);
-    let mut machine = EnterWaitPending::new();
-    let mut ask = machine.start(Version(1));
-    for _ in 0..4 {
-        ask = machine.drive(plane.perform(&ask));
+fn points_are_sought(rt: HostRuntime) -> Result<(), Fail> {
+    for search in &SEARCHES {
+        searches(&rt, rt.alloc(), search)?;
     }
-    assert_eq!(rt; ask, Ask::Add(0, 1));
-    ask = machine.drive(plane.perform(&ask));
-    assert_eq!(rt;
-        ask,
-        Ask::Put(1, Action::Phase(Phase::WaitPending, Version(2)))
-    );
-    ask = machine.drive(0);
-    assert_eq!(rt; ask, Ask::Store(17, 6));
-    assert_eq!(rt; machine.drive(1), Ask::Done(EnterAnswer::Entered));
-    assert_eq!(rt; machine.ask(), Ask::Done(EnterAnswer::Entered));
-    Ok(())
-}
-
-/// One session has left version 3; another has slept through it, and its newer word says how far it came.
-#[test]
-fn points_of_one_awake_and_of_a_sleeper(rt: HostRuntime) -> Result<(), Fail> {
-    let mut plane = PlainWords::new(rt.alloc(), 64)?;
-    opened(&mut plane, 4, 196612, 12);
-    set(&mut plane, 25, cut(9, 4));
-    set(&mut plane, 26, cut(7, 3));
-    set(&mut plane, 41, cut(6, 2));
-    set(&mut plane, 42, cut(4, 1));
-    let mut machine = SeekPoints::new(2);
-    assert_eq!(rt;
-        seek(&mut plane, &mut machine, Version(3)),
-        Some(SeekAnswer::Taken(Addr(12), 4))
-    );
-    assert_eq!(rt; machine.points().len(), 2);
-    assert_eq!(rt; machine.points().get(0).copied(), Some(Serial(7)));
-    assert_eq!(rt; machine.points().get(1).copied(), Some(Serial(6)));
-    assert_eq!(rt; plane.word(0), 5);
-    assert_eq!(rt; plane.word(2), 262148);
-    assert_eq!(rt; plane.word(5), 12);
-    assert_eq!(rt; plane.word(16), 6);
     law_of_points();
     Ok(())
 }
 
-/// A session wakes between the loads of its two words: the first one is loaded again.
-#[test]
-fn a_point_of_one_that_goes_on_in_between(rt: HostRuntime) -> Result<(), Fail> {
-    let mut plane = PlainWords::new(rt.alloc(), 64)?;
-    opened(&mut plane, 4, 196610, 12);
-    let mut machine = SeekPoints::new(1);
-    let mut ask = machine.start(Version(1));
-    assert_eq!(rt; ask, Ask::Load(27));
-    for _ in 0..4 {
-        ask = machine.drive(plane.perform(&ask));
-    }
-    assert_eq!(rt; ask, Ask::Load(26));
-    ask = machine.drive(plane.perform(&ask));
-    assert_eq!(rt; ask, Ask::Load(25));
-    set(&mut plane, 26, cut(8, 1));
-    set(&mut plane, 25, cut(9, 2));
-    ask = machine.drive(plane.perform(&ask));
-    assert_eq!(rt; ask, Ask::Load(26));
-    ask = machine.drive(plane.perform(&ask));
-    assert_eq!(rt; ask, Ask::Store(2, 262146));
-    assert_eq!(rt; machine.points().get(0).copied(), Some(Serial(8)));
-    assert_eq!(rt; machine.ask(), ask);
-    Ok(())
-}
+/// Wait-pending waits for the epoch that was raised for it.
+const ENTERED: [Ask<EnterAnswer>; 8] = [
+    Ask::Load(EPOCH),
+    Ask::Load(DRAIN),
+    Ask::Load(DRAIN + 1),
+    Ask::Cas(DRAIN + 1, 0, 1),
+    Ask::Add(EPOCH, 1),
+    Ask::Put(1, Action::Phase(Phase::WaitPending, Version(2))),
+    Ask::Store(DRAIN + 1, 6),
+    Ask::Done(EnterAnswer::Entered),
+];
 
-/// Where one session owes an update still, nothing is changed.
-#[test]
-fn one_session_owes(rt: HostRuntime) -> Result<(), Fail> {
-    let mut plane = PlainWords::new(rt.alloc(), 64)?;
-    opened(&mut plane, 4, 196610, 12);
-    set(&mut plane, 43, 1);
-    let mut machine = SeekPoints::new(2);
-    assert_eq!(rt;
-        seek(&mut plane, &mut machine, Version(1)),
-        Some(SeekAnswer::Owing)
+fn enters(rt: &impl Abort, alloc: Global) -> Result<(), Fail> {
+    let mut plane = PlainWords::new(alloc, 64)?;
+    store(
+        &mut plane,
+        &[(EPOCH, 4), (PHASE, 131074), (TAIL, 9), (DRAIN, 3)],
     );
-    assert!(rt; machine.points().is_empty());
-    assert_eq!(rt; plane.word(0), 4);
-    assert_eq!(rt; plane.word(16), 0);
+    let mut machine = EnterWaitPending::new();
+    let mut ask = machine.start(Version(1));
+    for (number, wanted) in ENTERED.iter().enumerate() {
+        assert_eq!(rt; ask, *wanted, "at ask {number}");
+        assert_eq!(rt; machine.ask(), *wanted);
+        ask = machine.drive(make(&mut plane, ask));
+    }
     Ok(())
 }
 
 /// The manifest may be written once epoch 6 is safe and the log is flushed up to 12.
-#[test]
-fn the_flush_is_waited_for(rt: HostRuntime) -> Result<(), Fail> {
-    let mut machine = WaitFlush::new();
-    assert_eq!(rt; machine.start(Addr(12), 6), Ask::Load(1));
-    assert_eq!(rt; machine.drive(5), Ask::Done(WaitAnswer::NotYet));
-    machine.start(Addr(12), 6);
-    assert_eq!(rt; machine.drive(6), Ask::Load(7));
-    assert_eq!(rt; machine.drive(11), Ask::Done(WaitAnswer::NotYet));
-    machine.start(Addr(12), 6);
-    machine.drive(7);
-    assert_eq!(rt; machine.drive(12), Ask::Done(WaitAnswer::Flushed));
-    assert_eq!(rt; machine.ask(), Ask::Done(WaitAnswer::Flushed));
-    Ok(())
+fn waits(rt: &impl Abort) {
+    for (safe, flushed, answer) in [
+        (5, 12, WaitAnswer::NotYet),
+        (6, 11, WaitAnswer::NotYet),
+        (7, 12, WaitAnswer::Flushed),
+    ] {
+        let mut machine = WaitFlush::new();
+        assert_eq!(rt; machine.start(Addr(12), 6), Ask::Load(1));
+        if machine.drive(safe) == Ask::Load(7) {
+            machine.drive(flushed);
+        }
+        assert_eq!(rt; machine.ask(), Ask::Done(answer), "at {safe} and {flushed}");
+    }
 }
 
 /// The durable words come first, and rest behind them.
-#[test]
-fn a_commit_finishes(rt: HostRuntime) -> Result<(), Fail> {
+fn finishes(rt: &impl Abort) {
     let points = [Serial(7), Serial(0)];
     let mut machine = FinishCommit::new(2);
-    assert_eq!(rt; machine.start(&points, Version(1)), Ask::Store(28, 7));
-    assert_eq!(rt; machine.drive(&points, 0), Ask::Store(44, 0));
-    assert_eq!(rt; machine.drive(&points, 0), Ask::Store(2, 2));
-    assert_eq!(rt;
-        machine.drive(&points, 262146),
-        Ask::Done(FinishAnswer::Finished)
-    );
-    assert_eq!(rt; machine.ask(&points), Ask::Done(FinishAnswer::Finished));
+    let mut ask = machine.start(&points, Version(1));
+    for wanted in [
+        Ask::Store(28, 7),
+        Ask::Store(44, 0),
+        Ask::Store(PHASE, 2),
+        Ask::Done(FinishAnswer::Finished),
+    ] {
+        assert_eq!(rt; ask, wanted);
+        assert_eq!(rt; machine.ask(&points), wanted);
+        ask = machine.drive(&points, 0);
+    }
+}
+
+#[test]
+fn a_commit_goes_on_to_its_end(rt: HostRuntime) -> Result<(), Fail> {
+    enters(&rt, rt.alloc())?;
+    waits(&rt);
+    finishes(&rt);
     Ok(())
 }

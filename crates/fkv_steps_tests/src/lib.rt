@@ -12,3 +12,5 @@ mod flush;
 mod ops;
 #[cfg(test)]
 mod pending;
+#[cfg(test)]
+mod words;

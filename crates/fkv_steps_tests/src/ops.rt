@@ -1,12 +1,14 @@
 //! Tries moved by hand over plain words. The store has one bucket at places 40 to 47, two overflow buckets from 48 and 56 on, and
 //! eight places of records, three words each, from 64 on.
+use crate::words::store;
 use fkv_base::{Addr, Key, Phase, Shape, Value, Version};
 use fkv_index::Purpose;
 use fkv_log::{RecordWords, SeenOffsets};
 use fkv_map::{Op, Reply};
 use fkv_ops::{
-    Append, AppendAnswer, DiskRecord, FoundSlot, HeldRecord, Occasion, Reason, Request, Seen, Try,
-    TryAnswer, Walk, WalkAnswer, law_reasons, value_of_word, word_of_value,
+    Append, AppendAnswer, DiskRecord, FoundSlot, HeaderSaid, HeldRecord, Occasion, Reason, Request,
+    Seen, Try, TryAnswer, Walk, WalkAnswer, header_said, law_reasons, told_value, value_of_word,
+    word_of_value,
 };
 use fkv_plane::{Ask, Places, PlainWords};
 use fkv_words::Header;
@@ -14,6 +16,7 @@ use std::alloc::Global;
 use std::process::Abort;
 use std::test::Fail;
 
+mod cases;
 mod latches;
 
 /// One of a version, of a tag, or of those that share a latch.
@@ -42,7 +45,20 @@ const ENTRY: u64 = 5 + 3 * ONE;
 const HEADER: u64 = 5 + 2 * ONE;
 
 const NEW_ENTRY: u64 = 6 + 3 * ONE;
-/// The six slots behind the first, with entries of other tags.
+/// Two records of one home, of versions 1 and 2, in the first slot; the tail at 6, the limit at 8, the safe read-only offset at 1.
+const USUAL_WORDS: [(usize, u64); 10] = [
+    (3, 6),
+    (4, 8),
+    (6, 1),
+    (40, ENTRY),
+    (70, ONE),
+    (71, 32771),
+    (72, 7),
+    (79, 2 + 2 * ONE),
+    (80, 3),
+    (81, 10),
+];
+/// The six slots behind the first, with entries of other tags; and so that no overflow bucket is left.
 const FILLED: [(usize, u64); 6] = [
     (41, 1 + 11 * ONE),
     (42, 1 + 12 * ONE),
@@ -50,6 +66,16 @@ const FILLED: [(usize, u64); 6] = [
     (44, 1 + 14 * ONE),
     (45, 1 + 15 * ONE),
     (46, 1 + 16 * ONE),
+];
+
+const FILLED_UP: [(usize, u64); 7] = [
+    (41, 1 + 11 * ONE),
+    (42, 1 + 12 * ONE),
+    (43, 1 + 13 * ONE),
+    (44, 1 + 14 * ONE),
+    (45, 1 + 15 * ONE),
+    (46, 1 + 16 * ONE),
+    (10, 2),
 ];
 /// The newest record is of version 1, or of version 3.
 const OF_LOWER: &[(usize, u64)] = &[(79, 2 + ONE)];
@@ -61,9 +87,15 @@ const SAFE: &[(usize, u64)] = &[(6, 6)];
 const LOG_ENDED: &[(usize, u64)] = &[(3, 16), (4, 16)];
 
 const AT_LIMIT: &[(usize, u64)] = &[(3, 8)];
+/// The newest record, as it was read from the device.
+const HELD: HeldRecord = HeldRecord {
+    entry: ENTRY,
+    previous: Addr(2),
+    key: KEY,
+    value: 70,
+};
 
-/// A try, and what it finds.
-#[derive(Clone, Copy)]
+/// A try, what it finds, and what it asks.
 struct Case<'a> {
     op: Op,
     /// Whether the request is of the version before the session's.
@@ -80,56 +112,49 @@ struct Case<'a> {
     rival: Option<(usize, Op, Phase)>,
     /// How many asks are made before those that are looked at.
     skips: usize,
+    asks: &'a [Ask<TryAnswer>],
     /// Whether it shares the latch in the end, and what it has to spare then.
     has_shared: bool,
     spare: u64,
 }
 
 /// At rest in version 2, with all records in the mutable region.
-fn usual(op: Op) -> Case<'static> {
-    Case {
-        op,
-        is_behind: false,
-        has_latch: false,
-        held: None,
-        occasion: Occasion::Call,
-        phase: Phase::Rest,
-        read_only: 1,
-        head: 1,
-        words: &[],
-        rival: None,
-        skips: 0,
-        has_shared: false,
-        spare: 0,
-    }
-}
+const USUAL: Case<'static> = Case {
+    op: Op::Read(KEY),
+    is_behind: false,
+    has_latch: false,
+    held: None,
+    occasion: Occasion::Call,
+    phase: Phase::Rest,
+    read_only: 1,
+    head: 1,
+    words: &[],
+    rival: None,
+    skips: 0,
+    asks: &[],
+    has_shared: false,
+    spare: 0,
+};
 
-/// Two records of one home, of versions 1 and 2, in the first slot; the tail at 6, the limit at 8, the safe read-only offset at 1.
-fn usual_words(plane: &mut PlainWords) {
-    for (place, word) in [
-        (3, 6),
-        (4, 8),
-        (6, 1),
-        (40, ENTRY),
-        (70, ONE),
-        (71, OLDER.0),
-        (72, 7),
-        (79, 2 + 2 * ONE),
-        (80, KEY.0),
-        (81, 10),
-    ] {
-        plane.perform::<()>(&Ask::Store(place, word));
-    }
-}
+const CASES: [(&str, &[Case<'static>]); 12] = [
+    ("in place", cases::IN_PLACE),
+    ("copied", cases::COPIED),
+    ("made", cases::MADE),
+    ("holding", cases::HOLDING),
+    ("reads", cases::READS),
+    ("late", cases::LATE),
+    ("overflow", cases::OVERFLOW),
+    ("spoiled", cases::SPOILED),
+    ("alone", latches::ALONE),
+    ("late at the latch", latches::LATE_AT_LATCH),
+    ("shared", latches::SHARED),
+    ("kept", latches::KEPT),
+];
 
 fn start(machine: &mut Try, case: &Case<'_>, op: Op, phase: Phase) -> Ask<TryAnswer> {
     let request = Request {
         op,
-        version: if case.is_behind {
-            Version(1)
-        } else {
-            Version(2)
-        },
+        version: Version(if case.is_behind { 1 } else { 2 }),
         has_latch: case.has_latch,
         held: case.held,
     };
@@ -144,12 +169,16 @@ fn start(machine: &mut Try, case: &Case<'_>, op: Op, phase: Phase) -> Ask<TryAns
     machine.start(request, seen, case.occasion, 0)
 }
 
-/// Moves another try to its end.
-fn rival(plane: &mut PlainWords, shape: &Shape, case: &Case<'_>, op: Op, phase: Phase) {
-    let mut machine = Try::new(shape);
-    let mut ask = start(&mut machine, case, op, phase);
-    for _ in 0..32 {
-        ask = machine.drive(plane.perform(&ask));
+/// Moves the other try to its end, where it is made before the ask of this number.
+fn rival(plane: &mut PlainWords, shape: &Shape, case: &Case<'_>, number: usize) {
+    if let Some((before, op, phase)) = case.rival
+        && before == number
+    {
+        let mut machine = Try::new(shape);
+        let mut ask = start(&mut machine, case, op, phase);
+        for _ in 0..32 {
+            ask = machine.drive(plane.perform(&ask));
+        }
     }
 }
 
@@ -162,530 +191,58 @@ fn makes_effect(ask: &Ask<TryAnswer>, reply: u64) -> bool {
     }
 }
 
-/// Moves a try to its end, and looks at its asks, at the step of its effect, and at what it has then.
-fn moves(
-    rt: &impl Abort,
-    alloc: Global,
-    case: &Case<'_>,
-    asks: &[Ask<TryAnswer>],
-) -> Result<(), Fail> {
-    let shape = Shape::new(0, 4, 2, 1, 1, 2, 4)?;
-    let mut plane = PlainWords::new(alloc, 88)?;
-    usual_words(&mut plane);
-    for (place, word) in case.words {
-        plane.perform::<()>(&Ask::Store(*place, *word));
+/// Makes the ask of this number, and looks at the step of its effect.
+fn goes_on(rt: &impl Abort, plane: &mut PlainWords, machine: &mut Try, told: &mut Option<Reply>) {
+    let ask = machine.ask();
+    let reply = plane.perform(&ask);
+    if let Ask::Done(TryAnswer::Done(reply)) = ask {
+        assert_eq!(rt; *told, Some(reply));
     }
-    let mut machine = Try::new(&shape);
-    let mut ask = start(&mut machine, case, case.op, case.phase);
-    let mut told = None;
-    for number in 0..case.skips.saturating_add(asks.len()) {
-        if let Some((before, op, phase)) = case.rival
-            && before == number
-        {
-            rival(&mut plane, &shape, case, op, phase);
-        }
-        if let Some(wanted) = asks.get(number.wrapping_sub(case.skips)) {
-            assert_eq!(rt; ask, *wanted, "at ask {number}");
-        }
-        let reply = plane.perform(&ask);
-        let is_effect = makes_effect(&ask, reply);
-        if let Ask::Done(TryAnswer::Done(reply)) = ask {
-            assert_eq!(rt; told, Some(reply));
-        }
-        ask = machine.drive(reply);
-        assert_eq!(rt; machine.effect().is_some(), is_effect, "after ask {number}");
-        told = machine.effect().or(told);
-    }
+    machine.drive(reply);
     assert_eq!(rt;
-        (machine.has_shared(), machine.spare()),
-        (case.has_shared, case.spare)
+        machine.effect().is_some(),
+        makes_effect(&ask, reply),
+        "after {ask:?}"
     );
+    *told = machine.effect().or(*told);
+}
+
+/// Moves a try to its end, and looks at its asks, and at what it has then.
+fn moves(rt: &impl Abort, alloc: Global, shape: &Shape, case: &Case<'_>) -> Result<(), Fail> {
+    let mut plane = PlainWords::new(alloc, 88)?;
+    store(&mut plane, &USUAL_WORDS);
+    store(&mut plane, case.words);
+    let mut machine = Try::new(shape);
+    assert_eq!(rt; machine.places(), Places::of(shape));
+    start(&mut machine, case, case.op, case.phase);
+    let mut told = None;
+    for number in 0..case.skips.saturating_add(case.asks.len()) {
+        rival(&mut plane, shape, case, number);
+        if let Some(wanted) = case.asks.get(number.wrapping_sub(case.skips)) {
+            assert_eq!(rt; machine.ask(), *wanted, "at ask {number}");
+        }
+        goes_on(rt, &mut plane, &mut machine, &mut told);
+    }
+    assert_eq!(rt; machine.has_shared(), case.has_shared);
+    assert_eq!(rt; machine.spare(), case.spare);
     Ok(())
 }
 
 #[test]
-fn changes_in_place(rt: HostRuntime) -> Result<(), Fail> {
-    let alloc = rt.alloc();
-    moves(
-        &rt,
-        alloc,
-        &usual(Op::Upsert(KEY, Value(11))),
-        &[
-            Ask::Load(40),
-            Ask::Load(79),
-            Ask::Load(80),
-            Ask::Swap(81, 11),
-            Ask::Done(TryAnswer::Done(Reply::Nothing)),
-        ],
-    )?;
-    moves(
-        &rt,
-        alloc,
-        &usual(Op::Add(KEY, 5)),
-        &[
-            Ask::Load(40),
-            Ask::Load(79),
-            Ask::Load(80),
-            Ask::Load(81),
-            Ask::Cas(81, 10, 15),
-            Ask::Done(TryAnswer::Done(Reply::Number(Value(15)))),
-        ],
-    )?;
-    let case = Case {
-        skips: 3,
-        phase: Phase::InProgress,
-        ..usual(Op::Delete(KEY))
-    };
-    moves(
-        &rt,
-        alloc,
-        &case,
-        &[
-            Ask::Swap(81, Value::ABSENT),
-            Ask::Done(TryAnswer::Done(Reply::Nothing)),
-        ],
-    )?;
-    // another one changes the value between the load and the Cas
-    let case = Case {
-        skips: 4,
-        rival: Some((4, Op::Upsert(KEY, Value(20)), Phase::Rest)),
-        ..usual(Op::Max(KEY, 12))
-    };
-    moves(
-        &rt,
-        alloc,
-        &case,
-        &[
-            Ask::Cas(81, 10, 12),
-            Ask::Done(TryAnswer::Wait(Reason::Contended)),
-        ],
-    )
-}
-
-#[test]
-fn copies_a_record(rt: HostRuntime) -> Result<(), Fail> {
-    let alloc = rt.alloc();
-    let case = Case {
-        read_only: 6,
-        words: SAFE,
-        ..usual(Op::Add(KEY, 5))
-    };
-    moves(
-        &rt,
-        alloc,
-        &case,
-        &[
-            Ask::Load(40),
-            Ask::Load(79),
-            Ask::Load(80),
-            Ask::Load(6),
-            Ask::Load(81),
-            Ask::Load(4),
-            Ask::Load(3),
-            Ask::Cas(3, 6, 7),
-            Ask::Store(84, 15),
-            Ask::Store(83, 3),
-            Ask::Store(82, HEADER),
-            Ask::Cas(40, ENTRY, NEW_ENTRY),
-            Ask::Done(TryAnswer::Done(Reply::Number(Value(15)))),
-        ],
-    )?;
-    // of a version of its own, in the read-only region, without a latch, and without the old value
-    let case = Case {
-        skips: 3,
-        phase: Phase::InProgress,
-        read_only: 6,
-        words: SAFE,
-        ..usual(Op::Delete(KEY))
-    };
-    moves(
-        &rt,
-        alloc,
-        &case,
-        &[
-            Ask::Load(6),
-            Ask::Load(4),
-            Ask::Load(3),
-            Ask::Cas(3, 6, 7),
-            Ask::Store(84, Value::ABSENT),
-        ],
-    )?;
-    // of a lower version, in the mutable region
-    let case = Case {
-        skips: 3,
-        words: OF_LOWER,
-        ..usual(Op::Max(KEY, 5))
-    };
-    moves(
-        &rt,
-        alloc,
-        &case,
-        &[
-            Ask::Load(81),
-            Ask::Load(4),
-            Ask::Load(3),
-            Ask::Cas(3, 6, 7),
-            Ask::Store(84, 10),
-        ],
-    )?;
-    let case = Case {
-        skips: 3,
-        read_only: 6,
-        ..usual(Op::Upsert(KEY, Value(11)))
-    };
-    moves(
-        &rt,
-        alloc,
-        &case,
-        &[Ask::Load(6), Ask::Done(TryAnswer::Wait(Reason::Fuzzy))],
-    )
-}
-
-#[test]
-fn makes_a_record(rt: HostRuntime) -> Result<(), Fail> {
-    let alloc = rt.alloc();
-    moves(
-        &rt,
-        alloc,
-        &usual(Op::Add(FOURTH, 5)),
-        &[
-            Ask::Load(40),
-            Ask::Load(41),
-            Ask::Load(4),
-            Ask::Load(3),
-            Ask::Cas(3, 6, 7),
-            Ask::Store(84, 5),
-            Ask::Store(83, 4),
-            Ask::Store(82, 2 * ONE),
-            Ask::Cas(41, 0, 6 + 4 * ONE),
-            Ask::Done(TryAnswer::Done(Reply::Number(Value(5)))),
-        ],
-    )?;
-    // the entry is there, and the key has no record
-    moves(
-        &rt,
-        alloc,
-        &usual(Op::Max(LACKING, 9)),
-        &[
-            Ask::Load(40),
-            Ask::Load(79),
-            Ask::Load(80),
-            Ask::Load(70),
-            Ask::Load(71),
-            Ask::Load(4),
-            Ask::Load(3),
-            Ask::Cas(3, 6, 7),
-            Ask::Store(84, 9),
-            Ask::Store(83, 65539),
-            Ask::Store(82, HEADER),
-            Ask::Cas(40, ENTRY, NEW_ENTRY),
-            Ask::Done(TryAnswer::Done(Reply::Number(Value(9)))),
-        ],
-    )?;
-    // the chain leaves memory, and the old value doesn't count
-    let case = Case {
-        read_only: 6,
-        head: 6,
-        ..usual(Op::Upsert(KEY, Value(11)))
-    };
-    moves(
-        &rt,
-        alloc,
-        &case,
-        &[
-            Ask::Load(40),
-            Ask::Load(4),
-            Ask::Load(3),
-            Ask::Cas(3, 6, 7),
-            Ask::Store(84, 11),
-            Ask::Store(83, 3),
-            Ask::Store(82, HEADER),
-            Ask::Cas(40, ENTRY, NEW_ENTRY),
-            Ask::Done(TryAnswer::Done(Reply::Nothing)),
-        ],
-    )
-}
-
-/// An add whose chain leaves memory at address 5, by a record that it holds.
-fn holding(entry: u64, previous: u64, key: Key) -> Case<'static> {
-    let held = HeldRecord {
-        entry,
-        previous: Addr(previous),
-        key,
-        value: 70,
-    };
-    Case {
-        skips: 1,
-        read_only: 6,
-        head: 6,
-        held: Some(held),
-        ..usual(Op::Add(KEY, 5))
-    }
-}
-
-#[test]
-fn goes_by_the_record_that_it_holds(rt: HostRuntime) -> Result<(), Fail> {
-    let alloc = rt.alloc();
-    moves(
-        &rt,
-        alloc,
-        &holding(ENTRY, 2, KEY),
-        &[
-            Ask::Load(4),
-            Ask::Load(3),
-            Ask::Cas(3, 6, 7),
-            Ask::Store(84, 75),
-        ],
-    )?;
-    // the chain has ended without a record of the key
-    moves(
-        &rt,
-        alloc,
-        &holding(ENTRY, 0, LACKING),
-        &[
-            Ask::Load(4),
-            Ask::Load(3),
-            Ask::Cas(3, 6, 7),
-            Ask::Store(84, 5),
-        ],
-    )?;
-    // under the latch for one alone
-    let case = Case {
-        phase: Phase::WaitPending,
-        ..holding(ENTRY, 2, KEY)
-    };
-    moves(
-        &rt,
-        alloc,
-        &case,
-        &[Ask::Load(47), Ask::Cas(47, 0, EXCLUSIVE), Ask::Load(4)],
-    )?;
-    for (case, addr) in [
-        (holding(ENTRY, 2, LACKING), 2),
-        (holding(ENTRY - 1, 2, KEY), 5),
-        (
-            Case {
-                phase: Phase::InProgress,
-                ..holding(ENTRY + 1, 2, KEY)
-            },
-            5,
-        ),
-        (
-            Case {
-                held: None,
-                ..holding(ENTRY, 2, KEY)
-            },
-            5,
-        ),
-        (
-            Case {
-                op: Op::Read(KEY),
-                ..holding(ENTRY, 2, KEY)
-            },
-            5,
-        ),
-    ] {
-        let record = DiskRecord {
-            entry: ENTRY,
-            addr: Addr(addr),
-        };
-        moves(
-            &rt,
-            alloc,
-            &case,
-            &[Ask::Done(TryAnswer::AwaitsDisk(record))],
-        )?;
-    }
-    Ok(())
-}
-
-#[test]
-fn reads(rt: HostRuntime) -> Result<(), Fail> {
-    let alloc = rt.alloc();
-    // in prepare and in the fuzzy region too, without a latch
-    let case = Case {
-        phase: Phase::Prepare,
-        read_only: 6,
-        ..usual(Op::Read(KEY))
-    };
-    moves(
-        &rt,
-        alloc,
-        &case,
-        &[
-            Ask::Load(40),
-            Ask::Load(79),
-            Ask::Load(80),
-            Ask::Load(81),
-            Ask::Done(TryAnswer::Found(Value(10))),
-        ],
-    )?;
-    for (key, skips, words) in [
-        (KEY, 4, &[(81, Value::ABSENT)][..]),
-        (LACKING, 5, &[]),
-        (FOURTH, 2, &[]),
-    ] {
-        let case = Case {
-            skips,
-            words,
-            ..usual(Op::Read(key))
-        };
-        moves(&rt, alloc, &case, &[Ask::Done(TryAnswer::Absent)])?;
-    }
-    Ok(())
-}
-
-#[test]
-fn is_late_at_the_log(rt: HostRuntime) -> Result<(), Fail> {
-    let alloc = rt.alloc();
-    let upsert = usual(Op::Upsert(FOURTH, Value(11)));
-    // at the tail
-    let case = Case {
-        skips: 4,
-        rival: Some((4, Op::Delete(FIFTH), Phase::Rest)),
-        ..upsert
-    };
-    moves(
-        &rt,
-        alloc,
-        &case,
-        &[
-            Ask::Cas(3, 6, 7),
-            Ask::Done(TryAnswer::Wait(Reason::Contended)),
-        ],
-    )?;
-    // at the slot
-    let case = Case {
-        skips: 8,
-        rival: Some((8, Op::Delete(FIFTH), Phase::Rest)),
-        ..upsert
-    };
-    moves(
-        &rt,
-        alloc,
-        &case,
-        &[
-            Ask::Cas(41, 0, 6 + 4 * ONE),
-            Ask::Store(82, 2 * ONE + INVALID),
-            Ask::Done(TryAnswer::Wait(Reason::Contended)),
-        ],
-    )
-}
-
-#[test]
-fn links_an_overflow_bucket(rt: HostRuntime) -> Result<(), Fail> {
-    let alloc = rt.alloc();
-    let upsert = Case {
-        words: &FILLED,
-        ..usual(Op::Upsert(FOURTH, Value(11)))
-    };
-    let case = Case { skips: 7, ..upsert };
-    moves(
-        &rt,
-        alloc,
-        &case,
-        &[
-            Ask::Load(47),
-            Ask::Load(10),
-            Ask::Cas(10, 0, 1),
-            Ask::Cas(47, 0, 1),
-            Ask::Load(48),
-            Ask::Load(4),
-            Ask::Load(3),
-            Ask::Cas(3, 6, 7),
-            Ask::Store(84, 11),
-            Ask::Store(83, 4),
-            Ask::Store(82, 2 * ONE),
-            Ask::Cas(48, 0, 6 + 4 * ONE),
-            Ask::Done(TryAnswer::Done(Reply::Nothing)),
-        ],
-    )?;
-    // another one takes a bucket first, or links one first
-    let case = Case {
-        skips: 9,
-        rival: Some((9, Op::Delete(FIFTH), Phase::Rest)),
-        ..upsert
-    };
-    moves(
-        &rt,
-        alloc,
-        &case,
-        &[
-            Ask::Cas(10, 0, 1),
-            Ask::Done(TryAnswer::Wait(Reason::Contended)),
-        ],
-    )?;
-    let case = Case {
-        skips: 10,
-        rival: Some((10, Op::Delete(FIFTH), Phase::Rest)),
-        spare: 1,
-        ..upsert
-    };
-    moves(
-        &rt,
-        alloc,
-        &case,
-        &[
-            Ask::Cas(47, 0, 1),
-            Ask::Done(TryAnswer::Wait(Reason::Contended)),
-        ],
-    )?;
-    // none is left
-    let [a, b, c, d, e, f] = FILLED;
-    let words: &[(usize, u64)] = &[a, b, c, d, e, f, (10, 2)];
-    for (occasion, answer) in [
-        (Occasion::Call, TryAnswer::IndexFull),
-        (Occasion::Poll, TryAnswer::Wait(Reason::Full)),
-    ] {
-        let case = Case {
-            skips: 7,
-            occasion,
-            words,
-            ..upsert
-        };
-        moves(
-            &rt,
-            alloc,
-            &case,
-            &[Ask::Load(47), Ask::Load(10), Ask::Done(answer)],
-        )?;
-    }
-    Ok(())
-}
-
-/// A slot without an address, a header without a version, a previous address that doesn't fall, an address that is a ring above the head.
-#[test]
-fn meets_what_no_store_writes(rt: HostRuntime) -> Result<(), Fail> {
-    for (skips, place, word) in [
-        (1, 40, 3 * ONE),
-        (3, 79, 2),
-        (3, 79, 5 + ONE),
-        (1, 40, 9 + 3 * ONE),
-    ] {
-        let words: &[(usize, u64)] = &[(place, word)];
-        for op in [Op::Read(KEY), Op::Delete(KEY)] {
-            let case = Case {
-                skips,
-                words,
-                ..usual(op)
-            };
-            moves(
-                &rt,
-                rt.alloc(),
-                &case,
-                &[Ask::Done(TryAnswer::Wait(Reason::Contended))],
-            )?;
+fn tries_make_their_asks(rt: HostRuntime) -> Result<(), Fail> {
+    let shape = Shape::new(0, 4, 2, 1, 1, 2, 4)?;
+    for (_, cases) in &CASES {
+        for case in *cases {
+            moves(&rt, rt.alloc(), &shape, case)?;
         }
     }
     Ok(())
 }
 
-#[test]
-fn walks_and_loads_a_value(rt: HostRuntime) -> Result<(), Fail> {
-    let shape = Shape::new(0, 4, 2, 1, 1, 2, 4)?;
-    let mut plane = PlainWords::new(rt.alloc(), 88)?;
-    usual_words(&mut plane);
-    let mut machine = Walk::new(Places::of(&shape), shape.bucket_bits);
+fn walks(rt: &impl Abort, alloc: Global, shape: &Shape) -> Result<(), Fail> {
+    let mut plane = PlainWords::new(alloc, 88)?;
+    store(&mut plane, &USUAL_WORDS);
+    let mut machine = Walk::new(Places::of(shape), shape.bucket_bits);
     let mut ask = machine.start(OLDER, Purpose::Read, Addr(1), 2);
     for _ in 0..5 {
         ask = machine.drive(plane.perform(&ask));
@@ -699,11 +256,9 @@ fn walks_and_loads_a_value(rt: HostRuntime) -> Result<(), Fail> {
     Ok(())
 }
 
-#[test]
-fn appends_a_record(rt: HostRuntime) -> Result<(), Fail> {
-    let shape = Shape::new(0, 4, 2, 1, 1, 2, 4)?;
-    let mut plane = PlainWords::new(rt.alloc(), 88)?;
-    usual_words(&mut plane);
+fn appends(rt: &impl Abort, alloc: Global, shape: &Shape) -> Result<(), Fail> {
+    let mut plane = PlainWords::new(alloc, 88)?;
+    store(&mut plane, &USUAL_WORDS);
     let slot = FoundSlot {
         place: 40,
         entry: ENTRY,
@@ -719,7 +274,7 @@ fn appends_a_record(rt: HostRuntime) -> Result<(), Fail> {
         key: KEY,
         value: 11,
     };
-    let mut machine = Append::new(Places::of(&shape), &shape);
+    let mut machine = Append::new(Places::of(shape), shape);
     let mut ask = machine.start(slot, its_words);
     for _ in 0..7 {
         ask = machine.drive(plane.perform(&ask));
@@ -730,13 +285,18 @@ fn appends_a_record(rt: HostRuntime) -> Result<(), Fail> {
         (plane.word(82), plane.word(84), plane.word(40)),
         (HEADER, 11, NEW_ENTRY)
     );
-    assert_eq!(rt; word_of_value(value_of_word(11)), 11);
-    assert_eq!(rt; value_of_word(word_of_value(None)), None);
     Ok(())
 }
 
 #[test]
-fn calls_its_law(_rt: HostRuntime) -> Result<(), Fail> {
+fn a_record_is_sought_and_appended(rt: HostRuntime) -> Result<(), Fail> {
+    let shape = Shape::new(0, 4, 2, 1, 1, 2, 4)?;
+    walks(&rt, rt.alloc(), &shape)?;
+    appends(&rt, rt.alloc(), &shape)?;
+    assert_eq!(rt; word_of_value(value_of_word(11)), 11);
+    assert_eq!(rt; value_of_word(word_of_value(None)), None);
+    assert_eq!(rt; told_value(Some(Value(7))), TryAnswer::Found(Value(7)));
+    assert!(rt; matches!(header_said(HEADER), HeaderSaid::Says(Addr(5), Version(2))));
     law_reasons();
     Ok(())
 }

@@ -1,20 +1,14 @@
 //! Tries that take the latch of their bucket.
 use super::*;
 
-#[test]
-fn holds_the_latch_alone(rt: HostRuntime) -> Result<(), Fail> {
-    let alloc = rt.alloc();
-    let case = Case {
-        skips: 3,
+/// The latch for one alone.
+pub const ALONE: &[Case<'static>] = &[
+    Case {
+        op: Op::Add(KEY, 5),
         phase: Phase::InProgress,
         words: OF_LOWER,
-        ..usual(Op::Add(KEY, 5))
-    };
-    moves(
-        &rt,
-        alloc,
-        &case,
-        &[
+        skips: 3,
+        asks: &[
             Ask::Load(47),
             Ask::Cas(47, 0, EXCLUSIVE),
             Ask::Load(81),
@@ -28,127 +22,128 @@ fn holds_the_latch_alone(rt: HostRuntime) -> Result<(), Fail> {
             Ask::Add(47, EXCLUSIVE),
             Ask::Done(TryAnswer::Done(Reply::Number(Value(15)))),
         ],
-    )?;
-    let upsert = Case {
+        ..USUAL
+    },
+    Case {
+        op: Op::Upsert(FOURTH, Value(11)),
+        occasion: Occasion::Call,
         phase: Phase::WaitPending,
-        ..usual(Op::Upsert(FOURTH, Value(11)))
-    };
-    for (words, occasion, answer) in [
-        (AT_LIMIT, Occasion::Call, TryAnswer::Wait(Reason::NoRoom)),
-        (LOG_ENDED, Occasion::Call, TryAnswer::LogFull),
-        (LOG_ENDED, Occasion::Poll, TryAnswer::Wait(Reason::Full)),
-    ] {
-        let case = Case {
-            skips: 2,
-            occasion,
-            words,
-            ..upsert
-        };
-        moves(
-            &rt,
-            alloc,
-            &case,
-            &[
-                Ask::Load(47),
-                Ask::Cas(47, 0, EXCLUSIVE),
-                Ask::Load(4),
-                Ask::Load(3),
-                Ask::Add(47, EXCLUSIVE),
-                Ask::Done(answer),
-            ],
-        )?;
-    }
-    for words in [&[(47, EXCLUSIVE)], &[(47, ONE)]] {
-        let case = Case {
-            skips: 2,
-            words,
-            ..upsert
-        };
-        moves(
-            &rt,
-            alloc,
-            &case,
-            &[Ask::Load(47), Ask::Done(TryAnswer::Wait(Reason::Latch))],
-        )?;
-    }
-    Ok(())
-}
+        words: AT_LIMIT,
+        skips: 2,
+        asks: &[
+            Ask::Load(47),
+            Ask::Cas(47, 0, EXCLUSIVE),
+            Ask::Load(4),
+            Ask::Load(3),
+            Ask::Add(47, EXCLUSIVE),
+            Ask::Done(TryAnswer::Wait(Reason::NoRoom)),
+        ],
+        ..USUAL
+    },
+    Case {
+        op: Op::Upsert(FOURTH, Value(11)),
+        occasion: Occasion::Call,
+        phase: Phase::WaitPending,
+        words: LOG_ENDED,
+        skips: 2,
+        asks: &[
+            Ask::Load(47),
+            Ask::Cas(47, 0, EXCLUSIVE),
+            Ask::Load(4),
+            Ask::Load(3),
+            Ask::Add(47, EXCLUSIVE),
+            Ask::Done(TryAnswer::LogFull),
+        ],
+        ..USUAL
+    },
+    Case {
+        op: Op::Upsert(FOURTH, Value(11)),
+        occasion: Occasion::Poll,
+        phase: Phase::WaitPending,
+        words: LOG_ENDED,
+        skips: 2,
+        asks: &[
+            Ask::Load(47),
+            Ask::Cas(47, 0, EXCLUSIVE),
+            Ask::Load(4),
+            Ask::Load(3),
+            Ask::Add(47, EXCLUSIVE),
+            Ask::Done(TryAnswer::Wait(Reason::Full)),
+        ],
+        ..USUAL
+    },
+    Case {
+        op: Op::Upsert(FOURTH, Value(11)),
+        phase: Phase::WaitPending,
+        words: &[(47, EXCLUSIVE)],
+        skips: 2,
+        asks: &[Ask::Load(47), Ask::Done(TryAnswer::Wait(Reason::Latch))],
+        ..USUAL
+    },
+    Case {
+        op: Op::Upsert(FOURTH, Value(11)),
+        phase: Phase::WaitPending,
+        words: &[(47, ONE)],
+        skips: 2,
+        asks: &[Ask::Load(47), Ask::Done(TryAnswer::Wait(Reason::Latch))],
+        ..USUAL
+    },
+];
 
 /// Others come in between while the latch is sought, or held.
-#[test]
-fn is_late_at_the_latch(rt: HostRuntime) -> Result<(), Fail> {
-    let alloc = rt.alloc();
+pub const LATE_AT_LATCH: &[Case<'static>] = &[
     // one of the version before keeps a share, as its record lies in the fuzzy region
-    let upsert = Case {
+    Case {
+        op: Op::Upsert(FOURTH, Value(11)),
         phase: Phase::InProgress,
         read_only: 6,
-        ..usual(Op::Upsert(FOURTH, Value(11)))
-    };
-    let case = Case {
-        skips: 3,
         rival: Some((3, Op::Delete(KEY), Phase::Prepare)),
-        ..upsert
-    };
-    moves(
-        &rt,
-        alloc,
-        &case,
-        &[
+        skips: 3,
+        asks: &[
             Ask::Cas(47, 0, EXCLUSIVE),
             Ask::Done(TryAnswer::Wait(Reason::Latch)),
         ],
-    )?;
+        ..USUAL
+    },
     // one that needs no latch copies its record, and takes the tail
-    let case = Case {
-        skips: 6,
+    Case {
+        op: Op::Upsert(FOURTH, Value(11)),
+        phase: Phase::InProgress,
+        read_only: 6,
         words: SAFE,
         rival: Some((6, Op::Delete(KEY), Phase::InProgress)),
-        ..upsert
-    };
-    moves(
-        &rt,
-        alloc,
-        &case,
-        &[
+        skips: 6,
+        asks: &[
             Ask::Cas(3, 6, 7),
             Ask::Add(47, EXCLUSIVE),
             Ask::Done(TryAnswer::Wait(Reason::Contended)),
         ],
-    )?;
+        ..USUAL
+    },
     // or publishes that first
-    let op = Op::Upsert(LACKING, Value(11));
-    let case = Case {
-        op,
-        skips: 13,
+    Case {
+        op: Op::Upsert(LACKING, Value(11)),
+        phase: Phase::InProgress,
+        read_only: 6,
         words: SAFE,
         rival: Some((13, Op::Delete(KEY), Phase::InProgress)),
-        ..upsert
-    };
-    moves(
-        &rt,
-        alloc,
-        &case,
-        &[
+        skips: 13,
+        asks: &[
             Ask::Cas(40, ENTRY, NEW_ENTRY),
             Ask::Store(82, HEADER + INVALID),
             Ask::Add(47, EXCLUSIVE),
             Ask::Done(TryAnswer::Wait(Reason::Contended)),
         ],
-    )
-}
+        ..USUAL
+    },
+];
 
-#[test]
-fn shares_the_latch(rt: HostRuntime) -> Result<(), Fail> {
-    let alloc = rt.alloc();
-    let upsert = Case {
+/// A share of the latch.
+pub const SHARED: &[Case<'static>] = &[
+    Case {
+        op: Op::Upsert(KEY, Value(11)),
         phase: Phase::Prepare,
-        ..usual(Op::Upsert(KEY, Value(11)))
-    };
-    moves(
-        &rt,
-        alloc,
-        &upsert,
-        &[
+        asks: &[
             Ask::Add(47, ONE),
             Ask::Load(40),
             Ask::Load(79),
@@ -157,139 +152,115 @@ fn shares_the_latch(rt: HostRuntime) -> Result<(), Fail> {
             Ask::Add(47, ONE_LESS),
             Ask::Done(TryAnswer::Done(Reply::Nothing)),
         ],
-    )?;
+        ..USUAL
+    },
     // one that was met alone is of the next version
-    let case = Case {
+    Case {
+        op: Op::Upsert(KEY, Value(11)),
+        phase: Phase::Prepare,
         words: &[(47, EXCLUSIVE)],
-        ..upsert
-    };
-    moves(
-        &rt,
-        alloc,
-        &case,
-        &[
+        asks: &[
             Ask::Add(47, ONE),
             Ask::Add(47, ONE_LESS),
             Ask::Done(TryAnswer::Shift),
         ],
-    )?;
+        ..USUAL
+    },
     // so is one who has published, also where the walk goes on behind
-    for (op, skips) in [(upsert.op, 4), (Op::Delete(OLDER), 6)] {
-        let case = Case {
-            op,
-            skips,
-            words: OF_HIGHER,
-            ..upsert
-        };
-        moves(
-            &rt,
-            alloc,
-            &case,
-            &[Ask::Add(47, ONE_LESS), Ask::Done(TryAnswer::Shift)],
-        )?;
-    }
-    // refused
-    let case = Case {
-        op: Op::Delete(FOURTH),
-        skips: 5,
-        words: LOG_ENDED,
-        ..upsert
-    };
-    moves(
-        &rt,
-        alloc,
-        &case,
-        &[Ask::Add(47, ONE_LESS), Ask::Done(TryAnswer::LogFull)],
-    )?;
-    // where it waits it keeps its share
-    let case = Case {
+    Case {
+        op: Op::Upsert(KEY, Value(11)),
+        phase: Phase::Prepare,
+        words: OF_HIGHER,
         skips: 4,
-        read_only: 6,
-        has_shared: true,
-        ..upsert
-    };
-    moves(
-        &rt,
-        alloc,
-        &case,
-        &[Ask::Load(6), Ask::Done(TryAnswer::Wait(Reason::Fuzzy))],
-    )?;
-    let case = Case {
-        op: Op::Add(KEY, 5),
-        skips: 2,
-        read_only: 6,
-        head: 6,
-        has_shared: true,
-        ..upsert
-    };
-    let record = DiskRecord {
-        entry: ENTRY,
-        addr: Addr(5),
-    };
-    moves(
-        &rt,
-        alloc,
-        &case,
-        &[Ask::Done(TryAnswer::AwaitsDisk(record))],
-    )
-}
-
-/// A request that shares the latch already.
-#[test]
-fn keeps_its_share_while_it_waits(rt: HostRuntime) -> Result<(), Fail> {
-    let alloc = rt.alloc();
-    let poll = Case {
-        occasion: Occasion::Poll,
-        has_latch: true,
-        ..usual(Op::Upsert(KEY, Value(11)))
-    };
-    let case = Case {
+        asks: &[Ask::Add(47, ONE_LESS), Ask::Done(TryAnswer::Shift)],
+        ..USUAL
+    },
+    Case {
+        op: Op::Delete(OLDER),
+        phase: Phase::Prepare,
+        words: OF_HIGHER,
+        skips: 6,
+        asks: &[Ask::Add(47, ONE_LESS), Ask::Done(TryAnswer::Shift)],
+        ..USUAL
+    },
+    // refused
+    Case {
         op: Op::Delete(FOURTH),
         phase: Phase::Prepare,
         words: LOG_ENDED,
+        skips: 5,
+        asks: &[Ask::Add(47, ONE_LESS), Ask::Done(TryAnswer::LogFull)],
+        ..USUAL
+    },
+    // where it waits it keeps its share
+    Case {
+        op: Op::Upsert(KEY, Value(11)),
+        phase: Phase::Prepare,
+        read_only: 6,
+        skips: 4,
         has_shared: true,
-        ..poll
-    };
-    moves(
-        &rt,
-        alloc,
-        &case,
-        &[
+        asks: &[Ask::Load(6), Ask::Done(TryAnswer::Wait(Reason::Fuzzy))],
+        ..USUAL
+    },
+    Case {
+        op: Op::Add(KEY, 5),
+        phase: Phase::Prepare,
+        read_only: 6,
+        head: 6,
+        skips: 2,
+        has_shared: true,
+        asks: &[Ask::Done(TryAnswer::AwaitsDisk(DiskRecord {
+            entry: ENTRY,
+            addr: Addr(5),
+        }))],
+        ..USUAL
+    },
+];
+
+/// Requests that share the latch already.
+pub const KEPT: &[Case<'static>] = &[
+    Case {
+        op: Op::Delete(FOURTH),
+        has_latch: true,
+        occasion: Occasion::Poll,
+        phase: Phase::Prepare,
+        words: LOG_ENDED,
+        has_shared: true,
+        asks: &[
             Ask::Load(40),
             Ask::Load(41),
             Ask::Load(4),
             Ask::Load(3),
             Ask::Done(TryAnswer::Wait(Reason::Full)),
         ],
-    )?;
+        ..USUAL
+    },
     // of the version before the session's: changed in place, and copied without the latch for one alone
-    let behind = Case {
+    Case {
+        op: Op::Upsert(KEY, Value(11)),
         is_behind: true,
+        has_latch: true,
+        occasion: Occasion::Poll,
         phase: Phase::InProgress,
         words: &[(47, ONE), (79, 2 + ONE), (6, 6)],
-        ..poll
-    };
-    let case = Case { skips: 3, ..behind };
-    moves(
-        &rt,
-        alloc,
-        &case,
-        &[
+        skips: 3,
+        asks: &[
             Ask::Swap(81, 11),
             Ask::Add(47, ONE_LESS),
             Ask::Done(TryAnswer::Done(Reply::Nothing)),
         ],
-    )?;
-    let case = Case {
-        skips: 4,
+        ..USUAL
+    },
+    Case {
+        op: Op::Upsert(KEY, Value(11)),
+        is_behind: true,
+        has_latch: true,
+        occasion: Occasion::Poll,
+        phase: Phase::InProgress,
         read_only: 6,
-        ..behind
-    };
-    moves(
-        &rt,
-        alloc,
-        &case,
-        &[
+        words: &[(47, ONE), (79, 2 + ONE), (6, 6)],
+        skips: 4,
+        asks: &[
             Ask::Load(4),
             Ask::Load(3),
             Ask::Cas(3, 6, 7),
@@ -300,5 +271,6 @@ fn keeps_its_share_while_it_waits(rt: HostRuntime) -> Result<(), Fail> {
             Ask::Add(47, ONE_LESS),
             Ask::Done(TryAnswer::Done(Reply::Nothing)),
         ],
-    )
-}
+        ..USUAL
+    },
+];
