@@ -1,5 +1,5 @@
 //! Whole answers of a session, and its two machines by themselves.
-use crate::store::{EPOCH, OTHER, READ, UPSERT, seen, shape, store, words};
+use crate::store::{EPOCH, OTHER, READ, UPSERT, seen, shape, stands, store, words};
 use fkv_base::{Addr, Fault, Phase, Serial, Value};
 use fkv_map::{Call, HistoryEntry, Op, Reply};
 use fkv_ops::Reason;
@@ -94,6 +94,18 @@ const FULL: [(usize, u64); 9] = [
     (16, 3),
 ];
 
+/// What stands behind the turn that opens a page.
+const OPENED: [(usize, u64); 8] = [
+    (4, 12),
+    (5, 8),
+    (6, 4),
+    (7, 8),
+    (8, 4),
+    (9, 4),
+    (0, 3),
+    (16, 4),
+];
+
 /// An update that finds no room waits. Its session runs what is armed and safe, shifts the read-only offset and opens a page; the next
 /// poll finishes it. The head stays.
 fn who_has_no_room_opens_a_page(rt: &impl Abort, plane: &mut PlainWords) -> Result<(), Fault> {
@@ -102,8 +114,7 @@ fn who_has_no_room_opens_a_page(rt: &impl Abort, plane: &mut PlainWords) -> Resu
     let mut session = Session::new(shape()?, 0, seen(Phase::Rest, 4, 4), Serial(0));
     let wanted = Answer::Pending(Serial(1), Reason::NoRoom);
     answers(rt, plane, &mut session, UPSERT, wanted);
-    let levels = [4, 5, 6, 7, 8, 9, 0, 16].map(|place| plane.word(place));
-    assert_eq!(rt; levels, [12, 8, 4, 8, 4, 4, 3, 4]);
+    stands(rt, plane, &OPENED);
     assert_eq!(rt; plane.take(0), Some(Action::SafeReadOnly(Addr(8))));
     let (answered, effect) = answer(plane, &mut session, Call::Poll);
     assert!(rt; matches!(answered, Some(Answer::Polled(_, 0))));

@@ -1,8 +1,8 @@
 //! What a session is told and asks, call after call, as scenes: each is a list of steps over one of the two stores.
 use crate::store::{
     ADD, DURABLE, EPOCH, EVEN_CUT, FIFTH, FIRST, IN_PROGRESS, KEY, LATCH, MAIL, MAIL_ADDRESS,
-    ODD_CUT, ONE, OWING, PREPARE, READ, SLOT, UPSERT, go_on, seen, shape, shape_of_one, store,
-    told, words, words_of_one,
+    ODD_CUT, ONE, OWING, PREPARE, READ, SLOT, UPSERT, go_on, seen, shape, shape_of_one, stands,
+    store, told, words, words_of_one,
 };
 use fkv_base::{Addr, Fault, Key, Phase, Serial, Value, Version};
 use fkv_map::{Call, Op, Reply};
@@ -88,12 +88,6 @@ fn fills(rt: &impl Abort, plane: &mut PlainWords, session: &mut Session, keys: u
         let call = Call::Op(Op::Upsert(Key(before + 1), Value(10)));
         let done = Told::Done(Serial(before + 1), Reply::Nothing);
         assert_eq!(rt; told(plane, session, call), Some(done));
-    }
-}
-
-fn stands(rt: &impl Abort, plane: &PlainWords, words: &[(usize, u64)]) {
-    for (place, word) in words {
-        assert_eq!(rt; plane.word(*place), *word, "at place {place}");
     }
 }
 
@@ -636,10 +630,6 @@ const EIGHTH_LATCH: usize = 111;
 /// The session has stored no cut word, and owes seven.
 const NO_MARKS: [(usize, u64); 3] = [(EVEN_CUT, 0), (ODD_CUT, 0), (OWING, 7)];
 
-fn marks(plane: &PlainWords) -> [u64; 4] {
-    [EPOCH, EVEN_CUT, ODD_CUT, OWING].map(|place| plane.word(place))
-}
-
 /// The call is told this, and leaves these marks.
 fn leaves(
     rt: &impl Abort,
@@ -651,7 +641,9 @@ fn leaves(
 ) {
     store(plane, &NO_MARKS);
     assert_eq!(rt; told(plane, session, call), Some(wanted));
-    assert_eq!(rt; marks(plane), left);
+    for (place, word) in [EPOCH, EVEN_CUT, ODD_CUT, OWING].iter().zip(left) {
+        assert_eq!(rt; plane.word(*place), word, "at place {place}");
+    }
 }
 
 /// A session sleeps in each phase behind an update, and wakes in the next one. Asleep it has stored where its own version ends; awake,

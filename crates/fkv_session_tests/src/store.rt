@@ -8,6 +8,7 @@ use fkv_ops::Seen;
 use fkv_plane::{Ask, Places, PlainWords};
 use fkv_session::{Session, Told};
 use std::alloc::Global;
+use std::process::Abort;
 
 /// One of a version, of a tag, or of those that share a latch.
 pub(crate) const ONE: u64 = 1 << 48;
@@ -94,6 +95,13 @@ pub(crate) fn shape_of_one() -> Result<Shape, Fault> {
 pub(crate) fn store(plane: &mut PlainWords, words: &[(usize, u64)]) {
     for (place, word) in words {
         plane.perform::<()>(&Ask::Store(*place, *word));
+    }
+}
+
+/// These words stand.
+pub(crate) fn stands(rt: &impl Abort, plane: &PlainWords, words: &[(usize, u64)]) {
+    for (place, word) in words {
+        assert_eq!(rt; plane.word(*place), *word, "at place {place}");
     }
 }
 
