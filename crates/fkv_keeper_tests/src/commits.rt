@@ -200,6 +200,11 @@ pub(crate) fn new_store(alloc: Global) -> Result<SmallStore, Fault> {
     Ok(SmallStore { plane, keeper })
 }
 
+/// The device of a new store.
+pub(crate) fn created_disk(alloc: Global) -> Result<MemDisk, Fault> {
+    MemDisk::from_bytes(alloc, image(alloc, 1536, &[&CREATED])?)
+}
+
 /// Writes the record of key 1 with this header and value at the tail, and makes it the entry of its home.
 pub(crate) fn append(plane: &mut PlainWords, header: u64, value: u64) {
     let tail = plane.perform::<()>(&Ask::Add(SharedWord::Tail.place(), 1));
@@ -327,13 +332,8 @@ pub(crate) fn durable(own: &SmallStore) -> u64 {
     own.plane.word(SessionWord::Durable.place(0))
 }
 
-/// The first commit takes a turn for each phase. Its last turn makes eight calls: two of the flush and six of the commit.
-fn first_commit_is_written(
-    rt: &impl Abort,
-    own: &mut SmallStore,
-    disk: &mut MemDisk,
-    wanted: &[u8],
-) {
+/// The first commit takes a turn for each phase.
+fn phases_pass(rt: &impl Abort, own: &mut SmallStore, disk: &mut MemDisk) {
     append(&mut own.plane, FIRST_HEADER, 10);
     assert!(rt; !own.keeper.busy());
     assert_eq!(rt; own.keeper.finished(), None);
@@ -345,8 +345,18 @@ fn first_commit_is_written(
         assert_eq!(rt; phase(own), stands);
     }
     assert_eq!(rt; durable(own), 0);
+}
+
+/// Its last turn makes eight calls: two of the flush and six of the commit.
+fn first_commit_is_written(
+    rt: &impl Abort,
+    own: &mut SmallStore,
+    disk: &mut MemDisk,
+    wanted: &[u8],
+) {
     assert_eq!(rt; turn(own, disk), (turned_finished(1, 1), 8));
-    assert_eq!(rt; [phase(own), durable(own)], [2, 1]);
+    assert_eq!(rt; phase(own), 2);
+    assert_eq!(rt; durable(own), 1);
     assert_eq!(rt; own.keeper.finished(), finished(1, 1));
     assert!(rt; disk.bytes() == wanted);
 }
@@ -365,7 +375,8 @@ fn second_commit_is_written(
     store_own(&mut own.plane, SessionWord::EvenCut, SECOND_CUT);
     let ended = to_the_finish(own, disk);
     assert_eq!(rt; ended, (turned_finished(2, 2), calls));
-    assert_eq!(rt; [phase(own), durable(own)], [3, 2]);
+    assert_eq!(rt; phase(own), 3);
+    assert_eq!(rt; durable(own), 2);
     assert!(rt; disk.bytes() == wanted);
 }
 
@@ -373,7 +384,8 @@ fn second_commit_is_written(
 #[test]
 fn full_commits_are_written(rt: HostRuntime) -> Result<(), Fail> {
     let mut own = new_store(rt.alloc())?;
-    let mut disk = MemDisk::from_bytes(rt.alloc(), image(rt.alloc(), 1536, &[&CREATED])?)?;
+    let mut disk = created_disk(rt.alloc())?;
+    phases_pass(&rt, &mut own, &mut disk);
     let wanted = image(rt.alloc(), 1808, &[&CREATED, &FIRST_COMMIT])?;
     first_commit_is_written(&rt, &mut own, &mut disk, wanted.as_slice());
     let wanted = image(rt.alloc(), 1832, &[&CREATED, &FIRST_COMMIT, &SECOND_COMMIT])?;
@@ -382,19 +394,24 @@ fn full_commits_are_written(rt: HostRuntime) -> Result<(), Fail> {
     Ok(())
 }
 
-/// A log commit writes no triples, so it makes a call less, and its slot names the checkpoint of the commit before and the lost range in
-/// hand.
-#[test]
-fn a_log_commit_keeps_the_checkpoint(rt: HostRuntime) -> Result<(), Fail> {
+/// A store that was opened behind commit 1, with one lost range.
+fn store_with_loss(alloc: Global) -> Result<SmallStore, Fault> {
     let shape = small_shape()?;
-    let plane = opened_words(rt.alloc(), &shape, 2, 5)?;
+    let plane = opened_words(alloc, &shape, 2, 5)?;
     let mut lost = no_lost();
     let _ = lost.try_push(LostRange {
         to: Addr(5),
         version: Version(2),
     });
-    let keeper = Keeper::new(rt.alloc(), shape, first_commit(), lost)?;
-    let mut own = SmallStore { plane, keeper };
+    let keeper = Keeper::new(alloc, shape, first_commit(), lost)?;
+    Ok(SmallStore { plane, keeper })
+}
+
+/// A log commit writes no triples, so it makes a call less, and its slot names the checkpoint of the commit before and the lost range in
+/// hand.
+#[test]
+fn a_log_commit_keeps_the_checkpoint(rt: HostRuntime) -> Result<(), Fail> {
+    let mut own = store_with_loss(rt.alloc())?;
     let before = image(rt.alloc(), 1880, &[&CREATED, &FIRST_COMMIT])?;
     let mut disk = MemDisk::from_bytes(rt.alloc(), before)?;
     let wanted = image(rt.alloc(), 1904, &[&CREATED, &FIRST_COMMIT, &LOG_COMMIT])?;
@@ -428,20 +445,25 @@ const REFUSALS: [(SharedWord, u64, CommitKind, Fault); 5] = [
     (SharedWord::Epoch, 1, CommitKind::Full, Fault::DrainFull),
 ];
 
-/// Each refusal of a commit, in the order in which they are tested. None changes a word.
-#[test]
-fn a_commit_is_refused(rt: HostRuntime) -> Result<(), Fail> {
+/// A store whose epoch is at its last, with no free drain slot and as many lost ranges as there is room for.
+fn store_that_refuses(alloc: Global) -> Result<SmallStore, Fault> {
     let shape = small_shape()?;
-    let plane = opened_words(rt.alloc(), &shape, 1, 1)?;
+    let mut plane = opened_words(alloc, &shape, 1, 1)?;
+    store(&mut plane, SharedWord::Epoch, LAST_EPOCH);
+    fill_the_drain(&mut plane, 1);
     let mut lost = no_lost();
     for _ in 0..MAX_LOST_IN_HAND {
         let _ = lost.try_push(LostRange::default());
     }
-    let keeper = Keeper::new(rt.alloc(), shape, created_commit(), lost)?;
-    let mut own = SmallStore { plane, keeper };
+    let keeper = Keeper::new(alloc, shape, created_commit(), lost)?;
+    Ok(SmallStore { plane, keeper })
+}
+
+/// Each refusal of a commit, in the order in which they are tested. None changes a word.
+#[test]
+fn a_commit_is_refused(rt: HostRuntime) -> Result<(), Fail> {
+    let mut own = store_that_refuses(rt.alloc())?;
     let mut disk = MemDisk::new(rt.alloc());
-    store(&mut own.plane, SharedWord::Epoch, LAST_EPOCH);
-    fill_the_drain(&mut own.plane, 1);
     for (word, number, kind, why) in REFUSALS {
         store(&mut own.plane, word, number);
         let refused = commit(&mut own, &mut disk, kind);
@@ -480,34 +502,34 @@ fn a_turn_is_refused_and_made_later(rt: HostRuntime) -> Result<(), Fail> {
     Ok(())
 }
 
-/// A tool outside lets each request for memory fail in turn and runs this test: where the copy's room is refused that turn ends, the
-/// next one begins the copy again, and the commit finishes.
+/// Where the copy's room is refused that turn ends, and the next one begins the copy again.
+fn is_copied(rt: &impl Abort, own: &mut SmallStore, disk: &mut MemDisk) {
+    append(&mut own.plane, FIRST_HEADER, 10);
+    commit(own, disk, CommitKind::Full);
+    turn(own, disk);
+    store_own(&mut own.plane, SessionWord::OddCut, FIRST_ENTRY);
+    let (copied, _) = turn(own, disk);
+    assert_eq!(rt; phase(own), WAIT_PENDING);
+    if copied == turn_refused(Fault::Memory) {
+        assert_eq!(rt; turn(own, disk), (turned(), 0));
+        assert_eq!(rt; phase(own), WAIT_PENDING);
+    }
+}
+
+/// A tool outside lets each request for memory fail in turn and runs this test: whichever it is, the commit finishes, but that the
+/// device in memory asks for memory too.
 #[test]
 fn a_refused_copy_begins_again(rt: HostRuntime) -> Result<(), Fail> {
-    let alloc = rt.alloc();
-    let Ok(mut own) = new_store(alloc) else {
+    let Ok(mut own) = new_store(rt.alloc()) else {
         return Ok(());
     };
-    let Ok(bytes) = image(alloc, 1536, &[&CREATED]) else {
+    let Ok(mut disk) = created_disk(rt.alloc()) else {
         return Ok(());
     };
-    let Ok(mut disk) = MemDisk::from_bytes(alloc, bytes) else {
-        return Ok(());
-    };
-    append(&mut own.plane, FIRST_HEADER, 10);
-    commit(&mut own, &mut disk, CommitKind::Full);
-    turn(&mut own, &mut disk);
-    store_own(&mut own.plane, SessionWord::OddCut, FIRST_ENTRY);
-    let (copied, _) = turn(&mut own, &mut disk);
-    assert_eq!(rt; phase(&own), WAIT_PENDING);
-    if copied == turn_refused(Fault::Memory) {
-        assert_eq!(rt; turn(&mut own, &mut disk), (turned(), 0));
-        assert_eq!(rt; phase(&own), WAIT_PENDING);
-    }
+    is_copied(&rt, &mut own, &mut disk);
     assert_eq!(rt; turn(&mut own, &mut disk), (turned(), 0));
     assert_eq!(rt; phase(&own), WAIT_FLUSH);
     let (answer, _) = turn(&mut own, &mut disk);
-    // the device in memory asks for memory too
     assert!(rt; answer == turned_finished(1, 1) || disk.failures() == 1);
     Ok(())
 }

@@ -152,6 +152,30 @@ fn offsets(plane: &PlainWords) -> [u64; 7] {
     ]
 }
 
+/// The next call of the device leaves it so long. The flushed offset stays as it is up to the sync.
+fn writes(
+    rt: &impl Abort,
+    plane: &mut PlainWords,
+    machine: &mut Maintain,
+    disk: &mut Fuse<MemDisk>,
+    wanted: usize,
+) {
+    to_the_device(plane, machine);
+    assert!(rt; machine.ask() == Ask::Done(MaintainAnswer::Device));
+    assert_eq!(rt; plane.word(FLUSHED), 1);
+    assert!(rt; machine.device_step(disk).is_ok());
+    assert_eq!(rt; disk.device().bytes().len(), wanted);
+}
+
+/// Both pages stand behind a crash.
+fn is_synced(rt: &impl Abort, disk: Fuse<MemDisk>) -> Result<(), Fault> {
+    let image = disk.crash(165)?;
+    assert_eq!(rt; image.bytes().len(), 1928);
+    assert_eq!(rt; image.bytes().get(1792), Some(&1));
+    assert_eq!(rt; image.bytes().get(1912), Some(&6));
+    Ok(())
+}
+
 /// Six records of two pages are flushed: a write for each page, and one sync, after which a crash loses nothing.
 #[test]
 fn a_write_for_each_page_and_a_sync(rt: HostRuntime) -> Result<(), Fail> {
@@ -161,18 +185,11 @@ fn a_write_for_each_page_and_a_sync(rt: HostRuntime) -> Result<(), Fail> {
     let mut disk = Fuse::new(MemDisk::new(rt.alloc()));
     machine.start();
     for wanted in [1856, 1928, 1928] {
-        to_the_device(&mut plane, &mut machine);
-        assert!(rt; machine.ask() == Ask::Done(MaintainAnswer::Device));
-        assert_eq!(rt; plane.word(FLUSHED), 1);
-        machine.device_step(&mut disk)?;
-        assert_eq!(rt; disk.device().bytes().len(), wanted);
+        writes(&rt, &mut plane, &mut machine, &mut disk, wanted);
     }
     to_the_device(&mut plane, &mut machine);
     assert_eq!(rt; plane.word(FLUSHED), 7);
-    let image = disk.crash(165)?;
-    assert_eq!(rt; image.bytes().len(), 1928);
-    assert_eq!(rt; image.bytes().get(1792), Some(&1));
-    assert_eq!(rt; image.bytes().get(1912), Some(&6));
+    is_synced(&rt, disk)?;
     Ok(())
 }
 

@@ -1,7 +1,7 @@
 //! Whole calls of the keeper over plain words and a device in memory, in the small store of `commits`.
 use crate::commits::{
-    CREATED, FIRST_ENTRY, FIRST_HEADER, SECOND_CUT, SECOND_HEADER, SmallStore, append, durable,
-    finished, image, new_store, sees, store_own,
+    FIRST_ENTRY, FIRST_HEADER, SECOND_CUT, SECOND_HEADER, SmallStore, append, created_disk,
+    durable, finished, new_store, sees, store_own,
 };
 use fkv_base::{Addr, Fault, Serial, Version};
 use fkv_commit::CommitKind;
@@ -163,8 +163,7 @@ fn is_said(rt: &impl Abort, disk: &Fuse<MemDisk>, row: &Row) {
 #[test]
 fn three_commits_in_a_row(rt: HostRuntime) -> Result<(), Fail> {
     let mut own = new_store(rt.alloc())?;
-    let created = MemDisk::from_bytes(rt.alloc(), image(rt.alloc(), 1536, &[&CREATED])?)?;
-    let mut disk = Fuse::new(created);
+    let mut disk = Fuse::new(created_disk(rt.alloc())?);
     assert!(rt; slot(&disk, ODD_SLOT).is_none());
     assert_eq!(rt; turn(&mut own, &mut disk), (made(None), 0));
     for row in &COMMITS {
