@@ -217,6 +217,29 @@ COMMITS = [
         """,
     ),
     told(
+        "two updates of one home end in prepare, and its record is copied behind the point of both",
+        f"""
+        {SMALL_TWO}
+        {FOUR}
+        k turn      | k turn rest 1
+        0 refresh   | 0 refresh rest 1
+        1 refresh   | 1 refresh rest 1
+        0 add 1 1   | 0 #5 pending
+        1 add 1 2   | 1 #1 pending
+        k commit    | k commit 1
+        0 refresh   | 0 refresh prepare 1
+        1 refresh   | 1 refresh prepare 1
+        k turn      | k turn in-progress 2
+        0 poll      | 0 #5 = 11
+                    | 0 poll left 0
+        1 poll      | 1 #1 = 13
+                    | 1 poll left 0
+        1 refresh   | 1 refresh in-progress 2
+        1 add 1 100 | 1 #2 = 113
+        0 get 1     | 0 get 1 = 113
+        """,
+    ),
+    told(
         "thirty-two sessions, and none more",
         f"""
         shape 4 16 4 2 32 0 64

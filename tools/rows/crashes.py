@@ -117,7 +117,9 @@ def swept(history, kind, call, torn, way):
     if call > len(calls):
         answers += [f"k finished {number} points {number}"]
     elif way == "fail":
-        answers += ["k refused 14 Device"]
+        # and from then on it is broken, though the device would work again
+        script += ["k turn", f"k {kind}", "k finish", "0 get 1"]
+        answers += ["k refused 14 Device", "k refused 13 Broken", "k refused 13 Broken", "k refused 13 Broken", f"0 get 1 = {10 * number}"]
     stands = number if is_kept(calls, call, torn) else number - 1
     pairs = {1: 10 * stands} if stands else {}
     answers += report(stands, stands, pairs)

@@ -65,6 +65,20 @@ OPERATIONS = [
         9 get 1  | 9 refused 19 NoSession
         """,
     ),
+    told(
+        "an index and a log that are full",
+        "shape 0 8 2 1 1 0 1\n"
+        + whole(f"0 up {key} {10 * key} | 0 #{key} done" for key in range(1, 8))
+        + f"""
+        0 up 8 {MOST}   | 0 refused 2 ValueReserved
+        0 up 8 80       | 0 refused 4 IndexFull
+        0 add 32769 1   | 0 refused 5 LogFull
+        0 get 8         | 0 get 8 absent
+        0 get 32769     | 0 get 32769 absent
+        0 up 1 11       | 0 #8 done
+        0 get 1         | 0 get 1 = 11
+        """,
+    ),
     told("a number is printed as a number", f"# a comment\n\n{ONE}\n007 get 1 | 7 refused 19 NoSession\n  0  get   1 | 0 get 1 absent"),
     Row("spaces before a line, and more than one between words", f"{ONE}\n  0  get   1\n", "0 get 1 absent\n"),
 ]
@@ -142,10 +156,92 @@ PENDING = [
         """,
     ),
     told(
-        "sixty-four requests wait, and no more",
+        "one turn of a session for two updates that find no room",
+        f"""
+        {SMALL}
+        {SEVEN}
+        0 up 8 80 | 0 #8 pending
+        0 up 9 90 | 0 #9 pending
+        0 refresh | 0 refresh rest 1
+        k turn    | k turn rest 1
+        0 refresh | 0 refresh rest 1
+        0 poll    | 0 poll left 2
+        0 poll    | 0 #8 done
+                  | 0 #9 done
+                  | 0 poll left 0
+        """,
+    ),
+    told(
+        "records on the disk come one after another, and one of another key of the home is none",
+        f"""
+        {SMALL}
+        {SEVEN}
+        k turn       | k turn rest 1
+        0 refresh    | 0 refresh rest 1
+        k turn       | k turn rest 1
+        0 refresh    | 0 refresh rest 1
+        k turn       | k turn rest 1
+        0 refresh    | 0 refresh rest 1
+        0 up 8 80    | 0 #8 done
+        0 get 1      | 0 get 1 pending @1
+        0 add 2 5    | 0 #9 pending
+        0 get 524289 | 0 get 524289 pending @2
+        k turn       | k turn rest 1
+        0 poll       | 0 @1 get 1 = 10
+                     | 0 poll left 2
+        k turn       | k turn rest 1
+        0 poll       | 0 #9 = 25
+                     | 0 poll left 1
+        k turn       | k turn rest 1
+        0 poll       | 0 @2 get 524289 absent
+                     | 0 poll left 0
+        0 get 2      | 0 get 2 = 25
+        """,
+    ),
+    told(
+        "sixty-four requests wait, and no more, until a poll has finished some",
         f"{SMALL}\n{SEVEN}\n"
         + whole(f"0 up {key} {key} | 0 #{key} pending" for key in range(8, 72))
-        + "0 up 72 72 | 0 refused 3 PendingFull\n0 get 1 | 0 refused 3 PendingFull",
+        + f"""
+        0 up 72 {MOST} | 0 refused 2 ValueReserved
+        0 up 72 72     | 0 refused 3 PendingFull
+        0 del 1        | 0 refused 3 PendingFull
+        0 get 1        | 0 refused 3 PendingFull
+        0 sleep        | 0 refused 11 PendingLeft
+        0 wake         | 0 refused 20 Awake
+        0 refresh      | 0 refresh rest 1
+        0 poll         | 0 poll left 64
+        k turn         | k turn rest 1
+        0 refresh      | 0 refresh rest 1
+        0 poll         | 0 poll left 64
+        0 up 72 72     | 0 refused 3 PendingFull
+        0 poll         | 0 #8 done
+                       | 0 #9 done
+                       | 0 #10 done
+                       | 0 #11 done
+                       | 0 poll left 60
+        0 sleep        | 0 refused 11 PendingLeft
+        0 get 1        | 0 get 1 pending @1
+        0 get 8        | 0 get 8 = 8
+        """,
+    ),
+    told(
+        "an update that waits goes on waiting where the log gets full",
+        f"""
+        shape 4 4 2 1 2 0 2
+        {FOUR}
+        k turn    | k turn rest 1
+        0 refresh | 0 refresh rest 1
+        0 add 1 1 | 0 #5 pending
+        1 up 5 10 | 1 #1 done
+        1 up 6 10 | 1 #2 done
+        1 up 7 10 | 1 #3 done
+        1 up 8 10 | 1 refused 5 LogFull
+        1 refresh | 1 refresh rest 1
+        k turn    | k turn rest 1
+        0 poll    | 0 poll left 1
+        0 sleep   | 0 refused 11 PendingLeft
+        """,
     ),
     told(
         "frames are used again up to the end of the log, and each record is on the device",

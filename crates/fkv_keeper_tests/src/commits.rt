@@ -3,13 +3,14 @@
 use arrayvec::ArrayVec;
 use fkv_base::{Addr, DRAIN_SLOTS, Fault, LAST_EPOCH, Serial, Shape, Version};
 use fkv_commit::CommitKind;
-use fkv_disk::{Device, MemDisk, Once};
+use fkv_disk::{Device, MemDisk};
 use fkv_keeper::{
     Area, Checkpoint, Finished, Keeper, KeeperAsk, LastCommit, MAX_LOST_IN_HAND, Turn,
 };
 use fkv_plane::{Ask, Places, PlainWords, SessionWord, SharedWord, drain_place};
 use fkv_record::LostRange;
 use std::alloc::Global;
+use std::process::Abort;
 use std::test::Fail;
 
 /// The word of version 1 and of prepare.
@@ -26,6 +27,11 @@ const WAIT_FLUSH: u64 = 262146;
 
 /// The header of a record of version 1 that is the first of its home.
 pub(crate) const FIRST_HEADER: u64 = 281474976710656;
+
+/// The header of a record of version 2 behind the first one, and the cut of the session at its serial 2 in commit 2.
+pub(crate) const SECOND_HEADER: u64 = 562949953421313;
+
+pub(crate) const SECOND_CUT: u64 = 562949953421314;
 
 /// The entry of key 1 whose newest record is the first; those of later records are as much greater as their addresses.
 pub(crate) const FIRST_ENTRY: u64 = 281474976710657;
@@ -194,6 +200,11 @@ pub(crate) fn new_store(alloc: Global) -> Result<SmallStore, Fault> {
     Ok(SmallStore { plane, keeper })
 }
 
+/// The device of a new store.
+pub(crate) fn created_disk(alloc: Global) -> Result<MemDisk, Fault> {
+    MemDisk::from_bytes(alloc, image(alloc, 1536, &[&CREATED])?)
+}
+
 /// Writes the record of key 1 with this header and value at the tail, and makes it the entry of its home.
 pub(crate) fn append(plane: &mut PlainWords, header: u64, value: u64) {
     let tail = plane.perform::<()>(&Ask::Add(SharedWord::Tail.place(), 1));
@@ -272,10 +283,6 @@ fn begun(number: u64) -> KeeperAsk {
     KeeperAsk::Begun(Ok(Version(number)))
 }
 
-fn commit_refused(why: Fault) -> KeeperAsk {
-    KeeperAsk::Begun(Err(why))
-}
-
 fn turn_refused(why: Fault) -> KeeperAsk {
     KeeperAsk::Turned(Err(why))
 }
@@ -317,18 +324,6 @@ fn to_the_finish<D: Device>(own: &mut SmallStore, disk: &mut D) -> (KeeperAsk, u
     (KeeperAsk::Device, 0)
 }
 
-/// A new store with one record, whose commit 1 has come to wait-flush.
-fn waiting_store(alloc: Global, disk: &mut MemDisk) -> Result<SmallStore, Fault> {
-    let mut own = new_store(alloc)?;
-    append(&mut own.plane, FIRST_HEADER, 10);
-    commit(&mut own, disk, CommitKind::Full);
-    store_own(&mut own.plane, SessionWord::OddCut, FIRST_ENTRY);
-    for _ in 0..3 {
-        turn(&mut own, disk);
-    }
-    Ok(own)
-}
-
 pub(crate) fn phase(own: &SmallStore) -> u64 {
     own.plane.word(SharedWord::Phase.place())
 }
@@ -337,133 +332,146 @@ pub(crate) fn durable(own: &SmallStore) -> u64 {
     own.plane.word(SessionWord::Durable.place(0))
 }
 
-/// The first commit takes a turn for each phase. Its last turn makes eight calls: two of the flush and six of the commit.
-#[test]
-fn a_first_commit_makes_eight_calls(rt: HostRuntime) -> Result<(), Fail> {
-    let mut own = new_store(rt.alloc())?;
-    let mut disk = MemDisk::from_bytes(rt.alloc(), image(rt.alloc(), 1536, &[&CREATED])?)?;
+/// The first commit takes a turn for each phase.
+fn phases_pass(rt: &impl Abort, own: &mut SmallStore, disk: &mut MemDisk) {
     append(&mut own.plane, FIRST_HEADER, 10);
     assert!(rt; !own.keeper.busy());
     assert_eq!(rt; own.keeper.finished(), None);
-    assert_eq!(rt; commit(&mut own, &mut disk, CommitKind::Full), begun(1));
-    assert_eq!(rt; phase(&own), PREPARE);
+    assert_eq!(rt; commit(own, disk, CommitKind::Full), begun(1));
+    assert_eq!(rt; phase(own), PREPARE);
     for stands in [IN_PROGRESS, WAIT_PENDING, WAIT_FLUSH] {
         store_own(&mut own.plane, SessionWord::OddCut, FIRST_ENTRY);
-        assert_eq!(rt; turn(&mut own, &mut disk), (turned(), 0));
-        assert_eq!(rt; phase(&own), stands);
+        assert_eq!(rt; turn(own, disk), (turned(), 0));
+        assert_eq!(rt; phase(own), stands);
     }
-    assert_eq!(rt; durable(&own), 0);
-    assert_eq!(rt; turn(&mut own, &mut disk), (turned_finished(1, 1), 8));
-    assert_eq!(rt; phase(&own), 2);
-    assert_eq!(rt; durable(&own), 1);
+    assert_eq!(rt; durable(own), 0);
+}
+
+/// Its last turn makes eight calls: two of the flush and six of the commit.
+fn first_commit_is_written(
+    rt: &impl Abort,
+    own: &mut SmallStore,
+    disk: &mut MemDisk,
+    wanted: &[u8],
+) {
+    assert_eq!(rt; turn(own, disk), (turned_finished(1, 1), 8));
+    assert_eq!(rt; phase(own), 2);
+    assert_eq!(rt; durable(own), 1);
     assert_eq!(rt; own.keeper.finished(), finished(1, 1));
-    let wanted = image(rt.alloc(), 1808, &[&CREATED, &FIRST_COMMIT])?;
-    assert!(rt; disk.bytes() == wanted.as_slice());
-    Ok(())
+    assert!(rt; disk.bytes() == wanted);
+}
+
+/// Commit 2 of one more record, whose last turn makes so many calls.
+fn second_commit_is_written(
+    rt: &impl Abort,
+    own: &mut SmallStore,
+    disk: &mut MemDisk,
+    how: (CommitKind, u64, u8),
+    wanted: &[u8],
+) {
+    let (kind, value, calls) = how;
+    append(&mut own.plane, SECOND_HEADER, value);
+    assert_eq!(rt; commit(own, disk, kind), begun(2));
+    store_own(&mut own.plane, SessionWord::EvenCut, SECOND_CUT);
+    let ended = to_the_finish(own, disk);
+    assert_eq!(rt; ended, (turned_finished(2, 2), calls));
+    assert_eq!(rt; phase(own), 3);
+    assert_eq!(rt; durable(own), 2);
+    assert!(rt; disk.bytes() == wanted);
 }
 
 /// The second commit writes over the slot of commit 0, whose gate stands open: ten calls.
 #[test]
-fn a_second_commit_makes_ten(rt: HostRuntime) -> Result<(), Fail> {
-    let mut disk = MemDisk::from_bytes(rt.alloc(), image(rt.alloc(), 1536, &[&CREATED])?)?;
-    let mut own = waiting_store(rt.alloc(), &mut disk)?;
-    assert_eq!(rt; turn(&mut own, &mut disk), (turned_finished(1, 1), 8));
-    append(&mut own.plane, 562949953421313, 11);
-    assert_eq!(rt; commit(&mut own, &mut disk, CommitKind::Full), begun(2));
-    store_own(&mut own.plane, SessionWord::EvenCut, 562949953421314);
-    let ended = to_the_finish(&mut own, &mut disk);
-    assert_eq!(rt; ended, (turned_finished(2, 2), 10));
-    assert_eq!(rt; phase(&own), 3);
-    assert_eq!(rt; durable(&own), 2);
+fn full_commits_are_written(rt: HostRuntime) -> Result<(), Fail> {
+    let mut own = new_store(rt.alloc())?;
+    let mut disk = created_disk(rt.alloc())?;
+    phases_pass(&rt, &mut own, &mut disk);
+    let wanted = image(rt.alloc(), 1808, &[&CREATED, &FIRST_COMMIT])?;
+    first_commit_is_written(&rt, &mut own, &mut disk, wanted.as_slice());
     let wanted = image(rt.alloc(), 1832, &[&CREATED, &FIRST_COMMIT, &SECOND_COMMIT])?;
-    assert!(rt; disk.bytes() == wanted.as_slice());
+    let how = (CommitKind::Full, 11, 10);
+    second_commit_is_written(&rt, &mut own, &mut disk, how, wanted.as_slice());
     Ok(())
 }
 
-/// A log commit copies nothing, so it takes a turn less. It writes no triples, and its slot names the checkpoint of the commit before
-/// and the lost range in hand.
-#[test]
-fn a_log_commit_keeps_the_checkpoint(rt: HostRuntime) -> Result<(), Fail> {
+/// A store that was opened behind commit 1, with one lost range.
+fn store_with_loss(alloc: Global) -> Result<SmallStore, Fault> {
     let shape = small_shape()?;
-    let plane = opened_words(rt.alloc(), &shape, 2, 5)?;
+    let plane = opened_words(alloc, &shape, 2, 5)?;
     let mut lost = no_lost();
     let _ = lost.try_push(LostRange {
         to: Addr(5),
         version: Version(2),
     });
-    let keeper = Keeper::new(rt.alloc(), shape, first_commit(), lost)?;
-    let mut own = SmallStore { plane, keeper };
+    let keeper = Keeper::new(alloc, shape, first_commit(), lost)?;
+    Ok(SmallStore { plane, keeper })
+}
+
+/// A log commit writes no triples, so it makes a call less, and its slot names the checkpoint of the commit before and the lost range in
+/// hand.
+#[test]
+fn a_log_commit_keeps_the_checkpoint(rt: HostRuntime) -> Result<(), Fail> {
+    let mut own = store_with_loss(rt.alloc())?;
     let before = image(rt.alloc(), 1880, &[&CREATED, &FIRST_COMMIT])?;
     let mut disk = MemDisk::from_bytes(rt.alloc(), before)?;
-    append(&mut own.plane, 562949953421313, 12);
-    assert_eq!(rt; commit(&mut own, &mut disk, CommitKind::Log), begun(2));
-    store_own(&mut own.plane, SessionWord::EvenCut, 562949953421314);
-    assert_eq!(rt; turn(&mut own, &mut disk), (turned(), 0));
-    assert_eq!(rt; turn(&mut own, &mut disk), (turned(), 0));
-    assert_eq!(rt; turn(&mut own, &mut disk), (turned_finished(2, 2), 9));
     let wanted = image(rt.alloc(), 1904, &[&CREATED, &FIRST_COMMIT, &LOG_COMMIT])?;
-    assert!(rt; disk.bytes() == wanted.as_slice());
+    let how = (CommitKind::Log, 12, 9);
+    second_commit_is_written(&rt, &mut own, &mut disk, how, wanted.as_slice());
     Ok(())
+}
+
+fn fill_the_drain(plane: &mut PlainWords, word: u64) {
+    for slot in 0..DRAIN_SLOTS {
+        plane.perform::<()>(&Ask::Store(drain_place(slot), word));
+    }
+}
+
+/// A word that is stored, its number, and why the commit of this kind is refused then.
+const REFUSALS: [(SharedWord, u64, CommitKind, Fault); 5] = [
+    (
+        SharedWord::Phase,
+        PREPARE,
+        CommitKind::Log,
+        Fault::CommitRunning,
+    ),
+    (
+        SharedWord::Phase,
+        Version::LAST,
+        CommitKind::Log,
+        Fault::VersionsSpent,
+    ),
+    (SharedWord::Phase, 1, CommitKind::Log, Fault::LostFull),
+    (SharedWord::Phase, 1, CommitKind::Full, Fault::EpochsSpent),
+    (SharedWord::Epoch, 1, CommitKind::Full, Fault::DrainFull),
+];
+
+/// A store whose epoch is at its last, with no free drain slot and as many lost ranges as there is room for.
+fn store_that_refuses(alloc: Global) -> Result<SmallStore, Fault> {
+    let shape = small_shape()?;
+    let mut plane = opened_words(alloc, &shape, 1, 1)?;
+    store(&mut plane, SharedWord::Epoch, LAST_EPOCH);
+    fill_the_drain(&mut plane, 1);
+    let mut lost = no_lost();
+    for _ in 0..MAX_LOST_IN_HAND {
+        let _ = lost.try_push(LostRange::default());
+    }
+    let keeper = Keeper::new(alloc, shape, created_commit(), lost)?;
+    Ok(SmallStore { plane, keeper })
 }
 
 /// Each refusal of a commit, in the order in which they are tested. None changes a word.
 #[test]
 fn a_commit_is_refused(rt: HostRuntime) -> Result<(), Fail> {
-    let shape = small_shape()?;
-    let plane = opened_words(rt.alloc(), &shape, PREPARE, 1)?;
-    let mut lost = no_lost();
-    for _ in 0..MAX_LOST_IN_HAND {
-        let _ = lost.try_push(LostRange::default());
-    }
-    let keeper = Keeper::new(rt.alloc(), shape, created_commit(), lost)?;
-    let mut own = SmallStore { plane, keeper };
+    let mut own = store_that_refuses(rt.alloc())?;
     let mut disk = MemDisk::new(rt.alloc());
-    store(&mut own.plane, SharedWord::Epoch, LAST_EPOCH);
-    for slot in 0..DRAIN_SLOTS {
-        own.plane.perform::<()>(&Ask::Store(drain_place(slot), 1));
+    for (word, number, kind, why) in REFUSALS {
+        store(&mut own.plane, word, number);
+        let refused = commit(&mut own, &mut disk, kind);
+        assert_eq!(rt; refused, KeeperAsk::Begun(Err(why)));
+        assert_eq!(rt; own.plane.word(word.place()), number);
     }
-    let log = commit(&mut own, &mut disk, CommitKind::Log);
-    assert_eq!(rt; log, commit_refused(Fault::CommitRunning));
-    store(&mut own.plane, SharedWord::Phase, Version::LAST);
-    let log = commit(&mut own, &mut disk, CommitKind::Log);
-    assert_eq!(rt; log, commit_refused(Fault::VersionsSpent));
-    store(&mut own.plane, SharedWord::Phase, 1);
-    let log = commit(&mut own, &mut disk, CommitKind::Log);
-    assert_eq!(rt; log, commit_refused(Fault::LostFull));
-    let full = commit(&mut own, &mut disk, CommitKind::Full);
-    assert_eq!(rt; full, commit_refused(Fault::EpochsSpent));
-    store(&mut own.plane, SharedWord::Epoch, 1);
-    let full = commit(&mut own, &mut disk, CommitKind::Full);
-    assert_eq!(rt; full, commit_refused(Fault::DrainFull));
-    assert_eq!(rt; phase(&own), 1);
-    assert_eq!(rt; own.plane.word(SharedWord::Epoch.place()), 1);
     own.plane.perform::<()>(&Ask::Store(drain_place(7), 0));
     assert_eq!(rt; commit(&mut own, &mut disk, CommitKind::Full), begun(1));
-    Ok(())
-}
-
-/// Whichever call of a first commit fails: that turn answers so, and from then on all is refused, though the device works again. No
-/// other call is made, and the commit is never finished.
-#[test]
-fn a_call_that_fails_is_the_last(rt: HostRuntime) -> Result<(), Fail> {
-    for passes in 0..8u64 {
-        let mut first = MemDisk::from_bytes(rt.alloc(), image(rt.alloc(), 1536, &[&CREATED])?)?;
-        let mut own = waiting_store(rt.alloc(), &mut first)?;
-        // the next call behind the one that fails would fail too
-        let mut disk = Once::new(Once::new(first, passes), passes + 1);
-        let (answer, _) = turn(&mut own, &mut disk);
-        assert_eq!(rt; answer, turn_refused(Fault::Device));
-        let (answer, calls) = turn(&mut own, &mut disk);
-        assert_eq!(rt; answer, turn_refused(Fault::Broken));
-        assert_eq!(rt; calls, 0);
-        let full = commit(&mut own, &mut disk, CommitKind::Full);
-        assert_eq!(rt; full, commit_refused(Fault::Broken));
-        assert_eq!(rt; own.keeper.device_step(&mut disk), full);
-        assert_eq!(rt; disk.sync(), Err(Fault::Device));
-        assert_eq!(rt; durable(&own), 0);
-        assert_eq!(rt; phase(&own), WAIT_FLUSH);
-        assert_eq!(rt; own.keeper.finished(), None);
-    }
     Ok(())
 }
 
@@ -474,88 +482,54 @@ fn a_turn_is_refused_and_made_later(rt: HostRuntime) -> Result<(), Fail> {
     let mut disk = MemDisk::new(rt.alloc());
     commit(&mut own, &mut disk, CommitKind::Full);
     store(&mut own.plane, SharedWord::Phase, IN_PROGRESS);
-    for slot in 0..DRAIN_SLOTS {
-        own.plane.perform::<()>(&Ask::Store(drain_place(slot), 1));
-    }
-    let (answer, _) = turn(&mut own, &mut disk);
+    fill_the_drain(&mut own.plane, 1);
     let full = KeeperAsk::Turned(Ok(Turn {
         finished: None,
         drain_full: true,
     }));
-    assert_eq!(rt; answer, full);
-    for slot in 0..DRAIN_SLOTS {
-        own.plane.perform::<()>(&Ask::Store(drain_place(slot), 0));
-    }
+    assert_eq!(rt; turn(&mut own, &mut disk).0, full);
+    fill_the_drain(&mut own.plane, 0);
     store(&mut own.plane, SharedWord::Epoch, LAST_EPOCH);
-    let (answer, _) = turn(&mut own, &mut disk);
-    assert_eq!(rt; answer, turn_refused(Fault::EpochsSpent));
+    assert_eq!(rt;
+        turn(&mut own, &mut disk).0,
+        turn_refused(Fault::EpochsSpent)
+    );
     store(&mut own.plane, SharedWord::Epoch, 2);
-    assert_eq!(rt; turn(&mut own, &mut disk).0, turned());
-    assert_eq!(rt; turn(&mut own, &mut disk).0, turned());
+    for _ in 0..2 {
+        assert_eq!(rt; turn(&mut own, &mut disk).0, turned());
+    }
     assert_eq!(rt; phase(&own), WAIT_PENDING);
     Ok(())
 }
 
-/// As long as the session owes an update nothing else happens in wait-pending.
-#[test]
-fn an_owing_session_is_waited_for(rt: HostRuntime) -> Result<(), Fail> {
-    let mut own = new_store(rt.alloc())?;
-    let mut disk = MemDisk::new(rt.alloc());
+/// Where the copy's room is refused that turn ends, and the next one begins the copy again.
+fn is_copied(rt: &impl Abort, own: &mut SmallStore, disk: &mut MemDisk) {
     append(&mut own.plane, FIRST_HEADER, 10);
-    commit(&mut own, &mut disk, CommitKind::Full);
-    turn(&mut own, &mut disk);
-    turn(&mut own, &mut disk);
-    assert_eq!(rt; phase(&own), WAIT_PENDING);
-    store_own(&mut own.plane, SessionWord::Owing, 1);
-    turn(&mut own, &mut disk);
-    let before = words(&own, rt.alloc())?;
-    for _ in 0..3 {
-        assert_eq!(rt; turn(&mut own, &mut disk), (turned(), 0));
-        assert!(rt; words(&own, rt.alloc())? == before);
+    commit(own, disk, CommitKind::Full);
+    turn(own, disk);
+    store_own(&mut own.plane, SessionWord::OddCut, FIRST_ENTRY);
+    let (copied, _) = turn(own, disk);
+    assert_eq!(rt; phase(own), WAIT_PENDING);
+    if copied == turn_refused(Fault::Memory) {
+        assert_eq!(rt; turn(own, disk), (turned(), 0));
+        assert_eq!(rt; phase(own), WAIT_PENDING);
     }
-    store_own(&mut own.plane, SessionWord::Owing, 0);
-    assert_eq!(rt; turn(&mut own, &mut disk), (turned(), 0));
-    assert_eq!(rt; phase(&own), WAIT_FLUSH);
-    Ok(())
 }
 
-/// All words of the small store.
-fn words(own: &SmallStore, alloc: Global) -> Result<Vec<u64>, Fault> {
-    let mut all = Vec::new(alloc);
-    for place in 0..72 {
-        all.push(own.plane.word(place))?;
-    }
-    Ok(all)
-}
-
-/// A tool outside lets each request for memory fail in turn and runs this test: where the copy's room is refused that turn ends, the
-/// next one begins the copy again, and the commit finishes.
+/// A tool outside lets each request for memory fail in turn and runs this test: whichever it is, the commit finishes, but that the
+/// device in memory asks for memory too.
 #[test]
 fn a_refused_copy_begins_again(rt: HostRuntime) -> Result<(), Fail> {
-    let alloc = rt.alloc();
-    let Ok(mut own) = new_store(alloc) else {
+    let Ok(mut own) = new_store(rt.alloc()) else {
         return Ok(());
     };
-    let Ok(bytes) = image(alloc, 1536, &[&CREATED]) else {
+    let Ok(mut disk) = created_disk(rt.alloc()) else {
         return Ok(());
     };
-    let Ok(mut disk) = MemDisk::from_bytes(alloc, bytes) else {
-        return Ok(());
-    };
-    append(&mut own.plane, FIRST_HEADER, 10);
-    commit(&mut own, &mut disk, CommitKind::Full);
-    turn(&mut own, &mut disk);
-    store_own(&mut own.plane, SessionWord::OddCut, FIRST_ENTRY);
-    let (copied, _) = turn(&mut own, &mut disk);
-    assert_eq!(rt; phase(&own), WAIT_PENDING);
-    if copied == turn_refused(Fault::Memory) {
-        assert_eq!(rt; turn(&mut own, &mut disk), (turned(), 0));
-        assert_eq!(rt; phase(&own), WAIT_PENDING);
-    }
+    is_copied(&rt, &mut own, &mut disk);
     assert_eq!(rt; turn(&mut own, &mut disk), (turned(), 0));
     assert_eq!(rt; phase(&own), WAIT_FLUSH);
     let (answer, _) = turn(&mut own, &mut disk);
-    // the device in memory asks for memory too
     assert!(rt; answer == turned_finished(1, 1) || disk.failures() == 1);
     Ok(())
 }

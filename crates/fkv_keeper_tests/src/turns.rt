@@ -7,12 +7,33 @@ use fkv_maintain::{Maintain, MaintainAnswer};
 use fkv_plane::{Action, Ask, Places, PlainWords, SessionWord, SharedWord, drain_place};
 use fkv_words::Header;
 use std::alloc::Global;
+use std::process::Abort;
 use std::test::Fail;
+
+/// Places of words: of the store, of its first drain slots, and of the session.
+const EPOCH: usize = 0;
+
+const PHASE: usize = 2;
+
+const FLUSHED: usize = 7;
+
+const FIRST_DRAIN: usize = 16;
+
+const SECOND_DRAIN: usize = 17;
+
+const OWN_EPOCH: usize = 24;
+
+const MAIL_STATE: usize = 29;
+
+const MAIL_ADDRESS: usize = 30;
 
 /// Held, and armed at epoch 1.
 const HELD: u64 = 1;
 
 const ARMED: u64 = 3;
+
+/// More calls of the device than a scene makes.
+const NEVER: u64 = 100;
 
 fn small_shape() -> Result<Shape, Fault> {
     Shape::new(0, 4, 2, 1, 1, 0, 8)
@@ -131,6 +152,30 @@ fn offsets(plane: &PlainWords) -> [u64; 7] {
     ]
 }
 
+/// The next call of the device leaves it so long. The flushed offset stays as it is up to the sync.
+fn writes(
+    rt: &impl Abort,
+    plane: &mut PlainWords,
+    machine: &mut Maintain,
+    disk: &mut Fuse<MemDisk>,
+    wanted: usize,
+) {
+    to_the_device(plane, machine);
+    assert!(rt; machine.ask() == Ask::Done(MaintainAnswer::Device));
+    assert_eq!(rt; plane.word(FLUSHED), 1);
+    assert!(rt; machine.device_step(disk).is_ok());
+    assert_eq!(rt; disk.device().bytes().len(), wanted);
+}
+
+/// Both pages stand behind a crash.
+fn is_synced(rt: &impl Abort, disk: Fuse<MemDisk>) -> Result<(), Fault> {
+    let image = disk.crash(165)?;
+    assert_eq!(rt; image.bytes().len(), 1928);
+    assert_eq!(rt; image.bytes().get(1792), Some(&1));
+    assert_eq!(rt; image.bytes().get(1912), Some(&6));
+    Ok(())
+}
+
 /// Six records of two pages are flushed: a write for each page, and one sync, after which a crash loses nothing.
 #[test]
 fn a_write_for_each_page_and_a_sync(rt: HostRuntime) -> Result<(), Fail> {
@@ -139,143 +184,213 @@ fn a_write_for_each_page_and_a_sync(rt: HostRuntime) -> Result<(), Fail> {
     let mut machine = Maintain::new(rt.alloc(), shape, Places::of(&shape))?;
     let mut disk = Fuse::new(MemDisk::new(rt.alloc()));
     machine.start();
-    let mut lengths = [0; 3];
-    for length in &mut lengths {
-        to_the_device(&mut plane, &mut machine);
-        assert!(rt; machine.ask() == Ask::Done(MaintainAnswer::Device));
-        assert_eq!(rt; plane.word(SharedWord::Flushed.place()), 1);
-        machine.device_step(&mut disk)?;
-        *length = disk.device().bytes().len();
+    for wanted in [1856, 1928, 1928] {
+        writes(&rt, &mut plane, &mut machine, &mut disk, wanted);
     }
-    assert_eq!(rt; lengths, [1856, 1928, 1928]);
     to_the_device(&mut plane, &mut machine);
-    assert_eq!(rt; plane.word(SharedWord::Flushed.place()), 7);
-    let image = disk.crash(165)?;
-    assert_eq!(rt; image.bytes().len(), 1928);
-    assert_eq!(rt; image.bytes().get(1792), Some(&1));
-    assert_eq!(rt; image.bytes().get(1912), Some(&6));
+    assert_eq!(rt; plane.word(FLUSHED), 7);
+    is_synced(&rt, disk)?;
     Ok(())
 }
+
+/// One step of a scene.
+enum Step {
+    /// These words are stored.
+    Stores(&'static [(usize, u64)]),
+    /// Prepare comes into the first drain slot, as an action that is armed.
+    Prepares,
+    /// Every drain slot gets this word.
+    FillsTheDrain(u64),
+    /// A turn ends so, with so many calls of the device.
+    Turns(MaintainAnswer, u8),
+    /// A turn ends since a call of the device fails, and no other call is made until the next turn.
+    Fails,
+    /// These are the offsets.
+    Offsets([u64; 7]),
+    /// These words stand.
+    Stands(&'static [(usize, u64)]),
+    /// Whether the last turn had no drain slot.
+    DrainFull(bool),
+}
+
+/// Steps of a keeper over a device whose next call behind so many fails.
+struct Scene {
+    passes: u64,
+    steps: &'static [Step],
+}
+
+/// What a scene is played on.
+#[derive(Drop)]
+struct Stage {
+    plane: PlainWords,
+    machine: Maintain,
+    disk: Once<MemDisk>,
+}
+
+fn turns(rt: &impl Abort, stage: &mut Stage, wanted: MaintainAnswer, calls: u8) {
+    let ended = turn(&mut stage.plane, &mut stage.machine, &mut stage.disk);
+    assert_eq!(rt; ended, Ok((wanted, calls)));
+    assert!(rt; stage.machine.drive(0) == Ask::Done(wanted));
+}
+
+fn fails(rt: &impl Abort, stage: &mut Stage) {
+    let ended = turn(&mut stage.plane, &mut stage.machine, &mut stage.disk);
+    assert_eq!(rt; ended, Err(Fault::Device));
+    let length = stage.disk.device().bytes().len();
+    let asked = stage.machine.device_step(&mut stage.disk);
+    assert!(rt; asked == Ok(Ask::Done(MaintainAnswer::Broken)));
+    assert_eq!(rt; stage.disk.device().bytes().len(), length);
+}
+
+fn stands(rt: &impl Abort, plane: &PlainWords, words: &[(usize, u64)]) {
+    for (place, word) in words {
+        assert_eq!(rt; plane.word(*place), *word, "at place {place}");
+    }
+}
+
+fn store_all(plane: &mut PlainWords, words: &[(usize, u64)]) {
+    for (place, word) in words {
+        store(plane, *place, *word);
+    }
+}
+
+fn fill_the_drain(plane: &mut PlainWords, word: u64) {
+    for slot in 0..DRAIN_SLOTS {
+        store(plane, drain_place(slot), word);
+    }
+}
+
+/// Plays one step.
+fn plays(rt: &impl Abort, stage: &mut Stage, step: &Step) {
+    match step {
+        Step::Stores(words) => store_all(&mut stage.plane, words),
+        Step::Prepares => {
+            let action = Action::Phase(Phase::Prepare, Version(1));
+            let _ = stage.plane.put(0, action);
+            store(&mut stage.plane, FIRST_DRAIN, ARMED);
+        }
+        Step::FillsTheDrain(word) => fill_the_drain(&mut stage.plane, *word),
+        Step::Turns(wanted, calls) => turns(rt, stage, *wanted, *calls),
+        Step::Fails => fails(rt, stage),
+        Step::Offsets(wanted) => assert_eq!(rt; offsets(&stage.plane), *wanted),
+        Step::Stands(words) => stands(rt, &stage.plane, words),
+        Step::DrainFull(wanted) => {
+            assert_eq!(rt; stage.machine.is_drain_full(), *wanted);
+        }
+    }
+}
+
+fn play(rt: &impl Abort, alloc: Global, scene: &Scene) -> Result<(), Fault> {
+    let shape = small_shape()?;
+    let mut stage = Stage {
+        plane: new_words(alloc, &shape)?,
+        machine: Maintain::new(alloc, shape, Places::of(&shape))?,
+        disk: Once::new(MemDisk::new(alloc), scene.passes),
+    };
+    for step in scene.steps {
+        plays(rt, &mut stage, step);
+    }
+    Ok(())
+}
+
+const FLUSHES: Step = Step::Turns(MaintainAnswer::Through, 3);
 
 /// The first turn moves the read-only offset and the head. Once the session has seen both, the next one flushes the last record,
 /// closes the first page, and opens another in its frame.
-#[test]
-fn a_page_is_opened(rt: HostRuntime) -> Result<(), Fail> {
-    let shape = small_shape()?;
-    let mut plane = new_words(rt.alloc(), &shape)?;
-    let mut machine = Maintain::new(rt.alloc(), shape, Places::of(&shape))?;
-    let mut disk = MemDisk::new(rt.alloc());
-    let ended = turn(&mut plane, &mut machine, &mut disk)?;
-    assert_eq!(rt; ended, (MaintainAnswer::Through, 3));
-    assert_eq!(rt; offsets(&plane), [1, 4, 7, 7, 8, 8, 8]);
-    store(&mut plane, SessionWord::Epoch.place(0), 3);
-    let ended = turn(&mut plane, &mut machine, &mut disk)?;
-    assert_eq!(rt; ended, (MaintainAnswer::Through, 2));
-    assert_eq!(rt; offsets(&plane), [4, 4, 8, 8, 8, 8, 12]);
-    Ok(())
-}
+const A_PAGE_IS_OPENED: [Step; 5] = [
+    FLUSHES,
+    Step::Offsets([1, 4, 7, 7, 8, 8, 8]),
+    Step::Stores(&[(OWN_EPOCH, 3)]),
+    Step::Turns(MaintainAnswer::Through, 2),
+    Step::Offsets([4, 4, 8, 8, 8, 8, 12]),
+];
 
 /// A session that asks for a record gets it by one read.
-#[test]
-fn a_mailbox_is_served(rt: HostRuntime) -> Result<(), Fail> {
-    let shape = small_shape()?;
-    let mut plane = new_words(rt.alloc(), &shape)?;
-    let mut machine = Maintain::new(rt.alloc(), shape, Places::of(&shape))?;
-    let mut disk = MemDisk::new(rt.alloc());
-    turn(&mut plane, &mut machine, &mut disk)?;
-    store(&mut plane, SessionWord::MailAddress.place(0), 5);
-    store(&mut plane, SessionWord::MailState.place(0), 1);
-    let ended = turn(&mut plane, &mut machine, &mut disk)?;
-    assert_eq!(rt; ended, (MaintainAnswer::Through, 1));
-    let mailbox = [
-        plane.word(SessionWord::MailState.place(0)),
-        plane.word(SessionWord::MailHeader.place(0)),
-        plane.word(SessionWord::MailKey.place(0)),
-        plane.word(SessionWord::MailValue.place(0)),
-    ];
-    assert_eq!(rt; mailbox, [2, 281474976710656, 5, 50]);
-    Ok(())
-}
+const A_MAILBOX_IS_SERVED: [Step; 4] = [
+    FLUSHES,
+    Step::Stores(&[(MAIL_ADDRESS, 5), (MAIL_STATE, 1)]),
+    Step::Turns(MaintainAnswer::Through, 1),
+    Step::Stands(&[(MAIL_STATE, 2), (31, 1 << 48), (32, 5), (33, 50)]),
+];
 
 /// A phase that is armed is stored once its epoch is safe, and its drain slot is free then.
-#[test]
-fn a_phase_is_stored(rt: HostRuntime) -> Result<(), Fail> {
-    let shape = small_shape()?;
-    let mut plane = new_words(rt.alloc(), &shape)?;
-    let mut machine = Maintain::new(rt.alloc(), shape, Places::of(&shape))?;
-    let mut disk = MemDisk::new(rt.alloc());
-    let _ = plane.put(0, Action::Phase(Phase::Prepare, Version(1)));
-    store(&mut plane, drain_place(0), ARMED);
-    store(&mut plane, SharedWord::Epoch.place(), 2);
-    turn(&mut plane, &mut machine, &mut disk)?;
-    assert_eq!(rt; plane.word(SharedWord::Phase.place()), 0);
-    store(&mut plane, SessionWord::Epoch.place(0), 2);
-    turn(&mut plane, &mut machine, &mut disk)?;
-    assert_eq!(rt; plane.word(SharedWord::Phase.place()), 65537);
-    assert_eq!(rt; plane.word(drain_place(0)), 0);
-    assert_eq!(rt; plane.word(drain_place(1)), 4);
-    Ok(())
-}
+const A_PHASE_IS_STORED: [Step; 7] = [
+    Step::Prepares,
+    Step::Stores(&[(EPOCH, 2)]),
+    FLUSHES,
+    Step::Stands(&[(PHASE, 0)]),
+    Step::Stores(&[(OWN_EPOCH, 2)]),
+    Step::Turns(MaintainAnswer::Through, 0),
+    Step::Stands(&[(PHASE, 65537), (FIRST_DRAIN, 0), (SECOND_DRAIN, 4)]),
+];
 
 /// Where no drain slot is free nothing is moved. The rest of the turn is made, and the next one moves it.
-#[test]
-fn the_drain_is_full(rt: HostRuntime) -> Result<(), Fail> {
-    let shape = small_shape()?;
-    let mut plane = new_words(rt.alloc(), &shape)?;
-    let mut machine = Maintain::new(rt.alloc(), shape, Places::of(&shape))?;
-    let mut disk = MemDisk::new(rt.alloc());
-    assert!(rt; !machine.is_drain_full());
-    for slot in 0..DRAIN_SLOTS {
-        store(&mut plane, drain_place(slot), HELD);
-    }
-    let ended = turn(&mut plane, &mut machine, &mut disk)?;
-    assert_eq!(rt; ended, (MaintainAnswer::Through, 3));
-    assert!(rt; machine.is_drain_full());
-    assert_eq!(rt; offsets(&plane), [1, 1, 7, 7, 1, 8, 8]);
-    for slot in 0..DRAIN_SLOTS {
-        store(&mut plane, drain_place(slot), 0);
-    }
-    turn(&mut plane, &mut machine, &mut disk)?;
-    assert!(rt; !machine.is_drain_full());
-    assert_eq!(rt; offsets(&plane), [1, 4, 7, 7, 8, 8, 8]);
-    Ok(())
-}
+const THE_DRAIN_IS_FULL: [Step; 9] = [
+    Step::DrainFull(false),
+    Step::FillsTheDrain(HELD),
+    FLUSHES,
+    Step::DrainFull(true),
+    Step::Offsets([1, 1, 7, 7, 1, 8, 8]),
+    Step::FillsTheDrain(0),
+    Step::Turns(MaintainAnswer::Through, 0),
+    Step::DrainFull(false),
+    Step::Offsets([1, 4, 7, 7, 8, 8, 8]),
+];
 
 /// Where the epoch is at its last the turn ends, and stays so.
-#[test]
-fn the_epoch_is_at_its_last(rt: HostRuntime) -> Result<(), Fail> {
-    let shape = small_shape()?;
-    let mut plane = new_words(rt.alloc(), &shape)?;
-    let mut machine = Maintain::new(rt.alloc(), shape, Places::of(&shape))?;
-    let mut disk = MemDisk::new(rt.alloc());
-    store(&mut plane, SharedWord::Epoch.place(), LAST_EPOCH);
-    let ended = turn(&mut plane, &mut machine, &mut disk)?;
-    assert_eq!(rt; ended, (MaintainAnswer::Spent, 3));
-    assert!(rt; machine.drive(0) == Ask::Done(MaintainAnswer::Spent));
-    assert_eq!(rt; offsets(&plane), [1, 1, 7, 7, 1, 8, 8]);
-    Ok(())
-}
+const THE_EPOCH_IS_AT_ITS_LAST: [Step; 3] = [
+    Step::Stores(&[(EPOCH, LAST_EPOCH)]),
+    Step::Turns(MaintainAnswer::Spent, 3),
+    Step::Offsets([1, 1, 7, 7, 1, 8, 8]),
+];
 
 /// A call that fails ends the turn, and no other call is made until the next one.
+const THE_DEVICE_FAILS: [Step; 4] = [
+    Step::Fails,
+    Step::Stands(&[(FLUSHED, 1)]),
+    FLUSHES,
+    Step::Stands(&[(FLUSHED, 7)]),
+];
+
+const SCENES: [Scene; 8] = [
+    Scene {
+        passes: NEVER,
+        steps: &A_PAGE_IS_OPENED,
+    },
+    Scene {
+        passes: NEVER,
+        steps: &A_MAILBOX_IS_SERVED,
+    },
+    Scene {
+        passes: NEVER,
+        steps: &A_PHASE_IS_STORED,
+    },
+    Scene {
+        passes: NEVER,
+        steps: &THE_DRAIN_IS_FULL,
+    },
+    Scene {
+        passes: NEVER,
+        steps: &THE_EPOCH_IS_AT_ITS_LAST,
+    },
+    Scene {
+        passes: 0,
+        steps: &THE_DEVICE_FAILS,
+    },
+    Scene {
+        passes: 1,
+        steps: &THE_DEVICE_FAILS,
+    },
+    Scene {
+        passes: 2,
+        steps: &THE_DEVICE_FAILS,
+    },
+];
+
 #[test]
-fn the_device_fails(rt: HostRuntime) -> Result<(), Fail> {
-    let shape = small_shape()?;
-    for passes in 0..3 {
-        let mut plane = new_words(rt.alloc(), &shape)?;
-        let mut machine = Maintain::new(rt.alloc(), shape, Places::of(&shape))?;
-        let mut disk = Once::new(MemDisk::new(rt.alloc()), passes);
-        assert_eq!(rt;
-            turn(&mut plane, &mut machine, &mut disk),
-            Err(Fault::Device)
-        );
-        assert_eq!(rt; plane.word(SharedWord::Flushed.place()), 1);
-        let length = disk.device().bytes().len();
-        let ask = machine.device_step(&mut disk)?;
-        assert!(rt; ask == Ask::Done(MaintainAnswer::Broken));
-        assert_eq!(rt; disk.device().bytes().len(), length);
-        let ended = turn(&mut plane, &mut machine, &mut disk)?;
-        assert_eq!(rt; ended, (MaintainAnswer::Through, 3));
-        assert_eq!(rt; plane.word(SharedWord::Flushed.place()), 7);
+fn turns_are_made(rt: HostRuntime) -> Result<(), Fail> {
+    for scene in &SCENES {
+        play(&rt, rt.alloc(), scene)?;
     }
     Ok(())
 }

@@ -1,7 +1,7 @@
 //! Whole calls of the keeper over plain words and a device in memory, in the small store of `commits`.
 use crate::commits::{
-    CREATED, FIRST_ENTRY, FIRST_HEADER, PREPARE, SmallStore, append, durable, finished, image,
-    new_store, phase, sees, store_own,
+    FIRST_ENTRY, FIRST_HEADER, SECOND_CUT, SECOND_HEADER, SmallStore, append, created_disk,
+    durable, finished, new_store, sees, store_own,
 };
 use fkv_base::{Addr, Fault, Serial, Version};
 use fkv_commit::CommitKind;
@@ -9,6 +9,7 @@ use fkv_disk::{Fuse, FuseState, MemDisk};
 use fkv_keeper::{Finished, Turn};
 use fkv_plane::SessionWord;
 use fkv_record::{ManifestSlot, read_manifest_slot};
+use std::process::Abort;
 use std::test::Fail;
 
 /// More calls than a turn makes here.
@@ -19,13 +20,8 @@ const EVEN_SLOT: usize = 512;
 
 const ODD_SLOT: usize = 1024;
 
-/// The second record of key 1, in version 2 behind the first one, and the third, in version 3 behind the second.
-const SECOND_HEADER: u64 = 562949953421313;
-
+/// The third record of key 1, in version 3 behind the second, and the cut of the session at its serial 3 in commit 3.
 const THIRD_HEADER: u64 = 844424930131970;
-
-/// The cuts of the session at its serials 2 and 3, for commits 2 and 3.
-const SECOND_CUT: u64 = 562949953421314;
 
 const THIRD_CUT: u64 = 844424930131971;
 
@@ -92,88 +88,87 @@ fn checkpoint_said(said: &ManifestSlot) -> (u64, u64, u64, Addr) {
     (said.checkpoint, said.area, said.triples, said.first)
 }
 
-/// A commit begins by one call.
-#[test]
-fn a_commit_begins(rt: HostRuntime) -> Result<(), Fail> {
-    let mut own = new_store(rt.alloc())?;
-    let begun = own.keeper.ask_commit(&mut own.plane, CommitKind::Full);
-    assert_eq!(rt; begun, Ok(Version(1)));
-    assert_eq!(rt; phase(&own), PREPARE);
-    let again = own.keeper.ask_commit(&mut own.plane, CommitKind::Full);
-    assert_eq!(rt; again, Err(Fault::CommitRunning));
-    Ok(())
-}
-
-/// A turn goes by one call, and so does the one that finishes a commit.
-#[test]
-fn a_turn_is_made(rt: HostRuntime) -> Result<(), Fail> {
-    let mut own = new_store(rt.alloc())?;
-    let created = MemDisk::from_bytes(rt.alloc(), image(rt.alloc(), 1536, &[&CREATED])?)?;
-    let mut disk = Fuse::new(created);
-    append(&mut own.plane, FIRST_HEADER, 10);
-    assert_eq!(rt; turn(&mut own, &mut disk), (made(None), 0));
-    own.keeper.ask_commit(&mut own.plane, CommitKind::Full)?;
-    store_own(&mut own.plane, SessionWord::OddCut, FIRST_ENTRY);
-    let ended = to_the_finish(&mut own, &mut disk);
-    assert_eq!(rt; ended, (made(finished(1, 1)), 8));
-    assert_eq!(rt; durable(&own), 1);
-    Ok(())
+/// A commit of one record, and what it leaves.
+struct Row {
+    kind: CommitKind,
+    header: u64,
+    cut: (SessionWord, u64),
+    /// Calls of the device that its turns make.
+    calls: u64,
+    /// Where its slot stands, and where the other one does.
+    slots: (usize, usize),
+    commit: (u64, u64, Option<Serial>, usize),
+    checkpoint: (u64, u64, u64, Addr),
 }
 
 /// A full commit, a log commit and a full one. The first one's turns make eight calls of the device, two of the flush among them, since
 /// its slot's gate isn't open. Those of the next slots are, and closing one takes two more calls; a log commit writes no triples, which
 /// saves one.
 /// The slots take turns, and so do the areas of the full commits; the log commit keeps the checkpoint of the first one.
+const COMMITS: [Row; 3] = [
+    Row {
+        kind: CommitKind::Full,
+        header: FIRST_HEADER,
+        cut: (SessionWord::OddCut, FIRST_ENTRY),
+        calls: 8,
+        slots: (ODD_SLOT, EVEN_SLOT),
+        commit: (1, 2, Some(Serial(1)), 0),
+        checkpoint: (1, 1, 1, Addr(2)),
+    },
+    Row {
+        kind: CommitKind::Log,
+        header: SECOND_HEADER,
+        cut: (SessionWord::EvenCut, SECOND_CUT),
+        calls: 9,
+        slots: (EVEN_SLOT, ODD_SLOT),
+        commit: (2, 3, Some(Serial(2)), 0),
+        checkpoint: (1, 1, 1, Addr(2)),
+    },
+    Row {
+        kind: CommitKind::Full,
+        header: THIRD_HEADER,
+        cut: (SessionWord::OddCut, THIRD_CUT),
+        calls: 10,
+        slots: (ODD_SLOT, EVEN_SLOT),
+        commit: (3, 4, Some(Serial(3)), 0),
+        checkpoint: (3, 0, 1, Addr(4)),
+    },
+];
+
+/// A commit begins by one call, and goes by one call for each turn.
+fn is_made(rt: &impl Abort, own: &mut SmallStore, disk: &mut Fuse<MemDisk>, row: &Row) {
+    let number = row.commit.0;
+    append(&mut own.plane, row.header, number);
+    let asked = own.keeper.ask_commit(&mut own.plane, row.kind);
+    assert_eq!(rt; asked, Ok(Version(number)));
+    let again = own.keeper.ask_commit(&mut own.plane, row.kind);
+    assert_eq!(rt; again, Err(Fault::CommitRunning));
+    let (word, cut) = row.cut;
+    store_own(&mut own.plane, word, cut);
+    let ended = to_the_finish(own, disk);
+    assert_eq!(rt; ended, (made(finished(number, number)), row.calls));
+    assert_eq!(rt; durable(own), number);
+}
+
+/// Its slot says what it has made, and the other one is as it was before.
+fn is_said(rt: &impl Abort, disk: &Fuse<MemDisk>, row: &Row) {
+    let (its, other) = row.slots;
+    let said = slot(disk, its);
+    assert_eq!(rt; said.as_ref().map(commit_said), Some(row.commit));
+    assert_eq!(rt; said.as_ref().map(checkpoint_said), Some(row.checkpoint));
+    let before = slot(disk, other).map(|said| said.number.wrapping_add(1));
+    assert_eq!(rt; before, Some(row.commit.0));
+}
+
 #[test]
 fn three_commits_in_a_row(rt: HostRuntime) -> Result<(), Fail> {
     let mut own = new_store(rt.alloc())?;
-    let created = MemDisk::from_bytes(rt.alloc(), image(rt.alloc(), 1536, &[&CREATED])?)?;
-    let mut disk = Fuse::new(created);
+    let mut disk = Fuse::new(created_disk(rt.alloc())?);
     assert!(rt; slot(&disk, ODD_SLOT).is_none());
-
-    append(&mut own.plane, FIRST_HEADER, 10);
-    own.keeper.ask_commit(&mut own.plane, CommitKind::Full)?;
-    store_own(&mut own.plane, SessionWord::OddCut, FIRST_ENTRY);
-    let first = to_the_finish(&mut own, &mut disk);
-    assert_eq!(rt; first, (made(finished(1, 1)), 8));
-    let odd = slot(&disk, ODD_SLOT);
-    assert_eq!(rt;
-        odd.as_ref().map(commit_said),
-        Some((1, 2, Some(Serial(1)), 0))
-    );
-    assert_eq!(rt; odd.as_ref().map(checkpoint_said), Some((1, 1, 1, Addr(2))));
-    assert_eq!(rt; slot(&disk, EVEN_SLOT).map(|said| said.number), Some(0));
-
-    append(&mut own.plane, SECOND_HEADER, 11);
-    own.keeper.ask_commit(&mut own.plane, CommitKind::Log)?;
-    store_own(&mut own.plane, SessionWord::EvenCut, SECOND_CUT);
-    let second = to_the_finish(&mut own, &mut disk);
-    assert_eq!(rt; second, (made(finished(2, 2)), 9));
-    let even = slot(&disk, EVEN_SLOT);
-    assert_eq!(rt;
-        even.as_ref().map(commit_said),
-        Some((2, 3, Some(Serial(2)), 0))
-    );
-    assert_eq!(rt;
-        even.as_ref().map(checkpoint_said),
-        Some((1, 1, 1, Addr(2)))
-    );
-    assert!(rt; slot(&disk, ODD_SLOT) == odd);
-
-    append(&mut own.plane, THIRD_HEADER, 12);
-    own.keeper.ask_commit(&mut own.plane, CommitKind::Full)?;
-    store_own(&mut own.plane, SessionWord::OddCut, THIRD_CUT);
-    let third = to_the_finish(&mut own, &mut disk);
-    assert_eq!(rt; third, (made(finished(3, 3)), 10));
-    let newest = slot(&disk, ODD_SLOT);
-    assert_eq!(rt;
-        newest.as_ref().map(commit_said),
-        Some((3, 4, Some(Serial(3)), 0))
-    );
-    assert_eq!(rt;
-        newest.as_ref().map(checkpoint_said),
-        Some((3, 0, 1, Addr(4)))
-    );
-    assert!(rt; slot(&disk, EVEN_SLOT) == even);
+    assert_eq!(rt; turn(&mut own, &mut disk), (made(None), 0));
+    for row in &COMMITS {
+        is_made(&rt, &mut own, &mut disk, row);
+        is_said(&rt, &disk, row);
+    }
     Ok(())
 }

@@ -1,8 +1,10 @@
-//! Tests of sessions: calls moved ask by ask, and whole scripts beside a keeper of a few lines. They stand in a crate of their own,
-//! since a crate with tests is proved twice.
+//! Tests of sessions: calls moved ask by ask over plain words. They stand in a crate of their own, since a crate with tests is proved
+//! twice. Whole scripts, with a keeper beside, run over the built program.
 #![tactic(auto)]
 
 #[cfg(test)]
 mod calls;
 #[cfg(test)]
-mod scripts;
+mod scenes;
+#[cfg(test)]
+mod store;
