@@ -2,7 +2,7 @@ use crate::images::BLOCK;
 use fkv_base::{Addr, Fault, Shape, Version};
 use fkv_creating::{create, create_opened};
 use fkv_disk::{Device, MemDisk};
-use fkv_newest::read_newest;
+use fkv_newest::{Newest, read_newest};
 use fkv_opening::{Opened, recover};
 use std::alloc::Global;
 use std::test::Fail;
@@ -34,14 +34,19 @@ fn image(alloc: Global, len: usize) -> Result<Vec<u8>, Fault> {
     Ok(bytes)
 }
 
+// What is told of a store that is created, and what is read of it then.
+fn created<D: Device>(d: &mut D) -> Result<(Newest, Newest), Fault> {
+    let told = create(d, shape()?)?;
+    Ok((told, read_newest(d)?))
+}
+
 #[test]
 fn a_new_store_is_laid_and_read(rt: HostRuntime) -> Result<(), Fail> {
     for (len, end) in [(0, 1536), (700, 1536), (1600, 1600)] {
         let mut disk = used(rt.alloc(), len)?;
-        let new = create(&mut disk, shape()?)?;
+        let (told, newest) = created(&mut disk)?;
         assert!(rt; disk.bytes() == image(rt.alloc(), end)?.as_slice());
-        let newest = read_newest(&mut disk)?;
-        assert!(rt; newest.slot == new.slot);
+        assert!(rt; newest.slot == told.slot);
         assert!(rt; newest.index == 0);
         assert!(rt; newest.open_numbers == (Some(0), None));
     }

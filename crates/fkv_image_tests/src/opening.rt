@@ -1,9 +1,11 @@
 //! A store of a log commit is opened, and its pairs are read.
 use crate::images::{FIRST_KEY, SECOND_KEY, second_commit};
-use fkv_base::{Addr, Key, Serial, Value, Version};
+use fkv_base::{Addr, Fault, Key, Serial, Value, Version};
+use fkv_disk::Device;
 use fkv_opening::{Checkpoint, Opened, recover};
 use fkv_pairs::content;
 use fkv_record::LostRange;
+use std::alloc::Global;
 use std::process::Abort;
 use std::test::Fail;
 
@@ -47,13 +49,19 @@ fn assert_words(rt: &impl Abort, opened: &Opened) {
     assert!(rt; session.odd_cut.version == Version(0));
 }
 
+// The store of the device, and its pairs.
+fn recovered<D: Device>(alloc: Global, d: &mut D) -> Result<(Opened, Vec<(Key, Value)>), Fault> {
+    let opened = recover(alloc, d)?;
+    let pairs = content(alloc, &opened, d)?;
+    Ok((opened, pairs))
+}
+
 #[test]
 fn a_log_commit_is_opened(rt: HostRuntime) -> Result<(), Fail> {
     let mut disk = second_commit(rt.alloc())?;
-    let opened = recover(rt.alloc(), &mut disk)?;
+    let (opened, pairs) = recovered(rt.alloc(), &mut disk)?;
     assert_opened(&rt, &opened);
     assert_words(&rt, &opened);
-    let pairs = content(rt.alloc(), &opened, &mut disk)?;
     let wanted = [(Key(FIRST_KEY), Value(13)), (Key(SECOND_KEY), Value(20))];
     assert!(rt; pairs.as_slice() == wanted.as_slice());
     Ok(())
