@@ -61,6 +61,12 @@ LIVES = image(
     " ".join(f"{version << 48} 1 1" for version in range(2, 11)),
 )
 
+# commit 2 behind commit 1, with one record more: a log commit over its checkpoint, and one with a checkpoint of its own
+TWO = [
+    image(BLOCK + SLOT + FORMATS[2] + " 512=165 520=2 536=3 544=1 560=1 568=2 1016=3 " + form, "281474976710656 1 10 562949953421313 1 11")
+    for form in ("528=2 552=1 824=1", "528=3 552=0 824=2 1536=1 1544=2")
+]
+
 # the most sessions, of which the last alone has a point
 MOST = image(NEW + SLOT + FORMATS[2] + " 40=32 1072=32 1080=0 1328=1", "281474976710656 1 10")
 
@@ -101,8 +107,11 @@ ONE_CHANGED = """
     1048=1: Manifest 1
     1086=1: Manifest 1
     1080=0 1086=1: Manifest 1
+    1072=0: Manifest 1
+    1072=2: Manifest 1
     3328=16: Triple 0
     3334=1: Triple 0
+    3336=0: Triple 0
     3336=2: Triple 0
     1056=2 3344=1 3352=1: Triple 1
     5144=1: Record 1
@@ -120,6 +129,7 @@ FIRST_NUMBER = """
     1032=253 1033=31: commit 8189 tail 2 points 1, checkpoint 8189 from 2 triples 1 area 1, lost, entries 1.0:1, pairs 1=10
     1032=255 1033=31: Manifest 1
     1064=0: Manifest 1
+    1144=1: Manifest 1
     1336=1: Manifest 1
     1528=1: Manifest 1
     40=9 1072=9: Manifest 1
@@ -187,7 +197,12 @@ LEFT_OUT_CHANGED = """
     3336=2 5199=64 5223=64: commit 1 tail 5 points 2, checkpoint 1 from 3 triples 1 area 1, lost, entries 1.0:2, pairs 1=10 524289=20
     5174=2: Record 2
     5175=64: Link 2
+    5168=0 5174=0: Record 2
     5150=0: Record 1
+    5150=2: Record 1
+    5144=1: Record 1
+    5152=2: Link 1
+    5216=0 5224=2 5226=0: Link 4
 """
 
 # a log commit's slot: the numbers that stand alike in the second format and in the third; its log may end where its lost records do
@@ -264,6 +279,10 @@ TRIPLE_CHANGED = """
     3336=2: commit 2 tail 6 points 3, checkpoint 1 from 3 triples 1 area 1, lost 5:2, entries 1.0:5, pairs 1=13 524289=20
     3336=1: Link 3
     3336=6: Triple 0
+    3336=2 5192=5: Record 3
+    3336=2 5192=1: Link 3
+    3336=2 5152=2: Link 1
+    3328=16: Triple 0
     3328=2: Link 3
     3333=128: Triple 0
 """
@@ -370,6 +389,15 @@ HOMES_CHANGED = """
     1056=1 3328=2 3336=4 5150=0 5192=0 5240=1: Link 5
 """
 
+# the record behind the checkpoint's start counts, or is what the triple leads to
+TWO_LOGGED = """
+    824=1: commit 2 tail 3 points 2, checkpoint 1 from 2 triples 1 area 1, lost, entries 1.0:2, pairs 1=11
+"""
+
+TWO_COPIED = """
+    824=2: commit 2 tail 3 points 2, checkpoint 2 from 3 triples 1 area 0, lost, entries 1.0:2, pairs 1=11
+"""
+
 # eight lost ranges, and a ninth that is in order too
 SECOND_LOST = """
     1152=8: commit 11 tail 10 points 0, checkpoint 0 from 1 triples 0 area 0, lost 2:2 3:3 4:4 5:5 6:6 7:7 8:8 9:9, entries 1.0:9, pairs 1=10
@@ -414,6 +442,8 @@ TABLES = [
     ("a log commit, format 2", LOGGED[0], SLOT_CHANGED + SECOND_CHANGED),
     ("a log commit, format 3", LOGGED[1], SLOT_CHANGED + THIRD_CHANGED),
     ("its log", LOGGED[1], TRIPLE_CHANGED + LOST_CHANGED + KEPT_CHANGED + INVALID_CHANGED + BELOW_CHANGED + TWICE_CHANGED),
+    ("a log commit of one record", TWO[0], TWO_LOGGED),
+    ("a copy over one record", TWO[1], TWO_COPIED),
     ("two homes", HOMES, HOMES_CHANGED),
     ("eight lost ranges, format 2", EIGHT_LOST[0], SECOND_LOST),
     ("eight lost ranges, format 3", EIGHT_LOST[1], THIRD_LOST),

@@ -1,14 +1,11 @@
 //! What no clause says: that calls succeed, what a real file does, and bytes written by hand.
-use fkv_base::Fault;
-use fkv_disk::{
-    Device, FileDisk, Fuse, FuseState, MemDisk, Once, law_anything_in_range, law_forgotten,
-    law_fuse_says, law_synced, law_torn, law_written_and_synced, make_file, open_file,
-};
+use fkv_disk::{Device, FileDisk, Fuse, FuseState, MemDisk, Once, make_file, open_file};
+use std::alloc::Global;
+use std::process::Abort;
 use std::test::Fail;
 
-#[test]
-fn memory_reads_back(rt: HostRuntime) -> Result<(), Fail> {
-    let mut disk = MemDisk::new(rt.alloc());
+fn memory_reads_back(rt: &impl Abort, alloc: Global) -> Result<(), Fail> {
+    let mut disk = MemDisk::new(alloc);
     disk.write(2, &[7, 8])?;
     disk.sync()?;
     assert!(rt; disk.write(u64::MAX, &[1]).is_err());
@@ -16,17 +13,16 @@ fn memory_reads_back(rt: HostRuntime) -> Result<(), Fail> {
     disk.write(0, &[6])?;
     disk.forget_synced()?;
     assert!(rt; disk.bytes() == [6, 0, 7, 8].as_slice());
-    let mut disk = MemDisk::from_bytes(rt.alloc(), disk.into_bytes())?;
+    let mut disk = MemDisk::from_bytes(alloc, disk.into_bytes())?;
     let mut read = [9; 4];
     disk.read(3, &mut read)?;
     assert!(rt; read == [8, 0, 0, 0]);
     Ok(())
 }
 
-#[test]
-fn a_fuse_tears_what_was_not_synced(rt: HostRuntime) -> Result<(), Fail> {
-    let opening = [1, 2, 3, 4].to_vec(rt.alloc())?;
-    let mut fuse = Fuse::new(MemDisk::from_bytes(rt.alloc(), opening)?);
+fn a_fuse_tears_what_was_not_synced(rt: &impl Abort, alloc: Global) -> Result<(), Fail> {
+    let opening = [1, 2, 3, 4].to_vec(alloc)?;
+    let mut fuse = Fuse::new(MemDisk::from_bytes(alloc, opening)?);
     fuse.write(0, &[5])?;
     fuse.arm(2);
     fuse.sync()?;
@@ -41,9 +37,8 @@ fn a_fuse_tears_what_was_not_synced(rt: HostRuntime) -> Result<(), Fail> {
     Ok(())
 }
 
-#[test]
-fn one_call_fails_alone(rt: HostRuntime) -> Result<(), Fail> {
-    let mut once = Once::new(MemDisk::new(rt.alloc()), 1);
+fn one_call_fails_alone(rt: &impl Abort, alloc: Global) -> Result<(), Fail> {
+    let mut once = Once::new(MemDisk::new(alloc), 1);
     once.write(0, &[1])?;
     assert!(rt; once.write(0, &[2]).is_err());
     assert!(rt; once.device().bytes() == [1].as_slice());
@@ -52,6 +47,13 @@ fn one_call_fails_alone(rt: HostRuntime) -> Result<(), Fail> {
     let fuse = Fuse::new(once.into_device());
     assert!(rt; fuse.into_device().bytes() == [3].as_slice());
     Ok(())
+}
+
+#[test]
+fn devices_in_memory_read_back(rt: HostRuntime) -> Result<(), Fail> {
+    memory_reads_back(&rt, rt.alloc())?;
+    a_fuse_tears_what_was_not_synced(&rt, rt.alloc())?;
+    one_call_fails_alone(&rt, rt.alloc())
 }
 
 #[test]
@@ -77,16 +79,5 @@ fn a_file_reads_back(rt: HostRuntime) -> Result<(), Fail> {
     assert!(rt; endless.failures() == 1);
     std::fs::remove_file(&rt, path)?;
     assert!(rt; open_file(&rt, path).is_err());
-    Ok(())
-}
-
-#[test]
-fn laws_hold(_rt: HostRuntime) -> Result<(), Fail> {
-    law_torn();
-    law_synced();
-    law_written_and_synced();
-    law_anything_in_range();
-    law_forgotten();
-    law_fuse_says();
     Ok(())
 }

@@ -1,34 +1,29 @@
-//! Tests of numbers and of the plain map, of what stands in an image, and of how a store is created, recovered and read. They stand in a crate of their own,
-//! since a crate with tests is proved twice.
+//! Tests of numbers and of the plain map, of what stands in an image, and of how a store is created, recovered and read: each public
+//! function once, and bytes written by hand. They stand in a crate of their own, since a crate with tests is proved twice. Tables of
+//! damaged images are in tools/openings, crashes and failures at each call of a commit in tools/rows.
 #![tactic(auto)]
 
 #[cfg(test)]
 mod base;
 #[cfg(test)]
-mod chains;
-#[cfg(test)]
 mod creating;
 #[cfg(test)]
 mod disk;
 #[cfg(test)]
+mod images;
+#[cfg(test)]
+mod laws;
+#[cfg(test)]
 mod manifest;
 #[cfg(test)]
-mod map_history;
-#[cfg(test)]
-mod map_laws;
-#[cfg(test)]
-mod map_operations;
-#[cfg(test)]
-mod map_plain_map;
-#[cfg(test)]
-mod newest;
+mod map;
 #[cfg(test)]
 mod opening;
 #[cfg(test)]
-mod pairs;
+mod places;
 #[cfg(test)]
 mod record;
 #[cfg(test)]
-mod room;
+mod slots;
 #[cfg(test)]
-mod scan;
+mod stages;

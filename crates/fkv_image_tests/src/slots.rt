@@ -1,0 +1,141 @@
+//! Bytes of slots in each format, written by hand.
+use crate::places::bytes_with;
+use arrayvec::ArrayVec;
+use fkv_base::{Addr, MAX_SESSIONS, Serial, Version};
+use fkv_record::{
+    Format, LostRange, LostRanges, ManifestSlot, Points, Slot, open_number, read_manifest_slot,
+    read_slot, write_manifest_slot, write_newest_slot, write_slot,
+};
+
+/// The slot of the first commit of a store with one session that has made one update.
+fn sample_slot() -> Slot {
+    let mut serials = ArrayVec::new();
+    serials.push(Serial(1));
+    Slot {
+        number: 1,
+        first: Addr(2),
+        end: Addr(2),
+        triples: 1,
+        area: 1,
+        points: Points { serials },
+    }
+}
+
+/// And its numbers.
+const SLOT: [(usize, u64); 8] = [
+    (0, 0xa5),
+    (8, 1),
+    (16, 2),
+    (24, 2),
+    (32, 1),
+    (40, 1),
+    (48, 1),
+    (56, 1),
+];
+
+#[test]
+fn a_slot_has_its_bytes(rt: HostRuntime) {
+    let slot = sample_slot();
+    let bytes = bytes_with(&rt, &SLOT);
+    assert!(rt; write_slot(&slot) == bytes);
+    assert!(rt; read_slot(&bytes) == Some(slot));
+}
+
+// A closed gate, byte 1, no session, too many sessions, a point of 2^48, a number after the points, the last byte.
+const NO_SLOT: [(usize, u64); 7] = [
+    (0, 0),
+    (0, 0x1a5),
+    (48, 0),
+    (48, MAX_SESSIONS + 1),
+    (56, Serial::LAST + 1),
+    (64, 1),
+    (504, 1 << 63),
+];
+
+#[test]
+fn what_is_no_slot_is_refused(rt: HostRuntime) {
+    for change in NO_SLOT {
+        let mut numbers = [change; 9];
+        numbers[..8].copy_from_slice(&SLOT);
+        assert!(rt; read_slot(&bytes_with(&rt, &numbers)).is_none());
+    }
+    // The last of 32 points is 7.
+    let mut most = [(48, MAX_SESSIONS); 10];
+    most[..8].copy_from_slice(&SLOT);
+    most[9] = (304, 7);
+    let read = read_slot(&bytes_with(&rt, &most));
+    assert!(rt; read.map(|slot| slot.points.serials.len()) == Some(32));
+}
+
+/// The slot of a second commit that uses the first one's checkpoint, with a range of records that were lost between them.
+fn sample_manifest() -> ManifestSlot {
+    let mut serials = ArrayVec::new();
+    serials.push(Serial(3));
+    let mut ranges = ArrayVec::new();
+    ranges.push(LostRange {
+        to: Addr(5),
+        version: Version(2),
+    });
+    ManifestSlot {
+        number: 2,
+        first: Addr(3),
+        end: Addr(6),
+        triples: 1,
+        area: 1,
+        points: Points { serials },
+        checkpoint: 1,
+        lost: LostRanges { ranges },
+    }
+}
+
+/// What every format has of it.
+const FRONT: [(usize, u64); 8] = [
+    (0, 0xa5),
+    (8, 2),
+    (16, 3),
+    (24, 6),
+    (32, 1),
+    (40, 1),
+    (48, 1),
+    (56, 3),
+];
+
+/// What the second format and the third have of it besides.
+const SECOND: [(usize, u64); 5] = [(120, 1), (128, 1), (136, 5), (144, 2), (504, 2)];
+
+const THIRD: [(usize, u64); 5] = [(312, 1), (320, 1), (328, 5), (336, 2), (504, 3)];
+
+#[test]
+fn later_formats_have_their_bytes(rt: HostRuntime) {
+    let slot = sample_manifest();
+    for (more, format) in [(SECOND, Format::Second), (THIRD, Format::Third)] {
+        let mut numbers = [(0, 0); 13];
+        numbers[..8].copy_from_slice(&FRONT);
+        numbers[8..].copy_from_slice(&more);
+        let bytes = bytes_with(&rt, &numbers);
+        assert!(rt; write_manifest_slot(&slot, format) == Some(bytes));
+        let read = read_manifest_slot(&bytes);
+        assert!(rt;
+            read.map(|(found, read)| (found, read == sample_manifest())) == Some((format, true))
+        );
+    }
+    // The first format has no place for another commit's checkpoint, nor for a range.
+    assert!(rt; write_manifest_slot(&slot, Format::First).is_none());
+    let newest = write_newest_slot(&slot);
+    assert!(rt; write_manifest_slot(&slot, Format::Third) == Some(newest));
+}
+
+#[test]
+fn a_slot_of_the_first_format_is_its_own_checkpoint(rt: HostRuntime) {
+    let bytes = bytes_with(&rt, &SLOT);
+    let read = read_manifest_slot(&bytes);
+    let said = read.map(|(format, slot)| (
+        format,
+        slot.number,
+        slot.checkpoint,
+        slot.lost.ranges.len(),
+    ));
+    assert!(rt; said == Some((Format::First, 1, 1, 0)));
+    assert!(rt; open_number(&bytes) == Some(1));
+    assert!(rt; open_number(&[0xff; 512]).is_none());
+}
