@@ -47,13 +47,18 @@ fn shape() -> Result<Shape, Fault> {
     Shape::new(4, 16, 4, 2, 1, 0, 64)
 }
 
+fn made(once: &mut Once<MemDisk>) -> Result<(), Fault> {
+    create(once, shape()?)?;
+    Ok(())
+}
+
 // Asserts what is answered where the call of creation behind so many fails, and that the store is when it is made again.
 fn create_twice(rt: &impl Abort, alloc: Global, passing: u64, wanted: &str) -> Result<(), Fail> {
     let mut once = Once::new(MemDisk::new(alloc), passing);
-    assert_eq!(rt; create(&mut once, shape()?).err(), Some(Fault::Device));
+    assert!(rt; matches!(made(&mut once), Err(Fault::Device)));
     let found = answer(alloc, &mut once)?;
     assert_eq!(rt; found.as_str(), wanted, "call {passing}");
-    create(&mut once, shape()?)?;
+    made(&mut once)?;
     let again = answer(alloc, &mut once)?;
     assert_eq!(rt; again.as_str(), NEW, "behind {passing}");
     Ok(())
@@ -88,19 +93,24 @@ fn created(alloc: Global, old: &[u8], passing: u64, torn: u8) -> Result<String, 
     Ok(answer(alloc, &mut left)?)
 }
 
+fn crash(rt: &impl Abort, alloc: Global, old: &[u8], passing: u64) -> Result<(), Fail> {
+    for torn in [0, 165, 255] {
+        let is_new = passing == 8 || (passing >= 6 && torn == 165);
+        let wanted = if is_new { NEW } else { "NotAStore" };
+        let found = created(alloc, old, passing, torn)?;
+        assert_eq!(rt; found.as_str(), wanted, "call {passing} torn {torn}");
+    }
+    Ok(())
+}
+
 // Each call in turn is the one at which the power is cut, over an empty device and over another store. From the write of
 // the gate on its own byte may be left, and before that no store is; behind the last call nothing is torn.
 #[test]
 fn a_crash_leaves_no_store_or_the_new_one(rt: HostRuntime) -> Result<(), Fail> {
-    for old in [Vec::new(rt.alloc()), logged(rt.alloc())?] {
-        for passing in 0..9 {
-            for torn in [0, 165, 255] {
-                let is_new = passing == 8 || (passing >= 6 && torn == 165);
-                let wanted = if is_new { NEW } else { "NotAStore" };
-                let found = created(rt.alloc(), &old, passing, torn)?;
-                assert_eq!(rt; found.as_str(), wanted, "call {passing} torn {torn}");
-            }
-        }
+    let store = logged(rt.alloc())?;
+    for passing in 0..9 {
+        crash(&rt, rt.alloc(), &[], passing)?;
+        crash(&rt, rt.alloc(), &store, passing)?;
     }
     Ok(())
 }
