@@ -17,14 +17,24 @@ fn stored(alloc: Global, passing: u64) -> Result<Once<MemDisk>, Fault> {
     Ok(Once::new(disk, passing))
 }
 
-// Asserts that this call's failure is answered, and the store when it is opened again.
+// Asserts what is answered, where so many calls passed before.
+fn compare(
+    rt: &impl Abort,
+    alloc: Global,
+    once: &mut Once<MemDisk>,
+    passing: u64,
+    wanted: &str,
+) -> Result<(), Fail> {
+    let found = answer(alloc, once)?;
+    assert_eq!(rt; found.as_str(), wanted, "call {passing}");
+    Ok(())
+}
+
+// The failure of the call behind so many is answered, and then the store.
 fn open_twice(rt: &impl Abort, alloc: Global, passing: u64) -> Result<(), Fail> {
     let mut once = stored(alloc, passing)?;
-    let found = answer(alloc, &mut once)?;
-    assert_eq!(rt; found.as_str(), "Device", "call {passing}");
-    let again = answer(alloc, &mut once)?;
-    assert_eq!(rt; again.as_str(), LOGGED, "behind {passing}");
-    Ok(())
+    compare(rt, alloc, &mut once, passing, "Device")?;
+    compare(rt, alloc, &mut once, passing, LOGGED)
 }
 
 // Recovery of this image makes ten calls: a sync, and reads of the front, of the triple, of three records, of the one that a
@@ -35,9 +45,8 @@ fn each_call_of_an_opening_fails(rt: HostRuntime) -> Result<(), Fail> {
     for passing in 0..13 {
         open_twice(&rt, rt.alloc(), passing)?;
     }
-    let found = answer(rt.alloc(), &mut stored(rt.alloc(), 13)?)?;
-    assert_eq!(rt; found.as_str(), LOGGED);
-    Ok(())
+    let mut once = stored(rt.alloc(), 13)?;
+    compare(&rt, rt.alloc(), &mut once, 13, LOGGED)
 }
 
 const NEW: &str =
@@ -52,16 +61,13 @@ fn made(once: &mut Once<MemDisk>) -> Result<(), Fault> {
     Ok(())
 }
 
-// Asserts what is answered where the call of creation behind so many fails, and that the store is when it is made again.
+// The call of creation behind so many fails, and then it is made again.
 fn create_twice(rt: &impl Abort, alloc: Global, passing: u64, wanted: &str) -> Result<(), Fail> {
     let mut once = Once::new(MemDisk::new(alloc), passing);
     assert!(rt; matches!(made(&mut once), Err(Fault::Device)));
-    let found = answer(alloc, &mut once)?;
-    assert_eq!(rt; found.as_str(), wanted, "call {passing}");
+    compare(rt, alloc, &mut once, passing, wanted)?;
     made(&mut once)?;
-    let again = answer(alloc, &mut once)?;
-    assert_eq!(rt; again.as_str(), NEW, "behind {passing}");
-    Ok(())
+    compare(rt, alloc, &mut once, passing, NEW)
 }
 
 // The call behind the refused one would be refused too. How many were refused.
