@@ -116,6 +116,7 @@ ONE_CHANGED = """
     1056=2 3344=1 3352=1: Triple 1
     5144=1: Record 1
     5150=2: Record 1
+    5150=0: Record 1
     5151=32: Record 1
     5151=64: Link 1
     5152=2: Link 1
@@ -137,6 +138,7 @@ FIRST_NUMBER = """
 
 # in the second a slot has no place for a ninth session's point either, and no checkpoint is newer than its commit
 SECOND_NUMBER = """
+    1032=253 1033=31: commit 8189 tail 2 points 1, checkpoint 1 from 2 triples 1 area 1, lost, entries 1.0:1, pairs 1=10
     40=9 1072=9: Manifest 1
     1144=2: Manifest 1
 """
@@ -452,6 +454,100 @@ TABLES = [
     ("eight homes", CROWD, CROWD_CHANGED),
 ]
 
+# what the samples without a change are answered
+ONE_WHOLE = "commit 1 tail 2 points 1, checkpoint 1 from 2 triples 1 area 1, lost, entries 1.0:1, pairs 1=10"
+LEFT_OUT_WHOLE = (
+    "commit 1 tail 5 points 2, checkpoint 1 from 3 triples 1 area 1, lost 5:2, entries 1.0:2, pairs 1=10 524289=20"
+)
+LOGGED_WHOLE = (
+    "commit 2 tail 6 points 3, checkpoint 1 from 3 triples 1 area 1, lost 5:2, entries 1.0:5, pairs 1=13 524289=20"
+)
+WHOLE = [
+    *((f"one commit, format {form + 1}", ONE[form], ONE_WHOLE) for form in (0, 1, 2)),
+    *((f"records left out, format {form + 1}", LEFT_OUT[form], LEFT_OUT_WHOLE) for form in (0, 1, 2)),
+    *((f"a log commit, format {form + 2}", LOGGED[form], LOGGED_WHOLE) for form in (0, 1)),
+]
+
+# a store over many lives whose log commits leave a record out each: those of commits 1, 2, 3 and 9, over the checkpoint of commit
+# 0. Each names the records that those before it left out; the one of commit 9 is full. And full commit 10
+LOST_RECORDS = " ".join(f"{version << 48} 1 1" for version in range(2, 11))
+MANY_LIVES = """
+    1024=165 1032=1 1040=1 1048=2 1072=1 1528=3: commit 1 tail 2 points 0, checkpoint 0 from 1 triples 0 area 0, lost 2:2, entries, pairs
+    512=165 520=2 528=1 536=3 560=1 832=1 840=2 848=2 1016=3: commit 2 tail 3 points 0, checkpoint 0 from 1 triples 0 area 0, lost 2:2 3:3, entries, pairs
+    1024=165 1032=3 1040=1 1048=4 1072=1 1344=2 1352=2 1360=2 1368=3 1376=3 1528=3: commit 3 tail 4 points 0, checkpoint 0 from 1 triples 0 area 0, lost 2:2 3:3 4:4, entries, pairs
+    1024=165 1032=9 1040=1 1048=10 1072=1 1344=8 1352=2 1360=2 1368=3 1376=3 1384=4 1392=4 1400=5 1408=5 1416=6 1424=6 1432=7 1440=7 1448=8 1456=8 1464=9 1472=9 1528=3: commit 9 tail 10 points 0, checkpoint 0 from 1 triples 0 area 0, lost 2:2 3:3 4:4 5:5 6:6 7:7 8:8 9:9 10:10, entries, pairs
+    512=165 520=10 528=10 536=10 552=1 560=1 824=10 1016=3: commit 10 tail 10 points 0, checkpoint 10 from 10 triples 0 area 1, lost, entries, pairs
+"""
+
+# log commit 2 over the checkpoint in area 1, and three records. A third commit was cut off at the first write of its triples: had it been
+# written over the area in use, the checkpoint would be gone
+CUT_OFF_BASE = (
+    "1024=165 1032=1 1040=2 1048=2 1056=1 1064=1 1072=1 1080=1 3328=1 3336=1 1336=1 1528=3 "
+    "512=165 520=2 528=2 536=3 544=1 552=1 560=1 568=2 824=1 1016=3 "
+)
+CUT_OFF_RECORDS = "281474976710656 1 10 562949953421313 1 11 844424930131970 1 12"
+CUT_OFF = """
+    1536=11936128518282651045 1544=11936128518282651045: commit 2 tail 3 points 2, checkpoint 1 from 2 triples 1 area 1, lost, entries 1.0:2, pairs 1=11
+    3328=11936128518282651045 3336=11936128518282651045: Triple 0
+"""
+
+# eight sessions open in each format, and one more in the third alone, which has places for it
+SESSIONS_SLOT = "1024=165 1032=1 1040=2 1048=2 1056=1 1064=1 3328=1 3336=1 1080=1 1088=2 1096=3 1104=4 1112=5 1120=6 1128=7 1136=8 "
+EIGHT_SESSIONS = """
+    40=8 1072=8 1528=0: commit 1 tail 2 points 1 2 3 4 5 6 7 8, checkpoint 1 from 2 triples 1 area 1, lost, entries 1.0:1, pairs 1=10
+    40=8 1072=8 1144=1 1528=2: commit 1 tail 2 points 1 2 3 4 5 6 7 8, checkpoint 1 from 2 triples 1 area 1, lost, entries 1.0:1, pairs 1=10
+    40=8 1072=8 1336=1 1528=3: commit 1 tail 2 points 1 2 3 4 5 6 7 8, checkpoint 1 from 2 triples 1 area 1, lost, entries 1.0:1, pairs 1=10
+    40=9 1072=9 1144=9 1528=0: Manifest 1
+    40=9 1072=9 1144=9 1528=2: Manifest 1
+    40=9 1072=9 1144=9 1336=1 1528=3: commit 1 tail 2 points 1 2 3 4 5 6 7 8 9, checkpoint 1 from 2 triples 1 area 1, lost, entries 1.0:1, pairs 1=10
+"""
+
+# tables of numbers of eight bytes: what each row has besides the base, its records, and its answer
+NUMBERED = [
+    ("many lives", "", LOST_RECORDS, MANY_LIVES),
+    ("a third commit is cut off", CUT_OFF_BASE, CUT_OFF_RECORDS, CUT_OFF),
+    ("sessions with a point each", SESSIONS_SLOT, "281474976710656 1 10", EIGHT_SESSIONS),
+]
+
+# The ten calls of a second commit, of the third format, over a store of the first: a record of key 1 with the value 11, the triple that
+# leads to it, and slot 0 behind its gate, which is written last; each write is synced before the next.
+SECOND_SLOT = image("520=2 528=3 536=3 544=1 560=1 568=2 824=2 1016=3")[513:1024]
+COMMIT_WRITES = [
+    (5168, b"".join(number.to_bytes(8, "little") for number in ((2 << 48) + 1, 1, 11))),
+    (1536, (1).to_bytes(8, "little") + (2).to_bytes(8, "little")),
+    (512, bytes([0])),
+    (513, SECOND_SLOT),
+    (512, bytes([165])),
+]
+SECOND_WHOLE = "commit 2 tail 3 points 2, checkpoint 2 from 3 triples 1 area 0, lost, entries 1.0:2, pairs 1=11"
+
+
+def written(whole, at, part):
+    """The image with these bytes from a place on."""
+    padded = whole.ljust(at, b"\0")
+    return padded[:at] + part + padded[at + len(part) :]
+
+
+def cut_off(passing, torn):
+    """What a crash leaves where so many calls of the second commit pass: the write of the call that fails, or that of a sync that
+    does, is torn."""
+    left = ONE[0]
+    for number, (at, part) in enumerate(COMMIT_WRITES):
+        if passing < 2 * number:
+            break
+        left = written(left, at, part if passing > 2 * number + 1 else bytes([torn]) * len(part))
+    return left
+
+
+def format_changes():
+    """The first commit stands, in the first format, until the gate of the second one is open."""
+    for passing in range(10):
+        for torn in (0, 165, 255):
+            wanted = SECOND_WHOLE if passing >= 8 and torn == 165 else ONE_WHOLE
+            yield f"a format changes: call {passing} torn {torn}", cut_off(passing, torn), wanted
+    yield "a format changes", cut_off(10, 255), SECOND_WHOLE
+
+
 # an image that ends early has zeros from there on
 CUT = {
     63: "NotAStore",
@@ -464,11 +560,21 @@ CUT = {
 }
 
 
+def split(table):
+    """The rows of a table, each its places and its answer."""
+    for line in filter(None, map(str.strip, table.splitlines())):
+        yield line.split(": ", 1)
+
+
 def rows():
     """The images, each with a name and its answer."""
+    yield from WHOLE
+    for name, base, records, table in NUMBERED:
+        for places, wanted in split(table):
+            yield f"{name}: {places}", image(BLOCK + base + places, records), wanted
     for name, whole, table in TABLES:
-        for line in filter(None, map(str.strip, table.splitlines())):
-            places, wanted = line.split(": ", 1)
+        for places, wanted in split(table):
             yield f"{name}: {places}", changed(whole, places), wanted
+    yield from format_changes()
     for size, wanted in CUT.items():
         yield f"one commit: {size} bytes", ONE[0][:size], wanted

@@ -1,5 +1,5 @@
 """What is refused before anything runs: words of the program, lines of a script, and shapes."""
-from rows import Row
+from rows import STORE, Row
 from shapes import ONE
 
 SHAPE = f"{ONE}\n"
@@ -12,6 +12,8 @@ LINES = [
     (SHAPE + "open 1 2\n", "2 Order"),
     ("# a store\n\n  \n0 get 1\n", "4 Order"),
     ("  # no comment\n", "1 Order"),
+    ("1\n", "1 Order"),
+    (SHAPE + "\n#\n \nopen\n", "5 Order"),
     (SHAPE + "0 put 1 2", "2 Word"),
     (SHAPE + "up 0 1", "2 Word"),
     (SHAPE + "crash\r\n", "2 Word"),
@@ -22,6 +24,11 @@ LINES = [
     (SHAPE + "k commit full\n", "2 Word"),
     (SHAPE + "k commit lo log\n", "2 Word"),
     (SHAPE + "9x put 1\n", "2 Word"),
+    (SHAPE + " refresh\n", "2 Word"),
+    (SHAPE + " \r\n", "2 Word"),
+    (SHAPE + "0 finish refresh\n", "2 Word"),
+    (SHAPE + "9x log -1 é\n", "2 Word"),
+    (SHAPE + "k commit full log\n", "2 Word"),
     (SHAPE + "0 up 1\n", "2 Count"),
     (SHAPE + "0 up 1 x 3\n", "2 Count"),
     (SHAPE + "k\n", "2 Count"),
@@ -29,10 +36,13 @@ LINES = [
     (SHAPE + "0 wake 1\n", "2 Count"),
     (SHAPE + "k commit log log\n", "2 Count"),
     (SHAPE + "k finish 1\n", "2 Count"),
+    (SHAPE + "k turn 1\n", "2 Count"),
+    (SHAPE + "9x poll 2 10\n", "2 Count"),
     (SHAPE + "crash 1 2\n", "2 Count"),
     (SHAPE + "crash 0 x\n", "2 Count"),
     (SHAPE + "fail\n", "2 Count"),
     ("shape 4 16 4 2 1 0\n", "1 Count"),
+    ("shape 4 2 1 3 2 k\n", "1 Count"),
     ("open 1\n", "1 Count"),
     (SHAPE + "0x up 1 2\n", "2 Number"),
     (SHAPE + "9x get 1\n", "2 Number"),
@@ -45,7 +55,9 @@ LINES = [
     (SHAPE + "crash -1\n", "2 Number"),
     (SHAPE + "crash 18446744073709551616\n", "2 Number"),
     (SHAPE + "fail 0\n", "2 Number"),
+    (SHAPE + "0 del +1\n", "2 Number"),
     ("shape 4 16 4 2 1 0 -64\n", "1 Number"),
+    ("shape 1 4 4 get 1 1 64", "1 Number"),
     ("open\n", "1 Mode"),
     # a line has at most 200 bytes, and a script at most 65,536 lines
     (SHAPE + "0 get " + "1" * 195, "2 Size"),
@@ -55,6 +67,17 @@ LINES = [
     ("#\n" * 65537, "65537 Size"),
     # and a longer one is read no further than its first faulty line can stand
     (("#" * 200 + "\n") * 65537, "65537 Size"),
+]
+
+# and of one over a store in a file
+LINES_OF_FILE = [
+    (SHAPE + "shape x\n", "2 Order"),
+    (SHAPE + "crash x y\n", "2 Count"),
+    (SHAPE + "crash x\n", "2 Number"),
+    ("open\ncrash\n", "2 Mode"),
+    ("open\nfail\n", "2 Count"),
+    ("open\nfail 0\n", "2 Number"),
+    ("open\nfail 1\n", "2 Mode"),
 ]
 
 # each size outside of its limits, one at a time
@@ -83,14 +106,33 @@ WORDS = [
     ("--seed",),
     ("--seed", "x"),
     ("--seed", "-1"),
+    ("--seed=-1",),
+    ("--seed=-0",),
+    ("--seed", ""),
+    ("--seed=",),
     ("--seed", "18446744073709551616"),
+    ("--seed=18446744073709551616",),
+    ("--seed", "--check"),
     ("--seed", "1", "--seed", "1"),
+    ("--torn",),
     ("--torn", "256"),
+    ("--torn=256",),
+    ("--torn", "-1"),
+    ("--torn=-1",),
+    ("--torn", "18446744073709551616"),
+    ("--torn", "1", "--torn=1"),
     ("--torn=",),
     ("--torn", "1.5"),
     ("--check=1",),
+    ("--check", "true"),
     ("--check", "--check"),
+    ("--check", "image"),
+    ("--", "--check"),
     ("--file",),
+    ("--file", "--check"),
+    ("--file", "a", "--file", "b"),
+    ("--fil", "a"),
+    ("-c",),
     ("--threads",),
     ("--seed", "1", "--threads"),
     ("--help",),
@@ -112,6 +154,8 @@ ACCEPTED = [
 
 def refused():
     yield from (Row(f"script line {fault}", script, f"script line {fault}\n", 2) for script, fault in LINES)
+    over_file = ("--file", STORE)
+    yield from (Row(f"script line {fault} over a file", it, f"script line {fault}\n", 2, over_file, left=None) for it, fault in LINES_OF_FILE)
     yield from (Row(f"shape {sizes}", f"shape {sizes}\n0 get 1\n", "refused 1 BadShape\n", 2) for sizes in SHAPES)
     # before the script is looked at
     yield from (Row(f"the words {words}", "0 up\n", "options\n", 2, words) for words in WORDS)

@@ -2,6 +2,7 @@
 import os
 import resource
 import signal
+import socket
 import subprocess
 import tempfile
 
@@ -64,6 +65,17 @@ def to_nobody(program, script):
     return status
 
 
+def broken_off(program, script):
+    """The status and the answers where the script's stream gives the script, and fails behind it."""
+    given, other = socket.socketpair()
+    with given:
+        with other:
+            other.sendall(spelled(script))
+            given.send(b"x")  # nobody reads it, so the other end is reset as it is closed
+        run = subprocess.run([program], stdin=given, stdout=subprocess.PIPE, timeout=SECONDS)
+    return run.returncode, run.stdout
+
+
 def streams(program):
     """How many runs there were, and what was otherwise."""
     script, answers = side_by_side(SCRIPT)
@@ -96,4 +108,5 @@ def streams(program):
     os.close(folder)
     run = subprocess.run([program], preexec_fn=lambda: os.close(0), stdout=subprocess.PIPE, timeout=SECONDS)
     expect("a script's stream that is closed", (run.returncode, run.stdout), (4, b""))
+    expect("a script's stream that fails behind the script", broken_off(program, script), (4, b""))
     return len(seen), [it for it in seen if it]

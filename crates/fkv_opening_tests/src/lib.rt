@@ -1,6 +1,6 @@
-//! Tests of recovery in the three formats, over images that are spelled number by number: what each is answered, or its fault and
-//! place. They stand in a crate of their own, since a crate with tests is proved twice. The tables of damaged images are in
-//! tools/openings, which runs this crate's program on each.
+//! Tests of recovery: calls of the device that fail, crashes and refused memory; and what is answered of an image that a tool names.
+//! The tables of images in the three formats, whole and damaged, are in tools/openings, which runs this crate's program on each. The
+//! tests stand in a crate of their own, since a crate with tests is proved twice.
 #![tactic(auto)]
 
 mod watched;
@@ -12,12 +12,8 @@ mod answers;
 #[cfg(test)]
 mod image_answers;
 #[cfg(test)]
-mod images;
-#[cfg(test)]
 mod refused_memory;
 #[cfg(test)]
 mod stops;
 #[cfg(test)]
 mod stores;
-#[cfg(test)]
-mod whole;

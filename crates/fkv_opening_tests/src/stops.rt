@@ -1,14 +1,41 @@
 //! Calls of the device that fail, and crashes there.
-use crate::answers::{answer, told};
-use crate::stores::{logged, one};
+use crate::answers::answer;
+use crate::stores::logged;
 use fkv_base::{Fault, Shape};
 use fkv_creating::create;
 use fkv_disk::{Device, Fuse, MemDisk, Once};
 use std::alloc::Global;
+use std::process::Abort;
 use std::test::Fail;
 
 const LOGGED: &str =
     "commit 2 tail 6 points 3, checkpoint 1 from 3 triples 1 area 1, lost 5:2, entries 1.0:5, pairs 1=13 524289=20";
+
+// The store on a device whose call behind so many fails.
+fn stored(alloc: Global, passing: u64) -> Result<Once<MemDisk>, Fault> {
+    let disk = MemDisk::from_bytes(alloc, logged(alloc)?)?;
+    Ok(Once::new(disk, passing))
+}
+
+// Asserts what is answered, where so many calls passed before.
+fn compare(
+    rt: &impl Abort,
+    alloc: Global,
+    once: &mut Once<MemDisk>,
+    passing: u64,
+    wanted: &str,
+) -> Result<(), Fail> {
+    let found = answer(alloc, once)?;
+    assert_eq!(rt; found.as_str(), wanted, "call {passing}");
+    Ok(())
+}
+
+// The failure of the call behind so many is answered, and then the store.
+fn open_twice(rt: &impl Abort, alloc: Global, passing: u64) -> Result<(), Fail> {
+    let mut once = stored(alloc, passing)?;
+    compare(rt, alloc, &mut once, passing, "Device")?;
+    compare(rt, alloc, &mut once, passing, LOGGED)
+}
 
 // Recovery of this image makes ten calls: a sync, and reads of the front, of the triple, of three records, of the one that a
 // lost record leads to, of the one that the triple leads to, and of two below the scan. Its pairs are read in three more, one
@@ -16,19 +43,10 @@ const LOGGED: &str =
 #[test]
 fn each_call_of_an_opening_fails(rt: HostRuntime) -> Result<(), Fail> {
     for passing in 0..13 {
-        let disk = MemDisk::from_bytes(rt.alloc(), logged(rt.alloc())?)?;
-        let mut once = Once::new(disk, passing);
-        let found = answer(rt.alloc(), &mut once)?;
-        assert_eq!(rt; found.as_str(), "Device", "call {passing}");
-        assert_eq!(rt; once.failures(), 1);
-        let again = answer(rt.alloc(), &mut once)?;
-        assert_eq!(rt; again.as_str(), LOGGED, "behind {passing}");
+        open_twice(&rt, rt.alloc(), passing)?;
     }
-    let disk = MemDisk::from_bytes(rt.alloc(), logged(rt.alloc())?)?;
-    let mut once = Once::new(disk, 13);
-    assert_eq!(rt; answer(rt.alloc(), &mut once)?.as_str(), LOGGED);
-    assert_eq!(rt; once.failures(), 0);
-    Ok(())
+    let mut once = stored(rt.alloc(), 13)?;
+    compare(&rt, rt.alloc(), &mut once, 13, LOGGED)
 }
 
 const NEW: &str =
@@ -38,34 +56,37 @@ fn shape() -> Result<Shape, Fault> {
     Shape::new(4, 16, 4, 2, 1, 0, 64)
 }
 
-// The last of the eight calls is the sync behind the gate.
-#[test]
-fn each_call_of_creation_fails(rt: HostRuntime) -> Result<(), Fail> {
-    for passing in 0..8 {
-        let mut once = Once::new(MemDisk::new(rt.alloc()), passing);
-        assert_eq!(rt; create(&mut once, shape()?).err(), Some(Fault::Device));
-        let wanted = if passing < 7 { "NotAStore" } else { NEW };
-        let found = answer(rt.alloc(), &mut once)?;
-        assert_eq!(rt; found.as_str(), wanted, "call {passing}");
-        create(&mut once, shape()?)?;
-        let again = answer(rt.alloc(), &mut once)?;
-        assert_eq!(rt; again.as_str(), NEW, "behind {passing}");
-    }
-    let mut once = Once::new(MemDisk::new(rt.alloc()), 8);
-    create(&mut once, shape()?)?;
-    assert_eq!(rt; once.failures(), 0);
+fn made(once: &mut Once<MemDisk>) -> Result<(), Fault> {
+    create(once, shape()?)?;
     Ok(())
 }
 
-// The call behind the refused one would be refused too, and none is made.
+// The call of creation behind so many fails, and then it is made again.
+fn create_twice(rt: &impl Abort, alloc: Global, passing: u64, wanted: &str) -> Result<(), Fail> {
+    let mut once = Once::new(MemDisk::new(alloc), passing);
+    assert!(rt; matches!(made(&mut once), Err(Fault::Device)));
+    compare(rt, alloc, &mut once, passing, wanted)?;
+    made(&mut once)?;
+    compare(rt, alloc, &mut once, passing, NEW)
+}
+
+// The call behind the refused one would be refused too. How many were refused.
+fn refused(alloc: Global, passing: u64) -> Result<u64, Fault> {
+    let first = Once::new(MemDisk::new(alloc), passing);
+    let mut both = Once::new(first, passing.saturating_add(1));
+    let _ = create(&mut both, shape()?);
+    Ok(both.failures())
+}
+
+// The last of the eight calls is the sync behind the gate. None is made behind a refused one.
 #[test]
-fn no_call_of_creation_comes_behind_a_refused_one(rt: HostRuntime) -> Result<(), Fail> {
+fn each_call_of_creation_fails(rt: HostRuntime) -> Result<(), Fail> {
     for passing in 0..8 {
-        let first = Once::new(MemDisk::new(rt.alloc()), passing);
-        let mut both = Once::new(first, passing + 1);
-        assert_eq!(rt; create(&mut both, shape()?).err(), Some(Fault::Device));
-        assert_eq!(rt; both.failures(), 1, "call {passing}");
+        let wanted = if passing < 7 { "NotAStore" } else { NEW };
+        create_twice(&rt, rt.alloc(), passing, wanted)?;
+        assert_eq!(rt; refused(rt.alloc(), passing)?, 1, "call {passing}");
     }
+    assert_eq!(rt; refused(rt.alloc(), 8)?, 0);
     Ok(())
 }
 
@@ -78,105 +99,24 @@ fn created(alloc: Global, old: &[u8], passing: u64, torn: u8) -> Result<String, 
     Ok(answer(alloc, &mut left)?)
 }
 
+fn crash(rt: &impl Abort, alloc: Global, old: &[u8], passing: u64) -> Result<(), Fail> {
+    for torn in [0, 165, 255] {
+        let is_new = passing == 8 || (passing >= 6 && torn == 165);
+        let wanted = if is_new { NEW } else { "NotAStore" };
+        let found = created(alloc, old, passing, torn)?;
+        assert_eq!(rt; found.as_str(), wanted, "call {passing} torn {torn}");
+    }
+    Ok(())
+}
+
 // Each call in turn is the one at which the power is cut, over an empty device and over another store. From the write of
-// the gate on its own byte may be left, and before that no store is.
+// the gate on its own byte may be left, and before that no store is; behind the last call nothing is torn.
 #[test]
 fn a_crash_leaves_no_store_or_the_new_one(rt: HostRuntime) -> Result<(), Fail> {
-    for old in [Vec::new(rt.alloc()), one(rt.alloc())?] {
-        for passing in 0..8 {
-            for torn in [0, 165, 255] {
-                let wanted = if passing >= 6 && torn == 165 {
-                    NEW
-                } else {
-                    "NotAStore"
-                };
-                assert_eq!(rt;
-                    created(rt.alloc(), &old, passing, torn)?.as_str(),
-                    wanted,
-                    "call {passing} torn {torn}"
-                );
-            }
-        }
-        assert_eq!(rt; created(rt.alloc(), &old, 8, 255)?.as_str(), NEW);
+    let store = logged(rt.alloc())?;
+    for passing in 0..9 {
+        crash(&rt, rt.alloc(), &[], passing)?;
+        crash(&rt, rt.alloc(), &store, passing)?;
     }
-    Ok(())
-}
-
-// A record of key 1 with the value 11, and the triple that leads to it.
-const RECORD: [u8; 24] = [
-    1, 0, 0, 0, 0, 0, 2, 0, 1, 0, 0, 0, 0, 0, 0, 0, 11, 0, 0, 0, 0, 0, 0, 0,
-];
-
-const TRIPLE: [u8; 16] = [1, 0, 0, 0, 0, 0, 0, 0, 2, 0, 0, 0, 0, 0, 0, 0];
-
-// Slot 0 behind its gate, in the third format: commit 2 over its own checkpoint, whose log ends at address 3.
-fn slot() -> [u8; 511] {
-    let mut slot = [0; 511];
-    slot[7] = 2;
-    slot[15] = 3;
-    slot[23] = 3;
-    slot[31] = 1;
-    slot[47] = 1;
-    slot[55] = 2;
-    slot[311] = 2;
-    slot[503] = 3;
-    slot
-}
-
-// The ten calls of a second commit.
-fn commit<D: Device>(d: &mut D) -> Result<(), Fault> {
-    let slot = slot();
-    for (at, bytes) in [
-        (5168, RECORD.as_slice()),
-        (1536, TRIPLE.as_slice()),
-        (512, [0].as_slice()),
-        (513, slot.as_slice()),
-        (512, [165].as_slice()),
-    ] {
-        d.write(at, bytes)?;
-        d.sync()?;
-    }
-    Ok(())
-}
-
-const FIRST: &str =
-    "commit 1 tail 2 points 1, checkpoint 1 from 2 triples 1 area 1, lost, entries 1.0:1, pairs 1=10";
-
-const SECOND: &str =
-    "commit 2 tail 3 points 2, checkpoint 2 from 3 triples 1 area 0, lost, entries 1.0:2, pairs 1=11";
-
-// What a crash leaves of a store of the first format in whose second commit so many calls pass.
-fn cut_off(alloc: Global, passing: u64, torn: u8) -> Result<Vec<u8>, Fault> {
-    let mut fuse = Fuse::new(MemDisk::from_bytes(alloc, one(alloc)?)?);
-    fuse.arm(passing);
-    let _ = commit(&mut fuse);
-    let left = fuse.crash(torn)?;
-    Ok(left.into_bytes())
-}
-
-// The first commit stands, in the first format, until the gate of the second one, of the third format, is open.
-#[test]
-fn a_format_changes_with_a_commit(rt: HostRuntime) -> Result<(), Fail> {
-    for passing in 0..10 {
-        for torn in [0, 165, 255] {
-            let wanted = if passing >= 8 && torn == 165 {
-                SECOND
-            } else {
-                FIRST
-            };
-            let left = cut_off(rt.alloc(), passing, torn)?;
-            assert_eq!(rt;
-                told(rt.alloc(), &left)?.as_str(),
-                wanted,
-                "call {passing} torn {torn}"
-            );
-        }
-    }
-    let left = cut_off(rt.alloc(), 10, 255)?;
-    assert_eq!(rt; told(rt.alloc(), &left)?.as_str(), SECOND);
-    assert_eq!(rt;
-        (left.get(1016).copied(), left.get(1528).copied()),
-        (Some(3), Some(0))
-    );
     Ok(())
 }

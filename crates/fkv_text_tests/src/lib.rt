@@ -1,4 +1,6 @@
-//! Tests of the program's words, of the lines of its scripts, of its texts and of whole runs. They stand in a crate of their own, since a crate with tests is proved twice.
+//! Tests of the program's words, of the lines of its scripts, of its texts and of whole runs: each public function once. Words and lines
+//! that are refused, whole scripts and streams that fail are rows for the built program, in tools/rows. The tests stand in a crate of
+//! their own, since a crate with tests is proved twice.
 #![tactic(auto)]
 
 #[cfg(test)]
@@ -7,8 +9,6 @@ mod cli;
 mod lines;
 #[cfg(test)]
 mod options;
-#[cfg(test)]
-mod programs;
 #[cfg(test)]
 mod runs;
 #[cfg(test)]

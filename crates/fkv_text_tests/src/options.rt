@@ -1,5 +1,7 @@
+//! The words after the program's name, and how a run ends early. tools/rows has the words that are refused, for the built program.
 use fkv_options::{Options, RunFault, options_of};
 use std::alloc::{AllocError, Global};
+use std::process::Abort;
 use std::test::Fail;
 
 /// Words after the program's name that are accepted, each list with the seed, check, torn byte and file that it asks for.
@@ -42,44 +44,6 @@ const ASKED: [(&[&str], &str); 24] = [
     ),
 ];
 
-/// Words that are refused.
-const REFUSED: [&[&str]; 34] = [
-    &["--threads"],
-    &["--seed", "5", "--threads"],
-    &["--seed", "18446744073709551616"],
-    &["--seed=18446744073709551616"],
-    &["--seed", "-1"],
-    &["--seed=-1"],
-    &["--seed=-0"],
-    &["--seed", "x"],
-    &["--seed", ""],
-    &["--seed="],
-    &["--seed"],
-    &["--seed", "--check"],
-    &["--seed", "1", "--seed", "1"],
-    &["--check=true"],
-    &["--check", "true"],
-    &["--check", "--check"],
-    &["--torn", "256"],
-    &["--torn=256"],
-    &["--torn", "-1"],
-    &["--torn=-1"],
-    &["--torn"],
-    &["--torn", "1", "--torn=1"],
-    &["--torn", "18446744073709551616"],
-    &["--file"],
-    &["--file", "--check"],
-    &["--file", "a", "--file", "b"],
-    &["--fil", "a"],
-    &["-c"],
-    &["--help"],
-    &["--version"],
-    &["image"],
-    &["--check", "image"],
-    &["--", "--check"],
-    &[""],
-];
-
 /// What the words ask for, as the table has it; or the text that is left to print.
 fn told(alloc: Global, asked: &Result<Options, RunFault>) -> Result<String, AllocError> {
     match asked {
@@ -101,30 +65,17 @@ fn accepted_words_tell_each_option(rt: HostRuntime) -> Result<(), Fail> {
     Ok(())
 }
 
-#[test]
-fn other_words_are_refused(rt: HostRuntime) {
-    for words in REFUSED {
-        match options_of(rt.alloc(), words) {
-            Ok(_) => assert!(rt; false, "not refused: {words:?}"),
-            Err(fault) => {
-                assert_eq!(rt; fault.status, 2, "{words:?}");
-                assert_eq!(rt; fault.text.as_str(), "options\n", "{words:?}");
-            }
-        }
-    }
+fn compare(rt: &impl Abort, fault: &RunFault, status: u8, text: &str) {
+    assert_eq!(rt; fault.status, status);
+    assert_eq!(rt; fault.text.as_str(), text);
 }
 
 #[test]
 fn each_end_has_its_status_and_its_text(rt: HostRuntime) {
-    let printed = RunFault::printed(rt.alloc(), 3);
-    assert_eq!(rt; printed.status, 3);
-    assert_eq!(rt; printed.text.as_str(), "");
-    let want = RunFault::want(rt.alloc());
-    assert_eq!(rt; want.status, 4);
-    assert_eq!(rt; want.text.as_str(), "");
+    compare(&rt, &RunFault::printed(rt.alloc(), 3), 3, "");
+    compare(&rt, &RunFault::want(rt.alloc()), 4, "");
     let line = RunFault::of_line(rt.alloc(), "script line 7 Word");
-    assert_eq!(rt; line.status, 2);
-    assert_eq!(rt; line.text.as_str(), "script line 7 Word\n");
+    compare(&rt, &line, 2, "script line 7 Word\n");
 }
 
 // A tool outside lets each request for memory fail in turn and runs this test.
@@ -132,18 +83,12 @@ fn each_end_has_its_status_and_its_text(rt: HostRuntime) {
 fn refused_memory_is_want(rt: HostRuntime) {
     let words = ["--file", "image", "--seed=5"];
     if let Err(fault) = options_of(rt.alloc(), &words) {
-        assert_eq!(rt; fault.status, 4);
-        assert_eq!(rt; fault.text.as_str(), "");
+        compare(&rt, &fault, 4, "");
         assert!(rt; options_of(rt.alloc(), &words).is_ok());
     }
     match options_of(rt.alloc(), &["--threads"]) {
         Ok(_) => assert!(rt; false, "not refused"),
-        Err(fault) => match fault.status {
-            4 => assert_eq!(rt; fault.text.as_str(), ""),
-            status => {
-                assert_eq!(rt; status, 2);
-                assert_eq!(rt; fault.text.as_str(), "options\n");
-            }
-        },
+        Err(fault) if fault.status == 4 => compare(&rt, &fault, 4, ""),
+        Err(fault) => compare(&rt, &fault, 2, "options\n"),
     }
 }

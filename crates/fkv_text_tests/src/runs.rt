@@ -1,5 +1,5 @@
 //! Runs that are played whole, and what they print.
-use fkv_base::{Key, Shape, Value};
+use fkv_base::{Fault, Key, Shape, Value};
 use fkv_commit::CommitKind;
 use fkv_creating::create_opened;
 use fkv_disk::{Fuse, MemDisk};
@@ -8,7 +8,6 @@ use fkv_map::{Call, Op};
 use fkv_playing::Picks;
 use fkv_runs::{Piece, Settings, pieces_of, play_life, play_lives};
 use std::alloc::Global;
-use std::io;
 use std::test::Fail;
 
 const CHECKED: Settings = Settings {
@@ -20,19 +19,22 @@ fn up(number: u64, key: u64, value: u64) -> Line {
     Line::Call(number, Call::Op(Op::Upsert(Key(key), Value(value))))
 }
 
+fn shape() -> Result<Shape, Fault> {
+    Shape::new(4, 16, 4, 2, 2, 1, 64)
+}
+
 /// The status, and what is printed.
-fn played(alloc: Global, lines: &[Line], seed: Option<u64>) -> Result<(u8, Vec<u8>), Fail> {
+fn played(alloc: Global, pieces: &[Piece]) -> Result<(u8, Vec<u8>), Fail> {
     let mut device = Fuse::new(MemDisk::new(alloc));
-    let opened = create_opened(alloc, &mut device, Shape::new(4, 16, 4, 2, 2, 1, 64)?)?;
-    let pieces = pieces_of(alloc, lines, seed.is_some())?;
+    let opened = create_opened(alloc, &mut device, shape()?)?;
     let mut output = Vec::new(alloc);
-    let mut picks = Picks::new(seed);
+    let mut picks = Picks::new(None);
     let status = play_lives(
         alloc,
         &mut output,
         opened,
         device,
-        &pieces,
+        pieces,
         &mut picks,
         CHECKED,
     )?;
@@ -49,29 +51,10 @@ fn a_commit_keeps_what_was_done_before_it(rt: HostRuntime) -> Result<(), Fail> {
         Line::Crash,
         Line::Call(0, Call::Op(Op::Read(Key(7)))),
     ];
-    let (status, output) = played(rt.alloc(), &lines, None)?;
+    let (status, output) = played(rt.alloc(), &pieces_of(rt.alloc(), &lines, false)?)?;
     assert_eq!(rt; status, 0);
     let text =
         "0 #1 done\nk commit 1\nk finished 1 points 1 0\n0 #2 done\ncrash commit 1 points 1 0 pairs 1\npair 7 10\ncheck recovered equals replay\n0 get 7 pending @1\n";
-    assert_eq!(rt; output.as_slice(), text.as_bytes());
-    Ok(())
-}
-
-#[test]
-fn a_session_that_the_store_has_not_is_refused(rt: HostRuntime) -> Result<(), Fail> {
-    let (status, output) = played(rt.alloc(), &[up(2, 7, 10), Line::Turn], Some(1))?;
-    assert_eq!(rt; status, 0);
-    let either = output.as_slice() == "2 refused 19 NoSession\nk turn rest 1\n".as_bytes()
-        || output.as_slice() == "k turn rest 1\n2 refused 19 NoSession\n".as_bytes();
-    assert!(rt; either);
-    Ok(())
-}
-
-#[test]
-fn a_crash_that_does_not_strike_is_taken_at_the_end(rt: HostRuntime) -> Result<(), Fail> {
-    let (status, output) = played(rt.alloc(), &[Line::CrashAt(9), up(0, 7, 10)], None)?;
-    assert_eq!(rt; status, 0);
-    let text = "0 #1 done\ncrash commit 0 points 0 0 pairs 0\ncheck recovered equals replay\n";
     assert_eq!(rt; output.as_slice(), text.as_bytes());
     Ok(())
 }
@@ -91,17 +74,11 @@ fn calls_that_stand_together_are_one_piece(rt: HostRuntime) -> Result<(), Fail> 
 fn a_life_on_a_device_of_its_own_leaves_out_crashes(rt: HostRuntime) -> Result<(), Fail> {
     let alloc = rt.alloc();
     let mut device = Fuse::new(MemDisk::new(alloc));
-    let opened = create_opened(alloc, &mut device, Shape::new(4, 16, 4, 2, 2, 1, 64)?)?;
+    let opened = create_opened(alloc, &mut device, shape()?)?;
     let pieces = pieces_of(alloc, &[Line::Crash, up(1, 7, 10)], false)?;
     let mut output = Vec::new(alloc);
-    play_life(
-        alloc,
-        &mut output,
-        opened,
-        device,
-        &pieces,
-        &mut Picks::new(None),
-    )?;
+    let mut picks = Picks::new(None);
+    play_life(alloc, &mut output, opened, device, &pieces, &mut picks)?;
     assert_eq!(rt; output.as_slice(), "1 #1 done\n".as_bytes());
     Ok(())
 }
