@@ -10,10 +10,10 @@ use Rattle.fkv_session.specs.declared.sessions.Sitting.TheVariants.{Idle}
 use Rattle.fkv_world.specs.Runs.{World, happens, run}
 use Rattle.fkv_world.specs.World.{Calls, Event, Moves}
 use Rattle.fkv_world.proofs.Shown.{is_over, no_session, session_apart}
-use Rattle.fkv_world_rest.specs.Resting.{HasNoCommit}
+use Rattle.law_order.specs.Rest.Resting.{HasNoCommit}
 use Rattle.fkv_world_results.specs.Results.{NobodyCalls}
-use Rattle.fkv_world_served.specs.Fits.{CallFits, CallsFit}
-use Rattle.fkv_world_tickets.specs.Few.{HasFewCalls}
+use Rattle.law_order.specs.Served.Fits.{CallFits, CallsFit}
+use Rattle.law_order.specs.Tickets.Few.{HasFewCalls}
 use Rattle.fkv_played_calls.specs.PlayedCalls.{called_alone}
 
 -- ---- its events

@@ -11,10 +11,10 @@ use Rattle.fkv_epoch.proofs.Shown.{none_some, some_same}
 use Rattle.fkv_map.specs.declared.operations.Call.{Call}
 use Rattle.fkv_map.specs.declared.operations.Call.TheVariants as call
 use Rattle.fkv_map.specs.declared.operations.Op.{Op}
-use Rattle.fkv_one_history.specs.EachLife.{InEachLife}
+use Rattle.law_order.specs.OneHistory.EachLife.{InEachLife}
 use Rattle.fkv_opening.specs.declared.opened_store.Opened.{Opened}
-use Rattle.fkv_order_law.specs.Ordered.{HasLegalHistory, OrdersItsCalls, ReadsFreshly}
-use Rattle.fkv_order_law.proofs.Shown.{world_opens}
+use Rattle.law_order.specs.Rules.Ordered.{HasLegalHistory, OrdersItsCalls, ReadsFreshly}
+use Rattle.law_order.proofs.OfRules.Beginning.{world_opens}
 use Rattle.fkv_playing.specs.Groups.{IsGroup, missing_session}
 use Rattle.fkv_playing.specs.Players.{PlayerState}
 use Rattle.fkv_playing.specs.Queues.{AreQueuesOf, QueueState}
@@ -36,8 +36,8 @@ use Rattle.fkv_world.specs.Runs.{World, run}
 use Rattle.fkv_world.specs.World.{Calls, Event, Now}
 use Rattle.fkv_world_results.specs.Results.{IsResult, NobodyCalls, history_at, in_call}
 use Rattle.fkv_world_results.proofs.Shown.{result_told}
-use Rattle.fkv_world_served.specs.Fits.{CallFits, OpFits}
-use Rattle.fkv_world_tickets.specs.Few.{HasFewCalls}
+use Rattle.law_order.specs.Served.Fits.{CallFits, OpFits}
+use Rattle.law_order.specs.Tickets.Few.{HasFewCalls}
 use Rattle.fkv_played_calls.specs.PlayedCalls.{IsAnsweredAlone, IsLineOfSession, IsQuietLife, IsRefusedSession, IsReplyOfMap, IsToldTo, LinesGoOn, LinesReplyAsMap, RepliesAsMap, called_alone}
 use Rattle.fkv_played_calls.proofs.Beats.{EndsCall, beats_end}
 use Rattle.fkv_played_calls.proofs.InLife.{calls_few, calls_fit, no_commits, nobody_behind, was_alive, was_there}

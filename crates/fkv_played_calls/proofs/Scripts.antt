@@ -30,8 +30,8 @@ use Rattle.fkv_whole_calls.specs.WholeCalls.{map_after}
 use Rattle.fkv_world.specs.Runs.{run}
 use Rattle.fkv_world.specs.World.{Calls, Event, Now}
 use Rattle.fkv_world_results.specs.Results.{NobodyCalls, in_call}
-use Rattle.fkv_world_served.specs.Fits.{OpFits}
-use Rattle.fkv_world_tickets.specs.Few.{HasFewCalls, calls_in}
+use Rattle.law_order.specs.Served.Fits.{OpFits}
+use Rattle.law_order.specs.Tickets.Few.{HasFewCalls, calls_in}
 use Rattle.fkv_played_calls.specs.PlayedCalls.{IsLineOfSession, IsQuietLife, IsRefusedSession, LinesReplyAsMap}
 use Rattle.fkv_played_calls.specs.Scripts.{EachFits, FilesPlayMap, IsLineOfMap, IsPlayOfMap, LivesPlayMap, NewStoresPlayMap, SessionOp}
 use Rattle.fkv_played_calls.proofs.Calm.{IsPlayedGroup, played_group, stays_calm}

@@ -31,10 +31,10 @@ use Rattle.fkv_texts.specs.Refusals.{session_refusal}
 use Rattle.fkv_whole_calls.specs.WholeCalls.{IsAnsweredByMap}
 use Rattle.fkv_world.specs.Runs.{run}
 use Rattle.fkv_world.specs.World.{Calls, Event, Moves, Now}
-use Rattle.fkv_world_rest.specs.Resting.{HasNoCommit}
+use Rattle.law_order.specs.Rest.Resting.{HasNoCommit}
 use Rattle.fkv_world_results.specs.Results.{NobodyCalls, in_call}
-use Rattle.fkv_world_served.specs.Fits.{CallFits, CallsFit, OpFits}
-use Rattle.fkv_world_tickets.specs.Few.{HasFewCalls}
+use Rattle.law_order.specs.Served.Fits.{CallFits, CallsFit, OpFits}
+use Rattle.law_order.specs.Tickets.Few.{HasFewCalls}
 
 -- A life without commits of a store that these bytes hold, which began with its first world: one of which the order law speaks. It shows this world.
 pub record IsQuietLife (bytes : List ℕ) (o : Opened) (first : Now) (life : List Event) (n : Now) : Type 0 where

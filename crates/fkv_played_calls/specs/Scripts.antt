@@ -31,7 +31,7 @@ use Rattle.fkv_texts.specs.Refusals.{session_refusal}
 use Rattle.fkv_texts.specs.Sessions.{session_text}
 use Rattle.fkv_texts.specs.declared.polls.WaitingRead.{WaitingRead}
 use Rattle.fkv_whole_calls.specs.WholeCalls.{IsMapsReply, LeavesMap}
-use Rattle.fkv_world_served.specs.Fits.{OpFits}
+use Rattle.law_order.specs.Served.Fits.{OpFits}
 use Rattle.fkv_played_calls.specs.PlayedCalls.{IsToldTo}
 
 -- ---- by the plain map

@@ -4,7 +4,7 @@ ghost use Rattle.fkv_played_calls.specs.PlayedCalls.{LinesGoOn, LinesReplyAsMap,
 ghost use Rattle.fkv_played_calls.specs.Scripts.{FilesPlayMap, LivesPlayMap, NewStoresPlayMap};
 ghost use Rattle.fkv_runs.specs.Openings.{medium_of};
 
-use fkv_one_history::law_order;
+use law_order::law_order;
 use fkv_opening_log::law_log_opened;
 use fkv_playing::Breaks;
 use fkv_runs::Crashes;

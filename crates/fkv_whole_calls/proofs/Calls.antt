@@ -14,8 +14,8 @@ use Rattle.fkv_opening_log.specs.Maps.{opening_map}
 use Rattle.fkv_ops.specs.Requests.{is_read}
 use Rattle.fkv_order.specs.Trace as order
 use Rattle.fkv_order.specs.Trace.{AnswersRead, CallsRead, GivesResult, IsIn, TraceLine}
-use Rattle.fkv_order_law.specs.Ordered.{HasLegalHistory, OrdersItsCalls, ReadsFreshly, effects_so_far, lines_so_far}
-use Rattle.fkv_order_law.proofs.Shown.{world_opens}
+use Rattle.law_order.specs.Rules.Ordered.{HasLegalHistory, OrdersItsCalls, ReadsFreshly, effects_so_far, lines_so_far}
+use Rattle.law_order.proofs.OfRules.Beginning.{world_opens}
 use Rattle.fkv_session.specs.declared.answers.Finished.{Finished}
 use Rattle.fkv_session.specs.declared.answers.Told.{Told}
 use Rattle.fkv_session.specs.declared.answers.Told.TheVariants as told

@@ -10,7 +10,7 @@ use Rattle.fkv_map.specs.declared.operations.Reply.TheVariants as reply
 use Rattle.fkv_opening.specs.declared.opened_store.Opened.{Opened}
 use Rattle.fkv_opening_log.specs.Maps.{opening_map}
 use Rattle.fkv_order.specs.Trace.{AnswersRead, CallsRead, Effect, GivesResult, IsIn, TraceLine, history_of}
-use Rattle.fkv_order_law.specs.Ordered.{effects_so_far, lines_so_far}
+use Rattle.law_order.specs.Rules.Ordered.{effects_so_far, lines_so_far}
 use Rattle.fkv_session.specs.declared.answers.Told.{Told}
 use Rattle.fkv_session.specs.declared.answers.Told.TheVariants as told
 use Rattle.fkv_world.specs.World.{Event, Now}

@@ -3,7 +3,7 @@ ghost use Rattle.std.specs.Prelude.{◌≡◌, ℕ, List, Some, false, slice_get
 ghost use Rattle.fkv_core.specs.Openings.{IsOpeningWorld, beginning};
 ghost use Rattle.fkv_map.specs.declared.operations.Op.{Op};
 ghost use Rattle.fkv_opening.specs.declared.opened_store.Opened.{Opened};
-ghost use Rattle.fkv_order_law.specs.Ordered.{HasLegalHistory, OrdersItsCalls, ReadsFreshly};
+ghost use Rattle.law_order.specs.Rules.Ordered.{HasLegalHistory, OrdersItsCalls, ReadsFreshly};
 ghost use Rattle.fkv_session.specs.declared.answers.Told.{Told};
 ghost use Rattle.fkv_session.specs.declared.sessions.Sitting.TheVariants.{Idle};
 ghost use Rattle.fkv_session.specs.Sessions.{SessionState};

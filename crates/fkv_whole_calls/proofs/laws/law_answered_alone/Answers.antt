@@ -1,5 +1,5 @@
 use Rattle.fkv_opening_log.specs.Maps.{opening_map}
-use Rattle.fkv_order_law.specs.Ordered.{effects_so_far, lines_so_far}
+use Rattle.law_order.specs.Rules.Ordered.{effects_so_far, lines_so_far}
 use Rattle.fkv_whole_calls.proofs.Whole.{answered_alone}
 use Rattle.fkv_whole_calls.proofs.laws.law_answered_alone.Goals as goal
 

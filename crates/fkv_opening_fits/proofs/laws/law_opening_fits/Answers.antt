@@ -1,6 +1,0 @@
--- The law, by the records that the log has.
-use Rattle.fkv_opening_fits.proofs.Fits.{cells_fit_opened}
-use Rattle.fkv_opening_fits.proofs.laws.law_opening_fits.Goals as goal
-
-pub returns : goal.returns
-returns c = λ bytes o store. cells_fit_opened bytes o store (c.law_log_counted.ensures bytes o store)

@@ -1,7 +1,0 @@
--- The law, event by event.
-use Rattle.fkv_world_ordered.proofs.Ordered.{life_goes}
-use Rattle.fkv_world_ordered.proofs.laws.law_world_ordered.Goals as goal
-
-pub returns : goal.returns
-returns c = λ opening start lists version m number ghosts events begins cells none fits apart.
-    life_goes c.law_world_flushed_is_synced.ensures.calls c.law_mail.ensures.words opening start lists version m number ghosts begins cells events none fits apart

@@ -1,7 +1,0 @@
-mod Attempts
-mod Changes
-mod InHand
-mod Own
-mod Ready
-pub mod Shown
-mod Tries

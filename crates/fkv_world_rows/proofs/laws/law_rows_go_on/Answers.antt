@@ -1,6 +1,0 @@
--- The law, by what the event makes of each session.
-use Rattle.fkv_world_rows.proofs.Rows.{rows_go_on}
-use Rattle.fkv_world_rows.proofs.laws.law_rows_go_on.Goals as goal
-
-pub returns : goal.returns
-returns c = λ opening start lists version m number ghosts before event begins none owed known told. rows_go_on opening start lists version m number ghosts before event begins none owed known told

@@ -1,4 +1,0 @@
-mod Lines
-mod Owed
-mod Runs
-pub mod Shown

@@ -1,0 +1,15 @@
+mod OfAsked
+mod OfFits
+mod OfKnown
+mod OfLooks
+mod OfOneHistory
+mod OfOrdered
+mod OfOwes
+mod OfReads
+mod OfRest
+mod OfRows
+pub mod OfRules
+mod OfServed
+mod OfTickets
+mod OfTold
+mod OfTruth

@@ -1,0 +1,133 @@
+-- What a session asks for is published and flushed, from the moment that it stores that it asks.
+use Rattle.std.proofs.Common.{◌≡◌, ℕ, ◌<◌, ◌≤◌, ◌∙◌, inl, inr, refl, sym, subst, arith, true, List, [], ◌∷◌}
+use Rattle.std.specs.Prelude.{Option, Some, None, slice_get}
+use Rattle.fkv_base.specs.declared.numbers.Addr.{Addr}
+use Rattle.fkv_base.specs.declared.numbers.Version.{Version}
+use Rattle.fkv_epoch.proofs.Shown.{none_some, some_same}
+use Rattle.fkv_flush.specs.GuardLevels.{levels_of}
+use Rattle.fkv_index.specs.Slots.{entry_addr}
+use Rattle.fkv_map.specs.Map.{Map}
+use Rattle.fkv_ops.specs.declared.answers.DiskRecord.{DiskRecord}
+use Rattle.fkv_ops.specs.declared.requests.Seen.{Seen}
+use Rattle.fkv_order.specs.Chains.{Cell, IsWithin, Published}
+use Rattle.fkv_order.specs.Ghosts.{Ghosts, Log}
+use Rattle.fkv_order.specs.Owed.{AreChains, AreOwed}
+use Rattle.fkv_order.proofs.Shown.{run_held}
+use Rattle.fkv_pending.specs.declared.attempting.Attempting.TheVariants.{Puts}
+use Rattle.fkv_pending.specs.declared.mailing.MailTask.{MailTask}
+use Rattle.fkv_pending.specs.declared.mailing.MailTask.TheVariants.{Put}
+use Rattle.fkv_pending.specs.declared.mailing.Mailing.{Mailing}
+use Rattle.fkv_pending.specs.Mailbox.{past_of}
+use Rattle.fkv_session.specs.Sessions.{SessionState}
+use Rattle.fkv_session_rows.specs.Known.{is_attempting}
+use Rattle.fkv_try_rows.specs.AttemptRows.{AttemptKnows, AttemptRow}
+use Rattle.fkv_try_rows.specs.HeldRows.{SoughtKnows}
+use Rattle.fkv_try_rows.specs.MailRows.{PutsSought}
+use Rattle.fkv_try_rows.specs.OnWay.{ComesBelow}
+use Rattle.fkv_try_rows.specs.TryRows.{head_in, key_in}
+use Rattle.fkv_world.specs.Runs.{World, run}
+use Rattle.fkv_world.specs.World.{Event}
+use Rattle.law_order.specs.Known.Begins.{BeginsLife, home_of_world}
+use Rattle.law_order.specs.Known.Knows.{AreKnown}
+use Rattle.fkv_world_mail.specs.MailEvents as mail
+use Rattle.fkv_world_mail.specs.Reads.{mail_notes, mail_past}
+use Rattle.fkv_world_mail.specs.Shows as mail_shows
+use Rattle.fkv_world_order.specs.GhostEvents.{life_ghosts, mapped}
+use Rattle.fkv_world_order.proofs.Shown.{life_rises}
+use Rattle.law_order.specs.Rest.Resting.{HasNoCommit}
+use Rattle.law_order.proofs.OfServed.Device.{flushed_fixed}
+use Rattle.law_order.proofs.OfServed.Later.{life_owed_before, life_stays}
+use Rattle.law_order.proofs.OfTruth.Attempts.{attempting_is, life_seen}
+use Rattle.law_order.proofs.OfTruth.Truth.{known_now}
+use Rattle.law_order.specs.Asked.Asked.{AsksForSought, outstanding}
+use Rattle.law_order.proofs.OfLooks.Heads.{head_flushed}
+use Rattle.law_order.proofs.OfLooks.LifeAsks.{IsAboutToAsk, was_or_comes}
+use Rattle.law_order.proofs.OfLooks.LifeMails.{life_mails}
+use Rattle.law_order.proofs.OfLooks.SessionMails.{asks_by_put}
+
+-- the record at an address is published, and flushed
+pub record IsThere (opening : World) (ghosts : Ghosts) (events : List Event) (a : ℕ) : Type 0 where
+  pub cell : Cell
+  pub published : (life_ghosts opening ghosts events).log.cells a ≡ Published cell
+  pub flushed : a < (levels_of (run opening events).now.words).flushed
+
+lower : (a b c : ℕ) → a < b → b ≤ c → a < c
+lower a b c one other = omega (arith, one, other)
+
+-- ---- what a chain comes to is published
+in_chain : (home : ℕ → ℕ) (log : Log) (h a : ℕ) → AreChains home log → 0 < a → IsWithin a (log.chains h) → (cell : Cell) × (log.cells a ≡ Published cell)
+in_chain home log h a chains some (inl none) = absurd (omega (arith, some, none))
+in_chain home log h a chains some (inr is_in) = let its = chains.in_chain h a is_in in (its.cell, its.its)
+
+-- ---- an attempt that puts an address seeks a record
+sought_of : (sought : Option DiskRecord) (step : Mailing) → PutsSought sought step → (it : DiskRecord) × (sought ≡ Some it)
+sought_of None step puts = absurd puts
+sought_of (Some it) step puts = (it, refl)
+
+same_put : (one other : Addr) → Put one ≡ Put other → one ≡ other
+same_put one other same = cc
+
+-- where a session is about to say that it asks, its task is to put the address of the record that it seeks
+abbrev pub AsksLaw : World → Type 0
+AsksLaw opening =
+    (events : List Event) → HasNoCommit events → (session : ℕ) (s : SessionState) → slice_get (run opening events).now.sessions session ≡ Some s → is_attempting s.step ≡ true
+    → AsksForSought (mail_past opening session events).task s.attempt s.attempt.step
+
+-- in a life of a store that was opened
+module _ (opening : World) (start : ℕ) (lists : ℕ → List ℕ) (version : Version) (m : Map) (number : ℕ) (ghosts : Ghosts) (begins : BeginsLife opening start lists version m number ghosts) where
+  abbrev Owed : List Event → Type 0
+  Owed events = AreOwed (home_of_world opening) ghosts (mapped opening events)
+
+  abbrev log_behind : List Event → Log
+  log_behind events = (life_ghosts opening ghosts events).log
+
+  -- it stays so
+  there_stays : (event : Event) (before : List Event) (a : ℕ) → Owed (event ∷ before) → IsThere opening ghosts before a → IsThere opening ghosts (event ∷ before) a
+  unfolding run
+  there_stays event before a owed its =
+      let fixed = flushed_fixed opening start lists version m number ghosts before a begins its.flushed in
+      record {
+        cell = its.cell;
+        published = (life_stays opening m number ghosts (event ∷ []) before a its.cell begins.log owed (record { there = its.published; fixed = fixed })).there;
+        flushed = lower a (levels_of (run opening before).now.words).flushed _ its.flushed (life_rises opening start before (event ∷ []) begins.store.now).flushed;
+      }
+
+  -- what an attempt seeks on the device is there
+  sought_there : (events : List Event) (session : ℕ) (s : SessionState) (it : DiskRecord) → Owed events → AreKnown opening ghosts events → slice_get (run opening events).now.sessions session ≡ Some s → is_attempting s.step ≡ true
+      → s.attempt.pending.sought ≡ Some it → IsThere opening ghosts events it.addr.0
+  sought_there events session s it owed known found attempts sought =
+      let home : ℕ → ℕ = home_of_world opening in
+      let log : Log = log_behind events in
+      let key : ℕ = key_in s.attempt.pending.request in
+      let knows : AttemptKnows home log s.attempt = (known_now opening ghosts events known session s found).attempted attempts in
+      let comes : ComesBelow home log key (entry_addr it.entry) it.addr.0 (head_in s.attempt.seen) = subst (SoughtKnows home log key (head_in s.attempt.seen)) sought knows.pending.sought in
+      let held = run_held home m number ghosts (mapped opening events) begins.log owed in
+      let its = in_chain home log (home key) it.addr.0 held.chains comes.some comes.way.within in
+      let head : s.seen.offsets.head.0 ≤ (levels_of (run opening events).now.words).flushed = head_flushed opening start events session s begins.store.now found (attempting_is s.step attempts) in
+      let below : it.addr.0 < s.seen.offsets.head.0 = subst (λ (seen : Seen). it.addr.0 < head_in seen) (life_seen opening start events session s begins.world begins.store.now found attempts) comes.below in
+      record { cell = its.0; published = its.1; flushed = lower it.addr.0 s.seen.offsets.head.0 _ below head }
+
+  -- so is what a session is about to ask for
+  about_there : AsksLaw opening → (before : List Event) (session : ℕ) (addr : Addr) → HasNoCommit before → Owed before → AreKnown opening ghosts before → IsAboutToAsk opening session before addr → IsThere opening ghosts before addr.0
+  about_there law before session addr none owed known about =
+      let s : SessionState = about.asker in
+      let task : Option MailTask = (mail_past opening session before).task in
+      let puts = asks_by_put s (life_mails opening start before session s begins.world begins.store.now about.there) about.under_way in
+      let knows : AttemptKnows (home_of_world opening) (log_behind before) s.attempt = (known_now opening ghosts before known session s about.there).attempted puts.attempts in
+      let row : PutsSought s.attempt.pending.sought s.attempt.mailing = subst (AttemptRow (home_of_world opening) (log_behind before) s.attempt) puts.puts knows.row in
+      let seeks = sought_of s.attempt.pending.sought s.attempt.mailing row in
+      let its_task : AsksForSought task s.attempt Puts = subst (AsksForSought task s.attempt) puts.puts (law before none session s about.there puts.attempts) in
+      let same : Put seeks.0.addr ≡ Put addr = some_same (Put seeks.0.addr) (Put addr) (sym (its_task puts.stores seeks.0 seeks.1) ∙ about.its_task) in
+      subst (λ (at : Addr). IsThere opening ghosts before at.0) (same_put seeks.0.addr addr same) (sought_there before session s seeks.0 owed known about.there puts.attempts seeks.1)
+
+  -- and what is asked for
+  pub asked_there : AsksLaw opening → (events : List Event) (session : ℕ) (addr : Addr) → mail_shows.IsOpened opening.now session → HasNoCommit events → Owed events → AreKnown opening ghosts events
+      → outstanding (mail_notes opening session events) ≡ Some addr → IsThere opening ghosts events addr.0
+  unfolding AreKnown mail.mapped past_of outstanding
+  asked_there law [] session addr opened none owed known e = none_some addr e
+  asked_there law (event ∷ before) session addr opened none owed known e =
+      let owed_before : Owed before = life_owed_before opening ghosts (event ∷ []) before owed in
+      elim (was_or_comes opening session opened event before addr e) [
+        | inl was ↦ there_stays event before addr.0 owed (asked_there law before session addr opened none.1 owed_before known.0 was)
+        | inr about ↦ there_stays event before addr.0 owed (about_there law before session addr none.1 owed_before known.0 about)
+      ]

@@ -1,0 +1,12 @@
+mod Answers
+mod Coming
+mod Life
+mod LifeNumbers
+pub mod LifeReads
+mod Moved
+mod NoSlots
+mod Numbers
+mod ReadEnds
+mod Steps
+mod Touched
+mod Turns

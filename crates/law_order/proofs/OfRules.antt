@@ -1,0 +1,7 @@
+pub mod Beginning
+mod Image
+mod InTime
+pub mod Kept
+mod ReadRuns
+pub mod SameEntries
+mod Words

@@ -1,0 +1,28 @@
+-- Where the rules are kept: the life's history has the entries of the log's, and each of its events is fair.
+use Rattle.std.proofs.Common.{◌≡◌, ℕ, List, [], ◌∷◌, ◌++◌}
+use Rattle.fkv_core.specs.Openings.{IsOpeningWorld, beginning}
+use Rattle.fkv_opening.specs.declared.opened_store.Opened.{Opened}
+use Rattle.fkv_opening_log.specs.Begins.{Begins}
+use Rattle.fkv_opening_log.specs.Lives.{ghosts_beside}
+use Rattle.fkv_opening_log.specs.OpeningLog.{opening_ghosts}
+use Rattle.fkv_world.specs.Runs.{World, run}
+use Rattle.fkv_world.specs.World.{Event, Now}
+use Rattle.fkv_world_calls.proofs.Shown.{life_entries}
+use Rattle.fkv_world_calls.specs.Calls.{entries_of}
+use Rattle.fkv_world_guard.specs.Shows.{AreFair, IsFair, IsOpened}
+use Rattle.fkv_world_records.proofs.Shown.{life_meets_published}
+use Rattle.fkv_world_records.specs.Changes.{AreChangesPublished}
+use Rattle.law_order.specs.Rules.Ordered.{effects_so_far}
+use Rattle.law_order.proofs.OfRules.Beginning.{world_opens}
+
+-- ---- each event of a fair life is fair
+pub fair_at : (opening : World) (later before : List Event) (event : Event) → AreFair opening (later ++ event ∷ before) → IsFair (run opening before).now event
+fair_at opening [] before event fair = fair.0
+fair_at opening (it ∷ later) before event fair = fair_at opening later before event fair.1
+
+-- ---- the life's history
+pub same_entries : (bytes : List ℕ) (o : Opened) (n : Now) (events : List Event) → IsOpeningWorld o n → IsOpened n o.tail.0 → Begins n (opening_ghosts bytes o) → AreChangesPublished (beginning n bytes) (opening_ghosts bytes o) events
+    → (let beside = ghosts_beside o n bytes events in entries_of beside.log.history ≡ entries_of (effects_so_far n bytes events))
+same_entries bytes o n events world opened begins published =
+    life_entries (beginning n bytes) o.tail.0 (opening_ghosts bytes o) events (world_opens o n bytes world) opened begins.unborn begins.reserves_nothing begins.no_history
+    (life_meets_published (beginning n bytes) o.tail.0 (opening_ghosts bytes o) opened begins.unborn begins.reserves_nothing events published)

@@ -1,0 +1,185 @@
+-- Below where the records ended as the store was opened, the log stays: records are taken at the tail alone, and those that were there are fixed.
+use Rattle.std.proofs.Common.{◌≡◌, ◌≢◌, ℕ, ◌<◌, ◌≤◌, ◌∙◌, refl, sym, ap, subst, arith, Bool, true, false, List, [], ◌∷◌, ◌++◌}
+use Rattle.std.specs.Prelude.{⊤, map, ◌==◌, if◌then◌else◌, Option, Some, None, slice_get}
+use Rattle.fkv_map.specs.declared.history.HistoryEntry.{HistoryEntry}
+use Rattle.fkv_map.specs.Map.{Map}
+use Rattle.fkv_order.specs.Chains.{Cell, Logged, Reserved, Published, Dropped}
+use Rattle.fkv_order.specs.Ghosts.{Log, Ghosts, GhostEvent, Tells, FindsEntry, TakesValue, Reserves, Publishes, Drops, Changes, Fixes, published, dropped, changed, log_after, ghosts_after, ghost_run}
+use Rattle.fkv_order.specs.Owed.{AreOwed, IsOpened, Owes, OwesChange}
+use Rattle.fkv_order.specs.Trace.{TraceLine}
+use Rattle.fkv_order.proofs.Shown.{set_else}
+use Rattle.fkv_plane.specs.declared.asks.Ask.{Ask}
+use Rattle.fkv_plane.specs.declared.asks.Ask.TheVariants.{Put, Take, Done}
+use Rattle.fkv_plane.specs.Asked.{asked, asked_place, reply_to, word_found}
+use Rattle.fkv_session.specs.declared.answers.Told.{Told}
+use Rattle.fkv_session.specs.Sessions.{SessionState, Seat, session_ask}
+use Rattle.fkv_world.specs.Past.{Traced}
+use Rattle.fkv_world.specs.Runs.{World, happens, run}
+use Rattle.fkv_world.specs.World.{Event, Moves, seat_at}
+use Rattle.fkv_world_guard.specs.Shows as guard
+use Rattle.law_order.specs.Known.Begins.{home_of_world}
+use Rattle.fkv_world_order.specs.GhostEvents.{moved_ghosts, own_ghosts, safe_at, fixed_ghosts, traced_by, serials_in, ghost_events, mapped, life_ghosts}
+use Rattle.fkv_world_order.specs.Lines.{lines_added}
+use Rattle.fkv_world_order.specs.Reservations.{AreStill, Reservation, TakesTail, MovesOn, Keeps, Behind, TakesOne, LosesOne, PublishesOne, DropsOne}
+use Rattle.fkv_world_order.specs.Reserved.{tail_at}
+use Rattle.fkv_world_order.specs.Sessions.{sitting_ghosts, step_ghosts}
+use Rattle.fkv_world_order.proofs.Shown.{life_on, life_rises}
+use Rattle.law_order.proofs.OfServed.Lists.{one_step, owed_before}
+
+-- what an event takes lies at or above this address
+abbrev is_above : ℕ → GhostEvent → Type 0
+is_above bound (Reserves a entry cell) = bound ≤ a
+is_above bound event = ⊤
+
+abbrev AreAbove : ℕ → List GhostEvent → Type 0
+AreAbove bound [] = ⊤
+AreAbove bound (event ∷ before) = is_above bound event × AreAbove bound before
+
+-- ---- one event leaves what is below
+other_place : (bound a b : ℕ) → bound ≤ b → a < bound → a ≢ b
+other_place bound a b above low = λ same. omega (arith, above, low, same)
+
+abbrev IsFree : Logged → Type 0
+IsFree logged = (entry : HistoryEntry) (cell : Cell) → logged ≡ Reserved entry cell → ⊥
+
+publish_low : (home : ℕ → ℕ) (log : Log) (b a : ℕ) (logged : Logged) → log.cells b ≡ logged → IsFree (log.cells a) → (published home log b logged).cells a ≡ log.cells a
+publish_low home log b a (Reserved entry cell) its free = set_else log.cells b (Published cell) a (λ same. free entry cell (ap log.cells same ∙ its))
+publish_low home log b a logged its free = refl
+
+drop_low : (log : Log) (b a : ℕ) (logged : Logged) → log.cells b ≡ logged → IsFree (log.cells a) → (dropped log b logged).cells a ≡ log.cells a
+drop_low log b a (Reserved entry cell) its free = set_else log.cells b (Dropped cell) a (λ same. free entry cell (ap log.cells same ∙ its))
+drop_low log b a logged its free = refl
+
+least : (bound fixed b : ℕ) → bound ≤ fixed → fixed ≤ b → bound ≤ b
+least bound fixed b one other = omega (arith, one, other)
+
+change_low : (home : ℕ → ℕ) (g : Ghosts) (bound b a : ℕ) (entry : HistoryEntry) (logged : Logged) → OwesChange home g b entry logged → bound ≤ g.log.fixed → a < bound → (changed g.log b entry logged).cells a ≡ g.log.cells a
+change_low home g bound b a entry (Published cell) owed fixed low = set_else g.log.cells b _ a (other_place bound a b (least bound g.log.fixed b fixed owed.0.not_fixed) low)
+change_low home g bound b a entry logged owed fixed low = refl
+
+one_low : (home : ℕ → ℕ) (g : Ghosts) (bound a : ℕ) (event : GhostEvent) → is_above bound event → Owes home g event → bound ≤ g.log.fixed → a < bound → IsFree (g.log.cells a) → (log_after home g.log event).cells a ≡ g.log.cells a
+one_low home g bound a (Reserves b entry cell) above owed fixed low free = set_else g.log.cells b (Reserved entry cell) a (other_place bound a b above low)
+one_low home g bound a (Publishes b) above owed fixed low free = publish_low home g.log b a (g.log.cells b) refl free
+one_low home g bound a (Drops b) above owed fixed low free = drop_low g.log b a (g.log.cells b) refl free
+one_low home g bound a (Changes b entry) above owed fixed low free = change_low home g bound b a entry (g.log.cells b) owed fixed low
+one_low home g bound a (Tells line) above owed fixed low free = refl
+one_low home g bound a (FindsEntry reader) above owed fixed low free = refl
+one_low home g bound a (TakesValue reader) above owed fixed low free = refl
+one_low home g bound a (Fixes b) above owed fixed low free = refl
+
+-- ---- and so do many
+pub record StaysBelow (bound : ℕ) (first g : Ghosts) : Type 0 where
+  pub same : (a : ℕ) → a < bound → g.log.cells a ≡ first.log.cells a
+  pub fixed : bound ≤ g.log.fixed
+
+behind_below : (home : ℕ → ℕ) (m : Map) (number : ℕ) (first : Ghosts) (bound : ℕ) (later before : List GhostEvent) → IsOpened home m number first → AreOwed home first (later ++ before) → AreAbove bound later
+    → StaysBelow bound first (ghost_run home first before) → StaysBelow bound first (ghost_run home first (later ++ before))
+unfolding ghost_run ghosts_after AreOwed
+behind_below home m number first bound [] before opened owed above was = was
+behind_below home m number first bound (event ∷ later) before opened owed above was =
+    let g : Ghosts = ghost_run home first (later ++ before) in
+    let here = behind_below home m number first bound later before opened owed.0 above.1 was in
+    let steps = one_step home m number first event (later ++ before) opened owed in
+    record {
+      same = λ a low.
+          one_low home g bound a event above.0 owed.1 here.fixed low (λ entry cell e. opened.none_reserved a entry cell (sym (here.same a low) ∙ e))
+          ∙ here.same a low;
+      fixed = least bound g.log.fixed (log_after home g.log event).fixed here.fixed steps.grows.fixed;
+    }
+
+-- ---- the events of a step take what lies at the tail
+both_above : (bound : ℕ) (later before : List GhostEvent) → AreAbove bound later → AreAbove bound before → AreAbove bound (later ++ before)
+both_above bound [] before one other = other
+both_above bound (event ∷ later) before one other = (one.0, both_above bound later before one.1 other)
+
+told_above : (bound : ℕ) (lines : List TraceLine) → AreAbove bound (map Tells lines)
+told_above bound [] = tt
+told_above bound (line ∷ rest) = (tt, told_above bound rest)
+
+fixed_above : (bound before safe : ℕ) → AreAbove bound (fixed_ghosts before safe)
+fixed_above bound before safe = by_test (safe == before)
+  where
+    by_test : (c : Bool) → AreAbove bound (if c then [] else Fixes safe ∷ [])
+    by_test true = tt
+    by_test false = (tt, tt)
+
+still_above : (bound : ℕ) (events : List GhostEvent) → AreStill events → AreAbove bound events
+still_above bound [] still = tt
+still_above bound (Tells line ∷ before) still = (tt, still_above bound before still.1)
+still_above bound (FindsEntry reader ∷ before) still = (tt, still_above bound before still.1)
+still_above bound (TakesValue reader ∷ before) still = (tt, still_above bound before still.1)
+still_above bound (Changes a entry ∷ before) still = (tt, still_above bound before still.1)
+still_above bound (Fixes a ∷ before) still = (tt, still_above bound before still.1)
+still_above bound (Reserves a entry cell ∷ before) still = absurd still.0
+still_above bound (Publishes a ∷ before) still = absurd still.0
+still_above bound (Drops a ∷ before) still = absurd still.0
+
+one_above : (bound : ℕ) (event : GhostEvent) (before : List GhostEvent) → AreStill (event ∷ []) → AreAbove bound before → AreAbove bound (event ∷ before)
+one_above bound event before still above = ((still_above bound (event ∷ []) still).0, above)
+
+moves_above : (bound : ℕ) (place : Option ℕ) (change : ℕ → ℕ) (reply : ℕ) (events : List GhostEvent) (before after : Option Reservation) → ((addr : ℕ) → TakesTail place change reply addr → bound ≤ addr)
+    → MovesOn place change reply events before after → AreAbove bound events
+moves_above bound place change reply events before after high (Keeps its held still) = still_above bound its still
+moves_above bound place change reply events before after high (Behind event still its) = one_above bound event _ (still, tt) (moves_above bound place change reply _ before after high its)
+moves_above bound place change reply events before after high (TakesOne its takes) = (high its.addr takes, tt)
+moves_above bound place change reply events before after high (LosesOne its takes) = (tt, (high its.addr takes, tt))
+moves_above bound place change reply events before after high (PublishesOne its) = (tt, tt)
+moves_above bound place change reply events before after high (DropsOne its) = (tt, tt)
+
+step_above : (bound : ℕ) (k : Seat) (trace : List Traced) (s : SessionState) (words : List ℕ) (ask : Ask Told) → AreAbove bound (sitting_ghosts k trace s s.step (reply_to words ask)) → AreAbove bound (step_ghosts k trace s words ask)
+unfolding step_ghosts
+step_above bound k trace s words (Done its) above = tt
+step_above bound k trace s words (Put slot action) above = tt
+step_above bound k trace s words (Take slot) above = tt
+step_above bound k trace s words ask above = above
+
+-- ---- of an event of a life, in which the tail never falls below where it began
+tail_above : (opening : World) (start : ℕ) (before : List Event) → guard.IsOpened opening.now start → start ≤ tail_at (run opening before).now
+unfolding run
+tail_above opening start before opened =
+    let rises = (life_rises opening start [] before opened).tail in
+    let first = opened.words.tail in
+    omega (arith, rises, first)
+
+moved_above : (opening : World) (start : ℕ) (before : List Event) (number : ℕ) (found : Option SessionState) → guard.IsOpened opening.now start → slice_get (run opening before).now.sessions number ≡ found
+    → AreAbove start (moved_ghosts (run opening before) number found)
+moved_above opening start before number None opened e = tt
+moved_above opening start before number (Some s) opened e =
+    let w : World = run opening before in
+    let k : Seat = seat_at w.now number in
+    let ask : Ask Told = session_ask k s in
+    let least_tail : start ≤ tail_at w.now = tail_above opening start before opened in
+    let high : (addr : ℕ) → TakesTail (asked_place ask) (asked ask) (reply_to w.now.words ask) addr → start ≤ addr = λ addr takes.
+    subst (λ (at : ℕ). start ≤ at) (sym (takes.found ∙ ap (word_found w.now.words) takes.at)) least_tail in
+    step_above start k w.past.trace s w.now.words ask
+    (moves_above start (asked_place ask) (asked ask) (reply_to w.now.words ask) (sitting_ghosts k w.past.trace s s.step (reply_to w.now.words ask)) _ _ high (life_on opening start before number s (reply_to w.now.words ask) opened e))
+
+own_above : (opening : World) (start : ℕ) (before : List Event) (event : Event) → guard.IsOpened opening.now start → AreAbove start (own_ghosts (run opening before) event)
+own_above opening start before (Moves number) opened = moved_above opening start before number (slice_get (run opening before).now.sessions number) opened refl
+own_above opening start before event opened = tt
+
+event_above : (opening : World) (start : ℕ) (before : List Event) (event : Event) → guard.IsOpened opening.now start → AreAbove start (ghost_events (serials_in opening.now) (run opening before) event)
+unfolding ghost_events
+event_above opening start before event opened = by_test w.now.crashed
+  where
+    w : World
+    w = run opening before
+
+    lines : List TraceLine
+    lines = lines_added (serials_in opening.now) w.past.trace (traced_by w event)
+
+    by_test : (c : Bool) → AreAbove start (if c then [] else map Tells lines ++ (fixed_ghosts (safe_at w.now) (safe_at (happens w event).now) ++ own_ghosts w event))
+    by_test true = tt
+    by_test false =
+        both_above start (map Tells lines) (fixed_ghosts (safe_at w.now) (safe_at (happens w event).now) ++ own_ghosts w event) (told_above start lines)
+        (both_above start (fixed_ghosts (safe_at w.now) (safe_at (happens w event).now)) (own_ghosts w event) (fixed_above start (safe_at w.now) (safe_at (happens w event).now)) (own_above opening start before event opened))
+
+-- ---- and of a life
+pub life_below : (opening : World) (start : ℕ) (m : Map) (number : ℕ) (ghosts : Ghosts) (events : List Event) → guard.IsOpened opening.now start → IsOpened (home_of_world opening) m number ghosts → start ≤ ghosts.log.fixed
+    → AreOwed (home_of_world opening) ghosts (mapped opening events) → StaysBelow start ghosts (life_ghosts opening ghosts events)
+unfolding mapped ghost_run
+life_below opening start m number ghosts [] opened log fixed owed = record { same = λ a low. refl; fixed = fixed }
+life_below opening start m number ghosts (event ∷ before) opened log fixed owed =
+    let its : List GhostEvent = ghost_events (serials_in opening.now) (run opening before) event in
+    behind_below (home_of_world opening) m number ghosts start its (mapped opening before) log owed (event_above opening start before event opened)
+    (life_below opening start m number ghosts before opened log fixed (owed_before (home_of_world opening) ghosts its (mapped opening before) owed))

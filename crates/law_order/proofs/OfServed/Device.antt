@@ -1,0 +1,121 @@
+-- The device has each published record that is flushed: those since the opening as they stand, and those of before as it was opened with them.
+use Rattle.std.proofs.Common.{◌≡◌, ℕ, ◌+◌, ◌*◌, ◌<◌, ◌≤◌, ◌∙◌, inl, inr, refl, sym, subst, arith, List, length}
+use Rattle.std.proofs.lemmas.Bool.{cases_lt}
+use Rattle.fkv_base.specs.declared.numbers.Version.{Version}
+use Rattle.fkv_disk.specs.Bytes.{bytes_at}
+use Rattle.fkv_disk.specs.Calls.{Call, ReadsAs, reads_as}
+use Rattle.fkv_disk.proofs.Shown.{length-bytes_at, reads_within}
+use Rattle.fkv_flush.specs.GuardFlushed.{IsSynced, calls_made}
+use Rattle.fkv_flush.specs.GuardLevels.{levels_of}
+use Rattle.fkv_map.specs.Map.{Map}
+use Rattle.fkv_order.specs.Chains.{Cell, Published}
+use Rattle.fkv_order.specs.Ghosts.{Ghosts}
+use Rattle.fkv_order.specs.Owed.{AreOwed}
+use Rattle.fkv_record.specs.Places as image
+use Rattle.fkv_world.specs.Runs.{World, run}
+use Rattle.fkv_world.specs.World.{Event}
+use Rattle.fkv_world_guard.specs.GuardEvents as guarded
+use Rattle.fkv_world_guard.specs.OpenedStore.{IsOpenedStore}
+use Rattle.fkv_world_guard.specs.Shows.{AreFair, guard_opening}
+use Rattle.fkv_world_guard.proofs.Shown.{life_shows, life_synced}
+use Rattle.law_order.specs.Known.Begins.{BeginsLife, IsInImage, home_of_world}
+use Rattle.fkv_world_order.specs.GhostEvents.{life_ghosts, mapped, safe_at}
+use Rattle.fkv_world_order.proofs.Shown.{ghost_fixed}
+use Rattle.fkv_world_records.specs.Cells.{ShowsCell}
+use Rattle.fkv_world_records.specs.Changes.{AreChangesPublished}
+use Rattle.fkv_world_records.proofs.Shown.{life_holds, published_fair, stands_in}
+use Rattle.law_order.proofs.OfServed.Below.{life_below}
+use Rattle.law_order.proofs.OfServed.Bytes.{further, range_same, reads_same, same_further}
+
+-- the calls of the guard's run are those of the life
+abbrev pub CallsLaw : Type 0
+CallsLaw = (opening : World) (start : ℕ) (events : List Event) → IsOpenedStore opening start → calls_made (guard_opening opening.now start) (guarded.mapped opening events) ≡ (run opening events).past.calls
+
+-- what the device reads as in this life
+abbrev pub read_then : World → List Event → List ℕ
+read_then opening events = reads_as opening.past.opened (run opening events).past.calls
+
+itself : (bytes : List ℕ) (calls : List Call) → ReadsAs bytes calls (reads_as bytes calls)
+itself bytes calls = record { no_shorter = omega arith; no_longer = reads_within bytes calls; last_written = λ i sure. refl }
+
+-- so it is synced, whatever it was opened with
+synced : CallsLaw → (opening : World) (start : ℕ) (events : List Event) (bytes : List ℕ) → IsOpenedStore opening start → AreFair opening events
+    → IsSynced opening.now.shape bytes (run opening events).past.calls (stands_in opening start events) start (levels_of (run opening events).now.words).flushed
+synced law opening start events bytes store fair =
+    subst (λ (calls : List Call). IsSynced opening.now.shape bytes calls (stands_in opening start events) start (levels_of (run opening events).now.words).flushed) (law opening start events store)
+    (life_synced opening start events bytes store.now fair)
+
+-- ---- since the opening
+since_there : CallsLaw → (opening : World) (start : ℕ) (events : List Event) (a : ℕ) (cell : Cell) → IsOpenedStore opening start → AreFair opening events → start ≤ a → a < (levels_of (run opening events).now.words).flushed
+    → ShowsCell (stands_in opening start events a) cell → IsInImage opening.now.shape (read_then opening events) a cell
+since_there law opening start events a cell store fair from to shows = record {
+  words = stands_in opening start events a;
+  leads = record { version = record { 0 = cell.version }; says = shows.header };
+  key = shows.key;
+  value = shows.value;
+  there = (synced law opening start events opening.past.opened store fair).records (read_then opening events) (inl (itself opening.past.opened (run opening events).past.calls)) a from to;
+}
+
+-- ---- and before it
+placed_from : (base a i : ℕ) → base + 24 * a ≤ i → base + 24 * 0 ≤ i
+placed_from base a i from = omega (arith, from)
+
+placed_to : (base a start i : ℕ) → a < start → i < base + 24 * a + 24 → i < base + 24 * start
+placed_to base a start i low to = omega (arith, low, to)
+
+within_further : (n more size i : ℕ) → size ≡ n + more → i < more → i < size
+within_further n more size i is below = omega (arith, is, below)
+
+range_there : CallsLaw → (opening : World) (start : ℕ) (events : List Event) (a : ℕ) → IsOpenedStore opening start → AreFair opening events → a < start
+    → bytes_at (read_then opening events) (image.record_place opening.now.shape a) 24 ≡ bytes_at opening.past.opened (image.record_place opening.now.shape a) 24
+range_there law opening start events a store fair low =
+    let bytes : List ℕ = opening.past.opened in
+    let calls : List Call = (run opening events).past.calls in
+    let end : ℕ = image.record_place opening.now.shape start in
+    let base : ℕ = image.area_place opening.now.shape 2 in
+    let more : List ℕ = further bytes end in
+    let size : length more ≡ length bytes + end = length-bytes_at bytes 0 (length bytes + end) in
+    range_same (read_then opening events) bytes (image.record_place opening.now.shape a) 24 (λ i from to.
+    sym (reads_same more bytes calls (same_further bytes end) i)
+    ∙ ((synced law opening start events more store fair).earlier (reads_as more calls) (inl (itself more calls)) i (placed_from base a i from) (placed_to base a start i low to)
+    (within_further (length bytes) end (length more) i size (placed_to base a start i low to))
+    ∙ same_further bytes end i))
+
+before_there : CallsLaw → (opening : World) (start : ℕ) (events : List Event) (a : ℕ) (cell : Cell) → IsOpenedStore opening start → AreFair opening events → a < start
+    → IsInImage opening.now.shape opening.past.opened a cell → IsInImage opening.now.shape (read_then opening events) a cell
+before_there law opening start events a cell store fair low was = record {
+  words = was.words;
+  leads = was.leads;
+  key = was.key;
+  value = was.value;
+  there = range_there law opening start events a store fair low ∙ was.there;
+}
+
+-- ---- each that is flushed
+pub start_fixed : (opening : World) (start : ℕ) (lists : ℕ → List ℕ) (version : Version) (m : Map) (number : ℕ) (ghosts : Ghosts) → BeginsLife opening start lists version m number ghosts → start ≤ ghosts.log.fixed
+start_fixed opening start lists version m number ghosts begins =
+    let fixed : ghosts.log.fixed ≡ safe_at opening.now = begins.fixed in
+    let safe : safe_at opening.now ≡ start = begins.store.now.words.safe_read_only in
+    omega (arith, fixed, safe)
+
+pub device_there : CallsLaw → (opening : World) (start : ℕ) (lists : ℕ → List ℕ) (version : Version) (m : Map) (number : ℕ) (ghosts : Ghosts) (events : List Event) (a : ℕ) (cell : Cell)
+    → BeginsLife opening start lists version m number ghosts → AreOwed (home_of_world opening) ghosts (mapped opening events) → AreChangesPublished opening ghosts events
+    → (life_ghosts opening ghosts events).log.cells a ≡ Published cell → a < (levels_of (run opening events).now.words).flushed → IsInImage opening.now.shape (read_then opening events) a cell
+device_there law opening start lists version m number ghosts events a cell begins owed published e to =
+    let fair : AreFair opening events = published_fair opening start ghosts events begins.store.now begins.unborn published in
+    elim (cases_lt a start) [
+      | inl low ↦
+          let low_stays = life_below opening start m number ghosts events begins.store.now begins.log (start_fixed opening start lists version m number ghosts begins) owed in
+          before_there law opening start events a cell begins.store fair low (begins.device a cell (sym (low_stays.same a low) ∙ e))
+      | inr high ↦ since_there law opening start events a cell begins.store fair high to ((life_holds opening start ghosts events begins.store.now begins.unborn begins.reserves published).shows a cell high e)
+    ]
+
+-- and it is fixed
+pub flushed_fixed : (opening : World) (start : ℕ) (lists : ℕ → List ℕ) (version : Version) (m : Map) (number : ℕ) (ghosts : Ghosts) (events : List Event) (a : ℕ) → BeginsLife opening start lists version m number ghosts
+    → a < (levels_of (run opening events).now.words).flushed → a < (life_ghosts opening ghosts events).log.fixed
+flushed_fixed opening start lists version m number ghosts events a begins to =
+    let shows = life_shows opening start events begins.store.now in
+    let below : (levels_of (run opening events).now.words).flushed ≤ (levels_of (run opening events).now.words).safe_read_only =
+    subst (λ (words : List ℕ). (levels_of words).flushed ≤ (levels_of words).safe_read_only) shows.words shows.sound.guard.in_order.flushed_below in
+    let fixed : (life_ghosts opening ghosts events).log.fixed ≡ safe_at (run opening events).now = ghost_fixed opening start ghosts events begins.store.now begins.fixed in
+    omega (arith, to, below, fixed)

@@ -1,0 +1,61 @@
+-- A published record that is fixed stays as it is.
+use Rattle.std.proofs.Common.{◌≡◌, ℕ, ◌<◌, ◌≤◌, ◌∙◌, inl, inr, ap, arith, List, [], ◌∷◌, ◌++◌}
+use Rattle.std.specs.Prelude.{Option}
+use Rattle.fkv_map.specs.Map.{Map}
+use Rattle.fkv_order.specs.Chains.{Cell, Published}
+use Rattle.fkv_order.specs.Ghosts.{Log, Ghosts, GhostEvent, log_after, ghosts_after, ghost_run}
+use Rattle.fkv_order.specs.Owed.{AreOwed, IsOpened}
+use Rattle.fkv_order.proofs.Shown.{Grows}
+use Rattle.fkv_world.specs.Runs.{World, run}
+use Rattle.fkv_world.specs.World.{Event}
+use Rattle.law_order.specs.Known.Begins.{home_of_world}
+use Rattle.fkv_world_order.specs.GhostEvents.{serials_in, ghost_events, mapped, life_ghosts}
+use Rattle.law_order.proofs.OfServed.Lists.{one_step, owed_before}
+
+-- it is there, and changes no more
+pub record IsFixedAs (log : Log) (a : ℕ) (cell : Cell) : Type 0 where
+  pub there : log.cells a ≡ Published cell
+  pub fixed : a < log.fixed
+
+not_both : (a b : ℕ) → b ≤ a → a < b → ⊥
+not_both a b high low = omega (arith, high, low)
+
+below : (a b c : ℕ) → a < b → b ≤ c → a < c
+below a b c low high = omega (arith, low, high)
+
+fixed_grows : (home : ℕ → ℕ) (m : Map) (log log' : Log) (a : ℕ) (cell : Cell) → Grows home m log log' → IsFixedAs log a cell → IsFixedAs log' a cell
+fixed_grows home m log log' a cell grows its =
+    let stays = grows.published a cell its.there in
+    record {
+      there = elim stays.kept [
+        | inl same ↦ stays.still ∙ ap (λ (value : Option ℕ). Published (record cell { value = value })) same
+        | inr now ↦ absurd (not_both a log.fixed now.0 its.fixed)
+      ];
+      fixed = below a log.fixed log'.fixed its.fixed grows.fixed;
+    }
+
+run_stays : (home : ℕ → ℕ) (m : Map) (number : ℕ) (first : Ghosts) (later before : List GhostEvent) (a : ℕ) (cell : Cell) → IsOpened home m number first → AreOwed home first (later ++ before)
+    → IsFixedAs (ghost_run home first before).log a cell → IsFixedAs (ghost_run home first (later ++ before)).log a cell
+unfolding ghost_run ghosts_after AreOwed
+run_stays home m number first [] before a cell opened owed its = its
+run_stays home m number first (event ∷ later) before a cell opened owed its =
+    let log : Log = (ghost_run home first (later ++ before)).log in
+    fixed_grows home m log (log_after home log event) a cell (one_step home m number first event (later ++ before) opened owed).grows
+    (run_stays home m number first later before a cell opened owed.0 its)
+
+pub life_stays : (opening : World) (m : Map) (number : ℕ) (ghosts : Ghosts) (later earlier : List Event) (a : ℕ) (cell : Cell) → IsOpened (home_of_world opening) m number ghosts
+    → AreOwed (home_of_world opening) ghosts (mapped opening (later ++ earlier)) → IsFixedAs (life_ghosts opening ghosts earlier).log a cell → IsFixedAs (life_ghosts opening ghosts (later ++ earlier)).log a cell
+unfolding mapped
+life_stays opening m number ghosts [] earlier a cell opened owed its = its
+life_stays opening m number ghosts (event ∷ later) earlier a cell opened owed its =
+    let events : List GhostEvent = ghost_events (serials_in opening.now) (run opening (later ++ earlier)) event in
+    run_stays (home_of_world opening) m number ghosts events (mapped opening (later ++ earlier)) a cell opened owed
+    (life_stays opening m number ghosts later earlier a cell opened (owed_before (home_of_world opening) ghosts events (mapped opening (later ++ earlier)) owed) its)
+
+-- and what is owed of all is of the earlier
+pub life_owed_before : (opening : World) (ghosts : Ghosts) (later earlier : List Event) → AreOwed (home_of_world opening) ghosts (mapped opening (later ++ earlier)) → AreOwed (home_of_world opening) ghosts (mapped opening earlier)
+unfolding mapped
+life_owed_before opening ghosts [] earlier owed = owed
+life_owed_before opening ghosts (event ∷ later) earlier owed =
+    life_owed_before opening ghosts later earlier
+    (owed_before (home_of_world opening) ghosts (ghost_events (serials_in opening.now) (run opening (later ++ earlier)) event) (mapped opening (later ++ earlier)) owed)

@@ -1,0 +1,75 @@
+-- What was read at an address that was flushed by then is the record that is there.
+use Rattle.std.proofs.Common.{◌≡◌, ℕ, ◌<◌, ◌^◌, ◌∙◌, sym, ap, subst, List, [], ◌∷◌, ◌++◌}
+use Rattle.fkv_base.specs.declared.numbers.Version.{Version}
+use Rattle.fkv_base.specs.declared.shapes.Shape.{Shape}
+use Rattle.fkv_disk.specs.Bytes.{bytes_at}
+use Rattle.fkv_disk.specs.Calls.{reads_as}
+use Rattle.fkv_map.specs.Map.{Map}
+use Rattle.fkv_order.specs.Chains.{Cell, Logged, Published}
+use Rattle.fkv_order.specs.Ghosts.{Ghosts}
+use Rattle.fkv_order.specs.Owed.{AreOwed}
+use Rattle.fkv_plane.specs.declared.places.RecordWord.TheVariants as rec
+use Rattle.fkv_record.specs.Places as image
+use Rattle.fkv_try_rows.specs.MailRows.{IsRecordOf}
+use Rattle.fkv_world.specs.Runs.{World, run}
+use Rattle.fkv_world.specs.World.{Event}
+use Rattle.fkv_world.proofs.Shown.{opened_stays, shape_stays}
+use Rattle.law_order.specs.Known.Begins.{BeginsLife, IsInImage, home_of_world}
+use Rattle.fkv_world_mail.specs.MailEvents.{record_read}
+use Rattle.fkv_world_mail.specs.Reads.{record_there}
+use Rattle.fkv_world_order.specs.GhostEvents.{life_ghosts, mapped}
+use Rattle.fkv_world_records.specs.Changes.{AreChangesPublished}
+use Rattle.law_order.specs.Served.Fits.{CallsFit, CellFits, CellsFit}
+use Rattle.law_order.specs.Served.Served.{ServedShow}
+use Rattle.law_order.proofs.OfServed.Device.{CallsLaw, device_there, flushed_fixed, read_then}
+use Rattle.law_order.proofs.OfServed.Later.{life_owed_before, life_stays}
+use Rattle.law_order.proofs.OfServed.LinesFit.{life_lines_fit}
+use Rattle.law_order.proofs.OfServed.LogFits.{run_fits}
+use Rattle.law_order.proofs.OfServed.Words.{WordsLaw, header_fits, read_back, value_fits}
+
+-- ---- beginnings of a life
+published_before : (opening : World) (ghosts : Ghosts) (later earlier : List Event) → AreChangesPublished opening ghosts (later ++ earlier) → AreChangesPublished opening ghosts earlier
+published_before opening ghosts [] earlier published = published
+published_before opening ghosts (event ∷ later) earlier published = published_before opening ghosts later earlier published.1
+
+fit_before : (later earlier : List Event) → CallsFit (later ++ earlier) → CallsFit earlier
+fit_before [] earlier fits = fits
+fit_before (event ∷ later) earlier fits = fit_before later earlier fits.1
+
+-- ---- all records are of numbers that fit
+pub cells_fit : (opening : World) (start : ℕ) (lists : ℕ → List ℕ) (version : Version) (m : Map) (number : ℕ) (ghosts : Ghosts) (events : List Event) → BeginsLife opening start lists version m number ghosts
+    → CellsFit ghosts.log → CallsFit events → AreOwed (home_of_world opening) ghosts (mapped opening events) → CellsFit (life_ghosts opening ghosts events).log
+cells_fit opening start lists version m number ghosts events begins was fits owed =
+    run_fits (home_of_world opening) m number ghosts (mapped opening events) begins.log owed was (life_lines_fit opening ghosts events begins.world.no_trace begins.log.no_trace fits)
+
+-- ---- what the device gives then
+there_read : (opening : World) (events : List Event) (a : ℕ) → record_there (run opening events) a ≡ record_read (bytes_at (read_then opening events) (image.record_place opening.now.shape a) 24)
+there_read opening events a =
+    let w : World = run opening events in
+    ap (λ (x : List ℕ). record_read (bytes_at (reads_as x w.past.calls) (image.record_place w.now.shape a) 24)) (opened_stays opening events)
+    ∙ ap (λ (x : Shape). record_read (bytes_at (read_then opening events) (image.record_place x a) 24)) (shape_stays opening events)
+
+image_record : WordsLaw → (shape : Shape) (bytes : List ℕ) (a : ℕ) (logged : Logged) (cell : Cell) → logged ≡ Published cell → CellFits cell → IsInImage shape bytes a cell
+    → IsRecordOf logged (record_read (bytes_at bytes (image.record_place shape a) 24))
+image_record law shape bytes a logged cell e fits its =
+    let header = its.words rec.Header in
+    let key = its.words rec.Key in
+    let value = its.words rec.Value in
+    let read = ap record_read its.there ∙ read_back law header key value (header_fits header _ its.leads.version its.leads.says) (subst (λ (n : ℕ). n < 2 ^ 64) (sym its.key) fits.0) (value_fits value cell.value its.value fits.1) in
+    subst (IsRecordOf logged) (sym read) (record { cell = cell; its = e; leads = its.leads; key = its.key; value = its.value })
+
+-- ---- and what is there now
+pub served_show : CallsLaw → WordsLaw → (opening : World) (start : ℕ) (lists : ℕ → List ℕ) (version : Version) (m : Map) (number : ℕ) (ghosts : Ghosts) (events : List Event)
+    → BeginsLife opening start lists version m number ghosts → CellsFit ghosts.log → CallsFit events → AreOwed (home_of_world opening) ghosts (mapped opening events) → AreChangesPublished opening ghosts events
+    → ServedShow opening ghosts events
+served_show calls words opening start lists version m number ghosts events begins was fits owed published = λ session addr its earlier later cell cut gives e to.
+    let owed_all : AreOwed (home_of_world opening) ghosts (mapped opening (later ++ earlier)) = subst (λ (es : List Event). AreOwed (home_of_world opening) ghosts (mapped opening es)) cut owed in
+    let owed_then : AreOwed (home_of_world opening) ghosts (mapped opening earlier) = life_owed_before opening ghosts later earlier owed_all in
+    let published_then : AreChangesPublished opening ghosts earlier = published_before opening ghosts later earlier (subst (AreChangesPublished opening ghosts) cut published) in
+    let fits_then : CallsFit earlier = fit_before later earlier (subst CallsFit cut fits) in
+    let cell_fits : CellFits cell = cells_fit opening start lists version m number ghosts earlier begins was fits_then owed_then addr.0 cell e in
+    let there = device_there calls opening start lists version m number ghosts earlier addr.0 cell begins owed_then published_then e to in
+    let stays = life_stays opening m number ghosts later earlier addr.0 cell begins.log owed_all (record { there = e; fixed = flushed_fixed opening start lists version m number ghosts earlier addr.0 begins to }) in
+    let now : (life_ghosts opening ghosts events).log.cells addr.0 ≡ Published cell = subst (λ (es : List Event). (life_ghosts opening ghosts es).log.cells addr.0 ≡ Published cell) (sym cut) stays.there in
+    subst (IsRecordOf ((life_ghosts opening ghosts events).log.cells addr.0)) (sym (gives ∙ there_read opening earlier addr.0))
+    (image_record words opening.now.shape (read_then opening earlier) addr.0 ((life_ghosts opening ghosts events).log.cells addr.0) cell now cell_fits there)

@@ -1,0 +1,5 @@
+mod Apart
+mod Begun
+mod Events
+pub mod Life
+mod Tickets

@@ -1,0 +1,106 @@
+-- Each line that an event tells is owed in the log.
+use Rattle.std.proofs.Common.{◌≡◌, ℕ, ◌∙◌, refl, ap, sym, subst, Bool, true, false, List, [], ◌∷◌, ◌++◌, append_assoc}
+use Rattle.std.specs.Prelude.{map, if◌then◌else◌}
+use Rattle.fkv_base.specs.declared.numbers.Version.{Version}
+use Rattle.fkv_map.specs.Map.{Map}
+use Rattle.fkv_order.specs.Ghosts.{Log, Ghosts, GhostEvent, Tells, ghost_run}
+use Rattle.fkv_order.specs.Owed.{AreOwed, OwesLine, IsOpened}
+use Rattle.fkv_order.specs.Trace.{Effect, TraceLine, CallsUpdate, RefusesUpdate, GivesResult, CallsRead, AnswersRead, IsIn, called_as}
+use Rattle.fkv_order.proofs.Shown.{IsSound, run_sound}
+use Rattle.fkv_world.specs.Runs.{World, run}
+use Rattle.fkv_world.specs.World.{Event}
+use Rattle.fkv_world_calls.specs.Calls.{EachOwes, OwesCall, effects_of_life, entries_of, event_adds, lines_of_life}
+use Rattle.fkv_world_calls.proofs.Shown.{event_owes, life_entries, same_reply, same_update}
+use Rattle.law_order.specs.Known.Answered.{AnswerOwed, EachAnswered, acted, acted_ghosts}
+use Rattle.law_order.specs.Known.Begins.{BeginsLife, home_of_world}
+use Rattle.fkv_world_order.specs.GhostEvents.{ghost_events, life_ghosts, mapped}
+use Rattle.fkv_world_order.proofs.Shown.{ghost_trace}
+use Rattle.fkv_world_records.specs.Changes.{AreChangesPublished}
+use Rattle.fkv_world_records.proofs.Shown.{life_meets_published}
+use Rattle.law_order.specs.Rest.Resting.{HasNoCommit}
+use Rattle.law_order.proofs.OfTold.Lines.{acted_trace, told_log, told_trace}
+use Rattle.law_order.proofs.OfTold.Runs.{free_read, owed_on, run_on}
+
+-- ---- one line, of a log that has the entries of these effects and these lines
+line_owes : (home : ℕ → ℕ) (m : Map) (g : Ghosts) (effects : List Effect) (lines : List TraceLine) (line : TraceLine) → IsSound home m g → entries_of g.log.history ≡ entries_of effects → g.trace ≡ lines
+    → OwesCall effects lines line → AnswerOwed g line → OwesLine g line
+line_owes home m g effects lines (CallsUpdate session serial op) sound same traced owes answer = ap (λ (x : List TraceLine). called_as x session serial) traced ∙ owes
+line_owes home m g effects lines (RefusesUpdate session serial) sound same traced owes answer = λ has. owes (same_update g.log.history effects session serial same has)
+line_owes home m g effects lines (GivesResult session serial reply) sound same traced owes answer = same_reply effects g.log.history session serial reply (sym same) owes
+line_owes home m g effects lines (CallsRead reader key) sound same traced owes answer =
+    free_read home m g.log g.trace reader (g.reads reader) (sound.knows reader) (λ other is_in. owes other (subst (IsIn (CallsRead reader other)) traced is_in))
+line_owes home m g effects lines (AnswersRead reader reply) sound same traced owes answer = answer
+
+-- ---- and each of a list of them, behind what has been owed
+told_owed : (home : ℕ → ℕ) (m : Map) (version : ℕ) (ghosts : Ghosts) (behind : List GhostEvent) (effects : List Effect) (known lines : List TraceLine) → IsOpened home m version ghosts → AreOwed home ghosts behind
+    → entries_of (ghost_run home ghosts behind).log.history ≡ entries_of effects → (ghost_run home ghosts behind).trace ≡ known
+    → EachOwes (OwesCall effects) known lines → EachAnswered home (ghost_run home ghosts behind) lines → AreOwed home ghosts (map Tells lines ++ behind)
+unfolding AreOwed
+told_owed home m version ghosts behind effects known [] opened owed same traced owes answered = owed
+told_owed home m version ghosts behind effects known (line ∷ earlier) opened owed same traced owes answered =
+    let base : Ghosts = ghost_run home ghosts behind in
+    let before : AreOwed home ghosts (map Tells earlier ++ behind) = told_owed home m version ghosts behind effects known earlier opened owed same traced owes.1 answered.1 in
+    let joined : ghost_run home ghosts (map Tells earlier ++ behind) ≡ ghost_run home base (map Tells earlier) = run_on home ghosts (map Tells earlier) behind in
+    let its : OwesLine (ghost_run home base (map Tells earlier)) line = line_owes home m (ghost_run home base (map Tells earlier)) effects (earlier ++ known) line
+    (subst (IsSound home m) joined (run_sound home m version ghosts (map Tells earlier ++ behind) opened before))
+    (ap (λ (x : Log). entries_of x.history) (told_log home base earlier) ∙ same)
+    (told_trace home base earlier ∙ ap (λ (x : List TraceLine). earlier ++ x) traced)
+    owes.0 answered.0 in
+    (before, subst (λ (x : Ghosts). OwesLine x line) (sym joined) its)
+
+-- ---- what an event is to the log
+pub mapped_alive : (opening : World) (before : List Event) (event : Event) → (run opening before).now.crashed ≡ false
+    → mapped opening (event ∷ before) ≡ map Tells (event_adds opening before event) ++ (acted opening before event ++ mapped opening before)
+unfolding mapped ghost_events run
+mapped_alive opening before event alive =
+    ap (λ (c : Bool). (if c then [] else map Tells (event_adds opening before event) ++ acted opening before event) ++ mapped opening before) alive
+    ∙ append_assoc (map Tells (event_adds opening before event)) (acted opening before event) (mapped opening before)
+
+pub mapped_crashed : (opening : World) (before : List Event) (event : Event) → (run opening before).now.crashed ≡ true → mapped opening (event ∷ before) ≡ mapped opening before
+unfolding mapped ghost_events run
+mapped_crashed opening before event crashed = ap (λ (c : Bool). (if c then [] else map Tells (event_adds opening before event) ++ acted opening before event) ++ mapped opening before) crashed
+
+module _ (opening : World) (start : ℕ) (lists : ℕ → List ℕ) (version : Version) (m : Map) (number : ℕ) (ghosts : Ghosts) (before : List Event) (event : Event) (begins : BeginsLife opening start lists version m number ghosts) where
+  abbrev H : ℕ → ℕ
+  H = home_of_world opening
+
+  -- the lines, and what the life is to the log until they are told
+  abbrev told : List TraceLine
+  told = event_adds opening before event
+
+  abbrev behind : List GhostEvent
+  behind = acted opening before event ++ mapped opening before
+
+  abbrev base : Ghosts
+  base = acted_ghosts opening ghosts before event
+
+  behind_is : ghost_run H ghosts behind ≡ base
+  behind_is = run_on H ghosts (acted opening before event) (mapped opening before)
+
+  behind_trace : (ghost_run H ghosts behind).trace ≡ lines_of_life opening before
+  behind_trace =
+      ap (λ (x : Ghosts). x.trace) behind_is
+      ∙ (acted_trace H (life_ghosts opening ghosts before) opening before event ∙ ghost_trace opening ghosts before begins.world.no_trace begins.log.no_trace)
+
+  behind_entries : (run opening before).now.crashed ≡ false → AreChangesPublished opening ghosts (event ∷ before) → entries_of (ghost_run H ghosts behind).log.history ≡ entries_of (effects_of_life opening (event ∷ before))
+  behind_entries alive published =
+      sym (ap (λ (x : Log). entries_of x.history) (told_log H (ghost_run H ghosts behind) told))
+      ∙ (sym (ap (λ (x : Ghosts). entries_of x.log.history) (run_on H ghosts (map Tells told) behind))
+      ∙ (sym (ap (λ (x : List GhostEvent). entries_of (ghost_run H ghosts x).log.history) (mapped_alive opening before event alive))
+      ∙ life_entries opening start ghosts (event ∷ before) begins.world begins.store.now begins.unborn begins.reserves begins.log.no_history
+      (life_meets_published opening start ghosts begins.store.now begins.unborn begins.reserves (event ∷ before) published)))
+
+  alive_owed : (run opening before).now.crashed ≡ false → AreOwed H ghosts (mapped opening before) → AreChangesPublished opening ghosts (event ∷ before) → AreOwed H (life_ghosts opening ghosts before) (acted opening before event)
+      → EachAnswered H base told → AreOwed H ghosts (mapped opening (event ∷ before))
+  alive_owed alive owed published own answered =
+      subst (AreOwed H ghosts) (sym (mapped_alive opening before event alive))
+      (told_owed H m number ghosts behind (effects_of_life opening (event ∷ before)) (lines_of_life opening before) told begins.log (owed_on H ghosts (acted opening before event) (mapped opening before) owed own)
+      (behind_entries alive published) behind_trace (event_owes opening before event begins.world) (subst (λ (x : Ghosts). EachAnswered H x told) (sym behind_is) answered))
+
+  pub lines_owed : HasNoCommit (event ∷ before) → AreOwed H ghosts (mapped opening before) → AreChangesPublished opening ghosts (event ∷ before) → AreOwed H (life_ghosts opening ghosts before) (acted opening before event)
+      → EachAnswered H base told → AreOwed H ghosts (mapped opening (event ∷ before))
+  lines_owed rests owed published own answered = by_test (run opening before).now.crashed refl
+    where
+      by_test : (c : Bool) → (run opening before).now.crashed ≡ c → AreOwed H ghosts (mapped opening (event ∷ before))
+      by_test true crashed = subst (AreOwed H ghosts) (sym (mapped_crashed opening before event crashed)) owed
+      by_test false alive = alive_owed alive owed published own answered

@@ -1,0 +1,68 @@
+-- What sessions are told by the words of the store is true of the log.
+use Rattle.std.proofs.Common.{◌≡◌, ℕ, sym, ap, subst, true, List, [], ◌∷◌}
+use Rattle.std.specs.Prelude.{Some, slice_get}
+use Rattle.fkv_base.specs.declared.numbers.Version.{Version}
+use Rattle.fkv_base.specs.declared.shapes.Shape.{Shape}
+use Rattle.fkv_index.specs.Slots.{home_of}
+use Rattle.fkv_map.specs.Keys.{key_of}
+use Rattle.fkv_map.specs.Map.{Map}
+use Rattle.fkv_order.specs.Chains.{head_of}
+use Rattle.fkv_order.specs.Ghosts.{Ghosts, Log}
+use Rattle.fkv_order.specs.Owed.{AreOwed}
+use Rattle.fkv_ops.specs.declared.requests.Seen.{Seen}
+use Rattle.fkv_pending.specs.Attempting.{attempt_ask}
+use Rattle.fkv_plane.specs.Asked.{reply_to}
+use Rattle.fkv_session.specs.Sessions.{SessionState}
+use Rattle.fkv_session_rows.specs.Known.{is_attempting}
+use Rattle.fkv_try_rows.specs.AttemptRows.{AttemptKnows, IsTrueOfAttempt}
+use Rattle.fkv_try_rows.specs.WordsShow.{WordsShow, AttemptMeets}
+use Rattle.fkv_try_rows.proofs.Shown.{attempt_true}
+use Rattle.fkv_world.specs.Runs.{World, run}
+use Rattle.fkv_world.specs.World.{Event, Now, seat_at}
+use Rattle.fkv_world.proofs.Shown.{shape_stays}
+use Rattle.fkv_world_heads.specs.Heads.{head_at}
+use Rattle.fkv_world_heads.specs.Searches.{home_attempted}
+use Rattle.fkv_world_heads.proofs.Shown.{life_found}
+use Rattle.fkv_world_index.specs.Finders.{session_part}
+use Rattle.law_order.specs.Known.Begins.{BeginsLife, home_of_world}
+use Rattle.law_order.specs.Known.Knows.{AllKnowBehind, AreKnown}
+use Rattle.law_order.specs.Known.Told.{AreToldTruly, LookTruly, reply_in}
+use Rattle.fkv_world_order.specs.GhostEvents.{home_number, life_ghosts, mapped}
+use Rattle.fkv_world_records.specs.Changes.{AreChangesPublished}
+use Rattle.law_order.specs.Rest.Resting.{HasNoCommit}
+use Rattle.law_order.proofs.OfTruth.Attempts.{attempt_reply, attempting_is, life_seen}
+use Rattle.law_order.proofs.OfTruth.Searches.{BeginsFor, FindsBy, attempt_meets, finds_by}
+use Rattle.law_order.proofs.OfTruth.Words.{words_show}
+
+-- what sessions know at the last of these moments
+pub known_now : (opening : World) (ghosts : Ghosts) (events : List Event) → AreKnown opening ghosts events → AllKnowBehind opening ghosts events
+unfolding AreKnown
+known_now opening ghosts [] known = known
+known_now opening ghosts (event ∷ before) known = known.1
+
+-- the home that is attempted is that of the key, by its number
+begins_for : (opening : World) (events : List Event) (log : Log) (s : SessionState) → BeginsFor (home_of_world opening) log (head_at log (home_attempted (run opening events).now s)) (key_of s.attempt.pending.request.op)
+begins_for opening events log s = ap (λ (shape : Shape). head_of (log.chains (home_number (home_of shape.bucket_bits (key_of s.attempt.pending.request.op))))) (sym (shape_stays opening events))
+
+-- an attempt is told the truth where its session is
+told_truly : (home : ℕ → ℕ) (log : Log) (n : Now) (session : ℕ) (s : SessionState) → is_attempting s.step ≡ true → s.attempt.seen ≡ s.seen → WordsShow log n.places s.seen n.words → AttemptKnows home log s.attempt
+    → AttemptMeets home log n.places s.attempt s.attempt.step (reply_in n session s) → IsTrueOfAttempt home log n.places s.attempt s.attempt.step (reply_in n session s)
+told_truly home log n session s attempts seen show knows meets =
+    let same : reply_in n session s ≡ reply_to n.words (attempt_ask n.places session s.attempt) = attempt_reply (seat_at n session) n.words s s.step attempts in
+    subst (IsTrueOfAttempt home log n.places s.attempt s.attempt.step) (sym same)
+    (attempt_true home log n.places session n.words s.attempt (subst (λ (x : Seen). WordsShow log n.places x n.words) (sym seen) show) knows (subst (AttemptMeets home log n.places s.attempt s.attempt.step) same meets))
+
+pub words_true : (opening : World) (start : ℕ) (lists : ℕ → List ℕ) (version : Version) (m : Map) (number : ℕ) (ghosts : Ghosts) (before : List Event) → BeginsLife opening start lists version m number ghosts
+    → HasNoCommit before → AreOwed (home_of_world opening) ghosts (mapped opening before) → AreChangesPublished opening ghosts before → AreKnown opening ghosts before
+    → LookTruly (life_ghosts opening ghosts before).log (run opening before).now → AreToldTruly (home_of_world opening) (life_ghosts opening ghosts before).log (run opening before).now
+words_true opening start lists version m number ghosts before begins none owed published known look = λ session s found attempts.
+    let n : Now = (run opening before).now in
+    let log : Log = (life_ghosts opening ghosts before).log in
+    let opened = begins.store.now in
+    let knows : AttemptKnows (home_of_world opening) log s.attempt = (known_now opening ghosts before known session s found).attempted attempts in
+    let finds : FindsBy n.places (head_at log (home_attempted n s)) (reply_in n session s) (session_part s).work =
+    λ its searches. (life_found opening start lists ghosts before opened begins.index begins.unborn begins.reserves begins.heads session s its found searches).replied in
+    told_truly (home_of_world opening) log n session s attempts (life_seen opening start before session s begins.world opened found attempts)
+    (words_show opening start lists version m number ghosts before session s begins owed published found (attempting_is s.step attempts)) knows
+    (attempt_meets (home_of_world opening) log n.places (head_at log (home_attempted n s)) (reply_in n session s) s.attempt s.attempt.step (begins_for opening before log s) knows.row
+    (finds_by n.places (head_at log (home_attempted n s)) (reply_in n session s) s s.step attempts finds) (look session s found attempts))

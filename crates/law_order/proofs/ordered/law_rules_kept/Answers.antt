@@ -1,0 +1,10 @@
+-- The law, of a life that keeps order.
+use Rattle.law_order.proofs.ordered.law_rules_kept.Goals as goal
+
+pub returns-clause-owed : goal.returns-clause-owed
+returns-clause-owed c = λ opening start lists version m number ghosts events begins cells none fits apart.
+    (c.law_world_ordered.ensures opening start lists version m number ghosts events begins cells none fits apart).owed
+
+pub returns-clause-published : goal.returns-clause-published
+returns-clause-published c = λ opening start lists version m number ghosts events begins cells none fits apart.
+    (c.law_world_ordered.ensures opening start lists version m number ghosts events begins cells none fits apart).published

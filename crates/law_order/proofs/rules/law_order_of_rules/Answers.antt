@@ -1,0 +1,73 @@
+-- The laws, from the log beside the life to the life itself.
+use Rattle.std.proofs.Common.{subst, sym, List, [], ◌∷◌}
+use Rattle.fkv_base.specs.declared.shapes.Shape.{Shape}
+use Rattle.fkv_core.specs.Openings.{beginning}
+use Rattle.fkv_map.specs.History.{IsLegal}
+use Rattle.fkv_order.specs.Ghosts.{Ghosts}
+use Rattle.fkv_order.specs.Owed.{IsOpened}
+use Rattle.fkv_order.specs.Trace.{OrdersCalls, ReadsAreFresh, TraceLine}
+use Rattle.fkv_opening_log.specs.Lives.{ghosts_beside}
+use Rattle.fkv_opening_log.specs.Maps.{opening_map}
+use Rattle.fkv_opening_log.specs.OpeningLog.{opening_ghosts}
+use Rattle.fkv_world_calls.proofs.Shown.{same_history}
+use Rattle.fkv_world.specs.Runs.{run}
+use Rattle.fkv_world_guard.specs.Shows.{AreFair}
+use Rattle.fkv_world_order.specs.GhostEvents.{home_in}
+use Rattle.fkv_world_records.proofs.Shown.{published_fair}
+use Rattle.law_order.specs.Rules.Ordered.{effects_so_far, lines_so_far}
+use Rattle.law_order.proofs.OfRules.InTime.{reads_in_time}
+use Rattle.law_order.proofs.OfRules.Kept.{fair_at, same_entries}
+use Rattle.law_order.proofs.OfRules.SameEntries.{fresh_by, orders_by}
+use Rattle.law_order.proofs.rules.law_order_of_rules.Goals as goal
+
+pub returns-clause-legal : goal.returns-clause-legal
+returns-clause-legal c = λ bytes o n events store world rules published.
+    let beside : Ghosts = ghosts_beside o n bytes events in
+    let same = same_entries bytes o n events world (c.law_guard_opens.ensures o n bytes world).now (c.law_log_begins.ensures bytes o n store world) published in
+    subst (IsLegal (opening_map bytes o)) (same_history beside.log.history (effects_so_far n bytes events) same) (c.law_log_beside.ensures.ordered bytes o n events store world rules).legal
+
+pub returns-clause-ordered : goal.returns-clause-ordered
+returns-clause-ordered c = λ bytes o n events store world rules published.
+    let beside : Ghosts = ghosts_beside o n bytes events in
+    let same = same_entries bytes o n events world (c.law_guard_opens.ensures o n bytes world).now (c.law_log_begins.ensures bytes o n store world) published in
+    orders_by beside.log.history (effects_so_far n bytes events) same (lines_so_far n bytes events)
+    (subst (λ (trace : List TraceLine). OrdersCalls beside.log.history trace) (c.law_log_beside.ensures.beside bytes o n events store world).trace (c.law_log_beside.ensures.ordered bytes o n events store world rules).calls_ordered)
+
+pub returns-clause-fresh : goal.returns-clause-fresh
+returns-clause-fresh c = λ bytes o n events store world rules published.
+    let beside : Ghosts = ghosts_beside o n bytes events in
+    let same = same_entries bytes o n events world (c.law_guard_opens.ensures o n bytes world).now (c.law_log_begins.ensures bytes o n store world) published in
+    fresh_by beside.log.history (effects_so_far n bytes events) same (opening_map bytes o) (lines_so_far n bytes events)
+    (subst (λ (trace : List TraceLine). ReadsAreFresh (opening_map bytes o) beside.log.history trace) (c.law_log_beside.ensures.beside bytes o n events store world).trace (c.law_log_beside.ensures.ordered bytes o n events store world rules).reads_fresh)
+
+pub returns-clause-in_time : goal.returns-clause-in_time
+returns-clause-in_time c = λ bytes o n events store world rules published.
+    reads_in_time bytes o n events world (c.law_guard_opens.ensures o n bytes world).now (c.law_log_begins.ensures bytes o n store world)
+    (subst (λ (shape : Shape). IsOpened (home_in shape.bucket_bits) (opening_map bytes o) o.number.0 (opening_ghosts bytes o)) (sym world.its_shape) (c.law_log_opened.ensures.opened bytes o store)) rules published
+
+pub returns-clause-guarded : goal.returns-clause-guarded
+unfolding run
+returns-clause-guarded c = λ bytes o n events store world rules published.
+    let opened = (c.law_guard_opens.ensures o n bytes world).now in
+    let begins = c.law_log_begins.ensures bytes o n store world in
+    let fair : AreFair (beginning n bytes) events = published_fair (beginning n bytes) o.tail.0 (opening_ghosts bytes o) events opened begins.unborn published in
+    record {
+      shows = c.law_world_is_guarded.ensures.shows (beginning n bytes) o.tail.0 events opened;
+      fair = fair;
+      writes = λ later before event whole. c.law_world_is_guarded.ensures.writes (beginning n bytes) o.tail.0 before event opened
+          (fair_at (beginning n bytes) later before event (subst (AreFair (beginning n bytes)) whole fair));
+      limit = λ later before event whole. c.law_world_is_guarded.ensures.limit (beginning n bytes) o.tail.0 before event opened;
+      order = c.law_world_is_guarded.ensures.order (beginning n bytes) o.tail.0 events opened;
+      rises = λ later before event whole. c.law_world_is_guarded.ensures.rises (beginning n bytes) o.tail.0 before (event ∷ []) opened;
+      covered = c.law_world_is_guarded.ensures.covered (beginning n bytes) o.tail.0 events opened;
+      paged = c.law_world_is_guarded.ensures.paged (beginning n bytes) o.tail.0 events opened;
+    }
+
+pub returns-clause-once : goal.returns-clause-once
+returns-clause-once c = λ bytes o n events store world rules published.
+    let opened = (c.law_guard_opens.ensures o n bytes world).now in
+    record {
+      once = c.law_world_once.ensures.once (beginning n bytes) o.tail.0 events opened;
+      claimed = λ later before event claim whole among. c.law_world_once.ensures.seen (beginning n bytes) o.tail.0 before event claim opened among;
+      ran = λ later before event action whole among. c.law_world_once.ensures.ran (beginning n bytes) o.tail.0 before event action opened among;
+    }

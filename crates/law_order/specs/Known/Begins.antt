@@ -1,0 +1,54 @@
+-- What a life without commits begins with, beside the log of the order law.
+use Rattle.std.specs.Prelude.{◌≡◌, ℕ, ◌<◌, List, [], ◌∷◌}
+use Rattle.fkv_base.specs.declared.numbers.Version.{Version}
+use Rattle.fkv_base.specs.declared.shapes.Shape.{Shape}
+use Rattle.fkv_disk.specs.Bytes.{bytes_at}
+use Rattle.fkv_map.specs.Map.{Map}
+use Rattle.fkv_ops.specs.Values.{value_of}
+use Rattle.fkv_order.specs.Chains.{Cell, Published}
+use Rattle.fkv_order.specs.Ghosts.{Ghosts}
+use Rattle.fkv_order.specs.Owed as order
+use Rattle.fkv_plane.specs.declared.places.RecordWord.{RecordWord}
+use Rattle.fkv_plane.specs.declared.places.RecordWord.TheVariants as rec
+use Rattle.fkv_record.specs.Numbers.{spelled}
+use Rattle.fkv_record.specs.Places as image
+use Rattle.fkv_try_rows.specs.MailRows.{LeadsTo}
+use Rattle.fkv_world.specs.Opened.{IsOpenedWorld}
+use Rattle.fkv_world.specs.Runs.{World}
+use Rattle.fkv_world_guard.specs.OpenedStore.{IsOpenedStore}
+use Rattle.fkv_world_heads.specs.Heads.{LeadToHeads}
+use Rattle.fkv_world_index.specs.Shows as index
+use Rattle.fkv_world_mail.specs.Shows as mail
+use Rattle.fkv_world_order.specs.GhostEvents.{home_in, safe_at}
+use Rattle.fkv_world_order.specs.Reserved.{IsUnbornFrom, ReservesNothing, tail_at}
+use Rattle.law_order.specs.Rest.Logs.{CellsRest}
+use Rattle.law_order.specs.Rest.Resting.{RestsIn}
+
+-- the home of a key in the store of a world
+abbrev pub home_of_world : World → ℕ → ℕ
+home_of_world w = home_in w.now.shape.bucket_bits
+
+-- The bytes have the record at its place: three words of which the first leads where the record does, and the others are its key and its value.
+pub record IsInImage (shape : Shape) (bytes : List ℕ) (a : ℕ) (cell : Cell) : Type 0 where
+  pub words : RecordWord → ℕ
+  pub leads : LeadsTo cell.previous (words rec.Header)
+  pub key : words rec.Key ≡ cell.key
+  pub value : value_of (words rec.Value) ≡ cell.value
+  pub there : bytes_at bytes (image.record_place shape a) 24 ≡ spelled (words rec.Header ∷ words rec.Key ∷ words rec.Value ∷ [])
+
+-- A store was just opened, with its records' end at `start`: to the engine, the guard, the index (whose overflow buckets follow in these lists) and each
+-- mailbox. It rests in a version. The log is one with which the order law begins, from a map and in a version of its own; it has fixed what lies below the
+-- safe read-only offset, its chains begin where the entries of the index lead, and the image that the device holds has each of its records.
+pub record BeginsLife (opening : World) (start : ℕ) (lists : ℕ → List ℕ) (version : Version) (m : Map) (number : ℕ) (ghosts : Ghosts) : Type 0 where
+  pub world : IsOpenedWorld opening
+  pub store : IsOpenedStore opening start
+  pub index : index.IsOpened opening lists
+  pub mailboxes : (session : ℕ) → session < opening.now.places.sessions → mail.IsOpened opening.now session
+  pub rests : RestsIn version opening.now
+  pub log : order.IsOpened (home_of_world opening) m number ghosts
+  pub fixed : ghosts.log.fixed ≡ safe_at opening.now
+  pub unborn : IsUnbornFrom (tail_at opening.now) ghosts
+  pub reserves : ReservesNothing ghosts
+  pub cells : CellsRest version.0 ghosts.log.cells
+  pub heads : LeadToHeads opening.now lists ghosts.log
+  pub device : (a : ℕ) (cell : Cell) → ghosts.log.cells a ≡ Published cell → IsInImage opening.now.shape opening.past.opened a cell

@@ -1,0 +1,29 @@
+-- What the sessions of a world know of the log.
+use Rattle.std.specs.Prelude.{◌≡◌, ⊤, ℕ, List, [], ◌∷◌, slice_get, Some}
+use Rattle.fkv_order.specs.Ghosts.{Ghosts, Log}
+use Rattle.fkv_pending.specs.declared.pending_requests.PendingRequest.{PendingRequest}
+use Rattle.fkv_pending.specs.Attempting.{AttemptState}
+use Rattle.fkv_session.specs.Sessions.{SessionState}
+use Rattle.fkv_session_rows.specs.Known.{KnowsRequests}
+use Rattle.fkv_try_rows.specs.AttemptRows.{AttemptKnows, PendingKnows}
+use Rattle.fkv_world.specs.Runs.{World, run}
+use Rattle.fkv_world.specs.World.{Event, Now}
+use Rattle.fkv_world_order.specs.GhostEvents.{life_ghosts}
+use Rattle.law_order.specs.Known.Begins.{home_of_world}
+
+-- what a session knows: each request that waits, by what the session has seen, and the attempt that is under way
+abbrev pub SessionKnows : (ℕ → ℕ) → Log → SessionState → Type 0
+SessionKnows home log s = KnowsRequests (λ pending. PendingKnows home log pending s.seen) (λ a. AttemptKnows home log a) s
+
+-- and so does each
+abbrev pub AllKnow : (ℕ → ℕ) → Log → Now → Type 0
+AllKnow home log n = (session : ℕ) (s : SessionState) → slice_get n.sessions session ≡ Some s → SessionKnows home log s
+
+-- behind these events of a life
+abbrev pub AllKnowBehind : World → Ghosts → List Event → Type 0
+AllKnowBehind opening ghosts events = AllKnow (home_of_world opening) (life_ghosts opening ghosts events).log (run opening events).now
+
+-- at each moment of it
+unfoldable pub AreKnown : World → Ghosts → List Event → Type 0
+AreKnown opening ghosts [] = AllKnowBehind opening ghosts []
+AreKnown opening ghosts (event ∷ before) = AreKnown opening ghosts before × AllKnowBehind opening ghosts (event ∷ before)

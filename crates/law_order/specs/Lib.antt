@@ -1,0 +1,10 @@
+pub mod Asked
+pub mod Known
+pub mod OneHistory
+pub mod Ordered
+pub mod Reads
+pub mod Rest
+pub mod Rows
+pub mod Rules
+pub mod Served
+pub mod Tickets

@@ -1,0 +1,25 @@
+//! What a session loads from its mailbox is true of the log.
+ghost use Rattle.std.specs.Prelude.{List, ℕ};
+ghost use Rattle.fkv_base.specs.declared.numbers.Version.{Version};
+ghost use Rattle.fkv_map.specs.Map.{Map};
+ghost use Rattle.fkv_order.specs.Ghosts.{Ghosts};
+ghost use Rattle.fkv_order.specs.Owed.{AreOwed};
+ghost use Rattle.fkv_world.specs.Runs.{World, run};
+ghost use Rattle.fkv_world.specs.World.{Event};
+ghost use Rattle.law_order.specs.Known.Begins.{BeginsLife, home_of_world};
+ghost use Rattle.law_order.specs.Known.Knows.{AreKnown};
+ghost use Rattle.law_order.specs.Known.Told.{LookTruly};
+ghost use Rattle.fkv_world_order.specs.GhostEvents.{life_ghosts, mapped};
+ghost use Rattle.fkv_world_records.specs.Changes.{AreChangesPublished};
+ghost use Rattle.law_order.specs.Rest.Resting.{HasNoCommit};
+ghost use Rattle.law_order.specs.Served.Served.{ServedShow};
+
+/// In every life without commits of a store that was opened, at each moment so far at which all events of the log beside it were owed, each change in
+/// place met a published record, and sessions know what they have to: where what the device gives for a flushed record shows the log, the words that
+/// an attempt loads from its session's mailbox lead where the record does that its request seeks, and are its key and its value.
+pub fn law_looks_true()
+    ensures { (opening : World) (start : ℕ) (lists : ℕ → List ℕ) (version : Version) (m : Map) (number : ℕ) (ghosts : Ghosts) (before : List Event)
+        → BeginsLife opening start lists version m number ghosts → HasNoCommit before → AreOwed (home_of_world opening) ghosts (mapped opening before)
+        → AreChangesPublished opening ghosts before → AreKnown opening ghosts before → ServedShow opening ghosts before
+        → LookTruly (life_ghosts opening ghosts before).log (run opening before).now }
+{}

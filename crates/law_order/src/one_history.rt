@@ -1,0 +1,28 @@
+//! The order law of the engine, in every life without commits.
+ghost use Rattle.law_order.specs.OneHistory.EachLife.{InEachLife};
+ghost use Rattle.law_order.specs.Rules.InTime.{ReadsInTime};
+ghost use Rattle.law_order.specs.Rules.Ordered.{HasLegalHistory, IsGuarded, OrdersItsCalls, ReadsFreshly, RunsActionsOnce};
+
+use crate::fits::law_opening_fits;
+use crate::rules::{law_life_begins, law_order_of_rules};
+use crate::ordered::law_world_ordered;
+
+/// Over every list of events without commits, of sessions that turn pages, sleep, wake, stall in the middle of calls, meet the disk and fill overflow buckets,
+/// of a device whose calls fail, with any actor at any step and a crash anywhere: what has taken effect so far is one history, legal from the store's map
+/// on, with the replies that were given. It orders the calls: each update whose result was given took effect once, with that reply, none took effect but
+/// those that were called, and one whose result was given before another was called took effect before it. Each read is answered by its key's
+/// value at some moment between its call and its answer. No step writes a flushed record or a frame that an epoch protects, and each action is run once at most, and when each
+/// protected session goes by what it loaded since its epoch was raised. The calls are of numbers below 2^64, and fewer than 2^64 - 1 calls of sessions begin.
+pub fn law_order()
+    ensures legal { InEachLife HasLegalHistory }
+    ensures ordered { InEachLife OrdersItsCalls }
+    ensures fresh { InEachLife ReadsFreshly }
+    ensures in_time { InEachLife ReadsInTime }
+    ensures guarded { InEachLife IsGuarded }
+    ensures once { InEachLife RunsActionsOnce }
+{
+    law_life_begins();
+    law_order_of_rules();
+    law_opening_fits();
+    law_world_ordered();
+}

@@ -1,0 +1,43 @@
+//! Each life without commits of a store that was opened keeps to the rules of the order law's log beside it.
+ghost use Rattle.std.specs.Prelude.{ℕ, List};
+ghost use Rattle.fkv_base.specs.declared.numbers.Version.{Version};
+ghost use Rattle.fkv_map.specs.Map.{Map};
+ghost use Rattle.fkv_order.specs.Ghosts.{Ghosts};
+ghost use Rattle.fkv_order.specs.Owed.{AreOwed};
+ghost use Rattle.fkv_world.specs.Runs.{World};
+ghost use Rattle.fkv_world.specs.World.{Event};
+ghost use Rattle.law_order.specs.Known.Begins.{BeginsLife, home_of_world};
+ghost use Rattle.law_order.specs.Known.Told.{TicketsAreApart};
+ghost use Rattle.fkv_world_order.specs.GhostEvents.{mapped};
+ghost use Rattle.law_order.specs.Ordered.Keeps.{KeepsOrder};
+ghost use Rattle.fkv_world_records.specs.Changes.{AreChangesPublished};
+ghost use Rattle.law_order.specs.Rest.Resting.{HasNoCommit};
+ghost use Rattle.law_order.specs.Served.Fits.{CallsFit, CellsFit};
+
+use fkv_flush::law_mail;
+use fkv_world_guard::law_world_flushed_is_synced;
+
+/// Every life that begins as a store was opened, has no commit, calls with numbers below 2^64, and gives no ticket again while a request waits that has
+/// it, keeps order: each event of the log beside it is owed, what a session is about to change in place is published, and at each moment sessions know what
+/// they have to of the log, and reads have come as far in it as control states say.
+pub fn law_world_ordered()
+    ensures { (opening : World) (start : ℕ) (lists : ℕ → List ℕ) (version : Version) (m : Map) (number : ℕ) (ghosts : Ghosts) (events : List Event) → BeginsLife opening start lists version m number ghosts
+        → CellsFit ghosts.log → HasNoCommit events → CallsFit events → TicketsAreApart opening events
+        → KeepsOrder opening ghosts events }
+{
+    law_mail();
+    law_world_flushed_is_synced();
+}
+
+/// So each event of the log beside such a life keeps to its rule, and each change in place is of a published record: the premises under which the
+/// order law speaks of the life itself.
+pub fn law_rules_kept()
+    ensures owed { (opening : World) (start : ℕ) (lists : ℕ → List ℕ) (version : Version) (m : Map) (number : ℕ) (ghosts : Ghosts) (events : List Event) → BeginsLife opening start lists version m number ghosts
+        → CellsFit ghosts.log → HasNoCommit events → CallsFit events → TicketsAreApart opening events
+        → AreOwed (home_of_world opening) ghosts (mapped opening events) }
+    ensures published { (opening : World) (start : ℕ) (lists : ℕ → List ℕ) (version : Version) (m : Map) (number : ℕ) (ghosts : Ghosts) (events : List Event) → BeginsLife opening start lists version m number ghosts
+        → CellsFit ghosts.log → HasNoCommit events → CallsFit events → TicketsAreApart opening events
+        → AreChangesPublished opening ghosts events }
+{
+    law_world_ordered();
+}

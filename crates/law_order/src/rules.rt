@@ -1,0 +1,58 @@
+//! Of each life of a store that was opened: what it begins with, and that it has one history, where the events of the log beside it keep to their rules.
+ghost use Rattle.std.specs.Prelude.{ℕ, List};
+ghost use Rattle.fkv_core.specs.Openings.{IsOpeningWorld, beginning};
+ghost use Rattle.fkv_filling.specs.OpeningIndex.{opening_lists};
+ghost use Rattle.fkv_opening.specs.Opened.{IsStoreOf};
+ghost use Rattle.fkv_opening.specs.declared.opened_store.Opened.{Opened};
+ghost use Rattle.fkv_opening_log.specs.Maps.{opening_map};
+ghost use Rattle.fkv_opening_log.specs.OpeningLog.{opening_ghosts};
+ghost use Rattle.fkv_world.specs.World.{Now};
+ghost use Rattle.law_order.specs.Known.Begins.{BeginsLife};
+ghost use Rattle.law_order.specs.Rules.InTime.{ReadsInTime};
+ghost use Rattle.law_order.specs.Rules.Ordered.{HasLegalHistory, IsGuarded, OfEachKept, OrdersItsCalls, ReadsFreshly, RunsActionsOnce, opening_version};
+
+use fkv_core::law_words_open;
+use fkv_lives::{law_guard_opens, law_index_opens};
+use fkv_opening_log::{
+    law_log_begins, law_log_beside, law_log_counted, law_log_heads, law_log_opened,
+};
+use fkv_world_guard::{law_world_is_guarded, law_world_once};
+use crate::rest::law_rest_said;
+
+/// The life of an opened store begins with the log of its image, from the store's map and in the version of its commit, and at rest in the version behind
+/// that: the engine, the guard, the index and each mailbox are as such a store has them, the chains begin where the entries of the index lead, and the
+/// image has each record of the log.
+pub fn law_life_begins()
+    ensures { (bytes : List ℕ) (o : Opened) (n : Now) → IsStoreOf bytes o → IsOpeningWorld o n
+        → BeginsLife (beginning n bytes) o.tail.0 (opening_lists o.entries.items) (opening_version o) (opening_map bytes o) o.number.0 (opening_ghosts bytes o) }
+{
+    law_guard_opens();
+    law_index_opens();
+    law_words_open();
+    law_rest_said();
+    law_log_counted();
+    law_log_opened();
+    law_log_begins();
+    law_log_heads();
+}
+
+/// Where each event of the log beside such a life keeps to its rule, and what a session changes in place is published, the life itself has one history: what
+/// has taken effect so far is legal from the store's map on, with the replies that were given. It orders the calls: each update whose result was given took
+/// effect once, with that reply, none took effect but those that were called, and one whose result was given before another was called took effect before it.
+/// And each read is answered by its key's value at some moment between its call and its answer. The life is guarded, and each action is run once at most,
+/// and when each protected session goes by what it loaded since.
+pub fn law_order_of_rules()
+    ensures legal { OfEachKept HasLegalHistory }
+    ensures ordered { OfEachKept OrdersItsCalls }
+    ensures fresh { OfEachKept ReadsFreshly }
+    ensures in_time { OfEachKept ReadsInTime }
+    ensures guarded { OfEachKept IsGuarded }
+    ensures once { OfEachKept RunsActionsOnce }
+{
+    law_guard_opens();
+    law_log_opened();
+    law_log_begins();
+    law_log_beside();
+    law_world_is_guarded();
+    law_world_once();
+}
