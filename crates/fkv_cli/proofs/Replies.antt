@@ -9,7 +9,7 @@ use Rattle.fkv_lines.specs.declared.scripts.Opening.TheVariants as opening
 use Rattle.fkv_lines.specs.declared.scripts.Sizes.{Sizes}
 use Rattle.fkv_options.specs.declared.options.Options.{Options}
 use Rattle.fkv_playing.specs.InTurn.{Writes}
-use Rattle.fkv_played_calls.specs.Scripts.{IsPlayOfMap, NewStoresPlayMap, SessionOp, op_line}
+use Rattle.law_program.specs.PlayedCalls.Scripts.{IsPlayOfMap, NewStoresPlayMap, SessionOp, op_line}
 use Rattle.fkv_runs.specs.Pieces.{ArePieces}
 use Rattle.fkv_runs.specs.declared.pieces.Piece.{Piece}
 use Rattle.fkv_cli.specs.Output.{AreLives, ComesTo, Devices, IsOutputOf, IsRunInMemory, IsRunOfScript, IsRunOfShape, IsRunOfStore, IsRunOfText, mode_of, script_limit, settings_of}

@@ -13,7 +13,7 @@ use Rattle.fkv_lines.specs.declared.scripts.Mode.{Mode}
 use Rattle.fkv_lines.proofs.Shown.{IsLineOfWords, IsOfWords, script_words}
 use Rattle.fkv_map.specs.declared.operations.Op.{Op}
 use Rattle.fkv_map.specs.declared.operations.Op.TheVariants.{Upsert, Delete, Add, Max, Read}
-use Rattle.fkv_played_calls.specs.Scripts.{EachFits, SessionOp, op_line}
+use Rattle.law_program.specs.PlayedCalls.Scripts.{EachFits, SessionOp, op_line}
 use Rattle.law_order.specs.Served.Fits.{OpFits}
 
 -- ---- numbers

@@ -9,8 +9,8 @@ use Rattle.fkv_lines.specs.declared.scripts.Mode.TheVariants as mode
 use Rattle.fkv_lines.specs.declared.scripts.Opening.TheVariants as opening
 use Rattle.fkv_lines.specs.declared.scripts.Sizes.{Sizes}
 use Rattle.fkv_options.specs.Options.{file_in, seed_in}
-use Rattle.fkv_played_calls.specs.PlayedCalls.{LinesGoOn, LinesReplyAsMap}
-use Rattle.fkv_played_calls.specs.Scripts.{IsPlayOfMap, SessionOp, op_line}
+use Rattle.law_program.specs.PlayedCalls.PlayedCalls.{LinesGoOn, LinesReplyAsMap}
+use Rattle.law_program.specs.PlayedCalls.Scripts.{IsPlayOfMap, SessionOp, op_line}
 use Rattle.fkv_cli.specs.Output.{script_limit}
 
 -- clap's matches of these words hold no file, and no seed by which calls are interleaved

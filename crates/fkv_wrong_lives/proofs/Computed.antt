@@ -18,12 +18,12 @@ use Rattle.fkv_order.specs.Worked.{entry_of, no_map}
 use Rattle.fkv_plane.specs.declared.places.Places.{Places}
 use Rattle.fkv_session.specs.Sessions.{SessionState, IsOpened}
 use Rattle.fkv_epoch.specs.EpochWorld.{drain_word, own_epoch}
-use Rattle.fkv_guard_sessions.specs.Likenesses.{last_seen}
+use Rattle.law_guard.specs.Sessions.Likenesses.{last_seen}
 use Rattle.fkv_world.specs.Opened.{IsOpenedWorld}
-use Rattle.fkv_world_guard.specs.Shows as guard
-use Rattle.fkv_world_calls.specs.Calls.{effects_in_log}
-use Rattle.fkv_world_order.specs.Lines.{lines_of}
-use Rattle.fkv_world_order.specs.Worked.{adds_5, first_session, first_words, gives_70, gives_8}
+use Rattle.law_guard.specs.Guarded.Shows as guard
+use Rattle.law_refine.specs.Calls.Calls.{effects_in_log}
+use Rattle.law_refine.specs.Events.Lines.{lines_of}
+use Rattle.law_refine.specs.Events.Worked.{adds_5, first_session, first_words, gives_70, gives_8}
 use Rattle.fkv_wrong_lives.specs.Tables.{add_copies_in_fuzzy_region, in_place_below_seen_read_only, read_gives_opening_state, run_by}
 use Rattle.fkv_wrong_lives.specs.WrongLives.{AreWrongLives, LeavesFresh, LeavesLegal, fixed_begun, fixed_events, fuzzy_begun, fuzzy_events, gives_1, levels_after, opened_world, read_events}
 use Rattle.fkv_session.specs.Sessions as session_u

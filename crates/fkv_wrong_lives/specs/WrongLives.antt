@@ -17,10 +17,10 @@ use Rattle.fkv_session.specs.Sessions.{SessionState}
 use Rattle.fkv_world.specs.Opened.{IsOpenedWorld}
 use Rattle.fkv_world.specs.Runs.{World, run}
 use Rattle.fkv_world.specs.World.{Event, Calls, Moves, Turns, KeeperMoves}
-use Rattle.fkv_world_calls.specs.Calls.{effects_in_log}
-use Rattle.fkv_world_guard.specs.Shows as guard
-use Rattle.fkv_world_order.specs.Lines.{lines_of}
-use Rattle.fkv_world_order.specs.Worked.{adds_5, first_world, gives_70, gives_8}
+use Rattle.law_refine.specs.Calls.Calls.{effects_in_log}
+use Rattle.law_guard.specs.Guarded.Shows as guard
+use Rattle.law_refine.specs.Events.Lines.{lines_of}
+use Rattle.law_refine.specs.Events.Worked.{adds_5, first_world, gives_70, gives_8}
 use Rattle.fkv_wrong_lives.specs.Tables.{add_copies_in_fuzzy_region, in_place_below_seen_read_only, read_gives_opening_state, run_by}
 
 -- ---- what a life leaves

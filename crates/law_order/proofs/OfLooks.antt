@@ -1,10 +1,10 @@
 mod Asking
 mod AttemptMails
-pub mod Heads
-pub mod LifeAsks
+mod Heads
+mod LifeAsks
 mod LifeMails
 mod Looks
-pub mod Ready
+mod Ready
 mod SessionMails
-pub mod There
+mod There
 pub mod Truth

@@ -1,1 +1,1 @@
-mod EachLife
+pub mod EachLife

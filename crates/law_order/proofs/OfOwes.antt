@@ -1,6 +1,6 @@
 pub mod Attempts
 pub mod Changes
-pub mod InHand
+mod InHand
 pub mod Own
 mod Ready
 mod Tries

@@ -1,7 +1,7 @@
 pub mod Beginning
-mod Image
-mod InTime
+pub mod Image
+pub mod InTime
 pub mod Kept
 mod ReadRuns
 pub mod SameEntries
-mod Words
+pub mod Words

@@ -1,4 +1,4 @@
-pub mod Below
+mod Below
 mod Bytes
 pub mod Device
 pub mod Later

@@ -1,3 +1,3 @@
-pub mod Lines
+mod Lines
 pub mod Owed
-pub mod Runs
+mod Runs

@@ -1,5 +1,5 @@
 pub mod Attempts
-pub mod Frames
+mod Frames
 mod Searches
 pub mod Truth
-pub mod Words
+mod Words

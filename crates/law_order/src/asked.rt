@@ -2,13 +2,13 @@
 ghost use Rattle.std.specs.Prelude.{◌≡◌, ℕ, List, Some, slice_get, true};
 ghost use Rattle.fkv_base.specs.declared.numbers.Version.{Version};
 ghost use Rattle.fkv_session.specs.Sessions.{SessionState};
-ghost use Rattle.fkv_session_rows.specs.Known.{is_attempting};
+ghost use Rattle.law_local.specs.Sessions.Known.{is_attempting};
 ghost use Rattle.fkv_world.specs.Runs.{World, run};
 ghost use Rattle.fkv_world.specs.World.{Event};
 ghost use Rattle.law_order.specs.Asked.Asked.{AsksForSought, HaveAskedSought, LooksForAsked};
-ghost use Rattle.fkv_world_guard.specs.Shows as guard;
-ghost use Rattle.fkv_world_mail.specs.Reads.{mail_notes, mail_past};
-ghost use Rattle.fkv_world_mail.specs.Shows.{IsOpened};
+ghost use Rattle.law_guard.specs.Guarded.Shows as guard;
+ghost use Rattle.law_parts.specs.Mail.Reads.{mail_notes, mail_past};
+ghost use Rattle.law_parts.specs.Mail.Shows.{IsOpened};
 ghost use Rattle.law_order.specs.Rest.Resting.{HasNoCommit, RestsIn};
 
 /// In every life without commits of a store that rests in a version: an attempt that looks into its session's mailbox looks for the record that was

@@ -2,10 +2,10 @@
 ghost use Rattle.std.specs.Prelude.{ℕ, List};
 ghost use Rattle.fkv_opening.specs.Opened.{IsStoreOf};
 ghost use Rattle.fkv_opening.specs.declared.opened_store.Opened.{Opened};
-ghost use Rattle.fkv_opening_log.specs.OpeningLog.{opening_ghosts};
+ghost use Rattle.law_opening.specs.Log.OpeningLog.{opening_ghosts};
 ghost use Rattle.law_order.specs.Served.Fits.{CellsFit};
 
-use fkv_opening_log::law_log_counted;
+use law_opening::law_log_counted;
 
 /// The log of an opened store has numbers that fit in a word: the key of each of its records, and its value if it has one. What it has are records that
 /// stand in the image, and eight bytes spell no others.

@@ -9,8 +9,8 @@ ghost use Rattle.fkv_world.specs.World.{Event};
 ghost use Rattle.law_order.specs.Known.Begins.{BeginsLife, home_of_world};
 ghost use Rattle.law_order.specs.Known.Knows.{AreKnown};
 ghost use Rattle.law_order.specs.Known.Told.{LookTruly};
-ghost use Rattle.fkv_world_order.specs.GhostEvents.{life_ghosts, mapped};
-ghost use Rattle.fkv_world_records.specs.Changes.{AreChangesPublished};
+ghost use Rattle.law_refine.specs.Events.GhostEvents.{life_ghosts, mapped};
+ghost use Rattle.law_refine.specs.Records.Changes.{AreChangesPublished};
 ghost use Rattle.law_order.specs.Rest.Resting.{HasNoCommit};
 ghost use Rattle.law_order.specs.Served.Served.{ServedShow};
 

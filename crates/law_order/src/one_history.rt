@@ -4,8 +4,8 @@ ghost use Rattle.law_order.specs.Rules.InTime.{ReadsInTime};
 ghost use Rattle.law_order.specs.Rules.Ordered.{HasLegalHistory, IsGuarded, OrdersItsCalls, ReadsFreshly, RunsActionsOnce};
 
 use crate::fits::law_opening_fits;
-use crate::rules::{law_life_begins, law_order_of_rules};
 use crate::ordered::law_world_ordered;
+use crate::rules::{law_life_begins, law_order_of_rules};
 
 /// Over every list of events without commits, of sessions that turn pages, sleep, wake, stall in the middle of calls, meet the disk and fill overflow buckets,
 /// of a device whose calls fail, with any actor at any step and a crash anywhere: what has taken effect so far is one history, legal from the store's map

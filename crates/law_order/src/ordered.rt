@@ -8,14 +8,14 @@ ghost use Rattle.fkv_world.specs.Runs.{World};
 ghost use Rattle.fkv_world.specs.World.{Event};
 ghost use Rattle.law_order.specs.Known.Begins.{BeginsLife, home_of_world};
 ghost use Rattle.law_order.specs.Known.Told.{TicketsAreApart};
-ghost use Rattle.fkv_world_order.specs.GhostEvents.{mapped};
+ghost use Rattle.law_refine.specs.Events.GhostEvents.{mapped};
 ghost use Rattle.law_order.specs.Ordered.Keeps.{KeepsOrder};
-ghost use Rattle.fkv_world_records.specs.Changes.{AreChangesPublished};
+ghost use Rattle.law_refine.specs.Records.Changes.{AreChangesPublished};
 ghost use Rattle.law_order.specs.Rest.Resting.{HasNoCommit};
 ghost use Rattle.law_order.specs.Served.Fits.{CallsFit, CellsFit};
 
 use fkv_flush::law_mail;
-use fkv_world_guard::law_world_flushed_is_synced;
+use law_guard::law_world_flushed_is_synced;
 
 /// Every life that begins as a store was opened, has no commit, calls with numbers below 2^64, and gives no ticket again while a request waits that has
 /// it, keeps order: each event of the log beside it is owed, what a session is about to change in place is published, and at each moment sessions know what

@@ -9,8 +9,8 @@ ghost use Rattle.fkv_world.specs.World.{Event};
 ghost use Rattle.law_order.specs.Known.Begins.{BeginsLife, home_of_world};
 ghost use Rattle.law_order.specs.Known.Knows.{AreKnown};
 ghost use Rattle.law_order.specs.Known.Told.{AreToldTruly};
-ghost use Rattle.fkv_world_order.specs.GhostEvents.{fixed_ghosts, life_ghosts, mapped, own_ghosts, safe_at};
-ghost use Rattle.fkv_world_records.specs.Changes.{AreChangesPublished, ChangesPublished};
+ghost use Rattle.law_refine.specs.Events.GhostEvents.{fixed_ghosts, life_ghosts, mapped, own_ghosts, safe_at};
+ghost use Rattle.law_refine.specs.Records.Changes.{AreChangesPublished, ChangesPublished};
 ghost use Rattle.law_order.specs.Rest.Resting.{HasNoCommit};
 
 /// In every life without commits, at each moment at which its sessions know what they have to of the log beside it: the record that a session is about to

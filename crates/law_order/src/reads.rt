@@ -6,14 +6,14 @@ ghost use Rattle.fkv_order.specs.Ghosts.{Ghosts};
 ghost use Rattle.fkv_order.specs.Owed.{AreOwed};
 ghost use Rattle.fkv_world.specs.Runs.{World, run};
 ghost use Rattle.fkv_world.specs.World.{Event};
-ghost use Rattle.fkv_world_calls.specs.Calls.{event_adds};
+ghost use Rattle.law_refine.specs.Calls.Calls.{event_adds};
 ghost use Rattle.law_order.specs.Known.Answered.{EachAnswered, acted_ghosts};
 ghost use Rattle.law_order.specs.Known.Begins.{BeginsLife, home_of_world};
 ghost use Rattle.law_order.specs.Known.Knows.{AreKnown};
 ghost use Rattle.law_order.specs.Known.Told.{AreToldTruly, TicketsAreApart};
-ghost use Rattle.fkv_world_order.specs.GhostEvents.{life_ghosts, mapped};
+ghost use Rattle.law_refine.specs.Events.GhostEvents.{life_ghosts, mapped};
 ghost use Rattle.law_order.specs.Reads.Reads.{AreReadsKnown};
-ghost use Rattle.fkv_world_records.specs.Changes.{AreChangesPublished};
+ghost use Rattle.law_refine.specs.Records.Changes.{AreChangesPublished};
 ghost use Rattle.law_order.specs.Rest.Resting.{HasNoCommit};
 
 /// As a life without commits begins no session has a read. Where all of its events until now are owed in the log, its sessions know what they have to of

@@ -9,14 +9,14 @@ ghost use Rattle.fkv_pending.specs.declared.pending_requests.PendingRequest.{Pen
 ghost use Rattle.fkv_pending.specs.Attempting.{AttemptState};
 ghost use Rattle.fkv_session.specs.SessionRun.{SessionEvent, session_run};
 ghost use Rattle.fkv_session.specs.Sessions.{IsOpened, Seat, SessionState};
-ghost use Rattle.fkv_try_rows.specs.AttemptRows.{AttemptKnows, PendingKnows};
-ghost use Rattle.fkv_try_rows.specs.Kept.{OlderAreFixed};
+ghost use Rattle.law_local.specs.Tries.AttemptRows.{AttemptKnows, PendingKnows};
+ghost use Rattle.law_local.specs.Tries.Kept.{OlderAreFixed};
 ghost use Rattle.fkv_world.specs.Runs.{World, run};
 ghost use Rattle.fkv_world.specs.World.{Event};
 ghost use Rattle.law_order.specs.Known.Begins.{BeginsLife, home_of_world};
 ghost use Rattle.law_order.specs.Known.Knows.{AllKnowBehind, AreKnown};
 ghost use Rattle.law_order.specs.Known.Told.{AreToldTruly};
-ghost use Rattle.fkv_world_order.specs.GhostEvents.{life_ghosts, mapped};
+ghost use Rattle.law_refine.specs.Events.GhostEvents.{life_ghosts, mapped};
 ghost use Rattle.law_order.specs.Rest.Resting.{HasNoCommit};
 ghost use Rattle.law_order.specs.Rows.Asked.{AllSeek};
 

@@ -4,20 +4,20 @@ ghost use Rattle.fkv_core.specs.Openings.{IsOpeningWorld, beginning};
 ghost use Rattle.fkv_filling.specs.OpeningIndex.{opening_lists};
 ghost use Rattle.fkv_opening.specs.Opened.{IsStoreOf};
 ghost use Rattle.fkv_opening.specs.declared.opened_store.Opened.{Opened};
-ghost use Rattle.fkv_opening_log.specs.Maps.{opening_map};
-ghost use Rattle.fkv_opening_log.specs.OpeningLog.{opening_ghosts};
+ghost use Rattle.law_opening.specs.Log.Maps.{opening_map};
+ghost use Rattle.law_opening.specs.Log.OpeningLog.{opening_ghosts};
 ghost use Rattle.fkv_world.specs.World.{Now};
 ghost use Rattle.law_order.specs.Known.Begins.{BeginsLife};
 ghost use Rattle.law_order.specs.Rules.InTime.{ReadsInTime};
 ghost use Rattle.law_order.specs.Rules.Ordered.{HasLegalHistory, IsGuarded, OfEachKept, OrdersItsCalls, ReadsFreshly, RunsActionsOnce, opening_version};
 
-use fkv_core::law_words_open;
-use fkv_lives::{law_guard_opens, law_index_opens};
-use fkv_opening_log::{
-    law_log_begins, law_log_beside, law_log_counted, law_log_heads, law_log_opened,
-};
-use fkv_world_guard::{law_world_is_guarded, law_world_once};
 use crate::rest::law_rest_said;
+use fkv_core::law_words_open;
+use law_guard::{law_world_is_guarded, law_world_once};
+use law_opening::{
+    law_guard_opens, law_index_opens, law_log_begins, law_log_beside, law_log_counted,
+    law_log_heads, law_log_opened,
+};
 
 /// The life of an opened store begins with the log of its image, from the store's map and in the version of its commit, and at rest in the version behind
 /// that: the engine, the guard, the index and each mailbox are as such a store has them, the chains begin where the entries of the index lead, and the

@@ -7,13 +7,13 @@ ghost use Rattle.fkv_order.specs.Owed.{AreOwed};
 ghost use Rattle.fkv_world.specs.Runs.{World};
 ghost use Rattle.fkv_world.specs.World.{Event};
 ghost use Rattle.law_order.specs.Known.Begins.{BeginsLife, home_of_world};
-ghost use Rattle.fkv_world_order.specs.GhostEvents.{life_ghosts, mapped};
-ghost use Rattle.fkv_world_records.specs.Changes.{AreChangesPublished};
+ghost use Rattle.law_refine.specs.Events.GhostEvents.{life_ghosts, mapped};
+ghost use Rattle.law_refine.specs.Records.Changes.{AreChangesPublished};
 ghost use Rattle.law_order.specs.Served.Fits.{CallsFit, CellsFit};
 ghost use Rattle.law_order.specs.Served.Served.{ServedShow};
 
 use fkv_flush::law_mail;
-use fkv_world_guard::law_world_flushed_is_synced;
+use law_guard::law_world_flushed_is_synced;
 
 /// Over every life that begins as a store was opened, where the log's records and the operations that are called are of numbers below 2^64,
 /// and each event of the log keeps to its rule: what the device gives for a record that is flushed leads where the record of the log does, and

@@ -6,11 +6,11 @@ ghost use Rattle.fkv_order.specs.Ghosts.{Ghosts};
 ghost use Rattle.fkv_order.specs.Owed.{AreOwed};
 ghost use Rattle.fkv_world.specs.Runs.{World};
 ghost use Rattle.fkv_world.specs.World.{Event};
-ghost use Rattle.fkv_world_calls.specs.Calls.{event_adds};
+ghost use Rattle.law_refine.specs.Calls.Calls.{event_adds};
 ghost use Rattle.law_order.specs.Known.Answered.{EachAnswered, acted, acted_ghosts};
 ghost use Rattle.law_order.specs.Known.Begins.{BeginsLife, home_of_world};
-ghost use Rattle.fkv_world_order.specs.GhostEvents.{life_ghosts, mapped};
-ghost use Rattle.fkv_world_records.specs.Changes.{AreChangesPublished};
+ghost use Rattle.law_refine.specs.Events.GhostEvents.{life_ghosts, mapped};
+ghost use Rattle.law_refine.specs.Records.Changes.{AreChangesPublished};
 ghost use Rattle.law_order.specs.Rest.Resting.{HasNoCommit};
 
 /// In a life without commits whose log's events have been owed so far: where what an event's session does to the log is owed, with the raise of the

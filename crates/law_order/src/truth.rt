@@ -9,8 +9,8 @@ ghost use Rattle.fkv_world.specs.World.{Event};
 ghost use Rattle.law_order.specs.Known.Begins.{BeginsLife, home_of_world};
 ghost use Rattle.law_order.specs.Known.Knows.{AreKnown};
 ghost use Rattle.law_order.specs.Known.Told.{AreToldTruly, LookTruly};
-ghost use Rattle.fkv_world_order.specs.GhostEvents.{life_ghosts, mapped};
-ghost use Rattle.fkv_world_records.specs.Changes.{AreChangesPublished};
+ghost use Rattle.law_refine.specs.Events.GhostEvents.{life_ghosts, mapped};
+ghost use Rattle.law_refine.specs.Records.Changes.{AreChangesPublished};
 ghost use Rattle.law_order.specs.Rest.Resting.{HasNoCommit};
 
 /// In every life without commits of a store that was opened, at each moment so far at which all events of the log beside it were owed, each change in

@@ -11,7 +11,7 @@ use Rattle.fkv_session.specs.declared.sessions.Sitting.{Sitting}
 use Rattle.fkv_session.specs.declared.sessions.Sitting.TheVariants.{Attempts, ClearsMail, Polls}
 use Rattle.fkv_session.specs.Sessions.{SessionState, Seat, bits_of, room_of}
 use Rattle.fkv_session.specs.Shares.{HasItsBuckets}
-use Rattle.fkv_session_rows.specs.Known.{is_attempting}
+use Rattle.law_local.specs.Sessions.Known.{is_attempting}
 use Rattle.law_order.specs.Asked.Asked.{AsksForSought, HasAskedSought, HaveAskedSought, LooksForAsked, outstanding}
 use Rattle.law_order.proofs.OfAsked.Askers.{one_left, one_of}
 use Rattle.law_order.proofs.OfAsked.Attempts.{PutsSought, AttemptAt}

@@ -24,18 +24,18 @@ use Rattle.fkv_session.specs.declared.sessions.Sitting.{Sitting}
 use Rattle.fkv_session.specs.declared.sessions.Sitting.TheVariants.{Attempts, Polls}
 use Rattle.fkv_session.specs.Sessions as session_of
 use Rattle.fkv_session.specs.Sessions.{SessionState, Seat, is_busy, session_ask, session_begun}
-use Rattle.fkv_session_rows.specs.Known.{is_attempting}
+use Rattle.law_local.specs.Sessions.Known.{is_attempting}
 use Rattle.fkv_world.specs.Actors.{is_of_session, session_goes}
 use Rattle.fkv_world.specs.Moves.{session_moved}
 use Rattle.fkv_world.specs.Runs.{World, read_by_keeper, happens, run}
 use Rattle.fkv_world.specs.World.{Event, Calls, Moves, Now, seat_at, near, session_called}
 use Rattle.fkv_world.proofs.Shown.{is_over, no_session, same_seat, session_apart, session_written}
-use Rattle.fkv_world_guard.specs.Shows as guard
-use Rattle.fkv_world_mail.specs.MailEvents.{begins, changed_by, asked_by, own_events, begun_events, called_events, moved_events, life_events, mapped}
-use Rattle.fkv_world_mail.specs.Mailers.{session_mailing, IsAsFar}
-use Rattle.fkv_world_mail.specs.Reads.{mail_notes, mail_past}
-use Rattle.fkv_world_mail.specs.Shows.{IsOpened, mail_opening, seen_by_mailbox}
-use Rattle.fkv_world_mail.proofs.Shown.{life_shows, life_sound}
+use Rattle.law_guard.specs.Guarded.Shows as guard
+use Rattle.law_parts.specs.Mail.MailEvents.{begins, changed_by, asked_by, own_events, begun_events, called_events, moved_events, life_events, mapped}
+use Rattle.law_parts.specs.Mail.Mailers.{session_mailing, IsAsFar}
+use Rattle.law_parts.specs.Mail.Reads.{mail_notes, mail_past}
+use Rattle.law_parts.specs.Mail.Shows.{IsOpened, mail_opening, seen_by_mailbox}
+use Rattle.law_parts.proofs.OfMail.Lives.{life_shows, life_sound}
 use Rattle.law_order.specs.Rest.Machines.{AttemptGoesByRest}
 use Rattle.law_order.specs.Rest.Resting.{HasNoCommit, RestsIn}
 use Rattle.law_order.specs.Rest.Sessions.{SitsAtRest}

@@ -7,8 +7,8 @@ use Rattle.fkv_opening.specs.declared.opened_store.Opened.{Opened}
 use Rattle.fkv_ops.specs.Values.{value_of}
 use Rattle.fkv_pairs.specs.Pairs.{log_of_store}
 use Rattle.fkv_record.specs.declared.records.Record.{Record}
-use Rattle.fkv_opening_log.specs.OpeningLog.{opening_ghosts, opening_log}
-use Rattle.fkv_opening_log.specs.Records.{HasWhatCounts, IsCellOf, cell_of}
+use Rattle.law_opening.specs.Log.OpeningLog.{opening_ghosts, opening_log}
+use Rattle.law_opening.specs.Log.Records.{HasWhatCounts, IsCellOf, cell_of}
 use Rattle.law_order.specs.Served.Fits.{CellFits, CellsFit, ValueFits}
 
 -- the value that a word stands for

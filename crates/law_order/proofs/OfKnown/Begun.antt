@@ -3,10 +3,10 @@ use Rattle.std.specs.Prelude.{ℕ, [], List}
 use Rattle.fkv_base.specs.declared.numbers.Version.{Version}
 use Rattle.fkv_map.specs.Map.{Map}
 use Rattle.fkv_order.specs.Ghosts.{Ghosts}
-use Rattle.fkv_session_rows.proofs.Shown.{opened_known}
-use Rattle.fkv_try_rows.specs.AttemptRows.{AttemptKnows, PendingKnows}
+use Rattle.law_local.proofs.OfSessions.Known.{opened_known}
+use Rattle.law_local.specs.Tries.AttemptRows.{AttemptKnows, PendingKnows}
 use Rattle.fkv_world.specs.Runs.{World, run}
-use Rattle.fkv_world_order.specs.GhostEvents.{life_ghosts}
+use Rattle.law_refine.specs.Events.GhostEvents.{life_ghosts}
 use Rattle.law_order.specs.Known.Begins.{BeginsLife, home_of_world}
 use Rattle.law_order.specs.Known.Knows.{AreKnown}
 

@@ -5,11 +5,11 @@ use Rattle.fkv_flush.specs.Guarded.{seen_at, seen_of}
 use Rattle.fkv_flush.specs.GuardLevels.{levels_of}
 use Rattle.fkv_flush.specs.GuardSeen.{LastSeen}
 use Rattle.fkv_flush.specs.GuardWorld.{Actor, GuardWorld}
-use Rattle.fkv_guard_sessions.specs.Attempts.{attempt_likeness_at}
-use Rattle.fkv_guard_sessions.specs.Followed.{Sits}
-use Rattle.fkv_guard_sessions.specs.Likenesses.{last_seen}
-use Rattle.fkv_guard_sessions.specs.Sessions.{sitting_likeness}
-use Rattle.fkv_guard_sessions.specs.Tries.{try_likeness_at}
+use Rattle.law_guard.specs.Sessions.Attempts.{attempt_likeness_at}
+use Rattle.law_guard.specs.Sessions.Followed.{Sits}
+use Rattle.law_guard.specs.Sessions.Likenesses.{last_seen}
+use Rattle.law_guard.specs.Sessions.Sessions.{sitting_likeness}
+use Rattle.law_guard.specs.Sessions.Tries.{try_likeness_at}
 use Rattle.fkv_ops.specs.declared.trying.Trying.{Trying}
 use Rattle.fkv_ops.specs.declared.trying.Trying.TheVariants.{Appends}
 use Rattle.fkv_ops.specs.Trying.{TryState}
@@ -21,9 +21,9 @@ use Rattle.fkv_session.specs.declared.sessions.Sitting.TheVariants.{Attempts, Po
 use Rattle.fkv_session.specs.Sessions.{SessionState}
 use Rattle.fkv_world.specs.Runs.{World, run}
 use Rattle.fkv_world.specs.World.{Event}
-use Rattle.fkv_world_guard.specs.Shows.{IsOpened, seen_by_guard}
-use Rattle.fkv_world_guard.proofs.Shown.{life_shows}
-use Rattle.fkv_world_records.specs.Frames.{IsAttempting}
+use Rattle.law_guard.specs.Guarded.Shows.{IsOpened, seen_by_guard}
+use Rattle.law_guard.proofs.OfGuarded.Worlds.{life_shows}
+use Rattle.law_refine.specs.Records.Frames.{IsAttempting}
 
 -- ---- the guard's actor has seen what its session has
 try_seen : (seen : LastSeen) (t : TryState) (step : Trying) → (try_likeness_at seen t step).seen ≡ seen

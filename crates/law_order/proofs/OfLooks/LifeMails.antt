@@ -11,10 +11,10 @@ use Rattle.fkv_world.specs.OwnEvents.{session_events}
 use Rattle.fkv_world.specs.Runs.{World, run}
 use Rattle.fkv_world.specs.World.{Event, seat_at}
 use Rattle.fkv_world.proofs.Shown.{of_run, opened_so, places_stay}
-use Rattle.fkv_world_guard.specs.Shows.{IsOpened}
-use Rattle.fkv_world_guard.proofs.Shown.{life_shows}
+use Rattle.law_guard.specs.Guarded.Shows.{IsOpened}
+use Rattle.law_guard.proofs.OfGuarded.Worlds.{life_shows}
 use Rattle.law_order.specs.Known.Begins.{BeginsLife}
-use Rattle.fkv_world_mail.specs.Shows as mail
+use Rattle.law_parts.specs.Mail.Shows as mail
 use Rattle.law_order.proofs.OfLooks.SessionMails.{MailsSo, run_mails}
 
 -- a session is one of the store's

@@ -26,16 +26,16 @@ use Rattle.fkv_pending.proofs.Shown.{replied_in}
 use Rattle.fkv_plane.specs.Asked.{reply_to}
 use Rattle.fkv_plane.proofs.Shown.{passed_reply}
 use Rattle.fkv_session.specs.Sessions.{SessionState}
-use Rattle.fkv_session_rows.specs.Known.{is_attempting}
-use Rattle.fkv_try_rows.specs.MailRows.{IsRecordOf, IsTrueOfLook, IsTrueOfMail, LeadsTo}
+use Rattle.law_local.specs.Sessions.Known.{is_attempting}
+use Rattle.law_local.specs.Tries.MailRows.{IsRecordOf, IsTrueOfLook, IsTrueOfMail, LeadsTo}
 use Rattle.fkv_world.specs.Runs.{World, run}
 use Rattle.fkv_world.specs.World.{Event, Now, seat_at}
 use Rattle.law_order.specs.Known.Begins.{BeginsLife, home_of_world}
 use Rattle.law_order.specs.Known.Knows.{AreKnown}
 use Rattle.law_order.specs.Known.Told.{LookTruly, reply_in}
-use Rattle.fkv_world_mail.specs.Reads.{ReadSince, mail_notes}
-use Rattle.fkv_world_mail.specs.Shows as mail
-use Rattle.fkv_world_order.specs.GhostEvents.{life_ghosts, mapped}
+use Rattle.law_parts.specs.Mail.Reads.{ReadSince, mail_notes}
+use Rattle.law_parts.specs.Mail.Shows as mail
+use Rattle.law_refine.specs.Events.GhostEvents.{life_ghosts, mapped}
 use Rattle.law_order.specs.Rest.Resting.{HasNoCommit}
 use Rattle.law_order.specs.Served.Served.{ServedShow}
 use Rattle.law_order.proofs.OfServed.Later.{life_owed_before}

@@ -14,13 +14,15 @@ use Rattle.fkv_pending.proofs.Shown.{IsSound, KnowsMail, Stands}
 use Rattle.fkv_session.specs.declared.sessions.Sitting.{Sitting}
 use Rattle.fkv_session.specs.declared.sessions.Sitting.TheVariants.{Attempts, Polls}
 use Rattle.fkv_session.specs.Sessions.{SessionState}
-use Rattle.fkv_session_rows.specs.Known.{is_attempting}
+use Rattle.law_local.specs.Sessions.Known.{is_attempting}
 use Rattle.fkv_world.specs.Runs.{World, run}
 use Rattle.fkv_world.specs.World.{Event, Now}
-use Rattle.fkv_world_mail.specs.Mailers.{IsAsFar, attempt_mailing, session_mailing, sitting_mailing}
-use Rattle.fkv_world_mail.specs.Reads.{ReadSince, mail_notes, mail_past}
-use Rattle.fkv_world_mail.specs.Shows.{IsOpened, seen_by_mailbox}
-use Rattle.fkv_world_mail.proofs.Shown.{AllRead, life_read, life_shows, life_sound}
+use Rattle.law_parts.specs.Mail.Mailers.{IsAsFar, attempt_mailing, session_mailing, sitting_mailing}
+use Rattle.law_parts.specs.Mail.Reads.{ReadSince, mail_notes, mail_past}
+use Rattle.law_parts.specs.Mail.Shows.{IsOpened, seen_by_mailbox}
+use Rattle.law_parts.proofs.OfMail.ReadSteps.{AllRead}
+use Rattle.law_parts.proofs.OfMail.LifeReads.{life_read}
+use Rattle.law_parts.proofs.OfMail.Lives.{life_shows, life_sound}
 
 -- ---- the machine with which an attempt looks for a record
 pub look_mailing : (s : SessionState) (step : Sitting) → is_attempting step ≡ true → s.attempt.step ≡ Looks → sitting_mailing s step ≡ Some s.attempt.mailing

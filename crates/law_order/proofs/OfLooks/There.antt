@@ -19,21 +19,21 @@ use Rattle.fkv_pending.specs.declared.mailing.MailTask.TheVariants.{Put}
 use Rattle.fkv_pending.specs.declared.mailing.Mailing.{Mailing}
 use Rattle.fkv_pending.specs.Mailbox.{past_of}
 use Rattle.fkv_session.specs.Sessions.{SessionState}
-use Rattle.fkv_session_rows.specs.Known.{is_attempting}
-use Rattle.fkv_try_rows.specs.AttemptRows.{AttemptKnows, AttemptRow}
-use Rattle.fkv_try_rows.specs.HeldRows.{SoughtKnows}
-use Rattle.fkv_try_rows.specs.MailRows.{PutsSought}
-use Rattle.fkv_try_rows.specs.OnWay.{ComesBelow}
-use Rattle.fkv_try_rows.specs.TryRows.{head_in, key_in}
+use Rattle.law_local.specs.Sessions.Known.{is_attempting}
+use Rattle.law_local.specs.Tries.AttemptRows.{AttemptKnows, AttemptRow}
+use Rattle.law_local.specs.Tries.HeldRows.{SoughtKnows}
+use Rattle.law_local.specs.Tries.MailRows.{PutsSought}
+use Rattle.law_local.specs.Tries.OnWay.{ComesBelow}
+use Rattle.law_local.specs.Tries.TryRows.{head_in, key_in}
 use Rattle.fkv_world.specs.Runs.{World, run}
 use Rattle.fkv_world.specs.World.{Event}
 use Rattle.law_order.specs.Known.Begins.{BeginsLife, home_of_world}
 use Rattle.law_order.specs.Known.Knows.{AreKnown}
-use Rattle.fkv_world_mail.specs.MailEvents as mail
-use Rattle.fkv_world_mail.specs.Reads.{mail_notes, mail_past}
-use Rattle.fkv_world_mail.specs.Shows as mail_shows
-use Rattle.fkv_world_order.specs.GhostEvents.{life_ghosts, mapped}
-use Rattle.fkv_world_order.proofs.Shown.{life_rises}
+use Rattle.law_parts.specs.Mail.MailEvents as mail
+use Rattle.law_parts.specs.Mail.Reads.{mail_notes, mail_past}
+use Rattle.law_parts.specs.Mail.Shows as mail_shows
+use Rattle.law_refine.specs.Events.GhostEvents.{life_ghosts, mapped}
+use Rattle.law_refine.proofs.OfEvents.Fixed.{life_rises}
 use Rattle.law_order.specs.Rest.Resting.{HasNoCommit}
 use Rattle.law_order.proofs.OfServed.Device.{flushed_fixed}
 use Rattle.law_order.proofs.OfServed.Later.{life_owed_before, life_stays}

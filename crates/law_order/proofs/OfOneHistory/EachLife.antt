@@ -6,8 +6,8 @@ use Rattle.fkv_filling.specs.OpeningIndex.{opening_lists}
 use Rattle.fkv_map.specs.Map.{Map}
 use Rattle.fkv_opening.specs.Opened.{IsStoreOf}
 use Rattle.fkv_opening.specs.declared.opened_store.Opened.{Opened}
-use Rattle.fkv_opening_log.specs.Maps.{opening_map}
-use Rattle.fkv_opening_log.specs.OpeningLog.{opening_ghosts}
+use Rattle.law_opening.specs.Log.Maps.{opening_map}
+use Rattle.law_opening.specs.Log.OpeningLog.{opening_ghosts}
 use Rattle.fkv_order.specs.Ghosts.{Ghosts}
 use Rattle.law_order.specs.Rules.Ordered.{OfEachKept, opening_version}
 use Rattle.fkv_world.specs.Runs.{World}

@@ -6,18 +6,18 @@ use Rattle.fkv_order.specs.Ghosts.{Ghosts}
 use Rattle.fkv_order.specs.Owed.{AreOwed}
 use Rattle.fkv_world.specs.Runs.{World, run}
 use Rattle.fkv_world.specs.World.{Event}
-use Rattle.fkv_world_calls.specs.Calls.{event_adds}
+use Rattle.law_refine.specs.Calls.Calls.{event_adds}
 use Rattle.law_order.specs.Known.Answered.{EachAnswered, acted_ghosts}
 use Rattle.law_order.specs.Known.Begins.{BeginsLife, home_of_world}
 use Rattle.law_order.specs.Known.Knows.{AllKnowBehind, AreKnown}
 use Rattle.law_order.specs.Known.Told.{AreToldTruly, TicketsAreApart}
 use Rattle.law_order.proofs.OfKnown.Begun.{begun_known}
-use Rattle.fkv_world_order.specs.GhostEvents.{life_ghosts, mapped}
+use Rattle.law_refine.specs.Events.GhostEvents.{life_ghosts, mapped}
 use Rattle.law_order.proofs.OfLooks.Truth.{looks_true}
 use Rattle.law_order.proofs.OfOwes.Changes.{changes_published}
 use Rattle.law_order.proofs.OfOwes.Own.{own_owed}
 use Rattle.law_order.proofs.OfReads.LifeReads.{answers_owed, reads_begin_so, reads_go_on}
-use Rattle.fkv_world_records.specs.Changes.{AreChangesPublished}
+use Rattle.law_refine.specs.Records.Changes.{AreChangesPublished}
 use Rattle.law_order.specs.Rest.Resting.{HasNoCommit}
 use Rattle.law_order.proofs.OfRows.Rows.{rows_go_on}
 use Rattle.law_order.specs.Served.Fits.{CallsFit, CellsFit}

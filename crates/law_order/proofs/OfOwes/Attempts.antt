@@ -5,8 +5,8 @@ use Rattle.std.proofs.lemmas.Bool.Decides.{nat_tests}
 use Rattle.fkv_epoch.proofs.Shown.{none_some}
 use Rattle.fkv_map.specs.declared.operations.Call.TheVariants.{Refresh}
 use Rattle.fkv_session.specs.Sessions.{SessionState, Seat}
-use Rattle.fkv_session_rows.specs.Inputs.{AttemptsSo}
-use Rattle.fkv_session_rows.proofs.Shown.{run_so}
+use Rattle.law_local.specs.Sessions.Inputs.{AttemptsSo}
+use Rattle.law_local.proofs.OfSessions.SessionInputs.{run_so}
 use Rattle.fkv_world.specs.Actors.{is_of_session}
 use Rattle.fkv_world.specs.Opened.{HasBecome, IsOpenedWorld}
 use Rattle.fkv_world.specs.OwnEvents.{session_events}

@@ -3,7 +3,7 @@ use Rattle.std.proofs.Common.{◌≡◌, ℕ, List, [], ◌∷◌, refl, sym, su
 use Rattle.std.specs.Prelude.{Option, Some, None, slice_get}
 use Rattle.fkv_base.specs.declared.numbers.Version.{Version}
 use Rattle.fkv_epoch.proofs.Shown.{none_some, some_same}
-use Rattle.fkv_guard_sessions.specs.Owing.{try_changes, attempt_changes, sitting_changes}
+use Rattle.law_guard.specs.Sessions.Owing.{try_changes, attempt_changes, sitting_changes}
 use Rattle.fkv_map.specs.Map.{Map}
 use Rattle.fkv_ops.specs.declared.trying.Trying.{Trying}
 use Rattle.fkv_ops.specs.declared.trying.Trying.TheVariants.{SwapsValue, ChangesValue}
@@ -16,14 +16,14 @@ use Rattle.fkv_pending.specs.Attempting.{AttemptState}
 use Rattle.fkv_session.specs.declared.sessions.Sitting.{Sitting}
 use Rattle.fkv_session.specs.declared.sessions.Sitting.TheVariants.{Attempts, Polls}
 use Rattle.fkv_session.specs.Sessions.{SessionState}
-use Rattle.fkv_session_rows.specs.Known.{is_attempting}
-use Rattle.fkv_try_rows.specs.AttemptRows.{AttemptKnows, AttemptRow}
-use Rattle.fkv_try_rows.specs.TryRows.{TryRow}
+use Rattle.law_local.specs.Sessions.Known.{is_attempting}
+use Rattle.law_local.specs.Tries.AttemptRows.{AttemptKnows, AttemptRow}
+use Rattle.law_local.specs.Tries.TryRows.{TryRow}
 use Rattle.fkv_world.specs.Runs.{World, run}
 use Rattle.fkv_world.specs.World.{Event, Moves}
-use Rattle.fkv_world_order.specs.GhostEvents.{life_ghosts}
-use Rattle.fkv_world_order.specs.Published.{IsPublished}
-use Rattle.fkv_world_records.specs.Changes.{ChangesPublished, SessionChangesPublished}
+use Rattle.law_refine.specs.Events.GhostEvents.{life_ghosts}
+use Rattle.law_refine.specs.Events.Published.{IsPublished}
+use Rattle.law_refine.specs.Records.Changes.{ChangesPublished, SessionChangesPublished}
 use Rattle.law_order.specs.Known.Begins.{BeginsLife, home_of_world}
 use Rattle.law_order.specs.Known.Knows.{AllKnowBehind, AreKnown, SessionKnows}
 

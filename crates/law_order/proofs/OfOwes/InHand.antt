@@ -12,13 +12,15 @@ use Rattle.fkv_world.specs.Past.{Effect, effect_made}
 use Rattle.fkv_world.specs.Runs.{World, happens, run}
 use Rattle.fkv_world.specs.World.{Event}
 use Rattle.fkv_world.proofs.Shown.{history_so}
-use Rattle.fkv_world_calls.specs.Calls.{IsUpdateInHand, effects_of_life, entries_of, lines_of_life}
-use Rattle.fkv_world_calls.proofs.Shown.{effect_in_hand, life_entries, same_update}
+use Rattle.law_refine.specs.Calls.Calls.{IsUpdateInHand, effects_of_life, entries_of, lines_of_life}
+use Rattle.law_refine.proofs.OfCalls.InHand.{effect_in_hand}
+use Rattle.law_refine.proofs.OfCalls.LifeHistory.{life_entries}
+use Rattle.law_refine.proofs.OfCalls.SameHistory.{same_update}
 use Rattle.law_order.specs.Known.Begins.{BeginsLife}
-use Rattle.fkv_world_order.specs.GhostEvents.{life_ghosts}
-use Rattle.fkv_world_order.proofs.Shown.{ghost_trace}
-use Rattle.fkv_world_records.specs.Changes.{AreChangesPublished}
-use Rattle.fkv_world_records.proofs.Shown.{life_meets_published}
+use Rattle.law_refine.specs.Events.GhostEvents.{life_ghosts}
+use Rattle.law_refine.proofs.OfEvents.Trace.{ghost_trace}
+use Rattle.law_refine.specs.Records.Changes.{AreChangesPublished}
+use Rattle.law_refine.proofs.OfRecords.Meets.{life_meets_published}
 
 -- ---- the log's trace and history beside a life are the life's
 pub life_same_trace : (opening : World) (start : ℕ) (lists : ℕ → List ℕ) (version : Version) (m : Map) (number : ℕ) (ghosts : Ghosts) (events : List Event) → BeginsLife opening start lists version m number ghosts

@@ -16,28 +16,32 @@ use Rattle.fkv_session.specs.declared.answers.Told.{Told}
 use Rattle.fkv_session.specs.declared.sessions.Sitting.{Sitting}
 use Rattle.fkv_session.specs.declared.sessions.Sitting.TheVariants.{Attempts, Polls}
 use Rattle.fkv_session.specs.Sessions.{SessionState, Seat, session_ask, session_next}
-use Rattle.fkv_session_rows.specs.Inputs.{AttemptsBy}
-use Rattle.fkv_session_rows.specs.Known.{is_attempting}
-use Rattle.fkv_try_rows.specs.AttemptRows.{IsTrueOfAttempt}
-use Rattle.fkv_try_rows.specs.Changes.{IsAlone}
-use Rattle.fkv_try_rows.specs.TryRows.{key_in}
+use Rattle.law_local.specs.Sessions.Inputs.{AttemptsBy}
+use Rattle.law_local.specs.Sessions.Known.{is_attempting}
+use Rattle.law_local.specs.Tries.AttemptRows.{IsTrueOfAttempt}
+use Rattle.law_local.specs.Tries.Changes.{IsAlone}
+use Rattle.law_local.specs.Tries.TryRows.{key_in}
 use Rattle.fkv_world.specs.Runs.{World, happens, run}
 use Rattle.fkv_world.specs.World.{Event, Calls, Moves, Commits, Turns, KeeperMoves, Crashes, Now, seat_at}
-use Rattle.fkv_world_heads.specs.Heads.{AllMeetHeads}
-use Rattle.fkv_world_heads.proofs.Shown.{life_meets}
+use Rattle.law_refine.specs.Heads.Heads.{AllMeetHeads}
+use Rattle.law_refine.proofs.OfHeads.LifeHeads.{life_meets}
 use Rattle.law_order.specs.Known.Begins.{BeginsLife, home_of_world}
 use Rattle.law_order.specs.Known.Knows.{AreKnown}
 use Rattle.law_order.specs.Known.Told.{AreToldTruly}
-use Rattle.fkv_world_order.specs.Effects.{mover_step, step_at}
-use Rattle.fkv_world_order.specs.GhostEvents.{fixed_ghosts, ghost_events, life_ghosts, mapped, moved_ghosts, own_ghosts, safe_at, serials_in, traced_by}
-use Rattle.fkv_world_order.specs.Lines.{lines_added}
-use Rattle.fkv_world_order.specs.Reservations.{Reservation}
-use Rattle.fkv_world_order.specs.Reserved.{HasReserved, reserved_by, tail_at}
-use Rattle.fkv_world_order.specs.Sessions.{sitting_ghosts, step_ghosts}
-use Rattle.fkv_world_order.proofs.Shown.{ghost_fixed, ghost_unborn, life_makes, life_on, life_reserved}
-use Rattle.fkv_world_records.specs.Changes.{AreChangesPublished}
-use Rattle.fkv_world_records.specs.Frames.{IsAttempting}
-use Rattle.fkv_world_records.proofs.Shown.{sees_safely}
+use Rattle.law_refine.specs.Events.Effects.{mover_step, step_at}
+use Rattle.law_refine.specs.Events.GhostEvents.{fixed_ghosts, ghost_events, life_ghosts, mapped, moved_ghosts, own_ghosts, safe_at, serials_in, traced_by}
+use Rattle.law_refine.specs.Events.Lines.{lines_added}
+use Rattle.law_refine.specs.Events.Reservations.{Reservation}
+use Rattle.law_refine.specs.Events.Reserved.{HasReserved, reserved_by, tail_at}
+use Rattle.law_refine.specs.Events.Sessions.{sitting_ghosts, step_ghosts}
+use Rattle.law_refine.proofs.OfEvents.Fixed.{ghost_fixed}
+use Rattle.law_refine.proofs.OfEvents.Unborn.{ghost_unborn}
+use Rattle.law_refine.proofs.OfEvents.EventEffects.{life_makes}
+use Rattle.law_refine.proofs.OfEvents.SessionSteps.{life_on}
+use Rattle.law_refine.proofs.OfEvents.ReservedLife.{life_reserved}
+use Rattle.law_refine.specs.Records.Changes.{AreChangesPublished}
+use Rattle.law_refine.specs.Records.Frames.{IsAttempting}
+use Rattle.law_refine.proofs.OfRecords.FrameOwners.{sees_safely}
 use Rattle.law_order.specs.Rest.Logs.{CellsRest}
 use Rattle.law_order.specs.Rest.Resting.{HasNoCommit}
 use Rattle.law_order.specs.Rest.Sessions.{SitsAtRest}

@@ -5,10 +5,10 @@ use Rattle.fkv_map.specs.declared.history.HistoryEntry.{HistoryEntry}
 use Rattle.fkv_order.specs.Chains.{Cell, Unborn, Reserved as HoldsReserved}
 use Rattle.fkv_order.specs.Ghosts.{Log, Ghosts, GhostEvent, Reserves, Publishes, Changes, ghosts_after, ghost_run}
 use Rattle.fkv_order.specs.Owed.{IsInHand, NoneAbove, OwesPublish}
-use Rattle.fkv_world_heads.specs.Heads.{AllMeetHeads, IsAtHead, meets_head}
-use Rattle.fkv_world_order.specs.Effects.{AreQuiet, Behind, ByRecord, InPlace, Quietly, Stepped, TakesEffect, is_quiet}
-use Rattle.fkv_world_order.specs.Reservations as moved
-use Rattle.fkv_world_order.specs.Reservations.{AreStill, DropsOne, Keeps, LosesOne, MovesOn, PublishesOne, Reservation, TakesOne, TakesTail, is_still}
+use Rattle.law_refine.specs.Heads.Heads.{AllMeetHeads, IsAtHead, meets_head}
+use Rattle.law_refine.specs.Events.Effects.{AreQuiet, Behind, ByRecord, InPlace, Quietly, Stepped, TakesEffect, is_quiet}
+use Rattle.law_refine.specs.Events.Reservations as moved
+use Rattle.law_refine.specs.Events.Reservations.{AreStill, DropsOne, Keeps, LosesOne, MovesOn, PublishesOne, Reservation, TakesOne, TakesTail, is_still}
 
 -- ---- by what takes effect
 -- what is published stands where it has to, and its update is in hand; so is that of a change

@@ -45,17 +45,17 @@ use Rattle.fkv_pending.specs.Attempting.{AttemptState, attempt_ask, attempt_next
 use Rattle.fkv_session.specs.declared.sessions.Sitting.{Sitting}
 use Rattle.fkv_session.specs.declared.sessions.Sitting.TheVariants.{Attempts, Polls}
 use Rattle.fkv_session.specs.Sessions.{SessionState, Seat, bits_of, room_of}
-use Rattle.fkv_session_rows.specs.Known.{is_attempting}
-use Rattle.fkv_try_rows.specs.AttemptRows.{AttemptKnows, AttemptRow, IsTrueOfAttempt}
-use Rattle.fkv_try_rows.specs.Changes.{IsAlone, IsOwedChange}
-use Rattle.fkv_try_rows.specs.Replies.{IsTrueReply}
-use Rattle.fkv_try_rows.specs.TryRows.{IsEntryOf, TryKnows}
-use Rattle.fkv_try_rows.proofs.Shown.{cas_owed, reserve_owed, swap_owed}
+use Rattle.law_local.specs.Sessions.Known.{is_attempting}
+use Rattle.law_local.specs.Tries.AttemptRows.{AttemptKnows, AttemptRow, IsTrueOfAttempt}
+use Rattle.law_local.specs.Tries.Changes.{IsAlone, IsOwedChange}
+use Rattle.law_local.specs.Tries.Replies.{IsTrueReply}
+use Rattle.law_local.specs.Tries.TryRows.{IsEntryOf, TryKnows}
+use Rattle.law_local.proofs.OfTries.Changes.{cas_owed, reserve_owed, swap_owed}
 use Rattle.fkv_world.specs.Past.{Traced}
-use Rattle.fkv_world_order.specs.Appends.{append_ghosts, cell_of, entry_made, invalidate_ghosts, is_for_entry, publish_ghosts, reserved_ghosts}
-use Rattle.fkv_world_order.specs.Lines.{read_in_hand, read_waiting}
-use Rattle.fkv_world_order.specs.Sessions.{attempt_ghosts, sitting_ghosts, ticket_of, tried_ghosts, value_ghosts}
-use Rattle.fkv_world_order.specs.Tries.{find_ghosts, found_ghosts, search_ghosts, try_ghosts, walk_ghosts}
+use Rattle.law_refine.specs.Events.Appends.{append_ghosts, cell_of, entry_made, invalidate_ghosts, is_for_entry, publish_ghosts, reserved_ghosts}
+use Rattle.law_refine.specs.Events.Lines.{read_in_hand, read_waiting}
+use Rattle.law_refine.specs.Events.Sessions.{attempt_ghosts, sitting_ghosts, ticket_of, tried_ghosts, value_ghosts}
+use Rattle.law_refine.specs.Events.Tries.{find_ghosts, found_ghosts, search_ghosts, try_ghosts, walk_ghosts}
 use Rattle.law_order.proofs.OfOwes.Ready.{AllTakeOwed, AllTakeUnborn, IsReady, ready_behind}
 
 -- ---- an append: the address that it takes has nothing, and its record is made as it has to be

@@ -23,13 +23,13 @@ use Rattle.fkv_session.specs.declared.sessions.Sitting.{Sitting}
 use Rattle.fkv_session.specs.declared.sessions.Sitting.TheVariants.{Idle, Attempts, CatchesUp, ClearsMail, Polls, StoresOwing, Turns}
 use Rattle.fkv_session.specs.SessionRun.{telling, with_finished}
 use Rattle.fkv_session.specs.Sessions.{SessionState, is_busy}
-use Rattle.fkv_try_rows.specs.ReadRows.{IsCalledFor, HasRead, SoughtReads, AttemptReads}
-use Rattle.fkv_try_rows.specs.TryRows.{key_in}
+use Rattle.law_local.specs.Tries.ReadRows.{IsCalledFor, HasRead, SoughtReads, AttemptReads}
+use Rattle.law_local.specs.Tries.TryRows.{key_in}
 use Rattle.fkv_world.specs.Added.{call_answered, told_at}
 use Rattle.fkv_world.specs.Past.{Traced, Answered}
 use Rattle.law_order.specs.Known.Answered.{EachAnswered}
-use Rattle.fkv_world_order.specs.Lines.{CallMade, read_in_hand, read_waiting, is_ticket, gives_ticket, read_reply, next_serial, last_call, refused_call, refused_lines, finished_line, finished_lines, answer_lines}
-use Rattle.fkv_world_order.specs.Sessions.{ticket_of}
+use Rattle.law_refine.specs.Events.Lines.{CallMade, read_in_hand, read_waiting, is_ticket, gives_ticket, read_reply, next_serial, last_call, refused_call, refused_lines, finished_line, finished_lines, answer_lines}
+use Rattle.law_refine.specs.Events.Sessions.{ticket_of}
 use Rattle.law_order.specs.Reads.Reads.{SessionReadings, is_given, readings_of, WaitsSo, AllWait, TriedAs, AllFinished, CatchReads, TurnReads, SitsReads}
 use Rattle.law_order.proofs.OfReads.Coming.{with_told, TellsReads, ComesTo}
 use Rattle.law_order.proofs.OfReads.Numbers.{with_answered, answered_gives}

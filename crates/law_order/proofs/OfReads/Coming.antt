@@ -53,14 +53,15 @@ use Rattle.fkv_session.specs.CatchingUp.{CatchState, refresh_begun, wake_begun, 
 use Rattle.fkv_session.specs.OwnTurns.{own_turn_ask, own_turn_begun, own_turn_given}
 use Rattle.fkv_session.specs.Sessions.{SessionState, Seat, bits_of, session_ask, answers, answers_after_turn, refuses, request_in_hand, attempts, polls_request, polls_at, update_done, is_no_room, with_request, serial_taken, ticket_after, name_of, accepts, shifts, attempted, attempt_left, attempt_ledto, caught_up, catch_ledto, clear_ledto, finished_of, is_finished, is_owed, request_finished, finishes_request, lacks_room, keeps_request, poll_ledto, turn_ledto, leave_ledto, attempt_moved, caught, own_turn_moved, sitting_next, session_next, sitting_given, session_given, is_word_ask, asks_after, refusal_of, op_begun, refresh_call, poll_begun, poll_call, sleep_call, wake_call, call_begun, session_begun}
 use Rattle.fkv_session.proofs.Shown.{IsUpdateEnd}
-use Rattle.fkv_session_rows.specs.Known.{attempt_after, attempt_comes_to}
-use Rattle.fkv_session_rows.proofs.Shown.{all_behind, all_left, all_set, but_one, begun_goes, begun_pending}
-use Rattle.fkv_try_rows.specs.ReadRows.{IsCalledFor, HasRead, SoughtReads, AnsweredReads}
-use Rattle.fkv_try_rows.specs.TryRows.{key_in}
-use Rattle.fkv_try_rows.proofs.Shown.{reads_begin}
+use Rattle.law_local.specs.Sessions.Known.{attempt_after, attempt_comes_to}
+use Rattle.law_local.proofs.OfSessions.Lists.{all_behind, all_left, all_set, but_one}
+use Rattle.law_local.proofs.OfSessions.AttemptInputs.{begun_goes, begun_pending}
+use Rattle.law_local.specs.Tries.ReadRows.{IsCalledFor, HasRead, SoughtReads, AnsweredReads}
+use Rattle.law_local.specs.Tries.TryRows.{key_in}
+use Rattle.law_local.proofs.OfTries.ReadAttempts.{reads_begin}
 use Rattle.law_order.specs.Known.Told.{AreApart}
-use Rattle.fkv_world_order.specs.Names.{is_read_name, IsNamedSo}
-use Rattle.fkv_world_order.specs.Sessions.{ticket_of}
+use Rattle.law_refine.specs.Events.Names.{is_read_name, IsNamedSo}
+use Rattle.law_refine.specs.Events.Sessions.{ticket_of}
 use Rattle.law_order.specs.Reads.Reads.{SessionReadings, WaitsSo, AllWait, AllWaitBut, reading_tried, TriedAs, TriedSo, FinishedSo, AllFinished, CatchReads, TurnReads, SitsReads}
 
 -- ---- where a call has come to its end

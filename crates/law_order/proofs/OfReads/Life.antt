@@ -18,12 +18,12 @@ use Rattle.fkv_world.specs.Past.{Traced, TraceEvent, Called, Answered}
 use Rattle.fkv_world.specs.Runs.{World, happens, run}
 use Rattle.fkv_world.specs.World.{Event, seat_at, near}
 use Rattle.fkv_world.proofs.Shown.{trace_so}
-use Rattle.fkv_world_calls.specs.Calls.{event_adds}
+use Rattle.law_refine.specs.Calls.Calls.{event_adds}
 use Rattle.law_order.specs.Known.Answered.{EachAnswered}
 use Rattle.law_order.specs.Known.Begins.{home_of_world}
-use Rattle.fkv_world_order.specs.GhostEvents.{fixed_ghosts, life_ghosts, mapped, own_ghosts, safe_at, serials_in, ghost_events}
-use Rattle.fkv_world_order.specs.Lines.{read_in_hand, read_waiting, call_lines, event_lines, lines_added}
-use Rattle.fkv_world_order.specs.Sessions.{step_ghosts}
+use Rattle.law_refine.specs.Events.GhostEvents.{fixed_ghosts, life_ghosts, mapped, own_ghosts, safe_at, serials_in, ghost_events}
+use Rattle.law_refine.specs.Events.Lines.{read_in_hand, read_waiting, call_lines, event_lines, lines_added}
+use Rattle.law_refine.specs.Events.Sessions.{step_ghosts}
 use Rattle.law_order.specs.Reads.Reads.{SessionReadings, readings_of, AllWait, SitsReads, SessionReads, ReadsKnown}
 use Rattle.law_order.proofs.OfReads.Answers.{AreSame, same_wait, same_sits, tell, AllCallOther, told_reads, both_other, end_lines, end_calls, end_each, end_sits}
 use Rattle.law_order.proofs.OfReads.Coming.{IsInHandAs, Comes, IsFreshly, begun_comes}

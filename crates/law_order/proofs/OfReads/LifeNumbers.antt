@@ -15,7 +15,7 @@ use Rattle.fkv_world.specs.Past.{Traced, TraceEvent, Called, Answered}
 use Rattle.fkv_world.specs.Runs.{World, happens, run}
 use Rattle.fkv_world.specs.World.{Event, seat_at}
 use Rattle.fkv_world.proofs.Shown.{is_over, trace_so}
-use Rattle.fkv_world_order.specs.Lines.{read_in_hand, read_waiting}
+use Rattle.law_refine.specs.Events.Lines.{read_in_hand, read_waiting}
 use Rattle.law_order.specs.Reads.Reads.{is_given}
 use Rattle.law_order.proofs.OfReads.Numbers.{Numbered, none_numbered, is_other, other_given, other_waiting, other_hand, other_numbered, with_called, called_numbered, answered_numbered}
 use Rattle.law_order.proofs.OfReads.Turns.{is_of_keeper, AreOfKeeper, Begins, Goes, Turn, Rests, BeginsOne, GoesOne, moved_to, turn_of}

@@ -12,10 +12,10 @@ use Rattle.fkv_session.specs.Replies.{effects_told, op_called, serials_taken}
 use Rattle.fkv_session.specs.SessionRun.{SessionEvent, session_run, all_told}
 use Rattle.fkv_session.specs.Sessions.{SessionState, Seat, IsOpened, is_busy}
 use Rattle.fkv_session.proofs.Shown.{IsTold, IsUnderWay, run_told}
-use Rattle.fkv_session_rows.specs.Inputs.{AttemptsSo}
-use Rattle.fkv_session_rows.specs.Known.{is_attempting}
-use Rattle.fkv_session_rows.proofs.Shown.{run_so}
-use Rattle.fkv_try_rows.proofs.Shown.{orderly}
+use Rattle.law_local.specs.Sessions.Inputs.{AttemptsSo}
+use Rattle.law_local.specs.Sessions.Known.{is_attempting}
+use Rattle.law_local.proofs.OfSessions.SessionInputs.{run_so}
+use Rattle.law_local.proofs.OfTries.OnWay.{orderly}
 use Rattle.fkv_epoch.proofs.Shown.{some_same}
 use Rattle.fkv_world.specs.Added.{told_at, told_by}
 use Rattle.fkv_world.specs.OwnEvents.{session_events}
@@ -23,15 +23,15 @@ use Rattle.fkv_world.specs.Past.{TraceEvent}
 use Rattle.fkv_world.specs.Runs.{World, happens, run}
 use Rattle.fkv_world.specs.World.{Event, seat_at}
 use Rattle.fkv_world.proofs.Shown.{is_over, same_seat, session_runs}
-use Rattle.fkv_world_calls.specs.Calls.{event_adds}
+use Rattle.law_refine.specs.Calls.Calls.{event_adds}
 use Rattle.law_order.specs.Known.Answered.{EachAnswered, acted_ghosts}
 use Rattle.law_order.specs.Known.Begins.{home_of_world, BeginsLife}
 use Rattle.law_order.specs.Known.Knows.{AllKnowBehind, AreKnown}
 use Rattle.law_order.specs.Known.Told.{AreToldTruly, NamesAreApart, TicketsAreApart}
-use Rattle.fkv_world_order.specs.GhostEvents.{life_ghosts, mapped, moved_ghosts, own_ghosts, serials_in}
-use Rattle.fkv_world_order.specs.Lines.{lines_added}
-use Rattle.fkv_world_order.proofs.Shown.{life_named}
-use Rattle.fkv_world_records.specs.Changes.{AreChangesPublished}
+use Rattle.law_refine.specs.Events.GhostEvents.{life_ghosts, mapped, moved_ghosts, own_ghosts, serials_in}
+use Rattle.law_refine.specs.Events.Lines.{lines_added}
+use Rattle.law_refine.proofs.OfEvents.RequestNames.{life_named}
+use Rattle.law_refine.specs.Records.Changes.{AreChangesPublished}
 use Rattle.law_order.specs.Rest.Resting.{HasNoCommit}
 use Rattle.law_order.specs.Reads.Reads.{readings_of, SitsReads, SessionReads, ReadsKnown, AreReadsKnown}
 use Rattle.law_order.proofs.OfReads.Coming.{IsFreshly}

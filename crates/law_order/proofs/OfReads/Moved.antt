@@ -26,19 +26,19 @@ use Rattle.fkv_session.specs.declared.sessions.Sitting.TheVariants.{Attempts, Po
 use Rattle.fkv_session.specs.Accounts.{names_of}
 use Rattle.fkv_session.specs.Sessions.{SessionState, Seat, bits_of, room_of, finished_of, is_finished, attempt_moved}
 use Rattle.fkv_session.proofs.Shown.{IsSameRequest, IsUnderWay, IsUpdateEnd, KnowsUpdate, attempt_ends, attempt_keeps, attempt_so}
-use Rattle.fkv_session_rows.specs.Inputs.{IsAttemptAtCall, IsAttemptInPoll}
-use Rattle.fkv_session_rows.specs.Known.{attempt_after, attempt_comes_to}
-use Rattle.fkv_session_rows.proofs.Shown.{attempt_goes}
-use Rattle.fkv_try_rows.specs.AttemptRows.{AttemptKnows, IsTrueOfAttempt}
-use Rattle.fkv_try_rows.specs.OnWay.{IsOrderly}
-use Rattle.fkv_try_rows.specs.ReadRows.{SoughtReads, AnsweredReads, AttemptReads}
-use Rattle.fkv_try_rows.specs.TryRows.{key_in}
-use Rattle.fkv_try_rows.proofs.Shown.{attempt_reads}
+use Rattle.law_local.specs.Sessions.Inputs.{IsAttemptAtCall, IsAttemptInPoll}
+use Rattle.law_local.specs.Sessions.Known.{attempt_after, attempt_comes_to}
+use Rattle.law_local.proofs.OfSessions.AttemptInputs.{attempt_goes}
+use Rattle.law_local.specs.Tries.AttemptRows.{AttemptKnows, IsTrueOfAttempt}
+use Rattle.law_local.specs.Tries.OnWay.{IsOrderly}
+use Rattle.law_local.specs.Tries.ReadRows.{SoughtReads, AnsweredReads, AttemptReads}
+use Rattle.law_local.specs.Tries.TryRows.{key_in}
+use Rattle.law_local.proofs.OfTries.ReadAttempts.{attempt_reads}
 use Rattle.fkv_world.specs.Past.{Traced}
 use Rattle.law_order.specs.Known.Told.{AreApart}
-use Rattle.fkv_world_order.specs.Lines.{read_in_hand, read_waiting}
-use Rattle.fkv_world_order.specs.Names.{is_read_name, IsNamedSo}
-use Rattle.fkv_world_order.specs.Sessions.{attempt_ghosts, ticket_of}
+use Rattle.law_refine.specs.Events.Lines.{read_in_hand, read_waiting}
+use Rattle.law_refine.specs.Events.Names.{is_read_name, IsNamedSo}
+use Rattle.law_refine.specs.Events.Sessions.{attempt_ghosts, ticket_of}
 use Rattle.law_order.specs.Reads.Reads.{SessionReadings, is_given, readings_of, WaitsSo, TriedAs, TriedSo, FinishedSo, AllFinished, SitsReads}
 use Rattle.law_order.proofs.OfReads.Coming.{AllNamed, IsReadEnd, EndsAtCall, EndsInPoll, MovedSo}
 use Rattle.law_order.proofs.OfReads.Numbers.{Numbered}

@@ -7,7 +7,7 @@ use Rattle.fkv_session.specs.declared.answers.Told.{Told}
 use Rattle.fkv_session.specs.declared.answers.Told.TheVariants as told
 use Rattle.fkv_session.specs.SessionRun.{Telling}
 use Rattle.fkv_world.specs.Past.{Traced, TraceEvent, Called, Answered}
-use Rattle.fkv_world_order.specs.Lines.{CallMade, call_made, last_call, number_of_call, read_in_hand, is_ticket, gives_ticket, read_waiting}
+use Rattle.law_refine.specs.Events.Lines.{CallMade, call_made, last_call, number_of_call, read_in_hand, is_ticket, gives_ticket, read_waiting}
 use Rattle.law_order.specs.Reads.Reads.{is_given}
 
 -- ---- the number of a call

@@ -33,8 +33,8 @@ use Rattle.fkv_pending.specs.declared.mailing.MailRecord.{MailRecord}
 use Rattle.fkv_pending.specs.Mailing.{mail_ask, mail_next}
 use Rattle.fkv_pending.specs.Pending.{with_sought, with_held, with_latch as with_shared, with_asked}
 use Rattle.fkv_pending.specs.Attempting.{AttemptState, attempting_ask, attempt_ask, attempt_ended, waits_for_disk, puts_addr, puts, tries, is_seeking_read, held_of, moved_on, read_on, record_taken, look_ledto, held_kept, awaits_record, tried, try_ledto, put_ledto, mail_moved, try_moved, attempting_next, attempt_next}
-use Rattle.fkv_try_rows.specs.AttemptRows.{AttemptRow}
-use Rattle.fkv_try_rows.specs.TryRows.{TryRow}
+use Rattle.law_local.specs.Tries.AttemptRows.{AttemptRow}
+use Rattle.law_local.specs.Tries.TryRows.{TryRow}
 use Rattle.law_order.proofs.OfReads.Coming.{IsReadEnd}
 
 -- ---- a try

@@ -19,19 +19,19 @@ use Rattle.fkv_session.specs.declared.sessions.Sitting.TheVariants.{Idle, Attemp
 use Rattle.fkv_session.specs.SessionRun.{SessionEvent, Replies, session_happens, session_run}
 use Rattle.fkv_session.specs.Sessions.{SessionState, Seat, is_busy, sitting_ask, session_ask, session_next}
 use Rattle.fkv_session.proofs.Shown.{IsUnderWay}
-use Rattle.fkv_session_rows.specs.Inputs.{AttemptsSo}
-use Rattle.fkv_session_rows.specs.Known.{is_attempting}
-use Rattle.fkv_session_rows.proofs.Shown.{attempt_at_call, attempt_in_poll}
-use Rattle.fkv_try_rows.specs.AttemptRows.{AttemptKnows, IsTrueOfAttempt}
-use Rattle.fkv_try_rows.specs.OnWay.{IsOrderly}
+use Rattle.law_local.specs.Sessions.Inputs.{AttemptsSo}
+use Rattle.law_local.specs.Sessions.Known.{is_attempting}
+use Rattle.law_local.proofs.OfSessions.SessionInputs.{attempt_at_call, attempt_in_poll}
+use Rattle.law_local.specs.Tries.AttemptRows.{AttemptKnows, IsTrueOfAttempt}
+use Rattle.law_local.specs.Tries.OnWay.{IsOrderly}
 use Rattle.fkv_world.specs.Moves.{Near}
 use Rattle.fkv_world.specs.OwnEvents.{session_got, session_slots, session_steps}
 use Rattle.fkv_world.specs.Past.{Traced}
 use Rattle.fkv_world.proofs.Shown.{session_runs_on}
 use Rattle.law_order.specs.Known.Told.{AreApart}
-use Rattle.fkv_world_order.specs.Names.{IsNamedSo, AreNamedSo, AttemptsNamedSo, RequestsAreNamed}
-use Rattle.fkv_world_order.specs.Lines.{read_in_hand, read_waiting}
-use Rattle.fkv_world_order.specs.Sessions.{attempt_ghosts, ticket_of, sitting_ghosts, step_ghosts}
+use Rattle.law_refine.specs.Events.Names.{IsNamedSo, AreNamedSo, AttemptsNamedSo, RequestsAreNamed}
+use Rattle.law_refine.specs.Events.Lines.{read_in_hand, read_waiting}
+use Rattle.law_refine.specs.Events.Sessions.{attempt_ghosts, ticket_of, sitting_ghosts, step_ghosts}
 use Rattle.law_order.specs.Reads.Reads.{SessionReadings, readings_of, SitsReads}
 use Rattle.law_order.proofs.OfReads.Coming.{AllNamed, ComesTo, Comes, IsFreshly, MovedSo, next_comes, given_comes}
 use Rattle.law_order.proofs.OfReads.Moved.{call_moves, poll_moves}

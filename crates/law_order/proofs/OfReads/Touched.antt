@@ -38,12 +38,12 @@ use Rattle.fkv_pending.specs.declared.attempting.Attempting.TheVariants.{Tries}
 use Rattle.fkv_pending.specs.declared.pending_requests.PendingRequest.{PendingRequest}
 use Rattle.fkv_pending.specs.Attempting.{AttemptState, attempt_ask, attempt_next}
 use Rattle.fkv_session.specs.Sessions.{Seat, bits_of, room_of}
-use Rattle.fkv_try_rows.specs.AttemptRows.{AttemptRow}
-use Rattle.fkv_try_rows.specs.ReadRows.{HasRead, finds_start, search_starts, walk_starts, try_starts, attempt_starts, tells_value, started, valued, reading_after}
-use Rattle.fkv_try_rows.specs.TryRows.{TryRow}
-use Rattle.fkv_world_order.specs.Appends.{reserved_ghosts, publish_ghosts, invalidate_ghosts, append_ghosts, is_for_entry}
-use Rattle.fkv_world_order.specs.Sessions.{value_ghosts, tried_ghosts, attempt_ghosts}
-use Rattle.fkv_world_order.specs.Tries.{found_ghosts, find_ghosts, walk_ghosts, search_ghosts, try_ghosts}
+use Rattle.law_local.specs.Tries.AttemptRows.{AttemptRow}
+use Rattle.law_local.specs.Tries.ReadRows.{HasRead, finds_start, search_starts, walk_starts, try_starts, attempt_starts, tells_value, started, valued, reading_after}
+use Rattle.law_local.specs.Tries.TryRows.{TryRow}
+use Rattle.law_refine.specs.Events.Appends.{reserved_ghosts, publish_ghosts, invalidate_ghosts, append_ghosts, is_for_entry}
+use Rattle.law_refine.specs.Events.Sessions.{value_ghosts, tried_ghosts, attempt_ghosts}
+use Rattle.law_refine.specs.Events.Tries.{found_ghosts, find_ghosts, walk_ghosts, search_ghosts, try_ghosts}
 
 -- ---- events that touch only some reads
 -- it tells nothing, and touches only such a read

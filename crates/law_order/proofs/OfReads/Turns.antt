@@ -21,8 +21,8 @@ use Rattle.fkv_world.specs.Past.{TraceEvent, Called, Answered, CommitAsked, Turn
 use Rattle.fkv_world.specs.Runs.{World, happens}
 use Rattle.fkv_world.specs.World.{Event, Calls, Moves, Commits, Turns, KeeperMoves, Crashes, seat_at, near}
 use Rattle.fkv_world.proofs.Shown.{happens_session, in_hand as busy_stays, no_session, none_in_hand, session_apart, session_written}
-use Rattle.fkv_world_order.specs.GhostEvents.{moved_ghosts, own_ghosts}
-use Rattle.fkv_world_order.specs.Sessions.{step_ghosts}
+use Rattle.law_refine.specs.Events.GhostEvents.{moved_ghosts, own_ghosts}
+use Rattle.law_refine.specs.Events.Sessions.{step_ghosts}
 
 -- no session tells these
 abbrev pub is_of_keeper : TraceEvent → Type 0

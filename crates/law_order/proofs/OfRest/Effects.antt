@@ -16,12 +16,12 @@ use Rattle.fkv_world.specs.Opened.{IsOpenedWorld}
 use Rattle.fkv_world.specs.Past.{Effect, Traced, effect_made}
 use Rattle.fkv_world.specs.Runs.{World, happens, run}
 use Rattle.fkv_world.specs.World.{Event, Moves, seat_at}
-use Rattle.fkv_world_guard.specs.Shows as guard
-use Rattle.fkv_world_order.specs.Effects.{AreQuiet, Behind, ByRecord, InPlace, MakesEffect, Quietly, Stepped, TakesEffect, step_at}
-use Rattle.fkv_world_order.specs.GhostEvents.{fixed_ghosts, ghost_events, own_ghosts, safe_at, serials_in, traced_by}
-use Rattle.fkv_world_order.specs.Lines.{lines_added}
-use Rattle.fkv_world_order.specs.Sessions.{sitting_ghosts, step_ghosts}
-use Rattle.fkv_world_order.proofs.Shown.{life_makes}
+use Rattle.law_guard.specs.Guarded.Shows as guard
+use Rattle.law_refine.specs.Events.Effects.{AreQuiet, Behind, ByRecord, InPlace, MakesEffect, Quietly, Stepped, TakesEffect, step_at}
+use Rattle.law_refine.specs.Events.GhostEvents.{fixed_ghosts, ghost_events, own_ghosts, safe_at, serials_in, traced_by}
+use Rattle.law_refine.specs.Events.Lines.{lines_added}
+use Rattle.law_refine.specs.Events.Sessions.{sitting_ghosts, step_ghosts}
+use Rattle.law_refine.proofs.OfEvents.EventEffects.{life_makes}
 use Rattle.law_order.specs.Rest.Resting.{AreEffectsOf, HasNoCommit, RestsIn}
 use Rattle.law_order.specs.Rest.Sessions.{IsAtRest, SitsAtRest}
 use Rattle.law_order.proofs.OfRest.Worlds.{life_rests}

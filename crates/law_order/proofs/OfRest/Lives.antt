@@ -4,8 +4,8 @@ use Rattle.fkv_base.specs.declared.numbers.Version.{Version}
 use Rattle.fkv_order.specs.Ghosts.{GhostEvent, Ghosts, ghost_run}
 use Rattle.fkv_world.specs.Runs.{World}
 use Rattle.fkv_world.specs.World.{Event}
-use Rattle.fkv_world_guard.specs.Shows as guard
-use Rattle.fkv_world_order.specs.GhostEvents.{home_in, life_ghosts, mapped}
+use Rattle.law_guard.specs.Guarded.Shows as guard
+use Rattle.law_refine.specs.Events.GhostEvents.{home_in, life_ghosts, mapped}
 use Rattle.law_order.specs.Rest.Logs.{AllReserveOf, CellsRest, CellsSince}
 use Rattle.law_order.specs.Rest.Resting.{HasNoCommit, RestsIn}
 use Rattle.law_order.proofs.OfRest.Cells.{log_rests, log_since}

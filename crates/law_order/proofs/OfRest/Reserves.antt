@@ -47,12 +47,12 @@ use Rattle.fkv_session.specs.Sessions.{SessionState, Seat, bits_of, room_of, ses
 use Rattle.fkv_world.specs.Past.{Traced}
 use Rattle.fkv_world.specs.Runs.{World, happens, run}
 use Rattle.fkv_world.specs.World.{Event, Moves, seat_at}
-use Rattle.fkv_world_guard.specs.Shows as guard
-use Rattle.fkv_world_order.specs.Appends.{append_ghosts, cell_of, entry_made, invalidate_ghosts, is_for_entry, publish_ghosts, reserved_ghosts}
-use Rattle.fkv_world_order.specs.GhostEvents.{fixed_ghosts, ghost_events, mapped, moved_ghosts, own_ghosts, safe_at, serials_in, traced_by}
-use Rattle.fkv_world_order.specs.Lines.{lines_added}
-use Rattle.fkv_world_order.specs.Sessions.{attempt_ghosts, sitting_ghosts, step_ghosts, tried_ghosts, value_ghosts}
-use Rattle.fkv_world_order.specs.Tries.{find_ghosts, found_ghosts, search_ghosts, try_ghosts, walk_ghosts}
+use Rattle.law_guard.specs.Guarded.Shows as guard
+use Rattle.law_refine.specs.Events.Appends.{append_ghosts, cell_of, entry_made, invalidate_ghosts, is_for_entry, publish_ghosts, reserved_ghosts}
+use Rattle.law_refine.specs.Events.GhostEvents.{fixed_ghosts, ghost_events, mapped, moved_ghosts, own_ghosts, safe_at, serials_in, traced_by}
+use Rattle.law_refine.specs.Events.Lines.{lines_added}
+use Rattle.law_refine.specs.Events.Sessions.{attempt_ghosts, sitting_ghosts, step_ghosts, tried_ghosts, value_ghosts}
+use Rattle.law_refine.specs.Events.Tries.{find_ghosts, found_ghosts, search_ghosts, try_ghosts, walk_ghosts}
 use Rattle.law_order.specs.Rest.Logs.{AllReserveOf}
 use Rattle.law_order.specs.Rest.Machines.{AppendRests, AttemptRests, AttemptsAtRest, TriesAtRest}
 use Rattle.law_order.specs.Rest.Resting.{HasNoCommit, RestsIn}

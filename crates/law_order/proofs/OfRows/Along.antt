@@ -8,9 +8,10 @@ use Rattle.fkv_order.proofs.Shown.{Held, log_steps, run_held}
 use Rattle.fkv_ops.specs.declared.requests.Seen.{Seen}
 use Rattle.fkv_pending.specs.declared.pending_requests.PendingRequest.{PendingRequest}
 use Rattle.fkv_pending.specs.Attempting.{AttemptState}
-use Rattle.fkv_try_rows.specs.AttemptRows.{AttemptKnows, PendingKnows}
-use Rattle.fkv_try_rows.specs.Kept.{OlderAreFixed}
-use Rattle.fkv_try_rows.proofs.Shown.{attempt_grows, older_kept_for, pending_grows}
+use Rattle.law_local.specs.Tries.AttemptRows.{AttemptKnows, PendingKnows}
+use Rattle.law_local.specs.Tries.Kept.{OlderAreFixed}
+use Rattle.law_local.proofs.OfTries.AttemptGrows.{attempt_grows, pending_grows}
+use Rattle.law_local.proofs.OfTries.Keeping.{older_kept_for}
 
 -- what is owed behind a list is owed before it
 pub owed_before : (home : ℕ → ℕ) (g : Ghosts) (later before : List GhostEvent) → AreOwed home g (later ++ before) → AreOwed home g before

@@ -6,8 +6,8 @@ use Rattle.fkv_ops.specs.declared.requests.Occasion.TheVariants.{Call as AtCall,
 use Rattle.fkv_ops.specs.declared.requests.Seen.{Seen}
 use Rattle.fkv_session.specs.SessionRun.{SessionEvent, Begins, Replies, Gets, begins, session_happens, session_run}
 use Rattle.fkv_session.specs.Sessions.{SessionState, Seat, IsOpened, bits_of, room_of, is_busy, request_in_hand, session_begun, session_given, session_next}
-use Rattle.fkv_session_rows.specs.Known.{IsHandedOver, IsKnownAnew, catch_after, caught_up_at, with_op}
-use Rattle.fkv_session_rows.proofs.Shown.{begun_known, given_known, next_known, opened_known}
+use Rattle.law_local.specs.Sessions.Known.{IsHandedOver, IsKnownAnew, catch_after, caught_up_at, with_op}
+use Rattle.law_local.proofs.OfSessions.Known.{begun_known, given_known, next_known, opened_known}
 use Rattle.law_order.specs.Rows.Asked.{SeeksWhereAsked, AttemptSeeks, AllSeek}
 use Rattle.law_order.proofs.OfRows.Seeks.{attempt_seeks, attempt_begun_seeks, latch_seeks}
 

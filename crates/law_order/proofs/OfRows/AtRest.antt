@@ -7,12 +7,12 @@ use Rattle.fkv_order.specs.Owed.{AreOwed}
 use Rattle.fkv_ops.specs.declared.requests.Seen.{Seen}
 use Rattle.fkv_pending.specs.declared.pending_requests.PendingRequest.{PendingRequest}
 use Rattle.fkv_pending.specs.Attempting.{AttemptState}
-use Rattle.fkv_try_rows.specs.AttemptRows.{AttemptKnows, PendingKnows}
-use Rattle.fkv_try_rows.specs.Kept.{OlderAreFixed}
+use Rattle.law_local.specs.Tries.AttemptRows.{AttemptKnows, PendingKnows}
+use Rattle.law_local.specs.Tries.Kept.{OlderAreFixed}
 use Rattle.fkv_world.specs.Runs.{World, run}
 use Rattle.fkv_world.specs.World.{Event}
 use Rattle.law_order.specs.Known.Begins.{BeginsLife, home_of_world}
-use Rattle.fkv_world_order.specs.GhostEvents.{ghost_events, life_ghosts, mapped, serials_in}
+use Rattle.law_refine.specs.Events.GhostEvents.{ghost_events, life_ghosts, mapped, serials_in}
 use Rattle.law_order.specs.Rest.Resting.{HasNoCommit}
 use Rattle.law_order.proofs.OfRows.Along.{attempt_along, owed_before, pending_along}
 use Rattle.law_order.proofs.OfRows.Fixed.{older_fixed}

@@ -13,8 +13,8 @@ use Rattle.fkv_session.specs.declared.sessions.Sitting.{Sitting}
 use Rattle.fkv_session.specs.declared.sessions.Sitting.TheVariants.{Idle, Attempts, CatchesUp, Polls, Turns}
 use Rattle.fkv_session.specs.OwnTurns.{own_turn_ask}
 use Rattle.fkv_session.specs.Sessions.{SessionState, Seat, asks_after, is_word_ask, own_turn_moved, session_ask, session_next, sitting_next, turn_ledto}
-use Rattle.fkv_session_rows.specs.Known.{KnowsRequests, is_attempting, is_polling}
-use Rattle.fkv_session_rows.proofs.Shown.{given_known, next_known}
+use Rattle.law_local.specs.Sessions.Known.{KnowsRequests, is_attempting, is_polling}
+use Rattle.law_local.proofs.OfSessions.Known.{given_known, next_known}
 use Rattle.fkv_world.specs.Moves.{Near, session_asks, session_gets, session_replied, session_settled}
 
 -- it is idle, or makes a turn of its own

@@ -7,11 +7,11 @@ use Rattle.fkv_order.specs.Chains.{Cell, Logged, Unborn, Reserved, Published, Dr
 use Rattle.fkv_order.specs.Ghosts.{Log, Ghosts, GhostEvent, Tells, FindsEntry, TakesValue, Reserves, Publishes, Drops, Changes, Fixes, published, dropped, changed, log_after, ghosts_after, ghost_run}
 use Rattle.fkv_order.specs.Owed as order
 use Rattle.fkv_order.specs.Owed.{IsFixed}
-use Rattle.fkv_try_rows.specs.Kept.{OlderAreFixed}
+use Rattle.law_local.specs.Tries.Kept.{OlderAreFixed}
 use Rattle.fkv_world.specs.Runs.{World}
 use Rattle.fkv_world.specs.World.{Event}
 use Rattle.law_order.specs.Known.Begins.{BeginsLife, home_of_world}
-use Rattle.fkv_world_order.specs.GhostEvents.{mapped}
+use Rattle.law_refine.specs.Events.GhostEvents.{mapped}
 use Rattle.law_order.specs.Rest.Logs.{CellsSince, LoggedSince, WasOf}
 use Rattle.law_order.specs.Rest.Resting.{HasNoCommit}
 use Rattle.law_order.proofs.OfRest.Lives.{moment_since}

@@ -11,7 +11,7 @@ use Rattle.fkv_world.specs.OwnEvents.{session_events}
 use Rattle.fkv_world.specs.Runs.{World, happens, run}
 use Rattle.fkv_world.specs.World.{Event, Calls, Moves, near, seat_at}
 use Rattle.fkv_world.proofs.Shown.{is_over, session_apart, session_written}
-use Rattle.fkv_world_seen.proofs.Shown.{was_there}
+use Rattle.law_refine.proofs.OfSeen.There.{was_there}
 use Rattle.law_order.specs.Rows.Asked.{AllSeek}
 use Rattle.law_order.proofs.OfRows.Asks.{run_seeks}
 

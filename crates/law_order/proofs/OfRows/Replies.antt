@@ -20,14 +20,16 @@ use Rattle.fkv_session.specs.declared.sessions.Sitting.TheVariants.{Attempts, Ca
 use Rattle.fkv_session.specs.CatchingUp.{catch_requests}
 use Rattle.fkv_session.specs.Sessions.{SessionState, Seat, bits_of, room_of, is_busy, is_full, is_spent, refusal_of, request_in_hand, session_begun, session_next}
 use Rattle.fkv_session.proofs.Shown.{attempt_keeps}
-use Rattle.fkv_session_rows.specs.Inputs.{AttemptsBy, AttemptsSo}
-use Rattle.fkv_session_rows.specs.Known.{IsHandedOver, IsKnownAnew, KnowsRequests, attempt_after, catch_after, catch_comes_to, caught_up_at, is_attempting, is_polling, with_op}
-use Rattle.fkv_session_rows.specs.Moves.{requests_at}
-use Rattle.fkv_session_rows.proofs.Shown.{attempt_goes, begun_known, next_known, next_requests}
-use Rattle.fkv_try_rows.specs.AttemptRows.{AttemptKnows, IsTrueOfAttempt, PendingKnows}
-use Rattle.fkv_try_rows.specs.OnWay.{IsOrderly}
-use Rattle.fkv_try_rows.specs.TryRows.{NoneIsLater, head_in}
-use Rattle.fkv_try_rows.proofs.Shown.{attempt_begins, attempt_leads}
+use Rattle.law_local.specs.Sessions.Inputs.{AttemptsBy, AttemptsSo}
+use Rattle.law_local.specs.Sessions.Known.{IsHandedOver, IsKnownAnew, KnowsRequests, attempt_after, catch_after, catch_comes_to, caught_up_at, is_attempting, is_polling, with_op}
+use Rattle.law_local.specs.Sessions.Moves.{requests_at}
+use Rattle.law_local.proofs.OfSessions.AttemptInputs.{attempt_goes}
+use Rattle.law_local.proofs.OfSessions.Known.{begun_known, next_known}
+use Rattle.law_local.proofs.OfSessions.Moves.{next_requests}
+use Rattle.law_local.specs.Tries.AttemptRows.{AttemptKnows, IsTrueOfAttempt, PendingKnows}
+use Rattle.law_local.specs.Tries.OnWay.{IsOrderly}
+use Rattle.law_local.specs.Tries.TryRows.{NoneIsLater, head_in}
+use Rattle.law_local.proofs.OfTries.AttemptSteps.{attempt_begins, attempt_leads}
 use Rattle.law_order.specs.Rows.Asked.{SeeksWhereAsked, AttemptSeeks}
 use Rattle.law_order.proofs.OfRows.Seeks.{attempt_seeks, attempt_begun_seeks}
 

@@ -2,7 +2,7 @@
 use Rattle.std.proofs.Common.{◌≡◌, ℕ, ◌≤◌, ◌∙◌, List, ◌∷◌, refl, arith, ap, sym, subst, Bool, true, false}
 use Rattle.std.specs.Prelude.{Some, None, slice_get}
 use Rattle.fkv_base.specs.declared.numbers.Version.{Version}
-use Rattle.fkv_guard_sessions.specs.Followed.{is_turning}
+use Rattle.law_guard.specs.Sessions.Followed.{is_turning}
 use Rattle.fkv_map.specs.Map.{Map, is_reserved}
 use Rattle.fkv_order.specs.Ghosts.{Log, Ghosts}
 use Rattle.fkv_order.specs.Owed.{AreOwed, NoneAbove}
@@ -20,12 +20,13 @@ use Rattle.fkv_session.specs.declared.sessions.Sitting.{Sitting}
 use Rattle.fkv_session.specs.declared.sessions.Sitting.TheVariants.{Idle, Attempts, CatchesUp, Polls, Turns}
 use Rattle.fkv_session.specs.CatchingUp.{CatchState, catch_requests, catching_requests}
 use Rattle.fkv_session.specs.Sessions.{SessionState, Seat, asks_after, attempts, catch_ledto, caught, is_busy, is_word_ask, session_ask, session_next, sitting_next}
-use Rattle.fkv_session_rows.specs.Inputs.{AttemptsSo}
-use Rattle.fkv_session_rows.specs.Known.{KnowsRequests, catch_after, catch_comes_to, is_attempting}
-use Rattle.fkv_session_rows.proofs.Shown.{stays_known}
-use Rattle.fkv_try_rows.specs.AttemptRows.{AttemptKnows, PendingKnows}
-use Rattle.fkv_try_rows.specs.TryRows.{head_in, key_in}
-use Rattle.fkv_try_rows.proofs.Shown.{orderly, pending_later}
+use Rattle.law_local.specs.Sessions.Inputs.{AttemptsSo}
+use Rattle.law_local.specs.Sessions.Known.{KnowsRequests, catch_after, catch_comes_to, is_attempting}
+use Rattle.law_local.proofs.OfSessions.Known.{stays_known}
+use Rattle.law_local.specs.Tries.AttemptRows.{AttemptKnows, PendingKnows}
+use Rattle.law_local.specs.Tries.TryRows.{head_in, key_in}
+use Rattle.law_local.proofs.OfTries.OnWay.{orderly}
+use Rattle.law_local.proofs.OfTries.AttemptGrows.{pending_later}
 use Rattle.fkv_world.specs.Moves.{Near, session_moved}
 use Rattle.fkv_world.specs.Runs.{World, run}
 use Rattle.fkv_world.specs.World.{Event, Now, near, seat_at}
@@ -33,7 +34,7 @@ use Rattle.fkv_world.proofs.Shown.{same_seat}
 use Rattle.law_order.specs.Known.Begins.{BeginsLife, home_of_world}
 use Rattle.law_order.specs.Known.Knows.{AllKnowBehind, AreKnown, SessionKnows}
 use Rattle.law_order.specs.Known.Told.{AreToldTruly, reply_in}
-use Rattle.fkv_world_order.specs.GhostEvents.{life_ghosts, mapped}
+use Rattle.law_refine.specs.Events.GhostEvents.{life_ghosts, mapped}
 use Rattle.law_order.proofs.OfOwes.Changes.{known_now}
 use Rattle.law_order.proofs.OfOwes.Attempts.{life_attempts}
 use Rattle.law_order.specs.Rest.Logs.{CellsRest}
@@ -43,8 +44,11 @@ use Rattle.law_order.specs.Rest.Sessions.{SitsAtRest}
 use Rattle.law_order.proofs.OfRest.Lives.{life_cells}
 use Rattle.law_order.proofs.OfRest.Worlds.{life_rests}
 use Rattle.law_order.proofs.OfRest.Cells.{none_above}
-use Rattle.fkv_world_seen.specs.Ops.{HasPlainOp, OpIsPlain}
-use Rattle.fkv_world_seen.proofs.Shown.{head_rises, life_head_fixed, life_op_kept, moves_alone, there_before}
+use Rattle.law_refine.specs.Seen.Ops.{HasPlainOp, OpIsPlain}
+use Rattle.law_refine.proofs.OfSeen.Lives.{head_rises, life_head_fixed}
+use Rattle.law_refine.proofs.OfSeen.Ops.{life_op_kept}
+use Rattle.law_refine.proofs.OfSeen.Alone.{moves_alone}
+use Rattle.law_refine.proofs.OfSeen.There.{there_before}
 use Rattle.law_order.specs.Rows.Asked.{SeeksWhereAsked, AttemptSeeks}
 use Rattle.law_order.proofs.OfRows.AtRest.{attempt_stays, owed_until, pending_stays}
 use Rattle.law_order.proofs.OfRows.Calm.{calm_known, is_calm}

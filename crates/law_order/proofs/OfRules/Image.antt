@@ -5,8 +5,8 @@ use Rattle.fkv_disk.specs.Bytes.{bytes_at}
 use Rattle.fkv_log.specs.declared.record_words.RecordWords.{RecordWords}
 use Rattle.fkv_opening.specs.Opened.{IsStoreOf}
 use Rattle.fkv_opening.specs.declared.opened_store.Opened.{Opened}
-use Rattle.fkv_opening_log.specs.OpeningLog.{opening_log}
-use Rattle.fkv_opening_log.specs.Records.{HasWhatCounts, IsCellOf, cell_of}
+use Rattle.law_opening.specs.Log.OpeningLog.{opening_log}
+use Rattle.law_opening.specs.Log.Records.{HasWhatCounts, IsCellOf, cell_of}
 use Rattle.fkv_order.specs.Chains.{Cell, Published}
 use Rattle.fkv_pairs.specs.Pairs.{log_of_store}
 use Rattle.fkv_plane.specs.declared.places.RecordWord.{RecordWord}
@@ -15,11 +15,11 @@ use Rattle.fkv_record.proofs.Shown.{record_numbered}
 use Rattle.fkv_record.specs.Layout.{record_bytes}
 use Rattle.fkv_record.specs.Places.{record_place}
 use Rattle.fkv_record.specs.declared.records.Record.{Record}
-use Rattle.fkv_try_rows.specs.MailRows.{LeadsTo}
+use Rattle.law_local.specs.Tries.MailRows.{LeadsTo}
 use Rattle.fkv_words.specs.Layout.{header_word}
 use Rattle.fkv_world.specs.World.{Now}
 use Rattle.law_order.specs.Known.Begins.{IsInImage}
-use Rattle.fkv_world_records.proofs.Shown.{filled_shows}
+use Rattle.law_refine.proofs.OfRecords.Numbers.{filled_shows}
 
 -- a record's three words
 abbrev words_of : Record → RecordWord → ℕ

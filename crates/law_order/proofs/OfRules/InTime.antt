@@ -5,10 +5,10 @@ use Rattle.fkv_core.specs.Openings.{IsOpeningWorld, beginning}
 use Rattle.fkv_map.specs.declared.history.HistoryEntry.{HistoryEntry}
 use Rattle.fkv_map.specs.declared.operations.Reply.{Reply}
 use Rattle.fkv_opening.specs.declared.opened_store.Opened.{Opened}
-use Rattle.fkv_opening_log.specs.Begins.{Begins}
-use Rattle.fkv_opening_log.specs.Lives.{KeepsRules, ghosts_beside}
-use Rattle.fkv_opening_log.specs.Maps.{opening_map}
-use Rattle.fkv_opening_log.specs.OpeningLog.{opening_ghosts}
+use Rattle.law_opening.specs.Log.Begins.{Begins}
+use Rattle.law_opening.specs.Log.Lives.{KeepsRules, ghosts_beside}
+use Rattle.law_opening.specs.Log.Maps.{opening_map}
+use Rattle.law_opening.specs.Log.OpeningLog.{opening_ghosts}
 use Rattle.fkv_order.specs.Ghosts.{Ghosts, GhostEvent, Log, Tells, ghosts_after, ghost_run}
 use Rattle.fkv_order.specs.Owed as order
 use Rattle.fkv_order.specs.Owed.{AreOwed}
@@ -17,12 +17,12 @@ use Rattle.fkv_world.specs.Added.{told_at, told_by}
 use Rattle.fkv_world.specs.Past.{TraceEvent}
 use Rattle.fkv_world.specs.Runs.{World, happens, run}
 use Rattle.fkv_world.specs.World.{Event, Now}
-use Rattle.fkv_world_calls.proofs.Shown.{same_history}
-use Rattle.fkv_world_calls.specs.Calls.{event_adds}
-use Rattle.fkv_world_guard.specs.Shows.{IsOpened}
-use Rattle.fkv_world_order.specs.GhostEvents.{fixed_ghosts, ghost_events, home_in, mapped, own_ghosts, safe_at, serials_in}
-use Rattle.fkv_world_order.specs.Lines.{lines_added}
-use Rattle.fkv_world_records.specs.Changes.{AreChangesPublished}
+use Rattle.law_refine.proofs.OfCalls.SameHistory.{same_history}
+use Rattle.law_refine.specs.Calls.Calls.{event_adds}
+use Rattle.law_guard.specs.Guarded.Shows.{IsOpened}
+use Rattle.law_refine.specs.Events.GhostEvents.{fixed_ghosts, ghost_events, home_in, mapped, own_ghosts, safe_at, serials_in}
+use Rattle.law_refine.specs.Events.Lines.{lines_added}
+use Rattle.law_refine.specs.Records.Changes.{AreChangesPublished}
 use Rattle.law_order.specs.Rules.InTime.{IsInTime, ReadsInTime}
 use Rattle.law_order.specs.Rules.Ordered.{effects_so_far}
 use Rattle.law_order.proofs.OfRules.Kept.{same_entries}

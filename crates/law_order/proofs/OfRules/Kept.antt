@@ -2,16 +2,16 @@
 use Rattle.std.proofs.Common.{◌≡◌, ℕ, List, [], ◌∷◌, ◌++◌}
 use Rattle.fkv_core.specs.Openings.{IsOpeningWorld, beginning}
 use Rattle.fkv_opening.specs.declared.opened_store.Opened.{Opened}
-use Rattle.fkv_opening_log.specs.Begins.{Begins}
-use Rattle.fkv_opening_log.specs.Lives.{ghosts_beside}
-use Rattle.fkv_opening_log.specs.OpeningLog.{opening_ghosts}
+use Rattle.law_opening.specs.Log.Begins.{Begins}
+use Rattle.law_opening.specs.Log.Lives.{ghosts_beside}
+use Rattle.law_opening.specs.Log.OpeningLog.{opening_ghosts}
 use Rattle.fkv_world.specs.Runs.{World, run}
 use Rattle.fkv_world.specs.World.{Event, Now}
-use Rattle.fkv_world_calls.proofs.Shown.{life_entries}
-use Rattle.fkv_world_calls.specs.Calls.{entries_of}
-use Rattle.fkv_world_guard.specs.Shows.{AreFair, IsFair, IsOpened}
-use Rattle.fkv_world_records.proofs.Shown.{life_meets_published}
-use Rattle.fkv_world_records.specs.Changes.{AreChangesPublished}
+use Rattle.law_refine.proofs.OfCalls.LifeHistory.{life_entries}
+use Rattle.law_refine.specs.Calls.Calls.{entries_of}
+use Rattle.law_guard.specs.Guarded.Shows.{AreFair, IsFair, IsOpened}
+use Rattle.law_refine.proofs.OfRecords.Meets.{life_meets_published}
+use Rattle.law_refine.specs.Records.Changes.{AreChangesPublished}
 use Rattle.law_order.specs.Rules.Ordered.{effects_so_far}
 use Rattle.law_order.proofs.OfRules.Beginning.{world_opens}
 

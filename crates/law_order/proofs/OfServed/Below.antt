@@ -16,14 +16,15 @@ use Rattle.fkv_session.specs.Sessions.{SessionState, Seat, session_ask}
 use Rattle.fkv_world.specs.Past.{Traced}
 use Rattle.fkv_world.specs.Runs.{World, happens, run}
 use Rattle.fkv_world.specs.World.{Event, Moves, seat_at}
-use Rattle.fkv_world_guard.specs.Shows as guard
+use Rattle.law_guard.specs.Guarded.Shows as guard
 use Rattle.law_order.specs.Known.Begins.{home_of_world}
-use Rattle.fkv_world_order.specs.GhostEvents.{moved_ghosts, own_ghosts, safe_at, fixed_ghosts, traced_by, serials_in, ghost_events, mapped, life_ghosts}
-use Rattle.fkv_world_order.specs.Lines.{lines_added}
-use Rattle.fkv_world_order.specs.Reservations.{AreStill, Reservation, TakesTail, MovesOn, Keeps, Behind, TakesOne, LosesOne, PublishesOne, DropsOne}
-use Rattle.fkv_world_order.specs.Reserved.{tail_at}
-use Rattle.fkv_world_order.specs.Sessions.{sitting_ghosts, step_ghosts}
-use Rattle.fkv_world_order.proofs.Shown.{life_on, life_rises}
+use Rattle.law_refine.specs.Events.GhostEvents.{moved_ghosts, own_ghosts, safe_at, fixed_ghosts, traced_by, serials_in, ghost_events, mapped, life_ghosts}
+use Rattle.law_refine.specs.Events.Lines.{lines_added}
+use Rattle.law_refine.specs.Events.Reservations.{AreStill, Reservation, TakesTail, MovesOn, Keeps, Behind, TakesOne, LosesOne, PublishesOne, DropsOne}
+use Rattle.law_refine.specs.Events.Reserved.{tail_at}
+use Rattle.law_refine.specs.Events.Sessions.{sitting_ghosts, step_ghosts}
+use Rattle.law_refine.proofs.OfEvents.SessionSteps.{life_on}
+use Rattle.law_refine.proofs.OfEvents.Fixed.{life_rises}
 use Rattle.law_order.proofs.OfServed.Lists.{one_step, owed_before}
 
 -- what an event takes lies at or above this address

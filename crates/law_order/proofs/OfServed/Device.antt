@@ -14,16 +14,19 @@ use Rattle.fkv_order.specs.Owed.{AreOwed}
 use Rattle.fkv_record.specs.Places as image
 use Rattle.fkv_world.specs.Runs.{World, run}
 use Rattle.fkv_world.specs.World.{Event}
-use Rattle.fkv_world_guard.specs.GuardEvents as guarded
-use Rattle.fkv_world_guard.specs.OpenedStore.{IsOpenedStore}
-use Rattle.fkv_world_guard.specs.Shows.{AreFair, guard_opening}
-use Rattle.fkv_world_guard.proofs.Shown.{life_shows, life_synced}
+use Rattle.law_guard.specs.Guarded.GuardEvents as guarded
+use Rattle.law_guard.specs.Guarded.OpenedStore.{IsOpenedStore}
+use Rattle.law_guard.specs.Guarded.Shows.{AreFair, guard_opening}
+use Rattle.law_guard.proofs.OfGuarded.Worlds.{life_shows}
+use Rattle.law_guard.proofs.OfGuarded.Flushed.{life_synced}
 use Rattle.law_order.specs.Known.Begins.{BeginsLife, IsInImage, home_of_world}
-use Rattle.fkv_world_order.specs.GhostEvents.{life_ghosts, mapped, safe_at}
-use Rattle.fkv_world_order.proofs.Shown.{ghost_fixed}
-use Rattle.fkv_world_records.specs.Cells.{ShowsCell}
-use Rattle.fkv_world_records.specs.Changes.{AreChangesPublished}
-use Rattle.fkv_world_records.proofs.Shown.{life_holds, published_fair, stands_in}
+use Rattle.law_refine.specs.Events.GhostEvents.{life_ghosts, mapped, safe_at}
+use Rattle.law_refine.proofs.OfEvents.Fixed.{ghost_fixed}
+use Rattle.law_refine.specs.Records.Cells.{ShowsCell}
+use Rattle.law_refine.specs.Records.Changes.{AreChangesPublished}
+use Rattle.law_refine.proofs.OfRecords.Life.{life_holds}
+use Rattle.law_refine.proofs.OfRecords.Below.{published_fair}
+use Rattle.law_refine.proofs.OfRecords.Standing.{stands_in}
 use Rattle.law_order.proofs.OfServed.Below.{life_below}
 use Rattle.law_order.proofs.OfServed.Bytes.{further, range_same, reads_same, same_further}
 

@@ -9,7 +9,7 @@ use Rattle.fkv_order.proofs.Shown.{Grows}
 use Rattle.fkv_world.specs.Runs.{World, run}
 use Rattle.fkv_world.specs.World.{Event}
 use Rattle.law_order.specs.Known.Begins.{home_of_world}
-use Rattle.fkv_world_order.specs.GhostEvents.{serials_in, ghost_events, mapped, life_ghosts}
+use Rattle.law_refine.specs.Events.GhostEvents.{serials_in, ghost_events, mapped, life_ghosts}
 use Rattle.law_order.proofs.OfServed.Lists.{one_step, owed_before}
 
 -- it is there, and changes no more

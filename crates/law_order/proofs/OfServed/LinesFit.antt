@@ -23,9 +23,9 @@ use Rattle.fkv_world.specs.Past.{Traced, TraceEvent, Called, Answered, CommitAsk
 use Rattle.fkv_world.specs.Runs.{World, happens, run}
 use Rattle.fkv_world.specs.World.{Event, Calls, Moves, Commits, Turns, KeeperMoves, Crashes, Now}
 use Rattle.fkv_world.proofs.Shown.{trace_so}
-use Rattle.fkv_world_order.specs.GhostEvents.{serials_in, life_ghosts}
-use Rattle.fkv_world_order.specs.Lines.{CallMade, op_line, call_lines, finished_line, finished_lines, refused_op, refused_call, refused_lines, answer_lines, event_lines, lines_of, last_call, next_serial}
-use Rattle.fkv_world_order.proofs.Shown.{ghost_trace}
+use Rattle.law_refine.specs.Events.GhostEvents.{serials_in, life_ghosts}
+use Rattle.law_refine.specs.Events.Lines.{CallMade, op_line, call_lines, finished_line, finished_lines, refused_op, refused_call, refused_lines, answer_lines, event_lines, lines_of, last_call, next_serial}
+use Rattle.law_refine.proofs.OfEvents.Trace.{ghost_trace}
 use Rattle.law_order.specs.Served.Fits.{CallFits, CallsFit, EventFits, OpFits}
 use Rattle.law_order.proofs.OfServed.LogFits.{LineFits, LinesFit}
 

@@ -10,15 +10,15 @@ use Rattle.fkv_order.specs.Ghosts.{Ghosts}
 use Rattle.fkv_order.specs.Owed.{AreOwed}
 use Rattle.fkv_plane.specs.declared.places.RecordWord.TheVariants as rec
 use Rattle.fkv_record.specs.Places as image
-use Rattle.fkv_try_rows.specs.MailRows.{IsRecordOf}
+use Rattle.law_local.specs.Tries.MailRows.{IsRecordOf}
 use Rattle.fkv_world.specs.Runs.{World, run}
 use Rattle.fkv_world.specs.World.{Event}
 use Rattle.fkv_world.proofs.Shown.{opened_stays, shape_stays}
 use Rattle.law_order.specs.Known.Begins.{BeginsLife, IsInImage, home_of_world}
-use Rattle.fkv_world_mail.specs.MailEvents.{record_read}
-use Rattle.fkv_world_mail.specs.Reads.{record_there}
-use Rattle.fkv_world_order.specs.GhostEvents.{life_ghosts, mapped}
-use Rattle.fkv_world_records.specs.Changes.{AreChangesPublished}
+use Rattle.law_parts.specs.Mail.MailEvents.{record_read}
+use Rattle.law_parts.specs.Mail.Reads.{record_there}
+use Rattle.law_refine.specs.Events.GhostEvents.{life_ghosts, mapped}
+use Rattle.law_refine.specs.Records.Changes.{AreChangesPublished}
 use Rattle.law_order.specs.Served.Fits.{CallsFit, CellFits, CellsFit}
 use Rattle.law_order.specs.Served.Served.{ServedShow}
 use Rattle.law_order.proofs.OfServed.Device.{CallsLaw, device_there, flushed_fixed, read_then}

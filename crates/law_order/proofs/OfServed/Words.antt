@@ -11,8 +11,8 @@ use Rattle.fkv_ops.specs.declared.header_words.HeaderSaid.TheVariants.{Says, Spo
 use Rattle.fkv_ops.specs.HeaderWords.{header_said, version_in, previous_in}
 use Rattle.fkv_ops.specs.Values.{value_of}
 use Rattle.fkv_record.specs.Numbers.{spelled}
-use Rattle.fkv_world_mail.specs.MailEvents.{record_read}
-use Rattle.fkv_world_mail.specs.Servers.{record_of}
+use Rattle.law_parts.specs.Mail.MailEvents.{record_read}
+use Rattle.law_parts.specs.Mail.Servers.{record_of}
 use Rattle.law_order.specs.Served.Fits.{NumberFits, ValueFits}
 
 -- ---- a word of a record that fits

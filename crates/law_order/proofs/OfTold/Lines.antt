@@ -6,8 +6,8 @@ use Rattle.fkv_order.specs.Trace.{TraceLine}
 use Rattle.fkv_world.specs.Runs.{World, run}
 use Rattle.fkv_world.specs.World.{Event}
 use Rattle.law_order.specs.Known.Answered.{acted}
-use Rattle.fkv_world_order.specs.GhostEvents.{fixed_ghosts, own_ghosts, safe_at}
-use Rattle.fkv_world_order.proofs.Shown.{AreOwn, own_own}
+use Rattle.law_refine.specs.Events.GhostEvents.{fixed_ghosts, own_ghosts, safe_at}
+use Rattle.law_refine.proofs.OfEvents.Own.{AreOwn, own_own}
 
 pub told_log : (home : ℕ → ℕ) (g : Ghosts) (lines : List TraceLine) → (ghost_run home g (map Tells lines)).log ≡ g.log
 unfolding ghost_run ghosts_after

@@ -9,14 +9,16 @@ use Rattle.fkv_order.specs.Trace.{Effect, TraceLine, CallsUpdate, RefusesUpdate,
 use Rattle.fkv_order.proofs.Shown.{IsSound, run_sound}
 use Rattle.fkv_world.specs.Runs.{World, run}
 use Rattle.fkv_world.specs.World.{Event}
-use Rattle.fkv_world_calls.specs.Calls.{EachOwes, OwesCall, effects_of_life, entries_of, event_adds, lines_of_life}
-use Rattle.fkv_world_calls.proofs.Shown.{event_owes, life_entries, same_reply, same_update}
+use Rattle.law_refine.specs.Calls.Calls.{EachOwes, OwesCall, effects_of_life, entries_of, event_adds, lines_of_life}
+use Rattle.law_refine.proofs.OfCalls.UpdateLines.{event_owes}
+use Rattle.law_refine.proofs.OfCalls.LifeHistory.{life_entries}
+use Rattle.law_refine.proofs.OfCalls.SameHistory.{same_reply, same_update}
 use Rattle.law_order.specs.Known.Answered.{AnswerOwed, EachAnswered, acted, acted_ghosts}
 use Rattle.law_order.specs.Known.Begins.{BeginsLife, home_of_world}
-use Rattle.fkv_world_order.specs.GhostEvents.{ghost_events, life_ghosts, mapped}
-use Rattle.fkv_world_order.proofs.Shown.{ghost_trace}
-use Rattle.fkv_world_records.specs.Changes.{AreChangesPublished}
-use Rattle.fkv_world_records.proofs.Shown.{life_meets_published}
+use Rattle.law_refine.specs.Events.GhostEvents.{ghost_events, life_ghosts, mapped}
+use Rattle.law_refine.proofs.OfEvents.Trace.{ghost_trace}
+use Rattle.law_refine.specs.Records.Changes.{AreChangesPublished}
+use Rattle.law_refine.proofs.OfRecords.Meets.{life_meets_published}
 use Rattle.law_order.specs.Rest.Resting.{HasNoCommit}
 use Rattle.law_order.proofs.OfTold.Lines.{acted_trace, told_log, told_trace}
 use Rattle.law_order.proofs.OfTold.Runs.{free_read, owed_on, run_on}

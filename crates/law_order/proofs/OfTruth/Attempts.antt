@@ -9,17 +9,17 @@ use Rattle.fkv_session.specs.declared.answers.Told.TheVariants.{Slept}
 use Rattle.fkv_session.specs.declared.sessions.Sitting.{Sitting}
 use Rattle.fkv_session.specs.declared.sessions.Sitting.TheVariants.{Attempts, Polls}
 use Rattle.fkv_session.specs.Sessions.{SessionState, Seat, sitting_ask}
-use Rattle.fkv_session_rows.specs.Inputs.{AttemptsBy, AttemptsSo}
-use Rattle.fkv_session_rows.specs.Known.{is_attempting}
-use Rattle.fkv_session_rows.proofs.Shown.{run_so}
+use Rattle.law_local.specs.Sessions.Inputs.{AttemptsBy, AttemptsSo}
+use Rattle.law_local.specs.Sessions.Known.{is_attempting}
+use Rattle.law_local.proofs.OfSessions.SessionInputs.{run_so}
 use Rattle.fkv_world.specs.Opened.{IsOpenedWorld, HasBecome}
 use Rattle.fkv_world.specs.OwnEvents.{session_events}
 use Rattle.fkv_world.specs.Runs.{World, run}
 use Rattle.fkv_world.specs.World.{Event, seat_at}
 use Rattle.fkv_world.proofs.Shown.{of_run, opened_so, places_stay, same_seat}
-use Rattle.fkv_world_guard.specs.Shows.{IsOpened}
-use Rattle.fkv_world_guard.proofs.Shown.{life_shows}
-use Rattle.fkv_world_records.specs.Frames.{IsAttempting}
+use Rattle.law_guard.specs.Guarded.Shows.{IsOpened}
+use Rattle.law_guard.proofs.OfGuarded.Worlds.{life_shows}
+use Rattle.law_refine.specs.Records.Frames.{IsAttempting}
 
 -- ---- by what it attempts
 pub attempting_is : (step : Sitting) → is_attempting step ≡ true → IsAttempting step

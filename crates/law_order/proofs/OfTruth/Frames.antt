@@ -13,18 +13,22 @@ use Rattle.fkv_plane.specs.declared.places.RecordWord.TheVariants as rec
 use Rattle.fkv_plane.specs.Asked.{word_at}
 use Rattle.fkv_plane.specs.Places.{record_place}
 use Rattle.fkv_session.specs.Sessions.{SessionState}
-use Rattle.fkv_try_rows.specs.WordsShow.{IsHere}
+use Rattle.law_local.specs.Tries.WordsShow.{IsHere}
 use Rattle.fkv_world.specs.Runs.{World, run}
 use Rattle.fkv_world.specs.World.{Event, Now}
 use Rattle.fkv_world.proofs.Shown.{places_stay}
-use Rattle.fkv_world_guard.specs.Shows.{IsOpened}
-use Rattle.fkv_world_order.specs.GhostEvents.{life_ghosts}
-use Rattle.fkv_world_order.specs.Reserved.{tail_at, IsUnbornFrom, ReservesNothing}
-use Rattle.fkv_world_order.proofs.Shown.{ghost_unborn, life_rises}
-use Rattle.fkv_world_records.specs.Cells.{ShowsCell}
-use Rattle.fkv_world_records.specs.Changes.{AreChangesPublished}
-use Rattle.fkv_world_records.specs.Frames.{IsAttempting, words_framed}
-use Rattle.fkv_world_records.proofs.Shown.{HasFrame, finds_framed, frames_show_log, head_above, life_holds, sees_safely, stands_in, stood_here}
+use Rattle.law_guard.specs.Guarded.Shows.{IsOpened}
+use Rattle.law_refine.specs.Events.GhostEvents.{life_ghosts}
+use Rattle.law_refine.specs.Events.Reserved.{tail_at, IsUnbornFrom, ReservesNothing}
+use Rattle.law_refine.proofs.OfEvents.Unborn.{ghost_unborn}
+use Rattle.law_refine.proofs.OfEvents.Fixed.{life_rises}
+use Rattle.law_refine.specs.Records.Cells.{ShowsCell}
+use Rattle.law_refine.specs.Records.Changes.{AreChangesPublished}
+use Rattle.law_refine.specs.Records.Frames.{IsAttempting, words_framed}
+use Rattle.law_refine.proofs.OfRecords.Standing.{HasFrame, stands_in, stood_here}
+use Rattle.law_refine.proofs.OfRecords.Frames.{finds_framed, frames_show_log, head_above}
+use Rattle.law_refine.proofs.OfRecords.Life.{life_holds}
+use Rattle.law_refine.proofs.OfRecords.FrameOwners.{sees_safely}
 
 -- what is published lies below the tail
 pub published_below : (opening : World) (start : ℕ) (ghosts : Ghosts) (events : List Event) (a : ℕ) (cell : Cell) → IsOpened opening.now start → IsUnbornFrom (tail_at opening.now) ghosts

@@ -25,14 +25,14 @@ use Rattle.fkv_pending.specs.Attempting.{AttemptState}
 use Rattle.fkv_session.specs.declared.sessions.Sitting.{Sitting}
 use Rattle.fkv_session.specs.declared.sessions.Sitting.TheVariants.{Attempts, Polls}
 use Rattle.fkv_session.specs.Sessions.{SessionState}
-use Rattle.fkv_session_rows.specs.Known.{is_attempting}
-use Rattle.fkv_try_rows.specs.AttemptRows.{AttemptRow}
-use Rattle.fkv_try_rows.specs.MailRows.{IsTrueOfLook}
-use Rattle.fkv_try_rows.specs.Replies.{LeadsToHead, EndsAtHead}
-use Rattle.fkv_try_rows.specs.TryRows.{TryRow}
-use Rattle.fkv_try_rows.specs.WordsShow.{WalkSearches, TrySearches, AttemptMeets}
-use Rattle.fkv_world_heads.specs.Searches.{IsHeadFound, IsHeadAnswered}
-use Rattle.fkv_world_index.specs.Finders.{Search, SessionWork, attempt_part, search_in, sitting_part, try_work, walk_work}
+use Rattle.law_local.specs.Sessions.Known.{is_attempting}
+use Rattle.law_local.specs.Tries.AttemptRows.{AttemptRow}
+use Rattle.law_local.specs.Tries.MailRows.{IsTrueOfLook}
+use Rattle.law_local.specs.Tries.Replies.{LeadsToHead, EndsAtHead}
+use Rattle.law_local.specs.Tries.TryRows.{TryRow}
+use Rattle.law_local.specs.Tries.WordsShow.{WalkSearches, TrySearches, AttemptMeets}
+use Rattle.law_refine.specs.Heads.Searches.{IsHeadFound, IsHeadAnswered}
+use Rattle.law_parts.specs.Index.Finders.{Search, SessionWork, attempt_part, search_in, sitting_part, try_work, walk_work}
 
 -- ---- what a search finds
 leads_to_head : (head : ℕ) (its : Found) → IsHeadFound head its → LeadsToHead head its

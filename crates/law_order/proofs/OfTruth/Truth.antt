@@ -13,22 +13,22 @@ use Rattle.fkv_ops.specs.declared.requests.Seen.{Seen}
 use Rattle.fkv_pending.specs.Attempting.{attempt_ask}
 use Rattle.fkv_plane.specs.Asked.{reply_to}
 use Rattle.fkv_session.specs.Sessions.{SessionState}
-use Rattle.fkv_session_rows.specs.Known.{is_attempting}
-use Rattle.fkv_try_rows.specs.AttemptRows.{AttemptKnows, IsTrueOfAttempt}
-use Rattle.fkv_try_rows.specs.WordsShow.{WordsShow, AttemptMeets}
-use Rattle.fkv_try_rows.proofs.Shown.{attempt_true}
+use Rattle.law_local.specs.Sessions.Known.{is_attempting}
+use Rattle.law_local.specs.Tries.AttemptRows.{AttemptKnows, IsTrueOfAttempt}
+use Rattle.law_local.specs.Tries.WordsShow.{WordsShow, AttemptMeets}
+use Rattle.law_local.proofs.OfTries.Words.{attempt_true}
 use Rattle.fkv_world.specs.Runs.{World, run}
 use Rattle.fkv_world.specs.World.{Event, Now, seat_at}
 use Rattle.fkv_world.proofs.Shown.{shape_stays}
-use Rattle.fkv_world_heads.specs.Heads.{head_at}
-use Rattle.fkv_world_heads.specs.Searches.{home_attempted}
-use Rattle.fkv_world_heads.proofs.Shown.{life_found}
-use Rattle.fkv_world_index.specs.Finders.{session_part}
+use Rattle.law_refine.specs.Heads.Heads.{head_at}
+use Rattle.law_refine.specs.Heads.Searches.{home_attempted}
+use Rattle.law_refine.proofs.OfHeads.LifeHeads.{life_found}
+use Rattle.law_parts.specs.Index.Finders.{session_part}
 use Rattle.law_order.specs.Known.Begins.{BeginsLife, home_of_world}
 use Rattle.law_order.specs.Known.Knows.{AllKnowBehind, AreKnown}
 use Rattle.law_order.specs.Known.Told.{AreToldTruly, LookTruly, reply_in}
-use Rattle.fkv_world_order.specs.GhostEvents.{home_number, life_ghosts, mapped}
-use Rattle.fkv_world_records.specs.Changes.{AreChangesPublished}
+use Rattle.law_refine.specs.Events.GhostEvents.{home_number, life_ghosts, mapped}
+use Rattle.law_refine.specs.Records.Changes.{AreChangesPublished}
 use Rattle.law_order.specs.Rest.Resting.{HasNoCommit}
 use Rattle.law_order.proofs.OfTruth.Attempts.{attempt_reply, attempting_is, life_seen}
 use Rattle.law_order.proofs.OfTruth.Searches.{BeginsFor, FindsBy, attempt_meets, finds_by}

@@ -7,16 +7,16 @@ use Rattle.fkv_order.specs.Ghosts.{Ghosts}
 use Rattle.fkv_order.specs.Owed.{AreOwed}
 use Rattle.fkv_order.proofs.Shown.{run_held}
 use Rattle.fkv_session.specs.Sessions.{SessionState}
-use Rattle.fkv_try_rows.specs.Replies.{IsAboveAll}
-use Rattle.fkv_try_rows.specs.WordsShow.{WordsShow}
+use Rattle.law_local.specs.Tries.Replies.{IsAboveAll}
+use Rattle.law_local.specs.Tries.WordsShow.{WordsShow}
 use Rattle.fkv_world.specs.Runs.{World, run}
 use Rattle.fkv_world.specs.World.{Event, Now}
 use Rattle.law_order.specs.Known.Begins.{BeginsLife, home_of_world}
-use Rattle.fkv_world_order.specs.GhostEvents.{life_ghosts, mapped}
-use Rattle.fkv_world_order.specs.Reserved.{tail_at}
-use Rattle.fkv_world_order.proofs.Shown.{ghost_fixed, life_rises}
-use Rattle.fkv_world_records.specs.Changes.{AreChangesPublished}
-use Rattle.fkv_world_records.specs.Frames.{IsAttempting}
+use Rattle.law_refine.specs.Events.GhostEvents.{life_ghosts, mapped}
+use Rattle.law_refine.specs.Events.Reserved.{tail_at}
+use Rattle.law_refine.proofs.OfEvents.Fixed.{ghost_fixed, life_rises}
+use Rattle.law_refine.specs.Records.Changes.{AreChangesPublished}
+use Rattle.law_refine.specs.Records.Frames.{IsAttempting}
 use Rattle.law_order.proofs.OfTruth.Frames.{published_below, shows_here}
 
 -- the log begins above 0, and the tail never falls

@@ -11,7 +11,7 @@ use Rattle.fkv_pending.specs.declared.pending_requests.PendingRequest.{PendingRe
 use Rattle.fkv_pending.specs.Attempting.{AttemptState}
 use Rattle.fkv_pending.specs.Mailbox.{MailNote, HasAskedFor, WasServed, HasTaken, HasLetGo}
 use Rattle.fkv_session.specs.Sessions.{SessionState}
-use Rattle.fkv_session_rows.specs.Known.{KnowsRequests}
+use Rattle.law_local.specs.Sessions.Known.{KnowsRequests}
 
 -- the address of the record that is asked for, unless it was taken or let go since
 unfoldable pub outstanding : List MailNote → Option Addr

@@ -5,7 +5,7 @@ use Rattle.fkv_order.specs.Owed.{OwesLine}
 use Rattle.fkv_order.specs.Trace.{TraceLine, AnswersRead}
 use Rattle.fkv_world.specs.Runs.{World, run}
 use Rattle.fkv_world.specs.World.{Event}
-use Rattle.fkv_world_order.specs.GhostEvents.{fixed_ghosts, life_ghosts, own_ghosts, safe_at}
+use Rattle.law_refine.specs.Events.GhostEvents.{fixed_ghosts, life_ghosts, own_ghosts, safe_at}
 use Rattle.law_order.specs.Known.Begins.{home_of_world}
 
 -- What an event is to the log before it tells its lines: what its session does, then a raise of the safe read-only offset.

@@ -12,15 +12,15 @@ use Rattle.fkv_plane.specs.declared.places.RecordWord.{RecordWord}
 use Rattle.fkv_plane.specs.declared.places.RecordWord.TheVariants as rec
 use Rattle.fkv_record.specs.Numbers.{spelled}
 use Rattle.fkv_record.specs.Places as image
-use Rattle.fkv_try_rows.specs.MailRows.{LeadsTo}
+use Rattle.law_local.specs.Tries.MailRows.{LeadsTo}
 use Rattle.fkv_world.specs.Opened.{IsOpenedWorld}
 use Rattle.fkv_world.specs.Runs.{World}
-use Rattle.fkv_world_guard.specs.OpenedStore.{IsOpenedStore}
-use Rattle.fkv_world_heads.specs.Heads.{LeadToHeads}
-use Rattle.fkv_world_index.specs.Shows as index
-use Rattle.fkv_world_mail.specs.Shows as mail
-use Rattle.fkv_world_order.specs.GhostEvents.{home_in, safe_at}
-use Rattle.fkv_world_order.specs.Reserved.{IsUnbornFrom, ReservesNothing, tail_at}
+use Rattle.law_guard.specs.Guarded.OpenedStore.{IsOpenedStore}
+use Rattle.law_refine.specs.Heads.Heads.{LeadToHeads}
+use Rattle.law_parts.specs.Index.Shows as index
+use Rattle.law_parts.specs.Mail.Shows as mail
+use Rattle.law_refine.specs.Events.GhostEvents.{home_in, safe_at}
+use Rattle.law_refine.specs.Events.Reserved.{IsUnbornFrom, ReservesNothing, tail_at}
 use Rattle.law_order.specs.Rest.Logs.{CellsRest}
 use Rattle.law_order.specs.Rest.Resting.{RestsIn}
 

@@ -4,11 +4,11 @@ use Rattle.fkv_order.specs.Ghosts.{Ghosts, Log}
 use Rattle.fkv_pending.specs.declared.pending_requests.PendingRequest.{PendingRequest}
 use Rattle.fkv_pending.specs.Attempting.{AttemptState}
 use Rattle.fkv_session.specs.Sessions.{SessionState}
-use Rattle.fkv_session_rows.specs.Known.{KnowsRequests}
-use Rattle.fkv_try_rows.specs.AttemptRows.{AttemptKnows, PendingKnows}
+use Rattle.law_local.specs.Sessions.Known.{KnowsRequests}
+use Rattle.law_local.specs.Tries.AttemptRows.{AttemptKnows, PendingKnows}
 use Rattle.fkv_world.specs.Runs.{World, run}
 use Rattle.fkv_world.specs.World.{Event, Now}
-use Rattle.fkv_world_order.specs.GhostEvents.{life_ghosts}
+use Rattle.law_refine.specs.Events.GhostEvents.{life_ghosts}
 use Rattle.law_order.specs.Known.Begins.{home_of_world}
 
 -- what a session knows: each request that waits, by what the session has seen, and the attempt that is under way

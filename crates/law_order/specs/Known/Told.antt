@@ -6,9 +6,9 @@ use Rattle.fkv_pending.specs.declared.pending_requests.RequestName.{RequestName}
 use Rattle.fkv_plane.specs.Asked.{reply_to}
 use Rattle.fkv_session.specs.Accounts.{names_of}
 use Rattle.fkv_session.specs.Sessions.{SessionState, session_ask}
-use Rattle.fkv_session_rows.specs.Known.{is_attempting}
-use Rattle.fkv_try_rows.specs.AttemptRows.{IsTrueOfAttempt}
-use Rattle.fkv_try_rows.specs.MailRows.{IsTrueOfLook}
+use Rattle.law_local.specs.Sessions.Known.{is_attempting}
+use Rattle.law_local.specs.Tries.AttemptRows.{IsTrueOfAttempt}
+use Rattle.law_local.specs.Tries.MailRows.{IsTrueOfLook}
 use Rattle.fkv_world.specs.Runs.{World, run}
 use Rattle.fkv_world.specs.World.{Event, Now, seat_at}
 

@@ -6,9 +6,9 @@ use Rattle.fkv_world.specs.Runs.{World}
 use Rattle.fkv_world.specs.World.{Event}
 use Rattle.law_order.specs.Known.Begins.{home_of_world}
 use Rattle.law_order.specs.Known.Knows.{AreKnown}
-use Rattle.fkv_world_order.specs.GhostEvents.{mapped}
+use Rattle.law_refine.specs.Events.GhostEvents.{mapped}
 use Rattle.law_order.specs.Reads.Reads.{AreReadsKnown}
-use Rattle.fkv_world_records.specs.Changes.{AreChangesPublished}
+use Rattle.law_refine.specs.Records.Changes.{AreChangesPublished}
 
 -- The life has kept to the rules of the log beside it so far: each event of the log was owed, and what a session was about to change in place was published.
 -- At each moment its sessions have known what they have to of the log, and reads have come as far in it as their sessions' control states say.

@@ -15,14 +15,14 @@ use Rattle.fkv_session.specs.declared.sessions.CatchCause.TheVariants.{Shifts}
 use Rattle.fkv_session.specs.declared.sessions.Sitting.{Sitting}
 use Rattle.fkv_session.specs.declared.sessions.Sitting.TheVariants.{Attempts, CatchesUp, ClearsMail, Polls, StoresOwing, Turns}
 use Rattle.fkv_session.specs.Sessions.{SessionState}
-use Rattle.fkv_try_rows.specs.ReadRows.{IsCalledFor, HasRead, SoughtReads, AttemptReads}
-use Rattle.fkv_try_rows.specs.TryRows.{key_in}
+use Rattle.law_local.specs.Tries.ReadRows.{IsCalledFor, HasRead, SoughtReads, AttemptReads}
+use Rattle.law_local.specs.Tries.TryRows.{key_in}
 use Rattle.fkv_world.specs.Past.{Traced}
 use Rattle.fkv_world.specs.Runs.{World, run}
 use Rattle.fkv_world.specs.World.{Event}
-use Rattle.fkv_world_order.specs.GhostEvents.{life_ghosts}
-use Rattle.fkv_world_order.specs.Lines.{read_in_hand, read_waiting, gives_ticket}
-use Rattle.fkv_world_order.specs.Sessions.{ticket_of}
+use Rattle.law_refine.specs.Events.GhostEvents.{life_ghosts}
+use Rattle.law_refine.specs.Events.Lines.{read_in_hand, read_waiting, gives_ticket}
+use Rattle.law_refine.specs.Events.Sessions.{ticket_of}
 
 -- a ticket was given to a read of the session
 abbrev pub is_given : ℕ → ℕ → List Traced → Bool

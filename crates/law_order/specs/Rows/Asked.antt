@@ -7,7 +7,7 @@ use Rattle.fkv_pending.specs.declared.attempting.Attempting.TheVariants.{Puts}
 use Rattle.fkv_pending.specs.declared.pending_requests.PendingRequest.{PendingRequest}
 use Rattle.fkv_pending.specs.Attempting.{AttemptState}
 use Rattle.fkv_session.specs.Sessions.{SessionState}
-use Rattle.fkv_session_rows.specs.Known.{KnowsRequests}
+use Rattle.law_local.specs.Sessions.Known.{KnowsRequests}
 
 -- a request that waits does
 abbrev pub SeeksWhereAsked : PendingRequest → Type 0

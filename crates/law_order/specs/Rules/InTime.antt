@@ -7,11 +7,11 @@ use Rattle.fkv_map.specs.Map.{Map, reply_to_read}
 use Rattle.fkv_map.specs.declared.history.HistoryEntry.{HistoryEntry}
 use Rattle.fkv_map.specs.declared.operations.Reply.{Reply}
 use Rattle.fkv_opening.specs.declared.opened_store.Opened.{Opened}
-use Rattle.fkv_opening_log.specs.Maps.{opening_map}
+use Rattle.law_opening.specs.Log.Maps.{opening_map}
 use Rattle.fkv_order.specs.Trace.{AnswersRead, CallsRead, IsIn, history_of}
 use Rattle.law_order.specs.Rules.Ordered.{effects_so_far}
 use Rattle.fkv_world.specs.World.{Event, Now}
-use Rattle.fkv_world_calls.specs.Calls.{event_adds}
+use Rattle.law_refine.specs.Calls.Calls.{event_adds}
 
 -- the reply is the key's value after all of a history at one moment, and some of what it has more at a later one
 pub record IsInTime (m : Map) (first last : List HistoryEntry) (key : ℕ) (reply : Reply) : Type 0 where

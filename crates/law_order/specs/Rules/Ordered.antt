@@ -11,17 +11,17 @@ use Rattle.fkv_flush.specs.Guarded.{IsCovered}
 use Rattle.fkv_map.specs.History.{IsLegal}
 use Rattle.fkv_opening.specs.Opened.{IsStoreOf}
 use Rattle.fkv_opening.specs.declared.opened_store.Opened.{Opened}
-use Rattle.fkv_opening_log.specs.Lives.{KeepsRules}
-use Rattle.fkv_opening_log.specs.Maps.{opening_map}
-use Rattle.fkv_opening_log.specs.OpeningLog.{opening_ghosts}
+use Rattle.law_opening.specs.Log.Lives.{KeepsRules}
+use Rattle.law_opening.specs.Log.Maps.{opening_map}
+use Rattle.law_opening.specs.Log.OpeningLog.{opening_ghosts}
 use Rattle.fkv_order.specs.Trace.{Effect, OrdersCalls, ReadsAreFresh, TraceLine, history_of}
 use Rattle.fkv_world.specs.Runs.{run}
 use Rattle.fkv_world.specs.World.{Event, Now}
-use Rattle.fkv_world_calls.specs.Calls.{effects_of_life, lines_of_life}
-use Rattle.fkv_world_guard.specs.KeptGuarded.{ChangesOpenPlaces, OpensNextPage}
-use Rattle.fkv_world_guard.specs.LoadedSince.{HaveLoadedSince}
-use Rattle.fkv_world_guard.specs.Shows.{AreFair, Shows, seen_by_guard}
-use Rattle.fkv_world_records.specs.Changes.{AreChangesPublished}
+use Rattle.law_refine.specs.Calls.Calls.{effects_of_life, lines_of_life}
+use Rattle.law_guard.specs.Guarded.KeptGuarded.{ChangesOpenPlaces, OpensNextPage}
+use Rattle.law_guard.specs.Guarded.LoadedSince.{HaveLoadedSince}
+use Rattle.law_guard.specs.Guarded.Shows.{AreFair, Shows, seen_by_guard}
+use Rattle.law_refine.specs.Records.Changes.{AreChangesPublished}
 
 -- an opened store rests in the version behind its commit's
 abbrev pub opening_version : Opened → Version

@@ -5,11 +5,11 @@ use Rattle.fkv_flush.specs.GuardLevels.{levels_of}
 use Rattle.fkv_order.specs.Chains.{Cell, Published}
 use Rattle.fkv_order.specs.Ghosts.{Ghosts}
 use Rattle.fkv_pending.specs.declared.mailing.MailRecord.{MailRecord}
-use Rattle.fkv_try_rows.specs.MailRows.{IsRecordOf}
+use Rattle.law_local.specs.Tries.MailRows.{IsRecordOf}
 use Rattle.fkv_world.specs.Runs.{World, run}
 use Rattle.fkv_world.specs.World.{Event}
-use Rattle.fkv_world_mail.specs.Reads.{record_there}
-use Rattle.fkv_world_order.specs.GhostEvents.{life_ghosts}
+use Rattle.law_parts.specs.Mail.Reads.{record_there}
+use Rattle.law_refine.specs.Events.GhostEvents.{life_ghosts}
 
 -- What it gave at an earlier moment, at an address that was flushed and where a record was published by then, is the record that is there now.
 abbrev pub ServedShow : World → Ghosts → List Event → Type 0

@@ -2,10 +2,10 @@
 use Rattle.std.proofs.Common.{sym, subst, arith}
 use Rattle.fkv_base.specs.declared.shapes.Shape.{Shape}
 use Rattle.fkv_order.specs.Owed.{IsOpened}
-use Rattle.fkv_world_mail.proofs.Shown.{opened_mailbox}
-use Rattle.fkv_world_order.specs.GhostEvents.{home_in}
-use Rattle.fkv_opening_log.specs.Maps.{opening_map}
-use Rattle.fkv_opening_log.specs.OpeningLog.{opening_ghosts}
+use Rattle.law_parts.proofs.OfMail.Openings.{opened_mailbox}
+use Rattle.law_refine.specs.Events.GhostEvents.{home_in}
+use Rattle.law_opening.specs.Log.Maps.{opening_map}
+use Rattle.law_opening.specs.Log.OpeningLog.{opening_ghosts}
 use Rattle.law_order.specs.Rules.Ordered.{opening_version}
 use Rattle.law_order.proofs.OfRules.Beginning.{cells_rest, world_opens}
 use Rattle.law_order.proofs.OfRules.Image.{in_image}

@@ -6,14 +6,14 @@ use Rattle.fkv_map.specs.History.{IsLegal}
 use Rattle.fkv_order.specs.Ghosts.{Ghosts}
 use Rattle.fkv_order.specs.Owed.{IsOpened}
 use Rattle.fkv_order.specs.Trace.{OrdersCalls, ReadsAreFresh, TraceLine}
-use Rattle.fkv_opening_log.specs.Lives.{ghosts_beside}
-use Rattle.fkv_opening_log.specs.Maps.{opening_map}
-use Rattle.fkv_opening_log.specs.OpeningLog.{opening_ghosts}
-use Rattle.fkv_world_calls.proofs.Shown.{same_history}
+use Rattle.law_opening.specs.Log.Lives.{ghosts_beside}
+use Rattle.law_opening.specs.Log.Maps.{opening_map}
+use Rattle.law_opening.specs.Log.OpeningLog.{opening_ghosts}
+use Rattle.law_refine.proofs.OfCalls.SameHistory.{same_history}
 use Rattle.fkv_world.specs.Runs.{run}
-use Rattle.fkv_world_guard.specs.Shows.{AreFair}
-use Rattle.fkv_world_order.specs.GhostEvents.{home_in}
-use Rattle.fkv_world_records.proofs.Shown.{published_fair}
+use Rattle.law_guard.specs.Guarded.Shows.{AreFair}
+use Rattle.law_refine.specs.Events.GhostEvents.{home_in}
+use Rattle.law_refine.proofs.OfRecords.Below.{published_fair}
 use Rattle.law_order.specs.Rules.Ordered.{effects_so_far, lines_so_far}
 use Rattle.law_order.proofs.OfRules.InTime.{reads_in_time}
 use Rattle.law_order.proofs.OfRules.Kept.{fair_at, same_entries}

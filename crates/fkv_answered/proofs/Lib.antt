@@ -1,5 +1,0 @@
-mod Alone
-mod Begun
-mod Moved
-mod OneEvent
-mod Tells

@@ -1,6 +1,0 @@
--- The law, by what a step tells.
-use Rattle.fkv_answered.proofs.Begun.{begun}
-use Rattle.fkv_answered.proofs.laws.law_calls_begin.Goals as goal
-
-pub returns : goal.returns
-returns g c = λ its actor after told step starts there alive idle. begun its actor c.args.world.now.now after.now step.read step.granted step.done told step.now step.tells starts there alive idle

@@ -1,4 +1,0 @@
-mod Moved
-mod Quiet
-mod Stepped
-mod Told

@@ -1,7 +1,0 @@
--- The law, by the ranges in hand.
-use Rattle.fkv_opening_log.proofs.Counted.{of_store}
-use Rattle.fkv_opening_log.proofs.Left.{loses_the_rest}
-use Rattle.fkv_opening_log.proofs.laws.law_lost_is_the_rest.Goals as goal
-
-pub returns : goal.returns
-returns c = λ image o store. loses_the_rest image o store (of_store image o store c.law_spellings_apart.ensures.records (c.law_chain_of_entry.ensures image o store))

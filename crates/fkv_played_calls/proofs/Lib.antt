@@ -1,9 +1,0 @@
-mod Beats
-mod Calm
-mod InLife
-mod NewStores
-mod OneCall
-mod Pieces
-mod Replies
-mod Scripts
-mod Steps

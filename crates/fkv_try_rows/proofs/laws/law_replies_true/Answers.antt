@@ -1,9 +1,0 @@
--- The law, by what the words show.
-use Rattle.fkv_try_rows.proofs.Words.{try_true, attempt_true}
-use Rattle.fkv_try_rows.proofs.laws.law_replies_true.Goals as goal
-
-pub returns-clause-tries : goal.returns-clause-tries
-returns-clause-tries c = try_true
-
-pub returns-clause-attempts : goal.returns-clause-attempts
-returns-clause-attempts c = attempt_true

@@ -1,6 +1,0 @@
-mod CallTold
-mod Calls
-mod Fresh
-pub mod Shown
-mod Updated
-mod Whole

@@ -1,9 +1,0 @@
-use Rattle.fkv_opening_log.specs.Maps.{opening_map}
-use Rattle.law_order.specs.Rules.Ordered.{effects_so_far, lines_so_far}
-use Rattle.fkv_whole_calls.proofs.Whole.{answered_alone}
-use Rattle.fkv_whole_calls.proofs.laws.law_answered_alone.Goals as goal
-
-pub returns : goal.returns
-returns c = λ bytes o n before events op its legal ordered reads given alone tells.
-    let both = answered_alone (opening_map bytes o) op (effects_so_far n bytes before) (effects_so_far n bytes events) (lines_so_far n bytes before) (lines_so_far n bytes events) its legal ordered reads given alone tells in
-    record { reply = both.0; leaves = both.1 }

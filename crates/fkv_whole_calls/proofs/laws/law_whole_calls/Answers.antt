@@ -1,7 +1,0 @@
--- The law, of a call that is moved alone.
-use Rattle.fkv_whole_calls.proofs.Calls.{whole_call}
-use Rattle.fkv_whole_calls.proofs.laws.law_whole_calls.Goals as goal
-
-pub returns : goal.returns
-returns c = λ bytes o n before number moves op s its answer world legal ordered reads nobody alive found is_now at.
-    whole_call bytes o n before number moves op s its answer world legal ordered reads nobody alive found is_now at

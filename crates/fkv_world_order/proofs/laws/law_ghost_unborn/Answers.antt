@@ -1,6 +1,0 @@
--- The law, by what each event takes, and that the tail never falls.
-use Rattle.fkv_world_order.proofs.Unborn.{ghost_unborn}
-use Rattle.fkv_world_order.proofs.laws.law_ghost_unborn.Goals as goal
-
-pub returns : goal.returns
-returns c = λ opening start ghosts events opened none. ghost_unborn opening start ghosts events opened none

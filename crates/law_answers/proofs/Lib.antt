@@ -1,0 +1,3 @@
+mod OfAnswered
+mod OfBeginnings
+mod OfEffects

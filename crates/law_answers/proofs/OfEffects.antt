@@ -1,0 +1,4 @@
+mod Moved
+mod Quiet
+pub mod Stepped
+pub mod Told

@@ -1,0 +1,3 @@
+pub mod OfGuarded
+mod OfKeeper
+pub mod OfSessions

@@ -1,0 +1,19 @@
+pub mod BelowTail
+pub mod Ends
+pub mod Fair
+pub mod FewAsks
+pub mod FewKeeperAsks
+pub mod Flushed
+mod KeeperSeeks
+pub mod KeeperSteps
+pub mod Kept
+pub mod LifeCalls
+pub mod LoadedSince
+pub mod OfLives
+pub mod OneStep
+pub mod Outer
+mod PastCalls
+mod SessionCalls
+mod SessionSteps
+pub mod Slots
+pub mod Worlds

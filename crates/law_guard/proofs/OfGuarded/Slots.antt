@@ -1,0 +1,106 @@
+-- What each event of a life finds in the drain slot that it turns to, and that no machine stands at a slot between two events.
+use Rattle.std.proofs.Common.{◌≡◌, ℕ, List, refl, sym, ap, subst, ◌∙◌, Bool, false}
+use Rattle.std.specs.Prelude.{Option, Some, None, slice_get}
+use Rattle.fkv_plane.specs.declared.asks.Ask.{Ask}
+use Rattle.fkv_plane.specs.declared.asks.Ask.TheVariants.{Put, Take, Done}
+use Rattle.fkv_plane.specs.Asked.{reply_to}
+use Rattle.fkv_plane.specs.Passing.{is_done}
+use Rattle.fkv_epoch.specs.EpochWorld.{EpochPast}
+use Rattle.fkv_flush.specs.GuardSlots.{slot_put}
+use Rattle.fkv_flush.specs.GuardWorld.{Actor, GuardWorld}
+use Rattle.fkv_keeper.specs.declared.answers.KeeperTold.{KeeperTold}
+use Rattle.fkv_keeper.specs.Keeping.{keeper_ask}
+use Rattle.fkv_session.specs.declared.answers.Told.{Told}
+use Rattle.fkv_session.specs.Sessions.{SessionState, Seat, session_ask, session_next}
+use Rattle.law_guard.specs.Sessions.Sessions.{SessionWritesOuter}
+use Rattle.law_guard.proofs.OfSessions.Finds.{session_rests, session_puts, session_takes}
+use Rattle.law_guard.proofs.OfKeeper.Finds.{keeper_rests, keeper_after_reply, keeper_puts, keeper_takes}
+use Rattle.fkv_world.specs.Actors.{slot_asked}
+use Rattle.fkv_world.specs.Runs.{World, run}
+use Rattle.fkv_world.specs.World.{Event, Moves, KeeperMoves, Now, seat_at}
+use Rattle.law_guard.specs.Guarded.GuardEvents.{keeper_number}
+use Rattle.law_guard.specs.Guarded.Shows.{IsOpened, Shows, seen_by_guard}
+use Rattle.law_guard.specs.Guarded.SlotsFound.{FindsSlot, StepFindsSlot, SessionFindsSlot, KeeperFindsSlot, FindsItsSlot}
+use Rattle.law_guard.proofs.OfGuarded.Outer.{WriteOuter, write_outer}
+use Rattle.law_guard.proofs.OfGuarded.Worlds.{world_of, is_world_of, life_shows}
+
+-- where the guard's world has what the engine's has
+module _ (n : Now) (actors : List Actor) (past : EpochPast) (shows : Shows n (world_of n actors past)) where
+  abbrev W : GuardWorld
+  W = world_of n actors past
+
+  session_at_none : (number : ℕ) (s : SessionState) → slice_get n.sessions number ≡ Some s → slot_asked (session_ask (seat_at n number) s) ≡ None
+  session_at_none number s there = let seat = shows.sessions number s there in session_rests W number seat.actor s seat.sits
+
+  keeper_at_none : slot_asked (keeper_ask n.shape n.places n.keeper) ≡ None
+  keeper_at_none = keeper_rests W (keeper_number n) shows.keeper.actor shows.keeper.seen n.keeper shows.keeper.keeps
+
+  session_finds : (number : ℕ) (s : SessionState) → slice_get n.sessions number ≡ Some s → SessionWritesOuter (seat_at n number) s → SessionFindsSlot n (seat_at n number) (Some s)
+  session_finds number s there outer = by_ask (session_ask k s) refl
+    where
+      k : Seat
+      k = seat_at n number
+
+      behind : Ask Told
+      behind = session_ask k (session_next k s (reply_to n.words (session_ask k s)))
+
+      by_behind : (ask : Ask Told) → behind ≡ ask → is_done (session_ask k s) ≡ false → FindsSlot n.actions ask
+      by_behind (Put slot action) e asks = let seat = shows.sessions number s there in session_puts W number seat.actor s seat.sits outer slot (ap slot_put e)
+      by_behind (Take slot) e asks = let seat = shows.sessions number s there in session_takes W number seat.actor s slot seat.sits outer asks e
+      by_behind ask e asks = tt
+
+      by_ask : (ask : Ask Told) → session_ask k s ≡ ask → StepFindsSlot n.actions ask behind
+      by_ask (Put slot action) e = let clash : Some slot ≡ None = sym (ap (λ (a : Ask Told). slot_asked a) e) ∙ session_at_none number s there in cc
+      by_ask (Take slot) e = let clash : Some slot ≡ None = sym (ap (λ (a : Ask Told). slot_asked a) e) ∙ session_at_none number s there in cc
+      by_ask (Done its) e = tt
+      by_ask ask e = by_behind behind refl (ap is_done e)
+
+  keeper_finds : (granted : Bool) → KeeperFindsSlot n granted
+  keeper_finds granted = by_ask (keeper_ask n.shape n.places n.keeper) refl
+    where
+      behind : Ask KeeperTold
+      behind = keeper_ask n.shape n.places (keeper_after_reply W granted n.keeper)
+
+      by_behind : (ask : Ask KeeperTold) → behind ≡ ask → is_done (keeper_ask n.shape n.places n.keeper) ≡ false → FindsSlot n.actions ask
+      by_behind (Put slot action) e asks = keeper_puts W (keeper_number n) shows.keeper.actor shows.keeper.seen n.keeper granted shows.keeper.keeps slot (ap slot_put e)
+      by_behind (Take slot) e asks = keeper_takes W (keeper_number n) shows.keeper.actor shows.keeper.seen n.keeper granted slot shows.keeper.keeps asks e
+      by_behind ask e asks = tt
+
+      by_ask : (ask : Ask KeeperTold) → keeper_ask n.shape n.places n.keeper ≡ ask → StepFindsSlot n.actions ask behind
+      by_ask (Put slot action) e = let clash : Some slot ≡ None = sym (ap (λ (a : Ask KeeperTold). slot_asked a) e) ∙ keeper_at_none in cc
+      by_ask (Take slot) e = let clash : Some slot ≡ None = sym (ap (λ (a : Ask KeeperTold). slot_asked a) e) ∙ keeper_at_none in cc
+      by_ask (Done its) e = tt
+      by_ask ask e = by_behind behind refl (ap is_done e)
+
+  finds : (event : Event) → WriteOuter n → FindsItsSlot n event
+  finds (Moves number) outer = by (slice_get n.sessions number) refl
+    where
+      by : (found : Option SessionState) → slice_get n.sessions number ≡ found → SessionFindsSlot n (seat_at n number) found
+      by None there = tt
+      by (Some s) there = session_finds number s there (outer number s there)
+  finds (KeeperMoves granted done) outer = keeper_finds granted
+  finds event outer = tt
+
+-- at every moment of a life
+shown_so : (n : Now) (w : GuardWorld) → Shows n w → Shows n (world_of n w.now.actors w.past)
+shown_so n w shows = subst (λ (v : GuardWorld). Shows n v) (is_world_of n w shows) shows
+
+pub life_finds_slots : (first : World) (start : ℕ) (events : List Event) (event : Event) → IsOpened first.now start → FindsItsSlot (run first events).now event
+life_finds_slots first start events event opened =
+    let n : Now = (run first events).now in
+    let w : GuardWorld = seen_by_guard first start events in
+    finds n w.now.actors w.past (shown_so n w (life_shows first start events opened)) event (write_outer first start events opened)
+
+pub life_session_rests : (first : World) (start : ℕ) (events : List Event) (number : ℕ) (s : SessionState) → IsOpened first.now start → slice_get (run first events).now.sessions number ≡ Some s
+    → slot_asked (session_ask (seat_at (run first events).now number) s) ≡ None
+life_session_rests first start events number s opened there =
+    let n : Now = (run first events).now in
+    let w : GuardWorld = seen_by_guard first start events in
+    session_at_none n w.now.actors w.past (shown_so n w (life_shows first start events opened)) number s there
+
+pub life_keeper_rests : (first : World) (start : ℕ) (events : List Event) → IsOpened first.now start
+    → slot_asked (keeper_ask (run first events).now.shape (run first events).now.places (run first events).now.keeper) ≡ None
+life_keeper_rests first start events opened =
+    let n : Now = (run first events).now in
+    let w : GuardWorld = seen_by_guard first start events in
+    keeper_at_none n w.now.actors w.past (shown_so n w (life_shows first start events opened))

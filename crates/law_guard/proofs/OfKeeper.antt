@@ -1,0 +1,37 @@
+pub mod Asked
+mod Begun
+mod Claimed
+mod CommitPuts
+mod Deferred
+mod EndKept
+mod Ends
+mod EnterKept
+mod Entered
+pub mod Finds
+mod Finished
+mod Flushed
+mod KeeperLed
+mod Kept
+mod Led
+mod Maintained
+mod Movers
+pub mod NoCalls
+mod PartLed
+mod PhaseKept
+mod Puts
+mod Quiet
+mod Scanned
+mod SeekKept
+mod Served
+mod Shifted
+mod SlotAtRest
+mod Slots
+mod Sought
+pub mod SparedWrites
+mod StartKept
+mod Started
+pub mod StepCalls
+mod TurnKept
+mod TurnLed
+mod Turned
+pub mod WorldKept

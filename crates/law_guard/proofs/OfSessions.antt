@@ -1,0 +1,37 @@
+mod Appends
+mod AppendsLed
+mod AppendsOuter
+mod Attempts
+mod AttemptsLed
+mod AttemptsOuter
+mod AttemptsSeen
+mod Catches
+mod CatchesLed
+mod CatchesOuter
+mod Epochs
+pub mod Fair
+pub mod Finds
+mod FindsOuter
+pub mod Followed
+mod Kept
+mod Movers
+mod NoSlots
+mod Onwards
+mod Outer
+mod OuterAsks
+pub mod Owing
+mod OwnTurns
+mod OwnTurnsLed
+mod OwnWords
+mod Sessions
+mod SessionsLed
+mod SessionsOuter
+mod SessionsSeen
+mod Tries
+mod TriesLed
+mod TriesOuter
+mod TriesSeen
+pub mod TurnFollowed
+mod WalksOuter
+mod WalksSeen
+pub mod WorldSteps

@@ -1,0 +1,12 @@
+-- The law, by what the guard's world shows of a life.
+use Rattle.law_guard.proofs.OfGuarded.Slots.{life_finds_slots, life_keeper_rests, life_session_rests}
+use Rattle.law_guard.proofs.guarded.law_world_slots.Goals as goal
+
+pub returns-clause-finds : goal.returns-clause-finds
+returns-clause-finds c = λ first start events event opened. life_finds_slots first start events event opened
+
+pub returns-clause-session : goal.returns-clause-session
+returns-clause-session c = λ first start events session its opened there. life_session_rests first start events session its opened there
+
+pub returns-clause-keeper : goal.returns-clause-keeper
+returns-clause-keeper c = λ first start events opened. life_keeper_rests first start events opened

@@ -1,0 +1,3 @@
+pub mod Guarded
+pub mod Keeper
+pub mod Sessions

@@ -1,0 +1,13 @@
+//! The engine refines the guard of frames and epochs: who may write where, and when an action runs.
+#![tactic(auto)]
+
+mod guarded;
+mod keeper;
+mod sessions;
+
+pub use guarded::{
+    law_world_ends, law_world_flushed, law_world_flushed_is_synced, law_world_is_guarded,
+    law_world_once, law_world_owes, law_world_seen, law_world_slots,
+};
+pub use keeper::{law_keeper_calls, law_keeper_followed};
+pub use sessions::{law_sessions_followed, law_sessions_owe};

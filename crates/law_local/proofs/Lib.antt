@@ -1,0 +1,2 @@
+pub mod OfSessions
+pub mod OfTries

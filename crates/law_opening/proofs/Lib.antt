@@ -1,0 +1,2 @@
+mod OfLives
+mod OfLog

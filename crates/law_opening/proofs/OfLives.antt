@@ -1,0 +1,11 @@
+pub mod CommitStands
+pub mod GuardOpens
+pub mod IndexOpens
+pub mod LatchesOpen
+pub mod Led
+pub mod LongOpens
+pub mod MadeSteps
+mod SlotNamed
+pub mod ToldOpens
+mod Words
+pub mod WorldOpens

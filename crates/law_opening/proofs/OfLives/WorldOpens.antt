@@ -1,0 +1,18 @@
+-- The world of an opened store is one as a life begins.
+use Rattle.std.proofs.Common.{refl, sym, ◌∙◌, ℕ, List}
+use Rattle.fkv_opening.specs.declared.opened_store.Opened.{Opened}
+use Rattle.fkv_world.specs.Opened.{IsOpenedWorld}
+use Rattle.fkv_world.specs.World.{Now}
+use Rattle.fkv_core.specs.Openings.{IsOpeningWorld, beginning}
+use Rattle.law_opening.proofs.OfLives.GuardOpens.{its_keeper_opens}
+
+pub world_opens : (o : Opened) (n : Now) (bytes : List ℕ) → IsOpeningWorld o n → IsOpenedWorld (beginning n bytes)
+world_opens o n bytes its = record {
+  goes_on = its.goes_on;
+  no_history = refl;
+  no_trace = refl;
+  no_calls = refl;
+  seats = its.seats ∙ sym its.its_places.sessions;
+  keeper = its_keeper_opens o n its;
+  sessions = λ number s found. (its.its_sessions number s found).opened;
+}

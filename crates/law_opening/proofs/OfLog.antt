@@ -1,0 +1,10 @@
+pub mod Counted
+pub mod Heads
+pub mod Left
+mod Mapping
+pub mod Opens
+mod Pairing
+mod Reaching
+mod Walking
+mod Words
+pub mod WorldOpens

@@ -1,0 +1,92 @@
+//! What the log has with which the life of an opened store begins, and that the laws of the log may begin with it.
+ghost use Rattle.std.specs.Prelude.{◌≡◌, ◌↔◌, ℕ, List, Some};
+ghost use Rattle.fkv_base.specs.declared.numbers.Key.{Key};
+ghost use Rattle.fkv_base.specs.declared.numbers.Value.{Value};
+ghost use Rattle.fkv_core.specs.Openings.{IsOpeningWorld};
+ghost use Rattle.fkv_opening.specs.Opened.{IsStoreOf};
+ghost use Rattle.fkv_opening.specs.declared.opened_store.Opened.{Opened};
+ghost use Rattle.fkv_order.specs.Ghosts.{shown};
+ghost use Rattle.fkv_order.specs.Owed.{IsOpened};
+ghost use Rattle.fkv_pairs.specs.Pairs.{ArePairs, HasValue, log_of_store};
+ghost use Rattle.fkv_world.specs.World.{Event, Now};
+ghost use Rattle.law_refine.specs.Events.GhostEvents.{home_in};
+ghost use Rattle.law_opening.specs.Log.Begins.{Begins};
+ghost use Rattle.law_opening.specs.Log.Heads.{LeadToHeads};
+ghost use Rattle.law_opening.specs.Log.Left.{LosesTheRest};
+ghost use Rattle.law_opening.specs.Log.Lives.{IsBeside, IsOrdered, KeepsRules};
+ghost use Rattle.law_opening.specs.Log.Maps.{opening_map};
+ghost use Rattle.law_opening.specs.Log.OpeningLog.{opening_ghosts, opening_log};
+ghost use Rattle.law_opening.specs.Log.Records.{HasWhatCounts, map_of};
+
+use crate::lives::{law_guard_opens, law_index_opens};
+use fkv_order::{law_calls_in_order, law_chains_show_content, law_versions_show_content};
+use fkv_pairs::law_chain_of_entry;
+use fkv_record::law_spellings_apart;
+use law_refine::{law_ghost_fixed, law_ghost_reserved, law_ghost_trace, law_ghost_unborn};
+
+/// The log of an opened store has the records of its image that count, each at its address, with its key, its value and the address that it leads
+/// to, and no others. They are in the version of the store's commit, and each stands in the chain of its key's home.
+pub fn law_log_counted()
+    ensures { (image : List ℕ) (o : Opened) (store : IsStoreOf image o) → HasWhatCounts (log_of_store image o store) (opening_log image o) }
+{
+    law_spellings_apart();
+    law_chain_of_entry();
+}
+
+/// It is one with which the order law begins: each chain has just the published records of its home, each of which leads to the next, and addresses
+/// fall; all are fixed and in the version of the store's commit, none is reserved, and each key shows the value that it has in the store. So the laws
+/// of such a log hold after all events that keep to their rules, from the map of these values, which is that of the store's pairs.
+pub fn law_log_opened()
+    ensures values { (image : List ℕ) (o : Opened) (store : IsStoreOf image o) (key : Key) (value : Value) → (shown (home_in o.shape.bucket_bits) (opening_log image o) key.0 ≡ Some value.0) ↔ HasValue (log_of_store image o store) key value }
+    ensures opened { (image : List ℕ) (o : Opened) → IsStoreOf image o → IsOpened (home_in o.shape.bucket_bits) (opening_map image o) o.number.0 (opening_ghosts image o) }
+    ensures pairs { (image : List ℕ) (o : Opened) (store : IsStoreOf image o) (pairs : List (Key × Value)) → ArePairs (log_of_store image o store) pairs → map_of pairs ≡ opening_map image o }
+{
+    law_spellings_apart();
+    law_chain_of_entry();
+}
+
+/// And it is one with which the life of the store's world begins: what is below the safe read-only offset is fixed, nothing is told, has taken effect or
+/// is reserved, and no address from the tail up has a record.
+pub fn law_log_begins()
+    ensures { (image : List ℕ) (o : Opened) (n : Now) → IsStoreOf image o → IsOpeningWorld o n → Begins n (opening_ghosts image o) }
+{
+    law_spellings_apart();
+    law_chain_of_entry();
+}
+
+/// The index of the store's world has the entries of its chains: that of each home leads to where its chain begins, and a home whose chain is empty has
+/// none.
+pub fn law_log_heads()
+    ensures { (image : List ℕ) (o : Opened) (n : Now) → IsStoreOf image o → IsOpeningWorld o n → LeadToHeads o n (opening_log image o) }
+{
+    law_spellings_apart();
+    law_chain_of_entry();
+    law_index_opens();
+}
+
+/// Of the valid records that the scan met, the lost ranges in the store's hand lose just those that the log doesn't have: each of them is lost or in the
+/// log, and none is both. The slot of a log commit has to name these ranges.
+pub fn law_lost_is_the_rest()
+    ensures { (image : List ℕ) (o : Opened) (store : IsStoreOf image o) → LosesTheRest (log_of_store image o store) o (opening_log image o) }
+{
+    law_spellings_apart();
+    law_chain_of_entry();
+}
+
+/// So beside each life of a store's world there is such a log, from this one on: the laws of the log beside a life hold of it with no premise. And where
+/// each of its events keeps to its rule, the order law holds of it: its history is legal from the store's map, and so on.
+pub fn law_log_beside()
+    ensures beside { (bytes : List ℕ) (o : Opened) (n : Now) (events : List Event) → IsStoreOf bytes o → IsOpeningWorld o n → IsBeside o n bytes events }
+    ensures ordered { (bytes : List ℕ) (o : Opened) (n : Now) (events : List Event) → IsStoreOf bytes o → IsOpeningWorld o n → KeepsRules o n bytes events → IsOrdered o n bytes events }
+{
+    law_log_begins();
+    law_log_opened();
+    law_guard_opens();
+    law_ghost_trace();
+    law_ghost_fixed();
+    law_ghost_unborn();
+    law_ghost_reserved();
+    law_chains_show_content();
+    law_versions_show_content();
+    law_calls_in_order();
+}

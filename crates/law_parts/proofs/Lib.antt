@@ -1,0 +1,3 @@
+pub mod OfIndex
+mod OfLatches
+pub mod OfMail

@@ -1,0 +1,154 @@
+-- The machines of the epochs leave the index as it is, where their drain slots are those that there are and their session is one of the store's.
+use Rattle.std.proofs.Common.{◌≡◌, ℕ, ◌+◌, ◌<◌, refl, arith, inl, Bool, true, false}
+use Rattle.std.specs.Prelude.{if◌then◌else◌, nat_lt, ◌==◌, ⊤, Option, Some, None}
+use Rattle.std.proofs.lemmas.Bool.Decides.{nat_tests}
+use Rattle.fkv_base.specs.Limits.{drain_slots}
+use Rattle.fkv_plane.specs.declared.actions.Action.{Action}
+use Rattle.fkv_plane.specs.declared.actions.Action.TheVariants as act
+use Rattle.fkv_plane.specs.declared.places.Places.{Places}
+use Rattle.fkv_plane.specs.declared.places.SharedWord.TheVariants as one
+use Rattle.fkv_plane.specs.declared.places.SessionWord.TheVariants as own
+use Rattle.fkv_epoch.specs.declared.arming.Arming.{Arming}
+use Rattle.fkv_epoch.specs.declared.arming.Arming.TheVariants as arm
+use Rattle.fkv_epoch.specs.declared.claiming.Claiming.{Claiming}
+use Rattle.fkv_epoch.specs.declared.claiming.Claiming.TheVariants as claim
+use Rattle.fkv_epoch.specs.declared.leaving.Leaving.{Leaving}
+use Rattle.fkv_epoch.specs.declared.leaving.Leaving.TheVariants as leave
+use Rattle.fkv_epoch.specs.declared.protecting.Protecting.{Protecting}
+use Rattle.fkv_epoch.specs.declared.protecting.Protecting.TheVariants as protect
+use Rattle.fkv_epoch.specs.declared.raising.Raising.{Raising}
+use Rattle.fkv_epoch.specs.declared.raising.Raising.TheVariants as raise
+use Rattle.fkv_epoch.specs.declared.refreshing.Refreshing.{Refreshing}
+use Rattle.fkv_epoch.specs.declared.refreshing.Refreshing.TheVariants as refresh
+use Rattle.fkv_epoch.specs.declared.scanning.Scanning.{Scanning}
+use Rattle.fkv_epoch.specs.declared.scanning.Scanning.TheVariants as scan
+use Rattle.fkv_epoch.specs.Arming.{arm_ask, arm_next}
+use Rattle.fkv_epoch.specs.Claiming.{IsClaimInRange, run_of, claim_ask, slot_after, slot_armed, claim_next, claim_given}
+use Rattle.fkv_epoch.specs.Leaving.{leave_ask}
+use Rattle.fkv_epoch.specs.Protecting.{protect_ask}
+use Rattle.fkv_epoch.specs.Raising.{IsRaiseInRange, raise_ask}
+use Rattle.fkv_epoch.specs.Refreshing.{refresh_ask}
+use Rattle.fkv_epoch.specs.Scanning.{scan_ask}
+use Rattle.fkv_commit.specs.Deferring.{HasSlotInRange}
+use Rattle.law_parts.proofs.OfIndex.Leaves.{LeavesIndex}
+use Rattle.law_parts.proofs.OfIndex.Spares.{shared_elsewhere, drain_elsewhere, session_elsewhere}
+
+-- a session's own words
+pub refresh_spares : (p : Places) (n : ℕ) (step : Refreshing) → n < p.sessions → LeavesIndex p (refresh_ask n step)
+unfolding refresh_ask
+refresh_spares p n (refresh.StoresEpoch epoch) there = session_elsewhere p n own.Epoch there
+refresh_spares p n refresh.AtRest there = tt
+refresh_spares p n refresh.LoadsEpoch there = tt
+refresh_spares p n (refresh.LoadsPhase epoch) there = tt
+refresh_spares p n (refresh.LoadsReadOnly epoch phase) there = tt
+refresh_spares p n (refresh.LoadsHead epoch phase read_only) there = tt
+refresh_spares p n (refresh.HasLoaded epoch values) there = tt
+
+pub protect_spares : (p : Places) (n : ℕ) (step : Protecting) → n < p.sessions → LeavesIndex p (protect_ask n step)
+unfolding protect_ask
+protect_spares p n (protect.StoresEpoch epoch) there = session_elsewhere p n own.Epoch there
+protect_spares p n protect.AtRest there = tt
+protect_spares p n protect.LoadsEpoch there = tt
+protect_spares p n protect.LoadsPhase there = tt
+protect_spares p n (protect.LoadsReadOnly phase) there = tt
+protect_spares p n (protect.LoadsHead phase read_only) there = tt
+
+pub leave_spares : (p : Places) (n : ℕ) (step : Leaving) → n < p.sessions → LeavesIndex p (leave_ask n step)
+unfolding leave_ask
+leave_spares p n leave.StoresZero there = session_elsewhere p n own.Epoch there
+leave_spares p n leave.AtRest there = tt
+
+-- a scan
+pub scan_spares : (p : Places) (step : Scanning) → LeavesIndex p (scan_ask step)
+unfolding scan_ask
+scan_spares p scan.AtRest = tt
+scan_spares p scan.LoadsEpoch = tt
+scan_spares p (scan.LoadsSession session least) = tt
+scan_spares p (scan.RaisesSafe least) = shared_elsewhere p one.SafeEpoch (λ e. cc)
+
+-- a claim
+run_spares : (p : Places) (action : Action) → LeavesIndex p (run_of action)
+run_spares p (act.SafeReadOnly addr) = shared_elsewhere p one.SafeReadOnly (λ e. cc)
+run_spares p (act.Close addr) = shared_elsewhere p one.Closed (λ e. cc)
+run_spares p (act.Phase phase version) = shared_elsewhere p one.Phase (λ e. cc)
+
+pub claim_spares : (p : Places) (step : Claiming) → IsClaimInRange step → LeavesIndex p (claim_ask step)
+unfolding claim_ask
+claim_spares p claim.AtRest range = tt
+claim_spares p (claim.MeetsSlot slot safe) range = tt
+claim_spares p (claim.LoadsSafe slot word) range = tt
+claim_spares p (claim.TakesSlot slot word safe) range = inl (drain_elsewhere p slot range)
+claim_spares p (claim.Receives slot epoch safe) range = tt
+claim_spares p (claim.Runs slot epoch safe action) range = run_spares p action
+claim_spares p (claim.FreesSlot slot safe) range = drain_elsewhere p slot range
+
+claims_either : (c : Bool) (a b : Claiming) → (c ≡ true → IsClaimInRange a) → (c ≡ false → IsClaimInRange b) → IsClaimInRange (if c then a else b)
+claims_either true a b one other = one refl
+claims_either false a b one other = other refl
+
+after_range : (slot : ℕ) (safe : Option ℕ) → IsClaimInRange (slot_after slot safe)
+unfolding slot_after
+after_range slot safe = claims_either (nat_lt (slot + 1) drain_slots) (claim.MeetsSlot (slot + 1) safe) claim.AtRest (λ e. grind (arith, nat_tests, e)) (λ e. tt)
+
+armed_range : (slot word safe : ℕ) → slot < drain_slots → IsClaimInRange (slot_armed slot word safe)
+unfolding slot_armed
+armed_range slot word safe range = claims_either _ (claim.TakesSlot slot word safe) (slot_after slot (Some safe)) (λ e. range) (λ e. after_range slot (Some safe))
+
+pub claim_range : (step : Claiming) (reply : ℕ) → IsClaimInRange step → IsClaimInRange (claim_next step reply)
+unfolding claim_next
+claim_range claim.AtRest reply range = tt
+claim_range (claim.MeetsSlot slot None) reply range = claims_either (nat_lt reply 2) (slot_after slot None) (claim.LoadsSafe slot reply) (λ e. after_range slot None) (λ e. range)
+claim_range (claim.MeetsSlot slot (Some safe)) reply range = claims_either (nat_lt reply 2) (slot_after slot (Some safe)) (slot_armed slot reply safe) (λ e. after_range slot (Some safe)) (λ e. armed_range slot reply safe range)
+claim_range (claim.LoadsSafe slot word) reply range = armed_range slot word reply range
+claim_range (claim.TakesSlot slot word safe) reply range = claims_either (reply == word) (claim.Receives slot _ safe) (slot_after slot (Some safe)) (λ e. range) (λ e. after_range slot (Some safe))
+claim_range (claim.Receives slot epoch safe) reply range = range
+claim_range (claim.Runs slot epoch safe action) reply range = range
+claim_range (claim.FreesSlot slot safe) reply range = after_range slot (Some safe)
+
+pub claim_given_range : (step : Claiming) (action : Action) → IsClaimInRange step → IsClaimInRange (claim_given step action)
+unfolding claim_given
+claim_given_range (claim.Receives slot epoch safe) action range = range
+claim_given_range claim.AtRest action range = range
+claim_given_range (claim.MeetsSlot slot safe) action range = range
+claim_given_range (claim.LoadsSafe slot word) action range = range
+claim_given_range (claim.TakesSlot slot word safe) action range = range
+claim_given_range (claim.Runs slot epoch safe its) action range = range
+claim_given_range (claim.FreesSlot slot safe) action range = range
+
+-- a raise
+pub raise_spares : (p : Places) (step : Raising) → IsRaiseInRange step → LeavesIndex p (raise_ask step)
+unfolding raise_ask
+raise_spares p raise.AtRest range = tt
+raise_spares p raise.LoadsEpoch range = tt
+raise_spares p (raise.MeetsSlot slot) range = tt
+raise_spares p (raise.HoldsSlot slot) range = inl (drain_elsewhere p slot range)
+raise_spares p (raise.HasSlot slot) range = tt
+raise_spares p (raise.RaisesEpoch slot) range = inl (shared_elsewhere p one.Epoch (λ e. cc))
+
+-- what it asks tells one of the slots
+pub asks_range : (step : Raising) → HasSlotInRange (raise_ask step)
+unfolding raise_ask
+asks_range raise.AtRest = tt
+asks_range raise.LoadsEpoch = tt
+asks_range (raise.MeetsSlot slot) = tt
+asks_range (raise.HoldsSlot slot) = tt
+asks_range (raise.HasSlot slot) = tt
+asks_range (raise.RaisesEpoch slot) = tt
+
+-- an arming
+abbrev pub ArmsInRange : Arming → Type 0
+ArmsInRange arm.AtRest = ⊤
+ArmsInRange (arm.PutsAction slot epoch) = slot < drain_slots
+ArmsInRange (arm.StoresEpoch slot epoch) = slot < drain_slots
+
+pub arm_spares : (p : Places) (step : Arming) → ArmsInRange step → LeavesIndex p (arm_ask step)
+unfolding arm_ask
+arm_spares p arm.AtRest range = tt
+arm_spares p (arm.PutsAction slot epoch) range = tt
+arm_spares p (arm.StoresEpoch slot epoch) range = drain_elsewhere p slot range
+
+pub arm_range : (step : Arming) → ArmsInRange step → ArmsInRange (arm_next step)
+unfolding arm_next
+arm_range arm.AtRest range = tt
+arm_range (arm.PutsAction slot epoch) range = range
+arm_range (arm.StoresEpoch slot epoch) range = tt

@@ -1,0 +1,145 @@
+-- A walk touches no latch, and the slot that it found has none.
+use Rattle.std.proofs.Common.{◌≡◌, ℕ, refl, arith, sym, subst, Bool, true, false}
+use Rattle.std.specs.Prelude.{if◌then◌else◌, ◌==◌, ◌-◌, nat_lt, ⊤}
+use Rattle.fkv_base.specs.declared.numbers.Addr.{Addr}
+use Rattle.fkv_base.specs.declared.numbers.Key.{Key}
+use Rattle.fkv_plane.specs.declared.asks.Ask.{Ask}
+use Rattle.fkv_plane.specs.declared.asks.Ask.TheVariants.{Load, Store, Swap, Cas, Add, Max, Put, Take, Done}
+use Rattle.fkv_plane.specs.declared.places.Places.{Places}
+use Rattle.fkv_index.specs.declared.finding.FindAnswer.{FindAnswer}
+use Rattle.fkv_index.specs.declared.finding.Found.{Found}
+use Rattle.fkv_index.specs.declared.finding.Found.TheVariants as found
+use Rattle.fkv_index.specs.declared.finding.Purpose.{Purpose}
+use Rattle.fkv_index.specs.declared.homes.Home.{Home}
+use Rattle.fkv_index.specs.Slots.{entry_addr}
+use Rattle.fkv_index.specs.Finding.{find_next, find_next_ask}
+use Rattle.fkv_latch.specs.LatchWorld.{has_latch}
+use Rattle.fkv_log.specs.declared.loading.LoadAnswer.{LoadAnswer}
+use Rattle.fkv_log.specs.declared.loading.LoadAnswer.TheVariants as load
+use Rattle.fkv_log.specs.declared.loading.Loading.{Loading}
+use Rattle.fkv_log.specs.declared.loading.Loading.TheVariants as loading
+use Rattle.fkv_log.specs.Loading.{load_ask, load_next, load_next_ask}
+use Rattle.fkv_ops.specs.declared.header_words.HeaderSaid.{HeaderSaid}
+use Rattle.fkv_ops.specs.declared.header_words.HeaderSaid.TheVariants.{Says, Spoiled}
+use Rattle.fkv_ops.specs.declared.walking.WalkAnswer.TheVariants as answer
+use Rattle.fkv_ops.specs.declared.walking.Walking.{Walking}
+use Rattle.fkv_ops.specs.declared.walking.Walking.TheVariants.{Ended, Finds, Meets, HasFound, LoadsValue}
+use Rattle.fkv_ops.specs.HeaderWords.{header_said}
+use Rattle.fkv_ops.specs.Walking.{WalkState, walk_begun, walking_ask, walk_ask, walk_ended, reached, slot_found, find_ledto, first_met, record_met, load_ledto, value_ledto, walking_next, walk_next, walking_on, walk_on}
+use Rattle.law_parts.proofs.OfLatches.NoLatch.{TouchesNoLatch, passed_none, low_none}
+use Rattle.law_parts.proofs.OfLatches.FindSpares.{IsAtBucket, find_none, FoundNone, FindsNone, finds_none, first_none}
+
+-- a search is under way at a bucket
+abbrev pub StepFinds : Places → WalkState → Walking → Type 0
+StepFinds p w Finds = IsAtBucket p w.finding
+StepFinds p w step = ⊤
+
+pub record IsWalkSparing (p : Places) (w : WalkState) : Type 0 where
+  pub place : has_latch p w.place ≡ false
+  pub finds : StepFinds p w w.step
+
+load_none : (p : Places) (step : Loading) → TouchesNoLatch p (load_ask p step)
+unfolding load_ask
+load_none p loading.AtRest = tt
+load_none p (loading.LoadsHeader addr) = tt
+load_none p (loading.LoadsKey addr header) = tt
+load_none p (loading.HasKey addr header key) = tt
+load_none p (loading.LoadsValue addr header key) = tt
+
+walking_none : (p : Places) (w : WalkState) (step : Walking) → StepFinds p w step → TouchesNoLatch p (walking_ask p w step)
+unfolding walking_ask
+walking_none p w (Ended its) finds = tt
+walking_none p w Finds finds = passed_none p _ _ (find_none p w.finding finds)
+walking_none p w (Meets addr) finds = passed_none p _ _ (load_none p w.loading)
+walking_none p w (HasFound addr version) finds = tt
+walking_none p w LoadsValue finds = passed_none p _ _ (load_none p w.loading)
+
+pub walk_none : (p : Places) (w : WalkState) → IsWalkSparing p w → TouchesNoLatch p (walk_ask p w)
+walk_none p w its = walking_none p w w.step its.finds
+
+-- a walk that has found its entry
+ended_none : (p : Places) (w : WalkState) (its : _) → has_latch p w.place ≡ false → IsWalkSparing p (walk_ended w its)
+ended_none p w its none = record { place = none; finds = tt }
+
+either_none : (c : Bool) (p : Places) (a b : WalkState) → IsWalkSparing p a → IsWalkSparing p b → IsWalkSparing p (if c then a else b)
+either_none true p a b one other = one
+either_none false p a b one other = other
+
+reached_none : (p : Places) (w : WalkState) (addr : ℕ) → has_latch p w.place ≡ false → IsWalkSparing p (reached p w addr)
+reached_none p w addr none =
+    either_none (addr == 0) p (walk_ended w answer.Nowhere) _ (ended_none p w answer.Nowhere none)
+    (either_none (nat_lt addr w.head.0) p (walk_ended w (answer.OnDisk (record { 0 = addr }))) _ (ended_none p w (answer.OnDisk (record { 0 = addr })) none)
+    (either_none (nat_lt (addr - w.head.0) p.ring) p (record w { loading = loading.LoadsHeader (record { 0 = addr }); step = Meets (record { 0 = addr }) }) (walk_ended w answer.Contended) (record { place = none; finds = tt }) (ended_none p w answer.Contended none)))
+
+slot_found_none : (p : Places) (w : WalkState) (its : Found) → has_latch p w.place ≡ false → FoundNone p its → IsWalkSparing p (slot_found p w its)
+slot_found_none p w (found.Slot place word) none its = reached_none p (record w { place = place; entry = word }) (entry_addr word) its
+slot_found_none p w found.NoSlot none its = ended_none p w answer.Nowhere none
+slot_found_none p w found.Full none its = ended_none p w answer.Full none
+slot_found_none p w found.Contended none its = ended_none p w answer.Contended none
+
+-- a search goes on
+still_finds : (p : Places) (w : WalkState) → w.step ≡ Finds → has_latch p w.place ≡ false → IsAtBucket p w.finding → IsWalkSparing p w
+still_finds p w at none its = record { place = none; finds = subst (λ step. StepFinds p w step) (sym at) its }
+
+find_ledto_none : (p : Places) (w : WalkState) (ask : Ask FindAnswer) → w.step ≡ Finds → has_latch p w.place ≡ false → FindsNone p w.finding ask → IsWalkSparing p (find_ledto p w ask)
+unfolding find_ledto
+find_ledto_none p w (Done its) at none found = slot_found_none p (record w { spare = its.spare }) its.found none found.tells
+find_ledto_none p w (Load place) at none found = still_finds p w at none (found.its refl)
+find_ledto_none p w (Store place word) at none found = still_finds p w at none (found.its refl)
+find_ledto_none p w (Swap place word) at none found = still_finds p w at none (found.its refl)
+find_ledto_none p w (Cas place old new) at none found = still_finds p w at none (found.its refl)
+find_ledto_none p w (Add place number) at none found = still_finds p w at none (found.its refl)
+find_ledto_none p w (Max place number) at none found = still_finds p w at none (found.its refl)
+find_ledto_none p w (Put slot action) at none found = still_finds p w at none (found.its refl)
+find_ledto_none p w (Take slot) at none found = still_finds p w at none (found.its refl)
+
+-- a machine besides the search goes on
+stays_none : (p : Places) (w : WalkState) (step : Walking) → w.step ≡ step → has_latch p w.place ≡ false → StepFinds p w step → IsWalkSparing p w
+stays_none p w step at none finds = record { place = none; finds = subst (λ x. StepFinds p w x) (sym at) finds }
+
+record_none : (p : Places) (w : WalkState) (addr : Addr) (key : Key) (said : HeaderSaid) → has_latch p w.place ≡ false → IsWalkSparing p (record_met p w addr key said)
+record_none p w addr key Spoiled none = ended_none p w answer.Contended none
+record_none p w addr key (Says previous version) none =
+    either_none (nat_lt previous.0 addr.0) p _ (walk_ended w answer.Contended)
+    (either_none (key.0 == w.key.0) p (record w { first = first_met w.first version; step = HasFound addr version }) (reached p (record w { first = first_met w.first version }) previous.0)
+    (record { place = none; finds = tt }) (reached_none p (record w { first = first_met w.first version }) previous.0 none))
+    (ended_none p w answer.Contended none)
+
+load_ledto_none : (p : Places) (w : WalkState) (addr : Addr) (ask : Ask LoadAnswer) → w.step ≡ Meets addr → has_latch p w.place ≡ false → IsWalkSparing p (load_ledto p w addr ask)
+unfolding load_ledto
+load_ledto_none p w addr (Done (load.Met header key)) at none = record_none p w addr key (header_said header) none
+load_ledto_none p w addr (Done other) at none = ended_none p w answer.Contended none
+load_ledto_none p w addr ask at none = stays_none p w (Meets addr) at none tt
+
+value_ledto_none : (p : Places) (w : WalkState) (ask : Ask LoadAnswer) → w.step ≡ LoadsValue → has_latch p w.place ≡ false → IsWalkSparing p (value_ledto w ask)
+unfolding value_ledto
+value_ledto_none p w (Done (load.Whole header key value)) at none = ended_none p w (answer.Value value) none
+value_ledto_none p w (Done other) at none = ended_none p w answer.Contended none
+value_ledto_none p w ask at none = stays_none p w LoadsValue at none tt
+
+next_none : (p : Places) (w : WalkState) (step : Walking) (reply : ℕ) → w.step ≡ step → has_latch p w.place ≡ false → StepFinds p w step → IsWalkSparing p (walking_next p w step reply)
+unfolding walking_next
+next_none p w (Ended its) reply at none finds = stays_none p w (Ended its) at none tt
+next_none p w Finds reply at none finds = find_ledto_none p (record w { finding = find_next p w.finding reply }) (find_next_ask p w.finding reply) at none (finds_none p w.finding reply finds)
+next_none p w (Meets addr) reply at none finds = load_ledto_none p (record w { loading = load_next w.loading reply }) addr (load_next_ask p w.loading reply) at none
+next_none p w (HasFound addr version) reply at none finds = stays_none p w (HasFound addr version) at none tt
+next_none p w LoadsValue reply at none finds = value_ledto_none p (record w { loading = load_next w.loading reply }) (load_next_ask p w.loading reply) at none
+
+-- each reply
+pub walk_next_none : (p : Places) (w : WalkState) (reply : ℕ) → IsWalkSparing p w → IsWalkSparing p (walk_next p w reply)
+walk_next_none p w reply its = next_none p w w.step reply refl its.place its.finds
+
+on_none : (p : Places) (w : WalkState) (step : Walking) → w.step ≡ step → IsWalkSparing p w → IsWalkSparing p (walking_on w step)
+unfolding walking_on
+on_none p w (HasFound addr version) at its = record { place = its.place; finds = tt }
+on_none p w (Ended told) at its = its
+on_none p w Finds at its = its
+on_none p w (Meets addr) at its = its
+on_none p w LoadsValue at its = its
+
+pub walk_on_none : (p : Places) (w : WalkState) → IsWalkSparing p w → IsWalkSparing p (walk_on w)
+walk_on_none p w its = on_none p w w.step refl its
+
+-- as it begins
+pub walk_begun_none : (p : Places) (home : Home) (w : WalkState) (key : Key) (purpose : Purpose) (head : Addr) (spare : ℕ) → IsWalkSparing p (walk_begun p home w key purpose head spare)
+walk_begun_none p home w key purpose head spare = record { place = low_none p 0 (omega arith); finds = first_none p home purpose spare }

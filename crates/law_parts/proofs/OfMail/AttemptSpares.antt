@@ -1,0 +1,125 @@
+-- An attempt writes no word of a mailbox but where its mail is under way.
+use Rattle.std.proofs.Common.{◌≡◌, ℕ, refl, sym, subst, Bool, true, false}
+use Rattle.std.specs.Prelude.{if◌then◌else◌, ◌==◌, ⊤, Option, Some, None}
+use Rattle.fkv_map.specs.Keys.{key_of}
+use Rattle.fkv_plane.specs.declared.asks.Ask.{Ask}
+use Rattle.fkv_plane.specs.declared.asks.Ask.TheVariants.{Done}
+use Rattle.fkv_plane.specs.declared.places.Places.{Places}
+use Rattle.fkv_ops.specs.declared.answers.DiskRecord.{DiskRecord}
+use Rattle.fkv_ops.specs.declared.answers.TryAnswer.{TryAnswer}
+use Rattle.fkv_ops.specs.declared.answers.TryAnswer.TheVariants as answer
+use Rattle.fkv_ops.specs.declared.header_words.HeaderSaid.{HeaderSaid}
+use Rattle.fkv_ops.specs.declared.header_words.HeaderSaid.TheVariants.{Says, Spoiled}
+use Rattle.fkv_ops.specs.declared.requests.Occasion.{Occasion}
+use Rattle.fkv_ops.specs.declared.requests.Seen.{Seen}
+use Rattle.fkv_ops.specs.HeaderWords.{header_said}
+use Rattle.fkv_ops.specs.Trying.{try_ask, try_next, told_value}
+use Rattle.fkv_ops.specs.Values.{value_of}
+use Rattle.fkv_pending.specs.declared.attempting.Attempting.{Attempting}
+use Rattle.fkv_pending.specs.declared.attempting.Attempting.TheVariants.{Ended, Looks, Tries, Puts}
+use Rattle.fkv_pending.specs.declared.mailing.MailAnswer.{MailAnswer}
+use Rattle.fkv_pending.specs.declared.mailing.MailAnswer.TheVariants as mail
+use Rattle.fkv_pending.specs.declared.mailing.MailRecord.{MailRecord}
+use Rattle.fkv_pending.specs.declared.mailing.MailTask.TheVariants.{Take}
+use Rattle.fkv_pending.specs.declared.mailing.Mailing.TheVariants as mailing
+use Rattle.fkv_pending.specs.declared.pending_requests.PendingRequest.{PendingRequest}
+use Rattle.fkv_pending.specs.Mailing.{mail_ask, mail_next}
+use Rattle.fkv_pending.specs.Pending.{with_sought, with_held, with_latch, with_asked}
+use Rattle.fkv_pending.specs.Attempting.{AttemptState, attempting_ask, attempt_ask, attempt_ended, waits_for_disk, puts_addr, puts, tries, is_seeking_read, goes_on, attempt_begun, held_of, moved_on, read_on, record_taken, look_ledto, held_kept, tried, try_ledto, put_ledto, mail_moved, try_moved, attempting_next, attempt_next}
+use Rattle.law_parts.specs.Mail.Mailers.{attempt_mailing}
+use Rattle.law_parts.proofs.OfMail.Leaves.{LeavesMail, passed_spares}
+use Rattle.law_parts.proofs.OfMail.TrySpares.{IsTrySparing, try_spares, try_next_spares, try_begun_spares}
+
+abbrev pub AttemptLeaves : Places → AttemptState → Attempting → Type 0
+AttemptLeaves p a Tries = IsTrySparing p a.trial
+AttemptLeaves p a step = ⊤
+
+abbrev pub IsAttemptSparing : Places → AttemptState → Type 0
+IsAttemptSparing p a = AttemptLeaves p a a.step
+
+attempting_spares : (p : Places) (n : ℕ) (a : AttemptState) (step : Attempting) → AttemptLeaves p a step → attempt_mailing a step ≡ None → LeavesMail p (attempting_ask p n a step)
+unfolding attempting_ask
+attempting_spares p n a (Ended its) leaves none = tt
+attempting_spares p n a Looks leaves none = cc
+attempting_spares p n a Tries leaves none = passed_spares p _ _ (try_spares p a.trial leaves)
+attempting_spares p n a Puts leaves none = cc
+
+pub attempt_spares : (p : Places) (n : ℕ) (a : AttemptState) → IsAttemptSparing p a → attempt_mailing a a.step ≡ None → LeavesMail p (attempt_ask p n a)
+attempt_spares p n a leaves none = attempting_spares p n a a.step leaves none
+
+-- where a reply leads
+either_spares : (c : Bool) (p : Places) (a b : AttemptState) → IsAttemptSparing p a → IsAttemptSparing p b → IsAttemptSparing p (if c then a else b)
+either_spares true p a b one other = one
+either_spares false p a b one other = other
+
+stays_spares : (p : Places) (a : AttemptState) (step : Attempting) → a.step ≡ step → AttemptLeaves p a step → IsAttemptSparing p a
+stays_spares p a step at leaves = subst (λ x. AttemptLeaves p a x) (sym at) leaves
+
+puts_spares : (p : Places) (a : AttemptState) (sought : Option DiskRecord) → IsAttemptSparing p (puts_addr a sought)
+puts_spares p a None = tt
+puts_spares p a (Some sought) = tt
+
+tries_spares : (p : Places) (bits : ℕ) (a : AttemptState) → IsAttemptSparing p (tries p bits a)
+tries_spares p bits a = try_begun_spares p bits a.trial a.pending.request a.seen a.occasion a.spare
+
+goes_spares : (p : Places) (bits : ℕ) (a : AttemptState) → IsAttemptSparing p (goes_on p bits a)
+goes_spares p bits a = either_spares (is_seeking_read a) p (puts a) (tries p bits a) (puts_spares p a a.pending.sought) (tries_spares p bits a)
+
+pub attempt_begun_spares : (p : Places) (bits : ℕ) (a : AttemptState) (pending : PendingRequest) (seen : Seen) (occasion : Occasion) (spare : ℕ) (is_orphaned : Bool) → IsAttemptSparing p (attempt_begun p bits a pending seen occasion spare is_orphaned)
+attempt_begun_spares p bits a pending seen occasion spare is_orphaned =
+    let first : AttemptState = record a { pending = pending; seen = seen; occasion = occasion; spare = spare; is_orphaned = is_orphaned; is_emptied = false; effect = None } in
+    either_spares pending.has_asked p (record first { mailing = mailing.LoadsState Take; step = Looks }) (goes_on p bits first) tt (goes_spares p bits first)
+
+read_spares : (p : Places) (a : AttemptState) (its : MailRecord) (said : HeaderSaid) → IsAttemptSparing p (read_on a its said)
+read_spares p a its Spoiled = puts_spares p a a.pending.sought
+read_spares p a its (Says previous version) =
+    let moved : AttemptState = record a { pending = with_sought a.pending (moved_on a.pending.sought previous) } in
+    either_spares (its.key.0 == (key_of a.pending.request.op).0) p (attempt_ended a (told_value (value_of its.value))) _ tt
+    (either_spares (previous.0 == 0) p (attempt_ended a answer.Absent) (puts moved) tt (puts_spares p moved moved.pending.sought))
+
+record_spares : (p : Places) (bits : ℕ) (a : AttemptState) (its : MailRecord) (said : HeaderSaid) → IsAttemptSparing p (record_taken p bits a its said)
+record_spares p bits a its said =
+    let held : AttemptState = record a { pending = with_held a.pending (held_of a.pending.sought its said) } in
+    either_spares (is_seeking_read a) p (read_on a its said) (tries p bits held) (read_spares p a its said) (tries_spares p bits held)
+
+look_spares : (p : Places) (bits : ℕ) (a : AttemptState) (ask : Ask MailAnswer) → a.step ≡ Looks → IsAttemptSparing p (look_ledto p bits a ask)
+unfolding look_ledto
+look_spares p bits a (Done (mail.Taken its)) at = record_spares p bits (record a { is_emptied = true; pending = with_asked a.pending false }) its (header_said its.header)
+look_spares p bits a (Done other) at = either_spares (is_seeking_read a) p (waits_for_disk a) (tries p bits a) tt (tries_spares p bits a)
+look_spares p bits a ask at = stays_spares p a Looks at tt
+
+put_spares : (p : Places) (a : AttemptState) (ask : Ask MailAnswer) → a.step ≡ Puts → IsAttemptSparing p (put_ledto a ask)
+unfolding put_ledto
+put_spares p a (Done mail.Asked) at = tt
+put_spares p a (Done other) at = tt
+put_spares p a ask at = stays_spares p a Puts at tt
+
+tried_spares : (p : Places) (a : AttemptState) (its : TryAnswer) → IsAttemptSparing p (tried a its)
+tried_spares p a (answer.AwaitsDisk sought) =
+    let kept : AttemptState = record a { pending = with_held a.pending (held_kept a.pending.request.held sought.entry) } in
+    let moved : AttemptState = record kept { pending = with_sought kept.pending (Some sought) } in
+    either_spares a.pending.has_asked p (waits_for_disk kept) (puts moved) tt (puts_spares p moved moved.pending.sought)
+tried_spares p a (answer.Wait why) = tt
+tried_spares p a its = tt
+
+try_ledto_spares : (p : Places) (a : AttemptState) (ask : Ask TryAnswer) → a.step ≡ Tries → IsTrySparing p a.trial → IsAttemptSparing p (try_ledto a ask)
+unfolding try_ledto
+try_ledto_spares p a (Done its) at leaves = tried_spares p (record a { spare = a.trial.spare; pending = with_latch a.pending a.trial.has_shared }) its
+try_ledto_spares p a ask at leaves = stays_spares p a Tries at leaves
+
+next_spares : (p : Places) (bits room n : ℕ) (a : AttemptState) (step : Attempting) (reply : ℕ) → a.step ≡ step → AttemptLeaves p a step → IsAttemptSparing p (attempting_next p bits room n a step reply)
+unfolding attempting_next
+next_spares p bits room n a (Ended its) reply at leaves = stays_spares p a (Ended its) at tt
+next_spares p bits room n a Looks reply at leaves = look_spares p bits (mail_moved a reply) (mail_ask n (mail_next a.mailing reply)) at
+next_spares p bits room n a Tries reply at leaves = try_ledto_spares p (try_moved p room a reply) (try_ask p (try_next p room a.trial reply)) at (try_next_spares p room a.trial reply leaves)
+next_spares p bits room n a Puts reply at leaves = put_spares p (mail_moved a reply) (mail_ask n (mail_next a.mailing reply)) at
+
+effect_spares : (p : Places) (a : AttemptState) (step : Attempting) → AttemptLeaves p a step → AttemptLeaves p (record a { effect = None }) step
+effect_spares p a Tries leaves = leaves
+effect_spares p a (Ended its) leaves = tt
+effect_spares p a Looks leaves = tt
+effect_spares p a Puts leaves = tt
+
+-- each reply
+pub attempt_next_spares : (p : Places) (bits room n : ℕ) (a : AttemptState) (reply : ℕ) → IsAttemptSparing p a → IsAttemptSparing p (attempt_next p bits room n a reply)
+attempt_next_spares p bits room n a reply leaves = next_spares p bits room n (record a { effect = None }) a.step reply refl (effect_spares p a a.step leaves)

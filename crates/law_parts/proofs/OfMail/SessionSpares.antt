@@ -1,0 +1,307 @@
+-- A session writes no word of a mailbox but where a task with its own is under way, and then of that one alone.
+use Rattle.std.proofs.Common.{◌≡◌, ℕ, ◌+◌, ◌<◌, ◌∙◌, refl, sym, subst, arith, List, [], ◌∷◌, length, Bool, true, false}
+use Rattle.std.specs.Prelude.{if◌then◌else◌, ◌==◌, ◌||◌, not, ⊤, Option, Some, None, slice_get, slice_set}
+use Rattle.fkv_base.specs.declared.faults.Fault.{Fault}
+use Rattle.fkv_base.specs.declared.faults.Fault.TheVariants as fault
+use Rattle.fkv_map.specs.declared.operations.Call.{Call}
+use Rattle.fkv_map.specs.declared.operations.Call.TheVariants as call
+use Rattle.fkv_map.specs.declared.operations.Op.{Op}
+use Rattle.fkv_plane.specs.declared.actions.Action.{Action}
+use Rattle.fkv_plane.specs.declared.asks.Ask.{Ask}
+use Rattle.fkv_plane.specs.declared.asks.Ask.TheVariants.{Done}
+use Rattle.fkv_plane.specs.declared.places.Places.{Places}
+use Rattle.fkv_plane.specs.declared.places.SessionWord.TheVariants as own
+use Rattle.fkv_plane.specs.Places.{session_place}
+use Rattle.fkv_epoch.specs.Leaving.{leave_next}
+use Rattle.fkv_ops.specs.declared.answers.Reason.{Reason}
+use Rattle.fkv_ops.specs.declared.answers.Reason.TheVariants as reason
+use Rattle.fkv_ops.specs.declared.answers.TryAnswer.{TryAnswer}
+use Rattle.fkv_ops.specs.declared.answers.TryAnswer.TheVariants as tried
+use Rattle.fkv_ops.specs.declared.requests.Occasion.TheVariants.{Call as AtCall, Poll as AtPoll}
+use Rattle.fkv_ops.specs.Requests.{is_read}
+use Rattle.fkv_pending.specs.declared.mailing.MailAnswer.{MailAnswer}
+use Rattle.fkv_pending.specs.declared.mailing.MailAnswer.TheVariants.{Cleared}
+use Rattle.fkv_pending.specs.declared.mailing.MailTask.TheVariants.{Clear}
+use Rattle.fkv_pending.specs.declared.attempting.Attempting.{Attempting}
+use Rattle.fkv_pending.specs.declared.attempting.Attempting.TheVariants as attempting
+use Rattle.fkv_pending.specs.declared.mailing.Mailing.{Mailing}
+use Rattle.fkv_pending.specs.declared.mailing.Mailing.TheVariants as mailing
+use Rattle.fkv_pending.specs.Attempting.{AttemptState, attempting_ask}
+use Rattle.fkv_pending.specs.declared.pending_requests.PendingRequest.{PendingRequest}
+use Rattle.fkv_pending.specs.Mailing.{mail_ask, mail_next}
+use Rattle.fkv_session.specs.declared.answers.Told.{Told}
+use Rattle.fkv_session.specs.declared.answers.Told.TheVariants as told
+use Rattle.fkv_session.specs.declared.sessions.CatchCause.{CatchCause}
+use Rattle.fkv_session.specs.declared.sessions.CatchCause.TheVariants.{Refreshes, Wakes, Shifts}
+use Rattle.fkv_session.specs.declared.sessions.Sitting.{Sitting}
+use Rattle.fkv_session.specs.declared.sessions.Sitting.TheVariants.{Idle, Attempts, CatchesUp, ClearsMail, Polls, StoresOwing, Turns, StoresCut, Leaves, LoadsDurable}
+use Rattle.fkv_session.specs.CatchingUp.{refresh_begun, wake_begun}
+use Rattle.fkv_session.specs.OwnTurns.{own_turn_begun, own_turn_given}
+use Rattle.fkv_session.specs.Sessions.{SessionState, Seat, IsOpened, bits_of, room_of, answers, refuses, answers_after_turn, request_in_hand, attempts, polls_request, polls_at, refusal_of, op_begun, refresh_call, poll_begun, poll_call, sleep_call, wake_call, call_begun, ticket_after, attempt_left, serial_taken, update_done, is_no_room, lacks_room, with_request, accepts, shifts, attempted, attempt_ledto, caught_up, catch_ledto, clear_ledto, is_finished, is_owed, request_finished, finishes_request, keeps_request, poll_ledto, turn_ledto, leave_ledto, attempt_moved, caught, own_turn_moved, sitting_ask, session_ask, sitting_next, session_next, sitting_given, session_given, asks_after, is_word_ask, is_busy}
+use Rattle.fkv_session.specs.SessionRun.{SessionEvent, Begins, Replies, Gets, begins, session_happens, session_run}
+use Rattle.law_parts.specs.Mail.Mailers.{attempt_mailing, sitting_mailing, session_mailing}
+use Rattle.law_parts.proofs.OfMail.AttemptSpares.{IsAttemptSparing, attempt_spares, attempt_begun_spares, attempt_next_spares}
+use Rattle.law_parts.proofs.OfMail.CatchSpares.{IsCatchAtLatch, catch_spares, catch_next_at}
+use Rattle.law_parts.proofs.OfMail.EpochSpares.{leave_spares}
+use Rattle.law_parts.specs.Mail.Spares.{SparesMailbox}
+use Rattle.law_parts.proofs.OfMail.Leaves.{LeavesMail, passed_spares, passed_mailbox, leaves_mailbox}
+use Rattle.law_parts.proofs.OfMail.OwnTurnSpares.{IsOwnTurnSparing, own_turn_spares, own_turn_next_spares, own_turn_given_spares, own_turn_begun_spares}
+use Rattle.law_parts.proofs.OfMail.Spares.{session_elsewhere, cut_elsewhere, mail_apart}
+
+-- what it works on beside its mailbox
+abbrev pub SittingLeaves : Places → SessionState → Sitting → Type 0
+SittingLeaves p s (Attempts has_shifted) = IsAttemptSparing p s.attempt
+SittingLeaves p s (Polls index) = IsAttemptSparing p s.attempt
+SittingLeaves p s (CatchesUp cause) = IsCatchAtLatch p s.catching
+SittingLeaves p s (Turns its) = IsOwnTurnSparing s.own_turn
+SittingLeaves p s step = ⊤
+
+abbrev pub IsSessionSpared : Places → SessionState → Type 0
+IsSessionSpared p s = SittingLeaves p s s.step
+
+sitting_spares : (k : Seat) (s : SessionState) (step : Sitting) → SittingLeaves k.places s step → sitting_mailing s step ≡ None → LeavesMail k.places (sitting_ask k s step)
+unfolding sitting_ask
+sitting_spares k s (Idle its) at none = tt
+sitting_spares k s (Attempts has_shifted) at none = passed_spares k.places _ _ (attempt_spares k.places k.number s.attempt at none)
+sitting_spares k s (CatchesUp cause) at none = passed_spares k.places _ _ (catch_spares k.places k.number s.catching s.requests at)
+sitting_spares k s ClearsMail at none = cc
+sitting_spares k s (Polls index) at none = passed_spares k.places _ _ (attempt_spares k.places k.number s.attempt at none)
+sitting_spares k s (StoresOwing index) at none = session_elsewhere k.places k.number own.Owing refl
+sitting_spares k s (Turns its) at none = passed_spares k.places _ _ (own_turn_spares k.places k.shape s.own_turn at)
+sitting_spares k s StoresCut at none = cut_elsewhere k.places k.number s.seen.version.0
+sitting_spares k s Leaves at none = passed_spares k.places _ _ (leave_spares k.places k.number s.leaving)
+sitting_spares k s LoadsDurable at none = tt
+
+pub session_asks_spares : (k : Seat) (s : SessionState) → IsSessionSpared k.places s → session_mailing s ≡ None → LeavesMail k.places (session_ask k s)
+session_asks_spares k s at none = sitting_spares k s s.step at none
+
+-- the machine of a mailbox is at the words of its own
+mail_spares : (session number : ℕ) (step : Mailing) → (number ≡ session → ⊥) → SparesMailbox session (mail_ask number step)
+unfolding mail_ask
+mail_spares session number (mailing.Ended its) apart = tt
+mail_spares session number (mailing.LoadsState task) apart = tt
+mail_spares session number mailing.LoadsHeader apart = tt
+mail_spares session number (mailing.LoadsKey header) apart = tt
+mail_spares session number (mailing.LoadsValue header key) apart = tt
+mail_spares session number (mailing.StoresEmpty its) apart = mail_apart session number (session_place number own.MailState) apart (omega arith) (omega arith)
+mail_spares session number (mailing.StoresAddress addr) apart = mail_apart session number (session_place number own.MailAddress) apart (omega arith) (omega arith)
+mail_spares session number mailing.StoresAsked apart = mail_apart session number (session_place number own.MailState) apart (omega arith) (omega arith)
+
+attempting_apart : (p : Places) (session number : ℕ) (a : AttemptState) (step : Attempting) (its : Mailing) → (number ≡ session → ⊥) → attempt_mailing a step ≡ Some its → SparesMailbox session (attempting_ask p number a step)
+unfolding attempting_ask
+attempting_apart p session number a attempting.Looks its apart some = passed_mailbox session _ _ (mail_spares session number a.mailing apart)
+attempting_apart p session number a attempting.Puts its apart some = passed_mailbox session _ _ (mail_spares session number a.mailing apart)
+attempting_apart p session number a (attempting.Ended told) its apart some = tt
+attempting_apart p session number a attempting.Tries its apart some = cc
+
+sitting_apart : (k : Seat) (session : ℕ) (s : SessionState) (step : Sitting) (its : Mailing) → (k.number ≡ session → ⊥) → sitting_mailing s step ≡ Some its → SparesMailbox session (sitting_ask k s step)
+unfolding sitting_ask
+sitting_apart k session s (Attempts has_shifted) its apart some = passed_mailbox session _ _ (attempting_apart k.places session k.number s.attempt s.attempt.step its apart some)
+sitting_apart k session s (Polls index) its apart some = passed_mailbox session _ _ (attempting_apart k.places session k.number s.attempt s.attempt.step its apart some)
+sitting_apart k session s ClearsMail its apart some = passed_mailbox session _ _ (mail_spares session k.number s.mailing apart)
+sitting_apart k session s (Idle told) its apart some = tt
+sitting_apart k session s (CatchesUp cause) its apart some = cc
+sitting_apart k session s (StoresOwing index) its apart some = cc
+sitting_apart k session s (Turns told) its apart some = cc
+sitting_apart k session s StoresCut its apart some = cc
+sitting_apart k session s Leaves its apart some = cc
+sitting_apart k session s LoadsDurable its apart some = tt
+
+-- so each ask spares a mailbox, but the session's own where a task with it is under way
+pub session_mailbox : (k : Seat) (session : ℕ) (s : SessionState) → session < k.places.sessions → IsSessionSpared k.places s → (k.number ≡ session → session_mailing s ≡ None) → SparesMailbox session (session_ask k s)
+session_mailbox k session s there at none = by_task (session_mailing s) refl
+  where
+    apart_then : (its : Mailing) → session_mailing s ≡ Some its → k.number ≡ session → ⊥
+    apart_then its some same = let clash : None ≡ Some its = sym (none same) ∙ some in cc
+
+    by_task : (found : Option Mailing) → session_mailing s ≡ found → SparesMailbox session (session_ask k s)
+    by_task None e = leaves_mailbox k.places session (session_ask k s) there (session_asks_spares k s at e)
+    by_task (Some its) e = sitting_apart k session s s.step its (apart_then its e) e
+
+-- where a call and a reply lead
+either_at : (c : Bool) (p : Places) (a b : SessionState) → IsSessionSpared p a → IsSessionSpared p b → IsSessionSpared p (if c then a else b)
+either_at true p a b one other = one
+either_at false p a b one other = other
+
+stays_at : (p : Places) (s : SessionState) (step : Sitting) → s.step ≡ step → SittingLeaves p s step → IsSessionSpared p s
+stays_at p s step at spared = subst (λ x. SittingLeaves p s x) (sym at) spared
+
+turn_after_at : (p : Places) (s : SessionState) (its : Told) → IsSessionSpared p (answers_after_turn s its)
+turn_after_at p s its = either_at s.wants_turn p (record s { own_turn = own_turn_begun s.own_turn; step = Turns its }) (answers s its) (own_turn_begun_spares s.own_turn) tt
+
+attempts_at : (k : Seat) (s : SessionState) (has_shifted : Bool) → IsSessionSpared k.places (attempts k s has_shifted)
+unfolding attempts
+attempts_at k s has_shifted = attempt_begun_spares k.places (bits_of k) s.attempt (request_in_hand s) s.seen AtCall s.spare s.is_orphaned
+
+polls_request_at : (k : Seat) (s : SessionState) (index : ℕ) (found : Option PendingRequest) → IsSessionSpared k.places (polls_request k s index found)
+polls_request_at k s index None = turn_after_at k.places s (told.Polled (length s.requests))
+polls_request_at k s index (Some pending) = attempt_begun_spares k.places (bits_of k) s.attempt pending s.seen AtPoll s.spare s.is_orphaned
+
+polling_at : (k : Seat) (s : SessionState) (index : ℕ) → IsSessionSpared k.places (polls_at k s index)
+unfolding polls_at
+polling_at k s index = polls_request_at k s index (slice_get s.requests index)
+
+accepts_at : (p : Places) (s : SessionState) (why : Reason) → IsSessionSpared p (accepts s why)
+unfolding accepts
+accepts_at p s why =
+    either_at (is_read s.op) p (answers (with_request (record s { ticket = ticket_after s.ticket })) (told.PendingRead (record { 0 = ticket_after s.ticket })))
+    (answers_after_turn (with_request (serial_taken (record s { wants_turn = is_no_room why }))) (told.Pending (record { 0 = s.serial + 1 }) why))
+    tt (turn_after_at p (with_request (serial_taken (record s { wants_turn = is_no_room why }))) (told.Pending (record { 0 = s.serial + 1 }) why))
+
+shifts_at : (p : Places) (s : SessionState) (has_shifted : Bool) → IsSessionSpared p (shifts s has_shifted)
+unfolding shifts
+shifts_at p s false = tt
+shifts_at p s true = accepts_at p s reason.Contended
+
+attempted_at : (p : Places) (s : SessionState) (has_shifted : Bool) (its : TryAnswer) → IsSessionSpared p (attempted s has_shifted its)
+attempted_at p s has_shifted (tried.Done reply) = either_at (is_read s.op) p (answers s told.Absent) (update_done s reply) tt tt
+attempted_at p s has_shifted (tried.Found value) = tt
+attempted_at p s has_shifted tried.Absent = tt
+attempted_at p s has_shifted (tried.Wait why) = accepts_at p s why
+attempted_at p s has_shifted (tried.AwaitsDisk sought) = accepts_at p s reason.Disk
+attempted_at p s has_shifted tried.Shift = shifts_at p s has_shifted
+attempted_at p s has_shifted tried.IndexFull = tt
+attempted_at p s has_shifted tried.LogFull = tt
+
+attempt_ledto_at : (p : Places) (s : SessionState) (has_shifted : Bool) (ask : Ask TryAnswer) → s.step ≡ Attempts has_shifted → IsAttemptSparing p s.attempt → IsSessionSpared p (attempt_ledto s has_shifted ask)
+unfolding attempt_ledto
+attempt_ledto_at p s has_shifted (Done its) at spared = attempted_at p (attempt_left s) has_shifted its
+attempt_ledto_at p s has_shifted ask at spared = stays_at p s (Attempts has_shifted) at spared
+
+finishes_at : (k : Seat) (s : SessionState) (index : ℕ) (its : TryAnswer) → IsSessionSpared k.places (finishes_request k s index its)
+unfolding finishes_request
+finishes_at k s index its = either_at (is_owed s) k.places (request_finished s index its) (polls_at k (request_finished s index its) index) tt (polling_at k (request_finished s index its) index)
+
+keeps_at : (k : Seat) (s : SessionState) (index : ℕ) (its : TryAnswer) → IsSessionSpared k.places (keeps_request k s index its)
+unfolding keeps_request
+keeps_at k s index its = polling_at k (record s { requests = slice_set s.requests index s.attempt.pending; wants_turn = s.wants_turn || lacks_room its }) (index + 1)
+
+poll_ledto_at : (k : Seat) (s : SessionState) (index : ℕ) (ask : Ask TryAnswer) → s.step ≡ Polls index → IsAttemptSparing k.places s.attempt → IsSessionSpared k.places (poll_ledto k s index ask)
+unfolding poll_ledto
+poll_ledto_at k s index (Done its) at spared = either_at (is_finished its) k.places (finishes_request k (attempt_left s) index its) (keeps_request k (attempt_left s) index its) (finishes_at k (attempt_left s) index its) (keeps_at k (attempt_left s) index its)
+poll_ledto_at k s index ask at spared = stays_at k.places s (Polls index) at spared
+
+caught_up_at : (k : Seat) (s : SessionState) (cause : CatchCause) → IsSessionSpared k.places (caught_up k s cause)
+caught_up_at k s Refreshes = tt
+caught_up_at k s Wakes = tt
+caught_up_at k s Shifts = attempts_at k s true
+
+catch_ledto_at : (k : Seat) (s : SessionState) (cause : CatchCause) (ask : Ask (Unit {0})) → s.step ≡ CatchesUp cause → IsCatchAtLatch k.places s.catching → IsSessionSpared k.places (catch_ledto k s cause ask)
+unfolding catch_ledto
+catch_ledto_at k s cause (Done its) at place = caught_up_at k (record s { seen = s.catching.seen }) cause
+catch_ledto_at k s cause ask at place = stays_at k.places s (CatchesUp cause) at place
+
+clear_at : (k : Seat) (s : SessionState) (ask : Ask MailAnswer) → s.step ≡ ClearsMail → IsSessionSpared k.places (clear_ledto k s ask)
+unfolding clear_ledto
+clear_at k s (Done Cleared) at = polling_at k (record s { is_orphaned = false }) 0
+clear_at k s (Done its) at = polling_at k s 0
+clear_at k s ask at = stays_at k.places s ClearsMail at tt
+
+turn_ledto_at : (p : Places) (s : SessionState) (its : Told) (ask : Ask (Unit {0})) → s.step ≡ Turns its → IsOwnTurnSparing s.own_turn → IsSessionSpared p (turn_ledto s its ask)
+unfolding turn_ledto
+turn_ledto_at p s its (Done through) at spared = tt
+turn_ledto_at p s its ask at spared = stays_at p s (Turns its) at spared
+
+leave_ledto_at : (p : Places) (s : SessionState) (ask : Ask (Unit {0})) → s.step ≡ Leaves → IsSessionSpared p (leave_ledto s ask)
+unfolding leave_ledto
+leave_ledto_at p s (Done its) at = tt
+leave_ledto_at p s ask at = stays_at p s Leaves at tt
+
+next_at : (k : Seat) (s : SessionState) (step : Sitting) (reply : ℕ) → s.step ≡ step → SittingLeaves k.places s step → IsSessionSpared k.places (sitting_next k s step reply)
+unfolding sitting_next
+next_at k s (Idle its) reply at spared = stays_at k.places s (Idle its) at tt
+next_at k s (Attempts has_shifted) reply at spared = attempt_ledto_at k.places (attempt_moved k s reply) has_shifted _ at (attempt_next_spares k.places (bits_of k) (room_of k) k.number s.attempt reply spared)
+next_at k s (CatchesUp cause) reply at spared = catch_ledto_at k (caught k s reply) cause _ at (catch_next_at k.places (bits_of k) k.number s.catching s.requests reply spared)
+next_at k s ClearsMail reply at spared = clear_at k (record s { mailing = mail_next s.mailing reply }) _ at
+next_at k s (Polls index) reply at spared = poll_ledto_at k (attempt_moved k s reply) index _ at (attempt_next_spares k.places (bits_of k) (room_of k) k.number s.attempt reply spared)
+next_at k s (StoresOwing index) reply at spared = polling_at k s index
+next_at k s (Turns its) reply at spared = turn_ledto_at k.places (own_turn_moved k s reply) its _ at (own_turn_next_spares k.shape s.own_turn reply spared)
+next_at k s StoresCut reply at spared = tt
+next_at k s Leaves reply at spared = leave_ledto_at k.places (record s { leaving = leave_next s.leaving }) _ at
+next_at k s LoadsDurable reply at spared = tt
+
+counted_at : (p : Places) (s : SessionState) (asks : ℕ) (step : Sitting) → SittingLeaves p s step → SittingLeaves p (record s { asks = asks; effect = None }) step
+counted_at p s asks (Attempts has_shifted) spared = spared
+counted_at p s asks (Polls index) spared = spared
+counted_at p s asks (Turns its) spared = spared
+counted_at p s asks (Idle its) spared = tt
+counted_at p s asks (CatchesUp cause) spared = spared
+counted_at p s asks ClearsMail spared = tt
+counted_at p s asks (StoresOwing index) spared = tt
+counted_at p s asks StoresCut spared = tt
+counted_at p s asks Leaves spared = tt
+counted_at p s asks LoadsDurable spared = tt
+
+session_next_at : (k : Seat) (s : SessionState) (reply : ℕ) → IsSessionSpared k.places s → IsSessionSpared k.places (session_next k s reply)
+session_next_at k s reply spared =
+    let asks : ℕ = asks_after s.asks (is_word_ask (session_ask k s)) in
+    next_at k (record s { asks = asks; effect = None }) s.step reply refl (counted_at k.places s asks s.step spared)
+
+given_at : (k : Seat) (s : SessionState) (step : Sitting) (action : Action) → s.step ≡ step → SittingLeaves k.places s step → IsSessionSpared k.places (sitting_given k s step action)
+unfolding sitting_given
+given_at k s (Turns its) action at spared = turn_ledto_at k.places (record s { own_turn = own_turn_given s.own_turn action }) its _ at (own_turn_given_spares s.own_turn action spared)
+given_at k s (Idle its) action at spared = stays_at k.places s (Idle its) at spared
+given_at k s (Attempts has_shifted) action at spared = stays_at k.places s (Attempts has_shifted) at spared
+given_at k s (CatchesUp cause) action at spared = stays_at k.places s (CatchesUp cause) at spared
+given_at k s ClearsMail action at spared = stays_at k.places s ClearsMail at spared
+given_at k s (Polls index) action at spared = stays_at k.places s (Polls index) at spared
+given_at k s (StoresOwing index) action at spared = stays_at k.places s (StoresOwing index) at spared
+given_at k s StoresCut action at spared = stays_at k.places s StoresCut at spared
+given_at k s Leaves action at spared = stays_at k.places s Leaves at spared
+given_at k s LoadsDurable action at spared = stays_at k.places s LoadsDurable at spared
+
+session_given_at : (k : Seat) (s : SessionState) (action : Action) → IsSessionSpared k.places s → IsSessionSpared k.places (session_given k s action)
+session_given_at k s action spared = given_at k s s.step action refl spared
+
+-- a call
+op_at : (k : Seat) (s : SessionState) (op : Op) (why : Option Fault) → IsSessionSpared k.places (op_begun k s op why)
+unfolding op_begun
+op_at k s op (Some why) = tt
+op_at k s op None = attempts_at k (record s { op = op }) false
+
+refresh_call_at : (p : Places) (s : SessionState) → IsSessionSpared p (refresh_call s)
+unfolding refresh_call
+refresh_call_at p s = either_at s.is_awake p (record s { catching = refresh_begun s.catching s.seen s.serial; step = CatchesUp Refreshes }) (refuses s fault.Asleep) tt tt
+
+poll_begun_at : (k : Seat) (s : SessionState) → IsSessionSpared k.places (poll_begun k s)
+poll_begun_at k s = either_at s.is_orphaned k.places (record s { mailing = mailing.LoadsState Clear; step = ClearsMail }) (polls_at k s 0) tt (polling_at k s 0)
+
+poll_call_at : (k : Seat) (s : SessionState) → IsSessionSpared k.places (poll_call k s)
+unfolding poll_call
+poll_call_at k s = either_at s.is_awake k.places (poll_begun k (record s { finished = [] })) (refuses s fault.Asleep) (poll_begun_at k (record s { finished = [] })) tt
+
+sleep_at : (p : Places) (s : SessionState) → IsSessionSpared p (sleep_call s)
+unfolding sleep_call
+sleep_at p s = either_at (not s.is_awake) p (refuses s fault.Asleep) _ tt (either_at (length s.requests == 0) p (record s { step = StoresCut }) (refuses s fault.PendingLeft) tt tt)
+
+wake_at : (p : Places) (s : SessionState) → IsSessionSpared p (wake_call s)
+unfolding wake_call
+wake_at p s = either_at s.is_awake p (refuses s fault.Awake) (record s { catching = wake_begun s.catching s.seen s.serial; step = CatchesUp Wakes }) tt tt
+
+call_at : (k : Seat) (s : SessionState) (its : Call) → IsSessionSpared k.places (call_begun k s its)
+call_at k s (call.Op op) = op_at k s op (refusal_of s op)
+call_at k s call.Refresh = refresh_call_at k.places s
+call_at k s call.Poll = poll_call_at k s
+call_at k s call.Sleep = sleep_at k.places s
+call_at k s call.Wake = wake_at k.places s
+call_at k s call.Durable = tt
+
+begins_at : (k : Seat) (s : SessionState) (busy : Bool) (its : Call) → IsSessionSpared k.places s → IsSessionSpared k.places (begins k s busy its)
+begins_at k s true its spared = spared
+begins_at k s false its spared = call_at k (record s { asks = 0; effect = None; wants_turn = false }) its
+
+happens_at : (k : Seat) (s : SessionState) (event : SessionEvent) → IsSessionSpared k.places s → IsSessionSpared k.places (session_happens k s event)
+unfolding session_happens
+happens_at k s (Begins its) spared = begins_at k s (is_busy s.step) its spared
+happens_at k s (Replies reply) spared = session_next_at k s reply spared
+happens_at k s (Gets action) spared = session_given_at k s action spared
+
+opened_at : (p : Places) (s : SessionState) (step : Sitting) → is_busy step ≡ false → SittingLeaves p s step
+opened_at p s (Idle its) idle = tt
+opened_at p s step idle = cc
+
+-- at every moment of a session's run
+pub session_run_at : (k : Seat) (opening : SessionState) (events : List SessionEvent) → IsOpened opening → IsSessionSpared k.places (session_run k opening events)
+unfolding session_run
+session_run_at k opening [] opened = opened_at k.places opening opening.step opened.none_in_hand
+session_run_at k opening (event ∷ before) opened = happens_at k (session_run k opening before) event (session_run_at k opening before opened)

@@ -1,0 +1,24 @@
+//! What the latches keep apart holds of every life of the engine.
+ghost use Rattle.std.specs.Prelude.{List};
+ghost use Rattle.fkv_latch.specs.Latched.{AreCounted, AreLatchesApart};
+ghost use Rattle.fkv_world.specs.World.{Event};
+ghost use Rattle.fkv_world.specs.Runs.{World, run};
+ghost use Rattle.law_parts.specs.Latches.Shows.{AreApart, AreFair, IsOpened, Shows, seen_by_latches};
+
+/// Over every life of the engine that begins as a store was opened, whatever its calls, commits, turns and the order of its steps: each
+/// ask of a session that works on no latch, and each of the keeper, adds nothing to the word of a latch, and keeps the latch's bits. So
+/// the words are those of a run of the world of latches, in which each session's actor is as far as the session's machine and holds
+/// what the session holds. So a latch that a session holds alone no other session holds alone, and no request that waits shares it;
+/// and the word of a latch counts just those who share it.
+pub fn law_world_latched()
+    ensures fair { (opening : World) (events : List Event) → IsOpened opening.now
+        → AreFair opening events }
+    ensures shows { (opening : World) (events : List Event) → IsOpened opening.now
+        → Shows (run opening events).now (seen_by_latches opening events) }
+    ensures apart { (opening : World) (events : List Event) → IsOpened opening.now
+        → AreApart (run opening events).now }
+    ensures latched { (opening : World) (events : List Event) → IsOpened opening.now
+        → AreLatchesApart (seen_by_latches opening events) }
+    ensures counted { (opening : World) (events : List Event) → IsOpened opening.now
+        → AreCounted (seen_by_latches opening events) }
+{}

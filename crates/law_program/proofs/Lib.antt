@@ -1,0 +1,2 @@
+mod OfPlayedCalls
+mod OfWholeCalls

@@ -1,0 +1,185 @@
+-- An operation that is played alone is answered by the map, in a life without commits.
+use Rattle.std.proofs.Common.{◌≡◌, ◌∙◌, ◌⊎◌, ℕ, zero, suc, List, [], ◌∷◌, Bool, true, false, ap, arith, inl, inr, length, refl, sym, subst, ◌+◌}
+use Rattle.std.specs.Prelude.{Option, Some, None, if◌then◌else◌, nat_lt, slice_get}
+use Rattle.std.proofs.lemmas.Bool.Decides.{nat_tests}
+use Rattle.fkv_base.specs.declared.faults.Fault.TheVariants.{NoSession}
+use Rattle.fkv_core.specs.Openings.{IsOpeningWorld, beginning}
+use Rattle.fkv_core.specs.Worlds.{WorldModel}
+use Rattle.fkv_core.specs.declared.events.Event as events
+use Rattle.fkv_core.specs.declared.events.Told as tells
+use Rattle.fkv_epoch.proofs.Shown.{none_some, some_same}
+use Rattle.fkv_map.specs.declared.operations.Call.{Call}
+use Rattle.fkv_map.specs.declared.operations.Call.TheVariants as call
+use Rattle.fkv_map.specs.declared.operations.Op.{Op}
+use Rattle.law_order.specs.OneHistory.EachLife.{InEachLife}
+use Rattle.fkv_opening.specs.declared.opened_store.Opened.{Opened}
+use Rattle.law_order.specs.Rules.Ordered.{HasLegalHistory, OrdersItsCalls, ReadsFreshly}
+use Rattle.law_order.proofs.OfRules.Beginning.{world_opens}
+use Rattle.fkv_playing.specs.Groups.{IsGroup, missing_session}
+use Rattle.fkv_playing.specs.Players.{PlayerState}
+use Rattle.fkv_playing.specs.Queues.{AreQueuesOf, QueueState}
+use Rattle.fkv_playing.specs.Seats.{SeatState}
+use Rattle.fkv_playing.specs.Texts.{text_of}
+use Rattle.fkv_playing.specs.declared.calls.ActorCall.TheVariants.{Session}
+use Rattle.fkv_playing.specs.declared.calls.Outcome.TheVariants.{Answered}
+use Rattle.fkv_playing.specs.declared.calls.Stage.TheVariants as stage
+use Rattle.fkv_playing.specs.declared.calls.Telling.{Telling}
+use Rattle.fkv_playing.specs.declared.calls.Telling.TheVariants.{Whole}
+use Rattle.fkv_session.specs.Sessions.{SessionState}
+use Rattle.fkv_session.specs.declared.answers.Told.{Told}
+use Rattle.fkv_session.specs.declared.answers.Told.TheVariants as tellings
+use Rattle.fkv_session.specs.declared.sessions.Sitting.TheVariants.{Idle}
+use Rattle.fkv_texts.specs.Refusals.{session_refusal}
+use Rattle.law_program.specs.WholeCalls.WholeCalls.{IsAnsweredByMap}
+use Rattle.fkv_world.specs.Past.{Effect}
+use Rattle.fkv_world.specs.Runs.{World, run}
+use Rattle.fkv_world.specs.World.{Calls, Event, Now}
+use Rattle.law_refine.specs.Results.Results.{IsResult, NobodyCalls, history_at, in_call}
+use Rattle.law_refine.proofs.OfResults.InCall.{result_told}
+use Rattle.law_order.specs.Served.Fits.{CallFits, OpFits}
+use Rattle.law_order.specs.Tickets.Few.{HasFewCalls}
+use Rattle.law_program.specs.PlayedCalls.PlayedCalls.{IsAnsweredAlone, IsLineOfSession, IsQuietLife, IsRefusedSession, IsReplyOfMap, IsToldTo, LinesGoOn, LinesReplyAsMap, RepliesAsMap, called_alone}
+use Rattle.law_program.proofs.OfPlayedCalls.Beats.{EndsCall, beats_end}
+use Rattle.law_program.proofs.OfPlayedCalls.InLife.{calls_few, calls_fit, no_commits, nobody_behind, was_alive, was_there}
+use Rattle.law_program.proofs.OfPlayedCalls.OneCall.{HasOneCall, first_call, played_out, refused_out}
+use Rattle.law_program.proofs.OfPlayedCalls.Steps.{GoesByRules}
+
+-- what the law of whole calls says
+abbrev pub AnswersWholeCalls : Type 0
+AnswersWholeCalls = (bytes : List ℕ) (o : Opened) (n : Now) (before : List Event) (number moves : ℕ) (op : Op) (s its : SessionState) (answer : Told) → IsOpeningWorld o n
+    → HasLegalHistory o n bytes (in_call number moves op before) → OrdersItsCalls o n bytes (in_call number moves op before) → ReadsFreshly o n bytes (in_call number moves op before)
+    → NobodyCalls (run (beginning n bytes) before).now → (run (beginning n bytes) before).now.crashed ≡ false → slice_get (run (beginning n bytes) before).now.sessions number ≡ Some s
+    → slice_get (run (beginning n bytes) (in_call number moves op before)).now.sessions number ≡ Some its → its.step ≡ Idle answer → IsAnsweredByMap o n bytes before (in_call number moves op before) op answer
+
+-- the session that is missing is the call's
+missing_number : (number its : ℕ) (c : Bool) → (if c then None else Some number) ≡ Some its → number ≡ its
+missing_number number its true e = none_some its e
+missing_number number its false e = some_same _ _ e
+
+there_number : (number : ℕ) (c : Bool) → (if c then None else Some number) ≡ None → c ≡ true
+there_number number true e = refl
+there_number number false e = none_some number (sym e)
+
+seat_there : (seats : List SeatState) (number : ℕ) → nat_lt number (length seats) ≡ true → (seat : SeatState) × (slice_get seats number ≡ Some seat)
+seat_there [] number below = absurd (grind (arith, nat_tests, below))
+seat_there (seat ∷ later) zero below = (seat, refl)
+seat_there (seat ∷ later) (suc number) below = seat_there later number (grind (arith, nat_tests, below))
+
+-- ---- a line
+-- the session has a seat, and its call has ended in the life
+pub record EndsLine {D : Type 0} (number : ℕ) (asked : Call) (opening : World) (life : List Event) (before after : PlayerState D) (text : List ℕ) : Type 0 where
+  pub seat : SeatState
+  pub sits : slice_get before.seats number ≡ Some seat
+  pub moves : ℕ
+  pub ends : EndsCall Whole number asked before.seats opening (called_alone number moves asked life) after text
+
+-- a line is refused, or its call has ended
+line_ends : {D : Type 0} (engine : events.Event → WorldModel D → WorldModel D → Option tells.Told → Bool → Type 0) (rules : GoesByRules engine) (number : ℕ) (asked : Call) (opening : World) (life : List Event) (queues left : List QueueState)
+    (before after : PlayerState D) (text : List ℕ) → (run opening life).now ≡ before.world.now → AreQueuesOf (Session number asked ∷ []) queues
+    → IsGroup engine (record { player = before; queues = queues }) (record { player = after; queues = left }) false text → IsRefusedSession number before after text ⊎ EndsLine number asked opening life before after text
+line_ends {D} engine rules number asked opening life queues left before after text shows are played = by_seat (missing_session before.seats (Session number asked)) refl
+  where
+    one : (place : ℕ) × HasOneCall stage.Begins (Session number asked) place queues
+    one = first_call (Session number asked) queues are
+
+    by_seat : (missing : Option ℕ) → missing_session before.seats (Session number asked) ≡ missing → IsRefusedSession number before after text ⊎ EndsLine number asked opening life before after text
+    by_seat None there =
+        let out = played_out engine (Session number asked) played.picks stage.Begins one.0 (record { player = before; queues = queues }) (record { player = after; queues = played.last }) text one.1 there (played.over refl) played.played in
+        let seat = seat_there before.seats number (there_number number (nat_lt number (length before.seats)) there) in
+        inr (record { seat = seat.0; sits = seat.1; moves = out.moves; ends = beats_end engine rules Whole number asked opening stage.Begins out.moves life before after out.outcome text shows out.ended out.beats })
+    by_seat (Some its) missing =
+        let out = refused_out engine (Session number asked) played.picks one.0 its (record { player = before; queues = queues }) (record { player = after; queues = played.last }) text one.1 missing (played.over refl) played.played in
+        inl (out.0, out.1 ∙ ap (λ (x : ℕ). session_refusal x NoSession) (sym (missing_number number its (nat_lt number (length before.seats)) missing)))
+
+-- ---- any call
+-- a life without commits goes on by it
+answered_alone : {D : Type 0} (number : ℕ) (asked : Call) (bytes : List ℕ) (o : Opened) (first : Now) (life : List Event) (before after : PlayerState D) (text : List ℕ) → IsQuietLife bytes o first life before.world.now
+    → NobodyCalls before.world.now → CallFits asked → HasFewCalls (Calls number asked ∷ life) → EndsLine number asked (beginning first bytes) life before after text → IsAnsweredAlone number asked bytes o first life before after text
+answered_alone number asked bytes o first life before after text quiet nobody fits few its =
+    let opening : World = beginning first bytes in
+    let answered = its.ends.answered in
+    let here : NobodyCalls (run opening life).now = subst NobodyCalls (sym quiet.shows) nobody in
+    let is_now : slice_get (run opening (called_alone number its.moves asked life)).now.sessions number ≡ Some answered.s = ap (λ (x : Now). slice_get x.sessions number) its.ends.shows ∙ answered.found in
+    record {
+      answer = answered.answer;
+      says = its.ends.says ∙ ap (text_of Whole asked before.seats after.world.now) answered.same;
+      moves = its.moves;
+      goes_on = record {
+        store = quiet.store;
+        opening = quiet.opening;
+        rests = no_commits number its.moves asked life quiet.rests;
+        fits = calls_fit number its.moves asked life fits quiet.fits;
+        few = calls_few number its.moves asked life few;
+        shows = its.ends.shows;
+      };
+      rests = subst NobodyCalls its.ends.shows (nobody_behind opening life number its.moves asked answered.s answered.its here is_now answered.at_rest);
+    }
+
+pub lines_go_on : {D : Type 0} (engine : events.Event → WorldModel D → WorldModel D → Option tells.Told → Bool → Type 0) → GoesByRules engine → LinesGoOn engine
+lines_go_on {D} engine rules bytes o first life number asked queues left before after text quiet nobody fits few are played =
+    by_end (line_ends engine rules number asked (beginning first bytes) life queues left before after text quiet.shows are played)
+  where
+    by_end : IsRefusedSession number before after text ⊎ EndsLine number asked (beginning first bytes) life before after text → IsRefusedSession number before after text ⊎ IsAnsweredAlone number asked bytes o first life before after text
+    by_end (inl refused) = inl refused
+    by_end (inr its) = inr (answered_alone number asked bytes o first life before after text quiet nobody fits few its)
+
+-- ---- an operation
+-- what an operation is told, by what has taken effect in its call
+told_to : (number : ℕ) (op : Op) (serial : ℕ) (before after : List Effect) (its : Told) → IsResult number op serial before after its → IsToldTo op its
+told_to number op serial before after (tellings.Done given its) result = result.0.update
+told_to number op serial before after (tellings.Pending given why) result = result.1
+told_to number op serial before after (tellings.Found value) result = result.1
+told_to number op serial before after tellings.Absent result = result.1
+told_to number op serial before after (tellings.PendingRead ticket) result = result.1
+told_to number op serial before after (tellings.Refused why) result = tt
+told_to number op serial before after other result = absurd result
+
+module _ (legal : InEachLife HasLegalHistory) (ordered : InEachLife OrdersItsCalls) (fresh : InEachLife ReadsFreshly) (whole : AnswersWholeCalls) where
+  -- a call that has ended in a life is the map's reply
+  pub reply_of : {D : Type 0} (telling : Telling) (number moves : ℕ) (op : Op) (bytes : List ℕ) (o : Opened) (first : Now) (life : List Event) (before after : PlayerState D) (text : List ℕ)
+      → IsQuietLife bytes o first life before.world.now → NobodyCalls before.world.now → OpFits op → HasFewCalls (Calls number (call.Op op) ∷ life)
+      → EndsCall telling number (call.Op op) before.seats (beginning first bytes) (in_call number moves op life) after text
+      → IsReplyOfMap telling number op bytes o first life before after text
+  reply_of telling number moves op bytes o first life before after text quiet nobody fits few ends =
+      let opening : World = beginning first bytes in
+      let all : List Event = in_call number moves op life in
+      let answered = ends.answered in
+      let here : NobodyCalls (run opening life).now = subst NobodyCalls (sym quiet.shows) nobody in
+      let no_commit = no_commits number moves (call.Op op) life quiet.rests in
+      let all_fit = calls_fit number moves (call.Op op) life fits quiet.fits in
+      let small : HasFewCalls all = calls_few number moves (call.Op op) life few in
+      let alive : (run opening life).now.crashed ≡ false = was_alive opening life number moves (call.Op op) (ap (λ (x : Now). x.crashed) ends.shows ∙ answered.alive) in
+      let is_now : slice_get (run opening all).now.sessions number ≡ Some answered.s = ap (λ (x : Now). slice_get x.sessions number) ends.shows ∙ answered.found in
+      let there = was_there opening life number moves (call.Op op) answered.s is_now in
+      let result = result_told opening life number moves op there.s answered.s answered.its (world_opens o first bytes quiet.opening) alive there.found (here number there.s there.found) is_now answered.at_rest in
+      let by_map = whole bytes o first life number moves op there.s answered.s answered.its quiet.opening
+      (legal bytes o first all quiet.store quiet.opening no_commit all_fit small)
+      (ordered bytes o first all quiet.store quiet.opening no_commit all_fit small)
+      (fresh bytes o first all quiet.store quiet.opening no_commit all_fit small)
+      here alive there.found is_now answered.at_rest in
+      record {
+        answer = answered.answer;
+        its = answered.its;
+        finished = answered.s.finished;
+        is_told = answered.is_told;
+        told_to = told_to number op (there.s.serial + 1) (history_at opening life) (history_at opening all) answered.its result;
+        says = ends.says ∙ ap (text_of telling (call.Op op) before.seats after.world.now) answered.same;
+        moves = moves;
+        by_map = by_map;
+        goes_on = record { store = quiet.store; opening = quiet.opening; rests = no_commit; fits = all_fit; few = small; shows = ends.shows };
+        rests = subst NobodyCalls ends.shows (nobody_behind opening life number moves (call.Op op) answered.s answered.its here is_now answered.at_rest);
+      }
+
+  pub replies : {D : Type 0} (engine : events.Event → WorldModel D → WorldModel D → Option tells.Told → Bool → Type 0) → GoesByRules engine → RepliesAsMap engine
+  replies engine rules bytes o first life telling number op before after text quiet nobody fits few played =
+      reply_of telling number played.moves op bytes o first life before after text quiet nobody fits few
+      (beats_end engine rules telling number (call.Op op) (beginning first bytes) stage.Begins played.moves life before after Answered text quiet.shows (played.over, refl) played.beats)
+
+  -- so it is of a line
+  pub lines_reply : {D : Type 0} (engine : events.Event → WorldModel D → WorldModel D → Option tells.Told → Bool → Type 0) → GoesByRules engine → LinesReplyAsMap engine
+  lines_reply {D} engine rules bytes o first life number op queues left before after text quiet nobody fits few are played =
+      by_end (line_ends engine rules number (call.Op op) (beginning first bytes) life queues left before after text quiet.shows are played)
+    where
+      by_end : IsRefusedSession number before after text ⊎ EndsLine number (call.Op op) (beginning first bytes) life before after text → IsRefusedSession number before after text ⊎ IsLineOfSession number op bytes o first life before after text
+      by_end (inl refused) = inl refused
+      by_end (inr its) = inr (record { seat = its.seat; sits = its.sits; reply = reply_of Whole number its.moves op bytes o first life before after text quiet nobody fits few its.ends })

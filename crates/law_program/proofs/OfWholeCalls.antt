@@ -1,0 +1,5 @@
+mod CallTold
+pub mod Calls
+mod Fresh
+mod Updated
+pub mod Whole

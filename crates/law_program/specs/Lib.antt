@@ -1,0 +1,2 @@
+pub mod PlayedCalls
+pub mod WholeCalls

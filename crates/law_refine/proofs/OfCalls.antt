@@ -1,0 +1,11 @@
+mod Called
+pub mod InHand
+mod Life
+pub mod LifeHistory
+mod MadeBy
+mod Named
+mod Once
+pub mod SameHistory
+mod Standing
+mod Telling
+pub mod UpdateLines

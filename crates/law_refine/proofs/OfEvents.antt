@@ -1,0 +1,21 @@
+pub mod Apart
+mod AppendSteps
+mod AttemptEffects
+mod AttemptSteps
+mod Between
+pub mod EventEffects
+pub mod Fixed
+mod NoSlots
+pub mod Own
+mod ReadTries
+pub mod RequestNames
+mod ReservedCells
+pub mod ReservedLife
+pub mod SessionEffects
+pub mod SessionSteps
+pub mod Trace
+mod TryAppends
+mod TryEffects
+mod TrySteps
+pub mod Unborn
+pub mod Worked

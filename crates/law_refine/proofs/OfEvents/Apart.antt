@@ -1,0 +1,96 @@
+-- What the guard keeps of addresses that are reserved, said of what sessions have reserved.
+use Rattle.std.proofs.Common.{◌≡◌, ℕ, suc, ◌<◌, ◌≤◌, ◌∙◌, refl, sym, ap, subst, List}
+use Rattle.std.specs.Prelude.{Option, Some, None}
+use Rattle.fkv_map.specs.declared.history.HistoryEntry.{HistoryEntry}
+use Rattle.fkv_flush.specs.Guarded.{undecided_at, undecided_of}
+use Rattle.fkv_flush.specs.GuardReserved.{UndecidedApart}
+use Rattle.fkv_flush.specs.GuardSeen.{LastSeen}
+use Rattle.fkv_flush.specs.GuardWorld.{GuardWorld}
+use Rattle.fkv_flush.specs.GuardLevels.{levels_of}
+use Rattle.fkv_flush.proofs.Shown.{opening_apart, opening_sound, run_apart, undecided_fresh}
+use Rattle.fkv_log.specs.declared.invalidating.Invalidating.{Invalidating}
+use Rattle.fkv_log.specs.declared.invalidating.Invalidating.TheVariants as invalidating
+use Rattle.fkv_ops.specs.declared.appending.Appending.{Appending}
+use Rattle.fkv_ops.specs.declared.appending.Appending.TheVariants as appending
+use Rattle.fkv_ops.specs.declared.trying.Trying.{Trying}
+use Rattle.fkv_ops.specs.declared.trying.Trying.TheVariants.{Appends}
+use Rattle.fkv_ops.specs.Appending.{AppendState}
+use Rattle.fkv_ops.specs.Trying.{TryState}
+use Rattle.fkv_pending.specs.declared.attempting.Attempting.{Attempting}
+use Rattle.fkv_pending.specs.declared.attempting.Attempting.TheVariants.{Tries}
+use Rattle.fkv_pending.specs.declared.pending_requests.PendingRequest.{PendingRequest}
+use Rattle.fkv_pending.specs.Attempting.{AttemptState}
+use Rattle.fkv_session.specs.declared.sessions.Sitting.{Sitting}
+use Rattle.fkv_session.specs.declared.sessions.Sitting.TheVariants as sitting
+use Rattle.fkv_session.specs.Sessions.{SessionState}
+use Rattle.law_guard.specs.Sessions.Likenesses.{append_undecided, invalidate_undecided, last_seen}
+use Rattle.law_guard.specs.Sessions.Tries.{try_likeness_at}
+use Rattle.law_guard.specs.Sessions.Attempts.{attempt_likeness_at}
+use Rattle.law_guard.specs.Sessions.Sessions.{sitting_likeness}
+use Rattle.fkv_world.specs.Runs.{World, run}
+use Rattle.fkv_world.specs.World.{Event, Now}
+use Rattle.law_guard.specs.Guarded.GuardEvents as guard
+use Rattle.law_guard.specs.Guarded.GuardEvents.{keeper_number}
+use Rattle.law_guard.specs.Guarded.Shows.{IsOpened, Shows, guard_opening, seen_by_guard}
+use Rattle.law_guard.proofs.OfGuarded.Worlds.{life_shows}
+use Rattle.law_refine.specs.Events.Reservations.{Reservation, invalidate_reserves, append_reserves, try_reserves, attempt_reserves}
+use Rattle.law_refine.specs.Events.Reserved.{HasReserved, ReservationsAreApart, ReservationsAreOpen, sitting_reserves}
+
+-- its address
+abbrev addr_of : Option Reservation → Option ℕ
+addr_of None = None
+addr_of (Some its) = Some its.addr
+
+-- ---- it is the address that the guard has as undecided
+invalidate_addr : (a : AppendState) (entry : HistoryEntry) (its : Invalidating) → addr_of (invalidate_reserves a entry its) ≡ invalidate_undecided its
+invalidate_addr a entry invalidating.AtRest = refl
+invalidate_addr a entry (invalidating.StoresHeader addr header) = refl
+
+append_addr : (a : AppendState) (entry : HistoryEntry) (step : Appending) → addr_of (append_reserves a entry step) ≡ append_undecided a step
+append_addr a entry (appending.Ended its) = refl
+append_addr a entry appending.Reserves = refl
+append_addr a entry (appending.Fills addr) = refl
+append_addr a entry (appending.Publishes addr) = refl
+append_addr a entry appending.Invalidates = invalidate_addr a entry a.invalidating
+
+try_addr : (number : ℕ) (pending : PendingRequest) (seen : LastSeen) (t : TryState) (step : Trying) (addr : ℕ) → addr_of (try_reserves number pending t step) ≡ Some addr → (try_likeness_at seen t step).undecided ≡ Some addr
+try_addr number pending seen t (Appends its) addr e = sym (append_addr t.append _ t.append.step) ∙ e
+try_addr number pending seen t step addr e = cc
+
+attempt_addr : (number : ℕ) (seen : LastSeen) (a : AttemptState) (step : Attempting) (addr : ℕ) → addr_of (attempt_reserves number a step) ≡ Some addr → (attempt_likeness_at seen a step).undecided ≡ Some addr
+attempt_addr number seen a Tries addr e = try_addr number a.pending seen a.trial a.trial.step addr e
+attempt_addr number seen a step addr e = cc
+
+sitting_addr : (number : ℕ) (s : SessionState) (step : Sitting) (addr : ℕ) → addr_of (sitting_reserves number s step) ≡ Some addr → (sitting_likeness s step).undecided ≡ Some addr
+sitting_addr number s (sitting.Attempts has_shifted) addr e = attempt_addr number (last_seen s.seen) s.attempt s.attempt.step addr e
+sitting_addr number s (sitting.Polls index) addr e = attempt_addr number (last_seen s.seen) s.attempt s.attempt.step addr e
+sitting_addr number s step addr e = cc
+
+-- ---- of a world that the guard's shows
+undecided_so : (n : Now) (w : GuardWorld) (number : ℕ) (its : Reservation) → Shows n w → HasReserved n number its → undecided_of w.now.actors number ≡ Some its.addr
+undecided_so n w number its shows has =
+    let seat = shows.sessions number has.state has.found in
+    ap undecided_at seat.sits.got ∙ (seat.sits.fits.undecided ∙ sitting_addr number has.state has.state.step its.addr (ap addr_of has.reserved))
+
+life_apart : (opening : World) (start : ℕ) (events : List Event) → IsOpened opening.now start → UndecidedApart (seen_by_guard opening start events).now.actors
+life_apart opening start events opened =
+    run_apart (guard_opening opening.now start) (guard.mapped opening events) (opening_sound opening.now.shape opening.now.places (suc (keeper_number opening.now)) opening.now.words start opened.words)
+    (opening_apart opening.now.shape opening.now.places (suc (keeper_number opening.now)) opening.now.words start)
+
+pub reserved_apart : (opening : World) (start : ℕ) (events : List Event) → IsOpened opening.now start → ReservationsAreApart (run opening events).now
+reserved_apart opening start events opened = λ number other its another has had same.
+    let n : Now = (run opening events).now in
+    let w : GuardWorld = seen_by_guard opening start events in
+    let shows = life_shows opening start events opened in
+    life_apart opening start events opened number other its.addr (undecided_so n w number its shows has) (undecided_so n w other another shows had ∙ ap (λ (a : ℕ). Some a) (sym same))
+
+pub reserved_open : (opening : World) (start : ℕ) (events : List Event) → IsOpened opening.now start → ReservationsAreOpen (run opening events).now
+reserved_open opening start events opened = λ number its has.
+    let n : Now = (run opening events).now in
+    let w : GuardWorld = seen_by_guard opening start events in
+    let shows = life_shows opening start events opened in
+    let fresh = undecided_fresh w shows.sound in
+    let there = undecided_so n w number its shows has in (
+      subst (λ (words : List ℕ). (levels_of words).safe_read_only ≤ its.addr) shows.words (fresh.safe number its.addr there),
+      subst (λ (words : List ℕ). its.addr < (levels_of words).tail) shows.words (fresh.reserved number its.addr there),
+    )

@@ -1,0 +1,144 @@
+-- What machines do is neither told nor fixes records.
+use Rattle.std.proofs.Common.{ℕ, Bool, true, false, List, [], ◌∷◌, ◌++◌}
+use Rattle.std.specs.Prelude.{⊤, slice_get, Option, Some, None, if◌then◌else◌, ◌==◌}
+use Rattle.fkv_map.specs.declared.history.HistoryEntry.{HistoryEntry}
+use Rattle.fkv_map.specs.declared.operations.Op.{Op}
+use Rattle.fkv_map.specs.declared.operations.Op.TheVariants.{Read}
+use Rattle.fkv_order.specs.Ghosts.{GhostEvent, Tells, Fixes}
+use Rattle.fkv_plane.specs.declared.asks.Ask.{Ask}
+use Rattle.fkv_plane.specs.declared.asks.Ask.TheVariants.{Put, Take, Done}
+use Rattle.fkv_plane.specs.declared.places.Places.{Places}
+use Rattle.fkv_plane.specs.Asked.{reply_to}
+use Rattle.fkv_log.specs.declared.invalidating.Invalidating.{Invalidating}
+use Rattle.fkv_log.specs.declared.invalidating.Invalidating.TheVariants as invalidating
+use Rattle.fkv_log.specs.declared.reserving.ReserveAnswer.{ReserveAnswer}
+use Rattle.fkv_log.specs.declared.reserving.ReserveAnswer.TheVariants.{Reserved}
+use Rattle.fkv_log.specs.Reserving.{reserve_next_ask}
+use Rattle.fkv_index.specs.declared.publishing.PublishAnswer.{PublishAnswer}
+use Rattle.fkv_index.specs.declared.publishing.PublishAnswer.TheVariants.{Won}
+use Rattle.fkv_index.specs.declared.finding.Found.{Found}
+use Rattle.fkv_index.specs.declared.finding.Found.TheVariants.{Slot, NoSlot}
+use Rattle.fkv_index.specs.declared.finding.FindAnswer.{FindAnswer}
+use Rattle.fkv_index.specs.Finding.{find_next_ask}
+use Rattle.fkv_index.specs.Publishing.{publish_next_ask}
+use Rattle.fkv_ops.specs.declared.answers.TryAnswer.{TryAnswer}
+use Rattle.fkv_ops.specs.declared.answers.TryAnswer.TheVariants as answer
+use Rattle.fkv_ops.specs.declared.appending.Appending.{Appending}
+use Rattle.fkv_ops.specs.declared.appending.Appending.TheVariants as appending
+use Rattle.fkv_ops.specs.declared.trying.Trying.{Trying}
+use Rattle.fkv_ops.specs.declared.trying.Trying.TheVariants.{Walks, SwapsValue, ChangesValue, Appends}
+use Rattle.fkv_ops.specs.declared.walking.Walking.{Walking}
+use Rattle.fkv_ops.specs.declared.walking.Walking.TheVariants.{Finds}
+use Rattle.fkv_ops.specs.Appending.{AppendState}
+use Rattle.fkv_ops.specs.Trying.{TryState}
+use Rattle.fkv_ops.specs.Walking.{WalkState}
+use Rattle.fkv_pending.specs.declared.attempting.Attempting.{Attempting}
+use Rattle.fkv_pending.specs.declared.attempting.Attempting.TheVariants.{Tries}
+use Rattle.fkv_pending.specs.declared.pending_requests.PendingRequest.{PendingRequest}
+use Rattle.fkv_pending.specs.Attempting.{AttemptState, attempt_ask, attempt_next}
+use Rattle.fkv_session.specs.declared.answers.Told.{Told}
+use Rattle.fkv_session.specs.declared.sessions.Sitting.{Sitting}
+use Rattle.fkv_session.specs.declared.sessions.Sitting.TheVariants as sitting
+use Rattle.fkv_session.specs.Sessions.{SessionState, Seat, bits_of, room_of, session_ask}
+use Rattle.fkv_world.specs.Past.{Traced}
+use Rattle.fkv_world.specs.Runs.{World}
+use Rattle.fkv_world.specs.World.{Event, Moves, seat_at}
+use Rattle.law_refine.specs.Events.Appends.{reserved_ghosts, publish_ghosts, invalidate_ghosts, append_ghosts, is_for_entry}
+use Rattle.law_refine.specs.Events.GhostEvents.{moved_ghosts, own_ghosts}
+use Rattle.law_refine.specs.Events.Lines.{read_in_hand, read_waiting}
+use Rattle.law_refine.specs.Events.Sessions.{value_ghosts, tried_ghosts, attempt_ghosts, ticket_of, sitting_ghosts, step_ghosts}
+use Rattle.law_refine.specs.Events.Tries.{found_ghosts, find_ghosts, walk_ghosts, search_ghosts, try_ghosts}
+
+-- it tells nothing, and fixes nothing
+abbrev pub is_own : GhostEvent → Type 0
+is_own (Tells line) = ⊥
+is_own (Fixes a) = ⊥
+is_own event = ⊤
+
+abbrev pub AreOwn : List GhostEvent → Type 0
+AreOwn [] = ⊤
+AreOwn (event ∷ before) = is_own event × AreOwn before
+
+either : (c : Bool) (xs ys : List GhostEvent) → AreOwn xs → AreOwn ys → AreOwn (if c then xs else ys)
+either true xs ys one other = one
+either false xs ys one other = other
+
+reserved_own : (a : AppendState) (entry : HistoryEntry) (ask : Ask ReserveAnswer) → AreOwn (reserved_ghosts a entry ask)
+reserved_own a entry (Done (Reserved addr)) = either (is_for_entry a addr) _ _ (tt, tt) (tt, (tt, tt))
+reserved_own a entry ask = tt
+
+publish_own : (addr : ℕ) (ask : Ask PublishAnswer) → AreOwn (publish_ghosts addr ask)
+publish_own addr (Done Won) = (tt, tt)
+publish_own addr ask = tt
+
+invalidate_own : (its : Invalidating) → AreOwn (invalidate_ghosts its)
+invalidate_own invalidating.AtRest = tt
+invalidate_own (invalidating.StoresHeader addr header) = (tt, tt)
+
+append_own : (room : ℕ) (a : AppendState) (entry : HistoryEntry) (step : Appending) (reply : ℕ) → AreOwn (append_ghosts room a entry step reply)
+append_own room a entry appending.Reserves reply = reserved_own a entry (reserve_next_ask room a.reserving reply)
+append_own room a entry (appending.Publishes addr) reply = publish_own addr.0 (publish_next_ask a.publishing reply)
+append_own room a entry appending.Invalidates reply = invalidate_own a.invalidating
+append_own room a entry step reply = tt
+
+found_own : (reader : ℕ) (its : Found) → AreOwn (found_ghosts reader its)
+found_own reader (Slot place word) = (tt, tt)
+found_own reader NoSlot = (tt, tt)
+found_own reader its = tt
+
+find_own : (reader : ℕ) (ask : Ask FindAnswer) → AreOwn (find_ghosts reader ask)
+find_own reader (Done its) = found_own reader its.found
+find_own reader ask = tt
+
+walk_own : (p : Places) (reader : ℕ) (w : WalkState) (step : Walking) (reply : ℕ) → AreOwn (walk_ghosts p reader w step reply)
+walk_own p reader w Finds reply = find_own reader (find_next_ask p w.finding reply)
+walk_own p reader w step reply = tt
+
+search_own : (p : Places) (op : Op) (reader : ℕ) (w : WalkState) (reply : ℕ) → AreOwn (search_ghosts p op reader w reply)
+search_own p (Read key) reader w reply = walk_own p reader w w.step reply
+search_own p op reader w reply = tt
+
+try_own : (p : Places) (room session reader : ℕ) (pending : PendingRequest) (t : TryState) (step : Trying) (reply : ℕ) → AreOwn (try_ghosts p room session reader pending t step reply)
+try_own p room session reader pending t Walks reply = search_own p pending.request.op reader t.walk reply
+try_own p room session reader pending t (SwapsValue addr) reply = (tt, tt)
+try_own p room session reader pending t (ChangesValue addr old) reply = either (reply == old) _ _ (tt, tt) tt
+try_own p room session reader pending t (Appends its) reply = append_own room t.append _ t.append.step reply
+try_own p room session reader pending t step reply = tt
+
+value_own : (op : Op) (reader : ℕ) (ask : Ask TryAnswer) → AreOwn (value_ghosts op reader ask)
+value_own (Read key) reader (Done (answer.Found value)) = (tt, tt)
+value_own (Read key) reader (Done answer.Absent) = (tt, tt)
+value_own op reader ask = tt
+
+tried_own : (k : Seat) (reader : ℕ) (a : AttemptState) (step : Attempting) (reply : ℕ) → AreOwn (tried_ghosts k reader a step reply)
+tried_own k reader a Tries reply = try_own k.places (room_of k) k.number reader a.pending a.trial a.trial.step reply
+tried_own k reader a step reply = tt
+
+pub both : (later before : List GhostEvent) → AreOwn later → AreOwn before → AreOwn (later ++ before)
+both [] before one other = other
+both (event ∷ later) before one other = (one.0, both later before one.1 other)
+
+attempt_own : (k : Seat) (reader : ℕ) (a : AttemptState) (reply : ℕ) → AreOwn (attempt_ghosts k reader a reply)
+attempt_own k reader a reply =
+    let ask : Ask TryAnswer = attempt_ask k.places k.number (attempt_next k.places (bits_of k) (room_of k) k.number a reply) in
+    both (value_ghosts a.pending.request.op reader ask) (tried_ghosts k reader a a.step reply) (value_own a.pending.request.op reader ask) (tried_own k reader a a.step reply)
+
+sitting_own : (k : Seat) (trace : List Traced) (s : SessionState) (step : Sitting) (reply : ℕ) → AreOwn (sitting_ghosts k trace s step reply)
+sitting_own k trace s (sitting.Attempts has_shifted) reply = attempt_own k (read_in_hand k.number trace) s.attempt reply
+sitting_own k trace s (sitting.Polls index) reply = attempt_own k (read_waiting k.number (ticket_of s.attempt.pending.name) trace) s.attempt reply
+sitting_own k trace s step reply = tt
+
+step_own : (k : Seat) (trace : List Traced) (s : SessionState) (words : List ℕ) (ask : Ask Told) → AreOwn (step_ghosts k trace s words ask)
+unfolding step_ghosts
+step_own k trace s words (Done its) = tt
+step_own k trace s words (Put slot action) = tt
+step_own k trace s words (Take slot) = tt
+step_own k trace s words ask = sitting_own k trace s s.step (reply_to words ask)
+
+moved_own : (w : World) (session : ℕ) (found : Option SessionState) → AreOwn (moved_ghosts w session found)
+moved_own w session None = tt
+moved_own w session (Some s) = step_own (seat_at w.now session) w.past.trace s w.now.words (session_ask (seat_at w.now session) s)
+
+pub own_own : (w : World) (event : Event) → AreOwn (own_ghosts w event)
+own_own w (Moves session) = moved_own w session (slice_get w.now.sessions session)
+own_own w event = tt

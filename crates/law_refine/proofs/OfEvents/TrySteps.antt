@@ -1,0 +1,276 @@
+-- How a reply to a try moves what it has reserved, beside the log's events of the step: none but an append reserves anything.
+use Rattle.std.proofs.Common.{◌≡◌, ℕ, ◌∙◌, refl, sym, ap, subst, Bool, true, false, List, [], ◌∷◌}
+use Rattle.std.specs.Prelude.{◌==◌, ◌&&◌, not, nat_le, if◌then◌else◌, Option, Some, None}
+use Rattle.fkv_base.specs.declared.numbers.Addr.{Addr}
+use Rattle.fkv_base.specs.declared.numbers.Version.{Version}
+use Rattle.fkv_map.specs.declared.history.HistoryEntry.{HistoryEntry}
+use Rattle.fkv_map.specs.declared.operations.Op.{Op}
+use Rattle.fkv_map.specs.declared.operations.Op.TheVariants.{Read}
+use Rattle.fkv_map.specs.declared.operations.Reply.{Reply}
+use Rattle.fkv_map.specs.Map.{absent_word}
+use Rattle.fkv_map.specs.Keys.{key_of, reply_from}
+use Rattle.fkv_order.specs.Ghosts.{GhostEvent, Changes}
+use Rattle.fkv_plane.specs.declared.asks.Ask.{Ask}
+use Rattle.fkv_plane.specs.declared.asks.Ask.TheVariants.{Done}
+use Rattle.fkv_plane.specs.declared.places.Places.{Places}
+use Rattle.fkv_plane.specs.Asked.{asked, asked_place}
+use Rattle.fkv_plane.specs.Passing.{is_done}
+use Rattle.fkv_log.specs.declared.regions.Region.{Region}
+use Rattle.fkv_log.specs.Regions.{seen_region_of}
+use Rattle.fkv_latch.specs.declared.latching.LatchAnswer.{LatchAnswer}
+use Rattle.fkv_latch.specs.declared.latching.LatchAnswer.TheVariants as latch
+use Rattle.fkv_latch.specs.declared.latching.LatchTask.TheVariants.{TakeShared, DropShared, TakeExclusive, DropExclusive}
+use Rattle.fkv_latch.specs.Latching.{latch_next_ask}
+use Rattle.fkv_index.specs.declared.finding.Found.{Found}
+use Rattle.fkv_index.specs.declared.finding.Found.TheVariants.{Slot, NoSlot}
+use Rattle.fkv_index.specs.declared.finding.FindAnswer.{FindAnswer}
+use Rattle.fkv_index.specs.Finding.{find_next_ask}
+use Rattle.fkv_index.specs.Slots.{home_of}
+use Rattle.fkv_ops.specs.declared.answers.Reason.TheVariants as reason
+use Rattle.fkv_ops.specs.declared.answers.TryAnswer.{TryAnswer}
+use Rattle.fkv_ops.specs.declared.answers.TryAnswer.TheVariants as answer
+use Rattle.fkv_ops.specs.declared.appending.Appending.{Appending}
+use Rattle.fkv_ops.specs.declared.appending.Appending.TheVariants as appending
+use Rattle.fkv_ops.specs.declared.appending.AppendAnswer.{AppendAnswer}
+use Rattle.fkv_ops.specs.declared.appending.AppendAnswer.TheVariants as append
+use Rattle.fkv_ops.specs.declared.requests.HeldRecord.{HeldRecord}
+use Rattle.fkv_ops.specs.declared.requests.Occasion.{Occasion}
+use Rattle.fkv_ops.specs.declared.requests.Request.{Request}
+use Rattle.fkv_ops.specs.declared.requests.Seen.{Seen}
+use Rattle.fkv_ops.specs.declared.trying.OldValue.{OldValue}
+use Rattle.fkv_ops.specs.declared.trying.OldValue.TheVariants.{InMemory, Known}
+use Rattle.fkv_ops.specs.declared.trying.Trying.{Trying}
+use Rattle.fkv_ops.specs.declared.trying.Trying.TheVariants.{Ended, TakesShared, Walks, LoadsSafe, SwapsValue, LoadsCurrent, ChangesValue, LoadsAnswer, TakesExclusive, LoadsOld, Appends, DropsExclusive, DropsShared}
+use Rattle.fkv_ops.specs.declared.walking.WalkAnswer.{WalkAnswer}
+use Rattle.fkv_ops.specs.declared.walking.WalkAnswer.TheVariants as walk
+use Rattle.fkv_ops.specs.declared.walking.Walking.{Walking}
+use Rattle.fkv_ops.specs.declared.walking.Walking.TheVariants.{Finds}
+use Rattle.fkv_ops.specs.Requests.{is_read, is_blind}
+use Rattle.fkv_ops.specs.Values.{value_of}
+use Rattle.fkv_ops.specs.Walking.{WalkState, walk_ask, walk_next, walk_on}
+use Rattle.fkv_ops.specs.Appending.{AppendState, append_ask, append_next}
+use Rattle.fkv_ops.specs.Trying.{TryState, with_latch, is_wait, ended_without, ends, takes_effect, full_at, walks, wants_shared, try_begun, shared_ledto, must_shift, wants_exclusive, appends, copies_from, copies, awaits, held_used, met_nowhere, met_disk, changes, is_own_version, region_met, met_record, walked, has_walked, walk_ledto, safe_loaded, current_ledto, value_changed, told_value, answer_ledto, exclusive_ledto, old_ledto, append_ledto, exclusive_dropped, shared_dropped, latch_moved, walk_moved, trying_ask, trying_next, try_ask, try_next}
+use Rattle.fkv_ops.proofs.Shown.{is_append_end, append_done, append_rests, TryRestsOrAsks, IsAppendUnderWay}
+use Rattle.fkv_pending.specs.declared.pending_requests.PendingRequest.{PendingRequest}
+use Rattle.law_refine.specs.Events.Appends.{entry_made, append_ghosts}
+use Rattle.law_refine.specs.Events.Reservations.{AreStill, MovesOn, Keeps, Reservation, append_reserves, try_reserves}
+use Rattle.law_refine.specs.Events.Tries.{found_ghosts, find_ghosts, walk_ghosts, search_ghosts, try_ghosts}
+use Rattle.law_refine.proofs.OfEvents.AppendSteps.{passes, append_on}
+
+-- nothing is reserved by it
+abbrev pub IsFree : TryState → Type 0
+IsFree t = (session : ℕ) (pending : PendingRequest) → try_reserves session pending t t.step ≡ None
+
+either_free : (c : Bool) (a b : TryState) → IsFree a → IsFree b → IsFree (if c then a else b)
+either_free true a b one other = one
+either_free false a b one other = other
+
+without_free : (p : Places) (t : TryState) (its : TryAnswer) → IsFree (ended_without p t its)
+without_free p t its =
+    either_free (t.has_shared && not (is_wait its)) (with_latch p (record t { has_shared = false }) DropShared (DropsShared its)) (record t { step = Ended its }) (λ session pending. refl) (λ session pending. refl)
+
+ends_free : (p : Places) (t : TryState) (its : TryAnswer) → IsFree (ends p t its)
+unfolding ends
+ends_free p t its = either_free t.has_exclusive (with_latch p (record t { has_exclusive = false }) DropExclusive (DropsExclusive its)) (ended_without p t its) (λ session pending. refl) (without_free p t its)
+
+appends_free : (t : TryState) (old : ℕ) → IsFree (appends t old)
+unfolding appends
+appends_free t old = λ session pending. refl
+
+copies_from_free : (t : TryState) (old : OldValue) → IsFree (copies_from t old)
+unfolding copies_from
+copies_from_free t (Known old) = appends_free t old
+copies_from_free t InMemory = either_free (is_blind t.request.op) (appends t absent_word) (record t { walk = walk_on t.walk; step = LoadsOld }) (appends_free t absent_word) (λ session pending. refl)
+
+copies_free : (p : Places) (t : TryState) (old : OldValue) (is_current : Bool) → IsFree (copies p t old is_current)
+unfolding copies
+copies_free p t old is_current = either_free (wants_exclusive t is_current) (with_latch p t TakeExclusive (TakesExclusive old)) (copies_from t old) (λ session pending. refl) (copies_from_free t old)
+
+held_free : (p : Places) (t : TryState) (addr : Addr) (held : Option HeldRecord) → IsFree (held_used p t addr held)
+unfolding held_used
+held_free p t addr None = ends_free p t (answer.AwaitsDisk (record { entry = t.walk.entry; addr = addr }))
+held_free p t addr (Some held) =
+    either_free (held.entry == t.walk.entry)
+    (if held.key.0 == (key_of t.request.op).0 then copies p t (Known held.value) false else if held.previous.0 == 0 then copies p t (Known absent_word) false else awaits p t held.previous)
+    (awaits p t addr)
+    (either_free (held.key.0 == (key_of t.request.op).0) (copies p t (Known held.value) false) (if held.previous.0 == 0 then copies p t (Known absent_word) false else awaits p t held.previous)
+    (copies_free p t (Known held.value) false)
+    (either_free (held.previous.0 == 0) (copies p t (Known absent_word) false) (awaits p t held.previous) (copies_free p t (Known absent_word) false) (ends_free p t (answer.AwaitsDisk (record { entry = t.walk.entry; addr = held.previous })))))
+    (ends_free p t (answer.AwaitsDisk (record { entry = t.walk.entry; addr = addr })))
+
+nowhere_free : (p : Places) (t : TryState) → IsFree (met_nowhere p t)
+nowhere_free p t = either_free (is_read t.request.op) (ends p t answer.Absent) (copies p t (Known absent_word) false) (ends_free p t answer.Absent) (copies_free p t (Known absent_word) false)
+
+disk_free : (p : Places) (t : TryState) (addr : Addr) → IsFree (met_disk p t addr)
+disk_free p t addr =
+    either_free (is_read t.request.op) (awaits p t addr) (if is_blind t.request.op then copies p t (Known absent_word) false else held_used p t addr t.request.held)
+    (ends_free p t (answer.AwaitsDisk (record { entry = t.walk.entry; addr = addr })))
+    (either_free (is_blind t.request.op) (copies p t (Known absent_word) false) (held_used p t addr t.request.held) (copies_free p t (Known absent_word) false) (held_free p t addr t.request.held))
+
+changes_free : (t : TryState) (addr : Addr) → IsFree (changes t addr)
+changes_free t addr = either_free (is_blind t.request.op) (record t { step = SwapsValue addr }) (record t { walk = walk_on t.walk; step = LoadsCurrent addr }) (λ session pending. refl) (λ session pending. refl)
+
+region_free : (p : Places) (t : TryState) (addr : Addr) (version : Version) (region : Option Region) → IsFree (region_met p t addr version region)
+region_free p t addr version None = λ session pending. refl
+region_free p t addr version (Some its) = either_free (is_own_version t version) (changes t addr) (copies p t InMemory false) (changes_free t addr) (copies_free p t InMemory false)
+
+record_free : (p : Places) (t : TryState) (addr : Addr) (version : Version) → IsFree (met_record p t addr version)
+record_free p t addr version =
+    either_free (is_read t.request.op) (record t { walk = walk_on t.walk; step = LoadsAnswer }) (region_met p t addr version (seen_region_of addr.0 t.seen.offsets)) (λ session pending. refl) (region_free p t addr version (seen_region_of addr.0 t.seen.offsets))
+
+walked_free : (p : Places) (t : TryState) (its : WalkAnswer) → IsFree (walked p t its)
+walked_free p t (walk.Found addr version) = record_free p t addr version
+walked_free p t walk.Nowhere = nowhere_free p t
+walked_free p t (walk.OnDisk addr) = disk_free p t addr
+walked_free p t (walk.Value value) = ends_free p t (answer.Wait reason.Contended)
+walked_free p t walk.Full = ends_free p t (full_at t.occasion answer.IndexFull)
+walked_free p t walk.Contended = ends_free p t (answer.Wait reason.Contended)
+
+-- a try that begins
+pub begun_free : (p : Places) (bits : ℕ) (t : TryState) (request : Request) (seen : Seen) (occasion : Occasion) (spare : ℕ) → IsFree (try_begun p bits t request seen occasion spare)
+begun_free p bits t request seen occasion spare =
+    let its : TryState = record t { request = request; seen = seen; occasion = occasion; home = home_of bits (key_of request.op); has_shared = request.has_latch; has_exclusive = false; effect = None; spare = spare } in
+    either_free (wants_shared its) (with_latch p its TakeShared TakesShared) (walks p its) (λ session pending. refl) (λ session pending. refl)
+
+-- ---- each state but an append
+stays_free : (t : TryState) (step : Trying) → t.step ≡ step → ((session : ℕ) (pending : PendingRequest) → try_reserves session pending t step ≡ None) → IsFree t
+stays_free t step at free = λ session pending. ap (try_reserves session pending t) at ∙ free session pending
+
+shared_free : (p : Places) (t : TryState) (ask : Ask LatchAnswer) → t.step ≡ TakesShared → IsFree (shared_ledto p t ask)
+unfolding shared_ledto
+shared_free p t (Done latch.Taken) at = λ session pending. refl
+shared_free p t (Done its) at = ends_free p t answer.Shift
+shared_free p t ask at = stays_free t TakesShared at (λ session pending. refl)
+
+walk_free : (p : Places) (t : TryState) (ask : Ask WalkAnswer) → t.step ≡ Walks → IsFree (walk_ledto p t ask)
+unfolding walk_ledto
+walk_free p t (Done its) at =
+    either_free (has_walked its && must_shift (record t { spare = t.walk.spare })) (ends p (record t { spare = t.walk.spare }) answer.Shift) (walked p (record t { spare = t.walk.spare }) its)
+    (ends_free p (record t { spare = t.walk.spare }) answer.Shift) (walked_free p (record t { spare = t.walk.spare }) its)
+walk_free p t ask at = stays_free t Walks at (λ session pending. refl)
+
+safe_free : (p : Places) (t : TryState) (addr : Addr) (version : Version) (safe : ℕ) → IsFree (safe_loaded p t addr version safe)
+safe_free p t addr version safe =
+    either_free (nat_le safe addr.0) (ends p t (answer.Wait reason.Fuzzy)) (copies p t InMemory (is_own_version t version)) (ends_free p t (answer.Wait reason.Fuzzy)) (copies_free p t InMemory (is_own_version t version))
+
+current_free : (p : Places) (t : TryState) (addr : Addr) (ask : Ask WalkAnswer) → t.step ≡ LoadsCurrent addr → IsFree (current_ledto p t addr ask)
+unfolding current_ledto
+current_free p t addr (Done (walk.Value old)) at = λ session pending. refl
+current_free p t addr (Done its) at = ends_free p t (answer.Wait reason.Contended)
+current_free p t addr ask at = stays_free t (LoadsCurrent addr) at (λ session pending. refl)
+
+effect_free : (p : Places) (t : TryState) (its : Reply) → IsFree (takes_effect p t its)
+effect_free p t its = ends_free p (record t { effect = Some its }) (answer.Done its)
+
+changed_free : (p : Places) (t : TryState) (old found : ℕ) → IsFree (value_changed p t old found)
+changed_free p t old found =
+    either_free (found == old) (takes_effect p t (reply_from (value_of old) t.request.op)) (ends p t (answer.Wait reason.Contended)) (effect_free p t (reply_from (value_of old) t.request.op)) (ends_free p t (answer.Wait reason.Contended))
+
+answer_free : (p : Places) (t : TryState) (ask : Ask WalkAnswer) → t.step ≡ LoadsAnswer → IsFree (answer_ledto p t ask)
+unfolding answer_ledto
+answer_free p t (Done (walk.Value value)) at = ends_free p t (told_value (value_of value))
+answer_free p t (Done its) at = ends_free p t (answer.Wait reason.Contended)
+answer_free p t ask at = stays_free t LoadsAnswer at (λ session pending. refl)
+
+exclusive_free : (p : Places) (t : TryState) (old : OldValue) (ask : Ask LatchAnswer) → t.step ≡ TakesExclusive old → IsFree (exclusive_ledto p t old ask)
+unfolding exclusive_ledto
+exclusive_free p t old (Done latch.Taken) at = copies_from_free (record t { has_exclusive = true }) old
+exclusive_free p t old (Done its) at = ends_free p t (answer.Wait reason.Latch)
+exclusive_free p t old ask at = stays_free t (TakesExclusive old) at (λ session pending. refl)
+
+old_free : (p : Places) (t : TryState) (ask : Ask WalkAnswer) → t.step ≡ LoadsOld → IsFree (old_ledto p t ask)
+unfolding old_ledto
+old_free p t (Done (walk.Value value)) at = appends_free t value
+old_free p t (Done its) at = ends_free p t (answer.Wait reason.Contended)
+old_free p t ask at = stays_free t LoadsOld at (λ session pending. refl)
+
+exclusive_dropped_free : (p : Places) (t : TryState) (its : TryAnswer) (ask : Ask LatchAnswer) → t.step ≡ DropsExclusive its → IsFree (exclusive_dropped p t its ask)
+unfolding exclusive_dropped
+exclusive_dropped_free p t its (Done told) at = without_free p t its
+exclusive_dropped_free p t its ask at = stays_free t (DropsExclusive its) at (λ session pending. refl)
+
+shared_dropped_free : (t : TryState) (its : TryAnswer) (ask : Ask LatchAnswer) → t.step ≡ DropsShared its → IsFree (shared_dropped t its ask)
+unfolding shared_dropped
+shared_dropped_free t its (Done told) at = λ session pending. refl
+shared_dropped_free t its ask at = stays_free t (DropsShared its) at (λ session pending. refl)
+
+-- ---- what they do leaves cells as they are
+found_still : (reader : ℕ) (its : Found) → AreStill (found_ghosts reader its)
+found_still reader (Slot place word) = (tt, tt)
+found_still reader NoSlot = (tt, tt)
+found_still reader its = tt
+
+find_still : (reader : ℕ) (ask : Ask FindAnswer) → AreStill (find_ghosts reader ask)
+find_still reader (Done its) = found_still reader its.found
+find_still reader ask = tt
+
+walk_still : (p : Places) (reader : ℕ) (w : WalkState) (step : Walking) (reply : ℕ) → AreStill (walk_ghosts p reader w step reply)
+walk_still p reader w Finds reply = find_still reader (find_next_ask p w.finding reply)
+walk_still p reader w step reply = tt
+
+search_still : (p : Places) (op : Op) (reader : ℕ) (w : WalkState) (reply : ℕ) → AreStill (search_ghosts p op reader w reply)
+search_still p (Read key) reader w reply = walk_still p reader w w.step reply
+search_still p op reader w reply = tt
+
+changed_still : (c : Bool) (its : GhostEvent) → AreStill (its ∷ []) → AreStill (if c then its ∷ [] else [])
+changed_still true its still = still
+changed_still false its still = tt
+
+-- ---- an append's end is the try's
+ended_holds_none : (a : AppendState) (entry : HistoryEntry) (step : Appending) → is_append_end step ≡ true → append_reserves a entry step ≡ None
+ended_holds_none a entry (appending.Ended its) ends = refl
+ended_holds_none a entry step ends = cc
+
+append_ended_free : (p : Places) (t : TryState) (its : Reply) (told : AppendAnswer) → IsFree (append_ledto p t its (Done told))
+unfolding append_ledto
+append_ended_free p t its append.Published = effect_free p t its
+append_ended_free p t its append.Full = ends_free p t (full_at t.occasion answer.LogFull)
+append_ended_free p t its append.NoRoom = ends_free p t (answer.Wait reason.NoRoom)
+append_ended_free p t its append.Contended = ends_free p t (answer.Wait reason.Contended)
+
+append_holds : (session : ℕ) (pending : PendingRequest) (p : Places) (t : TryState) (its : Reply) (ask : Ask AppendAnswer) → t.step ≡ Appends its → is_done ask ≡ is_append_end t.append.step
+    → append_reserves t.append (entry_made session pending its) t.append.step ≡ try_reserves session pending (append_ledto p t its ask) (append_ledto p t its ask).step
+unfolding append_ledto
+append_holds session pending p t its (Done told) at ends = ended_holds_none t.append (entry_made session pending its) t.append.step (sym ends) ∙ sym (append_ended_free p t its told session pending)
+append_holds session pending p t its ask at ends = sym (ap (try_reserves session pending t) at)
+
+under_way : (t : TryState) (its : Reply) → t.step ≡ Appends its → TryRestsOrAsks t → IsAppendUnderWay t.append
+under_way t its at rests = subst (λ (x : Trying). TryRestsOrAsks (record t { step = x })) at rests
+
+-- ---- each reply to a try
+free_on : (place : Option ℕ) (change : ℕ → ℕ) (reply session : ℕ) (pending : PendingRequest) (events : List GhostEvent) (after : TryState) → AreStill events → IsFree after
+    → MovesOn place change reply events None (try_reserves session pending after after.step)
+free_on place change reply session pending events after still free = rw (free session pending) (Keeps events None still)
+
+trying_on : (p : Places) (room session reader : ℕ) (pending : PendingRequest) (t : TryState) (step : Trying) (reply : ℕ) → t.step ≡ step → TryRestsOrAsks t
+    → MovesOn (asked_place (trying_ask p t step)) (asked (trying_ask p t step)) reply (try_ghosts p room session reader pending t step reply) (try_reserves session pending t step)
+    (try_reserves session pending (trying_next p room (record t { effect = None }) step reply) (trying_next p room (record t { effect = None }) step reply).step)
+unfolding trying_next trying_ask
+trying_on p room session reader pending t (Ended its) reply at rests = rw at (Keeps [] None tt)
+trying_on p room session reader pending t TakesShared reply at rests = free_on _ _ reply session pending [] (trying_next p room (record t { effect = None }) TakesShared reply) tt (shared_free p (latch_moved (record t { effect = None }) reply) (latch_next_ask t.latching reply) at)
+trying_on p room session reader pending t Walks reply at rests = free_on _ _ reply session pending (search_ghosts p pending.request.op reader t.walk reply) (trying_next p room (record t { effect = None }) Walks reply) (search_still p pending.request.op reader t.walk reply)
+    (walk_free p (walk_moved p (record t { effect = None }) reply) (walk_ask p (walk_next p t.walk reply)) at)
+trying_on p room session reader pending t (LoadsSafe addr version) reply at rests = free_on _ _ reply session pending [] (trying_next p room (record t { effect = None }) (LoadsSafe addr version) reply) tt (safe_free p (record t { effect = None }) addr version reply)
+trying_on p room session reader pending t (SwapsValue addr) reply at rests =
+    free_on _ _ reply session pending (Changes addr.0 (entry_made session pending (reply_from None t.request.op)) ∷ []) (trying_next p room (record t { effect = None }) (SwapsValue addr) reply) (tt, tt) (effect_free p (record t { effect = None }) (reply_from None t.request.op))
+trying_on p room session reader pending t (LoadsCurrent addr) reply at rests = free_on _ _ reply session pending [] (trying_next p room (record t { effect = None }) (LoadsCurrent addr) reply) tt (current_free p (walk_moved p (record t { effect = None }) reply) addr (walk_ask p (walk_next p t.walk reply)) at)
+trying_on p room session reader pending t (ChangesValue addr old) reply at rests =
+    free_on _ _ reply session pending (if reply == old then Changes addr.0 (entry_made session pending (reply_from (value_of old) t.request.op)) ∷ [] else []) (trying_next p room (record t { effect = None }) (ChangesValue addr old) reply)
+    (changed_still (reply == old) (Changes addr.0 (entry_made session pending (reply_from (value_of old) t.request.op))) (tt, tt)) (changed_free p (record t { effect = None }) old reply)
+trying_on p room session reader pending t LoadsAnswer reply at rests = free_on _ _ reply session pending [] (trying_next p room (record t { effect = None }) LoadsAnswer reply) tt (answer_free p (walk_moved p (record t { effect = None }) reply) (walk_ask p (walk_next p t.walk reply)) at)
+trying_on p room session reader pending t (TakesExclusive old) reply at rests = free_on _ _ reply session pending [] (trying_next p room (record t { effect = None }) (TakesExclusive old) reply) tt (exclusive_free p (latch_moved (record t { effect = None }) reply) old (latch_next_ask t.latching reply) at)
+trying_on p room session reader pending t LoadsOld reply at rests = free_on _ _ reply session pending [] (trying_next p room (record t { effect = None }) LoadsOld reply) tt (old_free p (walk_moved p (record t { effect = None }) reply) (walk_ask p (walk_next p t.walk reply)) at)
+trying_on p room session reader pending t (Appends its) reply at rests =
+    let way : IsAppendUnderWay t.append = under_way t its at rests in
+    let entry = entry_made session pending its in
+    let a : AppendState = append_next p room t.append reply in
+    let after : TryState = record t { effect = None; append = a } in
+    let held = append_holds session pending p after its (append_ask p a) at (append_done p a (append_rests p room t.append reply way.asks)) in
+    passes (append_ask p t.append) answer.Shift reply _ _ _ (subst (λ (x : Option Reservation). MovesOn (asked_place (append_ask p t.append)) (asked (append_ask p t.append)) reply (append_ghosts room t.append entry t.append.step reply) (append_reserves t.append entry t.append.step) x) held (append_on p room t.append entry reply))
+trying_on p room session reader pending t (DropsExclusive its) reply at rests = free_on _ _ reply session pending [] (trying_next p room (record t { effect = None }) (DropsExclusive its) reply) tt (exclusive_dropped_free p (latch_moved (record t { effect = None }) reply) its (latch_next_ask t.latching reply) at)
+trying_on p room session reader pending t (DropsShared its) reply at rests = free_on _ _ reply session pending [] (trying_next p room (record t { effect = None }) (DropsShared its) reply) tt (shared_dropped_free (latch_moved (record t { effect = None }) reply) its (latch_next_ask t.latching reply) at)
+
+pub try_on : (p : Places) (room session reader : ℕ) (pending : PendingRequest) (t : TryState) (reply : ℕ) → TryRestsOrAsks t
+    → MovesOn (asked_place (try_ask p t)) (asked (try_ask p t)) reply (try_ghosts p room session reader pending t t.step reply) (try_reserves session pending t t.step)
+    (try_reserves session pending (try_next p room t reply) (try_next p room t reply).step)
+try_on p room session reader pending t reply rests = trying_on p room session reader pending t t.step reply refl rests

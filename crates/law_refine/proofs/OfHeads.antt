@@ -1,0 +1,6 @@
+pub mod AtHome
+mod Entries
+pub mod LifeHeads
+mod Reserved
+mod Steps
+mod Won

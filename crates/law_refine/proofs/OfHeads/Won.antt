@@ -1,0 +1,244 @@
+-- A step of a session publishes in the log where it publishes in the index, and nowhere else.
+use Rattle.std.proofs.Common.{◌≡◌, ℕ, ◌∙◌, refl, sym, ap, subst, arith, Bool, true, false, List, [], ◌∷◌, ◌++◌}
+use Rattle.std.specs.Prelude.{◌==◌, if◌then◌else◌, Some, None}
+use Rattle.std.proofs.lemmas.Bool.Decides.{nat_tests}
+use Rattle.fkv_map.specs.declared.history.HistoryEntry.{HistoryEntry}
+use Rattle.fkv_map.specs.declared.operations.Op.{Op}
+use Rattle.fkv_map.specs.declared.operations.Op.TheVariants.{Read}
+use Rattle.fkv_order.specs.Ghosts.{GhostEvent, Publishes}
+use Rattle.fkv_plane.specs.declared.asks.Ask.{Ask}
+use Rattle.fkv_plane.specs.declared.asks.Ask.TheVariants.{Cas, Put, Take, Done}
+use Rattle.fkv_plane.specs.declared.places.Places.{Places}
+use Rattle.fkv_plane.specs.Asked.{reply_to, word_at}
+use Rattle.fkv_plane.specs.Passing.{passed}
+use Rattle.fkv_log.specs.declared.invalidating.Invalidating.{Invalidating}
+use Rattle.fkv_log.specs.declared.invalidating.Invalidating.TheVariants as invalidating
+use Rattle.fkv_log.specs.declared.reserving.ReserveAnswer.{ReserveAnswer}
+use Rattle.fkv_log.specs.declared.reserving.ReserveAnswer.TheVariants.{Reserved}
+use Rattle.fkv_log.specs.Reserving.{reserve_next_ask}
+use Rattle.fkv_index.specs.declared.finding.FindAnswer.{FindAnswer}
+use Rattle.fkv_index.specs.declared.finding.Found.{Found}
+use Rattle.fkv_index.specs.declared.finding.Found.TheVariants.{Slot, NoSlot}
+use Rattle.fkv_index.specs.declared.publishing.PublishAnswer.TheVariants.{Won, Lost}
+use Rattle.fkv_index.specs.declared.publishing.Publishing.{Publishing}
+use Rattle.fkv_index.specs.declared.publishing.Publishing.TheVariants.{AtRest, SwapsEntry}
+use Rattle.fkv_index.specs.Entries.{NewEntry}
+use Rattle.fkv_index.specs.Finding.{find_next_ask}
+use Rattle.fkv_index.specs.IndexWorld.{new_entry}
+use Rattle.fkv_index.specs.Publishing.{publish_first, publish_ask, publish_next_ask}
+use Rattle.fkv_ops.specs.declared.answers.TryAnswer.{TryAnswer}
+use Rattle.fkv_ops.specs.declared.answers.TryAnswer.TheVariants as answer
+use Rattle.fkv_ops.specs.declared.appending.AppendAnswer.TheVariants.{Contended}
+use Rattle.fkv_ops.specs.declared.appending.Appending.{Appending}
+use Rattle.fkv_ops.specs.declared.appending.Appending.TheVariants as appending
+use Rattle.fkv_ops.specs.declared.trying.Trying.{Trying}
+use Rattle.fkv_ops.specs.declared.trying.Trying.TheVariants.{Walks, LoadsSafe, SwapsValue, ChangesValue, TakesExclusive, LoadsOld, Appends}
+use Rattle.fkv_ops.specs.declared.walking.Walking.{Walking}
+use Rattle.fkv_ops.specs.declared.walking.Walking.TheVariants as walking
+use Rattle.fkv_ops.specs.Appending.{AppendState, append_ask, appending_ask}
+use Rattle.fkv_ops.specs.Requests.{is_read}
+use Rattle.fkv_ops.specs.Trying.{TryState, has_walked, try_ask, trying_ask}
+use Rattle.fkv_ops.specs.Walking.{WalkState}
+use Rattle.fkv_pending.specs.declared.attempting.Attempting.{Attempting}
+use Rattle.fkv_pending.specs.declared.attempting.Attempting.TheVariants.{Tries}
+use Rattle.fkv_pending.specs.declared.pending_requests.PendingRequest.{PendingRequest}
+use Rattle.fkv_pending.specs.Attempting.{AttemptState, attempt_ask, attempting_ask, attempt_next}
+use Rattle.fkv_session.specs.declared.answers.Told.{Told}
+use Rattle.fkv_session.specs.declared.answers.Told.TheVariants as told
+use Rattle.fkv_session.specs.declared.sessions.Sitting.{Sitting}
+use Rattle.fkv_session.specs.declared.sessions.Sitting.TheVariants.{Attempts, Polls}
+use Rattle.fkv_session.specs.Sessions.{SessionState, Seat, bits_of, room_of, session_ask, sitting_ask}
+use Rattle.fkv_world.specs.Past.{Traced}
+use Rattle.fkv_world.specs.World.{Now, seat_at}
+use Rattle.law_parts.specs.Index.Finders.{KeptSlot, SessionWork, NoWork, Searches, KeepsSlot, PublishesEntry, slot_kept, kept_work, walk_work, append_work, try_work, attempt_part, sitting_part, session_part}
+use Rattle.law_parts.specs.Index.LifeEntries.{AsksFor, won_there}
+use Rattle.law_refine.specs.Events.Appends.{entry_made, reserved_ghosts, publish_ghosts, invalidate_ghosts, append_ghosts, is_for_entry}
+use Rattle.law_refine.specs.Events.Lines.{read_in_hand, read_waiting}
+use Rattle.law_refine.specs.Events.Sessions.{value_ghosts, tried_ghosts, attempt_ghosts, ticket_of, sitting_ghosts, step_ghosts}
+use Rattle.law_refine.specs.Events.Tries.{found_ghosts, find_ghosts, walk_ghosts, search_ghosts, try_ghosts}
+use Rattle.law_refine.proofs.OfHeads.Steps.{leaves_chains, LeaveChains}
+
+-- A step's events publish nothing, and the session wins no entry; or the word that it met stands in the slot yet, and they publish the record of the
+-- entry.
+pub data ShowsWon (words : List ℕ) (work : SessionWork) : List GhostEvent → Type 0 where
+  Quietly : (events : List GhostEvent) → LeaveChains events → won_there words work ≡ None → ShowsWon words work events
+  Behind : (event : GhostEvent) {events : List GhostEvent} → leaves_chains event → ShowsWon words work events → ShowsWon words work (event ∷ events)
+  PublishesOne : (slot : KeptSlot) (addr : ℕ) → work ≡ PublishesEntry slot addr → word_at words slot.place ≡ slot.word → ShowsWon words work (Publishes addr ∷ [])
+
+pub won_behind : (words : List ℕ) (work : SessionWork) (later events : List GhostEvent) → LeaveChains later → ShowsWon words work events → ShowsWon words work (later ++ events)
+won_behind words work [] events leave its = its
+won_behind words work (event ∷ later) events leave its = Behind event leave.0 (won_behind words work later events leave.1 its)
+
+-- what is won, and where it is lost
+unfoldable pub won_entry : KeptSlot → ℕ → NewEntry
+won_entry slot addr = record { home = slot.home; before = slot.word; entry = new_entry addr slot.home.tag }
+
+pub entry_is_won : (words : List ℕ) (slot : KeptSlot) (addr : ℕ) → word_at words slot.place ≡ slot.word → won_there words (PublishesEntry slot addr) ≡ Some (won_entry slot addr)
+unfolding won_entry
+entry_is_won words slot addr stands = let on : (word_at words slot.place == slot.word) ≡ true = grind (arith, nat_tests, stands) in rw on refl
+
+entry_is_lost : (words : List ℕ) (slot : KeptSlot) (addr : ℕ) → (word_at words slot.place == slot.word) ≡ false → won_there words (PublishesEntry slot addr) ≡ None
+entry_is_lost words slot addr off = rw off refl
+
+none_won : (words : List ℕ) (work : SessionWork) → ((slot : KeptSlot) (addr : ℕ) → work ≡ PublishesEntry slot addr → ⊥) → won_there words work ≡ None
+none_won words NoWork none = refl
+none_won words (Searches its) none = refl
+none_won words (KeepsSlot slot) none = refl
+none_won words (PublishesEntry slot addr) none = absurd (none slot addr refl)
+
+kept_none : (words : List ℕ) (t : TryState) → won_there words (kept_work t) ≡ None
+kept_none words t = by_read (is_read t.request.op)
+  where
+    by_read : (c : Bool) → won_there words (if c then NoWork else KeepsSlot (slot_kept t)) ≡ None
+    by_read true = refl
+    by_read false = refl
+
+walk_none : (words : List ℕ) (t : TryState) (step : Walking) → won_there words (walk_work t step) ≡ None
+walk_none words t walking.Finds = refl
+walk_none words t (walking.Ended its) = by_end (has_walked its)
+  where
+    by_end : (c : Bool) → won_there words (if c then kept_work t else NoWork) ≡ None
+    by_end true = kept_none words t
+    by_end false = refl
+walk_none words t step = kept_none words t
+
+-- ---- what else a step is leaves the chains
+either_leave : (c : Bool) (xs ys : List GhostEvent) → LeaveChains xs → LeaveChains ys → LeaveChains (if c then xs else ys)
+either_leave true xs ys one other = one
+either_leave false xs ys one other = other
+
+reserved_leave : (a : AppendState) (entry : HistoryEntry) (ask : Ask ReserveAnswer) → LeaveChains (reserved_ghosts a entry ask)
+reserved_leave a entry (Done (Reserved addr)) = either_leave (is_for_entry a addr) _ _ (tt, tt) (tt, (tt, tt))
+reserved_leave a entry ask = tt
+
+invalidate_leave : (its : Invalidating) → LeaveChains (invalidate_ghosts its)
+invalidate_leave invalidating.AtRest = tt
+invalidate_leave (invalidating.StoresHeader addr header) = (tt, tt)
+
+found_leave : (reader : ℕ) (its : Found) → LeaveChains (found_ghosts reader its)
+found_leave reader (Slot place word) = (tt, tt)
+found_leave reader NoSlot = (tt, tt)
+found_leave reader its = tt
+
+find_leave : (reader : ℕ) (ask : Ask FindAnswer) → LeaveChains (find_ghosts reader ask)
+find_leave reader (Done its) = found_leave reader its.found
+find_leave reader ask = tt
+
+walk_leave : (p : Places) (reader : ℕ) (w : WalkState) (step : Walking) (reply : ℕ) → LeaveChains (walk_ghosts p reader w step reply)
+walk_leave p reader w walking.Finds reply = find_leave reader (find_next_ask p w.finding reply)
+walk_leave p reader w step reply = tt
+
+search_leave : (p : Places) (op : Op) (reader : ℕ) (w : WalkState) (reply : ℕ) → LeaveChains (search_ghosts p op reader w reply)
+search_leave p (Read key) reader w reply = walk_leave p reader w w.step reply
+search_leave p op reader w reply = tt
+
+value_leave : (op : Op) (reader : ℕ) (ask : Ask TryAnswer) → LeaveChains (value_ghosts op reader ask)
+value_leave (Read key) reader (Done (answer.Found value)) = (tt, tt)
+value_leave (Read key) reader (Done answer.Absent) = (tt, tt)
+value_leave op reader ask = tt
+
+-- ---- where a session publishes its ask is the Cas of its slot, and the reply is the word there
+abbrev AsksSo : {A : Type 0} → SessionWork → Ask A → Type 0
+AsksSo work ask = (slot : KeptSlot) (addr : ℕ) → work ≡ PublishesEntry slot addr → ask ≡ Cas slot.place slot.word (new_entry addr slot.home.tag)
+
+abbrev IsRepliedSo : List ℕ → SessionWork → ℕ → Type 0
+IsRepliedSo words work reply = (slot : KeptSlot) (addr : ℕ) → work ≡ PublishesEntry slot addr → reply ≡ word_at words slot.place
+
+passed_cas : {A B : Type 0} (ask : Ask A) (its : B) (place old new : ℕ) → passed ask its ≡ Cas place old new → ask ≡ Cas place old new
+unfolding passed
+passed_cas (Cas at before after) its place old new e =
+    let one : at ≡ place = cc in
+    let two : before ≡ old = cc in
+    let three : after ≡ new = cc in
+    rw (one, two, three) refl
+passed_cas ask its place old new e = cc
+
+asks_passed : {A B : Type 0} (work : SessionWork) (ask : Ask A) (its : B) → AsksSo work (passed ask its) → AsksSo work ask
+asks_passed work ask its asks = λ slot addr e. passed_cas ask its slot.place slot.word (new_entry addr slot.home.tag) (asks slot addr e)
+
+publishing_is : (its : Publishing) (place word entry : ℕ) → publish_ask its ≡ Cas place word entry → its ≡ publish_first place word entry
+unfolding publish_ask
+publishing_is AtRest place word entry e = cc
+publishing_is (SwapsEntry at before after) place word entry e =
+    let one : at ≡ place = cc in
+    let two : before ≡ word = cc in
+    let three : after ≡ entry = cc in
+    rw (one, two, three) refl
+
+publish_won : (words : List ℕ) (work : SessionWork) (slot : KeptSlot) (addr entry : ℕ) (its : Publishing) (reply : ℕ) → work ≡ PublishesEntry slot addr → its ≡ publish_first slot.place slot.word entry → reply ≡ word_at words slot.place
+    → ShowsWon words work (publish_ghosts addr (publish_next_ask its reply))
+unfolding publish_next_ask
+publish_won words work slot addr entry its reply is same replied =
+    subst (λ (x : Publishing). ShowsWon words work (publish_ghosts addr (publish_next_ask x reply))) (sym same) (by_test (reply == slot.word) refl)
+  where
+    by_test : (c : Bool) → (reply == slot.word) ≡ c → ShowsWon words work (publish_ghosts addr (Done (if c then Won else Lost)))
+    by_test true e = let stands : reply ≡ slot.word = grind (arith, nat_tests, e) in PublishesOne slot addr is (sym replied ∙ stands)
+    by_test false e = Quietly [] tt (ap (won_there words) is ∙ entry_is_lost words slot addr (subst (λ (r : ℕ). (r == slot.word) ≡ false) replied e))
+
+append_won : (words : List ℕ) (p : Places) (room : ℕ) (t : TryState) (entry : HistoryEntry) (step : Appending) (reply : ℕ) → AsksSo (append_work t step) (appending_ask p t.append step) → IsRepliedSo words (append_work t step) reply
+    → ShowsWon words (append_work t step) (append_ghosts room t.append entry step reply)
+unfolding appending_ask
+append_won words p room t entry appending.Reserves reply asks replied =
+    Quietly (reserved_ghosts t.append entry (reserve_next_ask room t.append.reserving reply)) (reserved_leave t.append entry (reserve_next_ask room t.append.reserving reply)) (kept_none words t)
+append_won words p room t entry (appending.Fills addr) reply asks replied = Quietly [] tt (kept_none words t)
+append_won words p room t entry (appending.Publishes addr) reply asks replied =
+    let slot : KeptSlot = slot_kept t in
+    publish_won words (PublishesEntry slot addr.0) slot addr.0 (new_entry addr.0 slot.home.tag) t.append.publishing reply refl
+    (publishing_is t.append.publishing slot.place slot.word (new_entry addr.0 slot.home.tag) (passed_cas (publish_ask t.append.publishing) Contended slot.place slot.word (new_entry addr.0 slot.home.tag) (asks slot addr.0 refl)))
+    (replied slot addr.0 refl)
+append_won words p room t entry appending.Invalidates reply asks replied = Quietly (invalidate_ghosts t.append.invalidating) (invalidate_leave t.append.invalidating) refl
+append_won words p room t entry (appending.Ended its) reply asks replied = Quietly [] tt refl
+
+try_won : (words : List ℕ) (p : Places) (room session reader : ℕ) (pending : PendingRequest) (t : TryState) (step : Trying) (reply : ℕ) → AsksSo (try_work t step) (trying_ask p t step) → IsRepliedSo words (try_work t step) reply
+    → ShowsWon words (try_work t step) (try_ghosts p room session reader pending t step reply)
+unfolding trying_ask
+try_won words p room session reader pending t Walks reply asks replied =
+    Quietly (search_ghosts p pending.request.op reader t.walk reply) (search_leave p pending.request.op reader t.walk reply) (walk_none words t t.walk.step)
+try_won words p room session reader pending t (LoadsSafe addr version) reply asks replied = Quietly [] tt (kept_none words t)
+try_won words p room session reader pending t (SwapsValue addr) reply asks replied = Quietly _ (tt, tt) refl
+try_won words p room session reader pending t (ChangesValue addr old) reply asks replied = Quietly _ (either_leave (reply == old) _ _ (tt, tt) tt) refl
+try_won words p room session reader pending t (TakesExclusive old) reply asks replied = Quietly [] tt (kept_none words t)
+try_won words p room session reader pending t LoadsOld reply asks replied = Quietly [] tt (kept_none words t)
+try_won words p room session reader pending t (Appends its) reply asks replied =
+    append_won words p room t (entry_made session pending its) t.append.step reply (asks_passed (append_work t t.append.step) (append_ask p t.append) answer.Shift asks) replied
+try_won words p room session reader pending t step reply asks replied = Quietly [] tt refl
+
+tried_won : (words : List ℕ) (k : Seat) (reader : ℕ) (a : AttemptState) (step : Attempting) (reply : ℕ) → AsksSo (attempt_part a step).work (attempting_ask k.places k.number a step) → IsRepliedSo words (attempt_part a step).work reply
+    → ShowsWon words (attempt_part a step).work (tried_ghosts k reader a step reply)
+unfolding attempting_ask
+tried_won words k reader a Tries reply asks replied =
+    try_won words k.places (room_of k) k.number reader a.pending a.trial a.trial.step reply (asks_passed (try_work a.trial a.trial.step) (try_ask k.places a.trial) answer.Shift asks) replied
+tried_won words k reader a step reply asks replied = Quietly [] tt refl
+
+attempt_won : (words : List ℕ) (k : Seat) (reader : ℕ) (a : AttemptState) (reply : ℕ) → AsksSo (attempt_part a a.step).work (attempt_ask k.places k.number a) → IsRepliedSo words (attempt_part a a.step).work reply
+    → ShowsWon words (attempt_part a a.step).work (attempt_ghosts k reader a reply)
+attempt_won words k reader a reply asks replied =
+    let ask : Ask TryAnswer = attempt_ask k.places k.number (attempt_next k.places (bits_of k) (room_of k) k.number a reply) in
+    won_behind words (attempt_part a a.step).work (value_ghosts a.pending.request.op reader ask) (tried_ghosts k reader a a.step reply) (value_leave a.pending.request.op reader ask) (tried_won words k reader a a.step reply asks replied)
+
+sitting_won : (words : List ℕ) (k : Seat) (trace : List Traced) (s : SessionState) (step : Sitting) (reply : ℕ) → AsksSo (sitting_part s step).work (sitting_ask k s step) → IsRepliedSo words (sitting_part s step).work reply
+    → ShowsWon words (sitting_part s step).work (sitting_ghosts k trace s step reply)
+unfolding sitting_ask
+sitting_won words k trace s (Attempts has_shifted) reply asks replied =
+    attempt_won words k (read_in_hand k.number trace) s.attempt reply (asks_passed (attempt_part s.attempt s.attempt.step).work (attempt_ask k.places k.number s.attempt) told.Slept asks) replied
+sitting_won words k trace s (Polls index) reply asks replied =
+    attempt_won words k (read_waiting k.number (ticket_of s.attempt.pending.name) trace) s.attempt reply (asks_passed (attempt_part s.attempt s.attempt.step).work (attempt_ask k.places k.number s.attempt) told.Slept asks) replied
+sitting_won words k trace s step reply asks replied = Quietly [] tt refl
+
+-- ---- a step of a session
+step_won : (k : Seat) (trace : List Traced) (s : SessionState) (words : List ℕ) (ask : Ask Told) → AsksSo (session_part s).work ask → ShowsWon words (session_part s).work (sitting_ghosts k trace s s.step (reply_to words ask))
+    → ShowsWon words (session_part s).work (step_ghosts k trace s words ask)
+unfolding step_ghosts
+step_won k trace s words (Done its) asks shows = Quietly [] tt (none_won words (session_part s).work (λ slot addr e. let same = asks slot addr e in cc))
+step_won k trace s words (Put slot action) asks shows = Quietly [] tt (none_won words (session_part s).work (λ at addr e. let same = asks at addr e in cc))
+step_won k trace s words (Take slot) asks shows = Quietly [] tt (none_won words (session_part s).work (λ at addr e. let same = asks at addr e in cc))
+step_won k trace s words ask asks shows = shows
+
+-- the reply to the Cas is the word in the slot
+pub publish_replied : (n : Now) (session : ℕ) (s : SessionState) → AsksFor n session s → IsRepliedSo n.words (session_part s).work (reply_to n.words (session_ask (seat_at n session) s))
+publish_replied n session s asks slot addr e = ap (λ (ask : Ask Told). reply_to n.words ask) (asks.publishes slot addr e)
+
+pub moved_won : (n : Now) (session : ℕ) (trace : List Traced) (s : SessionState) → AsksFor n session s → ShowsWon n.words (session_part s).work (step_ghosts (seat_at n session) trace s n.words (session_ask (seat_at n session) s))
+moved_won n session trace s asks =
+    let k : Seat = seat_at n session in
+    step_won k trace s n.words (session_ask k s) asks.publishes (sitting_won n.words k trace s s.step (reply_to n.words (session_ask k s)) asks.publishes (publish_replied n session s asks))

@@ -1,0 +1,20 @@
+mod AppendRows
+mod AttemptRows
+pub mod Below
+mod FrameEvents
+pub mod FrameOwners
+mod FrameSteps
+mod FrameWords
+pub mod Frames
+mod GhostFits
+pub mod Life
+mod LogShows
+pub mod Meets
+pub mod Numbers
+mod OneEvent
+mod RowsStay
+mod SessionRows
+pub mod Standing
+mod TryRows
+mod Writers
+mod Wrote

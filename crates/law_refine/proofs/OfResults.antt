@@ -1,0 +1,7 @@
+mod Counted
+pub mod Given
+pub mod InCall
+mod MadeInCall
+mod Opened
+mod OwnCall
+pub mod There

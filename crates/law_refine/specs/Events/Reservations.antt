@@ -1,0 +1,75 @@
+-- What an append has reserved, by its control state: from the won Cas of the tail up to its publish, or to where the record is given up.
+use Rattle.std.specs.Prelude.{◌≡◌, ⊤, ℕ, ◌+◌, List, [], ◌∷◌, Option, Some, None}
+use Rattle.fkv_map.specs.declared.history.HistoryEntry.{HistoryEntry}
+use Rattle.fkv_order.specs.Chains.{Cell}
+use Rattle.fkv_order.specs.Ghosts.{GhostEvent, Reserves, Publishes, Drops}
+use Rattle.fkv_plane.specs.declared.places.SharedWord.TheVariants as one
+use Rattle.fkv_plane.specs.Places.{shared_place}
+use Rattle.fkv_log.specs.declared.invalidating.Invalidating.{Invalidating}
+use Rattle.fkv_log.specs.declared.invalidating.Invalidating.TheVariants as invalidating
+use Rattle.fkv_ops.specs.declared.appending.Appending.{Appending}
+use Rattle.fkv_ops.specs.declared.appending.Appending.TheVariants as appending
+use Rattle.fkv_ops.specs.declared.trying.Trying.{Trying}
+use Rattle.fkv_ops.specs.declared.trying.Trying.TheVariants.{Appends}
+use Rattle.fkv_ops.specs.Appending.{AppendState}
+use Rattle.fkv_ops.specs.Trying.{TryState}
+use Rattle.fkv_pending.specs.declared.attempting.Attempting.{Attempting}
+use Rattle.fkv_pending.specs.declared.attempting.Attempting.TheVariants.{Tries}
+use Rattle.fkv_pending.specs.declared.pending_requests.PendingRequest.{PendingRequest}
+use Rattle.fkv_pending.specs.Attempting.{AttemptState}
+use Rattle.law_refine.specs.Events.Appends.{entry_made, cell_of}
+
+-- an address that is taken for a record, and the entry of the history that its publishing makes
+pub record Reservation : Type 0 where
+  pub addr : ℕ
+  pub entry : HistoryEntry
+  pub cell : Cell
+
+abbrev pub reservation : AppendState → HistoryEntry → ℕ → Reservation
+reservation a entry addr = record { addr = addr; entry = entry; cell = cell_of a.its_words }
+
+-- by how far its append has come, for this entry
+abbrev pub invalidate_reserves : AppendState → HistoryEntry → Invalidating → Option Reservation
+invalidate_reserves a entry invalidating.AtRest = None
+invalidate_reserves a entry (invalidating.StoresHeader addr header) = Some (reservation a entry addr.0)
+
+abbrev pub append_reserves : AppendState → HistoryEntry → Appending → Option Reservation
+append_reserves a entry (appending.Fills addr) = Some (reservation a entry addr.0)
+append_reserves a entry (appending.Publishes addr) = Some (reservation a entry addr.0)
+append_reserves a entry appending.Invalidates = invalidate_reserves a entry a.invalidating
+append_reserves a entry step = None
+
+-- where its try appends
+abbrev pub try_reserves : ℕ → PendingRequest → TryState → Trying → Option Reservation
+try_reserves session pending t (Appends its) = append_reserves t.append (entry_made session pending its) t.append.step
+try_reserves session pending t step = None
+
+abbrev pub attempt_reserves : ℕ → AttemptState → Attempting → Option Reservation
+attempt_reserves session a Tries = try_reserves session a.pending a.trial a.trial.step
+attempt_reserves session a step = None
+
+-- these leave all cells as they were, but for values of published ones
+abbrev pub is_still : GhostEvent → Type 0
+is_still (Reserves a entry cell) = ⊥
+is_still (Publishes a) = ⊥
+is_still (Drops a) = ⊥
+is_still event = ⊤
+
+abbrev pub AreStill : List GhostEvent → Type 0
+AreStill [] = ⊤
+AreStill (event ∷ before) = is_still event × AreStill before
+
+-- the ask, by its place and what it makes of the word, takes this address at the tail, which it was replied
+pub record TakesTail (place : Option ℕ) (change : ℕ → ℕ) (reply addr : ℕ) : Type 0 where
+  pub at : place ≡ Some (shared_place one.Tail)
+  pub found : addr ≡ reply
+  pub raised : change reply ≡ reply + 1
+
+-- a step's events, from what was reserved to what is
+pub data MovesOn (place : Option ℕ) (change : ℕ → ℕ) (reply : ℕ) : List GhostEvent → Option Reservation → Option Reservation → Type 0 where
+  Keeps : (events : List GhostEvent) (its : Option Reservation) → AreStill events → MovesOn place change reply events its its
+  Behind : (event : GhostEvent) {events : List GhostEvent} {before after : Option Reservation} → is_still event → MovesOn place change reply events before after → MovesOn place change reply (event ∷ events) before after
+  TakesOne : (its : Reservation) → TakesTail place change reply its.addr → MovesOn place change reply (Reserves its.addr its.entry its.cell ∷ []) None (Some its)
+  LosesOne : (its : Reservation) → TakesTail place change reply its.addr → MovesOn place change reply (Drops its.addr ∷ Reserves its.addr its.entry its.cell ∷ []) None None
+  PublishesOne : (its : Reservation) → MovesOn place change reply (Publishes its.addr ∷ []) (Some its) None
+  DropsOne : (its : Reservation) → MovesOn place change reply (Drops its.addr ∷ []) (Some its) None

@@ -1,0 +1,21 @@
+//! Each step of the engine as events of the abstract log.
+#![tactic(auto)]
+
+mod calls;
+mod events;
+mod heads;
+mod records;
+mod results;
+mod seen;
+
+pub use calls::{law_ghost_history, law_world_calls, law_world_in_hand};
+pub use events::{
+    law_ghost_effects, law_ghost_fixed, law_ghost_reservations, law_ghost_reserved,
+    law_ghost_trace, law_ghost_unborn, law_of_a_worked_life,
+};
+pub use heads::{law_heads, law_heads_found};
+pub use records::{
+    law_device_shows_log, law_frames_show_log, law_records_published, law_stands_show_log,
+};
+pub use results::law_world_results;
+pub use seen::{law_calls_in_hand, law_world_seen_rises};
