@@ -8,8 +8,8 @@
 # make gate    runs the gate, and writes the processor time of each crate into docs/GATE.md
 # make docs    writes docs/CRATES.md and docs/LAWS.md anew, from crates.txt and the comments of crates and laws
 #
-# Each of them but the last needs the Rattle toolchain, the command rt. Where the program ends with a status other than 0 make run fails, and says which
-# it was.
+# Each of them but `make docs` needs the Rattle toolchain, the command rt. Where the program ends with a status other than 0 make run fails,
+# and says which it was.
 
 SCRIPT ?= crates/fkv/stdin
 # The words behind the program's name, as WORDS="--check --torn 165".
