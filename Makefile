@@ -6,6 +6,7 @@
 # make memory  runs stored scripts, a store's creation and its opening, a commit's copy and the options' words, with each request for memory refused in turn
 # make bench   times the proved program on scripts of up to 65,536 lines, and recovery of images of up to 1,000,000 records
 # make gate    runs the gate, and writes the processor time of each crate into docs/GATE.md
+# make audit   tries the wrong bodies that the gate leaves out, those of crates/*/audit, or of the crates in CRATES
 # make docs    writes docs/CRATES.md and docs/LAWS.md anew, from crates.txt and the comments of crates and laws
 #
 # Each of them but `make docs` needs the Rattle toolchain, the command rt. Where the program ends with a status other than 0 make run fails,
@@ -14,8 +15,10 @@
 SCRIPT ?= crates/fkv/stdin
 # The words behind the program's name, as WORDS="--check --torn 165".
 WORDS ?=
+# The crates whose wrong bodies `make audit` tries, as CRATES="fkv_log fkv_ops"; all where nothing is said.
+CRATES ?=
 
-.PHONY: run test fkv rows memory bench gate docs toolchain
+.PHONY: run test fkv rows memory bench gate audit docs toolchain
 
 run: toolchain
 	@tools/script/run "$(SCRIPT)" $(WORDS)
@@ -62,6 +65,9 @@ gate: toolchain
 
 docs:
 	tools/docs/make
+
+audit: toolchain
+	tools/audit/run $(CRATES)
 
 toolchain:
 	@command -v rt > /dev/null || { echo "the Rattle toolchain is missing: there is no command rt (README.md, Two commands)" >&2; exit 1; }
