@@ -1,15 +1,16 @@
 # make run     runs a script and prints its answers (a build without proof): the stored one, or SCRIPT=path, by the words of WORDS
-# make test    the gate: what crates name of each other, every proof from nothing, the must-fail edits, the tests and the
-#              program; then tools/openings, and what `make rows` and `make memory` do
+# make test    the gate: whether generated pages are up to date, what crates name of each other, every proof from nothing, the
+#              must-fail edits, the tests and the program; then tools/openings, and what `make rows` and `make memory` do
 # make fkv     proves the program and leaves it at build/fkv
 # make rows    runs the built program on whole scripts, and compares what it writes
 # make memory  runs stored scripts, a store's creation and its opening, a commit's copy and the options' words, with each request for memory refused in turn
 # make bench   times the proved program on scripts of up to 65,536 lines, and recovery of images of up to 1,000,000 records
 # make gate    runs the gate, and writes the processor time of each crate into docs/GATE.md
 # make audit   tries the wrong bodies that the gate leaves out, those of crates/*/audit, or of the crates in CRATES
+# make docs    writes docs/CRATES.md and docs/LAWS.md anew, from crates.txt and the comments of crates and laws
 #
-# Each of them needs the Rattle toolchain, the command rt. Where the program ends with a status other than 0 make run fails, and says which
-# it was.
+# Each of them but `make docs` needs the Rattle toolchain, the command rt. Where the program ends with a status other than 0 make run fails,
+# and says which it was.
 
 SCRIPT ?= crates/fkv/stdin
 # The words behind the program's name, as WORDS="--check --torn 165".
@@ -17,12 +18,13 @@ WORDS ?=
 # The crates whose wrong bodies `make audit` tries, as CRATES="fkv_log fkv_ops"; all where nothing is said.
 CRATES ?=
 
-.PHONY: run test fkv rows memory bench gate audit toolchain
+.PHONY: run test fkv rows memory bench gate audit docs toolchain
 
 run: toolchain
 	@tools/script/run "$(SCRIPT)" $(WORDS)
 
 test: toolchain
+	tools/docs/make --check
 	tools/names/check
 	rt ci
 	@tools/rows/run crates/fkv/out/fkv > /dev/null
@@ -61,8 +63,11 @@ bench: fkv
 gate: toolchain
 	tools/gate/measure
 
+docs:
+	tools/docs/make
+
 audit: toolchain
 	tools/audit/run $(CRATES)
 
 toolchain:
-	@command -v rt > /dev/null || { echo "the Rattle toolchain is missing: there is no command rt (README.md, Two commands)" >&2; exit 1; }
+	@command -v rt > /dev/null || { echo "the Rattle toolchain is missing: there is no command rt (README.md, Try it)" >&2; exit 1; }

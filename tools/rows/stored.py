@@ -1,4 +1,4 @@
-"""The runs that are stored in runs/, and the scripts of a page.
+"""The runs that are stored in runs/, and the scripts of the pages.
 
 A run is a file: the program's words, the status, perhaps an image (packed by zlib, in base64) that the file `store` holds before the
 run, the script and what is written. The scripts are random ones, of each kind those that reach most together, and what they write was told
@@ -20,7 +20,8 @@ import zlib
 from rows import Row
 
 HERE = pathlib.Path(__file__).resolve().parent
-PAGE = HERE.parent.parent / "docs" / "SCRIPTS.md"
+TOP = HERE.parent.parent
+PAGES = (TOP / "README.md", TOP / "docs" / "SCRIPTS.md")
 RUN = re.compile(
     r"words(?P<words>[^\n]*)\nstatus (?P<status>\d)\n(== image\n(?P<image>[\w+/=\n]*))?== script\n(?P<script>.*)== output\n(?P<output>.*)",
     re.DOTALL,
@@ -41,8 +42,12 @@ def stored_runs():
     return [stored_run(path) for path in sorted((HERE / "runs").glob("*/*"))]
 
 
-def examples(page=PAGE):
-    """Each script of the page and the output below it, named by the heading above."""
+def examples():
+    return [row for page in PAGES for row in examples_of(page)]
+
+
+def examples_of(page):
+    """Each script of a page and the output below it, named by the heading above."""
     if not page.exists():
         sys.exit(f"there is no {page}, whose scripts are to be run")
     rows = []
