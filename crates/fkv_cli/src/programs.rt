@@ -28,7 +28,7 @@ const SCRIPT_LIMIT: u64 = 65536 * 201 + 1;
 /// Runs the program: by the words after its name and the script that the input gives, writes its answers. The status: 0; 1 where a check
 /// differs; 2 where the words, the script or its shape are refused; 3 where a store is; 4 where memory was refused outside of a line's own answer,
 /// or a stream failed: then what is written is a beginning of what the script writes. With status 0, a script of operations alone for a new store in memory, of which none is
-/// interleaved with another, prints what the plain map says: each reply is the map's on the operations so far, and each read gives its key's value. And so is each line of an
+/// interleaved with another, prints what the plain map says: each reply is the map's on the operations so far, and each read gives its key's value. An operation that has to wait, or is refused, says so and leaves the map. And so is each line of an
 /// operation answered in every other script without a seed, by the map of the history so far, where a life without commits shows the world (`lines`, `file_lines`).
 pub fn run<H: Files, R: Read + Drop, W: Write>(
     rt: &H,

@@ -11,7 +11,7 @@ use crate::rules::{law_life_begins, law_order_of_rules};
 /// of a device whose calls fail, with any actor at any step and a crash anywhere: what has taken effect so far is one history, legal from the store's map
 /// on, with the replies that were given. It orders the calls: each update whose result was given took effect once, with that reply, none took effect but
 /// those that were called, and one whose result was given before another was called took effect before it. Each read is answered by its key's
-/// value at some moment between its call and its answer. No step writes a flushed record or a frame that an epoch protects, and each action is run once at most, and when each
+/// value at some moment between its call and its answer. No step changes a flushed record or a frame that an epoch protects, and each action is run once at most, and when each
 /// protected session goes by what it loaded since its epoch was raised. The calls are of numbers below 2^64, and fewer than 2^64 - 1 calls of sessions begin.
 pub fn law_order()
     ensures legal { InEachLife HasLegalHistory }

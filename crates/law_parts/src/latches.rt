@@ -8,7 +8,7 @@ ghost use Rattle.law_parts.specs.Latches.Shows.{AreApart, AreFair, IsOpened, Sho
 /// Over every life of the engine that begins as a store was opened, whatever its calls, commits, turns and the order of its steps: each
 /// ask of a session that works on no latch, and each of the keeper, adds nothing to the word of a latch, and keeps the latch's bits. So
 /// the words are those of a run of the world of latches, in which each session's actor is as far as the session's machine and holds
-/// what the session holds. So a latch that a session holds alone no other session holds alone, and no request that waits shares it;
+/// what the session holds. So a latch that a session holds alone no other session holds alone, and no request that waits, of a session between its calls, shares it;
 /// and the word of a latch counts just those who share it.
 pub fn law_world_latched()
     ensures fair { (opening : World) (events : List Event) → IsOpened opening.now
