@@ -1,7 +1,8 @@
-# make run     runs a script and prints its answers (a build without proof): the stored one, or SCRIPT=path, by the words of WORDS
+# make run     runs a script and prints its answers: the stored one, or SCRIPT=path, by the words of WORDS. The program is built
+#              without proof, and stays at build/unproved/fkv
 # make test    the gate: whether generated pages are up to date, what crates name of each other, every proof from nothing, the
 #              must-fail edits, the tests and the program; then tools/openings, and what `make rows` and `make memory` do
-# make fkv     proves the program and leaves it at build/fkv
+# make fkv     proves the program, says at which crate it is, and leaves it at build/fkv
 # make rows    runs the built program on whole scripts, and compares what it writes
 # make memory  runs stored scripts, a store's creation and its opening, a commit's copy and the options' words, with each request for memory refused in turn
 # make bench   times the proved program on scripts of up to 65,536 lines, and recovery of images of up to 1,000,000 records
@@ -37,9 +38,7 @@ test: toolchain
 	@tools/memory/options > /dev/null
 
 fkv: toolchain
-	cd crates/fkv && rt run < stdin > /dev/null
-	mkdir -p build
-	cp crates/fkv/out/fkv build/fkv
+	@tools/script/prove
 
 rows: fkv
 	tools/rows/run build/fkv
