@@ -25,7 +25,7 @@ use Rattle.fkv_world.specs.Opened.{IsOpenedWorld}
 use Rattle.fkv_world.specs.OwnEvents.{keeper_events}
 use Rattle.fkv_world.specs.Runs.{World, run}
 use Rattle.fkv_world.specs.World.{Event}
-use Rattle.fkv_world.proofs.Shown.{of_keeper}
+use Rattle.law_world.proofs.OfKeeper.OwnRun.{of_keeper}
 use Rattle.fkv_world_prefix.specs.BegunCommits.{BegunCommit, HaveFinished, IsInHand, commit_opened, commits_begun, life_begun}
 use Rattle.fkv_world_prefix.specs.WrittenCommits.{NewestIsWritten, UsesAsKind, life_told, life_writing}
 use Rattle.fkv_world_prefix.proofs.BegunStands.{IsCalm, StandsAt, happens_at, no_finish, no_writes, run_stands, same_commit, there}

@@ -18,7 +18,9 @@ use Rattle.fkv_world.specs.Opened.{IsOpenedWorld}
 use Rattle.fkv_world.specs.OwnEvents.{keeper_events}
 use Rattle.fkv_world.specs.Runs.{World, happens, run}
 use Rattle.fkv_world.specs.World.{Event, KeeperMoves}
-use Rattle.fkv_world.proofs.Shown.{is_over, keeper_writes, of_keeper, places_stay, shape_stays}
+use Rattle.fkv_world.proofs.Shown.{is_over, places_stay, shape_stays}
+use Rattle.law_world.proofs.OfRuns.OneWord.{keeper_writes}
+use Rattle.law_world.proofs.OfKeeper.OwnRun.{of_keeper}
 use Rattle.fkv_world_prefix.specs.PhaseStores.{IsPhaseStored, StoresItsPhase, phase_at}
 
 -- the phase word has a place of its own

@@ -34,7 +34,8 @@ use Rattle.fkv_world.specs.Actors.{is_of_session}
 use Rattle.fkv_world.specs.Runs.{World, run}
 use Rattle.fkv_world.specs.World as world
 use Rattle.fkv_world.specs.World.{Event, Calls, Moves, Commits, KeeperMoves, Crashes, Now, near, seat_at}
-use Rattle.fkv_world.proofs.Shown.{of_run, opened_so, same_seat, session_runs, session_runs_on}
+use Rattle.law_world.proofs.OfSessions.OwnRun.{of_run, opened_so}
+use Rattle.fkv_world.proofs.Shown.{same_seat, session_runs, session_runs_on}
 use Rattle.fkv_world_prefix.specs.Accepted.{HasRisingVersion}
 use Rattle.fkv_world_prefix.specs.PhaseVersions.{NoneIsAhead, HasRisingPhase, phase_version, version_said}
 use Rattle.fkv_world_prefix.specs.Views.{View, Sight, completed, is_at_phase, loads_phase, sight_by, sight_in, sight_left, sight_moved, sight_through, view_said, wakes_at_phase, with_loaded}

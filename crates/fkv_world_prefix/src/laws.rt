@@ -5,7 +5,7 @@ ghost use Rattle.fkv_keeper.specs.declared.keepers.Keeping.TheVariants.{Finishes
 ghost use Rattle.fkv_keeper.specs.Keeping.{KeeperState};
 ghost use Rattle.fkv_session.specs.OwnTurns.{OwnTurnState, own_turn_ask};
 ghost use Rattle.fkv_session.specs.Sessions.{SessionState};
-ghost use Rattle.fkv_standing.specs.Opening.{AreNumbersInTurn};
+ghost use Rattle.law_world.specs.Standing.Opening.{AreNumbersInTurn};
 ghost use Rattle.fkv_world.specs.Opened.{HasBecome, IsOpenedWorld};
 ghost use Rattle.fkv_world.specs.OwnEvents.{keeper_events, session_events};
 ghost use Rattle.fkv_world.specs.Runs.{World, run};

@@ -2,7 +2,7 @@
 ghost use Rattle.std.specs.Prelude.{◌≡◌, ◌∷◌, ℕ, List, []};
 ghost use Rattle.fkv_order.specs.Ghosts.{Ghosts};
 ghost use Rattle.fkv_order.specs.Trace.{history_of};
-ghost use Rattle.fkv_world.specs.Added.{IsEffectOf};
+ghost use Rattle.law_world.specs.Runs.Added.{IsEffectOf};
 ghost use Rattle.fkv_world.specs.Opened.{IsOpenedWorld};
 ghost use Rattle.fkv_world.specs.Past.{Effect};
 ghost use Rattle.fkv_world.specs.Runs.{World, run};

@@ -10,7 +10,8 @@ use Rattle.fkv_world.specs.Opened.{HasBecome, IsOpenedWorld}
 use Rattle.fkv_world.specs.OwnEvents.{session_events}
 use Rattle.fkv_world.specs.Runs.{World, run}
 use Rattle.fkv_world.specs.World.{Event, seat_at}
-use Rattle.fkv_world.proofs.Shown.{of_run, opened_so, places_stay}
+use Rattle.law_world.proofs.OfSessions.OwnRun.{of_run, opened_so}
+use Rattle.fkv_world.proofs.Shown.{places_stay}
 use Rattle.law_guard.specs.Guarded.Shows.{IsOpened}
 use Rattle.law_guard.proofs.OfGuarded.Worlds.{life_shows}
 use Rattle.law_order.specs.Known.Begins.{BeginsLife}

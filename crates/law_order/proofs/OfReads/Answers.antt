@@ -25,7 +25,7 @@ use Rattle.fkv_session.specs.SessionRun.{telling, with_finished}
 use Rattle.fkv_session.specs.Sessions.{SessionState, is_busy}
 use Rattle.law_local.specs.Tries.ReadRows.{IsCalledFor, HasRead, SoughtReads, AttemptReads}
 use Rattle.law_local.specs.Tries.TryRows.{key_in}
-use Rattle.fkv_world.specs.Added.{call_answered, told_at}
+use Rattle.law_world.specs.Runs.Added.{call_answered, told_at}
 use Rattle.fkv_world.specs.Past.{Traced, Answered}
 use Rattle.law_order.specs.Known.Answered.{EachAnswered}
 use Rattle.law_refine.specs.Events.Lines.{CallMade, read_in_hand, read_waiting, is_ticket, gives_ticket, read_reply, next_serial, last_call, refused_call, refused_lines, finished_line, finished_lines, answer_lines}

@@ -17,7 +17,7 @@ use Rattle.law_local.specs.Sessions.Known.{is_attempting}
 use Rattle.law_local.proofs.OfSessions.SessionInputs.{run_so}
 use Rattle.law_local.proofs.OfTries.OnWay.{orderly}
 use Rattle.fkv_epoch.proofs.Shown.{some_same}
-use Rattle.fkv_world.specs.Added.{told_at, told_by}
+use Rattle.law_world.specs.Runs.Added.{told_at, told_by}
 use Rattle.fkv_world.specs.OwnEvents.{session_events}
 use Rattle.fkv_world.specs.Past.{TraceEvent}
 use Rattle.fkv_world.specs.Runs.{World, happens, run}

@@ -13,7 +13,7 @@ use Rattle.fkv_order.specs.Ghosts.{Ghosts, GhostEvent, Log, Tells, ghosts_after,
 use Rattle.fkv_order.specs.Owed as order
 use Rattle.fkv_order.specs.Owed.{AreOwed}
 use Rattle.fkv_order.specs.Trace.{AnswersRead, CallsRead, IsIn, TraceLine, history_of}
-use Rattle.fkv_world.specs.Added.{told_at, told_by}
+use Rattle.law_world.specs.Runs.Added.{told_at, told_by}
 use Rattle.fkv_world.specs.Past.{TraceEvent}
 use Rattle.fkv_world.specs.Runs.{World, happens, run}
 use Rattle.fkv_world.specs.World.{Event, Now}

@@ -13,7 +13,8 @@ use Rattle.fkv_record.specs.Places as image
 use Rattle.law_local.specs.Tries.MailRows.{IsRecordOf}
 use Rattle.fkv_world.specs.Runs.{World, run}
 use Rattle.fkv_world.specs.World.{Event}
-use Rattle.fkv_world.proofs.Shown.{opened_stays, shape_stays}
+use Rattle.law_world.proofs.OfKeeper.OwnCalls.{opened_stays}
+use Rattle.fkv_world.proofs.Shown.{shape_stays}
 use Rattle.law_order.specs.Known.Begins.{BeginsLife, IsInImage, home_of_world}
 use Rattle.law_parts.specs.Mail.MailEvents.{record_read}
 use Rattle.law_parts.specs.Mail.Reads.{record_there}

@@ -19,13 +19,16 @@ use Rattle.fkv_session.specs.Replies.{is_of}
 use Rattle.fkv_session.specs.SessionRun.{session_run}
 use Rattle.fkv_session.specs.Sessions.{SessionState, Seat, session_ask, session_next, ticket_after}
 use Rattle.fkv_world.specs.Actors.{is_of_session}
-use Rattle.fkv_world.specs.Added.{IsEffectOf}
+use Rattle.law_world.specs.Runs.Added.{IsEffectOf}
 use Rattle.fkv_world.specs.Opened.{HasBecome, IsOpenedWorld, effects_of}
 use Rattle.fkv_world.specs.OwnEvents.{session_events}
 use Rattle.fkv_world.specs.Past.{Effect}
 use Rattle.fkv_world.specs.Runs.{World, happens, run}
 use Rattle.fkv_world.specs.World.{Event, Calls, Moves, Commits, Turns, KeeperMoves, Crashes, seat_at}
-use Rattle.fkv_world.proofs.Shown.{here, life_made, no_session, opened_so, same_seat, session_apart}
+use Rattle.law_world.proofs.OfSessions.OwnRun.{here, opened_so}
+use Rattle.law_world.proofs.OfSessions.Effects.{life_made}
+use Rattle.law_world.proofs.OfRuns.Nothing.{no_session}
+use Rattle.fkv_world.proofs.Shown.{same_seat, session_apart}
 use Rattle.law_refine.specs.Events.GhostEvents.{serials_in}
 use Rattle.law_refine.specs.Calls.Calls.{effects_in_log, effects_of_life, lines_of_life, IsUpdateInHand}
 use Rattle.law_refine.proofs.OfCalls.Standing.{IsCalled, Knows, polled_called, update_is_some}

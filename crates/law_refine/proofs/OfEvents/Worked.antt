@@ -12,7 +12,7 @@ use Rattle.fkv_world.specs.World.{life_goes}
 use Rattle.fkv_world.specs.Moves.{session_settled, session_asks}
 use Rattle.fkv_world.specs.Past.{history_after, life_past}
 use Rattle.fkv_world.specs.Runs.{run}
-use Rattle.fkv_world.specs.Added.{begun_by, ended_by}
+use Rattle.law_world.specs.Runs.Added.{begun_by, ended_by}
 use Rattle.fkv_session.specs.Sessions.{sitting_ask, attempts, polls_at, op_begun, refresh_call, poll_call, sleep_call, wake_call, accepts, shifts, attempt_ledto, catch_ledto, clear_ledto, finishes_request, keeps_request, poll_ledto, turn_ledto, leave_ledto, sitting_next, sitting_given}
 use Rattle.fkv_pending.specs.Attempting.{attempting_ask, look_ledto, try_ledto, put_ledto, attempting_next}
 use Rattle.fkv_pending.specs.Pending.{with_sought, with_held, with_latch, with_asked}

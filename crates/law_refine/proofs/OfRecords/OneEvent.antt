@@ -25,7 +25,8 @@ use Rattle.fkv_world.specs.Actors.{is_of_session, session_goes}
 use Rattle.fkv_world.specs.Moves.{session_moved}
 use Rattle.fkv_world.specs.Runs.{World, happens, run}
 use Rattle.fkv_world.specs.World.{Event, Calls, Moves, Commits, Turns, KeeperMoves, Crashes, Now, seat_at, near, session_called}
-use Rattle.fkv_world.proofs.Shown.{is_over, no_session, session_apart, session_written}
+use Rattle.fkv_world.proofs.Shown.{is_over, session_apart, session_written}
+use Rattle.law_world.proofs.OfRuns.Nothing.{no_session}
 use Rattle.law_guard.specs.Guarded.Shows.{IsOpened, AreFair, IsFair, SessionIsFair}
 use Rattle.law_refine.specs.Events.Effects.{AreQuiet, TakesEffect, Quietly, Behind, InPlace, ByRecord, step_of}
 use Rattle.law_refine.specs.Events.GhostEvents.{home_in, moved_ghosts, own_ghosts, safe_at, fixed_ghosts, traced_by, serials_in, ghost_events, mapped, life_ghosts}

@@ -22,7 +22,8 @@ use Rattle.fkv_world.specs.OwnEvents.{session_events}
 use Rattle.fkv_world.specs.Past.{Effect}
 use Rattle.fkv_world.specs.Runs.{World}
 use Rattle.fkv_world.specs.World.{Event, seat_at}
-use Rattle.fkv_world.proofs.Shown.{life_made, of_run, opened_so}
+use Rattle.law_world.proofs.OfSessions.Effects.{life_made}
+use Rattle.law_world.proofs.OfSessions.OwnRun.{of_run, opened_so}
 use Rattle.law_refine.specs.Results.Results.{StaysOrTakes, TakesEffect, history_at}
 
 -- so many effects, whatever is asked of them, as updates that are told as done

@@ -20,7 +20,8 @@ use Rattle.fkv_world.specs.OwnEvents.{session_events}
 use Rattle.fkv_world.specs.Past.{Effect, Traced, TraceEvent, Called, Answered, CommitAsked, TurnAsked, KeeperAnswered}
 use Rattle.fkv_world.specs.Runs.{World, run}
 use Rattle.fkv_world.specs.World.{Event, seat_at}
-use Rattle.fkv_world.proofs.Shown.{life_heard, to_run}
+use Rattle.law_world.proofs.OfSessions.Heard.{life_heard}
+use Rattle.law_world.proofs.OfSessions.OwnRun.{to_run}
 use Rattle.law_refine.specs.Calls.Calls.{lines_of_life}
 use Rattle.law_refine.specs.Events.GhostEvents.{serials_in}
 use Rattle.law_refine.specs.Events.Lines.{finished_lines, answer_lines, event_lines, lines_of}

@@ -8,13 +8,15 @@ use Rattle.fkv_session.specs.Replies.{AreOfTheirCalls, effects_told, op_called, 
 use Rattle.fkv_session.specs.SessionRun.{SessionEvent, Replies, session_happens, session_run}
 use Rattle.fkv_session.specs.Sessions.{SessionState, Seat, IsOpened, session_ask, session_next}
 use Rattle.fkv_session.proofs.Shown.{run_own}
-use Rattle.fkv_world.specs.Added.{IsEffectOf, IsHistoryAfter}
+use Rattle.law_world.specs.Runs.Added.{IsEffectOf, IsHistoryAfter}
 use Rattle.fkv_world.specs.Opened.{HasBecome, IsOpenedWorld}
 use Rattle.fkv_world.specs.OwnEvents.{session_events, session_part_of}
 use Rattle.fkv_world.specs.Past.{Effect}
 use Rattle.fkv_world.specs.Runs.{World, happens, run}
 use Rattle.fkv_world.specs.World.{Event, seat_at}
-use Rattle.fkv_world.proofs.Shown.{happens_session, here, history_so, opened_so, same_seat}
+use Rattle.fkv_world.proofs.Shown.{happens_session, same_seat}
+use Rattle.law_world.proofs.OfSessions.OwnRun.{here, opened_so}
+use Rattle.law_world.proofs.OfRuns.Added.{history_so}
 use Rattle.law_refine.specs.Calls.Calls.{lines_of_life}
 use Rattle.law_refine.specs.Results.Results.{NobodyCalls, history_at}
 use Rattle.law_refine.proofs.OfResults.Given.{all_given}

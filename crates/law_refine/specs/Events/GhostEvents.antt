@@ -7,7 +7,7 @@ use Rattle.fkv_plane.specs.Places.{shared_place}
 use Rattle.fkv_index.specs.declared.homes.Home.{Home}
 use Rattle.fkv_index.specs.Slots.{home_of}
 use Rattle.fkv_session.specs.Sessions.{SessionState, session_ask}
-use Rattle.fkv_world.specs.Added.{told_at, told_by}
+use Rattle.law_world.specs.Runs.Added.{told_at, told_by}
 use Rattle.fkv_world.specs.Past.{Traced}
 use Rattle.fkv_world.specs.Runs.{World, happens, run}
 use Rattle.fkv_world.specs.World.{Event, Moves, Now, seat_at}
