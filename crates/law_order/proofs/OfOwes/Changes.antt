@@ -8,8 +8,8 @@ use Rattle.fkv_map.specs.Map.{Map}
 use Rattle.fkv_ops.specs.declared.trying.Trying.{Trying}
 use Rattle.fkv_ops.specs.declared.trying.Trying.TheVariants.{SwapsValue, ChangesValue}
 use Rattle.fkv_ops.specs.Trying.{TryState}
-use Rattle.fkv_order.specs.Chains.{Cell, Published}
-use Rattle.fkv_order.specs.Ghosts.{Log, Ghosts}
+use Rattle.law_log.specs.Chains.{Cell, Published}
+use Rattle.law_log.specs.Ghosts.{Log, Ghosts}
 use Rattle.fkv_pending.specs.declared.attempting.Attempting.{Attempting}
 use Rattle.fkv_pending.specs.declared.attempting.Attempting.TheVariants.{Tries}
 use Rattle.fkv_pending.specs.Attempting.{AttemptState}

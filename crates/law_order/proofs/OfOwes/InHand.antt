@@ -4,9 +4,9 @@ use Rattle.std.specs.Prelude.{Option, Some}
 use Rattle.fkv_base.specs.declared.numbers.Version.{Version}
 use Rattle.fkv_map.specs.declared.history.HistoryEntry.{HistoryEntry}
 use Rattle.fkv_map.specs.Map.{Map}
-use Rattle.fkv_order.specs.Ghosts.{Ghosts}
-use Rattle.fkv_order.specs.Owed.{IsInHand}
-use Rattle.fkv_order.specs.Trace.{TraceLine, called_as, Effect as LogEffect}
+use Rattle.law_log.specs.Ghosts.{Ghosts}
+use Rattle.law_log.specs.Owed.{IsInHand}
+use Rattle.law_log.specs.Trace.{TraceLine, called_as, Effect as LogEffect}
 use Rattle.law_world.specs.Runs.Added.{IsEffectOf, IsHistoryAfter}
 use Rattle.fkv_world.specs.Past.{Effect, effect_made}
 use Rattle.fkv_world.specs.Runs.{World, happens, run}

@@ -8,9 +8,9 @@ use Rattle.fkv_map.specs.declared.operations.Op.TheVariants as op
 use Rattle.fkv_base.specs.declared.numbers.Value.{Value}
 use Rattle.fkv_map.specs.Keys.{key_of, as_number}
 use Rattle.fkv_map.specs.Map.{reply_to_read}
-use Rattle.fkv_order.specs.Ghosts.{Ghosts, Tells, Reading, ghosts_after, ghost_run}
-use Rattle.fkv_order.specs.Trace.{TraceLine, GivesResult, CallsRead, AnswersRead}
-use Rattle.fkv_order.proofs.Shown.{set_else}
+use Rattle.law_log.specs.Ghosts.{Ghosts, Tells, Reading, ghosts_after, ghost_run}
+use Rattle.law_log.specs.Trace.{TraceLine, GivesResult, CallsRead, AnswersRead}
+use Rattle.law_log.proofs.Shown.{set_else}
 use Rattle.fkv_pending.specs.declared.pending_requests.PendingRequest.{PendingRequest}
 use Rattle.fkv_pending.specs.Attempting.{AttemptState, is_poll}
 use Rattle.fkv_session.specs.declared.answers.Finished.{Finished}

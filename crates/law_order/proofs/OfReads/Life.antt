@@ -6,9 +6,9 @@ use Rattle.fkv_epoch.proofs.Shown.{some_same}
 use Rattle.fkv_map.specs.declared.operations.Call.{Call}
 use Rattle.fkv_map.specs.declared.operations.Call.TheVariants as call
 use Rattle.fkv_map.specs.declared.operations.Op.TheVariants as op
-use Rattle.fkv_order.specs.Ghosts.{Ghosts, GhostEvent, Tells, Fixes, Reading, ghosts_after, ghost_run}
-use Rattle.fkv_order.specs.Trace.{TraceLine}
-use Rattle.fkv_order.proofs.Shown.{set_there}
+use Rattle.law_log.specs.Ghosts.{Ghosts, GhostEvent, Tells, Fixes, Reading, ghosts_after, ghost_run}
+use Rattle.law_log.specs.Trace.{TraceLine}
+use Rattle.law_log.proofs.Shown.{set_there}
 use Rattle.fkv_session.specs.declared.answers.Finished.{Finished}
 use Rattle.fkv_session.specs.declared.sessions.Sitting.{Sitting}
 use Rattle.fkv_session.specs.declared.sessions.Sitting.TheVariants.{Idle}

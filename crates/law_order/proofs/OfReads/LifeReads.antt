@@ -3,9 +3,9 @@ use Rattle.std.proofs.Common.{◌≡◌, ℕ, ◌∙◌, refl, sym, ap, subst, B
 use Rattle.std.specs.Prelude.{◌==◌, slice_get, Some}
 use Rattle.fkv_base.specs.declared.numbers.Version.{Version}
 use Rattle.fkv_map.specs.Map.{Map}
-use Rattle.fkv_order.specs.Ghosts.{Ghosts}
-use Rattle.fkv_order.specs.Owed.{AreOwed}
-use Rattle.fkv_order.proofs.Shown.{run_held}
+use Rattle.law_log.specs.Ghosts.{Ghosts}
+use Rattle.law_log.specs.Owed.{AreOwed}
+use Rattle.law_log.proofs.Shown.{run_held}
 use Rattle.fkv_session.specs.declared.sessions.Sitting.{Sitting}
 use Rattle.fkv_session.specs.declared.sessions.Sitting.TheVariants.{Idle, Attempts, Polls}
 use Rattle.fkv_session.specs.Replies.{effects_told, op_called, serials_taken}

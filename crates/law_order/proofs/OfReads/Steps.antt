@@ -1,7 +1,7 @@
 -- A step of a session, with the drain slot that it turns to behind it, leaves its reads as far as its control state says.
 use Rattle.std.proofs.Common.{◌≡◌, ℕ, zero, suc, ◌∙◌, refl, sym, ap, subst, Bool, true, false, List, [], ◌∷◌, ◌++◌}
 use Rattle.std.specs.Prelude.{Option, Some, None}
-use Rattle.fkv_order.specs.Ghosts.{Ghosts, GhostEvent, Tells, FindsEntry, TakesValue, ghost_run}
+use Rattle.law_log.specs.Ghosts.{Ghosts, GhostEvent, Tells, FindsEntry, TakesValue, ghost_run}
 use Rattle.fkv_plane.specs.declared.actions.Action.{Action}
 use Rattle.fkv_plane.specs.declared.asks.Ask.{Ask}
 use Rattle.fkv_plane.specs.declared.asks.Ask.TheVariants.{Put, Take, Done}

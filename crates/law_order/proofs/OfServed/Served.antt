@@ -5,9 +5,9 @@ use Rattle.fkv_base.specs.declared.shapes.Shape.{Shape}
 use Rattle.fkv_disk.specs.Bytes.{bytes_at}
 use Rattle.fkv_disk.specs.Calls.{reads_as}
 use Rattle.fkv_map.specs.Map.{Map}
-use Rattle.fkv_order.specs.Chains.{Cell, Logged, Published}
-use Rattle.fkv_order.specs.Ghosts.{Ghosts}
-use Rattle.fkv_order.specs.Owed.{AreOwed}
+use Rattle.law_log.specs.Chains.{Cell, Logged, Published}
+use Rattle.law_log.specs.Ghosts.{Ghosts}
+use Rattle.law_log.specs.Owed.{AreOwed}
 use Rattle.fkv_plane.specs.declared.places.RecordWord.TheVariants as rec
 use Rattle.fkv_record.specs.Places as image
 use Rattle.law_local.specs.Tries.MailRows.{IsRecordOf}

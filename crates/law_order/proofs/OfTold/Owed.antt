@@ -3,10 +3,10 @@ use Rattle.std.proofs.Common.{◌≡◌, ℕ, ◌∙◌, refl, ap, sym, subst, B
 use Rattle.std.specs.Prelude.{map, if◌then◌else◌}
 use Rattle.fkv_base.specs.declared.numbers.Version.{Version}
 use Rattle.fkv_map.specs.Map.{Map}
-use Rattle.fkv_order.specs.Ghosts.{Log, Ghosts, GhostEvent, Tells, ghost_run}
-use Rattle.fkv_order.specs.Owed.{AreOwed, OwesLine, IsOpened}
-use Rattle.fkv_order.specs.Trace.{Effect, TraceLine, CallsUpdate, RefusesUpdate, GivesResult, CallsRead, AnswersRead, IsIn, called_as}
-use Rattle.fkv_order.proofs.Shown.{IsSound, run_sound}
+use Rattle.law_log.specs.Ghosts.{Log, Ghosts, GhostEvent, Tells, ghost_run}
+use Rattle.law_log.specs.Owed.{AreOwed, OwesLine, IsOpened}
+use Rattle.law_log.specs.Trace.{Effect, TraceLine, CallsUpdate, RefusesUpdate, GivesResult, CallsRead, AnswersRead, IsIn, called_as}
+use Rattle.law_log.proofs.Shown.{IsSound, run_sound}
 use Rattle.fkv_world.specs.Runs.{World, run}
 use Rattle.fkv_world.specs.World.{Event}
 use Rattle.law_refine.specs.Calls.Calls.{EachOwes, OwesCall, effects_of_life, entries_of, event_adds, lines_of_life}

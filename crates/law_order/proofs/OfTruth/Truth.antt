@@ -6,9 +6,9 @@ use Rattle.fkv_base.specs.declared.shapes.Shape.{Shape}
 use Rattle.fkv_index.specs.Slots.{home_of}
 use Rattle.fkv_map.specs.Keys.{key_of}
 use Rattle.fkv_map.specs.Map.{Map}
-use Rattle.fkv_order.specs.Chains.{head_of}
-use Rattle.fkv_order.specs.Ghosts.{Ghosts, Log}
-use Rattle.fkv_order.specs.Owed.{AreOwed}
+use Rattle.law_log.specs.Chains.{head_of}
+use Rattle.law_log.specs.Ghosts.{Ghosts, Log}
+use Rattle.law_log.specs.Owed.{AreOwed}
 use Rattle.fkv_ops.specs.declared.requests.Seen.{Seen}
 use Rattle.fkv_pending.specs.Attempting.{attempt_ask}
 use Rattle.fkv_plane.specs.Asked.{reply_to}

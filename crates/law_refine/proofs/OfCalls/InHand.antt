@@ -7,8 +7,8 @@ use Rattle.fkv_epoch.proofs.Shown.{none_some}
 use Rattle.fkv_map.specs.declared.history.HistoryEntry.{HistoryEntry}
 use Rattle.fkv_map.specs.declared.operations.Call.TheVariants.{Refresh}
 use Rattle.fkv_ops.specs.Requests.{is_read}
-use Rattle.fkv_order.specs.Trace as log
-use Rattle.fkv_order.specs.Trace.{IsIn, called_as, HasUpdate}
+use Rattle.law_log.specs.Trace as log
+use Rattle.law_log.specs.Trace.{IsIn, called_as, HasUpdate}
 use Rattle.fkv_pending.specs.declared.pending_requests.RequestName.{RequestName}
 use Rattle.fkv_pending.specs.declared.pending_requests.RequestName.TheVariants.{Update, Read}
 use Rattle.fkv_plane.specs.Asked.{reply_to}

@@ -10,8 +10,8 @@ use Rattle.fkv_map.specs.declared.operations.Call.TheVariants as call
 use Rattle.fkv_map.specs.declared.operations.Op.TheVariants as op
 use Rattle.fkv_map.specs.declared.operations.Reply.{Reply}
 use Rattle.fkv_map.specs.declared.operations.Reply.TheVariants as reply
-use Rattle.fkv_order.specs.Trace as log
-use Rattle.fkv_order.specs.Trace.{TraceLine, CallsUpdate, RefusesUpdate, GivesResult, CallsRead, AnswersRead, IsIn, called_as, HasUpdate, HasReply}
+use Rattle.law_log.specs.Trace as log
+use Rattle.law_log.specs.Trace.{TraceLine, CallsUpdate, RefusesUpdate, GivesResult, CallsRead, AnswersRead, IsIn, called_as, HasUpdate, HasReply}
 use Rattle.fkv_session.specs.declared.answers.Finished.{Finished}
 use Rattle.fkv_session.specs.declared.answers.Finished.TheVariants as finished
 use Rattle.fkv_session.specs.declared.answers.Told.{Told}

@@ -6,9 +6,9 @@ use Rattle.fkv_map.specs.declared.history.HistoryEntry.{HistoryEntry}
 use Rattle.fkv_map.specs.declared.operations.Call.{Call}
 use Rattle.fkv_map.specs.declared.operations.Call.TheVariants.{Refresh}
 use Rattle.fkv_epoch.proofs.Shown.{none_some, same_or}
-use Rattle.fkv_order.specs.Chains.{Cell, Unborn}
-use Rattle.fkv_order.specs.Ghosts.{Ghosts, GhostEvent, Tells, Fixes, ghost_run}
-use Rattle.fkv_order.specs.Trace.{TraceLine}
+use Rattle.law_log.specs.Chains.{Cell, Unborn}
+use Rattle.law_log.specs.Ghosts.{Ghosts, GhostEvent, Tells, Fixes, ghost_run}
+use Rattle.law_log.specs.Trace.{TraceLine}
 use Rattle.fkv_plane.specs.declared.asks.Ask.{Ask}
 use Rattle.fkv_plane.specs.declared.places.SharedWord.TheVariants as one
 use Rattle.fkv_plane.specs.Asked.{asked, asked_place, reply_to, word_at, word_found}

@@ -1,8 +1,8 @@
 -- The log's trace beside a life is the life's trace, line by line.
 use Rattle.std.proofs.Common.{◌≡◌, ℕ, ◌∙◌, refl, sym, ap, Bool, true, false, List, [], ◌∷◌, ◌++◌, append-nil, append_assoc}
 use Rattle.std.specs.Prelude.{length, map, if◌then◌else◌, ◌==◌}
-use Rattle.fkv_order.specs.Ghosts.{Ghosts, GhostEvent, Tells, FindsEntry, TakesValue, Reserves, Publishes, Drops, Changes, Fixes, trace_after, ghosts_after, ghost_run}
-use Rattle.fkv_order.specs.Trace.{TraceLine}
+use Rattle.law_log.specs.Ghosts.{Ghosts, GhostEvent, Tells, FindsEntry, TakesValue, Reserves, Publishes, Drops, Changes, Fixes, trace_after, ghosts_after, ghost_run}
+use Rattle.law_log.specs.Trace.{TraceLine}
 use Rattle.law_world.specs.Runs.Added.{told_at, begun_by, ended_by}
 use Rattle.fkv_world.specs.Past.{Traced}
 use Rattle.fkv_world.specs.Runs.{World, happens, run}

@@ -29,7 +29,7 @@ use Rattle.fkv_log.specs.Filling.{fill_ask, fill_next}
 use Rattle.fkv_log.specs.Loading.{load_ask, load_next, load_next_ask, load_on}
 use Rattle.fkv_log.specs.Invalidating.{invalidate_ask, invalidate_next}
 use Rattle.fkv_plane.specs.Passing.{passed}
-use Rattle.fkv_order.specs.Ghosts.{set_at, ghosts_after, ghost_run}
+use Rattle.law_log.specs.Ghosts.{set_at, ghosts_after, ghost_run}
 use Rattle.law_refine.specs.Events.GhostEvents.{ghost_events, mapped}
 use Rattle.law_refine.specs.Events.Lines.{lines_of, lines_added}
 use Rattle.law_refine.specs.Events.Sessions.{step_ghosts}

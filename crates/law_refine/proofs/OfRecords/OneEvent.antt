@@ -8,9 +8,9 @@ use Rattle.fkv_map.specs.declared.operations.Call.{Call}
 use Rattle.fkv_map.specs.declared.operations.Call.TheVariants.{Refresh}
 use Rattle.fkv_map.specs.Keys.{value_applied}
 use Rattle.fkv_epoch.proofs.Shown.{none_some, same_or, some_same}
-use Rattle.fkv_order.specs.Chains.{Cell, Logged, Unborn, Reserved, Published}
-use Rattle.fkv_order.specs.Ghosts.{Ghosts, GhostEvent, Tells, Fixes, changed_by, ghosts_after, ghost_run}
-use Rattle.fkv_order.specs.Trace.{TraceLine}
+use Rattle.law_log.specs.Chains.{Cell, Logged, Unborn, Reserved, Published}
+use Rattle.law_log.specs.Ghosts.{Ghosts, GhostEvent, Tells, Fixes, changed_by, ghosts_after, ghost_run}
+use Rattle.law_log.specs.Trace.{TraceLine}
 use Rattle.fkv_plane.specs.declared.asks.Ask.{Ask}
 use Rattle.fkv_plane.specs.declared.asks.Ask.TheVariants.{Put, Take, Done}
 use Rattle.fkv_plane.specs.declared.places.RecordWord.{RecordWord}

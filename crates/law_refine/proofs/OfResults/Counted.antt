@@ -8,7 +8,7 @@ use Rattle.fkv_map.specs.declared.history.HistoryEntry.{HistoryEntry}
 use Rattle.fkv_map.specs.declared.operations.Op.{Op}
 use Rattle.fkv_map.specs.declared.operations.Reply.{Reply}
 use Rattle.fkv_map.specs.declared.operations.Reply.TheVariants as reply
-use Rattle.fkv_order.specs.Trace.{IsIn}
+use Rattle.law_log.specs.Trace.{IsIn}
 use Rattle.fkv_session.specs.Accounts.{number_of}
 use Rattle.fkv_session.specs.declared.answers.Finished.{Finished}
 use Rattle.fkv_session.specs.declared.sessions.Sitting.{Sitting}

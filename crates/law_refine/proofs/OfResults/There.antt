@@ -2,7 +2,7 @@
 use Rattle.std.proofs.Common.{◌≡◌, ℕ, ◌∙◌, List, [], ◌∷◌, refl, ap, sym, subst, inl, inr}
 use Rattle.std.specs.Prelude.{slice_get, Option, Some}
 use Rattle.fkv_map.specs.declared.history.HistoryEntry.{HistoryEntry}
-use Rattle.fkv_order.specs.Trace.{GivesResult, IsIn}
+use Rattle.law_log.specs.Trace.{GivesResult, IsIn}
 use Rattle.fkv_plane.specs.Asked.{reply_to}
 use Rattle.fkv_session.specs.Replies.{AreOfTheirCalls, effects_told, op_called, serials_taken, with_effect}
 use Rattle.fkv_session.specs.SessionRun.{SessionEvent, Replies, session_happens, session_run}
