@@ -33,7 +33,7 @@ use Rattle.law_guard.proofs.OfKeeper.Ends.{PartKnows, part_known}
 use Rattle.law_guard.proofs.OfKeeper.KeeperLed.{KeeperLed, StepLed, keeper_settles}
 use Rattle.law_guard.proofs.OfKeeper.Kept.{replied_to, device_called_to}
 use Rattle.law_guard.proofs.OfKeeper.Led.{likeness}
-use Rattle.law_guard.proofs.OfKeeper.Movers.{clash}
+use Rattle.law_guard.proofs.OfSessions.Movers.{clash}
 use Rattle.law_guard.proofs.OfKeeper.PartLed.{stays}
 use Rattle.law_guard.proofs.OfKeeper.SlotAtRest.{IsReceiving, Receives, keeper_rest}
 

@@ -38,7 +38,7 @@ use Rattle.law_order.specs.Rest.Resting.{HasNoCommit}
 use Rattle.law_order.proofs.OfServed.Device.{flushed_fixed}
 use Rattle.law_order.proofs.OfServed.Later.{life_owed_before, life_stays}
 use Rattle.law_order.proofs.OfTruth.Attempts.{attempting_is, life_seen}
-use Rattle.law_order.proofs.OfTruth.Truth.{known_now}
+use Rattle.law_order.proofs.OfKnown.Newest.{known_now}
 use Rattle.law_order.specs.Asked.Asked.{AsksForSought, outstanding}
 use Rattle.law_order.proofs.OfLooks.Heads.{head_flushed}
 use Rattle.law_order.proofs.OfLooks.LifeAsks.{IsAboutToAsk, was_or_comes}

@@ -49,7 +49,7 @@ use Rattle.law_order.proofs.OfRest.Lives.{life_cells}
 use Rattle.law_order.proofs.OfRest.Worlds.{life_rests}
 use Rattle.law_order.proofs.OfRest.Cells.{none_above, none_above_reserved, none_copies}
 use Rattle.law_order.proofs.OfOwes.Attempts.{life_attempts}
-use Rattle.law_order.proofs.OfOwes.Changes.{known_now}
+use Rattle.law_order.proofs.OfKnown.Newest.{known_now}
 use Rattle.law_order.proofs.OfOwes.InHand.{made_in_hand}
 use Rattle.law_order.proofs.OfOwes.Ready.{AllTakeOwed, AllTakeUnborn, behind_owed, meets_then, takes_owed, takes_unborn}
 use Rattle.law_order.proofs.OfOwes.Tries.{sitting_owed}

@@ -35,7 +35,7 @@ use Rattle.law_refine.specs.Events.Sessions.{attempt_ghosts, ticket_of, sitting_
 use Rattle.law_order.specs.Reads.Reads.{SessionReadings, readings_of, SitsReads}
 use Rattle.law_order.proofs.OfReads.Coming.{AllNamed, ComesTo, Comes, IsFreshly, MovedSo, next_comes, given_comes}
 use Rattle.law_order.proofs.OfReads.Moved.{call_moves, poll_moves}
-use Rattle.law_order.proofs.OfReads.NoSlots.{IsOffSlots, passed_off, attempt_off_slots}
+use Rattle.law_world.proofs.OfRuns.NoSlots.{IsOffSlots, passed_off, attempt_off_slots}
 use Rattle.law_order.proofs.OfReads.Numbers.{IsOwn, Numbered}
 use Rattle.law_order.proofs.OfReads.ReadEnds.{passed_done}
 use Rattle.law_order.proofs.OfReads.Touched.{touches, AllTouch, IsItsRead, attempt_touch}

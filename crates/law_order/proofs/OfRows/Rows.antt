@@ -35,7 +35,7 @@ use Rattle.law_order.specs.Known.Begins.{BeginsLife, home_of_world}
 use Rattle.law_order.specs.Known.Knows.{AllKnowBehind, AreKnown, SessionKnows}
 use Rattle.law_order.specs.Known.Told.{AreToldTruly, reply_in}
 use Rattle.law_refine.specs.Events.GhostEvents.{life_ghosts, mapped}
-use Rattle.law_order.proofs.OfOwes.Changes.{known_now}
+use Rattle.law_order.proofs.OfKnown.Newest.{known_now}
 use Rattle.law_order.proofs.OfOwes.Attempts.{life_attempts}
 use Rattle.law_order.specs.Rest.Logs.{CellsRest}
 use Rattle.law_order.specs.Rest.Machines.{CatchesAtRest}

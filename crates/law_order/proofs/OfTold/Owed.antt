@@ -19,7 +19,6 @@ use Rattle.law_refine.specs.Events.GhostEvents.{ghost_events, life_ghosts, mappe
 use Rattle.law_refine.proofs.OfEvents.Trace.{ghost_trace}
 use Rattle.law_refine.specs.Records.Changes.{AreChangesPublished}
 use Rattle.law_refine.proofs.OfRecords.Meets.{life_meets_published}
-use Rattle.law_order.specs.Rest.Resting.{HasNoCommit}
 use Rattle.law_order.proofs.OfTold.Lines.{acted_trace, told_log, told_trace}
 use Rattle.law_order.proofs.OfTold.Runs.{free_read, owed_on, run_on}
 
@@ -99,9 +98,9 @@ module _ (opening : World) (start : ℕ) (lists : ℕ → List ℕ) (version : V
       (told_owed H m number ghosts behind (effects_of_life opening (event ∷ before)) (lines_of_life opening before) told begins.log (owed_on H ghosts (acted opening before event) (mapped opening before) owed own)
       (behind_entries alive published) behind_trace (event_owes opening before event begins.world) (subst (λ (x : Ghosts). EachAnswered H x told) (sym behind_is) answered))
 
-  pub lines_owed : HasNoCommit (event ∷ before) → AreOwed H ghosts (mapped opening before) → AreChangesPublished opening ghosts (event ∷ before) → AreOwed H (life_ghosts opening ghosts before) (acted opening before event)
+  pub lines_owed : AreOwed H ghosts (mapped opening before) → AreChangesPublished opening ghosts (event ∷ before) → AreOwed H (life_ghosts opening ghosts before) (acted opening before event)
       → EachAnswered H base told → AreOwed H ghosts (mapped opening (event ∷ before))
-  lines_owed rests owed published own answered = by_test (run opening before).now.crashed refl
+  lines_owed owed published own answered = by_test (run opening before).now.crashed refl
     where
       by_test : (c : Bool) → (run opening before).now.crashed ≡ c → AreOwed H ghosts (mapped opening (event ∷ before))
       by_test true crashed = subst (AreOwed H ghosts) (sym (mapped_crashed opening before event crashed)) owed

@@ -85,7 +85,7 @@ unfolding publish_ask
 publish_off publish.AtRest = tt
 publish_off step = tt
 
-latch_off : (step : Latching) → IsOffSlots (latch_ask step)
+pub latch_off : (step : Latching) → IsOffSlots (latch_ask step)
 unfolding latch_ask
 latch_off latch.AtRest = tt
 latch_off step = tt
