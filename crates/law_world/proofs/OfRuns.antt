@@ -1,9 +1,9 @@
 pub mod Added
-mod Crashed
-mod EffectStays
-mod Ends
+pub mod Crashed
+pub mod EffectStays
+pub mod Ends
 pub mod Lives
 pub mod NoSlots
 pub mod Nothing
 pub mod OneWord
-mod Starts
+pub mod Starts

@@ -2,7 +2,7 @@ mod Flushed
 mod Fronts
 mod Moments
 pub mod Runs
-mod SlotPlaces
+pub mod SlotPlaces
 mod Stepped
 mod Turned
 mod WritesStepped

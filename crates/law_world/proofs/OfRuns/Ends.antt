@@ -1,6 +1,6 @@
 -- Why a machine that moves has fewer asks left, and so comes to the end of its call.
-use Rattle.std.proofs.Common.{◌≡◌, ◌∙◌, ap, sym, subst, refl, arith, ℕ, zero, suc, ◌+◌, ◌-◌, ◌<◌, ◌≤◌, ◌⊎◌, inl, inr, Bool, true, false, List, [], ◌∷◌}
-use Rattle.std.specs.Prelude.{Option, Some, None, slice_get, slice_set, replicate, ⊤}
+use Rattle.std.proofs.Common.{◌≡◌, ◌∙◌, ap, sym, subst, refl, arith, ℕ, zero, suc, ◌-◌, ◌<◌, ◌≤◌, inl, inr, Bool, true, false, List, [], ◌∷◌}
+use Rattle.std.specs.Prelude.{Option, Some, None, slice_get}
 use Rattle.std.proofs.lemmas.Bool.{cases_lt}
 use Rattle.fkv_base.specs.declared.shapes.Shape.{Shape}
 use Rattle.fkv_epoch.specs.Claiming.{takes_action}
@@ -9,21 +9,21 @@ use Rattle.fkv_keeper.specs.declared.answers.KeeperTold.TheVariants as keeper_to
 use Rattle.fkv_keeper.specs.declared.answers.KeeperTold.TheVariants.{Device}
 use Rattle.fkv_keeper.specs.Answers.{is_busy}
 use Rattle.fkv_keeper.specs.KeeperAsks.{keeper_asks_left}
-use Rattle.fkv_keeper.specs.Keeping.{KeeperState, keeper_ask, keeper_called, keeper_given, keeper_next}
+use Rattle.fkv_keeper.specs.Keeping.{KeeperState, keeper_ask}
 use Rattle.fkv_keeper.proofs.Shown.{keeper_called_fewer, keeper_fewer, keeper_given_fewer, keeper_left}
 use Rattle.fkv_plane.specs.declared.actions.Action.{Action}
 use Rattle.fkv_plane.specs.declared.asks.Ask.{Ask}
 use Rattle.fkv_plane.specs.declared.asks.Ask.TheVariants.{Put, Take, Done}
 use Rattle.fkv_plane.specs.declared.places.Places.{Places}
-use Rattle.fkv_plane.specs.Asked.{reply_to, words_after}
+use Rattle.fkv_plane.specs.Asked.{reply_to}
 use Rattle.fkv_plane.specs.Passing.{is_done, passed}
 use Rattle.fkv_plane.specs.Plane.{action_at}
-use Rattle.fkv_session.specs.AsksLeft.{session_asks_left, sitting_asks_left}
+use Rattle.fkv_session.specs.AsksLeft.{session_asks_left}
 use Rattle.fkv_session.specs.declared.answers.Told.{Told}
 use Rattle.fkv_session.specs.declared.sessions.Sitting.{Sitting}
 use Rattle.fkv_session.specs.declared.sessions.Sitting.TheVariants.{Turns}
 use Rattle.fkv_session.specs.OwnTurns.{own_turn_ask}
-use Rattle.fkv_session.specs.Sessions.{SessionState, Seat, session_ask, session_given, session_next, sitting_ask, sitting_given}
+use Rattle.fkv_session.specs.Sessions.{SessionState, Seat, session_ask, session_given, sitting_ask, sitting_given}
 use Rattle.fkv_session.proofs.Shown.{session_fewer, session_given_fewer, session_left}
 use Rattle.fkv_map.specs.declared.operations.Call.TheVariants as call
 use Rattle.fkv_epoch.proofs.Shown.{some_same}

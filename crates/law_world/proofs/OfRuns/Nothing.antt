@@ -18,7 +18,7 @@ use Rattle.fkv_world.specs.Moves.{session_asks, keeper_asks}
 use Rattle.fkv_world.specs.Past.{Past, history_after, life_past}
 use Rattle.fkv_world.specs.Runs.{World, happens, read_by_keeper}
 use Rattle.fkv_world.specs.World.{Event, Calls, Moves, Commits, Turns, KeeperMoves, Now, seat_at, life_goes}
-use Rattle.fkv_world.proofs.Shown.{is_over}
+use Rattle.fkv_world.proofs.Shown.{is_over, lived, world_of}
 
 -- what is read at an index and written back
 pub item_back : {X : Type 0} (xs : List X) (i : ℕ) (x : X) → slice_get xs i ≡ Some x → slice_set xs i x ≡ xs

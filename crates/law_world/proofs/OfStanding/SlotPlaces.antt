@@ -1,5 +1,5 @@
 -- Where the slot of a commit lies.
-use Rattle.std.proofs.Common.{◌≡◌, ◌∙◌, ◌<◌, ℕ, zero, suc, ◌+◌, ◌*◌, ◌%◌, arith, refl}
+use Rattle.std.proofs.Common.{◌≡◌, ◌<◌, ℕ, zero, suc, ◌+◌, ◌*◌, ◌%◌, arith, refl}
 use Rattle.std.specs.Prelude.{◌==◌, if◌then◌else◌}
 use Rattle.fkv_base.specs.declared.numbers.Version.{Version}
 use Rattle.fkv_keeper.specs.LastCommits.{slot_place}

@@ -1,12 +1,12 @@
 -- How a call comes to its end: by the asks that its machine has left.
-use Rattle.std.specs.Prelude.{◌≡◌, ℕ, ◌<◌, false, replicate, List, Option, Some, None, ⊤, slice_get}
+use Rattle.std.specs.Prelude.{◌≡◌, ℕ, ◌<◌, false, replicate, Option, Some, None, ⊤, slice_get}
 use Rattle.fkv_epoch.specs.Claiming.{takes_action}
 use Rattle.fkv_keeper.specs.Keeping.{keeper_ask}
 use Rattle.fkv_keeper.specs.KeeperAsks.{keeper_asks_left}
 use Rattle.fkv_session.specs.AsksLeft.{session_asks_left}
 use Rattle.fkv_session.specs.Sessions.{SessionState, session_ask}
 use Rattle.fkv_world.specs.Runs.{World, run}
-use Rattle.fkv_world.specs.World.{Event, KeeperMoves, Moves, Now, seat_at}
+use Rattle.fkv_world.specs.World.{Moves, Now, seat_at}
 
 -- The asks that the call of a session has left, at most, and those of the keeper's call: none where it has ended.
 abbrev pub left_at : Now → ℕ → Option SessionState → ℕ
