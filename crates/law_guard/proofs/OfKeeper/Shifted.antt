@@ -25,7 +25,8 @@ use Rattle.fkv_maintain.specs.Maintaining.{MaintainState, maintaining_ask, maint
 use Rattle.law_guard.specs.Keeper.MaintainEvents.{shift_events, maintain_events}
 use Rattle.law_guard.specs.Keeper.MaintainShown.{maintain_machine, maintain_work}
 use Rattle.law_guard.specs.Sessions.OwnTurns.{shift_machine}
-use Rattle.law_guard.proofs.OfKeeper.Led.{likeness, Led, then_begins}
+use Rattle.law_guard.specs.Keeper.Followed.{likeness}
+use Rattle.law_guard.proofs.OfKeeper.Led.{Led, then_begins}
 use Rattle.law_guard.proofs.OfSessions.Movers.{shift_fits, known_after, shift_rests_so, shift_under_way}
 use Rattle.law_guard.proofs.OfKeeper.Slots.{passed_slot}
 use Rattle.law_guard.proofs.OfKeeper.TurnLed.{TurnLed, slotless_led, led_by_ask}

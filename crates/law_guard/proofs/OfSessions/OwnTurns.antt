@@ -41,7 +41,7 @@ use Rattle.law_guard.specs.Keeper.Settled.{is_of_slot}
 use Rattle.law_guard.proofs.OfKeeper.Slots.{emptied, passed_slot}
 use Rattle.law_guard.proofs.OfSessions.Movers.{shift_fits, known_after, shift_rests_so, shift_under_way}
 use Rattle.law_guard.proofs.OfSessions.OwnTurnsLed.{OwnTurnLed, scan_led, claim_later, claim_led, shift_ends, shift_stays, shift_asking, shift_on, shift_later}
-use Rattle.law_guard.proofs.OfSessions.SessionsLed.{IsScanning, IsClaiming, IsOpening}
+use Rattle.law_guard.specs.Sessions.Rows.{IsScanning, IsClaiming, IsOpening}
 use Rattle.law_guard.proofs.OfSessions.AppendsLed.{truth}
 use Rattle.law_guard.proofs.OfSessions.Onwards.{Keeps}
 
