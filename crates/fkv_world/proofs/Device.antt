@@ -21,10 +21,9 @@ use Rattle.fkv_world.specs.OwnEvents.{keeper_steps, keeper_part, keeper_part_of,
 use Rattle.fkv_world.specs.Past.{calls_after}
 use Rattle.fkv_world.specs.Runs.{World, happens, read_by_keeper, run}
 use Rattle.fkv_world.specs.World.{Event, Calls, Moves, Commits, Turns, KeeperMoves, Crashes, near, life_goes}
-use Rattle.fkv_world.proofs.Others.{is_over, shape_stays, places_stay}
-use Rattle.fkv_world.proofs.Nothing.{lived}
+use Rattle.fkv_world.proofs.Others.{is_over, lived, shape_stays, places_stay}
 use Rattle.fkv_world.proofs.OwnRuns.{keeper_runs}
-use Rattle.fkv_world.proofs.Added.{added_calls, calls_added}
+use Rattle.fkv_world.proofs.CallsAdded.{added_calls, calls_added}
 
 -- calls that all succeeded, after others that did
 all_done : (later before : List device.Call) → AllDone later → AllDone before → AllDone (later ++ before)

@@ -5,6 +5,7 @@ use Rattle.std.proofs.lemmas.Bool.Decides.{nat_tests}
 use Rattle.fkv_epoch.proofs.Shown.{item_written, item_spared}
 use Rattle.fkv_session.specs.Sessions.{SessionState}
 use Rattle.fkv_world.specs.Actors.{is_of_session, is_of_keeper, NoneOfSession, NoneOfKeeper, session_goes, keeper_goes}
+use Rattle.fkv_world.specs.Past.{life_past}
 use Rattle.fkv_world.specs.Runs.{World, happens, read_by_keeper, run}
 use Rattle.fkv_world.specs.World.{Event, Calls, Moves, Commits, Turns, KeeperMoves, Crashes, Now, seat_at, near, with_session, with_keeper, session_calls, session_moves, life_goes}
 
@@ -14,6 +15,14 @@ lives w event e = rw e refl
 
 pub is_over : (w : World) (event : Event) → w.now.crashed ≡ true → happens w event ≡ w
 is_over w event e = rw e refl
+
+-- a world that goes on
+unfoldable pub world_of : World → Event → Now → World
+world_of w event after = record { now = after; past = life_past w.now after event w.past }
+
+pub lived : (w : World) (event : Event) → w.now.crashed ≡ false → happens w event ≡ world_of w event (life_goes w.now (read_by_keeper w) event)
+unfolding world_of
+lived w event e = rw e refl
 
 -- what holds of a world after an event holds where life goes on, and where it is over
 abbrev IsKept : {A : Type 0} → (Now → A) → World → Event → Type 0

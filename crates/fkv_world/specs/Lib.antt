@@ -1,7 +1,4 @@
 pub mod Actors
-pub mod Added
-pub mod Ends
-pub mod Keepers
 pub mod Moves
 pub mod Opened
 pub mod OwnEvents

@@ -1,17 +1,2 @@
-//! The engine's world: sessions, the keeper, the shared words and the device put together, and a life of it, event by event.
+//! The engine's transition system: sessions, the keeper, the shared words and the device put together, and a life of it, event by event.
 #![tactic(auto)]
-
-mod keeper_laws;
-mod laws;
-mod session_laws;
-
-pub use keeper_laws::{law_world_checkpoints, law_world_keeper, law_world_one_commit_stands};
-pub use laws::{
-    law_of_a_crash, law_of_ends, law_of_lives, law_of_nothing_to_do, law_of_one_word,
-    law_of_others, law_of_own_events, law_of_own_runs, law_of_starts, law_of_the_device,
-    law_of_the_past,
-};
-pub use session_laws::{
-    law_world_answers, law_world_cuts, law_world_effects, law_world_latches, law_world_reads,
-    law_world_refusals, law_world_replies, law_world_requests, law_world_sessions,
-};

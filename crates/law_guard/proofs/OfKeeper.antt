@@ -25,7 +25,7 @@ mod SeekKept
 mod Served
 mod Shifted
 mod SlotAtRest
-mod Slots
+pub mod Slots
 mod Sought
 pub mod SparedWrites
 mod StartKept

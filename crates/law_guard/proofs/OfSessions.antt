@@ -14,7 +14,7 @@ pub mod Finds
 mod FindsOuter
 pub mod Followed
 mod Kept
-mod Movers
+pub mod Movers
 mod NoSlots
 mod Onwards
 mod Outer

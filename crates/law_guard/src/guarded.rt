@@ -15,7 +15,7 @@ ghost use Rattle.fkv_keeper.specs.KeeperRun.{is_in_hand};
 ghost use Rattle.fkv_keeper.specs.Keeping.{keeper_ask};
 ghost use Rattle.fkv_session.specs.Sessions.{SessionState, is_busy, session_ask};
 ghost use Rattle.fkv_world.specs.Actors.{slot_asked};
-ghost use Rattle.fkv_world.specs.Ends.{KeeperStandsAtNoSlot, StandsAtNoSlot, asks_left_of, asks_left_of_keeper, moves_alone};
+ghost use Rattle.law_world.specs.Runs.Ends.{KeeperStandsAtNoSlot, StandsAtNoSlot, asks_left_of, asks_left_of_keeper, moves_alone};
 ghost use Rattle.fkv_world.specs.World.{Event, KeeperMoves, Moves, seat_at};
 ghost use Rattle.fkv_world.specs.Runs.{World, read_by_keeper, run};
 ghost use Rattle.law_guard.specs.Guarded.EndsAlone.{AreKeeperMoves, most_keeper_asks, most_session_asks};
@@ -26,7 +26,7 @@ ghost use Rattle.law_guard.specs.Guarded.OpenedStore.{IsOpenedStore};
 ghost use Rattle.law_guard.specs.Guarded.Shows.{AreBelowTail, AreFair, IsFair, IsOpened, Shows, guard_opening, seen_by_guard};
 ghost use Rattle.law_guard.specs.Guarded.SlotsFound.{FindsItsSlot};
 
-use fkv_world::law_of_ends;
+use law_world::law_of_ends;
 
 /// Over every life of the engine that begins as a store was opened, whatever its calls, commits, turns and the order of its steps:
 /// what the guard has of the life shows the engine's world, with an actor for each session and one for the keeper. So a word of a

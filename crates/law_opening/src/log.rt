@@ -5,8 +5,8 @@ ghost use Rattle.fkv_base.specs.declared.numbers.Value.{Value};
 ghost use Rattle.fkv_core.specs.Openings.{IsOpeningWorld};
 ghost use Rattle.fkv_opening.specs.Opened.{IsStoreOf};
 ghost use Rattle.fkv_opening.specs.declared.opened_store.Opened.{Opened};
-ghost use Rattle.fkv_order.specs.Ghosts.{shown};
-ghost use Rattle.fkv_order.specs.Owed.{IsOpened};
+ghost use Rattle.law_log.specs.Ghosts.{shown};
+ghost use Rattle.law_log.specs.Owed.{IsOpened};
 ghost use Rattle.fkv_pairs.specs.Pairs.{ArePairs, HasValue, log_of_store};
 ghost use Rattle.fkv_world.specs.World.{Event, Now};
 ghost use Rattle.law_refine.specs.Events.GhostEvents.{home_in};
@@ -19,9 +19,9 @@ ghost use Rattle.law_opening.specs.Log.OpeningLog.{opening_ghosts, opening_log};
 ghost use Rattle.law_opening.specs.Log.Records.{HasWhatCounts, map_of};
 
 use crate::lives::{law_guard_opens, law_index_opens};
-use fkv_order::{law_calls_in_order, law_chains_show_content, law_versions_show_content};
 use fkv_pairs::law_chain_of_entry;
 use fkv_record::law_spellings_apart;
+use law_log::{law_calls_in_order, law_chains_show_content, law_versions_show_content};
 use law_refine::{law_ghost_fixed, law_ghost_reserved, law_ghost_trace, law_ghost_unborn};
 
 /// The log of an opened store has the records of its image that count, each at its address, with its key, its value and the address that it leads

@@ -4,7 +4,6 @@ mod Life
 mod LifeNumbers
 pub mod LifeReads
 mod Moved
-mod NoSlots
 mod Numbers
 mod ReadEnds
 mod Steps

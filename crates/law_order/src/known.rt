@@ -2,7 +2,7 @@
 ghost use Rattle.std.specs.Prelude.{ℕ, [], List};
 ghost use Rattle.fkv_base.specs.declared.numbers.Version.{Version};
 ghost use Rattle.fkv_map.specs.Map.{Map};
-ghost use Rattle.fkv_order.specs.Ghosts.{Ghosts};
+ghost use Rattle.law_log.specs.Ghosts.{Ghosts};
 ghost use Rattle.fkv_world.specs.Runs.{World};
 ghost use Rattle.law_order.specs.Known.Begins.{BeginsLife};
 ghost use Rattle.law_order.specs.Known.Knows.{AreKnown};

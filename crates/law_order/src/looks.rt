@@ -2,8 +2,8 @@
 ghost use Rattle.std.specs.Prelude.{List, ℕ};
 ghost use Rattle.fkv_base.specs.declared.numbers.Version.{Version};
 ghost use Rattle.fkv_map.specs.Map.{Map};
-ghost use Rattle.fkv_order.specs.Ghosts.{Ghosts};
-ghost use Rattle.fkv_order.specs.Owed.{AreOwed};
+ghost use Rattle.law_log.specs.Ghosts.{Ghosts};
+ghost use Rattle.law_log.specs.Owed.{AreOwed};
 ghost use Rattle.fkv_world.specs.Runs.{World, run};
 ghost use Rattle.fkv_world.specs.World.{Event};
 ghost use Rattle.law_order.specs.Known.Begins.{BeginsLife, home_of_world};

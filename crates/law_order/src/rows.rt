@@ -2,8 +2,8 @@
 ghost use Rattle.std.specs.Prelude.{◌≡◌, ◌∷◌, ◌++◌, ℕ, List};
 ghost use Rattle.fkv_base.specs.declared.numbers.Version.{Version};
 ghost use Rattle.fkv_map.specs.Map.{Map};
-ghost use Rattle.fkv_order.specs.Ghosts.{GhostEvent, Ghosts, ghost_run};
-ghost use Rattle.fkv_order.specs.Owed.{AreOwed};
+ghost use Rattle.law_log.specs.Ghosts.{GhostEvent, Ghosts, ghost_run};
+ghost use Rattle.law_log.specs.Owed.{AreOwed};
 ghost use Rattle.fkv_ops.specs.declared.requests.Seen.{Seen};
 ghost use Rattle.fkv_pending.specs.declared.pending_requests.PendingRequest.{PendingRequest};
 ghost use Rattle.fkv_pending.specs.Attempting.{AttemptState};

@@ -5,7 +5,6 @@ mod AttemptSteps
 mod Between
 pub mod EventEffects
 pub mod Fixed
-mod NoSlots
 pub mod Own
 mod ReadTries
 pub mod RequestNames

@@ -1,8 +1,8 @@
 //! What calls and answers owe in the log's words, in every life of a store that was opened.
 ghost use Rattle.std.specs.Prelude.{◌≡◌, ◌∷◌, ℕ, List, []};
-ghost use Rattle.fkv_order.specs.Ghosts.{Ghosts};
-ghost use Rattle.fkv_order.specs.Trace.{history_of};
-ghost use Rattle.fkv_world.specs.Added.{IsEffectOf};
+ghost use Rattle.law_log.specs.Ghosts.{Ghosts};
+ghost use Rattle.law_log.specs.Trace.{history_of};
+ghost use Rattle.law_world.specs.Runs.Added.{IsEffectOf};
 ghost use Rattle.fkv_world.specs.Opened.{IsOpenedWorld};
 ghost use Rattle.fkv_world.specs.Past.{Effect};
 ghost use Rattle.fkv_world.specs.Runs.{World, run};

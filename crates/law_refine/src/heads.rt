@@ -1,6 +1,6 @@
 //! How the chains of the log beside a life follow the entries of the index.
 ghost use Rattle.std.specs.Prelude.{ℕ, List};
-ghost use Rattle.fkv_order.specs.Ghosts.{Ghosts};
+ghost use Rattle.law_log.specs.Ghosts.{Ghosts};
 ghost use Rattle.fkv_world.specs.Runs.{World, run};
 ghost use Rattle.fkv_world.specs.World.{Event};
 ghost use Rattle.law_guard.specs.Guarded.Shows as guard;

@@ -2,7 +2,7 @@
 ghost use Rattle.std.specs.Prelude.{◌≡◌, ◌≤◌, ℕ, List, Some, slice_get};
 ghost use Rattle.fkv_flush.specs.GuardFlushed.{IsSynced, stands};
 ghost use Rattle.fkv_flush.specs.GuardLevels.{levels_of};
-ghost use Rattle.fkv_order.specs.Ghosts.{Ghosts};
+ghost use Rattle.law_log.specs.Ghosts.{Ghosts};
 ghost use Rattle.fkv_session.specs.Sessions.{SessionState};
 ghost use Rattle.fkv_world.specs.Runs.{World, run};
 ghost use Rattle.fkv_world.specs.World.{Event};

@@ -1,7 +1,7 @@
 //! What takes effect in a call, and that its result is given by its end, in every life of a store that was opened.
 ghost use Rattle.std.specs.Prelude.{◌≡◌, ◌+◌, ℕ, List, Some, false, slice_get};
 ghost use Rattle.fkv_map.specs.declared.operations.Op.{Op};
-ghost use Rattle.fkv_order.specs.Trace.{GivesResult, IsIn};
+ghost use Rattle.law_log.specs.Trace.{GivesResult, IsIn};
 ghost use Rattle.fkv_session.specs.declared.answers.Told.{Told};
 ghost use Rattle.fkv_session.specs.declared.sessions.Sitting.TheVariants.{Idle};
 ghost use Rattle.fkv_session.specs.Sessions.{SessionState, is_busy};

@@ -1,7 +1,7 @@
 //! The head that a session has seen rises, and what lies below it is fixed; what a call has in hand; and which steps move no action.
 ghost use Rattle.std.specs.Prelude.{◌≡◌, ◌≤◌, ◌∷◌, ℕ, List, Some, false, slice_get, true};
 ghost use Rattle.law_guard.specs.Sessions.Followed.{is_turning};
-ghost use Rattle.fkv_order.specs.Ghosts.{Ghosts};
+ghost use Rattle.law_log.specs.Ghosts.{Ghosts};
 ghost use Rattle.fkv_session.specs.Sessions.{SessionState, is_busy, session_ask};
 ghost use Rattle.law_local.specs.Tries.TryRows.{head_in};
 ghost use Rattle.fkv_world.specs.Moves.{session_moved, session_replied};

@@ -8,10 +8,12 @@ use Rattle.fkv_keeper.specs.KeeperRun.{is_in_hand}
 use Rattle.fkv_map.specs.declared.operations.Call.TheVariants.{Poll}
 use Rattle.fkv_session.specs.Sessions.{SessionState, is_busy}
 use Rattle.fkv_world.specs.Actors.{is_of_session}
-use Rattle.fkv_world.specs.Ends.{asks_left_of, asks_left_of_keeper, moves_alone}
+use Rattle.law_world.specs.Runs.Ends.{asks_left_of, asks_left_of_keeper, moves_alone}
 use Rattle.fkv_world.specs.Runs.{World, happens, run}
 use Rattle.fkv_world.specs.World.{Calls, Event, Moves}
-use Rattle.fkv_world.proofs.Shown.{no_session, runs_on, session_apart}
+use Rattle.law_world.proofs.OfRuns.Nothing.{no_session}
+use Rattle.law_world.proofs.OfRuns.Lives.{runs_on}
+use Rattle.fkv_world.proofs.Shown.{session_apart}
 use Rattle.law_guard.specs.Guarded.EndsAlone.{AreKeeperMoves, most_keeper_asks, most_session_asks}
 use Rattle.law_guard.specs.Guarded.OpenedStore.{IsOpenedStore}
 use Rattle.law_guard.specs.Guarded.Shows.{IsOpened}

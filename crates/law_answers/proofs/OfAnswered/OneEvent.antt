@@ -15,11 +15,13 @@ use Rattle.fkv_session.specs.declared.sessions.Sitting.TheVariants.{Idle}
 use Rattle.fkv_session.specs.SessionRun.{telling}
 use Rattle.fkv_session.specs.Sessions.{SessionState, is_busy}
 use Rattle.fkv_world.specs.Actors.{is_of_keeper, is_of_session, session_goes}
-use Rattle.fkv_world.specs.Added.{begun_by, call_answered, ended_by, keeper_told, told_at, told_by}
+use Rattle.law_world.specs.Runs.Added.{begun_by, call_answered, ended_by, keeper_told, told_at, told_by}
 use Rattle.fkv_world.specs.Past.{TraceEvent, Answered, KeeperAnswered}
 use Rattle.fkv_world.specs.Runs.{World, happens}
 use Rattle.fkv_world.specs.World.{Calls, Commits, Event, KeeperMoves, Moves, Now, Turns, near, seat_at}
-use Rattle.fkv_world.proofs.Shown.{in_hand as called_in_hand, is_over, keeper_apart, keeper_in_hand, keeper_none_in_hand, keeper_own, no_session, none_in_hand, session_apart, session_own, session_written, trace_so}
+use Rattle.law_world.proofs.OfRuns.Nothing.{in_hand as called_in_hand, keeper_in_hand, keeper_none_in_hand, no_session, none_in_hand}
+use Rattle.fkv_world.proofs.Shown.{is_over, keeper_apart, keeper_own, session_apart, session_own, session_written}
+use Rattle.law_world.proofs.OfRuns.Added.{trace_so}
 use Rattle.fkv_core.specs.declared.events.Actor.{Actor}
 use Rattle.fkv_core.specs.declared.events.Actor.TheVariants.{Session, Keeper}
 use Rattle.fkv_core.specs.Alone.{has_call, in_hand, is_seat_busy}

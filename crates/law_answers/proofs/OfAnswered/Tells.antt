@@ -5,7 +5,7 @@ use Rattle.fkv_base.specs.Limits.{max_sessions}
 use Rattle.fkv_world.specs.Past.{Answered, KeeperAnswered, TraceEvent}
 use Rattle.fkv_world.specs.Runs.{World, run}
 use Rattle.fkv_world.specs.World.{Event, Now}
-use Rattle.fkv_world.proofs.Shown.{runs_on}
+use Rattle.law_world.proofs.OfRuns.Lives.{runs_on}
 use Rattle.fkv_core.specs.declared.events.Actor.{Actor}
 use Rattle.fkv_core.specs.declared.events.Actor.TheVariants.{Session, Keeper}
 use Rattle.fkv_core.specs.declared.events.Event as asked

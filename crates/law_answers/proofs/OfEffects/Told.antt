@@ -12,13 +12,16 @@ use Rattle.fkv_session.specs.Replies.{effects_told, with_effect}
 use Rattle.fkv_session.specs.SessionRun.{SessionEvent, session_run}
 use Rattle.fkv_session.specs.Sessions.{SessionState, Seat, is_busy, session_ask}
 use Rattle.fkv_world.specs.Actors.{is_of_session, slot_asked}
-use Rattle.fkv_world.specs.Added.{IsEffectOf, IsHistoryAfter}
+use Rattle.law_world.specs.Runs.Added.{IsEffectOf, IsHistoryAfter}
 use Rattle.fkv_world.specs.Opened.{IsOpenedWorld, effects_of}
 use Rattle.fkv_world.specs.OwnEvents.{session_events, session_part_of}
 use Rattle.fkv_world.specs.Past.{Effect}
 use Rattle.fkv_world.specs.Runs.{World, happens, run}
 use Rattle.fkv_world.specs.World.{Event, Calls, Moves, Commits, Turns, KeeperMoves, Crashes, seat_at}
-use Rattle.fkv_world.proofs.Shown.{history_so, is_over, life_made, no_session, none_in_hand, same_seat, session_apart, session_runs}
+use Rattle.law_world.proofs.OfRuns.Added.{history_so}
+use Rattle.fkv_world.proofs.Shown.{is_over, same_seat, session_apart, session_runs}
+use Rattle.law_world.proofs.OfSessions.Effects.{life_made}
+use Rattle.law_world.proofs.OfRuns.Nothing.{no_session, none_in_hand}
 use Rattle.law_guard.specs.Guarded.OpenedStore.{IsOpenedStore}
 use Rattle.law_guard.specs.Guarded.Shows.{IsOpened}
 use Rattle.law_answers.specs.Effects.Kept.{effects_kept, told_behind, updates}

@@ -12,7 +12,8 @@ use Rattle.fkv_world.specs.Actors.{is_of_session}
 use Rattle.fkv_world.specs.OwnEvents.{session_events}
 use Rattle.fkv_world.specs.Runs.{World, happens, run}
 use Rattle.fkv_world.specs.World.{Event, Calls, Moves, Commits, Turns, KeeperMoves, Crashes, seat_at}
-use Rattle.fkv_world.proofs.Shown.{no_session, session_apart, session_runs}
+use Rattle.law_world.proofs.OfRuns.Nothing.{no_session}
+use Rattle.fkv_world.proofs.Shown.{session_apart, session_runs}
 use Rattle.law_guard.specs.Guarded.Shows.{IsOpened, IsFair, AreFair, AreBelowTail, ChangesBelowTail, SessionIsFair, SessionIsBelowTail}
 
 -- who isn't there never comes

@@ -21,12 +21,13 @@ use Rattle.fkv_session.specs.SessionRun.{session_run}
 use Rattle.fkv_session.specs.Sessions.{Seat, SessionState, session_ask, is_busy as session_busy}
 use Rattle.fkv_session.proofs.Shown.{run_ended}
 use Rattle.fkv_world.specs.Actors.{slot_asked}
-use Rattle.fkv_world.specs.Ends.{IsFreeToMove, KeeperStandsAtNoSlot, StandsAtNone, StandsAtNoSlot, asks_left_of, asks_left_of_keeper, left_at, moves_alone}
+use Rattle.law_world.specs.Runs.Ends.{IsFreeToMove, KeeperStandsAtNoSlot, StandsAtNone, StandsAtNoSlot, asks_left_of, asks_left_of_keeper, left_at, moves_alone}
 use Rattle.fkv_world.specs.Moves.{Near, keeper_asks, keeper_moved}
 use Rattle.fkv_world.specs.OwnEvents.{keeper_events, session_events}
 use Rattle.fkv_world.specs.Runs.{World, happens, read_by_keeper, run}
 use Rattle.fkv_world.specs.World.{Event, KeeperMoves, Moves, Now, life_goes, near, seat_at, with_keeper}
-use Rattle.fkv_world.proofs.Shown.{keeper_runs, lives, places_stay, runs_on, same_seat, session_runs, shape_stays}
+use Rattle.fkv_world.proofs.Shown.{keeper_runs, lives, places_stay, same_seat, session_runs, shape_stays}
+use Rattle.law_world.proofs.OfRuns.Lives.{runs_on}
 use Rattle.law_guard.specs.Guarded.EndsAlone.{AreKeeperMoves}
 use Rattle.law_guard.specs.Guarded.Shows.{IsOpened}
 use Rattle.law_guard.proofs.OfGuarded.Slots.{life_keeper_rests, life_session_rests}

@@ -20,7 +20,7 @@ use Rattle.fkv_session.specs.SessionRun.{Begins, Gets, Replies, SessionEvent, se
 use Rattle.fkv_session.specs.Sessions.{Seat, SessionState, is_busy, session_ask, session_next}
 use Rattle.fkv_session.proofs.Shown.{run_within}
 use Rattle.fkv_world.specs.Actors.{is_of_session}
-use Rattle.fkv_world.specs.Ends.{asks_left_of, left_at}
+use Rattle.law_world.specs.Runs.Ends.{asks_left_of, left_at}
 use Rattle.fkv_world.specs.Moves.{Near}
 use Rattle.fkv_world.specs.OwnEvents.{session_events, session_got, session_part, session_part_found, session_part_of, session_slots, session_steps}
 use Rattle.fkv_world.specs.Runs.{World, run}

@@ -17,7 +17,7 @@ use Rattle.fkv_keeper.specs.KeeperRun.{is_in_hand}
 use Rattle.fkv_keeper.specs.Keeping.{KeeperState, commit_asked, turn_asked}
 use Rattle.fkv_keeper.proofs.Shown.{begin_bounded}
 use Rattle.fkv_world.specs.Actors.{is_of_keeper}
-use Rattle.fkv_world.specs.Ends.{asks_left_of_keeper}
+use Rattle.law_world.specs.Runs.Ends.{asks_left_of_keeper}
 use Rattle.fkv_world.specs.OwnEvents.{keeper_events}
 use Rattle.fkv_world.specs.Runs.{World, happens, read_by_keeper, run}
 use Rattle.fkv_world.specs.World.{Commits, Event, KeeperMoves, Now, Turns, keeper_asked, life_goes, near, with_keeper}

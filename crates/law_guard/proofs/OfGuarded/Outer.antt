@@ -8,7 +8,8 @@ use Rattle.law_guard.proofs.OfSessions.Owing.{run_outer}
 use Rattle.fkv_world.specs.OwnEvents.{session_events}
 use Rattle.fkv_world.specs.Runs.{World, run}
 use Rattle.fkv_world.specs.World.{Event, Now, seat_at}
-use Rattle.fkv_world.proofs.Shown.{same_seat, session_runs, runs_on}
+use Rattle.fkv_world.proofs.Shown.{same_seat, session_runs}
+use Rattle.law_world.proofs.OfRuns.Lives.{runs_on}
 use Rattle.law_guard.specs.Guarded.Shows.{IsOpened}
 use Rattle.law_guard.proofs.OfGuarded.BelowTail.{none_stays}
 

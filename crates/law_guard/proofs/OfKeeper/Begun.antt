@@ -8,8 +8,8 @@ use Rattle.fkv_flush.specs.GuardSeen.{LastSeen}
 use Rattle.fkv_flush.specs.GuardWorld.{Actor, Rests, GuardNow, Begins, ToDo}
 use Rattle.fkv_flush.proofs.Shown.{Fits}
 use Rattle.fkv_keeper.specs.Keeping.{KeeperState, commit_asked, turn_asked}
-use Rattle.law_guard.proofs.OfKeeper.KeeperLed.{KeeperLed}
-use Rattle.law_guard.proofs.OfKeeper.Led.{likeness, then_begins}
+use Rattle.law_guard.specs.Keeper.Followed.{KeeperLed, likeness}
+use Rattle.law_guard.proofs.OfKeeper.Led.{then_begins}
 use Rattle.law_guard.proofs.OfKeeper.PartLed.{stays}
 
 -- a turn scans first

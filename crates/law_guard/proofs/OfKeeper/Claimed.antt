@@ -25,7 +25,8 @@ use Rattle.fkv_maintain.specs.Maintaining.{MaintainState, device_asked, maintain
 use Rattle.law_guard.specs.Keeper.MaintainEvents.{claim_events, maintain_events}
 use Rattle.law_guard.specs.Keeper.MaintainShown.{maintain_machine, maintain_work}
 use Rattle.law_guard.specs.Keeper.Settled.{is_of_slot, maintain_gets}
-use Rattle.law_guard.proofs.OfKeeper.Led.{likeness, Led, one_ask, then_begins}
+use Rattle.law_guard.specs.Keeper.Followed.{likeness}
+use Rattle.law_guard.proofs.OfKeeper.Led.{Led, one_ask, then_begins}
 use Rattle.law_guard.proofs.OfKeeper.Slots.{passed_slot, emptied}
 use Rattle.law_guard.proofs.OfKeeper.TurnLed.{TurnLed, slotless_led}
 

@@ -34,8 +34,8 @@ use Rattle.law_guard.specs.Keeper.CommitShown.{FinishKnows}
 use Rattle.law_guard.specs.Keeper.KeeperEvents.{write_events}
 use Rattle.law_guard.specs.Keeper.Settled.{is_of_slot}
 use Rattle.law_guard.proofs.OfKeeper.Finished.{durable_known}
-use Rattle.law_guard.proofs.OfKeeper.KeeperLed.{KeeperLed, StepLed, slotless_step}
-use Rattle.law_guard.proofs.OfKeeper.Led.{likeness}
+use Rattle.law_guard.specs.Keeper.Followed.{KeeperLed, likeness}
+use Rattle.law_guard.proofs.OfKeeper.KeeperLed.{StepLed, slotless_step}
 use Rattle.law_guard.proofs.OfKeeper.PartLed.{stays}
 use Rattle.law_guard.proofs.OfKeeper.Quiet.{is_quiet, IsQuietAs, quiet_led, quiet_step}
 use Rattle.law_guard.proofs.OfKeeper.Slots.{passed_slot}

@@ -57,7 +57,7 @@ use Rattle.law_guard.specs.Keeper.MaintainShown.{maintaining_machine, maintainin
 use Rattle.law_guard.proofs.OfKeeper.Claimed.{claim_ended}
 use Rattle.law_guard.proofs.OfKeeper.Deferred.{sought_machine, by_deferred}
 use Rattle.law_guard.proofs.OfKeeper.Flushed.{is_through, flush_ended}
-use Rattle.law_guard.proofs.OfKeeper.Movers.{clash}
+use Rattle.law_guard.proofs.OfSessions.Movers.{clash}
 use Rattle.law_guard.proofs.OfKeeper.Scanned.{scan_ended}
 use Rattle.law_guard.proofs.OfKeeper.Served.{serve_ended}
 

@@ -29,7 +29,7 @@ use Rattle.law_guard.specs.Keeper.CommitEvents.{entered_events, entering_events}
 use Rattle.law_guard.specs.Keeper.CommitShown.{entering_machine, defer_machine, EnterKnows}
 use Rattle.law_guard.specs.Keeper.Settled.{settled, actions_settled, is_of_slot, takes_none}
 use Rattle.law_guard.proofs.OfKeeper.Deferred.{SeekGoes, sought, sought_led, sought_shows, by_held, by_deferred, raised_led, armed_led}
-use Rattle.law_guard.proofs.OfKeeper.Led.{likeness}
+use Rattle.law_guard.specs.Keeper.Followed.{likeness}
 use Rattle.law_guard.proofs.OfKeeper.PartLed.{PartLed, slotless_part, passed_step, then_resumes}
 use Rattle.law_guard.proofs.OfKeeper.Slots.{passed_slot}
 

@@ -47,7 +47,7 @@ use Rattle.law_guard.proofs.OfKeeper.CommitPuts.{start_puts, enter_puts, seek_pu
 use Rattle.law_guard.proofs.OfKeeper.EndKept.{copy_quiet, wait_quiet, finish_quiet, finish_slot}
 use Rattle.law_guard.proofs.OfKeeper.KeeperLed.{keeper_settles}
 use Rattle.law_guard.proofs.OfKeeper.Kept.{replied_to, turn_step}
-use Rattle.law_guard.proofs.OfKeeper.Movers.{clash}
+use Rattle.law_guard.proofs.OfSessions.Movers.{clash}
 use Rattle.law_guard.proofs.OfKeeper.PhaseKept.{HasBegun, phase_so}
 use Rattle.law_guard.proofs.OfKeeper.Puts.{PutsIntoEmpty, puts_none, passed_puts, turn_puts}
 use Rattle.law_guard.proofs.OfKeeper.Quiet.{quiet_slot, quiet_slot_at}

@@ -19,7 +19,7 @@ use Rattle.fkv_flush.specs.GuardWorld.{Actor, GuardNow}
 use Rattle.fkv_flush.proofs.Shown.{changes, Fits, Follows, session_is_outer, phase_is_outer}
 use Rattle.law_guard.specs.Keeper.CommitEvents.{finishing_events}
 use Rattle.law_guard.specs.Keeper.CommitShown.{FinishKnows}
-use Rattle.law_guard.proofs.OfKeeper.Led.{likeness}
+use Rattle.law_guard.specs.Keeper.Followed.{likeness}
 use Rattle.law_guard.proofs.OfKeeper.Slots.{truth}
 
 -- the durable words from a session's on are those of sessions that there are

@@ -22,7 +22,8 @@ use Rattle.fkv_maintain.specs.Maintaining.{MaintainState, maintaining_ask, maint
 use Rattle.law_guard.specs.Keeper.MaintainEvents.{flush_events, maintain_events, maintain_called_events}
 use Rattle.law_guard.specs.Keeper.MaintainShown.{maintain_machine, maintain_work}
 use Rattle.law_guard.specs.Keeper.Settled.{is_of_slot}
-use Rattle.law_guard.proofs.OfKeeper.Led.{likeness, Led, then_begins}
+use Rattle.law_guard.specs.Keeper.Followed.{likeness}
+use Rattle.law_guard.proofs.OfKeeper.Led.{Led, then_begins}
 use Rattle.law_guard.proofs.OfKeeper.TurnLed.{TurnLed, slotless_led, device_slot}
 
 -- a machine with calls of the device is through

@@ -9,9 +9,8 @@ use Rattle.fkv_flush.specs.GuardWorld.{Actor, Work, GuardNow, GuardEvent}
 use Rattle.fkv_flush.proofs.Shown.{Fits, FitsMachine, FitsWork, Follows}
 use Rattle.fkv_keeper.specs.declared.answers.KeeperTold.{KeeperTold}
 use Rattle.fkv_keeper.specs.Keeping.{KeeperState, keeper_ask, keeper_next}
-pub use Rattle.law_guard.specs.Keeper.Followed.{KeeperLed}
+use Rattle.law_guard.specs.Keeper.Followed.{KeeperLed, likeness}
 use Rattle.law_guard.specs.Keeper.Settled.{settled, actions_settled, is_of_slot, keeper_gets}
-use Rattle.law_guard.proofs.OfKeeper.Led.{likeness}
 use Rattle.law_guard.proofs.OfKeeper.Slots.{settled_stays, actions_stay}
 
 -- the keeper has come to a state, and the world settles what this asks of a slot

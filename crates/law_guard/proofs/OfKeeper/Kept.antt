@@ -39,8 +39,8 @@ use Rattle.law_guard.proofs.OfKeeper.EndKept.{copies_kept, waits_kept, finishes_
 use Rattle.law_guard.proofs.OfKeeper.EnterKept.{enter_kept}
 use Rattle.law_guard.proofs.OfKeeper.Entered.{entered_to}
 use Rattle.law_guard.proofs.OfKeeper.Finished.{finish_known, finished_at}
-use Rattle.law_guard.proofs.OfKeeper.KeeperLed.{KeeperLed, StepLed}
-use Rattle.law_guard.proofs.OfKeeper.Led.{likeness}
+use Rattle.law_guard.specs.Keeper.Followed.{KeeperLed, likeness}
+use Rattle.law_guard.proofs.OfKeeper.KeeperLed.{StepLed}
 use Rattle.law_guard.proofs.OfKeeper.Maintained.{maintained_to, called_to, called_slot}
 use Rattle.law_guard.proofs.OfKeeper.PartLed.{passed_step}
 use Rattle.law_guard.proofs.OfKeeper.PhaseKept.{phase_goes, phase_so}

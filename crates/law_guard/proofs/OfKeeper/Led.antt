@@ -6,7 +6,7 @@ use Rattle.fkv_epoch.specs.EpochWorld.{EpochMachine, EpochNear, is_at_rest, mach
 use Rattle.fkv_flush.specs.GuardSeen.{LastSeen}
 use Rattle.fkv_flush.specs.GuardWorld.{Actor, Work, GuardTask, GuardNow, GuardEvent, Begins, Moves, near, put_near, is_idle, may_work, started}
 use Rattle.fkv_flush.proofs.Shown.{runs_now, put_there, goes_on, begins, moves_machine, Follows}
-pub use Rattle.law_guard.specs.Keeper.Followed.{likeness}
+use Rattle.law_guard.specs.Keeper.Followed.{likeness}
 use Rattle.law_guard.specs.Keeper.MaintainShown.{IsUnderWay}
 
 pub record Led (n : GuardNow) (a : ℕ) (events : List GuardEvent) (seen : LastSeen) (machine : Option EpochMachine) (work : Option Work) (words : List ℕ) (actions : List (Option Action)) : Type 0 where

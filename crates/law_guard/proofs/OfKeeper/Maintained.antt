@@ -27,7 +27,7 @@ use Rattle.law_guard.specs.Keeper.MaintainShown.{maintaining_machine, maintainin
 use Rattle.law_guard.specs.Keeper.Settled.{is_of_slot}
 use Rattle.law_guard.proofs.OfKeeper.Claimed.{claimed_to}
 use Rattle.law_guard.proofs.OfKeeper.Flushed.{flush_behind, flushed_to, flush_called_to}
-use Rattle.law_guard.proofs.OfKeeper.Led.{likeness}
+use Rattle.law_guard.specs.Keeper.Followed.{likeness}
 use Rattle.law_guard.proofs.OfKeeper.PartLed.{passed_step}
 use Rattle.law_guard.proofs.OfKeeper.Scanned.{scanned_to}
 use Rattle.law_guard.proofs.OfKeeper.Served.{serve_behind, served_to, serve_called_to}

@@ -12,7 +12,8 @@ use Rattle.fkv_flush.specs.GuardSeen.{LastSeen}
 use Rattle.fkv_flush.specs.GuardWorld.{Actor, Rests, GuardNow, GuardEvent, Begins, Resumes, ToDo, near, put_near, is_idle}
 use Rattle.fkv_flush.proofs.Shown.{runs_now, put_there, goes_on, resumes, Follows}
 use Rattle.law_guard.specs.Keeper.Settled.{settled, actions_settled, is_of_slot, takes_none}
-use Rattle.law_guard.proofs.OfKeeper.Led.{likeness, then_begins}
+use Rattle.law_guard.specs.Keeper.Followed.{likeness}
+use Rattle.law_guard.proofs.OfKeeper.Led.{then_begins}
 use Rattle.law_guard.proofs.OfKeeper.Slots.{settled_stays, actions_stay}
 
 -- the actor is like a machine that has come to this state, and this is known of it

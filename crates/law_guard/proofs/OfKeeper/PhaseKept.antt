@@ -23,7 +23,7 @@ use Rattle.fkv_keeper.specs.Keeping.{KeeperState, keeping_ask, copies, part_begu
 use Rattle.law_guard.specs.Keeper.CommitEvents.{seek_begins}
 use Rattle.law_guard.specs.Keeper.KeeperEvents.{part_begins}
 use Rattle.law_guard.proofs.OfKeeper.KeeperLed.{StepLed, slotless_step}
-use Rattle.law_guard.proofs.OfKeeper.Led.{likeness}
+use Rattle.law_guard.specs.Keeper.Followed.{likeness}
 use Rattle.law_guard.proofs.OfKeeper.PartLed.{PartLed, stays, raise_begins}
 use Rattle.law_guard.proofs.OfKeeper.Quiet.{IsQuietAs, quiet_step, quiet_begins}
 use Rattle.law_guard.proofs.OfKeeper.Slots.{passed_slot}

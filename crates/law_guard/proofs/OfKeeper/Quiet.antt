@@ -22,8 +22,8 @@ use Rattle.fkv_keeper.specs.declared.keepers.Keeping.TheVariants as keeping
 use Rattle.fkv_keeper.specs.Keeping.{KeeperState, copy_asked, write_asked, keeping_ask, keeper_ask, turn_over}
 use Rattle.law_guard.specs.Keeper.KeeperEvents.{part_begins}
 use Rattle.law_guard.specs.Keeper.Settled.{is_of_slot}
-use Rattle.law_guard.proofs.OfKeeper.KeeperLed.{KeeperLed, StepLed, slotless_step}
-use Rattle.law_guard.proofs.OfKeeper.Led.{likeness}
+use Rattle.law_guard.specs.Keeper.Followed.{KeeperLed, likeness}
+use Rattle.law_guard.proofs.OfKeeper.KeeperLed.{StepLed, slotless_step}
 use Rattle.law_guard.proofs.OfKeeper.Slots.{passed_slot}
 
 abbrev pub is_quiet : Keeping → Bool

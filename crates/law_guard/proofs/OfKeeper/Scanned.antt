@@ -22,7 +22,8 @@ use Rattle.fkv_maintain.specs.Maintaining.{MaintainState, maintaining_ask, maint
 use Rattle.law_guard.specs.Keeper.MaintainEvents.{scan_events, maintain_events}
 use Rattle.law_guard.specs.Keeper.MaintainShown.{maintain_machine, maintain_work}
 use Rattle.law_guard.specs.Keeper.Settled.{is_of_slot}
-use Rattle.law_guard.proofs.OfKeeper.Led.{likeness, Led, one_ask, then_begins}
+use Rattle.law_guard.specs.Keeper.Followed.{likeness}
+use Rattle.law_guard.proofs.OfKeeper.Led.{Led, one_ask, then_begins}
 use Rattle.law_guard.proofs.OfKeeper.Slots.{passed_slot}
 use Rattle.law_guard.proofs.OfKeeper.TurnLed.{TurnLed, slotless_led}
 

@@ -17,8 +17,8 @@ use Rattle.fkv_keeper.specs.declared.keepers.Keeping.TheVariants as keeping
 use Rattle.fkv_keeper.specs.Keeping.{KeeperState, keeping_ask, keeping_next, keeping_given, seek_ledto, turn_over}
 use Rattle.law_guard.specs.Keeper.Settled.{settled, actions_settled, is_of_slot, takes_none, keeper_gets}
 use Rattle.law_guard.proofs.OfKeeper.Ends.{seek_over}
-use Rattle.law_guard.proofs.OfKeeper.KeeperLed.{KeeperLed, StepLed, step_by_ask, slotless_step, rest_follows}
-use Rattle.law_guard.proofs.OfKeeper.Led.{likeness}
+use Rattle.law_guard.specs.Keeper.Followed.{KeeperLed, likeness}
+use Rattle.law_guard.proofs.OfKeeper.KeeperLed.{StepLed, step_by_ask, slotless_step, rest_follows}
 use Rattle.law_guard.proofs.OfKeeper.PartLed.{PartLed}
 use Rattle.law_guard.proofs.OfKeeper.Sought.{seek_machine, SeekKnown}
 

@@ -20,7 +20,8 @@ use Rattle.fkv_maintain.specs.Maintaining.{MaintainState, maintaining_ask, maint
 use Rattle.law_guard.specs.Keeper.MaintainEvents.{maintain_events, maintain_called_events}
 use Rattle.law_guard.specs.Keeper.MaintainShown.{maintain_machine, maintain_work}
 use Rattle.law_guard.specs.Keeper.Settled.{is_of_slot}
-use Rattle.law_guard.proofs.OfKeeper.Led.{likeness, Led}
+use Rattle.law_guard.specs.Keeper.Followed.{likeness}
+use Rattle.law_guard.proofs.OfKeeper.Led.{Led}
 use Rattle.law_guard.proofs.OfKeeper.TurnLed.{TurnLed, slotless_led, device_slot}
 use Rattle.law_guard.proofs.OfKeeper.Flushed.{is_through}
 

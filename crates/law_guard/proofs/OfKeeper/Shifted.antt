@@ -23,9 +23,11 @@ use Rattle.fkv_maintain.specs.declared.maintaining.MaintainAnswer.TheVariants as
 use Rattle.fkv_maintain.specs.declared.maintaining.Maintaining.TheVariants as maintain
 use Rattle.fkv_maintain.specs.Maintaining.{MaintainState, maintaining_ask, maintaining_next, maintain_next, shift_ledto}
 use Rattle.law_guard.specs.Keeper.MaintainEvents.{shift_events, maintain_events}
-use Rattle.law_guard.specs.Keeper.MaintainShown.{maintain_machine, maintain_work, shift_machine}
-use Rattle.law_guard.proofs.OfKeeper.Led.{likeness, Led, then_begins}
-use Rattle.law_guard.proofs.OfKeeper.Movers.{shift_fits, known_after, shift_rests_so, shift_under_way}
+use Rattle.law_guard.specs.Keeper.MaintainShown.{maintain_machine, maintain_work}
+use Rattle.law_guard.specs.Sessions.OwnTurns.{shift_machine}
+use Rattle.law_guard.specs.Keeper.Followed.{likeness}
+use Rattle.law_guard.proofs.OfKeeper.Led.{Led, then_begins}
+use Rattle.law_guard.proofs.OfSessions.Movers.{shift_fits, known_after, shift_rests_so, shift_under_way}
 use Rattle.law_guard.proofs.OfKeeper.Slots.{passed_slot}
 use Rattle.law_guard.proofs.OfKeeper.TurnLed.{TurnLed, slotless_led, led_by_ask}
 use Rattle.law_guard.specs.Keeper.Settled.{is_of_slot}

@@ -37,7 +37,7 @@ use Rattle.law_guard.specs.Keeper.CommitEvents.{seek_begins, seeking_events}
 use Rattle.law_guard.specs.Keeper.CommitShown.{seeking_machine, defer_machine, SeekKnows, IsSlotHeld}
 use Rattle.law_guard.specs.Keeper.Settled.{settled, actions_settled, is_of_slot, takes_none}
 use Rattle.law_guard.proofs.OfKeeper.Deferred.{SeekGoes, sought, sought_led, sought_shows, by_held, by_deferred, raised_led, armed_led}
-use Rattle.law_guard.proofs.OfKeeper.Led.{likeness}
+use Rattle.law_guard.specs.Keeper.Followed.{likeness}
 use Rattle.law_guard.proofs.OfKeeper.PartLed.{PartLed, slotless_part, passed_step, stays, then_resumes, raise_begins}
 use Rattle.law_guard.proofs.OfKeeper.Slots.{truth, passed_slot}
 

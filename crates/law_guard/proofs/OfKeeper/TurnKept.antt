@@ -18,8 +18,9 @@ use Rattle.fkv_maintain.specs.Maintaining.{MaintainState, maintain_ask, maintain
 use Rattle.law_guard.specs.Keeper.MaintainShown.{maintain_machine, maintain_work}
 use Rattle.law_guard.specs.Keeper.Settled.{settled, actions_settled, is_of_slot, maintain_gets, keeper_gets}
 use Rattle.law_guard.proofs.OfKeeper.Ends.{IsTurnOver, follows_known, part_known, is_device, turn_over_at}
-use Rattle.law_guard.proofs.OfKeeper.KeeperLed.{KeeperLed, StepLed, step_by_ask, slotless_step, rest_follows}
-use Rattle.law_guard.proofs.OfKeeper.Led.{likeness, Led}
+use Rattle.law_guard.specs.Keeper.Followed.{KeeperLed, likeness}
+use Rattle.law_guard.proofs.OfKeeper.KeeperLed.{StepLed, step_by_ask, slotless_step, rest_follows}
+use Rattle.law_guard.proofs.OfKeeper.Led.{Led}
 
 -- the keeper in a turn that has come to a state
 abbrev pub in_turn : KeeperState → MaintainState → KeeperState

@@ -23,8 +23,10 @@ use Rattle.fkv_maintain.specs.Maintaining.{MaintainState, maintaining_ask, maint
 use Rattle.law_guard.specs.Keeper.MaintainEvents.{turn_events, maintain_events}
 use Rattle.law_guard.specs.Keeper.MaintainShown.{maintain_machine, maintain_work, turn_machine}
 use Rattle.law_guard.specs.Keeper.Settled.{is_of_slot}
-use Rattle.law_guard.proofs.OfKeeper.Led.{likeness, Led, then_begins}
-use Rattle.law_guard.proofs.OfKeeper.Movers.{turn_fits, known_after, turn_rests_so, turn_under_way}
+use Rattle.law_guard.specs.Keeper.Followed.{likeness}
+use Rattle.law_guard.proofs.OfKeeper.Led.{Led, then_begins}
+use Rattle.law_guard.proofs.OfKeeper.Movers.{turn_fits, turn_rests_so, turn_under_way}
+use Rattle.law_guard.proofs.OfSessions.Movers.{known_after}
 use Rattle.law_guard.proofs.OfKeeper.Served.{serves_on}
 use Rattle.law_guard.proofs.OfKeeper.Slots.{passed_slot}
 use Rattle.law_guard.proofs.OfKeeper.TurnLed.{TurnLed, slotless_led, led_by_ask}

@@ -30,10 +30,10 @@ use Rattle.law_guard.specs.Keeper.KeeperEvents.{keeping_events, keeper_events_at
 use Rattle.law_guard.specs.Keeper.KeeperShown.{keeper_machine, keeper_work, keeping_work, KeeperKnows}
 use Rattle.law_guard.specs.Keeper.Settled.{actions_settled, is_of_slot, keeper_gets}
 use Rattle.law_guard.proofs.OfKeeper.Ends.{PartKnows, part_known}
-use Rattle.law_guard.proofs.OfKeeper.KeeperLed.{KeeperLed, StepLed, keeper_settles}
+use Rattle.law_guard.specs.Keeper.Followed.{KeeperLed, likeness}
+use Rattle.law_guard.proofs.OfKeeper.KeeperLed.{StepLed, keeper_settles}
 use Rattle.law_guard.proofs.OfKeeper.Kept.{replied_to, device_called_to}
-use Rattle.law_guard.proofs.OfKeeper.Led.{likeness}
-use Rattle.law_guard.proofs.OfKeeper.Movers.{clash}
+use Rattle.law_guard.proofs.OfSessions.Movers.{clash}
 use Rattle.law_guard.proofs.OfKeeper.PartLed.{stays}
 use Rattle.law_guard.proofs.OfKeeper.SlotAtRest.{IsReceiving, Receives, keeper_rest}
 

@@ -27,7 +27,8 @@ use Rattle.law_guard.specs.Sessions.Catches.{refresh_machine, protect_machine, c
 use Rattle.law_guard.proofs.OfSessions.Onwards.{Moved}
 use Rattle.law_guard.proofs.OfSessions.OwnWords.{catch_outer}
 use Rattle.law_guard.proofs.OfSessions.Outer.{outer_step, passed_outer, passed_owes}
-use Rattle.law_guard.proofs.OfSessions.CatchesLed.{IsLoading, IsProtecting, CatchKnows, is_epochs, refresh_led, protect_led, finish_led, catch_free}
+use Rattle.law_guard.specs.Sessions.Rows.{IsLoading, IsProtecting, CatchKnows}
+use Rattle.law_guard.proofs.OfSessions.CatchesLed.{is_epochs, refresh_led, protect_led, finish_led, catch_free}
 
 pub loading_is : (r : Refreshing) (machine : EpochMachine) → IsLoading r → FitsMachine (refresh_machine r) machine → machine ≡ epochs.Refreshes r
 loading_is refresh.AtRest machine loading fits = absurd loading

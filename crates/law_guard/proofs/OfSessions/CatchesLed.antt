@@ -33,7 +33,7 @@ use Rattle.fkv_flush.specs.GuardSeen.{LastSeen}
 use Rattle.fkv_flush.proofs.Shown.{Likeness, refreshed_so_far, protected_then}
 use Rattle.law_guard.specs.Sessions.Likenesses.{likeness, last_seen, through}
 use Rattle.law_guard.specs.Sessions.Catches.{refresh_machine, protect_machine, held_machine, catch_onward, catch_likeness, catch_likeness_at}
-pub use Rattle.law_guard.specs.Sessions.Rows.{IsLoading, IsProtecting, Holds, HasWoken, HasLoaded, IsStoring, IsSharing, CatchKnows}
+use Rattle.law_guard.specs.Sessions.Rows.{IsLoading, IsProtecting, Holds, HasWoken, HasLoaded, IsSharing, CatchKnows}
 use Rattle.law_guard.proofs.OfSessions.Onwards.{Leads, Keeps, Goes, stayed}
 
 pub record CatchLed (mid : Likeness) (c : CatchState) : Type 0 where

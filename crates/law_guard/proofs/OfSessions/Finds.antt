@@ -38,7 +38,8 @@ use Rattle.law_guard.specs.Sessions.OwnTurns.{own_turn_likeness_at}
 use Rattle.law_guard.specs.Sessions.Rows.{OwnTurnKnows, SittingKnows}
 use Rattle.law_guard.specs.Sessions.Sessions.{SessionWritesOuter, session_gets, session_settled, sitting_likeness}
 use Rattle.law_guard.proofs.OfSessions.NoSlots.{session_slot}
-use Rattle.law_guard.proofs.OfSessions.OwnTurns.{is_of_slot, scan_behind, work_is, turn_is, opening_busy}
+use Rattle.law_guard.specs.Keeper.Settled.{is_of_slot}
+use Rattle.law_guard.proofs.OfSessions.OwnTurns.{scan_behind, work_is, turn_is, opening_busy}
 use Rattle.law_guard.proofs.OfSessions.OwnTurnsLed.{shift_asking}
 use Rattle.law_guard.proofs.OfSessions.WorldSteps.{First, Final, Whole, clash, first_slot, sits_on, whole}
 

@@ -24,14 +24,14 @@ use Rattle.law_guard.specs.Sessions.Likenesses.{last_seen, through}
 use Rattle.law_guard.specs.Sessions.Steps.{Onward, Stays, Starts, GoesOn, onward_events}
 use Rattle.law_guard.specs.Sessions.Catches.{catch_likeness_at}
 use Rattle.law_guard.specs.Sessions.Sessions.{sitting_events, sitting_onward, sitting_likeness, session_likeness, is_protected_at, is_protected_catching, SittingWritesOuter, SessionWritesOuter, called_guard_events}
-pub use Rattle.law_guard.specs.Sessions.Followed.{IsProtectedAt, SessionFollows}
+use Rattle.law_guard.specs.Sessions.Followed.{IsProtectedAt, SessionFollows, seat_in, is_turning}
 use Rattle.law_guard.proofs.OfSessions.Onwards.{IsSessions, goes_onward}
 use Rattle.law_guard.proofs.OfSessions.Outer.{no_event}
 use Rattle.law_guard.proofs.OfSessions.Catches.{protecting_is}
-use Rattle.law_guard.proofs.OfSessions.CatchesLed.{CatchKnows}
+use Rattle.law_guard.specs.Sessions.Rows.{CatchKnows, SittingKnows}
 use Rattle.law_guard.proofs.OfSessions.Kept.{words_kept, wakes}
-use Rattle.law_guard.proofs.OfSessions.Sessions.{seat_in, stays_protected, is_turning, session_step}
-use Rattle.law_guard.proofs.OfSessions.SessionsLed.{SittingKnows, begun_led}
+use Rattle.law_guard.proofs.OfSessions.Sessions.{stays_protected, session_step}
+use Rattle.law_guard.proofs.OfSessions.SessionsLed.{begun_led}
 
 module _ (w : GuardWorld) (number : ℕ) (x : Actor) (sound : IsSound w) (got : slice_get w.now.actors number ≡ Some x) (below : number < w.now.places.sessions) where
   abbrev After : SessionState → ℕ → Sitting → SessionState

@@ -30,11 +30,11 @@ use Rattle.law_guard.specs.Sessions.Attempts.{AttemptWritesOuter}
 use Rattle.law_guard.specs.Sessions.Sessions.{sitting_likeness, is_protected_catching, is_protected_at, SittingWritesOuter}
 use Rattle.law_guard.proofs.OfSessions.Attempts.{attempt_owes}
 use Rattle.law_guard.proofs.OfSessions.Catches.{catch_owes, loading_is}
-use Rattle.law_guard.proofs.OfSessions.CatchesLed.{CatchKnows, IsProtecting}
+use Rattle.law_guard.specs.Sessions.Rows.{CatchKnows, IsProtecting, SittingKnows}
 use Rattle.law_guard.proofs.OfSessions.Epochs.{machine_keeps, machine_protected, passed_spares, attempt_spares, ask_keeps, outer_keeps}
 use Rattle.law_guard.proofs.OfSessions.OwnWords.{catch_outer, sitting_outer}
-use Rattle.law_guard.proofs.OfSessions.Sessions.{seat_in, stays_protected, is_turning}
-use Rattle.law_guard.proofs.OfSessions.SessionsLed.{SittingKnows}
+use Rattle.law_guard.specs.Sessions.Followed.{seat_in, is_turning}
+use Rattle.law_guard.proofs.OfSessions.Sessions.{stays_protected}
 
 module _ (w : GuardWorld) (number : ℕ) (x : Actor) (sound : IsSound w) (got : slice_get w.now.actors number ≡ Some x) (below : number < w.now.places.sessions) where
   abbrev Keeps : SessionState → Sitting → Type 0

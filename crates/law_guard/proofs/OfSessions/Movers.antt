@@ -26,7 +26,7 @@ use Rattle.fkv_flush.specs.GuardWorld.{Actor, Shifts, GuardNow, GuardNear, Guard
 use Rattle.fkv_flush.proofs.Shown.{runs_now, put_there, FitsMachine, MoveKnows, ShiftKnows, Knows, Awake, IsSound, happens_sound}
 use Rattle.law_guard.specs.Sessions.OwnTurns.{moving_machine, shift_machine}
 
-move_fits : (l : Levels) (d : EpochMachine) (step : Moving) (raising : Raising) (arming : Arming) → MoveKnows l d step raising arming → FitsMachine (moving_machine step raising arming) d
+pub move_fits : (l : Levels) (d : EpochMachine) (step : Moving) (raising : Raising) (arming : Arming) → MoveKnows l d step raising arming → FitsMachine (moving_machine step raising arming) d
 move_fits l d move.AtRest raising arming k = absurd k
 move_fits l d (move.Raises target) raising arming k = k.0
 move_fits l d (move.MovesOffset target) (raise.HasSlot slot) arming k = k.0
@@ -61,7 +61,7 @@ pub shift_rests_so : (actions : List (Option Action)) (t : ShiftState) → is_id
 shift_rests_so actions t e = shifting_rests actions t.step t.mover e
 
 -- who is told an end is at rest
-clash : {X : Type 0} (b : Bool) → b ≡ true → b ≡ false → X
+pub clash : {X : Type 0} (b : Bool) → b ≡ true → b ≡ false → X
 clash b e f = cc
 
 shift_told_rests : (tail : ℕ) (m : Mover) (ask : Ask MoveAnswer) → (is_done ask ≡ false → ask ≡ move_ask m) → is_done (move_told tail ask (shift_led tail m ask)) ≡ true → shift_rests (shift_led tail m ask).step ≡ true
@@ -82,7 +82,7 @@ shifting_told shape shift.LoadsTail m reply e = cc
 shifting_told shape (shift.LoadsReadOnly tail) m reply e = shift_begun_rests shape tail m reply (nat_lt reply (mutable_start shape.page shape.mutable tail)) refl e
 shifting_told shape (shift.Moves tail) m reply e = shift_told_rests tail (move_next m reply) (move_next_ask m reply) (move_goes_on m reply) e
 
-under_way : (b c : Bool) → (b ≡ true → c ≡ true) → c ≡ false → b ≡ false
+pub under_way : (b c : Bool) → (b ≡ true → c ≡ true) → c ≡ false → b ≡ false
 under_way true c h e = clash c (h refl) e
 under_way false c h e = refl
 

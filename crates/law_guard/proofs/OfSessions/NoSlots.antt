@@ -2,6 +2,8 @@
 use Rattle.std.proofs.Common.{◌≡◌, ℕ, ◌∙◌, List, refl, ap, subst, false}
 use Rattle.std.specs.Prelude.{Some, slice_get}
 use Rattle.fkv_plane.specs.declared.actions.Action.TheVariants as act
+use Rattle.fkv_plane.specs.declared.asks.Ask.{Ask}
+use Rattle.fkv_plane.specs.declared.asks.Ask.TheVariants.{Put, Take}
 use Rattle.fkv_plane.specs.declared.places.Places.{Places}
 use Rattle.fkv_epoch.specs.declared.protecting.Protecting.{Protecting}
 use Rattle.fkv_epoch.specs.declared.protecting.Protecting.TheVariants as protect
@@ -23,15 +25,6 @@ use Rattle.fkv_epoch.specs.Claiming.{claim_ask}
 use Rattle.fkv_epoch.specs.Raising.{raise_ask}
 use Rattle.fkv_epoch.specs.Arming.{arm_ask}
 use Rattle.fkv_epoch.specs.EpochWorld as epochs
-use Rattle.fkv_epoch.specs.EpochWorld.{EpochMachine}
-use Rattle.fkv_log.specs.declared.reserving.Reserving.{Reserving}
-use Rattle.fkv_log.specs.declared.reserving.Reserving.TheVariants as reserving
-use Rattle.fkv_log.specs.declared.filling.Filling.{Filling}
-use Rattle.fkv_log.specs.declared.filling.Filling.TheVariants as filling
-use Rattle.fkv_log.specs.declared.invalidating.Invalidating.{Invalidating}
-use Rattle.fkv_log.specs.declared.invalidating.Invalidating.TheVariants as invalidating
-use Rattle.fkv_log.specs.declared.loading.Loading.{Loading}
-use Rattle.fkv_log.specs.declared.loading.Loading.TheVariants as loading
 use Rattle.fkv_log.specs.declared.moving.MoveAnswer.TheVariants as moved
 use Rattle.fkv_log.specs.declared.moving.Moving.{Moving}
 use Rattle.fkv_log.specs.declared.moving.Moving.TheVariants as move
@@ -41,40 +34,14 @@ use Rattle.fkv_log.specs.declared.shifting.Shifting.TheVariants as shift
 use Rattle.fkv_log.specs.declared.turning.TurnForm.TheVariants.{OpensOnly}
 use Rattle.fkv_log.specs.declared.turning.Turning.{Turning}
 use Rattle.fkv_log.specs.declared.turning.Turning.TheVariants as turn
-use Rattle.fkv_log.specs.Reserving.{reserve_ask}
-use Rattle.fkv_log.specs.Filling.{fill_ask}
-use Rattle.fkv_log.specs.Invalidating.{invalidate_ask}
-use Rattle.fkv_log.specs.Loading.{load_ask}
 use Rattle.fkv_log.specs.Moving.{Mover, moving_ask, move_ask}
 use Rattle.fkv_log.specs.Shifting.{shift_ask, shifting_ask}
 use Rattle.fkv_log.specs.Turning.{turn_ask, turning_ask}
 use Rattle.fkv_base.specs.declared.shapes.Shape.{Shape}
-use Rattle.fkv_index.specs.declared.finding.Finding.{Finding}
-use Rattle.fkv_index.specs.declared.finding.FindStep.{FindStep}
-use Rattle.fkv_index.specs.declared.finding.FindStep.TheVariants as find
-use Rattle.fkv_index.specs.declared.publishing.Publishing.{Publishing}
-use Rattle.fkv_index.specs.declared.publishing.Publishing.TheVariants as publishing
-use Rattle.fkv_index.specs.Finding.{find_ask, find_step_ask}
-use Rattle.fkv_index.specs.Publishing.{publish_ask}
 use Rattle.fkv_latch.specs.declared.latching.Latching.{Latching}
-use Rattle.fkv_latch.specs.declared.latching.Latching.TheVariants as latching
 use Rattle.fkv_latch.specs.Latching.{latch_ask}
-use Rattle.fkv_ops.specs.declared.answers.TryAnswer.TheVariants as answer
-use Rattle.fkv_ops.specs.declared.appending.AppendAnswer.TheVariants as append
-use Rattle.fkv_ops.specs.declared.appending.Appending.{Appending}
-use Rattle.fkv_ops.specs.declared.appending.Appending.TheVariants as appending
-use Rattle.fkv_ops.specs.declared.trying.Trying.{Trying}
-use Rattle.fkv_ops.specs.declared.trying.Trying.TheVariants as trying
-use Rattle.fkv_ops.specs.declared.walking.WalkAnswer.TheVariants as walked
-use Rattle.fkv_ops.specs.declared.walking.Walking.{Walking}
-use Rattle.fkv_ops.specs.declared.walking.Walking.TheVariants as walking
-use Rattle.fkv_ops.specs.Appending.{AppendState, appending_ask, append_ask}
-use Rattle.fkv_ops.specs.Trying.{TryState, trying_ask, try_ask}
-use Rattle.fkv_ops.specs.Walking.{WalkState, walking_ask, walk_ask}
 use Rattle.fkv_pending.specs.declared.attempting.Attempting.{Attempting}
-use Rattle.fkv_pending.specs.declared.attempting.Attempting.TheVariants as attempting
 use Rattle.fkv_pending.specs.declared.mailing.Mailing.{Mailing}
-use Rattle.fkv_pending.specs.declared.mailing.Mailing.TheVariants as mail
 use Rattle.fkv_pending.specs.declared.pending_requests.PendingRequest.{PendingRequest}
 use Rattle.fkv_pending.specs.Attempting.{AttemptState, attempting_ask, attempt_ask}
 use Rattle.fkv_pending.specs.Mailing.{mail_ask}
@@ -99,48 +66,26 @@ use Rattle.law_guard.specs.Sessions.Likenesses.{last_seen}
 use Rattle.law_guard.specs.Sessions.OwnTurns.{own_turn_likeness_at}
 use Rattle.law_guard.specs.Sessions.Rows.{IsOpening, OwnTurnKnows, SittingKnows}
 use Rattle.law_guard.specs.Sessions.Sessions.{sitting_likeness}
-use Rattle.law_guard.proofs.OfSessions.OwnTurns.{is_of_slot, passed_slot, scan_slot, claiming_is, work_is}
+use Rattle.law_guard.specs.Keeper.Settled.{is_of_slot}
+use Rattle.law_guard.proofs.OfKeeper.Slots.{passed_slot}
+use Rattle.law_guard.proofs.OfSessions.OwnTurns.{scan_slot, claiming_is, work_is}
 use Rattle.law_guard.proofs.OfSessions.OwnTurnsLed.{shift_asking}
+use Rattle.law_world.proofs.OfRuns.NoSlots.{IsOffSlots, attempt_off_slots, latch_off, mail_off}
 
-reserve_slot : (r : Reserving) → is_of_slot (reserve_ask r) ≡ false
-unfolding reserve_ask
-reserve_slot reserving.AtRest = refl
-reserve_slot r = refl
-
-fill_slot : (p : Places) (f : Filling) → is_of_slot (fill_ask p f) ≡ false
-unfolding fill_ask
-fill_slot p filling.AtRest = refl
-fill_slot p f = refl
-
-invalidate_slot : (p : Places) (i : Invalidating) → is_of_slot (invalidate_ask p i) ≡ false
-unfolding invalidate_ask
-invalidate_slot p invalidating.AtRest = refl
-invalidate_slot p i = refl
-
-load_slot : (p : Places) (l : Loading) → is_of_slot (load_ask p l) ≡ false
-unfolding load_ask
-load_slot p loading.AtRest = refl
-load_slot p l = refl
-
-find_slot : (f : Finding) (step : FindStep) → is_of_slot (find_step_ask f step) ≡ false
-unfolding find_step_ask
-find_slot f find.AtRest = refl
-find_slot f step = refl
-
-publish_slot : (its : Publishing) → is_of_slot (publish_ask its) ≡ false
-unfolding publish_ask
-publish_slot publishing.AtRest = refl
-publish_slot its = refl
-
-latch_slot : (l : Latching) → is_of_slot (latch_ask l) ≡ false
-unfolding latch_ask
-latch_slot latching.AtRest = refl
-latch_slot l = refl
+-- an ask off the slots
+off_slot : {A : Type 0} (ask : Ask A) → IsOffSlots ask → is_of_slot ask ≡ false
+off_slot (Put slot action) off = absurd off
+off_slot (Take slot) off = absurd off
+off_slot ask off = refl
 
 mail_slot : (number : ℕ) (m : Mailing) → is_of_slot (mail_ask number m) ≡ false
-unfolding mail_ask
-mail_slot number (mail.Ended its) = refl
-mail_slot number m = refl
+mail_slot number m = off_slot (mail_ask number m) (mail_off number m)
+
+latch_slot : (l : Latching) → is_of_slot (latch_ask l) ≡ false
+latch_slot l = off_slot (latch_ask l) (latch_off l)
+
+attempt_slot : (p : Places) (number : ℕ) (a : AttemptState) (step : Attempting) → is_of_slot (attempting_ask p number a step) ≡ false
+attempt_slot p number a step = off_slot (attempting_ask p number a step) (attempt_off_slots p number a step)
 
 refresh_slot : (number : ℕ) (r : Refreshing) → is_of_slot (refresh_ask number r) ≡ false
 unfolding refresh_ask
@@ -156,45 +101,6 @@ leave_slot : (number : ℕ) (l : Leaving) → is_of_slot (leave_ask number l) �
 unfolding leave_ask
 leave_slot number leave.AtRest = refl
 leave_slot number l = refl
-
-walk_slot : (p : Places) (k : WalkState) (step : Walking) → is_of_slot (walking_ask p k step) ≡ false
-unfolding walking_ask
-walk_slot p k (walking.Ended its) = refl
-walk_slot p k walking.Finds = passed_slot (find_ask k.finding) walked.Contended ∙ find_slot k.finding k.finding.step
-walk_slot p k (walking.Meets addr) = passed_slot (load_ask p k.loading) walked.Contended ∙ load_slot p k.loading
-walk_slot p k (walking.HasFound addr version) = refl
-walk_slot p k walking.LoadsValue = passed_slot (load_ask p k.loading) walked.Contended ∙ load_slot p k.loading
-
-append_slot : (p : Places) (s : AppendState) (step : Appending) → is_of_slot (appending_ask p s step) ≡ false
-unfolding appending_ask
-append_slot p s (appending.Ended its) = refl
-append_slot p s appending.Reserves = passed_slot (reserve_ask s.reserving) append.Contended ∙ reserve_slot s.reserving
-append_slot p s (appending.Fills addr) = passed_slot (fill_ask p s.filling) append.Contended ∙ fill_slot p s.filling
-append_slot p s (appending.Publishes addr) = passed_slot (publish_ask s.publishing) append.Contended ∙ publish_slot s.publishing
-append_slot p s appending.Invalidates = passed_slot (invalidate_ask p s.invalidating) append.Contended ∙ invalidate_slot p s.invalidating
-
-try_slot : (p : Places) (t : TryState) (step : Trying) → is_of_slot (trying_ask p t step) ≡ false
-unfolding trying_ask
-try_slot p t (trying.Ended its) = refl
-try_slot p t trying.TakesShared = passed_slot (latch_ask t.latching) answer.Shift ∙ latch_slot t.latching
-try_slot p t trying.Walks = passed_slot (walk_ask p t.walk) answer.Shift ∙ walk_slot p t.walk t.walk.step
-try_slot p t (trying.LoadsSafe addr version) = refl
-try_slot p t (trying.SwapsValue addr) = refl
-try_slot p t (trying.LoadsCurrent addr) = passed_slot (walk_ask p t.walk) answer.Shift ∙ walk_slot p t.walk t.walk.step
-try_slot p t (trying.ChangesValue addr old) = refl
-try_slot p t trying.LoadsAnswer = passed_slot (walk_ask p t.walk) answer.Shift ∙ walk_slot p t.walk t.walk.step
-try_slot p t (trying.TakesExclusive old) = passed_slot (latch_ask t.latching) answer.Shift ∙ latch_slot t.latching
-try_slot p t trying.LoadsOld = passed_slot (walk_ask p t.walk) answer.Shift ∙ walk_slot p t.walk t.walk.step
-try_slot p t (trying.Appends its) = passed_slot (append_ask p t.append) answer.Shift ∙ append_slot p t.append t.append.step
-try_slot p t (trying.DropsExclusive its) = passed_slot (latch_ask t.latching) its ∙ latch_slot t.latching
-try_slot p t (trying.DropsShared its) = passed_slot (latch_ask t.latching) its ∙ latch_slot t.latching
-
-attempt_slot : (p : Places) (number : ℕ) (a : AttemptState) (step : Attempting) → is_of_slot (attempting_ask p number a step) ≡ false
-unfolding attempting_ask
-attempt_slot p number a (attempting.Ended its) = refl
-attempt_slot p number a attempting.Looks = passed_slot (mail_ask number a.mailing) answer.Shift ∙ mail_slot number a.mailing
-attempt_slot p number a attempting.Tries = passed_slot (try_ask p a.trial) answer.Shift ∙ try_slot p a.trial a.trial.step
-attempt_slot p number a attempting.Puts = passed_slot (mail_ask number a.mailing) answer.Shift ∙ mail_slot number a.mailing
 
 catch_slot : (p : Places) (number : ℕ) (c : CatchState) (requests : List PendingRequest) (step : Catching) → is_of_slot (catching_ask p number c requests step) ≡ false
 unfolding catching_ask

@@ -1,11 +1,11 @@
 -- A step of a session's own turn is one event of the guard, and what begins then.
-use Rattle.std.proofs.Common.{◌≡◌, ℕ, ◌/◌, ◌∙◌, List, [], ◌∷◌, zero, suc, refl, sym, ap, subst, inl, inr, Bool, true, false}
+use Rattle.std.proofs.Common.{◌≡◌, ℕ, ◌/◌, ◌∙◌, List, [], ◌∷◌, refl, sym, ap, subst, inl, inr, true, false}
 use Rattle.std.specs.Prelude.{⊤, Option, Some, None, slice_get, slice_set, nat_lt, nat_le, if◌then◌else◌}
 use Rattle.fkv_base.specs.declared.shapes.Shape.{Shape}
 use Rattle.fkv_plane.specs.declared.actions.Action.{Action}
 use Rattle.fkv_plane.specs.declared.actions.Action.TheVariants as act
 use Rattle.fkv_plane.specs.declared.asks.Ask.{Ask}
-use Rattle.fkv_plane.specs.declared.asks.Ask.TheVariants.{Load, Store, Swap, Cas, Add, Max, Put, Take, Done}
+use Rattle.fkv_plane.specs.declared.asks.Ask.TheVariants.{Put, Take, Done}
 use Rattle.fkv_plane.specs.Asked.{words_after, reply_to}
 use Rattle.fkv_plane.specs.Passing.{passed, is_done}
 use Rattle.fkv_plane.specs.Plane.{action_at}
@@ -37,17 +37,13 @@ use Rattle.law_guard.specs.Sessions.Likenesses.{likeness, through}
 use Rattle.law_guard.specs.Sessions.Steps.{Stays}
 use Rattle.law_guard.specs.Sessions.OwnTurns.{scan_machine, claim_machine, claim_onward, shift_machine, shift_work, turn_work, shift_onward, turn_gets, turn_settled, actions_settled, own_turn_likeness_at}
 use Rattle.law_guard.proofs.OfSessions.Catches.{machine_moves}
+use Rattle.law_guard.specs.Keeper.Settled.{is_of_slot}
+use Rattle.law_guard.proofs.OfKeeper.Slots.{emptied, passed_slot}
 use Rattle.law_guard.proofs.OfSessions.Movers.{shift_fits, known_after, shift_rests_so, shift_under_way}
 use Rattle.law_guard.proofs.OfSessions.OwnTurnsLed.{OwnTurnLed, scan_led, claim_later, claim_led, shift_ends, shift_stays, shift_asking, shift_on, shift_later}
-use Rattle.law_guard.proofs.OfSessions.SessionsLed.{IsScanning, IsClaiming, IsOpening}
+use Rattle.law_guard.specs.Sessions.Rows.{IsScanning, IsClaiming, IsOpening}
 use Rattle.law_guard.proofs.OfSessions.AppendsLed.{truth}
 use Rattle.law_guard.proofs.OfSessions.Onwards.{Keeps}
-
--- an ask of a slot
-abbrev pub is_of_slot : {A : Type 0} → Ask A → Bool
-is_of_slot (Put slot action) = true
-is_of_slot (Take slot) = true
-is_of_slot ask = false
 
 -- where a step has led, and the action that goes with it
 pub record TurnMoved (n : GuardNow) (a : ℕ) (seen : LastSeen) (o : OwnTurnState) (words : List ℕ) (ask : Ask (Unit {0})) : Type 0 where
@@ -59,24 +55,6 @@ slotless : (n : GuardNow) (a : ℕ) (seen : LastSeen) (o : OwnTurnState) (words 
 slotless n a seen o words (Put slot action) mid e moved led = cc
 slotless n a seen o words (Take slot) mid e moved led = cc
 slotless n a seen o words ask mid e moved led = record { mid = mid; moved = moved; led = led }
-
-pub passed_slot : {A B : Type 0} (ask : Ask A) (answer : B) → is_of_slot (passed ask answer) ≡ is_of_slot ask
-unfolding passed
-passed_slot (Load place) answer = refl
-passed_slot (Store place new) answer = refl
-passed_slot (Swap place new) answer = refl
-passed_slot (Cas place old new) answer = refl
-passed_slot (Add place k) answer = refl
-passed_slot (Max place k) answer = refl
-passed_slot (Put slot action) answer = refl
-passed_slot (Take slot) answer = refl
-passed_slot (Done inner) answer = refl
-
--- an empty slot that is emptied stays as it is
-emptied : (actions : List (Option Action)) (slot : ℕ) → action_at actions slot ≡ None → slice_set actions slot None ≡ actions
-emptied [] slot e = refl
-emptied (its ∷ rest) zero e = let same : its ≡ None = e in rw same refl
-emptied (its ∷ rest) (suc slot) e = ap (λ more. its ∷ more) (emptied rest slot e)
 
 -- the scan
 pub scanning_is : (s : Scanning) (machine : EpochMachine) → IsScanning s → FitsMachine (scan_machine s) machine → machine ≡ epochs.Scans s

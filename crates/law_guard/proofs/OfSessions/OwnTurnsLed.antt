@@ -38,7 +38,7 @@ use Rattle.law_guard.specs.Sessions.Steps.{Stays}
 use Rattle.law_guard.specs.Sessions.OwnTurns.{scan_machine, claim_machine, shift_machine, scan_onward, claim_onward, shift_onward, own_turn_onward, own_turn_likeness, own_turn_likeness_at}
 use Rattle.law_guard.proofs.OfSessions.AppendsLed.{truth}
 use Rattle.law_guard.proofs.OfSessions.Onwards.{Leads, Keeps, Begins, stayed}
-use Rattle.law_guard.proofs.OfSessions.SessionsLed.{IsScanning, IsClaiming, IsOpening, OwnTurnKnows}
+use Rattle.law_guard.specs.Sessions.Rows.{IsScanning, IsClaiming, IsOpening, OwnTurnKnows}
 
 pub record OwnTurnLed (seen : LastSeen) (mid : Likeness) (o : OwnTurnState) : Type 0 where
   pub leads : Leads true mid (own_turn_onward o o.step) (own_turn_likeness seen o)

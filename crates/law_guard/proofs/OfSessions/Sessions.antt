@@ -25,14 +25,14 @@ use Rattle.law_guard.specs.Sessions.Steps.{outer_events, IsOuter}
 use Rattle.law_guard.specs.Sessions.Attempts.{AttemptWritesOuter, attempt_likeness}
 use Rattle.law_guard.specs.Sessions.Catches.{CatchWritesOuter, catch_likeness}
 use Rattle.law_guard.specs.Sessions.Sessions.{leave_machine, sitting_events, sitting_onward, sitting_likeness, session_likeness, is_protected_at, SittingWritesOuter, SessionWritesOuter}
-pub use Rattle.law_guard.specs.Sessions.Followed.{seat_in, is_turning}
+use Rattle.law_guard.specs.Sessions.Followed.{seat_in, is_turning}
 use Rattle.law_guard.proofs.OfSessions.Onwards.{IsSessions, Moved, Keeps, Begins}
 use Rattle.law_guard.proofs.OfSessions.Outer.{outer_step}
 use Rattle.law_guard.proofs.OfSessions.OwnWords.{sitting_outer}
 use Rattle.law_guard.proofs.OfSessions.Attempts.{attempt_passed, attempt_owes, attempt_step}
 use Rattle.law_guard.proofs.OfSessions.Catches.{machine_moves, catch_step, catch_passed, catch_owes}
-use Rattle.law_guard.proofs.OfSessions.CatchesLed.{CatchKnows}
-use Rattle.law_guard.proofs.OfSessions.SessionsLed.{SittingKnows, SessionLed, polls_led, clear_led, attempt_ends, poll_ends, catch_ends, leave_led}
+use Rattle.law_guard.specs.Sessions.Rows.{CatchKnows, SittingKnows}
+use Rattle.law_guard.proofs.OfSessions.SessionsLed.{SessionLed, polls_led, clear_led, attempt_ends, poll_ends, catch_ends, leave_led}
 
 -- where a session's step leads
 abbrev Reply : GuardNow → ℕ → SessionState → Sitting → ℕ

@@ -42,11 +42,11 @@ use Rattle.law_guard.specs.Sessions.Likenesses.{last_seen, through}
 use Rattle.law_guard.specs.Sessions.Attempts.{attempt_onward, attempt_likeness}
 use Rattle.law_guard.specs.Sessions.Catches.{catch_onward, catch_likeness}
 use Rattle.law_guard.specs.Sessions.Sessions.{sitting_onward, session_likeness}
-pub use Rattle.law_guard.specs.Sessions.Rows.{IsScanning, IsClaiming, IsOpening, OwnTurnKnows, SittingKnows}
+use Rattle.law_guard.specs.Sessions.Rows.{SittingKnows, CatchKnows}
 use Rattle.law_guard.proofs.OfSessions.Onwards.{Leads, Keeps, Begins, stayed}
 use Rattle.law_guard.proofs.OfSessions.AttemptsLed.{AttemptLed, attempt_begun_led}
 use Rattle.law_guard.proofs.OfSessions.AppendsLed.{truth}
-use Rattle.law_guard.proofs.OfSessions.CatchesLed.{CatchKnows, catch_through}
+use Rattle.law_guard.proofs.OfSessions.CatchesLed.{catch_through}
 
 pub record SessionLed (protected : Bool) (mid : Likeness) (s : SessionState) : Type 0 where
   pub leads : Leads protected mid (sitting_onward s s.step) (session_likeness s)

@@ -50,17 +50,16 @@ use Rattle.fkv_log.specs.declared.turning.Turning.TheVariants as turn
 use Rattle.fkv_log.specs.Moving.{Mover, offset_place, moving_ask, move_ask}
 use Rattle.fkv_log.specs.Turning.{turning_ask, limit_after}
 use Rattle.law_guard.specs.Sessions.Steps.{onward_events}
-use Rattle.law_guard.specs.Sessions.Followed.{TurnsFollow}
+use Rattle.law_guard.specs.Sessions.Followed.{TurnsFollow, SessionFollows, seat_in}
 use Rattle.law_guard.specs.Sessions.Likenesses.{last_seen}
 use Rattle.law_guard.specs.Sessions.OwnTurns.{own_turn_likeness, own_turn_likeness_at, turn_gets, turn_settled, actions_settled}
 use Rattle.law_guard.specs.Sessions.Sessions.{sitting_events, sitting_onward, sitting_likeness, session_likeness, is_protected_at, session_gets, session_settled}
 use Rattle.law_guard.proofs.OfSessions.Onwards.{Keeps, goes_onward}
 use Rattle.law_guard.proofs.OfSessions.Epochs.{machine_keeps, ask_keeps}
-use Rattle.law_guard.proofs.OfSessions.Followed.{SessionFollows}
 use Rattle.law_guard.proofs.OfSessions.OwnTurnsLed.{OwnTurnLed, shift_asking, own_turn_through}
 use Rattle.law_guard.proofs.OfSessions.OwnTurns.{TurnMoved, scanning_is, claiming_is, work_is, scans_it, claims_it, shifts_it, opens_it}
-use Rattle.law_guard.proofs.OfSessions.Sessions.{seat_in}
-use Rattle.law_guard.proofs.OfSessions.SessionsLed.{IsOpening, OwnTurnKnows, SittingKnows, SessionLed}
+use Rattle.law_guard.specs.Sessions.Rows.{IsOpening, OwnTurnKnows, SittingKnows}
+use Rattle.law_guard.proofs.OfSessions.SessionsLed.{SessionLed}
 
 module _ (w : GuardWorld) (a : ℕ) (x : Actor) (seen : LastSeen) (sound : IsSound w) (got : slice_get w.now.actors a ≡ Some x) where
   abbrev TurnTo : OwnTurnState → OwnTurning → Type 0

@@ -22,7 +22,7 @@ use Rattle.law_guard.specs.Sessions.WorldSteps.{MovesFollow, beside}
 use Rattle.law_guard.proofs.OfSessions.Followed.{session_follows}
 use Rattle.law_guard.proofs.OfSessions.NoSlots.{session_slot}
 use Rattle.law_guard.proofs.OfSessions.Outer.{no_event}
-use Rattle.law_guard.proofs.OfSessions.OwnTurns.{is_of_slot}
+use Rattle.law_guard.specs.Keeper.Settled.{is_of_slot}
 use Rattle.law_guard.proofs.OfSessions.TurnFollowed.{turn_follows}
 
 pub clash : {X : Type 0} (b : Bool) → b ≡ true → b ≡ false → X

@@ -1,12 +1,6 @@
 -- What the guard has of the keeper in a turn: the machine of the epochs and the work that each part is at, or none, where they are any that are through.
 use Rattle.std.specs.Prelude.{◌≡◌, false, Option, Some, None, ⊤}
-use Rattle.fkv_epoch.specs.declared.raising.Raising.{Raising}
-use Rattle.fkv_epoch.specs.declared.arming.Arming.{Arming}
-use Rattle.fkv_epoch.specs.EpochWorld.{EpochMachine, Scans, Claims, Raises, Arms, is_at_rest}
-use Rattle.fkv_log.specs.declared.moving.Moving.{Moving}
-use Rattle.fkv_log.specs.declared.moving.Moving.TheVariants as move
-use Rattle.fkv_log.specs.declared.shifting.Shifting.{Shifting}
-use Rattle.fkv_log.specs.declared.shifting.Shifting.TheVariants as shift
+use Rattle.fkv_epoch.specs.EpochWorld.{EpochMachine, Scans, Claims, is_at_rest}
 use Rattle.fkv_log.specs.declared.turning.Turning.{Turning}
 use Rattle.fkv_log.specs.declared.turning.Turning.TheVariants as turn
 use Rattle.fkv_log.specs.Moving.{Mover}
@@ -14,23 +8,13 @@ use Rattle.fkv_flush.specs.GuardWorld.{Work, Flushes, Shifts, Turns, Serves, is_
 use Rattle.fkv_maintain.specs.declared.maintaining.Maintaining.{Maintaining}
 use Rattle.fkv_maintain.specs.declared.maintaining.Maintaining.TheVariants as maintain
 use Rattle.fkv_maintain.specs.Maintaining.{MaintainState}
+use Rattle.law_guard.specs.Sessions.OwnTurns.{moving_machine, shift_machine}
 
 -- the machine of the epochs that a move drives
-abbrev pub moving_machine : Moving → Raising → Arming → Option EpochMachine
-moving_machine move.AtRest raising arming = None
-moving_machine (move.Raises target) raising arming = Some (Raises raising)
-moving_machine (move.MovesOffset target) raising arming = Some (Raises raising)
-moving_machine (move.Puts target slot) raising arming = Some (Arms arming)
-moving_machine move.Arms raising arming = Some (Arms arming)
-
 abbrev pub move_machine : Mover → Option EpochMachine
 move_machine m = moving_machine m.step m.raising m.arming
 
--- so of a shift and of a turn, while they move their offset
-abbrev pub shift_machine : Shifting → Mover → Option EpochMachine
-shift_machine (shift.Moves tail) m = move_machine m
-shift_machine step m = None
-
+-- so of a turn, while it moves its offset
 abbrev pub turn_machine : Turning → Mover → Option EpochMachine
 turn_machine turn.Moves m = move_machine m
 turn_machine step m = None

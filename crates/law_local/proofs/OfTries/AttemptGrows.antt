@@ -1,8 +1,8 @@
 -- What a request that waits and an attempt know stays as the log grows, and as the head rises that the session has seen.
 use Rattle.std.proofs.Common.{ℕ, ◌≤◌}
 use Rattle.fkv_map.specs.Map.{Map}
-use Rattle.fkv_order.specs.Ghosts.{Log}
-use Rattle.fkv_order.proofs.Shown.{Held, Grows}
+use Rattle.law_log.specs.Ghosts.{Log}
+use Rattle.law_log.proofs.Shown.{Held, Grows}
 use Rattle.fkv_ops.specs.declared.requests.Seen.{Seen}
 use Rattle.fkv_pending.specs.declared.attempting.Attempting.{Attempting}
 use Rattle.fkv_pending.specs.declared.attempting.Attempting.TheVariants.{Ended, Looks, Tries, Puts}

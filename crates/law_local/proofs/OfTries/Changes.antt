@@ -13,9 +13,9 @@ use Rattle.fkv_log.specs.declared.reserving.ReserveAnswer.TheVariants as answer
 use Rattle.fkv_log.specs.declared.reserving.Reserving.{Reserving}
 use Rattle.fkv_log.specs.declared.reserving.Reserving.TheVariants as reserving
 use Rattle.fkv_log.specs.Reserving.{reserve_ask, reserve_next, reserve_next_ask, no_room_at, reserved_where}
-use Rattle.fkv_order.specs.Chains.{Cell, IsWithin}
-use Rattle.fkv_order.specs.Ghosts.{Log}
-use Rattle.fkv_order.specs.Owed.{IsMade, NoneAbove, NoneCopies}
+use Rattle.law_log.specs.Chains.{Cell, IsWithin}
+use Rattle.law_log.specs.Ghosts.{Log}
+use Rattle.law_log.specs.Owed.{IsMade, NoneAbove, NoneCopies}
 use Rattle.fkv_ops.specs.declared.appending.Appending.{Appending}
 use Rattle.fkv_ops.specs.declared.appending.Appending.TheVariants as appending
 use Rattle.fkv_ops.specs.declared.requests.Request.{Request}

@@ -3,10 +3,10 @@ use Rattle.std.proofs.Common.{◌≡◌, ◌≢◌, inl, inr, ℕ, ◌<◌, ◌�
 use Rattle.fkv_base.specs.declared.numbers.Addr.{Addr}
 use Rattle.fkv_base.specs.declared.numbers.Version.{Version}
 use Rattle.fkv_index.specs.Slots.{entry_addr}
-use Rattle.fkv_order.specs.Trace.{IsIn}
-use Rattle.fkv_order.specs.Chains.{Cell, Logged, Published, value_at, head_of}
-use Rattle.fkv_order.specs.Ghosts.{Log, first_from}
-use Rattle.fkv_order.specs.Owed.{AreChains, IsLinked, previous_of}
+use Rattle.law_log.specs.Trace.{IsIn}
+use Rattle.law_log.specs.Chains.{Cell, Logged, Published, value_at, head_of}
+use Rattle.law_log.specs.Ghosts.{Log, first_from}
+use Rattle.law_log.specs.Owed.{AreChains, IsLinked, previous_of}
 use Rattle.fkv_ops.specs.declared.answers.DiskRecord.{DiskRecord}
 use Rattle.fkv_ops.specs.declared.header_words.HeaderSaid.{HeaderSaid}
 use Rattle.fkv_ops.specs.declared.header_words.HeaderSaid.TheVariants.{Says, Spoiled}

@@ -2,10 +2,10 @@
 use Rattle.std.proofs.Common.{◌≡◌, inl, inr, ℕ, ◌<◌, ◌∙◌, refl, sym, ap, subst}
 use Rattle.fkv_map.specs.declared.operations.Reply.{Reply}
 use Rattle.fkv_map.specs.Map.{Map}
-use Rattle.fkv_order.specs.Chains.{Cell, value_at, version_at, has_key, chain_from, IsWithin}
-use Rattle.fkv_order.specs.Ghosts.{Log}
-use Rattle.fkv_order.specs.Owed.{IsFixed}
-use Rattle.fkv_order.proofs.Shown.{Held, Grows, first_stays, fixed_stays, in_from, IsFirst, first_is}
+use Rattle.law_log.specs.Chains.{Cell, value_at, version_at, has_key, chain_from, IsWithin}
+use Rattle.law_log.specs.Ghosts.{Log}
+use Rattle.law_log.specs.Owed.{IsFixed}
+use Rattle.law_log.proofs.Shown.{Held, Grows, first_stays, fixed_stays, in_from, IsFirst, first_is}
 use Rattle.fkv_ops.specs.declared.appending.Appending.{Appending}
 use Rattle.fkv_ops.specs.declared.appending.Appending.TheVariants as appending
 use Rattle.fkv_ops.specs.declared.requests.Request.{Request}

@@ -1,11 +1,11 @@
 -- Down a chain what stands first lies no higher than where one begins.
 use Rattle.std.proofs.Common.{◌≡◌, inl, inr, ℕ, ◌≤◌, Bool, true, false, cond, List, [], ◌∷◌, refl, arith}
 use Rattle.std.specs.Prelude.{nat_eq}
-use Rattle.fkv_order.specs.Trace.{IsIn}
-use Rattle.fkv_order.specs.Chains.{Logged, head_of, chain_from, has_key}
-use Rattle.fkv_order.specs.Ghosts.{Log, first_from}
-use Rattle.fkv_order.specs.Owed.{AreChains, IsLinked, IsFixed}
-use Rattle.fkv_order.proofs.Shown.{IsFirst, first_is}
+use Rattle.law_log.specs.Trace.{IsIn}
+use Rattle.law_log.specs.Chains.{Logged, head_of, chain_from, has_key}
+use Rattle.law_log.specs.Ghosts.{Log, first_from}
+use Rattle.law_log.specs.Owed.{AreChains, IsLinked, IsFixed}
+use Rattle.law_log.proofs.Shown.{IsFirst, first_is}
 use Rattle.law_local.specs.Tries.OnWay.{ComesBelow}
 use Rattle.law_local.proofs.OfTries.Tests.{eq_true}
 

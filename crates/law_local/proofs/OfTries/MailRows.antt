@@ -5,10 +5,10 @@ use Rattle.fkv_base.specs.declared.numbers.Addr.{Addr}
 use Rattle.fkv_map.specs.Map.{Map}
 use Rattle.fkv_plane.specs.declared.asks.Ask.TheVariants.{Done}
 use Rattle.fkv_index.specs.Slots.{entry_addr}
-use Rattle.fkv_order.specs.Chains.{Cell, Logged, Published}
-use Rattle.fkv_order.specs.Ghosts.{Log}
-use Rattle.fkv_order.specs.Owed.{AreChains}
-use Rattle.fkv_order.proofs.Shown.{Grows}
+use Rattle.law_log.specs.Chains.{Cell, Logged, Published}
+use Rattle.law_log.specs.Ghosts.{Log}
+use Rattle.law_log.specs.Owed.{AreChains}
+use Rattle.law_log.proofs.Shown.{Grows}
 use Rattle.fkv_ops.specs.declared.answers.DiskRecord.{DiskRecord}
 use Rattle.fkv_pending.specs.declared.mailing.MailAnswer.{MailAnswer}
 use Rattle.fkv_pending.specs.declared.mailing.MailAnswer.TheVariants as mail

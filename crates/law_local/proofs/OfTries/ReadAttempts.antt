@@ -9,8 +9,8 @@ use Rattle.fkv_plane.specs.declared.places.Places.{Places}
 use Rattle.fkv_plane.specs.Passing.{passed, is_done}
 use Rattle.fkv_index.specs.Slots.{entry_addr, home_of}
 use Rattle.fkv_latch.specs.declared.latching.LatchTask.TheVariants.{TakeShared}
-use Rattle.fkv_order.specs.Chains.{value_at}
-use Rattle.fkv_order.specs.Ghosts.{Log, Reading, HasValue, took, first_from}
+use Rattle.law_log.specs.Chains.{value_at}
+use Rattle.law_log.specs.Ghosts.{Log, Reading, HasValue, took, first_from}
 use Rattle.fkv_ops.specs.declared.answers.DiskRecord.{DiskRecord}
 use Rattle.fkv_ops.specs.declared.answers.TryAnswer.{TryAnswer}
 use Rattle.fkv_ops.specs.declared.answers.TryAnswer.TheVariants as answer

@@ -5,7 +5,7 @@ use Rattle.fkv_map.specs.Keys.{key_of}
 use Rattle.fkv_plane.specs.declared.places.Places.{Places}
 use Rattle.fkv_index.specs.Slots.{home_of}
 use Rattle.fkv_latch.specs.declared.latching.LatchTask.TheVariants.{TakeShared}
-use Rattle.fkv_order.specs.Ghosts.{Log}
+use Rattle.law_log.specs.Ghosts.{Log}
 use Rattle.fkv_ops.specs.declared.requests.Occasion.{Occasion}
 use Rattle.fkv_ops.specs.declared.requests.Request.{Request}
 use Rattle.fkv_ops.specs.declared.requests.Seen.{Seen}

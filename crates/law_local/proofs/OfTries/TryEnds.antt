@@ -8,9 +8,9 @@ use Rattle.fkv_map.specs.Map.{absent_word}
 use Rattle.fkv_plane.specs.declared.places.Places.{Places}
 use Rattle.fkv_latch.specs.declared.latching.LatchTask.TheVariants.{DropShared, DropExclusive, TakeExclusive}
 use Rattle.fkv_index.specs.Slots.{entry_addr}
-use Rattle.fkv_order.specs.Chains.{value_at, IsWithin}
-use Rattle.fkv_order.specs.Ghosts.{Log}
-use Rattle.fkv_order.specs.Owed.{StandsStill}
+use Rattle.law_log.specs.Chains.{value_at, IsWithin}
+use Rattle.law_log.specs.Ghosts.{Log}
+use Rattle.law_log.specs.Owed.{StandsStill}
 use Rattle.fkv_ops.specs.declared.answers.Reason.TheVariants as reason
 use Rattle.fkv_ops.specs.declared.answers.TryAnswer.{TryAnswer}
 use Rattle.fkv_ops.specs.declared.answers.TryAnswer.TheVariants as answer

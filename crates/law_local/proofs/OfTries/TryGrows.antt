@@ -6,10 +6,10 @@ use Rattle.fkv_map.specs.declared.history.HistoryEntry.{HistoryEntry}
 use Rattle.fkv_map.specs.declared.operations.Reply.{Reply}
 use Rattle.fkv_map.specs.Map.{Map}
 use Rattle.fkv_index.specs.Slots.{entry_addr}
-use Rattle.fkv_order.specs.Chains.{Cell}
-use Rattle.fkv_order.specs.Ghosts.{Log, first_from}
-use Rattle.fkv_order.specs.Owed.{IsFixed, IsMade}
-use Rattle.fkv_order.proofs.Shown.{Held, Grows, made_stays, made_of_fixed_stays}
+use Rattle.law_log.specs.Chains.{Cell}
+use Rattle.law_log.specs.Ghosts.{Log, first_from}
+use Rattle.law_log.specs.Owed.{IsFixed, IsMade}
+use Rattle.law_log.proofs.Shown.{Held, Grows, made_stays, made_of_fixed_stays}
 use Rattle.fkv_ops.specs.declared.answers.DiskRecord.{DiskRecord}
 use Rattle.fkv_ops.specs.declared.answers.TryAnswer.{TryAnswer}
 use Rattle.fkv_ops.specs.declared.answers.TryAnswer.TheVariants as answer

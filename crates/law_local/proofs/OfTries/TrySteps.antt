@@ -21,9 +21,9 @@ use Rattle.fkv_index.specs.declared.publishing.PublishAnswer.{PublishAnswer}
 use Rattle.fkv_index.specs.declared.publishing.PublishAnswer.TheVariants as publish
 use Rattle.fkv_index.specs.Publishing.{publish_next, publish_next_ask}
 use Rattle.fkv_index.specs.Slots.{entry_addr}
-use Rattle.fkv_order.specs.Chains.{value_at}
-use Rattle.fkv_order.specs.Ghosts.{Log}
-use Rattle.fkv_order.specs.Owed.{StandsStill}
+use Rattle.law_log.specs.Chains.{value_at}
+use Rattle.law_log.specs.Ghosts.{Log}
+use Rattle.law_log.specs.Owed.{StandsStill}
 use Rattle.fkv_ops.specs.declared.answers.Reason.TheVariants as reason
 use Rattle.fkv_ops.specs.declared.answers.TryAnswer.{TryAnswer}
 use Rattle.fkv_ops.specs.declared.answers.TryAnswer.TheVariants as answer

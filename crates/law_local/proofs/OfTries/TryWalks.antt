@@ -11,10 +11,10 @@ use Rattle.fkv_plane.specs.declared.asks.Ask.TheVariants.{Done}
 use Rattle.fkv_plane.specs.declared.places.Places.{Places}
 use Rattle.fkv_log.specs.declared.regions.Region.TheVariants as region
 use Rattle.fkv_index.specs.Slots.{entry_addr}
-use Rattle.fkv_order.specs.Trace.{IsIn}
-use Rattle.fkv_order.specs.Chains.{value_at, version_at}
-use Rattle.fkv_order.specs.Ghosts.{Log}
-use Rattle.fkv_order.specs.Owed.{IsFixed, NoneAbove}
+use Rattle.law_log.specs.Trace.{IsIn}
+use Rattle.law_log.specs.Chains.{value_at, version_at}
+use Rattle.law_log.specs.Ghosts.{Log}
+use Rattle.law_log.specs.Owed.{IsFixed, NoneAbove}
 use Rattle.fkv_ops.specs.declared.answers.Reason.TheVariants as reason
 use Rattle.fkv_ops.specs.declared.answers.TryAnswer.TheVariants as answer
 use Rattle.fkv_ops.specs.declared.requests.HeldRecord.{HeldRecord}

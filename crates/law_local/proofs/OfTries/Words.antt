@@ -10,7 +10,7 @@ use Rattle.fkv_log.specs.declared.reserving.Reserving.{Reserving}
 use Rattle.fkv_log.specs.declared.reserving.Reserving.TheVariants as reserving
 use Rattle.fkv_log.specs.Loading.{load_ask}
 use Rattle.fkv_log.specs.Reserving.{reserve_ask}
-use Rattle.fkv_order.specs.Ghosts.{Log}
+use Rattle.law_log.specs.Ghosts.{Log}
 use Rattle.fkv_ops.specs.declared.answers.TryAnswer.TheVariants as answer
 use Rattle.fkv_ops.specs.declared.appending.AppendAnswer.TheVariants as append
 use Rattle.fkv_ops.specs.declared.appending.Appending.{Appending}

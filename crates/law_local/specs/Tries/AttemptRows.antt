@@ -3,8 +3,8 @@ use Rattle.std.specs.Prelude.{◌≡◌, ℕ, ⊤, true, false, Option, Some, No
 use Rattle.std.specs.Option.{is_some}
 use Rattle.fkv_plane.specs.declared.places.Places.{Places}
 use Rattle.fkv_index.specs.Slots.{entry_addr}
-use Rattle.fkv_order.specs.Chains.{value_at}
-use Rattle.fkv_order.specs.Ghosts.{Log}
+use Rattle.law_log.specs.Chains.{value_at}
+use Rattle.law_log.specs.Ghosts.{Log}
 use Rattle.fkv_ops.specs.declared.answers.DiskRecord.{DiskRecord}
 use Rattle.fkv_ops.specs.declared.answers.Reason.TheVariants.{Disk}
 use Rattle.fkv_ops.specs.declared.answers.TryAnswer.{TryAnswer}

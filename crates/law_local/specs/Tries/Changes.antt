@@ -1,9 +1,9 @@
 -- What a change in place owes where a try makes it.
 use Rattle.std.specs.Prelude.{◌≡◌, ℕ, ◌≤◌}
 use Rattle.fkv_map.specs.declared.history.HistoryEntry.{HistoryEntry}
-use Rattle.fkv_order.specs.Chains.{Cell, Published}
-use Rattle.fkv_order.specs.Ghosts.{Log, changed_by}
-use Rattle.fkv_order.specs.Owed.{IsChange, NoneAbove, NoneCopies}
+use Rattle.law_log.specs.Chains.{Cell, Published}
+use Rattle.law_log.specs.Ghosts.{Log, changed_by}
+use Rattle.law_log.specs.Owed.{IsChange, NoneAbove, NoneCopies}
 use Rattle.fkv_ops.specs.declared.requests.Request.{Request}
 use Rattle.fkv_ops.specs.declared.requests.Seen.{Seen}
 use Rattle.fkv_ops.specs.Values.{value_of}

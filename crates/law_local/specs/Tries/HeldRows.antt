@@ -1,8 +1,8 @@
 -- What a request knows of the log: by the record of the device that it holds, and by the one that it seeks.
 use Rattle.std.specs.Prelude.{◌≡◌, ◌≢◌, ℕ, ◌<◌, ◌⊎◌, ⊤, Option, Some, None}
 use Rattle.fkv_index.specs.Slots.{entry_addr}
-use Rattle.fkv_order.specs.Chains.{value_at, IsWithin}
-use Rattle.fkv_order.specs.Ghosts.{Log, first_from}
+use Rattle.law_log.specs.Chains.{value_at, IsWithin}
+use Rattle.law_log.specs.Ghosts.{Log, first_from}
 use Rattle.fkv_ops.specs.declared.answers.DiskRecord.{DiskRecord}
 use Rattle.fkv_ops.specs.declared.requests.HeldRecord.{HeldRecord}
 use Rattle.fkv_ops.specs.Values.{value_of}

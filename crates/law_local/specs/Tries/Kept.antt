@@ -5,9 +5,9 @@ use Rattle.fkv_map.specs.declared.operations.Reply.{Reply}
 use Rattle.fkv_plane.specs.declared.asks.Ask.TheVariants.{Done}
 use Rattle.fkv_log.specs.declared.reserving.ReserveAnswer.TheVariants.{Reserved}
 use Rattle.fkv_log.specs.Reserving.{reserve_next_ask}
-use Rattle.fkv_order.specs.Chains.{Cell, Published, value_at, version_at}
-use Rattle.fkv_order.specs.Ghosts.{Log, first_from}
-use Rattle.fkv_order.specs.Owed.{IsFixed}
+use Rattle.law_log.specs.Chains.{Cell, Published, value_at, version_at}
+use Rattle.law_log.specs.Ghosts.{Log, first_from}
+use Rattle.law_log.specs.Owed.{IsFixed}
 use Rattle.fkv_ops.specs.declared.appending.Appending.{Appending}
 use Rattle.fkv_ops.specs.declared.appending.Appending.TheVariants.{Reserves, Invalidates}
 use Rattle.fkv_ops.specs.declared.appending.Appending.TheVariants.{Publishes as PublishesAt}

@@ -10,8 +10,8 @@ use Rattle.fkv_plane.specs.declared.places.Places.{Places}
 use Rattle.fkv_plane.specs.Passing.{is_done}
 use Rattle.fkv_log.specs.declared.reserving.ReserveAnswer.TheVariants.{Reserved}
 use Rattle.fkv_log.specs.Reserving.{reserve_next_ask}
-use Rattle.fkv_order.specs.Ghosts.{Log, Ghosts, GhostEvent, log_after, ghost_run}
-use Rattle.fkv_order.specs.Owed.{AreChains, IsMade, IsOpened, AreOwed, Owes}
+use Rattle.law_log.specs.Ghosts.{Log, Ghosts, GhostEvent, log_after, ghost_run}
+use Rattle.law_log.specs.Owed.{AreChains, IsMade, IsOpened, AreOwed, Owes}
 use Rattle.fkv_ops.specs.declared.answers.DiskRecord.{DiskRecord}
 use Rattle.fkv_ops.specs.declared.answers.TryAnswer.TheVariants.{AwaitsDisk}
 use Rattle.fkv_ops.specs.declared.appending.Appending.TheVariants.{Reserves}

@@ -2,8 +2,8 @@
 use Rattle.std.specs.Prelude.{◌≡◌, ℕ, ⊤, Option, Some, None}
 use Rattle.fkv_base.specs.declared.numbers.Addr.{Addr}
 use Rattle.fkv_base.specs.declared.numbers.Version.{Version}
-use Rattle.fkv_order.specs.Chains.{Cell, Logged, Published}
-use Rattle.fkv_order.specs.Ghosts.{Log}
+use Rattle.law_log.specs.Chains.{Cell, Logged, Published}
+use Rattle.law_log.specs.Ghosts.{Log}
 use Rattle.fkv_ops.specs.declared.answers.DiskRecord.{DiskRecord}
 use Rattle.fkv_ops.specs.declared.header_words.HeaderSaid.TheVariants.{Says}
 use Rattle.fkv_ops.specs.HeaderWords.{header_said}

@@ -8,8 +8,8 @@ use Rattle.fkv_index.specs.declared.finding.Found.TheVariants.{Slot, NoSlot}
 use Rattle.fkv_index.specs.declared.finding.FindAnswer.{FindAnswer}
 use Rattle.fkv_index.specs.Slots.{entry_addr}
 use Rattle.fkv_index.specs.Finding.{find_next_ask}
-use Rattle.fkv_order.specs.Trace.{Effect}
-use Rattle.fkv_order.specs.Ghosts.{Log, Reading, Called, Walks, HasValue, found, took}
+use Rattle.law_log.specs.Trace.{Effect}
+use Rattle.law_log.specs.Ghosts.{Log, Reading, Called, Walks, HasValue, found, took}
 use Rattle.fkv_ops.specs.declared.answers.DiskRecord.{DiskRecord}
 use Rattle.fkv_ops.specs.declared.answers.TryAnswer.{TryAnswer}
 use Rattle.fkv_ops.specs.declared.answers.TryAnswer.TheVariants as answer

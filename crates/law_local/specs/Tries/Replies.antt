@@ -12,9 +12,9 @@ use Rattle.fkv_index.specs.declared.finding.Found.TheVariants.{Slot, NoSlot}
 use Rattle.fkv_index.specs.declared.finding.FindAnswer.{FindAnswer}
 use Rattle.fkv_index.specs.Finding.{find_next_ask}
 use Rattle.fkv_index.specs.Slots.{entry_addr}
-use Rattle.fkv_order.specs.Trace.{IsIn}
-use Rattle.fkv_order.specs.Chains.{Cell, Logged, Published, head_of}
-use Rattle.fkv_order.specs.Ghosts.{Log}
+use Rattle.law_log.specs.Trace.{IsIn}
+use Rattle.law_log.specs.Chains.{Cell, Logged, Published, head_of}
+use Rattle.law_log.specs.Ghosts.{Log}
 use Rattle.fkv_ops.specs.declared.appending.Appending.{Appending}
 use Rattle.fkv_ops.specs.declared.appending.Appending.TheVariants.{Reserves}
 use Rattle.fkv_ops.specs.declared.header_words.HeaderSaid.TheVariants.{Says}

@@ -8,9 +8,9 @@ use Rattle.fkv_map.specs.declared.operations.Reply.{Reply}
 use Rattle.fkv_map.specs.Map.{IsReserved}
 use Rattle.fkv_map.specs.Keys.{key_of, value_applied, reply_from}
 use Rattle.fkv_log.specs.declared.record_words.RecordWords.{RecordWords}
-use Rattle.fkv_order.specs.Chains.{Cell, value_at, IsWithin}
-use Rattle.fkv_order.specs.Ghosts.{Log, first_from}
-use Rattle.fkv_order.specs.Owed.{IsFixed, StandsStill, IsMade, NoneAbove}
+use Rattle.law_log.specs.Chains.{Cell, value_at, IsWithin}
+use Rattle.law_log.specs.Ghosts.{Log, first_from}
+use Rattle.law_log.specs.Owed.{IsFixed, StandsStill, IsMade, NoneAbove}
 use Rattle.fkv_ops.specs.declared.answers.TryAnswer.{TryAnswer}
 use Rattle.fkv_ops.specs.declared.answers.TryAnswer.TheVariants as answer
 use Rattle.fkv_ops.specs.declared.appending.Appending.{Appending}

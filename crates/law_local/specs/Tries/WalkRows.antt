@@ -5,8 +5,8 @@ use Rattle.fkv_base.specs.declared.numbers.Version.{Version}
 use Rattle.fkv_log.specs.declared.loading.Loading.{Loading}
 use Rattle.fkv_log.specs.declared.loading.Loading.TheVariants as load
 use Rattle.fkv_index.specs.Slots.{entry_addr}
-use Rattle.fkv_order.specs.Chains.{Cell, Logged, Published}
-use Rattle.fkv_order.specs.Ghosts.{Log}
+use Rattle.law_log.specs.Chains.{Cell, Logged, Published}
+use Rattle.law_log.specs.Ghosts.{Log}
 use Rattle.fkv_ops.specs.declared.header_words.HeaderSaid.TheVariants.{Says}
 use Rattle.fkv_ops.specs.declared.walking.WalkAnswer.{WalkAnswer}
 use Rattle.fkv_ops.specs.declared.walking.WalkAnswer.TheVariants as answer

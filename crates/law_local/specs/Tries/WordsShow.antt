@@ -6,8 +6,8 @@ use Rattle.fkv_plane.specs.declared.places.SharedWord.TheVariants as one
 use Rattle.fkv_plane.specs.Asked.{word_at}
 use Rattle.fkv_plane.specs.Places.{shared_place, record_place}
 use Rattle.fkv_index.specs.Finding.{find_next_ask}
-use Rattle.fkv_order.specs.Chains.{head_of}
-use Rattle.fkv_order.specs.Ghosts.{Log}
+use Rattle.law_log.specs.Chains.{head_of}
+use Rattle.law_log.specs.Ghosts.{Log}
 use Rattle.fkv_ops.specs.declared.requests.Seen.{Seen}
 use Rattle.fkv_ops.specs.declared.trying.Trying.{Trying}
 use Rattle.fkv_ops.specs.declared.trying.Trying.TheVariants.{Walks}

@@ -4,14 +4,16 @@ use Rattle.fkv_disk.specs.Calls.{MayLeave}
 use Rattle.fkv_core.specs.Openings.{beginning}
 use Rattle.fkv_keeper.specs.Keeping.{KeeperState}
 use Rattle.fkv_opening.specs.declared.opened_store.Opened.{Opened}
-use Rattle.fkv_standing.specs.Opening.{AreNumbersInTurn}
-use Rattle.fkv_standing.specs.Standing.{IsOneInForce, TriplesStand}
-use Rattle.fkv_standing.proofs.Shown.{run_stands}
-use Rattle.fkv_world.specs.Keepers.{IsLifeTold, is_life_writing, life_standing, life_writing}
+use Rattle.law_world.specs.Standing.Opening.{AreNumbersInTurn}
+use Rattle.law_world.specs.Standing.Standing.{IsOneInForce, TriplesStand}
+use Rattle.law_world.proofs.OfStanding.Runs.{run_stands}
+use Rattle.law_world.specs.Keeper.Lives.{IsLifeTold, is_life_writing, life_standing, life_writing}
 use Rattle.fkv_world.specs.OwnEvents.{keeper_events}
 use Rattle.fkv_world.specs.Runs.{World, run}
 use Rattle.fkv_world.specs.World.{Event, Now}
-use Rattle.fkv_world.proofs.Shown.{image_left, of_keeper, opened_stays}
+use Rattle.law_world.proofs.OfKeeper.OneCommit.{image_left}
+use Rattle.law_world.proofs.OfKeeper.OwnRun.{of_keeper}
+use Rattle.law_world.proofs.OfKeeper.OwnCalls.{opened_stays}
 use Rattle.law_opening.specs.Lives.OpenedFrom.{IsOpenedFrom}
 use Rattle.law_opening.specs.Lives.Steps.{AreStepsOfOpened, OneCommitStands, Step, device_behind, events_of, now_behind}
 use Rattle.law_opening.proofs.OfLives.Led.{Stands, stands}

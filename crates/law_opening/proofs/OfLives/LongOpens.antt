@@ -17,7 +17,7 @@ use Rattle.fkv_record.specs.Places.{area_place}
 use Rattle.fkv_record.specs.declared.formats.Format.{Format}
 use Rattle.fkv_record.specs.declared.manifest_slots.ManifestSlot.{ManifestSlot}
 use Rattle.fkv_record.proofs.Shown.{manifest_apart}
-use Rattle.fkv_standing.specs.Opening.{IsBehind}
+use Rattle.law_world.specs.Standing.Opening.{IsBehind}
 use Rattle.fkv_words.specs.Fields.{SpellsApart}
 
 same_area : (area : ℕ) → area < 2 → area_number (area_numbered area) ≡ area

@@ -15,7 +15,7 @@ use Rattle.fkv_newest.specs.declared.newest_slots.Newest.{Newest}
 use Rattle.fkv_opening.specs.Opened.{IsStoreOf, Tells}
 use Rattle.fkv_opening.specs.declared.opened_store.Opened.{Opened}
 use Rattle.fkv_record.specs.Places.{most_triples, number_at}
-use Rattle.fkv_standing.specs.Opening.{IsBehind, IsToldBy}
+use Rattle.law_world.specs.Standing.Opening.{IsBehind, IsToldBy}
 use Rattle.fkv_world.specs.World.{Now}
 use Rattle.law_opening.specs.Lives.OpenedFrom.{IsOpenedFrom}
 use Rattle.law_opening.proofs.OfLives.GuardOpens.{its_keeper_opens}

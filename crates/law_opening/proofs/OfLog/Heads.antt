@@ -10,7 +10,7 @@ use Rattle.fkv_index.specs.declared.homes.Home.{Home}
 use Rattle.fkv_opening.specs.Entries.{entry_home}
 use Rattle.fkv_opening.specs.Opened.{IsStoreOf}
 use Rattle.fkv_opening.specs.declared.opened_store.Opened.{Opened}
-use Rattle.fkv_order.specs.Chains.{head_of}
+use Rattle.law_log.specs.Chains.{head_of}
 use Rattle.fkv_pairs.specs.Pairs.{log_of_store}
 use Rattle.fkv_room.proofs.Shown.{in_head, in_tail}
 use Rattle.fkv_world.specs.World.{Now}

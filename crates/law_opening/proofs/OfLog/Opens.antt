@@ -10,11 +10,11 @@ use Rattle.fkv_core.specs.Openings.{IsOpeningWorld}
 use Rattle.fkv_opening.specs.Opened.{IsStoreOf}
 use Rattle.fkv_opening.specs.declared.opened_store.Opened.{Opened}
 use Rattle.fkv_ops.specs.Values.{value_of}
-use Rattle.fkv_order.proofs.Shown.{first_is}
-use Rattle.fkv_order.specs.Chains.{Cell, Logged, Unborn, Reserved, Published, Dropped, first_such, has_key, head_of, value_at}
-use Rattle.fkv_order.specs.Ghosts.{newest_of, shown}
-use Rattle.fkv_order.specs.Owed.{IsLinked, IsOpened}
-use Rattle.fkv_order.specs.Trace.{IsIn}
+use Rattle.law_log.proofs.Shown.{first_is}
+use Rattle.law_log.specs.Chains.{Cell, Logged, Unborn, Reserved, Published, Dropped, first_such, has_key, head_of, value_at}
+use Rattle.law_log.specs.Ghosts.{newest_of, shown}
+use Rattle.law_log.specs.Owed.{IsLinked, IsOpened}
+use Rattle.law_log.specs.Trace.{IsIn}
 use Rattle.fkv_pairs.specs.Pairs.{ArePairs, CountsAtHome, HasValue, IsNewest, log_of_store}
 use Rattle.fkv_plane.specs.Asked.{word_at}
 use Rattle.fkv_plane.specs.Places.{shared_place}

@@ -3,7 +3,7 @@ use Rattle.std.specs.Prelude.{ℕ, List, length}
 use Rattle.fkv_core.specs.Openings.{IsOpeningWorld, newest_commit}
 use Rattle.fkv_opening.specs.Opened.{IsStoreOf}
 use Rattle.fkv_opening.specs.declared.opened_store.Opened.{Opened}
-use Rattle.fkv_standing.specs.Opening.{IsBehind}
+use Rattle.law_world.specs.Standing.Opening.{IsBehind}
 use Rattle.fkv_world.specs.World.{Now}
 
 -- These bytes hold the store, and this is its world. They end behind the two slots and behind the triples of the checkpoint that the newest commit uses:

@@ -5,9 +5,9 @@ use Rattle.fkv_core.specs.Openings.{beginning}
 use Rattle.fkv_core.specs.declared.events.Told.{Told}
 use Rattle.fkv_disk.specs.Device.{LeavesOnly}
 use Rattle.fkv_opening.specs.declared.opened_store.Opened.{Opened}
-use Rattle.fkv_standing.specs.Opening.{AreNumbersInTurn}
-use Rattle.fkv_standing.specs.Standing.{IsOneInForce, TriplesStand}
-use Rattle.fkv_world.specs.Keepers.{is_life_writing, life_standing, life_writing}
+use Rattle.law_world.specs.Standing.Opening.{AreNumbersInTurn}
+use Rattle.law_world.specs.Standing.Standing.{IsOneInForce, TriplesStand}
+use Rattle.law_world.specs.Keeper.Lives.{is_life_writing, life_standing, life_writing}
 use Rattle.fkv_world.specs.OwnEvents.{keeper_events}
 use Rattle.fkv_world.specs.Runs.{World, run}
 use Rattle.fkv_world.specs.World.{Event, Now}

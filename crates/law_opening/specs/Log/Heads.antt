@@ -6,8 +6,8 @@ use Rattle.fkv_index.specs.IndexWorld.{new_entry}
 use Rattle.fkv_index.specs.OneEntry.{IsHome}
 use Rattle.fkv_index.specs.declared.homes.Home.{Home}
 use Rattle.fkv_opening.specs.declared.opened_store.Opened.{Opened}
-use Rattle.fkv_order.specs.Chains.{head_of}
-use Rattle.fkv_order.specs.Ghosts.{Log}
+use Rattle.law_log.specs.Chains.{head_of}
+use Rattle.law_log.specs.Ghosts.{Log}
 use Rattle.fkv_world.specs.World.{Now}
 use Rattle.law_refine.specs.Events.GhostEvents.{home_number}
 

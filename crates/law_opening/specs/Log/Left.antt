@@ -1,8 +1,8 @@
 -- What the scan of an opened store met, and its log doesn't have.
 use Rattle.std.specs.Prelude.{◌≡◌, ◌↔◌, ℕ, ◌<◌, ◌≤◌, false}
 use Rattle.fkv_opening.specs.declared.opened_store.Opened.{Opened}
-use Rattle.fkv_order.specs.Ghosts.{Log}
-use Rattle.fkv_order.specs.Trace.{IsIn}
+use Rattle.law_log.specs.Ghosts.{Log}
+use Rattle.law_log.specs.Trace.{IsIn}
 use Rattle.fkv_record.specs.declared.records.Record.{Record}
 use Rattle.fkv_scan.specs.Log as scan
 use Rattle.fkv_scan.specs.Log.{record_home}

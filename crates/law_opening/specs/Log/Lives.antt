@@ -2,9 +2,9 @@
 use Rattle.std.specs.Prelude.{◌≡◌, ℕ, List}
 use Rattle.fkv_map.specs.Map.{Map}
 use Rattle.fkv_opening.specs.declared.opened_store.Opened.{Opened}
-use Rattle.fkv_order.specs.Ghosts.{Ghosts}
-use Rattle.fkv_order.specs.Laws.{CallsAreOrdered, ChainsShowContent, HistoryIsLegal, NewestShowsContent, ReadsGiveContent, VersionsAreLegal, VersionsInOrder}
-use Rattle.fkv_order.specs.Owed.{AreOwed}
+use Rattle.law_log.specs.Ghosts.{Ghosts}
+use Rattle.law_log.specs.Laws.{CallsAreOrdered, ChainsShowContent, HistoryIsLegal, NewestShowsContent, ReadsGiveContent, VersionsAreLegal, VersionsInOrder}
+use Rattle.law_log.specs.Owed.{AreOwed}
 use Rattle.fkv_core.specs.Openings.{beginning}
 use Rattle.fkv_world.specs.Runs.{run}
 use Rattle.fkv_world.specs.World.{Event, Now}

@@ -6,8 +6,8 @@ use Rattle.fkv_entries.specs.declared.home_entries.HomeEntry.{HomeEntry}
 use Rattle.fkv_opening.specs.Entries.{entry_home}
 use Rattle.fkv_opening.specs.declared.opened_store.Opened.{Opened}
 use Rattle.fkv_ops.specs.Values.{value_of}
-use Rattle.fkv_order.specs.Chains.{Cell, Logged, Unborn, Published}
-use Rattle.fkv_order.specs.Ghosts.{Log, Ghosts, NotCalled}
+use Rattle.law_log.specs.Chains.{Cell, Logged, Unborn, Published}
+use Rattle.law_log.specs.Ghosts.{Log, Ghosts, NotCalled}
 use Rattle.fkv_record.specs.Places.{number_at, record_place}
 use Rattle.law_refine.specs.Events.GhostEvents.{home_in}
 

@@ -5,9 +5,9 @@ use Rattle.fkv_base.specs.declared.numbers.Value.{Value}
 use Rattle.fkv_chains.specs.Entries.{Counts}
 use Rattle.fkv_map.specs.Map.{Map, as_numbers}
 use Rattle.fkv_ops.specs.Values.{value_of}
-use Rattle.fkv_order.specs.Chains.{Cell, Published}
-use Rattle.fkv_order.specs.Ghosts.{Log}
-use Rattle.fkv_order.specs.Trace.{IsIn}
+use Rattle.law_log.specs.Chains.{Cell, Published}
+use Rattle.law_log.specs.Ghosts.{Log}
+use Rattle.law_log.specs.Trace.{IsIn}
 use Rattle.fkv_pairs.specs.Pairs.{CountsAtHome}
 use Rattle.fkv_record.specs.declared.records.Record.{Record}
 use Rattle.fkv_scan.specs.Log as scan

@@ -29,7 +29,8 @@ use Rattle.fkv_world.specs.Actors.{is_of_session, session_goes}
 use Rattle.fkv_world.specs.Moves.{session_moved}
 use Rattle.fkv_world.specs.Runs.{World, read_by_keeper, happens, run}
 use Rattle.fkv_world.specs.World.{Event, Calls, Moves, Now, seat_at, near, session_called}
-use Rattle.fkv_world.proofs.Shown.{is_over, no_session, same_seat, session_apart, session_written}
+use Rattle.fkv_world.proofs.Shown.{is_over, same_seat, session_apart, session_written}
+use Rattle.law_world.proofs.OfRuns.Nothing.{no_session}
 use Rattle.law_guard.specs.Guarded.Shows as guard
 use Rattle.law_parts.specs.Mail.MailEvents.{begins, changed_by, asked_by, own_events, begun_events, called_events, moved_events, life_events, mapped}
 use Rattle.law_parts.specs.Mail.Mailers.{session_mailing, IsAsFar}

@@ -2,7 +2,7 @@
 use Rattle.std.specs.Prelude.{ℕ, [], List}
 use Rattle.fkv_base.specs.declared.numbers.Version.{Version}
 use Rattle.fkv_map.specs.Map.{Map}
-use Rattle.fkv_order.specs.Ghosts.{Ghosts}
+use Rattle.law_log.specs.Ghosts.{Ghosts}
 use Rattle.law_local.proofs.OfSessions.Known.{opened_known}
 use Rattle.law_local.specs.Tries.AttemptRows.{AttemptKnows, PendingKnows}
 use Rattle.fkv_world.specs.Runs.{World, run}

@@ -3,14 +3,15 @@ use Rattle.std.proofs.Common.{◌≡◌, ℕ, zero, suc, ◌<◌, ◌∙◌, Lis
 use Rattle.std.specs.Prelude.{Some, slice_get}
 use Rattle.fkv_base.specs.declared.numbers.Version.{Version}
 use Rattle.fkv_map.specs.Map.{Map}
-use Rattle.fkv_order.specs.Ghosts.{Ghosts}
+use Rattle.law_log.specs.Ghosts.{Ghosts}
 use Rattle.fkv_plane.specs.declared.places.Places.{Places}
 use Rattle.fkv_session.specs.Sessions.{SessionState}
 use Rattle.fkv_world.specs.Opened.{HasBecome, IsOpenedWorld}
 use Rattle.fkv_world.specs.OwnEvents.{session_events}
 use Rattle.fkv_world.specs.Runs.{World, run}
 use Rattle.fkv_world.specs.World.{Event, seat_at}
-use Rattle.fkv_world.proofs.Shown.{of_run, opened_so, places_stay}
+use Rattle.law_world.proofs.OfSessions.OwnRun.{of_run, opened_so}
+use Rattle.fkv_world.proofs.Shown.{places_stay}
 use Rattle.law_guard.specs.Guarded.Shows.{IsOpened}
 use Rattle.law_guard.proofs.OfGuarded.Worlds.{life_shows}
 use Rattle.law_order.specs.Known.Begins.{BeginsLife}

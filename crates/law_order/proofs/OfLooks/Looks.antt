@@ -9,9 +9,9 @@ use Rattle.fkv_map.specs.Map.{Map}
 use Rattle.fkv_ops.specs.declared.answers.DiskRecord.{DiskRecord}
 use Rattle.fkv_ops.specs.declared.answers.TryAnswer.{TryAnswer}
 use Rattle.fkv_ops.specs.declared.answers.TryAnswer.TheVariants.{Shift}
-use Rattle.fkv_order.specs.Chains.{Cell, Logged, Published}
-use Rattle.fkv_order.specs.Ghosts.{Ghosts, Log}
-use Rattle.fkv_order.specs.Owed.{AreOwed}
+use Rattle.law_log.specs.Chains.{Cell, Logged, Published}
+use Rattle.law_log.specs.Ghosts.{Ghosts, Log}
+use Rattle.law_log.specs.Owed.{AreOwed}
 use Rattle.fkv_pending.specs.declared.attempting.Attempting.{Attempting}
 use Rattle.fkv_pending.specs.declared.attempting.Attempting.TheVariants.{Looks}
 use Rattle.fkv_pending.specs.declared.mailing.MailRecord.{MailRecord}

@@ -9,10 +9,10 @@ use Rattle.fkv_index.specs.Slots.{entry_addr}
 use Rattle.fkv_map.specs.Map.{Map}
 use Rattle.fkv_ops.specs.declared.answers.DiskRecord.{DiskRecord}
 use Rattle.fkv_ops.specs.declared.requests.Seen.{Seen}
-use Rattle.fkv_order.specs.Chains.{Cell, IsWithin, Published}
-use Rattle.fkv_order.specs.Ghosts.{Ghosts, Log}
-use Rattle.fkv_order.specs.Owed.{AreChains, AreOwed}
-use Rattle.fkv_order.proofs.Shown.{run_held}
+use Rattle.law_log.specs.Chains.{Cell, IsWithin, Published}
+use Rattle.law_log.specs.Ghosts.{Ghosts, Log}
+use Rattle.law_log.specs.Owed.{AreChains, AreOwed}
+use Rattle.law_log.proofs.Shown.{run_held}
 use Rattle.fkv_pending.specs.declared.attempting.Attempting.TheVariants.{Puts}
 use Rattle.fkv_pending.specs.declared.mailing.MailTask.{MailTask}
 use Rattle.fkv_pending.specs.declared.mailing.MailTask.TheVariants.{Put}
@@ -38,7 +38,7 @@ use Rattle.law_order.specs.Rest.Resting.{HasNoCommit}
 use Rattle.law_order.proofs.OfServed.Device.{flushed_fixed}
 use Rattle.law_order.proofs.OfServed.Later.{life_owed_before, life_stays}
 use Rattle.law_order.proofs.OfTruth.Attempts.{attempting_is, life_seen}
-use Rattle.law_order.proofs.OfTruth.Truth.{known_now}
+use Rattle.law_order.proofs.OfKnown.Newest.{known_now}
 use Rattle.law_order.specs.Asked.Asked.{AsksForSought, outstanding}
 use Rattle.law_order.proofs.OfLooks.Heads.{head_flushed}
 use Rattle.law_order.proofs.OfLooks.LifeAsks.{IsAboutToAsk, was_or_comes}

@@ -8,7 +8,7 @@ use Rattle.fkv_opening.specs.Opened.{IsStoreOf}
 use Rattle.fkv_opening.specs.declared.opened_store.Opened.{Opened}
 use Rattle.law_opening.specs.Log.Maps.{opening_map}
 use Rattle.law_opening.specs.Log.OpeningLog.{opening_ghosts}
-use Rattle.fkv_order.specs.Ghosts.{Ghosts}
+use Rattle.law_log.specs.Ghosts.{Ghosts}
 use Rattle.law_order.specs.Rules.Ordered.{OfEachKept, opening_version}
 use Rattle.fkv_world.specs.Runs.{World}
 use Rattle.fkv_world.specs.World.{Event, Now}

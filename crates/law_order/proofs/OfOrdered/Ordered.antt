@@ -2,8 +2,8 @@
 use Rattle.std.proofs.Common.{◌≡◌, ℕ, refl, sym, subst, Bool, true, false, List, [], ◌∷◌}
 use Rattle.fkv_base.specs.declared.numbers.Version.{Version}
 use Rattle.fkv_map.specs.Map.{Map}
-use Rattle.fkv_order.specs.Ghosts.{Ghosts}
-use Rattle.fkv_order.specs.Owed.{AreOwed}
+use Rattle.law_log.specs.Ghosts.{Ghosts}
+use Rattle.law_log.specs.Owed.{AreOwed}
 use Rattle.fkv_world.specs.Runs.{World, run}
 use Rattle.fkv_world.specs.World.{Event}
 use Rattle.law_refine.specs.Calls.Calls.{event_adds}
@@ -58,7 +58,7 @@ module _ (calls : CallsLaw) (words : WordsLaw) (opening : World) (start : ℕ) (
   told_truly : (before : List Event) → HasNoCommit before → CallsFit before → KeepsOrder opening ghosts before → AreToldTruly H (life_ghosts opening ghosts before).log (run opening before).now
   told_truly before none fits its =
       let served : ServedShow opening ghosts before = served_show calls words opening start lists version m number ghosts before begins cells fits its.owed its.published in
-      words_true opening start lists version m number ghosts before begins none its.owed its.published its.known
+      words_true opening start lists version m number ghosts before begins its.owed its.published its.known
       (looks_true opening start lists version m number ghosts before begins none its.owed its.published its.known served)
 
   -- All that the event is to the log is owed: what its session does there, and the lines that it tells. After a crash it is nothing.
@@ -67,12 +67,12 @@ module _ (calls : CallsLaw) (words : WordsLaw) (opening : World) (start : ℕ) (
   event_owed before event none apart its truly published = by_crash (run opening before).now.crashed refl
     where
       answered : EachAnswered H (acted_ghosts opening ghosts before event) (event_adds opening before event)
-      answered = answers_owed opening start lists version m number ghosts before event begins none its.owed its.published its.known apart truly its.reads
+      answered = answers_owed opening start lists version m number ghosts before event begins its.owed its.known apart truly its.reads
 
       by_crash : (crashed : Bool) → (run opening before).now.crashed ≡ crashed → AreOwed H ghosts (mapped opening (event ∷ before))
       by_crash true over = subst (AreOwed H ghosts) (sym (mapped_crashed opening before event over)) its.owed
       by_crash false alive =
-          lines_owed opening start lists version m number ghosts before event begins none its.owed published
+          lines_owed opening start lists version m number ghosts before event begins its.owed published
           (own_owed opening start lists version m number ghosts before event begins none its.owed its.published its.known truly alive)
           answered
 
@@ -86,7 +86,7 @@ module _ (calls : CallsLaw) (words : WordsLaw) (opening : World) (start : ℕ) (
         owed = owed;
         published = published;
         known = known_on opening ghosts before event its.known (rows_go_on opening start lists version m number ghosts before event begins none owed its.known truly);
-        reads = reads_go_on opening start lists version m number ghosts before event begins none its.owed its.published its.known apart truly its.reads owed;
+        reads = reads_go_on opening start lists version m number ghosts before event begins its.owed its.known apart truly its.reads owed;
       }
 
   pub life_goes : (events : List Event) → HasNoCommit events → CallsFit events → TicketsAreApart opening events → KeepsOrder opening ghosts events

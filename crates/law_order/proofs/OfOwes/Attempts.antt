@@ -12,7 +12,9 @@ use Rattle.fkv_world.specs.Opened.{HasBecome, IsOpenedWorld}
 use Rattle.fkv_world.specs.OwnEvents.{session_events}
 use Rattle.fkv_world.specs.Runs.{World, happens, run}
 use Rattle.fkv_world.specs.World.{Event, Calls, Moves, Commits, Turns, KeeperMoves, Crashes, seat_at}
-use Rattle.fkv_world.proofs.Shown.{no_session, of_run, opened_so, session_apart}
+use Rattle.law_world.proofs.OfRuns.Nothing.{no_session}
+use Rattle.law_world.proofs.OfSessions.OwnRun.{of_run, opened_so}
+use Rattle.fkv_world.proofs.Shown.{session_apart}
 
 -- a session that isn't there never comes
 none_after : (w : World) (event : Event) (session : ℕ) (mine : Bool) → is_of_session session event ≡ mine → slice_get w.now.sessions session ≡ None → slice_get (happens w event).now.sessions session ≡ None

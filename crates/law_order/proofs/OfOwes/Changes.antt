@@ -1,5 +1,5 @@
 -- What a session is about to change in place is published: its try has found the record.
-use Rattle.std.proofs.Common.{◌≡◌, ℕ, List, [], ◌∷◌, refl, sym, subst, true}
+use Rattle.std.proofs.Common.{◌≡◌, ℕ, List, refl, sym, subst, true}
 use Rattle.std.specs.Prelude.{Option, Some, None, slice_get}
 use Rattle.fkv_base.specs.declared.numbers.Version.{Version}
 use Rattle.fkv_epoch.proofs.Shown.{none_some, some_same}
@@ -8,8 +8,8 @@ use Rattle.fkv_map.specs.Map.{Map}
 use Rattle.fkv_ops.specs.declared.trying.Trying.{Trying}
 use Rattle.fkv_ops.specs.declared.trying.Trying.TheVariants.{SwapsValue, ChangesValue}
 use Rattle.fkv_ops.specs.Trying.{TryState}
-use Rattle.fkv_order.specs.Chains.{Cell, Published}
-use Rattle.fkv_order.specs.Ghosts.{Log, Ghosts}
+use Rattle.law_log.specs.Chains.{Cell, Published}
+use Rattle.law_log.specs.Ghosts.{Log, Ghosts}
 use Rattle.fkv_pending.specs.declared.attempting.Attempting.{Attempting}
 use Rattle.fkv_pending.specs.declared.attempting.Attempting.TheVariants.{Tries}
 use Rattle.fkv_pending.specs.Attempting.{AttemptState}
@@ -25,13 +25,8 @@ use Rattle.law_refine.specs.Events.GhostEvents.{life_ghosts}
 use Rattle.law_refine.specs.Events.Published.{IsPublished}
 use Rattle.law_refine.specs.Records.Changes.{ChangesPublished, SessionChangesPublished}
 use Rattle.law_order.specs.Known.Begins.{BeginsLife, home_of_world}
-use Rattle.law_order.specs.Known.Knows.{AllKnowBehind, AreKnown, SessionKnows}
-
--- what is known at each moment is known at the last one
-pub known_now : (opening : World) (ghosts : Ghosts) (events : List Event) → AreKnown opening ghosts events → AllKnowBehind opening ghosts events
-unfolding AreKnown
-known_now opening ghosts [] known = known
-known_now opening ghosts (event ∷ before) known = known.1
+use Rattle.law_order.specs.Known.Knows.{AreKnown, SessionKnows}
+use Rattle.law_order.proofs.OfKnown.Newest.{known_now}
 
 -- ---- by the control state
 found_published : (log : Log) (at a : ℕ) (cell : Cell) → log.cells at ≡ Published cell → Some at ≡ Some a → IsPublished (log.cells a)

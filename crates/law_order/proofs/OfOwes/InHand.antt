@@ -4,14 +4,14 @@ use Rattle.std.specs.Prelude.{Option, Some}
 use Rattle.fkv_base.specs.declared.numbers.Version.{Version}
 use Rattle.fkv_map.specs.declared.history.HistoryEntry.{HistoryEntry}
 use Rattle.fkv_map.specs.Map.{Map}
-use Rattle.fkv_order.specs.Ghosts.{Ghosts}
-use Rattle.fkv_order.specs.Owed.{IsInHand}
-use Rattle.fkv_order.specs.Trace.{TraceLine, called_as, Effect as LogEffect}
-use Rattle.fkv_world.specs.Added.{IsEffectOf, IsHistoryAfter}
+use Rattle.law_log.specs.Ghosts.{Ghosts}
+use Rattle.law_log.specs.Owed.{IsInHand}
+use Rattle.law_log.specs.Trace.{TraceLine, called_as, Effect as LogEffect}
+use Rattle.law_world.specs.Runs.Added.{IsEffectOf, IsHistoryAfter}
 use Rattle.fkv_world.specs.Past.{Effect, effect_made}
 use Rattle.fkv_world.specs.Runs.{World, happens, run}
 use Rattle.fkv_world.specs.World.{Event}
-use Rattle.fkv_world.proofs.Shown.{history_so}
+use Rattle.law_world.proofs.OfRuns.Added.{history_so}
 use Rattle.law_refine.specs.Calls.Calls.{IsUpdateInHand, effects_of_life, entries_of, lines_of_life}
 use Rattle.law_refine.proofs.OfCalls.InHand.{effect_in_hand}
 use Rattle.law_refine.proofs.OfCalls.LifeHistory.{life_entries}

@@ -6,9 +6,9 @@ use Rattle.fkv_epoch.proofs.Shown.{none_some}
 use Rattle.fkv_map.specs.Map.{Map}
 use Rattle.fkv_ops.specs.declared.requests.Request.{Request}
 use Rattle.fkv_ops.specs.declared.requests.Seen.{Seen}
-use Rattle.fkv_order.specs.Ghosts.{Log, Ghosts, GhostEvent, Fixes, Tells}
-use Rattle.fkv_order.specs.Owed.{AreOwed, NoneAbove, NoneCopies}
-use Rattle.fkv_order.specs.Trace.{TraceLine}
+use Rattle.law_log.specs.Ghosts.{Log, Ghosts, GhostEvent, Fixes, Tells}
+use Rattle.law_log.specs.Owed.{AreOwed, NoneAbove, NoneCopies}
+use Rattle.law_log.specs.Trace.{TraceLine}
 use Rattle.fkv_plane.specs.declared.asks.Ask.{Ask}
 use Rattle.fkv_plane.specs.declared.asks.Ask.TheVariants.{Put, Take, Done}
 use Rattle.fkv_plane.specs.Asked.{asked, asked_place, reply_to, word_found}
@@ -49,7 +49,7 @@ use Rattle.law_order.proofs.OfRest.Lives.{life_cells}
 use Rattle.law_order.proofs.OfRest.Worlds.{life_rests}
 use Rattle.law_order.proofs.OfRest.Cells.{none_above, none_above_reserved, none_copies}
 use Rattle.law_order.proofs.OfOwes.Attempts.{life_attempts}
-use Rattle.law_order.proofs.OfOwes.Changes.{known_now}
+use Rattle.law_order.proofs.OfKnown.Newest.{known_now}
 use Rattle.law_order.proofs.OfOwes.InHand.{made_in_hand}
 use Rattle.law_order.proofs.OfOwes.Ready.{AllTakeOwed, AllTakeUnborn, behind_owed, meets_then, takes_owed, takes_unborn}
 use Rattle.law_order.proofs.OfOwes.Tries.{sitting_owed}

@@ -2,9 +2,9 @@
 use Rattle.std.proofs.Common.{◌≡◌, ℕ, List, [], ◌∷◌, ◌++◌, refl, ap, sym, subst}
 use Rattle.std.specs.Prelude.{⊤, Option, Some}
 use Rattle.fkv_map.specs.declared.history.HistoryEntry.{HistoryEntry}
-use Rattle.fkv_order.specs.Chains.{Cell, Unborn, Reserved as HoldsReserved}
-use Rattle.fkv_order.specs.Ghosts.{Log, Ghosts, GhostEvent, Reserves, Publishes, Changes, ghosts_after, ghost_run}
-use Rattle.fkv_order.specs.Owed.{IsInHand, NoneAbove, OwesPublish}
+use Rattle.law_log.specs.Chains.{Cell, Unborn, Reserved as HoldsReserved}
+use Rattle.law_log.specs.Ghosts.{Log, Ghosts, GhostEvent, Reserves, Publishes, Changes, ghosts_after, ghost_run}
+use Rattle.law_log.specs.Owed.{IsInHand, NoneAbove, OwesPublish}
 use Rattle.law_refine.specs.Heads.Heads.{AllMeetHeads, IsAtHead, meets_head}
 use Rattle.law_refine.specs.Events.Effects.{AreQuiet, Behind, ByRecord, InPlace, Quietly, Stepped, TakesEffect, is_quiet}
 use Rattle.law_refine.specs.Events.Reservations as moved

@@ -36,8 +36,8 @@ use Rattle.fkv_ops.specs.Appending.{AppendState}
 use Rattle.fkv_ops.specs.Trying.{TryState}
 use Rattle.fkv_ops.specs.Values.{value_of}
 use Rattle.fkv_ops.specs.Walking.{WalkState}
-use Rattle.fkv_order.specs.Ghosts.{Ghosts, GhostEvent, Reserves, Drops, Changes, ghost_run}
-use Rattle.fkv_order.specs.Owed.{AreOwed, IsInHand, IsMade, OwesChange}
+use Rattle.law_log.specs.Ghosts.{Ghosts, GhostEvent, Reserves, Drops, Changes, ghost_run}
+use Rattle.law_log.specs.Owed.{AreOwed, IsInHand, IsMade, OwesChange}
 use Rattle.fkv_pending.specs.declared.attempting.Attempting.{Attempting}
 use Rattle.fkv_pending.specs.declared.attempting.Attempting.TheVariants.{Tries}
 use Rattle.fkv_pending.specs.declared.pending_requests.PendingRequest.{PendingRequest}

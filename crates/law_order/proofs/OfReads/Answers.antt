@@ -8,9 +8,9 @@ use Rattle.fkv_map.specs.declared.operations.Op.TheVariants as op
 use Rattle.fkv_base.specs.declared.numbers.Value.{Value}
 use Rattle.fkv_map.specs.Keys.{key_of, as_number}
 use Rattle.fkv_map.specs.Map.{reply_to_read}
-use Rattle.fkv_order.specs.Ghosts.{Ghosts, Tells, Reading, ghosts_after, ghost_run}
-use Rattle.fkv_order.specs.Trace.{TraceLine, GivesResult, CallsRead, AnswersRead}
-use Rattle.fkv_order.proofs.Shown.{set_else}
+use Rattle.law_log.specs.Ghosts.{Ghosts, Tells, Reading, ghosts_after, ghost_run}
+use Rattle.law_log.specs.Trace.{TraceLine, GivesResult, CallsRead, AnswersRead}
+use Rattle.law_log.proofs.Shown.{set_else}
 use Rattle.fkv_pending.specs.declared.pending_requests.PendingRequest.{PendingRequest}
 use Rattle.fkv_pending.specs.Attempting.{AttemptState, is_poll}
 use Rattle.fkv_session.specs.declared.answers.Finished.{Finished}
@@ -25,7 +25,7 @@ use Rattle.fkv_session.specs.SessionRun.{telling, with_finished}
 use Rattle.fkv_session.specs.Sessions.{SessionState, is_busy}
 use Rattle.law_local.specs.Tries.ReadRows.{IsCalledFor, HasRead, SoughtReads, AttemptReads}
 use Rattle.law_local.specs.Tries.TryRows.{key_in}
-use Rattle.fkv_world.specs.Added.{call_answered, told_at}
+use Rattle.law_world.specs.Runs.Added.{call_answered, told_at}
 use Rattle.fkv_world.specs.Past.{Traced, Answered}
 use Rattle.law_order.specs.Known.Answered.{EachAnswered}
 use Rattle.law_refine.specs.Events.Lines.{CallMade, read_in_hand, read_waiting, is_ticket, gives_ticket, read_reply, next_serial, last_call, refused_call, refused_lines, finished_line, finished_lines, answer_lines}

@@ -18,7 +18,7 @@ use Rattle.fkv_epoch.specs.Leaving.{leave_ask, leave_next}
 use Rattle.fkv_latch.specs.declared.latching.LatchAnswer.{LatchAnswer}
 use Rattle.fkv_latch.specs.declared.latching.LatchAnswer.TheVariants.{Taken as LatchTaken}
 use Rattle.fkv_latch.specs.Latching.{latch_next_ask}
-use Rattle.fkv_order.specs.Ghosts.{Reading}
+use Rattle.law_log.specs.Ghosts.{Reading}
 use Rattle.fkv_ops.specs.declared.answers.DiskRecord.{DiskRecord}
 use Rattle.fkv_ops.specs.declared.answers.Reason.{Reason}
 use Rattle.fkv_ops.specs.declared.answers.Reason.TheVariants as reason

@@ -9,12 +9,13 @@ use Rattle.fkv_session.specs.declared.sessions.Sitting.{Sitting}
 use Rattle.fkv_session.specs.declared.sessions.Sitting.TheVariants.{Idle}
 use Rattle.fkv_session.specs.SessionRun.{telling}
 use Rattle.fkv_session.specs.Sessions.{SessionState, is_busy, session_begun}
-use Rattle.fkv_world.specs.Added.{call_answered, told_at, told_by}
+use Rattle.law_world.specs.Runs.Added.{call_answered, told_at, told_by}
 use Rattle.fkv_world.specs.Opened.{IsOpenedWorld}
 use Rattle.fkv_world.specs.Past.{Traced, TraceEvent, Called, Answered}
 use Rattle.fkv_world.specs.Runs.{World, happens, run}
 use Rattle.fkv_world.specs.World.{Event, seat_at}
-use Rattle.fkv_world.proofs.Shown.{is_over, trace_so}
+use Rattle.fkv_world.proofs.Shown.{is_over}
+use Rattle.law_world.proofs.OfRuns.Added.{trace_so}
 use Rattle.law_refine.specs.Events.Lines.{read_in_hand, read_waiting}
 use Rattle.law_order.specs.Reads.Reads.{is_given}
 use Rattle.law_order.proofs.OfReads.Numbers.{Numbered, none_numbered, is_other, other_given, other_waiting, other_hand, other_numbered, with_called, called_numbered, answered_numbered}

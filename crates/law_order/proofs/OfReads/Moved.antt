@@ -5,7 +5,7 @@ use Rattle.std.proofs.lemmas.Option.{slice_get-map}
 use Rattle.std.specs.Option.{option_map}
 use Rattle.fkv_map.specs.declared.operations.Op.{Op}
 use Rattle.fkv_map.specs.Keys.{key_of, as_number}
-use Rattle.fkv_order.specs.Ghosts.{Ghosts, GhostEvent, Reading, ghost_run}
+use Rattle.law_log.specs.Ghosts.{Ghosts, GhostEvent, Reading, ghost_run}
 use Rattle.fkv_plane.specs.declared.asks.Ask.TheVariants.{Done}
 use Rattle.fkv_plane.specs.Passing.{is_done}
 use Rattle.fkv_ops.specs.declared.answers.DiskRecord.{DiskRecord}

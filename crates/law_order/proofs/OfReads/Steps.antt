@@ -1,7 +1,7 @@
 -- A step of a session, with the drain slot that it turns to behind it, leaves its reads as far as its control state says.
 use Rattle.std.proofs.Common.{◌≡◌, ℕ, zero, suc, ◌∙◌, refl, sym, ap, subst, Bool, true, false, List, [], ◌∷◌, ◌++◌}
 use Rattle.std.specs.Prelude.{Option, Some, None}
-use Rattle.fkv_order.specs.Ghosts.{Ghosts, GhostEvent, Tells, FindsEntry, TakesValue, ghost_run}
+use Rattle.law_log.specs.Ghosts.{Ghosts, GhostEvent, Tells, FindsEntry, TakesValue, ghost_run}
 use Rattle.fkv_plane.specs.declared.actions.Action.{Action}
 use Rattle.fkv_plane.specs.declared.asks.Ask.{Ask}
 use Rattle.fkv_plane.specs.declared.asks.Ask.TheVariants.{Put, Take, Done}
@@ -35,7 +35,7 @@ use Rattle.law_refine.specs.Events.Sessions.{attempt_ghosts, ticket_of, sitting_
 use Rattle.law_order.specs.Reads.Reads.{SessionReadings, readings_of, SitsReads}
 use Rattle.law_order.proofs.OfReads.Coming.{AllNamed, ComesTo, Comes, IsFreshly, MovedSo, next_comes, given_comes}
 use Rattle.law_order.proofs.OfReads.Moved.{call_moves, poll_moves}
-use Rattle.law_order.proofs.OfReads.NoSlots.{IsOffSlots, passed_off, attempt_off_slots}
+use Rattle.law_world.proofs.OfRuns.NoSlots.{IsOffSlots, passed_off, attempt_off_slots}
 use Rattle.law_order.proofs.OfReads.Numbers.{IsOwn, Numbered}
 use Rattle.law_order.proofs.OfReads.ReadEnds.{passed_done}
 use Rattle.law_order.proofs.OfReads.Touched.{touches, AllTouch, IsItsRead, attempt_touch}

@@ -4,8 +4,8 @@ use Rattle.std.specs.Prelude.{⊤, ◌==◌, if◌then◌else◌, Option}
 use Rattle.fkv_map.specs.declared.history.HistoryEntry.{HistoryEntry}
 use Rattle.fkv_map.specs.declared.operations.Op.{Op}
 use Rattle.fkv_map.specs.declared.operations.Op.TheVariants.{Read}
-use Rattle.fkv_order.specs.Ghosts.{Ghosts, GhostEvent, Tells, FindsEntry, TakesValue, Log, Reading, found, took, set_at, ghosts_after, ghost_run}
-use Rattle.fkv_order.proofs.Shown.{set_there, set_else, at_one}
+use Rattle.law_log.specs.Ghosts.{Ghosts, GhostEvent, Tells, FindsEntry, TakesValue, Log, Reading, found, took, set_at, ghosts_after, ghost_run}
+use Rattle.law_log.proofs.Shown.{set_there, set_else, at_one}
 use Rattle.fkv_plane.specs.declared.asks.Ask.{Ask}
 use Rattle.fkv_plane.specs.declared.asks.Ask.TheVariants.{Done}
 use Rattle.fkv_plane.specs.declared.places.Places.{Places}

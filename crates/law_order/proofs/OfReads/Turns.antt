@@ -15,12 +15,13 @@ use Rattle.fkv_session.specs.declared.sessions.Sitting.TheVariants.{Idle}
 use Rattle.fkv_session.specs.SessionRun.{session_run}
 use Rattle.fkv_session.specs.Sessions.{SessionState, Seat, is_busy, session_ask, sitting_ask, session_begun}
 use Rattle.fkv_world.specs.Actors.{is_of_session, session_goes}
-use Rattle.fkv_world.specs.Added.{call_begun, begun_by, call_answered, session_answered, keeper_told, is_calling, ended_by, told_by}
+use Rattle.law_world.specs.Runs.Added.{call_begun, begun_by, call_answered, session_answered, keeper_told, is_calling, ended_by, told_by}
 use Rattle.fkv_world.specs.OwnEvents.{session_steps, session_part, session_part_of}
 use Rattle.fkv_world.specs.Past.{TraceEvent, Called, Answered, CommitAsked, TurnAsked}
 use Rattle.fkv_world.specs.Runs.{World, happens}
 use Rattle.fkv_world.specs.World.{Event, Calls, Moves, Commits, Turns, KeeperMoves, Crashes, seat_at, near}
-use Rattle.fkv_world.proofs.Shown.{happens_session, in_hand as busy_stays, no_session, none_in_hand, session_apart, session_written}
+use Rattle.fkv_world.proofs.Shown.{happens_session, session_apart, session_written}
+use Rattle.law_world.proofs.OfRuns.Nothing.{in_hand as busy_stays, no_session, none_in_hand}
 use Rattle.law_refine.specs.Events.GhostEvents.{moved_ghosts, own_ghosts}
 use Rattle.law_refine.specs.Events.Sessions.{step_ghosts}
 

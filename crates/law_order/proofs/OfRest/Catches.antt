@@ -29,7 +29,7 @@ use Rattle.fkv_pending.specs.Pending.{is_unlatched}
 use Rattle.fkv_session.specs.declared.catching_up.Catching.{Catching}
 use Rattle.fkv_session.specs.declared.catching_up.Catching.TheVariants.{Ended, Refreshes, Protects, StoresCut, StoresOwing, Latches, Finishes}
 use Rattle.fkv_session.specs.CatchingUp.{CatchState, catching_ask, catching_next, catching_requests, cuts, enters_prepare, finish_ledto, finishes, is_same_version, latch_wanted, protect_ledto, refresh_ledto, seen_after, takes_up}
-use Rattle.fkv_world_prefix.specs.Views.{is_at_phase, loads_phase, wakes_at_phase}
+use Rattle.law_commit.specs.Views.{is_at_phase, loads_phase, wakes_at_phase}
 use Rattle.law_order.specs.Rest.Machines.{AreOfVersion, CatchRests, CatchesAtRest, ProtectLoads, RefreshLoads}
 use Rattle.law_order.specs.Rest.Resting.{HasSeenRest, SaysRest}
 use Rattle.law_order.proofs.OfRest.Asks.{AskRests, passed_rests, protect_rests, refresh_rests}

@@ -1,10 +1,10 @@
 -- A log in which addresses are taken for records of one version alone.
 use Rattle.std.proofs.Common.{◌≡◌, ℕ, ◌≤◌, List, [], ◌∷◌, refl, arith, sym, subst, inl, inr}
 use Rattle.fkv_map.specs.declared.history.HistoryEntry.{HistoryEntry}
-use Rattle.fkv_order.specs.Chains.{Cell, Logged, Unborn, Reserved, Published, Dropped, version_at}
-use Rattle.fkv_order.specs.Ghosts.{Log, Ghosts, GhostEvent, Tells, FindsEntry, TakesValue, Reserves, Publishes, Drops, Changes, Fixes, set_at, changed, changed_by, dropped, published, log_after, ghosts_after, ghost_run}
-use Rattle.fkv_order.specs.Owed.{NoneAbove, NoneCopies}
-use Rattle.fkv_order.proofs.Shown.{at_one}
+use Rattle.law_log.specs.Chains.{Cell, Logged, Unborn, Reserved, Published, Dropped, version_at}
+use Rattle.law_log.specs.Ghosts.{Log, Ghosts, GhostEvent, Tells, FindsEntry, TakesValue, Reserves, Publishes, Drops, Changes, Fixes, set_at, changed, changed_by, dropped, published, log_after, ghosts_after, ghost_run}
+use Rattle.law_log.specs.Owed.{NoneAbove, NoneCopies}
+use Rattle.law_log.proofs.Shown.{at_one}
 use Rattle.law_order.specs.Rest.Logs.{AllReserveOf, CellsRest, CellsSince, LoggedRests, LoggedSince, ReservesOf, WasOf}
 
 module _ (version : ℕ) (before : ℕ → Logged) where

@@ -1,7 +1,7 @@
 -- The log beside a life of a store at rest, at every moment of it.
 use Rattle.std.proofs.Common.{◌≡◌, ℕ, List, ◌++◌, subst}
 use Rattle.fkv_base.specs.declared.numbers.Version.{Version}
-use Rattle.fkv_order.specs.Ghosts.{GhostEvent, Ghosts, ghost_run}
+use Rattle.law_log.specs.Ghosts.{GhostEvent, Ghosts, ghost_run}
 use Rattle.fkv_world.specs.Runs.{World}
 use Rattle.fkv_world.specs.World.{Event}
 use Rattle.law_guard.specs.Guarded.Shows as guard

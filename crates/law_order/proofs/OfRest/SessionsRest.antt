@@ -37,7 +37,7 @@ use Rattle.fkv_session.specs.declared.sessions.Sitting.TheVariants.{Idle, Attemp
 use Rattle.fkv_session.specs.CatchingUp.{catch_ask}
 use Rattle.fkv_session.specs.OwnTurns.{own_turn_ask, own_turn_begun, own_turn_given}
 use Rattle.fkv_session.specs.Sessions.{SessionState, Seat, IsOpened, bits_of, room_of, is_busy, session_ask, session_begun, session_given, session_next, sitting_ask, answers, answers_after_turn, version_within, request_in_hand, attempts, polls_request, polls_at, update_done, is_no_room, with_request, serial_taken, ticket_after, accepts, shifts, attempted, attempt_left, attempt_ledto, caught_up, catch_ledto, clear_ledto, is_finished, is_owed, request_finished, finishes_request, lacks_room, keeps_request, poll_ledto, turn_ledto, leave_ledto, attempt_moved, caught, own_turn_moved, sitting_next, sitting_given, is_word_ask, asks_after, refusal_of, op_begun, refresh_call, poll_begun, poll_call, sleep_call, wake_call, call_begun}
-use Rattle.fkv_world_prefix.specs.Views.{loads_phase}
+use Rattle.law_commit.specs.Views.{loads_phase}
 use Rattle.law_order.specs.Rest.Machines.{AreOfVersion, AttemptRests, CatchRests, IsOfVersion, StoresNoPhase}
 use Rattle.law_order.specs.Rest.Resting.{HasSeenRest, SaysRest}
 use Rattle.law_order.specs.Rest.Sessions.{SessionRests, SitsAtRest}

@@ -31,7 +31,7 @@ use Rattle.fkv_world.specs.Runs.{World, happens, read_by_keeper, run}
 use Rattle.fkv_world.specs.World.{Event, Calls, Moves, Commits, Turns, KeeperMoves, Crashes, Now, seat_at, near, with_session, with_keeper, session_called, session_calls, session_moves, life_goes}
 use Rattle.fkv_world.proofs.Shown.{is_over, lives}
 use Rattle.law_guard.specs.Guarded.Shows as guard
-use Rattle.fkv_world_prefix.specs.PhaseStores.{phase_at}
+use Rattle.law_commit.specs.PhaseStores.{phase_at}
 use Rattle.law_order.specs.Rest.Machines.{AllLeavePhase, LeavesPhase, StoresNoPhase}
 use Rattle.law_order.specs.Rest.Resting.{HasNoCommit, RestsIn, SaysRest, is_commit}
 use Rattle.law_order.specs.Rest.Sessions.{IsAtRest, KeeperRests, SessionRests}

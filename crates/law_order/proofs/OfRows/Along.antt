@@ -1,10 +1,10 @@
 -- What a request that waits and an attempt know stays along every list of the log's events that is owed.
 use Rattle.std.proofs.Common.{◌≡◌, ℕ, ◌∙◌, List, [], ◌∷◌, ◌++◌, sym, append_assoc}
 use Rattle.fkv_map.specs.Map.{Map}
-use Rattle.fkv_order.specs.Ghosts.{Log, Ghosts, GhostEvent, log_after, ghosts_after, ghost_run}
-use Rattle.fkv_order.specs.Owed as order
-use Rattle.fkv_order.specs.Owed.{AreOwed}
-use Rattle.fkv_order.proofs.Shown.{Held, log_steps, run_held}
+use Rattle.law_log.specs.Ghosts.{Log, Ghosts, GhostEvent, log_after, ghosts_after, ghost_run}
+use Rattle.law_log.specs.Owed as order
+use Rattle.law_log.specs.Owed.{AreOwed}
+use Rattle.law_log.proofs.Shown.{Held, log_steps, run_held}
 use Rattle.fkv_ops.specs.declared.requests.Seen.{Seen}
 use Rattle.fkv_pending.specs.declared.pending_requests.PendingRequest.{PendingRequest}
 use Rattle.fkv_pending.specs.Attempting.{AttemptState}

@@ -4,9 +4,9 @@ use Rattle.std.specs.Prelude.{Some, None, slice_get}
 use Rattle.fkv_base.specs.declared.numbers.Version.{Version}
 use Rattle.law_guard.specs.Sessions.Followed.{is_turning}
 use Rattle.fkv_map.specs.Map.{Map, is_reserved}
-use Rattle.fkv_order.specs.Ghosts.{Log, Ghosts}
-use Rattle.fkv_order.specs.Owed.{AreOwed, NoneAbove}
-use Rattle.fkv_order.proofs.Shown.{run_held}
+use Rattle.law_log.specs.Ghosts.{Log, Ghosts}
+use Rattle.law_log.specs.Owed.{AreOwed, NoneAbove}
+use Rattle.law_log.proofs.Shown.{run_held}
 use Rattle.fkv_ops.specs.declared.requests.Seen.{Seen}
 use Rattle.fkv_pending.specs.declared.pending_requests.PendingRequest.{PendingRequest}
 use Rattle.fkv_pending.specs.Attempting.{AttemptState}
@@ -35,7 +35,7 @@ use Rattle.law_order.specs.Known.Begins.{BeginsLife, home_of_world}
 use Rattle.law_order.specs.Known.Knows.{AllKnowBehind, AreKnown, SessionKnows}
 use Rattle.law_order.specs.Known.Told.{AreToldTruly, reply_in}
 use Rattle.law_refine.specs.Events.GhostEvents.{life_ghosts, mapped}
-use Rattle.law_order.proofs.OfOwes.Changes.{known_now}
+use Rattle.law_order.proofs.OfKnown.Newest.{known_now}
 use Rattle.law_order.proofs.OfOwes.Attempts.{life_attempts}
 use Rattle.law_order.specs.Rest.Logs.{CellsRest}
 use Rattle.law_order.specs.Rest.Machines.{CatchesAtRest}

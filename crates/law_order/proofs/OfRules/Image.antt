@@ -7,7 +7,7 @@ use Rattle.fkv_opening.specs.Opened.{IsStoreOf}
 use Rattle.fkv_opening.specs.declared.opened_store.Opened.{Opened}
 use Rattle.law_opening.specs.Log.OpeningLog.{opening_log}
 use Rattle.law_opening.specs.Log.Records.{HasWhatCounts, IsCellOf, cell_of}
-use Rattle.fkv_order.specs.Chains.{Cell, Published}
+use Rattle.law_log.specs.Chains.{Cell, Published}
 use Rattle.fkv_pairs.specs.Pairs.{log_of_store}
 use Rattle.fkv_plane.specs.declared.places.RecordWord.{RecordWord}
 use Rattle.fkv_plane.specs.declared.places.RecordWord.TheVariants as rec

@@ -9,11 +9,11 @@ use Rattle.law_opening.specs.Log.Begins.{Begins}
 use Rattle.law_opening.specs.Log.Lives.{KeepsRules, ghosts_beside}
 use Rattle.law_opening.specs.Log.Maps.{opening_map}
 use Rattle.law_opening.specs.Log.OpeningLog.{opening_ghosts}
-use Rattle.fkv_order.specs.Ghosts.{Ghosts, GhostEvent, Log, Tells, ghosts_after, ghost_run}
-use Rattle.fkv_order.specs.Owed as order
-use Rattle.fkv_order.specs.Owed.{AreOwed}
-use Rattle.fkv_order.specs.Trace.{AnswersRead, CallsRead, IsIn, TraceLine, history_of}
-use Rattle.fkv_world.specs.Added.{told_at, told_by}
+use Rattle.law_log.specs.Ghosts.{Ghosts, GhostEvent, Log, Tells, ghosts_after, ghost_run}
+use Rattle.law_log.specs.Owed as order
+use Rattle.law_log.specs.Owed.{AreOwed}
+use Rattle.law_log.specs.Trace.{AnswersRead, CallsRead, IsIn, TraceLine, history_of}
+use Rattle.law_world.specs.Runs.Added.{told_at, told_by}
 use Rattle.fkv_world.specs.Past.{TraceEvent}
 use Rattle.fkv_world.specs.Runs.{World, happens, run}
 use Rattle.fkv_world.specs.World.{Event, Now}

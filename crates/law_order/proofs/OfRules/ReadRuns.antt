@@ -5,10 +5,10 @@ use Rattle.fkv_map.specs.History.{content}
 use Rattle.fkv_map.specs.Map.{Map, reply_to_read}
 use Rattle.fkv_map.specs.declared.history.HistoryEntry.{HistoryEntry}
 use Rattle.fkv_map.specs.declared.operations.Reply.{Reply}
-use Rattle.fkv_order.specs.Trace.{Effect, TraceLine, CallsUpdate, RefusesUpdate, GivesResult, CallsRead, AnswersRead, history_of, value_in}
-use Rattle.fkv_order.specs.Ghosts.{Log, Reading, NotCalled, Called, Walks, HasValue, Ghosts, GhostEvent, Tells, FindsEntry, TakesValue, Reserves, Publishes, Drops, Changes, Fixes, found, took, read_called, set_at, ghosts_after, ghost_run}
-use Rattle.fkv_order.specs.Owed.{AreOwed, IsOpened, Owes, OwesLine}
-use Rattle.fkv_order.proofs.Shown.{HadValue, IsSound, KnowsRead, at_one, run_sound}
+use Rattle.law_log.specs.Trace.{Effect, TraceLine, CallsUpdate, RefusesUpdate, GivesResult, CallsRead, AnswersRead, history_of, value_in}
+use Rattle.law_log.specs.Ghosts.{Log, Reading, NotCalled, Called, Walks, HasValue, Ghosts, GhostEvent, Tells, FindsEntry, TakesValue, Reserves, Publishes, Drops, Changes, Fixes, found, took, read_called, set_at, ghosts_after, ghost_run}
+use Rattle.law_log.specs.Owed.{AreOwed, IsOpened, Owes, OwesLine}
+use Rattle.law_log.proofs.Shown.{HadValue, IsSound, KnowsRead, at_one, run_sound}
 use Rattle.law_order.specs.Rules.InTime.{IsInTime}
 
 -- ---- histories in order

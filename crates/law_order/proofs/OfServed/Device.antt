@@ -8,9 +8,9 @@ use Rattle.fkv_disk.proofs.Shown.{length-bytes_at, reads_within}
 use Rattle.fkv_flush.specs.GuardFlushed.{IsSynced, calls_made}
 use Rattle.fkv_flush.specs.GuardLevels.{levels_of}
 use Rattle.fkv_map.specs.Map.{Map}
-use Rattle.fkv_order.specs.Chains.{Cell, Published}
-use Rattle.fkv_order.specs.Ghosts.{Ghosts}
-use Rattle.fkv_order.specs.Owed.{AreOwed}
+use Rattle.law_log.specs.Chains.{Cell, Published}
+use Rattle.law_log.specs.Ghosts.{Ghosts}
+use Rattle.law_log.specs.Owed.{AreOwed}
 use Rattle.fkv_record.specs.Places as image
 use Rattle.fkv_world.specs.Runs.{World, run}
 use Rattle.fkv_world.specs.World.{Event}

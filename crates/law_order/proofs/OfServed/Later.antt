@@ -2,10 +2,10 @@
 use Rattle.std.proofs.Common.{◌≡◌, ℕ, ◌<◌, ◌≤◌, ◌∙◌, inl, inr, ap, arith, List, [], ◌∷◌, ◌++◌}
 use Rattle.std.specs.Prelude.{Option}
 use Rattle.fkv_map.specs.Map.{Map}
-use Rattle.fkv_order.specs.Chains.{Cell, Published}
-use Rattle.fkv_order.specs.Ghosts.{Log, Ghosts, GhostEvent, log_after, ghosts_after, ghost_run}
-use Rattle.fkv_order.specs.Owed.{AreOwed, IsOpened}
-use Rattle.fkv_order.proofs.Shown.{Grows}
+use Rattle.law_log.specs.Chains.{Cell, Published}
+use Rattle.law_log.specs.Ghosts.{Log, Ghosts, GhostEvent, log_after, ghosts_after, ghost_run}
+use Rattle.law_log.specs.Owed.{AreOwed, IsOpened}
+use Rattle.law_log.proofs.Shown.{Grows}
 use Rattle.fkv_world.specs.Runs.{World, run}
 use Rattle.fkv_world.specs.World.{Event}
 use Rattle.law_order.specs.Known.Begins.{home_of_world}

@@ -1,9 +1,9 @@
 -- Of events that are owed the earlier ones are; and a log on which all are steps from what it was to what it is.
 use Rattle.std.proofs.Common.{ℕ, List, [], ◌∷◌, ◌++◌}
 use Rattle.fkv_map.specs.Map.{Map}
-use Rattle.fkv_order.specs.Ghosts.{Ghosts, GhostEvent, ghost_run, log_after}
-use Rattle.fkv_order.specs.Owed.{AreOwed, IsOpened}
-use Rattle.fkv_order.proofs.Shown.{Steps, log_steps, run_held}
+use Rattle.law_log.specs.Ghosts.{Ghosts, GhostEvent, ghost_run, log_after}
+use Rattle.law_log.specs.Owed.{AreOwed, IsOpened}
+use Rattle.law_log.proofs.Shown.{Steps, log_steps, run_held}
 
 pub owed_before : (home : ℕ → ℕ) (first : Ghosts) (later before : List GhostEvent) → AreOwed home first (later ++ before) → AreOwed home first before
 unfolding AreOwed

@@ -6,11 +6,11 @@ use Rattle.fkv_map.specs.declared.operations.Op.{Op}
 use Rattle.fkv_map.specs.declared.operations.Op.TheVariants.{Upsert, Delete, Add, Max, Read}
 use Rattle.fkv_map.specs.Keys.{key_of, value_applied}
 use Rattle.fkv_map.specs.Map.{Map, greatest_value}
-use Rattle.fkv_order.specs.Chains.{Cell, Logged, Unborn, Reserved, Published, Dropped, value_at}
-use Rattle.fkv_order.specs.Ghosts.{Log, Ghosts, GhostEvent, Tells, FindsEntry, TakesValue, Reserves, Publishes, Drops, Changes, Fixes, set_at, published, dropped, changed, changed_by, first_from, log_after, trace_after, ghosts_after, ghost_run}
-use Rattle.fkv_order.specs.Owed.{AreOwed, IsOpened, IsInHand, Owes, OwesPublish, OwesChange}
-use Rattle.fkv_order.specs.Trace.{TraceLine, CallsUpdate, RefusesUpdate, GivesResult, CallsRead, AnswersRead, called_as}
-use Rattle.fkv_order.proofs.Shown.{Held, at_one, run_held}
+use Rattle.law_log.specs.Chains.{Cell, Logged, Unborn, Reserved, Published, Dropped, value_at}
+use Rattle.law_log.specs.Ghosts.{Log, Ghosts, GhostEvent, Tells, FindsEntry, TakesValue, Reserves, Publishes, Drops, Changes, Fixes, set_at, published, dropped, changed, changed_by, first_from, log_after, trace_after, ghosts_after, ghost_run}
+use Rattle.law_log.specs.Owed.{AreOwed, IsOpened, IsInHand, Owes, OwesPublish, OwesChange}
+use Rattle.law_log.specs.Trace.{TraceLine, CallsUpdate, RefusesUpdate, GivesResult, CallsRead, AnswersRead, called_as}
+use Rattle.law_log.proofs.Shown.{Held, at_one, run_held}
 use Rattle.law_order.specs.Served.Fits.{NumberFits, OpFits, ValueFits, CellFits, CellsFit}
 
 -- ---- what was called

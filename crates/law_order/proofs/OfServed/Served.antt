@@ -5,15 +5,16 @@ use Rattle.fkv_base.specs.declared.shapes.Shape.{Shape}
 use Rattle.fkv_disk.specs.Bytes.{bytes_at}
 use Rattle.fkv_disk.specs.Calls.{reads_as}
 use Rattle.fkv_map.specs.Map.{Map}
-use Rattle.fkv_order.specs.Chains.{Cell, Logged, Published}
-use Rattle.fkv_order.specs.Ghosts.{Ghosts}
-use Rattle.fkv_order.specs.Owed.{AreOwed}
+use Rattle.law_log.specs.Chains.{Cell, Logged, Published}
+use Rattle.law_log.specs.Ghosts.{Ghosts}
+use Rattle.law_log.specs.Owed.{AreOwed}
 use Rattle.fkv_plane.specs.declared.places.RecordWord.TheVariants as rec
 use Rattle.fkv_record.specs.Places as image
 use Rattle.law_local.specs.Tries.MailRows.{IsRecordOf}
 use Rattle.fkv_world.specs.Runs.{World, run}
 use Rattle.fkv_world.specs.World.{Event}
-use Rattle.fkv_world.proofs.Shown.{opened_stays, shape_stays}
+use Rattle.law_world.proofs.OfKeeper.OwnCalls.{opened_stays}
+use Rattle.fkv_world.proofs.Shown.{shape_stays}
 use Rattle.law_order.specs.Known.Begins.{BeginsLife, IsInImage, home_of_world}
 use Rattle.law_parts.specs.Mail.MailEvents.{record_read}
 use Rattle.law_parts.specs.Mail.Reads.{record_there}

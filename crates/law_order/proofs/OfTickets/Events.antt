@@ -16,7 +16,8 @@ use Rattle.fkv_world.specs.Moves.{Near}
 use Rattle.fkv_world.specs.OwnEvents.{session_events, session_got, session_part, session_part_found, session_part_of, session_slots, session_steps}
 use Rattle.fkv_world.specs.Runs.{World, happens, run}
 use Rattle.fkv_world.specs.World.{Event, Calls, Moves, Now, near, seat_at}
-use Rattle.fkv_world.proofs.Shown.{no_session, session_apart}
+use Rattle.law_world.proofs.OfRuns.Nothing.{no_session}
+use Rattle.fkv_world.proofs.Shown.{session_apart}
 use Rattle.law_order.specs.Tickets.Few.{HasFewCalls, calls_in, with_begun}
 use Rattle.law_order.proofs.OfTickets.Begun.{begun_on, calls_begun}
 

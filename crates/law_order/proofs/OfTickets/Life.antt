@@ -10,7 +10,7 @@ use Rattle.fkv_world.specs.Opened.{IsOpenedWorld}
 use Rattle.fkv_world.specs.OwnEvents.{session_events}
 use Rattle.fkv_world.specs.Runs.{World, run}
 use Rattle.fkv_world.specs.World.{Event, seat_at}
-use Rattle.fkv_world.proofs.Shown.{of_run}
+use Rattle.law_world.proofs.OfSessions.OwnRun.{of_run}
 use Rattle.law_order.specs.Known.Told.{AreApart, NamesAreApart, TicketsAreApart}
 use Rattle.law_order.specs.Tickets.Few.{HasFewCalls}
 use Rattle.law_order.proofs.OfTickets.Apart.{apart, rise_once}

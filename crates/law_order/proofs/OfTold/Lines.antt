@@ -1,8 +1,8 @@
 -- Lines that are told leave the log as it is, and what machines do tells none.
 use Rattle.std.proofs.Common.{◌≡◌, ℕ, refl, ap, Bool, true, false, List, [], ◌∷◌, ◌++◌}
 use Rattle.std.specs.Prelude.{map, if◌then◌else◌, ◌==◌}
-use Rattle.fkv_order.specs.Ghosts.{Ghosts, GhostEvent, Tells, FindsEntry, TakesValue, Reserves, Publishes, Drops, Changes, Fixes, ghosts_after, ghost_run}
-use Rattle.fkv_order.specs.Trace.{TraceLine}
+use Rattle.law_log.specs.Ghosts.{Ghosts, GhostEvent, Tells, FindsEntry, TakesValue, Reserves, Publishes, Drops, Changes, Fixes, ghosts_after, ghost_run}
+use Rattle.law_log.specs.Trace.{TraceLine}
 use Rattle.fkv_world.specs.Runs.{World, run}
 use Rattle.fkv_world.specs.World.{Event}
 use Rattle.law_order.specs.Known.Answered.{acted}

@@ -3,10 +3,10 @@ use Rattle.std.proofs.Common.{◌≡◌, ℕ, ◌∙◌, refl, ap, sym, subst, B
 use Rattle.std.specs.Prelude.{map, if◌then◌else◌}
 use Rattle.fkv_base.specs.declared.numbers.Version.{Version}
 use Rattle.fkv_map.specs.Map.{Map}
-use Rattle.fkv_order.specs.Ghosts.{Log, Ghosts, GhostEvent, Tells, ghost_run}
-use Rattle.fkv_order.specs.Owed.{AreOwed, OwesLine, IsOpened}
-use Rattle.fkv_order.specs.Trace.{Effect, TraceLine, CallsUpdate, RefusesUpdate, GivesResult, CallsRead, AnswersRead, IsIn, called_as}
-use Rattle.fkv_order.proofs.Shown.{IsSound, run_sound}
+use Rattle.law_log.specs.Ghosts.{Log, Ghosts, GhostEvent, Tells, ghost_run}
+use Rattle.law_log.specs.Owed.{AreOwed, OwesLine, IsOpened}
+use Rattle.law_log.specs.Trace.{Effect, TraceLine, CallsUpdate, RefusesUpdate, GivesResult, CallsRead, AnswersRead, IsIn, called_as}
+use Rattle.law_log.proofs.Shown.{IsSound, run_sound}
 use Rattle.fkv_world.specs.Runs.{World, run}
 use Rattle.fkv_world.specs.World.{Event}
 use Rattle.law_refine.specs.Calls.Calls.{EachOwes, OwesCall, effects_of_life, entries_of, event_adds, lines_of_life}
@@ -19,7 +19,6 @@ use Rattle.law_refine.specs.Events.GhostEvents.{ghost_events, life_ghosts, mappe
 use Rattle.law_refine.proofs.OfEvents.Trace.{ghost_trace}
 use Rattle.law_refine.specs.Records.Changes.{AreChangesPublished}
 use Rattle.law_refine.proofs.OfRecords.Meets.{life_meets_published}
-use Rattle.law_order.specs.Rest.Resting.{HasNoCommit}
 use Rattle.law_order.proofs.OfTold.Lines.{acted_trace, told_log, told_trace}
 use Rattle.law_order.proofs.OfTold.Runs.{free_read, owed_on, run_on}
 
@@ -99,9 +98,9 @@ module _ (opening : World) (start : ℕ) (lists : ℕ → List ℕ) (version : V
       (told_owed H m number ghosts behind (effects_of_life opening (event ∷ before)) (lines_of_life opening before) told begins.log (owed_on H ghosts (acted opening before event) (mapped opening before) owed own)
       (behind_entries alive published) behind_trace (event_owes opening before event begins.world) (subst (λ (x : Ghosts). EachAnswered H x told) (sym behind_is) answered))
 
-  pub lines_owed : HasNoCommit (event ∷ before) → AreOwed H ghosts (mapped opening before) → AreChangesPublished opening ghosts (event ∷ before) → AreOwed H (life_ghosts opening ghosts before) (acted opening before event)
+  pub lines_owed : AreOwed H ghosts (mapped opening before) → AreChangesPublished opening ghosts (event ∷ before) → AreOwed H (life_ghosts opening ghosts before) (acted opening before event)
       → EachAnswered H base told → AreOwed H ghosts (mapped opening (event ∷ before))
-  lines_owed rests owed published own answered = by_test (run opening before).now.crashed refl
+  lines_owed owed published own answered = by_test (run opening before).now.crashed refl
     where
       by_test : (c : Bool) → (run opening before).now.crashed ≡ c → AreOwed H ghosts (mapped opening (event ∷ before))
       by_test true crashed = subst (AreOwed H ghosts) (sym (mapped_crashed opening before event crashed)) owed

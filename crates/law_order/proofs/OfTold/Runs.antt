@@ -1,10 +1,10 @@
 -- Runs of a log behind one another: what each owes, and whose numbers are free.
 use Rattle.std.proofs.Common.{◌≡◌, ℕ, List, [], ◌∷◌, ◌++◌, refl, ap, sym, subst}
 use Rattle.fkv_map.specs.Map.{Map}
-use Rattle.fkv_order.specs.Ghosts.{Log, Reading, NotCalled, Called, Walks, HasValue, Ghosts, GhostEvent, ghosts_after, ghost_run}
-use Rattle.fkv_order.specs.Owed.{AreOwed, Owes}
-use Rattle.fkv_order.specs.Trace.{TraceLine, CallsRead, IsIn}
-use Rattle.fkv_order.proofs.Shown.{KnowsRead}
+use Rattle.law_log.specs.Ghosts.{Log, Reading, NotCalled, Called, Walks, HasValue, Ghosts, GhostEvent, ghosts_after, ghost_run}
+use Rattle.law_log.specs.Owed.{AreOwed, Owes}
+use Rattle.law_log.specs.Trace.{TraceLine, CallsRead, IsIn}
+use Rattle.law_log.proofs.Shown.{KnowsRead}
 
 pub run_on : (home : ℕ → ℕ) (g : Ghosts) (later before : List GhostEvent) → ghost_run home g (later ++ before) ≡ ghost_run home (ghost_run home g before) later
 unfolding ghost_run

@@ -16,7 +16,8 @@ use Rattle.fkv_world.specs.Opened.{IsOpenedWorld, HasBecome}
 use Rattle.fkv_world.specs.OwnEvents.{session_events}
 use Rattle.fkv_world.specs.Runs.{World, run}
 use Rattle.fkv_world.specs.World.{Event, seat_at}
-use Rattle.fkv_world.proofs.Shown.{of_run, opened_so, places_stay, same_seat}
+use Rattle.law_world.proofs.OfSessions.OwnRun.{of_run, opened_so}
+use Rattle.fkv_world.proofs.Shown.{places_stay, same_seat}
 use Rattle.law_guard.specs.Guarded.Shows.{IsOpened}
 use Rattle.law_guard.proofs.OfGuarded.Worlds.{life_shows}
 use Rattle.law_refine.specs.Records.Frames.{IsAttempting}

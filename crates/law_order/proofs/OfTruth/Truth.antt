@@ -1,14 +1,13 @@
 -- What sessions are told by the words of the store is true of the log.
-use Rattle.std.proofs.Common.{◌≡◌, ℕ, sym, ap, subst, true, List, [], ◌∷◌}
-use Rattle.std.specs.Prelude.{Some, slice_get}
+use Rattle.std.proofs.Common.{◌≡◌, ℕ, sym, ap, subst, true, List}
 use Rattle.fkv_base.specs.declared.numbers.Version.{Version}
 use Rattle.fkv_base.specs.declared.shapes.Shape.{Shape}
 use Rattle.fkv_index.specs.Slots.{home_of}
 use Rattle.fkv_map.specs.Keys.{key_of}
 use Rattle.fkv_map.specs.Map.{Map}
-use Rattle.fkv_order.specs.Chains.{head_of}
-use Rattle.fkv_order.specs.Ghosts.{Ghosts, Log}
-use Rattle.fkv_order.specs.Owed.{AreOwed}
+use Rattle.law_log.specs.Chains.{head_of}
+use Rattle.law_log.specs.Ghosts.{Ghosts, Log}
+use Rattle.law_log.specs.Owed.{AreOwed}
 use Rattle.fkv_ops.specs.declared.requests.Seen.{Seen}
 use Rattle.fkv_pending.specs.Attempting.{attempt_ask}
 use Rattle.fkv_plane.specs.Asked.{reply_to}
@@ -25,20 +24,14 @@ use Rattle.law_refine.specs.Heads.Searches.{home_attempted}
 use Rattle.law_refine.proofs.OfHeads.LifeHeads.{life_found}
 use Rattle.law_parts.specs.Index.Finders.{session_part}
 use Rattle.law_order.specs.Known.Begins.{BeginsLife, home_of_world}
-use Rattle.law_order.specs.Known.Knows.{AllKnowBehind, AreKnown}
+use Rattle.law_order.specs.Known.Knows.{AreKnown}
 use Rattle.law_order.specs.Known.Told.{AreToldTruly, LookTruly, reply_in}
 use Rattle.law_refine.specs.Events.GhostEvents.{home_number, life_ghosts, mapped}
 use Rattle.law_refine.specs.Records.Changes.{AreChangesPublished}
-use Rattle.law_order.specs.Rest.Resting.{HasNoCommit}
+use Rattle.law_order.proofs.OfKnown.Newest.{known_now}
 use Rattle.law_order.proofs.OfTruth.Attempts.{attempt_reply, attempting_is, life_seen}
 use Rattle.law_order.proofs.OfTruth.Searches.{BeginsFor, FindsBy, attempt_meets, finds_by}
 use Rattle.law_order.proofs.OfTruth.Words.{words_show}
-
--- what sessions know at the last of these moments
-pub known_now : (opening : World) (ghosts : Ghosts) (events : List Event) → AreKnown opening ghosts events → AllKnowBehind opening ghosts events
-unfolding AreKnown
-known_now opening ghosts [] known = known
-known_now opening ghosts (event ∷ before) known = known.1
 
 -- the home that is attempted is that of the key, by its number
 begins_for : (opening : World) (events : List Event) (log : Log) (s : SessionState) → BeginsFor (home_of_world opening) log (head_at log (home_attempted (run opening events).now s)) (key_of s.attempt.pending.request.op)
@@ -53,9 +46,9 @@ told_truly home log n session s attempts seen show knows meets =
     (attempt_true home log n.places session n.words s.attempt (subst (λ (x : Seen). WordsShow log n.places x n.words) (sym seen) show) knows (subst (AttemptMeets home log n.places s.attempt s.attempt.step) same meets))
 
 pub words_true : (opening : World) (start : ℕ) (lists : ℕ → List ℕ) (version : Version) (m : Map) (number : ℕ) (ghosts : Ghosts) (before : List Event) → BeginsLife opening start lists version m number ghosts
-    → HasNoCommit before → AreOwed (home_of_world opening) ghosts (mapped opening before) → AreChangesPublished opening ghosts before → AreKnown opening ghosts before
+    → AreOwed (home_of_world opening) ghosts (mapped opening before) → AreChangesPublished opening ghosts before → AreKnown opening ghosts before
     → LookTruly (life_ghosts opening ghosts before).log (run opening before).now → AreToldTruly (home_of_world opening) (life_ghosts opening ghosts before).log (run opening before).now
-words_true opening start lists version m number ghosts before begins none owed published known look = λ session s found attempts.
+words_true opening start lists version m number ghosts before begins owed published known look = λ session s found attempts.
     let n : Now = (run opening before).now in
     let log : Log = (life_ghosts opening ghosts before).log in
     let opened = begins.store.now in

@@ -3,14 +3,14 @@ use Rattle.std.proofs.Common.{◌≡◌, ℕ, ◌<◌, sym, arith, List, []}
 use Rattle.std.specs.Prelude.{Some, slice_get}
 use Rattle.fkv_base.specs.declared.numbers.Version.{Version}
 use Rattle.fkv_map.specs.Map.{Map}
-use Rattle.fkv_order.specs.Ghosts.{Ghosts}
-use Rattle.fkv_order.specs.Owed.{AreOwed}
-use Rattle.fkv_order.proofs.Shown.{run_held}
+use Rattle.law_log.specs.Ghosts.{Ghosts}
+use Rattle.law_log.specs.Owed.{AreOwed}
+use Rattle.law_log.proofs.Shown.{run_held}
 use Rattle.fkv_session.specs.Sessions.{SessionState}
 use Rattle.law_local.specs.Tries.Replies.{IsAboveAll}
 use Rattle.law_local.specs.Tries.WordsShow.{WordsShow}
 use Rattle.fkv_world.specs.Runs.{World, run}
-use Rattle.fkv_world.specs.World.{Event, Now}
+use Rattle.fkv_world.specs.World.{Event}
 use Rattle.law_order.specs.Known.Begins.{BeginsLife, home_of_world}
 use Rattle.law_refine.specs.Events.GhostEvents.{life_ghosts, mapped}
 use Rattle.law_refine.specs.Events.Reserved.{tail_at}

@@ -1,8 +1,8 @@
 -- What the answers of reads owe among the lines that an event tells.
 use Rattle.std.specs.Prelude.{ℕ, ⊤, map, List, [], ◌∷◌, ◌++◌}
-use Rattle.fkv_order.specs.Ghosts.{Ghosts, GhostEvent, Tells, ghost_run}
-use Rattle.fkv_order.specs.Owed.{OwesLine}
-use Rattle.fkv_order.specs.Trace.{TraceLine, AnswersRead}
+use Rattle.law_log.specs.Ghosts.{Ghosts, GhostEvent, Tells, ghost_run}
+use Rattle.law_log.specs.Owed.{OwesLine}
+use Rattle.law_log.specs.Trace.{TraceLine, AnswersRead}
 use Rattle.fkv_world.specs.Runs.{World, run}
 use Rattle.fkv_world.specs.World.{Event}
 use Rattle.law_refine.specs.Events.GhostEvents.{fixed_ghosts, life_ghosts, own_ghosts, safe_at}

@@ -3,7 +3,7 @@ use Rattle.std.specs.Prelude.{◌≡◌, ⊤, ℕ, if◌then◌else◌, Bool, tr
 use Rattle.fkv_map.specs.declared.operations.Op.{Op}
 use Rattle.fkv_map.specs.Keys.{key_of, as_number}
 use Rattle.fkv_ops.specs.Requests.{is_read}
-use Rattle.fkv_order.specs.Ghosts.{Ghosts, Reading}
+use Rattle.law_log.specs.Ghosts.{Ghosts, Reading}
 use Rattle.fkv_pending.specs.declared.pending_requests.PendingRequest.{PendingRequest}
 use Rattle.fkv_pending.specs.Attempting.{AttemptState, is_poll}
 use Rattle.fkv_session.specs.declared.answers.Finished.{Finished}

@@ -1,7 +1,7 @@
 -- The log beside a life of a store that rests in a version.
 use Rattle.std.specs.Prelude.{◌≡◌, ◌≤◌, ⊤, ℕ, ◌⊎◌, List, [], ◌∷◌}
-use Rattle.fkv_order.specs.Chains.{Logged, Reserved, Published}
-use Rattle.fkv_order.specs.Ghosts.{GhostEvent, Reserves}
+use Rattle.law_log.specs.Chains.{Logged, Reserved, Published}
+use Rattle.law_log.specs.Ghosts.{GhostEvent, Reserves}
 
 -- the record that is being made is of this version, and one that stands in its chain is of it or an earlier one
 abbrev pub LoggedRests : ℕ → Logged → Type 0

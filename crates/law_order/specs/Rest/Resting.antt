@@ -8,7 +8,7 @@ use Rattle.fkv_ops.specs.declared.requests.Seen.{Seen}
 use Rattle.fkv_session.specs.Sessions.{SessionState}
 use Rattle.fkv_world.specs.Past.{Effect}
 use Rattle.fkv_world.specs.World.{Event, Commits, Now}
-use Rattle.fkv_world_prefix.specs.PhaseStores.{phase_at}
+use Rattle.law_commit.specs.PhaseStores.{phase_at}
 
 -- the event begins a commit
 abbrev pub is_commit : Event → Bool

@@ -14,7 +14,7 @@ use Rattle.fkv_session.specs.declared.sessions.Sitting.TheVariants.{Attempts, Ca
 use Rattle.fkv_session.specs.OwnTurns.{OwnTurnState}
 use Rattle.fkv_session.specs.Sessions.{SessionState}
 use Rattle.fkv_world.specs.World.{Now}
-use Rattle.fkv_world_prefix.specs.PhaseStores.{phase_at}
+use Rattle.law_commit.specs.PhaseStores.{phase_at}
 use Rattle.law_order.specs.Rest.Machines.{AllLeavePhase, AreOfVersion, AttemptRests, CatchRests, RunsNoPhase}
 use Rattle.law_order.specs.Rest.Resting.{HasSeenRest, SaysRest}
 

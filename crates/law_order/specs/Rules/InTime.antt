@@ -8,7 +8,7 @@ use Rattle.fkv_map.specs.declared.history.HistoryEntry.{HistoryEntry}
 use Rattle.fkv_map.specs.declared.operations.Reply.{Reply}
 use Rattle.fkv_opening.specs.declared.opened_store.Opened.{Opened}
 use Rattle.law_opening.specs.Log.Maps.{opening_map}
-use Rattle.fkv_order.specs.Trace.{AnswersRead, CallsRead, IsIn, history_of}
+use Rattle.law_log.specs.Trace.{AnswersRead, CallsRead, IsIn, history_of}
 use Rattle.law_order.specs.Rules.Ordered.{effects_so_far}
 use Rattle.fkv_world.specs.World.{Event, Now}
 use Rattle.law_refine.specs.Calls.Calls.{event_adds}

@@ -14,7 +14,7 @@ use Rattle.fkv_opening.specs.declared.opened_store.Opened.{Opened}
 use Rattle.law_opening.specs.Log.Lives.{KeepsRules}
 use Rattle.law_opening.specs.Log.Maps.{opening_map}
 use Rattle.law_opening.specs.Log.OpeningLog.{opening_ghosts}
-use Rattle.fkv_order.specs.Trace.{Effect, OrdersCalls, ReadsAreFresh, TraceLine, history_of}
+use Rattle.law_log.specs.Trace.{Effect, OrdersCalls, ReadsAreFresh, TraceLine, history_of}
 use Rattle.fkv_world.specs.Runs.{run}
 use Rattle.fkv_world.specs.World.{Event, Now}
 use Rattle.law_refine.specs.Calls.Calls.{effects_of_life, lines_of_life}

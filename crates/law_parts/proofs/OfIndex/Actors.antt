@@ -12,7 +12,7 @@ use Rattle.fkv_index.specs.IndexWorld as index
 use Rattle.fkv_index.specs.IndexWorld.{SlotWork, IndexActor, IndexEvent, IndexNow, IndexWorld, answer_work, found_work, spare_told, is_publishing, is_seeking, may_find, may_publish, new_entry, with_actor, find_begun, work_begun, actor_step, actor_after, index_happens_now, index_happens, index_run}
 use Rattle.fkv_index.specs.OneEntry.{IsHome}
 use Rattle.fkv_index.specs.Publishing.{publish_first}
-use Rattle.fkv_world.proofs.Shown.{item_back}
+use Rattle.law_world.proofs.OfRuns.Nothing.{item_back}
 use Rattle.law_parts.specs.Index.Finders.{Search, KeptSlot, SessionWork, NoWork, Searches, KeepsSlot, PublishesEntry, IndexPart, search_in, entry_in}
 use Rattle.law_parts.specs.Index.IndexEvents.{search_begun, publish_begun}
 use Rattle.law_parts.specs.Index.Shows.{IsFree, IsWork, IsPart}

@@ -17,7 +17,7 @@ use Rattle.fkv_index.specs.Publishing.{publish_first, publish_ask, publish_next}
 use Rattle.fkv_index.specs.Slots.{link_of}
 use Rattle.fkv_session.specs.declared.answers.Told.{Told}
 use Rattle.fkv_session.specs.declared.answers.Told.TheVariants as told
-use Rattle.fkv_world.proofs.Shown.{item_back}
+use Rattle.law_world.proofs.OfRuns.Nothing.{item_back}
 use Rattle.law_parts.specs.Index.Finders.{Search, KeptSlot, SessionWork, NoWork, Searches, KeepsSlot, PublishesEntry, IndexPart, search_in, entry_in}
 use Rattle.law_parts.specs.Index.IndexEvents.{changed_at, changed_by, asked_by}
 use Rattle.law_parts.specs.Index.Shows.{KeepsWord, KeepsIndex, SparesIndex, IsWork, IsPart}

@@ -14,7 +14,8 @@ use Rattle.fkv_session.specs.Sessions.{SessionState, Seat, is_busy, session_ask,
 use Rattle.fkv_world.specs.World.{Event, Calls, Moves, Commits, Turns, KeeperMoves, Crashes, Now, seat_at, near, with_session, session_calls, session_moves, life_goes}
 use Rattle.fkv_world.specs.Moves.{Near, session_moved}
 use Rattle.fkv_world.specs.Runs.{World, read_by_keeper, happens, run}
-use Rattle.fkv_world.proofs.Shown.{is_over, keeper_writes, lives}
+use Rattle.fkv_world.proofs.Shown.{is_over, lives}
+use Rattle.law_world.proofs.OfRuns.OneWord.{keeper_writes}
 use Rattle.law_parts.specs.Index.Finders.{NoWork, session_part, session_search, session_entry}
 use Rattle.law_parts.specs.Index.IndexEvents.{begun_by, asked_by, changed_by, moved_events, called_events, life_events, index_events, mapped}
 use Rattle.law_parts.specs.Index.Shows.{SparesIndex, SessionSpares, IsFair, AreFair, IsOpened, opening_index, IsPart, Shows, seen_by_index}

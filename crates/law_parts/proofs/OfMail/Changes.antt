@@ -20,7 +20,9 @@ use Rattle.fkv_pending.specs.Mailbox.{SessionChanges, KeeperChanges, AtEachMomen
 use Rattle.fkv_session.specs.Sessions.{SessionState, session_ask}
 use Rattle.fkv_world.specs.Runs.{World, happens, run}
 use Rattle.fkv_world.specs.World.{Event, Calls, Moves, Commits, Turns, KeeperMoves, Crashes, Now, seat_at, session_calls, life_goes}
-use Rattle.fkv_world.proofs.Shown.{is_over, keeper_writes, lives, no_session, session_writes}
+use Rattle.fkv_world.proofs.Shown.{is_over, lives}
+use Rattle.law_world.proofs.OfRuns.OneWord.{keeper_writes, session_writes}
+use Rattle.law_world.proofs.OfRuns.Nothing.{no_session}
 use Rattle.law_parts.specs.Mail.MailEvents.{mapped}
 use Rattle.law_parts.specs.Mail.Mailers.{session_mailing, IsAsFar}
 use Rattle.law_parts.specs.Mail.Reads.{mail_past, ChangesBy, EachChangesBy}

@@ -17,7 +17,8 @@ use Rattle.fkv_world.specs.Actors.{is_of_session}
 use Rattle.fkv_world.specs.OwnEvents.{keeper_events, session_events}
 use Rattle.fkv_world.specs.Runs.{World, happens, run}
 use Rattle.fkv_world.specs.World.{Event, Calls, Moves, Commits, Turns, KeeperMoves, Crashes, Now, seat_at}
-use Rattle.fkv_world.proofs.Shown.{keeper_runs, session_runs, same_seat, no_session, session_apart, places_stay, shape_stays}
+use Rattle.fkv_world.proofs.Shown.{keeper_runs, session_runs, same_seat, session_apart, places_stay, shape_stays}
+use Rattle.law_world.proofs.OfRuns.Nothing.{no_session}
 use Rattle.law_parts.specs.Mail.Mailers.{session_mailing}
 use Rattle.law_parts.specs.Mail.Servers.{serving_of, is_serving}
 use Rattle.law_parts.specs.Mail.Shows.{SessionSpares, IsFair, AreFair, IsOpened}

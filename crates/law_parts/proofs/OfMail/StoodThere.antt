@@ -9,7 +9,8 @@ use Rattle.fkv_flush.specs.GuardFlushed.{IsSynced, stands}
 use Rattle.fkv_flush.specs.GuardLevels.{levels_of}
 use Rattle.fkv_world.specs.World.{Event}
 use Rattle.fkv_world.specs.Runs.{World, run}
-use Rattle.fkv_world.proofs.Shown.{opened_stays, shape_stays}
+use Rattle.law_world.proofs.OfKeeper.OwnCalls.{opened_stays}
+use Rattle.fkv_world.proofs.Shown.{shape_stays}
 use Rattle.law_guard.specs.Guarded.GuardEvents.{mapped}
 use Rattle.law_guard.specs.Guarded.OpenedStore.{IsOpenedStore}
 use Rattle.law_guard.specs.Guarded.Shows.{AreFair, guard_opening}

@@ -24,7 +24,8 @@ use Rattle.fkv_world.specs.Moves.{Near, session_moved}
 use Rattle.fkv_world.specs.OwnEvents.{keeper_part}
 use Rattle.fkv_world.specs.Runs.{World, read_by_keeper, happens}
 use Rattle.fkv_world.specs.World.{Moves, KeeperMoves, Now, seat_at, near, with_session, keeper_asked, session_calls, session_moves, life_goes}
-use Rattle.fkv_world.proofs.Shown.{happens_keeper, keeper_writes, lives, session_writes}
+use Rattle.fkv_world.proofs.Shown.{happens_keeper, lives}
+use Rattle.law_world.proofs.OfRuns.OneWord.{keeper_writes, session_writes}
 use Rattle.law_parts.specs.Mail.MailEvents.{begins, changed_by, asked_by, own_events, moved_events, begun_events, called_events, served_events, record_read, keeper_events}
 use Rattle.law_parts.specs.Mail.Mailers.{session_mailing, IsAsFar}
 use Rattle.law_parts.specs.Mail.Servers.{serving_of, is_serving, ServesIf, KeepsUp}

@@ -9,7 +9,8 @@ use Rattle.fkv_session.specs.declared.answers.Told.{Told}
 use Rattle.fkv_session.specs.declared.sessions.Sitting.TheVariants.{Idle}
 use Rattle.fkv_world.specs.Runs.{World, happens, run}
 use Rattle.fkv_world.specs.World.{Calls, Event, Moves}
-use Rattle.fkv_world.proofs.Shown.{is_over, no_session, session_apart}
+use Rattle.fkv_world.proofs.Shown.{is_over, session_apart}
+use Rattle.law_world.proofs.OfRuns.Nothing.{no_session}
 use Rattle.law_order.specs.Rest.Resting.{HasNoCommit}
 use Rattle.law_refine.specs.Results.Results.{NobodyCalls}
 use Rattle.law_order.specs.Served.Fits.{CallFits, CallsFit}

@@ -12,12 +12,13 @@ use Rattle.fkv_session.specs.declared.sessions.Sitting.TheVariants.{Idle}
 use Rattle.fkv_session.specs.SessionRun.{telling}
 use Rattle.fkv_session.specs.Sessions.{SessionState, is_busy, sitting_ask}
 use Rattle.fkv_world.specs.Actors.{session_goes}
-use Rattle.fkv_world.specs.Added.{begun_by, call_answered, call_begun, ended_by, is_calling, session_answered, told_at, told_by}
+use Rattle.law_world.specs.Runs.Added.{begun_by, call_answered, call_begun, ended_by, is_calling, session_answered, told_at, told_by}
 use Rattle.fkv_world.specs.Moves.{session_asks}
 use Rattle.fkv_world.specs.Past.{Answered, Called, TraceEvent, Traced}
 use Rattle.fkv_world.specs.Runs.{World, happens, run}
 use Rattle.fkv_world.specs.World.{Calls, Event, Moves, Now, near, seat_at}
-use Rattle.fkv_world.proofs.Shown.{session_own, session_written, trace_so}
+use Rattle.fkv_world.proofs.Shown.{session_own, session_written}
+use Rattle.law_world.proofs.OfRuns.Added.{trace_so}
 use Rattle.law_refine.specs.Results.Results.{in_call}
 
 -- the trace has the call, and where the session has none in hand any more its answer

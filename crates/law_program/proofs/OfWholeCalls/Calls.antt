@@ -12,8 +12,8 @@ use Rattle.fkv_map.specs.declared.operations.Reply.TheVariants as reply
 use Rattle.fkv_opening.specs.declared.opened_store.Opened.{Opened}
 use Rattle.law_opening.specs.Log.Maps.{opening_map}
 use Rattle.fkv_ops.specs.Requests.{is_read}
-use Rattle.fkv_order.specs.Trace as order
-use Rattle.fkv_order.specs.Trace.{AnswersRead, CallsRead, GivesResult, IsIn, TraceLine}
+use Rattle.law_log.specs.Trace as order
+use Rattle.law_log.specs.Trace.{AnswersRead, CallsRead, GivesResult, IsIn, TraceLine}
 use Rattle.law_order.specs.Rules.Ordered.{HasLegalHistory, OrdersItsCalls, ReadsFreshly, effects_so_far, lines_so_far}
 use Rattle.law_order.proofs.OfRules.Beginning.{world_opens}
 use Rattle.fkv_session.specs.declared.answers.Finished.{Finished}

@@ -2,7 +2,7 @@
 use Rattle.std.proofs.Common.{◌≡◌, ◌∙◌, ℕ, List, [], ◌∷◌, ◌++◌, ap, inl, inr, refl, sym, subst}
 use Rattle.fkv_map.specs.Map.{Map, reply_to_read}
 use Rattle.fkv_map.specs.declared.operations.Reply.{Reply}
-use Rattle.fkv_order.specs.Trace.{AnswersRead, CallsRead, Effect, GivesResult, HasUpdate, IsFresh, IsIn, OrdersCalls, ReadsAreFresh, TraceLine, value_in}
+use Rattle.law_log.specs.Trace.{AnswersRead, CallsRead, Effect, GivesResult, HasUpdate, IsFresh, IsIn, OrdersCalls, ReadsAreFresh, TraceLine, value_in}
 use Rattle.law_program.specs.WholeCalls.WholeCalls.{AreAllGiven}
 
 is_behind : (effect : Effect) (newer older : List Effect) → IsIn effect older → IsIn effect (newer ++ older)

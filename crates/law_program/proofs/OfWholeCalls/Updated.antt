@@ -5,7 +5,7 @@ use Rattle.fkv_map.specs.Map.{Map, applied, reply_to}
 use Rattle.fkv_map.specs.declared.operations.Op.{Op}
 use Rattle.fkv_map.specs.declared.operations.Reply.{Reply}
 use Rattle.fkv_map.proofs.Shown.{IsLegal-later, content-push}
-use Rattle.fkv_order.specs.Trace.{Effect, history_of}
+use Rattle.law_log.specs.Trace.{Effect, history_of}
 use Rattle.law_program.specs.WholeCalls.WholeCalls.{HasUpdatedAlone}
 
 abbrev pub IsUpdated : Map → Map → Op → Reply → Type 0

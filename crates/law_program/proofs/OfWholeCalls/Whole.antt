@@ -6,7 +6,7 @@ use Rattle.fkv_map.specs.declared.operations.Op.{Op}
 use Rattle.fkv_map.specs.declared.operations.Op.TheVariants.{Read}
 use Rattle.fkv_map.specs.declared.operations.Reply.{Reply}
 use Rattle.fkv_map.specs.declared.operations.Reply.TheVariants as reply
-use Rattle.fkv_order.specs.Trace.{Effect, OrdersCalls, ReadsAreFresh, TraceLine, history_of}
+use Rattle.law_log.specs.Trace.{Effect, OrdersCalls, ReadsAreFresh, TraceLine, history_of}
 use Rattle.fkv_session.specs.declared.answers.Told.{Told}
 use Rattle.fkv_session.specs.declared.answers.Told.TheVariants as told
 use Rattle.law_program.specs.WholeCalls.WholeCalls.{AreAllGiven, HasHappenedAlone, HasReadAlone, IsMapsReply, LeavesMap, TellsAlone, TellsRead}

@@ -7,8 +7,8 @@ use Rattle.fkv_epoch.proofs.Shown.{none_some}
 use Rattle.fkv_map.specs.declared.history.HistoryEntry.{HistoryEntry}
 use Rattle.fkv_map.specs.declared.operations.Call.TheVariants.{Refresh}
 use Rattle.fkv_ops.specs.Requests.{is_read}
-use Rattle.fkv_order.specs.Trace as log
-use Rattle.fkv_order.specs.Trace.{IsIn, called_as, HasUpdate}
+use Rattle.law_log.specs.Trace as log
+use Rattle.law_log.specs.Trace.{IsIn, called_as, HasUpdate}
 use Rattle.fkv_pending.specs.declared.pending_requests.RequestName.{RequestName}
 use Rattle.fkv_pending.specs.declared.pending_requests.RequestName.TheVariants.{Update, Read}
 use Rattle.fkv_plane.specs.Asked.{reply_to}
@@ -19,13 +19,16 @@ use Rattle.fkv_session.specs.Replies.{is_of}
 use Rattle.fkv_session.specs.SessionRun.{session_run}
 use Rattle.fkv_session.specs.Sessions.{SessionState, Seat, session_ask, session_next, ticket_after}
 use Rattle.fkv_world.specs.Actors.{is_of_session}
-use Rattle.fkv_world.specs.Added.{IsEffectOf}
+use Rattle.law_world.specs.Runs.Added.{IsEffectOf}
 use Rattle.fkv_world.specs.Opened.{HasBecome, IsOpenedWorld, effects_of}
 use Rattle.fkv_world.specs.OwnEvents.{session_events}
 use Rattle.fkv_world.specs.Past.{Effect}
 use Rattle.fkv_world.specs.Runs.{World, happens, run}
 use Rattle.fkv_world.specs.World.{Event, Calls, Moves, Commits, Turns, KeeperMoves, Crashes, seat_at}
-use Rattle.fkv_world.proofs.Shown.{here, life_made, no_session, opened_so, same_seat, session_apart}
+use Rattle.law_world.proofs.OfSessions.OwnRun.{here, opened_so}
+use Rattle.law_world.proofs.OfSessions.Effects.{life_made}
+use Rattle.law_world.proofs.OfRuns.Nothing.{no_session}
+use Rattle.fkv_world.proofs.Shown.{same_seat, session_apart}
 use Rattle.law_refine.specs.Events.GhostEvents.{serials_in}
 use Rattle.law_refine.specs.Calls.Calls.{effects_in_log, effects_of_life, lines_of_life, IsUpdateInHand}
 use Rattle.law_refine.proofs.OfCalls.Standing.{IsCalled, Knows, polled_called, update_is_some}

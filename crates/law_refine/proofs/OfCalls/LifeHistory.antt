@@ -2,7 +2,7 @@
 use Rattle.std.proofs.Common.{◌≡◌, ℕ, ◌∙◌, List, [], ◌∷◌, refl, ap, sym}
 use Rattle.std.specs.Prelude.{Option, Some, None, slice_get}
 use Rattle.fkv_epoch.proofs.Shown.{none_some}
-use Rattle.fkv_order.specs.Ghosts.{Ghosts, GhostEvent, ghost_run}
+use Rattle.law_log.specs.Ghosts.{Ghosts, GhostEvent, ghost_run}
 use Rattle.fkv_session.specs.Replies.{with_effect}
 use Rattle.fkv_session.specs.Sessions.{SessionState}
 use Rattle.fkv_world.specs.Opened.{IsOpenedWorld}

@@ -17,13 +17,14 @@ use Rattle.fkv_session.specs.declared.answers.Told.{Told}
 use Rattle.fkv_session.specs.SessionRun.{SessionEvent, Begins, Replies, Gets, session_run}
 use Rattle.fkv_session.specs.Sessions.{SessionState, Seat, is_busy, session_ask, session_begun, session_next}
 use Rattle.fkv_world.specs.Actors.{is_of_session, session_goes}
-use Rattle.fkv_world.specs.Added.{call_begun, begun_by, call_answered, session_answered, keeper_told, is_calling, ended_by, told_by}
+use Rattle.law_world.specs.Runs.Added.{call_begun, begun_by, call_answered, session_answered, keeper_told, is_calling, ended_by, told_by}
 use Rattle.fkv_world.specs.Moves.{Near}
 use Rattle.fkv_world.specs.OwnEvents.{session_got, session_slots, session_steps, session_part, session_part_found, session_part_of}
 use Rattle.fkv_world.specs.Past.{TraceEvent, Called, Answered, CommitAsked, TurnAsked}
 use Rattle.fkv_world.specs.Runs.{World, happens}
 use Rattle.fkv_world.specs.World.{Event, Calls, Moves, Commits, Turns, KeeperMoves, Crashes, Now, seat_at, near}
-use Rattle.fkv_world.proofs.Shown.{happens_session, in_hand as busy_stays, is_over, no_session, none_in_hand, session_apart, session_written}
+use Rattle.fkv_world.proofs.Shown.{happens_session, is_over, session_apart, session_written}
+use Rattle.law_world.proofs.OfRuns.Nothing.{in_hand as busy_stays, no_session, none_in_hand}
 
 -- no session tells these
 abbrev pub is_of_keeper : TraceEvent → Type 0

@@ -10,8 +10,8 @@ use Rattle.fkv_map.specs.declared.operations.Call.TheVariants as call
 use Rattle.fkv_map.specs.declared.operations.Op.TheVariants as op
 use Rattle.fkv_map.specs.declared.operations.Reply.{Reply}
 use Rattle.fkv_map.specs.declared.operations.Reply.TheVariants as reply
-use Rattle.fkv_order.specs.Trace as log
-use Rattle.fkv_order.specs.Trace.{TraceLine, CallsUpdate, RefusesUpdate, GivesResult, CallsRead, AnswersRead, IsIn, called_as, HasUpdate, HasReply}
+use Rattle.law_log.specs.Trace as log
+use Rattle.law_log.specs.Trace.{TraceLine, CallsUpdate, RefusesUpdate, GivesResult, CallsRead, AnswersRead, IsIn, called_as, HasUpdate, HasReply}
 use Rattle.fkv_session.specs.declared.answers.Finished.{Finished}
 use Rattle.fkv_session.specs.declared.answers.Finished.TheVariants as finished
 use Rattle.fkv_session.specs.declared.answers.Told.{Told}
@@ -23,14 +23,16 @@ use Rattle.fkv_session.specs.Replies.{is_of, UpdateDone, done_by, with_done, don
 use Rattle.fkv_session.specs.SessionRun.{Telling, with_finished, in_hand}
 use Rattle.fkv_session.specs.Sessions.{SessionState, is_busy}
 use Rattle.fkv_session.proofs.Shown.{run_none, run_replies}
-use Rattle.fkv_world.specs.Added.{call_answered, told_at, told_by}
+use Rattle.law_world.specs.Runs.Added.{call_answered, told_at, told_by}
 use Rattle.fkv_world.specs.Opened.{HasBecome, IsOpenedWorld, answers_of, effects_of, life_told}
 use Rattle.fkv_world.specs.Opened as world
 use Rattle.fkv_world.specs.OwnEvents.{session_events}
 use Rattle.fkv_world.specs.Past.{Effect, Traced, TraceEvent, Called, Answered}
 use Rattle.fkv_world.specs.Runs.{World, happens, run}
 use Rattle.fkv_world.specs.World.{Event, seat_at}
-use Rattle.fkv_world.proofs.Shown.{life_made, of_run, opened_so, to_run, trace_so}
+use Rattle.law_world.proofs.OfSessions.Effects.{life_made}
+use Rattle.law_world.proofs.OfSessions.OwnRun.{of_run, opened_so, to_run}
+use Rattle.law_world.proofs.OfRuns.Added.{trace_so}
 use Rattle.law_refine.specs.Events.GhostEvents.{serials_in}
 use Rattle.law_refine.specs.Events.Lines.{CallMade, last_call, next_serial, call_lines, finished_line, finished_lines, refused_call, refused_lines, answer_lines, event_lines, lines_of, lines_added}
 use Rattle.law_refine.specs.Calls.Calls.{effects_in_log, effects_of_life, lines_of_life, event_adds, OwesCall, EachOwes}

@@ -28,7 +28,7 @@ use Rattle.fkv_world.specs.World.{session_called}
 use Rattle.law_refine.specs.Events.Reservations.{MovesOn, Keeps, Reservation}
 use Rattle.law_refine.specs.Events.Reserved.{reserved_by, sitting_reserves}
 use Rattle.law_refine.specs.Events.Sessions.{sitting_ghosts, step_ghosts}
-use Rattle.law_refine.proofs.OfEvents.NoSlots.{IsOffSlots, passed_off, attempt_off_slots}
+use Rattle.law_world.proofs.OfRuns.NoSlots.{IsOffSlots, passed_off, attempt_off_slots}
 use Rattle.law_refine.proofs.OfEvents.SessionSteps.{IsFreeOf, either_free, attempts_free, polls_free, catch_free, clear_free, turn_free, leave_free}
 
 -- ---- a call begins where none is in hand, and reserves nothing

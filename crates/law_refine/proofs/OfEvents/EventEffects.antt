@@ -4,8 +4,8 @@ use Rattle.std.specs.Prelude.{map, ◌==◌, if◌then◌else◌, Option, Some, 
 use Rattle.fkv_base.specs.declared.numbers.Version.{Version}
 use Rattle.fkv_map.specs.declared.history.HistoryEntry.{HistoryEntry}
 use Rattle.fkv_map.specs.declared.operations.Call.TheVariants.{Refresh}
-use Rattle.fkv_order.specs.Ghosts.{GhostEvent, Tells, Fixes}
-use Rattle.fkv_order.specs.Trace.{TraceLine}
+use Rattle.law_log.specs.Ghosts.{GhostEvent, Tells, Fixes}
+use Rattle.law_log.specs.Trace.{TraceLine}
 use Rattle.fkv_plane.specs.declared.asks.Ask.{Ask}
 use Rattle.fkv_plane.specs.declared.asks.Ask.TheVariants.{Put, Take, Done}
 use Rattle.fkv_plane.specs.Asked.{reply_to}
@@ -17,7 +17,9 @@ use Rattle.fkv_session.specs.Sessions.{SessionState, Seat, session_ask, session_
 use Rattle.fkv_world.specs.Past.{Effect, Past, Traced, effect_made, answer_traced, session_traced, history_after, life_past}
 use Rattle.fkv_world.specs.Runs.{World, happens, run}
 use Rattle.fkv_world.specs.World.{Event, Calls, Moves, Commits, Turns, KeeperMoves, Crashes, seat_at}
-use Rattle.fkv_world.proofs.Shown.{history_so, is_over, no_session}
+use Rattle.law_world.proofs.OfRuns.Added.{history_so}
+use Rattle.fkv_world.proofs.Shown.{is_over}
+use Rattle.law_world.proofs.OfRuns.Nothing.{no_session}
 use Rattle.law_guard.specs.Guarded.Shows.{IsOpened}
 use Rattle.law_refine.specs.Events.Effects.{AreQuiet, Stepped, TakesEffect, Quietly, Behind, MakesEffect, no_step, mover_step, step_at}
 use Rattle.law_refine.specs.Events.GhostEvents.{moved_ghosts, own_ghosts, safe_at, fixed_ghosts, traced_by, serials_in, ghost_events}

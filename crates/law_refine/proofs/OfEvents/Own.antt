@@ -4,7 +4,7 @@ use Rattle.std.specs.Prelude.{⊤, slice_get, Option, Some, None, if◌then◌el
 use Rattle.fkv_map.specs.declared.history.HistoryEntry.{HistoryEntry}
 use Rattle.fkv_map.specs.declared.operations.Op.{Op}
 use Rattle.fkv_map.specs.declared.operations.Op.TheVariants.{Read}
-use Rattle.fkv_order.specs.Ghosts.{GhostEvent, Tells, Fixes}
+use Rattle.law_log.specs.Ghosts.{GhostEvent, Tells, Fixes}
 use Rattle.fkv_plane.specs.declared.asks.Ask.{Ask}
 use Rattle.fkv_plane.specs.declared.asks.Ask.TheVariants.{Put, Take, Done}
 use Rattle.fkv_plane.specs.declared.places.Places.{Places}

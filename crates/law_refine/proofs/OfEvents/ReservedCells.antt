@@ -3,9 +3,9 @@ use Rattle.std.proofs.Common.{◌≡◌, ◌≢◌, ℕ, ◌∙◌, inl, inr, re
 use Rattle.std.specs.Prelude.{Option, Some, None}
 use Rattle.fkv_map.specs.declared.history.HistoryEntry.{HistoryEntry}
 use Rattle.fkv_epoch.proofs.Shown.{none_some, same_or, some_same}
-use Rattle.fkv_order.specs.Chains.{Cell, Logged, Unborn, Reserved, Published, Dropped}
-use Rattle.fkv_order.specs.Ghosts.{Log, Ghosts, GhostEvent, Reserves, Publishes, Drops, Changes, set_at, published, dropped, changed, changed_by, log_after, ghosts_after, ghost_run}
-use Rattle.fkv_order.proofs.Shown.{set_there, set_else, at_one}
+use Rattle.law_log.specs.Chains.{Cell, Logged, Unborn, Reserved, Published, Dropped}
+use Rattle.law_log.specs.Ghosts.{Log, Ghosts, GhostEvent, Reserves, Publishes, Drops, Changes, set_at, published, dropped, changed, changed_by, log_after, ghosts_after, ghost_run}
+use Rattle.law_log.proofs.Shown.{set_there, set_else, at_one}
 use Rattle.law_refine.specs.Events.Reservations.{is_still, AreStill, Reservation, TakesTail, MovesOn, Keeps, Behind, TakesOne, LosesOne, PublishesOne, DropsOne}
 use Rattle.law_refine.specs.Events.Reserved.{IsReserved, meets_reserved, AllMeetReserved}
 

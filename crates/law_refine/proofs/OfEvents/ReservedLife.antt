@@ -6,9 +6,9 @@ use Rattle.fkv_map.specs.declared.history.HistoryEntry.{HistoryEntry}
 use Rattle.fkv_map.specs.declared.operations.Call.{Call}
 use Rattle.fkv_map.specs.declared.operations.Call.TheVariants.{Refresh}
 use Rattle.fkv_epoch.proofs.Shown.{none_some, same_or}
-use Rattle.fkv_order.specs.Chains.{Cell, Unborn}
-use Rattle.fkv_order.specs.Ghosts.{Ghosts, GhostEvent, Tells, Fixes, ghost_run}
-use Rattle.fkv_order.specs.Trace.{TraceLine}
+use Rattle.law_log.specs.Chains.{Cell, Unborn}
+use Rattle.law_log.specs.Ghosts.{Ghosts, GhostEvent, Tells, Fixes, ghost_run}
+use Rattle.law_log.specs.Trace.{TraceLine}
 use Rattle.fkv_plane.specs.declared.asks.Ask.{Ask}
 use Rattle.fkv_plane.specs.declared.places.SharedWord.TheVariants as one
 use Rattle.fkv_plane.specs.Asked.{asked, asked_place, reply_to, word_at, word_found}
@@ -18,7 +18,8 @@ use Rattle.fkv_session.specs.Sessions.{SessionState, Seat, session_ask}
 use Rattle.fkv_world.specs.Actors.{is_of_session, session_goes}
 use Rattle.fkv_world.specs.Runs.{World, happens, run}
 use Rattle.fkv_world.specs.World.{Event, Calls, Moves, Commits, Turns, KeeperMoves, Crashes, Now, seat_at, near}
-use Rattle.fkv_world.proofs.Shown.{is_over, no_session, session_apart, session_written}
+use Rattle.fkv_world.proofs.Shown.{is_over, session_apart, session_written}
+use Rattle.law_world.proofs.OfRuns.Nothing.{no_session}
 use Rattle.law_guard.specs.Guarded.Shows.{IsOpened}
 use Rattle.law_refine.specs.Events.GhostEvents.{home_in, moved_ghosts, own_ghosts, safe_at, fixed_ghosts, traced_by, serials_in, ghost_events, mapped, life_ghosts}
 use Rattle.law_refine.specs.Events.Lines.{lines_added}

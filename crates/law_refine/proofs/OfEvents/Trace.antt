@@ -1,13 +1,13 @@
 -- The log's trace beside a life is the life's trace, line by line.
 use Rattle.std.proofs.Common.{◌≡◌, ℕ, ◌∙◌, refl, sym, ap, Bool, true, false, List, [], ◌∷◌, ◌++◌, append-nil, append_assoc}
 use Rattle.std.specs.Prelude.{length, map, if◌then◌else◌, ◌==◌}
-use Rattle.fkv_order.specs.Ghosts.{Ghosts, GhostEvent, Tells, FindsEntry, TakesValue, Reserves, Publishes, Drops, Changes, Fixes, trace_after, ghosts_after, ghost_run}
-use Rattle.fkv_order.specs.Trace.{TraceLine}
-use Rattle.fkv_world.specs.Added.{told_at, begun_by, ended_by}
+use Rattle.law_log.specs.Ghosts.{Ghosts, GhostEvent, Tells, FindsEntry, TakesValue, Reserves, Publishes, Drops, Changes, Fixes, trace_after, ghosts_after, ghost_run}
+use Rattle.law_log.specs.Trace.{TraceLine}
+use Rattle.law_world.specs.Runs.Added.{told_at, begun_by, ended_by}
 use Rattle.fkv_world.specs.Past.{Traced}
 use Rattle.fkv_world.specs.Runs.{World, happens, run}
 use Rattle.fkv_world.specs.World.{Event}
-use Rattle.fkv_world.proofs.Shown.{trace_so}
+use Rattle.law_world.proofs.OfRuns.Added.{trace_so}
 use Rattle.law_refine.specs.Events.GhostEvents.{own_ghosts, safe_at, fixed_ghosts, traced_by, serials_in, ghost_events, mapped, home_in, life_ghosts}
 use Rattle.law_refine.specs.Events.Lines.{event_lines, lines_of, lines_added}
 use Rattle.law_refine.proofs.OfEvents.Own.{AreOwn, own_own}

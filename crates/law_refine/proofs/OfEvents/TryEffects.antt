@@ -11,7 +11,7 @@ use Rattle.fkv_map.specs.declared.operations.Op.TheVariants.{Read, Upsert, Delet
 use Rattle.fkv_map.specs.declared.operations.Reply.{Reply}
 use Rattle.fkv_map.specs.Map.{absent_word}
 use Rattle.fkv_map.specs.Keys.{key_of, value_applied, reply_from}
-use Rattle.fkv_order.specs.Ghosts.{GhostEvent, Changes, Reserves as TakesAddr, Drops}
+use Rattle.law_log.specs.Ghosts.{GhostEvent, Changes, Reserves as TakesAddr, Drops}
 use Rattle.fkv_plane.specs.declared.asks.Ask.{Ask}
 use Rattle.fkv_plane.specs.declared.asks.Ask.TheVariants.{Load, Store, Swap, Cas, Add, Max, Put, Take, Done}
 use Rattle.fkv_plane.specs.declared.places.RecordWord.TheVariants as rec

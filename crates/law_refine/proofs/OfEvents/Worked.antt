@@ -12,7 +12,7 @@ use Rattle.fkv_world.specs.World.{life_goes}
 use Rattle.fkv_world.specs.Moves.{session_settled, session_asks}
 use Rattle.fkv_world.specs.Past.{history_after, life_past}
 use Rattle.fkv_world.specs.Runs.{run}
-use Rattle.fkv_world.specs.Added.{begun_by, ended_by}
+use Rattle.law_world.specs.Runs.Added.{begun_by, ended_by}
 use Rattle.fkv_session.specs.Sessions.{sitting_ask, attempts, polls_at, op_begun, refresh_call, poll_call, sleep_call, wake_call, accepts, shifts, attempt_ledto, catch_ledto, clear_ledto, finishes_request, keeps_request, poll_ledto, turn_ledto, leave_ledto, sitting_next, sitting_given}
 use Rattle.fkv_pending.specs.Attempting.{attempting_ask, look_ledto, try_ledto, put_ledto, attempting_next}
 use Rattle.fkv_pending.specs.Pending.{with_sought, with_held, with_latch, with_asked}
@@ -29,7 +29,7 @@ use Rattle.fkv_log.specs.Filling.{fill_ask, fill_next}
 use Rattle.fkv_log.specs.Loading.{load_ask, load_next, load_next_ask, load_on}
 use Rattle.fkv_log.specs.Invalidating.{invalidate_ask, invalidate_next}
 use Rattle.fkv_plane.specs.Passing.{passed}
-use Rattle.fkv_order.specs.Ghosts.{set_at, ghosts_after, ghost_run}
+use Rattle.law_log.specs.Ghosts.{set_at, ghosts_after, ghost_run}
 use Rattle.law_refine.specs.Events.GhostEvents.{ghost_events, mapped}
 use Rattle.law_refine.specs.Events.Lines.{lines_of, lines_added}
 use Rattle.law_refine.specs.Events.Sessions.{step_ghosts}

@@ -6,7 +6,7 @@ use Rattle.fkv_index.specs.declared.homes.Home.{Home}
 use Rattle.fkv_index.specs.Buckets.{bucket_words}
 use Rattle.fkv_index.specs.Entries.{entry_in, entry_at, order_of}
 use Rattle.fkv_index.specs.Slots.{entry_addr, entry_tag}
-use Rattle.fkv_order.specs.Ghosts.{Log}
+use Rattle.law_log.specs.Ghosts.{Log}
 use Rattle.fkv_index.specs.OneEntry.{IsHome}
 use Rattle.fkv_index.specs.IndexWorld.{index_run, new_entry}
 use Rattle.fkv_world.specs.Runs.{World}

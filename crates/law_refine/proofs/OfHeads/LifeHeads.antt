@@ -4,8 +4,8 @@ use Rattle.std.specs.Prelude.{map, ◌==◌, if◌then◌else◌, Option, Some, 
 use Rattle.fkv_map.specs.declared.history.HistoryEntry.{HistoryEntry}
 use Rattle.fkv_map.specs.declared.operations.Op.{Op}
 use Rattle.fkv_map.specs.Keys.{key_of}
-use Rattle.fkv_order.specs.Ghosts.{Log, Ghosts, GhostEvent, Tells, Fixes, ghost_run}
-use Rattle.fkv_order.specs.Trace.{TraceLine}
+use Rattle.law_log.specs.Ghosts.{Log, Ghosts, GhostEvent, Tells, Fixes, ghost_run}
+use Rattle.law_log.specs.Trace.{TraceLine}
 use Rattle.fkv_plane.specs.declared.asks.Ask.{Ask}
 use Rattle.fkv_plane.specs.declared.asks.Ask.TheVariants.{Load, Store, Swap, Cas, Add, Max, Put, Take, Done}
 use Rattle.fkv_plane.specs.declared.places.Places.{Places}

@@ -9,9 +9,9 @@ use Rattle.fkv_index.specs.Entries.{NewEntry, IsPublished}
 use Rattle.fkv_index.specs.IndexWorld.{new_entry}
 use Rattle.fkv_index.specs.OneEntry.{IsHome}
 use Rattle.fkv_index.specs.Slots.{entry_addr}
-use Rattle.fkv_order.specs.Chains.{Cell, Logged, Reserved, Published, head_of}
-use Rattle.fkv_order.specs.Ghosts.{Log, Ghosts, GhostEvent, Publishes, Drops, Changes, set_at, published, dropped, changed, log_after, ghosts_after, ghost_run}
-use Rattle.fkv_order.proofs.Shown.{set_there, set_else}
+use Rattle.law_log.specs.Chains.{Cell, Logged, Reserved, Published, head_of}
+use Rattle.law_log.specs.Ghosts.{Log, Ghosts, GhostEvent, Publishes, Drops, Changes, set_at, published, dropped, changed, log_after, ghosts_after, ghost_run}
+use Rattle.law_log.proofs.Shown.{set_there, set_else}
 use Rattle.law_refine.specs.Events.GhostEvents.{home_number}
 use Rattle.law_refine.specs.Heads.Heads.{entry_to, head_at, IsAtHead, meets_head, AllMeetHeads}
 use Rattle.law_refine.proofs.OfHeads.Entries.{IsTagged, entry_some, leads_addr, same_home}

@@ -2,8 +2,8 @@
 use Rattle.std.proofs.Common.{◌≡◌, ℕ, inl, inr, List, [], ◌∷◌}
 use Rattle.std.specs.Prelude.{Option, Some, None, slice_get}
 use Rattle.std.proofs.lemmas.Bool.{cases_lt}
-use Rattle.fkv_order.specs.Chains.{Logged, Unborn, Published}
-use Rattle.fkv_order.specs.Ghosts.{Ghosts}
+use Rattle.law_log.specs.Chains.{Logged, Unborn, Published}
+use Rattle.law_log.specs.Ghosts.{Ghosts}
 use Rattle.fkv_session.specs.Sessions.{SessionState}
 use Rattle.fkv_world.specs.Runs.{World, run}
 use Rattle.fkv_world.specs.World.{Event, Moves}

@@ -4,7 +4,7 @@ use Rattle.std.specs.Prelude.{Some, slice_get}
 use Rattle.fkv_base.specs.declared.shapes.Shape.{Shape}
 use Rattle.fkv_disk.specs.Calls.{Call}
 use Rattle.fkv_flush.specs.GuardFlushed.{IsSynced}
-use Rattle.fkv_order.specs.Ghosts.{Ghosts, Log}
+use Rattle.law_log.specs.Ghosts.{Ghosts, Log}
 use Rattle.fkv_plane.specs.declared.places.Places.{Places}
 use Rattle.fkv_plane.specs.Asked.{word_at}
 use Rattle.fkv_plane.specs.Places.{record_place}

@@ -6,7 +6,7 @@ use Rattle.fkv_map.specs.declared.history.HistoryEntry.{HistoryEntry}
 use Rattle.fkv_map.specs.declared.operations.Op.{Op}
 use Rattle.fkv_map.specs.declared.operations.Op.TheVariants.{Read}
 use Rattle.fkv_map.specs.Keys.{reply_from}
-use Rattle.fkv_order.specs.Ghosts.{GhostEvent, Publishes, Changes, Drops, Reserves as TakesAddr}
+use Rattle.law_log.specs.Ghosts.{GhostEvent, Publishes, Changes, Drops, Reserves as TakesAddr}
 use Rattle.fkv_plane.specs.declared.asks.Ask.{Ask}
 use Rattle.fkv_plane.specs.declared.asks.Ask.TheVariants.{Done}
 use Rattle.fkv_plane.specs.declared.places.Places.{Places}

@@ -1,7 +1,7 @@
 -- So it is at every moment of a life.
 use Rattle.std.proofs.Common.{◌≡◌, ℕ, refl, arith, List, [], ◌∷◌}
-use Rattle.fkv_order.specs.Chains.{Cell, Logged, Unborn, Published}
-use Rattle.fkv_order.specs.Ghosts.{Ghosts, ghost_run}
+use Rattle.law_log.specs.Chains.{Cell, Logged, Unborn, Published}
+use Rattle.law_log.specs.Ghosts.{Ghosts, ghost_run}
 use Rattle.fkv_world.specs.Runs.{World, run}
 use Rattle.fkv_world.specs.World.{Event}
 use Rattle.law_guard.specs.Guarded.Shows.{IsOpened}

@@ -1,9 +1,9 @@
 -- How an event of the log leaves it shown by the words that stand.
 use Rattle.std.proofs.Common.{◌≡◌, ◌≢◌, ℕ, ◌≤◌, ◌∙◌, inl, inr, sym, subst, List, [], ◌∷◌, ◌++◌}
 use Rattle.fkv_map.specs.declared.history.HistoryEntry.{HistoryEntry}
-use Rattle.fkv_order.specs.Chains.{Cell, Logged, Reserved, Published, Dropped}
-use Rattle.fkv_order.specs.Ghosts.{Log, Ghosts, GhostEvent, Reserves, Publishes, Drops, Changes, set_at, published, dropped, changed, changed_by, log_after, ghosts_after, ghost_run}
-use Rattle.fkv_order.proofs.Shown.{at_one}
+use Rattle.law_log.specs.Chains.{Cell, Logged, Reserved, Published, Dropped}
+use Rattle.law_log.specs.Ghosts.{Log, Ghosts, GhostEvent, Reserves, Publishes, Drops, Changes, set_at, published, dropped, changed, changed_by, log_after, ghosts_after, ghost_run}
+use Rattle.law_log.proofs.Shown.{at_one}
 use Rattle.law_refine.specs.Events.Effects.{is_quiet, AreQuiet}
 use Rattle.law_refine.specs.Records.Cells.{ShowsCell, StandsShowLog}
 use Rattle.law_refine.proofs.OfRecords.AppendRows.{Standing}

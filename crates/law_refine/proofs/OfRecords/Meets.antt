@@ -2,8 +2,8 @@
 use Rattle.std.proofs.Common.{◌≡◌, ℕ, refl, sym, subst, Bool, true, false, List, [], ◌∷◌, ◌++◌}
 use Rattle.std.specs.Prelude.{map, Option, Some, None, slice_get, if◌then◌else◌}
 use Rattle.fkv_map.specs.declared.history.HistoryEntry.{HistoryEntry}
-use Rattle.fkv_order.specs.Ghosts.{Log, Ghosts, GhostEvent, Tells, Changes, ghost_run}
-use Rattle.fkv_order.specs.Trace.{TraceLine}
+use Rattle.law_log.specs.Ghosts.{Log, Ghosts, GhostEvent, Tells, Changes, ghost_run}
+use Rattle.law_log.specs.Trace.{TraceLine}
 use Rattle.fkv_plane.specs.declared.asks.Ask.{Ask}
 use Rattle.fkv_plane.specs.declared.asks.Ask.TheVariants.{Put, Take, Done}
 use Rattle.fkv_plane.specs.Asked.{reply_to}

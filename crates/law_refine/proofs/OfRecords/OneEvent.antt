@@ -8,9 +8,9 @@ use Rattle.fkv_map.specs.declared.operations.Call.{Call}
 use Rattle.fkv_map.specs.declared.operations.Call.TheVariants.{Refresh}
 use Rattle.fkv_map.specs.Keys.{value_applied}
 use Rattle.fkv_epoch.proofs.Shown.{none_some, same_or, some_same}
-use Rattle.fkv_order.specs.Chains.{Cell, Logged, Unborn, Reserved, Published}
-use Rattle.fkv_order.specs.Ghosts.{Ghosts, GhostEvent, Tells, Fixes, changed_by, ghosts_after, ghost_run}
-use Rattle.fkv_order.specs.Trace.{TraceLine}
+use Rattle.law_log.specs.Chains.{Cell, Logged, Unborn, Reserved, Published}
+use Rattle.law_log.specs.Ghosts.{Ghosts, GhostEvent, Tells, Fixes, changed_by, ghosts_after, ghost_run}
+use Rattle.law_log.specs.Trace.{TraceLine}
 use Rattle.fkv_plane.specs.declared.asks.Ask.{Ask}
 use Rattle.fkv_plane.specs.declared.asks.Ask.TheVariants.{Put, Take, Done}
 use Rattle.fkv_plane.specs.declared.places.RecordWord.{RecordWord}
@@ -25,7 +25,8 @@ use Rattle.fkv_world.specs.Actors.{is_of_session, session_goes}
 use Rattle.fkv_world.specs.Moves.{session_moved}
 use Rattle.fkv_world.specs.Runs.{World, happens, run}
 use Rattle.fkv_world.specs.World.{Event, Calls, Moves, Commits, Turns, KeeperMoves, Crashes, Now, seat_at, near, session_called}
-use Rattle.fkv_world.proofs.Shown.{is_over, no_session, session_apart, session_written}
+use Rattle.fkv_world.proofs.Shown.{is_over, session_apart, session_written}
+use Rattle.law_world.proofs.OfRuns.Nothing.{no_session}
 use Rattle.law_guard.specs.Guarded.Shows.{IsOpened, AreFair, IsFair, SessionIsFair}
 use Rattle.law_refine.specs.Events.Effects.{AreQuiet, TakesEffect, Quietly, Behind, InPlace, ByRecord, step_of}
 use Rattle.law_refine.specs.Events.GhostEvents.{home_in, moved_ghosts, own_ghosts, safe_at, fixed_ghosts, traced_by, serials_in, ghost_events, mapped, life_ghosts}

@@ -15,7 +15,8 @@ use Rattle.fkv_flush.proofs.Shown.{stood_open}
 use Rattle.fkv_world.specs.Actors.{place_named}
 use Rattle.fkv_world.specs.Runs.{World, happens, run}
 use Rattle.fkv_world.specs.World.{Event, Now}
-use Rattle.fkv_world.proofs.Shown.{one_word, places_stay}
+use Rattle.law_world.proofs.OfRuns.OneWord.{one_word}
+use Rattle.fkv_world.proofs.Shown.{places_stay}
 use Rattle.law_guard.specs.Guarded.GuardEvents.{mapped}
 use Rattle.law_guard.specs.Guarded.Shows.{IsOpened, guard_opening, seen_by_guard}
 use Rattle.law_guard.proofs.OfGuarded.Worlds.{life_shows}

@@ -17,7 +17,8 @@ use Rattle.fkv_session.specs.Sessions.{SessionState, Seat, session_ask}
 use Rattle.law_guard.specs.Sessions.Owing.{changed_in_place, SessionOwes}
 use Rattle.fkv_world.specs.Runs.{World, happens, run}
 use Rattle.fkv_world.specs.World.{Event, Moves, Now, seat_at}
-use Rattle.fkv_world.proofs.Shown.{is_over, places_stay, session_writes}
+use Rattle.fkv_world.proofs.Shown.{is_over, places_stay}
+use Rattle.law_world.proofs.OfRuns.OneWord.{session_writes}
 use Rattle.law_guard.specs.Guarded.Shows.{IsOpened, AreFair, IsFair, SessionIsFair, seen_by_guard}
 use Rattle.law_guard.proofs.OfGuarded.Worlds.{life_shows}
 use Rattle.law_guard.proofs.OfGuarded.Flushed.{life_steady}

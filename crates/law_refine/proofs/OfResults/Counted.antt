@@ -8,7 +8,7 @@ use Rattle.fkv_map.specs.declared.history.HistoryEntry.{HistoryEntry}
 use Rattle.fkv_map.specs.declared.operations.Op.{Op}
 use Rattle.fkv_map.specs.declared.operations.Reply.{Reply}
 use Rattle.fkv_map.specs.declared.operations.Reply.TheVariants as reply
-use Rattle.fkv_order.specs.Trace.{IsIn}
+use Rattle.law_log.specs.Trace.{IsIn}
 use Rattle.fkv_session.specs.Accounts.{number_of}
 use Rattle.fkv_session.specs.declared.answers.Finished.{Finished}
 use Rattle.fkv_session.specs.declared.sessions.Sitting.{Sitting}
@@ -22,7 +22,8 @@ use Rattle.fkv_world.specs.OwnEvents.{session_events}
 use Rattle.fkv_world.specs.Past.{Effect}
 use Rattle.fkv_world.specs.Runs.{World}
 use Rattle.fkv_world.specs.World.{Event, seat_at}
-use Rattle.fkv_world.proofs.Shown.{life_made, of_run, opened_so}
+use Rattle.law_world.proofs.OfSessions.Effects.{life_made}
+use Rattle.law_world.proofs.OfSessions.OwnRun.{of_run, opened_so}
 use Rattle.law_refine.specs.Results.Results.{StaysOrTakes, TakesEffect, history_at}
 
 -- so many effects, whatever is asked of them, as updates that are told as done

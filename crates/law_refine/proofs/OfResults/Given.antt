@@ -4,7 +4,7 @@ use Rattle.std.specs.Prelude.{if◌then◌else◌, ◌==◌, ◌⊎◌, slice_ge
 use Rattle.std.proofs.lemmas.Bool.Decides.{nat_tests}
 use Rattle.fkv_words.specs.Fields.{bit_of}
 use Rattle.fkv_map.specs.declared.operations.Reply.{Reply}
-use Rattle.fkv_order.specs.Trace.{GivesResult, IsIn}
+use Rattle.law_log.specs.Trace.{GivesResult, IsIn}
 use Rattle.fkv_session.specs.Accounts.{number_of}
 use Rattle.fkv_session.specs.declared.answers.Finished.{Finished}
 use Rattle.fkv_session.specs.declared.answers.Finished.TheVariants as finished
@@ -20,7 +20,8 @@ use Rattle.fkv_world.specs.OwnEvents.{session_events}
 use Rattle.fkv_world.specs.Past.{Effect, Traced, TraceEvent, Called, Answered, CommitAsked, TurnAsked, KeeperAnswered}
 use Rattle.fkv_world.specs.Runs.{World, run}
 use Rattle.fkv_world.specs.World.{Event, seat_at}
-use Rattle.fkv_world.proofs.Shown.{life_heard, to_run}
+use Rattle.law_world.proofs.OfSessions.Heard.{life_heard}
+use Rattle.law_world.proofs.OfSessions.OwnRun.{to_run}
 use Rattle.law_refine.specs.Calls.Calls.{lines_of_life}
 use Rattle.law_refine.specs.Events.GhostEvents.{serials_in}
 use Rattle.law_refine.specs.Events.Lines.{finished_lines, answer_lines, event_lines, lines_of}

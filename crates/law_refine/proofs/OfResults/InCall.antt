@@ -4,7 +4,7 @@ use Rattle.std.specs.Prelude.{slice_get, Option, Some, None, if◌then◌else◌
 use Rattle.std.proofs.lemmas.Bool.Decides.{nat_tests}
 use Rattle.fkv_map.specs.declared.operations.Call.TheVariants as call
 use Rattle.fkv_map.specs.declared.operations.Op.{Op}
-use Rattle.fkv_order.specs.Trace.{HasUpdate, IsIn}
+use Rattle.law_log.specs.Trace.{HasUpdate, IsIn}
 use Rattle.fkv_plane.specs.declared.actions.Action.{Action}
 use Rattle.fkv_plane.specs.declared.asks.Ask.{Ask}
 use Rattle.fkv_plane.specs.declared.asks.Ask.TheVariants.{Put, Take, Done}
@@ -17,14 +17,15 @@ use Rattle.fkv_session.specs.declared.sessions.Sitting.TheVariants.{Idle}
 use Rattle.fkv_session.specs.Replies.{done_told}
 use Rattle.fkv_session.specs.SessionRun.{SessionEvent, Begins, Replies, Gets, session_run, Telling, telling, tellings}
 use Rattle.fkv_session.specs.Sessions.{SessionState, Seat, is_busy, session_ask, session_next}
-use Rattle.fkv_world.specs.Added.{IsEffectOf, IsHistoryAfter}
+use Rattle.law_world.specs.Runs.Added.{IsEffectOf, IsHistoryAfter}
 use Rattle.fkv_world.specs.Moves.{Near}
 use Rattle.fkv_world.specs.Opened.{HasBecome, IsOpenedWorld, effects_of, life_told}
 use Rattle.fkv_world.specs.OwnEvents.{session_got, session_slots, session_steps, session_part, session_part_found, session_part_of, session_events}
 use Rattle.fkv_world.specs.Past.{Effect}
 use Rattle.fkv_world.specs.Runs.{World, happens, run}
 use Rattle.fkv_world.specs.World.{Event, Calls, Moves, Now, seat_at, near}
-use Rattle.fkv_world.proofs.Shown.{here, history_so, of_run, opened_so, to_run}
+use Rattle.law_world.proofs.OfSessions.OwnRun.{here, of_run, opened_so, to_run}
+use Rattle.law_world.proofs.OfRuns.Added.{history_so}
 use Rattle.law_refine.proofs.OfCalls.InHand.{effect_in_hand}
 use Rattle.law_refine.specs.Calls.Calls.{effect_in_log, effects_in_log, effects_of_life}
 use Rattle.law_refine.specs.Results.Results.{in_call, history_at, TakesEffect, StaysOrTakes, IsResult}

@@ -9,7 +9,8 @@ use Rattle.fkv_world.specs.Actors.{is_of_session}
 use Rattle.fkv_world.specs.Opened.{HasBecome, IsOpenedWorld}
 use Rattle.fkv_world.specs.Runs.{World, happens, run}
 use Rattle.fkv_world.specs.World.{Event, Calls, Moves, Commits, Turns, KeeperMoves, Crashes}
-use Rattle.fkv_world.proofs.Shown.{no_session, session_apart}
+use Rattle.law_world.proofs.OfRuns.Nothing.{no_session}
+use Rattle.fkv_world.proofs.Shown.{session_apart}
 
 none_after : (w : World) (event : Event) (number : ℕ) (mine : Bool) → is_of_session number event ≡ mine → slice_get w.now.sessions number ≡ None → slice_get (happens w event).now.sessions number ≡ None
 none_after w event number false e none = session_apart w event number e ∙ none

@@ -2,19 +2,21 @@
 use Rattle.std.proofs.Common.{◌≡◌, ℕ, ◌∙◌, List, [], ◌∷◌, refl, ap, sym, subst, inl, inr}
 use Rattle.std.specs.Prelude.{slice_get, Option, Some}
 use Rattle.fkv_map.specs.declared.history.HistoryEntry.{HistoryEntry}
-use Rattle.fkv_order.specs.Trace.{GivesResult, IsIn}
+use Rattle.law_log.specs.Trace.{GivesResult, IsIn}
 use Rattle.fkv_plane.specs.Asked.{reply_to}
 use Rattle.fkv_session.specs.Replies.{AreOfTheirCalls, effects_told, op_called, serials_taken, with_effect}
 use Rattle.fkv_session.specs.SessionRun.{SessionEvent, Replies, session_happens, session_run}
 use Rattle.fkv_session.specs.Sessions.{SessionState, Seat, IsOpened, session_ask, session_next}
 use Rattle.fkv_session.proofs.Shown.{run_own}
-use Rattle.fkv_world.specs.Added.{IsEffectOf, IsHistoryAfter}
+use Rattle.law_world.specs.Runs.Added.{IsEffectOf, IsHistoryAfter}
 use Rattle.fkv_world.specs.Opened.{HasBecome, IsOpenedWorld}
 use Rattle.fkv_world.specs.OwnEvents.{session_events, session_part_of}
 use Rattle.fkv_world.specs.Past.{Effect}
 use Rattle.fkv_world.specs.Runs.{World, happens, run}
 use Rattle.fkv_world.specs.World.{Event, seat_at}
-use Rattle.fkv_world.proofs.Shown.{happens_session, here, history_so, opened_so, same_seat}
+use Rattle.fkv_world.proofs.Shown.{happens_session, same_seat}
+use Rattle.law_world.proofs.OfSessions.OwnRun.{here, opened_so}
+use Rattle.law_world.proofs.OfRuns.Added.{history_so}
 use Rattle.law_refine.specs.Calls.Calls.{lines_of_life}
 use Rattle.law_refine.specs.Results.Results.{NobodyCalls, history_at}
 use Rattle.law_refine.proofs.OfResults.Given.{all_given}

@@ -6,7 +6,7 @@ use Rattle.fkv_flush.specs.GuardLevels.{levels_of}
 use Rattle.fkv_flush.specs.GuardSeen.{LastSeen}
 use Rattle.fkv_flush.specs.GuardWorld.{GuardWorld}
 use Rattle.fkv_map.specs.declared.operations.Call.{Call}
-use Rattle.fkv_order.specs.Ghosts.{Ghosts}
+use Rattle.law_log.specs.Ghosts.{Ghosts}
 use Rattle.fkv_plane.specs.declared.actions.Action.{Action}
 use Rattle.fkv_plane.specs.declared.asks.Ask.{Ask}
 use Rattle.fkv_plane.specs.declared.asks.Ask.TheVariants.{Load, Put, Take, Done}

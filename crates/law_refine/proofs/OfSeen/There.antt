@@ -11,7 +11,8 @@ use Rattle.fkv_world.specs.Actors.{is_of_session}
 use Rattle.fkv_world.specs.OwnEvents.{session_events}
 use Rattle.fkv_world.specs.Runs.{World, happens, run}
 use Rattle.fkv_world.specs.World.{Event, Calls, Moves, Commits, Turns, KeeperMoves, Crashes, seat_at}
-use Rattle.fkv_world.proofs.Shown.{no_session, session_apart, session_runs}
+use Rattle.law_world.proofs.OfRuns.Nothing.{no_session}
+use Rattle.fkv_world.proofs.Shown.{session_apart, session_runs}
 
 -- an event of a session that there isn't changes nothing
 none_called : (w : World) (i s : ℕ) (its : Call) (own : Bool) → is_of_session s (Calls i its) ≡ own → slice_get w.now.sessions s ≡ None → slice_get (happens w (Calls i its)).now.sessions s ≡ None

@@ -1,7 +1,7 @@
 -- What calls and answers owe in the log's words, beside what has taken effect and what was told before.
 use Rattle.std.specs.Prelude.{◌≡◌, ⊤, ℕ, Some, None, List, [], ◌∷◌, ◌++◌}
 use Rattle.fkv_map.specs.declared.history.HistoryEntry.{HistoryEntry}
-use Rattle.fkv_order.specs.Trace.{Effect, TraceLine, CallsUpdate, RefusesUpdate, GivesResult, CallsRead, AnswersRead, IsIn, called_as, HasUpdate, HasReply}
+use Rattle.law_log.specs.Trace.{Effect, TraceLine, CallsUpdate, RefusesUpdate, GivesResult, CallsRead, AnswersRead, IsIn, called_as, HasUpdate, HasReply}
 use Rattle.fkv_world.specs.Past as world
 use Rattle.fkv_world.specs.Runs.{World, run}
 use Rattle.fkv_world.specs.World.{Event}

@@ -4,8 +4,8 @@ use Rattle.fkv_base.specs.declared.numbers.Addr.{Addr}
 use Rattle.fkv_base.specs.declared.numbers.Serial.{Serial}
 use Rattle.fkv_map.specs.declared.history.HistoryEntry.{HistoryEntry}
 use Rattle.fkv_map.specs.declared.operations.Reply.{Reply}
-use Rattle.fkv_order.specs.Chains.{Cell}
-use Rattle.fkv_order.specs.Ghosts.{GhostEvent, Reserves, Publishes, Drops}
+use Rattle.law_log.specs.Chains.{Cell}
+use Rattle.law_log.specs.Ghosts.{GhostEvent, Reserves, Publishes, Drops}
 use Rattle.fkv_plane.specs.declared.asks.Ask.{Ask}
 use Rattle.fkv_plane.specs.declared.asks.Ask.TheVariants.{Done}
 use Rattle.fkv_log.specs.declared.invalidating.Invalidating.{Invalidating}

@@ -4,7 +4,7 @@ use Rattle.fkv_base.specs.declared.numbers.Version.{Version}
 use Rattle.fkv_map.specs.declared.history.HistoryEntry.{HistoryEntry}
 use Rattle.fkv_map.specs.Keys.{key_of, value_applied, reply_from}
 use Rattle.fkv_ops.specs.Values.{value_of, word_of}
-use Rattle.fkv_order.specs.Ghosts.{GhostEvent, Publishes, Changes}
+use Rattle.law_log.specs.Ghosts.{GhostEvent, Publishes, Changes}
 use Rattle.fkv_ops.specs.Requests.{is_read}
 use Rattle.fkv_session.specs.declared.sessions.Sitting.{Sitting}
 use Rattle.fkv_session.specs.declared.sessions.Sitting.TheVariants.{Attempts, Polls}

@@ -1,7 +1,7 @@
 -- Records that the log's events change in place are published ones.
 use Rattle.std.specs.Prelude.{⊤, ℕ, List, [], ◌∷◌}
-use Rattle.fkv_order.specs.Chains.{Logged, Published}
-use Rattle.fkv_order.specs.Ghosts.{Log, Ghosts, GhostEvent, Changes, ghost_run}
+use Rattle.law_log.specs.Chains.{Logged, Published}
+use Rattle.law_log.specs.Ghosts.{Log, Ghosts, GhostEvent, Changes, ghost_run}
 
 -- what stands at an address is a published record
 abbrev pub IsPublished : Logged → Type 0

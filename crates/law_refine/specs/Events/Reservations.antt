@@ -1,8 +1,8 @@
 -- What an append has reserved, by its control state: from the won Cas of the tail up to its publish, or to where the record is given up.
 use Rattle.std.specs.Prelude.{◌≡◌, ⊤, ℕ, ◌+◌, List, [], ◌∷◌, Option, Some, None}
 use Rattle.fkv_map.specs.declared.history.HistoryEntry.{HistoryEntry}
-use Rattle.fkv_order.specs.Chains.{Cell}
-use Rattle.fkv_order.specs.Ghosts.{GhostEvent, Reserves, Publishes, Drops}
+use Rattle.law_log.specs.Chains.{Cell}
+use Rattle.law_log.specs.Ghosts.{GhostEvent, Reserves, Publishes, Drops}
 use Rattle.fkv_plane.specs.declared.places.SharedWord.TheVariants as one
 use Rattle.fkv_plane.specs.Places.{shared_place}
 use Rattle.fkv_log.specs.declared.invalidating.Invalidating.{Invalidating}

@@ -1,8 +1,8 @@
 -- What a session has reserved, and how a reply moves that beside the log's events of the step.
 use Rattle.std.specs.Prelude.{◌≡◌, ⊤, ℕ, ◌<◌, ◌≤◌, List, [], ◌∷◌, Option, Some, None, slice_get}
 use Rattle.fkv_map.specs.declared.history.HistoryEntry.{HistoryEntry}
-use Rattle.fkv_order.specs.Chains.{Cell, Logged, Unborn, Reserved}
-use Rattle.fkv_order.specs.Ghosts.{Log, Ghosts, GhostEvent, Publishes, Drops, ghost_run}
+use Rattle.law_log.specs.Chains.{Cell, Logged, Unborn, Reserved}
+use Rattle.law_log.specs.Ghosts.{Log, Ghosts, GhostEvent, Publishes, Drops, ghost_run}
 use Rattle.fkv_plane.specs.declared.places.SharedWord.TheVariants as one
 use Rattle.fkv_plane.specs.Asked.{asked, asked_place, word_at}
 use Rattle.fkv_plane.specs.Places.{shared_place}

@@ -6,9 +6,9 @@ use Rattle.fkv_map.specs.declared.operations.Call.TheVariants as call
 use Rattle.fkv_map.specs.declared.operations.Op.{Op}
 use Rattle.fkv_map.specs.declared.operations.Op.TheVariants.{Upsert, Add, Read}
 use Rattle.fkv_map.specs.declared.operations.Reply.TheVariants.{Nothing, Number, Found, Absent}
-use Rattle.fkv_order.specs.Ghosts.{GhostEvent, Tells, FindsEntry, TakesValue, Reserves, Publishes, Drops, Changes, Fixes, shown}
-use Rattle.fkv_order.specs.Trace.{Effect, TraceLine, CallsUpdate, RefusesUpdate, GivesResult, CallsRead, AnswersRead}
-use Rattle.fkv_order.specs.Worked.{cell_of, empty_log, entry_of}
+use Rattle.law_log.specs.Ghosts.{GhostEvent, Tells, FindsEntry, TakesValue, Reserves, Publishes, Drops, Changes, Fixes, shown}
+use Rattle.law_log.specs.Trace.{Effect, TraceLine, CallsUpdate, RefusesUpdate, GivesResult, CallsRead, AnswersRead}
+use Rattle.law_log.specs.Worked.{cell_of, empty_log, entry_of}
 use Rattle.fkv_plane.specs.declared.places.Places.{Places}
 use Rattle.fkv_keeper.specs.Keeping.{KeeperState}
 use Rattle.fkv_ops.specs.declared.answers.Reason.TheVariants.{Disk}
@@ -16,7 +16,7 @@ use Rattle.fkv_session.specs.declared.answers.Finished.TheVariants as finished
 use Rattle.fkv_session.specs.declared.answers.Told.TheVariants as told
 use Rattle.fkv_session.specs.declared.sessions.Sitting.TheVariants.{Idle}
 use Rattle.fkv_session.specs.Sessions.{SessionState}
-use Rattle.fkv_world.specs.Added.{told_at}
+use Rattle.law_world.specs.Runs.Added.{told_at}
 use Rattle.fkv_world.specs.Opened.{IsOpenedWorld}
 use Rattle.fkv_world.specs.Past.{Traced, Called, Answered}
 use Rattle.fkv_world.specs.Runs.{World}

@@ -4,8 +4,8 @@ use Rattle.fkv_index.specs.declared.homes.Home.{Home}
 use Rattle.fkv_index.specs.Entries.{entry_at}
 use Rattle.fkv_index.specs.IndexWorld.{new_entry}
 use Rattle.fkv_index.specs.OneEntry.{IsHome}
-use Rattle.fkv_order.specs.Chains.{Logged, Reserved, head_of}
-use Rattle.fkv_order.specs.Ghosts.{Log, Ghosts, GhostEvent, Publishes, ghost_run}
+use Rattle.law_log.specs.Chains.{Logged, Reserved, head_of}
+use Rattle.law_log.specs.Ghosts.{Log, Ghosts, GhostEvent, Publishes, ghost_run}
 use Rattle.fkv_world.specs.World.{Now}
 use Rattle.law_refine.specs.Events.GhostEvents.{home_number}
 

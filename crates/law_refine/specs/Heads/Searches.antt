@@ -10,7 +10,7 @@ use Rattle.fkv_index.specs.declared.finding.Found.TheVariants.{Slot, NoSlot}
 use Rattle.fkv_index.specs.declared.homes.Home.{Home}
 use Rattle.fkv_index.specs.Finding.{find_ask, find_next_ask}
 use Rattle.fkv_index.specs.Slots.{entry_addr, home_of}
-use Rattle.fkv_order.specs.Ghosts.{Log}
+use Rattle.law_log.specs.Ghosts.{Log}
 use Rattle.fkv_pending.specs.declared.attempting.Attempting.{Attempting}
 use Rattle.fkv_pending.specs.declared.attempting.Attempting.TheVariants.{Tries}
 use Rattle.fkv_pending.specs.Attempting.{AttemptState}

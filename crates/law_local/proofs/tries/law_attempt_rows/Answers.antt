@@ -1,6 +1,6 @@
 -- The law, by the rows of requests that wait and of attempts.
-use Rattle.fkv_order.proofs.Shown.{run_held, log_steps}
-use Rattle.fkv_order.specs.Ghosts.{ghost_run, log_after}
+use Rattle.law_log.proofs.Shown.{run_held, log_steps}
+use Rattle.law_log.specs.Ghosts.{ghost_run, log_after}
 use Rattle.law_local.proofs.OfTries.AttemptGrows.{pending_grows, pending_later, attempt_grows}
 use Rattle.law_local.proofs.OfTries.AttemptSteps.{attempt_begins, attempt_leads}
 use Rattle.law_local.proofs.OfTries.Keeping.{older_kept_for}

@@ -1,6 +1,6 @@
 -- The law, by the rows of tries.
-use Rattle.fkv_order.proofs.Shown.{run_held, log_steps}
-use Rattle.fkv_order.specs.Ghosts.{ghost_run, log_after}
+use Rattle.law_log.proofs.Shown.{run_held, log_steps}
+use Rattle.law_log.specs.Ghosts.{ghost_run, log_after}
 use Rattle.law_local.proofs.OfTries.TryBegins.{try_begins}
 use Rattle.law_local.proofs.OfTries.TryGrows.{request_later, try_grows}
 use Rattle.law_local.proofs.OfTries.TrySteps.{try_leads}

@@ -3,9 +3,9 @@ use Rattle.std.proofs.Common.{subst, sym, List, [], ◌∷◌}
 use Rattle.fkv_base.specs.declared.shapes.Shape.{Shape}
 use Rattle.fkv_core.specs.Openings.{beginning}
 use Rattle.fkv_map.specs.History.{IsLegal}
-use Rattle.fkv_order.specs.Ghosts.{Ghosts}
-use Rattle.fkv_order.specs.Owed.{IsOpened}
-use Rattle.fkv_order.specs.Trace.{OrdersCalls, ReadsAreFresh, TraceLine}
+use Rattle.law_log.specs.Ghosts.{Ghosts}
+use Rattle.law_log.specs.Owed.{IsOpened}
+use Rattle.law_log.specs.Trace.{OrdersCalls, ReadsAreFresh, TraceLine}
 use Rattle.law_opening.specs.Log.Lives.{ghosts_beside}
 use Rattle.law_opening.specs.Log.Maps.{opening_map}
 use Rattle.law_opening.specs.Log.OpeningLog.{opening_ghosts}

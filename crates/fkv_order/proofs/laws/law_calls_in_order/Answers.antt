@@ -1,9 +1,0 @@
--- The law, by what holds of log, trace and reads at each moment.
-use Rattle.fkv_order.proofs.Sound.{run_sound}
-use Rattle.fkv_order.proofs.laws.law_calls_in_order.Goals as goal
-
-pub returns-clause-orders : goal.returns-clause-orders
-returns-clause-orders c = λ home m version opening events opened owed. (run_sound home m version opening events opened owed).orders
-
-pub returns-clause-fresh : goal.returns-clause-fresh
-returns-clause-fresh c = λ home m version opening events opened owed. (run_sound home m version opening events opened owed).fresh

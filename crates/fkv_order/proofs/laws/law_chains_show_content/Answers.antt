@@ -1,9 +1,0 @@
--- The law, by what holds of a log at each moment.
-use Rattle.fkv_order.proofs.LogSteps.{run_held}
-use Rattle.fkv_order.proofs.laws.law_chains_show_content.Goals as goal
-
-pub returns-clause-content : goal.returns-clause-content
-returns-clause-content c = λ home m version opening events opened owed. (run_held home m version opening events opened owed).shows
-
-pub returns-clause-legal : goal.returns-clause-legal
-returns-clause-legal c = λ home m version opening events opened owed. (run_held home m version opening events opened owed).legal

@@ -1,9 +1,0 @@
--- Each machine by its own events.
-use Rattle.fkv_world.proofs.OwnRuns.{keeper_runs, session_runs}
-use Rattle.fkv_world.proofs.laws.law_of_own_runs.Goals as goal
-
-pub returns-clause-session : goal.returns-clause-session
-returns-clause-session c = λ opening session first events found. session_runs opening session first events found
-
-pub returns-clause-keeper : goal.returns-clause-keeper
-returns-clause-keeper c = λ opening events. keeper_runs opening events

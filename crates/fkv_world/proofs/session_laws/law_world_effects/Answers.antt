@@ -1,6 +1,0 @@
--- The history of a session, by what its own run has told.
-use Rattle.fkv_world.proofs.Effects.{life_made}
-use Rattle.fkv_world.proofs.session_laws.law_world_effects.Goals as goal
-
-pub returns : goal.returns
-returns c = λ opening events session first its became. life_made opening events session first its became

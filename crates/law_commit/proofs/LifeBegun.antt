@@ -1,0 +1,33 @@
+-- The commits that have begun in a life.
+use Rattle.std.proofs.Common.{List, [], ◌∷◌, refl}
+use Rattle.fkv_keeper.specs.Keeping.{KeeperState}
+use Rattle.law_world.specs.Standing.Opening.{AreNumbersInTurn}
+use Rattle.law_world.specs.Keeper.Lives.{keeper_after}
+use Rattle.fkv_world.specs.Opened.{IsOpenedWorld}
+use Rattle.fkv_world.specs.OwnEvents.{keeper_events}
+use Rattle.fkv_world.specs.Runs.{World, run}
+use Rattle.fkv_world.specs.World.{Event}
+use Rattle.law_world.proofs.OfKeeper.OwnRun.{of_keeper}
+use Rattle.law_commit.specs.BegunCommits.{AreInTurn, AtKeeping, HaveFinished, commit_opened, life_begun}
+use Rattle.law_commit.proofs.BegunStands.{run_stands, said_so}
+use Rattle.law_commit.proofs.InTurn.{run_turn}
+
+pub opening_finished : (opening : World) → HaveFinished (commit_opened opening.now opening.past.opened ∷ []) opening.now.keeper.last
+opening_finished opening = record {
+  newest = commit_opened opening.now opening.past.opened;
+  older = [];
+  its = refl;
+  finished = (refl, refl, tt);
+  last = record { number = refl; points = refl; checkpoint = refl };
+}
+
+pub life_stands : (opening : World) (events : List Event) → IsOpenedWorld opening → AtKeeping (life_begun opening events) (run opening events).now.keeper (run opening events).now.keeper.step
+life_stands opening events opened =
+    let s : KeeperState = keeper_after opening (keeper_events opening events) in
+    of_keeper (λ (x : KeeperState). AtKeeping (life_begun opening events) x x.step) opening events
+    (said_so (life_begun opening events) s s.step
+    (run_stands opening.now.shape opening.now.places opening.now.keeper (commit_opened opening.now opening.past.opened ∷ []) (keeper_events opening events) opened.keeper (opening_finished opening)))
+
+pub life_turn : (opening : World) (events : List Event) → IsOpenedWorld opening → AreNumbersInTurn opening.now.shape opening.now.places opening.now.keeper (keeper_events opening events) → AreInTurn (life_begun opening events)
+life_turn opening events opened turn =
+    run_turn opening.now.shape opening.now.places opening.now.keeper (commit_opened opening.now opening.past.opened ∷ []) (keeper_events opening events) opened.keeper (opening_finished opening) (tt, tt) turn

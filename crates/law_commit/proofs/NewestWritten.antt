@@ -1,0 +1,207 @@
+-- What was written for the newest commit, where its words are stored.
+use Rattle.std.proofs.Common.{◌≡◌, ℕ, ◌∙◌, List, [], ◌∷◌, refl, ap, sym, subst, true, false}
+use Rattle.std.specs.Prelude.{Option, Some, None}
+use Rattle.fkv_base.specs.declared.shapes.Shape.{Shape}
+use Rattle.fkv_plane.specs.declared.asks.Ask.{Ask}
+use Rattle.fkv_plane.specs.declared.asks.Ask.TheVariants.{Done}
+use Rattle.fkv_plane.specs.declared.places.Places.{Places}
+use Rattle.fkv_commit.specs.declared.commits.Commit.{Commit}
+use Rattle.fkv_commit.specs.declared.commits.CommitKind.{CommitKind}
+use Rattle.fkv_commit.specs.declared.commits.CommitKind.TheVariants.{Full, Log}
+use Rattle.fkv_commit.specs.declared.finishing.FinishAnswer.{FinishAnswer}
+use Rattle.fkv_commit.specs.Finishing.{finish_ask, finish_next}
+use Rattle.fkv_manifest.specs.declared.answers.WriteAnswer.{WriteAnswer}
+use Rattle.fkv_manifest.specs.declared.answers.WriteAnswer.TheVariants as write
+use Rattle.fkv_manifest.specs.Committing.{commit_next, commit_answer}
+use Rattle.fkv_keeper.specs.declared.keepers.Keeping.{Keeping}
+use Rattle.fkv_keeper.specs.declared.keepers.Keeping.TheVariants.{Ended, Starts, Maintains, LoadsPhase, Enters, Copies, Seeks, Waits, Writes, Finishes}
+use Rattle.fkv_keeper.specs.CheckpointLaws.{BegunWith, IsBeingWritten, IsBehindWait, MayFollow, UsesAs, begun_with, copy_replies}
+use Rattle.fkv_keeper.specs.Keeping.{KeeperState, finish_ledto, finished, keeping_called, keeping_given, keeping_next, lost_left, write_ledto}
+use Rattle.fkv_keeper.specs.KeeperLaws.{IsWritten}
+use Rattle.fkv_keeper.specs.KeeperRun.{KeeperEvent, BeginsTurn, BeginsCommit, Replies, Gets, Calls, IsOpened, Writing, is_in_hand, keeper_happens, keeper_run, writing, writing_after}
+use Rattle.fkv_keeper.specs.LastCommits.{slot_written}
+use Rattle.fkv_keeper.proofs.Shown.{each_move, run_finished, run_used}
+use Rattle.fkv_world.specs.Opened.{IsOpenedWorld}
+use Rattle.fkv_world.specs.OwnEvents.{keeper_events}
+use Rattle.fkv_world.specs.Runs.{World, run}
+use Rattle.fkv_world.specs.World.{Event}
+use Rattle.law_world.proofs.OfKeeper.OwnRun.{of_keeper}
+use Rattle.law_commit.specs.BegunCommits.{BegunCommit, HaveFinished, IsInHand, commit_opened, commits_begun, life_begun}
+use Rattle.law_commit.specs.WrittenCommits.{NewestIsWritten, UsesAsKind, life_told, life_writing}
+use Rattle.law_commit.proofs.BegunStands.{IsCalm, StandsAt, happens_at, no_finish, no_writes, run_stands, same_commit, there}
+use Rattle.law_commit.proofs.LifeBegun.{opening_finished}
+
+-- while a commit is written, its triples are those with which its writes began
+abbrev SameAt : Keeping → KeeperState → Writing → Type 0
+SameAt Writes s w = s.writes.triples ≡ w.first.triples
+SameAt Finishes s w = s.writes.triples ≡ w.first.triples
+SameAt step s w = Unit {0}
+
+abbrev IsSame : KeeperState → Writing → Type 0
+IsSame s w = SameAt s.step s w
+
+begins_same : (s : KeeperState) (step : Keeping) → SameAt step s (record { first = s.writes; answers = [] })
+begins_same s Writes = refl
+begins_same s Finishes = refl
+begins_same s (Ended its) = tt
+begins_same s Starts = tt
+begins_same s Maintains = tt
+begins_same s LoadsPhase = tt
+begins_same s Enters = tt
+begins_same s Copies = tt
+begins_same s Seeks = tt
+begins_same s Waits = tt
+
+calm_same : (a : KeeperState) (w : Writing) (step after : Keeping) → IsCalm step → MayFollow step after → SameAt after a w
+calm_same a w step Writes calm follows = absurd (no_writes step calm follows)
+calm_same a w step Finishes calm follows = absurd (no_finish step calm follows)
+calm_same a w step (Ended its) calm follows = tt
+calm_same a w step Starts calm follows = tt
+calm_same a w step Maintains calm follows = tt
+calm_same a w step LoadsPhase calm follows = tt
+calm_same a w step Enters calm follows = tt
+calm_same a w step Copies calm follows = tt
+calm_same a w step Seeks calm follows = tt
+calm_same a w step Waits calm follows = tt
+
+waits_same : (shape : Shape) (p : Places) (s : KeeperState) (w : Writing) (event : KeeperEvent) → s.step ≡ Waits → IsSame (happens_at shape p s Waits event) (writing_after Waits event (happens_at shape p s Waits event) w)
+unfolding keeping_given keeping_called
+waits_same shape p s w BeginsTurn e = rw e tt
+waits_same shape p s w (BeginsCommit kind) e = rw e tt
+waits_same shape p s w (Replies reply granted) e = begins_same (keeping_next shape p s Waits reply granted) (keeping_next shape p s Waits reply granted).step
+waits_same shape p s w (Gets action) e = rw e tt
+waits_same shape p s w (Calls done bytes) e = rw e tt
+
+made_same : (s : KeeperState) (w : Writing) (found : Option Commit) (answer : WriteAnswer) → s.step ≡ Writes → s.writes.triples ≡ w.first.triples → IsSame (write_ledto s found answer) w
+unfolding write_ledto
+made_same s w None answer e its = tt
+made_same s w (Some c) write.Written e its = its
+made_same s w (Some c) write.Device e its = rw e its
+made_same s w (Some c) (write.Broken why) e its = rw e its
+
+writes_same : (shape : Shape) (p : Places) (s : KeeperState) (w : Writing) (event : KeeperEvent) → s.step ≡ Writes → s.writes.triples ≡ w.first.triples → IsSame (happens_at shape p s Writes event) (writing_after Writes event (happens_at shape p s Writes event) w)
+unfolding keeping_next keeping_given keeping_called
+writes_same shape p s w BeginsTurn e its = rw e its
+writes_same shape p s w (BeginsCommit kind) e its = rw e its
+writes_same shape p s w (Replies reply granted) e its = rw e its
+writes_same shape p s w (Gets action) e its = rw e its
+writes_same shape p s w (Calls true bytes) e its = made_same (record s { writes = commit_next s.writes true }) (record w { answers = true ∷ w.answers }) s.commit (commit_answer (commit_next s.writes true)) e its
+writes_same shape p s w (Calls false bytes) e its = tt
+
+finished_same : (s : KeeperState) (w : Writing) (found : Option Commit) → IsSame (finished s found) w
+finished_same s w None = tt
+finished_same s w (Some c) = tt
+
+finish_same : (s : KeeperState) (w : Writing) (ask : Ask FinishAnswer) → s.step ≡ Finishes → s.writes.triples ≡ w.first.triples → IsSame (finish_ledto s ask) w
+unfolding finish_ledto
+finish_same s w (Done answer) e its = finished_same s w s.commit
+finish_same s w ask e its = rw e its
+
+finishes_same : (shape : Shape) (p : Places) (s : KeeperState) (w : Writing) (event : KeeperEvent) → s.step ≡ Finishes → s.writes.triples ≡ w.first.triples → IsSame (happens_at shape p s Finishes event) w
+unfolding keeping_next keeping_given keeping_called
+finishes_same shape p s w BeginsTurn e its = rw e its
+finishes_same shape p s w (BeginsCommit kind) e its = rw e its
+finishes_same shape p s w (Replies reply granted) e its = finish_same (record s { finish = finish_next s.finish reply }) w (finish_ask s.seek.points (finish_next s.finish reply)) e its
+finishes_same shape p s w (Gets action) e its = rw e its
+finishes_same shape p s w (Calls done bytes) e its = rw e its
+
+-- each event
+calmly : (shape : Shape) (p : Places) (s : KeeperState) (w : Writing) (event : KeeperEvent) (step : Keeping) → s.step ≡ step → IsCalm step → IsSame (keeper_happens shape p s event) w
+calmly shape p s w event step e calm =
+    let a : KeeperState = keeper_happens shape p s event in
+    let move = each_move shape p s event in
+    calm_same a w step a.step calm (subst (λ (x : Keeping). MayFollow x a.step) e move.one.follows)
+
+event_same : (shape : Shape) (p : Places) (s : KeeperState) (w : Writing) (event : KeeperEvent) (step : Keeping) → s.step ≡ step → SameAt step s w
+    → IsSame (keeper_happens shape p s event) (writing_after step event (keeper_happens shape p s event) w)
+event_same shape p s w event Waits e its = subst (λ (x : KeeperState). IsSame x (writing_after Waits event x w)) (there shape p s event Waits e) (waits_same shape p s w event e)
+event_same shape p s w event Writes e its = subst (λ (x : KeeperState). IsSame x (writing_after Writes event x w)) (there shape p s event Writes e) (writes_same shape p s w event e its)
+event_same shape p s w event Finishes e its = subst (λ (x : KeeperState). IsSame x w) (there shape p s event Finishes e) (finishes_same shape p s w event e its)
+event_same shape p s w event (Ended told) e its = calmly shape p s w event (Ended told) e tt
+event_same shape p s w event Starts e its = calmly shape p s w event Starts e tt
+event_same shape p s w event Maintains e its = calmly shape p s w event Maintains e tt
+event_same shape p s w event LoadsPhase e its = calmly shape p s w event LoadsPhase e tt
+event_same shape p s w event Enters e its = calmly shape p s w event Enters e tt
+event_same shape p s w event Copies e its = calmly shape p s w event Copies e tt
+event_same shape p s w event Seeks e its = calmly shape p s w event Seeks e tt
+
+opened_same : (s : KeeperState) (w : Writing) (step : Keeping) → is_in_hand step ≡ false → SameAt step s w
+opened_same s w (Ended told) idle = tt
+opened_same s w step idle = cc
+
+run_same : (shape : Shape) (p : Places) (opening : KeeperState) (events : List KeeperEvent) → IsOpened opening → IsSame (keeper_run shape p opening events) (writing shape p opening events)
+unfolding keeper_run writing
+run_same shape p opening [] opened = opened_same opening (record { first = opening.writes; answers = [] }) opening.step opened.none_in_hand
+run_same shape p opening (event ∷ before) opened =
+    event_same shape p (keeper_run shape p opening before) (writing shape p opening before) event (keeper_run shape p opening before).step refl (run_same shape p opening before opened)
+
+-- ---- what is said of the newest
+-- it says what the commit in hand says
+named_so : (shape : Shape) (s : KeeperState) (c : Commit) (newest : BegunCommit) → newest.number ≡ c.number → newest.end ≡ c.end → newest.checkpoint ≡ s.used → newest.points ≡ s.seek.points → newest.lost ≡ lost_left c.kind s.lost
+    → slot_written shape.sessions c.number c.end s.used s.seek.points (lost_left c.kind s.lost) ≡ slot_written shape.sessions newest.number newest.end newest.checkpoint newest.points newest.lost
+named_so shape s c newest number end checkpoint points lost = rw (number, end, checkpoint, points, lost) refl
+
+started_so : (told : Option BegunWith) (c : Commit) (newest : BegunCommit) → newest.kind ≡ c.kind → newest.number ≡ c.number → newest.first ≡ c.first → told ≡ Some (record { kind = c.kind; number = c.number; first = c.first })
+    → told ≡ Some (record { kind = newest.kind; number = newest.number; first = newest.first })
+started_so told c newest kind number first begun = rw (kind, number, first) begun
+
+uses_so : (kind : CommitKind) (p : Places) (replies : List ℕ) (w : Writing) (s : KeeperState) (c : Commit) (newest : BegunCommit) → newest.number ≡ c.number → newest.first ≡ c.first → newest.checkpoint ≡ s.used → w.first.triples ≡ newest.triples
+    → UsesAs kind p replies w s c → UsesAsKind kind newest s.last
+uses_so Full p replies w s c newest number first checkpoint triples uses =
+    let its = checkpoint ∙ uses.used in
+    (ap (λ x. x.number) its ∙ sym number, ap (λ x. x.first) its ∙ sym first)
+uses_so Log p replies w s c newest number first checkpoint triples uses = (checkpoint ∙ uses.used, sym triples ∙ uses.triples)
+
+said_so : (shape : Shape) (p : Places) (replies : List ℕ) (told : Option BegunWith) (w : Writing) (s : KeeperState) (begun : List BegunCommit) (c : Commit)
+    → (its : IsInHand begun s true) → its.commit ≡ c → (written : IsWritten shape s w) → written.commit ≡ c → (used : IsBeingWritten p replies told w s) → used.commit ≡ c → s.writes.triples ≡ w.first.triples
+    → NewestIsWritten shape told w s.last begun
+said_so shape p replies told w s begun c its one written two used three same = record {
+  newest = its.newest;
+  older = its.older;
+  its = its.its;
+  started = started_so told used.commit its.newest (its.kind ∙ ap (λ (x : Commit). x.kind) both) (its.number ∙ ap (λ (x : Commit). x.number) both) (its.first ∙ ap (λ (x : Commit). x.first) both) used.begun;
+  triples = triples;
+  slot = ap (λ x. x.slot) written.writes.gate ∙ named_so shape s written.commit its.newest (its.number ∙ ap (λ (x : Commit). x.number) other) (its.end ∙ ap (λ (x : Commit). x.end) other) its.checkpoint its.points
+      (its.lost ∙ ap (λ (x : Commit). lost_left x.kind s.lost) other);
+  checkpoint = subst (λ (k : CommitKind). UsesAsKind k its.newest s.last) (sym (its.kind ∙ ap (λ (x : Commit). x.kind) both))
+      (uses_so used.commit.kind p replies w s used.commit its.newest (its.number ∙ ap (λ (x : Commit). x.number) both) (its.first ∙ ap (λ (x : Commit). x.first) both) its.checkpoint triples used.uses);
+}
+  where
+    both : its.commit ≡ used.commit
+    both = one ∙ sym three
+
+    other : its.commit ≡ written.commit
+    other = one ∙ sym two
+
+    triples : w.first.triples ≡ its.newest.triples
+    triples = sym same ∙ sym its.triples
+
+run_written : (shape : Shape) (p : Places) (opening : KeeperState) (first : List BegunCommit) (events : List KeeperEvent) → IsOpened opening → HaveFinished first opening.last → (keeper_run shape p opening events).step ≡ Finishes
+    → NewestIsWritten shape (begun_with shape p opening events) (writing shape p opening events) (keeper_run shape p opening events).last (commits_begun shape p opening first events)
+run_written shape p opening first events opened all e =
+    said_so shape p (copy_replies shape p opening events) (begun_with shape p opening events) w s begun its.commit its refl written (same_commit written.commit its.commit (sym written.in_hand ∙ its.in_hand))
+    used (same_commit used.commit its.commit (sym used.in_hand ∙ its.in_hand)) (subst (λ (x : Keeping). SameAt x s w) e (run_same shape p opening events opened))
+  where
+    s : KeeperState
+    s = keeper_run shape p opening events
+
+    w : Writing
+    w = writing shape p opening events
+
+    begun : List BegunCommit
+    begun = commits_begun shape p opening first events
+
+    its : IsInHand begun s true
+    its = subst (λ (x : Keeping). StandsAt begun s x) e (run_stands shape p opening first events opened all)
+
+    written : IsWritten shape s w
+    written = run_finished shape p opening events opened e
+
+    used : IsBeingWritten p (copy_replies shape p opening events) (begun_with shape p opening events) w s
+    used = run_used shape p opening events opened (subst IsBehindWait (sym e) tt)
+
+pub life_written : (opening : World) (events : List Event) → IsOpenedWorld opening → (run opening events).now.keeper.step ≡ Finishes
+    → NewestIsWritten opening.now.shape (life_told opening events) (life_writing opening events) (run opening events).now.keeper.last (life_begun opening events)
+life_written opening events opened =
+    of_keeper (λ (x : KeeperState). x.step ≡ Finishes → NewestIsWritten opening.now.shape (life_told opening events) (life_writing opening events) x.last (life_begun opening events)) opening events
+    (λ e. run_written opening.now.shape opening.now.places opening.now.keeper (commit_opened opening.now opening.past.opened ∷ []) (keeper_events opening events) opened.keeper (opening_finished opening) e)

@@ -1,0 +1,21 @@
+-- The commits that have begun.
+use Rattle.law_commit.proofs.LifeBegun.{life_stands, life_turn}
+use Rattle.law_commit.proofs.NewestWritten.{life_written}
+use Rattle.law_commit.proofs.ToldFinished.{life_finished}
+use Rattle.law_commit.proofs.NextNumbers.{numbers_in_turn}
+use Rattle.law_commit.proofs.laws.law_begun.Goals as goal
+
+pub returns-clause-begun : goal.returns-clause-begun
+returns-clause-begun c = λ opening events opened. life_stands opening events opened
+
+pub returns-clause-written : goal.returns-clause-written
+returns-clause-written c = λ opening events opened stores. life_written opening events opened stores
+
+pub returns-clause-in_turn : goal.returns-clause-in_turn
+returns-clause-in_turn c = λ opening events opened turn. life_turn opening events opened turn
+
+pub returns-clause-finished : goal.returns-clause-finished
+returns-clause-finished c = λ opening events opened. life_finished opening events opened
+
+pub returns-clause-numbers : goal.returns-clause-numbers
+returns-clause-numbers c = λ opening events opened next. numbers_in_turn opening events opened next

@@ -1,0 +1,37 @@
+-- What was written for the newest commit that has begun.
+use Rattle.std.specs.Prelude.{◌≡◌, List, [], ◌∷◌, Option, Some}
+use Rattle.fkv_base.specs.declared.shapes.Shape.{Shape}
+use Rattle.fkv_commit.specs.declared.commits.CommitKind.{CommitKind}
+use Rattle.fkv_commit.specs.declared.commits.CommitKind.TheVariants.{Full, Log}
+use Rattle.fkv_keeper.specs.CheckpointLaws.{BegunWith, begun_with}
+use Rattle.fkv_keeper.specs.Keeping.{Finality}
+use Rattle.fkv_keeper.specs.KeeperRun.{Writing, writing}
+use Rattle.fkv_keeper.specs.LastCommits.{slot_written}
+use Rattle.fkv_world.specs.OwnEvents.{keeper_events}
+use Rattle.fkv_world.specs.Runs.{World}
+use Rattle.fkv_world.specs.World.{Event}
+use Rattle.law_commit.specs.BegunCommits.{BegunCommit}
+
+-- A full commit uses the checkpoint that it has made, which has its own number and first address. A log commit uses that of the newest finished
+-- commit, and writes no triples.
+abbrev pub UsesAsKind : CommitKind → BegunCommit → Finality → Type 0
+UsesAsKind Full c last = (c.checkpoint.number ≡ c.number) × (c.checkpoint.first ≡ c.first)
+UsesAsKind Log c last = (c.checkpoint ≡ last.checkpoint) × (c.triples ≡ [])
+
+-- The newest that has begun is of the kind that was asked for, with the number and the first address that its start has told. Its triples are those that
+-- are written, and the slot that is written names its number, its end and its points, the checkpoint that it uses, and its lost ranges.
+pub record NewestIsWritten (shape : Shape) (told : Option BegunWith) (w : Writing) (last : Finality) (begun : List BegunCommit) : Type 0 where
+  pub newest : BegunCommit
+  pub older : List BegunCommit
+  pub its : begun ≡ newest ∷ older
+  pub started : told ≡ Some (record { kind = newest.kind; number = newest.number; first = newest.first })
+  pub triples : w.first.triples ≡ newest.triples
+  pub slot : w.first.gate.slot ≡ slot_written shape.sessions newest.number newest.end newest.checkpoint newest.points newest.lost
+  pub checkpoint : UsesAsKind newest.kind newest last
+
+-- in a life: what the start of the newest commit has told, and what is written for it
+abbrev pub life_told : World → List Event → Option BegunWith
+life_told opening events = begun_with opening.now.shape opening.now.places opening.now.keeper (keeper_events opening events)
+
+abbrev pub life_writing : World → List Event → Writing
+life_writing opening events = writing opening.now.shape opening.now.places opening.now.keeper (keeper_events opening events)

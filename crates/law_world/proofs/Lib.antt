@@ -1,0 +1,4 @@
+pub mod OfKeeper
+pub mod OfRuns
+pub mod OfSessions
+pub mod OfStanding

@@ -1,0 +1,3 @@
+pub mod OneCommit
+pub mod OwnCalls
+pub mod OwnRun

@@ -1,0 +1,47 @@
+-- The laws of the keeper, of the keeper of a life.
+use Rattle.std.proofs.Common.{◌≡◌, List, ◌∷◌, sym, subst, true}
+use Rattle.fkv_keeper.specs.KeeperLaws.{IsBrokenForGood, IsWritten}
+use Rattle.fkv_keeper.specs.KeeperRun.{KeeperEvent, has_failed, keeper_happens, keeper_run}
+use Rattle.fkv_keeper.specs.Keeping.{KeeperState}
+use Rattle.fkv_keeper.specs.declared.keepers.Keeping.TheVariants.{Finishes}
+use Rattle.fkv_keeper.proofs.Shown.{run_broken, run_finished}
+use Rattle.law_world.specs.Keeper.Lives.{keeper_after, life_writing}
+use Rattle.fkv_world.specs.Opened.{IsOpenedWorld}
+use Rattle.fkv_world.specs.OwnEvents.{keeper_events}
+use Rattle.fkv_world.specs.Runs.{World, run}
+use Rattle.fkv_world.specs.World.{Event}
+use Rattle.fkv_world.proofs.Shown.{keeper_runs}
+
+-- what holds of its own run holds of it
+pub of_keeper : (P : KeeperState → Type 0) (opening : World) (events : List Event) → P (keeper_after opening (keeper_events opening events)) → P (run opening events).now.keeper
+of_keeper P opening events holds = subst P (sym (keeper_runs opening events)) holds
+
+-- and what is asked of it is asked of its own run
+pub to_keeper : (P : KeeperState → Type 0) (opening : World) (events : List Event) → P (run opening events).now.keeper → P (keeper_after opening (keeper_events opening events))
+to_keeper P opening events holds = subst P (keeper_runs opening events) holds
+
+-- so behind its newest event
+pub of_event : (P : KeeperState → Type 0) (opening : World) (events : List Event) (event : KeeperEvent) (before : List KeeperEvent) → keeper_events opening events ≡ event ∷ before
+    → P (keeper_after opening (event ∷ before)) → P (run opening events).now.keeper
+of_event P opening events event before e holds = of_keeper P opening events (subst (λ (own : List KeeperEvent). P (keeper_after opening own)) (sym e) holds)
+
+pub to_event : (P : KeeperState → Type 0) (opening : World) (events : List Event) (event : KeeperEvent) (before : List KeeperEvent) → keeper_events opening events ≡ event ∷ before
+    → P (run opening events).now.keeper → P (keeper_after opening (event ∷ before))
+to_event P opening events event before e holds = subst (λ (own : List KeeperEvent). P (keeper_after opening own)) e (to_keeper P opening events holds)
+
+-- what one event does
+pub by_move : (P : KeeperState → Type 0) (opening : World) (event : KeeperEvent) (before : List KeeperEvent) → P (keeper_happens opening.now.shape opening.now.places (keeper_after opening before) event)
+    → P (keeper_after opening (event ∷ before))
+unfolding keeper_run
+by_move P opening event before holds = holds
+
+-- where it has failed, and where it stores the words of a finish
+pub keeper_breaks : (opening : World) (events : List Event) → IsOpenedWorld opening → has_failed opening.now.shape opening.now.places opening.now.keeper (keeper_events opening events) ≡ true
+    → IsBrokenForGood opening.now.shape opening.now.places (run opening events).now.keeper
+keeper_breaks opening events opened failed = of_keeper (λ s. IsBrokenForGood opening.now.shape opening.now.places s) opening events (run_broken opening.now.shape opening.now.places opening.now.keeper (keeper_events opening events) opened.keeper failed)
+
+pub keeper_finishes : (opening : World) (events : List Event) → IsOpenedWorld opening → (run opening events).now.keeper.step ≡ Finishes
+    → IsWritten opening.now.shape (run opening events).now.keeper (life_writing opening events)
+keeper_finishes opening events opened finishes =
+    of_keeper (λ s. IsWritten opening.now.shape s (life_writing opening events)) opening events
+    (run_finished opening.now.shape opening.now.places opening.now.keeper (keeper_events opening events) opened.keeper (to_keeper (λ s. s.step ≡ Finishes) opening events finishes))

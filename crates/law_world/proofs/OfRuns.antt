@@ -1,0 +1,9 @@
+pub mod Added
+pub mod Crashed
+pub mod EffectStays
+pub mod Ends
+pub mod Lives
+pub mod NoSlots
+pub mod Nothing
+pub mod OneWord
+pub mod Starts

@@ -1,0 +1,3 @@
+pub mod Keeper
+pub mod Runs
+pub mod Standing

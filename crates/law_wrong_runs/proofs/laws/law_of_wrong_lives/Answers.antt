@@ -1,0 +1,6 @@
+-- The law, computed.
+use Rattle.law_wrong_runs.proofs.Computed.{wrong_lives}
+use Rattle.law_wrong_runs.proofs.laws.law_of_wrong_lives.Goals as goal
+
+pub returns : goal.returns
+returns c = λ keeper one other. wrong_lives keeper one other

@@ -1,0 +1,11 @@
+//! What wrong tables lead to, computed.
+ghost use Rattle.fkv_keeper.specs.Keeping.{KeeperState};
+ghost use Rattle.fkv_session.specs.Sessions.{SessionState};
+ghost use Rattle.law_wrong_runs.specs.WrongLives.{AreWrongLives};
+
+/// Two sessions of a store with one bucket, whose key has 70 by one record. A table by which a record that is fixed is changed in place leads to a
+/// history that isn't legal, as does one by which a record is copied while another session may still change it in place; the same events leave legal
+/// histories by the right table. And a table by which a read is told what the store was opened with leads to a read that isn't fresh.
+pub fn law_of_wrong_lives()
+    ensures { (keeper : KeeperState) (one other : SessionState) → AreWrongLives keeper one other }
+{}
