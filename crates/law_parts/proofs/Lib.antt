@@ -1,3 +1,4 @@
+mod Footprint
 pub mod OfIndex
 mod OfLatches
 pub mod OfMail

@@ -1,28 +1,29 @@
--- A flush touches no latch, nor do the mailboxes that are served, which are those of the store's sessions.
-use Rattle.std.proofs.Common.{◌≡◌, ℕ, ◌+◌, ◌^◌, ◌<◌, ◌≤◌, refl, arith, Bool, true, false}
+-- A flush spares each part, and so do the mailboxes that are served, but that of the part itself.
+use Rattle.std.proofs.Common.{◌≡◌, ◌≢◌, ℕ, ◌+◌, ◌^◌, ◌<◌, ◌∙◌, refl, sym, arith, Bool, true, false}
 use Rattle.std.specs.Prelude.{if◌then◌else◌, ◌==◌, nat_lt, ⊤, List}
 use Rattle.std.proofs.lemmas.Bool.Decides.{nat_tests}
 use Rattle.fkv_plane.specs.declared.places.Places.{Places}
 use Rattle.fkv_plane.specs.declared.places.SessionWord.TheVariants as own
 use Rattle.fkv_plane.specs.declared.places.SharedWord.TheVariants as one
-use Rattle.fkv_plane.specs.Places.{shared_place}
 use Rattle.fkv_flush.specs.declared.flushing.Flushing.{Flushing}
 use Rattle.fkv_flush.specs.declared.flushing.Flushing.TheVariants as flush
 use Rattle.fkv_flush.specs.declared.serving.Serving.{Serving}
 use Rattle.fkv_flush.specs.declared.serving.Serving.TheVariants as serve
 use Rattle.fkv_flush.specs.Flushing.{flush_ask}
 use Rattle.fkv_flush.specs.Serving.{asked_state, serve_ask, mailbox_from, serve_next, serve_read}
-use Rattle.law_parts.proofs.OfLatches.NoLatch.{TouchesNoLatch, low_none, session_none}
+use Rattle.law_parts.specs.Mail.Servers.{is_serving}
+use Rattle.law_parts.specs.Footprint.{Part, TheMailbox, HasSeats, Spares}
+use Rattle.law_parts.proofs.Footprint.Outside.{shared_outside, other_outside, seat_of}
 
-pub flush_none : (p : Places) (step : Flushing) → TouchesNoLatch p (flush_ask p step)
+pub flush_spares : (part : Part) (p : Places) (step : Flushing) → Spares part p (flush_ask p step)
 unfolding flush_ask
-flush_none p flush.AtRest = tt
-flush_none p flush.LoadsFlushed = tt
-flush_none p (flush.LoadsEnd flushed) = tt
-flush_none p (flush.LoadsWord part addr word) = tt
-flush_none p (flush.WritesPart part) = tt
-flush_none p (flush.Syncs end) = tt
-flush_none p (flush.RaisesFlushed end) = low_none p (shared_place one.Flushed) (omega arith)
+flush_spares part p flush.AtRest = tt
+flush_spares part p flush.LoadsFlushed = tt
+flush_spares part p (flush.LoadsEnd flushed) = tt
+flush_spares part p (flush.LoadsWord its addr word) = tt
+flush_spares part p (flush.WritesPart its) = tt
+flush_spares part p (flush.Syncs end) = tt
+flush_spares part p (flush.RaisesFlushed end) = shared_outside part p one.Flushed (λ e. cc)
 
 -- it is at one of so many mailboxes
 abbrev pub ServesBelow : ℕ → Serving → Type 0
@@ -35,16 +36,23 @@ ServesBelow n (serve.StoresKey session mail) = session < n
 ServesBelow n (serve.StoresValue session mail) = session < n
 ServesBelow n (serve.StoresReady session) = session < n
 
-pub serve_none : (p : Places) (n : ℕ) (step : Serving) → n ≤ p.sessions → ServesBelow n step → TouchesNoLatch p (serve_ask step)
+-- the part is a mailbox that isn't served
+abbrev pub IsServedNot : Part → Serving → Type 0
+IsServedNot part step = (session : ℕ) → part ≡ TheMailbox session → is_serving session step ≡ false
+
+other_than : (part : Part) (session : ℕ) → (part ≡ TheMailbox session → (session == session) ≡ false) → part ≢ TheMailbox session
+other_than part session none = λ same. let itself : (session == session) ≡ true = grind (arith, nat_tests) in let both : true ≡ false = sym itself ∙ none same in cc
+
+pub serve_spares : (part : Part) (p : Places) (n : ℕ) (step : Serving) → HasSeats part p n → ServesBelow n step → IsServedNot part step → Spares part p (serve_ask step)
 unfolding serve_ask
-serve_none p n serve.AtRest few low = tt
-serve_none p n (serve.LoadsState session) few low = tt
-serve_none p n (serve.LoadsAddress session) few low = tt
-serve_none p n (serve.Reads session addr) few low = tt
-serve_none p n (serve.StoresHeader session mail) few low = session_none p session own.MailHeader (omega (arith, few, low))
-serve_none p n (serve.StoresKey session mail) few low = session_none p session own.MailKey (omega (arith, few, low))
-serve_none p n (serve.StoresValue session mail) few low = session_none p session own.MailValue (omega (arith, few, low))
-serve_none p n (serve.StoresReady session) few low = session_none p session own.MailState (omega (arith, few, low))
+serve_spares part p n serve.AtRest few low none = tt
+serve_spares part p n (serve.LoadsState session) few low none = tt
+serve_spares part p n (serve.LoadsAddress session) few low none = tt
+serve_spares part p n (serve.Reads session addr) few low none = tt
+serve_spares part p n (serve.StoresHeader session mail) few low none = other_outside part p session own.MailHeader (seat_of part p n session few low) (other_than part session (none session))
+serve_spares part p n (serve.StoresKey session mail) few low none = other_outside part p session own.MailKey (seat_of part p n session few low) (other_than part session (none session))
+serve_spares part p n (serve.StoresValue session mail) few low none = other_outside part p session own.MailValue (seat_of part p n session few low) (other_than part session (none session))
+serve_spares part p n (serve.StoresReady session) few low none = other_outside part p session own.MailState (seat_of part p n session few low) (other_than part session (none session))
 
 pub mailbox_below : (n session : ℕ) → ServesBelow n (mailbox_from n session)
 unfolding mailbox_from

@@ -1,5 +1,5 @@
--- A session that catches up leaves the index as it is; where it works on a latch, that is in an eighth word.
-use Rattle.std.proofs.Common.{◌≡◌, ℕ, ◌<◌, refl, sym, subst, List, Bool, true, false}
+-- A session that catches up spares each part, but the latch that it works on.
+use Rattle.std.proofs.Common.{◌≡◌, ℕ, refl, sym, subst, List, Bool, true, false}
 use Rattle.std.specs.Prelude.{if◌then◌else◌, not, ⊤, Option, Some, None, slice_get}
 use Rattle.std.specs.List.{position}
 use Rattle.fkv_words.specs.PhaseWords.{phase_said}
@@ -17,16 +17,19 @@ use Rattle.fkv_index.specs.Slots.{home_of}
 use Rattle.fkv_latch.specs.declared.latching.LatchAnswer.{LatchAnswer}
 use Rattle.fkv_latch.specs.declared.latching.LatchAnswer.TheVariants.{Taken}
 use Rattle.fkv_latch.specs.declared.latching.LatchTask.TheVariants.{TakeShared}
+use Rattle.fkv_latch.specs.declared.latching.Latching.TheVariants as latching
 use Rattle.fkv_latch.specs.Latching.{latch_next, latch_next_ask}
 use Rattle.fkv_ops.specs.declared.requests.Seen.{Seen}
 use Rattle.fkv_pending.specs.declared.pending_requests.PendingRequest.{PendingRequest}
 use Rattle.fkv_pending.specs.Pending.{is_unlatched}
 use Rattle.fkv_session.specs.declared.catching_up.Catching.{Catching}
 use Rattle.fkv_session.specs.declared.catching_up.Catching.TheVariants.{Ended, Refreshes, Protects, StoresCut, StoresOwing, Latches, Finishes}
-use Rattle.fkv_session.specs.CatchingUp.{CatchState, cut_of, version_before, catching_ask, catch_ask, finishes, latch_begun, latch_wanted, latches, cuts, is_same_version, enters_prepare, takes_up, seen_after, refresh_ledto, protect_ledto, latch_ledto, finish_ledto, catch_requests, catching_next, catch_next}
-use Rattle.law_parts.proofs.OfIndex.EpochSpares.{refresh_spares, protect_spares}
-use Rattle.law_parts.proofs.OfIndex.Leaves.{LeavesIndex, passed_spares, IsAtLatch, latch_leaves, latch_stays, latch_begins}
-use Rattle.law_parts.proofs.OfIndex.Spares.{session_elsewhere}
+use Rattle.fkv_session.specs.CatchingUp.{CatchState, version_before, catching_ask, catch_ask, finishes, latch_begun, latch_wanted, latches, cuts, is_same_version, enters_prepare, takes_up, seen_after, refresh_ledto, protect_ledto, latch_ledto, finish_ledto, catch_requests, catching_next, catch_next}
+use Rattle.law_parts.proofs.Footprint.Epochs.{refresh_spares, protect_spares}
+use Rattle.law_parts.specs.Latches.Latchers.{catch_latching}
+use Rattle.law_parts.specs.Footprint.{Part, TheLatches, HasSeat, Spares}
+use Rattle.law_parts.proofs.Footprint.Latching.{passed_spares, IsAtLatch, latch_spares, latch_stays, latch_begins}
+use Rattle.law_parts.proofs.Footprint.Outside.{own_outside, cut_outside}
 
 abbrev pub CatchLatchAt : Places → CatchState → Catching → Type 0
 CatchLatchAt p c (Latches index) = IsAtLatch p c.latching
@@ -35,18 +38,18 @@ CatchLatchAt p c step = ⊤
 abbrev pub IsCatchAtLatch : Places → CatchState → Type 0
 IsCatchAtLatch p c = CatchLatchAt p c c.step
 
-catching_spares : (p : Places) (n : ℕ) (c : CatchState) (requests : List PendingRequest) (step : Catching) → n < p.sessions → CatchLatchAt p c step → LeavesIndex p (catching_ask p n c requests step)
+catching_spares : (part : Part) (p : Places) (n : ℕ) (c : CatchState) (requests : List PendingRequest) (step : Catching) → HasSeat part p n → CatchLatchAt p c step → (part ≡ TheLatches → catch_latching c step ≡ latching.AtRest) → Spares part p (catching_ask p n c requests step)
 unfolding catching_ask
-catching_spares p n c requests Ended there place = tt
-catching_spares p n c requests Refreshes there place = passed_spares p _ _ (refresh_spares p n c.refreshing there)
-catching_spares p n c requests Protects there place = passed_spares p _ _ (protect_spares p n c.protecting there)
-catching_spares p n c requests StoresCut there place = session_elsewhere p n (cut_of (version_before c.seen).0) there
-catching_spares p n c requests StoresOwing there place = session_elsewhere p n own.Owing there
-catching_spares p n c requests (Latches index) there place = passed_spares p _ _ (latch_leaves p c.latching place)
-catching_spares p n c requests Finishes there place = passed_spares p _ _ (refresh_spares p n c.refreshing there)
+catching_spares part p n c requests Ended there place rests = tt
+catching_spares part p n c requests Refreshes there place rests = passed_spares part p _ _ (refresh_spares part p n c.refreshing there)
+catching_spares part p n c requests Protects there place rests = passed_spares part p _ _ (protect_spares part p n c.protecting there)
+catching_spares part p n c requests StoresCut there place rests = cut_outside part p n (version_before c.seen).0 there
+catching_spares part p n c requests StoresOwing there place rests = own_outside part p n own.Owing there refl
+catching_spares part p n c requests (Latches index) there place rests = passed_spares part p _ _ (latch_spares part p c.latching place rests)
+catching_spares part p n c requests Finishes there place rests = passed_spares part p _ _ (refresh_spares part p n c.refreshing there)
 
-pub catch_spares : (p : Places) (n : ℕ) (c : CatchState) (requests : List PendingRequest) → n < p.sessions → IsCatchAtLatch p c → LeavesIndex p (catch_ask p n c requests)
-catch_spares p n c requests there place = catching_spares p n c requests c.step there place
+pub catch_spares : (part : Part) (p : Places) (n : ℕ) (c : CatchState) (requests : List PendingRequest) → HasSeat part p n → IsCatchAtLatch p c → (part ≡ TheLatches → catch_latching c c.step ≡ latching.AtRest) → Spares part p (catch_ask p n c requests)
+catch_spares part p n c requests there place rests = catching_spares part p n c requests c.step there place rests
 
 -- where a reply leads
 either_at : (b : Bool) (p : Places) (c d : CatchState) → IsCatchAtLatch p c → IsCatchAtLatch p d → IsCatchAtLatch p (if b then c else d)

@@ -1,5 +1,5 @@
--- An attempt writes no word of a mailbox but where its mail is under way.
-use Rattle.std.proofs.Common.{◌≡◌, ℕ, refl, sym, subst, Bool, true, false}
+-- An attempt spares each part but where it works there: in its try, and in a task with its session's mailbox.
+use Rattle.std.proofs.Common.{◌≡◌, ◌≢◌, ℕ, refl, sym, subst, Bool, true, false}
 use Rattle.std.specs.Prelude.{if◌then◌else◌, ◌==◌, ⊤, Option, Some, None}
 use Rattle.fkv_map.specs.Keys.{key_of}
 use Rattle.fkv_plane.specs.declared.asks.Ask.{Ask}
@@ -27,8 +27,16 @@ use Rattle.fkv_pending.specs.Mailing.{mail_ask, mail_next}
 use Rattle.fkv_pending.specs.Pending.{with_sought, with_held, with_latch, with_asked}
 use Rattle.fkv_pending.specs.Attempting.{AttemptState, attempting_ask, attempt_ask, attempt_ended, waits_for_disk, puts_addr, puts, tries, is_seeking_read, goes_on, attempt_begun, held_of, moved_on, read_on, record_taken, look_ledto, held_kept, tried, try_ledto, put_ledto, mail_moved, try_moved, attempting_next, attempt_next}
 use Rattle.law_parts.specs.Mail.Mailers.{attempt_mailing}
-use Rattle.law_parts.proofs.OfMail.Leaves.{LeavesMail, passed_spares}
-use Rattle.law_parts.proofs.OfMail.TrySpares.{IsTrySparing, try_spares, try_next_spares, try_begun_spares}
+use Rattle.fkv_plane.specs.declared.places.SessionWord.TheVariants as own
+use Rattle.fkv_latch.specs.declared.latching.Latching.TheVariants as latching
+use Rattle.fkv_pending.specs.declared.mailing.Mailing.{Mailing}
+use Rattle.law_parts.specs.Footprint.{Part, TheIndex, TheLatches, TheMailbox, HasSeat, Spares}
+use Rattle.law_parts.specs.Index.Finders.{attempt_part, search_in, entry_in}
+use Rattle.law_parts.specs.Latches.Latchers.{attempt_latching}
+use Rattle.law_parts.proofs.Footprint.Latching.{passed_spares}
+use Rattle.law_parts.proofs.Footprint.Outside.{other_outside}
+use Rattle.law_parts.proofs.OfIndex.AttemptParts.{AttemptKnows}
+use Rattle.law_parts.proofs.Footprint.Tries.{IsTrySparing, try_spares, try_next_spares, try_begun_spares}
 
 abbrev pub AttemptLeaves : Places → AttemptState → Attempting → Type 0
 AttemptLeaves p a Tries = IsTrySparing p a.trial
@@ -37,15 +45,40 @@ AttemptLeaves p a step = ⊤
 abbrev pub IsAttemptSparing : Places → AttemptState → Type 0
 IsAttemptSparing p a = AttemptLeaves p a a.step
 
-attempting_spares : (p : Places) (n : ℕ) (a : AttemptState) (step : Attempting) → AttemptLeaves p a step → attempt_mailing a step ≡ None → LeavesMail p (attempting_ask p n a step)
-unfolding attempting_ask
-attempting_spares p n a (Ended its) leaves none = tt
-attempting_spares p n a Looks leaves none = cc
-attempting_spares p n a Tries leaves none = passed_spares p _ _ (try_spares p a.trial leaves)
-attempting_spares p n a Puts leaves none = cc
+-- no machine that works on the part is under way
+pub record AttemptRests (part : Part) (p : Places) (n : ℕ) (a : AttemptState) (step : Attempting) : Type 0 where
+  pub knows : part ≡ TheIndex → AttemptKnows p a step
+  pub search : part ≡ TheIndex → search_in (attempt_part a step).work ≡ None
+  pub entry : part ≡ TheIndex → entry_in (attempt_part a step).work ≡ None
+  pub latch : part ≡ TheLatches → attempt_latching a step ≡ latching.AtRest
+  pub mail : part ≡ TheMailbox n → attempt_mailing a step ≡ None
 
-pub attempt_spares : (p : Places) (n : ℕ) (a : AttemptState) → IsAttemptSparing p a → attempt_mailing a a.step ≡ None → LeavesMail p (attempt_ask p n a)
-attempt_spares p n a leaves none = attempting_spares p n a a.step leaves none
+-- a task with a mailbox
+pub mail_spares : (part : Part) (p : Places) (n : ℕ) (step : Mailing) → HasSeat part p n → part ≢ TheMailbox n → Spares part p (mail_ask n step)
+unfolding mail_ask
+mail_spares part p n (mailing.Ended its) there other = tt
+mail_spares part p n (mailing.LoadsState task) there other = tt
+mail_spares part p n mailing.LoadsHeader there other = tt
+mail_spares part p n (mailing.LoadsKey header) there other = tt
+mail_spares part p n (mailing.LoadsValue header key) there other = tt
+mail_spares part p n (mailing.StoresEmpty its) there other = other_outside part p n own.MailState there other
+mail_spares part p n (mailing.StoresAddress addr) there other = other_outside part p n own.MailAddress there other
+mail_spares part p n mailing.StoresAsked there other = other_outside part p n own.MailState there other
+
+-- where one is under way, no part is its mailbox
+pub is_other : (part : Part) (n : ℕ) (its : Mailing) → (part ≡ TheMailbox n → Some its ≡ None) → part ≢ TheMailbox n
+is_other part n its none = λ same. let clash : Some its ≡ None = none same in cc
+
+attempting_spares : (part : Part) (p : Places) (n : ℕ) (a : AttemptState) (step : Attempting) → HasSeat part p n → AttemptLeaves p a step → AttemptRests part p n a step → Spares part p (attempting_ask p n a step)
+unfolding attempting_ask
+attempting_spares part p n a (Ended its) there leaves rests = tt
+attempting_spares part p n a Looks there leaves rests = passed_spares part p _ _ (mail_spares part p n a.mailing there (is_other part n a.mailing rests.mail))
+attempting_spares part p n a Tries there leaves rests =
+    passed_spares part p _ _ (try_spares part p a.trial leaves (record { knows = λ index. (rests.knows index).at; search = rests.search; entry = rests.entry; latch = rests.latch }))
+attempting_spares part p n a Puts there leaves rests = passed_spares part p _ _ (mail_spares part p n a.mailing there (is_other part n a.mailing rests.mail))
+
+pub attempt_spares : (part : Part) (p : Places) (n : ℕ) (a : AttemptState) → HasSeat part p n → IsAttemptSparing p a → AttemptRests part p n a a.step → Spares part p (attempt_ask p n a)
+attempt_spares part p n a there leaves rests = attempting_spares part p n a a.step there leaves rests
 
 -- where a reply leads
 either_spares : (c : Bool) (p : Places) (a b : AttemptState) → IsAttemptSparing p a → IsAttemptSparing p b → IsAttemptSparing p (if c then a else b)

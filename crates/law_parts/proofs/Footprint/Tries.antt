@@ -1,5 +1,5 @@
--- A try writes no word of a mailbox.
-use Rattle.std.proofs.Common.{◌≡◌, ℕ, refl, sym, subst, Bool, true, false}
+-- A try spares each part: the index where it neither searches nor publishes, and the latches where it works on none.
+use Rattle.std.proofs.Common.{◌≡◌, ℕ, refl, sym, subst, inl, Bool, true, false}
 use Rattle.std.specs.Prelude.{if◌then◌else◌, ◌==◌, ◌&&◌, not, nat_le, ⊤, Option, Some, None}
 use Rattle.fkv_base.specs.declared.numbers.Addr.{Addr}
 use Rattle.fkv_base.specs.declared.numbers.Version.{Version}
@@ -37,12 +37,20 @@ use Rattle.fkv_ops.specs.Requests.{purpose_of, is_read, is_blind}
 use Rattle.fkv_ops.specs.Walking.{walk_ask, walk_next, walk_on}
 use Rattle.fkv_ops.specs.Appending.{append_ask, append_next}
 use Rattle.fkv_ops.specs.Trying.{TryState, trying_ask, try_ask, with_latch, is_wait, ended_without, ends, takes_effect, walks, wants_shared, try_begun, shared_ledto, must_shift, wants_exclusive, slot_of, words_of, appends, copies_from, copies, awaits, held_used, met_nowhere, met_disk, changes, is_own_version, region_met, met_record, walked, has_walked, walk_ledto, safe_loaded, current_ledto, value_changed, told_value, answer_ledto, exclusive_ledto, old_ledto, append_ledto, exclusive_dropped, shared_dropped, latch_moved, trying_next, try_next}
-use Rattle.law_parts.proofs.OfMail.Leaves.{LeavesMail, passed_spares, IsAtLatch, latch_leaves, latch_stays, latch_begins}
-use Rattle.law_parts.proofs.OfMail.Spares.{record_elsewhere}
-use Rattle.law_parts.proofs.OfMail.WalkSpares.{IsWalkSparing, walk_spares, walk_next_spares, walk_on_spares, walk_begun_spares}
-use Rattle.law_parts.proofs.OfMail.AppendSpares.{IsAppendSparing, append_spares, append_next_spares, append_begun_spares}
+use Rattle.fkv_latch.specs.declared.latching.Latching.TheVariants as latching
+use Rattle.fkv_ops.specs.declared.walking.Walking.{Walking}
+use Rattle.fkv_ops.specs.declared.walking.Walking.TheVariants as walking
+use Rattle.law_parts.specs.Footprint.{Part, TheIndex, TheLatches, Spares}
+use Rattle.law_parts.specs.Index.Finders.{walk_work, try_work, search_in, entry_in}
+use Rattle.law_parts.specs.Latches.Latchers.{try_latching}
+use Rattle.law_parts.proofs.Footprint.Latching.{passed_spares, IsAtLatch, latch_spares, latch_stays, latch_begins}
+use Rattle.law_parts.proofs.OfIndex.TryParts.{TryKnowsAt}
+use Rattle.law_parts.proofs.OfIndex.WalkParts.{is_finding}
+use Rattle.law_parts.proofs.Footprint.Outside.{record_outside}
+use Rattle.law_parts.proofs.Footprint.Walks.{IsWalkSparing, walk_spares, walk_next_spares, walk_on_spares, walk_begun_spares}
+use Rattle.law_parts.proofs.Footprint.Appends.{IsAppendSparing, append_spares, append_next_spares, append_begun_spares}
 
--- its walk up to where it appends, and its append from there on, and the latch that it works on, are at no mailbox
+-- its walk up to where it appends, its append from there on, and the latch that it works on
 abbrev pub TryLeaves : Places → TryState → Trying → Type 0
 TryLeaves p t Walks = IsWalkSparing p t.walk
 TryLeaves p t (LoadsSafe addr version) = IsWalkSparing p t.walk
@@ -59,24 +67,39 @@ TryLeaves p t step = ⊤
 abbrev pub IsTrySparing : Places → TryState → Type 0
 IsTrySparing p t = TryLeaves p t t.step
 
-trying_spares : (p : Places) (t : TryState) (step : Trying) → TryLeaves p t step → LeavesMail p (trying_ask p t step)
-unfolding trying_ask
-trying_spares p t (Ended its) leaves = tt
-trying_spares p t TakesShared leaves = passed_spares p _ _ (latch_leaves p t.latching leaves)
-trying_spares p t Walks leaves = passed_spares p _ _ (walk_spares p t.walk leaves)
-trying_spares p t (LoadsSafe addr version) leaves = tt
-trying_spares p t (SwapsValue addr) leaves = record_elsewhere p addr.0 rec.Value
-trying_spares p t (LoadsCurrent addr) leaves = passed_spares p _ _ (walk_spares p t.walk leaves)
-trying_spares p t (ChangesValue addr old) leaves = record_elsewhere p addr.0 rec.Value
-trying_spares p t LoadsAnswer leaves = passed_spares p _ _ (walk_spares p t.walk leaves)
-trying_spares p t (TakesExclusive old) leaves = passed_spares p _ _ (latch_leaves p t.latching leaves.1)
-trying_spares p t LoadsOld leaves = passed_spares p _ _ (walk_spares p t.walk leaves)
-trying_spares p t (Appends its) leaves = passed_spares p _ _ (append_spares p t.append leaves)
-trying_spares p t (DropsExclusive its) leaves = passed_spares p _ _ (latch_leaves p t.latching leaves)
-trying_spares p t (DropsShared its) leaves = passed_spares p _ _ (latch_leaves p t.latching leaves)
+-- no machine that works on the part is under way
+pub record TryRests (part : Part) (t : TryState) (step : Trying) : Type 0 where
+  pub knows : part ≡ TheIndex → TryKnowsAt t step
+  pub search : part ≡ TheIndex → search_in (try_work t step) ≡ None
+  pub entry : part ≡ TheIndex → entry_in (try_work t step) ≡ None
+  pub latch : part ≡ TheLatches → try_latching t step ≡ latching.AtRest
 
-pub try_spares : (p : Places) (t : TryState) → IsTrySparing p t → LeavesMail p (try_ask p t)
-try_spares p t leaves = trying_spares p t t.step leaves
+-- a walk that is no search is past its search
+walk_past : (t : TryState) (step : Walking) → search_in (walk_work t step) ≡ None → is_finding step ≡ false
+walk_past t walking.Finds none = cc
+walk_past t (walking.Ended its) none = refl
+walk_past t (walking.Meets addr) none = refl
+walk_past t (walking.HasFound addr version) none = refl
+walk_past t walking.LoadsValue none = refl
+
+trying_spares : (part : Part) (p : Places) (t : TryState) (step : Trying) → TryLeaves p t step → TryRests part t step → Spares part p (trying_ask p t step)
+unfolding trying_ask
+trying_spares part p t (Ended its) leaves rests = tt
+trying_spares part p t TakesShared leaves rests = passed_spares part p _ _ (latch_spares part p t.latching leaves rests.latch)
+trying_spares part p t Walks leaves rests = passed_spares part p _ _ (walk_spares part p t.walk leaves (λ index. walk_past t t.walk.step (rests.search index)))
+trying_spares part p t (LoadsSafe addr version) leaves rests = tt
+trying_spares part p t (SwapsValue addr) leaves rests = record_outside part p addr.0 rec.Value
+trying_spares part p t (LoadsCurrent addr) leaves rests = passed_spares part p _ _ (walk_spares part p t.walk leaves rests.knows)
+trying_spares part p t (ChangesValue addr old) leaves rests = inl (record_outside part p addr.0 rec.Value)
+trying_spares part p t LoadsAnswer leaves rests = passed_spares part p _ _ (walk_spares part p t.walk leaves rests.knows)
+trying_spares part p t (TakesExclusive old) leaves rests = passed_spares part p _ _ (latch_spares part p t.latching leaves.1 rests.latch)
+trying_spares part p t LoadsOld leaves rests = passed_spares part p _ _ (walk_spares part p t.walk leaves (λ index. (rests.knows index).past))
+trying_spares part p t (Appends its) leaves rests = passed_spares part p _ _ (append_spares part p t t.append leaves rests.entry)
+trying_spares part p t (DropsExclusive its) leaves rests = passed_spares part p _ _ (latch_spares part p t.latching leaves rests.latch)
+trying_spares part p t (DropsShared its) leaves rests = passed_spares part p _ _ (latch_spares part p t.latching leaves rests.latch)
+
+pub try_spares : (part : Part) (p : Places) (t : TryState) → IsTrySparing p t → TryRests part t t.step → Spares part p (try_ask p t)
+try_spares part p t leaves rests = trying_spares part p t t.step leaves rests
 
 -- where a reply leads
 either_spares : (c : Bool) (p : Places) (a b : TryState) → IsTrySparing p a → IsTrySparing p b → IsTrySparing p (if c then a else b)

@@ -1,5 +1,6 @@
--- A session that neither searches nor publishes leaves the index as it is, as long as it is one of the store's.
-use Rattle.std.proofs.Common.{◌≡◌, ℕ, ◌+◌, ◌<◌, refl, sym, subst, List, [], ◌∷◌, length, Bool, true, false}
+-- A session spares each part but where it works there: where it searches or publishes, where it works on a latch, and where a task with its
+-- mailbox is under way.
+use Rattle.std.proofs.Common.{◌≡◌, ℕ, ◌+◌, refl, sym, subst, List, [], ◌∷◌, length, Bool, true, false}
 use Rattle.std.specs.Prelude.{if◌then◌else◌, ◌==◌, ◌||◌, not, ⊤, Option, Some, None, slice_get, slice_set}
 use Rattle.fkv_base.specs.declared.faults.Fault.{Fault}
 use Rattle.fkv_base.specs.declared.faults.Fault.TheVariants as fault
@@ -12,6 +13,7 @@ use Rattle.fkv_plane.specs.declared.asks.Ask.TheVariants.{Done}
 use Rattle.fkv_plane.specs.declared.places.Places.{Places}
 use Rattle.fkv_plane.specs.declared.places.SessionWord.TheVariants as own
 use Rattle.fkv_epoch.specs.Leaving.{leave_next}
+use Rattle.fkv_latch.specs.declared.latching.Latching.TheVariants as latching
 use Rattle.fkv_ops.specs.declared.answers.Reason.{Reason}
 use Rattle.fkv_ops.specs.declared.answers.Reason.TheVariants as reason
 use Rattle.fkv_ops.specs.declared.answers.TryAnswer.{TryAnswer}
@@ -30,83 +32,98 @@ use Rattle.fkv_session.specs.declared.sessions.CatchCause.{CatchCause}
 use Rattle.fkv_session.specs.declared.sessions.CatchCause.TheVariants.{Refreshes, Wakes, Shifts}
 use Rattle.fkv_session.specs.declared.sessions.Sitting.{Sitting}
 use Rattle.fkv_session.specs.declared.sessions.Sitting.TheVariants.{Idle, Attempts, CatchesUp, ClearsMail, Polls, StoresOwing, Turns, StoresCut, Leaves, LoadsDurable}
-use Rattle.fkv_session.specs.CatchingUp.{cut_of, refresh_begun, wake_begun}
+use Rattle.fkv_session.specs.CatchingUp.{refresh_begun, wake_begun}
 use Rattle.fkv_session.specs.OwnTurns.{own_turn_begun, own_turn_given}
 use Rattle.fkv_session.specs.Sessions.{SessionState, Seat, IsOpened, bits_of, room_of, answers, refuses, answers_after_turn, request_in_hand, attempts, polls_request, polls_at, refusal_of, op_begun, refresh_call, poll_begun, poll_call, sleep_call, wake_call, call_begun, ticket_after, attempt_left, serial_taken, update_done, is_no_room, lacks_room, with_request, accepts, shifts, attempted, attempt_ledto, caught_up, catch_ledto, clear_ledto, is_finished, is_owed, request_finished, finishes_request, keeps_request, poll_ledto, turn_ledto, leave_ledto, attempt_moved, caught, own_turn_moved, sitting_ask, session_ask, sitting_next, session_next, sitting_given, session_given, asks_after, is_word_ask, is_busy}
 use Rattle.fkv_session.specs.SessionRun.{SessionEvent, Begins, Replies, Gets, begins, session_happens, session_run}
-use Rattle.law_parts.specs.Index.Finders.{sitting_part, search_in, entry_in, session_search, session_entry}
-use Rattle.law_parts.proofs.OfIndex.AttemptSpares.{mail_spares, IsAttemptAtLatch, attempt_spares, attempt_begun_at, attempt_next_at}
-use Rattle.law_parts.proofs.OfIndex.CatchSpares.{IsCatchAtLatch, catch_spares, catch_next_at}
-use Rattle.law_parts.proofs.OfIndex.EpochSpares.{leave_spares}
-use Rattle.law_parts.proofs.OfIndex.Leaves.{LeavesIndex, passed_spares}
-use Rattle.law_parts.proofs.OfIndex.OwnTurnSpares.{IsOwnTurnSparing, own_turn_spares, own_turn_next_spares, own_turn_given_spares, own_turn_begun_spares}
+use Rattle.law_parts.specs.Footprint.{Part, TheIndex, TheLatches, TheMailbox, HasSeat, Spares}
+use Rattle.law_parts.specs.Index.Finders.{sitting_part, search_in, entry_in}
+use Rattle.law_parts.specs.Latches.Latchers.{sitting_latching}
+use Rattle.law_parts.specs.Mail.Mailers.{sitting_mailing}
+use Rattle.law_parts.proofs.Footprint.Attempts.{mail_spares, is_other, IsAttemptSparing, attempt_spares, attempt_begun_spares, attempt_next_spares}
+use Rattle.law_parts.proofs.Footprint.Catches.{IsCatchAtLatch, catch_spares, catch_next_at}
+use Rattle.law_parts.proofs.Footprint.Epochs.{leave_spares}
+use Rattle.law_parts.proofs.Footprint.Latching.{passed_spares}
+use Rattle.law_parts.proofs.Footprint.OwnTurns.{IsOwnTurnSparing, own_turn_spares, own_turn_next_spares, own_turn_given_spares, own_turn_begun_spares}
 use Rattle.law_parts.proofs.OfIndex.SessionParts.{SittingKnows}
-use Rattle.law_parts.proofs.OfIndex.Spares.{session_elsewhere}
+use Rattle.law_parts.proofs.Footprint.Outside.{own_outside, cut_outside}
 
 -- where it works on a latch, and its own turn
 abbrev pub SittingIsAt : Places → SessionState → Sitting → Type 0
-SittingIsAt p s (Attempts has_shifted) = IsAttemptAtLatch p s.attempt
-SittingIsAt p s (Polls index) = IsAttemptAtLatch p s.attempt
+SittingIsAt p s (Attempts has_shifted) = IsAttemptSparing p s.attempt
+SittingIsAt p s (Polls index) = IsAttemptSparing p s.attempt
 SittingIsAt p s (CatchesUp cause) = IsCatchAtLatch p s.catching
 SittingIsAt p s (Turns its) = IsOwnTurnSparing s.own_turn
 SittingIsAt p s step = ⊤
 
-abbrev pub IsSessionSpared : Places → SessionState → Type 0
-IsSessionSpared p s = SittingIsAt p s s.step
+abbrev pub IsSessionSparing : Places → SessionState → Type 0
+IsSessionSparing p s = SittingIsAt p s s.step
 
-sitting_spares : (k : Seat) (s : SessionState) (step : Sitting) → k.number < k.places.sessions → SittingKnows k.places s step → SittingIsAt k.places s step → search_in (sitting_part s step).work ≡ None → entry_in (sitting_part s step).work ≡ None
-    → LeavesIndex k.places (sitting_ask k s step)
+-- no machine that works on the part is under way
+pub record SittingRests (part : Part) (k : Seat) (s : SessionState) (step : Sitting) : Type 0 where
+  pub knows : part ≡ TheIndex → SittingKnows k.places s step
+  pub search : part ≡ TheIndex → search_in (sitting_part s step).work ≡ None
+  pub entry : part ≡ TheIndex → entry_in (sitting_part s step).work ≡ None
+  pub latch : part ≡ TheLatches → sitting_latching s step ≡ latching.AtRest
+  pub mail : part ≡ TheMailbox k.number → sitting_mailing s step ≡ None
+
+abbrev pub SessionRests : Part → Seat → SessionState → Type 0
+SessionRests part k s = SittingRests part k s s.step
+
+sitting_spares : (part : Part) (k : Seat) (s : SessionState) (step : Sitting) → HasSeat part k.places k.number → SittingIsAt k.places s step → SittingRests part k s step → Spares part k.places (sitting_ask k s step)
 unfolding sitting_ask
-sitting_spares k s (Idle its) there knows at none other = tt
-sitting_spares k s (Attempts has_shifted) there knows at none other = passed_spares k.places _ _ (attempt_spares k.places k.number s.attempt there knows.knows at none other)
-sitting_spares k s (CatchesUp cause) there knows at none other = passed_spares k.places _ _ (catch_spares k.places k.number s.catching s.requests there at)
-sitting_spares k s ClearsMail there knows at none other = passed_spares k.places _ _ (mail_spares k.places k.number s.mailing there)
-sitting_spares k s (Polls index) there knows at none other = passed_spares k.places _ _ (attempt_spares k.places k.number s.attempt there knows.knows at none other)
-sitting_spares k s (StoresOwing index) there knows at none other = session_elsewhere k.places k.number own.Owing there
-sitting_spares k s (Turns its) there knows at none other = passed_spares k.places _ _ (own_turn_spares k.places k.shape s.own_turn at)
-sitting_spares k s StoresCut there knows at none other = session_elsewhere k.places k.number (cut_of s.seen.version.0) there
-sitting_spares k s Leaves there knows at none other = passed_spares k.places _ _ (leave_spares k.places k.number s.leaving there)
-sitting_spares k s LoadsDurable there knows at none other = tt
+sitting_spares part k s (Idle its) there at rests = tt
+sitting_spares part k s (Attempts has_shifted) there at rests =
+    passed_spares part k.places _ _ (attempt_spares part k.places k.number s.attempt there at (record { knows = λ index. (rests.knows index).knows; search = rests.search; entry = rests.entry; latch = rests.latch; mail = rests.mail }))
+sitting_spares part k s (CatchesUp cause) there at rests = passed_spares part k.places _ _ (catch_spares part k.places k.number s.catching s.requests there at rests.latch)
+sitting_spares part k s ClearsMail there at rests = passed_spares part k.places _ _ (mail_spares part k.places k.number s.mailing there (is_other part k.number s.mailing rests.mail))
+sitting_spares part k s (Polls index) there at rests =
+    passed_spares part k.places _ _ (attempt_spares part k.places k.number s.attempt there at (record { knows = λ same. (rests.knows same).knows; search = rests.search; entry = rests.entry; latch = rests.latch; mail = rests.mail }))
+sitting_spares part k s (StoresOwing index) there at rests = own_outside part k.places k.number own.Owing there refl
+sitting_spares part k s (Turns its) there at rests = passed_spares part k.places _ _ (own_turn_spares part k.places k.shape s.own_turn at)
+sitting_spares part k s StoresCut there at rests = cut_outside part k.places k.number s.seen.version.0 there
+sitting_spares part k s Leaves there at rests = passed_spares part k.places _ _ (leave_spares part k.places k.number s.leaving there)
+sitting_spares part k s LoadsDurable there at rests = tt
 
-pub session_asks_spares : (k : Seat) (s : SessionState) → k.number < k.places.sessions → SittingKnows k.places s s.step → IsSessionSpared k.places s → session_search s ≡ None → session_entry s ≡ None → LeavesIndex k.places (session_ask k s)
-session_asks_spares k s there knows at none other = sitting_spares k s s.step there knows at none other
+pub session_asks_spares : (part : Part) (k : Seat) (s : SessionState) → HasSeat part k.places k.number → IsSessionSparing k.places s → SessionRests part k s → Spares part k.places (session_ask k s)
+session_asks_spares part k s there at rests = sitting_spares part k s s.step there at rests
 
 -- where a call and a reply lead
-either_at : (c : Bool) (p : Places) (a b : SessionState) → IsSessionSpared p a → IsSessionSpared p b → IsSessionSpared p (if c then a else b)
+either_at : (c : Bool) (p : Places) (a b : SessionState) → IsSessionSparing p a → IsSessionSparing p b → IsSessionSparing p (if c then a else b)
 either_at true p a b one other = one
 either_at false p a b one other = other
 
-stays_at : (p : Places) (s : SessionState) (step : Sitting) → s.step ≡ step → SittingIsAt p s step → IsSessionSpared p s
+stays_at : (p : Places) (s : SessionState) (step : Sitting) → s.step ≡ step → SittingIsAt p s step → IsSessionSparing p s
 stays_at p s step at spared = subst (λ x. SittingIsAt p s x) (sym at) spared
 
-turn_after_at : (p : Places) (s : SessionState) (its : Told) → IsSessionSpared p (answers_after_turn s its)
+turn_after_at : (p : Places) (s : SessionState) (its : Told) → IsSessionSparing p (answers_after_turn s its)
 turn_after_at p s its = either_at s.wants_turn p (record s { own_turn = own_turn_begun s.own_turn; step = Turns its }) (answers s its) (own_turn_begun_spares s.own_turn) tt
 
-attempts_at : (k : Seat) (s : SessionState) (has_shifted : Bool) → IsSessionSpared k.places (attempts k s has_shifted)
+attempts_at : (k : Seat) (s : SessionState) (has_shifted : Bool) → IsSessionSparing k.places (attempts k s has_shifted)
 unfolding attempts
-attempts_at k s has_shifted = attempt_begun_at k.places (bits_of k) s.attempt (request_in_hand s) s.seen AtCall s.spare s.is_orphaned
+attempts_at k s has_shifted = attempt_begun_spares k.places (bits_of k) s.attempt (request_in_hand s) s.seen AtCall s.spare s.is_orphaned
 
-polls_request_at : (k : Seat) (s : SessionState) (index : ℕ) (found : Option PendingRequest) → IsSessionSpared k.places (polls_request k s index found)
+polls_request_at : (k : Seat) (s : SessionState) (index : ℕ) (found : Option PendingRequest) → IsSessionSparing k.places (polls_request k s index found)
 polls_request_at k s index None = turn_after_at k.places s (told.Polled (length s.requests))
-polls_request_at k s index (Some pending) = attempt_begun_at k.places (bits_of k) s.attempt pending s.seen AtPoll s.spare s.is_orphaned
+polls_request_at k s index (Some pending) = attempt_begun_spares k.places (bits_of k) s.attempt pending s.seen AtPoll s.spare s.is_orphaned
 
-polling_at : (k : Seat) (s : SessionState) (index : ℕ) → IsSessionSpared k.places (polls_at k s index)
+polling_at : (k : Seat) (s : SessionState) (index : ℕ) → IsSessionSparing k.places (polls_at k s index)
 unfolding polls_at
 polling_at k s index = polls_request_at k s index (slice_get s.requests index)
 
-accepts_at : (p : Places) (s : SessionState) (why : Reason) → IsSessionSpared p (accepts s why)
+accepts_at : (p : Places) (s : SessionState) (why : Reason) → IsSessionSparing p (accepts s why)
 unfolding accepts
 accepts_at p s why =
     either_at (is_read s.op) p (answers (with_request (record s { ticket = ticket_after s.ticket })) (told.PendingRead (record { 0 = ticket_after s.ticket })))
     (answers_after_turn (with_request (serial_taken (record s { wants_turn = is_no_room why }))) (told.Pending (record { 0 = s.serial + 1 }) why))
     tt (turn_after_at p (with_request (serial_taken (record s { wants_turn = is_no_room why }))) (told.Pending (record { 0 = s.serial + 1 }) why))
 
-shifts_at : (p : Places) (s : SessionState) (has_shifted : Bool) → IsSessionSpared p (shifts s has_shifted)
+shifts_at : (p : Places) (s : SessionState) (has_shifted : Bool) → IsSessionSparing p (shifts s has_shifted)
 unfolding shifts
 shifts_at p s false = tt
 shifts_at p s true = accepts_at p s reason.Contended
 
-attempted_at : (p : Places) (s : SessionState) (has_shifted : Bool) (its : TryAnswer) → IsSessionSpared p (attempted s has_shifted its)
+attempted_at : (p : Places) (s : SessionState) (has_shifted : Bool) (its : TryAnswer) → IsSessionSparing p (attempted s has_shifted its)
 attempted_at p s has_shifted (tried.Done reply) = either_at (is_read s.op) p (answers s told.Absent) (update_done s reply) tt tt
 attempted_at p s has_shifted (tried.Found value) = tt
 attempted_at p s has_shifted tried.Absent = tt
@@ -116,57 +133,57 @@ attempted_at p s has_shifted tried.Shift = shifts_at p s has_shifted
 attempted_at p s has_shifted tried.IndexFull = tt
 attempted_at p s has_shifted tried.LogFull = tt
 
-attempt_ledto_at : (p : Places) (s : SessionState) (has_shifted : Bool) (ask : Ask TryAnswer) → s.step ≡ Attempts has_shifted → IsAttemptAtLatch p s.attempt → IsSessionSpared p (attempt_ledto s has_shifted ask)
+attempt_ledto_at : (p : Places) (s : SessionState) (has_shifted : Bool) (ask : Ask TryAnswer) → s.step ≡ Attempts has_shifted → IsAttemptSparing p s.attempt → IsSessionSparing p (attempt_ledto s has_shifted ask)
 unfolding attempt_ledto
 attempt_ledto_at p s has_shifted (Done its) at spared = attempted_at p (attempt_left s) has_shifted its
 attempt_ledto_at p s has_shifted ask at spared = stays_at p s (Attempts has_shifted) at spared
 
-finishes_at : (k : Seat) (s : SessionState) (index : ℕ) (its : TryAnswer) → IsSessionSpared k.places (finishes_request k s index its)
+finishes_at : (k : Seat) (s : SessionState) (index : ℕ) (its : TryAnswer) → IsSessionSparing k.places (finishes_request k s index its)
 unfolding finishes_request
 finishes_at k s index its = either_at (is_owed s) k.places (request_finished s index its) (polls_at k (request_finished s index its) index) tt (polling_at k (request_finished s index its) index)
 
-keeps_at : (k : Seat) (s : SessionState) (index : ℕ) (its : TryAnswer) → IsSessionSpared k.places (keeps_request k s index its)
+keeps_at : (k : Seat) (s : SessionState) (index : ℕ) (its : TryAnswer) → IsSessionSparing k.places (keeps_request k s index its)
 unfolding keeps_request
 keeps_at k s index its = polling_at k (record s { requests = slice_set s.requests index s.attempt.pending; wants_turn = s.wants_turn || lacks_room its }) (index + 1)
 
-poll_ledto_at : (k : Seat) (s : SessionState) (index : ℕ) (ask : Ask TryAnswer) → s.step ≡ Polls index → IsAttemptAtLatch k.places s.attempt → IsSessionSpared k.places (poll_ledto k s index ask)
+poll_ledto_at : (k : Seat) (s : SessionState) (index : ℕ) (ask : Ask TryAnswer) → s.step ≡ Polls index → IsAttemptSparing k.places s.attempt → IsSessionSparing k.places (poll_ledto k s index ask)
 unfolding poll_ledto
 poll_ledto_at k s index (Done its) at spared = either_at (is_finished its) k.places (finishes_request k (attempt_left s) index its) (keeps_request k (attempt_left s) index its) (finishes_at k (attempt_left s) index its) (keeps_at k (attempt_left s) index its)
 poll_ledto_at k s index ask at spared = stays_at k.places s (Polls index) at spared
 
-caught_up_at : (k : Seat) (s : SessionState) (cause : CatchCause) → IsSessionSpared k.places (caught_up k s cause)
+caught_up_at : (k : Seat) (s : SessionState) (cause : CatchCause) → IsSessionSparing k.places (caught_up k s cause)
 caught_up_at k s Refreshes = tt
 caught_up_at k s Wakes = tt
 caught_up_at k s Shifts = attempts_at k s true
 
-catch_ledto_at : (k : Seat) (s : SessionState) (cause : CatchCause) (ask : Ask (Unit {0})) → s.step ≡ CatchesUp cause → IsCatchAtLatch k.places s.catching → IsSessionSpared k.places (catch_ledto k s cause ask)
+catch_ledto_at : (k : Seat) (s : SessionState) (cause : CatchCause) (ask : Ask (Unit {0})) → s.step ≡ CatchesUp cause → IsCatchAtLatch k.places s.catching → IsSessionSparing k.places (catch_ledto k s cause ask)
 unfolding catch_ledto
 catch_ledto_at k s cause (Done its) at place = caught_up_at k (record s { seen = s.catching.seen }) cause
 catch_ledto_at k s cause ask at place = stays_at k.places s (CatchesUp cause) at place
 
-clear_at : (k : Seat) (s : SessionState) (ask : Ask MailAnswer) → s.step ≡ ClearsMail → IsSessionSpared k.places (clear_ledto k s ask)
+clear_at : (k : Seat) (s : SessionState) (ask : Ask MailAnswer) → s.step ≡ ClearsMail → IsSessionSparing k.places (clear_ledto k s ask)
 unfolding clear_ledto
 clear_at k s (Done Cleared) at = polling_at k (record s { is_orphaned = false }) 0
 clear_at k s (Done its) at = polling_at k s 0
 clear_at k s ask at = stays_at k.places s ClearsMail at tt
 
-turn_ledto_at : (p : Places) (s : SessionState) (its : Told) (ask : Ask (Unit {0})) → s.step ≡ Turns its → IsOwnTurnSparing s.own_turn → IsSessionSpared p (turn_ledto s its ask)
+turn_ledto_at : (p : Places) (s : SessionState) (its : Told) (ask : Ask (Unit {0})) → s.step ≡ Turns its → IsOwnTurnSparing s.own_turn → IsSessionSparing p (turn_ledto s its ask)
 unfolding turn_ledto
 turn_ledto_at p s its (Done through) at spared = tt
 turn_ledto_at p s its ask at spared = stays_at p s (Turns its) at spared
 
-leave_ledto_at : (p : Places) (s : SessionState) (ask : Ask (Unit {0})) → s.step ≡ Leaves → IsSessionSpared p (leave_ledto s ask)
+leave_ledto_at : (p : Places) (s : SessionState) (ask : Ask (Unit {0})) → s.step ≡ Leaves → IsSessionSparing p (leave_ledto s ask)
 unfolding leave_ledto
 leave_ledto_at p s (Done its) at = tt
 leave_ledto_at p s ask at = stays_at p s Leaves at tt
 
-next_at : (k : Seat) (s : SessionState) (step : Sitting) (reply : ℕ) → s.step ≡ step → SittingIsAt k.places s step → IsSessionSpared k.places (sitting_next k s step reply)
+next_at : (k : Seat) (s : SessionState) (step : Sitting) (reply : ℕ) → s.step ≡ step → SittingIsAt k.places s step → IsSessionSparing k.places (sitting_next k s step reply)
 unfolding sitting_next
 next_at k s (Idle its) reply at spared = stays_at k.places s (Idle its) at tt
-next_at k s (Attempts has_shifted) reply at spared = attempt_ledto_at k.places (attempt_moved k s reply) has_shifted _ at (attempt_next_at k.places (bits_of k) (room_of k) k.number s.attempt reply spared)
+next_at k s (Attempts has_shifted) reply at spared = attempt_ledto_at k.places (attempt_moved k s reply) has_shifted _ at (attempt_next_spares k.places (bits_of k) (room_of k) k.number s.attempt reply spared)
 next_at k s (CatchesUp cause) reply at spared = catch_ledto_at k (caught k s reply) cause _ at (catch_next_at k.places (bits_of k) k.number s.catching s.requests reply spared)
 next_at k s ClearsMail reply at spared = clear_at k (record s { mailing = mail_next s.mailing reply }) _ at
-next_at k s (Polls index) reply at spared = poll_ledto_at k (attempt_moved k s reply) index _ at (attempt_next_at k.places (bits_of k) (room_of k) k.number s.attempt reply spared)
+next_at k s (Polls index) reply at spared = poll_ledto_at k (attempt_moved k s reply) index _ at (attempt_next_spares k.places (bits_of k) (room_of k) k.number s.attempt reply spared)
 next_at k s (StoresOwing index) reply at spared = polling_at k s index
 next_at k s (Turns its) reply at spared = turn_ledto_at k.places (own_turn_moved k s reply) its _ at (own_turn_next_spares k.shape s.own_turn reply spared)
 next_at k s StoresCut reply at spared = tt
@@ -185,12 +202,12 @@ counted_at p s asks StoresCut spared = tt
 counted_at p s asks Leaves spared = tt
 counted_at p s asks LoadsDurable spared = tt
 
-session_next_at : (k : Seat) (s : SessionState) (reply : ℕ) → IsSessionSpared k.places s → IsSessionSpared k.places (session_next k s reply)
+session_next_at : (k : Seat) (s : SessionState) (reply : ℕ) → IsSessionSparing k.places s → IsSessionSparing k.places (session_next k s reply)
 session_next_at k s reply spared =
     let asks : ℕ = asks_after s.asks (is_word_ask (session_ask k s)) in
     next_at k (record s { asks = asks; effect = None }) s.step reply refl (counted_at k.places s asks s.step spared)
 
-given_at : (k : Seat) (s : SessionState) (step : Sitting) (action : Action) → s.step ≡ step → SittingIsAt k.places s step → IsSessionSpared k.places (sitting_given k s step action)
+given_at : (k : Seat) (s : SessionState) (step : Sitting) (action : Action) → s.step ≡ step → SittingIsAt k.places s step → IsSessionSparing k.places (sitting_given k s step action)
 unfolding sitting_given
 given_at k s (Turns its) action at spared = turn_ledto_at k.places (record s { own_turn = own_turn_given s.own_turn action }) its _ at (own_turn_given_spares s.own_turn action spared)
 given_at k s (Idle its) action at spared = stays_at k.places s (Idle its) at spared
@@ -203,35 +220,35 @@ given_at k s StoresCut action at spared = stays_at k.places s StoresCut at spare
 given_at k s Leaves action at spared = stays_at k.places s Leaves at spared
 given_at k s LoadsDurable action at spared = stays_at k.places s LoadsDurable at spared
 
-session_given_at : (k : Seat) (s : SessionState) (action : Action) → IsSessionSpared k.places s → IsSessionSpared k.places (session_given k s action)
+session_given_at : (k : Seat) (s : SessionState) (action : Action) → IsSessionSparing k.places s → IsSessionSparing k.places (session_given k s action)
 session_given_at k s action spared = given_at k s s.step action refl spared
 
 -- a call
-op_at : (k : Seat) (s : SessionState) (op : Op) (why : Option Fault) → IsSessionSpared k.places (op_begun k s op why)
+op_at : (k : Seat) (s : SessionState) (op : Op) (why : Option Fault) → IsSessionSparing k.places (op_begun k s op why)
 unfolding op_begun
 op_at k s op (Some why) = tt
 op_at k s op None = attempts_at k (record s { op = op }) false
 
-refresh_call_at : (p : Places) (s : SessionState) → IsSessionSpared p (refresh_call s)
+refresh_call_at : (p : Places) (s : SessionState) → IsSessionSparing p (refresh_call s)
 unfolding refresh_call
 refresh_call_at p s = either_at s.is_awake p (record s { catching = refresh_begun s.catching s.seen s.serial; step = CatchesUp Refreshes }) (refuses s fault.Asleep) tt tt
 
-poll_begun_at : (k : Seat) (s : SessionState) → IsSessionSpared k.places (poll_begun k s)
+poll_begun_at : (k : Seat) (s : SessionState) → IsSessionSparing k.places (poll_begun k s)
 poll_begun_at k s = either_at s.is_orphaned k.places (record s { mailing = LoadsState Clear; step = ClearsMail }) (polls_at k s 0) tt (polling_at k s 0)
 
-poll_call_at : (k : Seat) (s : SessionState) → IsSessionSpared k.places (poll_call k s)
+poll_call_at : (k : Seat) (s : SessionState) → IsSessionSparing k.places (poll_call k s)
 unfolding poll_call
 poll_call_at k s = either_at s.is_awake k.places (poll_begun k (record s { finished = [] })) (refuses s fault.Asleep) (poll_begun_at k (record s { finished = [] })) tt
 
-sleep_at : (p : Places) (s : SessionState) → IsSessionSpared p (sleep_call s)
+sleep_at : (p : Places) (s : SessionState) → IsSessionSparing p (sleep_call s)
 unfolding sleep_call
 sleep_at p s = either_at (not s.is_awake) p (refuses s fault.Asleep) _ tt (either_at (length s.requests == 0) p (record s { step = StoresCut }) (refuses s fault.PendingLeft) tt tt)
 
-wake_at : (p : Places) (s : SessionState) → IsSessionSpared p (wake_call s)
+wake_at : (p : Places) (s : SessionState) → IsSessionSparing p (wake_call s)
 unfolding wake_call
 wake_at p s = either_at s.is_awake p (refuses s fault.Awake) (record s { catching = wake_begun s.catching s.seen s.serial; step = CatchesUp Wakes }) tt tt
 
-call_at : (k : Seat) (s : SessionState) (its : Call) → IsSessionSpared k.places (call_begun k s its)
+call_at : (k : Seat) (s : SessionState) (its : Call) → IsSessionSparing k.places (call_begun k s its)
 call_at k s (call.Op op) = op_at k s op (refusal_of s op)
 call_at k s call.Refresh = refresh_call_at k.places s
 call_at k s call.Poll = poll_call_at k s
@@ -239,11 +256,11 @@ call_at k s call.Sleep = sleep_at k.places s
 call_at k s call.Wake = wake_at k.places s
 call_at k s call.Durable = tt
 
-begins_at : (k : Seat) (s : SessionState) (busy : Bool) (its : Call) → IsSessionSpared k.places s → IsSessionSpared k.places (begins k s busy its)
+begins_at : (k : Seat) (s : SessionState) (busy : Bool) (its : Call) → IsSessionSparing k.places s → IsSessionSparing k.places (begins k s busy its)
 begins_at k s true its spared = spared
 begins_at k s false its spared = call_at k (record s { asks = 0; effect = None; wants_turn = false }) its
 
-happens_at : (k : Seat) (s : SessionState) (event : SessionEvent) → IsSessionSpared k.places s → IsSessionSpared k.places (session_happens k s event)
+happens_at : (k : Seat) (s : SessionState) (event : SessionEvent) → IsSessionSparing k.places s → IsSessionSparing k.places (session_happens k s event)
 unfolding session_happens
 happens_at k s (Begins its) spared = begins_at k s (is_busy s.step) its spared
 happens_at k s (Replies reply) spared = session_next_at k s reply spared
@@ -254,7 +271,7 @@ opened_at p s (Idle its) idle = tt
 opened_at p s step idle = cc
 
 -- at every moment of a session's run
-pub session_run_at : (k : Seat) (opening : SessionState) (events : List SessionEvent) → IsOpened opening → IsSessionSpared k.places (session_run k opening events)
+pub session_run_at : (k : Seat) (opening : SessionState) (events : List SessionEvent) → IsOpened opening → IsSessionSparing k.places (session_run k opening events)
 unfolding session_run
 session_run_at k opening [] opened = opened_at k.places opening opening.step opened.none_in_hand
 session_run_at k opening (event ∷ before) opened = happens_at k (session_run k opening before) event (session_run_at k opening before opened)
