@@ -1,4 +1,5 @@
-mod Footprint
+pub mod Footprint
+mod Items
 pub mod OfIndex
 mod OfLatches
 pub mod OfMail

@@ -56,14 +56,10 @@ pub record AttemptRests (part : Part) (p : Places) (n : ℕ) (a : AttemptState) 
 -- a task with a mailbox
 pub mail_spares : (part : Part) (p : Places) (n : ℕ) (step : Mailing) → HasSeat part p n → part ≢ TheMailbox n → Spares part p (mail_ask n step)
 unfolding mail_ask
-mail_spares part p n (mailing.Ended its) there other = tt
-mail_spares part p n (mailing.LoadsState task) there other = tt
-mail_spares part p n mailing.LoadsHeader there other = tt
-mail_spares part p n (mailing.LoadsKey header) there other = tt
-mail_spares part p n (mailing.LoadsValue header key) there other = tt
 mail_spares part p n (mailing.StoresEmpty its) there other = other_outside part p n own.MailState there other
 mail_spares part p n (mailing.StoresAddress addr) there other = other_outside part p n own.MailAddress there other
 mail_spares part p n mailing.StoresAsked there other = other_outside part p n own.MailState there other
+mail_spares part p n step there other = tt
 
 -- where one is under way, no part is its mailbox
 pub is_other : (part : Part) (n : ℕ) (its : Mailing) → (part ≡ TheMailbox n → Some its ≡ None) → part ≢ TheMailbox n
@@ -149,9 +145,7 @@ next_spares p bits room n a Puts reply at leaves = put_spares p (mail_moved a re
 
 effect_spares : (p : Places) (a : AttemptState) (step : Attempting) → AttemptLeaves p a step → AttemptLeaves p (record a { effect = None }) step
 effect_spares p a Tries leaves = leaves
-effect_spares p a (Ended its) leaves = tt
-effect_spares p a Looks leaves = tt
-effect_spares p a Puts leaves = tt
+effect_spares p a step leaves = tt
 
 -- each reply
 pub attempt_next_spares : (p : Places) (bits room n : ℕ) (a : AttemptState) (reply : ℕ) → IsAttemptSparing p a → IsAttemptSparing p (attempt_next p bits room n a reply)

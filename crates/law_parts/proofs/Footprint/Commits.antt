@@ -57,12 +57,10 @@ IsStartSparing s = StartBounds s s.step
 
 starting_spares : (part : Part) (p : Places) (s : StartState) (step : Starting) → StartBounds s step → Spares part p (starting_ask s step)
 unfolding starting_ask
-starting_spares part p s (starting.Ended its) bounds = tt
-starting_spares part p s starting.LoadsPhase bounds = tt
 starting_spares part p s (starting.Seeks number) bounds = passed_spares part p _ _ (defer_spares part p s.defer bounds)
 starting_spares part p s (starting.StoresPrepare number) bounds = shared_outside part p one.Phase (λ e. cc)
-starting_spares part p s (starting.LoadsTail number) bounds = tt
 starting_spares part p s (starting.Defers number first) bounds = passed_spares part p _ _ (defer_spares part p s.defer bounds)
+starting_spares part p s step bounds = tt
 
 pub start_spares : (part : Part) (p : Places) (s : StartState) → IsStartSparing s → Spares part p (start_ask s)
 start_spares part p s bounds = starting_spares part p s s.step bounds
@@ -168,16 +166,11 @@ IsSeekSparing s = SeekBounds s s.step
 
 seeking_spares : (part : Part) (p : Places) (s : SeekState) (step : Seeking) → SeekBounds s step → Spares part p (seeking_ask s step)
 unfolding seeking_ask
-seeking_spares part p s (seeking.Ended its) bounds = tt
-seeking_spares part p s (seeking.LoadsOwing session) bounds = tt
 seeking_spares part p s seeking.SeeksSlot bounds = passed_spares part p _ _ (defer_spares part p s.defer bounds)
-seeking_spares part p s seeking.LoadsCut bounds = tt
-seeking_spares part p s (seeking.LoadsOther first) bounds = tt
-seeking_spares part p s seeking.LoadsAgain bounds = tt
 seeking_spares part p s seeking.StoresWaitFlush bounds = shared_outside part p one.Phase (λ e. cc)
-seeking_spares part p s seeking.LoadsTail bounds = tt
 seeking_spares part p s (seeking.RaisesReadOnly end) bounds = shared_outside part p one.ReadOnly (λ e. cc)
 seeking_spares part p s (seeking.Defers end) bounds = passed_spares part p _ _ (defer_spares part p s.defer bounds)
+seeking_spares part p s step bounds = tt
 
 pub seek_spares : (part : Part) (p : Places) (s : SeekState) → IsSeekSparing s → Spares part p (seek_ask s)
 seek_spares part p s bounds = seeking_spares part p s s.step bounds

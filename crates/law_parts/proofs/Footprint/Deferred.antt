@@ -30,12 +30,10 @@ IsDeferSparing d = DeferBounds d d.step
 
 deferring_spares : (part : Part) (p : Places) (d : DeferState) (step : Deferring) → DeferBounds d step → Spares part p (deferring_ask d step)
 unfolding deferring_ask
-deferring_spares part p d (Ended its) bounds = tt
 deferring_spares part p d Seeks bounds = passed_spares part p _ _ (raise_spares part p d.raising bounds)
-deferring_spares part p d Holds bounds = tt
 deferring_spares part p d (Raises its) bounds = passed_spares part p _ _ (raise_spares part p d.raising bounds)
-deferring_spares part p d (Puts its slot epoch) bounds = tt
 deferring_spares part p d (Arms epoch) bounds = passed_spares part p _ _ (arm_spares part p d.arming bounds)
+deferring_spares part p d step bounds = tt
 
 pub defer_spares : (part : Part) (p : Places) (d : DeferState) → IsDeferSparing d → Spares part p (defer_ask d)
 defer_spares part p d bounds = deferring_spares part p d d.step bounds
@@ -77,11 +75,7 @@ defer_next_spares d reply bounds = next_spares d d.step reply refl bounds
 goes_on : (d : DeferState) (step : Deferring) (its : Deferred) → d.step ≡ step → DeferBounds d step → IsDeferSparing (deferring_on d step its)
 unfolding deferring_on
 goes_on d Holds its at bounds = on_in_range d.raising bounds
-goes_on d (Ended told) its at bounds = stays_spares d (Ended told) at bounds
-goes_on d Seeks its at bounds = stays_spares d Seeks at bounds
-goes_on d (Raises other) its at bounds = stays_spares d (Raises other) at bounds
-goes_on d (Puts other slot epoch) its at bounds = stays_spares d (Puts other slot epoch) at bounds
-goes_on d (Arms epoch) its at bounds = stays_spares d (Arms epoch) at bounds
+goes_on d step its at bounds = stays_spares d step at bounds
 
 pub defer_on_spares : (d : DeferState) (its : Deferred) → IsDeferSparing d → IsDeferSparing (defer_on d its)
 defer_on_spares d its bounds = goes_on d d.step its refl bounds

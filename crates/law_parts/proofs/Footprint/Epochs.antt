@@ -37,21 +37,12 @@ use Rattle.law_parts.proofs.Footprint.Outside.{shared_outside, drain_outside, ow
 pub refresh_spares : (part : Part) (p : Places) (n : ℕ) (step : Refreshing) → HasSeat part p n → Spares part p (refresh_ask n step)
 unfolding refresh_ask
 refresh_spares part p n (refresh.StoresEpoch epoch) there = own_outside part p n own.Epoch there refl
-refresh_spares part p n refresh.AtRest there = tt
-refresh_spares part p n refresh.LoadsEpoch there = tt
-refresh_spares part p n (refresh.LoadsPhase epoch) there = tt
-refresh_spares part p n (refresh.LoadsReadOnly epoch phase) there = tt
-refresh_spares part p n (refresh.LoadsHead epoch phase read_only) there = tt
-refresh_spares part p n (refresh.HasLoaded epoch values) there = tt
+refresh_spares part p n step there = tt
 
 pub protect_spares : (part : Part) (p : Places) (n : ℕ) (step : Protecting) → HasSeat part p n → Spares part p (protect_ask n step)
 unfolding protect_ask
 protect_spares part p n (protect.StoresEpoch epoch) there = own_outside part p n own.Epoch there refl
-protect_spares part p n protect.AtRest there = tt
-protect_spares part p n protect.LoadsEpoch there = tt
-protect_spares part p n protect.LoadsPhase there = tt
-protect_spares part p n (protect.LoadsReadOnly phase) there = tt
-protect_spares part p n (protect.LoadsHead phase read_only) there = tt
+protect_spares part p n step there = tt
 
 pub leave_spares : (part : Part) (p : Places) (n : ℕ) (step : Leaving) → HasSeat part p n → Spares part p (leave_ask n step)
 unfolding leave_ask
@@ -61,10 +52,8 @@ leave_spares part p n leave.AtRest there = tt
 -- a scan
 pub scan_spares : (part : Part) (p : Places) (step : Scanning) → Spares part p (scan_ask step)
 unfolding scan_ask
-scan_spares part p scan.AtRest = tt
-scan_spares part p scan.LoadsEpoch = tt
-scan_spares part p (scan.LoadsSession session least) = tt
 scan_spares part p (scan.RaisesSafe least) = shared_outside part p one.SafeEpoch (λ e. cc)
+scan_spares part p step = tt
 
 -- a claim
 run_spares : (part : Part) (p : Places) (action : Action) → Spares part p (run_of action)
@@ -74,13 +63,10 @@ run_spares part p (act.Phase phase version) = shared_outside part p one.Phase (�
 
 pub claim_spares : (part : Part) (p : Places) (step : Claiming) → IsClaimInRange step → Spares part p (claim_ask step)
 unfolding claim_ask
-claim_spares part p claim.AtRest range = tt
-claim_spares part p (claim.MeetsSlot slot safe) range = tt
-claim_spares part p (claim.LoadsSafe slot word) range = tt
 claim_spares part p (claim.TakesSlot slot word safe) range = inl (drain_outside part p slot range)
-claim_spares part p (claim.Receives slot epoch safe) range = tt
 claim_spares part p (claim.Runs slot epoch safe action) range = run_spares part p action
 claim_spares part p (claim.FreesSlot slot safe) range = drain_outside part p slot range
+claim_spares part p step range = tt
 
 claims_either : (c : Bool) (a b : Claiming) → (c ≡ true → IsClaimInRange a) → (c ≡ false → IsClaimInRange b) → IsClaimInRange (if c then a else b)
 claims_either true a b one other = one refl
@@ -96,44 +82,30 @@ armed_range slot word safe range = claims_either _ (claim.TakesSlot slot word sa
 
 pub claim_range : (step : Claiming) (reply : ℕ) → IsClaimInRange step → IsClaimInRange (claim_next step reply)
 unfolding claim_next
-claim_range claim.AtRest reply range = tt
 claim_range (claim.MeetsSlot slot None) reply range = claims_either (nat_lt reply 2) (slot_after slot None) (claim.LoadsSafe slot reply) (λ e. after_range slot None) (λ e. range)
 claim_range (claim.MeetsSlot slot (Some safe)) reply range = claims_either (nat_lt reply 2) (slot_after slot (Some safe)) (slot_armed slot reply safe) (λ e. after_range slot (Some safe)) (λ e. armed_range slot reply safe range)
 claim_range (claim.LoadsSafe slot word) reply range = armed_range slot word reply range
 claim_range (claim.TakesSlot slot word safe) reply range = claims_either (reply == word) (claim.Receives slot _ safe) (slot_after slot (Some safe)) (λ e. range) (λ e. after_range slot (Some safe))
-claim_range (claim.Receives slot epoch safe) reply range = range
-claim_range (claim.Runs slot epoch safe action) reply range = range
 claim_range (claim.FreesSlot slot safe) reply range = after_range slot (Some safe)
+claim_range step reply range = range
 
 pub claim_given_range : (step : Claiming) (action : Action) → IsClaimInRange step → IsClaimInRange (claim_given step action)
 unfolding claim_given
 claim_given_range (claim.Receives slot epoch safe) action range = range
-claim_given_range claim.AtRest action range = range
-claim_given_range (claim.MeetsSlot slot safe) action range = range
-claim_given_range (claim.LoadsSafe slot word) action range = range
-claim_given_range (claim.TakesSlot slot word safe) action range = range
-claim_given_range (claim.Runs slot epoch safe its) action range = range
-claim_given_range (claim.FreesSlot slot safe) action range = range
+claim_given_range step action range = range
 
 -- a raise
 pub raise_spares : (part : Part) (p : Places) (step : Raising) → IsRaiseInRange step → Spares part p (raise_ask step)
 unfolding raise_ask
-raise_spares part p raise.AtRest range = tt
-raise_spares part p raise.LoadsEpoch range = tt
-raise_spares part p (raise.MeetsSlot slot) range = tt
 raise_spares part p (raise.HoldsSlot slot) range = inl (drain_outside part p slot range)
-raise_spares part p (raise.HasSlot slot) range = tt
 raise_spares part p (raise.RaisesEpoch slot) range = inl (shared_outside part p one.Epoch (λ e. cc))
+raise_spares part p step range = tt
 
 -- what it asks tells one of the slots
 pub asks_range : (step : Raising) → HasSlotInRange (raise_ask step)
 unfolding raise_ask
 asks_range raise.AtRest = tt
-asks_range raise.LoadsEpoch = tt
-asks_range (raise.MeetsSlot slot) = tt
-asks_range (raise.HoldsSlot slot) = tt
-asks_range (raise.HasSlot slot) = tt
-asks_range (raise.RaisesEpoch slot) = tt
+asks_range step = tt
 
 -- an arming
 abbrev pub ArmsInRange : Arming → Type 0

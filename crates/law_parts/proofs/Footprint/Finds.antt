@@ -40,15 +40,12 @@ pub record IsAtBucket (p : Places) (f : Finding) : Type 0 where
 
 step_spares : (part : Part) (p : Places) (f : Finding) (step : FindStep) (bucket : ℕ) → f.base ≡ bucket_place p bucket 0 → f.spare ≤ p.overflow → StepLinks p step → part ≢ TheIndex → Spares part p (find_step_ask f step)
 unfolding find_step_ask
-step_spares part p f AtRest bucket base few links other = tt
-step_spares part p f (LoadsSlot slot) bucket base few links other = tt
-step_spares part p f LoadsLink bucket base few links other = tt
-step_spares part p f (LoadsTaken word) bucket base few links other = tt
 step_spares part p f (TakesBucket word taken) bucket base few links other = inl (taken_outside part p other)
 step_spares part p f (LinksBucket word) bucket base few links other =
     let all = p.few_overflow in
     let same : f.base + bucket_slots ≡ bucket_place p bucket 7 = omega (arith, base) in
     subst (λ (place : ℕ). IsOutside part p place ⊎ MaySet part p place word (word + f.spare)) (sym same) (link_outside part p bucket word f.spare links (omega (arith, few, all)) other)
+step_spares part p f step bucket base few links other = tt
 
 pub find_spares : (part : Part) (p : Places) (f : Finding) → IsAtBucket p f → part ≢ TheIndex → Spares part p (find_ask f)
 find_spares part p f its other = step_spares part p f f.step its.bucket its.its_base its.its_spare its.links other
@@ -75,11 +72,7 @@ pub record FindsOn (p : Places) (f : Finding) (ask : Ask FindAnswer) : Type 0 wh
 step_tells : (p : Places) (f : Finding) (step : FindStep) → TellsAlone p (find_step_ask f step)
 unfolding find_step_ask
 step_tells p f AtRest = tt
-step_tells p f (LoadsSlot slot) = tt
-step_tells p f LoadsLink = tt
-step_tells p f (LoadsTaken word) = tt
-step_tells p f (TakesBucket word taken) = tt
-step_tells p f (LinksBucket word) = tt
+step_tells p f step = tt
 
 goes : (p : Places) (f : Finding) → IsAtBucket p f → FindsOn p f (find_ask f)
 goes p f its = record { its = λ asks. its; tells = step_tells p f f.step }

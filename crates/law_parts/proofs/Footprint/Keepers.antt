@@ -9,7 +9,7 @@ use Rattle.fkv_words.specs.declared.phase_words.PhaseSaid.TheVariants.{Says, Spo
 use Rattle.fkv_words.specs.PhaseWords.{phase_said}
 use Rattle.fkv_plane.specs.declared.actions.Action.{Action}
 use Rattle.fkv_plane.specs.declared.asks.Ask.{Ask}
-use Rattle.fkv_plane.specs.declared.asks.Ask.TheVariants.{Load, Store, Swap, Cas, Add, Max, Put, Take, Done}
+use Rattle.fkv_plane.specs.declared.asks.Ask.TheVariants.{Done}
 use Rattle.fkv_plane.specs.declared.places.Places.{Places}
 use Rattle.fkv_plane.specs.Passing.{passed}
 use Rattle.fkv_checkpoint.specs.declared.copying.CopyStep.{CopyStep}
@@ -70,14 +70,7 @@ device_spares part p (Done maintain.Device) told spares = tt
 device_spares part p (Done maintain.Through) told spares = tt
 device_spares part p (Done maintain.Spent) told spares = tt
 device_spares part p (Done maintain.Broken) told spares = tt
-device_spares part p (Load place) told spares = spares
-device_spares part p (Store place word) told spares = spares
-device_spares part p (Swap place word) told spares = spares
-device_spares part p (Cas place old new) told spares = spares
-device_spares part p (Add place number) told spares = spares
-device_spares part p (Max place number) told spares = spares
-device_spares part p (Put slot action) told spares = spares
-device_spares part p (Take slot) told spares = spares
+device_spares part p ask told spares = spares
 
 copy_step_spares : (part : Part) (p : Places) (base : ℕ) (step : CopyStep) → Spares part p (copy_step_ask base step)
 unfolding copy_step_ask
@@ -220,15 +213,7 @@ module _ (most : ℕ) where
   given_spares : (shape : Shape) (p : Places) (n : ℕ) (s : KeeperState) (step : Keeping) (action : Action) → s.step ≡ step → s.finish.sessions ≤ most → KeeperBounds n s step → IsKeeperSparing n most (keeping_given shape p s step action)
   unfolding keeping_given
   given_spares shape p n s Maintains action at counts bounds = maintained_spares n (record s { maintain = maintain_given s.maintain action }) _ at counts (maintain_given_spares n s.maintain action bounds)
-  given_spares shape p n s (Ended its) action at counts bounds = stays_spares n s (Ended its) at counts bounds
-  given_spares shape p n s Starts action at counts bounds = stays_spares n s Starts at counts bounds
-  given_spares shape p n s LoadsPhase action at counts bounds = stays_spares n s LoadsPhase at counts bounds
-  given_spares shape p n s Enters action at counts bounds = stays_spares n s Enters at counts bounds
-  given_spares shape p n s Copies action at counts bounds = stays_spares n s Copies at counts bounds
-  given_spares shape p n s Seeks action at counts bounds = stays_spares n s Seeks at counts bounds
-  given_spares shape p n s Waits action at counts bounds = stays_spares n s Waits at counts bounds
-  given_spares shape p n s Writes action at counts bounds = stays_spares n s Writes at counts bounds
-  given_spares shape p n s Finishes action at counts bounds = stays_spares n s Finishes at counts bounds
+  given_spares shape p n s step action at counts bounds = stays_spares n s step at counts bounds
 
   written_spares : (n : ℕ) (s : KeeperState) (found : Option Commit) (answer : WriteAnswer) → s.step ≡ Writes → s.finish.sessions ≤ most → IsKeeperSparing n most (write_ledto s found answer)
   unfolding write_ledto
@@ -245,14 +230,7 @@ module _ (most : ℕ) where
   unfolding keeping_called
   called_spares shape p n s Maintains done bytes at counts bounds = maintained_spares n (record s { maintain = maintain_called shape p s.maintain done bytes }) _ at counts (maintain_called_spares shape p n s.maintain done bytes bounds)
   called_spares shape p n s Writes done bytes at counts bounds = writes_called_spares n s done at counts
-  called_spares shape p n s (Ended its) done bytes at counts bounds = stays_spares n s (Ended its) at counts bounds
-  called_spares shape p n s Starts done bytes at counts bounds = stays_spares n s Starts at counts bounds
-  called_spares shape p n s LoadsPhase done bytes at counts bounds = stays_spares n s LoadsPhase at counts bounds
-  called_spares shape p n s Enters done bytes at counts bounds = stays_spares n s Enters at counts bounds
-  called_spares shape p n s Copies done bytes at counts bounds = stays_spares n s Copies at counts bounds
-  called_spares shape p n s Seeks done bytes at counts bounds = stays_spares n s Seeks at counts bounds
-  called_spares shape p n s Waits done bytes at counts bounds = stays_spares n s Waits at counts bounds
-  called_spares shape p n s Finishes done bytes at counts bounds = stays_spares n s Finishes at counts bounds
+  called_spares shape p n s step done bytes at counts bounds = stays_spares n s step at counts bounds
 
   -- what is begun
   turn_spares : (n : ℕ) (s : KeeperState) → s.finish.sessions ≤ most → IsKeeperSparing n most (turn_asked s)

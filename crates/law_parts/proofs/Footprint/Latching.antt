@@ -3,7 +3,7 @@
 use Rattle.std.proofs.Common.{◌≡◌, refl, sym, subst, arith, inl, inr, ℕ, Bool, true, false}
 use Rattle.std.specs.Prelude.{if◌then◌else◌, ⊤}
 use Rattle.fkv_plane.specs.declared.asks.Ask.{Ask}
-use Rattle.fkv_plane.specs.declared.asks.Ask.TheVariants.{Load, Store, Swap, Cas, Add, Max, Put, Take, Done}
+use Rattle.fkv_plane.specs.declared.asks.Ask.TheVariants.{Load, Put, Take, Done}
 use Rattle.fkv_plane.specs.declared.places.Places.{Places}
 use Rattle.fkv_plane.specs.Passing.{passed}
 use Rattle.fkv_plane.specs.Places.{bucket_place}
@@ -19,14 +19,10 @@ use Rattle.law_parts.proofs.Footprint.Outside.{bucket_outside}
 pub passed_spares : {A B : Type 0} (part : Part) (p : Places) (ask : Ask A) (its : B) → Spares part p ask → Spares part p (passed ask its)
 unfolding passed
 passed_spares part p (Load place) its spares = tt
-passed_spares part p (Store place word) its spares = spares
-passed_spares part p (Swap place word) its spares = spares
-passed_spares part p (Cas place old new) its spares = spares
-passed_spares part p (Add place k) its spares = spares
-passed_spares part p (Max place k) its spares = spares
 passed_spares part p (Put slot action) its spares = tt
 passed_spares part p (Take slot) its spares = tt
 passed_spares part p (Done told) its spares = tt
+passed_spares part p ask its spares = spares
 
 -- a machine for latches is at an eighth word
 abbrev pub IsAtLatch : Places → Latching → Type 0
@@ -80,11 +76,7 @@ pub latch_stays : (p : Places) (step : Latching) (reply : ℕ) → IsAtLatch p s
 unfolding latch_next
 latch_stays p (latch.AddsShare place) reply at = either_at (is_exclusive reply) p (latch.GivesBack place) latch.AtRest at tt
 latch_stays p (latch.LoadsWord place) reply at = either_at (is_free reply) p (latch.SetsExclusive place reply) latch.AtRest at tt
-latch_stays p latch.AtRest reply at = tt
-latch_stays p (latch.GivesBack place) reply at = tt
-latch_stays p (latch.DropsShare place) reply at = tt
-latch_stays p (latch.SetsExclusive place word) reply at = tt
-latch_stays p (latch.DropsExclusive place) reply at = tt
+latch_stays p step reply at = tt
 
 pub latch_begins : (p : Places) (task : LatchTask) (bucket : ℕ) → IsAtLatch p (latch_first task (bucket_place p bucket 7))
 latch_begins p TakeShared bucket = record { bucket = bucket; at = refl }

@@ -13,7 +13,7 @@ use Rattle.fkv_session.specs.SessionRun.{session_run}
 use Rattle.fkv_world.specs.Actors.{is_of_session}
 use Rattle.fkv_world.specs.OwnEvents.{keeper_events, session_events}
 use Rattle.fkv_world.specs.Runs.{World, happens, run}
-use Rattle.fkv_world.specs.World.{Event, Calls, Moves, Commits, Turns, KeeperMoves, Crashes, seat_at}
+use Rattle.fkv_world.specs.World.{Event, Calls, Moves, seat_at}
 use Rattle.fkv_world.proofs.Shown.{keeper_runs, session_runs, same_seat, no_session, session_apart, places_stay, shape_stays}
 use Rattle.law_parts.specs.Footprint.{Part, HasSeats, Spares}
 use Rattle.law_parts.specs.Mail.Servers.{serving_of}
@@ -29,10 +29,7 @@ other_stays w (Calls at call) number true e none =
 other_stays w (Moves at) number true e none =
     let same : at ≡ number = grind (arith, nat_tests, e) in
     ap (λ (x : World). slice_get x.now.sessions number) (no_session w at Refresh (ap (slice_get w.now.sessions) same ∙ none)).1 ∙ none
-other_stays w (Commits kind) number true e none = cc
-other_stays w Turns number true e none = cc
-other_stays w (KeeperMoves granted done) number true e none = cc
-other_stays w Crashes number true e none = cc
+other_stays w event number true e none = cc
 
 pub none_stays : (opening : World) (events : List Event) (number : ℕ) → slice_get opening.now.sessions number ≡ None → slice_get (run opening events).now.sessions number ≡ None
 unfolding run

@@ -4,7 +4,7 @@ use Rattle.std.specs.Prelude.{⊤, List}
 use Rattle.fkv_base.specs.declared.shapes.Shape.{Shape}
 use Rattle.fkv_plane.specs.declared.actions.Action.{Action}
 use Rattle.fkv_plane.specs.declared.asks.Ask.{Ask}
-use Rattle.fkv_plane.specs.declared.asks.Ask.TheVariants.{Load, Store, Swap, Cas, Add, Max, Put, Take, Done}
+use Rattle.fkv_plane.specs.declared.asks.Ask.TheVariants.{Done}
 use Rattle.fkv_plane.specs.declared.places.Places.{Places}
 use Rattle.fkv_plane.specs.Passing.{passed}
 use Rattle.fkv_epoch.specs.Claiming.{IsClaimInRange, claim_next, claim_given}
@@ -44,26 +44,17 @@ device_spares : (part : Part) (p : Places) (ask : Ask DeviceAnswer) → Spares p
 unfolding device_asked passed
 device_spares part p (Done device.Device) spares = tt
 device_spares part p (Done device.Through) spares = tt
-device_spares part p (Load place) spares = spares
-device_spares part p (Store place word) spares = spares
-device_spares part p (Swap place word) spares = spares
-device_spares part p (Cas place old new) spares = spares
-device_spares part p (Add place number) spares = spares
-device_spares part p (Max place number) spares = spares
-device_spares part p (Put slot action) spares = spares
-device_spares part p (Take slot) spares = spares
+device_spares part p ask spares = spares
 
 maintaining_spares : (part : Part) (shape : Shape) (p : Places) (n : ℕ) (s : MaintainState) (step : Maintaining) → HasSeats part p n → MaintainBounds n s step → IsServedNot part (maintain_serving s step) → Spares part p (maintaining_ask shape p s step)
 unfolding maintaining_ask
-maintaining_spares part shape p n s Through few bounds none = tt
-maintaining_spares part shape p n s Spent few bounds none = tt
-maintaining_spares part shape p n s Broken few bounds none = tt
 maintaining_spares part shape p n s Scans few bounds none = passed_spares part p _ _ (scan_spares part p s.scanning)
 maintaining_spares part shape p n s Claims few bounds none = passed_spares part p _ _ (claim_spares part p s.claiming bounds)
 maintaining_spares part shape p n s Flushes few bounds none = device_spares part p (flush_ask p s.flushing) (flush_spares part p s.flushing)
 maintaining_spares part shape p n s Shifts few bounds none = passed_spares part p _ _ (shift_spares part p s.shift bounds)
 maintaining_spares part shape p n s Turns few bounds none = passed_spares part p _ _ (turn_spares part p shape s.turn bounds)
 maintaining_spares part shape p n s Serves few bounds none = device_spares part p (serve_ask s.serving) (serve_spares part p n s.serving few bounds none)
+maintaining_spares part shape p n s step few bounds none = tt
 
 pub maintain_spares : (part : Part) (shape : Shape) (p : Places) (n : ℕ) (s : MaintainState) → HasSeats part p n → IsMaintainSparing n s → IsServedNot part (maintain_serving s s.step) → Spares part p (maintain_ask shape p s)
 maintain_spares part shape p n s few bounds none = maintaining_spares part shape p n s s.step few bounds none
@@ -117,9 +108,7 @@ next_spares shape p s Flushes reply at bounds = flushed shape.sessions (record s
 next_spares shape p s Shifts reply at bounds = shifted shape.sessions (record s { shift = shift_next shape s.shift reply }) _ at (shift_range shape s.shift reply bounds)
 next_spares shape p s Turns reply at bounds = turned shape (record s { turn = turn_next shape s.turn reply }) _ at (turn_range shape s.turn reply bounds)
 next_spares shape p s Serves reply at bounds = served shape.sessions (record s { serving = serve_next shape.sessions s.serving reply }) _ at (serve_below shape.sessions s.serving reply bounds)
-next_spares shape p s Through reply at bounds = stays_spares shape.sessions s Through at tt
-next_spares shape p s Spent reply at bounds = stays_spares shape.sessions s Spent at tt
-next_spares shape p s Broken reply at bounds = stays_spares shape.sessions s Broken at tt
+next_spares shape p s step reply at bounds = stays_spares shape.sessions s step at tt
 
 -- each reply, each action, and each call of the device
 pub maintain_next_spares : (shape : Shape) (p : Places) (s : MaintainState) (reply : ℕ) → IsMaintainSparing shape.sessions s → IsMaintainSparing shape.sessions (maintain_next shape p s reply)
@@ -128,14 +117,7 @@ maintain_next_spares shape p s reply bounds = next_spares shape p s s.step reply
 given_spares : (n : ℕ) (s : MaintainState) (step : Maintaining) (action : Action) → s.step ≡ step → MaintainBounds n s step → IsMaintainSparing n (maintaining_given s step action)
 unfolding maintaining_given
 given_spares n s Claims action at bounds = claimed n (record s { claiming = claim_given s.claiming action }) _ at (claim_given_range s.claiming action bounds)
-given_spares n s Through action at bounds = stays_spares n s Through at bounds
-given_spares n s Spent action at bounds = stays_spares n s Spent at bounds
-given_spares n s Broken action at bounds = stays_spares n s Broken at bounds
-given_spares n s Scans action at bounds = stays_spares n s Scans at bounds
-given_spares n s Flushes action at bounds = stays_spares n s Flushes at bounds
-given_spares n s Shifts action at bounds = stays_spares n s Shifts at bounds
-given_spares n s Turns action at bounds = stays_spares n s Turns at bounds
-given_spares n s Serves action at bounds = stays_spares n s Serves at bounds
+given_spares n s step action at bounds = stays_spares n s step at bounds
 
 pub maintain_given_spares : (n : ℕ) (s : MaintainState) (action : Action) → IsMaintainSparing n s → IsMaintainSparing n (maintain_given s action)
 maintain_given_spares n s action bounds = given_spares n s s.step action refl bounds

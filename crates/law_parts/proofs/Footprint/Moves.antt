@@ -60,9 +60,8 @@ move_spares part p move.Arms raising arming range = passed_spares part p _ _ (ar
 led_range : (target : Target) (raising : Raising) (arming : Arming) (ask : Ask RaiseAnswer) → IsRaiseInRange raising → HasSlotInRange ask → IsMoveInRange (raise_led target raising arming ask)
 unfolding raise_led
 led_range target raising arming (Done (raised.HasSlot slot)) range told = range
-led_range target raising arming (Done raised.NoSlot) range told = tt
-led_range target raising arming (Done raised.Spent) range told = tt
 led_range target raising arming (Done (raised.Raised slot epoch)) range told = told
+led_range target raising arming (Done its) range told = tt
 led_range target raising arming ask range told = range
 
 arms_range : (raising : Raising) (arming : Arming) (ask : Ask (Unit {0})) → ArmsInRange arming → IsMoveInRange (arm_led raising arming ask)
@@ -89,9 +88,7 @@ IsShiftInRange s = ShiftsInRange s.step s.mover
 shifting_spares : (part : Part) (p : Places) (step : Shifting) (m : Mover) → ShiftsInRange step m → Spares part p (shifting_ask step m)
 unfolding shifting_ask
 shifting_spares part p (shift.Moves tail) m range = passed_spares part p _ _ (move_spares part p m.step m.raising m.arming range)
-shifting_spares part p shift.AtRest m range = tt
-shifting_spares part p shift.LoadsTail m range = tt
-shifting_spares part p (shift.LoadsReadOnly tail) m range = tt
+shifting_spares part p step m range = tt
 
 pub shift_spares : (part : Part) (p : Places) (s : ShiftState) → IsShiftInRange s → Spares part p (shift_ask s)
 shift_spares part p s range = shifting_spares part p s.step s.mover range
@@ -127,13 +124,9 @@ IsTurnInRange s = TurnsInRange s.step s.mover
 
 turning_spares : (part : Part) (p : Places) (shape : Shape) (step : Turning) (m : Mover) → TurnsInRange step m → Spares part p (turning_ask shape step m)
 unfolding turning_ask
-turning_spares part p shape turn.AtRest m range = tt
-turning_spares part p shape (turn.LoadsLimit form tail) m range = tt
-turning_spares part p shape (turn.LoadsClosed form limit) m range = tt
 turning_spares part p shape (turn.RaisesLimit limit) m range = inl (shared_outside part p one.Limit (λ e. cc))
-turning_spares part p shape (turn.LoadsHead end) m range = tt
-turning_spares part p shape (turn.LoadsFlushed end) m range = tt
 turning_spares part p shape turn.Moves m range = passed_spares part p _ _ (move_spares part p m.step m.raising m.arming range)
+turning_spares part p shape step m range = tt
 
 pub turn_spares : (part : Part) (p : Places) (shape : Shape) (s : TurnState) → IsTurnInRange s → Spares part p (turn_ask shape s)
 turn_spares part p shape s range = turning_spares part p shape s.step s.mover range
@@ -153,12 +146,7 @@ taken_not OpensOnly end = tt
 
 not_range : (step : Turning) (m : Mover) → MovesNot step → TurnsInRange step m
 not_range turn.Moves m still = absurd still
-not_range turn.AtRest m still = tt
-not_range (turn.LoadsLimit form tail) m still = tt
-not_range (turn.LoadsClosed form limit) m still = tt
-not_range (turn.RaisesLimit limit) m still = tt
-not_range (turn.LoadsHead end) m still = tt
-not_range (turn.LoadsFlushed end) m still = tt
+not_range step m still = tt
 
 turn_either : (c : Bool) (a b : TurnState) → IsTurnInRange a → IsTurnInRange b → IsTurnInRange (if c then a else b)
 turn_either true a b one other = one

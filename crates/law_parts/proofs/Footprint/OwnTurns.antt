@@ -78,10 +78,7 @@ own_turn_next_spares shape o reply bounds = next_spares shape o o.step reply ref
 given_spares : (o : OwnTurnState) (step : OwnTurning) (action : Action) → o.step ≡ step → TurnBounds o step → IsOwnTurnSparing (own_turning_given o step action)
 unfolding own_turning_given
 given_spares o Claims action at bounds = claimed (record o { claiming = claim_given o.claiming action }) _ at (claim_given_range o.claiming action bounds)
-given_spares o Ended action at bounds = stays_spares o Ended at bounds
-given_spares o Scans action at bounds = stays_spares o Scans at bounds
-given_spares o Shifts action at bounds = stays_spares o Shifts at bounds
-given_spares o Opens action at bounds = stays_spares o Opens at bounds
+given_spares o step action at bounds = stays_spares o step at bounds
 
 pub own_turn_given_spares : (o : OwnTurnState) (action : Action) → IsOwnTurnSparing o → IsOwnTurnSparing (own_turn_given o action)
 own_turn_given_spares o action bounds = given_spares o o.step action refl bounds

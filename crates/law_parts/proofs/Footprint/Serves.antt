@@ -17,13 +17,8 @@ use Rattle.law_parts.proofs.Footprint.Outside.{shared_outside, other_outside, se
 
 pub flush_spares : (part : Part) (p : Places) (step : Flushing) → Spares part p (flush_ask p step)
 unfolding flush_ask
-flush_spares part p flush.AtRest = tt
-flush_spares part p flush.LoadsFlushed = tt
-flush_spares part p (flush.LoadsEnd flushed) = tt
-flush_spares part p (flush.LoadsWord its addr word) = tt
-flush_spares part p (flush.WritesPart its) = tt
-flush_spares part p (flush.Syncs end) = tt
 flush_spares part p (flush.RaisesFlushed end) = shared_outside part p one.Flushed (λ e. cc)
+flush_spares part p step = tt
 
 -- it is at one of so many mailboxes
 abbrev pub ServesBelow : ℕ → Serving → Type 0
@@ -45,14 +40,11 @@ other_than part session none = λ same. let itself : (session == session) ≡ tr
 
 pub serve_spares : (part : Part) (p : Places) (n : ℕ) (step : Serving) → HasSeats part p n → ServesBelow n step → IsServedNot part step → Spares part p (serve_ask step)
 unfolding serve_ask
-serve_spares part p n serve.AtRest few low none = tt
-serve_spares part p n (serve.LoadsState session) few low none = tt
-serve_spares part p n (serve.LoadsAddress session) few low none = tt
-serve_spares part p n (serve.Reads session addr) few low none = tt
 serve_spares part p n (serve.StoresHeader session mail) few low none = other_outside part p session own.MailHeader (seat_of part p n session few low) (other_than part session (none session))
 serve_spares part p n (serve.StoresKey session mail) few low none = other_outside part p session own.MailKey (seat_of part p n session few low) (other_than part session (none session))
 serve_spares part p n (serve.StoresValue session mail) few low none = other_outside part p session own.MailValue (seat_of part p n session few low) (other_than part session (none session))
 serve_spares part p n (serve.StoresReady session) few low none = other_outside part p session own.MailState (seat_of part p n session few low) (other_than part session (none session))
+serve_spares part p n step few low none = tt
 
 pub mailbox_below : (n session : ℕ) → ServesBelow n (mailbox_from n session)
 unfolding mailbox_from
@@ -71,19 +63,10 @@ unfolding serve_next
 serve_below n serve.AtRest reply low = tt
 serve_below n (serve.LoadsState session) reply low = either_below (reply == asked_state) n (serve.LoadsAddress session) (mailbox_from n (session + 1)) low (mailbox_below n (session + 1))
 serve_below n (serve.LoadsAddress session) reply low = either_below (nat_lt reply (2 ^ 48)) n (serve.Reads session reply) (mailbox_from n (session + 1)) low (mailbox_below n (session + 1))
-serve_below n (serve.Reads session addr) reply low = low
-serve_below n (serve.StoresHeader session mail) reply low = low
-serve_below n (serve.StoresKey session mail) reply low = low
-serve_below n (serve.StoresValue session mail) reply low = low
 serve_below n (serve.StoresReady session) reply low = mailbox_below n (session + 1)
+serve_below n step reply low = low
 
 pub read_below : (n : ℕ) (step : Serving) (bytes : List ℕ) → ServesBelow n step → ServesBelow n (serve_read step bytes)
 unfolding serve_read
-read_below n (serve.Reads session addr) bytes low = low
 read_below n serve.AtRest bytes low = tt
-read_below n (serve.LoadsState session) bytes low = low
-read_below n (serve.LoadsAddress session) bytes low = low
-read_below n (serve.StoresHeader session mail) bytes low = low
-read_below n (serve.StoresKey session mail) bytes low = low
-read_below n (serve.StoresValue session mail) bytes low = low
-read_below n (serve.StoresReady session) bytes low = low
+read_below n step bytes low = low

@@ -125,13 +125,10 @@ shifts_at p s true = accepts_at p s reason.Contended
 
 attempted_at : (p : Places) (s : SessionState) (has_shifted : Bool) (its : TryAnswer) → IsSessionSparing p (attempted s has_shifted its)
 attempted_at p s has_shifted (tried.Done reply) = either_at (is_read s.op) p (answers s told.Absent) (update_done s reply) tt tt
-attempted_at p s has_shifted (tried.Found value) = tt
-attempted_at p s has_shifted tried.Absent = tt
 attempted_at p s has_shifted (tried.Wait why) = accepts_at p s why
 attempted_at p s has_shifted (tried.AwaitsDisk sought) = accepts_at p s reason.Disk
 attempted_at p s has_shifted tried.Shift = shifts_at p s has_shifted
-attempted_at p s has_shifted tried.IndexFull = tt
-attempted_at p s has_shifted tried.LogFull = tt
+attempted_at p s has_shifted its = tt
 
 attempt_ledto_at : (p : Places) (s : SessionState) (has_shifted : Bool) (ask : Ask TryAnswer) → s.step ≡ Attempts has_shifted → IsAttemptSparing p s.attempt → IsSessionSparing p (attempt_ledto s has_shifted ask)
 unfolding attempt_ledto
@@ -194,13 +191,8 @@ counted_at : (p : Places) (s : SessionState) (asks : ℕ) (step : Sitting) → S
 counted_at p s asks (Attempts has_shifted) spared = spared
 counted_at p s asks (Polls index) spared = spared
 counted_at p s asks (Turns its) spared = spared
-counted_at p s asks (Idle its) spared = tt
 counted_at p s asks (CatchesUp cause) spared = spared
-counted_at p s asks ClearsMail spared = tt
-counted_at p s asks (StoresOwing index) spared = tt
-counted_at p s asks StoresCut spared = tt
-counted_at p s asks Leaves spared = tt
-counted_at p s asks LoadsDurable spared = tt
+counted_at p s asks step spared = tt
 
 session_next_at : (k : Seat) (s : SessionState) (reply : ℕ) → IsSessionSparing k.places s → IsSessionSparing k.places (session_next k s reply)
 session_next_at k s reply spared =
@@ -210,15 +202,7 @@ session_next_at k s reply spared =
 given_at : (k : Seat) (s : SessionState) (step : Sitting) (action : Action) → s.step ≡ step → SittingIsAt k.places s step → IsSessionSparing k.places (sitting_given k s step action)
 unfolding sitting_given
 given_at k s (Turns its) action at spared = turn_ledto_at k.places (record s { own_turn = own_turn_given s.own_turn action }) its _ at (own_turn_given_spares s.own_turn action spared)
-given_at k s (Idle its) action at spared = stays_at k.places s (Idle its) at spared
-given_at k s (Attempts has_shifted) action at spared = stays_at k.places s (Attempts has_shifted) at spared
-given_at k s (CatchesUp cause) action at spared = stays_at k.places s (CatchesUp cause) at spared
-given_at k s ClearsMail action at spared = stays_at k.places s ClearsMail at spared
-given_at k s (Polls index) action at spared = stays_at k.places s (Polls index) at spared
-given_at k s (StoresOwing index) action at spared = stays_at k.places s (StoresOwing index) at spared
-given_at k s StoresCut action at spared = stays_at k.places s StoresCut at spared
-given_at k s Leaves action at spared = stays_at k.places s Leaves at spared
-given_at k s LoadsDurable action at spared = stays_at k.places s LoadsDurable at spared
+given_at k s step action at spared = stays_at k.places s step at spared
 
 session_given_at : (k : Seat) (s : SessionState) (action : Action) → IsSessionSparing k.places s → IsSessionSparing k.places (session_given k s action)
 session_given_at k s action spared = given_at k s s.step action refl spared

@@ -249,19 +249,10 @@ next_spares p room t (DropsShared its) reply at leaves = unshared_spares p (latc
 
 -- the effect that was told is no matter
 effect_spares : (p : Places) (t : TryState) (step : Trying) → TryLeaves p t step → TryLeaves p (record t { effect = None }) step
-effect_spares p t Walks leaves = leaves
-effect_spares p t (LoadsSafe addr version) leaves = leaves
-effect_spares p t (LoadsCurrent addr) leaves = leaves
-effect_spares p t LoadsAnswer leaves = leaves
-effect_spares p t (TakesExclusive old) leaves = leaves
-effect_spares p t LoadsOld leaves = leaves
-effect_spares p t (Appends its) leaves = leaves
 effect_spares p t (Ended its) leaves = tt
-effect_spares p t TakesShared leaves = leaves
 effect_spares p t (SwapsValue addr) leaves = tt
 effect_spares p t (ChangesValue addr old) leaves = tt
-effect_spares p t (DropsExclusive its) leaves = leaves
-effect_spares p t (DropsShared its) leaves = leaves
+effect_spares p t step leaves = leaves
 
 -- each reply
 pub try_next_spares : (p : Places) (room : ℕ) (t : TryState) (reply : ℕ) → IsTrySparing p t → IsTrySparing p (try_next p room t reply)

@@ -44,10 +44,7 @@ pub record IsWalkSparing (p : Places) (w : WalkState) : Type 0 where
 load_spares : (part : Part) (p : Places) (step : Loading) → Spares part p (load_ask p step)
 unfolding load_ask
 load_spares part p loading.AtRest = tt
-load_spares part p (loading.LoadsHeader addr) = tt
-load_spares part p (loading.LoadsKey addr header) = tt
-load_spares part p (loading.HasKey addr header key) = tt
-load_spares part p (loading.LoadsValue addr header key) = tt
+load_spares part p step = tt
 
 -- the index is spared behind the search
 searches_not : (part : Part) → (part ≡ TheIndex → is_finding Finds ≡ false) → part ≢ TheIndex
@@ -139,10 +136,7 @@ walk_next_spares p w reply its = next_spares p w w.step reply refl its.place its
 on_spares : (p : Places) (w : WalkState) (step : Walking) → w.step ≡ step → IsWalkSparing p w → IsWalkSparing p (walking_on w step)
 unfolding walking_on
 on_spares p w (HasFound addr version) at its = record { place = its.place; finds = tt }
-on_spares p w (Ended told) at its = its
-on_spares p w Finds at its = its
-on_spares p w (Meets addr) at its = its
-on_spares p w LoadsValue at its = its
+on_spares p w step at its = its
 
 pub walk_on_spares : (p : Places) (w : WalkState) → IsWalkSparing p w → IsWalkSparing p (walk_on w)
 walk_on_spares p w its = on_spares p w w.step refl its

@@ -1,5 +1,5 @@
 -- Each step of a life that begins as a store was opened spares the index.
-use Rattle.std.proofs.Common.{◌≡◌, ℕ, zero, suc, ◌<◌, refl, arith, List, [], ◌∷◌, length}
+use Rattle.std.proofs.Common.{◌≡◌, ℕ, ◌<◌, refl, arith, List, [], ◌∷◌}
 use Rattle.std.specs.Prelude.{Option, Some, None, slice_get}
 use Rattle.fkv_index.proofs.Shown.{homes_are_there}
 use Rattle.fkv_keeper.specs.Keeping.{keeper_ask}
@@ -12,13 +12,9 @@ use Rattle.law_parts.specs.Index.Shows.{SparesIndex, SessionSpares, IsFair, AreF
 use Rattle.law_parts.proofs.OfIndex.Leaves.{leaves_spares}
 use Rattle.law_parts.proofs.OfIndex.SessionParts.{Homes, SittingKnows, run_knows}
 use Rattle.law_parts.specs.Footprint.{TheIndex}
+use Rattle.law_parts.proofs.Items.{there_low}
 use Rattle.law_parts.proofs.Footprint.Lives.{at_each_moment, keeper_spares}
 use Rattle.law_parts.proofs.Footprint.Sessions.{IsSessionSparing, SessionRests, session_asks_spares, session_run_at}
-
-there_low : {X : Type 0} (xs : List X) (i : ℕ) (x : X) → slice_get xs i ≡ Some x → i < length xs
-there_low [] i x got = cc
-there_low (y ∷ xs) zero x got = omega arith
-there_low (y ∷ xs) (suc i) x got = let low = there_low xs i x got in omega (arith, low)
 
 -- what a session knows at each moment of its own run
 record Ran (k : Seat) (s : SessionState) : Type 0 where
