@@ -21,7 +21,7 @@ use Rattle.law_parts.proofs.Footprint.Keepers.{IsKeeperSparing, keeper_asks_spar
 use Rattle.law_parts.proofs.Footprint.Serves.{IsServedNot}
 
 -- a session that wasn't there never is
-other_stays : (w : World) (event : Event) (number : ℕ) (mine : Bool) → is_of_session number event ≡ mine → slice_get w.now.sessions number ≡ None → slice_get (happens w event).now.sessions number ≡ None
+pub other_stays : (w : World) (event : Event) (number : ℕ) (mine : Bool) → is_of_session number event ≡ mine → slice_get w.now.sessions number ≡ None → slice_get (happens w event).now.sessions number ≡ None
 other_stays w event number false e none = session_apart w event number e ∙ none
 other_stays w (Calls at call) number true e none =
     let same : at ≡ number = grind (arith, nat_tests, e) in
