@@ -46,10 +46,12 @@ abbrev pub StepPublishes : Places → AppendState → Appending → Type 0
 StepPublishes p a (Publishes addr) = PublishesAlone p a.publishing
 StepPublishes p a step = ⊤
 
+-- at the slot that it was told of, which is one of the index
 pub record IsAppendSparing (p : Places) (a : AppendState) : Type 0 where
   pub place : IsIndexAlone p a.slot.place
   pub publishes : StepPublishes p a a.step
 
+-- what its machines ask for
 reserve_spares : (part : Part) (p : Places) (step : Reserving) → Spares part p (reserve_ask step)
 unfolding reserve_ask
 reserve_spares part p (reserving.TakesTail tail) = inl (shared_outside part p one.Tail (λ e. cc))

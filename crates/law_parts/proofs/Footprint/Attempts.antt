@@ -38,12 +38,13 @@ use Rattle.law_parts.proofs.Footprint.Outside.{other_outside}
 use Rattle.law_parts.proofs.OfIndex.AttemptParts.{AttemptKnows}
 use Rattle.law_parts.proofs.Footprint.Tries.{IsTrySparing, try_spares, try_next_spares, try_begun_spares}
 
-abbrev pub AttemptLeaves : Places → AttemptState → Attempting → Type 0
-AttemptLeaves p a Tries = IsTrySparing p a.trial
-AttemptLeaves p a step = ⊤
+-- its try keeps to its bounds
+abbrev pub AttemptBounds : Places → AttemptState → Attempting → Type 0
+AttemptBounds p a Tries = IsTrySparing p a.trial
+AttemptBounds p a step = ⊤
 
 abbrev pub IsAttemptSparing : Places → AttemptState → Type 0
-IsAttemptSparing p a = AttemptLeaves p a a.step
+IsAttemptSparing p a = AttemptBounds p a a.step
 
 -- no machine that works on the part is under way
 pub record AttemptRests (part : Part) (p : Places) (n : ℕ) (a : AttemptState) (step : Attempting) : Type 0 where
@@ -65,24 +66,25 @@ mail_spares part p n step there other = tt
 pub is_other : (part : Part) (n : ℕ) (its : Mailing) → (part ≡ TheMailbox n → Some its ≡ None) → part ≢ TheMailbox n
 is_other part n its none = λ same. let clash : Some its ≡ None = none same in cc
 
-attempting_spares : (part : Part) (p : Places) (n : ℕ) (a : AttemptState) (step : Attempting) → HasSeat part p n → AttemptLeaves p a step → AttemptRests part p n a step → Spares part p (attempting_ask p n a step)
+-- what it asks for
+attempting_spares : (part : Part) (p : Places) (n : ℕ) (a : AttemptState) (step : Attempting) → HasSeat part p n → AttemptBounds p a step → AttemptRests part p n a step → Spares part p (attempting_ask p n a step)
 unfolding attempting_ask
-attempting_spares part p n a (Ended its) there leaves rests = tt
-attempting_spares part p n a Looks there leaves rests = passed_spares part p _ _ (mail_spares part p n a.mailing there (is_other part n a.mailing rests.mail))
-attempting_spares part p n a Tries there leaves rests =
-    passed_spares part p _ _ (try_spares part p a.trial leaves (record { knows = λ index. (rests.knows index).at; search = rests.search; entry = rests.entry; latch = rests.latch }))
-attempting_spares part p n a Puts there leaves rests = passed_spares part p _ _ (mail_spares part p n a.mailing there (is_other part n a.mailing rests.mail))
+attempting_spares part p n a (Ended its) there bounds rests = tt
+attempting_spares part p n a Looks there bounds rests = passed_spares part p _ _ (mail_spares part p n a.mailing there (is_other part n a.mailing rests.mail))
+attempting_spares part p n a Tries there bounds rests =
+    passed_spares part p _ _ (try_spares part p a.trial bounds (record { knows = λ index. (rests.knows index).at; search = rests.search; entry = rests.entry; latch = rests.latch }))
+attempting_spares part p n a Puts there bounds rests = passed_spares part p _ _ (mail_spares part p n a.mailing there (is_other part n a.mailing rests.mail))
 
 pub attempt_spares : (part : Part) (p : Places) (n : ℕ) (a : AttemptState) → HasSeat part p n → IsAttemptSparing p a → AttemptRests part p n a a.step → Spares part p (attempt_ask p n a)
-attempt_spares part p n a there leaves rests = attempting_spares part p n a a.step there leaves rests
+attempt_spares part p n a there bounds rests = attempting_spares part p n a a.step there bounds rests
 
 -- where a reply leads
 either_spares : (c : Bool) (p : Places) (a b : AttemptState) → IsAttemptSparing p a → IsAttemptSparing p b → IsAttemptSparing p (if c then a else b)
 either_spares true p a b one other = one
 either_spares false p a b one other = other
 
-stays_spares : (p : Places) (a : AttemptState) (step : Attempting) → a.step ≡ step → AttemptLeaves p a step → IsAttemptSparing p a
-stays_spares p a step at leaves = subst (λ x. AttemptLeaves p a x) (sym at) leaves
+stays_spares : (p : Places) (a : AttemptState) (step : Attempting) → a.step ≡ step → AttemptBounds p a step → IsAttemptSparing p a
+stays_spares p a step at bounds = subst (λ x. AttemptBounds p a x) (sym at) bounds
 
 puts_spares : (p : Places) (a : AttemptState) (sought : Option DiskRecord) → IsAttemptSparing p (puts_addr a sought)
 puts_spares p a None = tt
@@ -133,20 +135,20 @@ tried_spares p a its = tt
 
 try_ledto_spares : (p : Places) (a : AttemptState) (ask : Ask TryAnswer) → a.step ≡ Tries → IsTrySparing p a.trial → IsAttemptSparing p (try_ledto a ask)
 unfolding try_ledto
-try_ledto_spares p a (Done its) at leaves = tried_spares p (record a { spare = a.trial.spare; pending = with_latch a.pending a.trial.has_shared }) its
-try_ledto_spares p a ask at leaves = stays_spares p a Tries at leaves
+try_ledto_spares p a (Done its) at bounds = tried_spares p (record a { spare = a.trial.spare; pending = with_latch a.pending a.trial.has_shared }) its
+try_ledto_spares p a ask at bounds = stays_spares p a Tries at bounds
 
-next_spares : (p : Places) (bits room n : ℕ) (a : AttemptState) (step : Attempting) (reply : ℕ) → a.step ≡ step → AttemptLeaves p a step → IsAttemptSparing p (attempting_next p bits room n a step reply)
+next_spares : (p : Places) (bits room n : ℕ) (a : AttemptState) (step : Attempting) (reply : ℕ) → a.step ≡ step → AttemptBounds p a step → IsAttemptSparing p (attempting_next p bits room n a step reply)
 unfolding attempting_next
-next_spares p bits room n a (Ended its) reply at leaves = stays_spares p a (Ended its) at tt
-next_spares p bits room n a Looks reply at leaves = look_spares p bits (mail_moved a reply) (mail_ask n (mail_next a.mailing reply)) at
-next_spares p bits room n a Tries reply at leaves = try_ledto_spares p (try_moved p room a reply) (try_ask p (try_next p room a.trial reply)) at (try_next_spares p room a.trial reply leaves)
-next_spares p bits room n a Puts reply at leaves = put_spares p (mail_moved a reply) (mail_ask n (mail_next a.mailing reply)) at
+next_spares p bits room n a (Ended its) reply at bounds = stays_spares p a (Ended its) at tt
+next_spares p bits room n a Looks reply at bounds = look_spares p bits (mail_moved a reply) (mail_ask n (mail_next a.mailing reply)) at
+next_spares p bits room n a Tries reply at bounds = try_ledto_spares p (try_moved p room a reply) (try_ask p (try_next p room a.trial reply)) at (try_next_spares p room a.trial reply bounds)
+next_spares p bits room n a Puts reply at bounds = put_spares p (mail_moved a reply) (mail_ask n (mail_next a.mailing reply)) at
 
-effect_spares : (p : Places) (a : AttemptState) (step : Attempting) → AttemptLeaves p a step → AttemptLeaves p (record a { effect = None }) step
-effect_spares p a Tries leaves = leaves
-effect_spares p a step leaves = tt
+effect_spares : (p : Places) (a : AttemptState) (step : Attempting) → AttemptBounds p a step → AttemptBounds p (record a { effect = None }) step
+effect_spares p a Tries bounds = bounds
+effect_spares p a step bounds = tt
 
 -- each reply
 pub attempt_next_spares : (p : Places) (bits room n : ℕ) (a : AttemptState) (reply : ℕ) → IsAttemptSparing p a → IsAttemptSparing p (attempt_next p bits room n a reply)
-attempt_next_spares p bits room n a reply leaves = next_spares p bits room n (record a { effect = None }) a.step reply refl (effect_spares p a a.step leaves)
+attempt_next_spares p bits room n a reply bounds = next_spares p bits room n (record a { effect = None }) a.step reply refl (effect_spares p a a.step bounds)

@@ -31,14 +31,16 @@ use Rattle.law_parts.specs.Footprint.{Part, TheLatches, HasSeat, Spares}
 use Rattle.law_parts.proofs.Footprint.Latching.{passed_spares, IsAtLatch, latch_spares, latch_stays, latch_begins}
 use Rattle.law_parts.proofs.Footprint.Outside.{own_outside, cut_outside}
 
-abbrev pub CatchLatchAt : Places → CatchState → Catching → Type 0
-CatchLatchAt p c (Latches index) = IsAtLatch p c.latching
-CatchLatchAt p c step = ⊤
+-- its machine for latches is at an eighth word
+abbrev pub CatchBounds : Places → CatchState → Catching → Type 0
+CatchBounds p c (Latches index) = IsAtLatch p c.latching
+CatchBounds p c step = ⊤
 
-abbrev pub IsCatchAtLatch : Places → CatchState → Type 0
-IsCatchAtLatch p c = CatchLatchAt p c c.step
+abbrev pub IsCatchSparing : Places → CatchState → Type 0
+IsCatchSparing p c = CatchBounds p c c.step
 
-catching_spares : (part : Part) (p : Places) (n : ℕ) (c : CatchState) (requests : List PendingRequest) (step : Catching) → HasSeat part p n → CatchLatchAt p c step → (part ≡ TheLatches → catch_latching c step ≡ latching.AtRest) → Spares part p (catching_ask p n c requests step)
+-- what it asks for
+catching_spares : (part : Part) (p : Places) (n : ℕ) (c : CatchState) (requests : List PendingRequest) (step : Catching) → HasSeat part p n → CatchBounds p c step → (part ≡ TheLatches → catch_latching c step ≡ latching.AtRest) → Spares part p (catching_ask p n c requests step)
 unfolding catching_ask
 catching_spares part p n c requests Ended there place rests = tt
 catching_spares part p n c requests Refreshes there place rests = passed_spares part p _ _ (refresh_spares part p n c.refreshing there)
@@ -48,71 +50,71 @@ catching_spares part p n c requests StoresOwing there place rests = own_outside 
 catching_spares part p n c requests (Latches index) there place rests = passed_spares part p _ _ (latch_spares part p c.latching place rests)
 catching_spares part p n c requests Finishes there place rests = passed_spares part p _ _ (refresh_spares part p n c.refreshing there)
 
-pub catch_spares : (part : Part) (p : Places) (n : ℕ) (c : CatchState) (requests : List PendingRequest) → HasSeat part p n → IsCatchAtLatch p c → (part ≡ TheLatches → catch_latching c c.step ≡ latching.AtRest) → Spares part p (catch_ask p n c requests)
+pub catch_spares : (part : Part) (p : Places) (n : ℕ) (c : CatchState) (requests : List PendingRequest) → HasSeat part p n → IsCatchSparing p c → (part ≡ TheLatches → catch_latching c c.step ≡ latching.AtRest) → Spares part p (catch_ask p n c requests)
 catch_spares part p n c requests there place rests = catching_spares part p n c requests c.step there place rests
 
 -- where a reply leads
-either_at : (b : Bool) (p : Places) (c d : CatchState) → IsCatchAtLatch p c → IsCatchAtLatch p d → IsCatchAtLatch p (if b then c else d)
-either_at true p c d one other = one
-either_at false p c d one other = other
+either_spares : (b : Bool) (p : Places) (c d : CatchState) → IsCatchSparing p c → IsCatchSparing p d → IsCatchSparing p (if b then c else d)
+either_spares true p c d one other = one
+either_spares false p c d one other = other
 
-stays_at : (p : Places) (c : CatchState) (step : Catching) → c.step ≡ step → CatchLatchAt p c step → IsCatchAtLatch p c
-stays_at p c step at place = subst (λ x. CatchLatchAt p c x) (sym at) place
+stays_spares : (p : Places) (c : CatchState) (step : Catching) → c.step ≡ step → CatchBounds p c step → IsCatchSparing p c
+stays_spares p c step at place = subst (λ x. CatchBounds p c x) (sym at) place
 
-finishes_at : (p : Places) (c : CatchState) → IsCatchAtLatch p (finishes c)
-finishes_at p c = either_at c.is_refresh p (record c { refreshing = refresh_finish c.refreshing; step = Finishes }) (record c { step = Ended }) tt tt
+finishes_spares : (p : Places) (c : CatchState) → IsCatchSparing p (finishes c)
+finishes_spares p c = either_spares c.is_refresh p (record c { refreshing = refresh_finish c.refreshing; step = Finishes }) (record c { step = Ended }) tt tt
 
-begun_at : (p : Places) (bits : ℕ) (c : CatchState) (index : ℕ) (found : Option PendingRequest) → IsCatchAtLatch p (latch_begun p bits c index found)
-begun_at p bits c index None = finishes_at p c
-begun_at p bits c index (Some pending) = latch_begins p TakeShared (home_of bits (key_of pending.request.op)).bucket
+begun_spares : (p : Places) (bits : ℕ) (c : CatchState) (index : ℕ) (found : Option PendingRequest) → IsCatchSparing p (latch_begun p bits c index found)
+begun_spares p bits c index None = finishes_spares p c
+begun_spares p bits c index (Some pending) = latch_begins p TakeShared (home_of bits (key_of pending.request.op)).bucket
 
-wanted_at : (p : Places) (bits : ℕ) (c : CatchState) (requests : List PendingRequest) (found : Option ℕ) → IsCatchAtLatch p (latch_wanted p bits c requests found)
-wanted_at p bits c requests None = finishes_at p c
-wanted_at p bits c requests (Some index) = begun_at p bits c index (slice_get requests index)
+wanted_spares : (p : Places) (bits : ℕ) (c : CatchState) (requests : List PendingRequest) (found : Option ℕ) → IsCatchSparing p (latch_wanted p bits c requests found)
+wanted_spares p bits c requests None = finishes_spares p c
+wanted_spares p bits c requests (Some index) = begun_spares p bits c index (slice_get requests index)
 
-latches_at : (p : Places) (bits : ℕ) (c : CatchState) (requests : List PendingRequest) → IsCatchAtLatch p (latches p bits c requests)
-latches_at p bits c requests =
-    either_at c.is_entering p (latch_wanted p bits c requests (position is_unlatched requests)) (finishes c) (wanted_at p bits c requests (position is_unlatched requests)) (finishes_at p c)
+latches_spares : (p : Places) (bits : ℕ) (c : CatchState) (requests : List PendingRequest) → IsCatchSparing p (latches p bits c requests)
+latches_spares p bits c requests =
+    either_spares c.is_entering p (latch_wanted p bits c requests (position is_unlatched requests)) (finishes c) (wanted_spares p bits c requests (position is_unlatched requests)) (finishes_spares p c)
 
-cuts_at : (p : Places) (bits : ℕ) (c : CatchState) (requests : List PendingRequest) (changed : Bool) → IsCatchAtLatch p (cuts p bits c requests changed)
-cuts_at p bits c requests true = tt
-cuts_at p bits c requests false = latches_at p bits c requests
+cuts_spares : (p : Places) (bits : ℕ) (c : CatchState) (requests : List PendingRequest) (changed : Bool) → IsCatchSparing p (cuts p bits c requests changed)
+cuts_spares p bits c requests true = tt
+cuts_spares p bits c requests false = latches_spares p bits c requests
 
-takes_at : (p : Places) (bits : ℕ) (c : CatchState) (requests : List PendingRequest) (after : Seen) → IsCatchAtLatch p (takes_up p bits c requests after)
-takes_at p bits c requests after = cuts_at p bits (record c { seen = after; is_entering = enters_prepare c.seen after }) requests (not (is_same_version c.seen after))
+takes_spares : (p : Places) (bits : ℕ) (c : CatchState) (requests : List PendingRequest) (after : Seen) → IsCatchSparing p (takes_up p bits c requests after)
+takes_spares p bits c requests after = cuts_spares p bits (record c { seen = after; is_entering = enters_prepare c.seen after }) requests (not (is_same_version c.seen after))
 
-refreshed_at : (p : Places) (bits : ℕ) (c : CatchState) (requests : List PendingRequest) (ask : Ask RefreshAnswer) → c.step ≡ Refreshes → IsCatchAtLatch p (refresh_ledto p bits c requests ask)
+refreshed_spares : (p : Places) (bits : ℕ) (c : CatchState) (requests : List PendingRequest) (ask : Ask RefreshAnswer) → c.step ≡ Refreshes → IsCatchSparing p (refresh_ledto p bits c requests ask)
 unfolding refresh_ledto
-refreshed_at p bits c requests (Done (Loaded values)) at = takes_at p bits c requests (seen_after c.seen values (phase_said values.phase))
-refreshed_at p bits c requests (Done Stored) at = tt
-refreshed_at p bits c requests ask at = stays_at p c Refreshes at tt
+refreshed_spares p bits c requests (Done (Loaded values)) at = takes_spares p bits c requests (seen_after c.seen values (phase_said values.phase))
+refreshed_spares p bits c requests (Done Stored) at = tt
+refreshed_spares p bits c requests ask at = stays_spares p c Refreshes at tt
 
-protected_at : (p : Places) (bits : ℕ) (c : CatchState) (requests : List PendingRequest) (ask : Ask loaded.Seen) → c.step ≡ Protects → IsCatchAtLatch p (protect_ledto p bits c requests ask)
+protected_spares : (p : Places) (bits : ℕ) (c : CatchState) (requests : List PendingRequest) (ask : Ask loaded.Seen) → c.step ≡ Protects → IsCatchSparing p (protect_ledto p bits c requests ask)
 unfolding protect_ledto
-protected_at p bits c requests (Done values) at = takes_at p bits c requests (seen_after c.seen values (phase_said values.phase))
-protected_at p bits c requests ask at = stays_at p c Protects at tt
+protected_spares p bits c requests (Done values) at = takes_spares p bits c requests (seen_after c.seen values (phase_said values.phase))
+protected_spares p bits c requests ask at = stays_spares p c Protects at tt
 
-latched_at : (p : Places) (bits : ℕ) (c : CatchState) (requests : List PendingRequest) (index : ℕ) (ask : Ask LatchAnswer) → c.step ≡ Latches index → IsAtLatch p c.latching → IsCatchAtLatch p (latch_ledto p bits c requests ask)
+latched_spares : (p : Places) (bits : ℕ) (c : CatchState) (requests : List PendingRequest) (index : ℕ) (ask : Ask LatchAnswer) → c.step ≡ Latches index → IsAtLatch p c.latching → IsCatchSparing p (latch_ledto p bits c requests ask)
 unfolding latch_ledto
-latched_at p bits c requests index (Done Taken) at place = latches_at p bits c requests
-latched_at p bits c requests index (Done its) at place = finishes_at p c
-latched_at p bits c requests index ask at place = stays_at p c (Latches index) at place
+latched_spares p bits c requests index (Done Taken) at place = latches_spares p bits c requests
+latched_spares p bits c requests index (Done its) at place = finishes_spares p c
+latched_spares p bits c requests index ask at place = stays_spares p c (Latches index) at place
 
-finished_at : (p : Places) (c : CatchState) (ask : Ask RefreshAnswer) → c.step ≡ Finishes → IsCatchAtLatch p (finish_ledto c ask)
+finished_spares : (p : Places) (c : CatchState) (ask : Ask RefreshAnswer) → c.step ≡ Finishes → IsCatchSparing p (finish_ledto c ask)
 unfolding finish_ledto
-finished_at p c (Done its) at = tt
-finished_at p c ask at = stays_at p c Finishes at tt
+finished_spares p c (Done its) at = tt
+finished_spares p c ask at = stays_spares p c Finishes at tt
 
-next_at : (p : Places) (bits n : ℕ) (c : CatchState) (requests : List PendingRequest) (step : Catching) (reply : ℕ) → c.step ≡ step → CatchLatchAt p c step → IsCatchAtLatch p (catching_next p bits n c requests step reply)
+next_spares : (p : Places) (bits n : ℕ) (c : CatchState) (requests : List PendingRequest) (step : Catching) (reply : ℕ) → c.step ≡ step → CatchBounds p c step → IsCatchSparing p (catching_next p bits n c requests step reply)
 unfolding catching_next
-next_at p bits n c requests Ended reply at place = stays_at p c Ended at tt
-next_at p bits n c requests Refreshes reply at place = refreshed_at p bits (record c { refreshing = refresh_next c.refreshing reply }) requests (refresh_ask n (refresh_next c.refreshing reply)) at
-next_at p bits n c requests Protects reply at place = protected_at p bits (record c { protecting = protect_next c.protecting reply }) requests (protect_next_ask n c.protecting reply) at
-next_at p bits n c requests StoresCut reply at place = tt
-next_at p bits n c requests StoresOwing reply at place = latches_at p bits c requests
-next_at p bits n c requests (Latches index) reply at place = latched_at p bits (record c { latching = latch_next c.latching reply }) requests index (latch_next_ask c.latching reply) at (latch_stays p c.latching reply place)
-next_at p bits n c requests Finishes reply at place = finished_at p (record c { refreshing = refresh_next c.refreshing reply }) (refresh_ask n (refresh_next c.refreshing reply)) at
+next_spares p bits n c requests Ended reply at place = stays_spares p c Ended at tt
+next_spares p bits n c requests Refreshes reply at place = refreshed_spares p bits (record c { refreshing = refresh_next c.refreshing reply }) requests (refresh_ask n (refresh_next c.refreshing reply)) at
+next_spares p bits n c requests Protects reply at place = protected_spares p bits (record c { protecting = protect_next c.protecting reply }) requests (protect_next_ask n c.protecting reply) at
+next_spares p bits n c requests StoresCut reply at place = tt
+next_spares p bits n c requests StoresOwing reply at place = latches_spares p bits c requests
+next_spares p bits n c requests (Latches index) reply at place = latched_spares p bits (record c { latching = latch_next c.latching reply }) requests index (latch_next_ask c.latching reply) at (latch_stays p c.latching reply place)
+next_spares p bits n c requests Finishes reply at place = finished_spares p (record c { refreshing = refresh_next c.refreshing reply }) (refresh_ask n (refresh_next c.refreshing reply)) at
 
 -- each reply
-pub catch_next_at : (p : Places) (bits n : ℕ) (c : CatchState) (requests : List PendingRequest) (reply : ℕ) → IsCatchAtLatch p c → IsCatchAtLatch p (catch_next p bits n c requests reply)
-catch_next_at p bits n c requests reply place = next_at p bits n c (catch_requests c requests reply) c.step reply refl place
+pub catch_next_spares : (p : Places) (bits n : ℕ) (c : CatchState) (requests : List PendingRequest) (reply : ℕ) → IsCatchSparing p c → IsCatchSparing p (catch_next p bits n c requests reply)
+catch_next_spares p bits n c requests reply place = next_spares p bits n c (catch_requests c requests reply) c.step reply refl place

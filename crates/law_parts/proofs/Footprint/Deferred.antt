@@ -17,6 +17,7 @@ use Rattle.law_parts.specs.Footprint.{Part, Spares}
 use Rattle.law_parts.proofs.Footprint.Latching.{passed_spares}
 use Rattle.law_parts.proofs.Footprint.Epochs.{raise_spares, ArmsInRange, arm_spares, arm_range}
 
+-- its drain slots are those that there are
 abbrev pub DeferBounds : DeferState → Deferring → Type 0
 DeferBounds d (Ended its) = ⊤
 DeferBounds d Seeks = IsRaiseInRange d.raising
@@ -28,6 +29,7 @@ DeferBounds d (Arms epoch) = ArmsInRange d.arming
 abbrev pub IsDeferSparing : DeferState → Type 0
 IsDeferSparing d = DeferBounds d d.step
 
+-- what it asks for
 deferring_spares : (part : Part) (p : Places) (d : DeferState) (step : Deferring) → DeferBounds d step → Spares part p (deferring_ask d step)
 unfolding deferring_ask
 deferring_spares part p d Seeks bounds = passed_spares part p _ _ (raise_spares part p d.raising bounds)

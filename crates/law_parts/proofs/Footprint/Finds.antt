@@ -1,4 +1,5 @@
--- A search writes words of the index alone: the count of taken overflow buckets, and a link below its latch. And so is the slot that it finds.
+-- A search writes words of the index alone: the count of taken overflow buckets, and a link below its latch. The slot that
+-- it finds is one of the index.
 use Rattle.std.proofs.Common.{◌≡◌, ◌≢◌, ℕ, ◌+◌, ◌<◌, ◌≤◌, ◌⊎◌, refl, sym, subst, arith, inl, Bool, true, false}
 use Rattle.std.specs.Prelude.{if◌then◌else◌, ◌==◌, ◌&&◌, ◌-◌, nat_lt, nat_le, ⊤}
 use Rattle.std.proofs.lemmas.Bool.Decides.{nat_tests}
@@ -38,6 +39,7 @@ pub record IsAtBucket (p : Places) (f : Finding) : Type 0 where
   pub its_spare : f.spare ≤ p.overflow
   pub links : StepLinks p f.step
 
+-- what it asks for
 step_spares : (part : Part) (p : Places) (f : Finding) (step : FindStep) (bucket : ℕ) → f.base ≡ bucket_place p bucket 0 → f.spare ≤ p.overflow → StepLinks p step → part ≢ TheIndex → Spares part p (find_step_ask f step)
 unfolding find_step_ask
 step_spares part p f (TakesBucket word taken) bucket base few links other = inl (taken_outside part p other)
@@ -50,7 +52,7 @@ step_spares part p f step bucket base few links other = tt
 pub find_spares : (part : Part) (p : Places) (f : Finding) → IsAtBucket p f → part ≢ TheIndex → Spares part p (find_ask f)
 find_spares part p f its other = step_spares part p f f.step its.bucket its.its_base its.its_spare its.links other
 
--- the word is outside of each part but the index
+-- the place is outside of each part but the index
 abbrev pub IsIndexAlone : Places → ℕ → Type 0
 IsIndexAlone p place = (part : Part) → part ≢ TheIndex → IsOutside part p place
 
@@ -69,6 +71,7 @@ pub record FindsOn (p : Places) (f : Finding) (ask : Ask FindAnswer) : Type 0 wh
   pub its : is_done ask ≡ false → IsAtBucket p f
   pub tells : TellsAlone p ask
 
+-- a step that goes on tells nothing yet
 step_tells : (p : Places) (f : Finding) (step : FindStep) → TellsAlone p (find_step_ask f step)
 unfolding find_step_ask
 step_tells p f AtRest = tt

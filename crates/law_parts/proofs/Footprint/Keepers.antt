@@ -51,6 +51,7 @@ use Rattle.law_parts.proofs.Footprint.Serves.{IsServedNot}
 use Rattle.law_parts.proofs.Footprint.Commits.{IsStartSparing, start_spares, start_next_spares, start_begun_spares, IsEnterSparing, enter_spares, enter_next_spares, enter_begun_spares, IsSeekSparing, seek_spares, seek_next_spares, seek_begun_spares, wait_spares, FinishBounds, finish_spares, finish_next_spares, finish_begun_spares}
 use Rattle.law_parts.proofs.Footprint.Maintains.{IsMaintainSparing, maintain_spares, maintain_next_spares, maintain_given_spares, maintain_called_spares, maintain_begun_spares}
 
+-- the machine of its step keeps to its bounds
 abbrev pub KeeperBounds : ℕ → KeeperState → Keeping → Type 0
 KeeperBounds n s Starts = IsStartSparing s.start
 KeeperBounds n s Maintains = IsMaintainSparing n s.maintain
@@ -64,6 +65,7 @@ pub record IsKeeperSparing (n most : ℕ) (s : KeeperState) : Type 0 where
   pub counts : s.finish.sessions ≤ most
   pub bounds : KeeperBounds n s s.step
 
+-- what its machines ask for
 device_spares : (part : Part) (p : Places) (ask : Ask MaintainAnswer) (told : KeeperTold) → Spares part p ask → Spares part p (device_passed ask told)
 unfolding device_passed passed
 device_spares part p (Done maintain.Device) told spares = tt
@@ -87,6 +89,7 @@ write_spares part p write.Device told = tt
 write_spares part p write.Written told = tt
 write_spares part p (write.Broken why) told = tt
 
+-- what it asks for
 keeping_spares : (part : Part) (shape : Shape) (p : Places) (n : ℕ) (s : KeeperState) (step : Keeping) → HasSeats part p n → HasSeats part p s.finish.sessions → KeeperBounds n s step → IsServedNot part (keeper_serving s step) → Spares part p (keeping_ask shape p s step)
 unfolding keeping_ask
 keeping_spares part shape p n s (Ended its) few its_few bounds none = tt

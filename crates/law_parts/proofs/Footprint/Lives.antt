@@ -1,5 +1,5 @@
--- What holds at each moment of each session's run, and of the keeper's, holds at each moment of a life; so each ask of the keeper's spares
--- each part, but the mailbox that it is at.
+-- What holds at each moment of a session's own run holds of it at each moment of a life, and so for the keeper. So each ask of the keeper's
+-- spares each part, but the mailbox that it is at.
 use Rattle.std.proofs.Common.{◌≡◌, ℕ, ◌∙◌, refl, sym, ap, subst, arith, List, [], ◌∷◌, Bool, true, false}
 use Rattle.std.specs.Prelude.{Option, Some, None, slice_get}
 use Rattle.std.proofs.lemmas.Bool.Decides.{nat_tests}
@@ -20,7 +20,7 @@ use Rattle.law_parts.specs.Mail.Servers.{serving_of}
 use Rattle.law_parts.proofs.Footprint.Keepers.{IsKeeperSparing, keeper_asks_spares, keeper_run_spares}
 use Rattle.law_parts.proofs.Footprint.Serves.{IsServedNot}
 
--- a session that wasn't there never is
+-- a session that isn't there as a life begins never comes
 pub other_stays : (w : World) (event : Event) (number : ℕ) (mine : Bool) → is_of_session number event ≡ mine → slice_get w.now.sessions number ≡ None → slice_get (happens w event).now.sessions number ≡ None
 other_stays w event number false e none = session_apart w event number e ∙ none
 other_stays w (Calls at call) number true e none =
@@ -36,6 +36,7 @@ unfolding run
 none_stays opening [] number none = none
 none_stays opening (event ∷ before) number none = other_stays (run opening before) event number (is_of_session number event) refl (none_stays opening before number none)
 
+-- an item of a list is one
 no_item : {X : Type 0} {A : Type 0} (found : Option X) (its : X) → found ≡ None → found ≡ Some its → A
 no_item found its none some = let clash : None ≡ Some its = sym none ∙ some in cc
 

@@ -40,6 +40,7 @@ MaintainBounds n s step = ⊤
 abbrev pub IsMaintainSparing : ℕ → MaintainState → Type 0
 IsMaintainSparing n s = MaintainBounds n s s.step
 
+-- what it asks for
 device_spares : (part : Part) (p : Places) (ask : Ask DeviceAnswer) → Spares part p ask → Spares part p (device_asked ask)
 unfolding device_asked passed
 device_spares part p (Done device.Device) spares = tt

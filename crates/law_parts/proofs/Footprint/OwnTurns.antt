@@ -20,6 +20,7 @@ use Rattle.law_parts.proofs.Footprint.Latching.{passed_spares}
 use Rattle.law_parts.proofs.Footprint.Epochs.{scan_spares, claim_spares, claim_range, claim_given_range}
 use Rattle.law_parts.proofs.Footprint.Moves.{IsShiftInRange, shift_spares, shift_range, IsTurnInRange, turn_spares, turn_range}
 
+-- its drain slots are those that there are
 abbrev pub TurnBounds : OwnTurnState → OwnTurning → Type 0
 TurnBounds o Claims = IsClaimInRange o.claiming
 TurnBounds o Shifts = IsShiftInRange o.shift
@@ -29,6 +30,7 @@ TurnBounds o step = ⊤
 abbrev pub IsOwnTurnSparing : OwnTurnState → Type 0
 IsOwnTurnSparing o = TurnBounds o o.step
 
+-- what it asks for
 turning_spares : (part : Part) (p : Places) (shape : Shape) (o : OwnTurnState) (step : OwnTurning) → TurnBounds o step → Spares part p (own_turning_ask shape o step)
 unfolding own_turning_ask
 turning_spares part p shape o Ended bounds = tt

@@ -1,4 +1,4 @@
--- A flush spares each part, and so do the mailboxes that are served, but that of the part itself.
+-- A flush spares each part. The keeper that serves a mailbox spares each part but this mailbox.
 use Rattle.std.proofs.Common.{◌≡◌, ◌≢◌, ℕ, ◌+◌, ◌^◌, ◌<◌, ◌∙◌, refl, sym, arith, Bool, true, false}
 use Rattle.std.specs.Prelude.{if◌then◌else◌, ◌==◌, nat_lt, ⊤, List}
 use Rattle.std.proofs.lemmas.Bool.Decides.{nat_tests}
@@ -15,6 +15,7 @@ use Rattle.law_parts.specs.Mail.Servers.{is_serving}
 use Rattle.law_parts.specs.Footprint.{Part, TheMailbox, HasSeats, Spares}
 use Rattle.law_parts.proofs.Footprint.Outside.{shared_outside, other_outside, seat_of}
 
+-- what a flush asks for
 pub flush_spares : (part : Part) (p : Places) (step : Flushing) → Spares part p (flush_ask p step)
 unfolding flush_ask
 flush_spares part p (flush.RaisesFlushed end) = shared_outside part p one.Flushed (λ e. cc)
@@ -38,6 +39,7 @@ IsServedNot part step = (session : ℕ) → part ≡ TheMailbox session → is_s
 other_than : (part : Part) (session : ℕ) → (part ≡ TheMailbox session → (session == session) ≡ false) → part ≢ TheMailbox session
 other_than part session none = λ same. let itself : (session == session) ≡ true = grind (arith, nat_tests) in let both : true ≡ false = sym itself ∙ none same in cc
 
+-- what it asks for
 pub serve_spares : (part : Part) (p : Places) (n : ℕ) (step : Serving) → HasSeats part p n → ServesBelow n step → IsServedNot part step → Spares part p (serve_ask step)
 unfolding serve_ask
 serve_spares part p n (serve.StoresHeader session mail) few low none = other_outside part p session own.MailHeader (seat_of part p n session few low) (other_than part session (none session))
@@ -46,6 +48,7 @@ serve_spares part p n (serve.StoresValue session mail) few low none = other_outs
 serve_spares part p n (serve.StoresReady session) few low none = other_outside part p session own.MailState (seat_of part p n session few low) (other_than part session (none session))
 serve_spares part p n step few low none = tt
 
+-- the next mailbox is one of these, behind each reply and each read
 pub mailbox_below : (n session : ℕ) → ServesBelow n (mailbox_from n session)
 unfolding mailbox_from
 mailbox_below n session = by_test (nat_lt session n) refl

@@ -41,23 +41,23 @@ use Rattle.law_parts.specs.Index.Finders.{sitting_part, search_in, entry_in}
 use Rattle.law_parts.specs.Latches.Latchers.{sitting_latching}
 use Rattle.law_parts.specs.Mail.Mailers.{sitting_mailing}
 use Rattle.law_parts.proofs.Footprint.Attempts.{mail_spares, is_other, IsAttemptSparing, attempt_spares, attempt_begun_spares, attempt_next_spares}
-use Rattle.law_parts.proofs.Footprint.Catches.{IsCatchAtLatch, catch_spares, catch_next_at}
+use Rattle.law_parts.proofs.Footprint.Catches.{IsCatchSparing, catch_spares, catch_next_spares}
 use Rattle.law_parts.proofs.Footprint.Epochs.{leave_spares}
 use Rattle.law_parts.proofs.Footprint.Latching.{passed_spares}
 use Rattle.law_parts.proofs.Footprint.OwnTurns.{IsOwnTurnSparing, own_turn_spares, own_turn_next_spares, own_turn_given_spares, own_turn_begun_spares}
 use Rattle.law_parts.proofs.OfIndex.SessionParts.{SittingKnows}
 use Rattle.law_parts.proofs.Footprint.Outside.{own_outside, cut_outside}
 
--- where it works on a latch, and its own turn
-abbrev pub SittingIsAt : Places → SessionState → Sitting → Type 0
-SittingIsAt p s (Attempts has_shifted) = IsAttemptSparing p s.attempt
-SittingIsAt p s (Polls index) = IsAttemptSparing p s.attempt
-SittingIsAt p s (CatchesUp cause) = IsCatchAtLatch p s.catching
-SittingIsAt p s (Turns its) = IsOwnTurnSparing s.own_turn
-SittingIsAt p s step = ⊤
+-- by its step: its attempt, its catching up, or its own turn keeps to its bounds
+abbrev pub SittingBounds : Places → SessionState → Sitting → Type 0
+SittingBounds p s (Attempts has_shifted) = IsAttemptSparing p s.attempt
+SittingBounds p s (Polls index) = IsAttemptSparing p s.attempt
+SittingBounds p s (CatchesUp cause) = IsCatchSparing p s.catching
+SittingBounds p s (Turns its) = IsOwnTurnSparing s.own_turn
+SittingBounds p s step = ⊤
 
 abbrev pub IsSessionSparing : Places → SessionState → Type 0
-IsSessionSparing p s = SittingIsAt p s s.step
+IsSessionSparing p s = SittingBounds p s s.step
 
 -- no machine that works on the part is under way
 pub record SittingRests (part : Part) (k : Seat) (s : SessionState) (step : Sitting) : Type 0 where
@@ -70,7 +70,8 @@ pub record SittingRests (part : Part) (k : Seat) (s : SessionState) (step : Sitt
 abbrev pub SessionRests : Part → Seat → SessionState → Type 0
 SessionRests part k s = SittingRests part k s s.step
 
-sitting_spares : (part : Part) (k : Seat) (s : SessionState) (step : Sitting) → HasSeat part k.places k.number → SittingIsAt k.places s step → SittingRests part k s step → Spares part k.places (sitting_ask k s step)
+-- what it asks for
+sitting_spares : (part : Part) (k : Seat) (s : SessionState) (step : Sitting) → HasSeat part k.places k.number → SittingBounds k.places s step → SittingRests part k s step → Spares part k.places (sitting_ask k s step)
 unfolding sitting_ask
 sitting_spares part k s (Idle its) there at rests = tt
 sitting_spares part k s (Attempts has_shifted) there at rests =
@@ -89,173 +90,173 @@ pub session_asks_spares : (part : Part) (k : Seat) (s : SessionState) → HasSea
 session_asks_spares part k s there at rests = sitting_spares part k s s.step there at rests
 
 -- where a call and a reply lead
-either_at : (c : Bool) (p : Places) (a b : SessionState) → IsSessionSparing p a → IsSessionSparing p b → IsSessionSparing p (if c then a else b)
-either_at true p a b one other = one
-either_at false p a b one other = other
+either_spares : (c : Bool) (p : Places) (a b : SessionState) → IsSessionSparing p a → IsSessionSparing p b → IsSessionSparing p (if c then a else b)
+either_spares true p a b one other = one
+either_spares false p a b one other = other
 
-stays_at : (p : Places) (s : SessionState) (step : Sitting) → s.step ≡ step → SittingIsAt p s step → IsSessionSparing p s
-stays_at p s step at spared = subst (λ x. SittingIsAt p s x) (sym at) spared
+stays_spares : (p : Places) (s : SessionState) (step : Sitting) → s.step ≡ step → SittingBounds p s step → IsSessionSparing p s
+stays_spares p s step at spared = subst (λ x. SittingBounds p s x) (sym at) spared
 
-turn_after_at : (p : Places) (s : SessionState) (its : Told) → IsSessionSparing p (answers_after_turn s its)
-turn_after_at p s its = either_at s.wants_turn p (record s { own_turn = own_turn_begun s.own_turn; step = Turns its }) (answers s its) (own_turn_begun_spares s.own_turn) tt
+turn_after_spares : (p : Places) (s : SessionState) (its : Told) → IsSessionSparing p (answers_after_turn s its)
+turn_after_spares p s its = either_spares s.wants_turn p (record s { own_turn = own_turn_begun s.own_turn; step = Turns its }) (answers s its) (own_turn_begun_spares s.own_turn) tt
 
-attempts_at : (k : Seat) (s : SessionState) (has_shifted : Bool) → IsSessionSparing k.places (attempts k s has_shifted)
+attempts_spares : (k : Seat) (s : SessionState) (has_shifted : Bool) → IsSessionSparing k.places (attempts k s has_shifted)
 unfolding attempts
-attempts_at k s has_shifted = attempt_begun_spares k.places (bits_of k) s.attempt (request_in_hand s) s.seen AtCall s.spare s.is_orphaned
+attempts_spares k s has_shifted = attempt_begun_spares k.places (bits_of k) s.attempt (request_in_hand s) s.seen AtCall s.spare s.is_orphaned
 
-polls_request_at : (k : Seat) (s : SessionState) (index : ℕ) (found : Option PendingRequest) → IsSessionSparing k.places (polls_request k s index found)
-polls_request_at k s index None = turn_after_at k.places s (told.Polled (length s.requests))
-polls_request_at k s index (Some pending) = attempt_begun_spares k.places (bits_of k) s.attempt pending s.seen AtPoll s.spare s.is_orphaned
+polls_request_spares : (k : Seat) (s : SessionState) (index : ℕ) (found : Option PendingRequest) → IsSessionSparing k.places (polls_request k s index found)
+polls_request_spares k s index None = turn_after_spares k.places s (told.Polled (length s.requests))
+polls_request_spares k s index (Some pending) = attempt_begun_spares k.places (bits_of k) s.attempt pending s.seen AtPoll s.spare s.is_orphaned
 
-polling_at : (k : Seat) (s : SessionState) (index : ℕ) → IsSessionSparing k.places (polls_at k s index)
+polling_spares : (k : Seat) (s : SessionState) (index : ℕ) → IsSessionSparing k.places (polls_at k s index)
 unfolding polls_at
-polling_at k s index = polls_request_at k s index (slice_get s.requests index)
+polling_spares k s index = polls_request_spares k s index (slice_get s.requests index)
 
-accepts_at : (p : Places) (s : SessionState) (why : Reason) → IsSessionSparing p (accepts s why)
+accepts_spares : (p : Places) (s : SessionState) (why : Reason) → IsSessionSparing p (accepts s why)
 unfolding accepts
-accepts_at p s why =
-    either_at (is_read s.op) p (answers (with_request (record s { ticket = ticket_after s.ticket })) (told.PendingRead (record { 0 = ticket_after s.ticket })))
+accepts_spares p s why =
+    either_spares (is_read s.op) p (answers (with_request (record s { ticket = ticket_after s.ticket })) (told.PendingRead (record { 0 = ticket_after s.ticket })))
     (answers_after_turn (with_request (serial_taken (record s { wants_turn = is_no_room why }))) (told.Pending (record { 0 = s.serial + 1 }) why))
-    tt (turn_after_at p (with_request (serial_taken (record s { wants_turn = is_no_room why }))) (told.Pending (record { 0 = s.serial + 1 }) why))
+    tt (turn_after_spares p (with_request (serial_taken (record s { wants_turn = is_no_room why }))) (told.Pending (record { 0 = s.serial + 1 }) why))
 
-shifts_at : (p : Places) (s : SessionState) (has_shifted : Bool) → IsSessionSparing p (shifts s has_shifted)
+shifts_spares : (p : Places) (s : SessionState) (has_shifted : Bool) → IsSessionSparing p (shifts s has_shifted)
 unfolding shifts
-shifts_at p s false = tt
-shifts_at p s true = accepts_at p s reason.Contended
+shifts_spares p s false = tt
+shifts_spares p s true = accepts_spares p s reason.Contended
 
-attempted_at : (p : Places) (s : SessionState) (has_shifted : Bool) (its : TryAnswer) → IsSessionSparing p (attempted s has_shifted its)
-attempted_at p s has_shifted (tried.Done reply) = either_at (is_read s.op) p (answers s told.Absent) (update_done s reply) tt tt
-attempted_at p s has_shifted (tried.Wait why) = accepts_at p s why
-attempted_at p s has_shifted (tried.AwaitsDisk sought) = accepts_at p s reason.Disk
-attempted_at p s has_shifted tried.Shift = shifts_at p s has_shifted
-attempted_at p s has_shifted its = tt
+attempted_spares : (p : Places) (s : SessionState) (has_shifted : Bool) (its : TryAnswer) → IsSessionSparing p (attempted s has_shifted its)
+attempted_spares p s has_shifted (tried.Done reply) = either_spares (is_read s.op) p (answers s told.Absent) (update_done s reply) tt tt
+attempted_spares p s has_shifted (tried.Wait why) = accepts_spares p s why
+attempted_spares p s has_shifted (tried.AwaitsDisk sought) = accepts_spares p s reason.Disk
+attempted_spares p s has_shifted tried.Shift = shifts_spares p s has_shifted
+attempted_spares p s has_shifted its = tt
 
-attempt_ledto_at : (p : Places) (s : SessionState) (has_shifted : Bool) (ask : Ask TryAnswer) → s.step ≡ Attempts has_shifted → IsAttemptSparing p s.attempt → IsSessionSparing p (attempt_ledto s has_shifted ask)
+attempt_ledto_spares : (p : Places) (s : SessionState) (has_shifted : Bool) (ask : Ask TryAnswer) → s.step ≡ Attempts has_shifted → IsAttemptSparing p s.attempt → IsSessionSparing p (attempt_ledto s has_shifted ask)
 unfolding attempt_ledto
-attempt_ledto_at p s has_shifted (Done its) at spared = attempted_at p (attempt_left s) has_shifted its
-attempt_ledto_at p s has_shifted ask at spared = stays_at p s (Attempts has_shifted) at spared
+attempt_ledto_spares p s has_shifted (Done its) at spared = attempted_spares p (attempt_left s) has_shifted its
+attempt_ledto_spares p s has_shifted ask at spared = stays_spares p s (Attempts has_shifted) at spared
 
-finishes_at : (k : Seat) (s : SessionState) (index : ℕ) (its : TryAnswer) → IsSessionSparing k.places (finishes_request k s index its)
+finishes_spares : (k : Seat) (s : SessionState) (index : ℕ) (its : TryAnswer) → IsSessionSparing k.places (finishes_request k s index its)
 unfolding finishes_request
-finishes_at k s index its = either_at (is_owed s) k.places (request_finished s index its) (polls_at k (request_finished s index its) index) tt (polling_at k (request_finished s index its) index)
+finishes_spares k s index its = either_spares (is_owed s) k.places (request_finished s index its) (polls_at k (request_finished s index its) index) tt (polling_spares k (request_finished s index its) index)
 
-keeps_at : (k : Seat) (s : SessionState) (index : ℕ) (its : TryAnswer) → IsSessionSparing k.places (keeps_request k s index its)
+keeps_spares : (k : Seat) (s : SessionState) (index : ℕ) (its : TryAnswer) → IsSessionSparing k.places (keeps_request k s index its)
 unfolding keeps_request
-keeps_at k s index its = polling_at k (record s { requests = slice_set s.requests index s.attempt.pending; wants_turn = s.wants_turn || lacks_room its }) (index + 1)
+keeps_spares k s index its = polling_spares k (record s { requests = slice_set s.requests index s.attempt.pending; wants_turn = s.wants_turn || lacks_room its }) (index + 1)
 
-poll_ledto_at : (k : Seat) (s : SessionState) (index : ℕ) (ask : Ask TryAnswer) → s.step ≡ Polls index → IsAttemptSparing k.places s.attempt → IsSessionSparing k.places (poll_ledto k s index ask)
+poll_ledto_spares : (k : Seat) (s : SessionState) (index : ℕ) (ask : Ask TryAnswer) → s.step ≡ Polls index → IsAttemptSparing k.places s.attempt → IsSessionSparing k.places (poll_ledto k s index ask)
 unfolding poll_ledto
-poll_ledto_at k s index (Done its) at spared = either_at (is_finished its) k.places (finishes_request k (attempt_left s) index its) (keeps_request k (attempt_left s) index its) (finishes_at k (attempt_left s) index its) (keeps_at k (attempt_left s) index its)
-poll_ledto_at k s index ask at spared = stays_at k.places s (Polls index) at spared
+poll_ledto_spares k s index (Done its) at spared = either_spares (is_finished its) k.places (finishes_request k (attempt_left s) index its) (keeps_request k (attempt_left s) index its) (finishes_spares k (attempt_left s) index its) (keeps_spares k (attempt_left s) index its)
+poll_ledto_spares k s index ask at spared = stays_spares k.places s (Polls index) at spared
 
-caught_up_at : (k : Seat) (s : SessionState) (cause : CatchCause) → IsSessionSparing k.places (caught_up k s cause)
-caught_up_at k s Refreshes = tt
-caught_up_at k s Wakes = tt
-caught_up_at k s Shifts = attempts_at k s true
+caught_up_spares : (k : Seat) (s : SessionState) (cause : CatchCause) → IsSessionSparing k.places (caught_up k s cause)
+caught_up_spares k s Refreshes = tt
+caught_up_spares k s Wakes = tt
+caught_up_spares k s Shifts = attempts_spares k s true
 
-catch_ledto_at : (k : Seat) (s : SessionState) (cause : CatchCause) (ask : Ask (Unit {0})) → s.step ≡ CatchesUp cause → IsCatchAtLatch k.places s.catching → IsSessionSparing k.places (catch_ledto k s cause ask)
+catch_ledto_spares : (k : Seat) (s : SessionState) (cause : CatchCause) (ask : Ask (Unit {0})) → s.step ≡ CatchesUp cause → IsCatchSparing k.places s.catching → IsSessionSparing k.places (catch_ledto k s cause ask)
 unfolding catch_ledto
-catch_ledto_at k s cause (Done its) at place = caught_up_at k (record s { seen = s.catching.seen }) cause
-catch_ledto_at k s cause ask at place = stays_at k.places s (CatchesUp cause) at place
+catch_ledto_spares k s cause (Done its) at place = caught_up_spares k (record s { seen = s.catching.seen }) cause
+catch_ledto_spares k s cause ask at place = stays_spares k.places s (CatchesUp cause) at place
 
-clear_at : (k : Seat) (s : SessionState) (ask : Ask MailAnswer) → s.step ≡ ClearsMail → IsSessionSparing k.places (clear_ledto k s ask)
+clear_spares : (k : Seat) (s : SessionState) (ask : Ask MailAnswer) → s.step ≡ ClearsMail → IsSessionSparing k.places (clear_ledto k s ask)
 unfolding clear_ledto
-clear_at k s (Done Cleared) at = polling_at k (record s { is_orphaned = false }) 0
-clear_at k s (Done its) at = polling_at k s 0
-clear_at k s ask at = stays_at k.places s ClearsMail at tt
+clear_spares k s (Done Cleared) at = polling_spares k (record s { is_orphaned = false }) 0
+clear_spares k s (Done its) at = polling_spares k s 0
+clear_spares k s ask at = stays_spares k.places s ClearsMail at tt
 
-turn_ledto_at : (p : Places) (s : SessionState) (its : Told) (ask : Ask (Unit {0})) → s.step ≡ Turns its → IsOwnTurnSparing s.own_turn → IsSessionSparing p (turn_ledto s its ask)
+turn_ledto_spares : (p : Places) (s : SessionState) (its : Told) (ask : Ask (Unit {0})) → s.step ≡ Turns its → IsOwnTurnSparing s.own_turn → IsSessionSparing p (turn_ledto s its ask)
 unfolding turn_ledto
-turn_ledto_at p s its (Done through) at spared = tt
-turn_ledto_at p s its ask at spared = stays_at p s (Turns its) at spared
+turn_ledto_spares p s its (Done through) at spared = tt
+turn_ledto_spares p s its ask at spared = stays_spares p s (Turns its) at spared
 
-leave_ledto_at : (p : Places) (s : SessionState) (ask : Ask (Unit {0})) → s.step ≡ Leaves → IsSessionSparing p (leave_ledto s ask)
+leave_ledto_spares : (p : Places) (s : SessionState) (ask : Ask (Unit {0})) → s.step ≡ Leaves → IsSessionSparing p (leave_ledto s ask)
 unfolding leave_ledto
-leave_ledto_at p s (Done its) at = tt
-leave_ledto_at p s ask at = stays_at p s Leaves at tt
+leave_ledto_spares p s (Done its) at = tt
+leave_ledto_spares p s ask at = stays_spares p s Leaves at tt
 
-next_at : (k : Seat) (s : SessionState) (step : Sitting) (reply : ℕ) → s.step ≡ step → SittingIsAt k.places s step → IsSessionSparing k.places (sitting_next k s step reply)
+next_spares : (k : Seat) (s : SessionState) (step : Sitting) (reply : ℕ) → s.step ≡ step → SittingBounds k.places s step → IsSessionSparing k.places (sitting_next k s step reply)
 unfolding sitting_next
-next_at k s (Idle its) reply at spared = stays_at k.places s (Idle its) at tt
-next_at k s (Attempts has_shifted) reply at spared = attempt_ledto_at k.places (attempt_moved k s reply) has_shifted _ at (attempt_next_spares k.places (bits_of k) (room_of k) k.number s.attempt reply spared)
-next_at k s (CatchesUp cause) reply at spared = catch_ledto_at k (caught k s reply) cause _ at (catch_next_at k.places (bits_of k) k.number s.catching s.requests reply spared)
-next_at k s ClearsMail reply at spared = clear_at k (record s { mailing = mail_next s.mailing reply }) _ at
-next_at k s (Polls index) reply at spared = poll_ledto_at k (attempt_moved k s reply) index _ at (attempt_next_spares k.places (bits_of k) (room_of k) k.number s.attempt reply spared)
-next_at k s (StoresOwing index) reply at spared = polling_at k s index
-next_at k s (Turns its) reply at spared = turn_ledto_at k.places (own_turn_moved k s reply) its _ at (own_turn_next_spares k.shape s.own_turn reply spared)
-next_at k s StoresCut reply at spared = tt
-next_at k s Leaves reply at spared = leave_ledto_at k.places (record s { leaving = leave_next s.leaving }) _ at
-next_at k s LoadsDurable reply at spared = tt
+next_spares k s (Idle its) reply at spared = stays_spares k.places s (Idle its) at tt
+next_spares k s (Attempts has_shifted) reply at spared = attempt_ledto_spares k.places (attempt_moved k s reply) has_shifted _ at (attempt_next_spares k.places (bits_of k) (room_of k) k.number s.attempt reply spared)
+next_spares k s (CatchesUp cause) reply at spared = catch_ledto_spares k (caught k s reply) cause _ at (catch_next_spares k.places (bits_of k) k.number s.catching s.requests reply spared)
+next_spares k s ClearsMail reply at spared = clear_spares k (record s { mailing = mail_next s.mailing reply }) _ at
+next_spares k s (Polls index) reply at spared = poll_ledto_spares k (attempt_moved k s reply) index _ at (attempt_next_spares k.places (bits_of k) (room_of k) k.number s.attempt reply spared)
+next_spares k s (StoresOwing index) reply at spared = polling_spares k s index
+next_spares k s (Turns its) reply at spared = turn_ledto_spares k.places (own_turn_moved k s reply) its _ at (own_turn_next_spares k.shape s.own_turn reply spared)
+next_spares k s StoresCut reply at spared = tt
+next_spares k s Leaves reply at spared = leave_ledto_spares k.places (record s { leaving = leave_next s.leaving }) _ at
+next_spares k s LoadsDurable reply at spared = tt
 
-counted_at : (p : Places) (s : SessionState) (asks : ℕ) (step : Sitting) → SittingIsAt p s step → SittingIsAt p (record s { asks = asks; effect = None }) step
-counted_at p s asks (Attempts has_shifted) spared = spared
-counted_at p s asks (Polls index) spared = spared
-counted_at p s asks (Turns its) spared = spared
-counted_at p s asks (CatchesUp cause) spared = spared
-counted_at p s asks step spared = tt
+counted_spares : (p : Places) (s : SessionState) (asks : ℕ) (step : Sitting) → SittingBounds p s step → SittingBounds p (record s { asks = asks; effect = None }) step
+counted_spares p s asks (Attempts has_shifted) spared = spared
+counted_spares p s asks (Polls index) spared = spared
+counted_spares p s asks (Turns its) spared = spared
+counted_spares p s asks (CatchesUp cause) spared = spared
+counted_spares p s asks step spared = tt
 
-session_next_at : (k : Seat) (s : SessionState) (reply : ℕ) → IsSessionSparing k.places s → IsSessionSparing k.places (session_next k s reply)
-session_next_at k s reply spared =
+session_next_spares : (k : Seat) (s : SessionState) (reply : ℕ) → IsSessionSparing k.places s → IsSessionSparing k.places (session_next k s reply)
+session_next_spares k s reply spared =
     let asks : ℕ = asks_after s.asks (is_word_ask (session_ask k s)) in
-    next_at k (record s { asks = asks; effect = None }) s.step reply refl (counted_at k.places s asks s.step spared)
+    next_spares k (record s { asks = asks; effect = None }) s.step reply refl (counted_spares k.places s asks s.step spared)
 
-given_at : (k : Seat) (s : SessionState) (step : Sitting) (action : Action) → s.step ≡ step → SittingIsAt k.places s step → IsSessionSparing k.places (sitting_given k s step action)
+given_spares : (k : Seat) (s : SessionState) (step : Sitting) (action : Action) → s.step ≡ step → SittingBounds k.places s step → IsSessionSparing k.places (sitting_given k s step action)
 unfolding sitting_given
-given_at k s (Turns its) action at spared = turn_ledto_at k.places (record s { own_turn = own_turn_given s.own_turn action }) its _ at (own_turn_given_spares s.own_turn action spared)
-given_at k s step action at spared = stays_at k.places s step at spared
+given_spares k s (Turns its) action at spared = turn_ledto_spares k.places (record s { own_turn = own_turn_given s.own_turn action }) its _ at (own_turn_given_spares s.own_turn action spared)
+given_spares k s step action at spared = stays_spares k.places s step at spared
 
-session_given_at : (k : Seat) (s : SessionState) (action : Action) → IsSessionSparing k.places s → IsSessionSparing k.places (session_given k s action)
-session_given_at k s action spared = given_at k s s.step action refl spared
+session_given_spares : (k : Seat) (s : SessionState) (action : Action) → IsSessionSparing k.places s → IsSessionSparing k.places (session_given k s action)
+session_given_spares k s action spared = given_spares k s s.step action refl spared
 
 -- a call
-op_at : (k : Seat) (s : SessionState) (op : Op) (why : Option Fault) → IsSessionSparing k.places (op_begun k s op why)
+op_spares : (k : Seat) (s : SessionState) (op : Op) (why : Option Fault) → IsSessionSparing k.places (op_begun k s op why)
 unfolding op_begun
-op_at k s op (Some why) = tt
-op_at k s op None = attempts_at k (record s { op = op }) false
+op_spares k s op (Some why) = tt
+op_spares k s op None = attempts_spares k (record s { op = op }) false
 
-refresh_call_at : (p : Places) (s : SessionState) → IsSessionSparing p (refresh_call s)
+refresh_call_spares : (p : Places) (s : SessionState) → IsSessionSparing p (refresh_call s)
 unfolding refresh_call
-refresh_call_at p s = either_at s.is_awake p (record s { catching = refresh_begun s.catching s.seen s.serial; step = CatchesUp Refreshes }) (refuses s fault.Asleep) tt tt
+refresh_call_spares p s = either_spares s.is_awake p (record s { catching = refresh_begun s.catching s.seen s.serial; step = CatchesUp Refreshes }) (refuses s fault.Asleep) tt tt
 
-poll_begun_at : (k : Seat) (s : SessionState) → IsSessionSparing k.places (poll_begun k s)
-poll_begun_at k s = either_at s.is_orphaned k.places (record s { mailing = LoadsState Clear; step = ClearsMail }) (polls_at k s 0) tt (polling_at k s 0)
+poll_begun_spares : (k : Seat) (s : SessionState) → IsSessionSparing k.places (poll_begun k s)
+poll_begun_spares k s = either_spares s.is_orphaned k.places (record s { mailing = LoadsState Clear; step = ClearsMail }) (polls_at k s 0) tt (polling_spares k s 0)
 
-poll_call_at : (k : Seat) (s : SessionState) → IsSessionSparing k.places (poll_call k s)
+poll_call_spares : (k : Seat) (s : SessionState) → IsSessionSparing k.places (poll_call k s)
 unfolding poll_call
-poll_call_at k s = either_at s.is_awake k.places (poll_begun k (record s { finished = [] })) (refuses s fault.Asleep) (poll_begun_at k (record s { finished = [] })) tt
+poll_call_spares k s = either_spares s.is_awake k.places (poll_begun k (record s { finished = [] })) (refuses s fault.Asleep) (poll_begun_spares k (record s { finished = [] })) tt
 
-sleep_at : (p : Places) (s : SessionState) → IsSessionSparing p (sleep_call s)
+sleep_spares : (p : Places) (s : SessionState) → IsSessionSparing p (sleep_call s)
 unfolding sleep_call
-sleep_at p s = either_at (not s.is_awake) p (refuses s fault.Asleep) _ tt (either_at (length s.requests == 0) p (record s { step = StoresCut }) (refuses s fault.PendingLeft) tt tt)
+sleep_spares p s = either_spares (not s.is_awake) p (refuses s fault.Asleep) _ tt (either_spares (length s.requests == 0) p (record s { step = StoresCut }) (refuses s fault.PendingLeft) tt tt)
 
-wake_at : (p : Places) (s : SessionState) → IsSessionSparing p (wake_call s)
+wake_spares : (p : Places) (s : SessionState) → IsSessionSparing p (wake_call s)
 unfolding wake_call
-wake_at p s = either_at s.is_awake p (refuses s fault.Awake) (record s { catching = wake_begun s.catching s.seen s.serial; step = CatchesUp Wakes }) tt tt
+wake_spares p s = either_spares s.is_awake p (refuses s fault.Awake) (record s { catching = wake_begun s.catching s.seen s.serial; step = CatchesUp Wakes }) tt tt
 
-call_at : (k : Seat) (s : SessionState) (its : Call) → IsSessionSparing k.places (call_begun k s its)
-call_at k s (call.Op op) = op_at k s op (refusal_of s op)
-call_at k s call.Refresh = refresh_call_at k.places s
-call_at k s call.Poll = poll_call_at k s
-call_at k s call.Sleep = sleep_at k.places s
-call_at k s call.Wake = wake_at k.places s
-call_at k s call.Durable = tt
+call_spares : (k : Seat) (s : SessionState) (its : Call) → IsSessionSparing k.places (call_begun k s its)
+call_spares k s (call.Op op) = op_spares k s op (refusal_of s op)
+call_spares k s call.Refresh = refresh_call_spares k.places s
+call_spares k s call.Poll = poll_call_spares k s
+call_spares k s call.Sleep = sleep_spares k.places s
+call_spares k s call.Wake = wake_spares k.places s
+call_spares k s call.Durable = tt
 
-begins_at : (k : Seat) (s : SessionState) (busy : Bool) (its : Call) → IsSessionSparing k.places s → IsSessionSparing k.places (begins k s busy its)
-begins_at k s true its spared = spared
-begins_at k s false its spared = call_at k (record s { asks = 0; effect = None; wants_turn = false }) its
+begins_spares : (k : Seat) (s : SessionState) (busy : Bool) (its : Call) → IsSessionSparing k.places s → IsSessionSparing k.places (begins k s busy its)
+begins_spares k s true its spared = spared
+begins_spares k s false its spared = call_spares k (record s { asks = 0; effect = None; wants_turn = false }) its
 
-happens_at : (k : Seat) (s : SessionState) (event : SessionEvent) → IsSessionSparing k.places s → IsSessionSparing k.places (session_happens k s event)
+happens_spares : (k : Seat) (s : SessionState) (event : SessionEvent) → IsSessionSparing k.places s → IsSessionSparing k.places (session_happens k s event)
 unfolding session_happens
-happens_at k s (Begins its) spared = begins_at k s (is_busy s.step) its spared
-happens_at k s (Replies reply) spared = session_next_at k s reply spared
-happens_at k s (Gets action) spared = session_given_at k s action spared
+happens_spares k s (Begins its) spared = begins_spares k s (is_busy s.step) its spared
+happens_spares k s (Replies reply) spared = session_next_spares k s reply spared
+happens_spares k s (Gets action) spared = session_given_spares k s action spared
 
-opened_at : (p : Places) (s : SessionState) (step : Sitting) → is_busy step ≡ false → SittingIsAt p s step
-opened_at p s (Idle its) idle = tt
-opened_at p s step idle = cc
+opened_spares : (p : Places) (s : SessionState) (step : Sitting) → is_busy step ≡ false → SittingBounds p s step
+opened_spares p s (Idle its) idle = tt
+opened_spares p s step idle = cc
 
 -- at every moment of a session's run
-pub session_run_at : (k : Seat) (opening : SessionState) (events : List SessionEvent) → IsOpened opening → IsSessionSparing k.places (session_run k opening events)
+pub session_run_spares : (k : Seat) (opening : SessionState) (events : List SessionEvent) → IsOpened opening → IsSessionSparing k.places (session_run k opening events)
 unfolding session_run
-session_run_at k opening [] opened = opened_at k.places opening opening.step opened.none_in_hand
-session_run_at k opening (event ∷ before) opened = happens_at k (session_run k opening before) event (session_run_at k opening before opened)
+session_run_spares k opening [] opened = opened_spares k.places opening opening.step opened.none_in_hand
+session_run_spares k opening (event ∷ before) opened = happens_spares k (session_run k opening before) event (session_run_spares k opening before opened)

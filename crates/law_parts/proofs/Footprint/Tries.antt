@@ -51,21 +51,21 @@ use Rattle.law_parts.proofs.Footprint.Walks.{IsWalkSparing, walk_spares, walk_ne
 use Rattle.law_parts.proofs.Footprint.Appends.{IsAppendSparing, append_spares, append_next_spares, append_begun_spares}
 
 -- its walk up to where it appends, its append from there on, and the latch that it works on
-abbrev pub TryLeaves : Places → TryState → Trying → Type 0
-TryLeaves p t Walks = IsWalkSparing p t.walk
-TryLeaves p t (LoadsSafe addr version) = IsWalkSparing p t.walk
-TryLeaves p t (LoadsCurrent addr) = IsWalkSparing p t.walk
-TryLeaves p t LoadsAnswer = IsWalkSparing p t.walk
-TryLeaves p t (TakesExclusive old) = IsWalkSparing p t.walk × IsAtLatch p t.latching
-TryLeaves p t LoadsOld = IsWalkSparing p t.walk
-TryLeaves p t (Appends its) = IsAppendSparing p t.append
-TryLeaves p t TakesShared = IsAtLatch p t.latching
-TryLeaves p t (DropsExclusive its) = IsAtLatch p t.latching
-TryLeaves p t (DropsShared its) = IsAtLatch p t.latching
-TryLeaves p t step = ⊤
+abbrev pub TryBounds : Places → TryState → Trying → Type 0
+TryBounds p t Walks = IsWalkSparing p t.walk
+TryBounds p t (LoadsSafe addr version) = IsWalkSparing p t.walk
+TryBounds p t (LoadsCurrent addr) = IsWalkSparing p t.walk
+TryBounds p t LoadsAnswer = IsWalkSparing p t.walk
+TryBounds p t (TakesExclusive old) = IsWalkSparing p t.walk × IsAtLatch p t.latching
+TryBounds p t LoadsOld = IsWalkSparing p t.walk
+TryBounds p t (Appends its) = IsAppendSparing p t.append
+TryBounds p t TakesShared = IsAtLatch p t.latching
+TryBounds p t (DropsExclusive its) = IsAtLatch p t.latching
+TryBounds p t (DropsShared its) = IsAtLatch p t.latching
+TryBounds p t step = ⊤
 
 abbrev pub IsTrySparing : Places → TryState → Type 0
-IsTrySparing p t = TryLeaves p t t.step
+IsTrySparing p t = TryBounds p t t.step
 
 -- no machine that works on the part is under way
 pub record TryRests (part : Part) (t : TryState) (step : Trying) : Type 0 where
@@ -82,32 +82,33 @@ walk_past t (walking.Meets addr) none = refl
 walk_past t (walking.HasFound addr version) none = refl
 walk_past t walking.LoadsValue none = refl
 
-trying_spares : (part : Part) (p : Places) (t : TryState) (step : Trying) → TryLeaves p t step → TryRests part t step → Spares part p (trying_ask p t step)
+-- what it asks for
+trying_spares : (part : Part) (p : Places) (t : TryState) (step : Trying) → TryBounds p t step → TryRests part t step → Spares part p (trying_ask p t step)
 unfolding trying_ask
-trying_spares part p t (Ended its) leaves rests = tt
-trying_spares part p t TakesShared leaves rests = passed_spares part p _ _ (latch_spares part p t.latching leaves rests.latch)
-trying_spares part p t Walks leaves rests = passed_spares part p _ _ (walk_spares part p t.walk leaves (λ index. walk_past t t.walk.step (rests.search index)))
-trying_spares part p t (LoadsSafe addr version) leaves rests = tt
-trying_spares part p t (SwapsValue addr) leaves rests = record_outside part p addr.0 rec.Value
-trying_spares part p t (LoadsCurrent addr) leaves rests = passed_spares part p _ _ (walk_spares part p t.walk leaves rests.knows)
-trying_spares part p t (ChangesValue addr old) leaves rests = inl (record_outside part p addr.0 rec.Value)
-trying_spares part p t LoadsAnswer leaves rests = passed_spares part p _ _ (walk_spares part p t.walk leaves rests.knows)
-trying_spares part p t (TakesExclusive old) leaves rests = passed_spares part p _ _ (latch_spares part p t.latching leaves.1 rests.latch)
-trying_spares part p t LoadsOld leaves rests = passed_spares part p _ _ (walk_spares part p t.walk leaves (λ index. (rests.knows index).past))
-trying_spares part p t (Appends its) leaves rests = passed_spares part p _ _ (append_spares part p t t.append leaves rests.entry)
-trying_spares part p t (DropsExclusive its) leaves rests = passed_spares part p _ _ (latch_spares part p t.latching leaves rests.latch)
-trying_spares part p t (DropsShared its) leaves rests = passed_spares part p _ _ (latch_spares part p t.latching leaves rests.latch)
+trying_spares part p t (Ended its) bounds rests = tt
+trying_spares part p t TakesShared bounds rests = passed_spares part p _ _ (latch_spares part p t.latching bounds rests.latch)
+trying_spares part p t Walks bounds rests = passed_spares part p _ _ (walk_spares part p t.walk bounds (λ index. walk_past t t.walk.step (rests.search index)))
+trying_spares part p t (LoadsSafe addr version) bounds rests = tt
+trying_spares part p t (SwapsValue addr) bounds rests = record_outside part p addr.0 rec.Value
+trying_spares part p t (LoadsCurrent addr) bounds rests = passed_spares part p _ _ (walk_spares part p t.walk bounds rests.knows)
+trying_spares part p t (ChangesValue addr old) bounds rests = inl (record_outside part p addr.0 rec.Value)
+trying_spares part p t LoadsAnswer bounds rests = passed_spares part p _ _ (walk_spares part p t.walk bounds rests.knows)
+trying_spares part p t (TakesExclusive old) bounds rests = passed_spares part p _ _ (latch_spares part p t.latching bounds.1 rests.latch)
+trying_spares part p t LoadsOld bounds rests = passed_spares part p _ _ (walk_spares part p t.walk bounds (λ index. (rests.knows index).past))
+trying_spares part p t (Appends its) bounds rests = passed_spares part p _ _ (append_spares part p t t.append bounds rests.entry)
+trying_spares part p t (DropsExclusive its) bounds rests = passed_spares part p _ _ (latch_spares part p t.latching bounds rests.latch)
+trying_spares part p t (DropsShared its) bounds rests = passed_spares part p _ _ (latch_spares part p t.latching bounds rests.latch)
 
 pub try_spares : (part : Part) (p : Places) (t : TryState) → IsTrySparing p t → TryRests part t t.step → Spares part p (try_ask p t)
-try_spares part p t leaves rests = trying_spares part p t t.step leaves rests
+try_spares part p t bounds rests = trying_spares part p t t.step bounds rests
 
 -- where a reply leads
 either_spares : (c : Bool) (p : Places) (a b : TryState) → IsTrySparing p a → IsTrySparing p b → IsTrySparing p (if c then a else b)
 either_spares true p a b one other = one
 either_spares false p a b one other = other
 
-stays_spares : (p : Places) (t : TryState) (step : Trying) → t.step ≡ step → TryLeaves p t step → IsTrySparing p t
-stays_spares p t step at leaves = subst (λ x. TryLeaves p t x) (sym at) leaves
+stays_spares : (p : Places) (t : TryState) (step : Trying) → t.step ≡ step → TryBounds p t step → IsTrySparing p t
+stays_spares p t step at bounds = subst (λ x. TryBounds p t x) (sym at) bounds
 
 without_spares : (p : Places) (t : TryState) (its : TryAnswer) → IsTrySparing p (ended_without p t its)
 without_spares p t its = either_spares (t.has_shared && not (is_wait its)) p (with_latch p (record t { has_shared = false }) DropShared (DropsShared its)) (record t { step = Ended its }) (latch_begins p DropShared t.home.bucket) tt
@@ -121,69 +122,69 @@ walks_spares p t = walk_begun_spares p t.home t.walk (key_of t.request.op) (purp
 
 appends_spares : (p : Places) (t : TryState) (old : ℕ) → IsWalkSparing p t.walk → IsTrySparing p (appends t old)
 unfolding appends
-appends_spares p t old leaves = append_begun_spares p t.append (slot_of t) (words_of t.request t.walk.entry (value_of old)) leaves.place
+appends_spares p t old bounds = append_begun_spares p t.append (slot_of t) (words_of t.request t.walk.entry (value_of old)) bounds.place
 
 copies_from_spares : (p : Places) (t : TryState) (old : OldValue) → IsWalkSparing p t.walk → IsTrySparing p (copies_from t old)
 unfolding copies_from
-copies_from_spares p t (Known old) leaves = appends_spares p t old leaves
-copies_from_spares p t InMemory leaves = either_spares (is_blind t.request.op) p (appends t absent_word) (record t { walk = walk_on t.walk; step = LoadsOld }) (appends_spares p t absent_word leaves) (walk_on_spares p t.walk leaves)
+copies_from_spares p t (Known old) bounds = appends_spares p t old bounds
+copies_from_spares p t InMemory bounds = either_spares (is_blind t.request.op) p (appends t absent_word) (record t { walk = walk_on t.walk; step = LoadsOld }) (appends_spares p t absent_word bounds) (walk_on_spares p t.walk bounds)
 
 copies_spares : (p : Places) (t : TryState) (old : OldValue) (is_current : Bool) → IsWalkSparing p t.walk → IsTrySparing p (copies p t old is_current)
 unfolding copies
-copies_spares p t old is_current leaves = either_spares (wants_exclusive t is_current) p (with_latch p t TakeExclusive (TakesExclusive old)) (copies_from t old) (leaves, latch_begins p TakeExclusive t.home.bucket) (copies_from_spares p t old leaves)
+copies_spares p t old is_current bounds = either_spares (wants_exclusive t is_current) p (with_latch p t TakeExclusive (TakesExclusive old)) (copies_from t old) (bounds, latch_begins p TakeExclusive t.home.bucket) (copies_from_spares p t old bounds)
 
 held_spares : (p : Places) (t : TryState) (addr : Addr) (held : Option HeldRecord) → IsWalkSparing p t.walk → IsTrySparing p (held_used p t addr held)
 unfolding held_used
-held_spares p t addr None leaves = ends_spares p t _
-held_spares p t addr (Some held) leaves =
+held_spares p t addr None bounds = ends_spares p t _
+held_spares p t addr (Some held) bounds =
     either_spares (held.entry == t.walk.entry) p _ (awaits p t addr)
-    (either_spares (held.key.0 == (key_of t.request.op).0) p (copies p t (Known held.value) false) _ (copies_spares p t (Known held.value) false leaves)
-    (either_spares (held.previous.0 == 0) p (copies p t (Known absent_word) false) (awaits p t held.previous) (copies_spares p t (Known absent_word) false leaves) (ends_spares p t _)))
+    (either_spares (held.key.0 == (key_of t.request.op).0) p (copies p t (Known held.value) false) _ (copies_spares p t (Known held.value) false bounds)
+    (either_spares (held.previous.0 == 0) p (copies p t (Known absent_word) false) (awaits p t held.previous) (copies_spares p t (Known absent_word) false bounds) (ends_spares p t _)))
     (ends_spares p t _)
 
 nowhere_spares : (p : Places) (t : TryState) → IsWalkSparing p t.walk → IsTrySparing p (met_nowhere p t)
-nowhere_spares p t leaves = either_spares (is_read t.request.op) p (ends p t answer.Absent) (copies p t (Known absent_word) false) (ends_spares p t answer.Absent) (copies_spares p t (Known absent_word) false leaves)
+nowhere_spares p t bounds = either_spares (is_read t.request.op) p (ends p t answer.Absent) (copies p t (Known absent_word) false) (ends_spares p t answer.Absent) (copies_spares p t (Known absent_word) false bounds)
 
 disk_spares : (p : Places) (t : TryState) (addr : Addr) → IsWalkSparing p t.walk → IsTrySparing p (met_disk p t addr)
-disk_spares p t addr leaves =
+disk_spares p t addr bounds =
     either_spares (is_read t.request.op) p (awaits p t addr) _ (ends_spares p t _)
-    (either_spares (is_blind t.request.op) p (copies p t (Known absent_word) false) (held_used p t addr t.request.held) (copies_spares p t (Known absent_word) false leaves) (held_spares p t addr t.request.held leaves))
+    (either_spares (is_blind t.request.op) p (copies p t (Known absent_word) false) (held_used p t addr t.request.held) (copies_spares p t (Known absent_word) false bounds) (held_spares p t addr t.request.held bounds))
 
 changes_spares : (p : Places) (t : TryState) (addr : Addr) → IsWalkSparing p t.walk → IsTrySparing p (changes t addr)
-changes_spares p t addr leaves = either_spares (is_blind t.request.op) p (record t { step = SwapsValue addr }) (record t { walk = walk_on t.walk; step = LoadsCurrent addr }) tt (walk_on_spares p t.walk leaves)
+changes_spares p t addr bounds = either_spares (is_blind t.request.op) p (record t { step = SwapsValue addr }) (record t { walk = walk_on t.walk; step = LoadsCurrent addr }) tt (walk_on_spares p t.walk bounds)
 
 region_spares : (p : Places) (t : TryState) (addr : Addr) (version : Version) (found : Option Region) → IsWalkSparing p t.walk → IsTrySparing p (region_met p t addr version found)
-region_spares p t addr version None leaves = leaves
-region_spares p t addr version (Some its) leaves = either_spares (is_own_version t version) p (changes t addr) (copies p t InMemory false) (changes_spares p t addr leaves) (copies_spares p t InMemory false leaves)
+region_spares p t addr version None bounds = bounds
+region_spares p t addr version (Some its) bounds = either_spares (is_own_version t version) p (changes t addr) (copies p t InMemory false) (changes_spares p t addr bounds) (copies_spares p t InMemory false bounds)
 
 met_spares : (p : Places) (t : TryState) (addr : Addr) (version : Version) → IsWalkSparing p t.walk → IsTrySparing p (met_record p t addr version)
-met_spares p t addr version leaves =
+met_spares p t addr version bounds =
     either_spares (is_read t.request.op) p (record t { walk = walk_on t.walk; step = LoadsAnswer }) (region_met p t addr version (seen_region_of addr.0 t.seen.offsets))
-    (walk_on_spares p t.walk leaves) (region_spares p t addr version (seen_region_of addr.0 t.seen.offsets) leaves)
+    (walk_on_spares p t.walk bounds) (region_spares p t addr version (seen_region_of addr.0 t.seen.offsets) bounds)
 
 walked_spares : (p : Places) (t : TryState) (its : WalkAnswer) → IsWalkSparing p t.walk → IsTrySparing p (walked p t its)
-walked_spares p t (walk.Found addr version) leaves = met_spares p t addr version leaves
-walked_spares p t walk.Nowhere leaves = nowhere_spares p t leaves
-walked_spares p t (walk.OnDisk addr) leaves = disk_spares p t addr leaves
-walked_spares p t (walk.Value value) leaves = ends_spares p t _
-walked_spares p t walk.Full leaves = ends_spares p t _
-walked_spares p t walk.Contended leaves = ends_spares p t _
+walked_spares p t (walk.Found addr version) bounds = met_spares p t addr version bounds
+walked_spares p t walk.Nowhere bounds = nowhere_spares p t bounds
+walked_spares p t (walk.OnDisk addr) bounds = disk_spares p t addr bounds
+walked_spares p t (walk.Value value) bounds = ends_spares p t _
+walked_spares p t walk.Full bounds = ends_spares p t _
+walked_spares p t walk.Contended bounds = ends_spares p t _
 
 walk_ledto_spares : (p : Places) (t : TryState) (ask : Ask WalkAnswer) → t.step ≡ Walks → IsWalkSparing p t.walk → IsTrySparing p (walk_ledto p t ask)
 unfolding walk_ledto
-walk_ledto_spares p t (Done its) at leaves =
+walk_ledto_spares p t (Done its) at bounds =
     let after : TryState = record t { spare = t.walk.spare } in
-    either_spares (has_walked its && must_shift after) p (ends p after answer.Shift) (walked p after its) (ends_spares p after answer.Shift) (walked_spares p after its leaves)
-walk_ledto_spares p t ask at leaves = stays_spares p t Walks at leaves
+    either_spares (has_walked its && must_shift after) p (ends p after answer.Shift) (walked p after its) (ends_spares p after answer.Shift) (walked_spares p after its bounds)
+walk_ledto_spares p t ask at bounds = stays_spares p t Walks at bounds
 
 safe_spares : (p : Places) (t : TryState) (addr : Addr) (version : Version) (safe : ℕ) → IsWalkSparing p t.walk → IsTrySparing p (safe_loaded p t addr version safe)
-safe_spares p t addr version safe leaves = either_spares (nat_le safe addr.0) p (ends p t (answer.Wait reason.Fuzzy)) (copies p t InMemory (is_own_version t version)) (ends_spares p t _) (copies_spares p t InMemory (is_own_version t version) leaves)
+safe_spares p t addr version safe bounds = either_spares (nat_le safe addr.0) p (ends p t (answer.Wait reason.Fuzzy)) (copies p t InMemory (is_own_version t version)) (ends_spares p t _) (copies_spares p t InMemory (is_own_version t version) bounds)
 
 current_spares : (p : Places) (t : TryState) (addr : Addr) (ask : Ask WalkAnswer) → t.step ≡ LoadsCurrent addr → IsWalkSparing p t.walk → IsTrySparing p (current_ledto p t addr ask)
 unfolding current_ledto
-current_spares p t addr (Done (walk.Value old)) at leaves = tt
-current_spares p t addr (Done its) at leaves = ends_spares p t _
-current_spares p t addr ask at leaves = stays_spares p t (LoadsCurrent addr) at leaves
+current_spares p t addr (Done (walk.Value old)) at bounds = tt
+current_spares p t addr (Done its) at bounds = ends_spares p t _
+current_spares p t addr ask at bounds = stays_spares p t (LoadsCurrent addr) at bounds
 
 value_spares : (p : Places) (t : TryState) (old found : ℕ) → IsTrySparing p (value_changed p t old found)
 value_spares p t old found =
@@ -191,9 +192,9 @@ value_spares p t old found =
 
 answer_spares : (p : Places) (t : TryState) (ask : Ask WalkAnswer) → t.step ≡ LoadsAnswer → IsWalkSparing p t.walk → IsTrySparing p (answer_ledto p t ask)
 unfolding answer_ledto
-answer_spares p t (Done (walk.Value value)) at leaves = ends_spares p t (told_value (value_of value))
-answer_spares p t (Done its) at leaves = ends_spares p t _
-answer_spares p t ask at leaves = stays_spares p t LoadsAnswer at leaves
+answer_spares p t (Done (walk.Value value)) at bounds = ends_spares p t (told_value (value_of value))
+answer_spares p t (Done its) at bounds = ends_spares p t _
+answer_spares p t ask at bounds = stays_spares p t LoadsAnswer at bounds
 
 shared_spares : (p : Places) (t : TryState) (ask : Ask LatchAnswer) → t.step ≡ TakesShared → IsAtLatch p t.latching → IsTrySparing p (shared_ledto p t ask)
 unfolding shared_ledto
@@ -203,23 +204,23 @@ shared_spares p t ask at place = stays_spares p t TakesShared at place
 
 exclusive_spares : (p : Places) (t : TryState) (old : OldValue) (ask : Ask LatchAnswer) → t.step ≡ TakesExclusive old → IsWalkSparing p t.walk → IsAtLatch p t.latching → IsTrySparing p (exclusive_ledto p t old ask)
 unfolding exclusive_ledto
-exclusive_spares p t old (Done Taken) at leaves place = copies_from_spares p (record t { has_exclusive = true }) old leaves
-exclusive_spares p t old (Done its) at leaves place = ends_spares p t _
-exclusive_spares p t old ask at leaves place = stays_spares p t (TakesExclusive old) at (leaves, place)
+exclusive_spares p t old (Done Taken) at bounds place = copies_from_spares p (record t { has_exclusive = true }) old bounds
+exclusive_spares p t old (Done its) at bounds place = ends_spares p t _
+exclusive_spares p t old ask at bounds place = stays_spares p t (TakesExclusive old) at (bounds, place)
 
 old_spares : (p : Places) (t : TryState) (ask : Ask WalkAnswer) → t.step ≡ LoadsOld → IsWalkSparing p t.walk → IsTrySparing p (old_ledto p t ask)
 unfolding old_ledto
-old_spares p t (Done (walk.Value value)) at leaves = appends_spares p t value leaves
-old_spares p t (Done its) at leaves = ends_spares p t _
-old_spares p t ask at leaves = stays_spares p t LoadsOld at leaves
+old_spares p t (Done (walk.Value value)) at bounds = appends_spares p t value bounds
+old_spares p t (Done its) at bounds = ends_spares p t _
+old_spares p t ask at bounds = stays_spares p t LoadsOld at bounds
 
 append_ledto_spares : (p : Places) (t : TryState) (its : Reply) (ask : Ask AppendAnswer) → t.step ≡ Appends its → IsAppendSparing p t.append → IsTrySparing p (append_ledto p t its ask)
 unfolding append_ledto
-append_ledto_spares p t its (Done append.Published) at leaves = ends_spares p (record t { effect = Some its }) (answer.Done its)
-append_ledto_spares p t its (Done append.Full) at leaves = ends_spares p t _
-append_ledto_spares p t its (Done append.NoRoom) at leaves = ends_spares p t _
-append_ledto_spares p t its (Done append.Contended) at leaves = ends_spares p t _
-append_ledto_spares p t its ask at leaves = stays_spares p t (Appends its) at leaves
+append_ledto_spares p t its (Done append.Published) at bounds = ends_spares p (record t { effect = Some its }) (answer.Done its)
+append_ledto_spares p t its (Done append.Full) at bounds = ends_spares p t _
+append_ledto_spares p t its (Done append.NoRoom) at bounds = ends_spares p t _
+append_ledto_spares p t its (Done append.Contended) at bounds = ends_spares p t _
+append_ledto_spares p t its ask at bounds = stays_spares p t (Appends its) at bounds
 
 dropped_spares : (p : Places) (t : TryState) (its : TryAnswer) (ask : Ask LatchAnswer) → t.step ≡ DropsExclusive its → IsAtLatch p t.latching → IsTrySparing p (exclusive_dropped p t its ask)
 unfolding exclusive_dropped
@@ -231,32 +232,32 @@ unfolding shared_dropped
 unshared_spares p t its (Done told) at place = tt
 unshared_spares p t its ask at place = stays_spares p t (DropsShared its) at place
 
-next_spares : (p : Places) (room : ℕ) (t : TryState) (step : Trying) (reply : ℕ) → t.step ≡ step → TryLeaves p t step → IsTrySparing p (trying_next p room t step reply)
+next_spares : (p : Places) (room : ℕ) (t : TryState) (step : Trying) (reply : ℕ) → t.step ≡ step → TryBounds p t step → IsTrySparing p (trying_next p room t step reply)
 unfolding trying_next
-next_spares p room t (Ended its) reply at leaves = stays_spares p t (Ended its) at tt
-next_spares p room t TakesShared reply at leaves = shared_spares p (latch_moved t reply) (latch_next_ask t.latching reply) at (latch_stays p t.latching reply leaves)
-next_spares p room t Walks reply at leaves = walk_ledto_spares p (record t { walk = walk_next p t.walk reply }) (walk_ask p (walk_next p t.walk reply)) at (walk_next_spares p t.walk reply leaves)
-next_spares p room t (LoadsSafe addr version) reply at leaves = safe_spares p t addr version reply leaves
-next_spares p room t (SwapsValue addr) reply at leaves = ends_spares p (record t { effect = Some (reply_from None t.request.op) }) _
-next_spares p room t (LoadsCurrent addr) reply at leaves = current_spares p (record t { walk = walk_next p t.walk reply }) addr (walk_ask p (walk_next p t.walk reply)) at (walk_next_spares p t.walk reply leaves)
-next_spares p room t (ChangesValue addr old) reply at leaves = value_spares p t old reply
-next_spares p room t LoadsAnswer reply at leaves = answer_spares p (record t { walk = walk_next p t.walk reply }) (walk_ask p (walk_next p t.walk reply)) at (walk_next_spares p t.walk reply leaves)
-next_spares p room t (TakesExclusive old) reply at leaves = exclusive_spares p (latch_moved t reply) old (latch_next_ask t.latching reply) at leaves.0 (latch_stays p t.latching reply leaves.1)
-next_spares p room t LoadsOld reply at leaves = old_spares p (record t { walk = walk_next p t.walk reply }) (walk_ask p (walk_next p t.walk reply)) at (walk_next_spares p t.walk reply leaves)
-next_spares p room t (Appends its) reply at leaves = append_ledto_spares p (record t { append = append_next p room t.append reply }) its (append_ask p (append_next p room t.append reply)) at (append_next_spares p room t.append reply leaves)
-next_spares p room t (DropsExclusive its) reply at leaves = dropped_spares p (latch_moved t reply) its (latch_next_ask t.latching reply) at (latch_stays p t.latching reply leaves)
-next_spares p room t (DropsShared its) reply at leaves = unshared_spares p (latch_moved t reply) its (latch_next_ask t.latching reply) at (latch_stays p t.latching reply leaves)
+next_spares p room t (Ended its) reply at bounds = stays_spares p t (Ended its) at tt
+next_spares p room t TakesShared reply at bounds = shared_spares p (latch_moved t reply) (latch_next_ask t.latching reply) at (latch_stays p t.latching reply bounds)
+next_spares p room t Walks reply at bounds = walk_ledto_spares p (record t { walk = walk_next p t.walk reply }) (walk_ask p (walk_next p t.walk reply)) at (walk_next_spares p t.walk reply bounds)
+next_spares p room t (LoadsSafe addr version) reply at bounds = safe_spares p t addr version reply bounds
+next_spares p room t (SwapsValue addr) reply at bounds = ends_spares p (record t { effect = Some (reply_from None t.request.op) }) _
+next_spares p room t (LoadsCurrent addr) reply at bounds = current_spares p (record t { walk = walk_next p t.walk reply }) addr (walk_ask p (walk_next p t.walk reply)) at (walk_next_spares p t.walk reply bounds)
+next_spares p room t (ChangesValue addr old) reply at bounds = value_spares p t old reply
+next_spares p room t LoadsAnswer reply at bounds = answer_spares p (record t { walk = walk_next p t.walk reply }) (walk_ask p (walk_next p t.walk reply)) at (walk_next_spares p t.walk reply bounds)
+next_spares p room t (TakesExclusive old) reply at bounds = exclusive_spares p (latch_moved t reply) old (latch_next_ask t.latching reply) at bounds.0 (latch_stays p t.latching reply bounds.1)
+next_spares p room t LoadsOld reply at bounds = old_spares p (record t { walk = walk_next p t.walk reply }) (walk_ask p (walk_next p t.walk reply)) at (walk_next_spares p t.walk reply bounds)
+next_spares p room t (Appends its) reply at bounds = append_ledto_spares p (record t { append = append_next p room t.append reply }) its (append_ask p (append_next p room t.append reply)) at (append_next_spares p room t.append reply bounds)
+next_spares p room t (DropsExclusive its) reply at bounds = dropped_spares p (latch_moved t reply) its (latch_next_ask t.latching reply) at (latch_stays p t.latching reply bounds)
+next_spares p room t (DropsShared its) reply at bounds = unshared_spares p (latch_moved t reply) its (latch_next_ask t.latching reply) at (latch_stays p t.latching reply bounds)
 
 -- the effect that was told is no matter
-effect_spares : (p : Places) (t : TryState) (step : Trying) → TryLeaves p t step → TryLeaves p (record t { effect = None }) step
-effect_spares p t (Ended its) leaves = tt
-effect_spares p t (SwapsValue addr) leaves = tt
-effect_spares p t (ChangesValue addr old) leaves = tt
-effect_spares p t step leaves = leaves
+effect_spares : (p : Places) (t : TryState) (step : Trying) → TryBounds p t step → TryBounds p (record t { effect = None }) step
+effect_spares p t (Ended its) bounds = tt
+effect_spares p t (SwapsValue addr) bounds = tt
+effect_spares p t (ChangesValue addr old) bounds = tt
+effect_spares p t step bounds = bounds
 
 -- each reply
 pub try_next_spares : (p : Places) (room : ℕ) (t : TryState) (reply : ℕ) → IsTrySparing p t → IsTrySparing p (try_next p room t reply)
-try_next_spares p room t reply leaves = next_spares p room (record t { effect = None }) t.step reply refl (effect_spares p t t.step leaves)
+try_next_spares p room t reply bounds = next_spares p room (record t { effect = None }) t.step reply refl (effect_spares p t t.step bounds)
 
 -- as it begins
 pub try_begun_spares : (p : Places) (bits : ℕ) (t : TryState) (request : Request) (seen : Seen) (occasion : Occasion) (spare : ℕ) → IsTrySparing p (try_begun p bits t request seen occasion spare)

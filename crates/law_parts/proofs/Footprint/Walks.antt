@@ -37,10 +37,12 @@ abbrev pub StepFinds : Places → WalkState → Walking → Type 0
 StepFinds p w Finds = IsAtBucket p w.finding
 StepFinds p w step = ⊤
 
+-- and the slot that it has found is one of the index
 pub record IsWalkSparing (p : Places) (w : WalkState) : Type 0 where
   pub place : IsIndexAlone p w.place
   pub finds : StepFinds p w w.step
 
+-- what it asks for
 load_spares : (part : Part) (p : Places) (step : Loading) → Spares part p (load_ask p step)
 unfolding load_ask
 load_spares part p loading.AtRest = tt

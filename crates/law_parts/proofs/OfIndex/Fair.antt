@@ -14,7 +14,7 @@ use Rattle.law_parts.proofs.OfIndex.SessionParts.{Homes, SittingKnows, run_knows
 use Rattle.law_parts.specs.Footprint.{TheIndex}
 use Rattle.law_parts.proofs.Items.{there_low}
 use Rattle.law_parts.proofs.Footprint.Lives.{at_each_moment, keeper_spares}
-use Rattle.law_parts.proofs.Footprint.Sessions.{IsSessionSparing, SessionRests, session_asks_spares, session_run_at}
+use Rattle.law_parts.proofs.Footprint.Sessions.{IsSessionSparing, SessionRests, session_asks_spares, session_run_spares}
 
 -- what a session knows at each moment of its own run
 record Ran (k : Seat) (s : SessionState) : Type 0 where
@@ -32,7 +32,7 @@ has_run opening lists events i first opened was =
     record {
       there = omega (arith, low, seats);
       knows = run_knows (seat_at opening.now i) first (session_events opening i events) homes its;
-      spared = session_run_at (seat_at opening.now i) first (session_events opening i events) its;
+      spared = session_run_spares (seat_at opening.now i) first (session_events opening i events) its;
     }
 
 session_spares : (opening : World) (lists : ℕ → List ℕ) (events : List Event) (i : ℕ) (found : Option SessionState) → IsOpened opening lists → slice_get (run opening events).now.sessions i ≡ found → SessionSpares (run opening events).now i found

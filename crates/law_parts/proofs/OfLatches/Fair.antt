@@ -15,7 +15,7 @@ use Rattle.fkv_world.specs.World.{Event, Calls, Moves, Commits, Turns, KeeperMov
 use Rattle.law_parts.specs.Latches.Shows.{SparesLatches, SessionSpares, IsFair, AreFair, IsOpened, seen_by_latches}
 use Rattle.law_parts.specs.Footprint.{TheLatches, Spares}
 use Rattle.law_parts.proofs.Footprint.Lives.{keeper_spares}
-use Rattle.law_parts.proofs.Footprint.Sessions.{IsSessionSparing, SessionRests, session_asks_spares, session_run_at}
+use Rattle.law_parts.proofs.Footprint.Sessions.{IsSessionSparing, SessionRests, session_asks_spares, session_run_spares}
 use Rattle.law_parts.proofs.OfLatches.Worlds.{Holds, seat_there, opening_holds, run_holds}
 
 -- a Cas that is lost keeps its word, and one that is won its bits
@@ -48,7 +48,7 @@ session_spares n w i None there holds = tt
 session_spares n w i (Some s) there holds = λ rests.
     let k : Seat = seat_at n i in
     let came = (holds.seats i s there).sits.came in
-    let spared : IsSessionSparing n.places s = subst (λ (x : SessionState). IsSessionSparing n.places x) (sym came.same) (session_run_at k came.opening came.events came.opened) in
+    let spared : IsSessionSparing n.places s = subst (λ (x : SessionState). IsSessionSparing n.places x) (sym came.same) (session_run_spares k came.opening came.events came.opened) in
     let others : SessionRests TheLatches k s = record { knows = λ e. cc; search = λ e. cc; entry = λ e. cc; latch = λ e. rests; mail = λ e. cc } in
     leaves_latches n.places n.words (session_ask k s) (session_asks_spares TheLatches k s (seat_there n w i s holds there) spared others)
 

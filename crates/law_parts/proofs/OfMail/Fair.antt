@@ -21,7 +21,7 @@ use Rattle.law_parts.specs.Mail.Shows.{SessionSpares, IsFair, AreFair, IsOpened}
 use Rattle.law_parts.specs.Mail.Spares.{SparesMailbox}
 use Rattle.law_parts.specs.Footprint.{TheMailbox, Spares}
 use Rattle.law_parts.proofs.Footprint.Lives.{at_each_moment, keeper_spares}
-use Rattle.law_parts.proofs.Footprint.Sessions.{IsSessionSparing, SessionRests, session_asks_spares, session_run_at}
+use Rattle.law_parts.proofs.Footprint.Sessions.{IsSessionSparing, SessionRests, session_asks_spares, session_run_spares}
 
 -- an ask that spares the mailbox of one of the store's sessions
 leaves_mailbox : {A : Type 0} (p : Places) (session : ℕ) (ask : Ask A) → session < p.sessions → Spares (TheMailbox session) p ask → SparesMailbox session ask
@@ -49,7 +49,7 @@ session_spares opening session events i None opened is = tt
 session_spares opening session events i (Some s) opened is = λ none.
     let n : Now = (run opening events).now in
     let k : Seat = seat_at n i in
-    let its : IsSessionSparing k.places s = at_each_moment (λ seat x. IsSessionSparing seat.places x) opening events i s (λ first was. session_run_at (seat_at opening.now i) first (session_events opening i events) (opened.sessions i first was)) is in
+    let its : IsSessionSparing k.places s = at_each_moment (λ seat x. IsSessionSparing seat.places x) opening events i s (λ first was. session_run_spares (seat_at opening.now i) first (session_events opening i events) (opened.sessions i first was)) is in
     let rests : SessionRests (TheMailbox session) k s = record { knows = λ e. cc; search = λ e. cc; entry = λ e. cc; latch = λ e. cc; mail = λ e. none (same_number session i e) } in
     leaves_mailbox n.places session (session_ask k s) (its_seat opening session events opened) (session_asks_spares (TheMailbox session) k s tt its rests)
 
