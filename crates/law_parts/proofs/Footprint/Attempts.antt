@@ -130,7 +130,6 @@ tried_spares p a (answer.AwaitsDisk sought) =
     let kept : AttemptState = record a { pending = with_held a.pending (held_kept a.pending.request.held sought.entry) } in
     let moved : AttemptState = record kept { pending = with_sought kept.pending (Some sought) } in
     either_spares a.pending.has_asked p (waits_for_disk kept) (puts moved) tt (puts_spares p moved moved.pending.sought)
-tried_spares p a (answer.Wait why) = tt
 tried_spares p a its = tt
 
 try_ledto_spares : (p : Places) (a : AttemptState) (ask : Ask TryAnswer) → a.step ≡ Tries → IsTrySparing p a.trial → IsAttemptSparing p (try_ledto a ask)

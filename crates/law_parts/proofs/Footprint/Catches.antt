@@ -40,7 +40,8 @@ abbrev pub IsCatchSparing : Places → CatchState → Type 0
 IsCatchSparing p c = CatchBounds p c c.step
 
 -- what it asks for
-catching_spares : (part : Part) (p : Places) (n : ℕ) (c : CatchState) (requests : List PendingRequest) (step : Catching) → HasSeat part p n → CatchBounds p c step → (part ≡ TheLatches → catch_latching c step ≡ latching.AtRest) → Spares part p (catching_ask p n c requests step)
+catching_spares : (part : Part) (p : Places) (n : ℕ) (c : CatchState) (requests : List PendingRequest) (step : Catching) → HasSeat part p n → CatchBounds p c step → (part ≡ TheLatches → catch_latching c step ≡ latching.AtRest)
+    → Spares part p (catching_ask p n c requests step)
 unfolding catching_ask
 catching_spares part p n c requests Ended there place rests = tt
 catching_spares part p n c requests Refreshes there place rests = passed_spares part p _ _ (refresh_spares part p n c.refreshing there)

@@ -90,7 +90,8 @@ write_spares part p write.Written told = tt
 write_spares part p (write.Broken why) told = tt
 
 -- what it asks for
-keeping_spares : (part : Part) (shape : Shape) (p : Places) (n : ℕ) (s : KeeperState) (step : Keeping) → HasSeats part p n → HasSeats part p s.finish.sessions → KeeperBounds n s step → IsServedNot part (keeper_serving s step) → Spares part p (keeping_ask shape p s step)
+keeping_spares : (part : Part) (shape : Shape) (p : Places) (n : ℕ) (s : KeeperState) (step : Keeping) → HasSeats part p n → HasSeats part p s.finish.sessions → KeeperBounds n s step → IsServedNot part (keeper_serving s step)
+    → Spares part p (keeping_ask shape p s step)
 unfolding keeping_ask
 keeping_spares part shape p n s (Ended its) few its_few bounds none = tt
 keeping_spares part shape p n s Starts few its_few bounds none = passed_spares part p _ _ (start_spares part p s.start bounds)
@@ -199,7 +200,8 @@ module _ (most : ℕ) where
   finish_ledto_spares n s (Done its) at counts bounds = finished_spares n s s.commit counts
   finish_ledto_spares n s ask at counts bounds = stays_spares n s Finishes at counts bounds
 
-  next_spares : (shape : Shape) (p : Places) (s : KeeperState) (step : Keeping) (reply : ℕ) (granted : Bool) → s.step ≡ step → s.finish.sessions ≤ most → KeeperBounds shape.sessions s step → IsKeeperSparing shape.sessions most (keeping_next shape p s step reply granted)
+  next_spares : (shape : Shape) (p : Places) (s : KeeperState) (step : Keeping) (reply : ℕ) (granted : Bool) → s.step ≡ step → s.finish.sessions ≤ most → KeeperBounds shape.sessions s step
+      → IsKeeperSparing shape.sessions most (keeping_next shape p s step reply granted)
   unfolding keeping_next
   next_spares shape p s (Ended its) reply granted at counts bounds = stays_spares shape.sessions s (Ended its) at counts tt
   next_spares shape p s Starts reply granted at counts bounds = started_spares shape.sessions (record s { start = start_next s.start reply }) _ at counts (start_next_spares s.start reply bounds)
