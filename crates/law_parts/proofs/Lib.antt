@@ -1,3 +1,5 @@
+pub mod Footprint
+mod Items
 pub mod OfIndex
 mod OfLatches
 pub mod OfMail

@@ -1,3 +1,4 @@
+pub mod Footprint
 pub mod Index
 pub mod Latches
 pub mod Mail

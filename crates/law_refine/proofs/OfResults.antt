@@ -2,6 +2,5 @@ mod Counted
 pub mod Given
 pub mod InCall
 mod MadeInCall
-mod Opened
 mod OwnCall
 pub mod There

@@ -1,51 +1,42 @@
--- The asks that leave the index as it is, whatever its words are.
-use Rattle.std.proofs.Common.{◌≡◌, ℕ, ◌+◌, ◌%◌, ◌^◌, ◌⊎◌, ◌∙◌, refl, sym, ap, arith, inl, inr, List, Bool, true, false}
-use Rattle.std.specs.Prelude.{◌==◌, if◌then◌else◌, ⊤}
+-- An ask that spares the index leaves it as it is, whatever its words are: a change of a word elsewhere does, one that leaves its word as it
+-- is, and one above a link.
+use Rattle.std.proofs.Common.{◌≡◌, ℕ, ◌+◌, ◌-◌, ◌%◌, ◌^◌, ◌∙◌, refl, sym, ap, arith, inl, inr, List, Bool, true, false}
+use Rattle.std.specs.Prelude.{◌==◌, if◌then◌else◌}
 use Rattle.std.proofs.lemmas.Bool.Decides.{nat_tests}
 use Rattle.fkv_plane.specs.declared.asks.Ask.{Ask}
 use Rattle.fkv_plane.specs.declared.asks.Ask.TheVariants.{Load, Store, Swap, Cas, Add, Max, Put, Take, Done}
 use Rattle.fkv_plane.specs.declared.places.Places.{Places}
 use Rattle.fkv_plane.specs.Asked.{word_at}
-use Rattle.fkv_plane.specs.Passing.{passed}
 use Rattle.fkv_plane.specs.Places.{bucket_place}
+use Rattle.fkv_index.specs.IndexWorld.{is_bucket_place, is_link_place}
 use Rattle.fkv_index.specs.Slots.{link_of}
-use Rattle.fkv_latch.specs.declared.latching.Latching.{Latching}
-use Rattle.fkv_latch.specs.declared.latching.Latching.TheVariants as latch
-use Rattle.fkv_latch.specs.declared.latching.LatchTask.{LatchTask}
-use Rattle.fkv_latch.specs.declared.latching.LatchTask.TheVariants.{TakeShared, DropShared, TakeExclusive, DropExclusive}
-use Rattle.fkv_latch.specs.Latching.{latch_first, latch_ask, latch_next, is_exclusive, is_free}
-use Rattle.law_parts.specs.Index.Shows.{SparesIndex}
-use Rattle.law_parts.proofs.OfIndex.Spares.{IsElsewhere, elsewhere_keeps, same_keeps, latch_keeps}
+use Rattle.law_parts.specs.Footprint.{TheIndex, IsElsewhere, Spares}
+use Rattle.law_parts.specs.Index.Shows.{KeepsWord, SparesIndex}
 
--- the eighth word of some bucket
-pub record IsEighth (p : Places) (place : ℕ) : Type 0 where
-  pub bucket : ℕ
-  pub at : place ≡ bucket_place p bucket 7
+no_place : {X : Type 0} (b : Bool) → b ≡ false → b ≡ true → X
+no_place b none there = let clash : true ≡ false = sym there ∙ none in cc
 
--- An ask leaves the index: it loads, its word is none of the index's, or it changes an eighth word above its link.
-abbrev pub LeavesIndex : {A : Type 0} → Places → Ask A → Type 0
-LeavesIndex p (Load place) = ⊤
-LeavesIndex p (Store place word) = IsElsewhere p place
-LeavesIndex p (Swap place word) = IsElsewhere p place
-LeavesIndex p (Cas place old new) = IsElsewhere p place ⊎ (IsEighth p place × (link_of new ≡ link_of old))
-LeavesIndex p (Add place k) = IsElsewhere p place ⊎ (IsEighth p place × (k % 2 ^ 48 ≡ 0))
-LeavesIndex p (Max place k) = IsElsewhere p place
-LeavesIndex p (Put slot action) = ⊤
-LeavesIndex p (Take slot) = ⊤
-LeavesIndex p (Done its) = ⊤
+elsewhere_keeps : (p : Places) (place before after : ℕ) → IsElsewhere p place → KeepsWord p place before after
+elsewhere_keeps p place before after else_where = record {
+  count = λ e. absurd (else_where.no_count e);
+  slots = λ there link. no_place (is_bucket_place p place) else_where.no_bucket there;
+  links = λ there link. no_place (is_bucket_place p place) else_where.no_bucket there;
+}
 
--- so does one that is passed on
-pub passed_spares : {A B : Type 0} (p : Places) (ask : Ask A) (its : B) → LeavesIndex p ask → LeavesIndex p (passed ask its)
-unfolding passed
-passed_spares p (Load place) its leaves = tt
-passed_spares p (Store place word) its leaves = leaves
-passed_spares p (Swap place word) its leaves = leaves
-passed_spares p (Cas place old new) its leaves = leaves
-passed_spares p (Add place k) its leaves = leaves
-passed_spares p (Max place k) its leaves = leaves
-passed_spares p (Put slot action) its leaves = tt
-passed_spares p (Take slot) its leaves = tt
-passed_spares p (Done told) its leaves = tt
+-- as a load does at any place
+same_keeps : (p : Places) (place word : ℕ) → KeepsWord p place word word
+same_keeps p place word = record { count = λ e. refl; slots = λ there link. refl; links = λ there link. refl }
+
+-- a word with a latch is an eighth word of a bucket
+latch_keeps : (p : Places) (place bucket before after : ℕ) → place ≡ bucket_place p bucket 7 → link_of after ≡ link_of before → KeepsWord p place before after
+latch_keeps p place bucket before after at same =
+    let within : (place - bucket_place p 0 0) % 8 ≡ 7 = omega (arith, at) in
+    let link : is_link_place p place ≡ true = grind (arith, nat_tests, within) in
+    record {
+      count = λ e. absurd (omega (arith, at, e));
+      slots = λ there none. no_place (is_link_place p place) none link;
+      links = λ there is. same;
+    }
 
 -- a Cas that is lost keeps its word, and one that is won where it leads
 cas_leads : (n old new : ℕ) → link_of new ≡ link_of old → link_of (if n == old then new else n) ≡ link_of n
@@ -59,57 +50,15 @@ add_leads : (n k : ℕ) → k % 2 ^ 48 ≡ 0 → link_of ((n + k) % 2 ^ 64) ≡ 
 add_leads n k whole = omega (arith, whole)
 
 -- whatever the words are
-pub leaves_spares : {A : Type 0} (p : Places) (words : List ℕ) (ask : Ask A) → LeavesIndex p ask → SparesIndex p words ask
-leaves_spares p words (Load place) leaves = same_keeps p place (word_at words place)
-leaves_spares p words (Store place word) leaves = elsewhere_keeps p place _ _ leaves
-leaves_spares p words (Swap place word) leaves = elsewhere_keeps p place _ _ leaves
-leaves_spares p words (Cas place old new) (inl leaves) = elsewhere_keeps p place _ _ leaves
+pub leaves_spares : {A : Type 0} (p : Places) (words : List ℕ) (ask : Ask A) → Spares TheIndex p ask → SparesIndex p words ask
+leaves_spares p words (Load place) spares = same_keeps p place (word_at words place)
+leaves_spares p words (Store place word) spares = elsewhere_keeps p place _ _ spares
+leaves_spares p words (Swap place word) spares = elsewhere_keeps p place _ _ spares
+leaves_spares p words (Cas place old new) (inl spares) = elsewhere_keeps p place _ _ spares
 leaves_spares p words (Cas place old new) (inr (its, same)) = latch_keeps p place its.bucket _ _ its.at (cas_leads (word_at words place) old new same)
-leaves_spares p words (Add place k) (inl leaves) = elsewhere_keeps p place _ _ leaves
+leaves_spares p words (Add place k) (inl spares) = elsewhere_keeps p place _ _ spares
 leaves_spares p words (Add place k) (inr (its, whole)) = latch_keeps p place its.bucket _ _ its.at (add_leads (word_at words place) k whole)
-leaves_spares p words (Max place k) leaves = elsewhere_keeps p place _ _ leaves
-leaves_spares p words (Put slot action) leaves = tt
-leaves_spares p words (Take slot) leaves = tt
-leaves_spares p words (Done its) leaves = tt
-
--- a machine for latches is at an eighth word
-abbrev pub IsAtLatch : Places → Latching → Type 0
-IsAtLatch p latch.AtRest = ⊤
-IsAtLatch p (latch.AddsShare place) = IsEighth p place
-IsAtLatch p (latch.GivesBack place) = IsEighth p place
-IsAtLatch p (latch.DropsShare place) = IsEighth p place
-IsAtLatch p (latch.LoadsWord place) = IsEighth p place
-IsAtLatch p (latch.SetsExclusive place word) = IsEighth p place
-IsAtLatch p (latch.DropsExclusive place) = IsEighth p place
-
--- it changes the bits above the link
-pub latch_leaves : (p : Places) (step : Latching) → IsAtLatch p step → LeavesIndex p (latch_ask step)
-unfolding latch_ask
-latch_leaves p latch.AtRest at = tt
-latch_leaves p (latch.AddsShare place) at = inr (at, omega arith)
-latch_leaves p (latch.GivesBack place) at = inr (at, omega arith)
-latch_leaves p (latch.DropsShare place) at = inr (at, omega arith)
-latch_leaves p (latch.LoadsWord place) at = tt
-latch_leaves p (latch.SetsExclusive place word) at = inr (at, omega arith)
-latch_leaves p (latch.DropsExclusive place) at = inr (at, omega arith)
-
-either_at : (c : Bool) (p : Places) (a b : Latching) → IsAtLatch p a → IsAtLatch p b → IsAtLatch p (if c then a else b)
-either_at true p a b one other = one
-either_at false p a b one other = other
-
--- and stays at that word
-pub latch_stays : (p : Places) (step : Latching) (reply : ℕ) → IsAtLatch p step → IsAtLatch p (latch_next step reply)
-unfolding latch_next
-latch_stays p (latch.AddsShare place) reply at = either_at (is_exclusive reply) p (latch.GivesBack place) latch.AtRest at tt
-latch_stays p (latch.LoadsWord place) reply at = either_at (is_free reply) p (latch.SetsExclusive place reply) latch.AtRest at tt
-latch_stays p latch.AtRest reply at = tt
-latch_stays p (latch.GivesBack place) reply at = tt
-latch_stays p (latch.DropsShare place) reply at = tt
-latch_stays p (latch.SetsExclusive place word) reply at = tt
-latch_stays p (latch.DropsExclusive place) reply at = tt
-
-pub latch_begins : (p : Places) (task : LatchTask) (bucket : ℕ) → IsAtLatch p (latch_first task (bucket_place p bucket 7))
-latch_begins p TakeShared bucket = record { bucket = bucket; at = refl }
-latch_begins p DropShared bucket = record { bucket = bucket; at = refl }
-latch_begins p TakeExclusive bucket = record { bucket = bucket; at = refl }
-latch_begins p DropExclusive bucket = record { bucket = bucket; at = refl }
+leaves_spares p words (Max place k) spares = elsewhere_keeps p place _ _ spares
+leaves_spares p words (Put slot action) spares = tt
+leaves_spares p words (Take slot) spares = tt
+leaves_spares p words (Done its) spares = tt

@@ -1,5 +1,5 @@
 -- Each event of the engine keeps what the world of latches shows of it, and so does every life.
-use Rattle.std.proofs.Common.{◌≡◌, ◌≢◌, ℕ, zero, suc, ◌^◌, ◌<◌, ◌≤◌, ◌∙◌, refl, sym, ap, subst, arith, List, [], ◌∷◌, length, Bool, true, false, length-set}
+use Rattle.std.proofs.Common.{◌≡◌, ℕ, zero, suc, ◌^◌, ◌<◌, ◌≤◌, ◌∙◌, refl, sym, ap, subst, arith, List, [], ◌∷◌, length, Bool, true, false, length-set}
 use Rattle.std.specs.Prelude.{if◌then◌else◌, Option, Some, None, slice_get, slice_set, replicate}
 use Rattle.fkv_base.specs.Limits.{max_sessions}
 use Rattle.fkv_base.specs.declared.shapes.Shape.{Shape}
@@ -27,6 +27,7 @@ use Rattle.fkv_world.specs.Runs.{World, run, read_by_keeper}
 use Rattle.law_parts.specs.Latches.Latchers.{session_latching, sitting_latching, sitting_alone}
 use Rattle.law_parts.specs.Latches.LatchEvents.{begun_at, asked_by, changed_by, moved_events, called_events, life_events, latch_events, mapped}
 use Rattle.law_parts.specs.Latches.Shows.{SparesLatches, SessionSpares, IsFair, AreFair, IsOpened}
+use Rattle.law_parts.proofs.Items.{Here, There, set_at, get_set, get_other, set_twice, there_low}
 use Rattle.law_parts.proofs.OfLatches.AttemptLatches.{HomesAreLow}
 use Rattle.law_parts.proofs.OfLatches.SessionLatches.{SittingKnows, begun_led}
 use Rattle.law_parts.proofs.OfLatches.Seats.{Stands, Sits, set_same, task_begins}
@@ -46,43 +47,6 @@ pub record Holds (n : Now) (w : LatchWorld) : Type 0 where
   pub buckets : n.places.buckets ≡ 2 ^ n.shape.bucket_bits
   pub few : length n.sessions ≤ n.places.sessions
   pub seats : (i : ℕ) (s : SessionState) → slice_get n.sessions i ≡ Some s → Seated n w i s
-
--- lists
-data SetAt {X : Type 0} (xs : List X) (i j : ℕ) (y z : X) : Type 0 where
-  Here : j ≡ i → z ≡ y → SetAt xs i j y z
-  There : i ≢ j → slice_get xs j ≡ Some z → SetAt xs i j y z
-
-set_at : {X : Type 0} (xs : List X) (i j : ℕ) (y z : X) → slice_get (slice_set xs i y) j ≡ Some z → SetAt xs i j y z
-set_at [] i j y z got = cc
-set_at (x ∷ xs) zero zero y z got = Here refl cc
-set_at (x ∷ xs) zero (suc j) y z got = There (λ e. cc) got
-set_at (x ∷ xs) (suc i) zero y z got = There (λ e. cc) got
-set_at (x ∷ xs) (suc i) (suc j) y z got = elim (set_at xs i j y z got) [
-  | Here same its ↦ Here (ap suc same) its
-  | There other its ↦ There (λ e. other (omega (arith, e))) its
-]
-
-get_set : {X : Type 0} (xs : List X) (i : ℕ) (x y : X) → slice_get xs i ≡ Some x → slice_get (slice_set xs i y) i ≡ Some y
-get_set [] i x y got = cc
-get_set (z ∷ xs) zero x y got = refl
-get_set (z ∷ xs) (suc i) x y got = get_set xs i x y got
-
-get_other : {X : Type 0} (xs : List X) (i j : ℕ) (y : X) → i ≢ j → slice_get (slice_set xs i y) j ≡ slice_get xs j
-get_other [] i j y other = refl
-get_other (x ∷ xs) zero zero y other = absurd (other refl)
-get_other (x ∷ xs) zero (suc j) y other = refl
-get_other (x ∷ xs) (suc i) zero y other = refl
-get_other (x ∷ xs) (suc i) (suc j) y other = get_other xs i j y (λ e. other (ap suc e))
-
-set_twice : {X : Type 0} (xs : List X) (i : ℕ) (x y : X) → slice_set (slice_set xs i x) i y ≡ slice_set xs i y
-set_twice [] i x y = refl
-set_twice (z ∷ xs) zero x y = refl
-set_twice (z ∷ xs) (suc i) x y = ap (λ ys. z ∷ ys) (set_twice xs i x y)
-
-there_low : {X : Type 0} (xs : List X) (i : ℕ) (x : X) → slice_get xs i ≡ Some x → i < length xs
-there_low [] i x got = cc
-there_low (y ∷ xs) zero x got = omega arith
-there_low (y ∷ xs) (suc i) x got = let low = there_low xs i x got in omega (arith, low)
 
 -- a session's number is one of the store's
 pub seat_there : (n : Now) (w : LatchWorld) (i : ℕ) (s : SessionState) → Holds n w → slice_get n.sessions i ≡ Some s → i < n.places.sessions

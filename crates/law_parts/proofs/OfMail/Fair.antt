@@ -1,10 +1,10 @@
 -- Each step of a life that begins as a store was opened spares the mailbox, but those that are its session's and its keeper's; and a keeper whose
 -- device has failed has no call in hand.
-use Rattle.std.proofs.Common.{◌≡◌, ℕ, ◌∙◌, refl, sym, ap, subst, arith, List, [], ◌∷◌, Bool, true, false}
+use Rattle.std.proofs.Common.{◌≡◌, ℕ, ◌<◌, ◌∙◌, refl, sym, ap, subst, inl, inr, List, [], ◌∷◌, Bool, true, false}
 use Rattle.std.specs.Prelude.{Option, Some, None, slice_get}
-use Rattle.std.proofs.lemmas.Bool.Decides.{nat_tests}
 use Rattle.fkv_base.specs.declared.shapes.Shape.{Shape}
-use Rattle.fkv_map.specs.declared.operations.Call.TheVariants.{Refresh}
+use Rattle.fkv_plane.specs.declared.asks.Ask.{Ask}
+use Rattle.fkv_plane.specs.declared.asks.Ask.TheVariants.{Load, Store, Swap, Cas, Add, Max, Put, Take, Done}
 use Rattle.fkv_plane.specs.declared.places.Places.{Places}
 use Rattle.fkv_keeper.specs.declared.keepers.Keeping.{Keeping}
 use Rattle.fkv_keeper.specs.declared.keepers.Keeping.TheVariants.{Ended, Starts, Maintains, LoadsPhase, Enters, Copies, Seeks, Waits, Writes, Finishes}
@@ -12,78 +12,58 @@ use Rattle.fkv_keeper.specs.KeeperRun.{IsOpened as IsKeeperOpened, is_in_hand, k
 use Rattle.fkv_keeper.specs.Keeping.{KeeperState, keeper_ask}
 use Rattle.fkv_keeper.proofs.Shown.{IsSound, run_sound}
 use Rattle.fkv_session.specs.Sessions.{SessionState, Seat, session_ask}
-use Rattle.fkv_session.specs.SessionRun.{session_run}
-use Rattle.fkv_world.specs.Actors.{is_of_session}
 use Rattle.fkv_world.specs.OwnEvents.{keeper_events, session_events}
-use Rattle.fkv_world.specs.Runs.{World, happens, run}
+use Rattle.fkv_world.specs.Runs.{World, run}
 use Rattle.fkv_world.specs.World.{Event, Calls, Moves, Commits, Turns, KeeperMoves, Crashes, Now, seat_at}
-use Rattle.fkv_world.proofs.Shown.{keeper_runs, session_runs, same_seat, session_apart, places_stay, shape_stays}
-use Rattle.law_world.proofs.OfRuns.Nothing.{no_session}
-use Rattle.law_parts.specs.Mail.Mailers.{session_mailing}
+use Rattle.fkv_world.proofs.Shown.{keeper_runs, places_stay}
 use Rattle.law_parts.specs.Mail.Servers.{serving_of, is_serving}
 use Rattle.law_parts.specs.Mail.Shows.{SessionSpares, IsFair, AreFair, IsOpened}
 use Rattle.law_parts.specs.Mail.Spares.{SparesMailbox}
-use Rattle.law_parts.proofs.OfMail.KeeperSpares.{keeper_mailbox}
-use Rattle.law_parts.proofs.OfMail.SessionSpares.{IsSessionSpared, session_mailbox, session_run_at}
+use Rattle.law_parts.specs.Footprint.{TheMailbox, Spares}
+use Rattle.law_parts.proofs.Footprint.Lives.{at_each_moment, keeper_spares}
+use Rattle.law_parts.proofs.Footprint.Sessions.{IsSessionSparing, SessionRests, session_asks_spares, session_run_spares}
 
--- a session that wasn't there never is
-other_stays : (w : World) (event : Event) (number : ℕ) (mine : Bool) → is_of_session number event ≡ mine → slice_get w.now.sessions number ≡ None → slice_get (happens w event).now.sessions number ≡ None
-other_stays w event number false e none = session_apart w event number e ∙ none
-other_stays w (Calls at call) number true e none =
-    let same : at ≡ number = grind (arith, nat_tests, e) in
-    ap (λ (x : World). slice_get x.now.sessions number) (no_session w at call (ap (slice_get w.now.sessions) same ∙ none)).0 ∙ none
-other_stays w (Moves at) number true e none =
-    let same : at ≡ number = grind (arith, nat_tests, e) in
-    ap (λ (x : World). slice_get x.now.sessions number) (no_session w at Refresh (ap (slice_get w.now.sessions) same ∙ none)).1 ∙ none
-other_stays w (Commits kind) number true e none = cc
-other_stays w Turns number true e none = cc
-other_stays w (KeeperMoves granted done) number true e none = cc
-other_stays w Crashes number true e none = cc
+-- an ask that spares the mailbox of one of the store's sessions
+leaves_mailbox : {A : Type 0} (p : Places) (session : ℕ) (ask : Ask A) → session < p.sessions → Spares (TheMailbox session) p ask → SparesMailbox session ask
+leaves_mailbox p session (Load place) there spares = tt
+leaves_mailbox p session (Store place word) there spares = spares there
+leaves_mailbox p session (Swap place word) there spares = spares there
+leaves_mailbox p session (Cas place old new) there (inl spares) = spares there
+leaves_mailbox p session (Cas place old new) there (inr its) = absurd its
+leaves_mailbox p session (Add place k) there (inl spares) = spares there
+leaves_mailbox p session (Add place k) there (inr its) = absurd its
+leaves_mailbox p session (Max place k) there spares = spares there
+leaves_mailbox p session (Put slot action) there spares = tt
+leaves_mailbox p session (Take slot) there spares = tt
+leaves_mailbox p session (Done its) there spares = tt
 
-none_stays : (opening : World) (events : List Event) (number : ℕ) → slice_get opening.now.sessions number ≡ None → slice_get (run opening events).now.sessions number ≡ None
-unfolding run
-none_stays opening [] number none = none
-none_stays opening (event ∷ before) number none = other_stays (run opening before) event number (is_of_session number event) refl (none_stays opening before number none)
+its_seat : (opening : World) (session : ℕ) (events : List Event) → IsOpened opening.now session → session < (run opening events).now.places.sessions
+its_seat opening session events opened = subst (λ (p : Places). session < p.sessions) (sym (places_stay opening events)) opened.its_seat
 
-no_item : {X : Type 0} {A : Type 0} (found : Option X) (its : X) → found ≡ None → found ≡ Some its → A
-no_item found its none some = let clash : None ≡ Some its = sym none ∙ some in cc
-
-some_same : {X : Type 0} {found : Option X} {x y : X} → found ≡ Some x → found ≡ Some y → x ≡ y
-some_same one other = let same : ◌≡◌ {A = Option _} (Some _) (Some _) = sym one ∙ other in cc
+same_number : (one other : ℕ) → TheMailbox one ≡ TheMailbox other → other ≡ one
+same_number one other same = cc
 
 session_spares : (opening : World) (session : ℕ) (events : List Event) (i : ℕ) (found : Option SessionState) → IsOpened opening.now session → slice_get (run opening events).now.sessions i ≡ found
     → SessionSpares (run opening events).now session i found
 session_spares opening session events i None opened is = tt
-session_spares opening session events i (Some s) opened is = λ none. by_first (slice_get opening.now.sessions i) refl none
-  where
-    n : Now
-    n = (run opening events).now
-
-    k : Seat
-    k = seat_at n i
-
-    by_first : (first : Option SessionState) → slice_get opening.now.sessions i ≡ first → (i ≡ session → session_mailing s ≡ None) → SparesMailbox session (session_ask k s)
-    by_first None at_first none = no_item _ s (none_stays opening events i at_first) is
-    by_first (Some first) was none =
-        let ran : IsSessionSpared opening.now.places (session_run (seat_at opening.now i) first (session_events opening i events)) = session_run_at (seat_at opening.now i) first (session_events opening i events) (opened.sessions i first was) in
-        let now : s ≡ session_run (seat_at opening.now i) first (session_events opening i events) = some_same is (session_runs opening i first events was) in
-        let so : IsSessionSpared opening.now.places s = subst (λ (x : SessionState). IsSessionSpared opening.now.places x) (sym now) ran in
-        let its : SparesMailbox session (session_ask (seat_at opening.now i) s) = session_mailbox (seat_at opening.now i) session s opened.its_seat so none in
-        subst (λ (x : Seat). SparesMailbox session (session_ask x s)) (sym (same_seat opening events i)) its
+session_spares opening session events i (Some s) opened is = λ none.
+    let n : Now = (run opening events).now in
+    let k : Seat = seat_at n i in
+    let its : IsSessionSparing k.places s = at_each_moment (λ seat x. IsSessionSparing seat.places x) opening events i s (λ first was. session_run_spares (seat_at opening.now i) first (session_events opening i events) (opened.sessions i first was)) is in
+    let rests : SessionRests (TheMailbox session) k s = record { knows = λ e. cc; search = λ e. cc; entry = λ e. cc; latch = λ e. cc; mail = λ e. none (same_number session i e) } in
+    leaves_mailbox n.places session (session_ask k s) (its_seat opening session events opened) (session_asks_spares (TheMailbox session) k s tt its rests)
 
 -- so does the keeper
-keeper_spares : (opening : World) (session : ℕ) (events : List Event) → IsOpened opening.now session → is_serving session (serving_of (run opening events).now.keeper) ≡ false
+keeper_spared : (opening : World) (session : ℕ) (events : List Event) → IsOpened opening.now session → is_serving session (serving_of (run opening events).now.keeper) ≡ false
     → SparesMailbox session (keeper_ask (run opening events).now.shape (run opening events).now.places (run opening events).now.keeper)
-keeper_spares opening session events opened none =
-    let same : (run opening events).now.keeper ≡ keeper_run opening.now.shape opening.now.places opening.now.keeper (keeper_events opening events) = keeper_runs opening events in
-    let its = keeper_mailbox opening.now.shape opening.now.places opening.now.keeper (keeper_events opening events) session opened.keeper opened.its_seat (subst (λ (x : KeeperState). is_serving session (serving_of x) ≡ false) same none) in
-    subst (λ (shape : Shape). SparesMailbox session (keeper_ask shape (run opening events).now.places (run opening events).now.keeper)) (sym (shape_stays opening events))
-    (subst (λ (p : Places). SparesMailbox session (keeper_ask opening.now.shape p (run opening events).now.keeper)) (sym (places_stay opening events))
-    (subst (λ (x : KeeperState). SparesMailbox session (keeper_ask opening.now.shape opening.now.places x)) (sym same) its))
+keeper_spared opening session events opened none =
+    let n : Now = (run opening events).now in
+    let other : (number : ℕ) → TheMailbox session ≡ TheMailbox number → is_serving number (serving_of n.keeper) ≡ false = λ number e. subst (λ (x : ℕ). is_serving x (serving_of n.keeper) ≡ false) (sym (same_number session number e)) none in
+    leaves_mailbox n.places session (keeper_ask n.shape n.places n.keeper) (its_seat opening session events opened) (keeper_spares (TheMailbox session) opening events opened.keeper tt tt other)
 
 pub is_fair : (opening : World) (session : ℕ) (before : List Event) (event : Event) → IsOpened opening.now session → IsFair (run opening before).now session event
 is_fair opening session before (Moves i) opened = session_spares opening session before i (slice_get (run opening before).now.sessions i) opened refl
-is_fair opening session before (KeeperMoves granted done) opened = λ none. keeper_spares opening session before opened none
+is_fair opening session before (KeeperMoves granted done) opened = λ none. keeper_spared opening session before opened none
 is_fair opening session before (Calls i call) opened = tt
 is_fair opening session before (Commits kind) opened = tt
 is_fair opening session before Turns opened = tt

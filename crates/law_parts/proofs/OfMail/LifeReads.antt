@@ -39,12 +39,7 @@ begins_none : (its : Option Mailing) → NoServes (begins its)
 begins_none None = tt
 begins_none (Some (mailing.LoadsState its)) = tt
 begins_none (Some (mailing.StoresAddress addr)) = tt
-begins_none (Some (mailing.Ended its)) = tt
-begins_none (Some mailing.LoadsHeader) = tt
-begins_none (Some (mailing.LoadsKey header)) = tt
-begins_none (Some (mailing.LoadsValue header key)) = tt
-begins_none (Some (mailing.StoresEmpty its)) = tt
-begins_none (Some mailing.StoresAsked) = tt
+begins_none (Some its) = tt
 
 changed_none : {A : Type 0} (words : List ℕ) (ask : Ask A) → NoServes (changed_by words ask)
 changed_none words (Load place) = tt

@@ -1,5 +1,5 @@
 -- Each event of the engine keeps what the mailbox's world shows of it, and so does every life.
-use Rattle.std.proofs.Common.{◌≡◌, ◌≢◌, ℕ, zero, suc, ◌<◌, ◌∙◌, refl, sym, ap, subst, arith, List, [], ◌∷◌, length, Bool, true, false}
+use Rattle.std.proofs.Common.{◌≡◌, ℕ, ◌<◌, ◌∙◌, refl, sym, ap, subst, arith, List, [], length, Bool, true, false}
 use Rattle.std.specs.Prelude.{if◌then◌else◌, ◌==◌, Option, Some, None, slice_get, slice_set}
 use Rattle.std.proofs.lemmas.Bool.Decides.{nat_tests}
 use Rattle.fkv_map.specs.declared.operations.Call.{Call}
@@ -31,6 +31,7 @@ use Rattle.law_parts.specs.Mail.Mailers.{session_mailing, IsAsFar}
 use Rattle.law_parts.specs.Mail.Servers.{serving_of, is_serving, ServesIf, KeepsUp}
 use Rattle.law_parts.specs.Mail.Shows.{SessionSpares}
 use Rattle.law_parts.specs.Mail.Spares.{SparesMailbox}
+use Rattle.law_parts.proofs.Items.{Here, There, set_at}
 use Rattle.law_parts.proofs.OfMail.AttemptSits.{begun, moved_of}
 use Rattle.law_parts.proofs.OfMail.KeeperKeeps.{FindsAsked, finds_on, idle_keeps, idle_finds, other_keeps, other_finds, IsGiven, ServedOwn, own_served}
 use Rattle.law_parts.proofs.OfMail.KeeperServes.{IsIdle, is_at_serve, serves_none, at_serve, is_at, serve_after, steps_of, beside, serves_on, idles_on, serve_words, read_given, ended_stays, serve_in_hand}
@@ -56,21 +57,6 @@ known n session w past holds sound = record {
   enough = subst (λ (x : List ℕ). session_place session own.MailValue < length x) holds.words (subst (λ (x : ℕ). session_place x own.MailValue < length w.words) holds.session_same sound.enough_words);
   knows = subst (λ (x : List ℕ). KnowsMail (mailbox_of x session) past.task w.mailing) holds.words (subst (λ (x : ℕ). KnowsMail (mailbox_of w.words x) past.task w.mailing) holds.session_same sound.kept.session);
 }
-
--- lists
-data SetAt {X : Type 0} (xs : List X) (i j : ℕ) (y z : X) : Type 0 where
-  Here : j ≡ i → z ≡ y → SetAt xs i j y z
-  There : i ≢ j → slice_get xs j ≡ Some z → SetAt xs i j y z
-
-set_at : {X : Type 0} (xs : List X) (i j : ℕ) (y z : X) → slice_get (slice_set xs i y) j ≡ Some z → SetAt xs i j y z
-set_at [] i j y z got = cc
-set_at (x ∷ xs) zero zero y z got = Here refl cc
-set_at (x ∷ xs) zero (suc j) y z got = There (λ e. cc) got
-set_at (x ∷ xs) (suc i) zero y z got = There (λ e. cc) got
-set_at (x ∷ xs) (suc i) (suc j) y z got = elim (set_at xs i j y z got) [
-  | Here same its ↦ Here (ap suc same) its
-  | There other its ↦ There (λ e. other (omega (arith, e))) its
-]
 
 -- the mailbox's session has gone on
 own_sits : (n : Now) (session : ℕ) (after : SessionState) (m : Mailing) → SessionSits after m → (t : SessionState) → slice_get (slice_set n.sessions session after) session ≡ Some t → SessionSits t m

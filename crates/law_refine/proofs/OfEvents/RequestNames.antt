@@ -1,8 +1,7 @@
 -- A request of a session is named by its operation, and its attempt tries it so: a read as a read does, and an update in its version.
-use Rattle.std.proofs.Common.{◌≡◌, ℕ, ◌+◌, ◌∙◌, zero, suc, List, [], ◌∷◌, ◌++◌, length, refl, ap, sym, subst, Bool, true, false, arith}
+use Rattle.std.proofs.Common.{◌≡◌, ℕ, ◌+◌, ◌∙◌, zero, suc, List, [], ◌∷◌, ◌++◌, length, refl, ap, sym, subst, Bool, true, false}
 use Rattle.std.specs.Prelude.{slice_get, slice_set, Option, Some, None, if◌then◌else◌, not, ◌==◌, ◌||◌, ⊤}
 use Rattle.std.specs.List.{remove}
-use Rattle.std.proofs.lemmas.Bool.Decides.{nat_tests}
 use Rattle.fkv_base.specs.declared.faults.Fault.{Fault}
 use Rattle.fkv_map.specs.declared.operations.Call.{Call}
 use Rattle.fkv_map.specs.declared.operations.Call.TheVariants as call
@@ -60,10 +59,10 @@ use Rattle.fkv_map.specs.declared.operations.Call.TheVariants.{Refresh}
 use Rattle.fkv_world.specs.Actors.{is_of_session}
 use Rattle.fkv_world.specs.OwnEvents.{session_part_of}
 use Rattle.fkv_world.specs.Runs.{World, happens, run}
-use Rattle.fkv_world.specs.World.{Event, Calls, Moves, Commits, Turns as TurnsOnce, KeeperMoves, Crashes, Now, seat_at}
-use Rattle.fkv_world.proofs.Shown.{happens_session, session_apart}
-use Rattle.law_world.proofs.OfRuns.Nothing.{no_session}
+use Rattle.fkv_world.specs.World.{Event, Now, seat_at}
+use Rattle.fkv_world.proofs.Shown.{happens_session}
 use Rattle.law_guard.specs.Guarded.Shows as guard
+use Rattle.law_parts.proofs.Footprint.Lives.{other_stays}
 use Rattle.law_refine.specs.Events.Names.{is_read_name, IsNamedSo, AreNamedSo, AttemptsNamedSo, RequestsAreNamed}
 use Rattle.law_refine.proofs.OfEvents.ReadTries.{IsReadTry, try_read, begun_read}
 use Rattle.law_refine.proofs.OfEvents.TryAppends.{IsTryAt, begun_at, try_at}
@@ -393,22 +392,8 @@ run_so k opening (event ∷ before) so = event_so k (session_run k opening befor
 abbrev AreSo : Now → Type 0
 AreSo n = (number : ℕ) (s : SessionState) → slice_get n.sessions number ≡ Some s → IsSo s
 
--- a session that isn't there never comes
-none_stays : (w : World) (event : Event) (number : ℕ) (mine : Bool) → is_of_session number event ≡ mine → slice_get w.now.sessions number ≡ None → slice_get (happens w event).now.sessions number ≡ None
-none_stays w event number false e none = session_apart w event number e ∙ none
-none_stays w (Calls at its) number true e none =
-    let same : at ≡ number = grind (arith, nat_tests, e) in
-    ap (λ (x : World). slice_get x.now.sessions number) (no_session w at its (ap (slice_get w.now.sessions) same ∙ none)).0 ∙ none
-none_stays w (Moves at) number true e none =
-    let same : at ≡ number = grind (arith, nat_tests, e) in
-    ap (λ (x : World). slice_get x.now.sessions number) (no_session w at Refresh (ap (slice_get w.now.sessions) same ∙ none)).1 ∙ none
-none_stays w (Commits kind) number true e none = cc
-none_stays w TurnsOnce number true e none = cc
-none_stays w (KeeperMoves granted done) number true e none = cc
-none_stays w Crashes number true e none = cc
-
 happens_so : (w : World) (event : Event) (number : ℕ) (s : SessionState) (before : Option SessionState) → AreSo w.now → slice_get w.now.sessions number ≡ before → slice_get (happens w event).now.sessions number ≡ Some s → IsSo s
-happens_so w event number s None are e found = none_some s (sym (none_stays w event number (is_of_session number event) refl e) ∙ found)
+happens_so w event number s None are e found = none_some s (sym (other_stays w event number (is_of_session number event) refl e) ∙ found)
 happens_so w event number s (Some before) are e found =
     let after : SessionState = session_run (seat_at w.now number) before (session_part_of w.now number event) in
     let same : s ≡ after = some_same s after (sym found ∙ happens_session w event number before e) in

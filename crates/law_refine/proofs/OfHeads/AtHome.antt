@@ -1,9 +1,7 @@
 -- A session tries, searches, keeps a slot and publishes for the home of the key that it attempts.
-use Rattle.std.proofs.Common.{◌≡◌, ℕ, ◌∙◌, refl, sym, ap, subst, arith, Bool, true, false, List, [], ◌∷◌, length}
+use Rattle.std.proofs.Common.{◌≡◌, ℕ, ◌∙◌, refl, sym, ap, subst, Bool, true, false, List, length}
 use Rattle.std.specs.Prelude.{if◌then◌else◌, Option, Some, None, slice_get, replicate}
-use Rattle.std.proofs.lemmas.Bool.Decides.{nat_tests}
 use Rattle.fkv_epoch.proofs.Shown.{none_some, some_same}
-use Rattle.fkv_map.specs.declared.operations.Call.TheVariants.{Refresh}
 use Rattle.fkv_map.specs.declared.operations.Op.{Op}
 use Rattle.fkv_map.specs.Keys.{key_of}
 use Rattle.fkv_plane.specs.declared.places.Places.{Places}
@@ -28,12 +26,11 @@ use Rattle.fkv_session.specs.Sessions.{SessionState, Seat, bits_of}
 use Rattle.fkv_session.specs.Sessions as sessions
 use Rattle.fkv_session.specs.Shares.{HasItsBuckets, shares_added, shares_dropped}
 use Rattle.fkv_session.proofs.Shown.{IsTryOf, KnowsShare, Book, StepShares, run_shares}
-use Rattle.fkv_world.specs.Actors.{is_of_session}
 use Rattle.fkv_world.specs.OwnEvents.{session_events}
-use Rattle.fkv_world.specs.Runs.{World, happens, run}
-use Rattle.fkv_world.specs.World.{Event, Calls, Moves, Commits, Turns, KeeperMoves, Crashes, seat_at}
-use Rattle.law_world.proofs.OfRuns.Nothing.{no_session}
-use Rattle.fkv_world.proofs.Shown.{same_seat, session_apart, session_runs}
+use Rattle.fkv_world.specs.Runs.{World, run}
+use Rattle.fkv_world.specs.World.{Event, seat_at}
+use Rattle.fkv_world.proofs.Shown.{same_seat, session_runs}
+use Rattle.law_parts.proofs.Footprint.Lives.{none_stays}
 use Rattle.law_parts.specs.Index.Finders.{NoWork, KeepsSlot, slot_kept, kept_work, walk_work, append_work, try_work, attempt_part, sitting_part}
 use Rattle.law_parts.specs.Index.Shows.{IsOpened}
 use Rattle.law_parts.proofs.OfIndex.SessionParts.{SittingKnows}
@@ -104,25 +101,6 @@ sitting_at m s (Polls index) shares knows = attempt_at m.seat m.its s s.attempt.
 sitting_at m s step shares knows = tt
 
 -- ---- over a life
--- a session that isn't there never comes
-none_stays : (w : World) (event : Event) (number : ℕ) (mine : Bool) → is_of_session number event ≡ mine → slice_get w.now.sessions number ≡ None → slice_get (happens w event).now.sessions number ≡ None
-none_stays w event number false e none = session_apart w event number e ∙ none
-none_stays w (Calls at its) number true e none =
-    let same : at ≡ number = grind (arith, nat_tests, e) in
-    ap (λ (x : World). slice_get x.now.sessions number) (no_session w at its (ap (slice_get w.now.sessions) same ∙ none)).0 ∙ none
-none_stays w (Moves at) number true e none =
-    let same : at ≡ number = grind (arith, nat_tests, e) in
-    ap (λ (x : World). slice_get x.now.sessions number) (no_session w at Refresh (ap (slice_get w.now.sessions) same ∙ none)).1 ∙ none
-none_stays w (Commits kind) number true e none = cc
-none_stays w Turns number true e none = cc
-none_stays w (KeeperMoves granted done) number true e none = cc
-none_stays w Crashes number true e none = cc
-
-none_comes : (opening : World) (events : List Event) (number : ℕ) → slice_get opening.now.sessions number ≡ None → slice_get (run opening events).now.sessions number ≡ None
-unfolding run
-none_comes opening [] number none = none
-none_comes opening (event ∷ before) number none = none_stays (run opening before) event number (is_of_session number event) refl (none_comes opening before number none)
-
 -- a session of a life is the run of its own events
 record HasRun (opening : World) (events : List Event) (number : ℕ) (s : SessionState) : Type 0 where
   first : SessionState
@@ -130,7 +108,7 @@ record HasRun (opening : World) (events : List Event) (number : ℕ) (s : Sessio
   same : s ≡ session_run (seat_at opening.now number) first (session_events opening number events)
 
 has_run : (opening : World) (events : List Event) (number : ℕ) (s : SessionState) (found : Option SessionState) → slice_get opening.now.sessions number ≡ found → slice_get (run opening events).now.sessions number ≡ Some s → HasRun opening events number s
-has_run opening events number s None e got = none_some s (sym (none_comes opening events number e) ∙ got)
+has_run opening events number s None e got = none_some s (sym (none_stays opening events number e) ∙ got)
 has_run opening events number s (Some first) e got = record {
   first = first;
   was = e;

@@ -27,7 +27,7 @@ use Rattle.law_refine.specs.Events.GhostEvents.{serials_in}
 use Rattle.law_refine.specs.Events.Lines.{finished_lines, answer_lines, event_lines, lines_of}
 use Rattle.law_refine.specs.Results.Results.{history_at}
 use Rattle.law_refine.proofs.OfResults.Counted.{as_so, is_as, life_counts, no_more_told, one_counted}
-use Rattle.law_refine.proofs.OfResults.Opened.{was_opened}
+use Rattle.law_refine.proofs.OfCalls.InHand.{was_opened}
 
 -- ---- a list within a list
 in_front : {X : Type 0} (it : X) (xs ys : List X) → IsIn it xs → IsIn it (xs ++ ys)

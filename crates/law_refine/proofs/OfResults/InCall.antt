@@ -26,12 +26,11 @@ use Rattle.fkv_world.specs.Runs.{World, happens, run}
 use Rattle.fkv_world.specs.World.{Event, Calls, Moves, Now, seat_at, near}
 use Rattle.law_world.proofs.OfSessions.OwnRun.{here, of_run, opened_so, to_run}
 use Rattle.law_world.proofs.OfRuns.Added.{history_so}
-use Rattle.law_refine.proofs.OfCalls.InHand.{effect_in_hand}
+use Rattle.law_refine.proofs.OfCalls.InHand.{effect_in_hand, was_opened}
 use Rattle.law_refine.specs.Calls.Calls.{effect_in_log, effects_in_log, effects_of_life}
 use Rattle.law_refine.specs.Results.Results.{in_call, history_at, TakesEffect, StaysOrTakes, IsResult}
 use Rattle.law_refine.proofs.OfResults.Counted.{CountAlike, life_counts, no_more_told, none_more, one_more}
 use Rattle.law_refine.proofs.OfResults.MadeInCall.{IsMadeInCall, made_in_call}
-use Rattle.law_refine.proofs.OfResults.Opened.{was_opened}
 use Rattle.law_refine.proofs.OfResults.OwnCall.{AreReplies, IsAnswer, KnowsOp, Stands, StandsAt, TellsAt, run_knows, run_stands, run_tells}
 
 -- ---- what the call is for the session's machine

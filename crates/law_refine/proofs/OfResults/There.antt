@@ -20,7 +20,7 @@ use Rattle.law_world.proofs.OfRuns.Added.{history_so}
 use Rattle.law_refine.specs.Calls.Calls.{lines_of_life}
 use Rattle.law_refine.specs.Results.Results.{NobodyCalls, history_at}
 use Rattle.law_refine.proofs.OfResults.Given.{all_given}
-use Rattle.law_refine.proofs.OfResults.Opened.{was_opened}
+use Rattle.law_refine.proofs.OfCalls.InHand.{was_opened}
 
 -- a session of this number is there
 pub record IsThere (w : World) (number : ℕ) : Type 0 where

@@ -1,4 +1,4 @@
--- What is deferred leaves the index as it is.
+-- What is deferred spares each part.
 use Rattle.std.proofs.Common.{◌≡◌, ℕ, refl, sym, subst}
 use Rattle.std.specs.Prelude.{⊤}
 use Rattle.fkv_plane.specs.declared.asks.Ask.{Ask}
@@ -13,9 +13,11 @@ use Rattle.fkv_commit.specs.declared.deferring.Deferring.{Deferring}
 use Rattle.fkv_commit.specs.declared.deferring.Deferring.TheVariants.{Ended, Seeks, Holds, Raises, Puts, Arms}
 use Rattle.fkv_commit.proofs.Shown.{next_in_range, on_in_range, next_ask_in_range}
 use Rattle.fkv_commit.specs.Deferring.{HasSlotInRange, DeferState, defer_begun, deferring_ask, defer_ask, seek_ledto, raise_ledto, arm_ledto, deferring_next, defer_next, deferring_on, defer_on}
-use Rattle.law_parts.proofs.OfIndex.Leaves.{LeavesIndex, passed_spares}
-use Rattle.law_parts.proofs.OfIndex.EpochSpares.{raise_spares, ArmsInRange, arm_spares, arm_range}
+use Rattle.law_parts.specs.Footprint.{Part, Spares}
+use Rattle.law_parts.proofs.Footprint.Latching.{passed_spares}
+use Rattle.law_parts.proofs.Footprint.Epochs.{raise_spares, ArmsInRange, arm_spares, arm_range}
 
+-- its drain slots are those that there are
 abbrev pub DeferBounds : DeferState → Deferring → Type 0
 DeferBounds d (Ended its) = ⊤
 DeferBounds d Seeks = IsRaiseInRange d.raising
@@ -27,17 +29,16 @@ DeferBounds d (Arms epoch) = ArmsInRange d.arming
 abbrev pub IsDeferSparing : DeferState → Type 0
 IsDeferSparing d = DeferBounds d d.step
 
-deferring_spares : (p : Places) (d : DeferState) (step : Deferring) → DeferBounds d step → LeavesIndex p (deferring_ask d step)
+-- what it asks for
+deferring_spares : (part : Part) (p : Places) (d : DeferState) (step : Deferring) → DeferBounds d step → Spares part p (deferring_ask d step)
 unfolding deferring_ask
-deferring_spares p d (Ended its) bounds = tt
-deferring_spares p d Seeks bounds = passed_spares p _ _ (raise_spares p d.raising bounds)
-deferring_spares p d Holds bounds = tt
-deferring_spares p d (Raises its) bounds = passed_spares p _ _ (raise_spares p d.raising bounds)
-deferring_spares p d (Puts its slot epoch) bounds = tt
-deferring_spares p d (Arms epoch) bounds = passed_spares p _ _ (arm_spares p d.arming bounds)
+deferring_spares part p d Seeks bounds = passed_spares part p _ _ (raise_spares part p d.raising bounds)
+deferring_spares part p d (Raises its) bounds = passed_spares part p _ _ (raise_spares part p d.raising bounds)
+deferring_spares part p d (Arms epoch) bounds = passed_spares part p _ _ (arm_spares part p d.arming bounds)
+deferring_spares part p d step bounds = tt
 
-pub defer_spares : (p : Places) (d : DeferState) → IsDeferSparing d → LeavesIndex p (defer_ask d)
-defer_spares p d bounds = deferring_spares p d d.step bounds
+pub defer_spares : (part : Part) (p : Places) (d : DeferState) → IsDeferSparing d → Spares part p (defer_ask d)
+defer_spares part p d bounds = deferring_spares part p d d.step bounds
 
 stays_spares : (d : DeferState) (step : Deferring) → d.step ≡ step → DeferBounds d step → IsDeferSparing d
 stays_spares d step at bounds = subst (λ x. DeferBounds d x) (sym at) bounds
@@ -76,11 +77,7 @@ defer_next_spares d reply bounds = next_spares d d.step reply refl bounds
 goes_on : (d : DeferState) (step : Deferring) (its : Deferred) → d.step ≡ step → DeferBounds d step → IsDeferSparing (deferring_on d step its)
 unfolding deferring_on
 goes_on d Holds its at bounds = on_in_range d.raising bounds
-goes_on d (Ended told) its at bounds = stays_spares d (Ended told) at bounds
-goes_on d Seeks its at bounds = stays_spares d Seeks at bounds
-goes_on d (Raises other) its at bounds = stays_spares d (Raises other) at bounds
-goes_on d (Puts other slot epoch) its at bounds = stays_spares d (Puts other slot epoch) at bounds
-goes_on d (Arms epoch) its at bounds = stays_spares d (Arms epoch) at bounds
+goes_on d step its at bounds = stays_spares d step at bounds
 
 pub defer_on_spares : (d : DeferState) (its : Deferred) → IsDeferSparing d → IsDeferSparing (defer_on d its)
 defer_on_spares d its bounds = goes_on d d.step its refl bounds

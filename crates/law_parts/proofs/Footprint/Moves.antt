@@ -1,4 +1,4 @@
--- A move of an offset leaves the index as it is, and so do a shift and a turn.
+-- The asks with which an offset is moved, and those of a shift and of a turn, spare each part, where their drain slots are those that there are.
 use Rattle.std.proofs.Common.{ℕ, inl, Bool, true, false}
 use Rattle.std.specs.Prelude.{if◌then◌else◌, nat_lt, nat_le, ⊤}
 use Rattle.fkv_base.specs.declared.shapes.Shape.{Shape}
@@ -29,9 +29,10 @@ use Rattle.fkv_log.specs.declared.turning.Turning.TheVariants as turn
 use Rattle.fkv_log.specs.Moving.{Mover, offset_place, move_begun, moving_ask, raise_led, arm_led, moving_next, move_next, move_next_ask}
 use Rattle.fkv_log.specs.Shifting.{ShiftState, shift_at, mutable_start, shifting_ask, shift_ask, shift_led, shifting_next, shift_next}
 use Rattle.fkv_log.specs.Turning.{TurnState, turn_at, frame_end, frame_taken, turning_ask, turn_ask, turn_led, turning_next, turn_next}
-use Rattle.law_parts.proofs.OfIndex.Leaves.{LeavesIndex, passed_spares}
-use Rattle.law_parts.proofs.OfIndex.Spares.{IsElsewhere, shared_elsewhere}
-use Rattle.law_parts.proofs.OfIndex.EpochSpares.{raise_spares, asks_range, ArmsInRange, arm_spares, arm_range}
+use Rattle.law_parts.specs.Footprint.{Part, IsOutside, Spares}
+use Rattle.law_parts.proofs.Footprint.Latching.{passed_spares}
+use Rattle.law_parts.proofs.Footprint.Outside.{shared_outside}
+use Rattle.law_parts.proofs.Footprint.Epochs.{raise_spares, asks_range, ArmsInRange, arm_spares, arm_range}
 
 -- a move
 abbrev pub MovesInRange : Moving → Raising → Arming → Type 0
@@ -44,24 +45,23 @@ MovesInRange move.Arms raising arming = ArmsInRange arming
 abbrev pub IsMoveInRange : Mover → Type 0
 IsMoveInRange m = MovesInRange m.step m.raising m.arming
 
-offset_spares : (p : Places) (offset : Offset) → IsElsewhere p (offset_place offset)
-offset_spares p ReadOnly = shared_elsewhere p one.ReadOnly (λ e. cc)
-offset_spares p Head = shared_elsewhere p one.Head (λ e. cc)
+offset_spares : (part : Part) (p : Places) (offset : Offset) → IsOutside part p (offset_place offset)
+offset_spares part p ReadOnly = shared_outside part p one.ReadOnly (λ e. cc)
+offset_spares part p Head = shared_outside part p one.Head (λ e. cc)
 
-move_spares : (p : Places) (step : Moving) (raising : Raising) (arming : Arming) → MovesInRange step raising arming → LeavesIndex p (moving_ask step raising arming)
+move_spares : (part : Part) (p : Places) (step : Moving) (raising : Raising) (arming : Arming) → MovesInRange step raising arming → Spares part p (moving_ask step raising arming)
 unfolding moving_ask
-move_spares p move.AtRest raising arming range = tt
-move_spares p (move.Raises target) raising arming range = passed_spares p _ _ (raise_spares p raising range)
-move_spares p (move.MovesOffset target) raising arming range = offset_spares p target.offset
-move_spares p (move.Puts target slot) raising arming range = tt
-move_spares p move.Arms raising arming range = passed_spares p _ _ (arm_spares p arming range)
+move_spares part p move.AtRest raising arming range = tt
+move_spares part p (move.Raises target) raising arming range = passed_spares part p _ _ (raise_spares part p raising range)
+move_spares part p (move.MovesOffset target) raising arming range = offset_spares part p target.offset
+move_spares part p (move.Puts target slot) raising arming range = tt
+move_spares part p move.Arms raising arming range = passed_spares part p _ _ (arm_spares part p arming range)
 
 led_range : (target : Target) (raising : Raising) (arming : Arming) (ask : Ask RaiseAnswer) → IsRaiseInRange raising → HasSlotInRange ask → IsMoveInRange (raise_led target raising arming ask)
 unfolding raise_led
 led_range target raising arming (Done (raised.HasSlot slot)) range told = range
-led_range target raising arming (Done raised.NoSlot) range told = tt
-led_range target raising arming (Done raised.Spent) range told = tt
 led_range target raising arming (Done (raised.Raised slot epoch)) range told = told
+led_range target raising arming (Done its) range told = tt
 led_range target raising arming ask range told = range
 
 arms_range : (raising : Raising) (arming : Arming) (ask : Ask (Unit {0})) → ArmsInRange arming → IsMoveInRange (arm_led raising arming ask)
@@ -85,15 +85,13 @@ ShiftsInRange step m = ⊤
 abbrev pub IsShiftInRange : ShiftState → Type 0
 IsShiftInRange s = ShiftsInRange s.step s.mover
 
-shifting_spares : (p : Places) (step : Shifting) (m : Mover) → ShiftsInRange step m → LeavesIndex p (shifting_ask step m)
+shifting_spares : (part : Part) (p : Places) (step : Shifting) (m : Mover) → ShiftsInRange step m → Spares part p (shifting_ask step m)
 unfolding shifting_ask
-shifting_spares p (shift.Moves tail) m range = passed_spares p _ _ (move_spares p m.step m.raising m.arming range)
-shifting_spares p shift.AtRest m range = tt
-shifting_spares p shift.LoadsTail m range = tt
-shifting_spares p (shift.LoadsReadOnly tail) m range = tt
+shifting_spares part p (shift.Moves tail) m range = passed_spares part p _ _ (move_spares part p m.step m.raising m.arming range)
+shifting_spares part p step m range = tt
 
-pub shift_spares : (p : Places) (s : ShiftState) → IsShiftInRange s → LeavesIndex p (shift_ask s)
-shift_spares p s range = shifting_spares p s.step s.mover range
+pub shift_spares : (part : Part) (p : Places) (s : ShiftState) → IsShiftInRange s → Spares part p (shift_ask s)
+shift_spares part p s range = shifting_spares part p s.step s.mover range
 
 shift_either : (c : Bool) (a b : ShiftState) → IsShiftInRange a → IsShiftInRange b → IsShiftInRange (if c then a else b)
 shift_either true a b one other = one
@@ -124,18 +122,14 @@ TurnsInRange step m = ⊤
 abbrev pub IsTurnInRange : TurnState → Type 0
 IsTurnInRange s = TurnsInRange s.step s.mover
 
-turning_spares : (p : Places) (shape : Shape) (step : Turning) (m : Mover) → TurnsInRange step m → LeavesIndex p (turning_ask shape step m)
+turning_spares : (part : Part) (p : Places) (shape : Shape) (step : Turning) (m : Mover) → TurnsInRange step m → Spares part p (turning_ask shape step m)
 unfolding turning_ask
-turning_spares p shape turn.AtRest m range = tt
-turning_spares p shape (turn.LoadsLimit form tail) m range = tt
-turning_spares p shape (turn.LoadsClosed form limit) m range = tt
-turning_spares p shape (turn.RaisesLimit limit) m range = inl (shared_elsewhere p one.Limit (λ e. cc))
-turning_spares p shape (turn.LoadsHead end) m range = tt
-turning_spares p shape (turn.LoadsFlushed end) m range = tt
-turning_spares p shape turn.Moves m range = passed_spares p _ _ (move_spares p m.step m.raising m.arming range)
+turning_spares part p shape (turn.RaisesLimit limit) m range = inl (shared_outside part p one.Limit (λ e. cc))
+turning_spares part p shape turn.Moves m range = passed_spares part p _ _ (move_spares part p m.step m.raising m.arming range)
+turning_spares part p shape step m range = tt
 
-pub turn_spares : (p : Places) (shape : Shape) (s : TurnState) → IsTurnInRange s → LeavesIndex p (turn_ask shape s)
-turn_spares p shape s range = turning_spares p shape s.step s.mover range
+pub turn_spares : (part : Part) (p : Places) (shape : Shape) (s : TurnState) → IsTurnInRange s → Spares part p (turn_ask shape s)
+turn_spares part p shape s range = turning_spares part p shape s.step s.mover range
 
 -- it makes no move yet
 abbrev MovesNot : Turning → Type 0
@@ -152,12 +146,7 @@ taken_not OpensOnly end = tt
 
 not_range : (step : Turning) (m : Mover) → MovesNot step → TurnsInRange step m
 not_range turn.Moves m still = absurd still
-not_range turn.AtRest m still = tt
-not_range (turn.LoadsLimit form tail) m still = tt
-not_range (turn.LoadsClosed form limit) m still = tt
-not_range (turn.RaisesLimit limit) m still = tt
-not_range (turn.LoadsHead end) m still = tt
-not_range (turn.LoadsFlushed end) m still = tt
+not_range step m still = tt
 
 turn_either : (c : Bool) (a b : TurnState) → IsTurnInRange a → IsTurnInRange b → IsTurnInRange (if c then a else b)
 turn_either true a b one other = one

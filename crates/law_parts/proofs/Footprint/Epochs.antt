@@ -1,4 +1,4 @@
--- The machines of the epochs touch no latch, where their drain slots are those that there are and their session is one of the store's.
+-- The asks of the machines of the epochs spare each part, where their drain slots are those that there are and their session has its seat.
 use Rattle.std.proofs.Common.{◌≡◌, ℕ, ◌+◌, ◌<◌, refl, arith, inl, Bool, true, false}
 use Rattle.std.specs.Prelude.{if◌then◌else◌, nat_lt, ◌==◌, ⊤, Option, Some, None}
 use Rattle.std.proofs.lemmas.Bool.Decides.{nat_tests}
@@ -8,7 +8,6 @@ use Rattle.fkv_plane.specs.declared.actions.Action.TheVariants as act
 use Rattle.fkv_plane.specs.declared.places.Places.{Places}
 use Rattle.fkv_plane.specs.declared.places.SharedWord.TheVariants as one
 use Rattle.fkv_plane.specs.declared.places.SessionWord.TheVariants as own
-use Rattle.fkv_plane.specs.Places.{shared_place, drain_place}
 use Rattle.fkv_epoch.specs.declared.arming.Arming.{Arming}
 use Rattle.fkv_epoch.specs.declared.arming.Arming.TheVariants as arm
 use Rattle.fkv_epoch.specs.declared.claiming.Claiming.{Claiming}
@@ -31,60 +30,43 @@ use Rattle.fkv_epoch.specs.Raising.{IsRaiseInRange, raise_ask}
 use Rattle.fkv_epoch.specs.Refreshing.{refresh_ask}
 use Rattle.fkv_epoch.specs.Scanning.{scan_ask}
 use Rattle.fkv_commit.specs.Deferring.{HasSlotInRange}
-use Rattle.fkv_latch.specs.LatchWorld.{has_latch}
-use Rattle.law_parts.proofs.OfLatches.NoLatch.{TouchesNoLatch, low_none, session_none}
+use Rattle.law_parts.specs.Footprint.{Part, HasSeat, Spares}
+use Rattle.law_parts.proofs.Footprint.Outside.{shared_outside, drain_outside, own_outside}
 
 -- a session's own words
-pub refresh_none : (p : Places) (n : ℕ) (step : Refreshing) → n < p.sessions → TouchesNoLatch p (refresh_ask n step)
+pub refresh_spares : (part : Part) (p : Places) (n : ℕ) (step : Refreshing) → HasSeat part p n → Spares part p (refresh_ask n step)
 unfolding refresh_ask
-refresh_none p n (refresh.StoresEpoch epoch) there = session_none p n own.Epoch there
-refresh_none p n refresh.AtRest there = tt
-refresh_none p n refresh.LoadsEpoch there = tt
-refresh_none p n (refresh.LoadsPhase epoch) there = tt
-refresh_none p n (refresh.LoadsReadOnly epoch phase) there = tt
-refresh_none p n (refresh.LoadsHead epoch phase read_only) there = tt
-refresh_none p n (refresh.HasLoaded epoch values) there = tt
+refresh_spares part p n (refresh.StoresEpoch epoch) there = own_outside part p n own.Epoch there refl
+refresh_spares part p n step there = tt
 
-pub protect_none : (p : Places) (n : ℕ) (step : Protecting) → n < p.sessions → TouchesNoLatch p (protect_ask n step)
+pub protect_spares : (part : Part) (p : Places) (n : ℕ) (step : Protecting) → HasSeat part p n → Spares part p (protect_ask n step)
 unfolding protect_ask
-protect_none p n (protect.StoresEpoch epoch) there = session_none p n own.Epoch there
-protect_none p n protect.AtRest there = tt
-protect_none p n protect.LoadsEpoch there = tt
-protect_none p n protect.LoadsPhase there = tt
-protect_none p n (protect.LoadsReadOnly phase) there = tt
-protect_none p n (protect.LoadsHead phase read_only) there = tt
+protect_spares part p n (protect.StoresEpoch epoch) there = own_outside part p n own.Epoch there refl
+protect_spares part p n step there = tt
 
-pub leave_none : (p : Places) (n : ℕ) (step : Leaving) → n < p.sessions → TouchesNoLatch p (leave_ask n step)
+pub leave_spares : (part : Part) (p : Places) (n : ℕ) (step : Leaving) → HasSeat part p n → Spares part p (leave_ask n step)
 unfolding leave_ask
-leave_none p n leave.StoresZero there = session_none p n own.Epoch there
-leave_none p n leave.AtRest there = tt
+leave_spares part p n leave.StoresZero there = own_outside part p n own.Epoch there refl
+leave_spares part p n leave.AtRest there = tt
 
 -- a scan
-pub scan_none : (p : Places) (step : Scanning) → TouchesNoLatch p (scan_ask step)
+pub scan_spares : (part : Part) (p : Places) (step : Scanning) → Spares part p (scan_ask step)
 unfolding scan_ask
-scan_none p scan.AtRest = tt
-scan_none p scan.LoadsEpoch = tt
-scan_none p (scan.LoadsSession session least) = tt
-scan_none p (scan.RaisesSafe least) = low_none p (shared_place one.SafeEpoch) (omega arith)
-
-drain_none : (p : Places) (slot : ℕ) → slot < drain_slots → has_latch p (drain_place slot) ≡ false
-drain_none p slot low = low_none p (drain_place slot) (omega (arith, low))
+scan_spares part p (scan.RaisesSafe least) = shared_outside part p one.SafeEpoch (λ e. cc)
+scan_spares part p step = tt
 
 -- a claim
-run_none : (p : Places) (action : Action) → TouchesNoLatch p (run_of action)
-run_none p (act.SafeReadOnly addr) = low_none p (shared_place one.SafeReadOnly) (omega arith)
-run_none p (act.Close addr) = low_none p (shared_place one.Closed) (omega arith)
-run_none p (act.Phase phase version) = low_none p (shared_place one.Phase) (omega arith)
+run_spares : (part : Part) (p : Places) (action : Action) → Spares part p (run_of action)
+run_spares part p (act.SafeReadOnly addr) = shared_outside part p one.SafeReadOnly (λ e. cc)
+run_spares part p (act.Close addr) = shared_outside part p one.Closed (λ e. cc)
+run_spares part p (act.Phase phase version) = shared_outside part p one.Phase (λ e. cc)
 
-pub claim_none : (p : Places) (step : Claiming) → IsClaimInRange step → TouchesNoLatch p (claim_ask step)
+pub claim_spares : (part : Part) (p : Places) (step : Claiming) → IsClaimInRange step → Spares part p (claim_ask step)
 unfolding claim_ask
-claim_none p claim.AtRest range = tt
-claim_none p (claim.MeetsSlot slot safe) range = tt
-claim_none p (claim.LoadsSafe slot word) range = tt
-claim_none p (claim.TakesSlot slot word safe) range = inl (drain_none p slot range)
-claim_none p (claim.Receives slot epoch safe) range = tt
-claim_none p (claim.Runs slot epoch safe action) range = run_none p action
-claim_none p (claim.FreesSlot slot safe) range = drain_none p slot range
+claim_spares part p (claim.TakesSlot slot word safe) range = inl (drain_outside part p slot range)
+claim_spares part p (claim.Runs slot epoch safe action) range = run_spares part p action
+claim_spares part p (claim.FreesSlot slot safe) range = drain_outside part p slot range
+claim_spares part p step range = tt
 
 claims_either : (c : Bool) (a b : Claiming) → (c ≡ true → IsClaimInRange a) → (c ≡ false → IsClaimInRange b) → IsClaimInRange (if c then a else b)
 claims_either true a b one other = one refl
@@ -100,44 +82,30 @@ armed_range slot word safe range = claims_either _ (claim.TakesSlot slot word sa
 
 pub claim_range : (step : Claiming) (reply : ℕ) → IsClaimInRange step → IsClaimInRange (claim_next step reply)
 unfolding claim_next
-claim_range claim.AtRest reply range = tt
 claim_range (claim.MeetsSlot slot None) reply range = claims_either (nat_lt reply 2) (slot_after slot None) (claim.LoadsSafe slot reply) (λ e. after_range slot None) (λ e. range)
 claim_range (claim.MeetsSlot slot (Some safe)) reply range = claims_either (nat_lt reply 2) (slot_after slot (Some safe)) (slot_armed slot reply safe) (λ e. after_range slot (Some safe)) (λ e. armed_range slot reply safe range)
 claim_range (claim.LoadsSafe slot word) reply range = armed_range slot word reply range
 claim_range (claim.TakesSlot slot word safe) reply range = claims_either (reply == word) (claim.Receives slot _ safe) (slot_after slot (Some safe)) (λ e. range) (λ e. after_range slot (Some safe))
-claim_range (claim.Receives slot epoch safe) reply range = range
-claim_range (claim.Runs slot epoch safe action) reply range = range
 claim_range (claim.FreesSlot slot safe) reply range = after_range slot (Some safe)
+claim_range step reply range = range
 
 pub claim_given_range : (step : Claiming) (action : Action) → IsClaimInRange step → IsClaimInRange (claim_given step action)
 unfolding claim_given
 claim_given_range (claim.Receives slot epoch safe) action range = range
-claim_given_range claim.AtRest action range = range
-claim_given_range (claim.MeetsSlot slot safe) action range = range
-claim_given_range (claim.LoadsSafe slot word) action range = range
-claim_given_range (claim.TakesSlot slot word safe) action range = range
-claim_given_range (claim.Runs slot epoch safe its) action range = range
-claim_given_range (claim.FreesSlot slot safe) action range = range
+claim_given_range step action range = range
 
 -- a raise
-pub raise_none : (p : Places) (step : Raising) → IsRaiseInRange step → TouchesNoLatch p (raise_ask step)
+pub raise_spares : (part : Part) (p : Places) (step : Raising) → IsRaiseInRange step → Spares part p (raise_ask step)
 unfolding raise_ask
-raise_none p raise.AtRest range = tt
-raise_none p raise.LoadsEpoch range = tt
-raise_none p (raise.MeetsSlot slot) range = tt
-raise_none p (raise.HoldsSlot slot) range = inl (drain_none p slot range)
-raise_none p (raise.HasSlot slot) range = tt
-raise_none p (raise.RaisesEpoch slot) range = low_none p (shared_place one.Epoch) (omega arith)
+raise_spares part p (raise.HoldsSlot slot) range = inl (drain_outside part p slot range)
+raise_spares part p (raise.RaisesEpoch slot) range = inl (shared_outside part p one.Epoch (λ e. cc))
+raise_spares part p step range = tt
 
 -- what it asks tells one of the slots
 pub asks_range : (step : Raising) → HasSlotInRange (raise_ask step)
 unfolding raise_ask
 asks_range raise.AtRest = tt
-asks_range raise.LoadsEpoch = tt
-asks_range (raise.MeetsSlot slot) = tt
-asks_range (raise.HoldsSlot slot) = tt
-asks_range (raise.HasSlot slot) = tt
-asks_range (raise.RaisesEpoch slot) = tt
+asks_range step = tt
 
 -- an arming
 abbrev pub ArmsInRange : Arming → Type 0
@@ -145,11 +113,11 @@ ArmsInRange arm.AtRest = ⊤
 ArmsInRange (arm.PutsAction slot epoch) = slot < drain_slots
 ArmsInRange (arm.StoresEpoch slot epoch) = slot < drain_slots
 
-pub arm_none : (p : Places) (step : Arming) → ArmsInRange step → TouchesNoLatch p (arm_ask step)
+pub arm_spares : (part : Part) (p : Places) (step : Arming) → ArmsInRange step → Spares part p (arm_ask step)
 unfolding arm_ask
-arm_none p arm.AtRest range = tt
-arm_none p (arm.PutsAction slot epoch) range = tt
-arm_none p (arm.StoresEpoch slot epoch) range = drain_none p slot range
+arm_spares part p arm.AtRest range = tt
+arm_spares part p (arm.PutsAction slot epoch) range = tt
+arm_spares part p (arm.StoresEpoch slot epoch) range = drain_outside part p slot range
 
 pub arm_range : (step : Arming) → ArmsInRange step → ArmsInRange (arm_next step)
 unfolding arm_next

@@ -1,5 +1,5 @@
--- The machines of a commit leave the index as it is.
-use Rattle.std.proofs.Common.{◌≡◌, ℕ, ◌+◌, ◌<◌, ◌≤◌, refl, sym, subst, arith, List, [], ◌∷◌, ◌++◌, length, Bool, true, false}
+-- The machines of a commit spare each part.
+use Rattle.std.proofs.Common.{◌≡◌, ℕ, ◌+◌, ◌<◌, refl, sym, subst, arith, List, [], ◌∷◌, ◌++◌, length, Bool, true, false}
 use Rattle.std.specs.Prelude.{if◌then◌else◌, ◌==◌, nat_lt, nat_le, max, ⊤}
 use Rattle.std.proofs.lemmas.Bool.Decides.{nat_tests}
 use Rattle.fkv_base.specs.Limits.{last_version}
@@ -41,9 +41,10 @@ use Rattle.fkv_commit.specs.Seeking.{SeekState, owing_from, seek_begun, seeking_
 use Rattle.fkv_commit.specs.Starting as starts
 use Rattle.fkv_commit.specs.Starting.{StartState, start_begun, is_lost_full, starting_ask, start_ask, refused, phase_found, starting_next, start_next}
 use Rattle.fkv_commit.specs.Waiting.{WaitState, waiting_ask, wait_ask}
-use Rattle.law_parts.proofs.OfIndex.Leaves.{LeavesIndex, passed_spares}
-use Rattle.law_parts.proofs.OfIndex.Spares.{shared_elsewhere, session_elsewhere}
-use Rattle.law_parts.proofs.OfIndex.DeferSpares.{IsDeferSparing, defer_spares, defer_next_spares, defer_on_spares, defer_begun_spares}
+use Rattle.law_parts.specs.Footprint.{Part, HasSeats, Spares}
+use Rattle.law_parts.proofs.Footprint.Latching.{passed_spares}
+use Rattle.law_parts.proofs.Footprint.Outside.{shared_outside, own_outside, seat_of}
+use Rattle.law_parts.proofs.Footprint.Deferred.{IsDeferSparing, defer_spares, defer_next_spares, defer_on_spares, defer_begun_spares}
 
 -- how a commit starts
 abbrev pub StartBounds : StartState → Starting → Type 0
@@ -54,17 +55,15 @@ StartBounds s step = IsDeferSparing s.defer
 abbrev pub IsStartSparing : StartState → Type 0
 IsStartSparing s = StartBounds s s.step
 
-starting_spares : (p : Places) (s : StartState) (step : Starting) → StartBounds s step → LeavesIndex p (starting_ask s step)
+starting_spares : (part : Part) (p : Places) (s : StartState) (step : Starting) → StartBounds s step → Spares part p (starting_ask s step)
 unfolding starting_ask
-starting_spares p s (starting.Ended its) bounds = tt
-starting_spares p s starting.LoadsPhase bounds = tt
-starting_spares p s (starting.Seeks number) bounds = passed_spares p _ _ (defer_spares p s.defer bounds)
-starting_spares p s (starting.StoresPrepare number) bounds = shared_elsewhere p one.Phase (λ e. cc)
-starting_spares p s (starting.LoadsTail number) bounds = tt
-starting_spares p s (starting.Defers number first) bounds = passed_spares p _ _ (defer_spares p s.defer bounds)
+starting_spares part p s (starting.Seeks number) bounds = passed_spares part p _ _ (defer_spares part p s.defer bounds)
+starting_spares part p s (starting.StoresPrepare number) bounds = shared_outside part p one.Phase (λ e. cc)
+starting_spares part p s (starting.Defers number first) bounds = passed_spares part p _ _ (defer_spares part p s.defer bounds)
+starting_spares part p s step bounds = tt
 
-pub start_spares : (p : Places) (s : StartState) → IsStartSparing s → LeavesIndex p (start_ask s)
-start_spares p s bounds = starting_spares p s s.step bounds
+pub start_spares : (part : Part) (p : Places) (s : StartState) → IsStartSparing s → Spares part p (start_ask s)
+start_spares part p s bounds = starting_spares part p s s.step bounds
 
 start_stays : (s : StartState) (step : Starting) → s.step ≡ step → StartBounds s step → IsStartSparing s
 start_stays s step at bounds = subst (λ x. StartBounds s x) (sym at) bounds
@@ -119,14 +118,14 @@ EnterBounds s step = IsDeferSparing s.defer
 abbrev pub IsEnterSparing : EnterState → Type 0
 IsEnterSparing s = EnterBounds s s.step
 
-entering_spares : (p : Places) (s : EnterState) (step : Entering) → EnterBounds s step → LeavesIndex p (entering_ask s step)
+entering_spares : (part : Part) (p : Places) (s : EnterState) (step : Entering) → EnterBounds s step → Spares part p (entering_ask s step)
 unfolding entering_ask
-entering_spares p s (entering.Ended its) bounds = tt
-entering_spares p s entering.Seeks bounds = passed_spares p _ _ (defer_spares p s.defer bounds)
-entering_spares p s entering.Defers bounds = passed_spares p _ _ (defer_spares p s.defer bounds)
+entering_spares part p s (entering.Ended its) bounds = tt
+entering_spares part p s entering.Seeks bounds = passed_spares part p _ _ (defer_spares part p s.defer bounds)
+entering_spares part p s entering.Defers bounds = passed_spares part p _ _ (defer_spares part p s.defer bounds)
 
-pub enter_spares : (p : Places) (s : EnterState) → IsEnterSparing s → LeavesIndex p (enter_ask s)
-enter_spares p s bounds = entering_spares p s s.step bounds
+pub enter_spares : (part : Part) (p : Places) (s : EnterState) → IsEnterSparing s → Spares part p (enter_ask s)
+enter_spares part p s bounds = entering_spares part p s s.step bounds
 
 enter_stays : (s : EnterState) (step : Entering) → s.step ≡ step → EnterBounds s step → IsEnterSparing s
 enter_stays s step at bounds = subst (λ x. EnterBounds s x) (sym at) bounds
@@ -165,21 +164,16 @@ SeekBounds s step = IsDeferSparing s.defer
 abbrev pub IsSeekSparing : SeekState → Type 0
 IsSeekSparing s = SeekBounds s s.step
 
-seeking_spares : (p : Places) (s : SeekState) (step : Seeking) → SeekBounds s step → LeavesIndex p (seeking_ask s step)
+seeking_spares : (part : Part) (p : Places) (s : SeekState) (step : Seeking) → SeekBounds s step → Spares part p (seeking_ask s step)
 unfolding seeking_ask
-seeking_spares p s (seeking.Ended its) bounds = tt
-seeking_spares p s (seeking.LoadsOwing session) bounds = tt
-seeking_spares p s seeking.SeeksSlot bounds = passed_spares p _ _ (defer_spares p s.defer bounds)
-seeking_spares p s seeking.LoadsCut bounds = tt
-seeking_spares p s (seeking.LoadsOther first) bounds = tt
-seeking_spares p s seeking.LoadsAgain bounds = tt
-seeking_spares p s seeking.StoresWaitFlush bounds = shared_elsewhere p one.Phase (λ e. cc)
-seeking_spares p s seeking.LoadsTail bounds = tt
-seeking_spares p s (seeking.RaisesReadOnly end) bounds = shared_elsewhere p one.ReadOnly (λ e. cc)
-seeking_spares p s (seeking.Defers end) bounds = passed_spares p _ _ (defer_spares p s.defer bounds)
+seeking_spares part p s seeking.SeeksSlot bounds = passed_spares part p _ _ (defer_spares part p s.defer bounds)
+seeking_spares part p s seeking.StoresWaitFlush bounds = shared_outside part p one.Phase (λ e. cc)
+seeking_spares part p s (seeking.RaisesReadOnly end) bounds = shared_outside part p one.ReadOnly (λ e. cc)
+seeking_spares part p s (seeking.Defers end) bounds = passed_spares part p _ _ (defer_spares part p s.defer bounds)
+seeking_spares part p s step bounds = tt
 
-pub seek_spares : (p : Places) (s : SeekState) → IsSeekSparing s → LeavesIndex p (seek_ask s)
-seek_spares p s bounds = seeking_spares p s s.step bounds
+pub seek_spares : (part : Part) (p : Places) (s : SeekState) → IsSeekSparing s → Spares part p (seek_ask s)
+seek_spares part p s bounds = seeking_spares part p s s.step bounds
 
 seek_stays : (s : SeekState) (step : Seeking) → s.step ≡ step → SeekBounds s step → IsSeekSparing s
 seek_stays s step at bounds = subst (λ x. SeekBounds s x) (sym at) bounds
@@ -241,14 +235,14 @@ pub seek_begun_spares : (s : SeekState) (number : Version) → IsSeekSparing (se
 seek_begun_spares s number = owing_spares (record s { number = number; points = [] }) 0
 
 -- how it waits
-waiting_spares : (p : Places) (step : Waiting) → LeavesIndex p (waiting_ask step)
+waiting_spares : (part : Part) (p : Places) (step : Waiting) → Spares part p (waiting_ask step)
 unfolding waiting_ask
-waiting_spares p (waiting.Ended its) = tt
-waiting_spares p waiting.LoadsSafe = tt
-waiting_spares p waiting.LoadsFlushed = tt
+waiting_spares part p (waiting.Ended its) = tt
+waiting_spares part p waiting.LoadsSafe = tt
+waiting_spares part p waiting.LoadsFlushed = tt
 
-pub wait_spares : (p : Places) (s : WaitState) → LeavesIndex p (wait_ask s)
-wait_spares p s = waiting_spares p s.step
+pub wait_spares : (part : Part) (p : Places) (s : WaitState) → Spares part p (wait_ask s)
+wait_spares part p s = waiting_spares part p s.step
 
 -- how it finishes: the durable words are those of so many sessions
 abbrev pub FinishBounds : ℕ → Finishing → Type 0
@@ -256,14 +250,14 @@ FinishBounds n (finishing.Ended its) = ⊤
 FinishBounds n (finishing.StoresDurable session) = session < n
 FinishBounds n finishing.StoresRest = ⊤
 
-finishing_spares : (p : Places) (n : ℕ) (points : List Serial) (s : FinishState) (step : Finishing) → n ≤ p.sessions → FinishBounds n step → LeavesIndex p (finishing_ask points s step)
+finishing_spares : (part : Part) (p : Places) (n : ℕ) (points : List Serial) (s : FinishState) (step : Finishing) → HasSeats part p n → FinishBounds n step → Spares part p (finishing_ask points s step)
 unfolding finishing_ask
-finishing_spares p n points s (finishing.Ended its) few low = tt
-finishing_spares p n points s (finishing.StoresDurable session) few low = session_elsewhere p session own.Durable (omega (arith, few, low))
-finishing_spares p n points s finishing.StoresRest few low = shared_elsewhere p one.Phase (λ e. cc)
+finishing_spares part p n points s (finishing.Ended its) few low = tt
+finishing_spares part p n points s (finishing.StoresDurable session) few low = own_outside part p session own.Durable (seat_of part p n session few low) refl
+finishing_spares part p n points s finishing.StoresRest few low = shared_outside part p one.Phase (λ e. cc)
 
-pub finish_spares : (p : Places) (points : List Serial) (s : FinishState) → s.sessions ≤ p.sessions → FinishBounds s.sessions s.step → LeavesIndex p (finish_ask points s)
-finish_spares p points s few low = finishing_spares p s.sessions points s s.step few low
+pub finish_spares : (part : Part) (p : Places) (points : List Serial) (s : FinishState) → HasSeats part p s.sessions → FinishBounds s.sessions s.step → Spares part p (finish_ask points s)
+finish_spares part p points s few low = finishing_spares part p s.sessions points s s.step few low
 
 durable_spares : (n session : ℕ) → FinishBounds n (durable_from n session)
 unfolding durable_from

@@ -1,10 +1,10 @@
--- What every turn of the keeper does leaves the index as it is.
-use Rattle.std.proofs.Common.{◌≡◌, ℕ, ◌≤◌, refl, sym, subst, arith, Bool, true, false}
+-- What every turn of the keeper does spares each part, but the mailbox that it serves.
+use Rattle.std.proofs.Common.{◌≡◌, ℕ, refl, sym, subst, arith, Bool, true, false}
 use Rattle.std.specs.Prelude.{⊤, List}
 use Rattle.fkv_base.specs.declared.shapes.Shape.{Shape}
 use Rattle.fkv_plane.specs.declared.actions.Action.{Action}
 use Rattle.fkv_plane.specs.declared.asks.Ask.{Ask}
-use Rattle.fkv_plane.specs.declared.asks.Ask.TheVariants.{Load, Store, Swap, Cas, Add, Max, Put, Take, Done}
+use Rattle.fkv_plane.specs.declared.asks.Ask.TheVariants.{Done}
 use Rattle.fkv_plane.specs.declared.places.Places.{Places}
 use Rattle.fkv_plane.specs.Passing.{passed}
 use Rattle.fkv_epoch.specs.Claiming.{IsClaimInRange, claim_next, claim_given}
@@ -22,10 +22,12 @@ use Rattle.fkv_log.specs.Turning.{turn_next}
 use Rattle.fkv_maintain.specs.declared.maintaining.Maintaining.{Maintaining}
 use Rattle.fkv_maintain.specs.declared.maintaining.Maintaining.TheVariants.{Through, Spent, Broken, Scans, Claims, Flushes, Shifts, Turns, Serves}
 use Rattle.fkv_maintain.specs.Maintaining.{MaintainState, maintain_begun, device_asked, maintaining_ask, maintain_ask, scan_ledto, claim_ledto, flush_ledto, shift_ledto, serve_ledto, serve_begun, turn_ledto, maintaining_next, maintain_next, maintaining_given, maintain_given, maintaining_called, maintain_called}
-use Rattle.law_parts.proofs.OfIndex.Leaves.{LeavesIndex, passed_spares}
-use Rattle.law_parts.proofs.OfIndex.EpochSpares.{scan_spares, claim_spares, claim_range, claim_given_range}
-use Rattle.law_parts.proofs.OfIndex.MoveSpares.{IsShiftInRange, shift_spares, shift_range, IsTurnInRange, turn_spares, turn_range}
-use Rattle.law_parts.proofs.OfIndex.ServeSpares.{flush_spares, ServesBelow, serve_spares, mailbox_below, serve_below, read_below}
+use Rattle.law_parts.specs.Mail.Servers.{maintain_serving}
+use Rattle.law_parts.specs.Footprint.{Part, HasSeats, Spares}
+use Rattle.law_parts.proofs.Footprint.Latching.{passed_spares}
+use Rattle.law_parts.proofs.Footprint.Epochs.{scan_spares, claim_spares, claim_range, claim_given_range}
+use Rattle.law_parts.proofs.Footprint.Moves.{IsShiftInRange, shift_spares, shift_range, IsTurnInRange, turn_spares, turn_range}
+use Rattle.law_parts.proofs.Footprint.Serves.{flush_spares, ServesBelow, IsServedNot, serve_spares, mailbox_below, serve_below, read_below}
 
 -- the drain slots are those that there are, and the mailboxes those of so many sessions
 abbrev pub MaintainBounds : ℕ → MaintainState → Maintaining → Type 0
@@ -38,33 +40,25 @@ MaintainBounds n s step = ⊤
 abbrev pub IsMaintainSparing : ℕ → MaintainState → Type 0
 IsMaintainSparing n s = MaintainBounds n s s.step
 
-device_spares : (p : Places) (ask : Ask DeviceAnswer) → LeavesIndex p ask → LeavesIndex p (device_asked ask)
+-- what it asks for
+device_spares : (part : Part) (p : Places) (ask : Ask DeviceAnswer) → Spares part p ask → Spares part p (device_asked ask)
 unfolding device_asked passed
-device_spares p (Done device.Device) leaves = tt
-device_spares p (Done device.Through) leaves = tt
-device_spares p (Load place) leaves = leaves
-device_spares p (Store place word) leaves = leaves
-device_spares p (Swap place word) leaves = leaves
-device_spares p (Cas place old new) leaves = leaves
-device_spares p (Add place number) leaves = leaves
-device_spares p (Max place number) leaves = leaves
-device_spares p (Put slot action) leaves = leaves
-device_spares p (Take slot) leaves = leaves
+device_spares part p (Done device.Device) spares = tt
+device_spares part p (Done device.Through) spares = tt
+device_spares part p ask spares = spares
 
-maintaining_spares : (shape : Shape) (p : Places) (n : ℕ) (s : MaintainState) (step : Maintaining) → n ≤ p.sessions → MaintainBounds n s step → LeavesIndex p (maintaining_ask shape p s step)
+maintaining_spares : (part : Part) (shape : Shape) (p : Places) (n : ℕ) (s : MaintainState) (step : Maintaining) → HasSeats part p n → MaintainBounds n s step → IsServedNot part (maintain_serving s step) → Spares part p (maintaining_ask shape p s step)
 unfolding maintaining_ask
-maintaining_spares shape p n s Through few bounds = tt
-maintaining_spares shape p n s Spent few bounds = tt
-maintaining_spares shape p n s Broken few bounds = tt
-maintaining_spares shape p n s Scans few bounds = passed_spares p _ _ (scan_spares p s.scanning)
-maintaining_spares shape p n s Claims few bounds = passed_spares p _ _ (claim_spares p s.claiming bounds)
-maintaining_spares shape p n s Flushes few bounds = device_spares p (flush_ask p s.flushing) (flush_spares p s.flushing)
-maintaining_spares shape p n s Shifts few bounds = passed_spares p _ _ (shift_spares p s.shift bounds)
-maintaining_spares shape p n s Turns few bounds = passed_spares p _ _ (turn_spares p shape s.turn bounds)
-maintaining_spares shape p n s Serves few bounds = device_spares p (serve_ask s.serving) (serve_spares p n s.serving few bounds)
+maintaining_spares part shape p n s Scans few bounds none = passed_spares part p _ _ (scan_spares part p s.scanning)
+maintaining_spares part shape p n s Claims few bounds none = passed_spares part p _ _ (claim_spares part p s.claiming bounds)
+maintaining_spares part shape p n s Flushes few bounds none = device_spares part p (flush_ask p s.flushing) (flush_spares part p s.flushing)
+maintaining_spares part shape p n s Shifts few bounds none = passed_spares part p _ _ (shift_spares part p s.shift bounds)
+maintaining_spares part shape p n s Turns few bounds none = passed_spares part p _ _ (turn_spares part p shape s.turn bounds)
+maintaining_spares part shape p n s Serves few bounds none = device_spares part p (serve_ask s.serving) (serve_spares part p n s.serving few bounds none)
+maintaining_spares part shape p n s step few bounds none = tt
 
-pub maintain_spares : (shape : Shape) (p : Places) (n : ℕ) (s : MaintainState) → n ≤ p.sessions → IsMaintainSparing n s → LeavesIndex p (maintain_ask shape p s)
-maintain_spares shape p n s few bounds = maintaining_spares shape p n s s.step few bounds
+pub maintain_spares : (part : Part) (shape : Shape) (p : Places) (n : ℕ) (s : MaintainState) → HasSeats part p n → IsMaintainSparing n s → IsServedNot part (maintain_serving s s.step) → Spares part p (maintain_ask shape p s)
+maintain_spares part shape p n s few bounds none = maintaining_spares part shape p n s s.step few bounds none
 
 -- where a reply leads
 stays_spares : (n : ℕ) (s : MaintainState) (step : Maintaining) → s.step ≡ step → MaintainBounds n s step → IsMaintainSparing n s
@@ -115,9 +109,7 @@ next_spares shape p s Flushes reply at bounds = flushed shape.sessions (record s
 next_spares shape p s Shifts reply at bounds = shifted shape.sessions (record s { shift = shift_next shape s.shift reply }) _ at (shift_range shape s.shift reply bounds)
 next_spares shape p s Turns reply at bounds = turned shape (record s { turn = turn_next shape s.turn reply }) _ at (turn_range shape s.turn reply bounds)
 next_spares shape p s Serves reply at bounds = served shape.sessions (record s { serving = serve_next shape.sessions s.serving reply }) _ at (serve_below shape.sessions s.serving reply bounds)
-next_spares shape p s Through reply at bounds = stays_spares shape.sessions s Through at tt
-next_spares shape p s Spent reply at bounds = stays_spares shape.sessions s Spent at tt
-next_spares shape p s Broken reply at bounds = stays_spares shape.sessions s Broken at tt
+next_spares shape p s step reply at bounds = stays_spares shape.sessions s step at tt
 
 -- each reply, each action, and each call of the device
 pub maintain_next_spares : (shape : Shape) (p : Places) (s : MaintainState) (reply : ℕ) → IsMaintainSparing shape.sessions s → IsMaintainSparing shape.sessions (maintain_next shape p s reply)
@@ -126,14 +118,7 @@ maintain_next_spares shape p s reply bounds = next_spares shape p s s.step reply
 given_spares : (n : ℕ) (s : MaintainState) (step : Maintaining) (action : Action) → s.step ≡ step → MaintainBounds n s step → IsMaintainSparing n (maintaining_given s step action)
 unfolding maintaining_given
 given_spares n s Claims action at bounds = claimed n (record s { claiming = claim_given s.claiming action }) _ at (claim_given_range s.claiming action bounds)
-given_spares n s Through action at bounds = stays_spares n s Through at bounds
-given_spares n s Spent action at bounds = stays_spares n s Spent at bounds
-given_spares n s Broken action at bounds = stays_spares n s Broken at bounds
-given_spares n s Scans action at bounds = stays_spares n s Scans at bounds
-given_spares n s Flushes action at bounds = stays_spares n s Flushes at bounds
-given_spares n s Shifts action at bounds = stays_spares n s Shifts at bounds
-given_spares n s Turns action at bounds = stays_spares n s Turns at bounds
-given_spares n s Serves action at bounds = stays_spares n s Serves at bounds
+given_spares n s step action at bounds = stays_spares n s step at bounds
 
 pub maintain_given_spares : (n : ℕ) (s : MaintainState) (action : Action) → IsMaintainSparing n s → IsMaintainSparing n (maintain_given s action)
 maintain_given_spares n s action bounds = given_spares n s s.step action refl bounds

@@ -1,4 +1,4 @@
--- A session's own turn writes no word of a mailbox.
+-- A session's own turn spares each part.
 use Rattle.std.proofs.Common.{◌≡◌, ℕ, refl, sym, subst, arith}
 use Rattle.std.specs.Prelude.{⊤}
 use Rattle.fkv_base.specs.declared.shapes.Shape.{Shape}
@@ -15,10 +15,12 @@ use Rattle.fkv_log.specs.Turning.{turn_next}
 use Rattle.fkv_session.specs.declared.own_turns.OwnTurning.{OwnTurning}
 use Rattle.fkv_session.specs.declared.own_turns.OwnTurning.TheVariants.{Ended, Scans, Claims, Shifts, Opens}
 use Rattle.fkv_session.specs.OwnTurns.{OwnTurnState, own_turn_begun, own_turning_ask, own_turn_ask, scan_ledto, claim_ledto, shift_ledto, open_ledto, own_turning_next, own_turn_next, own_turning_given, own_turn_given}
-use Rattle.law_parts.proofs.OfMail.Leaves.{LeavesMail, passed_spares}
-use Rattle.law_parts.proofs.OfMail.EpochSpares.{scan_spares, claim_spares, claim_range, claim_given_range}
-use Rattle.law_parts.proofs.OfMail.MoveSpares.{IsShiftInRange, shift_spares, shift_range, IsTurnInRange, turn_spares, turn_range}
+use Rattle.law_parts.specs.Footprint.{Part, Spares}
+use Rattle.law_parts.proofs.Footprint.Latching.{passed_spares}
+use Rattle.law_parts.proofs.Footprint.Epochs.{scan_spares, claim_spares, claim_range, claim_given_range}
+use Rattle.law_parts.proofs.Footprint.Moves.{IsShiftInRange, shift_spares, shift_range, IsTurnInRange, turn_spares, turn_range}
 
+-- its drain slots are those that there are
 abbrev pub TurnBounds : OwnTurnState → OwnTurning → Type 0
 TurnBounds o Claims = IsClaimInRange o.claiming
 TurnBounds o Shifts = IsShiftInRange o.shift
@@ -28,16 +30,17 @@ TurnBounds o step = ⊤
 abbrev pub IsOwnTurnSparing : OwnTurnState → Type 0
 IsOwnTurnSparing o = TurnBounds o o.step
 
-turning_spares : (p : Places) (shape : Shape) (o : OwnTurnState) (step : OwnTurning) → TurnBounds o step → LeavesMail p (own_turning_ask shape o step)
+-- what it asks for
+turning_spares : (part : Part) (p : Places) (shape : Shape) (o : OwnTurnState) (step : OwnTurning) → TurnBounds o step → Spares part p (own_turning_ask shape o step)
 unfolding own_turning_ask
-turning_spares p shape o Ended bounds = tt
-turning_spares p shape o Scans bounds = passed_spares p _ _ (scan_spares p o.scanning)
-turning_spares p shape o Claims bounds = passed_spares p _ _ (claim_spares p o.claiming bounds)
-turning_spares p shape o Shifts bounds = passed_spares p _ _ (shift_spares p o.shift bounds)
-turning_spares p shape o Opens bounds = passed_spares p _ _ (turn_spares p shape o.turn bounds)
+turning_spares part p shape o Ended bounds = tt
+turning_spares part p shape o Scans bounds = passed_spares part p _ _ (scan_spares part p o.scanning)
+turning_spares part p shape o Claims bounds = passed_spares part p _ _ (claim_spares part p o.claiming bounds)
+turning_spares part p shape o Shifts bounds = passed_spares part p _ _ (shift_spares part p o.shift bounds)
+turning_spares part p shape o Opens bounds = passed_spares part p _ _ (turn_spares part p shape o.turn bounds)
 
-pub own_turn_spares : (p : Places) (shape : Shape) (o : OwnTurnState) → IsOwnTurnSparing o → LeavesMail p (own_turn_ask shape o)
-own_turn_spares p shape o bounds = turning_spares p shape o o.step bounds
+pub own_turn_spares : (part : Part) (p : Places) (shape : Shape) (o : OwnTurnState) → IsOwnTurnSparing o → Spares part p (own_turn_ask shape o)
+own_turn_spares part p shape o bounds = turning_spares part p shape o o.step bounds
 
 stays_spares : (o : OwnTurnState) (step : OwnTurning) → o.step ≡ step → TurnBounds o step → IsOwnTurnSparing o
 stays_spares o step at bounds = subst (λ x. TurnBounds o x) (sym at) bounds
@@ -77,10 +80,7 @@ own_turn_next_spares shape o reply bounds = next_spares shape o o.step reply ref
 given_spares : (o : OwnTurnState) (step : OwnTurning) (action : Action) → o.step ≡ step → TurnBounds o step → IsOwnTurnSparing (own_turning_given o step action)
 unfolding own_turning_given
 given_spares o Claims action at bounds = claimed (record o { claiming = claim_given o.claiming action }) _ at (claim_given_range o.claiming action bounds)
-given_spares o Ended action at bounds = stays_spares o Ended at bounds
-given_spares o Scans action at bounds = stays_spares o Scans at bounds
-given_spares o Shifts action at bounds = stays_spares o Shifts at bounds
-given_spares o Opens action at bounds = stays_spares o Opens at bounds
+given_spares o step action at bounds = stays_spares o step at bounds
 
 pub own_turn_given_spares : (o : OwnTurnState) (action : Action) → IsOwnTurnSparing o → IsOwnTurnSparing (own_turn_given o action)
 own_turn_given_spares o action bounds = given_spares o o.step action refl bounds

@@ -1,5 +1,5 @@
--- An attempt writes no word of a mailbox but where its mail is under way.
-use Rattle.std.proofs.Common.{◌≡◌, ℕ, refl, sym, subst, Bool, true, false}
+-- An attempt spares each part but where it works there: in its try, and in a task with its session's mailbox.
+use Rattle.std.proofs.Common.{◌≡◌, ◌≢◌, ℕ, refl, sym, subst, Bool, true, false}
 use Rattle.std.specs.Prelude.{if◌then◌else◌, ◌==◌, ⊤, Option, Some, None}
 use Rattle.fkv_map.specs.Keys.{key_of}
 use Rattle.fkv_plane.specs.declared.asks.Ask.{Ask}
@@ -27,33 +27,64 @@ use Rattle.fkv_pending.specs.Mailing.{mail_ask, mail_next}
 use Rattle.fkv_pending.specs.Pending.{with_sought, with_held, with_latch, with_asked}
 use Rattle.fkv_pending.specs.Attempting.{AttemptState, attempting_ask, attempt_ask, attempt_ended, waits_for_disk, puts_addr, puts, tries, is_seeking_read, goes_on, attempt_begun, held_of, moved_on, read_on, record_taken, look_ledto, held_kept, tried, try_ledto, put_ledto, mail_moved, try_moved, attempting_next, attempt_next}
 use Rattle.law_parts.specs.Mail.Mailers.{attempt_mailing}
-use Rattle.law_parts.proofs.OfMail.Leaves.{LeavesMail, passed_spares}
-use Rattle.law_parts.proofs.OfMail.TrySpares.{IsTrySparing, try_spares, try_next_spares, try_begun_spares}
+use Rattle.fkv_plane.specs.declared.places.SessionWord.TheVariants as own
+use Rattle.fkv_latch.specs.declared.latching.Latching.TheVariants as latching
+use Rattle.fkv_pending.specs.declared.mailing.Mailing.{Mailing}
+use Rattle.law_parts.specs.Footprint.{Part, TheIndex, TheLatches, TheMailbox, HasSeat, Spares}
+use Rattle.law_parts.specs.Index.Finders.{attempt_part, search_in, entry_in}
+use Rattle.law_parts.specs.Latches.Latchers.{attempt_latching}
+use Rattle.law_parts.proofs.Footprint.Latching.{passed_spares}
+use Rattle.law_parts.proofs.Footprint.Outside.{other_outside}
+use Rattle.law_parts.proofs.OfIndex.AttemptParts.{AttemptKnows}
+use Rattle.law_parts.proofs.Footprint.Tries.{IsTrySparing, try_spares, try_next_spares, try_begun_spares}
 
-abbrev pub AttemptLeaves : Places → AttemptState → Attempting → Type 0
-AttemptLeaves p a Tries = IsTrySparing p a.trial
-AttemptLeaves p a step = ⊤
+-- its try keeps to its bounds
+abbrev pub AttemptBounds : Places → AttemptState → Attempting → Type 0
+AttemptBounds p a Tries = IsTrySparing p a.trial
+AttemptBounds p a step = ⊤
 
 abbrev pub IsAttemptSparing : Places → AttemptState → Type 0
-IsAttemptSparing p a = AttemptLeaves p a a.step
+IsAttemptSparing p a = AttemptBounds p a a.step
 
-attempting_spares : (p : Places) (n : ℕ) (a : AttemptState) (step : Attempting) → AttemptLeaves p a step → attempt_mailing a step ≡ None → LeavesMail p (attempting_ask p n a step)
+-- no machine that works on the part is under way
+pub record AttemptRests (part : Part) (p : Places) (n : ℕ) (a : AttemptState) (step : Attempting) : Type 0 where
+  pub knows : part ≡ TheIndex → AttemptKnows p a step
+  pub search : part ≡ TheIndex → search_in (attempt_part a step).work ≡ None
+  pub entry : part ≡ TheIndex → entry_in (attempt_part a step).work ≡ None
+  pub latch : part ≡ TheLatches → attempt_latching a step ≡ latching.AtRest
+  pub mail : part ≡ TheMailbox n → attempt_mailing a step ≡ None
+
+-- a task with a mailbox
+pub mail_spares : (part : Part) (p : Places) (n : ℕ) (step : Mailing) → HasSeat part p n → part ≢ TheMailbox n → Spares part p (mail_ask n step)
+unfolding mail_ask
+mail_spares part p n (mailing.StoresEmpty its) there other = other_outside part p n own.MailState there other
+mail_spares part p n (mailing.StoresAddress addr) there other = other_outside part p n own.MailAddress there other
+mail_spares part p n mailing.StoresAsked there other = other_outside part p n own.MailState there other
+mail_spares part p n step there other = tt
+
+-- where one is under way, no part is its mailbox
+pub is_other : (part : Part) (n : ℕ) (its : Mailing) → (part ≡ TheMailbox n → Some its ≡ None) → part ≢ TheMailbox n
+is_other part n its none = λ same. let clash : Some its ≡ None = none same in cc
+
+-- what it asks for
+attempting_spares : (part : Part) (p : Places) (n : ℕ) (a : AttemptState) (step : Attempting) → HasSeat part p n → AttemptBounds p a step → AttemptRests part p n a step → Spares part p (attempting_ask p n a step)
 unfolding attempting_ask
-attempting_spares p n a (Ended its) leaves none = tt
-attempting_spares p n a Looks leaves none = cc
-attempting_spares p n a Tries leaves none = passed_spares p _ _ (try_spares p a.trial leaves)
-attempting_spares p n a Puts leaves none = cc
+attempting_spares part p n a (Ended its) there bounds rests = tt
+attempting_spares part p n a Looks there bounds rests = passed_spares part p _ _ (mail_spares part p n a.mailing there (is_other part n a.mailing rests.mail))
+attempting_spares part p n a Tries there bounds rests =
+    passed_spares part p _ _ (try_spares part p a.trial bounds (record { knows = λ index. (rests.knows index).at; search = rests.search; entry = rests.entry; latch = rests.latch }))
+attempting_spares part p n a Puts there bounds rests = passed_spares part p _ _ (mail_spares part p n a.mailing there (is_other part n a.mailing rests.mail))
 
-pub attempt_spares : (p : Places) (n : ℕ) (a : AttemptState) → IsAttemptSparing p a → attempt_mailing a a.step ≡ None → LeavesMail p (attempt_ask p n a)
-attempt_spares p n a leaves none = attempting_spares p n a a.step leaves none
+pub attempt_spares : (part : Part) (p : Places) (n : ℕ) (a : AttemptState) → HasSeat part p n → IsAttemptSparing p a → AttemptRests part p n a a.step → Spares part p (attempt_ask p n a)
+attempt_spares part p n a there bounds rests = attempting_spares part p n a a.step there bounds rests
 
 -- where a reply leads
 either_spares : (c : Bool) (p : Places) (a b : AttemptState) → IsAttemptSparing p a → IsAttemptSparing p b → IsAttemptSparing p (if c then a else b)
 either_spares true p a b one other = one
 either_spares false p a b one other = other
 
-stays_spares : (p : Places) (a : AttemptState) (step : Attempting) → a.step ≡ step → AttemptLeaves p a step → IsAttemptSparing p a
-stays_spares p a step at leaves = subst (λ x. AttemptLeaves p a x) (sym at) leaves
+stays_spares : (p : Places) (a : AttemptState) (step : Attempting) → a.step ≡ step → AttemptBounds p a step → IsAttemptSparing p a
+stays_spares p a step at bounds = subst (λ x. AttemptBounds p a x) (sym at) bounds
 
 puts_spares : (p : Places) (a : AttemptState) (sought : Option DiskRecord) → IsAttemptSparing p (puts_addr a sought)
 puts_spares p a None = tt
@@ -99,27 +130,24 @@ tried_spares p a (answer.AwaitsDisk sought) =
     let kept : AttemptState = record a { pending = with_held a.pending (held_kept a.pending.request.held sought.entry) } in
     let moved : AttemptState = record kept { pending = with_sought kept.pending (Some sought) } in
     either_spares a.pending.has_asked p (waits_for_disk kept) (puts moved) tt (puts_spares p moved moved.pending.sought)
-tried_spares p a (answer.Wait why) = tt
 tried_spares p a its = tt
 
 try_ledto_spares : (p : Places) (a : AttemptState) (ask : Ask TryAnswer) → a.step ≡ Tries → IsTrySparing p a.trial → IsAttemptSparing p (try_ledto a ask)
 unfolding try_ledto
-try_ledto_spares p a (Done its) at leaves = tried_spares p (record a { spare = a.trial.spare; pending = with_latch a.pending a.trial.has_shared }) its
-try_ledto_spares p a ask at leaves = stays_spares p a Tries at leaves
+try_ledto_spares p a (Done its) at bounds = tried_spares p (record a { spare = a.trial.spare; pending = with_latch a.pending a.trial.has_shared }) its
+try_ledto_spares p a ask at bounds = stays_spares p a Tries at bounds
 
-next_spares : (p : Places) (bits room n : ℕ) (a : AttemptState) (step : Attempting) (reply : ℕ) → a.step ≡ step → AttemptLeaves p a step → IsAttemptSparing p (attempting_next p bits room n a step reply)
+next_spares : (p : Places) (bits room n : ℕ) (a : AttemptState) (step : Attempting) (reply : ℕ) → a.step ≡ step → AttemptBounds p a step → IsAttemptSparing p (attempting_next p bits room n a step reply)
 unfolding attempting_next
-next_spares p bits room n a (Ended its) reply at leaves = stays_spares p a (Ended its) at tt
-next_spares p bits room n a Looks reply at leaves = look_spares p bits (mail_moved a reply) (mail_ask n (mail_next a.mailing reply)) at
-next_spares p bits room n a Tries reply at leaves = try_ledto_spares p (try_moved p room a reply) (try_ask p (try_next p room a.trial reply)) at (try_next_spares p room a.trial reply leaves)
-next_spares p bits room n a Puts reply at leaves = put_spares p (mail_moved a reply) (mail_ask n (mail_next a.mailing reply)) at
+next_spares p bits room n a (Ended its) reply at bounds = stays_spares p a (Ended its) at tt
+next_spares p bits room n a Looks reply at bounds = look_spares p bits (mail_moved a reply) (mail_ask n (mail_next a.mailing reply)) at
+next_spares p bits room n a Tries reply at bounds = try_ledto_spares p (try_moved p room a reply) (try_ask p (try_next p room a.trial reply)) at (try_next_spares p room a.trial reply bounds)
+next_spares p bits room n a Puts reply at bounds = put_spares p (mail_moved a reply) (mail_ask n (mail_next a.mailing reply)) at
 
-effect_spares : (p : Places) (a : AttemptState) (step : Attempting) → AttemptLeaves p a step → AttemptLeaves p (record a { effect = None }) step
-effect_spares p a Tries leaves = leaves
-effect_spares p a (Ended its) leaves = tt
-effect_spares p a Looks leaves = tt
-effect_spares p a Puts leaves = tt
+effect_spares : (p : Places) (a : AttemptState) (step : Attempting) → AttemptBounds p a step → AttemptBounds p (record a { effect = None }) step
+effect_spares p a Tries bounds = bounds
+effect_spares p a step bounds = tt
 
 -- each reply
 pub attempt_next_spares : (p : Places) (bits room n : ℕ) (a : AttemptState) (reply : ℕ) → IsAttemptSparing p a → IsAttemptSparing p (attempt_next p bits room n a reply)
-attempt_next_spares p bits room n a reply leaves = next_spares p bits room n (record a { effect = None }) a.step reply refl (effect_spares p a a.step leaves)
+attempt_next_spares p bits room n a reply bounds = next_spares p bits room n (record a { effect = None }) a.step reply refl (effect_spares p a a.step bounds)

@@ -1,0 +1,18 @@
+mod Appends
+mod Attempts
+mod Catches
+mod Commits
+mod Deferred
+mod Epochs
+mod Finds
+mod Keepers
+mod Latching
+pub mod Lives
+mod Maintains
+mod Moves
+mod Outside
+mod OwnTurns
+mod Serves
+pub mod Sessions
+mod Tries
+mod Walks

@@ -1,0 +1,73 @@
+-- What holds at each moment of a session's own run holds of it at each moment of a life, and so for the keeper. So each ask of the keeper's
+-- spares each part, but the mailbox that it is at.
+use Rattle.std.proofs.Common.{◌≡◌, ℕ, ◌∙◌, refl, sym, ap, subst, arith, List, [], ◌∷◌, Bool, true, false}
+use Rattle.std.specs.Prelude.{Option, Some, None, slice_get}
+use Rattle.std.proofs.lemmas.Bool.Decides.{nat_tests}
+use Rattle.fkv_base.specs.declared.shapes.Shape.{Shape}
+use Rattle.fkv_map.specs.declared.operations.Call.TheVariants.{Refresh}
+use Rattle.fkv_plane.specs.declared.places.Places.{Places}
+use Rattle.fkv_keeper.specs.KeeperRun as keeper
+use Rattle.fkv_keeper.specs.Keeping.{KeeperState, keeper_ask}
+use Rattle.fkv_session.specs.Sessions.{SessionState, Seat}
+use Rattle.fkv_session.specs.SessionRun.{session_run}
+use Rattle.fkv_world.specs.Actors.{is_of_session}
+use Rattle.fkv_world.specs.OwnEvents.{keeper_events, session_events}
+use Rattle.fkv_world.specs.Runs.{World, happens, run}
+use Rattle.fkv_world.specs.World.{Event, Calls, Moves, seat_at}
+use Rattle.fkv_world.proofs.Shown.{keeper_runs, session_runs, same_seat, session_apart, places_stay, shape_stays}
+use Rattle.law_world.proofs.OfRuns.Nothing.{no_session}
+use Rattle.law_parts.specs.Footprint.{Part, HasSeats, Spares}
+use Rattle.law_parts.specs.Mail.Servers.{serving_of}
+use Rattle.law_parts.proofs.Footprint.Keepers.{IsKeeperSparing, keeper_asks_spares, keeper_run_spares}
+use Rattle.law_parts.proofs.Footprint.Serves.{IsServedNot}
+
+-- a session that isn't there as a life begins never comes
+pub other_stays : (w : World) (event : Event) (number : ℕ) (mine : Bool) → is_of_session number event ≡ mine → slice_get w.now.sessions number ≡ None → slice_get (happens w event).now.sessions number ≡ None
+other_stays w event number false e none = session_apart w event number e ∙ none
+other_stays w (Calls at call) number true e none =
+    let same : at ≡ number = grind (arith, nat_tests, e) in
+    ap (λ (x : World). slice_get x.now.sessions number) (no_session w at call (ap (slice_get w.now.sessions) same ∙ none)).0 ∙ none
+other_stays w (Moves at) number true e none =
+    let same : at ≡ number = grind (arith, nat_tests, e) in
+    ap (λ (x : World). slice_get x.now.sessions number) (no_session w at Refresh (ap (slice_get w.now.sessions) same ∙ none)).1 ∙ none
+other_stays w event number true e none = cc
+
+pub none_stays : (opening : World) (events : List Event) (number : ℕ) → slice_get opening.now.sessions number ≡ None → slice_get (run opening events).now.sessions number ≡ None
+unfolding run
+none_stays opening [] number none = none
+none_stays opening (event ∷ before) number none = other_stays (run opening before) event number (is_of_session number event) refl (none_stays opening before number none)
+
+-- an item of a list is one
+no_item : {X : Type 0} {A : Type 0} (found : Option X) (its : X) → found ≡ None → found ≡ Some its → A
+no_item found its none some = let clash : None ≡ Some its = sym none ∙ some in cc
+
+some_same : {X : Type 0} {found : Option X} {x y : X} → found ≡ Some x → found ≡ Some y → x ≡ y
+some_same one other = let same : ◌≡◌ {A = Option _} (Some _) (Some _) = sym one ∙ other in cc
+
+-- of each session
+pub at_each_moment : (Q : Seat → SessionState → Type 0) (opening : World) (events : List Event) (i : ℕ) (s : SessionState)
+    → ((first : SessionState) → slice_get opening.now.sessions i ≡ Some first → Q (seat_at opening.now i) (session_run (seat_at opening.now i) first (session_events opening i events)))
+    → slice_get (run opening events).now.sessions i ≡ Some s → Q (seat_at (run opening events).now i) s
+at_each_moment Q opening events i s ran is = by_first (slice_get opening.now.sessions i) refl
+  where
+    by_first : (first : Option SessionState) → slice_get opening.now.sessions i ≡ first → Q (seat_at (run opening events).now i) s
+    by_first None none = no_item _ s (none_stays opening events i none) is
+    by_first (Some first) was =
+        let now : s ≡ session_run (seat_at opening.now i) first (session_events opening i events) = some_same is (session_runs opening i first events was) in
+        let so : Q (seat_at opening.now i) s = subst (λ (x : SessionState). Q (seat_at opening.now i) x) (sym now) (ran first was) in
+        subst (λ (k : Seat). Q k s) (sym (same_seat opening events i)) so
+
+-- of the keeper
+keeper_spared : (opening : World) (events : List Event) → keeper.IsOpened opening.now.keeper → IsKeeperSparing opening.now.shape.sessions opening.now.keeper.finish.sessions (run opening events).now.keeper
+keeper_spared opening events opened =
+    let most : ℕ = opening.now.keeper.finish.sessions in
+    let ran = keeper_run_spares most opening.now.shape opening.now.places opening.now.keeper (keeper_events opening events) opened (omega arith) in
+    subst (λ (s : KeeperState). IsKeeperSparing opening.now.shape.sessions most s) (sym (keeper_runs opening events)) ran
+
+pub keeper_spares : (part : Part) (opening : World) (events : List Event) → keeper.IsOpened opening.now.keeper → HasSeats part opening.now.places opening.now.shape.sessions → HasSeats part opening.now.places opening.now.keeper.finish.sessions
+    → IsServedNot part (serving_of (run opening events).now.keeper) → Spares part (run opening events).now.places (keeper_ask (run opening events).now.shape (run opening events).now.places (run opening events).now.keeper)
+keeper_spares part opening events opened served finished none =
+    let s : KeeperState = (run opening events).now.keeper in
+    let its : Spares part opening.now.places (keeper_ask opening.now.shape opening.now.places s) = keeper_asks_spares part opening.now.shape opening.now.places opening.now.keeper.finish.sessions s served finished (keeper_spared opening events opened) none in
+    subst (λ (shape : Shape). Spares part (run opening events).now.places (keeper_ask shape (run opening events).now.places s)) (sym (shape_stays opening events))
+    (subst (λ (p : Places). Spares part p (keeper_ask opening.now.shape p s)) (sym (places_stay opening events)) its)

@@ -1,0 +1,65 @@
+-- The parts of the words that a law follows by itself, and the frame condition: which asks leave a part as it is, whatever its words are.
+use Rattle.std.specs.Prelude.{◌≡◌, ◌≢◌, ◌⊎◌, ◌<◌, ◌≤◌, ◌%◌, ◌^◌, ℕ, ⊤, false}
+use Rattle.fkv_plane.specs.declared.asks.Ask.{Ask}
+use Rattle.fkv_plane.specs.declared.asks.Ask.TheVariants.{Load, Store, Swap, Cas, Add, Max, Put, Take, Done}
+use Rattle.fkv_plane.specs.declared.places.Places.{Places}
+use Rattle.fkv_plane.specs.declared.places.SharedWord.TheVariants as one
+use Rattle.fkv_plane.specs.Places.{shared_place, bucket_place}
+use Rattle.fkv_index.specs.IndexWorld.{is_bucket_place}
+use Rattle.fkv_index.specs.Slots.{link_of}
+use Rattle.fkv_latch.specs.LatchWorld.{has_latch, latch_of}
+use Rattle.fkv_pending.specs.MailWorld.{is_mail_place}
+
+-- the index, the latches of its buckets, and the mailbox of one session
+pub data Part : Type 0 where
+  TheIndex : Part
+  TheLatches : Part
+  TheMailbox : ℕ → Part
+
+-- neither the count of taken overflow buckets nor a word of a bucket is there
+pub record IsElsewhere (p : Places) (place : ℕ) : Type 0 where
+  pub no_count : place ≢ shared_place one.Taken
+  pub no_bucket : is_bucket_place p place ≡ false
+
+-- no word of this part is there
+abbrev pub IsOutside : Part → Places → ℕ → Type 0
+IsOutside TheIndex p place = IsElsewhere p place
+IsOutside TheLatches p place = has_latch p place ≡ false
+IsOutside (TheMailbox session) p place = session < p.sessions → is_mail_place session place ≡ false
+
+-- the eighth word of some bucket
+pub record IsEighth (p : Places) (place : ℕ) : Type 0 where
+  pub bucket : ℕ
+  pub at : place ≡ bucket_place p bucket 7
+
+-- A bucket's eighth word has a link below and a latch above it. So the index lets it change above its link, and the latches below.
+abbrev pub MaySet : Part → Places → ℕ → ℕ → ℕ → Type 0
+MaySet TheIndex p place old new = IsEighth p place × (link_of new ≡ link_of old)
+MaySet TheLatches p place old new = latch_of new ≡ latch_of old
+MaySet (TheMailbox session) p place old new = ⊥
+
+abbrev pub MayAdd : Part → Places → ℕ → ℕ → Type 0
+MayAdd TheIndex p place k = IsEighth p place × (k % 2 ^ 48 ≡ 0)
+MayAdd part p place k = ⊥
+
+-- An ask spares a part: it loads, its word is none of the part's, or it changes the word where the part lets it change.
+abbrev pub Spares : {A : Type 0} → Part → Places → Ask A → Type 0
+Spares part p (Load place) = ⊤
+Spares part p (Store place word) = IsOutside part p place
+Spares part p (Swap place word) = IsOutside part p place
+Spares part p (Cas place old new) = IsOutside part p place ⊎ MaySet part p place old new
+Spares part p (Add place k) = IsOutside part p place ⊎ MayAdd part p place k
+Spares part p (Max place k) = IsOutside part p place
+Spares part p (Put slot action) = ⊤
+Spares part p (Take slot) = ⊤
+Spares part p (Done its) = ⊤
+
+-- A session is one of the store's, or its number is no matter: no word of a session is one of another's mailbox.
+abbrev pub HasSeat : Part → Places → ℕ → Type 0
+HasSeat (TheMailbox session) p number = ⊤
+HasSeat part p number = number < p.sessions
+
+-- so is each of so many
+abbrev pub HasSeats : Part → Places → ℕ → Type 0
+HasSeats (TheMailbox session) p count = ⊤
+HasSeats part p count = count ≤ p.sessions
