@@ -7,7 +7,6 @@ ghost use Rattle.fkv_playing.specs.InTurn.{Writes};
 ghost use Rattle.fkv_playing.specs.Players.{EngineStep};
 ghost use Rattle.fkv_runs.specs.Beginnings.{BreaksOff};
 ghost use Rattle.fkv_runs.specs.Openings.{RefusesNoCall, medium_of};
-ghost use Rattle.fkv_cli.specs.Replies.{PrintsMapOfScript, ReplyLineByLine};
 ghost use Rattle.fkv_cli.specs.Output.{AreUnreadWords, IsOutputOf, IsRunOfText, line_fault_text, mode_of, script_limit};
 
 use crate::scripts::run_script;
@@ -17,7 +16,6 @@ use fkv_lines::{Mode, script_of};
 use fkv_options::{Options, RunFault, options_of};
 use fkv_playing::Breaks;
 use fkv_runs::{Crashes, write_text};
-use law_program::{law_played_calls, law_played_scripts};
 use std::alloc::Global;
 use std::io::{self, Read, Write};
 use std::rt::Files;
@@ -27,9 +25,7 @@ const SCRIPT_LIMIT: u64 = 65536 * 201 + 1;
 
 /// Runs the program: by the words after its name and the script that the input gives, writes its answers. The status: 0; 1 where a check
 /// differs; 2 where the words, the script or its shape are refused; 3 where a store is; 4 where memory was refused outside of a line's own answer,
-/// or a stream failed: then what is written is a beginning of what the script writes. With status 0, a script of operations alone for a new store in memory, of which none is
-/// interleaved with another, prints what the plain map says: each reply is the map's on the operations so far, and each read gives its key's value. An operation that has to wait, or is refused, says so and leaves the map. And so is each line of an
-/// operation answered in every other script without a seed, by the map of the history so far, where a life without commits shows the world (`lines`, `file_lines`).
+/// or a stream failed: then what is written is a beginning of what the script writes.
 pub fn run<H: Files, R: Read + Drop, W: Write>(
     rt: &H,
     alloc: Global,
@@ -38,14 +34,8 @@ pub fn run<H: Files, R: Read + Drop, W: Write>(
     output: &mut W,
 ) -> u8
     ensures whole { result ≢ 4 → Writes (IsOutputOf (record { memory = medium_of ⟦<Fuse<MemDisk> as Device>⟧.honest ⟦<Fuse<MemDisk> as Device>⟧.seen ⟦<Fuse<MemDisk> as Device>⟧.may_leave ⟦<Fuse<MemDisk> as Device>⟧.failed ⟦<Fuse<MemDisk> as Device>⟧.refuses ⟦<Fuse<MemDisk> as Breaks>⟧.broken ⟦<Fuse<MemDisk> as Crashes>⟧.image ⟦<Fuse<MemDisk> as Crashes>⟧.armed; file = EngineStep ⟦<FileDisk<H::File> as Device>⟧.honest ⟦<FileDisk<H::File> as Device>⟧.seen ⟦<FileDisk<H::File> as Device>⟧.may_leave ⟦<FileDisk<H::File> as Device>⟧.failed ⟦<FileDisk<H::File> as Device>⟧.refuses ⟦<FileDisk<H::File> as Breaks>⟧.broken }) (texts words.now) (R.remaining input) result) (W.contents output.old) (W.contents output.new) }
-    ensures replies { result ≡ 0 → Writes (PrintsMapOfScript (texts words.now) (R.remaining input)) (W.contents output.old) (W.contents output.new) }
-    ensures lines { ReplyLineByLine (EngineStep ⟦<Fuse<MemDisk> as Device>⟧.honest ⟦<Fuse<MemDisk> as Device>⟧.seen ⟦<Fuse<MemDisk> as Device>⟧.may_leave ⟦<Fuse<MemDisk> as Device>⟧.failed ⟦<Fuse<MemDisk> as Device>⟧.refuses ⟦<Fuse<MemDisk> as Breaks>⟧.broken) }
-    ensures file_lines { ReplyLineByLine (EngineStep ⟦<FileDisk<H::File> as Device>⟧.honest ⟦<FileDisk<H::File> as Device>⟧.seen ⟦<FileDisk<H::File> as Device>⟧.may_leave ⟦<FileDisk<H::File> as Device>⟧.failed ⟦<FileDisk<H::File> as Device>⟧.refuses ⟦<FileDisk<H::File> as Breaks>⟧.broken) }
     ensures part { result ≡ 4 → BreaksOff (IsOutputOf (record { memory = medium_of ⟦<Fuse<MemDisk> as Device>⟧.honest ⟦<Fuse<MemDisk> as Device>⟧.seen ⟦<Fuse<MemDisk> as Device>⟧.may_leave ⟦<Fuse<MemDisk> as Device>⟧.failed ⟦<Fuse<MemDisk> as Device>⟧.refuses ⟦<Fuse<MemDisk> as Breaks>⟧.broken ⟦<Fuse<MemDisk> as Crashes>⟧.image ⟦<Fuse<MemDisk> as Crashes>⟧.armed; file = EngineStep ⟦<FileDisk<H::File> as Device>⟧.honest ⟦<FileDisk<H::File> as Device>⟧.seen ⟦<FileDisk<H::File> as Device>⟧.may_leave ⟦<FileDisk<H::File> as Device>⟧.failed ⟦<FileDisk<H::File> as Device>⟧.refuses ⟦<FileDisk<H::File> as Breaks>⟧.broken }) (texts words.now) (R.remaining input) 4) (W.contents output.old) (W.contents output.new) }
 {
-    law_played_scripts::<Fuse<MemDisk>, FileDisk<H::File>>();
-    law_played_calls::<Fuse<MemDisk>>();
-    law_played_calls::<FileDisk<H::File>>();
     let memory = Fuse::new(MemDisk::new(alloc));
     match run_words(rt, alloc, words, memory, input, output) {
         Ok(status) => status,
