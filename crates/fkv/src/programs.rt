@@ -8,6 +8,7 @@ ghost use Rattle.fkv_runs.specs.Openings.{medium_of};
 ghost use Rattle.fkv_cli.specs.Output.{IsOutputOf};
 ghost use Rattle.fkv.specs.Replies.{PrintsMapOfScript, ReplyLineByLine};
 
+use fkv_cli::Lockable;
 use fkv_disk::{Device, FileDisk, Fuse, MemDisk};
 use fkv_playing::Breaks;
 use fkv_runs::Crashes;
@@ -21,13 +22,16 @@ use std::rt::Files;
 /// key's value. An operation that has to wait, or is refused, says so and leaves the map. Each line of an operation is answered so in
 /// every other script without a seed, by the map of the history so far, in a life without commits that shows the world (`lines`,
 /// `file_lines`).
-pub fn run<H: Files, R: Read + Drop, W: Write>(
+pub fn run<H: Files, R: Read + Drop, W: Write, E: Write>(
     rt: &H,
     alloc: Global,
     words: &[&str],
     input: R,
     output: &mut W,
+    complaints: &mut E,
 ) -> u8
+where
+    H::File: Lockable,
     ensures whole { result ≢ 4 → Writes (IsOutputOf (record { memory = medium_of ⟦<Fuse<MemDisk> as Device>⟧.honest ⟦<Fuse<MemDisk> as Device>⟧.seen ⟦<Fuse<MemDisk> as Device>⟧.may_leave ⟦<Fuse<MemDisk> as Device>⟧.failed ⟦<Fuse<MemDisk> as Device>⟧.refuses ⟦<Fuse<MemDisk> as Breaks>⟧.broken ⟦<Fuse<MemDisk> as Crashes>⟧.image ⟦<Fuse<MemDisk> as Crashes>⟧.armed; file = EngineStep ⟦<FileDisk<H::File> as Device>⟧.honest ⟦<FileDisk<H::File> as Device>⟧.seen ⟦<FileDisk<H::File> as Device>⟧.may_leave ⟦<FileDisk<H::File> as Device>⟧.failed ⟦<FileDisk<H::File> as Device>⟧.refuses ⟦<FileDisk<H::File> as Breaks>⟧.broken }) (texts words.now) (R.remaining input) result) (W.contents output.old) (W.contents output.new) }
     ensures part { result ≡ 4 → BreaksOff (IsOutputOf (record { memory = medium_of ⟦<Fuse<MemDisk> as Device>⟧.honest ⟦<Fuse<MemDisk> as Device>⟧.seen ⟦<Fuse<MemDisk> as Device>⟧.may_leave ⟦<Fuse<MemDisk> as Device>⟧.failed ⟦<Fuse<MemDisk> as Device>⟧.refuses ⟦<Fuse<MemDisk> as Breaks>⟧.broken ⟦<Fuse<MemDisk> as Crashes>⟧.image ⟦<Fuse<MemDisk> as Crashes>⟧.armed; file = EngineStep ⟦<FileDisk<H::File> as Device>⟧.honest ⟦<FileDisk<H::File> as Device>⟧.seen ⟦<FileDisk<H::File> as Device>⟧.may_leave ⟦<FileDisk<H::File> as Device>⟧.failed ⟦<FileDisk<H::File> as Device>⟧.refuses ⟦<FileDisk<H::File> as Breaks>⟧.broken }) (texts words.now) (R.remaining input) 4) (W.contents output.old) (W.contents output.new) }
     ensures replies { result ≡ 0 → Writes (PrintsMapOfScript (texts words.now) (R.remaining input)) (W.contents output.old) (W.contents output.new) }
@@ -37,5 +41,5 @@ pub fn run<H: Files, R: Read + Drop, W: Write>(
     law_played_scripts::<Fuse<MemDisk>, FileDisk<H::File>>();
     law_played_calls::<Fuse<MemDisk>>();
     law_played_calls::<FileDisk<H::File>>();
-    fkv_cli::run(rt, alloc, words, input, output)
+    fkv_cli::run(rt, alloc, words, input, output, complaints)
 }
