@@ -1,6 +1,4 @@
 mod Appending
 mod Endings
 mod Outputs
-mod Replies
-mod ScriptFits
 mod Words

@@ -109,6 +109,12 @@ new_breaks_in_memory {E} {M} {F} {S} devices options shape pieces file a b resul
     subst (λ (o : Option S). OnErr result (BreaksOff (λ text. IsRunOfStore devices options (Some shape) pieces 4 text (is_some o)) a b)) (sym e) h
 
 -- a new store in a file
+pub new_in_file : {E M F S : Type 0} (devices : Devices M F) (options : Options) (shape : Shape) (pieces : List Piece) (file : Option S) (path : S) (a b : Option (List ℕ)) (result : Result ℕ E) → file ≡ Some path
+    → IfOk result (λ status. Writes (λ text. IsRunInNewFile devices.file shape pieces status text ⊎ Refuses Device 3 status text) a b)
+    → IfOk result (λ status. Writes (λ text. IsRunOfStore devices options (Some shape) pieces status text (is_some file)) a b)
+new_in_file {E} {M} {F} {S} devices options shape pieces file path a b result e h =
+    subst (λ (o : Option S). IfOk result (λ status. Writes (λ text. IsRunOfStore devices options (Some shape) pieces status text (is_some o)) a b)) (sym e) h
+
 pub new_breaks_in_file : {E M F S : Type 0} (devices : Devices M F) (options : Options) (shape : Shape) (pieces : List Piece) (file : Option S) (path : S) (a b : Option (List ℕ)) (result : Result ℕ E) → file ≡ Some path
     → OnErr result (BreaksOff (λ text. IsRunInNewFile devices.file shape pieces 4 text ⊎ Refuses Device 3 4 text) a b)
     → OnErr result (BreaksOff (λ text. IsRunOfStore devices options (Some shape) pieces 4 text (is_some file)) a b)

@@ -6,10 +6,12 @@ ghost use Rattle.fkv_playing.specs.Players.{EngineStep};
 ghost use Rattle.fkv_runs.specs.Beginnings.{BreaksOff};
 ghost use Rattle.fkv_cli.specs.Output.{IsRunInFile, IsRunInNewFile, Refuses};
 
+use crate::complaints::{Complaint, complain};
 use crate::scripts::refuse;
+use crate::store_files::{Lockable, Trouble, make_alone, open_alone};
 use fkv_base::{Fault, Key, Shape, Value};
 use fkv_creating::create_opened;
-use fkv_disk::{Device, FileDisk, make_file, open_file};
+use fkv_disk::{Device, FileDisk};
 use fkv_opening::{Opened, recover};
 use fkv_pairs::content;
 use fkv_playing::{Breaks, Picks};
@@ -20,7 +22,7 @@ use std::io::{self, Write};
 use std::rt::Files;
 
 /// A new store in the file of this path, and the pieces of its script.
-pub(crate) fn play_new_file<H: Files, W: Write>(
+pub(crate) fn play_new_file<H: Files, W: Write, E: Write>(
     rt: &H,
     alloc: Global,
     path: &str,
@@ -28,38 +30,53 @@ pub(crate) fn play_new_file<H: Files, W: Write>(
     pieces: &[Piece],
     picks: &mut Picks,
     output: &mut W,
+    complaints: &mut E,
 ) -> io::Result<u8>
+where
+    H::File: Lockable,
     ensures whole { IfOk result (λ status. Writes (λ text. IsRunInNewFile (EngineStep ⟦<FileDisk<H::File> as Device>⟧.honest ⟦<FileDisk<H::File> as Device>⟧.seen ⟦<FileDisk<H::File> as Device>⟧.may_leave ⟦<FileDisk<H::File> as Device>⟧.failed ⟦<FileDisk<H::File> as Device>⟧.refuses ⟦<FileDisk<H::File> as Breaks>⟧.broken) shape pieces.now status text ⊎ Refuses Device 3 status text) (W.contents output.old) (W.contents output.new)) }
     ensures part { OnErr result (BreaksOff (λ text. IsRunInNewFile (EngineStep ⟦<FileDisk<H::File> as Device>⟧.honest ⟦<FileDisk<H::File> as Device>⟧.seen ⟦<FileDisk<H::File> as Device>⟧.may_leave ⟦<FileDisk<H::File> as Device>⟧.failed ⟦<FileDisk<H::File> as Device>⟧.refuses ⟦<FileDisk<H::File> as Breaks>⟧.broken) shape pieces.now 4 text ⊎ Refuses Device 3 4 text) (W.contents output.old) (W.contents output.new)) }
 {
-    let mut device = match make_file(rt, path) {
+    let mut device = match make_alone(rt, path) {
         Ok(device) => device,
-        Err(fault) => return refuse(alloc, output, fault, 3),
+        Err(trouble) => {
+            complain(complaints, Complaint::File { path, trouble });
+            return refuse(alloc, output, Fault::Device, 3);
+        }
     };
     match create_opened(alloc, &mut device, shape) {
         Ok(opened) => {
             play_life(alloc, output, opened, device, pieces, picks)?;
             Ok(0)
         }
-        Err(fault) => refuse(alloc, output, fault, 3),
+        Err(fault) => {
+            complain_of_fault(complaints, path, fault);
+            refuse(alloc, output, fault, 3)
+        }
     }
 }
 
 /// The store that the file of this path holds, its report, and the pieces of its script.
-pub(crate) fn play_old_file<H: Files, W: Write>(
+pub(crate) fn play_old_file<H: Files, W: Write, E: Write>(
     rt: &H,
     alloc: Global,
     path: &str,
     pieces: &[Piece],
     picks: &mut Picks,
     output: &mut W,
+    complaints: &mut E,
 ) -> io::Result<u8>
+where
+    H::File: Lockable,
     ensures whole { IfOk result (λ status. Writes (λ text. IsRunInFile (EngineStep ⟦<FileDisk<H::File> as Device>⟧.honest ⟦<FileDisk<H::File> as Device>⟧.seen ⟦<FileDisk<H::File> as Device>⟧.may_leave ⟦<FileDisk<H::File> as Device>⟧.failed ⟦<FileDisk<H::File> as Device>⟧.refuses ⟦<FileDisk<H::File> as Breaks>⟧.broken) pieces.now status text ⊎ ((fault : Fault) × Refuses fault 3 status text)) (W.contents output.old) (W.contents output.new)) }
     ensures part { OnErr result (BreaksOff (λ text. IsRunInFile (EngineStep ⟦<FileDisk<H::File> as Device>⟧.honest ⟦<FileDisk<H::File> as Device>⟧.seen ⟦<FileDisk<H::File> as Device>⟧.may_leave ⟦<FileDisk<H::File> as Device>⟧.failed ⟦<FileDisk<H::File> as Device>⟧.refuses ⟦<FileDisk<H::File> as Breaks>⟧.broken) pieces.now 4 text ⊎ ((fault : Fault) × Refuses fault 3 4 text)) (W.contents output.old) (W.contents output.new)) }
 {
-    let mut device = match open_file(rt, path) {
+    let mut device = match open_alone(rt, path) {
         Ok(device) => device,
-        Err(fault) => return refuse(alloc, output, fault, 3),
+        Err(trouble) => {
+            complain(complaints, Complaint::File { path, trouble });
+            return refuse(alloc, output, Fault::Device, 3);
+        }
     };
     match opened(alloc, &mut device) {
         Ok((opened, pairs)) => {
@@ -75,7 +92,18 @@ pub(crate) fn play_old_file<H: Files, W: Write>(
             play_life(alloc, output, opened, device, pieces, picks)?;
             Ok(0)
         }
-        Err(fault) => refuse(alloc, output, fault, 3),
+        Err(fault) => {
+            complain_of_fault(complaints, path, fault);
+            refuse(alloc, output, fault, 3)
+        }
+    }
+}
+
+/// Tells why the file of this path holds no store. Refused memory is told where it ends the run.
+fn complain_of_fault<E: Write>(complaints: &mut E, path: &str, fault: Fault) {
+    if fault != Fault::Memory {
+        let trouble = Trouble::Met(fault);
+        complain(complaints, Complaint::File { path, trouble });
     }
 }
 

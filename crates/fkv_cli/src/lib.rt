@@ -1,9 +1,14 @@
 //! The program: its words and its script in, its output and its status out.
 #![tactic(auto)]
 
+mod complaints;
 mod file_runs;
 mod memory_runs;
 mod programs;
 mod scripts;
+mod store_files;
+mod watched;
 
-pub use programs::{refuse_unread, run};
+pub use programs::{complain_of_stop, refuse_unread, run};
+pub use store_files::Lockable;
+pub use watched::Watched;

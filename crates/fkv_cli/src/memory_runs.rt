@@ -6,8 +6,9 @@ ghost use Rattle.fkv_runs.specs.Beginnings.{BreaksOff};
 ghost use Rattle.fkv_runs.specs.Openings.{RefusesNoCall, medium_of};
 ghost use Rattle.fkv_cli.specs.Output.{IsRunInMemory, Refuses};
 
+use crate::complaints::{Complaint, complain};
 use crate::scripts::refuse;
-use fkv_base::Shape;
+use fkv_base::{Fault, Shape};
 use fkv_creating::create_opened;
 use fkv_options::Options;
 use fkv_playing::Picks;
@@ -16,7 +17,7 @@ use std::alloc::Global;
 use std::io::{self, Write};
 
 /// A new store over this honest device in memory, which refuses no call, and the pieces of its script over its lives.
-pub(crate) fn play_memory<M: Crashes, W: Write>(
+pub(crate) fn play_memory<M: Crashes, W: Write, E: Write>(
     alloc: Global,
     options: &Options,
     memory: M,
@@ -24,6 +25,7 @@ pub(crate) fn play_memory<M: Crashes, W: Write>(
     pieces: &[Piece],
     picks: &mut Picks,
     output: &mut W,
+    complaints: &mut E,
 ) -> io::Result<u8>
     requires honest { M.honest memory }
     requires sound { RefusesNoCall M.refuses memory }
@@ -36,7 +38,30 @@ pub(crate) fn play_memory<M: Crashes, W: Write>(
     };
     let mut device = memory;
     match create_opened(alloc, &mut device, shape) {
-        Ok(opened) => play_lives(alloc, output, opened, device, pieces, picks, settings),
-        Err(fault) => refuse(alloc, output, fault, 3),
+        Ok(opened) => {
+            let ended = play_lives(alloc, output, opened, device, pieces, picks, settings);
+            complain_of_end(complaints, &ended);
+            ended
+        }
+        Err(fault) => {
+            complain_of_fault(complaints, fault);
+            refuse(alloc, output, fault, 3)
+        }
+    }
+}
+
+/// Tells what the status of lives means, where it is above 0.
+fn complain_of_end<E: Write>(complaints: &mut E, ended: &io::Result<u8>) {
+    match ended {
+        Ok(1) => complain(complaints, Complaint::CheckDiffers),
+        Ok(3) => complain(complaints, Complaint::NotRecovered),
+        _ => {}
+    }
+}
+
+/// Tells that no store could be made. Refused memory is told where it ends the run.
+fn complain_of_fault<E: Write>(complaints: &mut E, fault: Fault) {
+    if fault != Fault::Memory {
+        complain(complaints, Complaint::NoStoreInMemory);
     }
 }

@@ -7,19 +7,19 @@ ghost use Rattle.fkv_playing.specs.InTurn.{Writes};
 ghost use Rattle.fkv_playing.specs.Players.{EngineStep};
 ghost use Rattle.fkv_runs.specs.Beginnings.{BreaksOff};
 ghost use Rattle.fkv_runs.specs.Openings.{RefusesNoCall, medium_of};
-ghost use Rattle.fkv_cli.specs.Replies.{PrintsMapOfScript, ReplyLineByLine};
 ghost use Rattle.fkv_cli.specs.Output.{AreUnreadWords, IsOutputOf, IsRunOfText, line_fault_text, mode_of, script_limit};
 
+use crate::complaints::{Complaint, LineFault, WordFault, complain};
 use crate::scripts::run_script;
+use crate::store_files::Lockable;
 use fkv_base::{Fault, ScriptFault};
 use fkv_disk::{Device, FileDisk, Fuse, MemDisk};
 use fkv_lines::{Mode, script_of};
 use fkv_options::{Options, RunFault, options_of};
 use fkv_playing::Breaks;
 use fkv_runs::{Crashes, write_text};
-use law_program::{law_played_calls, law_played_scripts};
 use std::alloc::Global;
-use std::io::{self, Read, Write};
+use std::io::{self, ErrorKind, Read, Write};
 use std::rt::Files;
 
 /// A longer script has its first faulty line among its first so many bytes.
@@ -27,40 +27,79 @@ const SCRIPT_LIMIT: u64 = 65536 * 201 + 1;
 
 /// Runs the program: by the words after its name and the script that the input gives, writes its answers. The status: 0; 1 where a check
 /// differs; 2 where the words, the script or its shape are refused; 3 where a store is; 4 where memory was refused outside of a line's own answer,
-/// or a stream failed: then what is written is a beginning of what the script writes. With status 0, a script of operations alone for a new store in memory, of which none is
-/// interleaved with another, prints what the plain map says: each reply is the map's on the operations so far, and each read gives its key's value. An operation that has to wait, or is refused, says so and leaves the map. And so is each line of an
-/// operation answered in every other script without a seed, by the map of the history so far, where a life without commits shows the world (`lines`, `file_lines`).
-pub fn run<H: Files, R: Read + Drop, W: Write>(
+/// or a stream failed: then what is written is a beginning of what the script writes. Where the status is above 0, a line of complaint
+/// says in words what it means; one that can't be written is lost.
+pub fn run<H: Files, R: Read + Drop, W: Write, E: Write>(
     rt: &H,
     alloc: Global,
     words: &[&str],
     input: R,
     output: &mut W,
+    complaints: &mut E,
 ) -> u8
+where
+    H::File: Lockable,
     ensures whole { result ≢ 4 → Writes (IsOutputOf (record { memory = medium_of ⟦<Fuse<MemDisk> as Device>⟧.honest ⟦<Fuse<MemDisk> as Device>⟧.seen ⟦<Fuse<MemDisk> as Device>⟧.may_leave ⟦<Fuse<MemDisk> as Device>⟧.failed ⟦<Fuse<MemDisk> as Device>⟧.refuses ⟦<Fuse<MemDisk> as Breaks>⟧.broken ⟦<Fuse<MemDisk> as Crashes>⟧.image ⟦<Fuse<MemDisk> as Crashes>⟧.armed; file = EngineStep ⟦<FileDisk<H::File> as Device>⟧.honest ⟦<FileDisk<H::File> as Device>⟧.seen ⟦<FileDisk<H::File> as Device>⟧.may_leave ⟦<FileDisk<H::File> as Device>⟧.failed ⟦<FileDisk<H::File> as Device>⟧.refuses ⟦<FileDisk<H::File> as Breaks>⟧.broken }) (texts words.now) (R.remaining input) result) (W.contents output.old) (W.contents output.new) }
-    ensures replies { result ≡ 0 → Writes (PrintsMapOfScript (texts words.now) (R.remaining input)) (W.contents output.old) (W.contents output.new) }
-    ensures lines { ReplyLineByLine (EngineStep ⟦<Fuse<MemDisk> as Device>⟧.honest ⟦<Fuse<MemDisk> as Device>⟧.seen ⟦<Fuse<MemDisk> as Device>⟧.may_leave ⟦<Fuse<MemDisk> as Device>⟧.failed ⟦<Fuse<MemDisk> as Device>⟧.refuses ⟦<Fuse<MemDisk> as Breaks>⟧.broken) }
-    ensures file_lines { ReplyLineByLine (EngineStep ⟦<FileDisk<H::File> as Device>⟧.honest ⟦<FileDisk<H::File> as Device>⟧.seen ⟦<FileDisk<H::File> as Device>⟧.may_leave ⟦<FileDisk<H::File> as Device>⟧.failed ⟦<FileDisk<H::File> as Device>⟧.refuses ⟦<FileDisk<H::File> as Breaks>⟧.broken) }
     ensures part { result ≡ 4 → BreaksOff (IsOutputOf (record { memory = medium_of ⟦<Fuse<MemDisk> as Device>⟧.honest ⟦<Fuse<MemDisk> as Device>⟧.seen ⟦<Fuse<MemDisk> as Device>⟧.may_leave ⟦<Fuse<MemDisk> as Device>⟧.failed ⟦<Fuse<MemDisk> as Device>⟧.refuses ⟦<Fuse<MemDisk> as Breaks>⟧.broken ⟦<Fuse<MemDisk> as Crashes>⟧.image ⟦<Fuse<MemDisk> as Crashes>⟧.armed; file = EngineStep ⟦<FileDisk<H::File> as Device>⟧.honest ⟦<FileDisk<H::File> as Device>⟧.seen ⟦<FileDisk<H::File> as Device>⟧.may_leave ⟦<FileDisk<H::File> as Device>⟧.failed ⟦<FileDisk<H::File> as Device>⟧.refuses ⟦<FileDisk<H::File> as Breaks>⟧.broken }) (texts words.now) (R.remaining input) 4) (W.contents output.old) (W.contents output.new) }
 {
-    law_played_scripts::<Fuse<MemDisk>, FileDisk<H::File>>();
-    law_played_calls::<Fuse<MemDisk>>();
-    law_played_calls::<FileDisk<H::File>>();
     let memory = Fuse::new(MemDisk::new(alloc));
-    match run_words(rt, alloc, words, memory, input, output) {
+    match run_words(rt, alloc, words, memory, input, output, complaints) {
         Ok(status) => status,
-        Err(_) => 4,
+        Err(stop) => {
+            complain(complaints, stop.told());
+            4
+        }
     }
 }
 
-/// Words of which one is no text are none that the program takes: writes the line `options`. The status: 2; 4 where the writer failed.
-pub fn refuse_unread<W: Write>(output: &mut W) -> u8
+/// What stopped a run.
+#[derive(Drop)]
+enum Stop {
+    /// The script could not be read.
+    Input(ErrorKind),
+    /// Memory was refused, or the answers could not be written.
+    Other(io::Error),
+}
+
+impl From<io::Error> for Stop {
+    fn from(error: io::Error) -> Stop {
+        Stop::Other(error)
+    }
+}
+
+impl Stop {
+    fn told(&self) -> Complaint<'static> {
+        match self {
+            Stop::Input(ErrorKind::OutOfMemory) => Complaint::MemoryRefused,
+            Stop::Input(kind) => Complaint::InputFailed(*kind),
+            Stop::Other(error) => match error.kind() {
+                ErrorKind::OutOfMemory => Complaint::MemoryRefused,
+                kind => Complaint::OutputFailed(kind),
+            },
+        }
+    }
+}
+
+/// Writes a line of complaint for an error that stopped the program outside of `run`: memory that was refused, or standard output.
+pub fn complain_of_stop<E: Write>(error: io::Error, complaints: &mut E) {
+    complain(complaints, Stop::Other(error).told());
+}
+
+/// Words of which one is no text are none that the program takes: writes the line `options`, and a line of complaint. The status: 2;
+/// 4 where the writer failed.
+pub fn refuse_unread<W: Write, E: Write>(output: &mut W, complaints: &mut E) -> u8
     ensures whole { result ≢ 4 → Writes (AreUnreadWords result) (W.contents output.old) (W.contents output.new) }
     ensures part { result ≡ 4 → BreaksOff (AreUnreadWords 4) (W.contents output.old) (W.contents output.new) }
 {
     match write_options(output) {
-        Ok(()) => 2,
-        Err(_failed) => 4,
+        Ok(()) => {
+            complain(complaints, Complaint::Words(WordFault::NoText));
+            2
+        }
+        Err(failed) => {
+            complain_of_stop(failed, complaints);
+            4
+        }
     }
 }
 
@@ -74,14 +113,17 @@ fn write_options<W: Write>(output: &mut W) -> io::Result<()>
 }
 
 /// The same as `run`, over this device in memory, with what stopped it.
-fn run_words<H: Files, M: Crashes, R: Read + Drop, W: Write>(
+fn run_words<H: Files, M: Crashes, R: Read + Drop, W: Write, E: Write>(
     rt: &H,
     alloc: Global,
     words: &[&str],
     memory: M,
     input: R,
     output: &mut W,
-) -> io::Result<u8>
+    complaints: &mut E,
+) -> Result<u8, Stop>
+where
+    H::File: Lockable,
     requires honest { M.honest memory }
     requires sound { RefusesNoCall M.refuses memory }
     ensures whole { IfOk result (λ status. Writes (IsOutputOf (record { memory = medium_of M.honest M.seen M.may_leave M.failed M.refuses M.broken M.image M.armed; file = EngineStep ⟦<FileDisk<H::File> as Device>⟧.honest ⟦<FileDisk<H::File> as Device>⟧.seen ⟦<FileDisk<H::File> as Device>⟧.may_leave ⟦<FileDisk<H::File> as Device>⟧.failed ⟦<FileDisk<H::File> as Device>⟧.refuses ⟦<FileDisk<H::File> as Breaks>⟧.broken }) (texts words.now) (R.remaining input) status) (W.contents output.old) (W.contents output.new)) }
@@ -90,21 +132,33 @@ fn run_words<H: Files, M: Crashes, R: Read + Drop, W: Write>(
     let status = match options_of(alloc, words) {
         Ok(options) => {
             let bytes = script_bytes(alloc, input)?;
-            run_text(rt, alloc, &options, memory, &bytes, output)?
+            run_text(rt, alloc, &options, memory, &bytes, output, complaints)?
         }
-        Err(fault) => refuse_words(output, &fault)?,
+        Err(fault) => {
+            complain_of_words(complaints, words, &fault);
+            refuse_words(output, &fault)?
+        }
     };
     output.flush()?;
     Ok(status)
 }
 
 /// The first bytes of a script, as many as are looked at.
-fn script_bytes<R: Read + Drop>(alloc: Global, input: R) -> io::Result<Vec<u8>>
+fn script_bytes<R: Read + Drop>(alloc: Global, input: R) -> Result<Vec<u8>, Stop>
     ensures { IfOk result (λ bytes. IfSome (R.remaining input) (λ script. bytes.items ≡ take script_limit script)) }
 {
     let mut bytes = Vec::new(alloc);
-    input.take(SCRIPT_LIMIT).read_to_end(&mut bytes)?;
-    Ok(bytes)
+    match input.take(SCRIPT_LIMIT).read_to_end(&mut bytes) {
+        Ok(_count) => Ok(bytes),
+        Err(error) => Err(Stop::Input(error.kind())),
+    }
+}
+
+/// Tells which of these words is refused. Refused memory is told where it ends the run.
+fn complain_of_words<E: Write>(complaints: &mut E, words: &[&str], fault: &RunFault) {
+    if fault.status != 4 {
+        complain(complaints, Complaint::Words(WordFault::of(words)));
+    }
 }
 
 /// Prints why the words are refused, where it isn't for want of memory.
@@ -120,14 +174,17 @@ fn refuse_words<W: Write>(output: &mut W, fault: &RunFault) -> io::Result<u8>
 }
 
 /// Runs the script of these bytes, or prints its first faulty line.
-fn run_text<H: Files, M: Crashes, W: Write>(
+fn run_text<H: Files, M: Crashes, W: Write, E: Write>(
     rt: &H,
     alloc: Global,
     options: &Options,
     memory: M,
     bytes: &[u8],
     output: &mut W,
+    complaints: &mut E,
 ) -> io::Result<u8>
+where
+    H::File: Lockable,
     requires honest { M.honest memory }
     requires sound { RefusesNoCall M.refuses memory }
     ensures whole { IfOk result (λ status. Writes (IsRunOfText (record { memory = medium_of M.honest M.seen M.may_leave M.failed M.refuses M.broken M.image M.armed; file = EngineStep ⟦<FileDisk<H::File> as Device>⟧.honest ⟦<FileDisk<H::File> as Device>⟧.seen ⟦<FileDisk<H::File> as Device>⟧.may_leave ⟦<FileDisk<H::File> as Device>⟧.failed ⟦<FileDisk<H::File> as Device>⟧.refuses ⟦<FileDisk<H::File> as Breaks>⟧.broken }) options.now (script_of (mode_of (is_some options.now.file)) bytes.now) status) (W.contents output.old) (W.contents output.new)) }
@@ -138,13 +195,20 @@ fn run_text<H: Files, M: Crashes, W: Write>(
         None => Mode::Memory,
     };
     match script_of(alloc, bytes, mode) {
-        Ok(script) => run_script(rt, alloc, options, memory, &script, output),
+        Ok(script) => run_script(rt, alloc, options, memory, &script, output, complaints),
         Err(Fault::Script(line, kind)) => {
+            complain_of_line(complaints, bytes, line, kind);
             write_line_fault(alloc, output, line, kind)?;
             Ok(2)
         }
         Err(_) => Err(io::ErrorKind::OutOfMemory.into()),
     }
+}
+
+/// Tells what is wrong with the first faulty line of a script.
+fn complain_of_line<E: Write>(complaints: &mut E, bytes: &[u8], number: u64, kind: ScriptFault) {
+    let fault = LineFault::of(bytes, number, kind);
+    complain(complaints, Complaint::Line { number, fault });
 }
 
 /// The first faulty line of a script: `script line 7 Count`.

@@ -7,8 +7,10 @@ ghost use Rattle.fkv_runs.specs.Beginnings.{BreaksOff};
 ghost use Rattle.fkv_runs.specs.Openings.{RefusesNoCall, medium_of};
 ghost use Rattle.fkv_cli.specs.Output.{AreSizes, HasSizes, IsRunOfOldStore, IsRunOfScript, IsRunOfStore, Refuses};
 
+use crate::complaints::{Complaint, SizeFault, complain};
 use crate::file_runs::{play_new_file, play_old_file};
 use crate::memory_runs::play_memory;
+use crate::store_files::Lockable;
 use fkv_base::{Fault, Shape};
 use fkv_disk::{Device, FileDisk};
 use fkv_lines::{Opening, Script, Sizes};
@@ -21,14 +23,17 @@ use std::io::{self, Write};
 use std::rt::Files;
 
 /// Runs a script: its store is created or opened, and its lines are played.
-pub(crate) fn run_script<H: Files, M: Crashes, W: Write>(
+pub(crate) fn run_script<H: Files, M: Crashes, W: Write, E: Write>(
     rt: &H,
     alloc: Global,
     options: &Options,
     memory: M,
     script: &Script,
     output: &mut W,
+    complaints: &mut E,
 ) -> io::Result<u8>
+where
+    H::File: Lockable,
     requires honest { M.honest memory }
     requires sound { RefusesNoCall M.refuses memory }
     ensures whole { IfOk result (λ status. Writes (IsRunOfScript (record { memory = medium_of M.honest M.seen M.may_leave M.failed M.refuses M.broken M.image M.armed; file = EngineStep ⟦<FileDisk<H::File> as Device>⟧.honest ⟦<FileDisk<H::File> as Device>⟧.seen ⟦<FileDisk<H::File> as Device>⟧.may_leave ⟦<FileDisk<H::File> as Device>⟧.failed ⟦<FileDisk<H::File> as Device>⟧.refuses ⟦<FileDisk<H::File> as Breaks>⟧.broken }) options.now script.now.opening script.now.lines.items status) (W.contents output.old) (W.contents output.new)) }
@@ -40,15 +45,20 @@ pub(crate) fn run_script<H: Files, M: Crashes, W: Write>(
     let pieces = pieces_of(alloc, &script.lines, options.seed.is_some())?;
     match opening {
         Opening::Shape(sizes) => match shape_of(sizes) {
-            Ok(shape) => run_new(rt, alloc, options, memory, shape, &pieces, output),
-            Err(fault) => refuse(alloc, output, fault, 2),
+            Ok(shape) => run_new(
+                rt, alloc, options, memory, shape, &pieces, output, complaints,
+            ),
+            Err(fault) => {
+                complain_of_sizes(complaints, sizes);
+                refuse(alloc, output, fault, 2)
+            }
         },
-        Opening::Open => run_old(rt, alloc, options, &pieces, output),
+        Opening::Open => run_old(rt, alloc, options, &pieces, output, complaints),
     }
 }
 
 /// A new store of this shape, in memory or in a file.
-fn run_new<H: Files, M: Crashes, W: Write>(
+fn run_new<H: Files, M: Crashes, W: Write, E: Write>(
     rt: &H,
     alloc: Global,
     options: &Options,
@@ -56,7 +66,10 @@ fn run_new<H: Files, M: Crashes, W: Write>(
     shape: Shape,
     pieces: &[Piece],
     output: &mut W,
+    complaints: &mut E,
 ) -> io::Result<u8>
+where
+    H::File: Lockable,
     requires honest { M.honest memory }
     requires sound { RefusesNoCall M.refuses memory }
     ensures whole { IfOk result (λ status. Writes (λ text. IsRunOfStore (record { memory = medium_of M.honest M.seen M.may_leave M.failed M.refuses M.broken M.image M.armed; file = EngineStep ⟦<FileDisk<H::File> as Device>⟧.honest ⟦<FileDisk<H::File> as Device>⟧.seen ⟦<FileDisk<H::File> as Device>⟧.may_leave ⟦<FileDisk<H::File> as Device>⟧.failed ⟦<FileDisk<H::File> as Device>⟧.refuses ⟦<FileDisk<H::File> as Breaks>⟧.broken }) options.now (Some shape) pieces.now status text (is_some options.now.file)) (W.contents output.old) (W.contents output.new)) }
@@ -64,25 +77,47 @@ fn run_new<H: Files, M: Crashes, W: Write>(
 {
     let mut picks = Picks::new(options.seed);
     match &options.file {
-        None => play_memory(alloc, options, memory, shape, pieces, &mut picks, output),
-        Some(path) => play_new_file(rt, alloc, path.as_str(), shape, pieces, &mut picks, output),
+        None => play_memory(
+            alloc, options, memory, shape, pieces, &mut picks, output, complaints,
+        ),
+        Some(path) => play_new_file(
+            rt,
+            alloc,
+            path.as_str(),
+            shape,
+            pieces,
+            &mut picks,
+            output,
+            complaints,
+        ),
     }
 }
 
 /// The store that a file holds.
-fn run_old<H: Files, W: Write>(
+fn run_old<H: Files, W: Write, E: Write>(
     rt: &H,
     alloc: Global,
     options: &Options,
     pieces: &[Piece],
     output: &mut W,
+    complaints: &mut E,
 ) -> io::Result<u8>
+where
+    H::File: Lockable,
     ensures whole { IfOk result (λ status. Writes (λ text. IsRunOfOldStore (EngineStep ⟦<FileDisk<H::File> as Device>⟧.honest ⟦<FileDisk<H::File> as Device>⟧.seen ⟦<FileDisk<H::File> as Device>⟧.may_leave ⟦<FileDisk<H::File> as Device>⟧.failed ⟦<FileDisk<H::File> as Device>⟧.refuses ⟦<FileDisk<H::File> as Breaks>⟧.broken) pieces.now status text (is_some options.now.file)) (W.contents output.old) (W.contents output.new)) }
     ensures part { OnErr result (BreaksOff (λ text. IsRunOfOldStore (EngineStep ⟦<FileDisk<H::File> as Device>⟧.honest ⟦<FileDisk<H::File> as Device>⟧.seen ⟦<FileDisk<H::File> as Device>⟧.may_leave ⟦<FileDisk<H::File> as Device>⟧.failed ⟦<FileDisk<H::File> as Device>⟧.refuses ⟦<FileDisk<H::File> as Breaks>⟧.broken) pieces.now 4 text (is_some options.now.file)) (W.contents output.old) (W.contents output.new)) }
 {
     let mut picks = Picks::new(options.seed);
     match &options.file {
-        Some(path) => play_old_file(rt, alloc, path.as_str(), pieces, &mut picks, output),
+        Some(path) => play_old_file(
+            rt,
+            alloc,
+            path.as_str(),
+            pieces,
+            &mut picks,
+            output,
+            complaints,
+        ),
         None => Ok(0),
     }
 }
@@ -101,6 +136,13 @@ fn shape_of(sizes: Sizes) -> Result<Shape, Fault>
         sizes.overflow,
         sizes.disk_pages,
     )
+}
+
+/// Tells which of these sizes is none of a shape.
+fn complain_of_sizes<E: Write>(complaints: &mut E, sizes: Sizes) {
+    if let Some(fault) = SizeFault::of(sizes) {
+        complain(complaints, Complaint::SizeOutside(fault));
+    }
 }
 
 /// Prints the refusal that ends a run. Memory that was refused ends it without one.

@@ -8,11 +8,16 @@ const SCRIPT: &str = "shape 4 16 4 2 2 1 64\n0 up 7 10\nk commit\nk finish\n1 ad
 const ANSWERS: &str =
     "0 #1 done\nk commit 1\nk finished 1 points 1 0\n1 #1 = 11\ncrash commit 1 points 1 0 pairs 1\npair 7 10\ncheck recovered equals replay\n";
 
+const UNREAD: &str =
+    "fkv: a word is no UTF-8 text; the words are --seed N, --check, --torn B and --file PATH\n";
+
 // Words of which one is no text.
 fn compare_unread(rt: &impl Abort, alloc: Global) {
     let mut output = Vec::new(alloc);
-    assert_eq!(rt; refuse_unread(&mut output), 2);
+    let mut complaints = Vec::new(alloc);
+    assert_eq!(rt; refuse_unread(&mut output, &mut complaints), 2);
     assert_eq!(rt; output.as_slice(), b"options\n".as_slice());
+    assert_eq!(rt; complaints.as_slice(), UNREAD.as_bytes());
 }
 
 #[test]

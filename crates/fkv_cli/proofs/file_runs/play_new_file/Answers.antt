@@ -1,9 +1,11 @@
+use Rattle.std.proofs.Common.{refl}
+use Rattle.fkv_base.specs.declared.faults.Fault.TheVariants.{Device}
 use Rattle.fkv_cli.proofs.Appending.{when_err}
 use Rattle.fkv_cli.proofs.Endings.{life_breaks_in_new_file, life_in_new_file, refused_device, refused_new}
 use Rattle.fkv_cli.proofs.file_runs.play_new_file.Goals as goal
 
 pub returns-in-Err-clause-whole : goal.returns-in-Err-clause-whole
-returns-in-Err-clause-whole g c = refused_device _ c.in-Err.fault _ _ c.refuse.result c.refuse.ensures.text c.in-Err.ensures.device
+returns-in-Err-clause-whole g c = refused_device _ Device _ _ c.refuse.result c.refuse.ensures.text refl
 
 pub returns-in_err-play_life-in-Ok-create_opened-clause-part : goal.returns-in_err-play_life-in-Ok-create_opened-clause-part
 returns-in_err-play_life-in-Ok-create_opened-clause-part g c =

@@ -1,12 +1,13 @@
+use Rattle.fkv_base.specs.declared.faults.Fault.TheVariants.{Device}
 use Rattle.fkv_cli.proofs.Appending.{told_alone, when_err}
 use Rattle.fkv_cli.proofs.Endings.{file_unsaid, life_breaks_in_file, life_in_file, refusal_breaks, refused_old, report_breaks}
 use Rattle.fkv_cli.proofs.file_runs.play_old_file.Goals as goal
 
 pub returns-in-Err-clause-whole : goal.returns-in-Err-clause-whole
-returns-in-Err-clause-whole g c = refused_old _ c.in-Err.fault _ _ c.refuse.result c.refuse.ensures.text
+returns-in-Err-clause-whole g c = refused_old _ Device _ _ c.refuse.result c.refuse.ensures.text
 
 pub returns-in-Err-clause-part : goal.returns-in-Err-clause-part
-returns-in-Err-clause-part g c = refusal_breaks _ c.args.pieces.now c.in-Err.fault _ _ c.refuse.result c.refuse.ensures.part
+returns-in-Err-clause-part g c = refusal_breaks _ c.args.pieces.now Device _ _ c.refuse.result c.refuse.ensures.part
 
 pub returns-in_err-write_report-in-Ok-opened-clause-part : goal.returns-in_err-write_report-in-Ok-opened-clause-part
 returns-in_err-write_report-in-Ok-opened-clause-part g c = when_err c.from_residual.result (file_unsaid _ c.args.pieces.now _)

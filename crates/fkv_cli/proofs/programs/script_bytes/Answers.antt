@@ -2,8 +2,8 @@ use Rattle.std.proofs.Common.{◌≡◌, ℕ, IfSome, take, subst}
 use Rattle.fkv_cli.proofs.Appending.{first_bytes}
 use Rattle.fkv_cli.proofs.programs.script_bytes.Goals as goal
 
-pub returns : goal.returns
-returns g c =
+pub returns-in-Ok : goal.returns-in-Ok
+returns-in-Ok g c =
     subst (λ (limit : ℕ). IfSome (g.R.Read.remaining c.args.input) (λ script. c.read_to_end.new.buf.items ≡ take limit script)) c.take.ensures.limit
     (first_bytes g.R.Read.remaining c.take.result.inner c.args.input c.take.result.limit c.new-bytes.result.items c.read_to_end.new.buf.items
-    c.take.ensures.inner c.new-bytes.ensures.items c.in_ok-read_to_end.ensures.bytes)
+    c.take.ensures.inner c.new-bytes.ensures.items c.in-Ok.ensures.bytes)

@@ -1,5 +1,5 @@
 -- What is written of a script of operations is the plain map's, by what is written of any script.
-use Rattle.std.proofs.Common.{◌≡◌, ◌∙◌, ℕ, List, [], Bool, true, false, ap, arith, inl, inr, refl, subst, take}
+use Rattle.std.proofs.Common.{◌≡◌, ◌≢◌, ◌∙◌, ℕ, List, [], Bool, true, false, ap, arith, inl, inr, refl, subst, sym, take}
 use Rattle.std.specs.Prelude.{IfSome, Option, Some, None, Ok, Result, is_some, map, option_map, string_bytes}
 use Rattle.std.specs.FinMap.{empty}
 use Rattle.fkv_base.specs.declared.shapes.Shape.{Shape}
@@ -13,8 +13,8 @@ use Rattle.law_program.specs.PlayedCalls.Scripts.{IsPlayOfMap, NewStoresPlayMap,
 use Rattle.fkv_runs.specs.Pieces.{ArePieces}
 use Rattle.fkv_runs.specs.declared.pieces.Piece.{Piece}
 use Rattle.fkv_cli.specs.Output.{AreLives, ComesTo, Devices, IsOutputOf, IsRunInMemory, IsRunOfScript, IsRunOfShape, IsRunOfStore, IsRunOfText, mode_of, script_limit, settings_of}
-use Rattle.fkv_cli.specs.Replies.{IsScriptOf, NameNoFileOrSeed, PrintsMapOfScript}
-use Rattle.fkv_cli.proofs.ScriptFits.{AreFitting, fitting}
+use Rattle.fkv.specs.Replies.{IsScriptOf, NameNoFileOrSeed, PrintsMapOfScript}
+use Rattle.fkv.proofs.ScriptFits.{AreFitting, fitting}
 
 -- status 0 is none of a refusal's
 not_2 : ComesTo 2 0 → ⊥
@@ -69,9 +69,10 @@ prints_map devices plays words known text (inr its) plain bytes sizes ops is scr
     (subst (λ (x : Option (List ℕ)). IfSome x (λ (y : List ℕ). IsRunOfText devices its.options (script_of (mode_of (is_some its.options.file)) (take script_limit y)) 0 text)) is its.run)
 
 -- so it is of what a run with status 0 has written
-pub writes_map : {M F : Type 0} (devices : Devices M F) (words : List (List ℕ)) (known : Option (List ℕ)) (status : ℕ) (a b : Option (List ℕ)) → Writes (IsOutputOf devices words known status) a b → NewStoresPlayMap devices.memory → status ≡ 0
-    → Writes (PrintsMapOfScript words known) a b
-writes_map devices words known status a b h plays e = (h.0, prints_map devices plays words known h.0 (subst (λ (n : ℕ). IsOutputOf devices words known n h.0) e h.1), h.2)
+pub writes_map : {M F : Type 0} (devices : Devices M F) (words : List (List ℕ)) (known : Option (List ℕ)) (status : ℕ) (a b : Option (List ℕ)) → (status ≢ 4 → Writes (IsOutputOf devices words known status) a b)
+    → NewStoresPlayMap devices.memory → status ≡ 0 → Writes (PrintsMapOfScript words known) a b
+writes_map devices words known status a b whole plays e =
+    let h = whole (λ f. zero_is_4 (sym e ∙ f)) in (h.0, prints_map devices plays words known h.0 (subst (λ (n : ℕ). IsOutputOf devices words known n h.0) e h.1), h.2)
 
 -- a run without words is such a one
 no_words : NameNoFileOrSeed []

@@ -1,0 +1,80 @@
+//! What the program tells on standard error of a run that ended early, or whose device failed: a line in words. No clause speaks of it.
+mod lines;
+mod options;
+mod quoted;
+mod sizes;
+
+use crate::store_files::Trouble;
+pub(crate) use lines::LineFault;
+pub(crate) use options::WordFault;
+use quoted::Quoted;
+pub(crate) use sizes::SizeFault;
+use std::fmt;
+use std::io::{ErrorKind, Write};
+
+/// Why a run ended as it did.
+#[derive(Clone, Copy)]
+pub(crate) enum Complaint<'a> {
+    /// A word behind the program's name is refused.
+    Words(WordFault<'a>),
+    /// Line `number` of the script is faulty.
+    Line { number: u64, fault: LineFault<'a> },
+    /// A size of the shape is outside its limits.
+    SizeOutside(SizeFault),
+    /// No store could be made or opened in the file of this path.
+    File { path: &'a str, trouble: Trouble },
+    /// No store could be made in memory.
+    NoStoreInMemory,
+    /// The store in memory could not be recovered behind a crash.
+    NotRecovered,
+    /// A recovered store differs from the replay of what its commit keeps.
+    CheckDiffers,
+    /// A call of the store's device failed in the run.
+    DeviceFailed,
+    /// Memory was refused.
+    MemoryRefused,
+    /// Standard input could not be read.
+    InputFailed(ErrorKind),
+    /// Standard output could not be written.
+    OutputFailed(ErrorKind),
+}
+
+impl fmt::Display for Complaint<'_> {
+    fn fmt<W: fmt::Write>(&self, f: &mut fmt::Formatter<W>) -> fmt::Result {
+        match self {
+            Complaint::Words(fault) => write!(f, "{fault}"),
+            Complaint::Line { number, fault } => write!(f, "line {number} of the script: {fault}"),
+            Complaint::SizeOutside(fault) => write!(f, "{fault}"),
+            Complaint::File { path, trouble } => {
+                let path = Quoted(path.as_bytes());
+                write!(f, "the file {path} {trouble}")
+            }
+            Complaint::NoStoreInMemory => f.write_str(
+                "no store could be made: the device in memory refused a call",
+            ),
+            Complaint::NotRecovered => f.write_str(
+                "the store could not be recovered behind a crash",
+            ),
+            Complaint::CheckDiffers => f.write_str(
+                "a check differs: a recovered store is not the replay of what its commit keeps",
+            ),
+            Complaint::DeviceFailed => f.write_str(
+                "a call of the store's device failed: nothing more was asked of it, and commits behind it were refused",
+            ),
+            Complaint::MemoryRefused => f.write_str(
+                "memory was refused: what is written is a beginning",
+            ),
+            Complaint::InputFailed(kind) => write!(f, "standard input could not be read: {kind}"),
+            Complaint::OutputFailed(kind) => write!(
+                f,
+                "standard output could not be written: {kind}"
+            ),
+        }
+    }
+}
+
+/// Writes a complaint as one line. Where its writer fails the line is lost, and nothing else comes of that.
+pub(crate) fn complain<E: Write>(complaints: &mut E, complaint: Complaint<'_>) {
+    let _lost = writeln!(complaints, "fkv: {complaint}");
+    let _failed = complaints.flush();
+}

@@ -1,0 +1,220 @@
+//! Faulty lines of a script.
+use super::quoted::Quoted;
+use fkv_base::ScriptFault;
+use fkv_lines::MOST_BYTES;
+use std::{fmt, str};
+
+/// What is wrong with a line, and with which of its words.
+#[derive(Clone, Copy)]
+pub(crate) enum LineFault<'a> {
+    /// The line has more bytes than a line may have.
+    TooLong(usize),
+    /// The line stands behind the last that a script may have.
+    TooMany,
+    /// The script's first line begins with this word, which opens no store.
+    NoOpening(&'a [u8]),
+    /// A later line begins with this word, which opens a store.
+    SecondOpening(&'a [u8]),
+    /// This word is unknown here.
+    Unknown {
+        word: &'a [u8],
+        known: &'static str,
+    },
+    /// Behind this word stand more or fewer words than it takes.
+    Count {
+        word: &'a [u8],
+        takes: &'static str,
+        given: usize,
+    },
+    /// This word should be a number, and no less than this.
+    NoNumber {
+        word: &'a [u8],
+        least: u64,
+    },
+    /// This line needs a store in a file.
+    NeedsFile(&'a [u8]),
+    /// This line needs a store in memory.
+    NeedsMemory(&'a [u8]),
+}
+
+impl<'a> LineFault<'a> {
+    /// What is wrong with the line of this number, which has a fault of this kind.
+    pub(crate) fn of(script: &'a [u8], number: u64, kind: ScriptFault) -> LineFault<'a> {
+        let line = line_at(script, number);
+        let head = word_at(line, 0);
+        match kind {
+            ScriptFault::Size if line.len() > MOST_BYTES => LineFault::TooLong(line.len()),
+            ScriptFault::Size => LineFault::TooMany,
+            ScriptFault::Order if is_opening(head) => LineFault::SecondOpening(head),
+            ScriptFault::Order => LineFault::NoOpening(head),
+            ScriptFault::Word => unknown_word(line, head),
+            ScriptFault::Count => wrong_count(line, head),
+            ScriptFault::Number => no_number(line, head),
+            ScriptFault::Mode if is_opening(head) => LineFault::NeedsFile(head),
+            ScriptFault::Mode => LineFault::NeedsMemory(head),
+        }
+    }
+}
+
+/// The line of this number, counted from 1; nothing where there is none.
+fn line_at(script: &[u8], number: u64) -> &[u8] {
+    let Ok(place) = usize::try_from(number.saturating_sub(1)) else {
+        return &[];
+    };
+    match script.split(|byte| *byte == b'\n').nth(place) {
+        Some(line) => line,
+        None => &[],
+    }
+}
+
+/// The word at this place of a line, counted from 0; nothing where there is none.
+fn word_at(line: &[u8], place: usize) -> &[u8] {
+    let mut words = line
+        .split(|byte| *byte == b' ')
+        .filter(|word| !word.is_empty());
+    match words.nth(place) {
+        Some(word) => word,
+        None => &[],
+    }
+}
+
+fn count_words(line: &[u8]) -> usize {
+    line.split(|byte| *byte == b' ')
+        .filter(|word| !word.is_empty())
+        .count()
+}
+
+fn is_opening(head: &[u8]) -> bool {
+    matches!(head, b"shape" | b"open")
+}
+
+fn is_session(head: &[u8]) -> bool {
+    matches!(head, [b'0'..=b'9', ..])
+}
+
+fn unknown_word<'a>(line: &'a [u8], head: &'a [u8]) -> LineFault<'a> {
+    let verb = word_at(line, 1);
+    if is_session(head) {
+        let known = "up, del, add, max, get, refresh, poll, sleep or wake";
+        return LineFault::Unknown { word: verb, known };
+    }
+    match (head, verb) {
+        (b"k", b"commit") => LineFault::Unknown {
+            word: word_at(line, 2),
+            known: "log or nothing",
+        },
+        (b"k", _) => LineFault::Unknown {
+            word: verb,
+            known: "commit, turn or finish",
+        },
+        _ => LineFault::Unknown {
+            word: head,
+            known: "a session's number, k, crash or fail",
+        },
+    }
+}
+
+fn wrong_count<'a>(line: &'a [u8], head: &'a [u8]) -> LineFault<'a> {
+    // A session's number, or `k`, stands before the verb.
+    let place = if is_session(head) || head == b"k".as_slice() {
+        1
+    } else {
+        0
+    };
+    let word = word_at(line, place);
+    let given = count_words(line).saturating_sub(place).saturating_sub(1);
+    let takes = match word {
+        b"" => return LineFault::Count {
+            word: head,
+            takes: "a verb",
+            given: 0,
+        },
+        b"shape" => "seven numbers",
+        b"crash" => "the number of a call or nothing",
+        b"fail" => "the number of a call",
+        b"commit" => "log or nothing",
+        b"up" | b"add" | b"max" => "two numbers",
+        b"del" | b"get" => "one number",
+        _ => "no word",
+    };
+    LineFault::Count { word, takes, given }
+}
+
+fn no_number<'a>(line: &'a [u8], head: &'a [u8]) -> LineFault<'a> {
+    let least = if matches!(head, b"crash" | b"fail") {
+        1
+    } else {
+        0
+    };
+    let first = if is_session(head) { 2 } else { 1 };
+    let mut words = line
+        .split(|byte| *byte == b' ')
+        .filter(|word| !word.is_empty())
+        .skip(first);
+    match words.find(|word| !is_number(word, least)) {
+        Some(word) => LineFault::NoNumber { word, least },
+        None => LineFault::NoNumber { word: head, least },
+    }
+}
+
+/// Whether a word spells a number from `least` to 2^64 - 1, in digits alone.
+fn is_number(word: &[u8], least: u64) -> bool {
+    if !word.iter().all(|byte| byte.is_ascii_digit()) {
+        return false;
+    }
+    let Ok(digits) = str::from_utf8(word) else {
+        return false;
+    };
+    match digits.parse::<u64>() {
+        Ok(number) => number >= least,
+        Err(_) => false,
+    }
+}
+
+impl fmt::Display for LineFault<'_> {
+    fn fmt<W: fmt::Write>(&self, f: &mut fmt::Formatter<W>) -> fmt::Result {
+        match self {
+            LineFault::TooLong(bytes) => write!(
+                f,
+                "it has {bytes} bytes, and a line has at most 200"
+            ),
+            LineFault::TooMany => f.write_str("a script has at most 65536 lines"),
+            LineFault::NoOpening(word) => {
+                let word = Quoted(word);
+                write!(
+                    f,
+                    "{word} opens no store, and the first line has to: shape or open"
+                )
+            }
+            LineFault::SecondOpening(word) => {
+                let word = Quoted(word);
+                write!(f, "{word} opens a store, which the first line alone does")
+            }
+            LineFault::Unknown { word, known } => {
+                let word = Quoted(word);
+                write!(f, "{word} is unknown; this place takes {known}")
+            }
+            LineFault::Count { word, takes, given } => {
+                let word = Quoted(word);
+                let many = if *given == 1 { "" } else { "s" };
+                write!(
+                    f,
+                    "{word} takes {takes}, and has {given} word{many} behind it"
+                )
+            }
+            LineFault::NoNumber { word, least } => {
+                let word = Quoted(word);
+                let most = u64::MAX;
+                write!(f, "{word} is no number from {least} to {most}")
+            }
+            LineFault::NeedsFile(word) => {
+                let word = Quoted(word);
+                write!(f, "{word} needs a store in a file: --file PATH")
+            }
+            LineFault::NeedsMemory(word) => {
+                let word = Quoted(word);
+                write!(f, "{word} is for a store in memory: not with --file")
+            }
+        }
+    }
+}

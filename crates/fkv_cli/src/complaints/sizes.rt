@@ -1,0 +1,120 @@
+//! Sizes that are no shape's.
+use fkv_base::{
+    MAX_BUCKET_BITS, MAX_DISK_PAGES, MAX_FRAMES, MAX_OVERFLOW, MAX_PAGE, MAX_SESSIONS, MIN_FRAMES,
+    MIN_PAGE,
+};
+use fkv_lines::Sizes;
+use std::fmt;
+
+/// The first size that is outside its limits.
+#[derive(Clone, Copy)]
+pub(crate) struct SizeFault {
+    name: &'static str,
+    value: u64,
+    limits: Limits,
+}
+
+/// The least and the most that a size may be.
+#[derive(Clone, Copy)]
+struct Limits {
+    least: u64,
+    most: u64,
+    is_power_of_two: bool,
+}
+
+impl SizeFault {
+    /// The first of these sizes that is outside its limits.
+    pub(crate) fn of(sizes: Sizes) -> Option<SizeFault> {
+        let limited = [
+            (
+                "K, the bucket bits,",
+                sizes.bucket_bits,
+                any(0, MAX_BUCKET_BITS),
+            ),
+            (
+                "P, the records of a page,",
+                sizes.page,
+                power_of_two(MIN_PAGE, MAX_PAGE),
+            ),
+            (
+                "F, the frames,",
+                sizes.frames,
+                power_of_two(MIN_FRAMES, MAX_FRAMES),
+            ),
+            (
+                "M, the mutable pages,",
+                sizes.mutable,
+                any(1, sizes.frames.saturating_sub(1)),
+            ),
+            ("S, the sessions,", sizes.sessions, any(1, MAX_SESSIONS)),
+            (
+                "O, the overflow buckets,",
+                sizes.overflow,
+                any(0, MAX_OVERFLOW),
+            ),
+            (
+                "D, the pages on the device,",
+                sizes.disk_pages,
+                any(1, MAX_DISK_PAGES),
+            ),
+        ];
+        for (name, value, limits) in limited {
+            if !limits.allow(value) {
+                return Some(SizeFault {
+                    name,
+                    value,
+                    limits,
+                });
+            }
+        }
+        None
+    }
+}
+
+fn any(least: u64, most: u64) -> Limits {
+    Limits {
+        least,
+        most,
+        is_power_of_two: false,
+    }
+}
+
+fn power_of_two(least: u64, most: u64) -> Limits {
+    Limits {
+        least,
+        most,
+        is_power_of_two: true,
+    }
+}
+
+impl Limits {
+    fn allow(self, value: u64) -> bool {
+        self.least <= value
+            && value <= self.most
+            && (!self.is_power_of_two || value.is_power_of_two())
+    }
+}
+
+impl fmt::Display for SizeFault {
+    fn fmt<W: fmt::Write>(&self, f: &mut fmt::Formatter<W>) -> fmt::Result {
+        let SizeFault {
+            name,
+            value,
+            limits,
+        } = *self;
+        let Limits {
+            least,
+            most,
+            is_power_of_two,
+        } = limits;
+        let kind = if is_power_of_two {
+            "a power of two "
+        } else {
+            ""
+        };
+        write!(
+            f,
+            "the size {name} is {value}, and has to be {kind}from {least} to {most}"
+        )
+    }
+}

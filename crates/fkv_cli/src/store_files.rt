@@ -1,0 +1,137 @@
+//! The file of a store: one process alone has it open, and no other file is written over.
+use fkv_base::Fault;
+use fkv_disk::{Device, FileDisk};
+use std::fmt;
+use std::fs::{File, OpenFile, OpenOptions, TryLockError};
+use std::io::ErrorKind;
+use std::rt::Files;
+
+/// The bytes of a store before its first area: the shape's block and two slots.
+const FRONT: usize = 1536;
+
+/// What a store's first bytes are.
+const STORE_TEXT: &[u8] = b"FKVSTOR1";
+
+/// A file that one open handle can have alone.
+pub trait Lockable {
+    /// Locks the whole file for this handle, and doesn't wait for it. The lock ends as the handle is closed, so with its process.
+    fn lock_alone(&self) -> Result<(), TryLockError>;
+}
+
+impl Lockable for File {
+    fn lock_alone(&self) -> Result<(), TryLockError> {
+        self.try_lock()
+    }
+}
+
+/// Why no store can be made or opened in a file.
+#[derive(Clone, Copy)]
+pub(crate) enum Trouble {
+    /// The system didn't open or lock it.
+    Refused(ErrorKind),
+    /// Another process has it open.
+    InUse,
+    /// It holds something else than a store.
+    Foreign,
+    /// The folder of a new file could not be synced.
+    Folder(ErrorKind),
+    /// The file is open, and what was done with it met this fault.
+    Met(Fault),
+}
+
+/// Opens the file of a store that is there, for this process alone.
+pub(crate) fn open_alone<H: Files>(rt: &H, path: &str) -> Result<FileDisk<H::File>, Trouble>
+where
+    H::File: Lockable,
+{
+    let file = open_locked(rt, OpenOptions::new().read(true).write(true), path)?;
+    Ok(FileDisk::new(file))
+}
+
+/// Opens a file that a new store is to lie in, for this process alone, and makes it where there is none. The bytes of one that is
+/// there stay as they are; it is refused unless it is empty, its front is all zeros, or it begins as a store does. Behind this call
+/// the folder of a new file is synced.
+pub(crate) fn make_alone<H: Files>(rt: &H, path: &str) -> Result<FileDisk<H::File>, Trouble>
+where
+    H::File: Lockable,
+{
+    let file = open_locked(
+        rt,
+        OpenOptions::new().read(true).write(true).create(true),
+        path,
+    )?;
+    let known = match file.metadata() {
+        Ok(known) => known,
+        Err(error) => return Err(Trouble::Refused(error.kind())),
+    };
+    // Nobody has written to it, so nobody may have synced its folder.
+    if known.is_file() && known.len() == 0 {
+        sync_folder(rt, folder_of(path))?;
+    }
+    let mut disk = FileDisk::new(file);
+    if !may_hold_store(&mut disk)? {
+        return Err(Trouble::Foreign);
+    }
+    Ok(disk)
+}
+
+fn open_locked<H: Files>(rt: &H, how: &OpenOptions, path: &str) -> Result<H::File, Trouble>
+where
+    H::File: Lockable,
+{
+    let file = match how.open(rt, path) {
+        Ok(file) => file,
+        Err(error) => return Err(Trouble::Refused(error.kind())),
+    };
+    match file.lock_alone() {
+        Ok(()) => Ok(file),
+        Err(TryLockError::WouldBlock) => Err(Trouble::InUse),
+        Err(TryLockError::Error(error)) => Err(Trouble::Refused(error.kind())),
+    }
+}
+
+/// The folder that a file of this path lies in.
+fn folder_of(path: &str) -> &str {
+    match path.rsplit_once('/') {
+        Some(("", _)) => "/",
+        Some((folder, _)) => folder,
+        None => ".",
+    }
+}
+
+/// Makes a new name in a folder durable.
+fn sync_folder<H: Files>(rt: &H, folder: &str) -> Result<(), Trouble> {
+    let synced = match OpenOptions::new().read(true).open(rt, folder) {
+        Ok(folder) => folder.sync_all(),
+        Err(error) => Err(error),
+    };
+    match synced {
+        Ok(()) => Ok(()),
+        Err(error) => Err(Trouble::Folder(error.kind())),
+    }
+}
+
+/// Whether nothing but a store is lost where one is made here. What is past the end reads as zeros.
+fn may_hold_store<D: Device>(disk: &mut D) -> Result<bool, Trouble> {
+    let mut front = [0; FRONT];
+    match disk.read(0, &mut front) {
+        Ok(()) => Ok(front.starts_with(STORE_TEXT) || front.iter().all(|byte| *byte == 0)),
+        Err(fault) => Err(Trouble::Met(fault)),
+    }
+}
+
+impl fmt::Display for Trouble {
+    fn fmt<W: fmt::Write>(&self, f: &mut fmt::Formatter<W>) -> fmt::Result {
+        match self {
+            Trouble::Refused(kind) => write!(f, "can't be opened: {kind}"),
+            Trouble::InUse => f.write_str("is in use by another process"),
+            Trouble::Foreign => f.write_str(
+                "holds something that is no store, and is left as it is",
+            ),
+            Trouble::Folder(kind) => write!(f, "is new, and its folder can't be synced: {kind}"),
+            Trouble::Met(Fault::NotAStore) => f.write_str("holds no store"),
+            Trouble::Met(Fault::Device) => f.write_str("could not be read or written"),
+            Trouble::Met(fault) => write!(f, "can't be used: {fault}"),
+        }
+    }
+}
