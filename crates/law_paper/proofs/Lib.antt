@@ -1,0 +1,3 @@
+mod OfApart
+mod OfKept
+mod OfPhases
