@@ -1,0 +1,4 @@
+mod Down
+pub mod Old
+pub mod Sound
+mod Values

@@ -1,0 +1,4 @@
+pub mod Images
+pub mod Old
+pub mod Stands
+pub mod Values

@@ -1,0 +1,39 @@
+-- What an image shows of the records of a log.
+use Rattle.std.specs.Prelude.{◌≡◌, ◌⊎◌, ℕ, ◌+◌, ◌<◌, ◌≤◌, true, false}
+use Rattle.fkv_ops.specs.Values.{value_of}
+use Rattle.fkv_order.specs.Chains.{Cell, Logged, Unborn, Published, Dropped, VersionsFall}
+use Rattle.fkv_order.specs.Ghosts.{Log}
+use Rattle.fkv_order.specs.Owed.{AreChains}
+use Rattle.fkv_record.specs.declared.records.Record.{Record}
+use Rattle.fkv_scan.specs.Log as scan
+use Rattle.fkv_scan.specs.Records.{Stands}
+
+-- The image has a published record at its address: valid, with its key, its value and what it leads to. From an address on its header says the record's
+-- version. Below that it says no later one, since all that a store was opened with counts as of the opening's version.
+pub record ShowsCell (from : ℕ) (image : scan.Log) (a : ℕ) (cell : Cell) : Type 0 where
+  pub held : Record
+  pub stands : Stands image a held
+  pub valid : (let x = held in x.header.invalid ≡ false)
+  pub its_key : (let x = held in x.key.0 ≡ cell.key)
+  pub its_value : (let x = held in value_of x.value ≡ cell.value)
+  pub leads : (let x = held in x.header.previous.0 ≡ cell.previous)
+  pub low : (let x = held in x.header.version.0 ≤ cell.version)
+  pub same : from ≤ a → (let x = held in x.header.version.0 ≡ cell.version)
+
+-- It has one that was given up: with the invalid bit, leading below itself, and of the version after the commit's at most.
+pub record ShowsDropped (image : scan.Log) (a : ℕ) : Type 0 where
+  pub held : Record
+  pub stands : Stands image a held
+  pub invalid : (let x = held in x.header.invalid ≡ true)
+  pub falls : (let x = held in x.header.previous.0 < a)
+  pub young : (let x = held in x.header.version.0 ≤ image.version + 1)
+
+-- the record of an address is published, or was given up
+abbrev pub IsDecided : Logged → Type 0
+IsDecided logged = ((cell : Cell) × (logged ≡ Published cell)) ⊎ ((cell : Cell) × (logged ≡ Dropped cell))
+
+-- The log is in order: its chains have just the published records of their homes, versions never rise down a chain, and nothing stands at address 0.
+pub record IsOrderly (home : ℕ → ℕ) (g : Log) : Type 0 where
+  pub chains : AreChains home g
+  pub falls : (h : ℕ) → VersionsFall g.cells (g.chains h)
+  pub none : g.cells 0 ≡ Unborn
