@@ -1,4 +1,6 @@
+mod Counting
 mod Down
 pub mod Old
+pub mod Room
 pub mod Sound
 mod Values
