@@ -1,5 +1,6 @@
 mod Counting
 mod Down
+pub mod Named
 pub mod Old
 pub mod Room
 pub mod Sound

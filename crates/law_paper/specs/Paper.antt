@@ -1,4 +1,5 @@
 pub mod Images
+pub mod Named
 pub mod Old
 pub mod Slots
 pub mod Stands

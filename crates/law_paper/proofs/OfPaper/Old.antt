@@ -228,12 +228,12 @@ module _ (home : ℕ → ℕ) (was image : scan.Log) (g : Log) (spells : SpellsA
         let up = below_is b (kept_in h b greatest.here.0 least (omega (arith, low, below)) greatest.here.1) low in
         let falls = next.1 in
         let at : x.header.previous.0 ≤ b = ⊎_elim
-            (λ high. absurd (elim next.0 [
-              | inl none ↦ omega (arith, none, high)
-              | inr has ↦ (let kept = in_kept h x.header.previous.0 has (omega (arith, least, high)) (omega (arith, falls, below)) in greatest.none_above x.header.previous.0 kept.0 (omega (arith, high)) falls kept.1)
-            ]))
-            (λ most. most)
-            (cases_lt b x.header.previous.0) in
+        (λ high. absurd (elim next.0 [
+          | inl none ↦ omega (arith, none, high)
+          | inr has ↦ (let kept = in_kept h x.header.previous.0 has (omega (arith, least, high)) (omega (arith, falls, below)) in greatest.none_above x.header.previous.0 kept.0 (omega (arith, high)) falls kept.1)
+        ]))
+        (λ most. most)
+        (cases_lt b x.header.previous.0) in
         omega (arith, up, at)
 
     leads_first : HasNone (IsKept image h) was.start a → x.header.previous.0 < was.start
@@ -494,12 +494,15 @@ module _ (home : ℕ → ℕ) (was image : scan.Log) (g : Log) (spells : SpellsA
           (λ below.
           let c = paper.opened.chains b reached below in
           let is_y = one_was b c.held y c.old.stands stands in
-          let counts_b : Has (Counts was h) b = (c.held, record {
-            reached = reached;
-            valid = record { stands = c.old.stands; valid = c.valid; same = ap (record_home was.shape.bucket_bits) is_y ∙ same };
-            old_enough = c.old.old_enough;
-            not_lost = λ on. absurd (omega (arith, on, below));
-          }) in
+          let counts_b : Has (Counts was h) b = (
+            c.held,
+            record {
+              reached = reached;
+              valid = record { stands = c.old.stands; valid = c.valid; same = ap (record_home was.shape.bucket_bits) is_y ∙ same };
+              old_enough = c.old.old_enough;
+              not_lost = λ on. absurd (omega (arith, on, below));
+            },
+          ) in
           let up = most b (counts_chain h b below counts_b) below in
           absurd (omega (arith, up, falls, is)))
           (λ from. by_record b y from low (record { stands = stands; valid = reached_valid b reached from y stands; same = same }) is under)
@@ -671,23 +674,27 @@ module _ (home : ℕ → ℕ) (was image : scan.Log) (g : Log) (spells : SpellsA
       ⊎_elim
       (λ before.
       let counts = (paper.before.counted h a before).0 has in
-      let c = counts.1 in
-      (counts.0, record {
-        reached = again a c.reached;
-        valid = valid_now h a counts.0 before c.valid;
-        old_enough = (let o = c.old_enough in let n = paper.goes_on.newer in omega (arith, o, n));
-        not_lost = λ on. (paper.lost.rest a counts.0 (let st = paper.goes_on.start in omega (arith, on, st)) before c.valid.stands c.valid.valid).0 (subst (λ (n : ℕ). IsIn a (g.chains n)) (sym c.valid.same) has);
-      }))
+      let c = counts.1 in (
+        counts.0,
+        record {
+          reached = again a c.reached;
+          valid = valid_now h a counts.0 before c.valid;
+          old_enough = (let o = c.old_enough in let n = paper.goes_on.newer in omega (arith, o, n));
+          not_lost = λ on. (paper.lost.rest a counts.0 (let st = paper.goes_on.start in omega (arith, on, st)) before c.valid.stands c.valid.valid).0 (subst (λ (n : ℕ). IsIn a (g.chains n)) (sym c.valid.same) has);
+        },
+      ))
       (λ new.
       let under = s.low in
       let up = paper.opened.upwards in
-      let st = paper.goes_on.start in
-      (s.held, record {
-        reached = in_scan a s.held (omega (arith, st, up, new)) low s.stands s.valid;
-        valid = valid;
-        old_enough = omega (arith, under, young, (let r : IsHere a = q.0 in ap version_at (sym r.its) ∙ ap version_at its.its));
-        not_lost = λ on. paper.lost.none_lost a s.held new s.stands;
-      }))
+      let st = paper.goes_on.start in (
+        s.held,
+        record {
+          reached = in_scan a s.held (omega (arith, st, up, new)) low s.stands s.valid;
+          valid = valid;
+          old_enough = omega (arith, under, young, (let r : IsHere a = q.0 in ap version_at (sym r.its) ∙ ap version_at its.its));
+          not_lost = λ on. paper.lost.none_lost a s.held new s.stands;
+        },
+      ))
       (cases_lt a was.tail)
 
   pub of_counts : (h a : ℕ) (x : Record) → Counts image h a x → IsIn a (g.chains h) × (version_at (g.cells a) ≤ image.version)
@@ -697,14 +704,17 @@ module _ (home : ℕ → ℕ) (was image : scan.Log) (g : Log) (spells : SpellsA
         let st = paper.goes_on.start in
         let v = valid_was h a x before counts.valid in
         let has : IsIn a (g.chains h) = ⊎_elim
-            (λ under. counts_chain h a under (x, record {
-              reached = old.1;
-              valid = v;
-              old_enough = (let c = paper.opened.chains a old.1 under in let is = ap (λ (z : Record). z.header.version.0) (one_was a x c.held v.stands c.old.stands) in let o = c.old.old_enough in omega (arith, is, o));
-              not_lost = λ on. absurd (omega (arith, on, under));
-            }))
-            (λ on. subst (λ (n : ℕ). IsIn a (g.chains n)) v.same ((paper.lost.rest a x on before v.stands v.valid).1 (counts.not_lost (omega (arith, on, st)))))
-            (cases_lt a was.start) in
+        (λ under. counts_chain h a under (
+          x,
+          record {
+            reached = old.1;
+            valid = v;
+            old_enough = (let c = paper.opened.chains a old.1 under in let is = ap (λ (z : Record). z.header.version.0) (one_was a x c.held v.stands c.old.stands) in let o = c.old.old_enough in omega (arith, is, o));
+            not_lost = λ on. absurd (omega (arith, on, under));
+          },
+        ))
+        (λ on. subst (λ (n : ℕ). IsIn a (g.chains n)) v.same ((paper.lost.rest a x on before v.stands v.valid).1 (counts.not_lost (omega (arith, on, st)))))
+        (cases_lt a was.start) in
         let its = paper.orderly.chains.in_chain h a has in
         let version = paper.before.one_version a its.cell before its.its in
         let is = ap version_at its.its in

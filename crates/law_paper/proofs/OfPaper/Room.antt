@@ -236,11 +236,11 @@ module _ (home : ℕ → ℕ) (image : scan.Log) (g : Log) (paper : CountsAsLog 
     needs_few : (b : ℕ) → needed (in_bucket (listed has_entry last_home) b) ≤ many (is_next b) overflow
     needs_few b =
         let all = many_more (of_bucket b) (below b (7 * suc overflow)) last_home (λ h is.
-            let slot = its_slot b h is in
-            let place = slot.0.seven in
-            let part = slot.0.there in
-            let low : position h < 7 * suc overflow = omega (arith, place, part) in
-            and_is (of_bucket b h) (nat_lt (position h) (7 * suc overflow)) is (grind (arith, nat_tests, low))) in
+        let slot = its_slot b h is in
+        let place = slot.0.seven in
+        let part = slot.0.there in
+        let low : position h < 7 * suc overflow = omega (arith, place, part) in
+        and_is (of_bucket b h) (nat_lt (position h) (7 * suc overflow)) is (grind (arith, nat_tests, low))) in
         omega (arith, all, bucket_many has_entry b last_home, up_to b last_home overflow)
 
     -- and all together no more than follow one of them
@@ -248,7 +248,7 @@ module _ (home : ℕ → ℕ) (image : scan.Log) (g : Log) (paper : CountsAsLog 
     takes_few zero = omega arith
     takes_few (suc b) =
         let joined = many_join (λ i. nat_lt (slots.follows (suc i)) (suc b)) (λ i. nat_lt (slots.follows (suc i)) b) (is_next b) overflow
-            (λ i is. grind (arith, nat_tests, is)) (λ i is. grind (arith, nat_tests, is)) (λ i first second. grind (arith, nat_tests, first, second)) in
+        (λ i is. grind (arith, nat_tests, is)) (λ i is. grind (arith, nat_tests, is)) (λ i first second. grind (arith, nat_tests, first, second)) in
         omega (arith, takes_few b, needs_few b, joined)
 
     pub has_room : HasRoom image

@@ -109,7 +109,7 @@ module _ (home : ℕ → ℕ) (image : scan.Log) (g : Log) (spells : SpellsApart
       let falls = links.1 in
       let some : head_of older ≢ 0 = λ none. not_published _ (sym paper.orderly.none ∙ ap g.cells (sym none) ∙ (let q = there (head_of older) (inr (head_in older a rest)) (omega (arith, falls, same, below)) in q.its)) in
       down older links.2 (head_of older) a (head_in older a rest) rest most (omega (arith, falls, same, below)) (λ b has. there b (inr has))
-          (Reached.linked c (head_of older) s.held (subst (Reached image) (sym same) reached) s.stands (s.leads ∙ next) some)
+      (Reached.linked c (head_of older) s.held (subst (Reached image) (sym same) reached) s.stands (s.leads ∙ next) some)
   down (c ∷ older) links t a (inr has) (inl at) low below there reached =
       let high = in_below g.cells c older links.1 links.2 t has in absurd (omega (arith, high, at, low))
   down (c ∷ older) links t a (inr has) (inr rest) low below there reached = down older links.2 t a has rest low below (λ b its. there b (inr its)) reached
@@ -123,7 +123,7 @@ module _ (home : ℕ → ℕ) (image : scan.Log) (g : Log) (spells : SpellsApart
       (λ under.
       let t = paper.triples.covers (home cell.key) a (paper.orderly.chains.its_chain a cell is) under in
       down (g.chains (home cell.key)) (paper.orderly.chains.linked _) t.0 a (paper.triples.in_chain _ t.0 t.1) (paper.orderly.chains.its_chain a cell is) t.2 (paper.triples.below _ t.0 t.1)
-          (λ b has within. (of_chain _ b has within).0) (led_to (home cell.key) t.0 t.1))
+      (λ b has within. (of_chain _ b has within).0) (led_to (home cell.key) t.0 t.1))
       (λ from. in_scan a s.held from low s.stands s.valid)
       (cases_lt a image.start)
 
@@ -153,13 +153,13 @@ module _ (home : ℕ → ℕ) (image : scan.Log) (g : Log) (spells : SpellsApart
       let at : home (let c = p.cell in c.key) ≡ h = sym (its_home a p x counts.valid.stands) ∙ counts.valid.same in
       let version : version_at (g.cells a) ≡ (let c = p.cell in c.version) = ap version_at p.its in
       let old : (let c = p.cell in c.version) ≤ image.version = ⊎_elim
-          (λ under. paper.cut.old_below a p.cell p.its under)
-          (λ from.
-          let same : (let s = p.shown in s.held.header.version.0) ≡ (let c = p.cell in c.version) = (let s = p.shown in s.same from) in
-          let as_is : x.header.version.0 ≡ (let s = p.shown in s.held.header.version.0) = ap (λ (y : Record). y.header.version.0) is in
-          let enough = counts.old_enough in
-          omega (arith, same, as_is, enough))
-          (cases_lt a image.start) in
+      (λ under. paper.cut.old_below a p.cell p.its under)
+      (λ from.
+      let same : (let s = p.shown in s.held.header.version.0) ≡ (let c = p.cell in c.version) = (let s = p.shown in s.same from) in
+      let as_is : x.header.version.0 ≡ (let s = p.shown in s.held.header.version.0) = ap (λ (y : Record). y.header.version.0) is in
+      let enough = counts.old_enough in
+      omega (arith, same, as_is, enough))
+      (cases_lt a image.start) in
       (subst (λ (n : ℕ). IsIn a (g.chains n)) at (in_own a p), omega (arith, version, old), p, is)
 
   -- ---- the scan
@@ -218,12 +218,12 @@ module _ (home : ℕ → ℕ) (image : scan.Log) (g : Log) (spells : SpellsApart
         let up = below_is b k.1 low in
         let falls = next.1 in
         let at : x.header.previous.0 ≤ b = ⊎_elim
-            (λ high. absurd (elim next.0 [
-              | inl none ↦ omega (arith, none, high)
-              | inr has ↦ (let kept = is_kept h x.header.previous.0 has (omega (arith, least, high)) (omega (arith, falls, below)) in greatest.none_above x.header.previous.0 kept.0 (omega (arith, high)) falls kept.1)
-            ]))
-            (λ most. most)
-            (cases_lt b x.header.previous.0) in (
+        (λ high. absurd (elim next.0 [
+          | inl none ↦ omega (arith, none, high)
+          | inr has ↦ (let kept = is_kept h x.header.previous.0 has (omega (arith, least, high)) (omega (arith, falls, below)) in greatest.none_above x.header.previous.0 kept.0 (omega (arith, high)) falls kept.1)
+        ]))
+        (λ most. most)
+        (cases_lt b x.header.previous.0) in (
           omega (arith, up, at),
           λ y stands.
               let s = (let q : IsHere b = k.0 in q.shown) in

@@ -50,8 +50,7 @@ module _ (home : ℕ → ℕ) (image : scan.Log) (g : Log) (spells : SpellsApart
       let same : y.key.0 ≡ key = ap (λ (k : Key). k.0) of_key in
       let at : record_home image.shape.bucket_bits y ≡ home key = paper.homes y ∙ ap home same in
       let key_is : (let d = s.cell in d.key) ≡ key = sym s.its_key ∙ same in
-      let version_is : (let d = s.cell in d.version) ≤ image.version = subst (λ (n : ℕ). n ≤ image.version) (ap version_at s.its) c.1 in
-      (
+      let version_is : (let d = s.cell in d.version) ≤ image.version = subst (λ (n : ℕ). n ≤ image.version) (ap version_at s.its) c.1 in (
         subst (λ (h : ℕ). IsIn b (g.chains h)) at c.0,
         ap (has_key_upto image.version key) s.its ∙ passes key image.version _ _ key_is version_is,
       )
@@ -101,7 +100,7 @@ module _ (home : ℕ → ℕ) (image : scan.Log) (g : Log) (spells : SpellsApart
         let counts : CountsAtHome image a x = subst (λ (h : ℕ). Counts image h a x) (sym has.1.valid.same) has.1 in
         let most = is_newest key a x counts (ap (λ (n : ℕ). let k : Key = record { 0 = n } in k) key_is) is in
         let value : shown_upto home g image.version key ≡ value_of x.value =
-            ap (λ (n : ℕ). value_at (g.cells n)) is ∙ ap value_at there ∙ sym (s.its_value ∙ ap (λ (d : Cell). d.value) same_cell) in (
+        ap (λ (n : ℕ). value_at (g.cells n)) is ∙ ap value_at there ∙ sym (s.its_value ∙ ap (λ (d : Cell). d.value) same_cell) in (
           λ shows. (let word = value_is x.value v (sym value ∙ shows) in record { addr = a; held = x; newest = most; written = word.0; present = word.1 }),
           λ given.
               let same = same_newest (record { 0 = key }) a given.addr x given.held most given.newest in
