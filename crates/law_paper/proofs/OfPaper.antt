@@ -1,5 +1,6 @@
 mod Counting
 mod Down
+mod Here
 pub mod Named
 pub mod Old
 pub mod Room

@@ -20,7 +20,8 @@ use Rattle.fkv_ops.specs.Values.{value_of}
 use Rattle.law_paper.specs.Paper.Images.{ShowsCell}
 use Rattle.law_paper.specs.Paper.Old.{StandsOnOld}
 use Rattle.law_paper.specs.Paper.Values.{ShowsUpto, CountsAsLog, TellsCell}
-use Rattle.law_paper.proofs.OfPaper.Down.{below_next, next_within, versions_fall}
+use Rattle.law_paper.proofs.OfPaper.Down.{versions_fall}
+use Rattle.law_paper.proofs.OfPaper.Here.{Showing, IsHere, dropped_scanned, one, here, as_shown, in_own, of_chain, its_home, since_here, next_in, below_in, leads_nearest, leads_first, leads_in}
 use Rattle.law_paper.proofs.OfPaper.Sound.{triple_once}
 use Rattle.law_paper.proofs.OfPaper.Values.{shows_upto}
 
@@ -57,8 +58,8 @@ zero_or zero = inl refl
 zero_or (suc n) = inr (λ is. omega (arith, is))
 
 module _ (home : ℕ → ℕ) (was image : scan.Log) (g : Log) (spells : SpellsApart record_bytes) (paper : StandsOnOld home was image g) where
-  one : (a : ℕ) (x y : Record) → Stands image a x → Stands image a y → x ≡ y
-  one a x y first second = spells x y (first ∙ sym second)
+  abbrev it : Showing home was.tail image g
+  it = record { spells = spells; orderly = paper.orderly; shows = paper.shows }
 
   one_was : (a : ℕ) (x y : Record) → Stands was a x → Stands was a y → x ≡ y
   one_was a x y first second = spells x y (first ∙ sym second)
@@ -98,69 +99,33 @@ module _ (home : ℕ → ℕ) (was image : scan.Log) (g : Log) (spells : SpellsA
       let falls = falls_in a x low reached stands in
       omega (arith, low, falls, is)
 
-  -- ---- a published record below the end
-  pub record IsHere (a : ℕ) : Type 0 where
-    pub cell : Cell
-    pub its : g.cells a ≡ Published cell
-    pub low : a < image.tail
-    pub shown : ShowsCell was.tail image a cell
-
-  abbrev here : (a : ℕ) (cell : Cell) → g.cells a ≡ Published cell → a < image.tail → IsHere a
-  here a cell is low = record { cell = cell; its = is; low = low; shown = paper.since.published a cell is low }
-
-  as_shown : (a : ℕ) (p : IsHere a) (x : Record) → Stands image a x → x ≡ (let s = p.shown in s.held)
-  as_shown a p x stands = one a x _ stands (let s = p.shown in s.stands)
-
-  in_own : (a : ℕ) (p : IsHere a) → IsIn a (g.chains (home (let c = p.cell in c.key)))
-  in_own a p = paper.orderly.chains.its_chain a p.cell p.its
-
-  of_chain : (h a : ℕ) → IsIn a (g.chains h) → a < image.tail → (p : IsHere a) × (home (let c = p.cell in c.key) ≡ h)
-  of_chain h a has low = let its = paper.orderly.chains.in_chain h a has in (here a its.cell its.its low, its.its_home)
-
-  its_home : (a : ℕ) (p : IsHere a) (x : Record) → Stands image a x → record_home was.shape.bucket_bits x ≡ home (let c = p.cell in c.key)
-  its_home a p x stands =
-      let is = as_shown a p x stands in
-      paper.homes x ∙ ap (λ (y : Record). home y.key.0) is ∙ ap home (let s = p.shown in s.its_key)
-
-  -- of this life a valid record is published
-  new_here : (a : ℕ) (x : Record) → was.tail ≤ a → a < image.tail → Stands image a x → x.header.invalid ≡ false → IsHere a
-  new_here a x from low stands valid = elim (paper.since.decided a from low) [
-    | inl published ↦ here a published.0 published.1 low
-    | inr dropped ↦
-        let d = paper.since.dropped a dropped.0 dropped.1 from low in
-        let is : x ≡ d.held = one a x d.held stands d.stands in
-        absurd (true≢false (sym d.invalid ∙ ap (λ (y : Record). y.header.invalid) (sym is) ∙ valid))
-  ]
+  old_home : (a : ℕ) (p : IsHere was.tail image g a) (x : Record) → Stands image a x → record_home was.shape.bucket_bits x ≡ home (let c = p.cell in c.key)
+  old_home a p x stands = sym (its_bits x) ∙ its_home it a p x stands
 
   -- ---- what is reached
   abbrev Splits : ℕ → Type 0
-  Splits a = ((a < was.tail) × Reached was a) ⊎ ((was.tail ≤ a) × IsHere a)
+  Splits a = ((a < was.tail) × Reached was a) ⊎ ((was.tail ≤ a) × IsHere was.tail image g a)
 
   next_splits : (h b : ℕ) → IsIn b (g.chains h) → b < image.tail → Splits b
   next_splits h b has low = ⊎_elim
       (λ old. inl (old, (let c = (paper.before.counted h b old).0 has in c.1.reached)))
-      (λ new. inr (new, (of_chain h b has low).0))
+      (λ new. inr (new, (of_chain it h b has low).0))
       (cases_lt b was.tail)
 
   pub splits : (a : ℕ) → Reached image a → Splits a
   splits a (in_scan _ x from low stands valid) = ⊎_elim
       (λ old. inl (old, in_scan a x (let s = paper.goes_on.start in omega (arith, from, s)) old ((paper.goes_on.bytes a x old).1 stands) valid))
-      (λ new. inr (new, new_here a x new low stands valid))
+      (λ new. inr (new, since_here it a x new low stands valid))
       (cases_lt a was.tail)
   splits a (led_to h _ t) = (let r : Reached was a = led_to h a (same_triple h a t) in inl (was_low a r, r))
   splits b (linked a _ x reached stands is some) = elim (splits a reached) [
     | inl old ↦ (let r : Reached was b = linked a b x old.1 ((paper.goes_on.bytes a x old.0).1 stands) is some in inl (was_low b r, r))
     | inr new ↦
-        let p : IsHere a = new.1 in
-        let leads : x.header.previous.0 ≡ (let c = p.cell in c.previous) = ap (λ (y : Record). y.header.previous.0) (as_shown a p x stands) ∙ (let s = p.shown in s.leads) in
-        let next = next_within g.cells _ (paper.orderly.chains.linked _) a p.cell (in_own a p) p.its in
-        let low = next.1 in
+        let p : IsHere was.tail image g a = new.1 in
+        let to = leads_in it a b p x stands is some in
+        let low = to.1 in
         let under = p.low in
-        let at : (let c = p.cell in c.previous) ≡ b = sym leads ∙ is in
-        elim next.0 [
-          | inl none ↦ absurd (some (sym at ∙ none))
-          | inr has ↦ next_splits _ b (subst (λ (n : ℕ). IsIn n (g.chains (home (let c = p.cell in c.key)))) at has) (omega (arith, low, under, at))
-        ]
+        next_splits _ b to.0 (omega (arith, low, under))
   ]
 
   -- and the other way round
@@ -174,25 +139,25 @@ module _ (home : ℕ → ℕ) (was image : scan.Log) (g : Log) (spells : SpellsA
   kept_in h b y from low kept =
       let at : record_home was.shape.bucket_bits y ≡ h = sym (its_bits y) ∙ kept.here.same in
       ⊎_elim
-      (λ old. subst (λ (n : ℕ). IsIn b (g.chains n)) at ((paper.lost.rest b y from old ((paper.goes_on.bytes b y old).1 kept.here.stands) kept.here.valid).1 kept.not_lost))
+      (λ old. subst (λ (n : ℕ). IsIn b (g.chains n)) at ((paper.loses b y from old ((paper.goes_on.bytes b y old).1 kept.here.stands) kept.here.valid).1 kept.not_lost))
       (λ new.
-      let p : IsHere b = new_here b y new low kept.here.stands kept.here.valid in
-      subst (λ (n : ℕ). IsIn b (g.chains n)) (sym (its_home b p y kept.here.stands) ∙ at) (in_own b p))
+      let p : IsHere was.tail image g b = since_here it b y new low kept.here.stands kept.here.valid in
+      subst (λ (n : ℕ). IsIn b (g.chains n)) (sym (old_home b p y kept.here.stands) ∙ at) (in_own it b p))
       (cases_lt b was.tail)
 
   in_kept : (h b : ℕ) → IsIn b (g.chains h) → was.start ≤ b → b < image.tail → Has (IsKept image h) b
   in_kept h b has from low =
-      let p = of_chain h b has low in
+      let p = of_chain it h b has low in
       let s : ShowsCell was.tail image b (let q = p.0 in q.cell) = (let q = p.0 in q.shown) in
-      let at : record_home was.shape.bucket_bits s.held ≡ h = its_home b p.0 s.held s.stands ∙ p.1 in
+      let at : record_home was.shape.bucket_bits s.held ≡ h = old_home b p.0 s.held s.stands ∙ p.1 in
       let here_is : IsValid image h b s.held = record { stands = s.stands; valid = s.valid; same = its_bits s.held ∙ at } in
       ⊎_elim
-      (λ old. (s.held, record { here = here_is; not_lost = (paper.lost.rest b s.held from old ((paper.goes_on.bytes b s.held old).1 s.stands) s.valid).0 (subst (λ (n : ℕ). IsIn b (g.chains n)) (sym at) has) }))
-      (λ new. (s.held, record { here = here_is; not_lost = paper.lost.none_lost b s.held new s.stands }))
+      (λ old. (s.held, record { here = here_is; not_lost = (paper.loses b s.held from old ((paper.goes_on.bytes b s.held old).1 s.stands) s.valid).0 (subst (λ (n : ℕ). IsIn b (g.chains n)) (sym at) has) }))
+      (λ new. (s.held, record { here = here_is; not_lost = paper.shows.none_lost b s.held new s.stands }))
       (cases_lt b was.tail)
 
   -- ---- a record of a chain, in the scan
-  module _ (a : ℕ) (from : was.start ≤ a) (p : IsHere a) where
+  module _ (a : ℕ) (from : was.start ≤ a) (p : IsHere was.tail image g a) where
     abbrev x : Record
     x = let s = p.shown in s.held
 
@@ -203,50 +168,20 @@ module _ (home : ℕ → ℕ) (was image : scan.Log) (g : Log) (spells : SpellsA
     stands_x = let s = p.shown in s.stands
 
     in_h : IsIn a (g.chains h)
-    in_h = subst (λ (n : ℕ). IsIn a (g.chains n)) (sym (its_home a p x stands_x)) (in_own a p)
-
-    leads_x : x.header.previous.0 ≡ (let c = p.cell in c.previous)
-    leads_x = let s = p.shown in s.leads
+    in_h = subst (λ (n : ℕ). IsIn a (g.chains n)) (sym (old_home a p x stands_x)) (in_own it a p)
 
     next : IsWithin x.header.previous.0 (g.chains h) × (x.header.previous.0 < a)
-    next =
-        let n = next_within g.cells (g.chains h) (paper.orderly.chains.linked h) a p.cell in_h p.its in
-        (subst (λ (n : ℕ). IsWithin n (g.chains h)) (sym leads_x) n.0, (let low = n.1 in let is = leads_x in omega (arith, low, is)))
+    next = next_in it h a p in_h
 
     below_is : (b : ℕ) → IsIn b (g.chains h) → b < a → b ≤ x.header.previous.0
-    below_is b has low = (let most = below_next g.cells (g.chains h) (paper.orderly.chains.linked h) a b p.cell in_h has low p.its in let is = leads_x in omega (arith, most, is))
-
-    lower : a < image.tail
-    lower = p.low
+    below_is = below_in it h a p in_h
 
     -- it leads to the nearest that is kept
-    leads_nearest : (b : ℕ) → IsGreatest (IsKept image h) was.start a b → x.header.previous.0 ≡ b
-    leads_nearest b greatest =
-        let least = greatest.from_on in
-        let low = greatest.below in
-        let below = lower in
-        let up = below_is b (kept_in h b greatest.here.0 least (omega (arith, low, below)) greatest.here.1) low in
-        let falls = next.1 in
-        let at : x.header.previous.0 ≤ b = ⊎_elim
-        (λ high. absurd (elim next.0 [
-          | inl none ↦ omega (arith, none, high)
-          | inr has ↦ (let kept = in_kept h x.header.previous.0 has (omega (arith, least, high)) (omega (arith, falls, below)) in greatest.none_above x.header.previous.0 kept.0 (omega (arith, high)) falls kept.1)
-        ]))
-        (λ most. most)
-        (cases_lt b x.header.previous.0) in
-        omega (arith, up, at)
+    to_nearest : (b : ℕ) → IsGreatest (IsKept image h) was.start a b → x.header.previous.0 ≡ b
+    to_nearest = leads_nearest it h a p in_h was.start (kept_in h) (in_kept h)
 
-    leads_first : HasNone (IsKept image h) was.start a → x.header.previous.0 < was.start
-    leads_first none = ⊎_elim
-        (λ low. low)
-        (λ high.
-        let falls = next.1 in
-        let below = lower in
-        absurd (elim next.0 [
-          | inl zero_is ↦ (let some = paper.opened.some_start in omega (arith, zero_is, high, some))
-          | inr has ↦ (let kept = in_kept h x.header.previous.0 has high (omega (arith, falls, below)) in none x.header.previous.0 kept.0 high falls kept.1)
-        ]))
-        (cases_lt x.header.previous.0 was.start)
+    to_first : HasNone (IsKept image h) was.start a → x.header.previous.0 < was.start
+    to_first = leads_first it h a p in_h was.start (kept_in h) (in_kept h) paper.opened.some_start
 
   -- ---- what the opening's scan tells, told of this image
   -- whether a record of a home is kept there can be told
@@ -302,13 +237,13 @@ module _ (home : ℕ → ℕ) (was image : scan.Log) (g : Log) (spells : SpellsA
       -- where it isn't lost now it stands in its chain
       module _ (not_lost : losses image.lost a y ≡ 0) where
         in_chain_y : IsIn a (g.chains hy)
-        in_chain_y = (paper.lost.rest a y from low stands_y valid).1 not_lost
+        in_chain_y = (paper.loses a y from low stands_y valid).1 not_lost
 
-        here_y : IsHere a
-        here_y = (of_chain hy a in_chain_y (let l = paper.goes_on.longer in omega (arith, low, l))).0
+        here_y : IsHere was.tail image g a
+        here_y = (of_chain it hy a in_chain_y (let l = paper.goes_on.longer in omega (arith, low, l))).0
 
         y_is : y ≡ (let p = here_y in let s = p.shown in s.held)
-        y_is = as_shown a here_y y stands_now
+        y_is = as_shown it a here_y y stands_now
 
         counts_y : Has (Counts was hy) a
         counts_y = (paper.before.counted hy a low).0 in_chain_y
@@ -321,14 +256,14 @@ module _ (home : ℕ → ℕ) (was image : scan.Log) (g : Log) (spells : SpellsA
             let g1 : IsGreatest (IsKept image (record_home was.shape.bucket_bits (let p = here_y in let s = p.shown in s.held))) was.start a b =
             subst (λ (n : ℕ). IsGreatest (IsKept image (record_home was.shape.bucket_bits (let p = here_y in let s = p.shown in s.held))) n a b) paper.goes_on.start
             (subst (λ (n : ℕ). IsGreatest (IsKept image n) image.start a b) (its_bits y ∙ ap (record_home was.shape.bucket_bits) y_is) greatest) in
-            ap (λ (z : Record). z.header.previous.0) y_is ∙ leads_nearest a from here_y b g1
+            ap (λ (z : Record). z.header.previous.0) y_is ∙ to_nearest a from here_y b g1
 
         first_y : HasNone (IsKept image (record_home image.shape.bucket_bits y)) image.start a → y.header.previous.0 < image.start
         first_y none =
             let n1 : HasNone (IsKept image (record_home was.shape.bucket_bits (let p = here_y in let s = p.shown in s.held))) was.start a =
             subst (λ (n : ℕ). HasNone (IsKept image (record_home was.shape.bucket_bits (let p = here_y in let s = p.shown in s.held))) n a) paper.goes_on.start
             (subst (λ (n : ℕ). HasNone (IsKept image n) image.start a) (its_bits y ∙ ap (record_home was.shape.bucket_bits) y_is) none) in
-            let low = leads_first a from here_y n1 in
+            let low = to_first a from here_y n1 in
             let is = ap (λ (z : Record). z.header.previous.0) y_is in
             let s = paper.goes_on.start in
             omega (arith, low, is, s)
@@ -509,7 +444,7 @@ module _ (home : ℕ → ℕ) (was image : scan.Log) (g : Log) (spells : SpellsA
           (cases_lt b was.start)
 
   -- ---- a record of this life
-  module _ (a : ℕ) (new : was.tail ≤ a) (p : IsHere a) where
+  module _ (a : ℕ) (new : was.tail ≤ a) (p : IsHere was.tail image g a) where
     abbrev from_start : was.start ≤ a
     from_start = let up = paper.opened.upwards in omega (arith, up, new)
 
@@ -525,11 +460,11 @@ module _ (home : ℕ → ℕ) (was image : scan.Log) (g : Log) (spells : SpellsA
     version_n : (b : ℕ) → IsIn b (g.chains hn) → b < a → (z : Record) → Stands image b z → z.header.version.0 ≤ xn.header.version.0
     version_n b has less z stands =
         let low = p.low in
-        let q = of_chain hn b has (omega (arith, less, low)) in
-        let s = (let r : IsHere b = q.0 in r.shown) in
-        let is = ap (λ (y : Record). y.header.version.0) (one b z s.held stands s.stands) in
+        let q = of_chain it hn b has (omega (arith, less, low)) in
+        let s = (let r : IsHere was.tail image g b = q.0 in r.shown) in
+        let is = ap (λ (y : Record). y.header.version.0) (one it b z s.held stands s.stands) in
         let under = s.low in
-        let cell_is = ap version_at (let r : IsHere b = q.0 in r.its) in
+        let cell_is = ap version_at (let r : IsHere was.tail image g b = q.0 in r.its) in
         let fall = versions_fall g.cells (g.chains hn) (paper.orderly.chains.linked hn) (paper.orderly.falls hn) a b (in_h a from_start p) has less in
         let own = cell_version in
         omega (arith, is, under, cell_is, fall, own)
@@ -540,12 +475,12 @@ module _ (home : ℕ → ℕ) (was image : scan.Log) (g : Log) (spells : SpellsA
         let on = g1.from_on in
         let less = g1.below in
         let low = p.low in
-        (leads_nearest a from_start p b g1, version_n b (kept_in hn b g1.here.0 on (omega (arith, less, low)) g1.here.1) less)
+        (to_nearest a from_start p b g1, version_n b (kept_in hn b g1.here.0 on (omega (arith, less, low)) g1.here.1) less)
 
     first_n : HasNone (IsKept image (record_home image.shape.bucket_bits xn)) image.start a → xn.header.previous.0 < image.start
     first_n none =
         let n1 : HasNone (IsKept image hn) was.start a = subst (λ (n : ℕ). HasNone (IsKept image hn) n a) paper.goes_on.start (subst (λ (n : ℕ). HasNone (IsKept image n) image.start a) (its_bits xn) none) in
-        let low = leads_first a from_start p n1 in
+        let low = to_first a from_start p n1 in
         let s = paper.goes_on.start in
         omega (arith, low, s)
 
@@ -558,9 +493,9 @@ module _ (home : ℕ → ℕ) (was image : scan.Log) (g : Log) (spells : SpellsA
         (λ old. by_record c y (omega (arith, least, s)) old (valid_was hn c y old valid) leads (omega (arith, low, s)))
         (λ later.
         let below = p.low in
-        let r : IsHere c = new_here c y later (omega (arith, within, below)) valid.stands valid.valid in
-        let at : home (let d = r.cell in d.key) ≡ hn = sym (its_home c r y valid.stands) ∙ sym (its_bits y) ∙ valid.same in
-        let up = below_is a from_start p c (subst (λ (n : ℕ). IsIn c (g.chains n)) at (in_own c r)) within in
+        let r : IsHere was.tail image g c = since_here it c y later (omega (arith, within, below)) valid.stands valid.valid in
+        let at : home (let d = r.cell in d.key) ≡ hn = sym (old_home c r y valid.stands) ∙ sym (its_bits y) ∙ valid.same in
+        let up = below_is a from_start p c (subst (λ (n : ℕ). IsIn c (g.chains n)) at (in_own it c r)) within in
         absurd (omega (arith, up, under, least, s)))
         (cases_lt c was.tail)
 
@@ -582,30 +517,24 @@ module _ (home : ℕ → ℕ) (was image : scan.Log) (g : Log) (spells : SpellsA
     linked_n = record {
       nearest = λ not_lost b greatest. nearest_n b greatest;
       first = λ not_lost none. first_n none;
-      lost = λ lost on. absurd (lost (paper.lost.none_lost a xn new (let s = p.shown in s.stands)));
+      lost = λ lost on. absurd (lost (paper.shows.none_lost a xn new (let s = p.shown in s.stands)));
       below = λ low q goes. below_n low q goes;
     }
 
   new_scanned : (a : ℕ) → was.tail ≤ a → a < image.tail → IsScanned image a
-  new_scanned a new low = elim (paper.since.decided a new low) [
+  new_scanned a new low = elim (paper.shows.decided a new low) [
     | inl published ↦
-        let p : IsHere a = here a published.0 published.1 low in
+        let p : IsHere was.tail image g a = here it a published.0 published.1 low in
         let s : ShowsCell was.tail image a published.0 = p.shown in
         let version = s.same new in
-        let young = paper.since.young a published.0 published.1 low in
+        let young = paper.cut.young a published.0 published.1 low in
         let up = paper.opened.upwards in
         record {
           held = s.held;
           fits = record { stands = s.stands; old_enough = omega (arith, version, young); falls = (next a (omega (arith, up, new)) p).1 };
           linked = λ valid. linked_n a new p;
         }
-    | inr dropped ↦
-        let d = paper.since.dropped a dropped.0 dropped.1 new low in
-        record {
-          held = d.held;
-          fits = record { stands = d.stands; old_enough = d.young; falls = d.falls };
-          linked = λ valid. absurd (true≢false (sym d.invalid ∙ valid));
-        }
+    | inr dropped ↦ dropped_scanned image a (paper.shows.dropped a dropped.0 dropped.1 new low)
   ]
 
   scanned : (a : ℕ) → image.start ≤ a → a < image.tail → IsScanned image a
@@ -630,18 +559,12 @@ module _ (home : ℕ → ℕ) (was image : scan.Log) (g : Log) (spells : SpellsA
   leading_is a reached under leading (from_record b y there stands at leads some) = elim (splits b there) [
     | inl old ↦ (let c = paper.opened.chains a reached under in c.same leading (from_record b y old.1 ((paper.goes_on.bytes b y old.0).1 stands) (sym (its_bits y) ∙ at) leads some))
     | inr later ↦
-        let r : IsHere b = later.1 in
-        let is : y.header.previous.0 ≡ (let c = r.cell in c.previous) = ap (λ (z : Record). z.header.previous.0) (as_shown b r y stands) ∙ (let s = r.shown in s.leads) in
-        let to : (let c = r.cell in c.previous) ≡ a = sym is ∙ leads in
-        let own : home (let c = r.cell in c.key) ≡ leading = sym (its_home b r y stands) ∙ sym (its_bits y) ∙ at in
-        elim (next_within g.cells _ (paper.orderly.chains.linked _) b r.cell (in_own b r) r.its).0 [
-          | inl none ↦ absurd (some (sym to ∙ none))
-          | inr has ↦
-              let up = paper.opened.upwards in
-              let counts = (paper.before.counted (home (let c = r.cell in c.key)) a (omega (arith, under, up))).0 (subst (λ (n : ℕ). IsIn n (g.chains (home (let c = r.cell in c.key)))) to has) in
-              let c = paper.opened.chains a reached under in
-              ap (record_home was.shape.bucket_bits) (one_was a c.held counts.0 c.old.stands counts.1.valid.stands) ∙ counts.1.valid.same ∙ own
-        ]
+        let r : IsHere was.tail image g b = later.1 in
+        let own : home (let c = r.cell in c.key) ≡ leading = sym (old_home b r y stands) ∙ sym (its_bits y) ∙ at in
+        let up = paper.opened.upwards in
+        let counts = (paper.before.counted (home (let c = r.cell in c.key)) a (omega (arith, under, up))).0 (leads_in it b a r y stands leads some).0 in
+        let c = paper.opened.chains a reached under in
+        ap (record_home was.shape.bucket_bits) (one_was a c.held counts.0 c.old.stands counts.1.valid.stands) ∙ counts.1.valid.same ∙ own
   ]
 
   pub has_chains : HasChains image
@@ -666,10 +589,10 @@ module _ (home : ℕ → ℕ) (was image : scan.Log) (g : Log) (spells : SpellsA
   counts_of h a has old =
       let its = paper.orderly.chains.in_chain h a has in
       let young : (let c = its.cell in c.version) ≤ image.version = subst (λ (n : ℕ). n ≤ image.version) (ap version_at its.its) old in
-      let low = paper.since.covered a its.cell its.its young in
-      let q = of_chain h a has low in
-      let s = (let r : IsHere a = q.0 in r.shown) in
-      let at : record_home was.shape.bucket_bits s.held ≡ h = its_home a q.0 s.held s.stands ∙ q.1 in
+      let low = paper.cut.covered a its.cell its.its young in
+      let q = of_chain it h a has low in
+      let s = (let r : IsHere was.tail image g a = q.0 in r.shown) in
+      let at : record_home was.shape.bucket_bits s.held ≡ h = old_home a q.0 s.held s.stands ∙ q.1 in
       let valid : IsValid image h a s.held = record { stands = s.stands; valid = s.valid; same = its_bits s.held ∙ at } in
       ⊎_elim
       (λ before.
@@ -680,7 +603,7 @@ module _ (home : ℕ → ℕ) (was image : scan.Log) (g : Log) (spells : SpellsA
           reached = again a c.reached;
           valid = valid_now h a counts.0 before c.valid;
           old_enough = (let o = c.old_enough in let n = paper.goes_on.newer in omega (arith, o, n));
-          not_lost = λ on. (paper.lost.rest a counts.0 (let st = paper.goes_on.start in omega (arith, on, st)) before c.valid.stands c.valid.valid).0 (subst (λ (n : ℕ). IsIn a (g.chains n)) (sym c.valid.same) has);
+          not_lost = λ on. (paper.loses a counts.0 (let st = paper.goes_on.start in omega (arith, on, st)) before c.valid.stands c.valid.valid).0 (subst (λ (n : ℕ). IsIn a (g.chains n)) (sym c.valid.same) has);
         },
       ))
       (λ new.
@@ -691,8 +614,8 @@ module _ (home : ℕ → ℕ) (was image : scan.Log) (g : Log) (spells : SpellsA
         record {
           reached = in_scan a s.held (omega (arith, st, up, new)) low s.stands s.valid;
           valid = valid;
-          old_enough = omega (arith, under, young, (let r : IsHere a = q.0 in ap version_at (sym r.its) ∙ ap version_at its.its));
-          not_lost = λ on. paper.lost.none_lost a s.held new s.stands;
+          old_enough = omega (arith, under, young, (let r : IsHere was.tail image g a = q.0 in ap version_at (sym r.its) ∙ ap version_at its.its));
+          not_lost = λ on. paper.shows.none_lost a s.held new s.stands;
         },
       ))
       (cases_lt a was.tail)
@@ -713,7 +636,7 @@ module _ (home : ℕ → ℕ) (was image : scan.Log) (g : Log) (spells : SpellsA
             not_lost = λ on. absurd (omega (arith, on, under));
           },
         ))
-        (λ on. subst (λ (n : ℕ). IsIn a (g.chains n)) v.same ((paper.lost.rest a x on before v.stands v.valid).1 (counts.not_lost (omega (arith, on, st)))))
+        (λ on. subst (λ (n : ℕ). IsIn a (g.chains n)) v.same ((paper.loses a x on before v.stands v.valid).1 (counts.not_lost (omega (arith, on, st)))))
         (cases_lt a was.start) in
         let its = paper.orderly.chains.in_chain h a has in
         let version = paper.before.one_version a its.cell before its.its in
@@ -721,27 +644,27 @@ module _ (home : ℕ → ℕ) (was image : scan.Log) (g : Log) (spells : SpellsA
         let n = paper.goes_on.newer in
         (has, omega (arith, is, version, n))
     | inr later ↦
-        let p : IsHere a = later.1 in
-        let at : home (let c = p.cell in c.key) ≡ h = sym (its_home a p x counts.valid.stands) ∙ sym (its_bits x) ∙ counts.valid.same in
-        let is = ap (λ (y : Record). y.header.version.0) (as_shown a p x counts.valid.stands) in
+        let p : IsHere was.tail image g a = later.1 in
+        let at : home (let c = p.cell in c.key) ≡ h = sym (old_home a p x counts.valid.stands) ∙ sym (its_bits x) ∙ counts.valid.same in
+        let is = ap (λ (y : Record). y.header.version.0) (as_shown it a p x counts.valid.stands) in
         let same = (let s = p.shown in s.same later.0) in
         let version = ap version_at p.its in
         let enough = counts.old_enough in
-        (subst (λ (n : ℕ). IsIn a (g.chains n)) at (in_own a p), omega (arith, is, same, version, enough))
+        (subst (λ (n : ℕ). IsIn a (g.chains n)) at (in_own it a p), omega (arith, is, same, version, enough))
   ]
 
   tells : (h a : ℕ) (x : Record) → Counts image h a x → TellsCell (g.cells a) x
   tells h a x counts =
       let c = of_counts h a x counts in
       let its = paper.orderly.chains.in_chain h a c.0 in
-      let low = paper.since.covered a its.cell its.its (subst (λ (n : ℕ). n ≤ image.version) (ap version_at its.its) c.1) in
-      let s = paper.since.published a its.cell its.its low in
-      let is : x ≡ s.held = one a x s.held counts.valid.stands s.stands in
+      let low = paper.cut.covered a its.cell its.its (subst (λ (n : ℕ). n ≤ image.version) (ap version_at its.its) c.1) in
+      let s = paper.shows.published a its.cell its.its low in
+      let is : x ≡ s.held = one it a x s.held counts.valid.stands s.stands in
       record { cell = its.cell; its = its.its; its_key = ap (λ (y : Record). y.key.0) is ∙ s.its_key; its_value = ap (λ (y : Record). value_of y.value) is ∙ s.its_value }
 
   pub old_counts_as_log : CountsAsLog home image g
   old_counts_as_log = record {
-    homes = λ x. ap (λ (n : ℕ). record_home n x) paper.goes_on.bits ∙ paper.homes x;
+    homes = paper.shows.homes;
     orderly = paper.orderly;
     counts = counts_of;
     stands = of_counts;

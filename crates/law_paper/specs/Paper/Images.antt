@@ -6,7 +6,8 @@ use Rattle.fkv_order.specs.Ghosts.{Log}
 use Rattle.fkv_order.specs.Owed.{AreChains}
 use Rattle.fkv_record.specs.declared.records.Record.{Record}
 use Rattle.fkv_scan.specs.Log as scan
-use Rattle.fkv_scan.specs.Records.{Stands}
+use Rattle.fkv_scan.specs.Log.{record_home}
+use Rattle.fkv_scan.specs.Records.{Stands, losses}
 
 -- The image has a published record at its address: valid, with its key, its value and what it leads to. From an address on its header says the record's
 -- version. Below that it says no later one, since all that a store was opened with counts as of the opening's version.
@@ -37,3 +38,17 @@ pub record IsOrderly (home : ℕ → ℕ) (g : Log) : Type 0 where
   pub chains : AreChains home g
   pub falls : (h : ℕ) → VersionsFall g.cells (g.chains h)
   pub none : g.cells 0 ≡ Unborn
+
+-- The image shows the log, and its index has the log's homes. It shows each published record below its end. From an address on all is decided up to that end,
+-- it shows what was given up, and no range loses a record.
+pub record ShowsLog (home : ℕ → ℕ) (from : ℕ) (image : scan.Log) (g : Log) : Type 0 where
+  pub homes : (x : Record) → record_home image.shape.bucket_bits x ≡ home x.key.0
+  pub published : (a : ℕ) (cell : Cell) → g.cells a ≡ Published cell → a < image.tail → ShowsCell from image a cell
+  pub decided : (a : ℕ) → from ≤ a → a < image.tail → IsDecided (g.cells a)
+  pub dropped : (a : ℕ) (cell : Cell) → g.cells a ≡ Dropped cell → from ≤ a → a < image.tail → ShowsDropped image a
+  pub none_lost : (a : ℕ) (x : Record) → from ≤ a → Stands image a x → losses image.lost a x ≡ 0
+
+-- The commit cuts the log at its version: what is published of versions up to it lies below its end, and below that nothing is of a version past the next one.
+pub record IsCut (image : scan.Log) (g : Log) : Type 0 where
+  pub covered : (a : ℕ) (cell : Cell) → g.cells a ≡ Published cell → cell.version ≤ image.version → a < image.tail
+  pub young : (a : ℕ) (cell : Cell) → g.cells a ≡ Published cell → a < image.tail → cell.version ≤ image.version + 1

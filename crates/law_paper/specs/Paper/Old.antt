@@ -1,9 +1,9 @@
 -- What stands of a log where the commit in force uses the checkpoint with which the store was opened: recovery meets again what the opening's recovery met, and
 -- then what this life has written.
-use Rattle.std.specs.Prelude.{◌≡◌, ◌↔◌, ℕ, ◌+◌, ◌<◌, ◌≤◌, false}
+use Rattle.std.specs.Prelude.{◌≡◌, ◌↔◌, ℕ, ◌<◌, ◌≤◌, false}
 use Rattle.fkv_chains.specs.Chains.{HasChains}
 use Rattle.fkv_chains.specs.Entries.{Counts}
-use Rattle.fkv_order.specs.Chains.{Cell, Published, Dropped}
+use Rattle.fkv_order.specs.Chains.{Cell, Published}
 use Rattle.fkv_order.specs.Ghosts.{Log}
 use Rattle.fkv_order.specs.Trace.{IsIn}
 use Rattle.fkv_record.specs.declared.records.Record.{Record}
@@ -11,7 +11,7 @@ use Rattle.fkv_scan.specs.Log as scan
 use Rattle.fkv_scan.specs.Log.{AreApart, AreBelow, record_home}
 use Rattle.fkv_scan.specs.Records.{Stands, losses}
 use Rattle.fkv_scan.specs.Scan.{Has, HasScan}
-use Rattle.law_paper.specs.Paper.Images.{IsDecided, IsOrderly, ShowsCell, ShowsDropped}
+use Rattle.law_paper.specs.Paper.Images.{IsCut, IsOrderly, ShowsLog}
 
 -- Two scans go by the same checkpoint, and meet the same bytes below the end of the first. The second is of no earlier commit, and ends no lower.
 pub record GoesOnFrom (was image : scan.Log) : Type 0 where
@@ -36,27 +36,18 @@ pub record HasWhatCounted (was : scan.Log) (g : Log) : Type 0 where
   pub counted : (h a : ℕ) → a < was.tail → IsIn a (g.chains h) ↔ Has (Counts was h) a
   pub one_version : (a : ℕ) (cell : Cell) → a < was.tail → g.cells a ≡ Published cell → cell.version ≡ was.version
 
--- From an address on, the opening's end, all is decided up to the commit's end, and the image shows what was given up. It shows each published record below its
--- end; what is published of the commit's versions lies there, and there nothing is of a version past the next one.
-pub record ShowsSince (from : ℕ) (image : scan.Log) (g : Log) : Type 0 where
-  pub decided : (a : ℕ) → from ≤ a → a < image.tail → IsDecided (g.cells a)
-  pub dropped : (a : ℕ) (cell : Cell) → g.cells a ≡ Dropped cell → from ≤ a → a < image.tail → ShowsDropped image a
-  pub published : (a : ℕ) (cell : Cell) → g.cells a ≡ Published cell → a < image.tail → ShowsCell from image a cell
-  pub covered : (a : ℕ) (cell : Cell) → g.cells a ≡ Published cell → cell.version ≤ image.version → a < image.tail
-  pub young : (a : ℕ) (cell : Cell) → g.cells a ≡ Published cell → a < image.tail → cell.version ≤ image.version + 1
+-- of the valid records that the opening's scan met, the ranges lose just those that aren't in the log's chains
+abbrev pub LosesTheRest : scan.Log → scan.Log → Log → Type 0
+LosesTheRest was image g = (a : ℕ) (x : Record) → was.start ≤ a → a < was.tail → Stands was a x → x.header.invalid ≡ false
+    → IsIn a (g.chains (record_home was.shape.bucket_bits x)) ↔ (losses image.lost a x ≡ 0)
 
--- of the valid records that the opening's scan met, the ranges lose just those that aren't in the log's chains; and none of this life is lost
-pub record LosesTheRest (was image : scan.Log) (g : Log) : Type 0 where
-  pub rest : (a : ℕ) (x : Record) → was.start ≤ a → a < was.tail → Stands was a x → x.header.invalid ≡ false
-      → IsIn a (g.chains (record_home was.shape.bucket_bits x)) ↔ (losses image.lost a x ≡ 0)
-  pub none_lost : (a : ℕ) (x : Record) → was.tail ≤ a → Stands image a x → losses image.lost a x ≡ 0
-
--- All this together, where the index has the log's homes.
+-- The log is in order, the image shows it from the opening's end on, and the commit cuts it. What lies below that end is what the opening's recovery met, and
+-- the log has of it just what counted.
 pub record StandsOnOld (home : ℕ → ℕ) (was image : scan.Log) (g : Log) : Type 0 where
   pub orderly : IsOrderly home g
-  pub homes : (x : Record) → record_home was.shape.bucket_bits x ≡ home x.key.0
+  pub shows : ShowsLog home was.tail image g
+  pub cut : IsCut image g
   pub goes_on : GoesOnFrom was image
   pub opened : WasSound was
   pub before : HasWhatCounted was g
-  pub since : ShowsSince was.tail image g
-  pub lost : LosesTheRest was image g
+  pub loses : LosesTheRest was image g
