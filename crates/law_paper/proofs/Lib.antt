@@ -1,0 +1,4 @@
+mod OfApart
+mod OfKept
+mod OfPaper
+mod OfPhases

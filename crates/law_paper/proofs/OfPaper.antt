@@ -1,0 +1,8 @@
+mod Counting
+mod Down
+mod Here
+pub mod Named
+pub mod Old
+pub mod Room
+pub mod Sound
+mod Values

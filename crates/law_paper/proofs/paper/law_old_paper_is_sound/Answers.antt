@@ -1,0 +1,21 @@
+use Rattle.fkv_opening.specs.Faults.{log_of}
+use Rattle.law_paper.proofs.OfPaper.Old.{has_scan, has_chains, counts_of, of_counts, old_counts_as_log, old_shows}
+use Rattle.law_paper.proofs.OfPaper.Named.{Spellings, holds_commit}
+use Rattle.law_paper.proofs.OfPaper.Room.{has_room}
+use Rattle.law_paper.proofs.paper.law_old_paper_is_sound.Goals as goal
+
+pub returns : goal.returns
+returns c =
+    let apart = c.law_spellings_apart.ensures in
+    let spells = apart.records in
+    let spellings : Spellings = record { records = spells; triples = apart.triples; shapes = apart.shapes; slots = c.law_formats_apart.ensures } in
+    record {
+      scan = λ home was image g paper. has_scan home was image g spells paper;
+      chains = λ home was image g paper. has_chains home was image g spells paper;
+      room = λ home was image g paper slots. has_room home image g (old_counts_as_log home was image g spells paper) slots;
+      counts = λ home was image g h a paper. (λ has. of_counts home was image g spells paper h a has.0 has.1, λ its. counts_of home was image g spells paper h a its.0 its.1);
+      shows = λ home was image g paper. old_shows home was image g spells paper;
+      named = λ home was bytes n triples g its paper slots.
+          let image = log_of bytes n triples in
+          holds_commit spellings bytes n triples its home g (has_scan home was image g spells paper) (has_chains home was image g spells paper) (old_counts_as_log home was image g spells paper) slots;
+    }

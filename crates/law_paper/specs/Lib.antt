@@ -1,0 +1,4 @@
+pub mod Apart
+pub mod Kept
+pub mod Paper
+pub mod Phases

@@ -1,0 +1,54 @@
+-- What an image shows of the records of a log.
+use Rattle.std.specs.Prelude.{◌≡◌, ◌⊎◌, ℕ, ◌+◌, ◌<◌, ◌≤◌, true, false}
+use Rattle.fkv_ops.specs.Values.{value_of}
+use Rattle.law_log.specs.Chains.{Cell, Logged, Unborn, Published, Dropped, VersionsFall}
+use Rattle.law_log.specs.Ghosts.{Log}
+use Rattle.law_log.specs.Owed.{AreChains}
+use Rattle.fkv_record.specs.declared.records.Record.{Record}
+use Rattle.fkv_scan.specs.Log as scan
+use Rattle.fkv_scan.specs.Log.{record_home}
+use Rattle.fkv_scan.specs.Records.{Stands, losses}
+
+-- The image has a published record at its address: valid, with its key, its value and what it leads to. From an address on its header says the record's
+-- version. Below that it says no later one, since all that a store was opened with counts as of the opening's version.
+pub record ShowsCell (from : ℕ) (image : scan.Log) (a : ℕ) (cell : Cell) : Type 0 where
+  pub held : Record
+  pub stands : Stands image a held
+  pub valid : (let x = held in x.header.invalid ≡ false)
+  pub its_key : (let x = held in x.key.0 ≡ cell.key)
+  pub its_value : (let x = held in value_of x.value ≡ cell.value)
+  pub leads : (let x = held in x.header.previous.0 ≡ cell.previous)
+  pub low : (let x = held in x.header.version.0 ≤ cell.version)
+  pub same : from ≤ a → (let x = held in x.header.version.0 ≡ cell.version)
+
+-- It has one that was given up: with the invalid bit, leading below itself, and of the version after the commit's at most.
+pub record ShowsDropped (image : scan.Log) (a : ℕ) : Type 0 where
+  pub held : Record
+  pub stands : Stands image a held
+  pub invalid : (let x = held in x.header.invalid ≡ true)
+  pub falls : (let x = held in x.header.previous.0 < a)
+  pub young : (let x = held in x.header.version.0 ≤ image.version + 1)
+
+-- the record of an address is published, or was given up
+abbrev pub IsDecided : Logged → Type 0
+IsDecided logged = ((cell : Cell) × (logged ≡ Published cell)) ⊎ ((cell : Cell) × (logged ≡ Dropped cell))
+
+-- The log is in order: its chains have just the published records of their homes, versions never rise down a chain, and nothing stands at address 0.
+pub record IsOrderly (home : ℕ → ℕ) (g : Log) : Type 0 where
+  pub chains : AreChains home g
+  pub falls : (h : ℕ) → VersionsFall g.cells (g.chains h)
+  pub none : g.cells 0 ≡ Unborn
+
+-- The image shows the log, and its index has the log's homes. It shows each published record below its end. From an address on all is decided up to that end,
+-- it shows what was given up, and no range loses a record.
+pub record ShowsLog (home : ℕ → ℕ) (from : ℕ) (image : scan.Log) (g : Log) : Type 0 where
+  pub homes : (x : Record) → record_home image.shape.bucket_bits x ≡ home x.key.0
+  pub published : (a : ℕ) (cell : Cell) → g.cells a ≡ Published cell → a < image.tail → ShowsCell from image a cell
+  pub decided : (a : ℕ) → from ≤ a → a < image.tail → IsDecided (g.cells a)
+  pub dropped : (a : ℕ) (cell : Cell) → g.cells a ≡ Dropped cell → from ≤ a → a < image.tail → ShowsDropped image a
+  pub none_lost : (a : ℕ) (x : Record) → from ≤ a → Stands image a x → losses image.lost a x ≡ 0
+
+-- The commit cuts the log at its version: what is published of versions up to it lies below its end, and below that nothing is of a version past the next one.
+pub record IsCut (image : scan.Log) (g : Log) : Type 0 where
+  pub covered : (a : ℕ) (cell : Cell) → g.cells a ≡ Published cell → cell.version ≤ image.version → a < image.tail
+  pub young : (a : ℕ) (cell : Cell) → g.cells a ≡ Published cell → a < image.tail → cell.version ≤ image.version + 1

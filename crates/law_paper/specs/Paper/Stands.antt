@@ -1,0 +1,26 @@
+-- What stands of a log where a commit is in force that uses a checkpoint of the same life.
+use Rattle.std.specs.Prelude.{◌≡◌, ℕ, ◌<◌, ◌≤◌}
+use Rattle.law_log.specs.Chains.{Cell, Published}
+use Rattle.law_log.specs.Ghosts.{Log}
+use Rattle.law_log.specs.Trace.{IsIn}
+use Rattle.fkv_scan.specs.Log as scan
+use Rattle.fkv_scan.specs.Log.{AreApart, HasTriple}
+use Rattle.law_paper.specs.Paper.Images.{IsCut, IsOrderly, ShowsLog}
+
+-- The checkpoint covers the chains: each triple leads to a record of its home's chain below the commit's end, no two are of one home, and each record below the
+-- first address has a triple of its home at or above it.
+pub record CoversChains (image : scan.Log) (g : Log) : Type 0 where
+  pub in_chain : (h t : ℕ) → HasTriple image h t → IsIn t (g.chains h)
+  pub below : (h t : ℕ) → HasTriple image h t → t < image.tail
+  pub apart : AreApart image.triples
+  pub covers : (h a : ℕ) → IsIn a (g.chains h) → a < image.start → (t : ℕ) × HasTriple image h t × (a ≤ t)
+
+-- The log is in order, the image shows it from the checkpoint's first address on, and the commit cuts it. What is published below the first address is of no
+-- later version, and the checkpoint covers the chains.
+pub record StandsOnPaper (home : ℕ → ℕ) (image : scan.Log) (g : Log) : Type 0 where
+  pub orderly : IsOrderly home g
+  pub shows : ShowsLog home image.start image g
+  pub cut : IsCut image g
+  pub some_start : 0 < image.start
+  pub old_below : (a : ℕ) (cell : Cell) → g.cells a ≡ Published cell → a < image.start → cell.version ≤ image.version
+  pub triples : CoversChains image g

@@ -1,0 +1,12 @@
+//! What of the prefix law names no machine: phases by ranks, versions at one home, what points keep, and what an image holds.
+#![tactic(auto)]
+
+mod apart;
+mod kept;
+mod paper;
+mod phases;
+
+pub use apart::law_apart;
+pub use kept::law_kept;
+pub use paper::{law_old_paper_is_sound, law_paper_is_sound};
+pub use phases::law_phases_are_seen;

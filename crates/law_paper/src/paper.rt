@@ -1,0 +1,49 @@
+//! What an image with a commit in force holds.
+ghost use Rattle.std.specs.Prelude.{◌↔◌, ◌≤◌, ℕ, List};
+ghost use Rattle.fkv_chains.specs.Chains.{HasChains};
+ghost use Rattle.fkv_chains.specs.Entries.{Counts};
+ghost use Rattle.fkv_newest.specs.declared.newest_slots.Newest.{Newest};
+ghost use Rattle.fkv_opening.specs.Faults.{HasCheckpoint, log_of};
+ghost use Rattle.law_log.specs.Chains.{version_at};
+ghost use Rattle.law_log.specs.Ghosts.{Log};
+ghost use Rattle.law_log.specs.Trace.{IsIn};
+ghost use Rattle.fkv_record.specs.declared.triples.Triple.{Triple};
+ghost use Rattle.fkv_room.specs.Room.{HasRoom};
+ghost use Rattle.fkv_scan.specs.Log as scan;
+ghost use Rattle.fkv_scan.specs.Scan.{Has, HasScan};
+ghost use Rattle.law_paper.specs.Paper.Named.{HoldsCommit};
+ghost use Rattle.law_paper.specs.Paper.Old.{StandsOnOld};
+ghost use Rattle.law_paper.specs.Paper.Slots.{HasSlots};
+ghost use Rattle.law_paper.specs.Paper.Stands.{StandsOnPaper};
+ghost use Rattle.law_paper.specs.Paper.Values.{ShowsUpto};
+
+use fkv_record::{law_formats_apart, law_spellings_apart};
+
+/// If a commit is in force that uses a checkpoint of the same life, recovery finds no fault in the scan and in the chains, and each key has the value that
+/// the log shows of versions up to the commit's. If each home has a slot of the live index, recovery's index has room for all. So an image whose newest
+/// slot names the commit has no fault, and any store that it holds is of that commit, with its points and these values.
+pub fn law_paper_is_sound()
+    ensures scan { (home : ℕ → ℕ) (image : scan.Log) (g : Log) → StandsOnPaper home image g → HasScan image }
+    ensures chains { (home : ℕ → ℕ) (image : scan.Log) (g : Log) → StandsOnPaper home image g → HasChains image }
+    ensures room { (home : ℕ → ℕ) (image : scan.Log) (g : Log) → StandsOnPaper home image g → HasSlots image g → HasRoom image }
+    ensures counts { (home : ℕ → ℕ) (image : scan.Log) (g : Log) (h a : ℕ) → StandsOnPaper home image g → Has (Counts image h) a ↔ (IsIn a (g.chains h) × (version_at (g.cells a) ≤ image.version)) }
+    ensures shows { (home : ℕ → ℕ) (image : scan.Log) (g : Log) → StandsOnPaper home image g → ShowsUpto home image g }
+    ensures named { (home : ℕ → ℕ) (bytes : List ℕ) (n : Newest) (triples : List Triple) (g : Log) → HasCheckpoint bytes n triples → StandsOnPaper home (log_of bytes n triples) g → HasSlots (log_of bytes n triples) g → HoldsCommit home bytes n g }
+{
+    law_spellings_apart();
+    law_formats_apart();
+}
+
+/// The same holds of a commit that uses the checkpoint with which the store was opened. Recovery meets again what the opening's recovery met, and then what
+/// this life has written; the lost ranges lose just what the opening left out.
+pub fn law_old_paper_is_sound()
+    ensures scan { (home : ℕ → ℕ) (was image : scan.Log) (g : Log) → StandsOnOld home was image g → HasScan image }
+    ensures chains { (home : ℕ → ℕ) (was image : scan.Log) (g : Log) → StandsOnOld home was image g → HasChains image }
+    ensures room { (home : ℕ → ℕ) (was image : scan.Log) (g : Log) → StandsOnOld home was image g → HasSlots image g → HasRoom image }
+    ensures counts { (home : ℕ → ℕ) (was image : scan.Log) (g : Log) (h a : ℕ) → StandsOnOld home was image g → Has (Counts image h) a ↔ (IsIn a (g.chains h) × (version_at (g.cells a) ≤ image.version)) }
+    ensures shows { (home : ℕ → ℕ) (was image : scan.Log) (g : Log) → StandsOnOld home was image g → ShowsUpto home image g }
+    ensures named { (home : ℕ → ℕ) (was : scan.Log) (bytes : List ℕ) (n : Newest) (triples : List Triple) (g : Log) → HasCheckpoint bytes n triples → StandsOnOld home was (log_of bytes n triples) g → HasSlots (log_of bytes n triples) g → HoldsCommit home bytes n g }
+{
+    law_spellings_apart();
+    law_formats_apart();
+}
