@@ -3,6 +3,7 @@ mod Down
 mod Here
 pub mod Named
 pub mod Old
+mod Reach
 pub mod Room
 pub mod Sound
 mod Values
