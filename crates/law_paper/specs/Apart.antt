@@ -17,7 +17,7 @@ pub record Trier : Type 0 where
   pub is_past : Bool
   pub copies : Option ℕ
 
--- A request that waits for its next try: its home and version, and whether it shares its bucket's latch.
+-- A request that waits, or whose try hasn't walked yet: its home and version, and whether it shares its bucket's latch.
 pub record Waiter : Type 0 where
   pub home : ℕ
   pub version : ℕ
