@@ -8,14 +8,14 @@ pub record View : Type 0 where
   pub rank : ℕ
   pub tail : ℕ
 
--- The raises of the epoch for the commit in hand: each is the epoch before it, 0 where it hasn't come yet.
+-- The raises of the epoch for the commit in hand. Each is the epoch that stood before it, 0 if it hasn't come yet.
 pub record Raises : Type 0 where
-  -- for in-progress, which tells all sessions of the commit's first address
+  -- for in-progress; the commit's first address was loaded before it
   pub progress : ℕ
   pub first : ℕ
   -- for wait-pending
   pub pending : ℕ
-  -- for the commit's end
+  -- for the commit's end, which was loaded before it
   pub ending : ℕ
   pub end : ℕ
   -- the epoch of the action that is to store the next phase, 0 where none is outstanding
@@ -80,7 +80,8 @@ phase_after p (Completes s) = record p { sessions = (let x = p.sessions in recor
 phase_after p (Leaves s) = record p { sessions = (let x = p.sessions in record x { live = set_at x.live s false }) }
 
 -- ---- when an event may happen
--- An epoch may become safe that is below the current one, and below the stamp of each view that a session goes by or that is coming.
+
+-- An epoch may become safe that is below the current one. It is below the stamp of each view too that a session goes by, or that is coming.
 pub record MayBeSafe (p : Phasing) (m : ℕ) : Type 0 where
   pub below : m < p.epoch
   pub views : (s : ℕ) → p.sessions.live s ≡ true → m < (p.sessions.view s).stamp
