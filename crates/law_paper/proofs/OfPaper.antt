@@ -3,6 +3,8 @@ mod Down
 mod Here
 pub mod Named
 pub mod Old
+pub mod Opened
+mod Reach
 pub mod Room
 pub mod Sound
 mod Values

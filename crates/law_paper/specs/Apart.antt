@@ -17,7 +17,7 @@ pub record Trier : Type 0 where
   pub is_past : Bool
   pub copies : Option ℕ
 
--- A request that waits for its next try: its home and version, and whether it shares its bucket's latch.
+-- A request that waits, or whose try hasn't walked yet: its home and version, and whether it shares its bucket's latch.
 pub record Waiter : Type 0 where
   pub home : ℕ
   pub version : ℕ
@@ -64,7 +64,7 @@ abbrev pub CopiesAlone : ℕ → Log → Trier → Type 0
 CopiesAlone quiet log r = (x : ℕ) → r.copies ≡ Some x → IsFixed log x ⊎ ((version_at (log.cells x) < r.version) × ((r.owns ≡ true) ⊎ (version_at (log.cells x) ≤ quiet)))
 
 -- Two tries of different sessions. At one home, if the one holds its latch alone the other has none. If the one's session is between versions, the other's has
--- come as far as prepare of the version before, and no further than wait-flush of this one.
+-- come as far as prepare of the version before. Nor has it come further than wait-flush of this one.
 pub record AreTwo (r s : Trier) : Type 0 where
   pub apart : r.home ≡ s.home → r.owns ≡ true → (s.shares ≡ false) × (s.owns ≡ false)
   pub close : IsBetween r.rank r.version → 5 * r.version ≤ s.rank + 4
@@ -95,7 +95,7 @@ pub record PassesWaiter (quiet : ℕ) (log : Log) (r : Trier) (w : Waiter) : Typ
   pub shares : w.shares ≡ true
   pub older : w.version < r.version
 
--- An update that is past its walk may change a record of its version in place, since it isn't fixed, while one at the same home copies it.
+-- An update is past its walk, and may change a record of its version in place, since that isn't fixed. Another one at the same home copies that record.
 pub record ChangesCopied (quiet : ℕ) (log : Log) (r s : Trier) (x : ℕ) : Type 0 where
   pub two : AreTwo r s
   pub copier : Knows quiet log r

@@ -8,14 +8,14 @@ pub record View : Type 0 where
   pub rank : ℕ
   pub tail : ℕ
 
--- The raises of the epoch for the commit in hand: each is the epoch before it, 0 where it hasn't come yet.
+-- The raises of the epoch for the commit in hand. Each is the epoch that stood before it, 0 if it hasn't come yet.
 pub record Raises : Type 0 where
-  -- for in-progress, which tells all sessions of the commit's first address
+  -- for in-progress; the commit's first address was loaded before it
   pub progress : ℕ
   pub first : ℕ
   -- for wait-pending
   pub pending : ℕ
-  -- for the commit's end
+  -- for the commit's end, which was loaded before it
   pub ending : ℕ
   pub end : ℕ
   -- the epoch of the action that is to store the next phase, 0 where none is outstanding
@@ -59,9 +59,13 @@ pub data PhaseEvent : Type 0 where
   Completes : ℕ → PhaseEvent
   Leaves : ℕ → PhaseEvent
 
+-- the rank of the phase word
+abbrev pub rank_of : Phasing → ℕ
+rank_of p = p.base + p.stage
+
 -- what is seen by who loads the phase word now
 abbrev pub view_now : Phasing → View
-view_now p = record { stamp = p.epoch; rank = p.base + p.stage; tail = p.tail }
+view_now p = record { stamp = p.epoch; rank = rank_of p; tail = p.tail }
 
 -- what an event does
 unfoldable pub phase_after : Phasing → PhaseEvent → Phasing
@@ -80,7 +84,8 @@ phase_after p (Completes s) = record p { sessions = (let x = p.sessions in recor
 phase_after p (Leaves s) = record p { sessions = (let x = p.sessions in record x { live = set_at x.live s false }) }
 
 -- ---- when an event may happen
--- An epoch may become safe that is below the current one, and below the stamp of each view that a session goes by or that is coming.
+
+-- An epoch may become safe that is below the current one. It is below the stamp of each view too that a session goes by, or that is coming.
 pub record MayBeSafe (p : Phasing) (m : ℕ) : Type 0 where
   pub below : m < p.epoch
   pub views : (s : ℕ) → p.sessions.live s ≡ true → m < (p.sessions.view s).stamp
@@ -111,22 +116,24 @@ AreEnabled opening [] = ⊤
 AreEnabled opening (event ∷ before) = AreEnabled opening before × IsEnabled (phase_run opening before) event
 
 -- ---- what holds at each moment
--- what is known at each stage
-pub data IsStaged (p : Phasing) : Type 0 where
+-- What is raised fits the stage: what is safe, and where the tail is.
+pub data FitStage (stage safe tail : ℕ) (r : Raises) : Type 0 where
   -- at rest, and in prepare at first, nothing is raised
-  rests : p.stage ≡ 0 → p.raises.progress ≡ 0 → p.raises.pending ≡ 0 → p.raises.ending ≡ 0 → p.raises.due ≡ 0 → IsStaged p
-  prepares : p.stage ≡ 1 → p.raises.progress ≡ 0 → p.raises.pending ≡ 0 → p.raises.ending ≡ 0 → p.raises.due ≡ 0 → IsStaged p
+  rests : stage ≡ 0 → r.progress ≡ 0 → r.pending ≡ 0 → r.ending ≡ 0 → r.due ≡ 0 → FitStage stage safe tail r
+  prepares : stage ≡ 1 → r.progress ≡ 0 → r.pending ≡ 0 → r.ending ≡ 0 → r.due ≡ 0 → FitStage stage safe tail r
   -- then the epoch is raised for in-progress, whose action is outstanding
-  defers : p.stage ≡ 1 → 0 < p.raises.progress → p.raises.first ≤ p.tail → p.raises.pending ≡ 0 → p.raises.ending ≡ 0 → p.raises.due ≡ p.raises.progress → IsStaged p
-  -- in in-progress that raise is safe; nothing is outstanding at first, and then the action for wait-pending is
-  goes_on : p.stage ≡ 2 → 0 < p.raises.progress → p.raises.progress ≤ p.safe → p.raises.first ≤ p.tail → p.raises.pending ≡ 0 → p.raises.ending ≡ 0 → p.raises.due ≡ 0 → IsStaged p
-  enters : p.stage ≡ 2 → 0 < p.raises.progress → p.raises.progress ≤ p.safe → p.raises.first ≤ p.tail → 0 < p.raises.pending → p.raises.ending ≡ 0
-      → p.raises.due ≡ p.raises.pending → IsStaged p
-  -- in wait-pending and in wait-flush both raises are safe, and nothing is outstanding
-  pends : p.stage ≡ 3 → 0 < p.raises.progress → p.raises.progress ≤ p.safe → p.raises.first ≤ p.tail → 0 < p.raises.pending → p.raises.pending ≤ p.safe → p.raises.ending ≡ 0
-      → p.raises.due ≡ 0 → IsStaged p
-  flushes : p.stage ≡ 4 → 0 < p.raises.progress → p.raises.progress ≤ p.safe → p.raises.first ≤ p.tail → 0 < p.raises.pending → p.raises.pending ≤ p.safe
-      → (0 < p.raises.ending → p.raises.end ≤ p.tail) → p.raises.due ≡ 0 → IsStaged p
+  defers : stage ≡ 1 → 0 < r.progress → r.first ≤ tail → r.pending ≡ 0 → r.ending ≡ 0 → r.due ≡ r.progress → FitStage stage safe tail r
+  -- in in-progress that raise is safe; nothing is outstanding at first, and then the action for wait-pending
+  goes_on : stage ≡ 2 → 0 < r.progress → r.progress ≤ safe → r.first ≤ tail → r.pending ≡ 0 → r.ending ≡ 0 → r.due ≡ 0 → FitStage stage safe tail r
+  enters : stage ≡ 2 → 0 < r.progress → r.progress ≤ safe → r.first ≤ tail → 0 < r.pending → r.ending ≡ 0 → r.due ≡ r.pending → FitStage stage safe tail r
+  -- in wait-pending both raises are safe, and nothing is outstanding
+  pends : stage ≡ 3 → 0 < r.progress → r.progress ≤ safe → r.first ≤ tail → 0 < r.pending → r.pending ≤ safe → r.ending ≡ 0 → r.due ≡ 0 → FitStage stage safe tail r
+  -- nor is it in wait-flush, where the epoch may be raised for the commit's end
+  flushes : stage ≡ 4 → 0 < r.progress → r.progress ≤ safe → r.first ≤ tail → 0 < r.pending → r.pending ≤ safe → (0 < r.ending → r.end ≤ tail) → r.due ≡ 0
+      → FitStage stage safe tail r
+
+abbrev pub IsStaged : Phasing → Type 0
+IsStaged p = FitStage p.stage p.safe p.tail p.raises
 
 -- what is safe and what was raised lie below the epoch
 pub record AreRaised (p : Phasing) : Type 0 where
@@ -140,13 +147,13 @@ pub record Sees (p : Phasing) (v : View) : Type 0 where
   pub after : p.safe < v.stamp
   pub stamped : v.stamp ≤ p.epoch
   pub tailed : v.tail ≤ p.tail
-  pub low : v.rank ≤ p.base + p.stage
+  pub low : v.rank ≤ rank_of p
   pub floor : p.base ≤ v.rank + 1
   pub progress : 0 < p.raises.progress → p.raises.progress < v.stamp → (p.base + 1 ≤ v.rank) × (p.raises.first ≤ v.tail)
   pub pending : 0 < p.raises.pending → p.raises.pending < v.stamp → p.base + 2 ≤ v.rank
   pub ending : 0 < p.raises.ending → p.raises.ending < v.stamp → (p.base + 4 ≤ v.rank) × (p.raises.end ≤ v.tail)
 
--- the stage is known, raises lie below the epoch, and each view that a session goes by or that is coming counts
+-- the raises fit the stage and lie below the epoch, and each view that a session goes by or that is coming counts
 pub record IsSound (p : Phasing) : Type 0 where
   pub staged : IsStaged p
   pub raised : AreRaised p
@@ -156,7 +163,7 @@ pub record IsSound (p : Phasing) : Type 0 where
 -- ---- and what follows
 -- How low the rank of a view may be: one below the phase word's base, or no lower than prepare from in-progress on, and than in-progress from wait-pending on.
 pub record HasFloor (p : Phasing) (v : View) : Type 0 where
-  pub low : v.rank ≤ p.base + p.stage
+  pub low : v.rank ≤ rank_of p
   pub rest : p.base ≤ v.rank + 1
   pub in_progress : 2 ≤ p.stage → (p.base + 1 ≤ v.rank) × (p.raises.first ≤ v.tail)
   pub wait_pending : 3 ≤ p.stage → p.base + 2 ≤ v.rank

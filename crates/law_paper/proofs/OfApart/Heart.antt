@@ -16,7 +16,7 @@ older_shares quiet log r s two knows between past older = elim knows.its_rank [
   | inr (inr polls) ↦ knows.polls past polls
 ]
 
--- at a home that has no version above an older one, whose request is left, one takes effect only between versions, and holds its latch alone
+-- At a home that has no version above an older one, whose request is left, one takes effect only between versions. It holds its latch alone then.
 holds_latch : (quiet : ℕ) (log : Log) (r : Trier) (h version : ℕ) → Knows quiet log r → HoldsHome log r → r.home ≡ h → NoneAbove log h version → quiet < version → version < r.version
     → IsBetween r.rank r.version × (r.owns ≡ true)
 holds_latch quiet log r h version knows holds same above there older = elim knows.its_rank [

@@ -1,8 +1,15 @@
 -- Down a chain of the log.
 use Rattle.std.proofs.Common.{◌≡◌, ◌⊎◌, inl, inr, ℕ, ◌<◌, ◌≤◌, Bool, true, false, cond, Some, List, [], ◌∷◌, refl, sym, ap, subst, ◌∙◌, arith}
+<<<<<<< HEAD
 use Rattle.law_log.specs.Chains.{Cell, Logged, Published, head_of, first_such, version_at, VersionsFall, IsWithin}
 use Rattle.law_log.specs.Owed.{IsLinked, previous_of}
 use Rattle.law_log.specs.Trace.{IsIn}
+=======
+use Rattle.law_log.proofs.Shown.{head_within}
+use Rattle.law_log.specs.Chains.{Cell, Logged, Published, head_of, first_such, version_at, VersionsFall, IsWithin}
+use Rattle.law_log.specs.Owed.{IsLinked, previous_of}
+use Rattle.law_log.specs.Trace.{IsIn}
+>>>>>>> paper
 
 -- what a record leads to
 pub leads_to : (logged : Logged) (cell : Cell) (p : ℕ) → logged ≡ Published cell → previous_of logged ≡ Some p → cell.previous ≡ p
@@ -21,10 +28,6 @@ in_low cells (c ∷ older) linked b (inr rest) = let low = in_below cells c olde
 pub head_in : (chain : List ℕ) (b : ℕ) → IsIn b chain → IsIn (head_of chain) chain
 head_in [] b has = absurd has
 head_in (c ∷ older) b has = inl refl
-
-pub head_within : (chain : List ℕ) → IsWithin (head_of chain) chain
-head_within [] = inl refl
-head_within (c ∷ older) = inr (inl refl)
 
 -- a record of a chain leads to the next one, which lies below it, or to none
 pub next_within : (cells : ℕ → Logged) (chain : List ℕ) → IsLinked cells chain → (a : ℕ) (cell : Cell) → IsIn a chain → cells a ≡ Published cell → IsWithin cell.previous chain × (cell.previous < a)

@@ -73,7 +73,7 @@ module _ (spellings : Spellings) (bytes : List ℕ) (n : Newest) (xs : List Trip
       let second = stored.each i (get_or xs i d) (triple_at i d (omega (arith, low, many))) in
       spellings.triples (get_or ys i d) (get_or xs i d) (first.stands ∙ sym second.stands))
 
-  one_log : (m : Newest) (ys : List Triple) → HasCheckpoint bytes m ys → log_of bytes m ys ≡ log_of bytes n xs
+  pub one_log : (m : Newest) (ys : List Triple) → HasCheckpoint bytes m ys → log_of bytes m ys ≡ log_of bytes n xs
   one_log m ys its =
       let is = its.newest in
       let at = subst (λ (c : Checkpoint). AreTriples c ys) (one_checkpoint m is) its.stored in
@@ -131,8 +131,11 @@ module _ (spellings : Spellings) (bytes : List ℕ) (n : Newest) (xs : List Trip
           };
     }
 
-  -- so it is where what counts is what the log has, and each home has a slot
+  -- so it is where what counts is what the log has
+  pub holds_with : (home : ℕ → ℕ) (g : Log) → IsSound (log_of bytes n xs) → CountsAsLog home (log_of bytes n xs) g → HoldsCommit home bytes n g
+  holds_with home g sound counts = named_alone sound home g (shows_upto home (log_of bytes n xs) g spellings.records counts)
+
+  -- and each home has a slot
   pub holds_commit : (home : ℕ → ℕ) (g : Log) → HasScan (log_of bytes n xs) → HasChains (log_of bytes n xs) → CountsAsLog home (log_of bytes n xs) g → HasSlots (log_of bytes n xs) g
       → HoldsCommit home bytes n g
-  holds_commit home g scanned chained counts slots =
-      named_alone (record { scan = scanned; chains = chained; room = has_room home (log_of bytes n xs) g counts slots }) home g (shows_upto home (log_of bytes n xs) g spellings.records counts)
+  holds_commit home g scanned chained counts slots = holds_with home g (record { scan = scanned; chains = chained; room = has_room home (log_of bytes n xs) g counts slots }) counts

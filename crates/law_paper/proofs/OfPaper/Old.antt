@@ -1,13 +1,19 @@
--- Where a commit is in force with the opening's checkpoint, recovery finds no fault in scan and chains, and what counts is what the log has of versions up to the commit's.
+-- A commit is in force with the opening's checkpoint: recovery finds no fault in scan and chains. What counts is what the log has of versions up to the commit's.
 use Rattle.std.proofs.Common.{◌≡◌, ◌≢◌, ◌⊎◌, inl, inr, ⊎_elim, ℕ, zero, suc, ◌+◌, ◌-◌, ◌<◌, ◌≤◌, Bool, true, false, Some, List, refl, sym, ap, subst, ◌∙◌, arith, true≢false}
 use Rattle.std.specs.Prelude.{slice_get}
 use Rattle.std.proofs.lemmas.Bool.{cases_lt, cases_eq}
 use Rattle.fkv_chains.specs.Chains.{HasChains}
 use Rattle.fkv_chains.specs.Entries.{Counts}
 use Rattle.fkv_chains.specs.Reached.{LeadsTo, from_triple, from_record, Reached, in_scan, led_to, linked}
+<<<<<<< HEAD
 use Rattle.law_log.specs.Chains.{Cell, Published, version_at, IsWithin}
 use Rattle.law_log.specs.Ghosts.{Log}
 use Rattle.law_log.specs.Trace.{IsIn}
+=======
+use Rattle.law_log.specs.Chains.{version_at, IsWithin}
+use Rattle.law_log.specs.Ghosts.{Log}
+use Rattle.law_log.specs.Trace.{IsIn}
+>>>>>>> paper
 use Rattle.fkv_record.specs.Layout.{record_bytes}
 use Rattle.fkv_record.specs.declared.records.Record.{Record}
 use Rattle.fkv_record.specs.declared.triples.Triple.{Triple}
@@ -22,11 +28,9 @@ use Rattle.law_paper.specs.Paper.Old.{StandsOnOld}
 use Rattle.law_paper.specs.Paper.Values.{ShowsUpto, CountsAsLog, TellsCell}
 use Rattle.law_paper.proofs.OfPaper.Down.{versions_fall}
 use Rattle.law_paper.proofs.OfPaper.Here.{Showing, IsHere, dropped_scanned, one, here, as_shown, in_own, of_chain, its_home, since_here, next_in, below_in, leads_nearest, leads_first, leads_in}
+use Rattle.law_paper.proofs.OfPaper.Reach.{one_was, start_some, falls_in, was_low, was_some, its_bits, same_triple, triple_there, stood, stands_now, valid_was, valid_now, again}
 use Rattle.law_paper.proofs.OfPaper.Sound.{triple_once}
 use Rattle.law_paper.proofs.OfPaper.Values.{shows_upto}
-
-same_cell : (c d : Cell) → Published c ≡ Published d → c ≡ d
-same_cell c d is = cc
 
 -- ---- the greatest of those with a property that can be told
 module _ (P : ℕ → Record → Type 0) where
@@ -61,46 +65,8 @@ module _ (home : ℕ → ℕ) (was image : scan.Log) (g : Log) (spells : SpellsA
   abbrev it : Showing home was.tail image g
   it = record { spells = spells; orderly = paper.orderly; shows = paper.shows }
 
-  one_was : (a : ℕ) (x y : Record) → Stands was a x → Stands was a y → x ≡ y
-  one_was a x y first second = spells x y (first ∙ sym second)
-
-  -- the home of a record
-  its_bits : (x : Record) → record_home image.shape.bucket_bits x ≡ record_home was.shape.bucket_bits x
-  its_bits x = ap (λ (n : ℕ). record_home n x) paper.goes_on.bits
-
-  same_triple : (h t : ℕ) → HasTriple image h t → HasTriple was h t
-  same_triple h t it = record { place = it.place; triple = it.triple; stands = subst (λ (ts : List Triple). slice_get ts it.place ≡ Some it.triple) paper.goes_on.triples it.stands; same = it.same; address = it.address }
-
-  triple_there : (h t : ℕ) → HasTriple was h t → HasTriple image h t
-  triple_there h t it = record { place = it.place; triple = it.triple; stands = subst (λ (ts : List Triple). slice_get ts it.place ≡ Some it.triple) (sym paper.goes_on.triples) it.stands; same = it.same; address = it.address }
-
-  valid_was : (h a : ℕ) (x : Record) → a < was.tail → IsValid image h a x → IsValid was h a x
-  valid_was h a x low v = record { stands = (paper.goes_on.bytes a x low).1 v.stands; valid = v.valid; same = sym (its_bits x) ∙ v.same }
-
-  valid_now : (h a : ℕ) (x : Record) → a < was.tail → IsValid was h a x → IsValid image h a x
-  valid_now h a x low v = record { stands = (paper.goes_on.bytes a x low).0 v.stands; valid = v.valid; same = its_bits x ∙ v.same }
-
-  -- ---- what was reached as the store was opened
-  falls_in : (a : ℕ) (x : Record) → a < was.tail → Reached was a → Stands was a x → x.header.previous.0 < a
-  falls_in a x within reached stands = ⊎_elim
-      (λ low.
-      let this = paper.opened.chains a reached low in
-      subst (λ (y : Record). y.header.previous.0 < a) (one_was a this.held x this.old.stands stands) this.old.falls)
-      (λ from.
-      let this = paper.opened.scan.records a from within in
-      subst (λ (y : Record). y.header.previous.0 < a) (one_was a this.held x this.fits.stands stands) this.fits.falls)
-      (cases_lt a was.start)
-
-  was_low : (a : ℕ) → Reached was a → a < was.tail
-  was_low a (in_scan _ x from within stands valid) = within
-  was_low a (led_to h _ t) = (let low = paper.opened.below t.place t.triple t.stands in let at = t.address in omega (arith, low, at))
-  was_low b (linked a _ x reached stands is some) =
-      let low = was_low a reached in
-      let falls = falls_in a x low reached stands in
-      omega (arith, low, falls, is)
-
   old_home : (a : ℕ) (p : IsHere was.tail image g a) (x : Record) → Stands image a x → record_home was.shape.bucket_bits x ≡ home (let c = p.cell in c.key)
-  old_home a p x stands = sym (its_bits x) ∙ its_home it a p x stands
+  old_home a p x stands = sym (its_bits spells paper.opened paper.goes_on x) ∙ its_home it a p x stands
 
   -- ---- what is reached
   abbrev Splits : ℕ → Type 0
@@ -114,12 +80,12 @@ module _ (home : ℕ → ℕ) (was image : scan.Log) (g : Log) (spells : SpellsA
 
   pub splits : (a : ℕ) → Reached image a → Splits a
   splits a (in_scan _ x from low stands valid) = ⊎_elim
-      (λ old. inl (old, in_scan a x (let s = paper.goes_on.start in omega (arith, from, s)) old ((paper.goes_on.bytes a x old).1 stands) valid))
+      (λ old. inl (old, in_scan a x (let s = paper.goes_on.start in omega (arith, from, s)) old (stood spells paper.opened paper.goes_on a x (let s = paper.goes_on.start in start_some spells paper.opened a (omega (arith, from, s))) old stands) valid))
       (λ new. inr (new, since_here it a x new low stands valid))
       (cases_lt a was.tail)
-  splits a (led_to h _ t) = (let r : Reached was a = led_to h a (same_triple h a t) in inl (was_low a r, r))
+  splits a (led_to h _ t) = (let r : Reached was a = led_to h a (same_triple spells paper.opened paper.goes_on h a t) in inl (was_low spells paper.opened a r, r))
   splits b (linked a _ x reached stands is some) = elim (splits a reached) [
-    | inl old ↦ (let r : Reached was b = linked a b x old.1 ((paper.goes_on.bytes a x old.0).1 stands) is some in inl (was_low b r, r))
+    | inl old ↦ (let r : Reached was b = linked a b x old.1 (stood spells paper.opened paper.goes_on a x (was_some spells paper.opened a old.1) old.0 stands) is some in inl (was_low spells paper.opened b r, r))
     | inr new ↦
         let p : IsHere was.tail image g a = new.1 in
         let to = leads_in it a b p x stands is some in
@@ -128,18 +94,12 @@ module _ (home : ℕ → ℕ) (was image : scan.Log) (g : Log) (spells : SpellsA
         next_splits _ b to.0 (omega (arith, low, under))
   ]
 
-  -- and the other way round
-  again : (a : ℕ) → Reached was a → Reached image a
-  again a (in_scan _ x from within stands valid) = in_scan a x (let s = paper.goes_on.start in omega (arith, from, s)) (let l = paper.goes_on.longer in omega (arith, within, l)) ((paper.goes_on.bytes a x within).0 stands) valid
-  again a (led_to h _ t) = led_to h a (triple_there h a t)
-  again b (linked a _ x reached stands is some) = linked a b x (again a reached) ((paper.goes_on.bytes a x (was_low a reached)).0 stands) is some
-
   -- ---- kept is what stands in a chain
   kept_in : (h b : ℕ) (y : Record) → was.start ≤ b → b < image.tail → IsKept image h b y → IsIn b (g.chains h)
   kept_in h b y from low kept =
-      let at : record_home was.shape.bucket_bits y ≡ h = sym (its_bits y) ∙ kept.here.same in
+      let at : record_home was.shape.bucket_bits y ≡ h = sym (its_bits spells paper.opened paper.goes_on y) ∙ kept.here.same in
       ⊎_elim
-      (λ old. subst (λ (n : ℕ). IsIn b (g.chains n)) at ((paper.loses b y from old ((paper.goes_on.bytes b y old).1 kept.here.stands) kept.here.valid).1 kept.not_lost))
+      (λ old. subst (λ (n : ℕ). IsIn b (g.chains n)) at ((paper.loses b y from old (stood spells paper.opened paper.goes_on b y (start_some spells paper.opened b from) old kept.here.stands) kept.here.valid).1 kept.not_lost))
       (λ new.
       let p : IsHere was.tail image g b = since_here it b y new low kept.here.stands kept.here.valid in
       subst (λ (n : ℕ). IsIn b (g.chains n)) (sym (old_home b p y kept.here.stands) ∙ at) (in_own it b p))
@@ -150,9 +110,9 @@ module _ (home : ℕ → ℕ) (was image : scan.Log) (g : Log) (spells : SpellsA
       let p = of_chain it h b has low in
       let s : ShowsCell was.tail image b (let q = p.0 in q.cell) = (let q = p.0 in q.shown) in
       let at : record_home was.shape.bucket_bits s.held ≡ h = old_home b p.0 s.held s.stands ∙ p.1 in
-      let here_is : IsValid image h b s.held = record { stands = s.stands; valid = s.valid; same = its_bits s.held ∙ at } in
+      let here_is : IsValid image h b s.held = record { stands = s.stands; valid = s.valid; same = its_bits spells paper.opened paper.goes_on s.held ∙ at } in
       ⊎_elim
-      (λ old. (s.held, record { here = here_is; not_lost = (paper.loses b s.held from old ((paper.goes_on.bytes b s.held old).1 s.stands) s.valid).0 (subst (λ (n : ℕ). IsIn b (g.chains n)) (sym at) has) }))
+      (λ old. (s.held, record { here = here_is; not_lost = (paper.loses b s.held from old (stood spells paper.opened paper.goes_on b s.held (start_some spells paper.opened b from) old s.stands) s.valid).0 (subst (λ (n : ℕ). IsIn b (g.chains n)) (sym at) has) }))
       (λ new. (s.held, record { here = here_is; not_lost = paper.shows.none_lost b s.held new s.stands }))
       (cases_lt b was.tail)
 
@@ -192,13 +152,13 @@ module _ (home : ℕ → ℕ) (was image : scan.Log) (g : Log) (spells : SpellsA
       by_valid x s.fits.stands x.header.invalid refl
     where
       by_valid : (x : Record) → Stands was a x → (t : Bool) → x.header.invalid ≡ t → Has (IsKept was h) a ⊎ ((y : Record) → IsKept was h a y → ⊥)
-      by_valid x stands true is = inr (λ y kept. true≢false (sym is ∙ ap (λ (z : Record). z.header.invalid) (one_was a x y stands kept.here.stands) ∙ kept.here.valid))
+      by_valid x stands true is = inr (λ y kept. true≢false (sym is ∙ ap (λ (z : Record). z.header.invalid) (one_was spells paper.opened a x y stands kept.here.stands) ∙ kept.here.valid))
       by_valid x stands false is = ⊎_elim
           (λ same. ⊎_elim
           (λ none. inl (x, record { here = record { stands = stands; valid = is; same = same }; not_lost = none }))
-          (λ some. inr (λ y kept. some (ap (losses was.lost a) (one_was a x y stands kept.here.stands) ∙ kept.not_lost)))
+          (λ some. inr (λ y kept. some (ap (losses was.lost a) (one_was spells paper.opened a x y stands kept.here.stands) ∙ kept.not_lost)))
           (zero_or (losses was.lost a x)))
-          (λ other. inr (λ y kept. other (ap (record_home was.shape.bucket_bits) (one_was a x y stands kept.here.stands) ∙ kept.here.same)))
+          (λ other. inr (λ y kept. other (ap (record_home was.shape.bucket_bits) (one_was spells paper.opened a x y stands kept.here.stands) ∙ kept.here.same)))
           (cases_eq (record_home was.shape.bucket_bits x) h)
 
   find_was : (h a : ℕ) → was.start ≤ a → a ≤ was.tail → ((b : ℕ) × IsGreatest (IsKept was h) was.start a b) ⊎ HasNone (IsKept was h) was.start a
@@ -208,10 +168,10 @@ module _ (home : ℕ → ℕ) (was image : scan.Log) (g : Log) (spells : SpellsA
       (greatest_or_none (IsKept was h) was.start (a - was.start) (λ b on less. tell_was h b on (omega (arith, less, at, low))))
 
   goes_was : (h a q : ℕ) → a ≤ was.tail → GoesOn image h a q → GoesOn was h a q
-  goes_was h a q low (by_triple t under) = by_triple (same_triple h q t) (let s = paper.goes_on.start in omega (arith, under, s))
-  goes_was h a q low (by_none none is) = by_none (λ t it. none t (triple_there h t it)) is
+  goes_was h a q low (by_triple t under) = by_triple (same_triple spells paper.opened paper.goes_on h q t) (let s = paper.goes_on.start in omega (arith, under, s))
+  goes_was h a q low (by_none none is) = by_none (λ t it. none t (triple_there spells paper.opened paper.goes_on h t it)) is
   goes_was h a q low (by_record c y least within valid leads under) =
-      by_record c y (let s = paper.goes_on.start in omega (arith, least, s)) within (valid_was h c y (omega (arith, within, low)) valid) leads (let s = paper.goes_on.start in omega (arith, under, s))
+      by_record c y (let s = paper.goes_on.start in omega (arith, least, s)) within (valid_was spells paper.opened paper.goes_on h c y (let s = paper.goes_on.start in start_some spells paper.opened c (omega (arith, least, s))) (omega (arith, within, low)) valid) leads (let s = paper.goes_on.start in omega (arith, under, s))
 
   -- a record that was scanned as the store was opened
   module _ (a : ℕ) (from : was.start ≤ a) (low : a < was.tail) where
@@ -224,8 +184,8 @@ module _ (home : ℕ → ℕ) (was image : scan.Log) (g : Log) (spells : SpellsA
     stands_y : Stands was a y
     stands_y = let s = scanned_was in s.fits.stands
 
-    stands_now : Stands image a y
-    stands_now = (paper.goes_on.bytes a y low).0 stands_y
+    still_y : Stands image a y
+    still_y = stands_now spells paper.opened paper.goes_on a y (start_some spells paper.opened a from) low stands_y
 
     module _ (valid : y.header.invalid ≡ false) where
       abbrev links : IsScanLinked was a y
@@ -243,26 +203,26 @@ module _ (home : ℕ → ℕ) (was image : scan.Log) (g : Log) (spells : SpellsA
         here_y = (of_chain it hy a in_chain_y (let l = paper.goes_on.longer in omega (arith, low, l))).0
 
         y_is : y ≡ (let p = here_y in let s = p.shown in s.held)
-        y_is = as_shown it a here_y y stands_now
+        y_is = as_shown it a here_y y still_y
 
         counts_y : Has (Counts was hy) a
         counts_y = (paper.before.counted hy a low).0 in_chain_y
 
         not_lost_was : losses was.lost a y ≡ 0
-        not_lost_was = ap (losses was.lost a) (one_was a y counts_y.0 stands_y counts_y.1.valid.stands) ∙ counts_y.1.not_lost from
+        not_lost_was = ap (losses was.lost a) (one_was spells paper.opened a y counts_y.0 stands_y counts_y.1.valid.stands) ∙ counts_y.1.not_lost from
 
         leads_y : (b : ℕ) → IsGreatest (IsKept image (record_home image.shape.bucket_bits y)) image.start a b → y.header.previous.0 ≡ b
         leads_y b greatest =
             let g1 : IsGreatest (IsKept image (record_home was.shape.bucket_bits (let p = here_y in let s = p.shown in s.held))) was.start a b =
             subst (λ (n : ℕ). IsGreatest (IsKept image (record_home was.shape.bucket_bits (let p = here_y in let s = p.shown in s.held))) n a b) paper.goes_on.start
-            (subst (λ (n : ℕ). IsGreatest (IsKept image n) image.start a b) (its_bits y ∙ ap (record_home was.shape.bucket_bits) y_is) greatest) in
+            (subst (λ (n : ℕ). IsGreatest (IsKept image n) image.start a b) (its_bits spells paper.opened paper.goes_on y ∙ ap (record_home was.shape.bucket_bits) y_is) greatest) in
             ap (λ (z : Record). z.header.previous.0) y_is ∙ to_nearest a from here_y b g1
 
         first_y : HasNone (IsKept image (record_home image.shape.bucket_bits y)) image.start a → y.header.previous.0 < image.start
         first_y none =
             let n1 : HasNone (IsKept image (record_home was.shape.bucket_bits (let p = here_y in let s = p.shown in s.held))) was.start a =
             subst (λ (n : ℕ). HasNone (IsKept image (record_home was.shape.bucket_bits (let p = here_y in let s = p.shown in s.held))) n a) paper.goes_on.start
-            (subst (λ (n : ℕ). HasNone (IsKept image n) image.start a) (its_bits y ∙ ap (record_home was.shape.bucket_bits) y_is) none) in
+            (subst (λ (n : ℕ). HasNone (IsKept image n) image.start a) (its_bits spells paper.opened paper.goes_on y ∙ ap (record_home was.shape.bucket_bits) y_is) none) in
             let low = to_first a from here_y n1 in
             let is = ap (λ (z : Record). z.header.previous.0) y_is in
             let s = paper.goes_on.start in
@@ -277,7 +237,7 @@ module _ (home : ℕ → ℕ) (was image : scan.Log) (g : Log) (spells : SpellsA
               | inl most ↦
                   let near = links.nearest not_lost_was most.0 most.1 in
                   let same : b ≡ most.0 = sym is ∙ near.0 in
-                  near.1 z (subst (λ (n : ℕ). Stands was n z) same ((paper.goes_on.bytes b z (omega (arith, less, low))).1 stands))
+                  near.1 z (subst (λ (n : ℕ). Stands was n z) same (stood spells paper.opened paper.goes_on b z (start_some spells paper.opened b on) (omega (arith, less, low)) stands))
               | inr none ↦ absurd (none b counts.0 on less kept)
             ]
 
@@ -289,7 +249,7 @@ module _ (home : ℕ → ℕ) (was image : scan.Log) (g : Log) (spells : SpellsA
             let s = paper.goes_on.start in
             let l = paper.goes_on.longer in
             let has = kept_in (record_home image.shape.bucket_bits y) b greatest.here.0 (omega (arith, on, s)) (omega (arith, less, low, l)) greatest.here.1 in
-            (is, version_y b is (omega (arith, on, s)) less (subst (λ (n : ℕ). IsIn b (g.chains n)) (its_bits y) has))
+            (is, version_y b is (omega (arith, on, s)) less (subst (λ (n : ℕ). IsIn b (g.chains n)) (its_bits spells paper.opened paper.goes_on y) has))
 
       -- a lost one leads to a valid one
       lost_y : losses image.lost a y ≢ 0 → image.start ≤ y.header.previous.0 → Has (IsValid image (record_home image.shape.bucket_bits y)) y.header.previous.0
@@ -301,19 +261,19 @@ module _ (home : ℕ → ℕ) (was image : scan.Log) (g : Log) (spells : SpellsA
               | inl most ↦
                   let near = links.nearest kept most.0 most.1 in
                   let here_is = most.1.here in
-                  let v = valid_now hy most.0 here_is.0 (let m = most.1.below in omega (arith, m, low)) here_is.1.here in
-                  subst (λ (n : ℕ). Has (IsValid image (record_home image.shape.bucket_bits y)) n) (sym near.0) (here_is.0, subst (λ (n : ℕ). IsValid image n most.0 here_is.0) (sym (its_bits y)) v)
+                  let v = valid_now spells paper.opened paper.goes_on hy most.0 here_is.0 (start_some spells paper.opened most.0 most.1.from_on) (let m = most.1.below in omega (arith, m, low)) here_is.1.here in
+                  subst (λ (n : ℕ). Has (IsValid image (record_home image.shape.bucket_bits y)) n) (sym near.0) (here_is.0, subst (λ (n : ℕ). IsValid image n most.0 here_is.0) (sym (its_bits spells paper.opened paper.goes_on y)) v)
               | inr none ↦ (let under = links.first kept none in absurd (omega (arith, under, on, s)))
             ]
             | inr gone ↦
                 let has = links.lost gone (omega (arith, on, s)) in
-                (has.0, subst (λ (n : ℕ). IsValid image n y.header.previous.0 has.0) (sym (its_bits y)) (valid_now hy y.header.previous.0 has.0 (omega (arith, falls, low)) has.1))
+                (has.0, subst (λ (n : ℕ). IsValid image n y.header.previous.0 has.0) (sym (its_bits spells paper.opened paper.goes_on y)) (valid_now spells paper.opened paper.goes_on hy y.header.previous.0 has.0 (start_some spells paper.opened y.header.previous.0 (omega (arith, on, s))) (omega (arith, falls, low)) has.1))
           ]
 
       below_y : y.header.previous.0 < image.start → (q : ℕ) → GoesOn image (record_home image.shape.bucket_bits y) a q → y.header.previous.0 ≡ q
       below_y under q goes =
           let s = paper.goes_on.start in
-          links.below (omega (arith, under, s)) q (goes_was hy a q (omega (arith, low)) (subst (λ (n : ℕ). GoesOn image n a q) (its_bits y) goes))
+          links.below (omega (arith, under, s)) q (goes_was hy a q (omega (arith, low)) (subst (λ (n : ℕ). GoesOn image n a q) (its_bits spells paper.opened paper.goes_on y) goes))
 
       pub linked_y : IsScanLinked image a y
       linked_y = record {
@@ -328,7 +288,7 @@ module _ (home : ℕ → ℕ) (was image : scan.Log) (g : Log) (spells : SpellsA
         let sc = scanned_was in
         record {
           held = y;
-          fits = record { stands = stands_now; old_enough = (let o = sc.fits.old_enough in let n = paper.goes_on.newer in omega (arith, o, n)); falls = sc.fits.falls };
+          fits = record { stands = still_y; old_enough = (let o = sc.fits.old_enough in let n = paper.goes_on.newer in omega (arith, o, n)); falls = sc.fits.falls };
           linked = λ valid. linked_y valid;
         }
 
@@ -336,7 +296,7 @@ module _ (home : ℕ → ℕ) (was image : scan.Log) (g : Log) (spells : SpellsA
   record_goes : (h c : ℕ) (x : Record) → was.start ≤ c → c < was.tail → IsValid was h c x → x.header.previous.0 < was.start → (q : ℕ) → GoesOn was h c q → x.header.previous.0 ≡ q
   record_goes h c x from low valid under q goes =
       let sc = paper.opened.scan.records c from low in
-      let is : x ≡ sc.held = one_was c x sc.held valid.stands sc.fits.stands in
+      let is : x ≡ sc.held = one_was spells paper.opened c x sc.held valid.stands sc.fits.stands in
       let links = sc.linked (sym (ap (λ (z : Record). z.header.invalid) is) ∙ valid.valid) in
       let same = ap (λ (z : Record). z.header.previous.0) is in
       let at : record_home was.shape.bucket_bits sc.held ≡ h = sym (ap (record_home was.shape.bucket_bits) is) ∙ valid.same in
@@ -357,28 +317,28 @@ module _ (home : ℕ → ℕ) (was image : scan.Log) (g : Log) (spells : SpellsA
       (λ greater. sym leads ∙ record_goes h c x from within valid (omega (arith, leads, under)) q (by_record d y on greater good to low))
       (λ most.
       let same : d ≡ c = omega (arith, more, most) in
-      let one_record = one_was c x y valid.stands (subst (λ (n : ℕ). Stands was n y) same good.stands) in
+      let one_record = one_was spells paper.opened c x y valid.stands (subst (λ (n : ℕ). Stands was n y) same good.stands) in
       sym leads ∙ ap (λ (z : Record). z.header.previous.0) one_record ∙ to)
       (cases_lt d c))
       (cases_lt c d)
 
   -- where a valid record stands each that stands is valid
   valid_there : (h b : ℕ) (x : Record) → Has (IsValid was h) b → Stands was b x → x.header.invalid ≡ false
-  valid_there h b x (y, is) stands = ap (λ (z : Record). z.header.invalid) (one_was b x y stands is.stands) ∙ is.valid
+  valid_there h b x (y, is) stands = ap (λ (z : Record). z.header.invalid) (one_was spells paper.opened b x y stands is.stands) ∙ is.valid
 
   -- what was reached in the scan is valid
   reached_valid : (b : ℕ) → Reached was b → was.start ≤ b → (x : Record) → Stands was b x → x.header.invalid ≡ false
-  reached_valid b (in_scan _ y from within stands valid) on x here_stands = ap (λ (z : Record). z.header.invalid) (one_was b x y here_stands stands) ∙ valid
+  reached_valid b (in_scan _ y from within stands valid) on x here_stands = ap (λ (z : Record). z.header.invalid) (one_was spells paper.opened b x y here_stands stands) ∙ valid
   reached_valid b (led_to h _ t) on x here_stands =
       let addr = t.address in
       let has = paper.opened.scan.triples t.place t.triple t.stands (omega (arith, addr, on)) in
       valid_there (triple_home t.triple) b x (subst (λ (n : ℕ). Has (IsValid was (triple_home t.triple)) n) addr has) here_stands
   reached_valid b (linked a _ y reached stands is some) on x here_stands =
-      let low = was_low a reached in
-      let falls = falls_in a y low reached stands in
+      let low = was_low spells paper.opened a reached in
+      let falls = falls_in spells paper.opened a y low reached stands in
       let from : was.start ≤ a = omega (arith, falls, is, on) in
       let sc = paper.opened.scan.records a from low in
-      let same : y ≡ sc.held = one_was a y sc.held stands sc.fits.stands in
+      let same : y ≡ sc.held = one_was spells paper.opened a y sc.held stands sc.fits.stands in
       let links = sc.linked (sym (ap (λ (z : Record). z.header.invalid) same) ∙ reached_valid a reached from y stands) in
       let at : sc.held.header.previous.0 ≡ b = sym (ap (λ (z : Record). z.header.previous.0) same) ∙ is in
       let has : Has (IsValid was (record_home was.shape.bucket_bits sc.held)) b = elim (zero_or (losses was.lost a sc.held)) [
@@ -416,19 +376,19 @@ module _ (home : ℕ → ℕ) (was image : scan.Log) (g : Log) (spells : SpellsA
       its_home_is : (p : ℕ) (z : Record) → Counts was h p z → p < was.start → (k : ℕ) → LeadsTo was k p → k ≡ h
       its_home_is p z counts under k leads =
           let c = paper.opened.chains p counts.reached under in
-          sym (c.same k leads) ∙ ap (record_home was.shape.bucket_bits) (one_was p c.held z c.old.stands counts.valid.stands) ∙ counts.valid.same
+          sym (c.same k leads) ∙ ap (record_home was.shape.bucket_bits) (one_was spells paper.opened p c.held z c.old.stands counts.valid.stands) ∙ counts.valid.same
 
       by_reach : (p : ℕ) (z : Record) → Counts was h p z → p < was.start → ((b : ℕ) → IsIn b (g.chains h) → b < was.start → b ≤ p) → Reached was p → GoesOn was h was.tail p
       by_reach p z counts under most (in_scan _ y from within stands valid) = absurd (omega (arith, from, under))
       by_reach p z counts under most (led_to k _ t) = by_triple (subst (λ (n : ℕ). HasTriple was n p) (its_home_is p z counts under k (from_triple t)) t) under
       by_reach p z counts under most (linked b _ y reached stands is some) =
           let same : record_home was.shape.bucket_bits y ≡ h = its_home_is p z counts under (record_home was.shape.bucket_bits y) (from_record b y reached stands refl is some) in
-          let low = was_low b reached in
-          let falls = falls_in b y low reached stands in
+          let low = was_low spells paper.opened b reached in
+          let falls = falls_in spells paper.opened b y low reached stands in
           ⊎_elim
           (λ below.
           let c = paper.opened.chains b reached below in
-          let is_y = one_was b c.held y c.old.stands stands in
+          let is_y = one_was spells paper.opened b c.held y c.old.stands stands in
           let counts_b : Has (Counts was h) b = (
             c.held,
             record {
@@ -471,7 +431,7 @@ module _ (home : ℕ → ℕ) (was image : scan.Log) (g : Log) (spells : SpellsA
 
     nearest_n : (b : ℕ) → IsGreatest (IsKept image (record_home image.shape.bucket_bits xn)) image.start a b → (xn.header.previous.0 ≡ b) × ((z : Record) → Stands image b z → z.header.version.0 ≤ xn.header.version.0)
     nearest_n b greatest =
-        let g1 : IsGreatest (IsKept image hn) was.start a b = subst (λ (n : ℕ). IsGreatest (IsKept image hn) n a b) paper.goes_on.start (subst (λ (n : ℕ). IsGreatest (IsKept image n) image.start a b) (its_bits xn) greatest) in
+        let g1 : IsGreatest (IsKept image hn) was.start a b = subst (λ (n : ℕ). IsGreatest (IsKept image hn) n a b) paper.goes_on.start (subst (λ (n : ℕ). IsGreatest (IsKept image n) image.start a b) (its_bits spells paper.opened paper.goes_on xn) greatest) in
         let on = g1.from_on in
         let less = g1.below in
         let low = p.low in
@@ -479,22 +439,22 @@ module _ (home : ℕ → ℕ) (was image : scan.Log) (g : Log) (spells : SpellsA
 
     first_n : HasNone (IsKept image (record_home image.shape.bucket_bits xn)) image.start a → xn.header.previous.0 < image.start
     first_n none =
-        let n1 : HasNone (IsKept image hn) was.start a = subst (λ (n : ℕ). HasNone (IsKept image hn) n a) paper.goes_on.start (subst (λ (n : ℕ). HasNone (IsKept image n) image.start a) (its_bits xn) none) in
+        let n1 : HasNone (IsKept image hn) was.start a = subst (λ (n : ℕ). HasNone (IsKept image hn) n a) paper.goes_on.start (subst (λ (n : ℕ). HasNone (IsKept image n) image.start a) (its_bits spells paper.opened paper.goes_on xn) none) in
         let low = to_first a from_start p n1 in
         let s = paper.goes_on.start in
         omega (arith, low, s)
 
     goes_n : (q : ℕ) → xn.header.previous.0 < was.start → GoesOn image hn a q → GoesOn was hn was.tail q
-    goes_n q under (by_triple t low) = by_triple (same_triple hn q t) (let s = paper.goes_on.start in omega (arith, low, s))
-    goes_n q under (by_none none is) = by_none (λ t it. none t (triple_there hn t it)) is
+    goes_n q under (by_triple t low) = by_triple (same_triple spells paper.opened paper.goes_on hn q t) (let s = paper.goes_on.start in omega (arith, low, s))
+    goes_n q under (by_none none is) = by_none (λ t it. none t (triple_there spells paper.opened paper.goes_on hn t it)) is
     goes_n q under (by_record c y least within valid leads low) =
         let s = paper.goes_on.start in
         ⊎_elim
-        (λ old. by_record c y (omega (arith, least, s)) old (valid_was hn c y old valid) leads (omega (arith, low, s)))
+        (λ old. by_record c y (omega (arith, least, s)) old (valid_was spells paper.opened paper.goes_on hn c y (start_some spells paper.opened c (omega (arith, least, s))) old valid) leads (omega (arith, low, s)))
         (λ later.
         let below = p.low in
         let r : IsHere was.tail image g c = since_here it c y later (omega (arith, within, below)) valid.stands valid.valid in
-        let at : home (let d = r.cell in d.key) ≡ hn = sym (old_home c r y valid.stands) ∙ sym (its_bits y) ∙ valid.same in
+        let at : home (let d = r.cell in d.key) ≡ hn = sym (old_home c r y valid.stands) ∙ sym (its_bits spells paper.opened paper.goes_on y) ∙ valid.same in
         let up = below_is a from_start p c (subst (λ (n : ℕ). IsIn c (g.chains n)) at (in_own it c r)) within in
         absurd (omega (arith, up, under, least, s)))
         (cases_lt c was.tail)
@@ -504,7 +464,7 @@ module _ (home : ℕ → ℕ) (was image : scan.Log) (g : Log) (spells : SpellsA
         let s = paper.goes_on.start in
         let up = paper.opened.upwards in
         let under : xn.header.previous.0 < was.start = omega (arith, low, s) in
-        let there = goes_n q under (subst (λ (n : ℕ). GoesOn image n a q) (its_bits xn) goes) in
+        let there = goes_n q under (subst (λ (n : ℕ). GoesOn image n a q) (its_bits spells paper.opened paper.goes_on xn) goes) in
         elim (next a from_start p).0 [
           | inl none ↦ elim (zero_or q) [
             | inl nothing ↦ none ∙ sym nothing
@@ -548,23 +508,23 @@ module _ (home : ℕ → ℕ) (was image : scan.Log) (g : Log) (spells : SpellsA
       let s = paper.goes_on.start in
       let there : slice_get was.triples i ≡ Some triple = subst (λ (ts : List Triple). slice_get ts i ≡ Some triple) paper.goes_on.triples stands in
       let has = paper.opened.scan.triples i triple there (omega (arith, on, s)) in
-      (has.0, valid_now (triple_home triple) triple.addr.0 has.0 (paper.opened.below i triple there) has.1)
+      (has.0, valid_now spells paper.opened paper.goes_on (triple_home triple) triple.addr.0 has.0 (start_some spells paper.opened triple.addr.0 (omega (arith, on, s))) (paper.opened.below i triple there) has.1)
 
   pub has_scan : HasScan image
   has_scan = record { records = scanned; triples = led }
 
   -- ---- the chains below
   leading_is : (a : ℕ) (reached : Reached was a) (under : a < was.start) (leading : ℕ) → LeadsTo image leading a → record_home was.shape.bucket_bits (let c = paper.opened.chains a reached under in c.held) ≡ leading
-  leading_is a reached under leading (from_triple t) = (let c = paper.opened.chains a reached under in c.same leading (from_triple (same_triple leading a t)))
+  leading_is a reached under leading (from_triple t) = (let c = paper.opened.chains a reached under in c.same leading (from_triple (same_triple spells paper.opened paper.goes_on leading a t)))
   leading_is a reached under leading (from_record b y there stands at leads some) = elim (splits b there) [
-    | inl old ↦ (let c = paper.opened.chains a reached under in c.same leading (from_record b y old.1 ((paper.goes_on.bytes b y old.0).1 stands) (sym (its_bits y) ∙ at) leads some))
+    | inl old ↦ (let c = paper.opened.chains a reached under in c.same leading (from_record b y old.1 (stood spells paper.opened paper.goes_on b y (was_some spells paper.opened b old.1) old.0 stands) (sym (its_bits spells paper.opened paper.goes_on y) ∙ at) leads some))
     | inr later ↦
         let r : IsHere was.tail image g b = later.1 in
-        let own : home (let c = r.cell in c.key) ≡ leading = sym (old_home b r y stands) ∙ sym (its_bits y) ∙ at in
+        let own : home (let c = r.cell in c.key) ≡ leading = sym (old_home b r y stands) ∙ sym (its_bits spells paper.opened paper.goes_on y) ∙ at in
         let up = paper.opened.upwards in
         let counts = (paper.before.counted (home (let c = r.cell in c.key)) a (omega (arith, under, up))).0 (leads_in it b a r y stands leads some).0 in
         let c = paper.opened.chains a reached under in
-        ap (record_home was.shape.bucket_bits) (one_was a c.held counts.0 c.old.stands counts.1.valid.stands) ∙ counts.1.valid.same ∙ own
+        ap (record_home was.shape.bucket_bits) (one_was spells paper.opened a c.held counts.0 c.old.stands counts.1.valid.stands) ∙ counts.1.valid.same ∙ own
   ]
 
   pub has_chains : HasChains image
@@ -577,9 +537,9 @@ module _ (home : ℕ → ℕ) (was image : scan.Log) (g : Log) (spells : SpellsA
             let c = paper.opened.chains a old.1 under in
             record {
               held = c.held;
-              old = record { stands = (paper.goes_on.bytes a c.held old.0).0 c.old.stands; old_enough = (let o = c.old.old_enough in let n = paper.goes_on.newer in omega (arith, o, n)); falls = c.old.falls };
+              old = record { stands = stands_now spells paper.opened paper.goes_on a c.held (was_some spells paper.opened a old.1) old.0 c.old.stands; old_enough = (let o = c.old.old_enough in let n = paper.goes_on.newer in omega (arith, o, n)); falls = c.old.falls };
               valid = c.valid;
-              same = λ leading leads. its_bits c.held ∙ leading_is a old.1 under leading leads;
+              same = λ leading leads. its_bits spells paper.opened paper.goes_on c.held ∙ leading_is a old.1 under leading leads;
             }
         | inr later ↦ (let at = later.0 in absurd (omega (arith, at, under, up)))
       ]
@@ -593,15 +553,15 @@ module _ (home : ℕ → ℕ) (was image : scan.Log) (g : Log) (spells : SpellsA
       let q = of_chain it h a has low in
       let s = (let r : IsHere was.tail image g a = q.0 in r.shown) in
       let at : record_home was.shape.bucket_bits s.held ≡ h = old_home a q.0 s.held s.stands ∙ q.1 in
-      let valid : IsValid image h a s.held = record { stands = s.stands; valid = s.valid; same = its_bits s.held ∙ at } in
+      let valid : IsValid image h a s.held = record { stands = s.stands; valid = s.valid; same = its_bits spells paper.opened paper.goes_on s.held ∙ at } in
       ⊎_elim
       (λ before.
       let counts = (paper.before.counted h a before).0 has in
       let c = counts.1 in (
         counts.0,
         record {
-          reached = again a c.reached;
-          valid = valid_now h a counts.0 before c.valid;
+          reached = again spells paper.opened paper.goes_on a c.reached;
+          valid = valid_now spells paper.opened paper.goes_on h a counts.0 (was_some spells paper.opened a c.reached) before c.valid;
           old_enough = (let o = c.old_enough in let n = paper.goes_on.newer in omega (arith, o, n));
           not_lost = λ on. (paper.loses a counts.0 (let st = paper.goes_on.start in omega (arith, on, st)) before c.valid.stands c.valid.valid).0 (subst (λ (n : ℕ). IsIn a (g.chains n)) (sym c.valid.same) has);
         },
@@ -625,14 +585,14 @@ module _ (home : ℕ → ℕ) (was image : scan.Log) (g : Log) (spells : SpellsA
     | inl old ↦
         let before = old.0 in
         let st = paper.goes_on.start in
-        let v = valid_was h a x before counts.valid in
+        let v = valid_was spells paper.opened paper.goes_on h a x (was_some spells paper.opened a old.1) before counts.valid in
         let has : IsIn a (g.chains h) = ⊎_elim
         (λ under. counts_chain h a under (
           x,
           record {
             reached = old.1;
             valid = v;
-            old_enough = (let c = paper.opened.chains a old.1 under in let is = ap (λ (z : Record). z.header.version.0) (one_was a x c.held v.stands c.old.stands) in let o = c.old.old_enough in omega (arith, is, o));
+            old_enough = (let c = paper.opened.chains a old.1 under in let is = ap (λ (z : Record). z.header.version.0) (one_was spells paper.opened a x c.held v.stands c.old.stands) in let o = c.old.old_enough in omega (arith, is, o));
             not_lost = λ on. absurd (omega (arith, on, under));
           },
         ))
@@ -645,7 +605,7 @@ module _ (home : ℕ → ℕ) (was image : scan.Log) (g : Log) (spells : SpellsA
         (has, omega (arith, is, version, n))
     | inr later ↦
         let p : IsHere was.tail image g a = later.1 in
-        let at : home (let c = p.cell in c.key) ≡ h = sym (old_home a p x counts.valid.stands) ∙ sym (its_bits x) ∙ counts.valid.same in
+        let at : home (let c = p.cell in c.key) ≡ h = sym (old_home a p x counts.valid.stands) ∙ sym (its_bits spells paper.opened paper.goes_on x) ∙ counts.valid.same in
         let is = ap (λ (y : Record). y.header.version.0) (as_shown it a p x counts.valid.stands) in
         let same = (let s = p.shown in s.same later.0) in
         let version = ap version_at p.its in

@@ -1,4 +1,4 @@
--- Where a commit is in force on paper, recovery finds no fault in scan and chains, and what counts is what the log has of versions up to the commit's.
+-- A commit is in force with a checkpoint of its life: recovery finds no fault in scan and chains. What counts is what the log has of versions up to the commit's.
 use Rattle.std.proofs.Common.{◌≡◌, ◌≢◌, inl, inr, ⊎_elim, ℕ, ◌<◌, ◌≤◌, Some, List, [], ◌∷◌, refl, sym, ap, subst, ◌∙◌, arith}
 use Rattle.std.specs.Prelude.{slice_get}
 use Rattle.std.proofs.lemmas.Bool.{cases_lt}

@@ -1,8 +1,14 @@
 -- Each enabled event of a run of phases keeps what views show; and the floor of each view by the stage.
 use Rattle.std.proofs.Common.{◌≡◌, ◌≢◌, ◌⊎◌, inl, inr, ℕ, ◌<◌, ◌≤◌, Bool, true, false, List, [], ◌∷◌, refl, sym, ap, subst, ◌∙◌, arith}
+<<<<<<< HEAD
 use Rattle.law_log.proofs.Shown.{at_one, set_there, set_else}
 use Rattle.law_log.specs.Ghosts.{set_at}
 use Rattle.law_paper.specs.Phases.{View, Phasing, PhaseEvent, Prepares, WaitsFlush, Rests, RaisesProgress, RaisesPending, RaisesEnding, StoresNext, RaisesElse, IsSafe, Reserves, Loads, Completes, Leaves, Sessions, view_now, phase_after, phase_run, IsEnabled, AreEnabled, IsStaged, rests, prepares, defers, goes_on, enters, pends, flushes, AreRaised, Sees, IsSound, HasFloor, HaveFloor}
+=======
+use Rattle.law_log.proofs.Shown.{at_one, set_there, set_else}
+use Rattle.law_log.specs.Ghosts.{set_at}
+use Rattle.law_paper.specs.Phases.{View, Phasing, PhaseEvent, Prepares, WaitsFlush, Rests, RaisesProgress, RaisesPending, RaisesEnding, StoresNext, RaisesElse, IsSafe, Reserves, Loads, Completes, Leaves, Sessions, rank_of, view_now, phase_after, phase_run, IsEnabled, AreEnabled, IsStaged, rests, prepares, defers, goes_on, enters, pends, flushes, AreRaised, Sees, IsSound, HasFloor, HaveFloor}
+>>>>>>> paper
 
 -- where a function changed at one place has P, the old one does elsewhere, or it is that place
 at_either : {X : Type 0} → (P : X → Type 0) (f : ℕ → X) (i : ℕ) (x : X) (j : ℕ) → P (set_at f i x j) → ((j ≢ i) × P (f j)) ⊎ ((j ≡ i) × P x)
@@ -177,16 +183,6 @@ module _ (p : Phasing) (sound : IsSound p) where
   staged_runs (flushes a b c d e f g h) k is some up = absurd (omega (arith, h, is, some))
 
   -- what rises leaves the stage
-  staged_raises : IsStaged p → IsStaged (phase_after p RaisesElse)
-  unfolding phase_after
-  staged_raises (rests a b c d e) = rests a b c d e
-  staged_raises (prepares a b c d e) = prepares a b c d e
-  staged_raises (defers a b c d e f) = defers a b c d e f
-  staged_raises (goes_on a b c d e f g) = goes_on a b c d e f g
-  staged_raises (enters a b c d e f g) = enters a b c d e f g
-  staged_raises (pends a b c d e f g h) = pends a b c d e f g h
-  staged_raises (flushes a b c d e f g h) = flushes a b c d e f g h
-
   staged_safe : IsStaged p → (m : ℕ) → IsStaged (phase_after p (IsSafe m))
   unfolding phase_after
   staged_safe (rests a b c d e) m = rests a b c d e
@@ -206,15 +202,6 @@ module _ (p : Phasing) (sound : IsSound p) where
   staged_reserves (enters a b c d e f g) = enters a b c (omega (arith, d)) e f g
   staged_reserves (pends a b c d e f g h) = pends a b c (omega (arith, d)) e f g h
   staged_reserves (flushes a b c d e f g h) = flushes a b c (omega (arith, d)) e f (λ some. let low = g some in omega (arith, low)) h
-
-  staged_same : (q : Phasing) → q.stage ≡ p.stage → q.raises.progress ≡ p.raises.progress → q.raises.pending ≡ p.raises.pending → q.raises.ending ≡ p.raises.ending → q.raises.due ≡ p.raises.due → q.safe ≡ p.safe → q.tail ≡ p.tail → q.raises.first ≡ p.raises.first → q.raises.end ≡ p.raises.end → IsStaged p → IsStaged q
-  staged_same q s o t h d f l i e (rests a b c g k) = rests (s ∙ a) (o ∙ b) (t ∙ c) (h ∙ g) (d ∙ k)
-  staged_same q s o t h d f l i e (prepares a b c g k) = prepares (s ∙ a) (o ∙ b) (t ∙ c) (h ∙ g) (d ∙ k)
-  staged_same q s o t h d f l i e (defers a b c g k m) = defers (s ∙ a) (omega (arith, o, b)) (omega (arith, i, l, c)) (t ∙ g) (h ∙ k) (omega (arith, d, m, o))
-  staged_same q s o t h d f l i e (goes_on a b c g k m n) = goes_on (s ∙ a) (omega (arith, o, b)) (omega (arith, o, f, c)) (omega (arith, i, l, g)) (t ∙ k) (h ∙ m) (d ∙ n)
-  staged_same q s o t h d f l i e (enters a b c g k m n) = enters (s ∙ a) (omega (arith, o, b)) (omega (arith, o, f, c)) (omega (arith, i, l, g)) (omega (arith, t, k)) (h ∙ m) (omega (arith, d, n, t))
-  staged_same q s o t h d f l i e (pends a b c g k m n r) = pends (s ∙ a) (omega (arith, o, b)) (omega (arith, o, f, c)) (omega (arith, i, l, g)) (omega (arith, t, k)) (omega (arith, t, f, m)) (h ∙ n) (d ∙ r)
-  staged_same q s o t h d f l i e (flushes a b c g k m n r) = flushes (s ∙ a) (omega (arith, o, b)) (omega (arith, o, f, c)) (omega (arith, i, l, g)) (omega (arith, t, k)) (omega (arith, t, f, m)) (λ some. let low = n (omega (arith, h, some)) in omega (arith, e, l, low)) (d ∙ r)
 
   some_epoch : 0 < p.epoch
   some_epoch = let s = sound.raised.safe in omega (arith, s)
@@ -244,7 +231,7 @@ module _ (p : Phasing) (sound : IsSound p) where
       (λ v sees. let st = sees.stamped in record { after = sees.after; stamped = omega (arith, st); tailed = sees.tailed; low = sees.low; floor = sees.floor; progress = sees.progress; pending = sees.pending; ending = λ some later. omega (arith, later, st) })
   event_sound (StoresNext c) enabled = views_go p _ sound refl (staged_runs sound.staged c enabled.0 enabled.1 enabled.2) (let r = sound.raised in record { safe = r.safe; progress = r.progress; pending = r.pending; ending = r.ending })
       (λ v sees. record { after = sees.after; stamped = sees.stamped; tailed = sees.tailed; low = (let l = sees.low in omega (arith, l)); floor = sees.floor; progress = sees.progress; pending = sees.pending; ending = sees.ending })
-  event_sound RaisesElse enabled = views_go p _ sound refl (staged_raises sound.staged)
+  event_sound RaisesElse enabled = views_go p _ sound refl sound.staged
       (let r = sound.raised in let s = r.safe in let o = r.progress in let t = r.pending in let h = r.ending in record { safe = omega (arith, s); progress = omega (arith, o); pending = omega (arith, t); ending = omega (arith, h) })
       (λ v sees. let st = sees.stamped in record { after = sees.after; stamped = omega (arith, st); tailed = sees.tailed; low = sees.low; floor = sees.floor; progress = sees.progress; pending = sees.pending; ending = sees.ending })
   event_sound (IsSafe m) enabled = record {
@@ -256,7 +243,7 @@ module _ (p : Phasing) (sound : IsSound p) where
   event_sound Reserves enabled = views_go p _ sound refl (staged_reserves sound.staged) (let r = sound.raised in record { safe = r.safe; progress = r.progress; pending = r.pending; ending = r.ending })
       (λ v sees. let t = sees.tailed in record { after = sees.after; stamped = sees.stamped; tailed = omega (arith, t); low = sees.low; floor = sees.floor; progress = sees.progress; pending = sees.pending; ending = sees.ending })
   event_sound (Loads s) enabled = record {
-    staged = staged_same _ refl refl refl refl refl refl refl refl refl sound.staged;
+    staged = sound.staged;
     raised = (let r = sound.raised in record { safe = r.safe; progress = r.progress; pending = r.pending; ending = r.ending });
     views = λ other is. same_sees (p.sessions.view other) (sound.views other is);
     coming = λ other is. loaded other is;
@@ -274,7 +261,7 @@ module _ (p : Phasing) (sound : IsSound p) where
         | inr new ↦ subst (Sees (phase_after p (Loads s))) (sym (there p.sessions.coming s (view_now p) other new.0)) (same_sees (view_now p) (sees_now p sound))
       ]
   event_sound (Completes s) enabled = record {
-    staged = staged_same _ refl refl refl refl refl refl refl refl refl sound.staged;
+    staged = sound.staged;
     raised = (let r = sound.raised in record { safe = r.safe; progress = r.progress; pending = r.pending; ending = r.ending });
     views = λ other is. completed other is;
     coming = λ other is. still_coming other is;
@@ -295,7 +282,7 @@ module _ (p : Phasing) (sound : IsSound p) where
         | inr new ↦ (let off = new.1 in absurd (cc))
       ]
   event_sound (Leaves s) enabled = record {
-    staged = staged_same _ refl refl refl refl refl refl refl refl refl sound.staged;
+    staged = sound.staged;
     raised = (let r = sound.raised in record { safe = r.safe; progress = r.progress; pending = r.pending; ending = r.ending });
     views = λ other is. still_live other is;
     coming = λ other is. same_sees (p.sessions.coming other) (sound.coming other is);
@@ -317,3 +304,24 @@ run_sound opening (event ∷ before) sound enabled = event_sound (phase_run open
 
 pub run_floor : (opening : Phasing) (events : List PhaseEvent) → IsSound opening → AreEnabled opening events → HaveFloor (phase_run opening events)
 run_floor opening events sound enabled s is = (let now = run_sound opening events sound enabled in has_floor (phase_run opening events) now _ (now.views s is))
+
+-- ---- the phase word only goes on
+rank_rises : (p : Phasing) (event : PhaseEvent) → IsEnabled p event → rank_of p ≤ rank_of (phase_after p event)
+unfolding phase_after
+rank_rises p Prepares is = omega (arith, is)
+rank_rises p WaitsFlush is = omega (arith, is)
+rank_rises p Rests enabled = (let is = enabled.0 in omega (arith, is))
+rank_rises p (RaisesProgress first) enabled = omega arith
+rank_rises p RaisesPending enabled = omega arith
+rank_rises p (RaisesEnding end) enabled = omega arith
+rank_rises p (StoresNext c) enabled = omega arith
+rank_rises p RaisesElse enabled = omega arith
+rank_rises p (IsSafe m) enabled = omega arith
+rank_rises p Reserves enabled = omega arith
+rank_rises p (Loads s) enabled = omega arith
+rank_rises p (Completes s) enabled = omega arith
+rank_rises p (Leaves s) enabled = omega arith
+
+pub run_rises : (opening : Phasing) (event : PhaseEvent) (before : List PhaseEvent) → AreEnabled opening (event ∷ before) → rank_of (phase_run opening before) ≤ rank_of (phase_run opening (event ∷ before))
+unfolding phase_run AreEnabled
+run_rises opening event before enabled = rank_rises (phase_run opening before) event enabled.1

@@ -13,14 +13,14 @@ use Rattle.fkv_scan.specs.Records.{Stands, losses}
 use Rattle.fkv_scan.specs.Scan.{Has, HasScan}
 use Rattle.law_paper.specs.Paper.Images.{IsCut, IsOrderly, ShowsLog}
 
--- Two scans go by the same checkpoint, and meet the same bytes below the end of the first. The second is of no earlier commit, and ends no lower.
+-- Two scans go by the same checkpoint, and meet the same records from address 1 to the end of the first. The second is of no earlier commit, and ends no lower.
 pub record GoesOnFrom (was image : scan.Log) : Type 0 where
   pub start : image.start ≡ was.start
   pub bits : image.shape.bucket_bits ≡ was.shape.bucket_bits
   pub triples : image.triples ≡ was.triples
   pub longer : was.tail ≤ image.tail
   pub newer : was.version ≤ image.version
-  pub bytes : (a : ℕ) (x : Record) → a < was.tail → Stands was a x ↔ Stands image a x
+  pub bytes : (a : ℕ) (x : Record) → 0 < a → a < was.tail → Stands was a x ↔ Stands image a x
 
 -- the opening's recovery found no fault in the scan, the chains and the triples
 pub record WasSound (was : scan.Log) : Type 0 where

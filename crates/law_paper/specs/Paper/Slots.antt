@@ -9,13 +9,13 @@ pub record Slot : Type 0 where
   pub part : ℕ
   pub place : ℕ
 
--- A home may have its entry there: each part has seven slots, there are so many overflow buckets, and one follows the home's bucket alone.
+-- A home may have its entry there. A part has seven slots, and there are so many overflow buckets. If the part is one of these, it follows the home's bucket.
 pub record IsSlotOf (follows : ℕ → ℕ) (overflow h : ℕ) (slot : Slot) : Type 0 where
   pub seven : slot.place < 7
   pub there : slot.part ≤ overflow
   pub its_bucket : 0 < slot.part → follows slot.part ≡ h / 2 ^ 15
 
--- Each home whose chain isn't empty has a slot, and two of one bucket have two. (The overflow buckets follow these buckets.)
+-- Each home whose chain isn't empty has a slot, and no two homes of a bucket have the same. An overflow bucket follows one bucket at most: `follows` says which.
 pub record HasSlots (image : scan.Log) (g : Log) : Type 0 where
   pub follows : ℕ → ℕ
   pub slot : ℕ → Slot

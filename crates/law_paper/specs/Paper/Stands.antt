@@ -7,7 +7,7 @@ use Rattle.fkv_scan.specs.Log as scan
 use Rattle.fkv_scan.specs.Log.{AreApart, HasTriple}
 use Rattle.law_paper.specs.Paper.Images.{IsCut, IsOrderly, ShowsLog}
 
--- The checkpoint covers the chains: each triple leads to a record of its home's chain below the commit's end, no two are of one home, and each record below the
+-- The checkpoint covers the chains. Each triple leads to a record of its home's chain below the commit's end, and no two are of one home. Each record below the
 -- first address has a triple of its home at or above it.
 pub record CoversChains (image : scan.Log) (g : Log) : Type 0 where
   pub in_chain : (h t : ℕ) → HasTriple image h t → IsIn t (g.chains h)

@@ -1,4 +1,4 @@
--- What an image says where its records that count are those of a log up to the commit's version.
+-- What an image says if its records that count are those of a log up to the commit's version.
 use Rattle.std.specs.Prelude.{◌≡◌, ◌↔◌, ℕ, ◌≤◌, Some}
 use Rattle.fkv_base.specs.declared.numbers.Key.{Key}
 use Rattle.fkv_base.specs.declared.numbers.Value.{Value}

@@ -1,0 +1,130 @@
+-- While the opening's commit is in force, an image that recovery answers as the opened one holds that commit's store alone.
+use Rattle.std.proofs.Common.{⊎_elim, ℕ, ◌<◌, List, refl, sym, ap, subst, ◌∙◌, arith}
+use Rattle.std.proofs.lemmas.Bool.{cases_lt}
+use Rattle.std.proofs.lemmas.Option.{slice_get_within}
+use Rattle.fkv_chains.specs.Entries.{Counts}
+use Rattle.fkv_newest.proofs.Shown.{told_alike}
+use Rattle.fkv_newest.specs.Newest.{IsNewestOf}
+use Rattle.fkv_newest.specs.declared.newest_slots.Newest.{Newest}
+use Rattle.fkv_opening.specs.Alike.{Agree, ShareLog}
+use Rattle.fkv_opening.specs.Faults.{HasCheckpoint, IsSound, log_of}
+use Rattle.fkv_opening.specs.Opened.{IsStoreOf}
+use Rattle.fkv_opening.specs.declared.opened_store.Opened.{Opened}
+use Rattle.law_log.specs.Chains.{version_at}
+use Rattle.law_log.specs.Ghosts.{Log}
+use Rattle.fkv_record.specs.declared.records.Record.{Record}
+use Rattle.fkv_record.specs.declared.triples.Triple.{Triple}
+use Rattle.fkv_scan.specs.Checkpoint.{AreTriples, checkpoint_in}
+use Rattle.fkv_scan.specs.Log as scan
+use Rattle.law_paper.specs.Paper.Named.{HoldsCommit}
+use Rattle.law_paper.specs.Paper.Old.{GoesOnFrom, WasSound}
+use Rattle.law_paper.specs.Paper.Opened.{StandsAsOpened}
+use Rattle.law_paper.specs.Paper.Values.{CountsAsLog}
+use Rattle.law_paper.proofs.OfPaper.Named.{Spellings, holds_with, one_log}
+use Rattle.law_paper.proofs.OfPaper.Reach.{again, valid_now, was_low, was_some}
+
+-- ---- two images that share a log
+module _ (n : Newest) (xs : List Triple) where
+  abbrev log : List ℕ → scan.Log
+  log bytes = log_of bytes n xs
+
+  was_sound : (bytes : List ℕ) → HasCheckpoint bytes n xs → IsSound (log bytes) → WasSound (log bytes)
+  was_sound bytes has sound = record {
+    scan = sound.scan;
+    chains = sound.chains;
+    apart = has.apart;
+    below = λ i x is. (let stored = has.stored in let at = stored.each i x is in at.in_log);
+    some_start = (let newest = has.newest in newest.manifest.suits.log.some);
+    upwards = (let newest = has.newest in newest.manifest.suits.log.upwards);
+  }
+
+  goes_on : (bytes other : List ℕ) → ShareLog n bytes other → GoesOnFrom (log bytes) (log other)
+  goes_on bytes other share = record {
+    start = refl;
+    bits = refl;
+    triples = refl;
+    longer = omega arith;
+    newer = omega arith;
+    bytes = λ a x some low. (let same = share.records a some low in (λ stands. stands ∙ same, λ stands. stands ∙ sym same));
+  }
+
+  module _ (spellings : Spellings) (bytes other : List ℕ) (share : ShareLog n bytes other) (has : HasCheckpoint bytes n xs) (sound : IsSound (log bytes)) where
+    abbrev was : WasSound (log bytes)
+    was = was_sound bytes has sound
+
+    -- what counts in the one counts in the other
+    pub counts_on : (h a : ℕ) (x : Record) → Counts (log bytes) h a x → Counts (log other) h a x
+    counts_on h a x counts =
+        let spells = spellings.records in
+        let on = goes_on bytes other share in
+        record {
+          reached = again spells was on a counts.reached;
+          valid = valid_now spells was on h a x (was_some spells was a counts.reached) (was_low spells was a counts.reached) counts.valid;
+          old_enough = counts.old_enough;
+          not_lost = counts.not_lost;
+        }
+
+    pub counts_below : (h a : ℕ) (x : Record) → Counts (log bytes) h a x → a < n.slot.end.0
+    counts_below h a x counts = was_low spellings.records was a counts.reached
+
+-- ---- the image of which the opening's commit is told
+module _ (spellings : Spellings) (bytes image : List ℕ) (o : Opened) (store : IsStoreOf bytes o) (agree : Agree bytes image) (turned : Agree image bytes) (again_store : IsStoreOf image o) where
+  abbrev n : Newest
+  n = store.newest
+
+  abbrev xs : List Triple
+  xs = store.triples
+
+  abbrev was_checkpoint : HasCheckpoint bytes n xs
+  was_checkpoint = store.checkpoint
+
+  its_newest : IsNewestOf image n
+  its_newest = told_alike bytes image agree.front n (let has = was_checkpoint in has.newest)
+
+  shared : ShareLog n bytes image
+  shared = agree.behind n (let has = was_checkpoint in has.newest)
+
+  its_triples : AreTriples (checkpoint_in image n.shape n.slot) xs
+  its_triples =
+      let stored = (let has = was_checkpoint in has.stored) in
+      record {
+        many = stored.many;
+        each = λ i x is.
+            let at = stored.each i x is in
+            let low : i < n.slot.triples = (let within = slice_get_within xs i x is in let many = stored.many in omega (arith, within, many)) in
+            record { stands = at.stands ∙ shared.triples i low; in_index = at.in_index; in_log = at.in_log };
+      }
+
+  checkpoint_here : HasCheckpoint image n xs
+  checkpoint_here = record { newest = its_newest; stored = its_triples; apart = (let has = was_checkpoint in has.apart) }
+
+  sound_here : IsSound (log_of image n xs)
+  sound_here = subst IsSound (one_log spellings image n xs checkpoint_here again_store.newest again_store.triples again_store.checkpoint) again_store.sound
+
+  module _ (home : ℕ → ℕ) (g : Log) (paper : StandsAsOpened home (log_of bytes n xs) g) where
+    back : (h a : ℕ) (x : Record) → Counts (log_of image n xs) h a x → Counts (log_of bytes n xs) h a x
+    back = counts_on n xs spellings image bytes (turned.behind n its_newest) checkpoint_here sound_here
+
+    counts_as_opened : CountsAsLog home (log_of image n xs) g
+    counts_as_opened = record {
+      orderly = paper.orderly;
+      homes = paper.homes;
+      counts = λ h a has old.
+          let its = paper.orderly.chains.in_chain h a has in
+          let low : a < n.slot.end.0 = ⊎_elim
+          (λ low. low)
+          (λ high. absurd (let late = paper.later a its.cell its.its high in let is = ap version_at its.its in omega (arith, late, is, old)))
+          (cases_lt a n.slot.end.0) in
+          let counts = (paper.before.counted h a low).0 has in
+          (counts.0, counts_on n xs spellings bytes image shared was_checkpoint store.sound h a counts.0 counts.1);
+      stands = λ h a x counts.
+          let counted = back h a x counts in
+          let low = counts_below n xs spellings bytes image shared was_checkpoint store.sound h a x counted in
+          let has = (paper.before.counted h a low).1 (x, counted) in
+          let its = paper.orderly.chains.in_chain h a has in
+          (has, (let version = paper.before.one_version a its.cell low its.its in let is = ap version_at its.its in omega (arith, version, is)));
+      tells = λ h a x counts. paper.tells h a x (back h a x counts);
+    }
+
+    pub holds_opened : HoldsCommit home image n g
+    holds_opened = holds_with spellings image n xs checkpoint_here home g sound_here counts_as_opened
