@@ -35,7 +35,7 @@ def ended(program, words, script, room=None, **more):
     with tempfile.TemporaryFile() as given:
         given.write(spelled(script))
         given.seek(0)
-        how = {"stdin": given, "timeout": SECONDS, **more}
+        how = {"stdin": given, "stderr": subprocess.DEVNULL, "timeout": SECONDS, **more}
         if room is None:
             return subprocess.run([program, *words], **how).returncode
 
@@ -89,7 +89,7 @@ def broken_off(program, script):
         with other:
             other.sendall(spelled(script))
             given.send(b"x")  # nobody reads it, so the other end is reset as it is closed
-        run = subprocess.run([program], stdin=given, stdout=subprocess.PIPE, timeout=SECONDS)
+        run = subprocess.run([program], stdin=given, capture_output=True, timeout=SECONDS)
     return run.returncode, run.stdout
 
 
@@ -123,7 +123,7 @@ def streams(program):
         ("a script that can't be read", (), (4, b"")),
         ("words that are refused before the script is read", ("x",), (2, b"options\n")),
     ):
-        run = subprocess.run([program, *words], stdin=folder, stdout=subprocess.PIPE, timeout=SECONDS)
+        run = subprocess.run([program, *words], stdin=folder, capture_output=True, timeout=SECONDS)
         expect(name, (run.returncode, run.stdout), wished)
     unread = complaint(program, (), None, stdin=folder, stdout=subprocess.DEVNULL)
     expect("the complaint of a script that can't be read", unread, b"fkv: standard input could not be read: is a directory\n")
@@ -132,7 +132,7 @@ def streams(program):
         lost = subprocess.run([program], input=b"0 up 1", stdout=subprocess.PIPE, stderr=full, timeout=SECONDS)
         expect("a complaint that can't be written", (lost.returncode, lost.stdout), (2, b"script line 1 Order\n"))
     expect("a complaint to a stream that is closed", without_complaints(program), (3, b"refused 15 NotAStore\n", True))
-    run = subprocess.run([program], preexec_fn=lambda: os.close(0), stdout=subprocess.PIPE, timeout=SECONDS)
+    run = subprocess.run([program], preexec_fn=lambda: os.close(0), capture_output=True, timeout=SECONDS)
     expect("a script's stream that is closed", (run.returncode, run.stdout), (4, b""))
     expect("a script's stream that fails behind the script", broken_off(program, script), (4, b""))
     return len(seen), [it for it in seen if it]
