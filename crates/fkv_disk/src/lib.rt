@@ -1,6 +1,7 @@
 //! The device that a store lies on, and what a crash may leave of it.
 #![tactic(auto)]
 
+mod ahead;
 mod crashes;
 mod devices;
 mod files;
@@ -8,9 +9,11 @@ mod forgetting;
 mod fuses;
 mod laws;
 mod memory;
+mod pages;
 mod refusals;
 mod single;
 
+pub use ahead::{PageSize, Pages, ReadAhead};
 pub use devices::Device;
 pub use files::{FileDisk, make_file, open_file};
 pub use fuses::{Fuse, FuseState};
