@@ -1,5 +1,5 @@
 -- Pages of what a device reads as, kept in memory.
-use Rattle.std.specs.Prelude.{◌≡◌, ℕ, ◌+◌, List, length, Bool, true, false, ◌&&◌, nat_le}
+use Rattle.std.specs.Prelude.{◌≡◌, ℕ, ◌+◌, ◌-◌, ◌/◌, ◌%◌, ◌≤◌, List, length, Bool, true, false, ◌&&◌, nat_le, slice_index_or}
 use Rattle.std.specs.List.{All}
 use Rattle.fkv_disk.specs.Bytes.{byte_at, bytes_at, covers}
 use Rattle.fkv_disk.specs.declared.pages.Page.{Page}
@@ -19,6 +19,10 @@ IsBlank page = page.kept ≡ false
 -- whether it keeps the n bytes from an offset on
 abbrev pub keeps : Page → ℕ → ℕ → Bool
 keeps page at n = page.kept && (nat_le page.at at && nat_le (at + n) (page.at + length page.bytes.items))
+
+-- the n bytes from an offset on lie in one page, and the place in memory that the page has keeps them
+abbrev pub AreKept : ℕ → List Page → ℕ → ℕ → Type 0
+AreKept size pages at n = (n ≤ size - at % size) × ((other : Page) → keeps (slice_index_or pages ((at / size) % length pages) other) at n ≡ true)
 
 -- bytes that are alike outside the n from an offset on
 abbrev pub AlikeOutside : ℕ → ℕ → List ℕ → List ℕ → Type 0

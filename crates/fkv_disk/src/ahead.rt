@@ -1,5 +1,5 @@
 //! A device that reads ahead.
-ghost use Rattle.std.specs.Prelude.{◌≡◌, ◌<◌, ◌≤◌, ◌+◌, ◌-◌, ◌%◌, ◌^◌, ◌↔◌, ℕ, List, length, true, false, is_ok, IfOk, OnOk};
+ghost use Rattle.std.specs.Prelude.{◌≡◌, ◌<◌, ◌≤◌, ◌+◌, ◌-◌, ◌%◌, ◌^◌, ◌↔◌, ℕ, List, length, true, false, is_ok, IsOk, OnOk};
 ghost use Rattle.std.specs.List.{All};
 ghost use Rattle.fkv_disk.specs.Bytes.{bytes_at};
 ghost use Rattle.fkv_disk.specs.Device.{Writes, LeavesNoMore, LeavesTorn, LeavesOnly, Elapses, HasCause, MakesCalls};
@@ -109,7 +109,7 @@ impl<D: Device> ReadAhead<D> {
 }
 
 impl<D: Device> Device for ReadAhead<D> {
-    ghost use Rattle.fkv_disk.specs.Ahead.{ahead_device};
+    ghost use Rattle.fkv_disk.specs.Ahead.{ahead_device, HasKept};
 
     ghost honest = { λ ahead. D.Device.honest ahead.device };
 
@@ -146,6 +146,7 @@ impl<D: Device> Device for ReadAhead<D> {
         ensures kind { ⟦<ReadAhead<D> as Device>⟧.expects self.new ≡ after_kind Reading (⟦<ReadAhead<D> as Device>⟧.expects self.old) }
 
         ensures passed_on { OnlyReads D.refuses D.expects (ahead_device self.old) (ahead_device self.new) }
+        ensures served { HasKept self.old at (length into.old) → (ahead_device self.new ≡ ahead_device self.old) × IsOk result }
     {
         read_by_pages(&mut self.device, &mut self.pages, self.size, at, into)
     }

@@ -1,4 +1,5 @@
-//! The device that a store lies on, and what a crash may leave of it.
+//! The device that a store lies on, and what a crash may leave of it: a file or bytes in memory, one that fails, and one that reads
+//! another by pages.
 #![tactic(auto)]
 
 mod ahead;

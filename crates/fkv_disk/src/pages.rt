@@ -4,7 +4,7 @@ ghost use Rattle.std.specs.List.{All};
 ghost use Rattle.fkv_disk.specs.Bytes.{bytes_at};
 ghost use Rattle.fkv_disk.specs.Device.{HasCause};
 ghost use Rattle.fkv_disk.specs.Kinds.{OnlyReads};
-ghost use Rattle.fkv_disk.specs.Pages.{IsPageOf, ArePagesOf, IsBlank, keeps, AlikeOutside};
+ghost use Rattle.fkv_disk.specs.Pages.{IsPageOf, ArePagesOf, IsBlank, AreKept, keeps, AlikeOutside};
 ghost use Rattle.fkv_disk.specs.Quiet.{IsQuiet};
 
 use crate::Device;
@@ -119,13 +119,14 @@ fn read_piece<D: Device>(
     ensures cause { HasCause (D.failed device.old) (D.failed device.new) result }
     ensures bytes { D.honest device.old → ArePagesOf (D.seen device.old) pages.old → OnOk result (into.new ≡ bytes_at (D.seen device.old) at (length into.old)) }
     ensures kept { D.honest device.old → ArePagesOf (D.seen device.old) pages.old → ArePagesOf (D.seen device.old) pages.new }
+    ensures served { AreKept size pages.old at (length into.old) → (device.new ≡ device.old) × IsOk result }
 {
     let size = size as u64;
     let place = (at / size) as usize % pages.len();
     pages[place].read(device, at - at % size, at, into)
 }
 
-// Reads by pages what is no longer than one and ends below 2^64, and the rest from the device.
+// Reads by one page or two. What is longer than a page is read from the device, and so is what passes 2^64 where a page ends.
 pub(crate) fn read_by_pages<D: Device>(
     device: &mut D,
     pages: &mut [Page],
@@ -139,14 +140,14 @@ pub(crate) fn read_by_pages<D: Device>(
     ensures cause { HasCause (D.failed device.old) (D.failed device.new) result }
     ensures bytes { D.honest device.old → ArePagesOf (D.seen device.old) pages.old → OnOk result (into.new ≡ bytes_at (D.seen device.old) at (length into.old)) }
     ensures kept { D.honest device.old → ArePagesOf (D.seen device.old) pages.old → ArePagesOf (D.seen device.old) pages.new }
+    ensures served { AreKept size pages.old at (length into.old) → (device.new ≡ device.old) × IsOk result }
 {
-    let n = into.len();
-    if n > size || n as u64 > u64::MAX - at {
-        return device.read(at, into);
-    }
     let room = size - (at % size as u64) as usize;
-    if n <= room {
+    if into.len() <= room {
         return read_piece(device, pages, size, at, into);
+    }
+    if into.len() > size || room as u64 > u64::MAX - at {
+        return device.read(at, into);
     }
     let (head, rest) = into.split_at_mut(room);
     read_piece(device, pages, size, at, head)?;

@@ -21,3 +21,10 @@ returns-clause-bytes g c = λ claim pages.
     let all : n + m ≡ length c.args.into.now = search rules in
     let rest = c.read_piece-3.ensures.bytes (first.quiet.premise.0 claim) (subst (λ it. ArePagesOf it c.read_piece-2.new.pages) (sym same) (first.kept claim pages)) in
     on_ok_weaker c.read_piece-3.result (λ there. two_parts seen c.read_piece-2.new.into c.read_piece-3.new.into c.args.at n from m (length c.args.into.now) behind all (first.bytes claim pages) (there ∙ ap (λ it. bytes_at it from m) same)) rest
+
+pub returns-clause-kept : goal.returns-clause-kept
+returns-clause-kept g c = λ claim pages.
+    let first = c.in_ok-read_piece.ensures in
+    let same = first.quiet.same_bytes claim in
+    let mid = subst (λ it. ArePagesOf it c.read_piece-2.new.pages) (sym same) (first.kept claim pages) in
+    subst (λ it. ArePagesOf it c.read_piece-3.new.pages) same (c.read_piece-3.ensures.kept (first.quiet.premise.0 claim) mid)
