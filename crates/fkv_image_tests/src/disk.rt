@@ -1,6 +1,7 @@
 //! What no clause says: that calls succeed, what a real file does, and bytes written by hand.
 use fkv_disk::{
-    Device, FileDisk, Fuse, FuseState, MemDisk, Once, PageSize, Pages, ReadAhead, make_file, open_file,
+    Device, FileDisk, Fuse, FuseState, MemDisk, Once, PageSize, Pages, ReadAhead, make_file,
+    open_file,
 };
 use std::alloc::Global;
 use std::process::Abort;
