@@ -2,15 +2,15 @@
 use Rattle.std.proofs.Common.{◌≡◌, inl, inr, ⊎_elim, ℕ, ◌≤◌, List, refl, ◌∙◌, arith}
 use Rattle.std.specs.Prelude.{◌↔◌}
 use Rattle.fkv_disk.specs.Device.{LeavesNoMore, Elapses}
-use Rattle.fkv_scan.specs.Quiet.{IsQuiet}
+use Rattle.fkv_disk.specs.Quiet.{IsQuiet}
 
 module _ {D : Type 0} (honest : D → Type 0) (seen : D → List ℕ) (may_leave : D → List ℕ → Type 0) (moment : D → ℕ)
     (left_since : D → ℕ → List ℕ → Type 0) (failed : D → ℕ) where
   -- one call
-  pub one_call : (old new : D) → (honest old ↔ honest new) → (honest old → seen new ≡ seen old) → (honest old → LeavesNoMore (may_leave old) (may_leave new))
+  pub quiet_call : (old new : D) → (honest old ↔ honest new) → (honest old → seen new ≡ seen old) → (honest old → LeavesNoMore (may_leave old) (may_leave new))
       → (honest old → Elapses (moment old) (moment new) (left_since old) (left_since new) (may_leave new)) → failed old ≤ failed new
       → IsQuiet honest seen may_leave moment left_since failed old new
-  one_call old new premise same no_more time later = record {
+  quiet_call old new premise same no_more time later = record {
     premise = premise;
     same_bytes = same;
     leaves_no_more = no_more;
@@ -23,8 +23,8 @@ module _ {D : Type 0} (honest : D → Type 0) (seen : D → List ℕ) (may_leave
   }
 
   -- no call
-  pub no_call : (old : D) → IsQuiet honest seen may_leave moment left_since failed old old
-  no_call old = record {
+  pub quiet_still : (old : D) → IsQuiet honest seen may_leave moment left_since failed old old
+  quiet_still old = record {
     premise = (λ p. p, λ p. p);
     same_bytes = λ claim. refl;
     leaves_no_more = λ claim image left. left;
