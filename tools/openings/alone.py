@@ -51,8 +51,9 @@ def one_alone(path):
     try:
         before = held(path)
         for script in ("open\n", SHAPE):
-            refused = (3, REFUSED, f'fkv: the file "{path}" is in use by another process\n')
-            need(f"{script.split()[0]} in a second process", ran(path, script), refused)
+            status, output, complaint = ran(path, script)
+            refused = (status, output, complaint.endswith("is in use by another process\n"))
+            need(f"{script.split()[0]} in a second process", refused, (3, REFUSED, True))
             need("the file behind it", held(path), before)
     finally:
         first.kill()

@@ -108,7 +108,7 @@ def streams(program):
     with open("/dev/full", "wb") as full:
         full_output = b"fkv: standard output could not be written: no storage space\n"
         expect("the complaint of a full output", complaint(program, (), script, stdout=full), full_output)
-        expect("the same of a faulty line's", complaint(program, (), "0 up 1", stdout=full).splitlines(keepends=True)[-1], full_output)
+        expect("the same of a faulty line's", complaint(program, (), "0 up 1", stdout=full).splitlines(keepends=True)[-1:], [full_output])
         expect("an empty script's to /dev/full", ended(program, (), "", stdout=full), 0)
         expect("a faulty line's to /dev/full", ended(program, (), "0 up 1", stdout=full), 4)
         expect("options to /dev/full", ended(program, ("--threads",), script, stdout=full), 4)
