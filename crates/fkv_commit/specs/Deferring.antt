@@ -88,8 +88,3 @@ deferring_on d step its = d
 
 abbrev pub defer_on : DeferState → Deferred → DeferState
 defer_on d its = deferring_on d d.step its
-
--- a slot that the raise tells is one of the eight
-abbrev pub HasSlotInRange : Ask RaiseAnswer → Type 0
-HasSlotInRange (Done (raised.Raised slot epoch)) = slot < drain_slots
-HasSlotInRange ask = ⊤

@@ -127,8 +127,3 @@ move_asks_left m = moving_asks_left m.step m.raising m.arming
 -- how many a whole move makes, at most: one loads the epoch, two meet each slot; then come the offset's, the epoch's and the two of the arming
 abbrev pub move_asks_most : ℕ
 move_asks_most = 2 * drain_slots + 5
-
--- a slot that the raise tells is one of the eight
-abbrev pub HasSlotInRange : Ask RaiseAnswer → Type 0
-HasSlotInRange (Done (raised.Raised slot epoch)) = slot < drain_slots
-HasSlotInRange ask = ⊤
