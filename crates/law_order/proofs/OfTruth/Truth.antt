@@ -1,6 +1,5 @@
 -- What sessions are told by the words of the store is true of the log.
 use Rattle.std.proofs.Common.{◌≡◌, ℕ, sym, ap, subst, true, List}
-use Rattle.std.specs.Prelude.{Some, slice_get}
 use Rattle.fkv_base.specs.declared.numbers.Version.{Version}
 use Rattle.fkv_base.specs.declared.shapes.Shape.{Shape}
 use Rattle.fkv_index.specs.Slots.{home_of}

@@ -10,7 +10,7 @@ use Rattle.fkv_session.specs.Sessions.{SessionState}
 use Rattle.law_local.specs.Tries.Replies.{IsAboveAll}
 use Rattle.law_local.specs.Tries.WordsShow.{WordsShow}
 use Rattle.fkv_world.specs.Runs.{World, run}
-use Rattle.fkv_world.specs.World.{Event, Now}
+use Rattle.fkv_world.specs.World.{Event}
 use Rattle.law_order.specs.Known.Begins.{BeginsLife, home_of_world}
 use Rattle.law_refine.specs.Events.GhostEvents.{life_ghosts, mapped}
 use Rattle.law_refine.specs.Events.Reserved.{tail_at}

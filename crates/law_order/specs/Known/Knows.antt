@@ -1,8 +1,6 @@
 -- What the sessions of a world know of the log.
-use Rattle.std.specs.Prelude.{◌≡◌, ⊤, ℕ, List, [], ◌∷◌, slice_get, Some}
+use Rattle.std.specs.Prelude.{◌≡◌, ℕ, List, [], ◌∷◌, slice_get, Some}
 use Rattle.law_log.specs.Ghosts.{Ghosts, Log}
-use Rattle.fkv_pending.specs.declared.pending_requests.PendingRequest.{PendingRequest}
-use Rattle.fkv_pending.specs.Attempting.{AttemptState}
 use Rattle.fkv_session.specs.Sessions.{SessionState}
 use Rattle.law_local.specs.Sessions.Known.{KnowsRequests}
 use Rattle.law_local.specs.Tries.AttemptRows.{AttemptKnows, PendingKnows}

@@ -1,6 +1,6 @@
 -- What sessions are told by the words of the store where that is true of the log, and how their tickets stand apart.
-use Rattle.std.specs.Prelude.{◌≡◌, ⊤, ℕ, true, List, [], ◌∷◌, slice_get, Some}
-use Rattle.law_log.specs.Ghosts.{Ghosts, Log}
+use Rattle.std.specs.Prelude.{◌≡◌, ℕ, true, List, [], ◌∷◌, slice_get, Some}
+use Rattle.law_log.specs.Ghosts.{Log}
 use Rattle.fkv_pending.specs.declared.attempting.Attempting.TheVariants.{Looks}
 use Rattle.fkv_pending.specs.declared.pending_requests.RequestName.{RequestName}
 use Rattle.fkv_plane.specs.Asked.{reply_to}
