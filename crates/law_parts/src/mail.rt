@@ -31,7 +31,7 @@ pub fn law_world_mailbox()
 
 /// In every such life, whatever its events: the record that a session takes from its mailbox is what the keeper read from the device for it,
 /// at the place of the address that the session has asked for last, and at a moment since it asked; and it takes that record once. Where
-/// each step of a session does what it owes, the store was just opened, and the address is one since then and was flushed by that moment,
+/// each step of a session is permitted, the store was just opened, and the address is one since then and was flushed by that moment,
 /// that is the record whose words stood there then.
 pub fn law_world_taken()
     ensures takes { TakesWhatWasRead }
