@@ -1,7 +1,6 @@
 -- How what must wait until all have seen a change is deferred: a drain slot is held; once the owner has made the change, the epoch is
 -- raised, and the slot is armed with the action at the epoch before.
-use Rattle.std.specs.Prelude.{ℕ, ◌-◌, ◌^◌, ◌<◌, min, ⊤}
-use Rattle.fkv_base.specs.Limits.{drain_slots}
+use Rattle.std.specs.Prelude.{ℕ, ◌-◌, ◌^◌, min}
 use Rattle.fkv_plane.specs.declared.actions.Action.{Action}
 use Rattle.fkv_plane.specs.declared.actions.Action.TheVariants as act
 use Rattle.fkv_plane.specs.declared.asks.Ask.{Ask}
