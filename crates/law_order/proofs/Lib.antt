@@ -4,7 +4,7 @@ mod OfKnown
 mod OfLooks
 mod OfOneHistory
 mod OfOrdered
-mod OfOwes
+mod OfEnabled
 mod OfReads
 mod OfRest
 mod OfRows

@@ -41,4 +41,4 @@ of_each_life P lives fit keep kept = λ bytes o n events store world none calls 
     let keeps : KeepsOrder (beginning n bytes) (opening_ghosts bytes o) events =
     keep (beginning n bytes) o.tail.0 (opening_lists o.entries.items) (opening_version o) (opening_map bytes o) o.number.0 (opening_ghosts bytes o) events begins (fit bytes o store) none calls
     (tickets_apart (beginning n bytes) events begins.world few) in
-    kept bytes o n events store world keeps.owed keeps.published
+    kept bytes o n events store world keeps.enabled keeps.published

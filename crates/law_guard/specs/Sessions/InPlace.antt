@@ -1,9 +1,9 @@
--- What a session changes in place, and what its steps owe.
+-- What a session changes in place, and when it may.
 use Rattle.std.specs.Prelude.{◌≡◌, ◌<◌, ◌≤◌, ℕ, List, Option, Some, None}
 use Rattle.fkv_plane.specs.declared.places.SharedWord.TheVariants as one
 use Rattle.fkv_plane.specs.Places.{shared_place}
 use Rattle.fkv_plane.specs.Asked.{word_at}
-use Rattle.fkv_flush.specs.Guarded.{AreFairEvents}
+use Rattle.fkv_flush.specs.Guarded.{ArePermittedEvents}
 use Rattle.fkv_flush.specs.GuardWorld.{Actor, GuardWorld}
 use Rattle.fkv_ops.specs.declared.trying.Trying.{Trying}
 use Rattle.fkv_ops.specs.declared.trying.Trying.TheVariants.{SwapsValue, ChangesValue}
@@ -46,23 +46,23 @@ IsAboveReadOnly s = (addr : ℕ) → changed_in_place s ≡ Some addr → s.seen
 abbrev pub IsBelowTail : List ℕ → SessionState → Type 0
 IsBelowTail words s = (addr : ℕ) → changed_in_place s ≡ Some addr → addr < word_at words (shared_place one.Tail)
 
--- What a step owes: what it changes in place it may change.
-abbrev pub SessionOwes : List ℕ → SessionState → Type 0
-SessionOwes words s = (addr : ℕ) → changed_in_place s ≡ Some addr → MayChange (last_seen s.seen) words addr
+-- what a step changes in place it may change
+abbrev pub SessionMayChange : List ℕ → SessionState → Type 0
+SessionMayChange words s = (addr : ℕ) → changed_in_place s ≡ Some addr → MayChange (last_seen s.seen) words addr
 
--- Then each of the guard's events that the step is, is fair.
-abbrev pub MovesAreFair : Type 0
-MovesAreFair = (w : GuardWorld) (number : ℕ) (x : Actor) (s after : SessionState) → Sits w number x s → SessionOwes w.now.words s
-    → AreFairEvents w (session_guard_events (seat_in w.now number) w.now.words s after)
+-- Then each of the guard's events that the step is, is permitted.
+abbrev pub MovesArePermitted : Type 0
+MovesArePermitted = (w : GuardWorld) (number : ℕ) (x : Actor) (s after : SessionState) → Sits w number x s → SessionMayChange w.now.words s
+    → ArePermittedEvents w (session_guard_events (seat_in w.now number) w.now.words s after)
 
 -- at every moment of a session's run
 abbrev pub ChangesAreAbove : Type 0
 ChangesAreAbove = (seat : Seat) (opening : SessionState) (events : List SessionEvent) → IsOpened opening → IsAboveReadOnly (session_run seat opening events)
 
--- all that a step owes comes down to that its change in place stands below the tail
-abbrev pub RunsOwe : Type 0
-RunsOwe = (seat : Seat) (opening : SessionState) (events : List SessionEvent) (words : List ℕ) → IsOpened opening
-    → IsBelowTail words (session_run seat opening events) → SessionOwes words (session_run seat opening events)
+-- a step may change it if it stands below the tail
+abbrev pub RunsMayChange : Type 0
+RunsMayChange = (seat : Seat) (opening : SessionState) (events : List SessionEvent) (words : List ℕ) → IsOpened opening
+    → IsBelowTail words (session_run seat opening events) → SessionMayChange words (session_run seat opening events)
 
 -- and the words of latches and of the index that its steps write are none of the guard's
 abbrev pub RunsWriteOuter : Type 0

@@ -8,7 +8,7 @@ use Rattle.fkv_session.specs.SessionRun.{session_run}
 use Rattle.fkv_world.specs.OwnEvents.{session_events}
 use Rattle.fkv_world.specs.Runs.{World, run}
 use Rattle.fkv_world.specs.World.{Event, Calls, Moves, Commits, Turns, KeeperMoves, Crashes, Now, seat_at}
-use Rattle.law_parts.specs.Index.Shows.{SparesIndex, SessionSpares, IsFair, AreFair, IsOpened}
+use Rattle.law_parts.specs.Index.Shows.{SparesIndex, SessionSpares, IsPermitted, ArePermitted, IsOpened}
 use Rattle.law_parts.proofs.OfIndex.Leaves.{leaves_spares}
 use Rattle.law_parts.proofs.OfIndex.SessionParts.{Homes, SittingKnows, run_knows}
 use Rattle.law_parts.specs.Footprint.{TheIndex}
@@ -52,15 +52,15 @@ keeper_spared opening lists events opened =
     let finished = opened.finished in
     leaves_spares n.places n.words (keeper_ask n.shape n.places n.keeper) (keeper_spares TheIndex opening events opened.keeper (omega (arith, served)) (omega (arith, served, finished)) (λ session e. cc))
 
-is_fair : (opening : World) (lists : ℕ → List ℕ) (before : List Event) (event : Event) → IsOpened opening lists → IsFair (run opening before).now event
-is_fair opening lists before (Moves i) opened = session_spares opening lists before i (slice_get (run opening before).now.sessions i) opened refl
-is_fair opening lists before (KeeperMoves granted done) opened = keeper_spared opening lists before opened
-is_fair opening lists before (Calls i call) opened = tt
-is_fair opening lists before (Commits kind) opened = tt
-is_fair opening lists before Turns opened = tt
-is_fair opening lists before Crashes opened = tt
+is_permitted : (opening : World) (lists : ℕ → List ℕ) (before : List Event) (event : Event) → IsOpened opening lists → IsPermitted (run opening before).now event
+is_permitted opening lists before (Moves i) opened = session_spares opening lists before i (slice_get (run opening before).now.sessions i) opened refl
+is_permitted opening lists before (KeeperMoves granted done) opened = keeper_spared opening lists before opened
+is_permitted opening lists before (Calls i call) opened = tt
+is_permitted opening lists before (Commits kind) opened = tt
+is_permitted opening lists before Turns opened = tt
+is_permitted opening lists before Crashes opened = tt
 
 -- every life
-pub are_fair : (opening : World) (lists : ℕ → List ℕ) (events : List Event) → IsOpened opening lists → AreFair opening events
-are_fair opening lists [] opened = tt
-are_fair opening lists (event ∷ before) opened = (is_fair opening lists before event opened, are_fair opening lists before opened)
+pub are_permitted : (opening : World) (lists : ℕ → List ℕ) (events : List Event) → IsOpened opening lists → ArePermitted opening events
+are_permitted opening lists [] opened = tt
+are_permitted opening lists (event ∷ before) opened = (is_permitted opening lists before event opened, are_permitted opening lists before opened)

@@ -12,7 +12,7 @@ use Rattle.fkv_keeper.specs.Keeping.{keeper_ask}
 use Rattle.fkv_session.specs.Sessions.{SessionState, Seat, session_ask}
 use Rattle.fkv_world.specs.Runs.{World, run}
 use Rattle.fkv_world.specs.World.{Event, Calls, Moves, Commits, Turns, KeeperMoves, Crashes, Now, seat_at}
-use Rattle.law_parts.specs.Latches.Shows.{SparesLatches, SessionSpares, IsFair, AreFair, IsOpened, seen_by_latches}
+use Rattle.law_parts.specs.Latches.Shows.{SparesLatches, SessionSpares, IsPermitted, ArePermitted, IsOpened, seen_by_latches}
 use Rattle.law_parts.specs.Footprint.{TheLatches, Spares}
 use Rattle.law_parts.proofs.Footprint.Lives.{keeper_spares}
 use Rattle.law_parts.proofs.Footprint.Sessions.{IsSessionSparing, SessionRests, session_asks_spares, session_run_spares}
@@ -61,23 +61,23 @@ keeper_spared first events opened =
     let finished = opened.finished in
     leaves_latches n.places n.words (keeper_ask n.shape n.places n.keeper) (keeper_spares TheLatches first events opened.keeper (omega (arith, served)) (omega (arith, served, finished)) (λ session e. cc))
 
-is_fair : (first : World) (before : List Event) (event : Event) (w : LatchWorld) → IsOpened first.now → Holds (run first before).now w → IsFair (run first before).now event
-is_fair first before (Moves i) w opened holds = session_spares (run first before).now w i (slice_get (run first before).now.sessions i) refl holds
-is_fair first before (KeeperMoves granted done) w opened holds = keeper_spared first before opened
-is_fair first before (Calls i call) w opened holds = tt
-is_fair first before (Commits kind) w opened holds = tt
-is_fair first before Turns w opened holds = tt
-is_fair first before Crashes w opened holds = tt
+is_permitted : (first : World) (before : List Event) (event : Event) (w : LatchWorld) → IsOpened first.now → Holds (run first before).now w → IsPermitted (run first before).now event
+is_permitted first before (Moves i) w opened holds = session_spares (run first before).now w i (slice_get (run first before).now.sessions i) refl holds
+is_permitted first before (KeeperMoves granted done) w opened holds = keeper_spared first before opened
+is_permitted first before (Calls i call) w opened holds = tt
+is_permitted first before (Commits kind) w opened holds = tt
+is_permitted first before Turns w opened holds = tt
+is_permitted first before Crashes w opened holds = tt
 
 -- every life
-holds_then : (first : World) (events : List Event) → IsOpened first.now → AreFair first events → Holds (run first events).now (seen_by_latches first events)
-holds_then first events opened fair = run_holds first events (opening first.now.places (length first.now.sessions) first.now.words) fair (opening_holds first.now opened)
+holds_then : (first : World) (events : List Event) → IsOpened first.now → ArePermitted first events → Holds (run first events).now (seen_by_latches first events)
+holds_then first events opened permitted = run_holds first events (opening first.now.places (length first.now.sessions) first.now.words) permitted (opening_holds first.now opened)
 
-pub are_fair : (first : World) (events : List Event) → IsOpened first.now → AreFair first events
-are_fair first [] opened = tt
-are_fair first (event ∷ before) opened =
-    let fair = are_fair first before opened in
-    (is_fair first before event (seen_by_latches first before) opened (holds_then first before opened fair), fair)
+pub are_permitted : (first : World) (events : List Event) → IsOpened first.now → ArePermitted first events
+are_permitted first [] opened = tt
+are_permitted first (event ∷ before) opened =
+    let permitted = are_permitted first before opened in
+    (is_permitted first before event (seen_by_latches first before) opened (holds_then first before opened permitted), permitted)
 
 pub life_holds : (first : World) (events : List Event) → IsOpened first.now → Holds (run first events).now (seen_by_latches first events)
-life_holds first events opened = holds_then first events opened (are_fair first events opened)
+life_holds first events opened = holds_then first events opened (are_permitted first events opened)

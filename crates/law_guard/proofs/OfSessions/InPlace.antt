@@ -1,4 +1,4 @@
--- What a step of a session owes, from its own run and from what is left.
+-- That a step of a session is permitted, from its own run and from what is left.
 use Rattle.std.proofs.Common.{◌≡◌, ℕ, ◌≤◌, subst}
 use Rattle.std.specs.Prelude.{Some}
 use Rattle.fkv_ops.specs.declared.requests.Seen.{Seen}
@@ -12,7 +12,7 @@ use Rattle.fkv_session.specs.declared.sessions.Sitting.{Sitting}
 use Rattle.fkv_session.specs.declared.sessions.Sitting.TheVariants.{Attempts, Polls}
 use Rattle.fkv_session.specs.SessionRun.{session_run}
 use Rattle.fkv_session.specs.Sessions.{SessionState}
-use Rattle.law_guard.specs.Sessions.Owing.{try_changes, attempt_changes, sitting_changes, ChangesAreAbove, RunsOwe, RunsWriteOuter}
+use Rattle.law_guard.specs.Sessions.InPlace.{try_changes, attempt_changes, sitting_changes, ChangesAreAbove, RunsMayChange, RunsWriteOuter}
 use Rattle.law_guard.proofs.OfSessions.SessionsOuter.{its_homes, session_owes, session_run_outer}
 use Rattle.law_guard.proofs.OfSessions.TriesSeen.{TryAbove}
 use Rattle.law_guard.proofs.OfSessions.AttemptsSeen.{AttemptAbove}
@@ -36,8 +36,8 @@ sitting_high s step addr above e = cc
 pub run_above : ChangesAreAbove
 run_above seat opening events opened addr e = let s : SessionState = session_run seat opening events in sitting_high s s.step addr (session_run_above seat opening events opened) e
 
-pub run_owes : RunsOwe
-run_owes seat opening events words opened below addr e = (run_above seat opening events opened addr e, below addr e)
+pub run_may_change : RunsMayChange
+run_may_change seat opening events words opened below addr e = (run_above seat opening events opened addr e, below addr e)
 
 pub run_outer : RunsWriteOuter
 run_outer seat opening events opened its = session_owes seat (session_run seat opening events) (session_run_outer seat (its_homes seat its) opening events opened)

@@ -1,4 +1,4 @@
--- What a session's own events in the log owe, beside a life without commits.
+-- That a session's own events in the log are enabled, beside a life without commits.
 use Rattle.std.proofs.Common.{◌≡◌, ℕ, ◌≤◌, ◌∙◌, List, [], ◌∷◌, ◌++◌, refl, arith, ap, sym, subst, Bool, true, false}
 use Rattle.std.specs.Prelude.{map, ◌==◌, if◌then◌else◌, Option, Some, None, slice_get}
 use Rattle.fkv_base.specs.declared.numbers.Version.{Version}
@@ -7,7 +7,7 @@ use Rattle.fkv_map.specs.Map.{Map}
 use Rattle.fkv_ops.specs.declared.requests.Request.{Request}
 use Rattle.fkv_ops.specs.declared.requests.Seen.{Seen}
 use Rattle.law_log.specs.Ghosts.{Log, Ghosts, GhostEvent, Fixes, Tells}
-use Rattle.law_log.specs.Owed.{AreOwed, NoneAbove, NoneCopies}
+use Rattle.law_log.specs.Enabled.{AreEnabled, NoneAbove, NoneCopies}
 use Rattle.law_log.specs.Trace.{TraceLine}
 use Rattle.fkv_plane.specs.declared.asks.Ask.{Ask}
 use Rattle.fkv_plane.specs.declared.asks.Ask.TheVariants.{Put, Take, Done}
@@ -48,11 +48,11 @@ use Rattle.law_order.specs.Rest.Sessions.{SitsAtRest}
 use Rattle.law_order.proofs.OfRest.Lives.{life_cells}
 use Rattle.law_order.proofs.OfRest.Worlds.{life_rests}
 use Rattle.law_order.proofs.OfRest.Cells.{none_above, none_above_reserved, none_copies}
-use Rattle.law_order.proofs.OfOwes.Attempts.{life_attempts}
+use Rattle.law_order.proofs.OfEnabled.Attempts.{life_attempts}
 use Rattle.law_order.proofs.OfKnown.Newest.{known_now}
-use Rattle.law_order.proofs.OfOwes.InHand.{made_in_hand}
-use Rattle.law_order.proofs.OfOwes.Ready.{AllTakeOwed, AllTakeUnborn, behind_owed, meets_then, takes_owed, takes_unborn}
-use Rattle.law_order.proofs.OfOwes.Tries.{sitting_owed}
+use Rattle.law_order.proofs.OfEnabled.InHand.{made_in_hand}
+use Rattle.law_order.proofs.OfEnabled.Ready.{AreTakesEnabled, AllTakeUnborn, behind_enabled, meets_then, takes_enabled, takes_unborn}
+use Rattle.law_order.proofs.OfEnabled.Tries.{sitting_enabled}
 
 -- ---- by the session's control state
 seen_at : (k : Seat) (s : SessionState) (step : Sitting) → AttemptsBy k s step → is_attempting step ≡ true → s.attempt.seen ≡ s.seen
@@ -79,15 +79,15 @@ none_overlap home log request seen version at low same rests = record {
 }
 
 -- ---- lists of the log's events
-no_fix_owed : (home : ℕ → ℕ) (g : Ghosts) (before safe : ℕ) (events : List GhostEvent) → AreOwed home g events → AreOwed home g (fixed_ghosts before safe ++ events)
-unfolding AreOwed
-no_fix_owed home g before safe events owed = by_test (safe == before)
+no_fix_enabled : (home : ℕ → ℕ) (g : Ghosts) (before safe : ℕ) (events : List GhostEvent) → AreEnabled home g events → AreEnabled home g (fixed_ghosts before safe ++ events)
+unfolding AreEnabled
+no_fix_enabled home g before safe events enabled = by_test (safe == before)
   where
-    by_test : (c : Bool) → AreOwed home g ((if c then [] else Fixes safe ∷ []) ++ events)
-    by_test true = owed
-    by_test false = (owed, tt)
+    by_test : (c : Bool) → AreEnabled home g ((if c then [] else Fixes safe ∷ []) ++ events)
+    by_test true = enabled
+    by_test false = (enabled, tt)
 
-of_alive : (home : ℕ → ℕ) (g : Ghosts) (c : Bool) (events : List GhostEvent) → c ≡ false → AllTakeOwed home g (if c then [] else events) → AllTakeOwed home g events
+of_alive : (home : ℕ → ℕ) (g : Ghosts) (c : Bool) (events : List GhostEvent) → c ≡ false → AreTakesEnabled home g (if c then [] else events) → AreTakesEnabled home g events
 of_alive home g true events e takes = cc
 of_alive home g false events e takes = takes
 
@@ -123,24 +123,24 @@ module _ (opening : World) (start : ℕ) (lists : ℕ → List ℕ) (version : V
   cells_rest = life_cells opening start version ghosts before begins.store.now begins.rests none begins.cells
 
   -- ---- what takes effect by an event
-  event_takes : (event : Event) → AllTakeOwed H G (ghost_events (serials_in opening.now) W event)
+  event_takes : (event : Event) → AreTakesEnabled H G (ghost_events (serials_in opening.now) W event)
   unfolding mapped
   event_takes event =
       let events : List GhostEvent = ghost_events (serials_in opening.now) W event in
       let makes = life_makes opening start before event begins.store.now in
       let meets : AllMeetHeads H ghosts (events ++ mapped opening before) = life_meets opening start lists ghosts (event ∷ before) begins.store.now begins.index begins.unborn begins.reserves begins.heads in
-      takes_owed H G (step_at N event) events makes.made makes.takes (meets_then H ghosts events (mapped opening before) meets)
+      takes_enabled H G (step_at N event) events makes.made makes.takes (meets_then H ghosts events (mapped opening before) meets)
       (λ its reserved. life_reserved opening start ghosts before begins.store.now begins.unborn begins.reserves (step_reserves N event its reserved).0 its (step_reserves N event its reserved).1)
       (λ a entry cell there. none_above_reserved version.0 G.log (H cell.key) a entry cell cells_rest there)
       (λ entry is. made_in_hand opening start lists version m number ghosts begins before event makes.made (step_at N event).version entry published makes.history is)
 
-  own_takes : (event : Event) → N.crashed ≡ false → AllTakeOwed H G (own_ghosts W event)
+  own_takes : (event : Event) → N.crashed ≡ false → AreTakesEnabled H G (own_ghosts W event)
   unfolding ghost_events
   own_takes event alive =
       let lines : List TraceLine = lines_added (serials_in opening.now) W.past.trace (traced_by W event) in
       let fresh : List GhostEvent = fixed_ghosts (safe_at N) (safe_at (happens W event).now) in
-      behind_owed H G fresh (own_ghosts W event)
-      (behind_owed H G (map Tells lines) (fresh ++ own_ghosts W event) (of_alive H G N.crashed (map Tells lines ++ (fresh ++ own_ghosts W event)) alive (event_takes event)))
+      behind_enabled H G fresh (own_ghosts W event)
+      (behind_enabled H G (map Tells lines) (fresh ++ own_ghosts W event) (of_alive H G N.crashed (map Tells lines ++ (fresh ++ own_ghosts W event)) alive (event_takes event)))
 
   -- ---- the address that a step takes is the tail
   tail_unborn : (session : ℕ) (s : SessionState) (ask : Ask Told) → session_ask (seat_at N session) s ≡ ask → slice_get N.sessions session ≡ Some s
@@ -165,37 +165,37 @@ module _ (opening : World) (start : ℕ) (lists : ℕ → List ℕ) (version : V
       none_overlap H G.log s.attempt.pending.request s.attempt.seen version at (subst (λ (x : Seen). G.log.fixed ≤ x.offsets.read_only.0) (sym seen) low)
       (version_at version s s.step ((life_rests opening start version before begins.store.now begins.rests none).sessions session s found).sits attempts) cells_rest
 
-  step_owed : (session : ℕ) (s : SessionState) → slice_get N.sessions session ≡ Some s → (ask : Ask Told) → session_ask (seat_at N session) s ≡ ask
-      → AllTakeOwed H G (step_ghosts (seat_at N session) W.past.trace s N.words ask) → AreOwed H G (step_ghosts (seat_at N session) W.past.trace s N.words ask)
-  unfolding step_ghosts AreOwed
-  step_owed session s found (Done its) e takes = tt
-  step_owed session s found (Put slot action) e takes = tt
-  step_owed session s found (Take slot) e takes = tt
-  step_owed session s found ask e takes =
+  step_enabled : (session : ℕ) (s : SessionState) → slice_get N.sessions session ≡ Some s → (ask : Ask Told) → session_ask (seat_at N session) s ≡ ask
+      → AreTakesEnabled H G (step_ghosts (seat_at N session) W.past.trace s N.words ask) → AreEnabled H G (step_ghosts (seat_at N session) W.past.trace s N.words ask)
+  unfolding step_ghosts AreEnabled
+  step_enabled session s found (Done its) e takes = tt
+  step_enabled session s found (Put slot action) e takes = tt
+  step_enabled session s found (Take slot) e takes = tt
+  step_enabled session s found ask e takes =
       let k : Seat = seat_at N session in
       let reply : ℕ = reply_to N.words ask in
-      sitting_owed H G k W.past.trace s s.step reply (λ attempts. (known_now opening ghosts before known session s found).attempted attempts)
+      sitting_enabled H G k W.past.trace s s.step reply (λ attempts. (known_now opening ghosts before known session s found).attempted attempts)
       (λ attempts. subst (λ (x : Ask Told). IsTrueOfAttempt H G.log N.places s.attempt s.attempt.step (reply_to N.words x)) e (told session s found attempts))
       (none_beside session s found) (record { takes = takes; unborn = tail_unborn session s ask e found })
 
-  moved_owed : (session : ℕ) (found : Option SessionState) → slice_get N.sessions session ≡ found → AllTakeOwed H G (moved_ghosts W session found) → AreOwed H G (moved_ghosts W session found)
-  unfolding AreOwed
-  moved_owed session None e takes = tt
-  moved_owed session (Some s) e takes = step_owed session s e (session_ask (seat_at N session) s) refl takes
+  moved_enabled : (session : ℕ) (found : Option SessionState) → slice_get N.sessions session ≡ found → AreTakesEnabled H G (moved_ghosts W session found) → AreEnabled H G (moved_ghosts W session found)
+  unfolding AreEnabled
+  moved_enabled session None e takes = tt
+  moved_enabled session (Some s) e takes = step_enabled session s e (session_ask (seat_at N session) s) refl takes
 
-  event_owed : (event : Event) → AllTakeOwed H G (own_ghosts W event) → AreOwed H G (own_ghosts W event)
-  unfolding AreOwed
-  event_owed (Moves session) takes = moved_owed session (slice_get N.sessions session) refl takes
-  event_owed event takes = tt
+  event_enabled : (event : Event) → AreTakesEnabled H G (own_ghosts W event) → AreEnabled H G (own_ghosts W event)
+  unfolding AreEnabled
+  event_enabled (Moves session) takes = moved_enabled session (slice_get N.sessions session) refl takes
+  event_enabled event takes = tt
 
-  pub events_owed : (event : Event) → N.crashed ≡ false → AreOwed H G (own_ghosts W event)
-  events_owed event alive = event_owed event (own_takes event alive)
+  pub events_enabled : (event : Event) → N.crashed ≡ false → AreEnabled H G (own_ghosts W event)
+  events_enabled event alive = event_enabled event (own_takes event alive)
 
-pub own_owed : (opening : World) (start : ℕ) (lists : ℕ → List ℕ) (version : Version) (m : Map) (number : ℕ) (ghosts : Ghosts) (before : List Event) (event : Event)
-    → BeginsLife opening start lists version m number ghosts → HasNoCommit (event ∷ before) → AreOwed (home_of_world opening) ghosts (mapped opening before)
+pub own_enabled : (opening : World) (start : ℕ) (lists : ℕ → List ℕ) (version : Version) (m : Map) (number : ℕ) (ghosts : Ghosts) (before : List Event) (event : Event)
+    → BeginsLife opening start lists version m number ghosts → HasNoCommit (event ∷ before) → AreEnabled (home_of_world opening) ghosts (mapped opening before)
     → AreChangesPublished opening ghosts before → AreKnown opening ghosts before → AreToldTruly (home_of_world opening) (life_ghosts opening ghosts before).log (run opening before).now
     → (run opening before).now.crashed ≡ false
-    → AreOwed (home_of_world opening) (life_ghosts opening ghosts before) (fixed_ghosts (safe_at (run opening before).now) (safe_at (run opening (event ∷ before)).now) ++ own_ghosts (run opening before) event)
-own_owed opening start lists version m number ghosts before event begins none owed published known told alive =
-    no_fix_owed (home_of_world opening) (life_ghosts opening ghosts before) (safe_at (run opening before).now) (safe_at (run opening (event ∷ before)).now) (own_ghosts (run opening before) event)
-    (events_owed opening start lists version m number ghosts before begins none.1 published known told event alive)
+    → AreEnabled (home_of_world opening) (life_ghosts opening ghosts before) (fixed_ghosts (safe_at (run opening before).now) (safe_at (run opening (event ∷ before)).now) ++ own_ghosts (run opening before) event)
+own_enabled opening start lists version m number ghosts before event begins none enabled published known told alive =
+    no_fix_enabled (home_of_world opening) (life_ghosts opening ghosts before) (safe_at (run opening before).now) (safe_at (run opening (event ∷ before)).now) (own_ghosts (run opening before) event)
+    (events_enabled opening start lists version m number ghosts before begins none.1 published known told event alive)

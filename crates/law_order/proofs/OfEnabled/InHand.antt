@@ -5,7 +5,7 @@ use Rattle.fkv_base.specs.declared.numbers.Version.{Version}
 use Rattle.fkv_map.specs.declared.history.HistoryEntry.{HistoryEntry}
 use Rattle.fkv_map.specs.Map.{Map}
 use Rattle.law_log.specs.Ghosts.{Ghosts}
-use Rattle.law_log.specs.Owed.{IsInHand}
+use Rattle.law_log.specs.Enabled.{IsInHand}
 use Rattle.law_log.specs.Trace.{TraceLine, called_as, Effect as LogEffect}
 use Rattle.law_world.specs.Runs.Added.{IsEffectOf, IsHistoryAfter}
 use Rattle.fkv_world.specs.Past.{Effect, effect_made}

@@ -1,4 +1,4 @@
--- What a log is opened with, and what each event owes where it happens.
+-- What a log is opened with, and when each event is enabled.
 use Rattle.std.specs.Prelude.{◌≡◌, ◌≢◌, ◌⊎◌, ℕ, ◌<◌, ◌≤◌, ⊤, Option, Some, None, List, [], ◌∷◌}
 use Rattle.std.specs.FinMap.{get}
 use Rattle.fkv_map.specs.declared.history.HistoryEntry.{HistoryEntry}
@@ -60,17 +60,17 @@ pub record IsInHand (g : Ghosts) (entry : HistoryEntry) : Type 0 where
   pub none_yet : HasUpdate g.log.history entry.session entry.serial.0 → ⊥
 
 -- a call's name is free; what is refused has not taken effect; what is given is the reply of the history, or the value that a read has
-abbrev pub OwesLine : Ghosts → TraceLine → Type 0
-OwesLine g (CallsUpdate session serial op) = called_as g.trace session serial ≡ None
-OwesLine g (RefusesUpdate session serial) = HasUpdate g.log.history session serial → ⊥
-OwesLine g (GivesResult session serial reply) = HasReply g.log.history session serial reply
-OwesLine g (CallsRead reader key) = g.reads reader ≡ NotCalled
-OwesLine g (AnswersRead reader reply) = (key : ℕ) × (seen : List Effect) × (value : Option ℕ) × (g.reads reader ≡ HasValue key seen value) × (reply ≡ reply_to_read value)
+abbrev pub IsLineEnabled : Ghosts → TraceLine → Type 0
+IsLineEnabled g (CallsUpdate session serial op) = called_as g.trace session serial ≡ None
+IsLineEnabled g (RefusesUpdate session serial) = HasUpdate g.log.history session serial → ⊥
+IsLineEnabled g (GivesResult session serial reply) = HasReply g.log.history session serial reply
+IsLineEnabled g (CallsRead reader key) = g.reads reader ≡ NotCalled
+IsLineEnabled g (AnswersRead reader reply) = (key : ℕ) × (seen : List Effect) × (value : Option ℕ) × (g.reads reader ≡ HasValue key seen value) × (reply ≡ reply_to_read value)
 
 -- a record is published where its chain begins with what it leads to and has no later version, and where its update is in hand
-abbrev pub OwesPublish : (ℕ → ℕ) → Ghosts → Logged → Type 0
-OwesPublish home g (Reserved entry cell) = (head_of (g.log.chains (home cell.key)) ≡ cell.previous) × NoneAbove g.log (home cell.key) cell.version × IsInHand g entry
-OwesPublish home g logged = ⊤
+abbrev pub IsPublishEnabled : (ℕ → ℕ) → Ghosts → Logged → Type 0
+IsPublishEnabled home g (Reserved entry cell) = (head_of (g.log.chains (home cell.key)) ≡ cell.previous) × NoneAbove g.log (home cell.key) cell.version × IsInHand g entry
+IsPublishEnabled home g logged = ⊤
 
 -- An update that may change a record in place: the record isn't fixed, and nobody makes one of a later version of it. The update is of its
 -- key, takes its version, and none of a later version stands in the chain; it is replied to by the record's value.
@@ -81,24 +81,24 @@ pub record IsChange (home : ℕ → ℕ) (log : Log) (a : ℕ) (entry : HistoryE
   pub its_key : cell.key ≡ (key_of entry.op).0
   pub its_reply : entry.reply ≡ reply_from cell.value entry.op
 
-abbrev pub OwesChange : (ℕ → ℕ) → Ghosts → ℕ → HistoryEntry → Logged → Type 0
-OwesChange home g a entry (Published cell) = IsChange home g.log a entry cell × IsInHand g entry
-OwesChange home g a entry logged = ⊤
+abbrev pub IsChangeEnabled : (ℕ → ℕ) → Ghosts → ℕ → HistoryEntry → Logged → Type 0
+IsChangeEnabled home g a entry (Published cell) = IsChange home g.log a entry cell × IsInHand g entry
+IsChangeEnabled home g a entry logged = ⊤
 
-abbrev pub Owes : (ℕ → ℕ) → Ghosts → GhostEvent → Type 0
-Owes home g (Tells line) = OwesLine g line
-Owes home g (FindsEntry reader) = ⊤
-Owes home g (TakesValue reader) = ⊤
-Owes home g (Reserves a entry cell) = (g.log.cells a ≡ Unborn) × (cell.previous < a) × IsMade home g.log entry cell
-Owes home g (Publishes a) = OwesPublish home g (g.log.cells a)
-Owes home g (Drops a) = ⊤
-Owes home g (Changes a entry) = OwesChange home g a entry (g.log.cells a)
-Owes home g (Fixes a) = ⊤
+abbrev pub IsEnabled : (ℕ → ℕ) → Ghosts → GhostEvent → Type 0
+IsEnabled home g (Tells line) = IsLineEnabled g line
+IsEnabled home g (FindsEntry reader) = ⊤
+IsEnabled home g (TakesValue reader) = ⊤
+IsEnabled home g (Reserves a entry cell) = (g.log.cells a ≡ Unborn) × (cell.previous < a) × IsMade home g.log entry cell
+IsEnabled home g (Publishes a) = IsPublishEnabled home g (g.log.cells a)
+IsEnabled home g (Drops a) = ⊤
+IsEnabled home g (Changes a entry) = IsChangeEnabled home g a entry (g.log.cells a)
+IsEnabled home g (Fixes a) = ⊤
 
--- each event of a run owes what it owes where it happens
-unfoldable pub AreOwed : (ℕ → ℕ) → Ghosts → List GhostEvent → Type 0
-AreOwed home opening [] = ⊤
-AreOwed home opening (event ∷ before) = AreOwed home opening before × Owes home (ghost_run home opening before) event
+-- each event of a run is enabled where it happens
+unfoldable pub AreEnabled : (ℕ → ℕ) → Ghosts → List GhostEvent → Type 0
+AreEnabled home opening [] = ⊤
+AreEnabled home opening (event ∷ before) = AreEnabled home opening before × IsEnabled home (ghost_run home opening before) event
 
 -- A log is opened with what its chains lead to: published records, all fixed and of the opening's version, which show the opening map. Nothing
 -- has been told.

@@ -17,7 +17,7 @@ use Rattle.fkv_world.specs.Runs.{World, run}
 use Rattle.fkv_world.specs.World.{Event, Calls, Moves, Commits, Turns, KeeperMoves, Crashes, Now, seat_at}
 use Rattle.fkv_world.proofs.Shown.{keeper_runs, places_stay}
 use Rattle.law_parts.specs.Mail.Servers.{serving_of, is_serving}
-use Rattle.law_parts.specs.Mail.Shows.{SessionSpares, IsFair, AreFair, IsOpened}
+use Rattle.law_parts.specs.Mail.Shows.{SessionSpares, IsPermitted, ArePermitted, IsOpened}
 use Rattle.law_parts.specs.Mail.Spares.{SparesMailbox}
 use Rattle.law_parts.specs.Footprint.{TheMailbox, Spares}
 use Rattle.law_parts.proofs.Footprint.Lives.{at_each_moment, keeper_spares}
@@ -61,18 +61,18 @@ keeper_spared opening session events opened none =
     let other : (number : ℕ) → TheMailbox session ≡ TheMailbox number → is_serving number (serving_of n.keeper) ≡ false = λ number e. subst (λ (x : ℕ). is_serving x (serving_of n.keeper) ≡ false) (sym (same_number session number e)) none in
     leaves_mailbox n.places session (keeper_ask n.shape n.places n.keeper) (its_seat opening session events opened) (keeper_spares (TheMailbox session) opening events opened.keeper tt tt other)
 
-pub is_fair : (opening : World) (session : ℕ) (before : List Event) (event : Event) → IsOpened opening.now session → IsFair (run opening before).now session event
-is_fair opening session before (Moves i) opened = session_spares opening session before i (slice_get (run opening before).now.sessions i) opened refl
-is_fair opening session before (KeeperMoves granted done) opened = λ none. keeper_spared opening session before opened none
-is_fair opening session before (Calls i call) opened = tt
-is_fair opening session before (Commits kind) opened = tt
-is_fair opening session before Turns opened = tt
-is_fair opening session before Crashes opened = tt
+pub is_permitted : (opening : World) (session : ℕ) (before : List Event) (event : Event) → IsOpened opening.now session → IsPermitted (run opening before).now session event
+is_permitted opening session before (Moves i) opened = session_spares opening session before i (slice_get (run opening before).now.sessions i) opened refl
+is_permitted opening session before (KeeperMoves granted done) opened = λ none. keeper_spared opening session before opened none
+is_permitted opening session before (Calls i call) opened = tt
+is_permitted opening session before (Commits kind) opened = tt
+is_permitted opening session before Turns opened = tt
+is_permitted opening session before Crashes opened = tt
 
 -- every life
-pub are_fair : (opening : World) (session : ℕ) (events : List Event) → IsOpened opening.now session → AreFair opening session events
-are_fair opening session [] opened = tt
-are_fair opening session (event ∷ before) opened = (is_fair opening session before event opened, are_fair opening session before opened)
+pub are_permitted : (opening : World) (session : ℕ) (events : List Event) → IsOpened opening.now session → ArePermitted opening session events
+are_permitted opening session [] opened = tt
+are_permitted opening session (event ∷ before) opened = (is_permitted opening session before event opened, are_permitted opening session before opened)
 
 -- a device that has failed
 refused : (shape : Shape) (failed : Bool) (s : KeeperState) (w : _) (number : _) → IsSound shape failed w number s → s.is_broken ≡ true → is_in_hand s.step ≡ false

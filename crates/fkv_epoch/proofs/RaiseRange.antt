@@ -9,9 +9,8 @@ use Rattle.fkv_epoch.specs.declared.raising.RaiseAnswer.{RaiseAnswer}
 use Rattle.fkv_epoch.specs.declared.raising.RaiseAnswer.TheVariants as answer
 use Rattle.fkv_epoch.specs.declared.raising.Raising.{Raising}
 use Rattle.fkv_epoch.specs.declared.raising.Raising.TheVariants.{AtRest, LoadsEpoch, MeetsSlot, HoldsSlot, HasSlot, RaisesEpoch}
-use Rattle.fkv_epoch.specs.Raising.{IsRaiseInRange, raise_ask, raise_next, raise_next_ask, raise_on, free_after}
+use Rattle.fkv_epoch.specs.Raising.{HasSlotInRange, IsRaiseInRange, raise_ask, raise_next, raise_next_ask, raise_on, free_after}
 use Rattle.fkv_plane.specs.Passing.{is_done}
-use Rattle.fkv_log.specs.Moving.{HasSlotInRange}
 
 either : (b : Bool) (x y : Raising) → IsRaiseInRange x → IsRaiseInRange y → IsRaiseInRange (if b then x else y)
 either true x y p q = p

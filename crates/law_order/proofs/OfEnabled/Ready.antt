@@ -1,10 +1,10 @@
--- What the log's events of a step owe but for what its session knows: by what takes effect by them, and by the address that they take.
+-- That the log's events of a step are enabled, but for what its session knows: by what takes effect by them, and by the address that they take.
 use Rattle.std.proofs.Common.{◌≡◌, ℕ, List, [], ◌∷◌, ◌++◌, refl, ap, sym, subst}
 use Rattle.std.specs.Prelude.{⊤, Option, Some}
 use Rattle.fkv_map.specs.declared.history.HistoryEntry.{HistoryEntry}
 use Rattle.law_log.specs.Chains.{Cell, Unborn, Reserved as HoldsReserved}
 use Rattle.law_log.specs.Ghosts.{Log, Ghosts, GhostEvent, Reserves, Publishes, Changes, ghosts_after, ghost_run}
-use Rattle.law_log.specs.Owed.{IsInHand, NoneAbove, OwesPublish}
+use Rattle.law_log.specs.Enabled.{IsInHand, NoneAbove, IsPublishEnabled}
 use Rattle.law_refine.specs.Heads.Heads.{AllMeetHeads, IsAtHead, meets_head}
 use Rattle.law_refine.specs.Events.Effects.{AreQuiet, Behind, ByRecord, InPlace, Quietly, Stepped, TakesEffect, is_quiet}
 use Rattle.law_refine.specs.Events.Reservations as moved
@@ -12,43 +12,43 @@ use Rattle.law_refine.specs.Events.Reservations.{AreStill, DropsOne, Keeps, Lose
 
 -- ---- by what takes effect
 -- what is published stands where it has to, and its update is in hand; so is that of a change
-abbrev pub TakesOwed : (ℕ → ℕ) → Ghosts → GhostEvent → Type 0
-TakesOwed home g (Publishes a) = OwesPublish home g (g.log.cells a)
-TakesOwed home g (Changes a entry) = IsInHand g entry
-TakesOwed home g event = ⊤
+abbrev pub IsTakeEnabled : (ℕ → ℕ) → Ghosts → GhostEvent → Type 0
+IsTakeEnabled home g (Publishes a) = IsPublishEnabled home g (g.log.cells a)
+IsTakeEnabled home g (Changes a entry) = IsInHand g entry
+IsTakeEnabled home g event = ⊤
 
-abbrev pub AllTakeOwed : (ℕ → ℕ) → Ghosts → List GhostEvent → Type 0
-AllTakeOwed home g [] = ⊤
-AllTakeOwed home g (event ∷ before) = TakesOwed home g event × AllTakeOwed home g before
+abbrev pub AreTakesEnabled : (ℕ → ℕ) → Ghosts → List GhostEvent → Type 0
+AreTakesEnabled home g [] = ⊤
+AreTakesEnabled home g (event ∷ before) = IsTakeEnabled home g event × AreTakesEnabled home g before
 
-quiet_owed : (home : ℕ → ℕ) (g : Ghosts) (event : GhostEvent) → is_quiet event → TakesOwed home g event
-quiet_owed home g (Publishes a) quiet = absurd quiet
-quiet_owed home g (Changes a entry) quiet = absurd quiet
-quiet_owed home g event quiet = tt
+quiet_enabled : (home : ℕ → ℕ) (g : Ghosts) (event : GhostEvent) → is_quiet event → IsTakeEnabled home g event
+quiet_enabled home g (Publishes a) quiet = absurd quiet
+quiet_enabled home g (Changes a entry) quiet = absurd quiet
+quiet_enabled home g event quiet = tt
 
-all_quiet_owed : (home : ℕ → ℕ) (g : Ghosts) (events : List GhostEvent) → AreQuiet events → AllTakeOwed home g events
-all_quiet_owed home g [] quiet = tt
-all_quiet_owed home g (event ∷ before) quiet = (quiet_owed home g event quiet.0, all_quiet_owed home g before quiet.1)
+all_quiet_enabled : (home : ℕ → ℕ) (g : Ghosts) (events : List GhostEvent) → AreQuiet events → AreTakesEnabled home g events
+all_quiet_enabled home g [] quiet = tt
+all_quiet_enabled home g (event ∷ before) quiet = (quiet_enabled home g event quiet.0, all_quiet_enabled home g before quiet.1)
 
-published_owed : (home : ℕ → ℕ) (g : Ghosts) (its : Reservation) → meets_head home g.log (Publishes its.addr) → g.log.cells its.addr ≡ HoldsReserved its.entry its.cell → NoneAbove g.log (home its.cell.key) its.cell.version → IsInHand g its.entry
-    → OwesPublish home g (g.log.cells its.addr)
-published_owed home g its meets there above in_hand = subst (OwesPublish home g) (sym there) (subst (IsAtHead home g.log) there meets, above, in_hand)
+published_enabled : (home : ℕ → ℕ) (g : Ghosts) (its : Reservation) → meets_head home g.log (Publishes its.addr) → g.log.cells its.addr ≡ HoldsReserved its.entry its.cell → NoneAbove g.log (home its.cell.key) its.cell.version → IsInHand g its.entry
+    → IsPublishEnabled home g (g.log.cells its.addr)
+published_enabled home g its meets there above in_hand = subst (IsPublishEnabled home g) (sym there) (subst (IsAtHead home g.log) there meets, above, in_hand)
 
-pub takes_owed : (home : ℕ → ℕ) (g : Ghosts) (its_step : Stepped) (events : List GhostEvent) (made : Option HistoryEntry) → TakesEffect its_step events made → AllMeetHeads home g events
+pub takes_enabled : (home : ℕ → ℕ) (g : Ghosts) (its_step : Stepped) (events : List GhostEvent) (made : Option HistoryEntry) → TakesEffect its_step events made → AllMeetHeads home g events
     → ((its : Reservation) → its_step.reserved ≡ Some its → g.log.cells its.addr ≡ HoldsReserved its.entry its.cell)
     → ((a : ℕ) (entry : HistoryEntry) (cell : Cell) → g.log.cells a ≡ HoldsReserved entry cell → NoneAbove g.log (home cell.key) cell.version)
-    → ((entry : HistoryEntry) → made ≡ Some entry → IsInHand g entry) → AllTakeOwed home g events
+    → ((entry : HistoryEntry) → made ≡ Some entry → IsInHand g entry) → AreTakesEnabled home g events
 unfolding AllMeetHeads ghost_run
-takes_owed home g its_step events made (Quietly its quiet) meets reserved above in_hand = all_quiet_owed home g its quiet
-takes_owed home g its_step events made (Behind event quiet rest) meets reserved above in_hand = (quiet_owed home g event quiet, takes_owed home g its_step _ made rest meets.1 reserved above in_hand)
-takes_owed home g its_step events made (InPlace a entry changes) meets reserved above in_hand = (in_hand entry refl, tt)
-takes_owed home g its_step events made (ByRecord its publishes) meets reserved above in_hand =
+takes_enabled home g its_step events made (Quietly its quiet) meets reserved above in_hand = all_quiet_enabled home g its quiet
+takes_enabled home g its_step events made (Behind event quiet rest) meets reserved above in_hand = (quiet_enabled home g event quiet, takes_enabled home g its_step _ made rest meets.1 reserved above in_hand)
+takes_enabled home g its_step events made (InPlace a entry changes) meets reserved above in_hand = (in_hand entry refl, tt)
+takes_enabled home g its_step events made (ByRecord its publishes) meets reserved above in_hand =
     let there : g.log.cells its.addr ≡ HoldsReserved its.entry its.cell = reserved its publishes.reserved in
-    (published_owed home g its meets.0 there (above its.addr its.entry its.cell there) (in_hand its.entry refl), tt)
+    (published_enabled home g its meets.0 there (above its.addr its.entry its.cell there) (in_hand its.entry refl), tt)
 
-pub behind_owed : (home : ℕ → ℕ) (g : Ghosts) (later before : List GhostEvent) → AllTakeOwed home g (later ++ before) → AllTakeOwed home g before
-behind_owed home g [] before owed = owed
-behind_owed home g (event ∷ later) before owed = behind_owed home g later before owed.1
+pub behind_enabled : (home : ℕ → ℕ) (g : Ghosts) (later before : List GhostEvent) → AreTakesEnabled home g (later ++ before) → AreTakesEnabled home g before
+behind_enabled home g [] before enabled = enabled
+behind_enabled home g (event ∷ later) before enabled = behind_enabled home g later before enabled.1
 
 -- ---- by the address that is taken: nothing is there yet
 abbrev pub TakesUnborn : Log → GhostEvent → Type 0
@@ -82,11 +82,11 @@ behind_unborn log (event ∷ later) before unborn = behind_unborn log later befo
 
 -- ---- both
 pub record IsReady (home : ℕ → ℕ) (g : Ghosts) (events : List GhostEvent) : Type 0 where
-  pub takes : AllTakeOwed home g events
+  pub takes : AreTakesEnabled home g events
   pub unborn : AllTakeUnborn g.log events
 
 pub ready_behind : (home : ℕ → ℕ) (g : Ghosts) (later before : List GhostEvent) → IsReady home g (later ++ before) → IsReady home g before
-ready_behind home g later before ready = record { takes = behind_owed home g later before ready.takes; unborn = behind_unborn g.log later before ready.unborn }
+ready_behind home g later before ready = record { takes = behind_enabled home g later before ready.takes; unborn = behind_unborn g.log later before ready.unborn }
 
 -- ---- records are published at the heads of their chains, in a part of a run too
 pub run_on : (home : ℕ → ℕ) (g : Ghosts) (later before : List GhostEvent) → ghost_run home g (later ++ before) ≡ ghost_run home (ghost_run home g before) later
