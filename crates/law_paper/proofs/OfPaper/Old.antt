@@ -11,8 +11,6 @@ use Rattle.law_log.specs.Ghosts.{Log}
 use Rattle.law_log.specs.Trace.{IsIn}
 =======
 use Rattle.law_log.specs.Chains.{version_at, IsWithin}
-use Rattle.law_log.specs.Ghosts.{Log}
-use Rattle.law_log.specs.Trace.{IsIn}
 >>>>>>> paper
 use Rattle.fkv_record.specs.Layout.{record_bytes}
 use Rattle.fkv_record.specs.declared.records.Record.{Record}

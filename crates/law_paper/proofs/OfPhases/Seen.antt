@@ -5,8 +5,6 @@ use Rattle.law_log.proofs.Shown.{at_one, set_there, set_else}
 use Rattle.law_log.specs.Ghosts.{set_at}
 use Rattle.law_paper.specs.Phases.{View, Phasing, PhaseEvent, Prepares, WaitsFlush, Rests, RaisesProgress, RaisesPending, RaisesEnding, StoresNext, RaisesElse, IsSafe, Reserves, Loads, Completes, Leaves, Sessions, view_now, phase_after, phase_run, IsEnabled, AreEnabled, IsStaged, rests, prepares, defers, goes_on, enters, pends, flushes, AreRaised, Sees, IsSound, HasFloor, HaveFloor}
 =======
-use Rattle.law_log.proofs.Shown.{at_one, set_there, set_else}
-use Rattle.law_log.specs.Ghosts.{set_at}
 use Rattle.law_paper.specs.Phases.{View, Phasing, PhaseEvent, Prepares, WaitsFlush, Rests, RaisesProgress, RaisesPending, RaisesEnding, StoresNext, RaisesElse, IsSafe, Reserves, Loads, Completes, Leaves, Sessions, rank_of, view_now, phase_after, phase_run, IsEnabled, AreEnabled, IsStaged, rests, prepares, defers, goes_on, enters, pends, flushes, AreRaised, Sees, IsSound, HasFloor, HaveFloor}
 >>>>>>> paper
 
