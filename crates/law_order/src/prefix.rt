@@ -8,7 +8,8 @@ ghost use Rattle.fkv_opening.specs.declared.opened_store.Opened.{Opened};
 ghost use Rattle.law_log.specs.Ghosts.{Ghosts};
 ghost use Rattle.law_log.specs.Trace.{history_of};
 ghost use Rattle.law_opening.specs.Log.Maps.{opening_map};
-ghost use Rattle.law_order.specs.Prefix.Law.{LivesFollow, OverEveryLife, RecoversPrefix};
+ghost use Rattle.law_order.specs.OneHistory.EachLife.{InEachLife};
+ghost use Rattle.law_order.specs.Prefix.Law.{LivesFollow, RecoversPrefix};
 ghost use Rattle.law_paper.specs.Kept.{KeepsPrefix};
 ghost use Rattle.law_paper.specs.Paper.Named.{IsOfCommit};
 
@@ -17,7 +18,7 @@ use law_opening::law_log_opened;
 /// If each image that a crash may leave of a life holds a prefix of it, lives follow one another. Each begins with the first store's map behind a replay of
 /// what was kept of all lives before. That is legal with the replies that were given, and has each session's serials up to its point once.
 pub fn law_lives()
-    ensures { OverEveryLife RecoversPrefix → LivesFollow }
+    ensures { InEachLife RecoversPrefix → LivesFollow }
 {}
 
 /// If an image's store has the values that a log shows of versions up to a commit's, and its points keep just what the log has of these, its map is the

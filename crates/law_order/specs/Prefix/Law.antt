@@ -1,4 +1,4 @@
--- The law of prefixes: over each life, commits and crashes among its events, what each image holds that a crash may leave.
+-- The law of prefixes: what each image holds that a crash may leave of a life, and what points a commit has.
 use Rattle.std.specs.Prelude.{◌≡◌, ⊤, ℕ, ◌+◌, ◌≤◌, true, false, List, [], ◌∷◌, ◌++◌, Some}
 use Rattle.fkv_base.specs.declared.faults.Fault.{Fault}
 use Rattle.fkv_base.specs.declared.numbers.Serial.{Serial}
@@ -22,51 +22,42 @@ use Rattle.law_commit.specs.PrefixPast.{PrefixPast, prefix_past}
 use Rattle.law_commit.specs.ToldPoints.{ToldPoint}
 use Rattle.law_log.specs.Trace.{IsIn, history_of}
 use Rattle.law_opening.specs.Log.Maps.{opening_map}
+use Rattle.law_order.specs.OneHistory.EachLife.{InEachLife}
 use Rattle.law_order.specs.Rules.InTime.{ReadsInTime}
 use Rattle.law_order.specs.Rules.Ordered.{HasLegalHistory, IsGuarded, OrdersItsCalls, ReadsFreshly, RunsActionsOnce, effects_so_far, now_after}
 use Rattle.law_order.specs.Served.Fits.{CallsFit}
 use Rattle.law_order.specs.Tickets.Few.{HasFewCalls}
 
--- ---- lives
--- An image ends at or above the end of all that its newest slot names. Bytes past the end read as 0, so one that was cut may open; but if a longer write
--- is torn later, a crash may leave anything there. Only somebody else can cut an image: a new store reaches far, and so does what a crash leaves of it.
+-- ---- a life so far: its updates in their order of effect; its writes and syncs of the device; its commits, and what sessions were told of them
+abbrev pub history_so_far : Now → List ℕ → List Event → List HistoryEntry
+history_so_far n bytes events = history_of (effects_so_far n bytes events)
+
+abbrev pub calls_so_far : Now → List ℕ → List Event → List Call
+calls_so_far n bytes events = (run (beginning n bytes) events).past.calls
+
+abbrev pub past_so_far : Now → List ℕ → List Event → PrefixPast
+past_so_far n bytes events = prefix_past (beginning n bytes) events
+
+-- ---- recovered
+-- An image ends at or above the end of all that its newest slot names. One that somebody cut may open too, since bytes past the end read as 0. Once a later
+-- write makes it longer a crash may leave anything there. A new store reaches far, and so does each image that a life leaves.
 pub record ReachesFar (image : List ℕ) : Type 0 where
   pub newest : Newest
   pub its : IsNewestOf image newest
   pub long : IsLong image newest.shape newest.slot
 
--- So it is in every life of an opened store: over every list of events, of sessions, flusher, device and committer, up to a crash anywhere. Its calls are of
--- numbers below 2^64, as all that a program can make are; and fewer than 2^64 - 1 calls of sessions begin in it, so that no ticket comes again.
-abbrev pub OverEveryLife : (Opened → Now → List ℕ → List Event → Type 0) → Type 0
-OverEveryLife P =
-    (bytes : List ℕ) (o : Opened) (n : Now) (events : List Event) → IsStoreOf bytes o → IsOpeningWorld o n → ReachesFar bytes → CallsFit events → HasFewCalls events
-    → P o n bytes events
-
--- the updates that have taken effect in a life so far, in order
-abbrev pub history_so_far : Now → List ℕ → List Event → List HistoryEntry
-history_so_far n bytes events = history_of (effects_so_far n bytes events)
-
--- those of them that these points keep
-abbrev pub kept_so_far : Now → List ℕ → List Event → List Serial → List HistoryEntry
-kept_so_far n bytes events points = kept (history_so_far n bytes events) points
-
--- its writes and syncs of the device, the newest first
-abbrev pub calls_so_far : Now → List ℕ → List Event → List Call
-calls_so_far n bytes events = (run (beginning n bytes) events).past.calls
-
--- its commits, and what its sessions were told of them
-abbrev pub past_so_far : Now → List ℕ → List Event → PrefixPast
-past_so_far n bytes events = prefix_past (beginning n bytes) events
-
--- ---- recovered
--- A commit is current: it has begun, it is no older than any finished one, and its points are no less than what sessions were told as durable.
+-- A commit is current: it has begun, no finished one is newer, and its points are no less than what sessions were told as durable.
 pub record IsCurrent (past : PrefixPast) (c : BegunCommit) : Type 0 where
   pub begun : IsIn c past.begun
   pub newest : (d : BegunCommit) → IsIn d past.begun → d.is_finished ≡ true → d.number.0 ≤ c.number.0
   pub durable : (session : ℕ) (told : ToldPoint) → IsIn told (past.told session) → told.point ≤ point_of c.points session
 
--- A store is what a commit keeps of a life: it has the commit's number and points. Its map is the one with which the life began, behind a replay of just
--- each session's updates up to its point, in their order of effect. That is legal with the replies that were given. Points don't fall.
+-- the updates of a life so far that these points keep
+abbrev pub kept_so_far : Now → List ℕ → List Event → List Serial → List HistoryEntry
+kept_so_far n bytes events points = kept (history_so_far n bytes events) points
+
+-- A store is what a commit keeps of a life. It has the commit's number and points. Its map is the one with which the life began, behind a replay of just each
+-- session's updates up to its point, in their order of effect. The replay is legal with the replies that were given. No point has fallen in the life.
 pub record IsKeptOf (o : Opened) (n : Now) (bytes : List ℕ) (events : List Event) (c : BegunCommit) (image : List ℕ) (r : Opened) : Type 0 where
   pub shape : r.shape ≡ o.shape
   pub number : r.number ≡ c.number
@@ -76,8 +67,8 @@ pub record IsKeptOf (o : Opened) (n : Now) (bytes : List ℕ) (events : List Eve
   pub whole : IsWhole (history_so_far n bytes events) o.points.items r.points.items
   pub risen : AreAtMost o.points.items r.points.items
 
--- An image holds a prefix of a life: no fault stands in it, and any store that it holds is what one current commit keeps. It reaches far enough for the next
--- life.
+-- An image holds a prefix of a life. No fault stands in it, and any store that it holds is what one current commit keeps. It reaches as far as the next life
+-- asks.
 pub record HoldsPrefix (o : Opened) (n : Now) (bytes : List ℕ) (events : List Event) (image : List ℕ) : Type 0 where
   pub commit : BegunCommit
   pub current : IsCurrent (past_so_far n bytes events) commit
@@ -85,39 +76,39 @@ pub record HoldsPrefix (o : Opened) (n : Now) (bytes : List ℕ) (events : List 
   pub kept : (r : Opened) → IsStoreOf image r → IsKeptOf o n bytes events commit image r
   pub reaches : ReachesFar image
 
--- Each image that a crash may leave holds one.
+-- If a life began with an image that reaches far, each image holds a prefix of it that a crash may leave.
 abbrev pub RecoversPrefix : Opened → Now → List ℕ → List Event → Type 0
-RecoversPrefix o n bytes events = (image : List ℕ) → MayLeave bytes (calls_so_far n bytes events) image → HoldsPrefix o n bytes events image
+RecoversPrefix o n bytes events = ReachesFar bytes → (image : List ℕ) → MayLeave bytes (calls_so_far n bytes events) image → HoldsPrefix o n bytes events image
 
 -- ---- fair
--- A session's point is fair: it is at least the last serial that the session had given as the commit was asked for, at most the last one that it has given,
--- and no less than its point in the commit before.
-pub record IsFair (asked given before point : ℕ) : Type 0 where
-  pub asked_for : asked ≤ point
-  pub given_yet : point ≤ given
+-- A session's point is fair. It is at least the last serial that the session had given as the commit was asked for, and at most the last that it has given. It
+-- is no less than its point in the commit before.
+pub record IsFairPoint (asked given before point : ℕ) : Type 0 where
+  pub since_asked : asked ≤ point
+  pub till_now : point ≤ given
   pub risen : before ≤ point
 
--- the points that were taken for the commit in hand are
-abbrev pub TakesFairly : Now → PrefixPast → Type 0
-TakesFairly now past = (c : Commit) → now.keeper.commit ≡ Some c → now.keeper.has_points ≡ true
-    → (session : ℕ) → IsFair (past.asked session) (serial_at now session) (point_of now.keeper.last.points session) (point_of now.keeper.seek.points session)
+-- The points of the commit in hand are fair, from the moment at which they are taken.
+abbrev pub TakesFairPoints : Now → PrefixPast → Type 0
+TakesFairPoints now past = (c : Commit) → now.keeper.commit ≡ Some c → now.keeper.has_points ≡ true
+    → (session : ℕ) → IsFairPoint (past.asked session) (serial_at now session) (point_of now.keeper.last.points session) (point_of now.keeper.seek.points session)
 
--- and a commit that has begun has them, until it is finished
+-- The newest commit that has begun has the points that were taken, as long as it isn't finished.
 abbrev pub BeginsWithTaken : Now → List BegunCommit → Type 0
 BeginsWithTaken now [] = ⊤
 BeginsWithTaken now (c ∷ older) = c.is_finished ≡ false → (now.keeper.has_points ≡ true) × (c.points ≡ now.keeper.seek.points)
 
--- So it is at each moment from the one at which they are taken.
+-- So it is at each moment of a life.
 abbrev pub HasFairPoints : Opened → Now → List ℕ → List Event → Type 0
 HasFairPoints o n bytes events = (later before : List Event) → events ≡ later ++ before
-    → TakesFairly (now_after n bytes before) (past_so_far n bytes before) × BeginsWithTaken (now_after n bytes before) (past_so_far n bytes before).begun
+    → TakesFairPoints (now_after n bytes before) (past_so_far n bytes before) × BeginsWithTaken (now_after n bytes before) (past_so_far n bytes before).begun
 
 -- ---- durable
--- Commits have numbers one behind the other from the opening's on; so when this many were told as finished, these were.
+-- A commit is one of so many that were told as finished: their numbers come one behind the other, from the opening's on.
 abbrev pub IsAmongFinished : Opened → ℕ → BegunCommit → Type 0
 IsAmongFinished o finished c = c.number.0 ≤ o.number.0 + finished
 
--- What a session was told as durable is its point in a commit whose gate is synced, and no less than its point in each commit that was told as finished
+-- What a session was told as durable is its point in a commit whose open gate is synced. It is no less than its point in each commit that was told as finished
 -- before its call.
 pub record IsToldDurable (o : Opened) (past : PrefixPast) (session : ℕ) (told : ToldPoint) : Type 0 where
   pub commit : BegunCommit
@@ -126,12 +117,12 @@ pub record IsToldDurable (o : Opened) (past : PrefixPast) (session : ℕ) (told 
   pub point : (let c = commit in told.point ≡ point_of c.points session)
   pub since : (d : BegunCommit) → IsIn d past.begun → IsAmongFinished o told.finished d → point_of d.points session ≤ told.point
 
--- Each answer is.
+-- So is each answer.
 abbrev pub TellsDurable : Opened → Now → List ℕ → List Event → Type 0
 TellsDurable o n bytes events = (session : ℕ) (told : ToldPoint) → IsIn told ((past_so_far n bytes events).told session) → IsToldDurable o (past_so_far n bytes events) session told
 
 -- ---- lives that follow one another
--- a life: the bytes of its store, the store, the world that it opens with, and its events
+-- a life: the bytes with which it begins, the store that they hold, the world that this opens with, and its events
 pub record Life : Type 0 where
   pub bytes : List ℕ
   pub opened : Opened
@@ -144,59 +135,56 @@ pub record IsLife (its : Life) : Type 0 where
   pub fits : CallsFit its.events
   pub few : HasFewCalls its.events
 
--- Each begins with an image that a crash may leave of the life before it, and the first with one that reaches far.
-abbrev pub Follows : Life → List Life → Type 0
-Follows next [] = ReachesFar next.bytes
-Follows next (its ∷ before) = MayLeave its.bytes (calls_so_far its.world its.bytes its.events) next.bytes
-
--- the newest first
-abbrev pub AreLives : List Life → Type 0
-AreLives [] = ⊤
-AreLives (its ∷ before) = IsLife its × Follows its before × AreLives before
-
--- what the points of the store behind the newest of them keep of all these lives: of what was kept before, and of the newest's own history
-abbrev pub kept_of_all : List Serial → List Life → List HistoryEntry
-kept_of_all points [] = []
-kept_of_all points (its ∷ before) = kept (kept_of_all its.opened.points.items before ++ history_so_far its.world its.bytes its.events) points
-
--- the first of them
-abbrev pub first_of : Life → List Life → Life
-first_of its [] = its
-first_of its (earlier ∷ before) = first_of earlier before
-
 abbrev pub map_of : Life → Map
 map_of its = opening_map its.bytes its.opened
 
 abbrev pub points_of : Life → List Serial
 points_of its = its.opened.points.items
 
--- A life begins with all that was kept: its map is the first one behind a replay of what was kept of all lives before, which is legal with the replies
--- that were given, and has each session's serials up to its point once.
+-- The first of them begins with an image that reaches far, each other one with an image that a crash may leave of the life before it.
+abbrev pub BeginsBehind : Life → List Life → Type 0
+BeginsBehind its [] = ReachesFar its.bytes
+BeginsBehind its (last ∷ before) = MayLeave last.bytes (calls_so_far last.world last.bytes last.events) its.bytes
+
+-- the newest first
+abbrev pub AreLives : List Life → Type 0
+AreLives [] = ⊤
+AreLives (its ∷ before) = IsLife its × BeginsBehind its before × AreLives before
+
+-- the first of a life and those before it
+abbrev pub first_of : Life → List Life → Life
+first_of its [] = its
+first_of its (last ∷ before) = first_of last before
+
+-- What the points of a store keep of all lives before it: of what the last of them began with, and of the last one's own updates.
+abbrev pub kept_of_all : List Serial → List Life → List HistoryEntry
+kept_of_all points [] = []
+kept_of_all points (last ∷ before) = kept (kept_of_all (points_of last) before ++ history_so_far last.world last.bytes last.events) points
+
+-- A life begins with all that was kept. Its map is the first life's, behind a replay of what is kept of all lives before. The replay is legal with the replies
+-- that were given. It has each session's serials above the first life's point, up to the point now, once each, and no others.
 pub record BeginsWithKept (its : Life) (before : List Life) : Type 0 where
   pub pairs : map_of its ≡ content (map_of (first_of its before)) (kept_of_all (points_of its) before)
   pub legal : IsLegal (map_of (first_of its before)) (kept_of_all (points_of its) before)
   pub whole : IsWhole (kept_of_all (points_of its) before) (points_of (first_of its before)) (points_of its)
 
+-- So does each of the lives that follow one another.
 abbrev pub LivesFollow : Type 0
 LivesFollow = (its : Life) (before : List Life) → AreLives (its ∷ before) → BeginsWithKept its before
 
--- ---- the law
--- Over every list of steps of sessions, flusher, device and committer, with a crash anywhere, the store recovered from any image left is the newest finished
--- commit's: precisely each session's updates up to its point, none later, replayed on a map in one legal order of effect with the answers given; and no step
--- writes a flushed record or a frame that an epoch protects.
+-- ---- The law of prefixes, by its ten clauses. `law_order` shows the first six of lives without commits. `law_lives` shows the last, by `recovered`.
 pub record PrefixLaw : Type 0 where
-  -- one legal order of effect with the answers given. Of lives without commits `law_order` has these, with the next two
-  pub legal : OverEveryLife HasLegalHistory
-  pub ordered : OverEveryLife OrdersItsCalls
-  pub fresh : OverEveryLife ReadsFreshly
-  pub in_time : OverEveryLife ReadsInTime
-  -- frames and epochs
-  pub guarded : OverEveryLife IsGuarded
-  pub once : OverEveryLife RunsActionsOnce
-  -- the store recovered from any image left
-  pub recovered : OverEveryLife RecoversPrefix
-  -- points: they lie between what was accepted as the commit was asked for and as they were taken
-  pub fair : OverEveryLife HasFairPoints
-  pub durable : OverEveryLife TellsDurable
-  -- it follows from `recovered`, by `law_lives`
+  -- the updates of a life take effect in one order, legal with the replies that were given, and reads are answered from it
+  pub legal : InEachLife HasLegalHistory
+  pub ordered : InEachLife OrdersItsCalls
+  pub fresh : InEachLife ReadsFreshly
+  pub in_time : InEachLife ReadsInTime
+  -- no step changes a flushed record or a frame that an epoch protects
+  pub guarded : InEachLife IsGuarded
+  pub once : InEachLife RunsActionsOnce
+  -- what is recovered of any image left is what the newest finished commit keeps, or the one that is being finished
+  pub recovered : InEachLife RecoversPrefix
+  -- and that is what its points say
+  pub fair : InEachLife HasFairPoints
+  pub durable : InEachLife TellsDurable
   pub lives : LivesFollow
