@@ -5,6 +5,7 @@ mod OfLooks
 mod OfOneHistory
 mod OfOrdered
 mod OfEnabled
+mod OfPrefix
 mod OfReads
 mod OfRest
 mod OfRows

@@ -1,4 +1,4 @@
-//! The order law: the induction over events, and each life's one legal history.
+//! The order law: the induction over events, and each life's one legal history; and the law of prefixes, as it is stated.
 #![tactic(auto)]
 
 mod asked;
@@ -8,6 +8,7 @@ mod known;
 mod looks;
 mod one_history;
 mod ordered;
+mod prefix;
 mod reads;
 mod rest;
 mod rows;
@@ -24,6 +25,7 @@ pub use known::law_sessions_begin;
 pub use looks::law_looks_true;
 pub use one_history::law_order;
 pub use ordered::{law_rules_kept, law_world_ordered};
+pub use prefix::{law_join, law_lives};
 pub use reads::law_world_reads;
 pub use rest::{law_life_rests, law_log_rests, law_rest_said};
 pub use rows::{law_requests_asked, law_rows_at_rest, law_rows_go_on};
