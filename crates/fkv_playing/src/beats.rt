@@ -59,11 +59,11 @@ impl<D: Breaks> Player<D> {
         if self.is_struck() {
             return Ok(Outcome::Struck);
         }
-        match told {
+        match &told {
             None => Ok(Outcome::GoesOn),
             Some(told) => {
-                self.hear(output, telling, call, &told)?;
-                Ok(outcome_of_told(&told))
+                self.hear(output, telling, call, told)?;
+                Ok(outcome_of_told(told))
             }
         }
     }
