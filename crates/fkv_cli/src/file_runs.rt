@@ -11,7 +11,7 @@ use crate::scripts::refuse;
 use crate::store_files::{Lockable, Trouble, make_alone, open_alone};
 use fkv_base::{Fault, Key, Shape, Value};
 use fkv_creating::create_opened;
-use fkv_disk::{Device, FileDisk};
+use fkv_disk::{Device, FileDisk, PageSize, Pages, ReadAhead};
 use fkv_opening::{Opened, recover};
 use fkv_pairs::content;
 use fkv_playing::{Breaks, Picks};
@@ -71,15 +71,15 @@ where
     ensures whole { IfOk result (λ status. Writes (λ text. IsRunInFile (EngineStep ⟦<FileDisk<H::File> as Device>⟧.honest ⟦<FileDisk<H::File> as Device>⟧.seen ⟦<FileDisk<H::File> as Device>⟧.may_leave ⟦<FileDisk<H::File> as Device>⟧.failed ⟦<FileDisk<H::File> as Device>⟧.refuses ⟦<FileDisk<H::File> as Breaks>⟧.broken) pieces.now status text ⊎ ((fault : Fault) × Refuses fault 3 status text)) (W.contents output.old) (W.contents output.new)) }
     ensures part { OnErr result (BreaksOff (λ text. IsRunInFile (EngineStep ⟦<FileDisk<H::File> as Device>⟧.honest ⟦<FileDisk<H::File> as Device>⟧.seen ⟦<FileDisk<H::File> as Device>⟧.may_leave ⟦<FileDisk<H::File> as Device>⟧.failed ⟦<FileDisk<H::File> as Device>⟧.refuses ⟦<FileDisk<H::File> as Breaks>⟧.broken) pieces.now 4 text ⊎ ((fault : Fault) × Refuses fault 3 4 text)) (W.contents output.old) (W.contents output.new)) }
 {
-    let mut device = match open_alone(rt, path) {
+    let device = match open_alone(rt, path) {
         Ok(device) => device,
         Err(trouble) => {
             complain(complaints, Complaint::File { path, trouble });
             return refuse(alloc, output, Fault::Device, 3);
         }
     };
-    match opened(alloc, &mut device) {
-        Ok((opened, pairs)) => {
+    match opened(alloc, device) {
+        Ok((device, opened, pairs)) => {
             let mut report = Vec::new(alloc);
             write_report(
                 &mut report,
@@ -107,9 +107,14 @@ fn complain_of_fault<E: Write>(complaints: &mut E, path: &str, fault: Fault) {
     }
 }
 
-/// The store that a device holds, with its pairs.
-fn opened<D: Device>(alloc: Global, device: &mut D) -> Result<(Opened, Vec<(Key, Value)>), Fault> {
-    let opened = recover(alloc, device)?;
-    let pairs = content(alloc, &opened, device)?;
-    Ok((opened, pairs))
+/// So many pages of 4 KiB are kept while a file is read: 32 MiB, since a chain's walk meets the log's pages in any order.
+const KEPT_PAGES: usize = 8192;
+
+/// The store that a device holds, with its pairs. The device is read page by page.
+fn opened<D: Device>(alloc: Global, device: D) -> Result<(D, Opened, Vec<(Key, Value)>), Fault> {
+    let pages = Pages::new(alloc, PageSize::Kib4, KEPT_PAGES)?;
+    let mut ahead = ReadAhead::new(device, pages);
+    let opened = recover(alloc, &mut ahead)?;
+    let pairs = content(alloc, &opened, &mut ahead)?;
+    Ok((ahead.into_device(), opened, pairs))
 }
