@@ -2,9 +2,11 @@
 use crate::lines::Line::{Commit, Get, Turn, Up};
 use crate::lines::{Line, beginning};
 use crate::stores::{Store, WIDE, begin, new_store, steps};
-use fkv_core::{Actor, Event};
+use fkv_base::Value;
+use fkv_core::{Actor, Event, Told};
 use fkv_disk::FuseState;
 use fkv_plane::SharedWord;
+use fkv_session::Answer;
 use std::test::Fail;
 
 /// More steps than the calls of these tests have.
@@ -76,5 +78,40 @@ fn an_effect_and_a_fuse_are_shown(rt: HostRuntime) -> Result<(), Fail> {
     assert_eq!(rt; store.fuse(), FuseState::Sound);
     store.arm(3);
     assert_eq!(rt; store.fuse(), FuseState::Armed(3));
+    Ok(())
+}
+
+/// How many events begin and move session 0's read of this key up to the one in which it ends.
+fn events_of_a_read(store: &mut Store, key: u64) -> Option<u64> {
+    if store.advance(beginning(Get(0, key))) {
+        return Some(1);
+    }
+    for count in 0..ENOUGH {
+        if store.advance(Event::Move(0)) {
+            return Some(count.saturating_add(2));
+        }
+    }
+    None
+}
+
+/// Where a call ends in an event its answer is there, and stays there up to the next call.
+#[test]
+fn an_answer_is_taken_behind_the_end(rt: HostRuntime) -> Result<(), Fail> {
+    let mut store = new_store(rt.alloc(), WIDE)?;
+    assert!(rt; !store.advance(beginning(Up(0, 1, 10))));
+    assert!(rt; store.answer(Event::Move(0)).is_none());
+    assert_eq!(rt; effects_of_a_call(&mut store), Some(1));
+    assert!(rt; events_of_a_read(&mut store, 1).is_some());
+    assert_eq!(rt;
+        store.answer(Event::Move(0)),
+        Some(Told::Session(0, Answer::Found(Value(10))))
+    );
+    assert_eq!(rt;
+        store.answer(Event::Move(0)),
+        Some(Told::Session(0, Answer::Found(Value(10))))
+    );
+    assert!(rt; !store.advance(Event::Move(0)));
+    assert!(rt; store.answer(Event::Move(7)).is_none());
+    assert!(rt; store.answer(Event::Crash).is_none());
     Ok(())
 }
