@@ -7,6 +7,7 @@ from dataclasses import dataclass
 STORE = "store"  # a row's file, as its words name it
 UNREAD = object()  # the file is not looked at after the run
 SECONDS = 60
+FAILED_TURN = b"k refused 14 Device\n"
 
 
 @dataclass(frozen=True)
@@ -19,6 +20,7 @@ class Row:
     image: bytes = None  # what the file holds before the run; none where there is no such file
     left: object = UNREAD  # and what it holds after it
     ends: bool = False
+    complaint: str = None  # what stands on standard error, where it is compared
 
 
 def side_by_side(text):
@@ -62,7 +64,7 @@ def difference(program, row):
         if row.image is not None:
             with open(path, "wb") as file:
                 file.write(row.image)
-        how = {"cwd": folder, "input": spelled(row.script), "stdout": subprocess.PIPE, "timeout": SECONDS}
+        how = {"cwd": folder, "input": spelled(row.script), "stdout": subprocess.PIPE, "stderr": subprocess.PIPE, "timeout": SECONDS}
         try:
             ran = subprocess.run([program, *row.words], **how)
         except subprocess.TimeoutExpired:
@@ -73,9 +75,23 @@ def difference(program, row):
             return f"status {ran.returncode}, and not {row.status}{', and ' + first_other(ran.stdout, wanted) if is_other else ''}"
         if is_other:
             return first_other(ran.stdout, wanted)
+        if other := other_complaint(ran, row):
+            return other
         if row.left is not UNREAD and contents(path) != row.left:
             return first_byte(contents(path), row.left)
         return None
+
+
+def other_complaint(ran, row):
+    """What is on standard error otherwise than it has to be: a line where the status is above 0, one where a turn's device failed, and
+    nothing else; and these words, where the row has them."""
+    if row.complaint is not None and ran.stderr != spelled(row.complaint):
+        return f"on standard error stands {ran.stderr!r}, and not {row.complaint!r}"
+    lines = ran.stderr.splitlines(keepends=True)
+    count = (ran.returncode > 0) + (FAILED_TURN in ran.stdout)
+    if len(lines) != count or not all(it.startswith(b"fkv: ") and it.endswith(b"\n") for it in lines):
+        return f"on standard error stands {ran.stderr!r}, and not {count} lines"
+    return None
 
 
 def first_other(written, wanted):

@@ -6,6 +6,7 @@ import socket
 import subprocess
 import tempfile
 
+from complaints import TEXT
 from files import COMMITTED, FILE
 from rows import SECONDS, STORE, contents, side_by_side, spelled
 from shapes import TWO
@@ -34,7 +35,7 @@ def ended(program, words, script, room=None, **more):
     with tempfile.TemporaryFile() as given:
         given.write(spelled(script))
         given.seek(0)
-        how = {"stdin": given, "timeout": SECONDS, **more}
+        how = {"stdin": given, "stderr": subprocess.DEVNULL, "timeout": SECONDS, **more}
         if room is None:
             return subprocess.run([program, *words], **how).returncode
 
@@ -57,6 +58,22 @@ def beside_store(program):
         return status, held is not None and spelled(answers).split(b"\n")[0] in held
 
 
+def complaint(program, words, script, **more):
+    """What is on standard error where a stream fails."""
+    return subprocess.run([program, *words], input=script and spelled(script), stderr=subprocess.PIPE, timeout=SECONDS, **more).stderr
+
+
+def without_complaints(program):
+    """The status and what is written where standard error is closed, and whether the complaint went into the store's file instead."""
+    with tempfile.TemporaryDirectory() as folder:
+        path = os.path.join(folder, STORE)
+        with open(path, "wb") as file:
+            file.write(TEXT)
+        how = {"input": b"open\n", "stdout": subprocess.PIPE, "timeout": SECONDS, "cwd": folder}
+        run = subprocess.run([program, *FILE.split()], preexec_fn=lambda: os.close(2), **how)
+        return run.returncode, run.stdout, contents(path) == TEXT
+
+
 def to_nobody(program, script):
     reader, writer = os.pipe()
     os.close(reader)
@@ -72,7 +89,7 @@ def broken_off(program, script):
         with other:
             other.sendall(spelled(script))
             given.send(b"x")  # nobody reads it, so the other end is reset as it is closed
-        run = subprocess.run([program], stdin=given, stdout=subprocess.PIPE, timeout=SECONDS)
+        run = subprocess.run([program], stdin=given, capture_output=True, timeout=SECONDS)
     return run.returncode, run.stdout
 
 
@@ -89,6 +106,9 @@ def streams(program):
         with open("/dev/full", "wb") as full:
             expect(f"answers to /dev/full, with {words}", ended(program, words, script, stdout=full), 4)
     with open("/dev/full", "wb") as full:
+        full_output = b"fkv: standard output could not be written: no storage space\n"
+        expect("the complaint of a full output", complaint(program, (), script, stdout=full), full_output)
+        expect("the same of a faulty line's", complaint(program, (), "0 up 1", stdout=full).splitlines(keepends=True)[-1:], [full_output])
         expect("an empty script's to /dev/full", ended(program, (), "", stdout=full), 0)
         expect("a faulty line's to /dev/full", ended(program, (), "0 up 1", stdout=full), 4)
         expect("options to /dev/full", ended(program, ("--threads",), script, stdout=full), 4)
@@ -103,10 +123,16 @@ def streams(program):
         ("a script that can't be read", (), (4, b"")),
         ("words that are refused before the script is read", ("x",), (2, b"options\n")),
     ):
-        run = subprocess.run([program, *words], stdin=folder, stdout=subprocess.PIPE, timeout=SECONDS)
+        run = subprocess.run([program, *words], stdin=folder, capture_output=True, timeout=SECONDS)
         expect(name, (run.returncode, run.stdout), wished)
+    unread = complaint(program, (), None, stdin=folder, stdout=subprocess.DEVNULL)
+    expect("the complaint of a script that can't be read", unread, b"fkv: standard input could not be read: is a directory\n")
     os.close(folder)
-    run = subprocess.run([program], preexec_fn=lambda: os.close(0), stdout=subprocess.PIPE, timeout=SECONDS)
+    with open("/dev/full", "wb") as full:
+        lost = subprocess.run([program], input=b"0 up 1", stdout=subprocess.PIPE, stderr=full, timeout=SECONDS)
+        expect("a complaint that can't be written", (lost.returncode, lost.stdout), (2, b"script line 1 Order\n"))
+    expect("a complaint to a stream that is closed", without_complaints(program), (3, b"refused 15 NotAStore\n", True))
+    run = subprocess.run([program], preexec_fn=lambda: os.close(0), capture_output=True, timeout=SECONDS)
     expect("a script's stream that is closed", (run.returncode, run.stdout), (4, b""))
     expect("a script's stream that fails behind the script", broken_off(program, script), (4, b""))
     return len(seen), [it for it in seen if it]

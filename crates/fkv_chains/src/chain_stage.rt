@@ -5,7 +5,7 @@ ghost use Rattle.std.specs.BTreeMap.{get};
 ghost use Rattle.fkv_scan.specs.Log.{log_in, AreBelow};
 ghost use Rattle.fkv_scan.specs.Scanned.{AreScanned};
 ghost use Rattle.fkv_disk.specs.Kinds.{OnlyReads};
-ghost use Rattle.fkv_scan.specs.Quiet.{IsQuiet};
+ghost use Rattle.fkv_disk.specs.Quiet.{IsQuiet};
 ghost use Rattle.fkv_chains.specs.Chains.{HasChains};
 ghost use Rattle.fkv_chains.specs.Refused.{IsRefused};
 ghost use Rattle.fkv_chains.specs.Ways.{way_below};

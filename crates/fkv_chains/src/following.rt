@@ -3,7 +3,7 @@ ghost use Rattle.std.specs.Prelude.{◌≡◌, ℕ, ◌<◌, ◌≤◌, ◌^◌,
 ghost use Rattle.fkv_record.specs.declared.triples.Triple.{Triple};
 ghost use Rattle.fkv_scan.specs.Log.{log_in};
 ghost use Rattle.fkv_disk.specs.Kinds.{OnlyReads};
-ghost use Rattle.fkv_scan.specs.Quiet.{IsQuiet};
+ghost use Rattle.fkv_disk.specs.Quiet.{IsQuiet};
 ghost use Rattle.fkv_chains.specs.Along.{IsFollowed, IsToFollow};
 ghost use Rattle.fkv_chains.specs.Refused.{IsRefused};
 

@@ -7,7 +7,7 @@ ghost use Rattle.fkv_disk.specs.Kinds.{OnlyReads};
 ghost use Rattle.fkv_record.specs.Layout.{record_bytes};
 ghost use Rattle.fkv_record.specs.Places.{record_place};
 ghost use Rattle.fkv_scan.specs.Log.{record_home, triple_home};
-ghost use Rattle.fkv_scan.specs.Quiet.{IsQuiet};
+ghost use Rattle.fkv_disk.specs.Quiet.{IsQuiet};
 ghost use Rattle.fkv_chains.specs.Refused.{IsFailure};
 
 use fkv_base::{Addr, Fault, Shape};

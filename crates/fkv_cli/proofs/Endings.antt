@@ -22,7 +22,7 @@ use Rattle.fkv_runs.specs.Files.{IsPartOfLife, IsRunOfLife}
 use Rattle.fkv_runs.specs.Openings.{Begins, Medium}
 use Rattle.fkv_runs.specs.Runs.{IsPartOfRun, IsRun}
 use Rattle.fkv_runs.specs.declared.pieces.Piece.{Piece}
-use Rattle.fkv_scan.specs.Quiet.{IsHindrance}
+use Rattle.fkv_disk.specs.Quiet.{IsHindrance}
 use Rattle.fkv_texts.specs.Reports.{report_text}
 use Rattle.fkv_texts.specs.declared.reports.Opening.TheVariants as reports
 use Rattle.fkv_texts.proofs.Shown.{appends_both}

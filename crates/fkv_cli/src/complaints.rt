@@ -10,7 +10,7 @@ pub(crate) use options::WordFault;
 use quoted::Quoted;
 pub(crate) use sizes::SizeFault;
 use std::fmt;
-use std::io::{ErrorKind, Write};
+use std::io::{Cursor, ErrorKind, Write};
 
 /// Why a run ended as it did.
 #[derive(Clone, Copy)]
@@ -73,8 +73,18 @@ impl fmt::Display for Complaint<'_> {
     }
 }
 
-/// Writes a complaint as one line. Where its writer fails the line is lost, and nothing else comes of that.
+/// No complaint is longer: its words are cut.
+const LONGEST: usize = 1024;
+
+/// Writes a complaint as one line, at once. Where its writer fails the line is lost, and nothing else comes of that.
 pub(crate) fn complain<E: Write>(complaints: &mut E, complaint: Complaint<'_>) {
-    let _lost = writeln!(complaints, "fkv: {complaint}");
-    let _failed = complaints.flush();
+    let mut line = Cursor::new([0; LONGEST]);
+    let _cut = writeln!(line, "fkv: {complaint}");
+    let Ok(end) = usize::try_from(line.position()) else {
+        return;
+    };
+    if let Some(text) = line.get_ref().get(..end) {
+        let _lost = complaints.write_all(text);
+        let _failed = complaints.flush();
+    }
 }

@@ -79,7 +79,9 @@ fn open_locked<H: Files>(rt: &H, how: &OpenOptions, path: &str) -> Result<H::Fil
 where
     H::File: Lockable,
 {
-    let file = match how.open(rt, path) {
+    // A new handle of the same open file, since the first may have the number of a standard stream that is closed: what is written
+    // to that stream is not to come into the store.
+    let file = match how.open(rt, path).and_then(|file| file.try_clone()) {
         Ok(file) => file,
         Err(error) => return Err(Trouble::Refused(error.kind())),
     };

@@ -6,7 +6,6 @@ mod EnterTold
 mod FinishTold
 mod InOrder
 mod Left
-mod RaiseRange
 mod Replies
 mod SeekKeeps
 mod SeekLeft

@@ -11,4 +11,3 @@ pub use Rattle.fkv_commit.proofs.WaitTold.{waits_end}
 pub use Rattle.fkv_commit.proofs.FinishTold.{finishes_end}
 pub use Rattle.fkv_commit.proofs.InOrder.{in_order}
 pub use Rattle.fkv_commit.proofs.SeekKeeps.{seek_keeps, seek_begun_keeps}
-pub use Rattle.fkv_commit.proofs.RaiseRange.{next_in_range, on_in_range, next_ask_in_range}

@@ -1,7 +1,6 @@
 -- How what must wait until all have seen a change is deferred: a drain slot is held; once the owner has made the change, the epoch is
 -- raised, and the slot is armed with the action at the epoch before.
-use Rattle.std.specs.Prelude.{ℕ, ◌-◌, ◌^◌, ◌<◌, min, ⊤}
-use Rattle.fkv_base.specs.Limits.{drain_slots}
+use Rattle.std.specs.Prelude.{ℕ, ◌-◌, ◌^◌, min}
 use Rattle.fkv_plane.specs.declared.actions.Action.{Action}
 use Rattle.fkv_plane.specs.declared.actions.Action.TheVariants as act
 use Rattle.fkv_plane.specs.declared.asks.Ask.{Ask}
@@ -88,8 +87,3 @@ deferring_on d step its = d
 
 abbrev pub defer_on : DeferState → Deferred → DeferState
 defer_on d its = deferring_on d d.step its
-
--- a slot that the raise tells is one of the eight
-abbrev pub HasSlotInRange : Ask RaiseAnswer → Type 0
-HasSlotInRange (Done (raised.Raised slot epoch)) = slot < drain_slots
-HasSlotInRange ask = ⊤

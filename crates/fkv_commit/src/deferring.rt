@@ -1,6 +1,7 @@
 //! How what must wait until all have seen a change is deferred.
 ghost use Rattle.std.specs.Prelude.{◌≡◌};
-ghost use Rattle.fkv_commit.specs.Deferring.{HasSlotInRange, action_of, defer_begun, defer_ask, defer_next, defer_on, seek_ledto, raise_ledto, arm_ledto};
+ghost use Rattle.fkv_epoch.specs.Raising.{HasSlotInRange};
+ghost use Rattle.fkv_commit.specs.Deferring.{action_of, defer_begun, defer_ask, defer_next, defer_on, seek_ledto, raise_ledto, arm_ledto};
 ghost use Rattle.fkv_commit.specs.declared.deferring.Deferring.TheVariants.{Ended};
 ghost use Rattle.fkv_commit.specs.declared.deferring.DeferAnswer.TheVariants.{NoSlot};
 

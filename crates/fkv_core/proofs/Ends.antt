@@ -1,5 +1,5 @@
 -- A call's end is told just where its machine is at rest.
-use Rattle.std.proofs.Common.{◌≡◌, true, false, Bool, refl}
+use Rattle.std.proofs.Common.{◌≡◌, sym, subst, true, false, Bool, refl}
 use Rattle.std.specs.Prelude.{List, None, Some}
 use Rattle.fkv_base.specs.declared.shapes.Shape.{Shape}
 use Rattle.fkv_keeper.specs.Answers.{IsAsked}
@@ -11,12 +11,12 @@ use Rattle.fkv_keeper.specs.Keeping.{KeeperState, keeping_ask}
 use Rattle.fkv_plane.specs.declared.places.Places.{Places}
 use Rattle.fkv_plane.specs.declared.asks.Ask.{Ask}
 use Rattle.fkv_plane.specs.declared.asks.Ask.TheVariants.{Done}
-use Rattle.fkv_plane.specs.Passing.{is_done}
 use Rattle.fkv_session.specs.declared.answers.Answer.{Answer}
 use Rattle.fkv_session.specs.declared.answers.Finished.{Finished}
 use Rattle.fkv_session.specs.declared.sessions.Sitting.{Sitting}
 use Rattle.fkv_session.specs.declared.sessions.Sitting.TheVariants.{Idle}
-use Rattle.fkv_session.specs.Answers.{IsAnswered}
+use Rattle.fkv_session.specs.declared.answers.Told.{Told}
+use Rattle.fkv_session.specs.Answers.{IsAnswerTold}
 use Rattle.fkv_session.specs.Sessions.{Seat, SessionState, is_busy, sitting_ask}
 use Rattle.fkv_core.specs.Told.{IsSittingTold, IsKeepingTold, keeper_told}
 
@@ -25,17 +25,20 @@ busy_told true (Idle its) finished busy = cc
 busy_told true step finished busy = refl
 busy_told false step finished busy = refl
 
-pub idle_told : (k : Seat) (s : SessionState) (step : Sitting) (finished : List Finished) (answer : Answer) → is_busy step ≡ false → IsAnswered (sitting_ask k s step) finished (Done answer) → IsSittingTold true step finished (Some answer)
+pub idle_told : (k : Seat) (s : SessionState) (step : Sitting) (finished : List Finished) (its : Told) (answer : Answer) → is_busy step ≡ false → sitting_ask k s step ≡ Done its → IsAnswerTold its finished answer → IsSittingTold true step finished (Some answer)
 unfolding sitting_ask
-idle_told k s (Idle its) finished answer idle told = (answer, refl, told)
-idle_told k s step finished answer idle told = cc
+idle_told k s (Idle it) finished its answer idle asks told = (answer, refl, subst (λ (ask : Ask Told). IsTold ask finished answer) (sym asks) told)
+  where
+    IsTold : Ask Told → List Finished → Answer → Type 0
+    IsTold (Done it) finished answer = IsAnswerTold it finished answer
+    IsTold ask finished answer = ⊥
+idle_told k s step finished its answer idle asks told = cc
 
--- at rest it asks for nothing
-pub idle_answered : (k : Seat) (s : SessionState) (step : Sitting) (finished : List Finished) (next : Ask Answer) → is_busy step ≡ false → IsAnswered (sitting_ask k s step) finished next → is_done next ≡ true
+-- at rest it says what it was told
+pub idle_asks : (k : Seat) (s : SessionState) (step : Sitting) → is_busy step ≡ false → (its : Told) × (sitting_ask k s step ≡ Done its)
 unfolding sitting_ask
-idle_answered k s (Idle its) finished (Done answer) idle told = refl
-idle_answered k s (Idle its) finished next idle told = absurd told
-idle_answered k s step finished next idle told = cc
+idle_asks k s (Idle its) idle = (its, refl)
+idle_asks k s step idle = cc
 
 pub in_hand_told : (was : Bool) (step : Keeping) (s : KeeperState) → is_in_hand step ≡ true → IsKeepingTold was step s None
 in_hand_told true (Ended its) s busy = cc

@@ -1,3 +1,4 @@
+mod Answered
 mod LoneMoves
 mod Ends
 mod Granted

@@ -1,7 +1,6 @@
 -- The moves of one actor alone, one behind the other.
-use Rattle.std.proofs.Common.{◌≡◌, inl, inr, ◌∙◌, ap, subst, refl, ℕ, ◌+◌, Bool, true, false, List, [], ◌∷◌, ◌++◌, length, arith}
-use Rattle.std.specs.Prelude.{Option, Some, None}
-use Rattle.std.specs.Option.{is_some}
+use Rattle.std.proofs.Common.{◌≡◌, inl, inr, ◌∙◌, ap, subst, refl, ℕ, ◌+◌, Bool, false, List, [], ◌∷◌, ◌++◌, length, arith}
+use Rattle.std.specs.Prelude.{Option, None}
 use Rattle.std.proofs.lemmas.Option.{none-some}
 use Rattle.fkv_keeper.specs.Answers.{IsKeeperTold}
 use Rattle.fkv_keeper.specs.Keeping.{Finality, end_told}
@@ -14,7 +13,7 @@ use Rattle.fkv_world.specs.World.{Now}
 use Rattle.fkv_core.specs.declared.events.Actor.{Actor}
 use Rattle.fkv_core.specs.declared.events.Event as event
 use Rattle.fkv_core.specs.declared.events.Told.{Told}
-use Rattle.fkv_core.specs.Alone.{IsMovedAlone, LeadsOnBy, Move, moves_of, moving}
+use Rattle.fkv_core.specs.Alone.{IsMovedAlone, LeadsOnBy, Move, in_hand, moves_of, moving}
 use Rattle.fkv_core.specs.Lives.{IsAnswerSaid, IsSaid, answers_of}
 use Rattle.fkv_core.specs.Told.{keeper_told}
 use Rattle.fkv_core.specs.Worlds.{IsStep, took_place}
@@ -71,33 +70,25 @@ one_more actor count n mid after told failed failed' failed'' refuses refuses' r
 -- it ends the call, or none is told yet
 pub told_last : (actor : Actor) (its : event.Event) (count : ℕ) (n mid after : Now) (told : Option Told) (failed failed' failed'' : ℕ) (refuses refuses' refuses'' : ℕ → Bool) (honest honest' : Type 0) (seen seen' seen'' : List ℕ) (may_leave may_leave' may_leave'' : List ℕ → Type 0)
     → AreMovesSoFar actor count n mid failed failed' refuses refuses' honest seen seen' may_leave may_leave' → (honest → honest') → its ≡ moving actor
-    → IsStep its mid after told failed' failed'' refuses' refuses'' honest' seen' seen'' may_leave' may_leave'' → is_some told ≡ true
+    → IsStep its mid after told failed' failed'' refuses' refuses'' honest' seen' seen'' may_leave' may_leave'' → in_hand after actor ≡ false
     → IsMovedAlone actor n after told failed failed'' refuses refuses'' honest seen seen'' may_leave may_leave''
-told_last actor its count n mid after told failed failed' failed'' refuses refuses' refuses'' honest honest' seen seen' seen'' may_leave may_leave' may_leave'' so_far passes is step some =
+told_last actor its count n mid after told failed failed' failed'' refuses refuses' refuses'' honest honest' seen seen' seen'' may_leave may_leave' may_leave'' so_far passes is step rest =
     let moved : IsStep (moving actor) mid after told failed' failed'' refuses' refuses'' honest' seen' seen'' may_leave' may_leave'' = subst (λ it. IsStep it mid after told failed' failed'' refuses' refuses'' honest' seen' seen'' may_leave' may_leave'') is step in
     record {
       moves = record { granted = moved.granted; done = moved.done } ∷ so_far.moves;
       life = one_more actor count n mid after told failed failed' failed'' refuses refuses' refuses'' honest honest' seen seen' seen'' may_leave may_leave' may_leave'' so_far passes moved;
-      rests = λ none. absurd (never told none some);
+      rests = λ none. inl rest;
     }
-  where
-    never : (told : Option Told) → told ≡ None → is_some told ≡ true → ⊥
-    never None none some = cc
-    never (Some it) none some = cc
 
-pub told_nothing : (actor : Actor) (its : event.Event) (count : ℕ) (n mid after : Now) (told : Option Told) (failed failed' failed'' : ℕ) (refuses refuses' refuses'' : ℕ → Bool) (honest honest' : Type 0) (seen seen' seen'' : List ℕ) (may_leave may_leave' may_leave'' : List ℕ → Type 0)
+pub told_nothing : (actor : Actor) (its : event.Event) (count : ℕ) (n mid after : Now) (failed failed' failed'' : ℕ) (refuses refuses' refuses'' : ℕ → Bool) (honest honest' : Type 0) (seen seen' seen'' : List ℕ) (may_leave may_leave' may_leave'' : List ℕ → Type 0)
     → AreMovesSoFar actor count n mid failed failed' refuses refuses' honest seen seen' may_leave may_leave' → (honest → honest') → its ≡ moving actor
-    → IsStep its mid after told failed' failed'' refuses' refuses'' honest' seen' seen'' may_leave' may_leave'' → is_some told ≡ false
+    → IsStep its mid after None failed' failed'' refuses' refuses'' honest' seen' seen'' may_leave' may_leave''
     → AreMovesSoFar actor (count + 1) n after failed failed'' refuses refuses'' honest seen seen'' may_leave may_leave''
-told_nothing actor its count n mid after told failed failed' failed'' refuses refuses' refuses'' honest honest' seen seen' seen'' may_leave may_leave' may_leave'' so_far passes is step none =
-    let moved : IsStep (moving actor) mid after None failed' failed'' refuses' refuses'' honest' seen' seen'' may_leave' may_leave'' = subst (λ it. IsStep it mid after None failed' failed'' refuses' refuses'' honest' seen' seen'' may_leave' may_leave'') is (subst (λ (it : Option Told). IsStep its mid after it failed' failed'' refuses' refuses'' honest' seen' seen'' may_leave' may_leave'') (nothing told none) step) in
+told_nothing actor its count n mid after failed failed' failed'' refuses refuses' refuses'' honest honest' seen seen' seen'' may_leave may_leave' may_leave'' so_far passes is step =
+    let moved : IsStep (moving actor) mid after None failed' failed'' refuses' refuses'' honest' seen' seen'' may_leave' may_leave'' = subst (λ it. IsStep it mid after None failed' failed'' refuses' refuses'' honest' seen' seen'' may_leave' may_leave'') is step in
     let many = so_far.many in
     record {
       moves = record { granted = moved.granted; done = moved.done } ∷ so_far.moves;
       many = omega (arith, many);
       life = one_more actor count n mid after None failed failed' failed'' refuses refuses' refuses'' honest honest' seen seen' seen'' may_leave may_leave' may_leave'' so_far passes moved;
     }
-  where
-    nothing : (told : Option Told) → is_some told ≡ false → told ≡ None
-    nothing None none = refl
-    nothing (Some it) none = cc

@@ -1,5 +1,5 @@
 -- The sessions of a world, each in its place.
-use Rattle.std.proofs.Common.{◌≡◌, ◌∙◌, sym, ap, subst, arith, nat_eq, ℕ, ◌<◌, Bool, true, false, List, length, refl}
+use Rattle.std.proofs.Common.{◌≡◌, ◌∙◌, sym, ap, subst, arith, nat_eq, ℕ, ◌<◌, Bool, true, false, not, ◌&&◌, List, length, refl}
 use Rattle.std.specs.Prelude.{Option, Some, None, option_map, slice_get, slice_set}
 use Rattle.std.proofs.lemmas.Bool.Decides.{nat_tests}
 use Rattle.std.proofs.lemmas.List.{map-set, length-set, get_or-set_same, get_or-set_other}
@@ -8,11 +8,10 @@ use Rattle.fkv_base.specs.declared.shapes.Shape.{Shape}
 use Rattle.fkv_map.specs.declared.operations.Call.{Call}
 use Rattle.fkv_plane.specs.declared.places.Places.{Places}
 use Rattle.fkv_plane.specs.Plane.{Plane}
-use Rattle.fkv_session.specs.Sessions.{Sitter, Seat, SessionState}
+use Rattle.fkv_session.specs.Sessions.{Sitter, Seat, SessionState, is_busy}
 use Rattle.fkv_world.specs.Moves.{Near, session_moved}
 use Rattle.fkv_world.specs.World.{Now, seat_at, with_session, session_called, session_calls, session_moves}
-use Rattle.fkv_core.specs.declared.events.Told.{Told}
-use Rattle.fkv_core.specs.Told.{IsNumbered, IsSessionEnd, may_begin, may_move}
+use Rattle.fkv_core.specs.Told.{ends_session, may_begin, may_move}
 use Rattle.fkv_core.specs.Worlds.{AreSeated, IsPut, IsCallBegunBy, AreSessionCalls, IsMovedBy, AreSessionMoves, beside, state_of, states_of}
 
 get_put : {X : Type 0} (xs : List X) (i : ℕ) (was x : X) → slice_get xs i ≡ Some was → slice_get (slice_set xs i x) i ≡ Some x
@@ -56,55 +55,55 @@ is_there : (sitters sitters' : List Sitter) (number : ℕ) (s next : Sitter) →
 is_there sitters sitters' number s next got its =
     was_there sitters' number next (ap (λ (all : List Sitter). slice_get all number) its.put ∙ get_put sitters number s next got)
 
-ends_so : (number : ℕ) (ends : SessionState → Bool) (was after : Option SessionState) (s next : SessionState) (told : Option Told) → was ≡ Some s → after ≡ Some next → IsNumbered number (ends s) next told → IsSessionEnd number ends was after told
-ends_so number ends was after s next told e f its =
-    subst (λ (x : Option SessionState). IsSessionEnd number ends x after told) (sym e) (subst (λ (x : Option SessionState). IsSessionEnd number ends (Some s) x told) (sym f) its)
+ends_so : (ends : SessionState → Bool) (was after : Option SessionState) (s next : SessionState) (ended : Bool) → was ≡ Some s → after ≡ Some next → ended ≡ (ends s && not (is_busy next.step)) → ended ≡ ends_session ends was after
+ends_so ends was after s next ended e f its =
+    subst (λ (x : Option SessionState). ended ≡ ends_session ends x after) (sym e) (subst (λ (x : Option SessionState). ended ≡ ends_session ends (Some s) x) (sym f) its)
 
-none_told : (number : ℕ) (ends : SessionState → Bool) (was after : Option SessionState) (told : Option Told) → was ≡ None → told ≡ None → IsSessionEnd number ends was after told
-none_told number ends was after told e none = subst (λ (x : Option SessionState). IsSessionEnd number ends x after told) (sym e) none
+none_ends : (ends : SessionState → Bool) (was after : Option SessionState) (ended : Bool) → was ≡ None → ended ≡ false → ended ≡ ends_session ends was after
+none_ends ends was after ended e none = subst (λ (x : Option SessionState). ended ≡ ends_session ends x after) (sym e) none
 
--- What a session's call or step makes of the world: its sessions stay in their places, they are what the rules give, and what is told is theirs.
-pub record IsSessionEvent (n : Now) (after : Now) (number : ℕ) (ends : SessionState → Bool) (sitters' : List Sitter) (by_rule : Now) (told : Option Told) : Type 0 where
+-- What a session's call or step makes of the world: its sessions stay in their places, they are what the rules give, and whether a call has ended is theirs.
+pub record IsSessionEvent (n : Now) (after : Now) (number : ℕ) (ends : SessionState → Bool) (sitters' : List Sitter) (by_rule : Now) (ended : Bool) : Type 0 where
   pub seated : AreSeated n.shape n.places sitters'
   pub is : after ≡ by_rule
-  pub tells : IsSessionEnd number ends (slice_get n.sessions number) (slice_get (states_of sitters') number) told
+  pub over : ended ≡ ends_session ends (slice_get n.sessions number) (slice_get (states_of sitters') number)
 
-called_by : (n : Now) (number : ℕ) (call : Call) (sitters sitters' : List Sitter) (told : Option Told) (found : Option Sitter) → slice_get sitters number ≡ found → AreSeated n.shape n.places sitters
-    → IsCallBegunBy number call found sitters sitters' told
-    → IsSessionEvent (record n { sessions = states_of sitters }) (record n { sessions = states_of sitters' }) number may_begin sitters' (session_calls (record n { sessions = states_of sitters }) number call (option_map state_of found)) told
-called_by n number call sitters sitters' told None got seated its = record {
+called_by : (n : Now) (number : ℕ) (call : Call) (sitters sitters' : List Sitter) (ended : Bool) (found : Option Sitter) → slice_get sitters number ≡ found → AreSeated n.shape n.places sitters
+    → IsCallBegunBy number call found sitters sitters' ended
+    → IsSessionEvent (record n { sessions = states_of sitters }) (record n { sessions = states_of sitters' }) number may_begin sitters' (session_calls (record n { sessions = states_of sitters }) number call (option_map state_of found)) ended
+called_by n number call sitters sitters' ended None got seated its = record {
   seated = subst (λ (all : List Sitter). AreSeated n.shape n.places all) (sym its.0) seated;
   is = ap (λ (all : List Sitter). record n { sessions = states_of all }) its.0;
-  tells = none_told number may_begin (slice_get (states_of sitters) number) (slice_get (states_of sitters') number) told (slice_get-map state_of sitters number ∙ ap (λ (it : Option Sitter). option_map state_of it) got) its.1;
+  over = none_ends may_begin (slice_get (states_of sitters) number) (slice_get (states_of sitters') number) ended (slice_get-map state_of sitters number ∙ ap (λ (it : Option Sitter). option_map state_of it) got) its.1;
 }
-called_by n number call sitters sitters' told (Some s) got seated its =
+called_by n number call sitters sitters' ended (Some s) got seated its =
     let here : its.next.state ≡ session_called (seat_at n number) s.state call = its.begun ∙ ap (λ (k : Seat). session_called k s.state call) (seated number s got) in
     record {
       seated = put_seated n.shape n.places sitters sitters' number s its.next seated got its.its;
       is = ap (λ (all : List SessionState). record n { sessions = all }) (put_states sitters sitters' number s its.next (session_called (seat_at n number) s.state call) its.its here);
-      tells = ends_so number may_begin (slice_get (states_of sitters) number) (slice_get (states_of sitters') number) s.state its.next.state told (was_there sitters number s got) (is_there sitters sitters' number s its.next got its.its) its.tells;
+      over = ends_so may_begin (slice_get (states_of sitters) number) (slice_get (states_of sitters') number) s.state its.next.state ended (was_there sitters number s got) (is_there sitters sitters' number s its.next got its.its) its.ends;
     }
 
-pub session_called_so : (n : Now) (number : ℕ) (call : Call) (sitters sitters' : List Sitter) (told : Option Told) → AreSeated n.shape n.places sitters → AreSessionCalls number call sitters sitters' told
-    → IsSessionEvent (record n { sessions = states_of sitters }) (record n { sessions = states_of sitters' }) number may_begin sitters' (session_calls (record n { sessions = states_of sitters }) number call (slice_get (states_of sitters) number)) told
-session_called_so n number call sitters sitters' told seated its =
+pub session_called_so : (n : Now) (number : ℕ) (call : Call) (sitters sitters' : List Sitter) (ended : Bool) → AreSeated n.shape n.places sitters → AreSessionCalls number call sitters sitters' ended
+    → IsSessionEvent (record n { sessions = states_of sitters }) (record n { sessions = states_of sitters' }) number may_begin sitters' (session_calls (record n { sessions = states_of sitters }) number call (slice_get (states_of sitters) number)) ended
+session_called_so n number call sitters sitters' ended seated its =
     let before : Now = record n { sessions = states_of sitters } in
-    subst (λ (it : Option SessionState). IsSessionEvent before (record n { sessions = states_of sitters' }) number may_begin sitters' (session_calls before number call it) told)
-    (sym (slice_get-map state_of sitters number)) (called_by n number call sitters sitters' told (slice_get sitters number) refl seated its)
+    subst (λ (it : Option SessionState). IsSessionEvent before (record n { sessions = states_of sitters' }) number may_begin sitters' (session_calls before number call it) ended)
+    (sym (slice_get-map state_of sitters number)) (called_by n number call sitters sitters' ended (slice_get sitters number) refl seated its)
 
 -- the world with other words and actions, and other sessions
 abbrev pub with_plane : Now → Plane → List Sitter → Now
 with_plane n plane sitters = record n { words = plane.words; actions = plane.actions; sessions = states_of sitters }
 
-moved_by : (n : Now) (number : ℕ) (plane plane' : Plane) (sitters sitters' : List Sitter) (told : Option Told) (found : Option Sitter) → slice_get sitters number ≡ found → AreSeated n.shape n.places sitters
-    → IsMovedBy number plane plane' found sitters sitters' told
-    → IsSessionEvent (with_plane n plane sitters) (with_plane n plane' sitters') number may_move sitters' (session_moves (with_plane n plane sitters) number (option_map state_of found)) told
-moved_by n number plane plane' sitters sitters' told None got seated its = record {
+moved_by : (n : Now) (number : ℕ) (plane plane' : Plane) (sitters sitters' : List Sitter) (ended : Bool) (found : Option Sitter) → slice_get sitters number ≡ found → AreSeated n.shape n.places sitters
+    → IsMovedBy number plane plane' found sitters sitters' ended
+    → IsSessionEvent (with_plane n plane sitters) (with_plane n plane' sitters') number may_move sitters' (session_moves (with_plane n plane sitters) number (option_map state_of found)) ended
+moved_by n number plane plane' sitters sitters' ended None got seated its = record {
   seated = subst (λ (all : List Sitter). AreSeated n.shape n.places all) (sym its.1) seated;
   is = ap (λ (p : Plane). with_plane n p sitters') its.0 ∙ ap (λ (all : List Sitter). with_plane n plane all) its.1;
-  tells = none_told number may_move (slice_get (states_of sitters) number) (slice_get (states_of sitters') number) told (slice_get-map state_of sitters number ∙ ap (λ (it : Option Sitter). option_map state_of it) got) its.2;
+  over = none_ends may_move (slice_get (states_of sitters) number) (slice_get (states_of sitters') number) ended (slice_get-map state_of sitters number ∙ ap (λ (it : Option Sitter). option_map state_of it) got) its.2;
 }
-moved_by n number plane plane' sitters sitters' told (Some s) got seated its =
+moved_by n number plane plane' sitters sitters' ended (Some s) got seated its =
     let before : Now = with_plane n plane sitters in
     let goes : Near SessionState = session_moved (seat_at n number) (beside plane s.state) in
     let here : beside plane' its.next.state ≡ goes = its.moved ∙ ap (λ (k : Seat). session_moved k (beside plane s.state)) (seated number s got) in
@@ -112,12 +111,12 @@ moved_by n number plane plane' sitters sitters' told (Some s) got seated its =
     record {
       seated = put_seated n.shape n.places sitters sitters' number s its.next seated got its.its;
       is = ap (λ (all : List SessionState). record n { words = plane'.words; actions = plane'.actions; sessions = all }) states ∙ ap (λ (near : Near SessionState). with_session before number near) here;
-      tells = ends_so number may_move (slice_get (states_of sitters) number) (slice_get (states_of sitters') number) s.state its.next.state told (was_there sitters number s got) (is_there sitters sitters' number s its.next got its.its) its.tells;
+      over = ends_so may_move (slice_get (states_of sitters) number) (slice_get (states_of sitters') number) s.state its.next.state ended (was_there sitters number s got) (is_there sitters sitters' number s its.next got its.its) its.ends;
     }
 
-pub session_moved_so : (n : Now) (number : ℕ) (plane plane' : Plane) (sitters sitters' : List Sitter) (told : Option Told) → AreSeated n.shape n.places sitters → AreSessionMoves number plane plane' sitters sitters' told
-    → IsSessionEvent (with_plane n plane sitters) (with_plane n plane' sitters') number may_move sitters' (session_moves (with_plane n plane sitters) number (slice_get (states_of sitters) number)) told
-session_moved_so n number plane plane' sitters sitters' told seated its =
+pub session_moved_so : (n : Now) (number : ℕ) (plane plane' : Plane) (sitters sitters' : List Sitter) (ended : Bool) → AreSeated n.shape n.places sitters → AreSessionMoves number plane plane' sitters sitters' ended
+    → IsSessionEvent (with_plane n plane sitters) (with_plane n plane' sitters') number may_move sitters' (session_moves (with_plane n plane sitters) number (slice_get (states_of sitters) number)) ended
+session_moved_so n number plane plane' sitters sitters' ended seated its =
     let before : Now = with_plane n plane sitters in
-    subst (λ (it : Option SessionState). IsSessionEvent before (with_plane n plane' sitters') number may_move sitters' (session_moves before number it) told)
-    (sym (slice_get-map state_of sitters number)) (moved_by n number plane plane' sitters sitters' told (slice_get sitters number) refl seated its)
+    subst (λ (it : Option SessionState). IsSessionEvent before (with_plane n plane' sitters') number may_move sitters' (session_moves before number it) ended)
+    (sym (slice_get-map state_of sitters number)) (moved_by n number plane plane' sitters sitters' ended (slice_get sitters number) refl seated its)

@@ -1,11 +1,13 @@
 -- What a step tells callers: the answer to the call that has ended in it, and nothing where none has.
-use Rattle.std.specs.Prelude.{◌≡◌, ℕ, Bool, true, false, not, Option, Some, None, List, slice_get}
+use Rattle.std.specs.Prelude.{◌≡◌, ℕ, Bool, true, false, not, ◌&&◌, Option, Some, None, List, slice_get}
 use Rattle.fkv_keeper.specs.Answers.{IsKeeperTold}
 use Rattle.fkv_keeper.specs.Keeping.{KeeperState, end_told, turn_over}
 use Rattle.fkv_keeper.specs.declared.answers.KeeperAsk.{KeeperAsk}
 use Rattle.fkv_keeper.specs.declared.answers.KeeperAsk.TheVariants as ask
 use Rattle.fkv_keeper.specs.declared.keepers.Keeping.{Keeping}
 use Rattle.fkv_keeper.specs.declared.keepers.Keeping.TheVariants.{Ended}
+use Rattle.fkv_core.specs.declared.events.Event as event
+use Rattle.fkv_core.specs.declared.events.Event.TheVariants as events
 use Rattle.fkv_core.specs.declared.events.Told.{Told}
 use Rattle.fkv_core.specs.declared.events.Told.TheVariants.{Session, Commit, Turn}
 use Rattle.fkv_keeper.specs.KeeperRun.{is_in_hand}
@@ -73,3 +75,38 @@ IsEventTold n after Crashes told = told ≡ None
 abbrev pub IsTold : Bool → Now → Now → Event → Option Told → Type 0
 IsTold true n after event told = told ≡ None
 IsTold false n after event told = IsEventTold n after event told
+
+-- a session's call ends where it was in hand, or began, and is no more
+abbrev pub ends_session : (SessionState → Bool) → Option SessionState → Option SessionState → Bool
+ends_session ends (Some s) (Some after) = ends s && not (is_busy after.step)
+ends_session ends s after = false
+
+-- so does the keeper's
+abbrev pub ends_here : event.Event → Now → Now → Bool
+ends_here (events.Call number call) n after = ends_session may_begin (slice_get n.sessions number) (slice_get after.sessions number)
+ends_here (events.Move number) n after = ends_session may_move (slice_get n.sessions number) (slice_get after.sessions number)
+ends_here (events.Commit kind) n after = not (is_in_hand n.keeper.step) && not (is_in_hand after.keeper.step)
+ends_here events.Turn n after = not (is_in_hand n.keeper.step) && not (is_in_hand after.keeper.step)
+ends_here events.KeeperMove n after = is_in_hand n.keeper.step && not (is_in_hand after.keeper.step)
+ends_here events.Crash n after = false
+
+-- whether a call ends in an event, which after a crash none does
+abbrev pub ends_call : event.Event → Now → Now → Bool
+ends_call its n after = not n.crashed && ends_here its n after
+
+-- the answer to a session's last call, where none is in hand
+abbrev pub IsLastOfSession : ℕ → Option SessionState → Option Told → Type 0
+IsLastOfSession number (Some s) told = IsNumbered number true s told
+IsLastOfSession number None told = told ≡ None
+
+-- the answer to the last call of an event's actor, where none is in hand
+abbrev pub IsLastAnswer : event.Event → Now → Option Told → Type 0
+IsLastAnswer (events.Call number call) n told = IsLastOfSession number (slice_get n.sessions number) told
+IsLastAnswer (events.Move number) n told = IsLastOfSession number (slice_get n.sessions number) told
+IsLastAnswer events.Crash n told = told ≡ None
+IsLastAnswer its n told = IsKeeperEndTold true n.keeper told
+
+-- where a call has ended its answer is told, and else nothing
+abbrev pub IsAnswerBehind : Bool → event.Event → Now → Option Told → Type 0
+IsAnswerBehind true its n told = IsLastAnswer its n told
+IsAnswerBehind false its n told = told ≡ None

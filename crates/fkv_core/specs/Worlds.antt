@@ -1,5 +1,5 @@
 -- What the Rust world shows.
-use Rattle.std.specs.Prelude.{◌≡◌, ◌<◌, ◌≤◌, ℕ, Bool, true, false, if◌then◌else◌, List, [], map, Option, None, Some, slice_get, slice_set}
+use Rattle.std.specs.Prelude.{◌≡◌, ◌<◌, ◌≤◌, ℕ, Bool, true, false, not, ◌&&◌, if◌then◌else◌, List, [], map, Option, None, Some, slice_get, slice_set}
 use Rattle.fkv_base.specs.declared.shapes.Shape.{Shape}
 use Rattle.fkv_disk.specs.Bytes.{bytes_at}
 use Rattle.fkv_disk.specs.Calls.{Call as DeviceCall}
@@ -16,7 +16,7 @@ use Rattle.fkv_keeper.specs.Keeping.{KeeperModel, keeper_ask}
 use Rattle.fkv_map.specs.declared.operations.Call.{Call}
 use Rattle.fkv_plane.specs.declared.places.Places.{Places}
 use Rattle.fkv_plane.specs.Plane.{Plane}
-use Rattle.fkv_session.specs.Sessions.{Sitter, SessionState}
+use Rattle.fkv_session.specs.Sessions.{Sitter, SessionState, is_busy}
 use Rattle.fkv_world.specs.Moves.{Near, session_moved, keeper_moved}
 use Rattle.fkv_world.specs.Past.{calls_after}
 use Rattle.fkv_world.specs.World.{Event, Now, Calls, Moves, Commits, Turns, KeeperMoves, Crashes, session_called, happens_now}
@@ -24,7 +24,7 @@ use Rattle.fkv_core.specs.declared.events.Event as event
 use Rattle.fkv_core.specs.declared.events.Event.TheVariants as events
 use Rattle.fkv_core.specs.declared.events.Told.{Told}
 use Rattle.fkv_core.specs.Lives.{LeadsOn, LeadsAnyOn}
-use Rattle.fkv_core.specs.Told.{IsNumbered, IsTold, may_begin, may_move}
+use Rattle.fkv_core.specs.Told.{IsTold, may_begin, may_move}
 
 -- a machine beside the words and the actions
 abbrev pub beside : {S : Type 0} → Plane → S → Near S
@@ -85,31 +85,33 @@ pub record IsPut (number : ℕ) (s s' : Sitter) (sitters sitters' : List Sitter)
   pub put : sitters' ≡ slice_set sitters number s'
   pub seat : s'.seat ≡ s.seat
 
-pub record IsCallBegun (number : ℕ) (call : Call) (s : Sitter) (sitters sitters' : List Sitter) (told : Option Told) : Type 0 where
+pub record IsCallBegun (number : ℕ) (call : Call) (s : Sitter) (sitters sitters' : List Sitter) (ended : Bool) : Type 0 where
   pub next : Sitter
   pub its : IsPut number s next sitters sitters'
   pub begun : next.state ≡ session_called s.seat s.state call
-  pub tells : IsNumbered number (may_begin s.state) next.state told
+  pub ends : ended ≡ may_begin s.state && not (is_busy next.state.step)
 
-abbrev pub IsCallBegunBy : ℕ → Call → Option Sitter → List Sitter → List Sitter → Option Told → Type 0
-IsCallBegunBy number call None sitters sitters' told = (sitters' ≡ sitters) × (told ≡ None)
-IsCallBegunBy number call (Some s) sitters sitters' told = IsCallBegun number call s sitters sitters' told
+abbrev pub IsCallBegunBy : ℕ → Call → Option Sitter → List Sitter → List Sitter → Bool → Type 0
+IsCallBegunBy number call None sitters sitters' ended = (sitters' ≡ sitters) × (ended ≡ false)
+IsCallBegunBy number call (Some s) sitters sitters' ended = IsCallBegun number call s sitters sitters' ended
 
-abbrev pub AreSessionCalls : ℕ → Call → List Sitter → List Sitter → Option Told → Type 0
-AreSessionCalls number call sitters sitters' told = IsCallBegunBy number call (slice_get sitters number) sitters sitters' told
+-- a session begins a call, or there is none of this number; whether the call has ended at once
+abbrev pub AreSessionCalls : ℕ → Call → List Sitter → List Sitter → Bool → Type 0
+AreSessionCalls number call sitters sitters' ended = IsCallBegunBy number call (slice_get sitters number) sitters sitters' ended
 
-pub record IsMoved (number : ℕ) (plane plane' : Plane) (s : Sitter) (sitters sitters' : List Sitter) (told : Option Told) : Type 0 where
+pub record IsMoved (number : ℕ) (plane plane' : Plane) (s : Sitter) (sitters sitters' : List Sitter) (ended : Bool) : Type 0 where
   pub next : Sitter
   pub its : IsPut number s next sitters sitters'
   pub moved : beside plane' next.state ≡ session_moved s.seat (beside plane s.state)
-  pub tells : IsNumbered number (may_move s.state) next.state told
+  pub ends : ended ≡ may_move s.state && not (is_busy next.state.step)
 
-abbrev pub IsMovedBy : ℕ → Plane → Plane → Option Sitter → List Sitter → List Sitter → Option Told → Type 0
-IsMovedBy number plane plane' None sitters sitters' told = (plane' ≡ plane) × (sitters' ≡ sitters) × (told ≡ None)
-IsMovedBy number plane plane' (Some s) sitters sitters' told = IsMoved number plane plane' s sitters sitters' told
+abbrev pub IsMovedBy : ℕ → Plane → Plane → Option Sitter → List Sitter → List Sitter → Bool → Type 0
+IsMovedBy number plane plane' None sitters sitters' ended = (plane' ≡ plane) × (sitters' ≡ sitters) × (ended ≡ false)
+IsMovedBy number plane plane' (Some s) sitters sitters' ended = IsMoved number plane plane' s sitters sitters' ended
 
-abbrev pub AreSessionMoves : ℕ → Plane → Plane → List Sitter → List Sitter → Option Told → Type 0
-AreSessionMoves number plane plane' sitters sitters' told = IsMovedBy number plane plane' (slice_get sitters number) sitters sitters' told
+-- a session makes its ask, or there is none of this number; whether a call has ended in it
+abbrev pub AreSessionMoves : ℕ → Plane → Plane → List Sitter → List Sitter → Bool → Type 0
+AreSessionMoves number plane plane' sitters sitters' ended = IsMovedBy number plane plane' (slice_get sitters number) sitters sitters' ended
 
 -- the event that took place, with whether memory was granted and whether the call of the device succeeded
 abbrev pub took_place : event.Event → Bool → Bool → Event

@@ -32,9 +32,9 @@ impl<D: Device> World<D> {
             if !self.is_in_hand(actor) {
                 return None;
             }
-            let told = self.step(moving(actor));
-            if told.is_some() {
-                return told;
+            let event = moving(actor);
+            if self.advance(event) {
+                return self.answer(event);
             }
         }
         None

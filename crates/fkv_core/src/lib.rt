@@ -2,6 +2,7 @@
 #![tactic(auto)]
 
 mod alone;
+mod answers;
 mod events;
 mod keeper_moves;
 mod laws;

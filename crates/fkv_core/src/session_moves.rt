@@ -1,88 +1,88 @@
 //! A session's steps beside the words and the actions.
-ghost use Rattle.std.specs.Prelude.{◌≡◌, not};
-ghost use Rattle.fkv_session.specs.Answers.{IsAnswered};
+ghost use Rattle.std.specs.Prelude.{◌≡◌, ◌&&◌, not, true};
 ghost use Rattle.fkv_session.specs.Sessions.{is_busy, session_ask};
 ghost use Rattle.fkv_world.specs.Moves.{session_moved, session_settled};
 ghost use Rattle.fkv_world.specs.World.{session_called};
 ghost use Rattle.fkv_core.specs.Told.{IsSessionTold};
 ghost use Rattle.fkv_core.specs.Worlds.{beside};
 
+use crate::answers::answer_of;
 use fkv_map::Call;
 use fkv_plane::{Ask, PlainWords};
-use fkv_session::{Answer, Session};
+use fkv_session::{Answer, Session, Told};
 
-/// Begins a call where none is in hand.
-pub(crate) fn session_call(session: &mut Session, call: Call) -> Option<Answer>
+/// Begins a call where none is in hand. Whether it has ended at once.
+pub(crate) fn session_call(session: &mut Session, call: Call) -> bool
     ensures seat { session.new.seat ≡ session.old.seat }
     ensures next { session.new.state ≡ session_called session.old.seat session.old.state call }
-    ensures told { IsSessionTold (not (is_busy session.old.state.step)) session.new.state result }
+    ensures ended { result ≡ not (is_busy session.old.state.step) && not (is_busy session.new.state.step) }
 {
     if session.busy() {
-        return None;
+        return false;
     }
-    let next = session.start(call);
-    told(session, true, next)
+    let _ = session.begin(call);
+    !session.busy()
 }
 
-/// Makes the ask, and moves an action that goes with it.
-#[tactic(auto, unfolding(fkv_world::specs::Moves::session_asks, fkv_world::specs::Moves::session_settled), using(crate::proofs::Ends::busy_told))]
-pub(crate) fn session_move(words: &mut PlainWords, session: &mut Session) -> Option<Answer>
+/// Makes the ask, and moves an action that goes with it. Whether a call has ended in it.
+#[tactic(auto, unfolding(fkv_world::specs::Moves::session_asks, fkv_world::specs::Moves::session_settled))]
+pub(crate) fn session_move(words: &mut PlainWords, session: &mut Session) -> bool
     ensures seat { session.new.seat ≡ session.old.seat }
     ensures next { beside words.new session.new.state ≡ session_moved session.old.seat (beside words.old session.old.state) }
-    ensures told { IsSessionTold (is_busy session.old.state.step) session.new.state result }
+    ensures ended { result ≡ is_busy session.old.state.step && not (is_busy session.new.state.step) }
 {
     let was_busy = session.busy();
-    let next = match session.ask() {
-        Ask::Done(_) => return None,
+    match session.ask() {
+        Ask::Done(_) => {}
         Ask::Put(slot, action) => {
             let _ = words.put(slot, action);
-            session.drive(0)
+            let _ = session.go_on(0);
         }
-        Ask::Take(slot) => match words.take(slot) {
-            Some(action) => session.given(action),
-            None => return None,
-        },
+        Ask::Take(slot) => {
+            if let Some(action) = words.take(slot) {
+                let _ = session.take(action);
+            }
+        }
         word => {
             let reply = words.perform(&word);
-            let next = session.drive(reply);
-            settle(words, session, next)
+            let next = session.go_on(reply);
+            settle(words, session, next);
         }
-    };
-    told(session, was_busy, next)
+    }
+    was_busy && !session.busy()
 }
 
 /// Moves the action that goes with the ask before.
 #[tactic(auto, unfolding(fkv_world::specs::Moves::session_settled))]
-fn settle(words: &mut PlainWords, session: &mut Session, next: Ask<Answer>) -> Ask<Answer>
-    requires { IsAnswered (session_ask session.old.seat session.old.state) session.old.state.finished next }
+fn settle(words: &mut PlainWords, session: &mut Session, next: Ask<Told>)
+    requires { next ≡ session_ask session.old.seat session.old.state }
     ensures seat { session.new.seat ≡ session.old.seat }
     ensures next { beside words.new session.new.state ≡ session_settled session.old.seat (beside words.old session.old.state) (session_ask session.old.seat session.old.state) }
-    ensures ask { IsAnswered (session_ask session.old.seat session.new.state) session.new.state.finished result }
 {
-    match session.ask() {
+    match next {
         Ask::Put(slot, action) => {
             let _ = words.put(slot, action);
-            session.drive(0)
+            let _ = session.go_on(0);
         }
-        Ask::Take(slot) => match words.take(slot) {
-            Some(action) => session.given(action),
-            None => next,
-        },
-        _ => next,
+        Ask::Take(slot) => {
+            if let Some(action) = words.take(slot) {
+                let _ = session.take(action);
+            }
+        }
+        _ => {}
     }
 }
 
-/// The answer to a call that was in hand, or began, and is no more.
-#[tactic(auto, using(crate::proofs::Ends::busy_told, crate::proofs::Ends::idle_told, crate::proofs::Ends::idle_answered))]
-fn told(session: &Session, was_busy: bool, next: Ask<Answer>) -> Option<Answer>
-    requires { IsAnswered (session_ask session.now.seat session.now.state) session.now.state.finished next }
-    ensures { IsSessionTold was_busy session.now.state result }
+/// The answer to its last call, where none is in hand.
+#[tactic(auto, using(crate::proofs::Ends::busy_told))]
+pub(crate) fn session_answer(session: &Session) -> Option<Answer>
+    ensures { IsSessionTold true session.now.state result }
 {
-    if !was_busy || session.busy() {
+    if session.busy() {
         return None;
     }
-    match next {
-        Ask::Done(answer) => Some(answer),
+    match session.ask() {
+        Ask::Done(told) => Some(answer_of(told, session.finished())),
         _ => None,
     }
 }

@@ -1,15 +1,16 @@
 //! The engine's world: sessions, the keeper, the words and the device, and one step of it.
-ghost use Rattle.std.specs.Prelude.{◌≡◌, ◌↔◌};
+ghost use Rattle.std.specs.Prelude.{◌≡◌, ◌↔◌, Option};
 ghost use Rattle.fkv_disk.specs.Device.{Elapses};
 ghost use Rattle.fkv_disk.specs.Fuse.{armed};
 ghost use Rattle.fkv_disk.specs.Fuses.{fuse_device, fuse_state, fuse_refused};
 ghost use Rattle.fkv_plane.specs.Asked.{word_at};
-ghost use Rattle.fkv_core.specs.Told.{numbered};
-ghost use Rattle.fkv_core.specs.Worlds.{AreSessionCalls, AreSessionMoves, IsStep};
+ghost use Rattle.fkv_core.specs.declared.events.Told.{Told};
+ghost use Rattle.fkv_core.specs.Told.{IsAnswerBehind, IsLastAnswer, ends_call, numbered};
+ghost use Rattle.fkv_core.specs.Worlds.{AreSeated, AreSessionCalls, AreSessionMoves, IsStep, states_of};
 
 use crate::events::{Event, Told};
-use crate::keeper_moves::{keeper_commit, keeper_move, keeper_turn};
-use crate::session_moves::{session_call, session_move};
+use crate::keeper_moves::{keeper_answer, keeper_commit, keeper_move, keeper_turn};
+use crate::session_moves::{session_answer, session_call, session_move};
 use fkv_disk::{Device, Fuse};
 use fkv_keeper::Keeper;
 use fkv_map::Call;
@@ -45,8 +46,23 @@ impl<D: Device> World<D> {
         ensures honest { D.honest self.old.device ↔ D.honest self.new.device }
         ensures time { D.honest self.old.device → Elapses (D.moment self.old.device) (D.moment self.new.device) (D.left_since self.old.device) (D.left_since self.new.device) (D.may_leave self.new.device) }
     {
+        if self.advance(event) {
+            self.answer(event)
+        } else {
+            None
+        }
+    }
+
+    /// What happens next, as in `step`, but for the answer: whether a call has ended in it. Then `answer` gives its answer, up to the
+    /// next step. A caller that makes many steps saves the answer's 2 KiB in each.
+    pub fn advance(&mut self, event: Event) -> bool
+        ensures ended { result ≡ ends_call event self.old.now self.new.now }
+        ensures step { (told : Option Told) → IsAnswerBehind result event self.new.now told → IsStep event self.old.now self.new.now told (D.failed self.old.device) (D.failed self.new.device) (D.refuses self.old.device) (D.refuses self.new.device) (D.honest self.old.device) (D.seen self.old.device) (D.seen self.new.device) (D.may_leave self.old.device) (D.may_leave self.new.device) }
+        ensures honest { D.honest self.old.device ↔ D.honest self.new.device }
+        ensures time { D.honest self.old.device → Elapses (D.moment self.old.device) (D.moment self.new.device) (D.left_since self.old.device) (D.left_since self.new.device) (D.may_leave self.new.device) }
+    {
         if self.crashed {
-            return None;
+            return false;
         }
         match event {
             Event::Call(number, call) => called(&mut self.sessions, number, call),
@@ -58,8 +74,24 @@ impl<D: Device> World<D> {
             }
             Event::Crash => {
                 self.crashed = true;
-                None
+                false
             }
+        }
+    }
+
+    /// The answer to the last call of the event's actor, where it has none in hand. Of an actor that there isn't, and of a crash,
+    /// there is none.
+    pub fn answer(&mut self, event: Event) -> Option<Told>
+        ensures same { self.new ≡ self.old }
+        ensures told { IsLastAnswer event self.old.now result }
+    {
+        match event {
+            Event::Call(number, _) | Event::Move(number) => match self.sessions.get(number) {
+                Some(session) => numbered(number, session_answer(session)),
+                None => None,
+            },
+            Event::Commit(_) | Event::Turn | Event::KeeperMove => keeper_answer(&mut self.keeper),
+            Event::Crash => None,
         }
     }
 
@@ -77,6 +109,25 @@ impl<D: Device> World<D> {
         let World { device, .. } = self;
         device
     }
+
+    /// The world taken apart: the shared words with the actions of the drain slots, the sessions in the order of their numbers, the
+    /// keeper, and the device, each as it stands.
+    pub fn into_parts(self) -> (PlainWords, Vec<Session>, Keeper, D)
+        ensures words { result.0 ≡ record { words = self.now.words; actions = self.now.actions } }
+        ensures sessions { states_of result.1.items ≡ self.now.sessions }
+        ensures seats { AreSeated self.now.shape self.now.places result.1.items }
+        ensures keeper { result.2 ≡ record { shape = self.now.shape; places = self.now.places; state = self.now.keeper } }
+        ensures device { result.3 ≡ self.device }
+    {
+        let World {
+            words,
+            sessions,
+            keeper,
+            device,
+            ..
+        } = self;
+        (words, sessions, keeper, device)
+    }
 }
 
 impl<D: Device> World<Fuse<D>> {
@@ -91,23 +142,23 @@ impl<D: Device> World<Fuse<D>> {
     }
 }
 
-/// A session begins a call, where there is one of this number.
-fn called(sessions: &mut Vec<Session>, number: usize, call: Call) -> Option<Told>
+/// A session begins a call, where there is one of this number. Whether it has ended at once.
+fn called(sessions: &mut Vec<Session>, number: usize, call: Call) -> bool
     ensures { AreSessionCalls number call sessions.old.items sessions.new.items result }
 {
     match sessions.get_mut(number) {
-        Some(session) => numbered(number, session_call(session, call)),
-        None => None,
+        Some(session) => session_call(session, call),
+        None => false,
     }
 }
 
-/// A session makes its ask, where there is one of this number.
-fn moved(words: &mut PlainWords, sessions: &mut Vec<Session>, number: usize) -> Option<Told>
+/// A session makes its ask, where there is one of this number. Whether a call has ended in it.
+fn moved(words: &mut PlainWords, sessions: &mut Vec<Session>, number: usize) -> bool
     ensures { AreSessionMoves number words.old words.new sessions.old.items sessions.new.items result }
 {
     match sessions.get_mut(number) {
-        Some(session) => numbered(number, session_move(words, session)),
-        None => None,
+        Some(session) => session_move(words, session),
+        None => false,
     }
 }
 

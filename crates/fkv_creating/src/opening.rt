@@ -4,7 +4,7 @@ ghost use Rattle.fkv_base.specs.Limits.{last_serial};
 ghost use Rattle.fkv_base.specs.declared.faults.Fault.TheVariants.{Memory};
 ghost use Rattle.fkv_disk.specs.Device.{LeavesOnly, MakesCalls};
 ghost use Rattle.fkv_newest.specs.Newest.{IsNewestOf};
-ghost use Rattle.fkv_scan.specs.Quiet.{IsHindrance};
+ghost use Rattle.fkv_disk.specs.Quiet.{IsHindrance};
 ghost use Rattle.fkv_opening.specs.Opened.{IsStoreOf};
 ghost use Rattle.fkv_creating.specs.Created.{IsNew, IsNewStore, HoldsNew, SparesRest};
 ghost use Rattle.fkv_creating.specs.Moments.{IsLaidInOrder};

@@ -6,6 +6,8 @@ mod Forgotten
 mod Images
 mod Left
 mod Moments
+mod Paged
+mod Quieter
 mod Recorded
 mod Replayed
 pub mod Shown

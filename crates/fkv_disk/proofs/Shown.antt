@@ -8,3 +8,4 @@ pub use Rattle.fkv_disk.proofs.Carry.{is_opened, after_same, after_write, after_
 pub use Rattle.fkv_disk.proofs.Moments.{started, goes_on, goes_on_to}
 pub use Rattle.fkv_disk.proofs.Counting.{after_is, no_call, more_calls, fewer_pass}
 pub use Rattle.fkv_disk.proofs.Asking.{no_read, one_read, more_reads, one_sync, reads_behind}
+pub use Rattle.fkv_disk.proofs.Quieter.{quiet_call, quiet_still, quiet_on}

@@ -134,5 +134,5 @@ pub zeros_past : (bytes : List ℕ) (at n : ℕ) (blank : List ℕ) → blank �
 zeros_past bytes at n blank is past = is_listed blank n _ (ap length is ∙ zeros_size n) (λ i below. ap (λ (l : List ℕ). byte_at l i) is ∙ zero_in n i ∙ sym (byte_at_past bytes (at + i) (omega arith)))
 
 -- a list put back whole
-pub put_back : (new old : List ℕ) (n : ℕ) → length new ≡ length old → length old ≡ n → take n (new ++ drop (length new) old) ≡ new
-put_back new old n same size = ap (λ (l : List ℕ). take n (new ++ l)) (drop_all (length new) old (omega arith)) ∙ take_at new [] n (omega arith)
+pub put_back : {A : Type 0} (new old : List A) (n : ℕ) → length new ≡ length old → length old ≡ n → take n (new ++ drop (length new) old) ≡ new
+put_back {A} new old n same size = ap (λ (l : List A). take n (new ++ l)) (drop_all (length new) old (omega arith)) ∙ take_at new [] n (omega arith)

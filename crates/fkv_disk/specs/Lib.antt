@@ -1,3 +1,4 @@
+pub mod Ahead
 pub mod Bytes
 pub mod Calls
 pub mod Countdown
@@ -10,4 +11,6 @@ pub mod Fuses
 pub mod Kinds
 pub mod Memory
 pub mod Once
+pub mod Pages
+pub mod Quiet
 pub mod Stays

@@ -1,6 +1,8 @@
-//! The device that a store lies on, and what a crash may leave of it.
+//! The device that a store lies on, and what a crash may leave of it: a file or bytes in memory, one that fails, and one that reads
+//! another by pages.
 #![tactic(auto)]
 
+mod ahead;
 mod crashes;
 mod devices;
 mod files;
@@ -8,9 +10,11 @@ mod forgetting;
 mod fuses;
 mod laws;
 mod memory;
+mod pages;
 mod refusals;
 mod single;
 
+pub use ahead::{PageSize, Pages, ReadAhead};
 pub use devices::Device;
 pub use files::{FileDisk, make_file, open_file};
 pub use fuses::{Fuse, FuseState};

@@ -7,6 +7,7 @@ mod Happens
 mod Items
 mod Outer
 mod Protected
+mod RaiseRange
 mod RaiseSteps
 mod Runs
 mod ScanSteps

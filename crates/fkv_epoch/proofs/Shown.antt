@@ -9,3 +9,4 @@ pub use Rattle.fkv_epoch.proofs.Protected.{holds_no_zero, is_protected, stays_pr
 pub use Rattle.fkv_epoch.proofs.Asking.{protect_asks, refresh_asks, leave_asks, scan_asks, claim_asks, raise_asks, arm_asks}
 pub use Rattle.fkv_epoch.proofs.AsksLeft.{protect_left, protect_fewer, protect_falls, refresh_left, refresh_fewer, refresh_falls, refresh_later, refresh_finish_left, leave_left, leave_fewer, leave_falls}
 pub use Rattle.fkv_epoch.proofs.AsksLeft.{scan_left, scan_fewer, scan_falls, claim_left, claim_fewer, claim_given_fewer, claim_falls, raise_left, raise_fewer, raise_falls, raise_later, raise_on_left, arm_left, arm_fewer, arm_falls}
+pub use Rattle.fkv_epoch.proofs.RaiseRange.{next_in_range, on_in_range, ask_in_range, next_ask_in_range, next_ask_asks}

@@ -22,6 +22,11 @@ IsRaiseInRange (HoldsSlot slot) = slot < drain_slots
 IsRaiseInRange (HasSlot slot) = slot < drain_slots
 IsRaiseInRange (RaisesEpoch slot) = slot < drain_slots
 
+-- a slot that a raise tells is one of the eight
+abbrev pub HasSlotInRange : Ask RaiseAnswer → Type 0
+HasSlotInRange (Done (answer.Raised slot epoch)) = slot < drain_slots
+HasSlotInRange ask = ⊤
+
 -- what each state asks
 unfoldable pub raise_ask : Raising → Ask RaiseAnswer
 raise_ask AtRest = Done answer.NoSlot

@@ -17,7 +17,7 @@ use Rattle.fkv_flush.specs.declared.flushing.Flushing.TheVariants as flush
 use Rattle.fkv_flush.specs.Flushing.{flush_ask, flush_next, bytes_next, flush_calls, flush_done, bytes_done}
 use Rattle.fkv_flush.specs.GuardLevels.{levels_of}
 use Rattle.fkv_flush.specs.GuardWorld.{Actor, Work, Rests, Reserves, Fills, Invalidates, Shifts, Turns, Flushes, Serves, ToDo, ToReserve, ToFill, ToInvalidate, ToShift, ToTurnPage, ToFlush, ToServe, GuardNow, GuardWorld, GuardEvent, Begins, Resumes, Moves, Calls, Reads, Sees, Publishes, Updates, RaisesReadOnly, RaisesFor, Changes, CallsElse, is_idle, epoch_step, work_step, with_actor, started, begun, moved, called, called_by, guard_happens, guard_run}
-use Rattle.fkv_flush.specs.Guarded.{event_writes, IsFairEvent, AreFairEvents, IsOpened, opening, first_actor}
+use Rattle.fkv_flush.specs.Guarded.{event_writes, IsPermittedEvent, ArePermittedEvents, IsOpened, opening, first_actor}
 use Rattle.fkv_flush.specs.GuardFlushed.{is_open, framed, stands, spares_log, work_calls, actor_calls, event_calls, calls_made, FlushesAlone, OneFlushes, IsSynced}
 use Rattle.fkv_flush.proofs.GuardEpochs.{Spares}
 use Rattle.fkv_flush.proofs.GuardSound.{IsSound}
@@ -45,24 +45,24 @@ has_frame w addr sound above below =
     let c = sound.guard.cover in
     opens w.now addr (omega (arith, below, o.safe_below, o.read_only_below, o.tail_below)) (omega (arith, c, o.closed_below, o.head_below, above))
 
--- no fair event writes a word of a record below the safe read-only offset
-untouched : (w : GuardWorld) (event : GuardEvent) (addr : ℕ) (word : RecordWord) → IsSound w → IsFairEvent w.now event → addr < (levels_of w.now.words).safe_read_only → addr < (levels_of w.now.words).limit → (levels_of w.now.words).limit ≤ addr + w.now.places.ring
+-- no permitted event writes a word of a record below the safe read-only offset
+untouched : (w : GuardWorld) (event : GuardEvent) (addr : ℕ) (word : RecordWord) → IsSound w → IsPermittedEvent w.now event → addr < (levels_of w.now.words).safe_read_only → addr < (levels_of w.now.words).limit → (levels_of w.now.words).limit ≤ addr + w.now.places.ring
     → word_at (guard_happens w event).now.words (record_place w.now.places addr word) ≡ word_at w.now.words (record_place w.now.places addr word)
-untouched w event addr word sound fair safe below near = unwritten w event (record_place w.now.places addr word) (spares (event_writes w.now event) refl)
+untouched w event addr word sound permitted safe below near = unwritten w event (record_place w.now.places addr word) (spares (event_writes w.now event) refl)
   where
     spares : (found : Option ℕ) → event_writes w.now event ≡ found → Spares found (record_place w.now.places addr word)
     spares None e = tt
     spares (Some place) e = λ same.
-        let o = guards_writes w event sound fair place e (omega (arith, same)) in
+        let o = guards_writes w event sound permitted place e (omega (arith, same)) in
         let alone = o.alone addr word (sym same) below near in
         let above = o.safe in
         omega (arith, alone, above, safe)
 
 -- so what stands for it stays
-pub steady : (w : GuardWorld) (event : GuardEvent) (before : ℕ → RecordWord → ℕ) (addr : ℕ) (word : RecordWord) → IsSound w → IsFairEvent w.now event → addr < (levels_of w.now.words).safe_read_only
+pub steady : (w : GuardWorld) (event : GuardEvent) (before : ℕ → RecordWord → ℕ) (addr : ℕ) (word : RecordWord) → IsSound w → IsPermittedEvent w.now event → addr < (levels_of w.now.words).safe_read_only
     → (is_open w.now addr ≡ true → before addr word ≡ word_at w.now.words (record_place w.now.places addr word))
     → framed (guard_happens w event).now before addr word ≡ before addr word
-steady w event before addr word sound fair safe stood = elim (truth (is_open (guard_happens w event).now addr)) [
+steady w event before addr word sound permitted safe stood = elim (truth (is_open (guard_happens w event).now addr)) [
   | inl e ↦
       let n' : GuardNow = (guard_happens w event).now in
       let t = both (nat_lt addr (levels_of n'.words).limit) (nat_le (levels_of n'.words).limit (addr + n'.places.ring)) e in
@@ -75,7 +75,7 @@ steady w event before addr word sound fair safe stood = elim (truth (is_open (gu
       let near_before : (levels_of w.now.words).limit ≤ addr + w.now.places.ring = omega (arith, rises, near, ring) in
       ap (λ (b : Bool). if b then word_at n'.words (record_place n'.places addr word) else before addr word) e
       ∙ ap (λ (p : Places). word_at n'.words (record_place p addr word)) same
-      ∙ untouched w event addr word sound fair safe below near_before
+      ∙ untouched w event addr word sound permitted safe below near_before
       ∙ sym (stood (opens w.now addr below near_before))
   | inr e ↦ ap (λ (b : Bool). if b then word_at (guard_happens w event).now.words (record_place (guard_happens w event).now.places addr word) else before addr word) e
 ]
@@ -149,18 +149,18 @@ module _ (keeper start : ℕ) (opened : List ℕ) (calls : List Call) (words : �
   abbrev words_on : GuardEvent → ℕ → RecordWord → ℕ
   words_on event = framed (guard_happens w event).now words
 
-  same_below : (event : GuardEvent) → IsFairEvent w.now event → (addr : ℕ) (word : RecordWord) → addr < safe → words_on event addr word ≡ words addr word
-  same_below event fair addr word below = steady w event words addr word sound fair below (stood addr word)
+  same_below : (event : GuardEvent) → IsPermittedEvent w.now event → (addr : ℕ) (word : RecordWord) → addr < safe → words_on event addr word ≡ words addr word
+  same_below event permitted addr word below = steady w event words addr word sound permitted below (stood addr word)
 
   -- the calls leave what is synced of the log, and what is read of what is still to be flushed
   record SparesLog (calls' : List Call) : Type 0 where
     kept_too : (i b : ℕ) → image.record_place shape 0 ≤ i → i < image.record_place shape flushed → IsKept opened calls i b → IsKept opened calls' i b
 
   -- what is flushed stays, where flushed does
-  stays_flushed : (event : GuardEvent) → IsFairEvent w.now event → (calls' : List Call) → SparesLog calls' → (levels_of (guard_happens w event).now.words).flushed ≡ flushed
+  stays_flushed : (event : GuardEvent) → IsPermittedEvent w.now event → (calls' : List Call) → SparesLog calls' → (levels_of (guard_happens w event).now.words).flushed ≡ flushed
       → ((b : ℕ) (y : Actor) → slice_get (guard_happens w event).now.actors b ≡ Some y → Row keeper shape opened calls' (words_on event) flushed b y.work)
       → IsFlushed keeper start shape opened calls' (words_on event) (guard_happens w event)
-  stays_flushed event fair calls' spares same rows =
+  stays_flushed event permitted calls' spares same rows =
       let s = was.start_below in
       let top = flushed_safe in
       record {
@@ -168,25 +168,25 @@ module _ (keeper start : ℕ) (opened : List ℕ) (calls : List Call) (words : �
         earlier = λ i above below known. spares.kept_too i (byte_at opened i) above (omega (arith, below, s)) (was.earlier i above below known);
         records = λ addr above below.
             let under : addr < flushed = omega (arith, below, same) in
-            record_kept_on shape opened calls calls' words (words_on event) addr (λ word. same_below event fair addr word (omega (arith, under, top)))
+            record_kept_on shape opened calls calls' words (words_on event) addr (λ word. same_below event permitted addr word (omega (arith, under, top)))
             (λ k b small is. spares.kept_too (image.record_place shape addr + k) b (omega arith) (omega (arith, under, small)) is) (was.records addr above under);
         rows = λ b y got. subst (λ (f : ℕ). Row keeper shape opened calls' (words_on event) f b y.work) (sym same) (rows b y got);
       }
 
   -- a flush that another event leaves as far as it was
-  row_on : (event : GuardEvent) → IsFairEvent w.now event → (calls' : List Call) (b : ℕ) (y : Actor) (work : Work) → slice_get w.now.actors b ≡ Some y → y.work ≡ work
+  row_on : (event : GuardEvent) → IsPermittedEvent w.now event → (calls' : List Call) (b : ℕ) (y : Actor) (work : Work) → slice_get w.now.actors b ≡ Some y → y.work ≡ work
       → ((i c : ℕ) → image.record_place shape flushed ≤ i → IsRead opened calls i c → IsRead opened calls' i c)
       → ((i c : ℕ) → image.record_place shape flushed ≤ i → IsKept opened calls i c → IsKept opened calls' i c)
       → Row keeper shape opened calls words flushed b work → Row keeper shape opened calls' (words_on event) flushed b work
-  row_on event fair calls' b y (Flushes step bytes) got its read_too kept_too (inl rest) = inl rest
-  row_on event fair calls' b y (Flushes step bytes) got its read_too kept_too (inr k) =
-      inr (k.0, knows_on shape opened calls calls' words (words_on event) flushed safe step bytes (known_end w b y step bytes sound got its) (same_below event fair) read_too kept_too k.1)
-  row_on event fair calls' b y work got its read_too kept_too row = tt
+  row_on event permitted calls' b y (Flushes step bytes) got its read_too kept_too (inl rest) = inl rest
+  row_on event permitted calls' b y (Flushes step bytes) got its read_too kept_too (inr k) =
+      inr (k.0, knows_on shape opened calls calls' words (words_on event) flushed safe step bytes (known_end w b y step bytes sound got its) (same_below event permitted) read_too kept_too k.1)
+  row_on event permitted calls' b y work got its read_too kept_too row = tt
 
   -- the same without a call of the device
-  row_stays : (event : GuardEvent) → IsFairEvent w.now event → (b : ℕ) (y : Actor) (work : Work) → slice_get w.now.actors b ≡ Some y → y.work ≡ work
+  row_stays : (event : GuardEvent) → IsPermittedEvent w.now event → (b : ℕ) (y : Actor) (work : Work) → slice_get w.now.actors b ≡ Some y → y.work ≡ work
       → Row keeper shape opened calls words flushed b work → Row keeper shape opened calls (words_on event) flushed b work
-  row_stays event fair b y work got its = row_on event fair calls b y work got its (λ i c above is. is) (λ i c above is. is)
+  row_stays event permitted b y work got its = row_on event permitted calls b y work got its (λ i c above is. is) (λ i c above is. is)
 
   no_call : SparesLog calls
   no_call = record { kept_too = λ i b above below is. is }
@@ -218,16 +218,16 @@ module _ (keeper start : ℕ) (opened : List ℕ) (calls : List Call) (words : �
     | inr r ↦ no_move event r.actor quiet r.its_event
   ]
 
-  quiet_case : (event : GuardEvent) → IsFairEvent w.now event → is_quiet event ≡ true → IsFlushed keeper start shape opened (event_calls w.now event ++ calls) (words_on event) (guard_happens w event)
-  quiet_case event fair quiet =
-      stays_flushed event fair (event_calls w.now event ++ calls) (record { kept_too = λ i b above below is. quiet_keeps event quiet i b above is }) (quiet_flushed event quiet) row
+  quiet_case : (event : GuardEvent) → IsPermittedEvent w.now event → is_quiet event ≡ true → IsFlushed keeper start shape opened (event_calls w.now event ++ calls) (words_on event) (guard_happens w event)
+  quiet_case event permitted quiet =
+      stays_flushed event permitted (event_calls w.now event ++ calls) (record { kept_too = λ i b above below is. quiet_keeps event quiet i b above is }) (quiet_flushed event quiet) row
     where
       row : (b : ℕ) (y : Actor) → slice_get (guard_happens w event).now.actors b ≡ Some y → Row keeper shape opened (event_calls w.now event ++ calls) (words_on event) flushed b y.work
       row b y got =
           let from = quiet_stays w event quiet b y got in
           elim from.2 [
             | inl same ↦ subst (Row keeper shape opened (event_calls w.now event ++ calls) (words_on event) flushed b) (sym same)
-                (row_on event fair (event_calls w.now event ++ calls) b from.0 from.0.work from.1 refl
+                (row_on event permitted (event_calls w.now event ++ calls) b from.0 from.0.work from.1 refl
                 (λ i c above is. quiet_reads event quiet i c (omega (arith, above)) is)
                 (λ i c above is. quiet_keeps event quiet i c (omega (arith, above)) is)
                 (was.rows b from.0 from.1))
@@ -288,21 +288,21 @@ module _ (keeper start : ℕ) (opened : List ℕ) (calls : List Call) (words : �
           ]
 
   -- the reply to a flush is the flushed offset, or the word that stands
-  reply_is : (event : GuardEvent) → IsFairEvent w.now event → (step : Flushing) (bytes : List ℕ) → flush_end step ≤ safe → FlushKnows shape opened calls words flushed step bytes
+  reply_is : (event : GuardEvent) → IsPermittedEvent w.now event → (step : Flushing) (bytes : List ℕ) → flush_end step ≤ safe → FlushKnows shape opened calls words flushed step bytes
       → IsReply (words_on event) flushed step (reply_to w.now.words (flush_ask w.now.places step))
   unfolding flush_ask
-  reply_is event fair flush.AtRest bytes within k = tt
-  reply_is event fair flush.LoadsFlushed bytes within k = refl
-  reply_is event fair (flush.LoadsEnd loaded) bytes within k = tt
-  reply_is event fair (flush.LoadsWord part addr this) bytes within k =
+  reply_is event permitted flush.AtRest bytes within k = tt
+  reply_is event permitted flush.LoadsFlushed bytes within k = refl
+  reply_is event permitted (flush.LoadsEnd loaded) bytes within k = tt
+  reply_is event permitted (flush.LoadsWord part addr this) bytes within k =
       let p = k.in_range in
       let part_is = p.is_part in
       let began = k.began in
       let below : addr < safe = omega (arith, p.before, part_is.within, within) in
-      sym (same_below event fair addr this below ∙ stood addr this (has_frame w addr sound (omega (arith, began, p.after)) below))
-  reply_is event fair (flush.WritesPart part) bytes within k = tt
-  reply_is event fair (flush.Syncs end) bytes within k = tt
-  reply_is event fair (flush.RaisesFlushed end) bytes within k = tt
+      sym (same_below event permitted addr this below ∙ stood addr this (has_frame w addr sound (omega (arith, began, p.after)) below))
+  reply_is event permitted (flush.WritesPart part) bytes within k = tt
+  reply_is event permitted (flush.Syncs end) bytes within k = tt
+  reply_is event permitted (flush.RaisesFlushed end) bytes within k = tt
 
   -- a step of the keeper's flush
   module _ (a : ℕ) (x : Actor) (step : Flushing) (bytes : List ℕ) (got : slice_get w.now.actors a ≡ Some x) (its : x.work ≡ Flushes step bytes) (mine : a ≡ keeper)
@@ -320,8 +320,8 @@ module _ (keeper start : ℕ) (opened : List ℕ) (calls : List Call) (words : �
     within = known_end w a x step bytes sound got its
 
     -- what it knows, with what stands after the event
-    knows_still : (event : GuardEvent) → IsFairEvent w.now event → FlushKnows shape opened calls (words_on event) flushed step bytes
-    knows_still event fair = knows_on shape opened calls calls words (words_on event) flushed safe step bytes within (same_below event fair) (λ i c above is. is) (λ i c above is. is) k
+    knows_still : (event : GuardEvent) → IsPermittedEvent w.now event → FlushKnows shape opened calls (words_on event) flushed step bytes
+    knows_still event permitted = knows_on shape opened calls calls words (words_on event) flushed safe step bytes within (same_below event permitted) (λ i c above is. is) (λ i c above is. is) k
 
     others : (event : GuardEvent) (calls' : List Call) (flushed' : ℕ) (b : ℕ) (y : Actor) → slice_get w.now.actors b ≡ Some y → b ≢ a → Row keeper shape opened calls' (words_on event) flushed' b y.work
     others event calls' flushed' b y found other =
@@ -458,26 +458,26 @@ module _ (keeper start : ℕ) (opened : List ℕ) (calls : List Call) (words : �
       by (Turns s) its = no_flush_call a done (λ b y found. to_work (Turns s) b y its found)
       by (Serves step) its = no_flush_call a done (λ b y found. to_work (Serves step) b y its found)
 
-  pub happens_flushed : (event : GuardEvent) → FlushesAlone keeper event → IsFairEvent w.now event → After event (event_calls w.now event ++ calls)
-  happens_flushed (Begins a (ToDo task)) alone fair = quiet_case (Begins a (ToDo task)) fair refl
-  happens_flushed (Begins a ToReserve) alone fair = quiet_case (Begins a ToReserve) fair refl
-  happens_flushed (Begins a (ToFill its_words)) alone fair = quiet_case (Begins a (ToFill its_words)) fair refl
-  happens_flushed (Begins a (ToInvalidate header)) alone fair = quiet_case (Begins a (ToInvalidate header)) fair refl
-  happens_flushed (Begins a ToShift) alone fair = quiet_case (Begins a ToShift) fair refl
-  happens_flushed (Begins a (ToTurnPage form tail)) alone fair = quiet_case (Begins a (ToTurnPage form tail)) fair refl
-  happens_flushed (Begins a ToFlush) alone fair = begins_case a alone
-  happens_flushed (Begins a ToServe) alone fair = quiet_case (Begins a ToServe) fair refl
-  happens_flushed (Moves a) alone fair = moves_case a (slice_get w.now.actors a) refl
-  happens_flushed (Calls a done) alone fair = calls_case a done (slice_get w.now.actors a) refl
-  happens_flushed (Resumes a) alone fair = quiet_case (Resumes a) fair refl
-  happens_flushed (Reads a bytes) alone fair = quiet_case (Reads a bytes) fair refl
-  happens_flushed (Sees a sight) alone fair = quiet_case (Sees a sight) fair refl
-  happens_flushed (Publishes a) alone fair = quiet_case (Publishes a) fair refl
-  happens_flushed (Updates a addr word) alone fair = quiet_case (Updates a addr word) fair refl
-  happens_flushed (RaisesReadOnly a to) alone fair = quiet_case (RaisesReadOnly a to) fair refl
-  happens_flushed (RaisesFor a action) alone fair = quiet_case (RaisesFor a action) fair refl
-  happens_flushed (Changes a place word) alone fair = quiet_case (Changes a place word) fair refl
-  happens_flushed (CallsElse call) alone fair = quiet_case (CallsElse call) fair refl
+  pub happens_flushed : (event : GuardEvent) → FlushesAlone keeper event → IsPermittedEvent w.now event → After event (event_calls w.now event ++ calls)
+  happens_flushed (Begins a (ToDo task)) alone permitted = quiet_case (Begins a (ToDo task)) permitted refl
+  happens_flushed (Begins a ToReserve) alone permitted = quiet_case (Begins a ToReserve) permitted refl
+  happens_flushed (Begins a (ToFill its_words)) alone permitted = quiet_case (Begins a (ToFill its_words)) permitted refl
+  happens_flushed (Begins a (ToInvalidate header)) alone permitted = quiet_case (Begins a (ToInvalidate header)) permitted refl
+  happens_flushed (Begins a ToShift) alone permitted = quiet_case (Begins a ToShift) permitted refl
+  happens_flushed (Begins a (ToTurnPage form tail)) alone permitted = quiet_case (Begins a (ToTurnPage form tail)) permitted refl
+  happens_flushed (Begins a ToFlush) alone permitted = begins_case a alone
+  happens_flushed (Begins a ToServe) alone permitted = quiet_case (Begins a ToServe) permitted refl
+  happens_flushed (Moves a) alone permitted = moves_case a (slice_get w.now.actors a) refl
+  happens_flushed (Calls a done) alone permitted = calls_case a done (slice_get w.now.actors a) refl
+  happens_flushed (Resumes a) alone permitted = quiet_case (Resumes a) permitted refl
+  happens_flushed (Reads a bytes) alone permitted = quiet_case (Reads a bytes) permitted refl
+  happens_flushed (Sees a sight) alone permitted = quiet_case (Sees a sight) permitted refl
+  happens_flushed (Publishes a) alone permitted = quiet_case (Publishes a) permitted refl
+  happens_flushed (Updates a addr word) alone permitted = quiet_case (Updates a addr word) permitted refl
+  happens_flushed (RaisesReadOnly a to) alone permitted = quiet_case (RaisesReadOnly a to) permitted refl
+  happens_flushed (RaisesFor a action) alone permitted = quiet_case (RaisesFor a action) permitted refl
+  happens_flushed (Changes a place word) alone permitted = quiet_case (Changes a place word) permitted refl
+  happens_flushed (CallsElse call) alone permitted = quiet_case (CallsElse call) permitted refl
 
 -- A whole run.
 module _ (keeper start : ℕ) (opened : List ℕ) (first : GuardWorld) (sound : IsSound first) (was : IsFlushed keeper start first.now.shape opened [] (stands first []) first) where
@@ -486,13 +486,13 @@ module _ (keeper start : ℕ) (opened : List ℕ) (first : GuardWorld) (sound : 
   same_shape [] = refl
   same_shape (event ∷ before) = (same_store (guard_run first before) event).0 ∙ same_shape before
 
-  pub run_flushed : (events : List GuardEvent) → OneFlushes keeper events → AreFairEvents first events → IsFlushed keeper start (guard_run first events).now.shape opened (calls_made first events) (stands first events) (guard_run first events)
+  pub run_flushed : (events : List GuardEvent) → OneFlushes keeper events → ArePermittedEvents first events → IsFlushed keeper start (guard_run first events).now.shape opened (calls_made first events) (stands first events) (guard_run first events)
   unfolding guard_run stands calls_made
-  run_flushed [] alone fair = was
-  run_flushed (event ∷ before) alone fair =
+  run_flushed [] alone permitted = was
+  run_flushed (event ∷ before) alone permitted =
       let w : GuardWorld = guard_run first before in
       subst (λ (s : Shape). IsFlushed keeper start s opened (event_calls w.now event ++ calls_made first before) (framed (guard_happens w event).now (stands first before)) (guard_happens w event)) (sym (same_store w event).0)
-      (happens_flushed keeper start opened (calls_made first before) (stands first before) w (run_sound first before sound) (stood_open first before) (run_flushed before alone.1 fair.1) event alone.0 fair.0)
+      (happens_flushed keeper start opened (calls_made first before) (stands first before) w (run_sound first before sound) (stood_open first before) (run_flushed before alone.1 permitted.1) event alone.0 permitted.0)
 
 -- The store as it is opened: no flush is under way, and the device has what it was opened with.
 pub opening_flushed : (keeper : ℕ) (shape : Shape) (places : Places) (actors : ℕ) (words : List ℕ) (start : ℕ) (opened : List ℕ) (stood : ℕ → RecordWord → ℕ) → IsOpened shape places actors words start

@@ -40,7 +40,7 @@ use Rattle.fkv_flush.specs.Serving.{serve_ask}
 use Rattle.fkv_flush.specs.GuardAsks.{writes, machine_writes}
 use Rattle.fkv_flush.specs.GuardLevels.{levels_of}
 use Rattle.fkv_flush.specs.GuardWorld.{Actor, Work, Rests, Reserves, Fills, Invalidates, Shifts, Turns, Flushes, Serves, GuardWorld, GuardEvent, Moves, Updates, RaisesReadOnly, RaisesFor, Changes, is_idle, is_awake, is_guarded, may_update, epoch_world}
-use Rattle.fkv_flush.specs.Guarded.{seen_at, seen_of, undecided_at, work_writes, actor_writes, update_writes, IsFairEvent, IsOpenPlace, GuardsWrites}
+use Rattle.fkv_flush.specs.Guarded.{seen_at, seen_of, undecided_at, work_writes, actor_writes, update_writes, IsPermittedEvent, IsOpenPlace, GuardsWrites}
 use Rattle.fkv_frames.proofs.Shown.{same_place}
 use Rattle.fkv_flush.proofs.GuardEpochs.{OwnAt, own_writes}
 use Rattle.fkv_flush.proofs.GuardSound.{MoveKnows, IsSound, machine_at}
@@ -193,9 +193,9 @@ moves_case w a (Some x) place sound got e high = writes_by w a x x.work place so
 -- a change in place
 update_case : (w : GuardWorld) (a addr : ℕ) (found : Option Actor) (place : ℕ) → IsSound w → slice_get w.now.actors a ≡ found → ((x : Actor) → found ≡ Some x → may_update w.now a x addr ≡ true)
     → update_writes w.now a addr found ≡ Some place → IsOpenPlace w place
-update_case w a addr None place sound got fair e = no_place place e
-update_case w a addr (Some x) place sound got fair e =
-    let p = both (is_awake w.now a x && is_idle x.work && nat_le x.seen.read_only addr) (nat_lt addr (levels_of w.now.words).tail) (fair x refl) in
+update_case w a addr None place sound got permitted e = no_place place e
+update_case w a addr (Some x) place sound got permitted e =
+    let p = both (is_awake w.now a x && is_idle x.work && nat_le x.seen.read_only addr) (nat_lt addr (levels_of w.now.words).tail) (permitted x refl) in
     let q = both (is_awake w.now a x && is_idle x.work) (nat_le x.seen.read_only addr) p.0 in
     let r = both (is_awake w.now a x) (is_idle x.work) q.0 in
     let goes = (awake_goes w a x got r.0).0 in
@@ -216,10 +216,10 @@ change_case {X} w place other e high = elim (truth (is_guarded w.now.places plac
       absurd (omega (arith, same, low, high))
 ]
 
-pub guards_writes : (w : GuardWorld) (event : GuardEvent) → IsSound w → IsFairEvent w.now event → GuardsWrites w event
-guards_writes w (Moves a) sound fair place e high = moves_case w a (slice_get w.now.actors a) place sound refl e high
-guards_writes w (Updates a addr word) sound fair place e high = update_case w a addr (slice_get w.now.actors a) place sound refl fair e
-guards_writes w (RaisesReadOnly a to) sound fair place e high = low_none w (Some 5) place (omega arith) e high
-guards_writes w (RaisesFor a action) sound fair place e high = low_none w (Some 0) place (omega arith) e high
-guards_writes w (Changes a p word) sound fair place e high = change_case w p place e high
-guards_writes w event sound fair place e high = no_place place e
+pub guards_writes : (w : GuardWorld) (event : GuardEvent) → IsSound w → IsPermittedEvent w.now event → GuardsWrites w event
+guards_writes w (Moves a) sound permitted place e high = moves_case w a (slice_get w.now.actors a) place sound refl e high
+guards_writes w (Updates a addr word) sound permitted place e high = update_case w a addr (slice_get w.now.actors a) place sound refl permitted e
+guards_writes w (RaisesReadOnly a to) sound permitted place e high = low_none w (Some 5) place (omega arith) e high
+guards_writes w (RaisesFor a action) sound permitted place e high = low_none w (Some 0) place (omega arith) e high
+guards_writes w (Changes a p word) sound permitted place e high = change_case w p place e high
+guards_writes w event sound permitted place e high = no_place place e

@@ -2,7 +2,7 @@ mod Armings
 mod Asks
 mod AsksLeft
 mod Calm
-mod Fair
+mod Permitted
 mod FlushKnows
 mod Follows
 mod Goes

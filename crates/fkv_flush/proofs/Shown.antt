@@ -28,4 +28,4 @@ pub use Rattle.fkv_flush.proofs.Goes.{Goes, shift_goes, turn_goes}
 pub use Rattle.fkv_flush.proofs.PhaseTails.{TailsOn, tails_on, Found, HaveFound, TailSound, happens_tails, run_tails, keeps_tails, opening_tails}
 pub use Rattle.fkv_flush.proofs.Armings.{IsAboutToArm, about_to_arm_on}
 pub use Rattle.fkv_flush.proofs.SafeRaise.{RaisesSafe, safe_stays}
-pub use Rattle.fkv_flush.proofs.Fair.{IsNoUpdate, no_update_fair, fair_on, one_fair}
+pub use Rattle.fkv_flush.proofs.Permitted.{IsNoUpdate, no_update_permitted, permitted_on, one_permitted}

@@ -12,7 +12,7 @@ use Rattle.fkv_log.specs.declared.record_words.RecordWords.{RecordWords}
 use Rattle.fkv_log.specs.declared.turning.TurnForm.TheVariants.{Whole}
 use Rattle.fkv_epoch.specs.EpochWorld.{ToRefresh, ToScan, ToClaim}
 use Rattle.fkv_flush.specs.GuardWorld.{GuardWorld, GuardEvent, Begins, Resumes, Moves, Calls, Publishes, ToDo, ToReserve, ToFill, ToShift, ToTurnPage, ToFlush, guard_run, levels}
-use Rattle.fkv_flush.specs.Guarded.{IsOpened, AreFairEvents, opening}
+use Rattle.fkv_flush.specs.Guarded.{IsOpened, ArePermittedEvents, opening}
 use Rattle.fkv_flush.specs.GuardFlushed.{OneFlushes, stands, calls_made}
 
 -- one session, one bucket, and two frames of four records; the records end at 7, and the page from 8 on is open
@@ -59,4 +59,4 @@ pub record GoesRound : Type 0 where
   pub turned : HasTurned (guard_run (opening shape places 2 turned_words 7) (turns_round its_words))
   pub flushed : IsFlushed shape (opening shape places 2 turned_words 7) its_words (turns_round its_words)
   pub one_flushes : OneFlushes 1 (turns_round its_words)
-  pub fair : AreFairEvents (opening shape places 2 turned_words 7) (turns_round its_words)
+  pub permitted : ArePermittedEvents (opening shape places 2 turned_words 7) (turns_round its_words)

@@ -89,7 +89,7 @@ pub data GuardTask : Type 0 where
   ToServe : GuardTask
 
 -- What may happen next. Those from `Sees` on are no step of these machines, but of whoever else works on the same words; each
--- happens only where it may, but for a change in place: that it is made where it may be is owed by who makes it.
+-- happens only where it may, but for a change in place: that it is made where it may be is the premise of who makes it.
 pub data GuardEvent : Type 0 where
   -- the actor begins a machine
   Begins : ℕ → GuardTask → GuardEvent

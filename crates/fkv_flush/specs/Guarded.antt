@@ -135,15 +135,15 @@ event_writes n (RaisesFor actor action) = Some (shared_place one.Epoch)
 event_writes n (Changes actor place word) = if is_guarded n.places place then None else Some place
 event_writes n event = None
 
--- What an event owes: a session that changes a value in place may change it. No other event owes anything.
-abbrev pub IsFairEvent : GuardNow → GuardEvent → Type 0
-IsFairEvent n (Updates session addr word) = (x : Actor) → slice_get n.actors session ≡ Some x → may_update n session x addr ≡ true
-IsFairEvent n event = ⊤
+-- A change in place is permitted where its session may make it, and each other event always.
+abbrev pub IsPermittedEvent : GuardNow → GuardEvent → Type 0
+IsPermittedEvent n (Updates session addr word) = (x : Actor) → slice_get n.actors session ≡ Some x → may_update n session x addr ≡ true
+IsPermittedEvent n event = ⊤
 
--- in a whole run each event is fair
-abbrev pub AreFairEvents : GuardWorld → List GuardEvent → Type 0
-AreFairEvents opening [] = ⊤
-AreFairEvents opening (event ∷ before) = IsFairEvent (guard_run opening before).now event × AreFairEvents opening before
+-- in a whole run each event is permitted
+abbrev pub ArePermittedEvents : GuardWorld → List GuardEvent → Type 0
+ArePermittedEvents opening [] = ⊤
+ArePermittedEvents opening (event ∷ before) = IsPermittedEvent (guard_run opening before).now event × ArePermittedEvents opening before
 
 -- The place has a word of an open address, one of the last of the ring below the limit, which nobody flushes yet and which is reserved.
 pub record IsOpenPlace (w : GuardWorld) (place : ℕ) : Type 0 where

@@ -16,17 +16,17 @@ ghost use Rattle.fkv_flush.specs.GuardTurned.{GoesRound};
 ghost use Rattle.fkv_flush.specs.GuardFlushed.{OneFlushes, IsSynced, SparesRecord, stands, calls_made};
 ghost use Rattle.fkv_flush.specs.GuardMail.{AreEmpty, AreMailboxesKept, ReadyWasRead, FindsAsked, ChangesMailbox, ReadsItsPlace, GivesWords, mailbox_of, mail_reads};
 ghost use Rattle.fkv_flush.specs.declared.serving.Serving.{Serving};
-ghost use Rattle.fkv_flush.specs.Guarded.{IsOpened, opening, IsCovered, UndecidedIsFresh, GoesBy, seen_of, event_writes, IsFairEvent, AreFairEvents, GuardsWrites, GuardsLimit, KeepsSeen};
+ghost use Rattle.fkv_flush.specs.Guarded.{IsOpened, opening, IsCovered, UndecidedIsFresh, GoesBy, seen_of, event_writes, IsPermittedEvent, ArePermittedEvents, GuardsWrites, GuardsLimit, KeepsSeen};
 
-/// Whatever the order of the machines' steps, and whoever makes them: a fair step that writes a word of a frame writes one of
-/// an open address at or above the safe read-only offset and below the tail, where each step is fair but a change in place that
+/// Whatever the order of the machines' steps, and whoever makes them: a permitted step that writes a word of a frame writes one of
+/// an open address at or above the safe read-only offset and below the tail, where each step is permitted but a change in place that
 /// its session may not make; a step that opens a page finds all flushed
 /// that its frame held, and each protected session that isn't in the middle of protecting itself with a head at or above that; and
 /// at every moment the offsets are in order, the frames hold all that may still be needed, and the limit is the end of
 /// whole pages that the device has. What a step is said to write is all that it writes.
 pub fn law_guarded()
     ensures writes { (shape : Shape) (places : Places) (actors : ℕ) (words : List ℕ) (start : ℕ) (events : List GuardEvent) (event : GuardEvent)
-        → IsOpened shape places actors words start → IsFairEvent (guard_run (opening shape places actors words start) events).now event → GuardsWrites (guard_run (opening shape places actors words start) events) event }
+        → IsOpened shape places actors words start → IsPermittedEvent (guard_run (opening shape places actors words start) events).now event → GuardsWrites (guard_run (opening shape places actors words start) events) event }
     ensures limit { (shape : Shape) (places : Places) (actors : ℕ) (words : List ℕ) (start : ℕ) (events : List GuardEvent) (event : GuardEvent)
         → IsOpened shape places actors words start → GuardsLimit (guard_run (opening shape places actors words start) events) event }
     ensures order { (shape : Shape) (places : Places) (actors : ℕ) (words : List ℕ) (start : ℕ) (events : List GuardEvent)
@@ -60,15 +60,15 @@ pub fn law_seen()
 /// What is flushed is synced as the records stand, whatever calls of the device fail, where one actor alone flushes: at
 /// every moment a device that was called so shows each record since the opening and below the flushed offset with the
 /// words that stand for it, and so does all that a crash leaves of it; the log before the opening is as it was, as far as
-/// the device reached then. That is owed where all steps are fair: where each change in place is one that its session may
-/// make. No fair step changes what stands for a record below the safe read-only offset, and below the tail only one that
+/// the device reached then. That is so where all steps are permitted: where each change in place is one that its session may
+/// make. No permitted step changes what stands for a record below the safe read-only offset, and below the tail only one that
 /// writes a word of its frame does.
 pub fn law_flushed_is_synced()
     ensures synced { (shape : Shape) (places : Places) (actors : ℕ) (words : List ℕ) (start keeper : ℕ) (events : List GuardEvent) (opened : List ℕ)
-        → IsOpened shape places actors words start → OneFlushes keeper events → AreFairEvents (opening shape places actors words start) events
+        → IsOpened shape places actors words start → OneFlushes keeper events → ArePermittedEvents (opening shape places actors words start) events
         → IsSynced shape opened (calls_made (opening shape places actors words start) events) (stands (opening shape places actors words start) events) start (levels (guard_run (opening shape places actors words start) events)).flushed }
     ensures steady { (shape : Shape) (places : Places) (actors : ℕ) (words : List ℕ) (start : ℕ) (events : List GuardEvent) (event : GuardEvent) (addr : ℕ) (word : RecordWord)
-        → IsOpened shape places actors words start → IsFairEvent (guard_run (opening shape places actors words start) events).now event
+        → IsOpened shape places actors words start → IsPermittedEvent (guard_run (opening shape places actors words start) events).now event
         → addr < (levels (guard_run (opening shape places actors words start) events)).safe_read_only
         → stands (opening shape places actors words start) (event ∷ events) addr word ≡ stands (opening shape places actors words start) events addr word }
     ensures still { (shape : Shape) (places : Places) (actors : ℕ) (words : List ℕ) (start : ℕ) (events : List GuardEvent) (event : GuardEvent) (addr : ℕ) (word : RecordWord)

@@ -1,5 +1,8 @@
 //! What no clause says: that calls succeed, what a real file does, and bytes written by hand.
-use fkv_disk::{Device, FileDisk, Fuse, FuseState, MemDisk, Once, make_file, open_file};
+use fkv_disk::{
+    Device, FileDisk, Fuse, FuseState, MemDisk, Once, PageSize, Pages, ReadAhead, make_file,
+    open_file,
+};
 use std::alloc::Global;
 use std::process::Abort;
 use std::test::Fail;
@@ -49,11 +52,54 @@ fn one_call_fails_alone(rt: &impl Abort, alloc: Global) -> Result<(), Fail> {
     Ok(())
 }
 
+fn each_page_is_read_once(rt: &impl Abort, alloc: Global) -> Result<(), Fail> {
+    let mut bytes = Vec::new(alloc);
+    for i in 0..5000 {
+        bytes.push((i % 251) as u8)?;
+    }
+    let mut fuse = Fuse::new(MemDisk::from_bytes(alloc, bytes)?);
+    fuse.arm(2);
+    let mut ahead = ReadAhead::new(fuse, Pages::new(alloc, PageSize::Kib4, 2)?);
+    let mut read = [9; 24];
+    for i in 0..250 {
+        ahead.read(20 * i, &mut read)?;
+        let first = 20 * i % 251;
+        assert!(rt; read[0] as u64 == first);
+    }
+    assert!(rt; read[19..] == [230, 0, 0, 0, 0]);
+    assert!(rt; ahead.failures() == 0);
+    assert!(rt; ahead.device().state() == FuseState::Armed(0));
+    assert!(rt; ahead.read(8192, &mut read).is_err());
+    ahead.read(4100, &mut read)?;
+    assert!(rt; read[0] == 84);
+    assert!(rt; ahead.failures() == 2);
+    Ok(())
+}
+
+fn a_write_is_read_behind_a_page(rt: &impl Abort, alloc: Global) -> Result<(), Fail> {
+    let pages = Pages::new(alloc, PageSize::Kib4, 1)?;
+    let mut ahead = ReadAhead::new(MemDisk::new(alloc), pages);
+    ahead.write(4094, &[1, 2, 3, 4])?;
+    let mut read = [9; 6];
+    ahead.read(4093, &mut read)?;
+    assert!(rt; read == [0, 1, 2, 3, 4, 0]);
+    ahead.write(4096, &[7])?;
+    ahead.sync()?;
+    ahead.read(4093, &mut read)?;
+    assert!(rt; read == [0, 1, 2, 7, 4, 0]);
+    ahead.read(u64::MAX - 2, &mut read)?;
+    assert!(rt; read == [0; 6]);
+    assert!(rt; ahead.into_device().bytes()[4094..] == [1, 2, 7, 4]);
+    Ok(())
+}
+
 #[test]
 fn devices_in_memory_read_back(rt: HostRuntime) -> Result<(), Fail> {
     memory_reads_back(&rt, rt.alloc())?;
     a_fuse_tears_what_was_not_synced(&rt, rt.alloc())?;
-    one_call_fails_alone(&rt, rt.alloc())
+    one_call_fails_alone(&rt, rt.alloc())?;
+    each_page_is_read_once(&rt, rt.alloc())?;
+    a_write_is_read_behind_a_page(&rt, rt.alloc())
 }
 
 #[test]

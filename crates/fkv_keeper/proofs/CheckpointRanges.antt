@@ -14,10 +14,9 @@ use Rattle.fkv_epoch.specs.declared.claiming.Claiming.TheVariants as claim
 use Rattle.fkv_epoch.specs.declared.raising.RaiseAnswer.{RaiseAnswer}
 use Rattle.fkv_epoch.specs.declared.raising.RaiseAnswer.TheVariants as raised
 use Rattle.fkv_epoch.specs.declared.raising.Raising.{Raising}
-use Rattle.fkv_epoch.specs.declared.raising.Raising.TheVariants as raise
 use Rattle.fkv_epoch.specs.Arming.{arm_ask, arm_next}
 use Rattle.fkv_epoch.specs.Claiming.{IsClaimInRange, claim_next, claim_given, slot_after, slot_armed}
-use Rattle.fkv_epoch.specs.Raising.{IsRaiseInRange, raise_ask, raise_next, raise_next_ask, raise_on}
+use Rattle.fkv_epoch.specs.Raising.{IsRaiseInRange, raise_ask, raise_next, raise_next_ask, raise_on, HasSlotInRange}
 use Rattle.fkv_log.specs.declared.moving.MoveAnswer.{MoveAnswer}
 use Rattle.fkv_log.specs.declared.moving.Moving.{Moving}
 use Rattle.fkv_log.specs.declared.moving.Moving.TheVariants as move
@@ -34,8 +33,8 @@ use Rattle.fkv_log.specs.Turning.{TurnState, turn_led, turning_next, pages_wante
 use Rattle.fkv_commit.specs.declared.deferring.Deferred.{Deferred}
 use Rattle.fkv_commit.specs.declared.deferring.Deferring.{Deferring}
 use Rattle.fkv_commit.specs.declared.deferring.Deferring.TheVariants as defer
-use Rattle.fkv_commit.specs.Deferring.{HasSlotInRange, DeferState, seek_ledto, raise_ledto, arm_ledto, deferring_next, defer_next, deferring_on, defer_on}
-use Rattle.fkv_commit.proofs.Shown.{next_in_range, on_in_range, next_ask_in_range}
+use Rattle.fkv_commit.specs.Deferring.{DeferState, seek_ledto, raise_ledto, arm_ledto, deferring_next, defer_next, deferring_on, defer_on}
+use Rattle.fkv_epoch.proofs.Shown.{next_in_range, on_in_range, ask_in_range, next_ask_in_range}
 use Rattle.fkv_keeper.proofs.CheckpointAsks.{IsArmIn, IsMoveIn, IsMoverIn, IsShiftIn, IsTurnIn, IsDeferIn}
 
 pub armed_in : (m : Arming) → IsArmIn m → IsArmIn (arm_next m)
@@ -111,21 +110,11 @@ unfolding arm_led
 arm_led_in raising arming (Done its) fits = tt
 arm_led_in raising arming ask fits = fits
 
--- what a raise asks tells no slot of its own
-asks_no_slot : (r : Raising) → HasSlotInRange (raise_ask r)
-unfolding raise_ask
-asks_no_slot raise.AtRest = tt
-asks_no_slot raise.LoadsEpoch = tt
-asks_no_slot (raise.MeetsSlot slot) = tt
-asks_no_slot (raise.HoldsSlot slot) = tt
-asks_no_slot (raise.HasSlot slot) = tt
-asks_no_slot (raise.RaisesEpoch slot) = tt
-
 moving_in : (step : Moving) (raising : Raising) (arming : Arming) (reply : ℕ) → IsMoveIn step raising arming → IsMoverIn (moving_next step raising arming reply)
 unfolding moving_next
 moving_in move.AtRest raising arming reply fits = tt
 moving_in (move.Raises target) raising arming reply fits = raise_led_in target (raise_next raising reply) arming (raise_next_ask raising reply) (next_in_range raising reply fits) (next_ask_in_range raising reply fits)
-moving_in (move.MovesOffset target) raising arming reply fits = raise_led_in target (raise_on raising) arming (raise_ask (raise_on raising)) (on_in_range raising fits) (asks_no_slot (raise_on raising))
+moving_in (move.MovesOffset target) raising arming reply fits = raise_led_in target (raise_on raising) arming (raise_ask (raise_on raising)) (on_in_range raising fits) (ask_in_range (raise_on raising))
 moving_in (move.Puts target slot) raising arming reply fits = arm_led_in raising (arm_next arming) (arm_ask (arm_next arming)) (armed_in arming fits)
 moving_in move.Arms raising arming reply fits = arm_led_in raising (arm_next arming) (arm_ask (arm_next arming)) (armed_in arming fits)
 

@@ -1,7 +1,6 @@
 mod Asks
 mod AsksLeft
 mod NestedLeft
-mod RaiseRange
 mod Records
 mod Reserved
 pub mod Shown

@@ -1,5 +1,5 @@
 -- How an offset is moved that the protected sessions have to see.
-use Rattle.std.specs.Prelude.{◌≡◌, ℕ, ◌+◌, ◌-◌, ◌*◌, ◌^◌, ◌<◌, min, false, ⊤}
+use Rattle.std.specs.Prelude.{◌≡◌, ℕ, ◌+◌, ◌-◌, ◌*◌, ◌^◌, min, false, ⊤}
 use Rattle.fkv_base.specs.Limits.{drain_slots}
 use Rattle.fkv_plane.specs.declared.actions.Action.{Action}
 use Rattle.fkv_plane.specs.declared.actions.Action.TheVariants.{SafeReadOnly, Close}
@@ -127,8 +127,3 @@ move_asks_left m = moving_asks_left m.step m.raising m.arming
 -- how many a whole move makes, at most: one loads the epoch, two meet each slot; then come the offset's, the epoch's and the two of the arming
 abbrev pub move_asks_most : ℕ
 move_asks_most = 2 * drain_slots + 5
-
--- a slot that the raise tells is one of the eight
-abbrev pub HasSlotInRange : Ask RaiseAnswer → Type 0
-HasSlotInRange (Done (raised.Raised slot epoch)) = slot < drain_slots
-HasSlotInRange ask = ⊤

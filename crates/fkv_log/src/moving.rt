@@ -1,8 +1,8 @@
 //! How an offset is moved that the protected sessions have to see.
 ghost use Rattle.std.specs.Prelude.{◌≡◌, ◌<◌, ◌≤◌, ◌-◌, ◌^◌, min};
 ghost use Rattle.fkv_plane.specs.Passing.{is_done};
-ghost use Rattle.fkv_epoch.specs.Raising.{raise_ask};
-ghost use Rattle.fkv_log.specs.Moving.{move_at_rest, HasSlotInRange, move_ask, move_begun, move_next, move_next_ask, raise_led, raise_told, arm_led, offset_place, action_awaited, move_asks_left, move_asks_most};
+ghost use Rattle.fkv_epoch.specs.Raising.{raise_ask, HasSlotInRange};
+ghost use Rattle.fkv_log.specs.Moving.{move_at_rest, move_ask, move_begun, move_next, move_next_ask, raise_led, raise_told, arm_led, offset_place, action_awaited, move_asks_left, move_asks_most};
 
 use fkv_base::Addr;
 use fkv_epoch::{Arm, Raise, RaiseAnswer};

@@ -3,7 +3,7 @@ ghost use Rattle.std.specs.Prelude.{◌≡◌, ℕ, ◌+◌, ◌≤◌, ◌↔�
 ghost use Rattle.fkv_disk.specs.Bytes.{bytes_at};
 ghost use Rattle.fkv_disk.specs.Device.{LeavesOnly};
 ghost use Rattle.fkv_disk.specs.Kinds.{OneSyncThenReads};
-ghost use Rattle.fkv_scan.specs.Quiet.{IsQuiet};
+ghost use Rattle.fkv_disk.specs.Quiet.{IsQuiet};
 ghost use Rattle.fkv_newest.specs.Counted.{MakesTwoCalls};
 ghost use Rattle.fkv_newest.specs.Heads.{IsHeadOf};
 ghost use Rattle.fkv_newest.specs.Refused.{IsFailure};

@@ -2,7 +2,7 @@
 ghost use Rattle.std.specs.Prelude.{◌≡◌, ◌↔◌, IfOk, OnOk, IfErr};
 ghost use Rattle.fkv_disk.specs.Device.{LeavesOnly};
 ghost use Rattle.fkv_disk.specs.Kinds.{OneSyncThenReads};
-ghost use Rattle.fkv_scan.specs.Quiet.{IsQuiet};
+ghost use Rattle.fkv_disk.specs.Quiet.{IsQuiet};
 ghost use Rattle.fkv_newest.specs.Counted.{MakesTwoCalls};
 ghost use Rattle.fkv_newest.specs.Newest.{IsNewestOf};
 ghost use Rattle.fkv_newest.specs.Refused.{IsRefused};

@@ -3,7 +3,7 @@ ghost use Rattle.std.specs.Prelude.{◌≡◌, ◌<◌, ◌≤◌, ◌^◌, ◌�
 ghost use Rattle.fkv_base.specs.Limits.{last_version};
 ghost use Rattle.fkv_scan.specs.Log.{log_in, AreApart, AreBelow};
 ghost use Rattle.fkv_disk.specs.Kinds.{OnlyReads};
-ghost use Rattle.fkv_scan.specs.Quiet.{IsQuiet};
+ghost use Rattle.fkv_disk.specs.Quiet.{IsQuiet};
 ghost use Rattle.fkv_scan.specs.Scanned.{AreScanned};
 ghost use Rattle.fkv_room.specs.Counted.{homes_of};
 ghost use Rattle.fkv_room.specs.Room.{taken};

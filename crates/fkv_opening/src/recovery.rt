@@ -4,7 +4,7 @@ ghost use Rattle.fkv_base.specs.declared.faults.Fault.{Fault};
 ghost use Rattle.fkv_disk.specs.Device.{LeavesOnly};
 ghost use Rattle.fkv_disk.specs.Kinds.{OnlyReads, OneSyncThenReads};
 ghost use Rattle.fkv_newest.specs.Newest.{IsNewestOf};
-ghost use Rattle.fkv_scan.specs.Quiet.{IsQuiet};
+ghost use Rattle.fkv_disk.specs.Quiet.{IsQuiet};
 ghost use Rattle.fkv_opening.specs.Calls.{EndsAtFirst, EndsAtFront};
 ghost use Rattle.fkv_opening.specs.Faults.{IsFaultOf, IsRefused};
 ghost use Rattle.fkv_opening.specs.Opened.{IsStoreOf};

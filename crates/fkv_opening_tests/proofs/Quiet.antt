@@ -1,5 +1,5 @@
 -- One sync and then reads are told as such.
-use Rattle.std.proofs.Common.{◌≡◌, ℕ, zero, suc, List, [], Bool, true, refl, sym, ◌∙◌, ap}
+use Rattle.std.proofs.Common.{◌≡◌, ℕ, zero, suc, List, [], Bool, true, refl, ◌∙◌, ap}
 use Rattle.fkv_disk.specs.Kinds.{Kind, Syncing, after_kind, after_reads}
 use Rattle.fkv_opening_tests.specs.Watched.{is_quiet_in_the_end}
 use Rattle.fkv_opening_tests.specs.declared.watched.Stand.{Stand}

@@ -1,6 +1,6 @@
 -- Where the calls of a watched device stand, and what it says of those to come.
 use Rattle.std.specs.Prelude.{List, [], ◌∷◌, Bool, true, false}
-use Rattle.fkv_disk.specs.Kinds.{Kind, Reading, Writing, Syncing}
+use Rattle.fkv_disk.specs.Kinds.{Kind, Reading, Syncing}
 use Rattle.fkv_opening_tests.specs.declared.watched.Stand.{Stand}
 use Rattle.fkv_opening_tests.specs.declared.watched.Stand.TheVariants.{NoCall, OneSyncThenReads, Others}
 

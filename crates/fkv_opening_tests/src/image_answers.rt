@@ -1,10 +1,10 @@
-//! What is answered of the image in the file that IMAGE names, and of the file that FILE names, as a device: tools outside work
-//! out the same from the definitions and compare, count the calls, and measure. RECOVERED names one that is recovered alone, and
-//! NEW one that becomes a store first.
+//! What is answered of the image in the file that IMAGE names, and of the file that FILE names, as a device that is read ahead: tools
+//! outside work out the same from the definitions and compare, count the calls, and measure. RECOVERED names one that is recovered
+//! alone, and NEW one that becomes a store first.
 use crate::answers::{answer, recovered, told};
 use fkv_base::Shape;
 use fkv_creating::create;
-use fkv_disk::{make_file, open_file};
+use fkv_disk::{PageSize, Pages, ReadAhead, make_file, open_file};
 use std::test::Fail;
 use std::{env, fs};
 
@@ -23,7 +23,8 @@ fn a_file_is_answered(rt: HostRuntime) -> Result<(), Fail> {
     let Ok(path) = env::var(&rt, "FILE") else {
         return Ok(());
     };
-    let mut disk = open_file(&rt, path.as_str())?;
+    let pages = Pages::new(rt.alloc(), PageSize::Kib4, 8192)?;
+    let mut disk = ReadAhead::new(open_file(&rt, path.as_str())?, pages);
     println!(rt; "answer {}", answer(rt.alloc(), &mut disk)?)?;
     Ok(())
 }
@@ -33,7 +34,8 @@ fn a_file_is_recovered(rt: HostRuntime) -> Result<(), Fail> {
     let Ok(path) = env::var(&rt, "RECOVERED") else {
         return Ok(());
     };
-    let mut disk = open_file(&rt, path.as_str())?;
+    let pages = Pages::new(rt.alloc(), PageSize::Kib4, 8192)?;
+    let mut disk = ReadAhead::new(open_file(&rt, path.as_str())?, pages);
     println!(rt; "answer {}", recovered(rt.alloc(), &mut disk)?)?;
     Ok(())
 }

@@ -3,8 +3,10 @@
 //! tests stand in a crate of their own, since a crate with tests is proved twice.
 #![tactic(auto)]
 
+mod paged;
 mod watched;
 
+pub use paged::recover_by_pages;
 pub use watched::{Stand, Watched, recover_watched};
 
 #[cfg(test)]

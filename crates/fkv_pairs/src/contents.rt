@@ -3,7 +3,7 @@ ghost use Rattle.std.specs.Prelude.{◌≡◌, ◌↔◌, IfOk, IfErr, length};
 ghost use Rattle.std.specs.Ordering.{nat_cmp};
 ghost use Rattle.std.specs.BTreeMap.{get};
 ghost use Rattle.fkv_disk.specs.Kinds.{OnlyReads};
-ghost use Rattle.fkv_scan.specs.Quiet.{IsQuiet, IsHindrance};
+ghost use Rattle.fkv_disk.specs.Quiet.{IsQuiet, IsHindrance};
 ghost use Rattle.fkv_opening.specs.Opened.{IsStoreOf};
 ghost use Rattle.fkv_pairs.specs.Pairs.{log_of_store, ArePairs};
 ghost use Rattle.fkv_pairs.specs.Gathered.{AreGathered};

@@ -4,7 +4,7 @@ ghost use Rattle.std.specs.Ordering.{nat_cmp};
 ghost use Rattle.std.specs.BTreeMap.{get};
 ghost use Rattle.fkv_scan.specs.Log.{Log};
 ghost use Rattle.fkv_disk.specs.Kinds.{OnlyReads};
-ghost use Rattle.fkv_scan.specs.Quiet.{IsQuiet, IsHindrance};
+ghost use Rattle.fkv_disk.specs.Quiet.{IsQuiet, IsHindrance};
 ghost use Rattle.fkv_chains.specs.Entries.{IsEntry};
 ghost use Rattle.fkv_pairs.specs.Gathered.{IsReadFrom, AreNewest, IsGathered, lower_or_none};
 

@@ -76,6 +76,13 @@ abbrev pub effects_behind : Bool → events.Event → Now → List HistoryEntry
 effects_behind true (event.Move number) n = listed (effect_of n number)
 effects_behind keeps other n = []
 
+-- Of what an event has told, where no crash has struck, this is printed and noted.
+pub record IsHeard {D : Type 0} (broken : D → Bool) (telling : Telling) (call : Call) (its : Option Told) (before after : PlayerState D) (outcome : Outcome) (text : List ℕ) : Type 0 where
+  pub same : after ≡ record before { seats = after.seats }
+  pub ends : outcome ≡ outcome_of (is_struck before.waits (broken before.world.device)) its
+  pub says : text ≡ text_heard telling call before.seats before.world.now (heard (is_struck before.waits (broken before.world.device)) its)
+  pub seats : after.seats ≡ seats_behind call before.seats (heard (is_struck before.waits (broken before.world.device)) its)
+
 -- One step of the engine with the event of this call's stage; of what it told, where no crash has struck, this is printed and noted.
 pub record IsBeat {D : Type 0} (engine : events.Event → WorldModel D → WorldModel D → Option Told → Bool → Type 0) (telling : Telling) (call : ActorCall) (stage : Stage) (before after : PlayerState D) (outcome : Outcome) (text : List ℕ) : Type 0 where
   pub its : Option Told

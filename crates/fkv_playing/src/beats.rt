@@ -1,7 +1,9 @@
 //! A beat: one step of the engine, and what is printed of what it tells.
-ghost use Rattle.std.specs.Prelude.{◌≡◌, ◌++◌, IfOk, OnOk, Some, slice_get};
+ghost use Rattle.std.specs.Prelude.{◌≡◌, ◌++◌, IfOk, OnOk, Option, Some, slice_get};
 ghost use Rattle.std.specs.Io.KnownBytes.{Appends};
-ghost use Rattle.fkv_playing.specs.Beats.{IsBeat, effects_behind, seats_behind};
+ghost use Rattle.fkv_core.specs.Told.{IsLastAnswer};
+ghost use Rattle.fkv_core.specs.declared.events.Told.{Told};
+ghost use Rattle.fkv_playing.specs.Beats.{IsBeat, IsHeard, effects_behind, seats_behind};
 ghost use Rattle.fkv_playing.specs.InTurn.{Writes};
 ghost use Rattle.fkv_playing.specs.Players.{EngineStep};
 ghost use Rattle.fkv_playing.specs.Seats.{seats_answered};
@@ -30,16 +32,38 @@ impl<D: Breaks> Player<D> {
         ensures { IfOk result (λ outcome. Writes (IsBeat (EngineStep D.honest D.seen D.may_leave D.failed D.refuses D.broken) telling call stage self.old self.new outcome) (W.contents output.old) (W.contents output.new)) }
     {
         let event = call.event(stage);
-        let told = self.world.step(event);
+        let has_ended = self.world.advance(event);
         self.note_effect(event)?;
+        if has_ended {
+            return self.hear_end(output, telling, call.asked(), event);
+        }
         if self.is_struck() {
             return Ok(Outcome::Struck);
         }
-        match told {
+        Ok(Outcome::GoesOn)
+    }
+
+    /// Takes the answer to the call that this event has ended. It stands apart from `beat`, since an answer is large, and most beats
+    /// end no call.
+    #[inline(never)]
+    fn hear_end<W: Write>(
+        &mut self,
+        output: &mut W,
+        telling: Telling,
+        call: Call,
+        event: Event,
+    ) -> io::Result<Outcome>
+        ensures { IfOk result (λ outcome. (its : Option Told) × IsLastAnswer event self.old.world.now its × Writes (IsHeard D.broken telling call its self.old self.new outcome) (W.contents output.old) (W.contents output.new)) }
+    {
+        let told = self.world.answer(event);
+        if self.is_struck() {
+            return Ok(Outcome::Struck);
+        }
+        match &told {
             None => Ok(Outcome::GoesOn),
             Some(told) => {
-                self.hear(output, telling, call.asked(), &told)?;
-                Ok(outcome_of_told(&told))
+                self.hear(output, telling, call, told)?;
+                Ok(outcome_of_told(told))
             }
         }
     }

@@ -7,7 +7,6 @@ mod Leading
 mod Looping
 mod Meeting
 mod Meets
-mod Quieter
 mod Standing
 mod Taking
 mod Triples

@@ -6,7 +6,7 @@ ghost use Rattle.fkv_disk.specs.Bytes.{bytes_at};
 ghost use Rattle.fkv_disk.specs.Kinds.{OnlyReads};
 ghost use Rattle.fkv_record.specs.Layout.{record_bytes};
 ghost use Rattle.fkv_record.specs.Places.{record_place};
-ghost use Rattle.fkv_scan.specs.Quiet.{IsQuiet, IsHindrance};
+ghost use Rattle.fkv_disk.specs.Quiet.{IsQuiet, IsHindrance};
 
 use fkv_base::{Addr, Fault, Shape};
 use fkv_disk::Device;

@@ -12,7 +12,7 @@ ghost use Rattle.fkv_scan.specs.Log.{log_in, AreApart, AreBelow};
 ghost use Rattle.fkv_scan.specs.Scanned.{AreScanned, TellsNewer};
 ghost use Rattle.fkv_scan.specs.Known.{KnowsAll};
 ghost use Rattle.fkv_disk.specs.Kinds.{OnlyReads};
-ghost use Rattle.fkv_scan.specs.Quiet.{IsQuiet, IsHindrance};
+ghost use Rattle.fkv_disk.specs.Quiet.{IsQuiet, IsHindrance};
 ghost use Rattle.fkv_scan.specs.Refused.{IsRefused};
 
 use crate::home_scans::HomeScan;

@@ -11,7 +11,7 @@ ghost use Rattle.fkv_scan.specs.Scan.{Has, IsLinked, IsScanned};
 ghost use Rattle.fkv_scan.specs.Known.{KnowsAll, IsMeeting};
 ghost use Rattle.fkv_scan.specs.Steps.{known_or};
 ghost use Rattle.fkv_disk.specs.Kinds.{OnlyReads};
-ghost use Rattle.fkv_scan.specs.Quiet.{IsQuiet, IsHindrance};
+ghost use Rattle.fkv_disk.specs.Quiet.{IsQuiet, IsHindrance};
 ghost use Rattle.fkv_scan.specs.Refused.{IsUnlinked, IsUnscanned};
 
 use crate::home_scans::HomeScan;

@@ -5,7 +5,7 @@ ghost use Rattle.fkv_record.specs.declared.triples.Triple.{Triple};
 ghost use Rattle.fkv_scan.specs.Checkpoint.{checkpoint_in, IsTripleAt, AreTriples, IsUnread};
 ghost use Rattle.fkv_scan.specs.Log.{AreApart, AreBelow};
 ghost use Rattle.fkv_disk.specs.Kinds.{OnlyReads};
-ghost use Rattle.fkv_scan.specs.Quiet.{IsQuiet, IsHindrance};
+ghost use Rattle.fkv_disk.specs.Quiet.{IsQuiet, IsHindrance};
 
 use crate::homes::triple_home;
 use fkv_base::{Damage, Fault, Shape};

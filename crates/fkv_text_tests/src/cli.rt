@@ -25,7 +25,17 @@ fn a_script_prints_its_answers(rt: HostRuntime) {
     compare_unread(&rt, rt.alloc());
     let mut output = Vec::new(rt.alloc());
     let words = ["--check", "--torn", "165"];
-    let status = run(&rt, rt.alloc(), &words, SCRIPT.as_bytes(), &mut output);
+    let mut complaints = Vec::new(rt.alloc());
+    let script = SCRIPT.as_bytes();
+    let status = run(
+        &rt,
+        rt.alloc(),
+        &words,
+        script,
+        &mut output,
+        &mut complaints,
+    );
     assert_eq!(rt; output.as_slice(), ANSWERS.as_bytes());
+    assert_eq!(rt; complaints.as_slice(), b"".as_slice());
     assert_eq!(rt; status, 0);
 }

@@ -5,7 +5,7 @@ ghost use Rattle.fkv_core.specs.Openings.{IsOpeningWorld, beginning};
 ghost use Rattle.fkv_core.specs.Worlds.{WorldModel};
 ghost use Rattle.fkv_disk.specs.Device.{LeavesOnly};
 ghost use Rattle.fkv_opening.specs.declared.opened_store.Opened.{Opened};
-ghost use Rattle.fkv_scan.specs.Quiet.{IsQuiet};
+ghost use Rattle.fkv_disk.specs.Quiet.{IsQuiet};
 
 use fkv_disk::Device;
 use law_opening::{law_device_opens, law_guard_opens};

@@ -1,6 +1,6 @@
 pub mod BelowTail
 pub mod Ends
-pub mod Fair
+pub mod Permitted
 pub mod FewAsks
 pub mod FewKeeperAsks
 pub mod Flushed

@@ -9,7 +9,7 @@ mod Catches
 mod CatchesLed
 mod CatchesOuter
 mod Epochs
-pub mod Fair
+pub mod Permitted
 pub mod Finds
 mod FindsOuter
 pub mod Followed
@@ -19,7 +19,7 @@ mod NoSlots
 mod Onwards
 mod Outer
 mod OuterAsks
-pub mod Owing
+pub mod InPlace
 mod OwnTurns
 mod OwnTurnsLed
 mod OwnWords

@@ -2,7 +2,7 @@ pub mod Attempts
 pub mod Catches
 pub mod Followed
 pub mod Likenesses
-pub mod Owing
+pub mod InPlace
 pub mod OwnTurns
 pub mod Rows
 pub mod Sessions

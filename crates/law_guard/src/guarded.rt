@@ -23,14 +23,14 @@ ghost use Rattle.law_guard.specs.Guarded.GuardEvents.{guard_events, mapped};
 ghost use Rattle.law_guard.specs.Guarded.KeptGuarded.{ChangesOpenPlaces, FindTheirSlots, OpensNextPage};
 ghost use Rattle.law_guard.specs.Guarded.LoadedSince.{HaveLoadedSince};
 ghost use Rattle.law_guard.specs.Guarded.OpenedStore.{IsOpenedStore};
-ghost use Rattle.law_guard.specs.Guarded.Shows.{AreBelowTail, AreFair, IsFair, IsOpened, Shows, guard_opening, seen_by_guard};
+ghost use Rattle.law_guard.specs.Guarded.Shows.{AreBelowTail, ArePermitted, IsPermitted, IsOpened, Shows, guard_opening, seen_by_guard};
 ghost use Rattle.law_guard.specs.Guarded.SlotsFound.{FindsItsSlot};
 
 use law_world::law_of_ends;
 
 /// Over every life of the engine that begins as a store was opened, whatever its calls, commits, turns and the order of its steps:
 /// what the guard has of the life shows the engine's world, with an actor for each session and one for the keeper. So a word of a
-/// frame that an event changes, where it does what it owes, is one of an open address at or above the safe read-only offset and
+/// frame that an event changes, where the event is permitted, is one of an open address at or above the safe read-only offset and
 /// below the tail; an event that raises the limit opens the next page, and finds all flushed that its frame held, and each
 /// protected session that isn't in the middle of protecting itself with a head at or above that. At every moment the offsets are
 /// in order, the frames hold all that may still be needed, and the limit is the end of whole pages that the device has; and no
@@ -38,7 +38,7 @@ use law_world::law_of_ends;
 pub fn law_world_is_guarded()
     ensures shows { (opening : World) (start : ℕ) (events : List Event) → IsOpened opening.now start
         → Shows (run opening events).now (seen_by_guard opening start events) }
-    ensures writes { (opening : World) (start : ℕ) (events : List Event) (event : Event) → IsOpened opening.now start → IsFair (run opening events).now event
+    ensures writes { (opening : World) (start : ℕ) (events : List Event) (event : Event) → IsOpened opening.now start → IsPermitted (run opening events).now event
         → ChangesOpenPlaces (run opening events).now (run opening (event ∷ events)).now (seen_by_guard opening start events) }
     ensures limit { (opening : World) (start : ℕ) (events : List Event) (event : Event) → IsOpened opening.now start
         → OpensNextPage (run opening events).now (run opening (event ∷ events)).now (seen_by_guard opening start events) }
@@ -128,31 +128,31 @@ pub fn law_world_ends()
     law_of_ends();
 }
 
-/// In such a life the keeper alone flushes. So where each step of a session does what it owes, at every moment a device that was
+/// In such a life the keeper alone flushes. So where each step of a session is permitted, at every moment a device that was
 /// called as the guard's run of the life calls it, by the flushes and by those writes of commits that end where the log begins,
 /// shows each record since the opening and below the flushed offset with the words that stand for it, and so does all that a crash
 /// leaves of it; and no event changes what stands for a record below the safe read-only offset.
 pub fn law_world_flushed()
-    ensures synced { (opening : World) (start : ℕ) (events : List Event) (opened : List ℕ) → IsOpened opening.now start → AreFair opening events
+    ensures synced { (opening : World) (start : ℕ) (events : List Event) (opened : List ℕ) → IsOpened opening.now start → ArePermitted opening events
         → IsSynced opening.now.shape opened (calls_made (guard_opening opening.now start) (mapped opening events)) (stands (guard_opening opening.now start) (mapped opening events)) start (levels_of (run opening events).now.words).flushed }
-    ensures steady { (opening : World) (start : ℕ) (events : List Event) (event : Event) (addr : ℕ) (word : RecordWord) → IsOpened opening.now start → AreFair opening (event ∷ events)
+    ensures steady { (opening : World) (start : ℕ) (events : List Event) (event : Event) (addr : ℕ) (word : RecordWord) → IsOpened opening.now start → ArePermitted opening (event ∷ events)
         → addr < (levels_of (run opening events).now.words).safe_read_only
         → stands (guard_opening opening.now start) (mapped opening (event ∷ events)) addr word ≡ stands (guard_opening opening.now start) (mapped opening events) addr word }
 {}
 
-/// What the steps of such a life owe comes down to one thing: that the record whose value a session changes in place is reserved,
+/// That the steps of such a life are permitted comes down to one thing: that the record whose value a session changes in place is reserved,
 /// below the tail.
-pub fn law_world_owes()
-    ensures { (opening : World) (start : ℕ) (events : List Event) → IsOpened opening.now start → AreBelowTail opening events → AreFair opening events }
+pub fn law_world_permitted()
+    ensures { (opening : World) (start : ℕ) (events : List Event) → IsOpened opening.now start → AreBelowTail opening events → ArePermitted opening events }
 {}
 
 /// Over every life of a store that was just opened, whatever calls of the device fail: the calls of the guard's run are the writes
-/// and syncs that are past of the life, in their order and with their success. So where each step of a session does what it owes, at
+/// and syncs that are past of the life, in their order and with their success. So where each step of a session is permitted, at
 /// every moment the device, as the life has called it, reads at the place of each record since the opening and below the flushed offset as the words that stand for it, and so
 /// does all that a crash leaves of it; older records stay as they were.
 pub fn law_world_flushed_is_synced()
     ensures calls { (opening : World) (start : ℕ) (events : List Event) → IsOpenedStore opening start
         → calls_made (guard_opening opening.now start) (mapped opening events) ≡ (run opening events).past.calls }
-    ensures synced { (opening : World) (start : ℕ) (events : List Event) → IsOpenedStore opening start → AreFair opening events
+    ensures synced { (opening : World) (start : ℕ) (events : List Event) → IsOpenedStore opening start → ArePermitted opening events
         → IsSynced opening.now.shape opening.past.opened (run opening events).past.calls (stands (guard_opening opening.now start) (mapped opening events)) start (levels_of (run opening events).now.words).flushed }
 {}

@@ -11,7 +11,7 @@ ghost use Rattle.law_guard.specs.Keeper.Followed.{StepsFollow, TurnsFollow, Comm
 /// whatever the guard's world is otherwise: a step of the keeper, with what the world settles behind it, is the list of the
 /// guard's events that the map gives. These lead to the words and the actions that the keeper's own step leads to, and to an actor
 /// that is like what the keeper has become, of which the same is known again. So does a turn that is asked for, and a commit.
-/// What is known stays as the offsets rise. The step owes nothing.
+/// What is known stays as the offsets rise. The step has no premise.
 pub fn law_keeper_followed()
     ensures steps { StepsFollow }
     ensures turns { TurnsFollow }

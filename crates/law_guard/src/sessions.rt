@@ -1,6 +1,6 @@
-//! Each step of a session is a list of the guard's events, and what it owes.
+//! Each step of a session is a list of the guard's events, and when it is permitted.
 ghost use Rattle.law_guard.specs.Sessions.Followed.{StepsFollow, TurnsFollow, CallsFollow};
-ghost use Rattle.law_guard.specs.Sessions.Owing.{ChangesAreAbove, MovesAreFair, RunsOwe, RunsWriteOuter};
+ghost use Rattle.law_guard.specs.Sessions.InPlace.{ChangesAreAbove, MovesArePermitted, RunsMayChange, RunsWriteOuter};
 ghost use Rattle.law_guard.specs.Sessions.WorldSteps.{MovesFollow};
 
 /// Where the guard's actor of a session's number is like the session, whatever the guard's world is otherwise: a step of the
@@ -17,12 +17,12 @@ pub fn law_sessions_followed()
 {}
 
 /// At every moment of a session's run, whatever calls it begins and whatever its asks are replied: a value that it is about to
-/// change in place is that of a record at or above the read-only offset that it has seen, and all that its step owes comes down
-/// to that this record lies below the tail. A step that keeps what it owes is a list of fair events of the guard. The words of
+/// change in place is that of a record at or above the read-only offset that it has seen, and that its step is permitted comes down
+/// to that this record lies below the tail. A step that is permitted is a list of permitted events of the guard. The words of
 /// latches, links and entries of the index that a step writes, and the count of buckets that are taken, are none of the guard's.
-pub fn law_sessions_owe()
+pub fn law_sessions_permitted()
     ensures changes { ChangesAreAbove }
-    ensures owes { RunsOwe }
-    ensures fair { MovesAreFair }
+    ensures may_change { RunsMayChange }
+    ensures permitted { MovesArePermitted }
     ensures outer { RunsWriteOuter }
 {}

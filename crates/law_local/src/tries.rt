@@ -1,5 +1,5 @@
 //! What walks and tries know of the log. These functions do nothing: what they promise holds of every log and every reply.
-ghost use Rattle.law_local.specs.Tries.Laws.{WalkRowsStay, WalksLeadOn, WalksTell, WalksBeginAtHead, RequestsKnowLater, TriesBegin, TryRowsStay, TriesLeadOn, ReservesAreOwed, SwapsAreOwed, CasesAreOwed, ReadsTell, TriesSeek, TriesGoFrom};
+ghost use Rattle.law_local.specs.Tries.Laws.{WalkRowsStay, WalksLeadOn, WalksTell, WalksBeginAtHead, RequestsKnowLater, TriesBegin, TryRowsStay, TriesLeadOn, ReservesAreEnabled, SwapsAreEnabled, CasesAreEnabled, ReadsTell, TriesSeek, TriesGoFrom};
 ghost use Rattle.law_local.specs.Tries.AttemptLaws.{PendingRowsStay, PendingsKnowLater, AttemptsBegin, AttemptRowsStay, AttemptRowsStayAtRest, AttemptsLeadOn, OwnChangesKeep, AttemptsTell, TriesAreToldTruly, AttemptsAreToldTruly, ReadsBegin, ReadsGoAlong};
 
 /// What a walk knows of the log stays, whatever others do there that keeps to the log's rules; each reply that is true of the log leads it on to what
@@ -21,12 +21,12 @@ pub fn law_try_rows()
     ensures leads_on { TriesLeadOn }
 {}
 
-/// What the log's events of its steps owe: the record for which an address is reserved is made as it has to be, and leads to a lower address; and a
+/// The log's events of its steps are enabled: the record for which an address is reserved is made as it has to be, and leads to a lower address; and a
 /// change in place is one that may be made, where no copy overlaps it, and leaves the word of its value.
-pub fn law_try_owes()
-    ensures reserves { ReservesAreOwed }
-    ensures swaps { SwapsAreOwed }
-    ensures cases { CasesAreOwed }
+pub fn law_try_enabled()
+    ensures reserves { ReservesAreEnabled }
+    ensures swaps { SwapsAreEnabled }
+    ensures cases { CasesAreEnabled }
 {}
 
 /// What it tells: the value that a read finds, or that it finds none, is that of the first record of its key from where its walk went down; and a record

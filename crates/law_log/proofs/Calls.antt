@@ -6,7 +6,7 @@ use Rattle.fkv_map.specs.declared.operations.Op.{Op}
 use Rattle.fkv_map.specs.declared.operations.Reply.{Reply}
 use Rattle.law_log.specs.Trace.{Effect, TraceLine, CallsUpdate, RefusesUpdate, GivesResult, CallsRead, AnswersRead, IsIn, called_by, called_as, HasUpdate, HasReply, OrdersCalls}
 use Rattle.law_log.specs.Ghosts.{Ghosts}
-use Rattle.law_log.specs.Owed.{OwesLine}
+use Rattle.law_log.specs.Enabled.{IsLineEnabled}
 use Rattle.law_log.proofs.Lists.{in_more, in_place, in_behind, place_of}
 
 pub reply_more : (effects newer : List Effect) (session serial : ℕ) (reply : Reply) → HasReply effects session serial reply → HasReply (newer ++ effects) session serial reply
@@ -42,40 +42,40 @@ orders_effect effects trace effect orders called none_yet = record {
 
 -- ---- one more line
 -- a line leaves an update as called that has taken effect
-still_called : (g : Ghosts) (line : TraceLine) → OwesLine g line → OrdersCalls g.log.history g.trace → (effect : Effect) → IsIn effect g.log.history
+still_called : (g : Ghosts) (line : TraceLine) → IsLineEnabled g line → OrdersCalls g.log.history g.trace → (effect : Effect) → IsIn effect g.log.history
     → called_by line effect.entry.session effect.entry.serial.0 (called_as g.trace effect.entry.session effect.entry.serial.0) ≡ Some effect.entry.op
-still_called g (CallsUpdate s n op) owed orders effect is_in = by_test (nat_eq s effect.entry.session && nat_eq n effect.entry.serial.0) refl
+still_called g (CallsUpdate s n op) enabled orders effect is_in = by_test (nat_eq s effect.entry.session && nat_eq n effect.entry.serial.0) refl
   where
     by_test : (t : Bool) → (nat_eq s effect.entry.session && nat_eq n effect.entry.serial.0) ≡ t → cond t (Some op) (called_as g.trace effect.entry.session effect.entry.serial.0) ≡ Some effect.entry.op
     by_test true is =
         let same : (s ≡ effect.entry.session) × (n ≡ effect.entry.serial.0) = (grind (arith, nat_tests, is), grind (arith, nat_tests, is)) in
-        absurd (none_called g.log.history g.trace orders s n (record { effect = effect; is_in = is_in; its_session = sym same.0; its_serial = sym same.1 }) owed)
+        absurd (none_called g.log.history g.trace orders s n (record { effect = effect; is_in = is_in; its_session = sym same.0; its_serial = sym same.1 }) enabled)
     by_test false is = orders.called effect is_in
-still_called g (RefusesUpdate s n) owed orders effect is_in = by_test (nat_eq s effect.entry.session && nat_eq n effect.entry.serial.0) refl
+still_called g (RefusesUpdate s n) enabled orders effect is_in = by_test (nat_eq s effect.entry.session && nat_eq n effect.entry.serial.0) refl
   where
     by_test : (t : Bool) → (nat_eq s effect.entry.session && nat_eq n effect.entry.serial.0) ≡ t → cond t None (called_as g.trace effect.entry.session effect.entry.serial.0) ≡ Some effect.entry.op
     by_test true is =
         let same : (s ≡ effect.entry.session) × (n ≡ effect.entry.serial.0) = (grind (arith, nat_tests, is), grind (arith, nat_tests, is)) in
-        absurd (owed (record { effect = effect; is_in = is_in; its_session = sym same.0; its_serial = sym same.1 }))
+        absurd (enabled (record { effect = effect; is_in = is_in; its_session = sym same.0; its_serial = sym same.1 }))
     by_test false is = orders.called effect is_in
-still_called g (GivesResult s n reply) owed orders effect is_in = orders.called effect is_in
-still_called g (CallsRead reader key) owed orders effect is_in = orders.called effect is_in
-still_called g (AnswersRead reader reply) owed orders effect is_in = orders.called effect is_in
+still_called g (GivesResult s n reply) enabled orders effect is_in = orders.called effect is_in
+still_called g (CallsRead reader key) enabled orders effect is_in = orders.called effect is_in
+still_called g (AnswersRead reader reply) enabled orders effect is_in = orders.called effect is_in
 
 -- an update that is called now has not taken effect
-pub none_before : (g : Ghosts) (line : TraceLine) → OwesLine g line → OrdersCalls g.log.history g.trace → (session serial : ℕ) (op : Op) → line ≡ CallsUpdate session serial op → HasUpdate g.log.history session serial → ⊥
-none_before g line owed orders session serial op is has = none_called g.log.history g.trace orders session serial has (subst (OwesLine g) is owed)
+pub none_before : (g : Ghosts) (line : TraceLine) → IsLineEnabled g line → OrdersCalls g.log.history g.trace → (session serial : ℕ) (op : Op) → line ≡ CallsUpdate session serial op → HasUpdate g.log.history session serial → ⊥
+none_before g line enabled orders session serial op is has = none_called g.log.history g.trace orders session serial has (subst (IsLineEnabled g) is enabled)
 
-pub orders_line : (g : Ghosts) (line : TraceLine) → OwesLine g line → OrdersCalls g.log.history g.trace → OrdersCalls g.log.history (line ∷ g.trace)
-orders_line g line owed orders = record {
+pub orders_line : (g : Ghosts) (line : TraceLine) → IsLineEnabled g line → OrdersCalls g.log.history g.trace → OrdersCalls g.log.history (line ∷ g.trace)
+orders_line g line enabled orders = record {
   given = λ session serial reply is_in. elim is_in [
-    | inl same ↦ subst (OwesLine g) same owed
+    | inl same ↦ subst (IsLineEnabled g) same enabled
     | inr older ↦ orders.given session serial reply older
   ];
   once = orders.once;
-  called = λ effect is_in. still_called g line owed orders effect is_in;
+  called = λ effect is_in. still_called g line enabled orders effect is_in;
   in_order = λ newer older effect later earlier op is was. elim (place_of line (CallsUpdate effect.entry.session effect.entry.serial.0 op) g.trace later earlier was) [
-    | inl front ↦ absurd (none_before g line owed orders effect.entry.session effect.entry.serial.0 op front.its
+    | inl front ↦ absurd (none_before g line enabled orders effect.entry.session effect.entry.serial.0 op front.its
         (record { effect = effect; is_in = in_place effect g.log.history newer older is; its_session = refl; its_serial = refl }))
     | inr behind ↦ orders.in_order newer older effect behind.fewer earlier op is behind.place
   ];

@@ -8,7 +8,7 @@ use Rattle.fkv_map.proofs.Shown.{content_one_more, legal_one_more}
 use Rattle.law_log.specs.Trace.{Effect, history_of, value_in, IsIn}
 use Rattle.law_log.specs.Chains.{Cell, Logged, Unborn, Reserved, Published, value_at, version_at, has_key, has_key_in}
 use Rattle.law_log.specs.Ghosts.{Log, set_at, first_from, newest_of, newest_in, shown, effect_of, changed_by}
-use Rattle.law_log.specs.Owed.{IsMade, IsChange, previous_of}
+use Rattle.law_log.specs.Enabled.{IsMade, IsChange, previous_of}
 use Rattle.law_log.proofs.Chains.{set_there, set_else, at_one, same_or_other, own_number, other_number, first_is, IsFirst}
 use Rattle.law_log.proofs.Versions.{in_has, latest_is_first}
 use Rattle.law_log.proofs.Held.{Held, Grows, not_reserved, not_unborn, first_along, falls_along, made_stays}

@@ -7,7 +7,7 @@ use Rattle.fkv_map.specs.Keys.{value_applied, reply_from}
 use Rattle.law_log.specs.Trace.{Effect, history_of, value_in, IsIn}
 use Rattle.law_log.specs.Chains.{Cell, Logged, Unborn, Reserved, Published, value_at, version_at, has_key, chain_from, first_such, IsWithin, VersionsFall}
 use Rattle.law_log.specs.Ghosts.{Log, first_from, newest_in, shown}
-use Rattle.law_log.specs.Owed.{AreChains, IsFixed, StandsStill, IsMade}
+use Rattle.law_log.specs.Enabled.{AreChains, IsFixed, StandsStill, IsMade}
 use Rattle.law_log.proofs.Versions.{falls_same}
 use Rattle.law_log.proofs.Chains.{first_same, first_is, IsFirst, in_from, same_number}
 

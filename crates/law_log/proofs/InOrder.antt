@@ -4,7 +4,7 @@ use Rattle.fkv_map.specs.Map.{Map}
 use Rattle.law_log.specs.Trace.{Effect, IsIn}
 use Rattle.law_log.specs.Chains.{version_at, IsWithin}
 use Rattle.law_log.specs.Ghosts.{Log}
-use Rattle.law_log.specs.Owed.{NoneAbove}
+use Rattle.law_log.specs.Enabled.{NoneAbove}
 use Rattle.law_log.specs.Laws.{AreInOrder, home_of}
 use Rattle.law_log.proofs.Lists.{place_of}
 use Rattle.law_log.proofs.Held.{Held, Grows, not_unborn, version_stays}

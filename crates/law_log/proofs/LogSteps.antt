@@ -9,7 +9,7 @@ use Rattle.fkv_map.specs.Keys.{key_of}
 use Rattle.law_log.specs.Trace.{IsIn, upto, history_of, value_in}
 use Rattle.law_log.specs.Chains.{Cell, Logged, Unborn, Reserved, Published, Dropped, value_at, version_at, has_key, has_key_upto, first_such, VersionsFall}
 use Rattle.law_log.specs.Ghosts.{effect_of, changed_by, Log, Ghosts, GhostEvent, Tells, FindsEntry, TakesValue, Reserves, Publishes, Drops, Changes, Fixes, published, dropped, changed, log_after, ghosts_after, ghost_run}
-use Rattle.law_log.specs.Owed.{AreChains, NoneAbove, Owes, OwesPublish, OwesChange, AreOwed, IsOpened}
+use Rattle.law_log.specs.Enabled.{AreChains, NoneAbove, IsEnabled, IsPublishEnabled, IsChangeEnabled, AreEnabled, IsOpened}
 use Rattle.law_log.proofs.Held.{Held, Grows, ArePartOf}
 use Rattle.law_log.proofs.Steps.{IsQuiet, quiet_log, quiet_grows, held_quietly, fixes_quietly, reserves_quietly, drops_quietly}
 use Rattle.law_log.proofs.Changed.{MeetsChange, changed_log, changed_grows, held_changed}
@@ -66,19 +66,19 @@ changed_has home m log a entry cell held change =
       its = ap version_at there;
     }
 
-publishes : (home : ℕ → ℕ) (m : Map) (g : Ghosts) (a : ℕ) (logged : Logged) → g.log.cells a ≡ logged → Held home m g.log → OwesPublish home g logged → Steps home m g.log (published home g.log a logged)
-publishes home m g a (Reserved entry cell) its held owed =
-    let publish : MeetsPublish home g.log a entry cell = record { its = its; its_head = owed.0; none_above = owed.1 } in
+publishes : (home : ℕ → ℕ) (m : Map) (g : Ghosts) (a : ℕ) (logged : Logged) → g.log.cells a ≡ logged → Held home m g.log → IsPublishEnabled home g logged → Steps home m g.log (published home g.log a logged)
+publishes home m g a (Reserved entry cell) its held enabled =
+    let publish : MeetsPublish home g.log a entry cell = record { its = its; its_head = enabled.0; none_above = enabled.1 } in
     record {
       held = held_published home m g.log a entry cell held publish;
       grows = published_grows home m g.log a entry cell held publish;
       upto = λ version known. upto_published home m version g.log a entry cell held known publish;
       in_order = λ known. one_more_in_order home m g.log (published_log home g.log a entry cell) held (published_grows home m g.log a entry cell held publish) (effect_of entry cell) refl
-          (subst (λ k. NoneAbove g.log (home k) cell.version) (held.made a entry cell its).1.its_key owed.1) (published_has home m g.log a entry cell held publish) known;
+          (subst (λ k. NoneAbove g.log (home k) cell.version) (held.made a entry cell its).1.its_key enabled.1) (published_has home m g.log a entry cell held publish) known;
     }
-publishes home m g a Unborn its held owed = stays_same home m g.log held
-publishes home m g a (Published cell) its held owed = stays_same home m g.log held
-publishes home m g a (Dropped cell) its held owed = stays_same home m g.log held
+publishes home m g a Unborn its held enabled = stays_same home m g.log held
+publishes home m g a (Published cell) its held enabled = stays_same home m g.log held
+publishes home m g a (Dropped cell) its held enabled = stays_same home m g.log held
 
 drops : (home : ℕ → ℕ) (m : Map) (log : Log) (a : ℕ) (logged : Logged) → log.cells a ≡ logged → Held home m log → Steps home m log (dropped log a logged)
 drops home m log a (Reserved entry cell) its held = quietly home m log _ log.fixed held (drops_quietly home m log a entry cell held its)
@@ -86,29 +86,29 @@ drops home m log a Unborn its held = stays_same home m log held
 drops home m log a (Published cell) its held = stays_same home m log held
 drops home m log a (Dropped cell) its held = stays_same home m log held
 
-changes : (home : ℕ → ℕ) (m : Map) (g : Ghosts) (a : ℕ) (entry : HistoryEntry) (logged : Logged) → g.log.cells a ≡ logged → Held home m g.log → OwesChange home g a entry logged → Steps home m g.log (changed g.log a entry logged)
-changes home m g a entry (Published cell) its held owed =
-    let change : MeetsChange home g.log a entry cell = record { its = its; may = owed.0 } in
+changes : (home : ℕ → ℕ) (m : Map) (g : Ghosts) (a : ℕ) (entry : HistoryEntry) (logged : Logged) → g.log.cells a ≡ logged → Held home m g.log → IsChangeEnabled home g a entry logged → Steps home m g.log (changed g.log a entry logged)
+changes home m g a entry (Published cell) its held enabled =
+    let change : MeetsChange home g.log a entry cell = record { its = its; may = enabled.0 } in
     record {
       held = held_changed home m g.log a entry cell held change;
       grows = changed_grows home m g.log a entry cell held change;
       upto = λ version known. upto_changed home m version g.log a entry cell held known change;
       in_order = λ known. one_more_in_order home m g.log (changed_log g.log a entry cell) held (changed_grows home m g.log a entry cell held change) (effect_of entry cell) refl
-          (subst (λ k. NoneAbove g.log (home k) cell.version) owed.0.its_key owed.0.none_above) (changed_has home m g.log a entry cell held change) known;
+          (subst (λ k. NoneAbove g.log (home k) cell.version) enabled.0.its_key enabled.0.none_above) (changed_has home m g.log a entry cell held change) known;
     }
-changes home m g a entry Unborn its held owed = stays_same home m g.log held
-changes home m g a entry (Reserved other cell) its held owed = stays_same home m g.log held
-changes home m g a entry (Dropped cell) its held owed = stays_same home m g.log held
+changes home m g a entry Unborn its held enabled = stays_same home m g.log held
+changes home m g a entry (Reserved other cell) its held enabled = stays_same home m g.log held
+changes home m g a entry (Dropped cell) its held enabled = stays_same home m g.log held
 
-pub log_steps : (home : ℕ → ℕ) (m : Map) (g : Ghosts) (event : GhostEvent) → Held home m g.log → Owes home g event → Steps home m g.log (log_after home g.log event)
-log_steps home m g (Tells line) held owed = stays_same home m g.log held
-log_steps home m g (FindsEntry reader) held owed = stays_same home m g.log held
-log_steps home m g (TakesValue reader) held owed = stays_same home m g.log held
-log_steps home m g (Reserves a entry cell) held owed = quietly home m g.log _ g.log.fixed held (reserves_quietly home m g.log a entry cell held owed.0 owed.1 owed.2)
-log_steps home m g (Publishes a) held owed = publishes home m g a (g.log.cells a) refl held owed
-log_steps home m g (Drops a) held owed = drops home m g.log a (g.log.cells a) refl held
-log_steps home m g (Changes a entry) held owed = changes home m g a entry (g.log.cells a) refl held owed
-log_steps home m g (Fixes a) held owed = quietly home m g.log g.log.cells (max g.log.fixed a) held (fixes_quietly home m g.log (max g.log.fixed a) held (at_least g.log.fixed a))
+pub log_steps : (home : ℕ → ℕ) (m : Map) (g : Ghosts) (event : GhostEvent) → Held home m g.log → IsEnabled home g event → Steps home m g.log (log_after home g.log event)
+log_steps home m g (Tells line) held enabled = stays_same home m g.log held
+log_steps home m g (FindsEntry reader) held enabled = stays_same home m g.log held
+log_steps home m g (TakesValue reader) held enabled = stays_same home m g.log held
+log_steps home m g (Reserves a entry cell) held enabled = quietly home m g.log _ g.log.fixed held (reserves_quietly home m g.log a entry cell held enabled.0 enabled.1 enabled.2)
+log_steps home m g (Publishes a) held enabled = publishes home m g a (g.log.cells a) refl held enabled
+log_steps home m g (Drops a) held enabled = drops home m g.log a (g.log.cells a) refl held
+log_steps home m g (Changes a entry) held enabled = changes home m g a entry (g.log.cells a) refl held enabled
+log_steps home m g (Fixes a) held enabled = quietly home m g.log g.log.cells (max g.log.fixed a) held (fixes_quietly home m g.log (max g.log.fixed a) held (at_least g.log.fixed a))
 
 -- of one version, versions don't rise
 opening_falls : (home : ℕ → ℕ) (log : Log) (version : ℕ) → AreChains home log → ((a : ℕ) (cell : Cell) → log.cells a ≡ Published cell → cell.version ≡ version) → (h : ℕ) (chain : List ℕ) → ArePartOf log h chain
@@ -137,11 +137,11 @@ opening_held home m version opening opened = record {
   made = λ a entry cell is. absurd (opened.none_reserved a entry cell is);
 }
 
-pub run_held : (home : ℕ → ℕ) (m : Map) (version : ℕ) (opening : Ghosts) (events : List GhostEvent) → IsOpened home m version opening → AreOwed home opening events → Held home m (ghost_run home opening events).log
-unfolding ghosts_after ghost_run AreOwed
-run_held home m version opening [] opened owed = opening_held home m version opening opened
-run_held home m version opening (event ∷ before) opened owed =
-    (log_steps home m (ghost_run home opening before) event (run_held home m version opening before opened owed.0) owed.1).held
+pub run_held : (home : ℕ → ℕ) (m : Map) (version : ℕ) (opening : Ghosts) (events : List GhostEvent) → IsOpened home m version opening → AreEnabled home opening events → Held home m (ghost_run home opening events).log
+unfolding ghosts_after ghost_run AreEnabled
+run_held home m version opening [] opened enabled = opening_held home m version opening opened
+run_held home m version opening (event ∷ before) opened enabled =
+    (log_steps home m (ghost_run home opening before) event (run_held home m version opening before opened enabled.0) enabled.1).held
 
 -- ---- version by version
 -- all records of the opening are of its version
@@ -167,20 +167,20 @@ opening_upto home m version opening opened = record {
   legal = λ n since. subst (λ effects. IsLegal m (history_of (upto n effects))) (sym opened.no_history) tt;
 }
 
-pub run_upto : (home : ℕ → ℕ) (m : Map) (version : ℕ) (opening : Ghosts) (events : List GhostEvent) → IsOpened home m version opening → AreOwed home opening events
+pub run_upto : (home : ℕ → ℕ) (m : Map) (version : ℕ) (opening : Ghosts) (events : List GhostEvent) → IsOpened home m version opening → AreEnabled home opening events
     → HeldUpto home m version (ghost_run home opening events).log
-unfolding ghosts_after ghost_run AreOwed
-run_upto home m version opening [] opened owed = opening_upto home m version opening opened
-run_upto home m version opening (event ∷ before) opened owed =
-    (log_steps home m (ghost_run home opening before) event (run_held home m version opening before opened owed.0) owed.1).upto version (run_upto home m version opening before opened owed.0)
+unfolding ghosts_after ghost_run AreEnabled
+run_upto home m version opening [] opened enabled = opening_upto home m version opening opened
+run_upto home m version opening (event ∷ before) opened enabled =
+    (log_steps home m (ghost_run home opening before) event (run_held home m version opening before opened enabled.0) enabled.1).upto version (run_upto home m version opening before opened enabled.0)
 
 -- ---- home by home
-pub run_in_order : (home : ℕ → ℕ) (m : Map) (version : ℕ) (opening : Ghosts) (events : List GhostEvent) → IsOpened home m version opening → AreOwed home opening events
+pub run_in_order : (home : ℕ → ℕ) (m : Map) (version : ℕ) (opening : Ghosts) (events : List GhostEvent) → IsOpened home m version opening → AreEnabled home opening events
     → HeldInOrder home (ghost_run home opening events).log
-unfolding ghosts_after ghost_run AreOwed
-run_in_order home m version opening [] opened owed = record {
+unfolding ghosts_after ghost_run AreEnabled
+run_in_order home m version opening [] opened enabled = record {
   in_order = λ newer older effect earlier is is_in same. absurd (no_place effect newer older (sym opened.no_history ∙ is));
   in_chain = λ effect is_in. absurd (subst (IsIn effect) opened.no_history is_in);
 }
-run_in_order home m version opening (event ∷ before) opened owed =
-    (log_steps home m (ghost_run home opening before) event (run_held home m version opening before opened owed.0) owed.1).in_order (run_in_order home m version opening before opened owed.0)
+run_in_order home m version opening (event ∷ before) opened enabled =
+    (log_steps home m (ghost_run home opening before) event (run_held home m version opening before opened enabled.0) enabled.1).in_order (run_in_order home m version opening before opened enabled.0)

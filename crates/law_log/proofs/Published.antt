@@ -7,7 +7,7 @@ use Rattle.fkv_map.proofs.Shown.{legal_one_more}
 use Rattle.law_log.specs.Trace.{history_of, value_in, IsIn}
 use Rattle.law_log.specs.Chains.{Cell, Logged, Reserved, Published, value_at, version_at, has_key, has_key_in, head_of, chain_from, first_such, IsWithin, VersionsFall}
 use Rattle.law_log.specs.Ghosts.{Log, set_at, first_from, newest_of, newest_in, shown, effect_of}
-use Rattle.law_log.specs.Owed.{IsFixed, StandsStill, NoneAbove, IsLinked, IsOfHome, previous_of}
+use Rattle.law_log.specs.Enabled.{IsFixed, StandsStill, NoneAbove, IsLinked, IsOfHome, previous_of}
 use Rattle.law_log.proofs.Chains.{set_there, set_else, at_one, same_or_other, own_number, other_number, same_number, from_head, from_else, in_from, first_is, IsFirst, first_else, first_there}
 use Rattle.law_log.proofs.Versions.{has_in, in_has, latest_is_first}
 use Rattle.law_log.proofs.Held.{Held, Grows, IsBlind, ArePartOf, not_reserved, first_along, falls_along, made_stays}

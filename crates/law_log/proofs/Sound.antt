@@ -6,7 +6,7 @@ use Rattle.fkv_map.specs.Map.{Map, reply_to_read}
 use Rattle.law_log.specs.Trace.{Effect, TraceLine, CallsUpdate, RefusesUpdate, GivesResult, CallsRead, AnswersRead, IsIn, value_in, HasUpdate, OrdersCalls, IsFresh, ReadsAreFresh}
 use Rattle.law_log.specs.Chains.{Logged, Unborn, Reserved, Published, Dropped}
 use Rattle.law_log.specs.Ghosts.{Log, Reading, Called, HasValue, Ghosts, GhostEvent, Tells, FindsEntry, TakesValue, Reserves, Publishes, Drops, Changes, Fixes, published, dropped, changed, found, took, read_called, set_at, ghosts_after, ghost_run}
-use Rattle.law_log.specs.Owed.{Owes, OwesLine, OwesPublish, OwesChange, IsInHand, AreOwed, IsOpened}
+use Rattle.law_log.specs.Enabled.{IsEnabled, IsLineEnabled, IsPublishEnabled, IsChangeEnabled, IsInHand, AreEnabled, IsOpened}
 use Rattle.law_log.proofs.Lists.{has_more, place_of, no_place}
 use Rattle.law_log.proofs.Chains.{at_one}
 use Rattle.law_log.proofs.Held.{Held, Grows}
@@ -29,17 +29,17 @@ pub record AddsEffect (g : Ghosts) (log' : Log) : Type 0 where
 abbrev pub AddsOneOrNone : Ghosts → Log → Type 0
 AddsOneOrNone g log' = (log'.history ≡ g.log.history) ⊎ AddsEffect g log'
 
-publish_adds : (home : ℕ → ℕ) (g : Ghosts) (a : ℕ) (logged : Logged) → OwesPublish home g logged → AddsOneOrNone g (published home g.log a logged)
-publish_adds home g a (Reserved entry cell) owed = inr (record { effect = record { entry = entry; version = cell.version }; longer = refl; in_hand = owed.2 })
-publish_adds home g a Unborn owed = inl refl
-publish_adds home g a (Published cell) owed = inl refl
-publish_adds home g a (Dropped cell) owed = inl refl
+publish_adds : (home : ℕ → ℕ) (g : Ghosts) (a : ℕ) (logged : Logged) → IsPublishEnabled home g logged → AddsOneOrNone g (published home g.log a logged)
+publish_adds home g a (Reserved entry cell) enabled = inr (record { effect = record { entry = entry; version = cell.version }; longer = refl; in_hand = enabled.2 })
+publish_adds home g a Unborn enabled = inl refl
+publish_adds home g a (Published cell) enabled = inl refl
+publish_adds home g a (Dropped cell) enabled = inl refl
 
-change_adds : (home : ℕ → ℕ) (g : Ghosts) (a : ℕ) (entry : HistoryEntry) (logged : Logged) → OwesChange home g a entry logged → AddsOneOrNone g (changed g.log a entry logged)
-change_adds home g a entry (Published cell) owed = inr (record { effect = record { entry = entry; version = cell.version }; longer = refl; in_hand = owed.1 })
-change_adds home g a entry Unborn owed = inl refl
-change_adds home g a entry (Reserved other cell) owed = inl refl
-change_adds home g a entry (Dropped cell) owed = inl refl
+change_adds : (home : ℕ → ℕ) (g : Ghosts) (a : ℕ) (entry : HistoryEntry) (logged : Logged) → IsChangeEnabled home g a entry logged → AddsOneOrNone g (changed g.log a entry logged)
+change_adds home g a entry (Published cell) enabled = inr (record { effect = record { entry = entry; version = cell.version }; longer = refl; in_hand = enabled.1 })
+change_adds home g a entry Unborn enabled = inl refl
+change_adds home g a entry (Reserved other cell) enabled = inl refl
+change_adds home g a entry (Dropped cell) enabled = inl refl
 
 orders_adds : (g : Ghosts) (log' : Log) → OrdersCalls g.log.history g.trace → AddsOneOrNone g log' → OrdersCalls log'.history g.trace
 orders_adds g log' orders (inl same) = subst (λ h. OrdersCalls h g.trace) (sym same) orders
@@ -63,48 +63,48 @@ has_value : (home : ℕ → ℕ) (m : Map) (g : Ghosts) (reader key : ℕ) (seen
     → IsBegun g.trace reader key seen × HadValue m g.log.history seen key value
 has_value home m g reader key seen value is knows = subst (KnowsRead home m g.log g.trace reader) is knows
 
-fresh_answer : (home : ℕ → ℕ) (m : Map) (g : Ghosts) (reader key : ℕ) (reply : Reply) (between earlier : List TraceLine) → KnowsRead home m g.log g.trace reader (g.reads reader) → OwesLine g (AnswersRead reader reply)
+fresh_answer : (home : ℕ → ℕ) (m : Map) (g : Ghosts) (reader key : ℕ) (reply : Reply) (between earlier : List TraceLine) → KnowsRead home m g.log g.trace reader (g.reads reader) → IsLineEnabled g (AnswersRead reader reply)
     → g.trace ≡ between ++ CallsRead reader key ∷ earlier → IsFresh m g.log.history key reply earlier []
-fresh_answer home m g reader key reply between earlier knows owed was =
-    let known = has_value home m g reader owed.0 owed.1 owed.2 owed.3 knows in
+fresh_answer home m g reader key reply between earlier knows enabled was =
+    let known = has_value home m g reader enabled.0 enabled.1 enabled.2 enabled.3 knows in
     let begun = known.0.its between earlier key was in
     let had = known.1 in
     record {
       newer = had.newer;
-      older = had.between ++ owed.1;
+      older = had.between ++ enabled.1;
       all = had.all;
-      value = owed.4 ∙ ap reply_to_read had.its ∙ ap (λ k. reply_to_read (value_in m (had.between ++ owed.1) k)) (sym begun.0);
-      given_before = λ session serial given is_in. has_more had.between owed.1 session serial (begun.1 session serial given is_in);
+      value = enabled.4 ∙ ap reply_to_read had.its ∙ ap (λ k. reply_to_read (value_in m (had.between ++ enabled.1) k)) (sym begun.0);
+      given_before = λ session serial given is_in. has_more had.between enabled.1 session serial (begun.1 session serial given is_in);
       called_later = λ session serial op is_in has. is_in;
     }
 
 -- an answer that was fresh is so whatever is told later
-fresh_on : (m : Map) (g : Ghosts) (line : TraceLine) (key : ℕ) (reply : Reply) (earlier later : List TraceLine) → OwesLine g line → OrdersCalls g.log.history g.trace → IsFresh m g.log.history key reply earlier later
+fresh_on : (m : Map) (g : Ghosts) (line : TraceLine) (key : ℕ) (reply : Reply) (earlier later : List TraceLine) → IsLineEnabled g line → OrdersCalls g.log.history g.trace → IsFresh m g.log.history key reply earlier later
     → IsFresh m g.log.history key reply earlier (line ∷ later)
-fresh_on m g line key reply earlier later owed orders its = record {
+fresh_on m g line key reply earlier later enabled orders its = record {
   newer = its.newer;
   older = its.older;
   all = its.all;
   value = its.value;
   given_before = its.given_before;
   called_later = λ session serial op is_in has. elim is_in [
-    | inl same ↦ none_before g line owed orders session serial op same (subst (λ h. HasUpdate h session serial) (sym its.all) (has_more its.newer its.older session serial has))
+    | inl same ↦ none_before g line enabled orders session serial op same (subst (λ h. HasUpdate h session serial) (sym its.all) (has_more its.newer its.older session serial has))
     | inr older ↦ its.called_later session serial op older has
   ];
 }
 
-fresh_line : (home : ℕ → ℕ) (m : Map) (g : Ghosts) (line : TraceLine) → IsSound home m g → OwesLine g line → ReadsAreFresh m g.log.history (line ∷ g.trace)
-fresh_line home m g line sound owed = record {
+fresh_line : (home : ℕ → ℕ) (m : Map) (g : Ghosts) (line : TraceLine) → IsSound home m g → IsLineEnabled g line → ReadsAreFresh m g.log.history (line ∷ g.trace)
+fresh_line home m g line sound enabled = record {
   called = λ later before reader reply is. elim (place_of line (AnswersRead reader reply) g.trace later before is) [
-    | inl front ↦ let its = subst (OwesLine g) front.its owed in
+    | inl front ↦ let its = subst (IsLineEnabled g) front.its enabled in
         (its.0, subst (IsIn (CallsRead reader its.0)) front.all_older (has_value home m g reader its.0 its.1 its.2 its.3 (sound.knows reader)).0.called)
     | inr behind ↦ sound.fresh.called behind.fewer before reader reply behind.place
   ];
   fresh = λ later between earlier reader key reply is. elim (place_of line (AnswersRead reader reply) g.trace later (between ++ CallsRead reader key ∷ earlier) is) [
     | inl front ↦ subst (IsFresh m g.log.history key reply earlier) (sym front.none_newer)
-        (fresh_answer home m g reader key reply between earlier (sound.knows reader) (subst (OwesLine g) front.its owed) front.all_older)
+        (fresh_answer home m g reader key reply between earlier (sound.knows reader) (subst (IsLineEnabled g) front.its enabled) front.all_older)
     | inr behind ↦ subst (IsFresh m g.log.history key reply earlier) (sym behind.newer_is)
-        (fresh_on m g line key reply earlier behind.fewer owed sound.orders (sound.fresh.fresh behind.fewer between earlier reader key reply behind.place))
+        (fresh_on m g line key reply earlier behind.fewer enabled sound.orders (sound.fresh.fresh behind.fewer between earlier reader key reply behind.place))
   ];
 }
 
@@ -113,12 +113,12 @@ fresh_line home m g line sound owed = record {
 told_else : (home : ℕ → ℕ) (m : Map) (g : Ghosts) (line : TraceLine) → ((reader : ℕ) → IsNoCall line reader) → IsSound home m g → (reader : ℕ) → KnowsRead home m g.log (line ∷ g.trace) reader (g.reads reader)
 told_else home m g line no_call sound reader = read_told home m g.log g.trace line reader (g.reads reader) (no_call reader) (sound.knows reader)
 
-called_knows : (home : ℕ → ℕ) (m : Map) (g : Ghosts) (r key : ℕ) → IsSound home m g → OwesLine g (CallsRead r key) → (reader : ℕ)
+called_knows : (home : ℕ → ℕ) (m : Map) (g : Ghosts) (r key : ℕ) → IsSound home m g → IsLineEnabled g (CallsRead r key) → (reader : ℕ)
     → KnowsRead home m g.log (CallsRead r key ∷ g.trace) reader (set_at g.reads r (Called key g.log.history) reader)
-called_knows home m g r key sound owed reader = elim (at_one g.reads r (Called key g.log.history) reader) [
+called_knows home m g r key sound enabled reader = elim (at_one g.reads r (Called key g.log.history) reader) [
   | inl here ↦ subst (KnowsRead home m g.log (CallsRead r key ∷ g.trace) reader) (sym here.1)
       (subst (λ i. KnowsRead home m g.log (CallsRead i key ∷ g.trace) reader (Called key g.log.history)) here.0
-      (begins_read home m g.log g.trace reader key sound.orders (subst (KnowsRead home m g.log g.trace reader) (ap g.reads here.0 ∙ owed) (sound.knows reader))))
+      (begins_read home m g.log g.trace reader key sound.orders (subst (KnowsRead home m g.log g.trace reader) (ap g.reads here.0 ∙ enabled) (sound.knows reader))))
   | inr else_ ↦ subst (KnowsRead home m g.log (CallsRead r key ∷ g.trace) reader) (sym else_.1)
       (read_told home m g.log g.trace (CallsRead r key) reader (g.reads reader) (λ key' same. else_.0 (same_reader key' same)) (sound.knows reader))
 ]
@@ -126,12 +126,12 @@ called_knows home m g r key sound owed reader = elim (at_one g.reads r (Called k
     same_reader : (key' : ℕ) → CallsRead r key ≡ CallsRead reader key' → reader ≡ r
     same_reader key' same = cc
 
-line_knows : (home : ℕ → ℕ) (m : Map) (g : Ghosts) (line : TraceLine) → IsSound home m g → OwesLine g line → (reader : ℕ) → KnowsRead home m g.log (line ∷ g.trace) reader (read_called g.log.history line g.reads reader)
-line_knows home m g (CallsRead r key) sound owed reader = called_knows home m g r key sound owed reader
-line_knows home m g (CallsUpdate s n op) sound owed reader = told_else home m g (CallsUpdate s n op) (λ r key same. absurd (grind (arith, same))) sound reader
-line_knows home m g (RefusesUpdate s n) sound owed reader = told_else home m g (RefusesUpdate s n) (λ r key same. absurd (grind (arith, same))) sound reader
-line_knows home m g (GivesResult s n reply) sound owed reader = told_else home m g (GivesResult s n reply) (λ r key same. absurd (grind (arith, same))) sound reader
-line_knows home m g (AnswersRead r reply) sound owed reader = told_else home m g (AnswersRead r reply) (λ r key same. absurd (grind (arith, same))) sound reader
+line_knows : (home : ℕ → ℕ) (m : Map) (g : Ghosts) (line : TraceLine) → IsSound home m g → IsLineEnabled g line → (reader : ℕ) → KnowsRead home m g.log (line ∷ g.trace) reader (read_called g.log.history line g.reads reader)
+line_knows home m g (CallsRead r key) sound enabled reader = called_knows home m g r key sound enabled reader
+line_knows home m g (CallsUpdate s n op) sound enabled reader = told_else home m g (CallsUpdate s n op) (λ r key same. absurd (grind (arith, same))) sound reader
+line_knows home m g (RefusesUpdate s n) sound enabled reader = told_else home m g (RefusesUpdate s n) (λ r key same. absurd (grind (arith, same))) sound reader
+line_knows home m g (GivesResult s n reply) sound enabled reader = told_else home m g (GivesResult s n reply) (λ r key same. absurd (grind (arith, same))) sound reader
+line_knows home m g (AnswersRead r reply) sound enabled reader = told_else home m g (AnswersRead r reply) (λ r key same. absurd (grind (arith, same))) sound reader
 
 -- where one read goes on
 one_knows : (home : ℕ → ℕ) (m : Map) (g : Ghosts) (r : ℕ) (reading : Reading) → IsSound home m g → KnowsRead home m g.log g.trace r reading → (reader : ℕ) → KnowsRead home m g.log g.trace reader (set_at g.reads r reading reader)
@@ -150,37 +150,37 @@ log_sound home m g log' sound steps adds = record {
   fresh = fresh_longer home m g.log log' g.trace steps.grows sound.fresh;
 }
 
-pub event_sound : (home : ℕ → ℕ) (m : Map) (g : Ghosts) (event : GhostEvent) → IsSound home m g → Owes home g event → IsSound home m (ghosts_after home g event)
+pub event_sound : (home : ℕ → ℕ) (m : Map) (g : Ghosts) (event : GhostEvent) → IsSound home m g → IsEnabled home g event → IsSound home m (ghosts_after home g event)
 unfolding ghosts_after
-event_sound home m g (Tells line) sound owed = record {
+event_sound home m g (Tells line) sound enabled = record {
   held = sound.held;
-  orders = orders_line g line owed sound.orders;
-  knows = line_knows home m g line sound owed;
-  fresh = fresh_line home m g line sound owed;
+  orders = orders_line g line enabled sound.orders;
+  knows = line_knows home m g line sound enabled;
+  fresh = fresh_line home m g line sound enabled;
 }
-event_sound home m g (FindsEntry r) sound owed = record {
+event_sound home m g (FindsEntry r) sound enabled = record {
   held = sound.held;
   orders = sound.orders;
   knows = one_knows home m g r (found home g.log (g.reads r)) sound (finds_knows home m g.log g.trace r (g.reads r) sound.held (sound.knows r));
   fresh = sound.fresh;
 }
-event_sound home m g (TakesValue r) sound owed = record {
+event_sound home m g (TakesValue r) sound enabled = record {
   held = sound.held;
   orders = sound.orders;
   knows = one_knows home m g r (took home g.log (g.reads r)) sound (takes_knows home m g.log g.trace r (g.reads r) (sound.knows r));
   fresh = sound.fresh;
 }
-event_sound home m g (Reserves a entry cell) sound owed = log_sound home m g _ sound (log_steps home m g (Reserves a entry cell) sound.held owed) (inl refl)
-event_sound home m g (Publishes a) sound owed = log_sound home m g _ sound (log_steps home m g (Publishes a) sound.held owed) (publish_adds home g a (g.log.cells a) owed)
-event_sound home m g (Drops a) sound owed = log_sound home m g _ sound (log_steps home m g (Drops a) sound.held owed) (drop_adds (g.log.cells a))
+event_sound home m g (Reserves a entry cell) sound enabled = log_sound home m g _ sound (log_steps home m g (Reserves a entry cell) sound.held enabled) (inl refl)
+event_sound home m g (Publishes a) sound enabled = log_sound home m g _ sound (log_steps home m g (Publishes a) sound.held enabled) (publish_adds home g a (g.log.cells a) enabled)
+event_sound home m g (Drops a) sound enabled = log_sound home m g _ sound (log_steps home m g (Drops a) sound.held enabled) (drop_adds (g.log.cells a))
   where
     drop_adds : (logged : Logged) → AddsOneOrNone g (dropped g.log a logged)
     drop_adds (Reserved entry cell) = inl refl
     drop_adds Unborn = inl refl
     drop_adds (Published cell) = inl refl
     drop_adds (Dropped cell) = inl refl
-event_sound home m g (Changes a entry) sound owed = log_sound home m g _ sound (log_steps home m g (Changes a entry) sound.held owed) (change_adds home g a entry (g.log.cells a) owed)
-event_sound home m g (Fixes a) sound owed = log_sound home m g _ sound (log_steps home m g (Fixes a) sound.held owed) (inl refl)
+event_sound home m g (Changes a entry) sound enabled = log_sound home m g _ sound (log_steps home m g (Changes a entry) sound.held enabled) (change_adds home g a entry (g.log.cells a) enabled)
+event_sound home m g (Fixes a) sound enabled = log_sound home m g _ sound (log_steps home m g (Fixes a) sound.held enabled) (inl refl)
 
 -- ---- a whole run
 pub opening_sound : (home : ℕ → ℕ) (m : Map) (version : ℕ) (opening : Ghosts) → IsOpened home m version opening → IsSound home m opening
@@ -199,8 +199,8 @@ opening_sound home m version opening opened = record {
   };
 }
 
-pub run_sound : (home : ℕ → ℕ) (m : Map) (version : ℕ) (opening : Ghosts) (events : List GhostEvent) → IsOpened home m version opening → AreOwed home opening events → IsSound home m (ghost_run home opening events)
-unfolding ghost_run AreOwed
-run_sound home m version opening [] opened owed = opening_sound home m version opening opened
-run_sound home m version opening (event ∷ before) opened owed =
-    event_sound home m (ghost_run home opening before) event (run_sound home m version opening before opened owed.0) owed.1
+pub run_sound : (home : ℕ → ℕ) (m : Map) (version : ℕ) (opening : Ghosts) (events : List GhostEvent) → IsOpened home m version opening → AreEnabled home opening events → IsSound home m (ghost_run home opening events)
+unfolding ghost_run AreEnabled
+run_sound home m version opening [] opened enabled = opening_sound home m version opening opened
+run_sound home m version opening (event ∷ before) opened enabled =
+    event_sound home m (ghost_run home opening before) event (run_sound home m version opening before opened enabled.0) enabled.1

@@ -5,7 +5,7 @@ use Rattle.fkv_map.specs.Map.{Map}
 use Rattle.law_log.specs.Trace.{IsIn}
 use Rattle.law_log.specs.Chains.{Cell, Logged, Unborn, Reserved, Published, Dropped, value_at, has_key, has_key_in, chain_from, first_such}
 use Rattle.law_log.specs.Ghosts.{Log, set_at, first_from}
-use Rattle.law_log.specs.Owed.{IsMade, IsLinked, previous_of}
+use Rattle.law_log.specs.Enabled.{IsMade, IsLinked, previous_of}
 use Rattle.law_log.proofs.Chains.{set_else, at_one, first_is, IsFirst, in_from}
 use Rattle.law_log.proofs.Held.{Held, Grows, IsBlind, ArePartOf, not_reserved, not_unborn, first_along, falls_along, made_stays}
 

@@ -10,7 +10,7 @@ use Rattle.fkv_map.proofs.Shown.{legal_one_more}
 use Rattle.law_log.specs.Trace.{history_of, value_in, upto}
 use Rattle.law_log.specs.Chains.{Cell, Logged, Published, value_at, has_key_upto}
 use Rattle.law_log.specs.Ghosts.{Log, set_at, first_from, newest_upto, shown_upto, effect_of, changed_by}
-use Rattle.law_log.specs.Owed.{IsMade}
+use Rattle.law_log.specs.Enabled.{IsMade}
 use Rattle.law_log.proofs.Chains.{set_there, set_else, same_or_other, other_number, first_is}
 use Rattle.law_log.proofs.Versions.{upto_is_all}
 use Rattle.law_log.proofs.Held.{Held, first_along}

@@ -3,7 +3,7 @@ use Rattle.std.proofs.Common.{◌≡◌, ◌≢◌, inl, inr, ℕ, ◌<◌, ◌�
 use Rattle.law_log.specs.Trace.{IsIn}
 use Rattle.law_log.specs.Chains.{Cell, Logged, Published, has_key, head_of, chain_from, first_such, IsWithin}
 use Rattle.law_log.specs.Ghosts.{Log, first_from, newest_of}
-use Rattle.law_log.specs.Owed.{AreChains, IsLinked, previous_of}
+use Rattle.law_log.specs.Enabled.{AreChains, IsLinked, previous_of}
 use Rattle.law_log.proofs.Chains.{own_number, from_head, from_else, head_within, first_else, first_there}
 
 -- all addresses of a chain lie below what leads to it

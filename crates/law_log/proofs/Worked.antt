@@ -7,7 +7,7 @@ use Rattle.fkv_map.specs.Map.{reply_to_read}
 use Rattle.law_log.specs.Trace.{Effect, IsIn, HasUpdate, GivesResult, CallsUpdate, value_in, history_of}
 use Rattle.law_log.specs.Chains.{Cell, Logged, Unborn, Reserved, Published, version_at}
 use Rattle.law_log.specs.Ghosts.{Fixes, ghosts_after, ghost_run, set_at, effect_of, changed_by}
-use Rattle.law_log.specs.Owed.{AreOwed, IsOpened}
+use Rattle.law_log.specs.Enabled.{AreEnabled, IsOpened}
 use Rattle.law_log.specs.Worked.{no_map, one_home, empty_log, entry_of, cell_of, gives_70, adds_5, gives_8, kept_run, both_add, gets_70, ChangesWhatIsFixed, CopiesWhatMayChange, GivesOpeningState}
 use Rattle.fkv_map.proofs.Shown.{legal_each}
 use Rattle.std.specs.FinMap.{get-empty}
@@ -117,9 +117,9 @@ none_of_2 has = elim has.is_in [
   ]
 ]
 
-pub worked_owed : AreOwed one_home empty_log kept_run
-unfolding AreOwed ghosts_after ghost_run set_at effect_70 effect_75 first_made first_published second_made sum_in_place
-worked_owed = (
+pub worked_enabled : AreEnabled one_home empty_log kept_run
+unfolding AreEnabled ghosts_after ghost_run set_at effect_70 effect_75 first_made first_published second_made sum_in_place
+worked_enabled = (
   (
     (
       (

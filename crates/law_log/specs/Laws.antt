@@ -1,4 +1,4 @@
--- The laws of a log of cells and chains, over every list of events that owe nothing.
+-- The laws of a log of cells and chains, over every list of events that are enabled.
 use Rattle.std.specs.Prelude.{◌≡◌, ◌⊎◌, ◌≤◌, ℕ, List, ◌∷◌, ◌++◌}
 use Rattle.fkv_map.specs.Map.{Map}
 use Rattle.fkv_map.specs.History.{IsLegal}
@@ -6,12 +6,12 @@ use Rattle.fkv_map.specs.Keys.{key_of}
 use Rattle.law_log.specs.Trace.{Effect, IsIn, history_of, value_in, upto, OrdersCalls, ReadsAreFresh}
 use Rattle.law_log.specs.Chains.{Cell, Published, VersionsFall}
 use Rattle.law_log.specs.Ghosts.{Ghosts, GhostEvent, shown, shown_upto, newest_in, ghost_run}
-use Rattle.law_log.specs.Owed.{AreOwed, IsOpened, IsFixed, IsLinked}
+use Rattle.law_log.specs.Enabled.{AreEnabled, IsOpened, IsFixed, IsLinked}
 
 -- what holds after each list of events that keep to their rules, of a log that was opened with a map and a version
 abbrev pub AtEachMoment : ((ℕ → ℕ) → Map → ℕ → Ghosts → Type 0) → Type 0
 AtEachMoment P =
-    (home : ℕ → ℕ) (m : Map) (version : ℕ) (opening : Ghosts) (events : List GhostEvent) → IsOpened home m version opening → AreOwed home opening events
+    (home : ℕ → ℕ) (m : Map) (version : ℕ) (opening : Ghosts) (events : List GhostEvent) → IsOpened home m version opening → AreEnabled home opening events
     → P home m version (ghost_run home opening events)
 
 -- the history is legal from the opening map

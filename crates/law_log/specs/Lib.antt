@@ -1,6 +1,6 @@
 pub mod Chains
 pub mod Ghosts
 pub mod Laws
-pub mod Owed
+pub mod Enabled
 pub mod Trace
 pub mod Worked

@@ -11,7 +11,7 @@ use Rattle.fkv_map.specs.History.{IsLegal}
 use Rattle.law_log.specs.Trace.{history_of, CallsUpdate, GivesResult, CallsRead, AnswersRead, ReadsAreFresh}
 use Rattle.law_log.specs.Chains.{Cell, Unborn}
 use Rattle.law_log.specs.Ghosts.{Ghosts, GhostEvent, Tells, FindsEntry, TakesValue, Reserves, Publishes, Changes, Fixes, NotCalled, shown, ghost_run}
-use Rattle.law_log.specs.Owed.{AreOwed, IsOpened}
+use Rattle.law_log.specs.Enabled.{AreEnabled, IsOpened}
 
 abbrev pub no_map : Map
 no_map = empty
@@ -66,7 +66,7 @@ kept_run =
 -- the log is opened, the run keeps to the rules, and both keys show what they have
 pub record IsKept : Type 0 where
   pub opened : IsOpened one_home no_map 0 empty_log
-  pub owed : AreOwed one_home empty_log kept_run
+  pub enabled : AreEnabled one_home empty_log kept_run
   pub key_5 : shown one_home (ghost_run one_home empty_log kept_run).log 5 ≡ Some 75
   pub key_6 : shown one_home (ghost_run one_home empty_log kept_run).log 6 ≡ Some 8
 

@@ -6,7 +6,7 @@ ghost use Rattle.fkv_core.specs.Openings.{IsOpeningWorld};
 ghost use Rattle.fkv_opening.specs.Opened.{IsStoreOf};
 ghost use Rattle.fkv_opening.specs.declared.opened_store.Opened.{Opened};
 ghost use Rattle.law_log.specs.Ghosts.{shown};
-ghost use Rattle.law_log.specs.Owed.{IsOpened};
+ghost use Rattle.law_log.specs.Enabled.{IsOpened};
 ghost use Rattle.fkv_pairs.specs.Pairs.{ArePairs, HasValue, log_of_store};
 ghost use Rattle.fkv_world.specs.World.{Event, Now};
 ghost use Rattle.law_refine.specs.Events.GhostEvents.{home_in};

@@ -4,7 +4,8 @@ mod OfKnown
 mod OfLooks
 mod OfOneHistory
 mod OfOrdered
-mod OfOwes
+mod OfEnabled
+mod OfPrefix
 mod OfReads
 mod OfRest
 mod OfRows

@@ -1,3 +1,3 @@
 mod Lines
-pub mod Owed
+pub mod Enabled
 mod Runs

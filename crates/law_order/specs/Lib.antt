@@ -2,6 +2,7 @@ pub mod Asked
 pub mod Known
 pub mod OneHistory
 pub mod Ordered
+pub mod Prefix
 pub mod Reads
 pub mod Rest
 pub mod Rows

@@ -1,13 +1,14 @@
-//! The order law: the induction over events, and each life's one legal history.
+//! The order law: the induction over events, and each life's one legal history; and the law of prefixes, as it is stated.
 #![tactic(auto)]
 
 mod asked;
+mod enabled;
 mod fits;
 mod known;
 mod looks;
 mod one_history;
 mod ordered;
-mod owes;
+mod prefix;
 mod reads;
 mod rest;
 mod rows;
@@ -18,12 +19,13 @@ mod told;
 mod truth;
 
 pub use asked::law_world_asked;
+pub use enabled::law_world_enabled;
 pub use fits::law_opening_fits;
 pub use known::law_sessions_begin;
 pub use looks::law_looks_true;
 pub use one_history::law_order;
 pub use ordered::{law_rules_kept, law_world_ordered};
-pub use owes::law_world_owes_order;
+pub use prefix::{law_join, law_lives};
 pub use reads::law_world_reads;
 pub use rest::{law_life_rests, law_log_rests, law_rest_said};
 pub use rows::{law_requests_asked, law_rows_at_rest, law_rows_go_on};

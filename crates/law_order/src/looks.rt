@@ -3,7 +3,7 @@ ghost use Rattle.std.specs.Prelude.{List, ℕ};
 ghost use Rattle.fkv_base.specs.declared.numbers.Version.{Version};
 ghost use Rattle.fkv_map.specs.Map.{Map};
 ghost use Rattle.law_log.specs.Ghosts.{Ghosts};
-ghost use Rattle.law_log.specs.Owed.{AreOwed};
+ghost use Rattle.law_log.specs.Enabled.{AreEnabled};
 ghost use Rattle.fkv_world.specs.Runs.{World, run};
 ghost use Rattle.fkv_world.specs.World.{Event};
 ghost use Rattle.law_order.specs.Known.Begins.{BeginsLife, home_of_world};
@@ -14,12 +14,12 @@ ghost use Rattle.law_refine.specs.Records.Changes.{AreChangesPublished};
 ghost use Rattle.law_order.specs.Rest.Resting.{HasNoCommit};
 ghost use Rattle.law_order.specs.Served.Served.{ServedShow};
 
-/// In every life without commits of a store that was opened, at each moment so far at which all events of the log beside it were owed, each change in
+/// In every life without commits of a store that was opened, at each moment so far at which all events of the log beside it were enabled, each change in
 /// place met a published record, and sessions know what they have to: where what the device gives for a flushed record shows the log, the words that
 /// an attempt loads from its session's mailbox lead where the record does that its request seeks, and are its key and its value.
 pub fn law_looks_true()
     ensures { (opening : World) (start : ℕ) (lists : ℕ → List ℕ) (version : Version) (m : Map) (number : ℕ) (ghosts : Ghosts) (before : List Event)
-        → BeginsLife opening start lists version m number ghosts → HasNoCommit before → AreOwed (home_of_world opening) ghosts (mapped opening before)
+        → BeginsLife opening start lists version m number ghosts → HasNoCommit before → AreEnabled (home_of_world opening) ghosts (mapped opening before)
         → AreChangesPublished opening ghosts before → AreKnown opening ghosts before → ServedShow opening ghosts before
         → LookTruly (life_ghosts opening ghosts before).log (run opening before).now }
 {}

@@ -1,5 +1,5 @@
 //! The order law of the engine, in every life without commits.
-ghost use Rattle.law_order.specs.OneHistory.EachLife.{InEachLife};
+ghost use Rattle.law_order.specs.OneHistory.EachLife.{InEachLife, WithoutCommits};
 ghost use Rattle.law_order.specs.Rules.InTime.{ReadsInTime};
 ghost use Rattle.law_order.specs.Rules.Ordered.{HasLegalHistory, IsGuarded, OrdersItsCalls, ReadsFreshly, RunsActionsOnce};
 
@@ -14,12 +14,12 @@ use crate::rules::{law_life_begins, law_order_of_rules};
 /// value at some moment between its call and its answer. No step changes a flushed record or a frame that an epoch protects, and each action is run once at most, and when each
 /// protected session goes by what it loaded since its epoch was raised. The calls are of numbers below 2^64, and fewer than 2^64 - 1 calls of sessions begin.
 pub fn law_order()
-    ensures legal { InEachLife HasLegalHistory }
-    ensures ordered { InEachLife OrdersItsCalls }
-    ensures fresh { InEachLife ReadsFreshly }
-    ensures in_time { InEachLife ReadsInTime }
-    ensures guarded { InEachLife IsGuarded }
-    ensures once { InEachLife RunsActionsOnce }
+    ensures legal { InEachLife (WithoutCommits HasLegalHistory) }
+    ensures ordered { InEachLife (WithoutCommits OrdersItsCalls) }
+    ensures fresh { InEachLife (WithoutCommits ReadsFreshly) }
+    ensures in_time { InEachLife (WithoutCommits ReadsInTime) }
+    ensures guarded { InEachLife (WithoutCommits IsGuarded) }
+    ensures once { InEachLife (WithoutCommits RunsActionsOnce) }
 {
     law_life_begins();
     law_order_of_rules();

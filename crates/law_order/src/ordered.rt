@@ -3,7 +3,7 @@ ghost use Rattle.std.specs.Prelude.{ℕ, List};
 ghost use Rattle.fkv_base.specs.declared.numbers.Version.{Version};
 ghost use Rattle.fkv_map.specs.Map.{Map};
 ghost use Rattle.law_log.specs.Ghosts.{Ghosts};
-ghost use Rattle.law_log.specs.Owed.{AreOwed};
+ghost use Rattle.law_log.specs.Enabled.{AreEnabled};
 ghost use Rattle.fkv_world.specs.Runs.{World};
 ghost use Rattle.fkv_world.specs.World.{Event};
 ghost use Rattle.law_order.specs.Known.Begins.{BeginsLife, home_of_world};
@@ -18,7 +18,7 @@ use fkv_flush::law_mail;
 use law_guard::law_world_flushed_is_synced;
 
 /// Every life that begins as a store was opened, has no commit, calls with numbers below 2^64, and gives no ticket again while a request waits that has
-/// it, keeps order: each event of the log beside it is owed, what a session is about to change in place is published, and at each moment sessions know what
+/// it, keeps order: each event of the log beside it is enabled, what a session is about to change in place is published, and at each moment sessions know what
 /// they have to of the log, and reads have come as far in it as control states say.
 pub fn law_world_ordered()
     ensures { (opening : World) (start : ℕ) (lists : ℕ → List ℕ) (version : Version) (m : Map) (number : ℕ) (ghosts : Ghosts) (events : List Event) → BeginsLife opening start lists version m number ghosts
@@ -32,9 +32,9 @@ pub fn law_world_ordered()
 /// So each event of the log beside such a life keeps to its rule, and each change in place is of a published record: the premises under which the
 /// order law speaks of the life itself.
 pub fn law_rules_kept()
-    ensures owed { (opening : World) (start : ℕ) (lists : ℕ → List ℕ) (version : Version) (m : Map) (number : ℕ) (ghosts : Ghosts) (events : List Event) → BeginsLife opening start lists version m number ghosts
+    ensures enabled { (opening : World) (start : ℕ) (lists : ℕ → List ℕ) (version : Version) (m : Map) (number : ℕ) (ghosts : Ghosts) (events : List Event) → BeginsLife opening start lists version m number ghosts
         → CellsFit ghosts.log → HasNoCommit events → CallsFit events → TicketsAreApart opening events
-        → AreOwed (home_of_world opening) ghosts (mapped opening events) }
+        → AreEnabled (home_of_world opening) ghosts (mapped opening events) }
     ensures published { (opening : World) (start : ℕ) (lists : ℕ → List ℕ) (version : Version) (m : Map) (number : ℕ) (ghosts : Ghosts) (events : List Event) → BeginsLife opening start lists version m number ghosts
         → CellsFit ghosts.log → HasNoCommit events → CallsFit events → TicketsAreApart opening events
         → AreChangesPublished opening ghosts events }

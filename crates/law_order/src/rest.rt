@@ -7,7 +7,7 @@ ghost use Rattle.fkv_words.specs.Phases.{phase_number};
 ghost use Rattle.fkv_map.specs.declared.history.HistoryEntry.{HistoryEntry};
 ghost use Rattle.law_log.specs.Chains.{Cell, Published, Reserved};
 ghost use Rattle.law_log.specs.Ghosts.{GhostEvent, Ghosts, ghost_run};
-ghost use Rattle.law_log.specs.Owed.{NoneAbove, NoneCopies};
+ghost use Rattle.law_log.specs.Enabled.{NoneAbove, NoneCopies};
 ghost use Rattle.fkv_world.specs.Opened.{IsOpenedWorld};
 ghost use Rattle.fkv_world.specs.Runs.{World, run};
 ghost use Rattle.fkv_world.specs.World.{Event};

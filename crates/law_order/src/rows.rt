@@ -3,7 +3,7 @@ ghost use Rattle.std.specs.Prelude.{◌≡◌, ◌∷◌, ◌++◌, ℕ, List};
 ghost use Rattle.fkv_base.specs.declared.numbers.Version.{Version};
 ghost use Rattle.fkv_map.specs.Map.{Map};
 ghost use Rattle.law_log.specs.Ghosts.{GhostEvent, Ghosts, ghost_run};
-ghost use Rattle.law_log.specs.Owed.{AreOwed};
+ghost use Rattle.law_log.specs.Enabled.{AreEnabled};
 ghost use Rattle.fkv_ops.specs.declared.requests.Seen.{Seen};
 ghost use Rattle.fkv_pending.specs.declared.pending_requests.PendingRequest.{PendingRequest};
 ghost use Rattle.fkv_pending.specs.Attempting.{AttemptState};
@@ -28,26 +28,26 @@ pub fn law_requests_asked()
 
 /// In every life without commits all records of versions older than the life's are fixed, at each moment, also between the events of the log that one event of the life is.
 /// So what a request that waits knows of the log stays along those of the next event, whatever happens by it, and so does what an attempt knows whose request is of the life's
-/// version, as long as each event of the log was owed.
+/// version, as long as each event of the log was enabled.
 pub fn law_rows_at_rest()
     ensures older { (opening : World) (start : ℕ) (lists : ℕ → List ℕ) (version : Version) (m : Map) (number : ℕ) (ghosts : Ghosts) (events : List Event) (later before : List GhostEvent)
         → BeginsLife opening start lists version m number ghosts → HasNoCommit events → mapped opening events ≡ later ++ before
         → OlderAreFixed (ghost_run (home_of_world opening) ghosts before).log version.0 }
     ensures waits { (opening : World) (start : ℕ) (lists : ℕ → List ℕ) (version : Version) (m : Map) (number : ℕ) (ghosts : Ghosts) (before : List Event) (event : Event) (pending : PendingRequest) (seen : Seen)
-        → BeginsLife opening start lists version m number ghosts → AreOwed (home_of_world opening) ghosts (mapped opening (event ∷ before))
+        → BeginsLife opening start lists version m number ghosts → AreEnabled (home_of_world opening) ghosts (mapped opening (event ∷ before))
         → PendingKnows (home_of_world opening) (life_ghosts opening ghosts before).log pending seen
         → PendingKnows (home_of_world opening) (life_ghosts opening ghosts (event ∷ before)).log pending seen }
     ensures attempts { (opening : World) (start : ℕ) (lists : ℕ → List ℕ) (version : Version) (m : Map) (number : ℕ) (ghosts : Ghosts) (before : List Event) (event : Event) (attempt : AttemptState)
-        → BeginsLife opening start lists version m number ghosts → HasNoCommit (event ∷ before) → AreOwed (home_of_world opening) ghosts (mapped opening (event ∷ before))
+        → BeginsLife opening start lists version m number ghosts → HasNoCommit (event ∷ before) → AreEnabled (home_of_world opening) ghosts (mapped opening (event ∷ before))
         → attempt.pending.request.version ≡ version → AttemptKnows (home_of_world opening) (life_ghosts opening ghosts before).log attempt
         → AttemptKnows (home_of_world opening) (life_ghosts opening ghosts (event ∷ before)).log attempt }
 {}
 
-/// In every life without commits what sessions know of the log goes on by each event: where all events of the log until then, and those of the event too, were owed, and each
+/// In every life without commits what sessions know of the log goes on by each event: where all events of the log until then, and those of the event too, were enabled, and each
 /// session knew what it has to at each moment and was told truly before the event, each knows it behind the event.
 pub fn law_rows_go_on()
     ensures { (opening : World) (start : ℕ) (lists : ℕ → List ℕ) (version : Version) (m : Map) (number : ℕ) (ghosts : Ghosts) (before : List Event) (event : Event)
-        → BeginsLife opening start lists version m number ghosts → HasNoCommit (event ∷ before) → AreOwed (home_of_world opening) ghosts (mapped opening (event ∷ before))
+        → BeginsLife opening start lists version m number ghosts → HasNoCommit (event ∷ before) → AreEnabled (home_of_world opening) ghosts (mapped opening (event ∷ before))
         → AreKnown opening ghosts before → AreToldTruly (home_of_world opening) (life_ghosts opening ghosts before).log (run opening before).now
         → AllKnowBehind opening ghosts (event ∷ before) }
 {}

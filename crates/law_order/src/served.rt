@@ -3,7 +3,7 @@ ghost use Rattle.std.specs.Prelude.{List, ℕ};
 ghost use Rattle.fkv_base.specs.declared.numbers.Version.{Version};
 ghost use Rattle.fkv_map.specs.Map.{Map};
 ghost use Rattle.law_log.specs.Ghosts.{Ghosts};
-ghost use Rattle.law_log.specs.Owed.{AreOwed};
+ghost use Rattle.law_log.specs.Enabled.{AreEnabled};
 ghost use Rattle.fkv_world.specs.Runs.{World};
 ghost use Rattle.fkv_world.specs.World.{Event};
 ghost use Rattle.law_order.specs.Known.Begins.{BeginsLife, home_of_world};
@@ -21,9 +21,9 @@ use law_guard::law_world_flushed_is_synced;
 /// numbers below 2^64.
 pub fn law_world_served()
     ensures served { (opening : World) (start : ℕ) (lists : ℕ → List ℕ) (version : Version) (m : Map) (number : ℕ) (ghosts : Ghosts) (events : List Event) → BeginsLife opening start lists version m number ghosts
-        → CellsFit ghosts.log → CallsFit events → AreOwed (home_of_world opening) ghosts (mapped opening events) → AreChangesPublished opening ghosts events → ServedShow opening ghosts events }
+        → CellsFit ghosts.log → CallsFit events → AreEnabled (home_of_world opening) ghosts (mapped opening events) → AreChangesPublished opening ghosts events → ServedShow opening ghosts events }
     ensures fit { (opening : World) (start : ℕ) (lists : ℕ → List ℕ) (version : Version) (m : Map) (number : ℕ) (ghosts : Ghosts) (events : List Event) → BeginsLife opening start lists version m number ghosts
-        → CellsFit ghosts.log → CallsFit events → AreOwed (home_of_world opening) ghosts (mapped opening events) → CellsFit (life_ghosts opening ghosts events).log }
+        → CellsFit ghosts.log → CallsFit events → AreEnabled (home_of_world opening) ghosts (mapped opening events) → CellsFit (life_ghosts opening ghosts events).log }
 {
     law_mail();
     law_world_flushed_is_synced();

@@ -1,9 +1,9 @@
-//! What the lines that an event of a life tells owe in the log beside it.
+//! That the lines that an event of a life tells are enabled in the log beside it.
 ghost use Rattle.std.specs.Prelude.{ℕ, List, ◌∷◌};
 ghost use Rattle.fkv_base.specs.declared.numbers.Version.{Version};
 ghost use Rattle.fkv_map.specs.Map.{Map};
 ghost use Rattle.law_log.specs.Ghosts.{Ghosts};
-ghost use Rattle.law_log.specs.Owed.{AreOwed};
+ghost use Rattle.law_log.specs.Enabled.{AreEnabled};
 ghost use Rattle.fkv_world.specs.Runs.{World};
 ghost use Rattle.fkv_world.specs.World.{Event};
 ghost use Rattle.law_refine.specs.Calls.Calls.{event_adds};
@@ -12,14 +12,14 @@ ghost use Rattle.law_order.specs.Known.Begins.{BeginsLife, home_of_world};
 ghost use Rattle.law_refine.specs.Events.GhostEvents.{life_ghosts, mapped};
 ghost use Rattle.law_refine.specs.Records.Changes.{AreChangesPublished};
 
-/// In a life whose log's events have been owed so far: where what an event's session does to the log is owed, with the raise of the
+/// In a life whose log's events have been enabled so far: where what an event's session does to the log is enabled, with the raise of the
 /// safe read-only offset behind it, and each answer of a read among the lines that the event tells is the value that the read has, each
-/// of these lines is owed, and so all that the event is to the log. For an update is called under a name that is free, one that is refused has
+/// of these lines is enabled, and so all that the event is to the log. For an update is called under a name that is free, one that is refused has
 /// not taken effect, a result is the reply of its effect, and the number by which a read is called is none that a read has.
 pub fn law_world_told()
     ensures { (opening : World) (start : ℕ) (lists : ℕ → List ℕ) (version : Version) (m : Map) (number : ℕ) (ghosts : Ghosts) (before : List Event) (event : Event) → BeginsLife opening start lists version m number ghosts
-        → AreOwed (home_of_world opening) ghosts (mapped opening before) → AreChangesPublished opening ghosts (event ∷ before)
-        → AreOwed (home_of_world opening) (life_ghosts opening ghosts before) (acted opening before event)
+        → AreEnabled (home_of_world opening) ghosts (mapped opening before) → AreChangesPublished opening ghosts (event ∷ before)
+        → AreEnabled (home_of_world opening) (life_ghosts opening ghosts before) (acted opening before event)
         → EachAnswered (home_of_world opening) (acted_ghosts opening ghosts before event) (event_adds opening before event)
-        → AreOwed (home_of_world opening) ghosts (mapped opening (event ∷ before)) }
+        → AreEnabled (home_of_world opening) ghosts (mapped opening (event ∷ before)) }
 {}

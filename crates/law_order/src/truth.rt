@@ -3,7 +3,7 @@ ghost use Rattle.std.specs.Prelude.{ℕ, List};
 ghost use Rattle.fkv_base.specs.declared.numbers.Version.{Version};
 ghost use Rattle.fkv_map.specs.Map.{Map};
 ghost use Rattle.law_log.specs.Ghosts.{Ghosts};
-ghost use Rattle.law_log.specs.Owed.{AreOwed};
+ghost use Rattle.law_log.specs.Enabled.{AreEnabled};
 ghost use Rattle.fkv_world.specs.Runs.{World, run};
 ghost use Rattle.fkv_world.specs.World.{Event};
 ghost use Rattle.law_order.specs.Known.Begins.{BeginsLife, home_of_world};
@@ -12,12 +12,12 @@ ghost use Rattle.law_order.specs.Known.Told.{AreToldTruly, LookTruly};
 ghost use Rattle.law_refine.specs.Events.GhostEvents.{life_ghosts, mapped};
 ghost use Rattle.law_refine.specs.Records.Changes.{AreChangesPublished};
 
-/// In every life of a store that was opened, at each moment so far at which all events of the log beside it were owed, each change in
+/// In every life of a store that was opened, at each moment so far at which all events of the log beside it were enabled, each change in
 /// place met a published record, and sessions know what they have to: where what they load from their mailboxes is true of the log, so is all that
 /// the words of the store tell the attempts that are under way.
 pub fn law_world_truth()
     ensures { (opening : World) (start : ℕ) (lists : ℕ → List ℕ) (version : Version) (m : Map) (number : ℕ) (ghosts : Ghosts) (before : List Event)
-        → BeginsLife opening start lists version m number ghosts → AreOwed (home_of_world opening) ghosts (mapped opening before)
+        → BeginsLife opening start lists version m number ghosts → AreEnabled (home_of_world opening) ghosts (mapped opening before)
         → AreChangesPublished opening ghosts before → AreKnown opening ghosts before
         → LookTruly (life_ghosts opening ghosts before).log (run opening before).now
         → AreToldTruly (home_of_world opening) (life_ghosts opening ghosts before).log (run opening before).now }

@@ -2,7 +2,7 @@
 use Rattle.std.specs.Prelude.{◌≡◌, ◌⊎◌, ℕ, ◌+◌, ◌*◌, ◌<◌, ◌≤◌, Bool, true, false, Option, Some}
 use Rattle.law_log.specs.Chains.{version_at}
 use Rattle.law_log.specs.Ghosts.{Log}
-use Rattle.law_log.specs.Owed.{IsFixed, NoneAbove}
+use Rattle.law_log.specs.Enabled.{IsFixed, NoneAbove}
 use Rattle.law_log.specs.Trace.{IsIn}
 
 -- A request in a try: its home and version, and the rank of the view by which its session goes. `shares` and `owns`: it has its bucket's latch, shared or

@@ -4,11 +4,6 @@ ghost use Rattle.fkv_chains.specs.Chains.{HasChains};
 ghost use Rattle.fkv_chains.specs.Entries.{Counts};
 ghost use Rattle.fkv_newest.specs.declared.newest_slots.Newest.{Newest};
 ghost use Rattle.fkv_opening.specs.Faults.{HasCheckpoint, log_of};
-<<<<<<< HEAD
-ghost use Rattle.law_log.specs.Chains.{version_at};
-ghost use Rattle.law_log.specs.Ghosts.{Log};
-ghost use Rattle.law_log.specs.Trace.{IsIn};
-=======
 ghost use Rattle.fkv_opening.specs.Alike.{Agree};
 ghost use Rattle.fkv_opening.specs.Opened.{IsStoreOf};
 ghost use Rattle.fkv_opening.specs.declared.opened_store.Opened.{Opened};
@@ -16,7 +11,6 @@ ghost use Rattle.law_log.specs.Chains.{version_at};
 ghost use Rattle.law_log.specs.Ghosts.{Log};
 ghost use Rattle.law_log.specs.Trace.{IsIn};
 ghost use Rattle.fkv_pairs.specs.Pairs.{log_of_store};
->>>>>>> paper
 ghost use Rattle.fkv_record.specs.declared.triples.Triple.{Triple};
 ghost use Rattle.fkv_room.specs.Room.{HasRoom};
 ghost use Rattle.fkv_scan.specs.Log as scan;

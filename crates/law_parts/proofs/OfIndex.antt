@@ -1,7 +1,7 @@
 mod Actors
 mod AppendParts
 pub mod AttemptParts
-pub mod Fair
+pub mod Permitted
 mod FindingFacts
 mod Goes
 mod Leaves

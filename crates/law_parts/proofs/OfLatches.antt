@@ -2,7 +2,7 @@ pub mod Apart
 mod AttemptLatches
 mod CatchLatches
 mod Counts
-pub mod Fair
+pub mod Permitted
 mod Moved
 mod Needs
 mod Openings

@@ -1,6 +1,6 @@
 mod AttemptSits
 pub mod Changes
-pub mod Fair
+pub mod Permitted
 mod KeeperKeeps
 mod KeeperParts
 mod KeeperServes

@@ -4,7 +4,7 @@ ghost use Rattle.fkv_world.specs.World.{Event};
 ghost use Rattle.fkv_world.specs.Runs.{World, run};
 ghost use Rattle.law_parts.specs.Index.LifeEntries.{AtEachMoment, IsIndexNow, AreAnsweredSo, AreSlotsKept, AreOrders, AskForThese, EachMovesIndex};
 ghost use Rattle.law_parts.specs.Index.Searching.{AreSearchesMoved};
-ghost use Rattle.law_parts.specs.Index.Shows.{AreFair, IsOpened, Shows, seen_by_index};
+ghost use Rattle.law_parts.specs.Index.Shows.{ArePermitted, IsOpened, Shows, seen_by_index};
 
 /// Whatever calls a session begins and whatever its asks are replied: behind each reply its search goes on where the machine of searches
 /// does, as that machine's own table says, and for the same purpose. Else the search has ended, or none was under way, and then none
@@ -22,8 +22,8 @@ pub fn law_of_searches()
 /// there; and the list of a bucket's slots is filled from the left and has each tag once. A publish is won where the word that was met
 /// stands in the slot, and gives its home the new entry; no other event changes an entry, and none but a link a list.
 pub fn law_world_one_entry()
-    ensures fair { (opening : World) (lists : ℕ → List ℕ) (events : List Event) → IsOpened opening lists
-        → AreFair opening events }
+    ensures permitted { (opening : World) (lists : ℕ → List ℕ) (events : List Event) → IsOpened opening lists
+        → ArePermitted opening events }
     ensures shows { (opening : World) (lists : ℕ → List ℕ) (events : List Event) → IsOpened opening lists
         → Shows (run opening events).now (seen_by_index opening lists events) }
     ensures index { AtEachMoment IsIndexNow }

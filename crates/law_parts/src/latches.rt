@@ -3,7 +3,7 @@ ghost use Rattle.std.specs.Prelude.{List};
 ghost use Rattle.fkv_latch.specs.Latched.{AreCounted, AreLatchesApart};
 ghost use Rattle.fkv_world.specs.World.{Event};
 ghost use Rattle.fkv_world.specs.Runs.{World, run};
-ghost use Rattle.law_parts.specs.Latches.Shows.{AreApart, AreFair, IsOpened, Shows, seen_by_latches};
+ghost use Rattle.law_parts.specs.Latches.Shows.{AreApart, ArePermitted, IsOpened, Shows, seen_by_latches};
 
 /// Over every life of the engine that begins as a store was opened, whatever its calls, commits, turns and the order of its steps: each
 /// ask of a session that works on no latch, and each of the keeper, adds nothing to the word of a latch, and keeps the latch's bits. So
@@ -11,8 +11,8 @@ ghost use Rattle.law_parts.specs.Latches.Shows.{AreApart, AreFair, IsOpened, Sho
 /// what the session holds. So a latch that a session holds alone no other session holds alone, and no request that waits, of a session between its calls, shares it;
 /// and the word of a latch counts just those who share it.
 pub fn law_world_latched()
-    ensures fair { (opening : World) (events : List Event) → IsOpened opening.now
-        → AreFair opening events }
+    ensures permitted { (opening : World) (events : List Event) → IsOpened opening.now
+        → ArePermitted opening events }
     ensures shows { (opening : World) (events : List Event) → IsOpened opening.now
         → Shows (run opening events).now (seen_by_latches opening events) }
     ensures apart { (opening : World) (events : List Event) → IsOpened opening.now

@@ -5,7 +5,7 @@ ghost use Rattle.fkv_world.specs.World.{Event};
 ghost use Rattle.fkv_world.specs.Runs.{World, run};
 ghost use Rattle.law_parts.specs.Mail.MailEvents.{mapped};
 ghost use Rattle.law_parts.specs.Mail.Reads.{EachChangesBy, TakesWhatWasRead};
-ghost use Rattle.law_parts.specs.Mail.Shows.{AreFair, IsOpened, Shows, mail_opening, seen_by_mailbox};
+ghost use Rattle.law_parts.specs.Mail.Shows.{ArePermitted, IsOpened, Shows, mail_opening, seen_by_mailbox};
 ghost use Rattle.law_parts.specs.Mail.Stood.{ReadsWhatStood};
 
 use fkv_pending::law_mailbox;
@@ -18,8 +18,8 @@ use law_guard::law_world_flushed_is_synced;
 /// what was asked for before has been taken or let go; it is served once, as the device gave it at the address that was asked for; and
 /// what the session takes is that record. And the session alone leaves the states empty and ready, and the keeper alone the one between.
 pub fn law_world_mailbox()
-    ensures fair { (opening : World) (session : ℕ) (events : List Event) → IsOpened opening.now session
-        → AreFair opening session events }
+    ensures permitted { (opening : World) (session : ℕ) (events : List Event) → IsOpened opening.now session
+        → ArePermitted opening session events }
     ensures shows { (opening : World) (session : ℕ) (events : List Event) → IsOpened opening.now session
         → Shows (run opening events).now session (seen_by_mailbox opening session events) }
     ensures turns { (opening : World) (session : ℕ) (events : List Event) → IsOpened opening.now session
@@ -31,7 +31,7 @@ pub fn law_world_mailbox()
 
 /// In every such life, whatever its events: the record that a session takes from its mailbox is what the keeper read from the device for it,
 /// at the place of the address that the session has asked for last, and at a moment since it asked; and it takes that record once. Where
-/// each step of a session does what it owes, the store was just opened, and the address is one since then and was flushed by that moment,
+/// each step of a session is permitted, the store was just opened, and the address is one since then and was flushed by that moment,
 /// that is the record whose words stood there then.
 pub fn law_world_taken()
     ensures takes { TakesWhatWasRead }

@@ -1,4 +1,4 @@
-//! What calls and answers owe in the log's words, in every life of a store that was opened.
+//! When calls and answers are enabled, in the log's words, in every life of a store that was opened.
 ghost use Rattle.std.specs.Prelude.{◌≡◌, ◌∷◌, ℕ, List, []};
 ghost use Rattle.law_log.specs.Ghosts.{Ghosts};
 ghost use Rattle.law_log.specs.Trace.{history_of};
@@ -7,7 +7,7 @@ ghost use Rattle.fkv_world.specs.Opened.{IsOpenedWorld};
 ghost use Rattle.fkv_world.specs.Past.{Effect};
 ghost use Rattle.fkv_world.specs.Runs.{World, run};
 ghost use Rattle.fkv_world.specs.World.{Event};
-ghost use Rattle.law_refine.specs.Calls.Calls.{EachOwes, IsUpdateInHand, OwesCall, effects_of_life, entries_of, event_adds, lines_of_life};
+ghost use Rattle.law_refine.specs.Calls.Calls.{EachIsEnabled, IsUpdateInHand, IsCallEnabled, effects_of_life, entries_of, event_adds, lines_of_life};
 ghost use Rattle.law_guard.specs.Guarded.Shows as guard;
 ghost use Rattle.law_refine.specs.Events.GhostEvents.{home_in, life_ghosts, mapped};
 ghost use Rattle.law_refine.specs.Events.Published.{AllMeetPublished};
@@ -25,7 +25,7 @@ pub fn law_world_in_hand()
 /// of the update's effect. A read is called by a number by which no earlier line calls one.
 pub fn law_world_calls()
     ensures { (opening : World) (before : List Event) (event : Event) → IsOpenedWorld opening
-        → EachOwes (OwesCall (effects_of_life opening (event ∷ before))) (lines_of_life opening before) (event_adds opening before event) }
+        → EachIsEnabled (IsCallEnabled (effects_of_life opening (event ∷ before))) (lines_of_life opening before) (event_adds opening before event) }
 {}
 
 /// Where each record that the log's events change in place was published until then, the history of the log beside a life has the entries of the

@@ -9,7 +9,7 @@ ghost use Rattle.fkv_world.specs.World.{Event};
 ghost use Rattle.law_guard.specs.Guarded.GuardEvents as guarded;
 ghost use Rattle.law_guard.specs.Guarded.OpenedStore.{IsOpenedStore};
 ghost use Rattle.law_guard.specs.Guarded.Shows as guard;
-ghost use Rattle.law_guard.specs.Guarded.Shows.{AreBelowTail, AreFair, ChangesBelowTail, guard_opening};
+ghost use Rattle.law_guard.specs.Guarded.Shows.{AreBelowTail, ArePermitted, ChangesBelowTail, guard_opening};
 ghost use Rattle.law_refine.specs.Events.GhostEvents.{home_in, life_ghosts, mapped};
 ghost use Rattle.law_refine.specs.Events.Reserved.{IsUnbornFrom, ReservesNothing, tail_at};
 ghost use Rattle.law_refine.specs.Events.Published.{AllMeetPublished};
@@ -20,15 +20,15 @@ ghost use Rattle.law_refine.specs.Records.Frames.{DeviceShowsLog, FindsFramed, F
 use law_guard::law_world_flushed_is_synced;
 
 /// In every life that begins as the guard supposes, beside a log that has no record from the tail up: where the record whose value a session is
-/// about to change in place is published, it lies below the tail. So where that is so before each event of the life, each of its steps does what
-/// it owes; and each record that the log's events change in place, beside a log that reserves nothing at first, is published until then.
+/// about to change in place is published, it lies below the tail. So where that is so before each event of the life, each of its steps is
+/// permitted; and each record that the log's events change in place, beside a log that reserves nothing at first, is published until then.
 pub fn law_records_published()
     ensures event { (opening : World) (start : ℕ) (ghosts : Ghosts) (before : List Event) (event : Event) → guard.IsOpened opening.now start → IsUnbornFrom (tail_at opening.now) ghosts
         → ChangesPublished (run opening before).now (life_ghosts opening ghosts before).log event → ChangesBelowTail (run opening before).now event }
     ensures below { (opening : World) (start : ℕ) (ghosts : Ghosts) (events : List Event) → guard.IsOpened opening.now start → IsUnbornFrom (tail_at opening.now) ghosts
         → AreChangesPublished opening ghosts events → AreBelowTail opening events }
-    ensures fair { (opening : World) (start : ℕ) (ghosts : Ghosts) (events : List Event) → guard.IsOpened opening.now start → IsUnbornFrom (tail_at opening.now) ghosts
-        → AreChangesPublished opening ghosts events → AreFair opening events }
+    ensures permitted { (opening : World) (start : ℕ) (ghosts : Ghosts) (events : List Event) → guard.IsOpened opening.now start → IsUnbornFrom (tail_at opening.now) ghosts
+        → AreChangesPublished opening ghosts events → ArePermitted opening events }
     ensures meets { (opening : World) (start : ℕ) (ghosts : Ghosts) (events : List Event) → guard.IsOpened opening.now start → IsUnbornFrom (tail_at opening.now) ghosts → ReservesNothing ghosts
         → AreChangesPublished opening ghosts events → AllMeetPublished (home_in opening.now.shape.bucket_bits) ghosts (mapped opening events) }
 {}

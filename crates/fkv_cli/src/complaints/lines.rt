@@ -1,7 +1,7 @@
 //! Faulty lines of a script.
 use super::quoted::Quoted;
 use fkv_base::ScriptFault;
-use fkv_lines::MOST_BYTES;
+use fkv_lines::{MOST_BYTES, MOST_LINES};
 use std::{fmt, str};
 
 /// What is wrong with a line, and with which of its words.
@@ -12,29 +12,29 @@ pub(crate) enum LineFault<'a> {
     /// The line stands behind the last that a script may have.
     TooMany,
     /// The script's first line begins with this word, which opens no store.
-    NoOpening(&'a [u8]),
+    NoOpening(Quoted<'a>),
     /// A later line begins with this word, which opens a store.
-    SecondOpening(&'a [u8]),
+    SecondOpening(Quoted<'a>),
     /// This word is unknown here.
     Unknown {
-        word: &'a [u8],
+        word: Quoted<'a>,
         known: &'static str,
     },
     /// Behind this word stand more or fewer words than it takes.
     Count {
-        word: &'a [u8],
+        word: Quoted<'a>,
         takes: &'static str,
         given: usize,
     },
     /// This word should be a number, and no less than this.
     NoNumber {
-        word: &'a [u8],
+        word: Quoted<'a>,
         least: u64,
     },
     /// This line needs a store in a file.
-    NeedsFile(&'a [u8]),
+    NeedsFile(Quoted<'a>),
     /// This line needs a store in memory.
-    NeedsMemory(&'a [u8]),
+    NeedsMemory(Quoted<'a>),
 }
 
 impl<'a> LineFault<'a> {
@@ -45,13 +45,13 @@ impl<'a> LineFault<'a> {
         match kind {
             ScriptFault::Size if line.len() > MOST_BYTES => LineFault::TooLong(line.len()),
             ScriptFault::Size => LineFault::TooMany,
-            ScriptFault::Order if is_opening(head) => LineFault::SecondOpening(head),
-            ScriptFault::Order => LineFault::NoOpening(head),
+            ScriptFault::Order if is_opening(head) => LineFault::SecondOpening(Quoted(head)),
+            ScriptFault::Order => LineFault::NoOpening(Quoted(head)),
             ScriptFault::Word => unknown_word(line, head),
             ScriptFault::Count => wrong_count(line, head),
             ScriptFault::Number => no_number(line, head),
-            ScriptFault::Mode if is_opening(head) => LineFault::NeedsFile(head),
-            ScriptFault::Mode => LineFault::NeedsMemory(head),
+            ScriptFault::Mode if is_opening(head) => LineFault::NeedsFile(Quoted(head)),
+            ScriptFault::Mode => LineFault::NeedsMemory(Quoted(head)),
         }
     }
 }
@@ -94,24 +94,14 @@ fn is_session(head: &[u8]) -> bool {
 
 fn unknown_word<'a>(line: &'a [u8], head: &'a [u8]) -> LineFault<'a> {
     let verb = word_at(line, 1);
-    if is_session(head) {
-        let known = "up, del, add, max, get, refresh, poll, sleep or wake";
-        return LineFault::Unknown { word: verb, known };
-    }
-    match (head, verb) {
-        (b"k", b"commit") => LineFault::Unknown {
-            word: word_at(line, 2),
-            known: "log or nothing",
-        },
-        (b"k", _) => LineFault::Unknown {
-            word: verb,
-            known: "commit, turn or finish",
-        },
-        _ => LineFault::Unknown {
-            word: head,
-            known: "a session's number, k, crash or fail",
-        },
-    }
+    let (word, known) = match (head, verb) {
+        ([b'0'..=b'9', ..], _) => (verb, "up, del, add, max, get, refresh, poll, sleep or wake"),
+        (b"k", b"commit") => (word_at(line, 2), "log or nothing"),
+        (b"k", _) => (verb, "commit, turn or finish"),
+        _ => (head, "a session's number, k, crash or fail"),
+    };
+    let word = Quoted(word);
+    LineFault::Unknown { word, known }
 }
 
 fn wrong_count<'a>(line: &'a [u8], head: &'a [u8]) -> LineFault<'a> {
@@ -121,14 +111,10 @@ fn wrong_count<'a>(line: &'a [u8], head: &'a [u8]) -> LineFault<'a> {
     } else {
         0
     };
-    let word = word_at(line, place);
+    let verb = word_at(line, place);
     let given = count_words(line).saturating_sub(place).saturating_sub(1);
-    let takes = match word {
-        b"" => return LineFault::Count {
-            word: head,
-            takes: "a verb",
-            given: 0,
-        },
+    let takes = match verb {
+        b"" => "a verb",
         b"shape" => "seven numbers",
         b"crash" => "the number of a call or nothing",
         b"fail" => "the number of a call",
@@ -137,6 +123,7 @@ fn wrong_count<'a>(line: &'a [u8], head: &'a [u8]) -> LineFault<'a> {
         b"del" | b"get" => "one number",
         _ => "no word",
     };
+    let word = Quoted(if verb.is_empty() { head } else { verb });
     LineFault::Count { word, takes, given }
 }
 
@@ -151,10 +138,12 @@ fn no_number<'a>(line: &'a [u8], head: &'a [u8]) -> LineFault<'a> {
         .split(|byte| *byte == b' ')
         .filter(|word| !word.is_empty())
         .skip(first);
-    match words.find(|word| !is_number(word, least)) {
-        Some(word) => LineFault::NoNumber { word, least },
-        None => LineFault::NoNumber { word: head, least },
-    }
+    // The session's own number is read last.
+    let word = match words.find(|word| !is_number(word, least)) {
+        Some(word) => Quoted(word),
+        None => Quoted(head),
+    };
+    LineFault::NoNumber { word, least }
 }
 
 /// Whether a word spells a number from `least` to 2^64 - 1, in digits alone.
@@ -173,48 +162,41 @@ fn is_number(word: &[u8], least: u64) -> bool {
 
 impl fmt::Display for LineFault<'_> {
     fn fmt<W: fmt::Write>(&self, f: &mut fmt::Formatter<W>) -> fmt::Result {
+        let most = u64::MAX;
         match self {
             LineFault::TooLong(bytes) => write!(
                 f,
-                "it has {bytes} bytes, and a line has at most 200"
+                "it has {bytes} bytes, and a line has at most {MOST_BYTES}"
             ),
-            LineFault::TooMany => f.write_str("a script has at most 65536 lines"),
-            LineFault::NoOpening(word) => {
-                let word = Quoted(word);
-                write!(
-                    f,
-                    "{word} opens no store, and the first line has to: shape or open"
-                )
-            }
-            LineFault::SecondOpening(word) => {
-                let word = Quoted(word);
-                write!(f, "{word} opens a store, which the first line alone does")
-            }
-            LineFault::Unknown { word, known } => {
-                let word = Quoted(word);
-                write!(f, "{word} is unknown; this place takes {known}")
-            }
+            LineFault::TooMany => write!(f, "a script has at most {MOST_LINES} lines"),
+            LineFault::NoOpening(word) => write!(
+                f,
+                "{word} opens no store, and the first line has to: shape or open"
+            ),
+            LineFault::SecondOpening(word) => write!(
+                f,
+                "{word} opens a store, which the first line alone does"
+            ),
+            LineFault::Unknown { word, known } => write!(
+                f,
+                "{word} is unknown; this place takes {known}"
+            ),
             LineFault::Count { word, takes, given } => {
-                let word = Quoted(word);
                 let many = if *given == 1 { "" } else { "s" };
                 write!(
                     f,
                     "{word} takes {takes}, and has {given} word{many} behind it"
                 )
             }
-            LineFault::NoNumber { word, least } => {
-                let word = Quoted(word);
-                let most = u64::MAX;
-                write!(f, "{word} is no number from {least} to {most}")
-            }
-            LineFault::NeedsFile(word) => {
-                let word = Quoted(word);
-                write!(f, "{word} needs a store in a file: --file PATH")
-            }
-            LineFault::NeedsMemory(word) => {
-                let word = Quoted(word);
-                write!(f, "{word} is for a store in memory: not with --file")
-            }
+            LineFault::NoNumber { word, least } => write!(
+                f,
+                "{word} is no number from {least} to {most}"
+            ),
+            LineFault::NeedsFile(word) => write!(f, "{word} needs a store in a file: --file PATH"),
+            LineFault::NeedsMemory(word) => write!(
+                f,
+                "{word} is for a store in memory: not with --file"
+            ),
         }
     }
 }

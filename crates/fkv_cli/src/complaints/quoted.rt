@@ -6,7 +6,7 @@ const LONGEST: usize = 40;
 
 /// A word in quotes, with what is no printable ASCII escaped. A long one is cut, and ends with `..`.
 #[derive(Clone, Copy)]
-pub(super) struct Quoted<'a>(pub(super) &'a [u8]);
+pub(crate) struct Quoted<'a>(pub(super) &'a [u8]);
 
 impl fmt::Display for Quoted<'_> {
     fn fmt<W: fmt::Write>(&self, f: &mut fmt::Formatter<W>) -> fmt::Result {

@@ -25,40 +25,7 @@ struct Limits {
 impl SizeFault {
     /// The first of these sizes that is outside its limits.
     pub(crate) fn of(sizes: Sizes) -> Option<SizeFault> {
-        let limited = [
-            (
-                "K, the bucket bits,",
-                sizes.bucket_bits,
-                any(0, MAX_BUCKET_BITS),
-            ),
-            (
-                "P, the records of a page,",
-                sizes.page,
-                power_of_two(MIN_PAGE, MAX_PAGE),
-            ),
-            (
-                "F, the frames,",
-                sizes.frames,
-                power_of_two(MIN_FRAMES, MAX_FRAMES),
-            ),
-            (
-                "M, the mutable pages,",
-                sizes.mutable,
-                any(1, sizes.frames.saturating_sub(1)),
-            ),
-            ("S, the sessions,", sizes.sessions, any(1, MAX_SESSIONS)),
-            (
-                "O, the overflow buckets,",
-                sizes.overflow,
-                any(0, MAX_OVERFLOW),
-            ),
-            (
-                "D, the pages on the device,",
-                sizes.disk_pages,
-                any(1, MAX_DISK_PAGES),
-            ),
-        ];
-        for (name, value, limits) in limited {
+        for (name, value, limits) in limited(sizes) {
             if !limits.allow(value) {
                 return Some(SizeFault {
                     name,
@@ -69,6 +36,26 @@ impl SizeFault {
         }
         None
     }
+}
+
+/// The sizes by their names, with the limits of each.
+fn limited(sizes: Sizes) -> [(&'static str, u64, Limits); 7] {
+    let bucket_bits = any(0, MAX_BUCKET_BITS);
+    let page = power_of_two(MIN_PAGE, MAX_PAGE);
+    let frames = power_of_two(MIN_FRAMES, MAX_FRAMES);
+    let mutable = any(1, sizes.frames.saturating_sub(1));
+    let sessions = any(1, MAX_SESSIONS);
+    let overflow = any(0, MAX_OVERFLOW);
+    let disk_pages = any(1, MAX_DISK_PAGES);
+    [
+        ("K, the bucket bits,", sizes.bucket_bits, bucket_bits),
+        ("P, the records of a page,", sizes.page, page),
+        ("F, the frames,", sizes.frames, frames),
+        ("M, the mutable pages,", sizes.mutable, mutable),
+        ("S, the sessions,", sizes.sessions, sessions),
+        ("O, the overflow buckets,", sizes.overflow, overflow),
+        ("D, the pages on the device,", sizes.disk_pages, disk_pages),
+    ]
 }
 
 fn any(least: u64, most: u64) -> Limits {

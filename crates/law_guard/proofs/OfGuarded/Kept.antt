@@ -6,7 +6,7 @@ use Rattle.fkv_plane.specs.declared.places.SharedWord.TheVariants as word
 use Rattle.fkv_plane.specs.Asked.{word_at}
 use Rattle.fkv_plane.specs.Places.{shared_place, frames_start}
 use Rattle.fkv_flush.specs.GuardWorld.{GuardWorld, GuardEvent, Begins, Resumes, Publishes, levels, guard_happens, guard_run}
-use Rattle.fkv_flush.specs.Guarded.{IsFairEvent, AreFairEvents, IsOpenPlace, OpensPage, event_writes}
+use Rattle.fkv_flush.specs.Guarded.{IsPermittedEvent, ArePermittedEvents, IsOpenPlace, OpensPage, event_writes}
 use Rattle.fkv_flush.proofs.Shown.{IsSound, Spares, unwritten, guards_writes, guards_limit}
 use Rattle.fkv_world.specs.World.{Event, Calls, Moves, Commits, Turns, KeeperMoves, Crashes, Now, seat_at, near}
 use Rattle.fkv_world.specs.Moves.{session_moved}
@@ -31,20 +31,20 @@ written_or (Some q) place = by_equal (place == q) refl
     by_equal true e = inl (ap Some (sym (grind (arith, nat_tests, e))))
     by_equal false e = inr (λ same. absurd (grind (arith, nat_tests, e, same)))
 
-one_writes : (w : GuardWorld) (event : GuardEvent) (place : ℕ) → IsSound w → IsFairEvent w.now event → frames_start w.now.places ≤ place → word_at (guard_happens w event).now.words place ≢ word_at w.now.words place → IsOpenPlace w place
-one_writes w event place sound fair high changes = elim (written_or (event_writes w.now event) place) [
-  | inl writes ↦ guards_writes w event sound fair place writes high
+one_writes : (w : GuardWorld) (event : GuardEvent) (place : ℕ) → IsSound w → IsPermittedEvent w.now event → frames_start w.now.places ≤ place → word_at (guard_happens w event).now.words place ≢ word_at w.now.words place → IsOpenPlace w place
+one_writes w event place sound permitted high changes = elim (written_or (event_writes w.now event) place) [
+  | inl writes ↦ guards_writes w event sound permitted place writes high
   | inr spares ↦ absurd (changes (unwritten w event place spares))
 ]
 
--- a fair step that changes a word of a frame changes one of an open place
-pub step_writes : (keeper a : ℕ) (w : GuardWorld) (events : List GuardEvent) (place : ℕ) → IsSound w → IsStep keeper a events → AreFairEvents w events → frames_start w.now.places ≤ place
+-- a permitted step that changes a word of a frame changes one of an open place
+pub step_writes : (keeper a : ℕ) (w : GuardWorld) (events : List GuardEvent) (place : ℕ) → IsSound w → IsStep keeper a events → ArePermittedEvents w events → frames_start w.now.places ≤ place
     → word_at (guard_run w events).now.words place ≢ word_at w.now.words place → IsOpenPlace w place
 unfolding guard_run
-step_writes keeper a w [] place sound step fair high changes = absurd (changes refl)
-step_writes keeper a w (event ∷ before) place sound step fair high changes = elim step.0.place [
-  | inl quiet ↦ step_writes keeper a w before place sound step.1 fair.1 high (λ e. changes (quiet_same (guard_run w before) event place quiet ∙ e))
-  | inr first ↦ one_writes w event place sound (subst (λ (b : List GuardEvent). IsFairEvent (guard_run w b).now event) first fair.0) high (subst (λ (b : List GuardEvent). word_at (guard_happens (guard_run w b) event).now.words place ≢ word_at w.now.words place) first changes)
+step_writes keeper a w [] place sound step permitted high changes = absurd (changes refl)
+step_writes keeper a w (event ∷ before) place sound step permitted high changes = elim step.0.place [
+  | inl quiet ↦ step_writes keeper a w before place sound step.1 permitted.1 high (λ e. changes (quiet_same (guard_run w before) event place quiet ∙ e))
+  | inr first ↦ one_writes w event place sound (subst (λ (b : List GuardEvent). IsPermittedEvent (guard_run w b).now event) first permitted.0) high (subst (λ (b : List GuardEvent). word_at (guard_happens (guard_run w b) event).now.words place ≢ word_at w.now.words place) first changes)
 ]
 
 -- and one that raises the limit opens the next page

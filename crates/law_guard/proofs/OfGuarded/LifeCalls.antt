@@ -30,7 +30,7 @@ use Rattle.fkv_world.specs.World.{Event, Calls, Moves, Commits, Turns, KeeperMov
 use Rattle.fkv_world.proofs.Shown.{keeper_runs, shape_stays}
 use Rattle.law_guard.specs.Guarded.GuardEvents.{called_events, guard_events, keeper_number, life_events, mapped, moved_events}
 use Rattle.law_guard.specs.Guarded.OpenedStore.{IsOpenedStore}
-use Rattle.law_guard.specs.Guarded.Shows.{AreFair, Shows, guard_opening, seen_by_guard}
+use Rattle.law_guard.specs.Guarded.Shows.{ArePermitted, Shows, guard_opening, seen_by_guard}
 use Rattle.law_guard.proofs.OfGuarded.Flushed.{life_synced}
 use Rattle.law_guard.proofs.OfGuarded.PastCalls.{begun_kept, call_kept, keeper_kept, move_kept}
 use Rattle.law_guard.proofs.OfGuarded.SessionCalls.{called_none, session_none}
@@ -115,8 +115,8 @@ life_calls first start (event ∷ before) store =
     ∙ event_made b (seen_by_guard first start before) event (life_shows first start before store.now) (life_spares first start before store))
 
 -- so what is flushed is synced by these
-pub life_flushed : (first : World) (start : ℕ) (events : List Event) → IsOpenedStore first start → AreFair first events
+pub life_flushed : (first : World) (start : ℕ) (events : List Event) → IsOpenedStore first start → ArePermitted first events
     → IsSynced first.now.shape first.past.opened (run first events).past.calls (stands (guard_opening first.now start) (mapped first events)) start (levels_of (run first events).now.words).flushed
-life_flushed first start events store fair =
+life_flushed first start events store permitted =
     subst (λ (calls : List device.Call). IsSynced first.now.shape first.past.opened calls (stands (guard_opening first.now start) (mapped first events)) start (levels_of (run first events).now.words).flushed) (life_calls first start events store)
-    (life_synced first start events first.past.opened store.now fair)
+    (life_synced first start events first.past.opened store.now permitted)

@@ -13,22 +13,22 @@ use Rattle.fkv_world.specs.World.{Event, Now}
 use Rattle.fkv_world.specs.Runs.{World, run, read_by_keeper}
 use Rattle.law_guard.specs.Guarded.GuardEvents.{keeper_number, guard_events, mapped}
 use Rattle.law_guard.specs.Guarded.KeptGuarded.{ChangesOpenPlaces, OpensNextPage, FindTheirSlots}
-use Rattle.law_guard.specs.Guarded.Shows.{IsOpened, Shows, IsFair, guard_opening, seen_by_guard}
-use Rattle.law_guard.proofs.OfGuarded.Fair.{are_fair}
+use Rattle.law_guard.specs.Guarded.Shows.{IsOpened, Shows, IsPermitted, guard_opening, seen_by_guard}
+use Rattle.law_guard.proofs.OfGuarded.Permitted.{are_permitted}
 use Rattle.law_guard.proofs.OfGuarded.Outer.{WriteOuter, later_write_outer}
 use Rattle.law_guard.proofs.OfGuarded.Kept.{is_steps, step_writes, step_raises}
 use Rattle.law_guard.proofs.OfGuarded.Worlds.{happens_shows, run_shows, life_shows}
 
 -- one event, in a world that is shown
-pub event_writes_open : (first : World) (before : List Event) (event : Event) (w : GuardWorld) → WriteOuter (run first before).now → IsFair (run first before).now event → Shows (run first before).now w
+pub event_writes_open : (first : World) (before : List Event) (event : Event) (w : GuardWorld) → WriteOuter (run first before).now → IsPermitted (run first before).now event → Shows (run first before).now w
     → ChangesOpenPlaces (run first before).now (run first (event ∷ before)).now w
 unfolding run
-event_writes_open first before event w outer fair shows place high changes =
+event_writes_open first before event w outer permitted shows place high changes =
     let b : World = run first before in
     let events : List GuardEvent = guard_events b.now (read_by_keeper b) event in
     let steps = is_steps b.now (read_by_keeper b) event in
     let there = happens_shows b.now w (read_by_keeper b) event outer shows in
-    step_writes (keeper_number b.now) steps.actor w events place shows.sound steps.step (are_fair b.now w (read_by_keeper b) event fair shows) (subst (λ (p : Places). frames_start p ≤ place) (sym shows.places) high)
+    step_writes (keeper_number b.now) steps.actor w events place shows.sound steps.step (are_permitted b.now w (read_by_keeper b) event permitted shows) (subst (λ (p : Places). frames_start p ≤ place) (sym shows.places) high)
     (λ e. changes (ap (λ (words : List ℕ). word_at words place) (sym there.words) ∙ e ∙ ap (λ (words : List ℕ). word_at words place) shows.words))
 
 pub event_opens_next : (first : World) (before : List Event) (event : Event) (w : GuardWorld) → WriteOuter (run first before).now → Shows (run first before).now w

@@ -4,7 +4,7 @@ use Rattle.std.specs.Prelude.{⊤, Some, if◌then◌else◌}
 use Rattle.fkv_epoch.proofs.Shown.{some_same, none_some}
 use Rattle.fkv_flush.specs.GuardCalm.{IsOther, AreOther}
 use Rattle.fkv_flush.specs.GuardFlushed.{FlushesAlone, OneFlushes}
-use Rattle.fkv_flush.specs.Guarded.{IsFairEvent, AreFairEvents}
+use Rattle.fkv_flush.specs.Guarded.{IsPermittedEvent, ArePermittedEvents}
 use Rattle.fkv_flush.specs.GuardWorld.{GuardNow, GuardWorld, GuardEvent, Begins, Resumes, Publishes, Updates, CallsElse, ToFlush, guard_run}
 use Rattle.fkv_disk.specs.Calls.{Call}
 
@@ -42,7 +42,7 @@ keeper_alone : (a : ℕ) (event : GuardEvent) → OfKeeper a event → FlushesAl
 keeper_alone a (Begins actor ToFlush) its = its
 keeper_alone a event its = tt
 
-keeper_owes_none : (n : GuardNow) (a : ℕ) (event : GuardEvent) → OfKeeper a event → IsFairEvent n event
+keeper_owes_none : (n : GuardNow) (a : ℕ) (event : GuardEvent) → OfKeeper a event → IsPermittedEvent n event
 keeper_owes_none n a (Updates session addr word) its = absurd its
 keeper_owes_none n a event its = tt
 
@@ -50,9 +50,9 @@ pub keeper_step : (a : ℕ) (events : List GuardEvent) → IsStepOf (OfKeeper a)
 keeper_step a [] s = tt
 keeper_step a (event ∷ before) s = (record { own = s.0.own; place = s.0.place; its = keeper_alone a event s.0.its }, keeper_step a before s.1)
 
-pub keeper_is_fair : (w : GuardWorld) (a : ℕ) (events : List GuardEvent) → IsStepOf (OfKeeper a) a events → AreFairEvents w events
-keeper_is_fair w a [] s = tt
-keeper_is_fair w a (event ∷ before) s = (keeper_owes_none (guard_run w before).now a event s.0.its, keeper_is_fair w a before s.1)
+pub keeper_is_permitted : (w : GuardWorld) (a : ℕ) (events : List GuardEvent) → IsStepOf (OfKeeper a) a events → ArePermittedEvents w events
+keeper_is_permitted w a [] s = tt
+keeper_is_permitted w a (event ∷ before) s = (keeper_owes_none (guard_run w before).now a event s.0.its, keeper_is_permitted w a before s.1)
 
 -- they are none of another actor
 pub of_others : (keeper a : ℕ) (events : List GuardEvent) → IsStep keeper a events → (b : ℕ) → a ≢ b → AreOther events b

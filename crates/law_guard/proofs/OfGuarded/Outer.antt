@@ -4,7 +4,7 @@ use Rattle.std.specs.Prelude.{⊤, Option, Some, None, slice_get}
 use Rattle.fkv_session.specs.SessionRun.{SessionEvent, session_run}
 use Rattle.fkv_session.specs.Sessions.{SessionState, Seat}
 use Rattle.law_guard.specs.Sessions.Sessions.{SessionWritesOuter}
-use Rattle.law_guard.proofs.OfSessions.Owing.{run_outer}
+use Rattle.law_guard.proofs.OfSessions.InPlace.{run_outer}
 use Rattle.fkv_world.specs.OwnEvents.{session_events}
 use Rattle.fkv_world.specs.Runs.{World, run}
 use Rattle.fkv_world.specs.World.{Event, Now, seat_at}

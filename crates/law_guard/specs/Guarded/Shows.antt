@@ -1,4 +1,4 @@
--- How the guard's world shows the engine's, how a life begins for that, and what its steps owe.
+-- How the guard's world shows the engine's, how a life begins for that, and when its steps are permitted.
 use Rattle.std.specs.Prelude.{◌≡◌, ◌^◌, ◌<◌, ⊤, ℕ, suc, List, [], ◌∷◌, replicate, slice_get, Option, Some, None}
 use Rattle.fkv_base.specs.Limits.{drain_slots}
 use Rattle.fkv_flush.specs.Guarded as guard
@@ -11,7 +11,7 @@ use Rattle.fkv_session.specs.Sessions as session
 use Rattle.fkv_session.specs.Sessions.{SessionState}
 use Rattle.law_guard.specs.Sessions.Followed.{Sits}
 use Rattle.law_guard.specs.Sessions.Likenesses.{last_seen}
-use Rattle.law_guard.specs.Sessions.Owing.{IsBelowTail, SessionOwes}
+use Rattle.law_guard.specs.Sessions.InPlace.{IsBelowTail, SessionMayChange}
 use Rattle.law_guard.specs.Keeper.Followed.{IsKeepers}
 use Rattle.fkv_world.specs.World.{Event, Moves, Now}
 use Rattle.fkv_world.specs.Runs.{World, run}
@@ -51,19 +51,19 @@ pub record Shows (n : Now) (w : GuardWorld) : Type 0 where
   pub sessions : (number : ℕ) (s : SessionState) → slice_get n.sessions number ≡ Some s → IsSeated w number s
   pub keeper : IsKept w (keeper_number n) n.keeper
 
--- what a step owes: the sessions' own premise alone
-abbrev pub SessionIsFair : Now → Option SessionState → Type 0
-SessionIsFair n None = ⊤
-SessionIsFair n (Some s) = SessionOwes n.words s
+-- when a step is permitted: by the sessions' own premise alone
+abbrev pub SessionIsPermitted : Now → Option SessionState → Type 0
+SessionIsPermitted n None = ⊤
+SessionIsPermitted n (Some s) = SessionMayChange n.words s
 
-abbrev pub IsFair : Now → Event → Type 0
-IsFair n (Moves number) = SessionIsFair n (slice_get n.sessions number)
-IsFair n event = ⊤
+abbrev pub IsPermitted : Now → Event → Type 0
+IsPermitted n (Moves number) = SessionIsPermitted n (slice_get n.sessions number)
+IsPermitted n event = ⊤
 
--- each step of a life is fair
-abbrev pub AreFair : World → List Event → Type 0
-AreFair opening [] = ⊤
-AreFair opening (event ∷ before) = IsFair (run opening before).now event × AreFair opening before
+-- each step of a life is permitted
+abbrev pub ArePermitted : World → List Event → Type 0
+ArePermitted opening [] = ⊤
+ArePermitted opening (event ∷ before) = IsPermitted (run opening before).now event × ArePermitted opening before
 
 -- what is left of it: what a session's step changes in place is below the tail
 abbrev pub SessionIsBelowTail : Now → Option SessionState → Type 0

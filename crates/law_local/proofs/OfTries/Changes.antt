@@ -1,4 +1,4 @@
--- What the log's events of a try's step owe.
+-- That the log's events of a try's step are enabled.
 use Rattle.std.proofs.Common.{◌≡◌, ℕ, ◌<◌, ◌∙◌, inl, inr, refl, sym, ap, subst, arith, Bool, true, false, None}
 use Rattle.std.specs.Prelude.{◌==◌, nat_lt, if◌then◌else◌}
 use Rattle.fkv_base.specs.declared.numbers.Addr.{Addr}
@@ -15,7 +15,7 @@ use Rattle.fkv_log.specs.declared.reserving.Reserving.TheVariants as reserving
 use Rattle.fkv_log.specs.Reserving.{reserve_ask, reserve_next, reserve_next_ask, no_room_at, reserved_where}
 use Rattle.law_log.specs.Chains.{Cell, IsWithin}
 use Rattle.law_log.specs.Ghosts.{Log}
-use Rattle.law_log.specs.Owed.{IsMade, NoneAbove, NoneCopies}
+use Rattle.law_log.specs.Enabled.{IsMade, NoneAbove, NoneCopies}
 use Rattle.fkv_ops.specs.declared.appending.Appending.{Appending}
 use Rattle.fkv_ops.specs.declared.appending.Appending.TheVariants as appending
 use Rattle.fkv_ops.specs.declared.requests.Request.{Request}
@@ -28,7 +28,7 @@ use Rattle.fkv_ops.proofs.Shown.{kinds_so}
 use Rattle.law_local.specs.Tries.Replies.{IsAboveAll, IsTrueOfReserve, IsTrueOfAppend, IsTrueReply}
 use Rattle.law_local.specs.Tries.WalkRows.{begin_of}
 use Rattle.law_local.specs.Tries.TryRows.{MayChange, cell_of, IsEntryOf, IsMadeFor, AppendKnows, TryRow, TryKnows}
-use Rattle.law_local.specs.Tries.Changes.{IsAlone, IsOwedChange}
+use Rattle.law_local.specs.Tries.Changes.{IsAlone, IsEnabledChange}
 use Rattle.law_local.proofs.OfTries.Tests.{eq_true}
 use Rattle.law_local.proofs.OfTries.Made.{made_word}
 
@@ -75,10 +75,10 @@ at_reserve home log request its cell step e knows = subst (AppendKnows home log 
 at_append : (home : ℕ → ℕ) (log : Log) (request : Request) (its : Reply) (cell : Cell) (step : Appending) → step ≡ appending.Reserves → AppendKnows home log request its cell step → IsMadeFor home log request.op its cell
 at_append home log request its cell step e knows = (at_reserve home log request its cell step e knows).1
 
-pub reserve_owed : (home : ℕ → ℕ) (log : Log) (p : Places) (room : ℕ) (t : TryState) (reply : ℕ) (its : Reply) (addr : Addr) (entry : HistoryEntry) → TryKnows home log t → IsTrueReply home log p t t.step reply → t.step ≡ Appends its
+pub reserve_enabled : (home : ℕ → ℕ) (log : Log) (p : Places) (room : ℕ) (t : TryState) (reply : ℕ) (its : Reply) (addr : Addr) (entry : HistoryEntry) → TryKnows home log t → IsTrueReply home log p t t.step reply → t.step ≡ Appends its
     → t.append.step ≡ appending.Reserves → reserve_next_ask room t.append.reserving reply ≡ Done (answer.Reserved addr) → IsEntryOf t.request.op its entry
     → ((cell_of t.append.its_words).previous < addr.0) × IsMade home log entry (cell_of t.append.its_words)
-reserve_owed home log p room t reply its addr entry knows says at append_at won is = (
+reserve_enabled home log p room t reply its addr entry knows says at append_at won is = (
   within_below log (home (cell_of t.append.its_words).key) (cell_of t.append.its_words).previous addr.0 (reserved_above log room t.append.reserving reply addr true_tail won) made.leads,
   made,
 )
@@ -96,9 +96,9 @@ reserve_owed home log p room t reply its addr entry knows says at append_at won 
     true_tail = subst (λ step. IsTrueOfAppend log t.append.reserving step reply) append_at told
 
 -- ---- a change in place
-change_owed : (home : ℕ → ℕ) (log : Log) (request : Request) (seen : Seen) (from at word : ℕ) (entry : HistoryEntry) (may : MayChange home log request seen from at) → IsAlone home log request seen at → entry.op ≡ request.op
-    → entry.reply ≡ reply_from may.found.cell.value request.op → value_of word ≡ value_applied may.found.cell.value request.op → IsOwedChange home log at word entry
-change_owed home log request seen from at word entry may alone its_op its_reply its_value = record {
+change_enabled : (home : ℕ → ℕ) (log : Log) (request : Request) (seen : Seen) (from at word : ℕ) (entry : HistoryEntry) (may : MayChange home log request seen from at) → IsAlone home log request seen at → entry.op ≡ request.op
+    → entry.reply ≡ reply_from may.found.cell.value request.op → value_of word ≡ value_applied may.found.cell.value request.op → IsEnabledChange home log at word entry
+change_enabled home log request seen from at word entry may alone its_op its_reply its_value = record {
   cell = may.found.cell;
   its = may.found.its;
   change = record {
@@ -112,11 +112,11 @@ change_owed home log request seen from at word entry may alone its_op its_reply 
 }
 
 -- by a Swap, where the old value doesn't count
-pub swap_owed : (home : ℕ → ℕ) (log : Log) (t : TryState) (addr : Addr) (entry : HistoryEntry) → TryKnows home log t → t.step ≡ SwapsValue addr → IsEntryOf t.request.op (reply_from None t.request.op) entry → IsAlone home log t.request t.seen addr.0
-    → IsOwedChange home log addr.0 (word_of (value_applied None t.request.op)) entry
-swap_owed home log t addr entry knows at is alone =
+pub swap_enabled : (home : ℕ → ℕ) (log : Log) (t : TryState) (addr : Addr) (entry : HistoryEntry) → TryKnows home log t → t.step ≡ SwapsValue addr → IsEntryOf t.request.op (reply_from None t.request.op) entry → IsAlone home log t.request t.seen addr.0
+    → IsEnabledChange home log addr.0 (word_of (value_applied None t.request.op)) entry
+swap_enabled home log t addr entry knows at is alone =
     let row : TryRow home log t (SwapsValue addr) = subst (TryRow home log t) at knows.row in
-    change_owed home log t.request t.seen (begin_of t.walk) addr.0 (word_of (value_applied None t.request.op)) entry row.2 alone is.0
+    change_enabled home log t.request t.seen (begin_of t.walk) addr.0 (word_of (value_applied None t.request.op)) entry row.2 alone is.0
     (is.1 ∙ sym (kinds_so.same_reply t.request.op row.2.found.cell.value row.1))
     (swapped row.1 ∙ sym (kinds_so.same_value t.request.op row.2.found.cell.value row.1))
   where
@@ -125,12 +125,12 @@ swap_owed home log t addr entry knows at is alone =
     swapped blind = made_word absent_word t.request.op knows.request.plain
 
 -- by a Cas that is won: the word that it found is the one that was loaded
-pub cas_owed : (home : ℕ → ℕ) (log : Log) (p : Places) (t : TryState) (addr : Addr) (old reply : ℕ) (entry : HistoryEntry) → TryKnows home log t → IsTrueReply home log p t t.step reply → t.step ≡ ChangesValue addr old → reply ≡ old
-    → IsEntryOf t.request.op (reply_from (value_of old) t.request.op) entry → IsAlone home log t.request t.seen addr.0 → IsOwedChange home log addr.0 (word_of (value_applied (value_of old) t.request.op)) entry
-cas_owed home log p t addr old reply entry knows says at won is alone =
+pub cas_enabled : (home : ℕ → ℕ) (log : Log) (p : Places) (t : TryState) (addr : Addr) (old reply : ℕ) (entry : HistoryEntry) → TryKnows home log t → IsTrueReply home log p t t.step reply → t.step ≡ ChangesValue addr old → reply ≡ old
+    → IsEntryOf t.request.op (reply_from (value_of old) t.request.op) entry → IsAlone home log t.request t.seen addr.0 → IsEnabledChange home log addr.0 (word_of (value_applied (value_of old) t.request.op)) entry
+cas_enabled home log p t addr old reply entry knows says at won is alone =
     let row : TryRow home log t (ChangesValue addr old) = subst (TryRow home log t) at knows.row in
     let told : IsTrueReply home log p t (ChangesValue addr old) reply = subst (λ step. IsTrueReply home log p t step reply) at says in
     let value : value_of old ≡ row.1.found.cell.value = ap value_of (sym won) ∙ told row.1.found.cell row.1.found.its in
-    change_owed home log t.request t.seen (begin_of t.walk) addr.0 (word_of (value_applied (value_of old) t.request.op)) entry row.1 alone is.0
+    change_enabled home log t.request t.seen (begin_of t.walk) addr.0 (word_of (value_applied (value_of old) t.request.op)) entry row.1 alone is.0
     (is.1 ∙ ap (λ v. reply_from v t.request.op) value)
     (made_word old t.request.op knows.request.plain ∙ ap (λ v. value_applied v t.request.op) value)

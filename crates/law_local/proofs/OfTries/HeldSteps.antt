@@ -6,7 +6,7 @@ use Rattle.fkv_index.specs.Slots.{entry_addr}
 use Rattle.law_log.specs.Trace.{IsIn}
 use Rattle.law_log.specs.Chains.{Cell, Logged, Published, value_at, head_of}
 use Rattle.law_log.specs.Ghosts.{Log, first_from}
-use Rattle.law_log.specs.Owed.{AreChains, IsLinked, previous_of}
+use Rattle.law_log.specs.Enabled.{AreChains, IsLinked, previous_of}
 use Rattle.fkv_ops.specs.declared.answers.DiskRecord.{DiskRecord}
 use Rattle.fkv_ops.specs.declared.header_words.HeaderSaid.{HeaderSaid}
 use Rattle.fkv_ops.specs.declared.header_words.HeaderSaid.TheVariants.{Says, Spoiled}

@@ -4,7 +4,7 @@ use Rattle.fkv_map.specs.declared.operations.Reply.{Reply}
 use Rattle.fkv_map.specs.Map.{Map}
 use Rattle.law_log.specs.Chains.{Cell, value_at, version_at, has_key, chain_from, IsWithin}
 use Rattle.law_log.specs.Ghosts.{Log}
-use Rattle.law_log.specs.Owed.{IsFixed}
+use Rattle.law_log.specs.Enabled.{IsFixed}
 use Rattle.law_log.proofs.Shown.{Held, Grows, first_stays, fixed_stays, in_from, IsFirst, first_is}
 use Rattle.fkv_ops.specs.declared.appending.Appending.{Appending}
 use Rattle.fkv_ops.specs.declared.appending.Appending.TheVariants as appending

@@ -4,7 +4,7 @@ use Rattle.std.specs.Prelude.{nat_eq}
 use Rattle.law_log.specs.Trace.{IsIn}
 use Rattle.law_log.specs.Chains.{Logged, head_of, chain_from, has_key}
 use Rattle.law_log.specs.Ghosts.{Log, first_from}
-use Rattle.law_log.specs.Owed.{AreChains, IsLinked, IsFixed}
+use Rattle.law_log.specs.Enabled.{AreChains, IsLinked, IsFixed}
 use Rattle.law_log.proofs.Shown.{IsFirst, first_is}
 use Rattle.law_local.specs.Tries.OnWay.{ComesBelow}
 use Rattle.law_local.proofs.OfTries.Tests.{eq_true}

@@ -8,7 +8,7 @@ use Rattle.fkv_map.specs.Map.{absent_word, greatest_value, IsReserved}
 use Rattle.fkv_map.specs.Keys.{key_of, value_applied, reply_from}
 use Rattle.law_log.specs.Chains.{value_at, IsWithin}
 use Rattle.law_log.specs.Ghosts.{Log}
-use Rattle.law_log.specs.Owed.{StandsStill}
+use Rattle.law_log.specs.Enabled.{StandsStill}
 use Rattle.fkv_ops.specs.declared.requests.Request.{Request}
 use Rattle.fkv_ops.specs.Requests.{is_blind}
 use Rattle.fkv_ops.specs.Trying.{words_of}

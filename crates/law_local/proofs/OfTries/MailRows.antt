@@ -7,7 +7,7 @@ use Rattle.fkv_plane.specs.declared.asks.Ask.TheVariants.{Done}
 use Rattle.fkv_index.specs.Slots.{entry_addr}
 use Rattle.law_log.specs.Chains.{Cell, Logged, Published}
 use Rattle.law_log.specs.Ghosts.{Log}
-use Rattle.law_log.specs.Owed.{AreChains}
+use Rattle.law_log.specs.Enabled.{AreChains}
 use Rattle.law_log.proofs.Shown.{Grows}
 use Rattle.fkv_ops.specs.declared.answers.DiskRecord.{DiskRecord}
 use Rattle.fkv_pending.specs.declared.mailing.MailAnswer.{MailAnswer}

@@ -4,7 +4,7 @@ use Rattle.fkv_map.specs.Map.{Map}
 use Rattle.law_log.specs.Trace.{IsIn}
 use Rattle.law_log.specs.Chains.{Cell, Published, value_at, version_at, has_key, head_of, IsWithin}
 use Rattle.law_log.specs.Ghosts.{Log, first_from}
-use Rattle.law_log.specs.Owed.{AreChains, IsFixed, StandsStill}
+use Rattle.law_log.specs.Enabled.{AreChains, IsFixed, StandsStill}
 use Rattle.law_log.proofs.Shown.{Held, Grows, first_stays, fixed_stays, head_within, first_from_none, first_from_own, leads_on, not_unborn}
 use Rattle.law_local.specs.Tries.OnWay.{IsOnWay, ComesBelow, FindsNone, IsFoundAt, IsOrderly}
 use Rattle.law_local.proofs.OfTries.Tests.{test_true, test_false}

@@ -10,7 +10,7 @@ use Rattle.fkv_latch.specs.declared.latching.LatchTask.TheVariants.{DropShared, 
 use Rattle.fkv_index.specs.Slots.{entry_addr}
 use Rattle.law_log.specs.Chains.{value_at, IsWithin}
 use Rattle.law_log.specs.Ghosts.{Log}
-use Rattle.law_log.specs.Owed.{StandsStill}
+use Rattle.law_log.specs.Enabled.{StandsStill}
 use Rattle.fkv_ops.specs.declared.answers.Reason.TheVariants as reason
 use Rattle.fkv_ops.specs.declared.answers.TryAnswer.{TryAnswer}
 use Rattle.fkv_ops.specs.declared.answers.TryAnswer.TheVariants as answer

@@ -8,7 +8,7 @@ use Rattle.fkv_map.specs.Map.{Map}
 use Rattle.fkv_index.specs.Slots.{entry_addr}
 use Rattle.law_log.specs.Chains.{Cell}
 use Rattle.law_log.specs.Ghosts.{Log, first_from}
-use Rattle.law_log.specs.Owed.{IsFixed, IsMade}
+use Rattle.law_log.specs.Enabled.{IsFixed, IsMade}
 use Rattle.law_log.proofs.Shown.{Held, Grows, made_stays, made_of_fixed_stays}
 use Rattle.fkv_ops.specs.declared.answers.DiskRecord.{DiskRecord}
 use Rattle.fkv_ops.specs.declared.answers.TryAnswer.{TryAnswer}

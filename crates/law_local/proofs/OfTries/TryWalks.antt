@@ -14,7 +14,7 @@ use Rattle.fkv_index.specs.Slots.{entry_addr}
 use Rattle.law_log.specs.Trace.{IsIn}
 use Rattle.law_log.specs.Chains.{value_at, version_at}
 use Rattle.law_log.specs.Ghosts.{Log}
-use Rattle.law_log.specs.Owed.{IsFixed, NoneAbove}
+use Rattle.law_log.specs.Enabled.{IsFixed, NoneAbove}
 use Rattle.fkv_ops.specs.declared.answers.Reason.TheVariants as reason
 use Rattle.fkv_ops.specs.declared.answers.TryAnswer.TheVariants as answer
 use Rattle.fkv_ops.specs.declared.requests.HeldRecord.{HeldRecord}

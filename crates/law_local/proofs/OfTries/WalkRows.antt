@@ -18,7 +18,7 @@ use Rattle.fkv_index.specs.Slots.{entry_addr}
 use Rattle.fkv_index.specs.Finding.{find_ask, find_next, find_next_ask}
 use Rattle.law_log.specs.Chains.{head_of}
 use Rattle.law_log.specs.Ghosts.{Log}
-use Rattle.law_log.specs.Owed.{AreChains, IsOfHome}
+use Rattle.law_log.specs.Enabled.{AreChains, IsOfHome}
 use Rattle.law_log.proofs.Shown.{Held, Grows}
 use Rattle.fkv_ops.specs.declared.walking.WalkAnswer.{WalkAnswer}
 use Rattle.fkv_ops.specs.declared.walking.WalkAnswer.TheVariants as walk

@@ -1,9 +1,9 @@
--- What a change in place owes where a try makes it.
+-- That a change in place is enabled where a try makes it.
 use Rattle.std.specs.Prelude.{◌≡◌, ℕ, ◌≤◌}
 use Rattle.fkv_map.specs.declared.history.HistoryEntry.{HistoryEntry}
 use Rattle.law_log.specs.Chains.{Cell, Published}
 use Rattle.law_log.specs.Ghosts.{Log, changed_by}
-use Rattle.law_log.specs.Owed.{IsChange, NoneAbove, NoneCopies}
+use Rattle.law_log.specs.Enabled.{IsChange, NoneAbove, NoneCopies}
 use Rattle.fkv_ops.specs.declared.requests.Request.{Request}
 use Rattle.fkv_ops.specs.declared.requests.Seen.{Seen}
 use Rattle.fkv_ops.specs.Values.{value_of}
@@ -17,7 +17,7 @@ pub record IsAlone (home : ℕ → ℕ) (log : Log) (request : Request) (seen : 
   pub no_copies : NoneCopies home log at request.version.0
 
 -- The record there is published, the change is one that may be made, and the word that is written stands for the value that it leaves.
-pub record IsOwedChange (home : ℕ → ℕ) (log : Log) (at word : ℕ) (entry : HistoryEntry) : Type 0 where
+pub record IsEnabledChange (home : ℕ → ℕ) (log : Log) (at word : ℕ) (entry : HistoryEntry) : Type 0 where
   pub cell : Cell
   pub its : log.cells at ≡ Published cell
   pub change : IsChange home log at entry cell

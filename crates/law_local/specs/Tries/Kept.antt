@@ -7,7 +7,7 @@ use Rattle.fkv_log.specs.declared.reserving.ReserveAnswer.TheVariants.{Reserved}
 use Rattle.fkv_log.specs.Reserving.{reserve_next_ask}
 use Rattle.law_log.specs.Chains.{Cell, Published, value_at, version_at}
 use Rattle.law_log.specs.Ghosts.{Log, first_from}
-use Rattle.law_log.specs.Owed.{IsFixed}
+use Rattle.law_log.specs.Enabled.{IsFixed}
 use Rattle.fkv_ops.specs.declared.appending.Appending.{Appending}
 use Rattle.fkv_ops.specs.declared.appending.Appending.TheVariants.{Reserves, Invalidates}
 use Rattle.fkv_ops.specs.declared.appending.Appending.TheVariants.{Publishes as PublishesAt}

@@ -11,7 +11,7 @@ use Rattle.fkv_plane.specs.Passing.{is_done}
 use Rattle.fkv_log.specs.declared.reserving.ReserveAnswer.TheVariants.{Reserved}
 use Rattle.fkv_log.specs.Reserving.{reserve_next_ask}
 use Rattle.law_log.specs.Ghosts.{Log, Ghosts, GhostEvent, log_after, ghost_run}
-use Rattle.law_log.specs.Owed.{AreChains, IsMade, IsOpened, AreOwed, Owes}
+use Rattle.law_log.specs.Enabled.{AreChains, IsMade, IsOpened, AreEnabled, IsEnabled}
 use Rattle.fkv_ops.specs.declared.answers.DiskRecord.{DiskRecord}
 use Rattle.fkv_ops.specs.declared.answers.TryAnswer.TheVariants.{AwaitsDisk}
 use Rattle.fkv_ops.specs.declared.appending.Appending.TheVariants.{Reserves}
@@ -24,7 +24,7 @@ use Rattle.fkv_ops.specs.Requests.{is_read}
 use Rattle.fkv_ops.specs.Trying.{TryState, try_begun, try_ask, try_next}
 use Rattle.fkv_ops.specs.Values.{value_of, word_of}
 use Rattle.fkv_ops.specs.Walking.{WalkState, walk_ask, walk_next}
-use Rattle.law_local.specs.Tries.Changes.{IsAlone, IsOwedChange}
+use Rattle.law_local.specs.Tries.Changes.{IsAlone, IsEnabledChange}
 use Rattle.law_local.specs.Tries.HeldRows.{IsSoughtFrom}
 use Rattle.law_local.specs.Tries.Kept.{KeepsForTry}
 use Rattle.law_local.specs.Tries.OnWay.{IsOrderly}
@@ -37,8 +37,8 @@ use Rattle.law_local.specs.Tries.WalkRows.{WalkKnows, WalkTells}
 -- opening.
 abbrev pub StaysWhere : ((ℕ → ℕ) → Log → Log → Type 0) → ((ℕ → ℕ) → Log → Type 0) → Type 0
 StaysWhere Keeps Knows =
-    (home : ℕ → ℕ) (m : Map) (version : ℕ) (opening : Ghosts) (events : List GhostEvent) (event : GhostEvent) → IsOpened home m version opening → AreOwed home opening events
-    → Owes home (ghost_run home opening events) event → Keeps home (ghost_run home opening events).log (log_after home (ghost_run home opening events).log event)
+    (home : ℕ → ℕ) (m : Map) (version : ℕ) (opening : Ghosts) (events : List GhostEvent) (event : GhostEvent) → IsOpened home m version opening → AreEnabled home opening events
+    → IsEnabled home (ghost_run home opening events) event → Keeps home (ghost_run home opening events).log (log_after home (ghost_run home opening events).log event)
     → Knows home (ghost_run home opening events).log → Knows home (log_after home (ghost_run home opening events).log event)
 
 -- nothing more has to be kept
@@ -80,20 +80,20 @@ abbrev pub TriesLeadOn : Type 0
 TriesLeadOn = (home : ℕ → ℕ) (log : Log) (p : Places) (room : ℕ) (t : TryState) (reply : ℕ) → IsOrderly home log → NoneLaterPast home log p t reply → TryKnows home log t → IsTrueReply home log p t t.step reply → TryKnows home log (try_next p room t reply)
 
 -- the won Cas of the tail reserves an address above what its record leads to, which is made as it has to be
-abbrev pub ReservesAreOwed : Type 0
-ReservesAreOwed = (home : ℕ → ℕ) (log : Log) (p : Places) (room : ℕ) (t : TryState) (reply : ℕ) (its : Reply) (addr : Addr) (entry : HistoryEntry) → TryKnows home log t → IsTrueReply home log p t t.step reply → t.step ≡ Appends its
+abbrev pub ReservesAreEnabled : Type 0
+ReservesAreEnabled = (home : ℕ → ℕ) (log : Log) (p : Places) (room : ℕ) (t : TryState) (reply : ℕ) (its : Reply) (addr : Addr) (entry : HistoryEntry) → TryKnows home log t → IsTrueReply home log p t t.step reply → t.step ≡ Appends its
     → t.append.step ≡ Reserves → reserve_next_ask room t.append.reserving reply ≡ Done (Reserved addr) → IsEntryOf t.request.op its entry
     → ((cell_of t.append.its_words).previous < addr.0) × IsMade home log entry (cell_of t.append.its_words)
 
 -- a Swap of a value word makes a change that may be made
-abbrev pub SwapsAreOwed : Type 0
-SwapsAreOwed = (home : ℕ → ℕ) (log : Log) (t : TryState) (addr : Addr) (entry : HistoryEntry) → TryKnows home log t → t.step ≡ SwapsValue addr → IsEntryOf t.request.op (reply_from None t.request.op) entry → IsAlone home log t.request t.seen addr.0
-    → IsOwedChange home log addr.0 (word_of (value_applied None t.request.op)) entry
+abbrev pub SwapsAreEnabled : Type 0
+SwapsAreEnabled = (home : ℕ → ℕ) (log : Log) (t : TryState) (addr : Addr) (entry : HistoryEntry) → TryKnows home log t → t.step ≡ SwapsValue addr → IsEntryOf t.request.op (reply_from None t.request.op) entry → IsAlone home log t.request t.seen addr.0
+    → IsEnabledChange home log addr.0 (word_of (value_applied None t.request.op)) entry
 
 -- and so does a Cas of it that is won
-abbrev pub CasesAreOwed : Type 0
-CasesAreOwed = (home : ℕ → ℕ) (log : Log) (p : Places) (t : TryState) (addr : Addr) (old reply : ℕ) (entry : HistoryEntry) → TryKnows home log t → IsTrueReply home log p t t.step reply → t.step ≡ ChangesValue addr old → reply ≡ old
-    → IsEntryOf t.request.op (reply_from (value_of old) t.request.op) entry → IsAlone home log t.request t.seen addr.0 → IsOwedChange home log addr.0 (word_of (value_applied (value_of old) t.request.op)) entry
+abbrev pub CasesAreEnabled : Type 0
+CasesAreEnabled = (home : ℕ → ℕ) (log : Log) (p : Places) (t : TryState) (addr : Addr) (old reply : ℕ) (entry : HistoryEntry) → TryKnows home log t → IsTrueReply home log p t t.step reply → t.step ≡ ChangesValue addr old → reply ≡ old
+    → IsEntryOf t.request.op (reply_from (value_of old) t.request.op) entry → IsAlone home log t.request t.seen addr.0 → IsEnabledChange home log addr.0 (word_of (value_applied (value_of old) t.request.op)) entry
 
 -- the reply that ends a try of a read ends it with what it has to tell
 abbrev pub ReadsTell : Type 0

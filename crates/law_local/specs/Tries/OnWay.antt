@@ -2,7 +2,7 @@
 use Rattle.std.specs.Prelude.{◌≡◌, ℕ, ◌<◌}
 use Rattle.law_log.specs.Chains.{Cell, Unborn, Published, IsWithin}
 use Rattle.law_log.specs.Ghosts.{Log, first_from}
-use Rattle.law_log.specs.Owed.{AreChains}
+use Rattle.law_log.specs.Enabled.{AreChains}
 
 -- Down the chain of the key's home from one address one comes to another: both stand in the chain, or are 0, and what stands first of the key
 -- from the one stands first from the other.

@@ -10,7 +10,7 @@ use Rattle.fkv_map.specs.Keys.{key_of, value_applied, reply_from}
 use Rattle.fkv_log.specs.declared.record_words.RecordWords.{RecordWords}
 use Rattle.law_log.specs.Chains.{Cell, value_at, IsWithin}
 use Rattle.law_log.specs.Ghosts.{Log, first_from}
-use Rattle.law_log.specs.Owed.{IsFixed, StandsStill, IsMade, NoneAbove}
+use Rattle.law_log.specs.Enabled.{IsFixed, StandsStill, IsMade, NoneAbove}
 use Rattle.fkv_ops.specs.declared.answers.TryAnswer.{TryAnswer}
 use Rattle.fkv_ops.specs.declared.answers.TryAnswer.TheVariants as answer
 use Rattle.fkv_ops.specs.declared.appending.Appending.{Appending}

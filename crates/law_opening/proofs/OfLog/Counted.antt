@@ -7,7 +7,7 @@ use Rattle.fkv_disk.specs.Bytes.{bytes_at}
 use Rattle.fkv_opening.specs.Opened.{IsStoreOf}
 use Rattle.fkv_opening.specs.declared.opened_store.Opened.{Opened}
 use Rattle.law_log.specs.Chains.{Cell, Unborn, Reserved, Published, head_of}
-use Rattle.law_log.specs.Owed.{AreChains, IsLinked, previous_of}
+use Rattle.law_log.specs.Enabled.{AreChains, IsLinked, previous_of}
 use Rattle.law_log.specs.Trace.{IsIn}
 use Rattle.fkv_pairs.specs.Pairs.{CountsAtHome, IsChainOf, log_of_store}
 use Rattle.fkv_record.specs.Layout.{record_bytes}

@@ -13,7 +13,7 @@ use Rattle.fkv_ops.specs.Values.{value_of}
 use Rattle.law_log.proofs.Shown.{first_is}
 use Rattle.law_log.specs.Chains.{Cell, Logged, Unborn, Reserved, Published, Dropped, first_such, has_key, head_of, value_at}
 use Rattle.law_log.specs.Ghosts.{newest_of, shown}
-use Rattle.law_log.specs.Owed.{IsLinked, IsOpened}
+use Rattle.law_log.specs.Enabled.{IsLinked, IsOpened}
 use Rattle.law_log.specs.Trace.{IsIn}
 use Rattle.fkv_pairs.specs.Pairs.{ArePairs, CountsAtHome, HasValue, IsNewest, log_of_store}
 use Rattle.fkv_plane.specs.Asked.{word_at}

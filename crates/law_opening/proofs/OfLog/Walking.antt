@@ -5,7 +5,7 @@ use Rattle.std.proofs.lemmas.Bool.Decides.{nat_tests}
 use Rattle.fkv_chains.proofs.Shown.{along_some}
 use Rattle.fkv_chains.specs.Along.{IsAlong, here, on}
 use Rattle.law_log.specs.Chains.{Logged, head_of}
-use Rattle.law_log.specs.Owed.{IsLinked, previous_of}
+use Rattle.law_log.specs.Enabled.{IsLinked, previous_of}
 use Rattle.law_log.specs.Trace.{IsIn}
 use Rattle.fkv_record.specs.declared.records.Record.{Record}
 use Rattle.fkv_scan.specs.Log.{Log}

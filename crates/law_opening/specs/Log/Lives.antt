@@ -4,7 +4,7 @@ use Rattle.fkv_map.specs.Map.{Map}
 use Rattle.fkv_opening.specs.declared.opened_store.Opened.{Opened}
 use Rattle.law_log.specs.Ghosts.{Ghosts}
 use Rattle.law_log.specs.Laws.{CallsAreOrdered, ChainsShowContent, HistoryIsLegal, NewestShowsContent, ReadsGiveContent, VersionsAreLegal, VersionsInOrder}
-use Rattle.law_log.specs.Owed.{AreOwed}
+use Rattle.law_log.specs.Enabled.{AreEnabled}
 use Rattle.fkv_core.specs.Openings.{beginning}
 use Rattle.fkv_world.specs.Runs.{run}
 use Rattle.fkv_world.specs.World.{Event, Now}
@@ -30,7 +30,7 @@ pub record IsBeside (o : Opened) (n : Now) (bytes : List ℕ) (events : List Eve
 
 -- each event of the log of this life keeps to its rule
 abbrev pub KeepsRules : Opened → Now → List ℕ → List Event → Type 0
-KeepsRules o n bytes events = AreOwed (home_in n.shape.bucket_bits) (opening_ghosts bytes o) (mapped (beginning n bytes) events)
+KeepsRules o n bytes events = AreEnabled (home_in n.shape.bucket_bits) (opening_ghosts bytes o) (mapped (beginning n bytes) events)
 
 -- what the order law says of the log beside it, from the store's map and in the version of its commit
 abbrev pub HoldsBeside : ((ℕ → ℕ) → Map → ℕ → Ghosts → Type 0) → Opened → Now → List ℕ → List Event → Type 0

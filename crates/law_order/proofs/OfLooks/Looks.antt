@@ -11,7 +11,7 @@ use Rattle.fkv_ops.specs.declared.answers.TryAnswer.{TryAnswer}
 use Rattle.fkv_ops.specs.declared.answers.TryAnswer.TheVariants.{Shift}
 use Rattle.law_log.specs.Chains.{Cell, Logged, Published}
 use Rattle.law_log.specs.Ghosts.{Ghosts, Log}
-use Rattle.law_log.specs.Owed.{AreOwed}
+use Rattle.law_log.specs.Enabled.{AreEnabled}
 use Rattle.fkv_pending.specs.declared.attempting.Attempting.{Attempting}
 use Rattle.fkv_pending.specs.declared.attempting.Attempting.TheVariants.{Looks}
 use Rattle.fkv_pending.specs.declared.mailing.MailRecord.{MailRecord}
@@ -38,7 +38,7 @@ use Rattle.law_parts.specs.Mail.Shows as mail
 use Rattle.law_refine.specs.Events.GhostEvents.{life_ghosts, mapped}
 use Rattle.law_order.specs.Rest.Resting.{HasNoCommit}
 use Rattle.law_order.specs.Served.Served.{ServedShow}
-use Rattle.law_order.proofs.OfServed.Later.{life_owed_before}
+use Rattle.law_order.proofs.OfServed.Later.{life_enabled_before}
 use Rattle.law_order.proofs.OfTruth.Attempts.{attempt_reply}
 use Rattle.law_order.specs.Asked.Asked.{LooksForAsked, outstanding}
 use Rattle.law_order.proofs.OfLooks.LifeMails.{its_mailbox}
@@ -91,7 +91,7 @@ LooksLaw opening events =
 
 -- in a life of a store that was opened
 module _ (opening : World) (start : ℕ) (lists : ℕ → List ℕ) (version : Version) (m : Map) (number : ℕ) (ghosts : Ghosts) (events : List Event) (begins : BeginsLife opening start lists version m number ghosts)
-    (none : HasNoCommit events) (owed : AreOwed (home_of_world opening) ghosts (mapped opening events)) (known : AreKnown opening ghosts events) (served : ServedShow opening ghosts events)
+    (none : HasNoCommit events) (enabled : AreEnabled (home_of_world opening) ghosts (mapped opening events)) (known : AreKnown opening ghosts events) (served : ServedShow opening ghosts events)
     (looks_for : LooksLaw opening events) (law : AsksLaw opening) where
   abbrev n : Now
   n = (run opening events).now
@@ -104,10 +104,10 @@ module _ (opening : World) (start : ℕ) (lists : ℕ → List ℕ) (version : V
   read_true session addr its before opened read =
       let later : List Event = read.later ++ (read.event ∷ []) in
       let cut : events ≡ later ++ read.earlier = read.cut ∙ sym (append_assoc read.later (read.event ∷ []) read.earlier) in
-      let owed_then = life_owed_before opening ghosts later read.earlier (subst (λ (es : List Event). AreOwed (home_of_world opening) ghosts (mapped opening es)) cut owed) in
+      let enabled_then = life_enabled_before opening ghosts later read.earlier (subst (λ (es : List Event). AreEnabled (home_of_world opening) ghosts (mapped opening es)) cut enabled) in
       let known_then = known_before opening ghosts later read.earlier (subst (AreKnown opening ghosts) cut known) in
       let none_then = none_before later read.earlier (subst HasNoCommit cut none) in
-      let there : IsThere opening ghosts read.earlier addr.0 = asked_there opening start lists version m number ghosts begins law read.earlier session addr opened none_then owed_then known_then (asked_last read.since) in
+      let there : IsThere opening ghosts read.earlier addr.0 = asked_there opening start lists version m number ghosts begins law read.earlier session addr opened none_then enabled_then known_then (asked_last read.since) in
       served session addr its read.earlier later there.cell cut read.gives there.published there.flushed
 
   -- what is loaded for the record that is sought is that one

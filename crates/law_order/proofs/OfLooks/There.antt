@@ -11,7 +11,7 @@ use Rattle.fkv_ops.specs.declared.answers.DiskRecord.{DiskRecord}
 use Rattle.fkv_ops.specs.declared.requests.Seen.{Seen}
 use Rattle.law_log.specs.Chains.{Cell, IsWithin, Published}
 use Rattle.law_log.specs.Ghosts.{Ghosts, Log}
-use Rattle.law_log.specs.Owed.{AreChains, AreOwed}
+use Rattle.law_log.specs.Enabled.{AreChains, AreEnabled}
 use Rattle.law_log.proofs.Shown.{run_held}
 use Rattle.fkv_pending.specs.declared.attempting.Attempting.TheVariants.{Puts}
 use Rattle.fkv_pending.specs.declared.mailing.MailTask.{MailTask}
@@ -36,7 +36,7 @@ use Rattle.law_refine.specs.Events.GhostEvents.{life_ghosts, mapped}
 use Rattle.law_refine.proofs.OfEvents.Fixed.{life_rises}
 use Rattle.law_order.specs.Rest.Resting.{HasNoCommit}
 use Rattle.law_order.proofs.OfServed.Device.{flushed_fixed}
-use Rattle.law_order.proofs.OfServed.Later.{life_owed_before, life_stays}
+use Rattle.law_order.proofs.OfServed.Later.{life_enabled_before, life_stays}
 use Rattle.law_order.proofs.OfTruth.Attempts.{attempting_is, life_seen}
 use Rattle.law_order.proofs.OfKnown.Newest.{known_now}
 use Rattle.law_order.specs.Asked.Asked.{AsksForSought, outstanding}
@@ -75,41 +75,41 @@ AsksLaw opening =
 
 -- in a life of a store that was opened
 module _ (opening : World) (start : ℕ) (lists : ℕ → List ℕ) (version : Version) (m : Map) (number : ℕ) (ghosts : Ghosts) (begins : BeginsLife opening start lists version m number ghosts) where
-  abbrev Owed : List Event → Type 0
-  Owed events = AreOwed (home_of_world opening) ghosts (mapped opening events)
+  abbrev Enabled : List Event → Type 0
+  Enabled events = AreEnabled (home_of_world opening) ghosts (mapped opening events)
 
   abbrev log_behind : List Event → Log
   log_behind events = (life_ghosts opening ghosts events).log
 
   -- it stays so
-  there_stays : (event : Event) (before : List Event) (a : ℕ) → Owed (event ∷ before) → IsThere opening ghosts before a → IsThere opening ghosts (event ∷ before) a
+  there_stays : (event : Event) (before : List Event) (a : ℕ) → Enabled (event ∷ before) → IsThere opening ghosts before a → IsThere opening ghosts (event ∷ before) a
   unfolding run
-  there_stays event before a owed its =
+  there_stays event before a enabled its =
       let fixed = flushed_fixed opening start lists version m number ghosts before a begins its.flushed in
       record {
         cell = its.cell;
-        published = (life_stays opening m number ghosts (event ∷ []) before a its.cell begins.log owed (record { there = its.published; fixed = fixed })).there;
+        published = (life_stays opening m number ghosts (event ∷ []) before a its.cell begins.log enabled (record { there = its.published; fixed = fixed })).there;
         flushed = lower a (levels_of (run opening before).now.words).flushed _ its.flushed (life_rises opening start before (event ∷ []) begins.store.now).flushed;
       }
 
   -- what an attempt seeks on the device is there
-  sought_there : (events : List Event) (session : ℕ) (s : SessionState) (it : DiskRecord) → Owed events → AreKnown opening ghosts events → slice_get (run opening events).now.sessions session ≡ Some s → is_attempting s.step ≡ true
+  sought_there : (events : List Event) (session : ℕ) (s : SessionState) (it : DiskRecord) → Enabled events → AreKnown opening ghosts events → slice_get (run opening events).now.sessions session ≡ Some s → is_attempting s.step ≡ true
       → s.attempt.pending.sought ≡ Some it → IsThere opening ghosts events it.addr.0
-  sought_there events session s it owed known found attempts sought =
+  sought_there events session s it enabled known found attempts sought =
       let home : ℕ → ℕ = home_of_world opening in
       let log : Log = log_behind events in
       let key : ℕ = key_in s.attempt.pending.request in
       let knows : AttemptKnows home log s.attempt = (known_now opening ghosts events known session s found).attempted attempts in
       let comes : ComesBelow home log key (entry_addr it.entry) it.addr.0 (head_in s.attempt.seen) = subst (SoughtKnows home log key (head_in s.attempt.seen)) sought knows.pending.sought in
-      let held = run_held home m number ghosts (mapped opening events) begins.log owed in
+      let held = run_held home m number ghosts (mapped opening events) begins.log enabled in
       let its = in_chain home log (home key) it.addr.0 held.chains comes.some comes.way.within in
       let head : s.seen.offsets.head.0 ≤ (levels_of (run opening events).now.words).flushed = head_flushed opening start events session s begins.store.now found (attempting_is s.step attempts) in
       let below : it.addr.0 < s.seen.offsets.head.0 = subst (λ (seen : Seen). it.addr.0 < head_in seen) (life_seen opening start events session s begins.world begins.store.now found attempts) comes.below in
       record { cell = its.0; published = its.1; flushed = lower it.addr.0 s.seen.offsets.head.0 _ below head }
 
   -- so is what a session is about to ask for
-  about_there : AsksLaw opening → (before : List Event) (session : ℕ) (addr : Addr) → HasNoCommit before → Owed before → AreKnown opening ghosts before → IsAboutToAsk opening session before addr → IsThere opening ghosts before addr.0
-  about_there law before session addr none owed known about =
+  about_there : AsksLaw opening → (before : List Event) (session : ℕ) (addr : Addr) → HasNoCommit before → Enabled before → AreKnown opening ghosts before → IsAboutToAsk opening session before addr → IsThere opening ghosts before addr.0
+  about_there law before session addr none enabled known about =
       let s : SessionState = about.asker in
       let task : Option MailTask = (mail_past opening session before).task in
       let puts = asks_by_put s (life_mails opening start before session s begins.world begins.store.now about.there) about.under_way in
@@ -118,16 +118,16 @@ module _ (opening : World) (start : ℕ) (lists : ℕ → List ℕ) (version : V
       let seeks = sought_of s.attempt.pending.sought s.attempt.mailing row in
       let its_task : AsksForSought task s.attempt Puts = subst (AsksForSought task s.attempt) puts.puts (law before none session s about.there puts.attempts) in
       let same : Put seeks.0.addr ≡ Put addr = some_same (Put seeks.0.addr) (Put addr) (sym (its_task puts.stores seeks.0 seeks.1) ∙ about.its_task) in
-      subst (λ (at : Addr). IsThere opening ghosts before at.0) (same_put seeks.0.addr addr same) (sought_there before session s seeks.0 owed known about.there puts.attempts seeks.1)
+      subst (λ (at : Addr). IsThere opening ghosts before at.0) (same_put seeks.0.addr addr same) (sought_there before session s seeks.0 enabled known about.there puts.attempts seeks.1)
 
   -- and what is asked for
-  pub asked_there : AsksLaw opening → (events : List Event) (session : ℕ) (addr : Addr) → mail_shows.IsOpened opening.now session → HasNoCommit events → Owed events → AreKnown opening ghosts events
+  pub asked_there : AsksLaw opening → (events : List Event) (session : ℕ) (addr : Addr) → mail_shows.IsOpened opening.now session → HasNoCommit events → Enabled events → AreKnown opening ghosts events
       → outstanding (mail_notes opening session events) ≡ Some addr → IsThere opening ghosts events addr.0
   unfolding AreKnown mail.mapped past_of outstanding
-  asked_there law [] session addr opened none owed known e = none_some addr e
-  asked_there law (event ∷ before) session addr opened none owed known e =
-      let owed_before : Owed before = life_owed_before opening ghosts (event ∷ []) before owed in
+  asked_there law [] session addr opened none enabled known e = none_some addr e
+  asked_there law (event ∷ before) session addr opened none enabled known e =
+      let enabled_before : Enabled before = life_enabled_before opening ghosts (event ∷ []) before enabled in
       elim (was_or_comes opening session opened event before addr e) [
-        | inl was ↦ there_stays event before addr.0 owed (asked_there law before session addr opened none.1 owed_before known.0 was)
-        | inr about ↦ there_stays event before addr.0 owed (about_there law before session addr none.1 owed_before known.0 about)
+        | inl was ↦ there_stays event before addr.0 enabled (asked_there law before session addr opened none.1 enabled_before known.0 was)
+        | inr about ↦ there_stays event before addr.0 enabled (about_there law before session addr none.1 enabled_before known.0 about)
       ]

@@ -18,7 +18,7 @@ use Rattle.law_order.specs.Ordered.Keeps.{KeepsOrder}
 use Rattle.law_order.specs.Rest.Resting.{HasNoCommit}
 use Rattle.law_order.specs.Served.Fits.{CallsFit, CellsFit}
 use Rattle.law_order.proofs.OfTickets.Life.{tickets_apart}
-use Rattle.law_order.specs.OneHistory.EachLife.{InEachLife}
+use Rattle.law_order.specs.OneHistory.EachLife.{InEachLife, WithoutCommits}
 
 -- what a life begins with
 abbrev pub LivesBegin : Type 0
@@ -35,10 +35,10 @@ LivesKeepOrder = (opening : World) (start : ℕ) (lists : ℕ → List ℕ) (ver
     → CellsFit ghosts.log → HasNoCommit events → CallsFit events → TicketsAreApart opening events
     → KeepsOrder opening ghosts events
 
-pub of_each_life : (P : Opened → Now → List ℕ → List Event → Type 0) → LivesBegin → OpeningsFit → LivesKeepOrder → OfEachKept P → InEachLife P
-of_each_life P lives fit keep kept = λ bytes o n events store world none calls few.
+pub of_each_life : (P : Opened → Now → List ℕ → List Event → Type 0) → LivesBegin → OpeningsFit → LivesKeepOrder → OfEachKept P → InEachLife (WithoutCommits P)
+of_each_life P lives fit keep kept = λ bytes o n events store world calls few none.
     let begins : BeginsLife (beginning n bytes) o.tail.0 (opening_lists o.entries.items) (opening_version o) (opening_map bytes o) o.number.0 (opening_ghosts bytes o) = lives bytes o n store world in
     let keeps : KeepsOrder (beginning n bytes) (opening_ghosts bytes o) events =
     keep (beginning n bytes) o.tail.0 (opening_lists o.entries.items) (opening_version o) (opening_map bytes o) o.number.0 (opening_ghosts bytes o) events begins (fit bytes o store) none calls
     (tickets_apart (beginning n bytes) events begins.world few) in
-    kept bytes o n events store world keeps.owed keeps.published
+    kept bytes o n events store world keeps.enabled keeps.published

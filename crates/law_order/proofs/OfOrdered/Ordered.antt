@@ -3,7 +3,7 @@ use Rattle.std.proofs.Common.{◌≡◌, ℕ, refl, sym, subst, Bool, true, fals
 use Rattle.fkv_base.specs.declared.numbers.Version.{Version}
 use Rattle.fkv_map.specs.Map.{Map}
 use Rattle.law_log.specs.Ghosts.{Ghosts}
-use Rattle.law_log.specs.Owed.{AreOwed}
+use Rattle.law_log.specs.Enabled.{AreEnabled}
 use Rattle.fkv_world.specs.Runs.{World, run}
 use Rattle.fkv_world.specs.World.{Event}
 use Rattle.law_refine.specs.Calls.Calls.{event_adds}
@@ -14,9 +14,9 @@ use Rattle.law_order.specs.Known.Told.{AreToldTruly, TicketsAreApart}
 use Rattle.law_order.proofs.OfKnown.Begun.{begun_known}
 use Rattle.law_refine.specs.Events.GhostEvents.{life_ghosts, mapped}
 use Rattle.law_order.proofs.OfLooks.Truth.{looks_true}
-use Rattle.law_order.proofs.OfOwes.Changes.{changes_published}
-use Rattle.law_order.proofs.OfOwes.Own.{own_owed}
-use Rattle.law_order.proofs.OfReads.LifeReads.{answers_owed, reads_begin_so, reads_go_on}
+use Rattle.law_order.proofs.OfEnabled.Changes.{changes_published}
+use Rattle.law_order.proofs.OfEnabled.Own.{own_enabled}
+use Rattle.law_order.proofs.OfReads.LifeReads.{answers_enabled, reads_begin_so, reads_go_on}
 use Rattle.law_refine.specs.Records.Changes.{AreChangesPublished}
 use Rattle.law_order.specs.Rest.Resting.{HasNoCommit}
 use Rattle.law_order.proofs.OfRows.Rows.{rows_go_on}
@@ -25,15 +25,15 @@ use Rattle.law_order.specs.Served.Served.{ServedShow}
 use Rattle.law_order.proofs.OfServed.Device.{CallsLaw}
 use Rattle.law_order.proofs.OfServed.Words.{WordsLaw}
 use Rattle.law_order.proofs.OfServed.Served.{served_show}
-use Rattle.law_order.proofs.OfTold.Owed.{lines_owed, mapped_crashed}
+use Rattle.law_order.proofs.OfTold.Enabled.{lines_enabled, mapped_crashed}
 use Rattle.law_order.proofs.OfTruth.Truth.{words_true}
 use Rattle.law_order.specs.Ordered.Keeps.{KeepsOrder}
 
 -- ---- at first nothing has happened
 pub begins_ordered : (opening : World) (start : ℕ) (lists : ℕ → List ℕ) (version : Version) (m : Map) (number : ℕ) (ghosts : Ghosts) → BeginsLife opening start lists version m number ghosts → KeepsOrder opening ghosts []
-unfolding AreOwed mapped
+unfolding AreEnabled mapped
 begins_ordered opening start lists version m number ghosts begins = record {
-  owed = tt;
+  enabled = tt;
   published = tt;
   known = begun_known opening start lists version m number ghosts begins;
   reads = reads_begin_so opening start lists version m number ghosts begins;
@@ -57,23 +57,23 @@ module _ (calls : CallsLaw) (words : WordsLaw) (opening : World) (start : ℕ) (
   -- What the words of the store tell sessions is true: so is what they load from their mailboxes, which the device has given as the log has it.
   told_truly : (before : List Event) → HasNoCommit before → CallsFit before → KeepsOrder opening ghosts before → AreToldTruly H (life_ghosts opening ghosts before).log (run opening before).now
   told_truly before none fits its =
-      let served : ServedShow opening ghosts before = served_show calls words opening start lists version m number ghosts before begins cells fits its.owed its.published in
-      words_true opening start lists version m number ghosts before begins its.owed its.published its.known
-      (looks_true opening start lists version m number ghosts before begins none its.owed its.published its.known served)
+      let served : ServedShow opening ghosts before = served_show calls words opening start lists version m number ghosts before begins cells fits its.enabled its.published in
+      words_true opening start lists version m number ghosts before begins its.enabled its.published its.known
+      (looks_true opening start lists version m number ghosts before begins none its.enabled its.published its.known served)
 
-  -- All that the event is to the log is owed: what its session does there, and the lines that it tells. After a crash it is nothing.
-  event_owed : (before : List Event) (event : Event) → HasNoCommit (event ∷ before) → TicketsAreApart opening (event ∷ before) → KeepsOrder opening ghosts before
-      → AreToldTruly H (life_ghosts opening ghosts before).log (run opening before).now → AreChangesPublished opening ghosts (event ∷ before) → AreOwed H ghosts (mapped opening (event ∷ before))
-  event_owed before event none apart its truly published = by_crash (run opening before).now.crashed refl
+  -- All that the event is to the log is enabled: what its session does there, and the lines that it tells. After a crash it is nothing.
+  event_enabled : (before : List Event) (event : Event) → HasNoCommit (event ∷ before) → TicketsAreApart opening (event ∷ before) → KeepsOrder opening ghosts before
+      → AreToldTruly H (life_ghosts opening ghosts before).log (run opening before).now → AreChangesPublished opening ghosts (event ∷ before) → AreEnabled H ghosts (mapped opening (event ∷ before))
+  event_enabled before event none apart its truly published = by_crash (run opening before).now.crashed refl
     where
       answered : EachAnswered H (acted_ghosts opening ghosts before event) (event_adds opening before event)
-      answered = answers_owed opening start lists version m number ghosts before event begins its.owed its.known apart truly its.reads
+      answered = answers_enabled opening start lists version m number ghosts before event begins its.enabled its.known apart truly its.reads
 
-      by_crash : (crashed : Bool) → (run opening before).now.crashed ≡ crashed → AreOwed H ghosts (mapped opening (event ∷ before))
-      by_crash true over = subst (AreOwed H ghosts) (sym (mapped_crashed opening before event over)) its.owed
+      by_crash : (crashed : Bool) → (run opening before).now.crashed ≡ crashed → AreEnabled H ghosts (mapped opening (event ∷ before))
+      by_crash true over = subst (AreEnabled H ghosts) (sym (mapped_crashed opening before event over)) its.enabled
       by_crash false alive =
-          lines_owed opening start lists version m number ghosts before event begins its.owed published
-          (own_owed opening start lists version m number ghosts before event begins none its.owed its.published its.known truly alive)
+          lines_enabled opening start lists version m number ghosts before event begins its.enabled published
+          (own_enabled opening start lists version m number ghosts before event begins none its.enabled its.published its.known truly alive)
           answered
 
   pub goes_on : (before : List Event) (event : Event) → HasNoCommit (event ∷ before) → CallsFit (event ∷ before) → TicketsAreApart opening (event ∷ before) → KeepsOrder opening ghosts before
@@ -81,12 +81,12 @@ module _ (calls : CallsLaw) (words : WordsLaw) (opening : World) (start : ℕ) (
   goes_on before event none fits apart its =
       let truly : AreToldTruly H (life_ghosts opening ghosts before).log (run opening before).now = told_truly before none.1 fits.1 its in
       let published : AreChangesPublished opening ghosts (event ∷ before) = (changes_published opening start lists version m number ghosts before event begins its.known, its.published) in
-      let owed : AreOwed H ghosts (mapped opening (event ∷ before)) = event_owed before event none apart its truly published in
+      let enabled : AreEnabled H ghosts (mapped opening (event ∷ before)) = event_enabled before event none apart its truly published in
       record {
-        owed = owed;
+        enabled = enabled;
         published = published;
-        known = known_on opening ghosts before event its.known (rows_go_on opening start lists version m number ghosts before event begins none owed its.known truly);
-        reads = reads_go_on opening start lists version m number ghosts before event begins its.owed its.known apart truly its.reads owed;
+        known = known_on opening ghosts before event its.known (rows_go_on opening start lists version m number ghosts before event begins none enabled its.known truly);
+        reads = reads_go_on opening start lists version m number ghosts before event begins its.enabled its.known apart truly its.reads enabled;
       }
 
   pub life_goes : (events : List Event) → HasNoCommit events → CallsFit events → TicketsAreApart opening events → KeepsOrder opening ghosts events

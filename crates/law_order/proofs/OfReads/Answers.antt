@@ -1,4 +1,4 @@
--- The lines of a call's end: each answer of a read is owed, and the session's reads stand in the trace as they did before it.
+-- The lines of a call's end: each answer of a read is enabled, and the session's reads stand in the trace as they did before it.
 use Rattle.std.proofs.Common.{◌≡◌, ◌≢◌, ℕ, ◌∙◌, refl, sym, ap, subst, append_assoc, Bool, true, false, List, [], ◌∷◌, ◌++◌}
 use Rattle.std.specs.Prelude.{⊤, if◌then◌else◌, map, Option, Some, None}
 use Rattle.fkv_map.specs.declared.operations.Call.{Call}
@@ -142,7 +142,7 @@ answer_calls reader first trace session (told.Polled left) list = all_finished_c
 answer_calls reader first trace session (told.Refused why) list = refused_none reader session (next_serial first session trace) (last_call session trace)
 answer_calls reader first trace session its list = tt
 
--- ---- each answer is owed
+-- ---- each answer is enabled
 value_told : (value : Option Value) → read_reply value ≡ reply_to_read (as_number value)
 value_told None = refl
 value_told (Some value) = refl

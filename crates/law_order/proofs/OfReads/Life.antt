@@ -1,4 +1,4 @@
--- Over each life without commits the reads of sessions stand in the log as their control states say, and each answer of a read is owed.
+-- Over each life without commits the reads of sessions stand in the log as their control states say, and each answer of a read is enabled.
 use Rattle.std.proofs.Common.{◌≡◌, ℕ, ◌<◌, ◌∙◌, refl, sym, ap, subst, arith, inl, Bool, true, false, List, [], ◌∷◌, ◌++◌, length}
 use Rattle.std.specs.Prelude.{◌==◌, if◌then◌else◌, map, slice_get, Some}
 use Rattle.std.proofs.lemmas.Bool.Decides.{nat_tests}
@@ -141,7 +141,7 @@ call_waits home base reads first effects number its trace s same numbered all =
     never e = cc
 
 -- ---- each event
--- what is shown of it: each answer is owed, and how far reads have come then
+-- what is shown of it: each answer is enabled, and how far reads have come then
 pub record IsAnsweredSo (opening : World) (ghosts : Ghosts) (before : List Event) (event : Event) : Type 0 where
   pub each : EachAnswered (home_of_world opening) (base_of opening ghosts before event) (event_adds opening before event)
   pub known : (number : ℕ) (s : SessionState) → slice_get (happens (run opening before) event).now.sessions number ≡ Some s

@@ -4,7 +4,7 @@ use Rattle.std.specs.Prelude.{◌==◌, slice_get, Some}
 use Rattle.fkv_base.specs.declared.numbers.Version.{Version}
 use Rattle.fkv_map.specs.Map.{Map}
 use Rattle.law_log.specs.Ghosts.{Ghosts}
-use Rattle.law_log.specs.Owed.{AreOwed}
+use Rattle.law_log.specs.Enabled.{AreEnabled}
 use Rattle.law_log.proofs.Shown.{run_held}
 use Rattle.fkv_session.specs.declared.sessions.Sitting.{Sitting}
 use Rattle.fkv_session.specs.declared.sessions.Sitting.TheVariants.{Idle, Attempts, Polls}
@@ -99,10 +99,10 @@ run_under_way k first own opened attempting = by_step (session_run k first own).
     by_step step e is = cc
 
 -- ---- the step of a session
-moment_facts : (opening : World) (start : ℕ) (lists : ℕ → List ℕ) (version : Version) (m : Map) (number : ℕ) (ghosts : Ghosts) (before : List Event) (event : Event) → BeginsLife opening start lists version m number ghosts → AreOwed (home_of_world opening) ghosts (mapped opening before)
+moment_facts : (opening : World) (start : ℕ) (lists : ℕ → List ℕ) (version : Version) (m : Map) (number : ℕ) (ghosts : Ghosts) (before : List Event) (event : Event) → BeginsLife opening start lists version m number ghosts → AreEnabled (home_of_world opening) ghosts (mapped opening before)
     → AreKnown opening ghosts before → TicketsAreApart opening (event ∷ before) → AreToldTruly (home_of_world opening) (life_ghosts opening ghosts before).log (run opening before).now → AreReadsKnown opening ghosts before
     → (its : Goes (run opening before) event) → StepFacts (home_of_world opening) (life_ghosts opening ghosts before) (seat_at (run opening before).now its.number) (run opening before).past.trace (run opening before).now.words its.s
-moment_facts opening start lists version m number ghosts before event begins owed known apart truly reads its =
+moment_facts opening start lists version m number ghosts before event begins enabled known apart truly reads its =
     let w : World = run opening before in
     let k : Seat = seat_at w.now its.number in
     let first = first_of opening before its.number its.s its.found in
@@ -112,7 +112,7 @@ moment_facts opening start lists version m number ghosts before event begins owe
     let same : its.s ≡ session_run (seat_at opening.now its.number) first.0 own = some_same its.s (session_run (seat_at opening.now its.number) first.0 own) (sym its.found ∙ session_runs opening its.number first.0 before first.1) in
     record {
       busy = its.busy;
-      orderly = orderly (home_of_world opening) m (life_ghosts opening ghosts before).log (run_held (home_of_world opening) m number ghosts (mapped opening before) begins.log owed);
+      orderly = orderly (home_of_world opening) m (life_ghosts opening ghosts before).log (run_held (home_of_world opening) m number ghosts (mapped opening before) begins.log enabled);
       knows = (known_now opening ghosts before known its.number its.s its.found).attempted;
       says = truly its.number its.s its.found;
       inputs = subst (λ (x : Seat). AttemptsSo x its.s) (sym seat) (subst (AttemptsSo (seat_at opening.now its.number)) (sym same) (run_so (seat_at opening.now its.number) first.0 own opened));
@@ -133,15 +133,15 @@ begins_own w event its = ap (own_ghosts w) its.is
 goes_own : (w : World) (event : Event) (its : Goes w event) → own_ghosts w event ≡ moved_ghosts w its.number (Some its.s)
 goes_own w event its = ap (own_ghosts w) its.is ∙ ap (moved_ghosts w its.number) its.found
 
-alive_so : (opening : World) (start : ℕ) (lists : ℕ → List ℕ) (version : Version) (m : Map) (number : ℕ) (ghosts : Ghosts) (before : List Event) (event : Event) → BeginsLife opening start lists version m number ghosts → AreOwed (home_of_world opening) ghosts (mapped opening before)
+alive_so : (opening : World) (start : ℕ) (lists : ℕ → List ℕ) (version : Version) (m : Map) (number : ℕ) (ghosts : Ghosts) (before : List Event) (event : Event) → BeginsLife opening start lists version m number ghosts → AreEnabled (home_of_world opening) ghosts (mapped opening before)
     → AreKnown opening ghosts before → TicketsAreApart opening (event ∷ before) → AreToldTruly (home_of_world opening) (life_ghosts opening ghosts before).log (run opening before).now → AreReadsKnown opening ghosts before
     → Turn (run opening before) event → IsAnsweredSo opening ghosts before event
-alive_so opening start lists version m number ghosts before event begins owed known apart truly reads (Rests quiet own stay) =
+alive_so opening start lists version m number ghosts before event begins enabled known apart truly reads (Rests quiet own stay) =
     rests_so opening ghosts before event quiet own stay (λ n s found. life_numbered opening before n s begins.world found) (reads_now opening ghosts before reads)
-alive_so opening start lists version m number ghosts before event begins owed known apart truly reads (BeginsOne its) =
+alive_so opening start lists version m number ghosts before event begins enabled known apart truly reads (BeginsOne its) =
     begins_so opening ghosts before event its (begins_own (run opening before) event its) (λ n s found. life_numbered opening before n s begins.world found) (reads_now opening ghosts before reads)
-alive_so opening start lists version m number ghosts before event begins owed known apart truly reads (GoesOne its) =
-    goes_so opening ghosts before event its (goes_own (run opening before) event its) (moment_facts opening start lists version m number ghosts before event begins owed known apart truly reads its)
+alive_so opening start lists version m number ghosts before event begins enabled known apart truly reads (GoesOne its) =
+    goes_so opening ghosts before event its (goes_own (run opening before) event its) (moment_facts opening start lists version m number ghosts before event begins enabled known apart truly reads its)
     (freshly opening before event apart its) (λ n s found. life_numbered opening before n s begins.world found) (reads_now opening ghosts before reads)
 
 -- ---- after a crash nothing is told
@@ -154,21 +154,21 @@ over_adds opening before event over =
     ap (λ (told : List TraceEvent). lines_added (serials_in opening.now) (run opening before).past.trace (told_at (effects_behind (run opening before) event) told)) (over_told (run opening before) event over)
 
 -- ---- what is shown
-pub answers_owed : (opening : World) (start : ℕ) (lists : ℕ → List ℕ) (version : Version) (m : Map) (number : ℕ) (ghosts : Ghosts) (before : List Event) (event : Event) → BeginsLife opening start lists version m number ghosts → AreOwed (home_of_world opening) ghosts (mapped opening before)
+pub answers_enabled : (opening : World) (start : ℕ) (lists : ℕ → List ℕ) (version : Version) (m : Map) (number : ℕ) (ghosts : Ghosts) (before : List Event) (event : Event) → BeginsLife opening start lists version m number ghosts → AreEnabled (home_of_world opening) ghosts (mapped opening before)
     → AreKnown opening ghosts before → TicketsAreApart opening (event ∷ before) → AreToldTruly (home_of_world opening) (life_ghosts opening ghosts before).log (run opening before).now → AreReadsKnown opening ghosts before
     → EachAnswered (home_of_world opening) (acted_ghosts opening ghosts before event) (event_adds opening before event)
 unfolding run
-answers_owed opening start lists version m number ghosts before event begins owed known apart truly reads = by_crash (run opening before).now.crashed refl
+answers_enabled opening start lists version m number ghosts before event begins enabled known apart truly reads = by_crash (run opening before).now.crashed refl
   where
     by_crash : (crashed : Bool) → (run opening before).now.crashed ≡ crashed → EachAnswered (home_of_world opening) (acted_ghosts opening ghosts before event) (event_adds opening before event)
     by_crash true over = subst (EachAnswered (home_of_world opening) (acted_ghosts opening ghosts before event)) (sym (over_adds opening before event over)) tt
-    by_crash false alive = (alive_so opening start lists version m number ghosts before event begins owed known apart truly reads (turn_of (run opening before) event alive)).each
+    by_crash false alive = (alive_so opening start lists version m number ghosts before event begins enabled known apart truly reads (turn_of (run opening before) event alive)).each
 
-reads_go : (opening : World) (start : ℕ) (lists : ℕ → List ℕ) (version : Version) (m : Map) (number : ℕ) (ghosts : Ghosts) (before : List Event) (event : Event) → BeginsLife opening start lists version m number ghosts → AreOwed (home_of_world opening) ghosts (mapped opening before)
+reads_go : (opening : World) (start : ℕ) (lists : ℕ → List ℕ) (version : Version) (m : Map) (number : ℕ) (ghosts : Ghosts) (before : List Event) (event : Event) → BeginsLife opening start lists version m number ghosts → AreEnabled (home_of_world opening) ghosts (mapped opening before)
     → AreKnown opening ghosts before → TicketsAreApart opening (event ∷ before) → AreToldTruly (home_of_world opening) (life_ghosts opening ghosts before).log (run opening before).now → AreReadsKnown opening ghosts before
     → ReadsKnown opening ghosts (event ∷ before)
 unfolding run
-reads_go opening start lists version m number ghosts before event begins owed known apart truly reads = by_crash (run opening before).now.crashed refl
+reads_go opening start lists version m number ghosts before event begins enabled known apart truly reads = by_crash (run opening before).now.crashed refl
   where
     by_crash : (crashed : Bool) → (run opening before).now.crashed ≡ crashed → ReadsKnown opening ghosts (event ∷ before)
     by_crash true over = λ n s found.
@@ -178,14 +178,14 @@ reads_go opening start lists version m number ghosts before event begins owed kn
         (reads_now opening ghosts before reads n s (sym (ap (λ (x : World). slice_get x.now.sessions n) same) ∙ found)))
     by_crash false alive = λ n s found.
         subst (λ (g : Ghosts). SessionReads g.reads (happens (run opening before) event).past.trace n s) (sym (life_next opening ghosts before event alive))
-        ((alive_so opening start lists version m number ghosts before event begins owed known apart truly reads (turn_of (run opening before) event alive)).known n s found)
+        ((alive_so opening start lists version m number ghosts before event begins enabled known apart truly reads (turn_of (run opening before) event alive)).known n s found)
 
-pub reads_go_on : (opening : World) (start : ℕ) (lists : ℕ → List ℕ) (version : Version) (m : Map) (number : ℕ) (ghosts : Ghosts) (before : List Event) (event : Event) → BeginsLife opening start lists version m number ghosts → AreOwed (home_of_world opening) ghosts (mapped opening before)
+pub reads_go_on : (opening : World) (start : ℕ) (lists : ℕ → List ℕ) (version : Version) (m : Map) (number : ℕ) (ghosts : Ghosts) (before : List Event) (event : Event) → BeginsLife opening start lists version m number ghosts → AreEnabled (home_of_world opening) ghosts (mapped opening before)
     → AreKnown opening ghosts before → TicketsAreApart opening (event ∷ before) → AreToldTruly (home_of_world opening) (life_ghosts opening ghosts before).log (run opening before).now → AreReadsKnown opening ghosts before
-    → AreOwed (home_of_world opening) ghosts (mapped opening (event ∷ before)) → AreReadsKnown opening ghosts (event ∷ before)
+    → AreEnabled (home_of_world opening) ghosts (mapped opening (event ∷ before)) → AreReadsKnown opening ghosts (event ∷ before)
 unfolding AreReadsKnown
-reads_go_on opening start lists version m number ghosts before event begins owed known apart truly reads later =
-    (reads, reads_go opening start lists version m number ghosts before event begins owed known apart truly reads)
+reads_go_on opening start lists version m number ghosts before event begins enabled known apart truly reads later =
+    (reads, reads_go opening start lists version m number ghosts before event begins enabled known apart truly reads)
 
 -- ---- as the life begins
 idle_sits : (opening : World) (ghosts : Ghosts) (n : ℕ) (s : SessionState) (step : Sitting) → is_busy step ≡ false → s.requests ≡ [] → SitsReads (readings_of ghosts.reads opening.past.trace n) s step

@@ -3,7 +3,7 @@ use Rattle.std.proofs.Common.{◌≡◌, ℕ, ◌≤◌, List, [], ◌∷◌, re
 use Rattle.fkv_map.specs.declared.history.HistoryEntry.{HistoryEntry}
 use Rattle.law_log.specs.Chains.{Cell, Logged, Unborn, Reserved, Published, Dropped, version_at}
 use Rattle.law_log.specs.Ghosts.{Log, Ghosts, GhostEvent, Tells, FindsEntry, TakesValue, Reserves, Publishes, Drops, Changes, Fixes, set_at, changed, changed_by, dropped, published, log_after, ghosts_after, ghost_run}
-use Rattle.law_log.specs.Owed.{NoneAbove, NoneCopies}
+use Rattle.law_log.specs.Enabled.{NoneAbove, NoneCopies}
 use Rattle.law_log.proofs.Shown.{at_one}
 use Rattle.law_order.specs.Rest.Logs.{AllReserveOf, CellsRest, CellsSince, LoggedRests, LoggedSince, ReservesOf, WasOf}
 
@@ -76,7 +76,7 @@ since_rests version before (Dropped cell) rests its = tt
 pub log_rests : (version : ℕ) (home : ℕ → ℕ) (ghosts : Ghosts) (events : List GhostEvent) → CellsRest version ghosts.log.cells → AllReserveOf version events → CellsRest version (ghost_run home ghosts events).log.cells
 log_rests version home ghosts events rests all a = since_rests version (ghosts.log.cells a) ((ghost_run home ghosts events).log.cells a) (rests a) (log_since version home ghosts events rests all a)
 
--- ---- what follows for what is owed
+-- ---- what follows for what is enabled
 pub none_copies : (version : ℕ) (home : ℕ → ℕ) (log : Log) (a : ℕ) → CellsRest version log.cells → NoneCopies home log a version
 none_copies version home log a rests b entry cell its later = let same : cell.version ≡ version = subst (LoggedRests version) its (rests b) in absurd (omega (arith, same, later))
 

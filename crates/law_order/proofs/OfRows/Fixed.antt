@@ -5,8 +5,8 @@ use Rattle.fkv_map.specs.declared.history.HistoryEntry.{HistoryEntry}
 use Rattle.fkv_map.specs.Map.{Map}
 use Rattle.law_log.specs.Chains.{Cell, Logged, Unborn, Reserved, Published, Dropped}
 use Rattle.law_log.specs.Ghosts.{Log, Ghosts, GhostEvent, Tells, FindsEntry, TakesValue, Reserves, Publishes, Drops, Changes, Fixes, published, dropped, changed, log_after, ghosts_after, ghost_run}
-use Rattle.law_log.specs.Owed as order
-use Rattle.law_log.specs.Owed.{IsFixed}
+use Rattle.law_log.specs.Enabled as order
+use Rattle.law_log.specs.Enabled.{IsFixed}
 use Rattle.law_local.specs.Tries.Kept.{OlderAreFixed}
 use Rattle.fkv_world.specs.Runs.{World}
 use Rattle.fkv_world.specs.World.{Event}

@@ -5,7 +5,7 @@ use Rattle.fkv_base.specs.declared.numbers.Version.{Version}
 use Rattle.law_guard.specs.Sessions.Followed.{is_turning}
 use Rattle.fkv_map.specs.Map.{Map, is_reserved}
 use Rattle.law_log.specs.Ghosts.{Log, Ghosts}
-use Rattle.law_log.specs.Owed.{AreOwed, NoneAbove}
+use Rattle.law_log.specs.Enabled.{AreEnabled, NoneAbove}
 use Rattle.law_log.proofs.Shown.{run_held}
 use Rattle.fkv_ops.specs.declared.requests.Seen.{Seen}
 use Rattle.fkv_pending.specs.declared.attempting.Attempting.TheVariants.{Tries}
@@ -37,7 +37,7 @@ use Rattle.law_order.specs.Known.Knows.{AllKnowBehind, AreKnown, SessionKnows}
 use Rattle.law_order.specs.Known.Told.{AreToldTruly, reply_in}
 use Rattle.law_refine.specs.Events.GhostEvents.{life_ghosts, mapped}
 use Rattle.law_order.proofs.OfKnown.Newest.{known_now}
-use Rattle.law_order.proofs.OfOwes.Attempts.{life_attempts}
+use Rattle.law_order.proofs.OfEnabled.Attempts.{life_attempts}
 use Rattle.law_order.specs.Rest.Logs.{CellsRest}
 use Rattle.law_order.specs.Rest.Machines.{CatchesAtRest}
 use Rattle.law_order.specs.Rest.Resting.{HasNoCommit}
@@ -51,7 +51,7 @@ use Rattle.law_refine.proofs.OfSeen.Ops.{life_op_kept}
 use Rattle.law_refine.proofs.OfSeen.Alone.{moves_alone}
 use Rattle.law_refine.proofs.OfSeen.There.{there_before}
 use Rattle.law_order.specs.Rows.Asked.{SeeksWhereAsked, AttemptSeeks}
-use Rattle.law_order.proofs.OfRows.AtRest.{attempt_stays, owed_until, pending_stays}
+use Rattle.law_order.proofs.OfRows.AtRest.{attempt_stays, enabled_until, pending_stays}
 use Rattle.law_order.proofs.OfRows.Calm.{calm_known, is_calm}
 use Rattle.law_order.proofs.OfRows.Lives.{SessionComes, Stays, Begins, Steps, life_seeks, session_comes}
 use Rattle.law_order.proofs.OfRows.Replies.{KnowsSo, StepFacts, TriesSo, WaitsSo, call_so, plain_op, step_so}
@@ -100,7 +100,7 @@ both P P' Q Q' s one other = record {
 }
 
 module _ (opening : World) (start : ℕ) (lists : ℕ → List ℕ) (version : Version) (m : Map) (number : ℕ) (ghosts : Ghosts) (before : List Event) (event : Event) (begins : BeginsLife opening start lists version m number ghosts)
-    (none : HasNoCommit (event ∷ before)) (owed : AreOwed (home_of_world opening) ghosts (mapped opening (event ∷ before))) (known : AreKnown opening ghosts before)
+    (none : HasNoCommit (event ∷ before)) (enabled : AreEnabled (home_of_world opening) ghosts (mapped opening (event ∷ before))) (known : AreKnown opening ghosts before)
     (told : AreToldTruly (home_of_world opening) (life_ghosts opening ghosts before).log (run opening before).now) where
   abbrev W : World
   W = run opening before
@@ -140,10 +140,10 @@ module _ (opening : World) (start : ℕ) (lists : ℕ → List ℕ) (version : V
         (life_seeks opening before session s begins.world was)
 
     waiting : (pending : PendingRequest) → PendingKnows H L pending s.seen → PendingKnows H L' pending s.seen
-    waiting pending its = pending_stays opening start lists version m number ghosts before event pending s.seen begins owed its
+    waiting pending its = pending_stays opening start lists version m number ghosts before event pending s.seen begins enabled its
 
     trying : is_attempting s.step ≡ true → (a : AttemptState) → a.pending.request.version ≡ s.attempt.pending.request.version → AttemptKnows H L a → AttemptKnows H L' a
-    trying attempting a same its = attempt_stays opening start lists version m number ghosts before event a begins none owed (same ∙ version_at version s s.step sits attempting) its
+    trying attempting a same its = attempt_stays opening start lists version m number ghosts before event a begins none enabled (same ∙ version_at version s s.step sits attempting) its
 
     -- without commits no record is of a later version than its request, wherever its walk ends
     none_later : is_attempting s.step ≡ true → s.attempt.step ≡ Tries → NoneIsLater H L s.attempt.trial.request
@@ -160,7 +160,7 @@ module _ (opening : World) (start : ℕ) (lists : ℕ → List ℕ) (version : V
     -- by its step
     facts : after ≡ session_next K s (reply_in N session s) → StepFacts H L L' K s (reply_in N session s)
     facts is = record {
-      orderly = orderly H m L (run_held H m number ghosts (mapped opening before) begins.log (owed_until opening ghosts before event owed));
+      orderly = orderly H m L (run_held H m number ghosts (mapped opening before) begins.log (enabled_until opening ghosts before event enabled));
       inputs = subst (λ (k : Seat). AttemptsSo k s) (sym (same_seat opening before session)) (life_attempts opening before session s begins.world was);
       newest = λ attempting tries walks addr found ends passes. none_later attempting tries;
       says = λ attempting. told session s was attempting;

@@ -7,7 +7,7 @@ use Rattle.fkv_map.specs.declared.history.HistoryEntry.{HistoryEntry}
 use Rattle.fkv_opening.specs.declared.opened_store.Opened.{Opened}
 use Rattle.law_log.specs.Chains.{Cell, Logged, Unborn, Reserved, Published, Dropped}
 use Rattle.law_log.specs.Ghosts.{Ghosts}
-use Rattle.law_log.specs.Owed.{IsOpened}
+use Rattle.law_log.specs.Enabled.{IsOpened}
 use Rattle.fkv_world.specs.Opened.{IsOpenedWorld}
 use Rattle.fkv_world.specs.World.{Now}
 use Rattle.law_order.specs.Rest.Logs.{CellsRest, LoggedRests}

@@ -10,8 +10,8 @@ use Rattle.law_opening.specs.Log.Lives.{KeepsRules, ghosts_beside}
 use Rattle.law_opening.specs.Log.Maps.{opening_map}
 use Rattle.law_opening.specs.Log.OpeningLog.{opening_ghosts}
 use Rattle.law_log.specs.Ghosts.{Ghosts, GhostEvent, Log, Tells, ghosts_after, ghost_run}
-use Rattle.law_log.specs.Owed as order
-use Rattle.law_log.specs.Owed.{AreOwed}
+use Rattle.law_log.specs.Enabled as order
+use Rattle.law_log.specs.Enabled.{AreEnabled}
 use Rattle.law_log.specs.Trace.{AnswersRead, CallsRead, IsIn, TraceLine, history_of}
 use Rattle.law_world.specs.Runs.Added.{told_at, told_by}
 use Rattle.fkv_world.specs.Past.{TraceEvent}
@@ -53,10 +53,10 @@ line_log : (home : ℕ → ℕ) (g : Ghosts) (line : TraceLine) (before : List G
 unfolding ghost_run ghosts_after
 line_log home g line before = refl
 
-owed_behind : (home : ℕ → ℕ) (g : Ghosts) (later before : List GhostEvent) → AreOwed home g (later ++ before) → AreOwed home g before
-unfolding AreOwed
-owed_behind home g [] before owed = owed
-owed_behind home g (event ∷ later) before owed = owed_behind home g later before owed.0
+enabled_behind : (home : ℕ → ℕ) (g : Ghosts) (later before : List GhostEvent) → AreEnabled home g (later ++ before) → AreEnabled home g before
+unfolding AreEnabled
+enabled_behind home g [] before enabled = enabled
+enabled_behind home g (event ∷ later) before enabled = enabled_behind home g later before enabled.0
 
 published_behind : (opening : World) (ghosts : Ghosts) (later before : List Event) → AreChangesPublished opening ghosts (later ++ before) → AreChangesPublished opening ghosts before
 published_behind opening ghosts [] before its = its
@@ -126,10 +126,10 @@ apart_so older front newer last its between all one two =
 
 -- beside the life
 in_ghosts : (home : ℕ → ℕ) (version : ℕ) (bytes : List ℕ) (o : Opened) (opening : World) (ghosts : Ghosts) (between earlier : List Event) (call answer : Event) (reader key : ℕ) (reply : Reply)
-    → order.IsOpened home (opening_map bytes o) version ghosts → AreOwed home ghosts (mapped opening (answer ∷ (between ++ call ∷ earlier)))
+    → order.IsOpened home (opening_map bytes o) version ghosts → AreEnabled home ghosts (mapped opening (answer ∷ (between ++ call ∷ earlier)))
     → IsIn (CallsRead reader key) (event_adds opening earlier call) → IsIn (AnswersRead reader reply) (event_adds opening (between ++ call ∷ earlier) answer)
     → IsInTime (opening_map bytes o) (history_of (ghost_run home ghosts (mapped opening (call ∷ earlier))).log.history) (history_of (ghost_run home ghosts (mapped opening (answer ∷ (between ++ call ∷ earlier)))).log.history) key reply
-in_ghosts home version bytes o opening ghosts between earlier call answer reader key reply opened owed calls answers =
+in_ghosts home version bytes o opening ghosts between earlier call answer reader key reply opened enabled calls answers =
     let m = opening_map bytes o in
     let its_answer = told opening (between ++ call ∷ earlier) answer (AnswersRead reader reply) answers in
     let its_call = told opening earlier call (CallsRead reader key) calls in
@@ -138,9 +138,9 @@ in_ghosts home version bytes o opening ghosts between earlier call answer reader
     let middle : List GhostEvent = its_answer.older ++ (front.front ++ its_call.newer) in
     let same : its_answer.older ++ mapped opening (between ++ call ∷ earlier) ≡ middle ++ Tells (CallsRead reader key) ∷ last =
     apart_so its_answer.older front.front its_call.newer last (Tells (CallsRead reader key)) (mapped opening (between ++ call ∷ earlier)) (mapped opening (call ∷ earlier)) front.all its_call.all in
-    let owed_there : AreOwed home ghosts (Tells (AnswersRead reader reply) ∷ (its_answer.older ++ mapped opening (between ++ call ∷ earlier))) =
-    owed_behind home ghosts its_answer.newer _ (subst (AreOwed home ghosts) its_answer.all owed) in
-    let so = in_time home m version ghosts middle last reader key reply opened (subst (λ (x : List GhostEvent). AreOwed home ghosts (Tells (AnswersRead reader reply) ∷ x)) same owed_there) in
+    let enabled_there : AreEnabled home ghosts (Tells (AnswersRead reader reply) ∷ (its_answer.older ++ mapped opening (between ++ call ∷ earlier))) =
+    enabled_behind home ghosts its_answer.newer _ (subst (AreEnabled home ghosts) its_answer.all enabled) in
+    let so = in_time home m version ghosts middle last reader key reply opened (subst (λ (x : List GhostEvent). AreEnabled home ghosts (Tells (AnswersRead reader reply) ∷ x)) same enabled_there) in
     subst (λ (log : Log). IsInTime m (history_of log.history) (history_of (ghost_run home ghosts (mapped opening (answer ∷ (between ++ call ∷ earlier)))).log.history) key reply) (sym (its_call.log home ghosts))
     (subst (λ (log : Log). IsInTime m (history_of (ghost_run home ghosts last).log.history) (history_of log.history) key reply) (sym (its_answer.log home ghosts))
     (subst (λ (x : List GhostEvent). IsInTime m (history_of (ghost_run home ghosts last).log.history) (history_of (ghost_run home ghosts x).log.history) key reply) (sym same) so))
@@ -157,9 +157,9 @@ reads_in_time bytes o n events world opened begins log rules published = λ late
     let published_last : AreChangesPublished opening (opening_ghosts bytes o) last = published_behind opening (opening_ghosts bytes o) later last (subst (AreChangesPublished opening (opening_ghosts bytes o)) whole published) in
     let published_first : AreChangesPublished opening (opening_ghosts bytes o) (call ∷ earlier) = published_behind opening (opening_ghosts bytes o) (answer ∷ between) (call ∷ earlier) published_last in
     let front = behind opening later last in
-    let owed : AreOwed home (opening_ghosts bytes o) (mapped opening last) =
-    owed_behind home (opening_ghosts bytes o) front.front (mapped opening last) (subst (AreOwed home (opening_ghosts bytes o)) (ap (mapped opening) whole ∙ front.all) rules) in
-    let so = in_ghosts home o.number.0 bytes o opening (opening_ghosts bytes o) between earlier call answer reader key reply log owed calls answers in
+    let enabled : AreEnabled home (opening_ghosts bytes o) (mapped opening last) =
+    enabled_behind home (opening_ghosts bytes o) front.front (mapped opening last) (subst (AreEnabled home (opening_ghosts bytes o)) (ap (mapped opening) whole ∙ front.all) rules) in
+    let so = in_ghosts home o.number.0 bytes o opening (opening_ghosts bytes o) between earlier call answer reader key reply log enabled calls answers in
     subst (λ (x : List HistoryEntry). IsInTime m x (history_of (effects_so_far n bytes last)) key reply)
     (same_history (ghosts_beside o n bytes (call ∷ earlier)).log.history (effects_so_far n bytes (call ∷ earlier)) (same_entries bytes o n (call ∷ earlier) world opened begins published_first))
     (subst (λ (x : List HistoryEntry). IsInTime m (history_of (ghosts_beside o n bytes (call ∷ earlier)).log.history) x key reply)

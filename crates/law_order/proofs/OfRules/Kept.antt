@@ -1,4 +1,4 @@
--- Where the rules are kept: the life's history has the entries of the log's, and each of its events is fair.
+-- Where the rules are kept: the life's history has the entries of the log's, and each of its events is permitted.
 use Rattle.std.proofs.Common.{◌≡◌, ℕ, List, [], ◌∷◌, ◌++◌}
 use Rattle.fkv_core.specs.Openings.{IsOpeningWorld, beginning}
 use Rattle.fkv_opening.specs.declared.opened_store.Opened.{Opened}
@@ -9,16 +9,16 @@ use Rattle.fkv_world.specs.Runs.{World, run}
 use Rattle.fkv_world.specs.World.{Event, Now}
 use Rattle.law_refine.proofs.OfCalls.LifeHistory.{life_entries}
 use Rattle.law_refine.specs.Calls.Calls.{entries_of}
-use Rattle.law_guard.specs.Guarded.Shows.{AreFair, IsFair, IsOpened}
+use Rattle.law_guard.specs.Guarded.Shows.{ArePermitted, IsPermitted, IsOpened}
 use Rattle.law_refine.proofs.OfRecords.Meets.{life_meets_published}
 use Rattle.law_refine.specs.Records.Changes.{AreChangesPublished}
 use Rattle.law_order.specs.Rules.Ordered.{effects_so_far}
 use Rattle.law_order.proofs.OfRules.Beginning.{world_opens}
 
--- ---- each event of a fair life is fair
-pub fair_at : (opening : World) (later before : List Event) (event : Event) → AreFair opening (later ++ event ∷ before) → IsFair (run opening before).now event
-fair_at opening [] before event fair = fair.0
-fair_at opening (it ∷ later) before event fair = fair_at opening later before event fair.1
+-- ---- each event of a life whose steps are permitted is permitted
+pub permitted_at : (opening : World) (later before : List Event) (event : Event) → ArePermitted opening (later ++ event ∷ before) → IsPermitted (run opening before).now event
+permitted_at opening [] before event permitted = permitted.0
+permitted_at opening (it ∷ later) before event permitted = permitted_at opening later before event permitted.1
 
 -- ---- the life's history
 pub same_entries : (bytes : List ℕ) (o : Opened) (n : Now) (events : List Event) → IsOpeningWorld o n → IsOpened n o.tail.0 → Begins n (opening_ghosts bytes o) → AreChangesPublished (beginning n bytes) (opening_ghosts bytes o) events

@@ -7,7 +7,7 @@ use Rattle.fkv_map.specs.declared.history.HistoryEntry.{HistoryEntry}
 use Rattle.fkv_map.specs.declared.operations.Reply.{Reply}
 use Rattle.law_log.specs.Trace.{Effect, TraceLine, CallsUpdate, RefusesUpdate, GivesResult, CallsRead, AnswersRead, history_of, value_in}
 use Rattle.law_log.specs.Ghosts.{Log, Reading, NotCalled, Called, Walks, HasValue, Ghosts, GhostEvent, Tells, FindsEntry, TakesValue, Reserves, Publishes, Drops, Changes, Fixes, found, took, read_called, set_at, ghosts_after, ghost_run}
-use Rattle.law_log.specs.Owed.{AreOwed, IsOpened, Owes, OwesLine}
+use Rattle.law_log.specs.Enabled.{AreEnabled, IsOpened, IsEnabled, IsLineEnabled}
 use Rattle.law_log.proofs.Shown.{HadValue, IsSound, KnowsRead, at_one, run_sound}
 use Rattle.law_order.specs.Rules.InTime.{IsInTime}
 
@@ -52,26 +52,26 @@ set_so key seen reads r reading reader so was = elim (at_one reads r reading rea
   | inr other ↦ subst (WasCalled key seen) (sym other.1) was
 ]
 
-line_so : (g : Ghosts) (line : TraceLine) (key : ℕ) (seen : List Effect) (reader : ℕ) → OwesLine g line → WasCalled key seen (g.reads reader) → WasCalled key seen (read_called g.log.history line g.reads reader)
-line_so g (CallsRead r k) key seen reader owed was =
-    set_so key seen g.reads r (Called k g.log.history) reader (λ same its. absurd (none_called key seen (g.reads reader) (ap g.reads same ∙ owed) its)) was
-line_so g (CallsUpdate s n op) key seen reader owed was = was
-line_so g (RefusesUpdate s n) key seen reader owed was = was
-line_so g (GivesResult s n reply) key seen reader owed was = was
-line_so g (AnswersRead r reply) key seen reader owed was = was
+line_so : (g : Ghosts) (line : TraceLine) (key : ℕ) (seen : List Effect) (reader : ℕ) → IsLineEnabled g line → WasCalled key seen (g.reads reader) → WasCalled key seen (read_called g.log.history line g.reads reader)
+line_so g (CallsRead r k) key seen reader enabled was =
+    set_so key seen g.reads r (Called k g.log.history) reader (λ same its. absurd (none_called key seen (g.reads reader) (ap g.reads same ∙ enabled) its)) was
+line_so g (CallsUpdate s n op) key seen reader enabled was = was
+line_so g (RefusesUpdate s n) key seen reader enabled was = was
+line_so g (GivesResult s n reply) key seen reader enabled was = was
+line_so g (AnswersRead r reply) key seen reader enabled was = was
 
-event_so : (home : ℕ → ℕ) (g : Ghosts) (event : GhostEvent) (key : ℕ) (seen : List Effect) (reader : ℕ) → Owes home g event → WasCalled key seen (g.reads reader) → WasCalled key seen ((ghosts_after home g event).reads reader)
+event_so : (home : ℕ → ℕ) (g : Ghosts) (event : GhostEvent) (key : ℕ) (seen : List Effect) (reader : ℕ) → IsEnabled home g event → WasCalled key seen (g.reads reader) → WasCalled key seen ((ghosts_after home g event).reads reader)
 unfolding ghosts_after
-event_so home g (Tells line) key seen reader owed was = line_so g line key seen reader owed was
-event_so home g (FindsEntry r) key seen reader owed was =
+event_so home g (Tells line) key seen reader enabled was = line_so g line key seen reader enabled was
+event_so home g (FindsEntry r) key seen reader enabled was =
     set_so key seen g.reads r (found home g.log (g.reads r)) reader (λ same its. found_so home g.log key seen (g.reads r) (subst (λ i. WasCalled key seen (g.reads i)) same its)) was
-event_so home g (TakesValue r) key seen reader owed was =
+event_so home g (TakesValue r) key seen reader enabled was =
     set_so key seen g.reads r (took home g.log (g.reads r)) reader (λ same its. took_so home g.log key seen (g.reads r) (subst (λ i. WasCalled key seen (g.reads i)) same its)) was
-event_so home g (Reserves a entry cell) key seen reader owed was = was
-event_so home g (Publishes a) key seen reader owed was = was
-event_so home g (Drops a) key seen reader owed was = was
-event_so home g (Changes a entry) key seen reader owed was = was
-event_so home g (Fixes a) key seen reader owed was = was
+event_so home g (Reserves a entry cell) key seen reader enabled was = was
+event_so home g (Publishes a) key seen reader enabled was = was
+event_so home g (Drops a) key seen reader enabled was = was
+event_so home g (Changes a entry) key seen reader enabled was = was
+event_so home g (Fixes a) key seen reader enabled was = was
 
 here_called : (key : ℕ) (seen : List Effect) (reads : ℕ → Reading) (reader : ℕ) → WasCalled key seen (set_at reads reader (Called key seen) reader)
 unfolding WasCalled
@@ -80,33 +80,33 @@ here_called key seen reads reader = elim (at_one reads reader (Called key seen) 
   | inr other ↦ absurd (other.0 refl)
 ]
 
-run_so : (home : ℕ → ℕ) (opening : Ghosts) (between earlier : List GhostEvent) (reader key : ℕ) → AreOwed home opening (between ++ Tells (CallsRead reader key) ∷ earlier)
+run_so : (home : ℕ → ℕ) (opening : Ghosts) (between earlier : List GhostEvent) (reader key : ℕ) → AreEnabled home opening (between ++ Tells (CallsRead reader key) ∷ earlier)
     → WasCalled key (ghost_run home opening earlier).log.history ((ghost_run home opening (between ++ Tells (CallsRead reader key) ∷ earlier)).reads reader)
-unfolding ghost_run ghosts_after AreOwed
-run_so home opening [] earlier reader key owed = here_called key (ghost_run home opening earlier).log.history (ghost_run home opening earlier).reads reader
-run_so home opening (event ∷ between) earlier reader key owed =
-    event_so home (ghost_run home opening (between ++ Tells (CallsRead reader key) ∷ earlier)) event key (ghost_run home opening earlier).log.history reader owed.1 (run_so home opening between earlier reader key owed.0)
+unfolding ghost_run ghosts_after AreEnabled
+run_so home opening [] earlier reader key enabled = here_called key (ghost_run home opening earlier).log.history (ghost_run home opening earlier).reads reader
+run_so home opening (event ∷ between) earlier reader key enabled =
+    event_so home (ghost_run home opening (between ++ Tells (CallsRead reader key) ∷ earlier)) event key (ghost_run home opening earlier).log.history reader enabled.1 (run_so home opening between earlier reader key enabled.0)
 
 -- ---- its answer
-answer_so : (home : ℕ → ℕ) (m : Map) (g : Ghosts) (seen : List Effect) (reader key : ℕ) (reply : Reply) → IsSound home m g → WasCalled key seen (g.reads reader) → OwesLine g (AnswersRead reader reply)
+answer_so : (home : ℕ → ℕ) (m : Map) (g : Ghosts) (seen : List Effect) (reader key : ℕ) (reply : Reply) → IsSound home m g → WasCalled key seen (g.reads reader) → IsLineEnabled g (AnswersRead reader reply)
     → IsInTime m (history_of seen) (history_of g.log.history) key reply
 unfolding WasCalled
-answer_so home m g seen reader key reply sound was owed =
-    let same = subst (WasCalled key seen) owed.3 was in
-    let had : HadValue m g.log.history owed.1 owed.0 owed.2 = (subst (KnowsRead home m g.log g.trace reader) owed.3 (sound.knows reader)).1 in
+answer_so home m g seen reader key reply sound was enabled =
+    let same = subst (WasCalled key seen) enabled.3 was in
+    let had : HadValue m g.log.history enabled.1 enabled.0 enabled.2 = (subst (KnowsRead home m g.log g.trace reader) enabled.3 (sound.knows reader)).1 in
     record {
       between = history_of had.between;
       newer = history_of had.newer;
       all = ap history_of (had.all ∙ ap (λ s. had.newer ++ (had.between ++ s)) same.1) ∙ history_append had.newer (had.between ++ seen)
           ∙ ap (λ (x : List HistoryEntry). x ++ history_of had.newer) (history_append had.between seen) ∙ append_assoc (history_of seen) (history_of had.between) (history_of had.newer);
-      value = owed.4 ∙ ap reply_to_read (had.its ∙ ap (λ s. value_in m (had.between ++ s) owed.0) same.1 ∙ ap (λ k. value_in m (had.between ++ seen) k) same.0
+      value = enabled.4 ∙ ap reply_to_read (had.its ∙ ap (λ s. value_in m (had.between ++ s) enabled.0) same.1 ∙ ap (λ k. value_in m (had.between ++ seen) k) same.0
           ∙ ap (λ (x : List HistoryEntry). get (content m x) key) (history_append had.between seen));
     }
 
 pub in_time : (home : ℕ → ℕ) (m : Map) (version : ℕ) (opening : Ghosts) (between earlier : List GhostEvent) (reader key : ℕ) (reply : Reply) → IsOpened home m version opening
-    → AreOwed home opening (Tells (AnswersRead reader reply) ∷ (between ++ Tells (CallsRead reader key) ∷ earlier))
+    → AreEnabled home opening (Tells (AnswersRead reader reply) ∷ (between ++ Tells (CallsRead reader key) ∷ earlier))
     → IsInTime m (history_of (ghost_run home opening earlier).log.history) (history_of (ghost_run home opening (between ++ Tells (CallsRead reader key) ∷ earlier)).log.history) key reply
-unfolding AreOwed ghost_run
-in_time home m version opening between earlier reader key reply opened owed =
+unfolding AreEnabled ghost_run
+in_time home m version opening between earlier reader key reply opened enabled =
     answer_so home m (ghost_run home opening (between ++ Tells (CallsRead reader key) ∷ earlier)) (ghost_run home opening earlier).log.history reader key reply
-    (run_sound home m version opening (between ++ Tells (CallsRead reader key) ∷ earlier) opened owed.0) (run_so home opening between earlier reader key owed.0) owed.1
+    (run_sound home m version opening (between ++ Tells (CallsRead reader key) ∷ earlier) opened enabled.0) (run_so home opening between earlier reader key enabled.0) enabled.1

@@ -5,7 +5,7 @@ use Rattle.fkv_map.specs.declared.history.HistoryEntry.{HistoryEntry}
 use Rattle.fkv_map.specs.Map.{Map}
 use Rattle.law_log.specs.Chains.{Cell, Logged, Reserved, Published, Dropped}
 use Rattle.law_log.specs.Ghosts.{Log, Ghosts, GhostEvent, Tells, FindsEntry, TakesValue, Reserves, Publishes, Drops, Changes, Fixes, published, dropped, changed, log_after, ghosts_after, ghost_run}
-use Rattle.law_log.specs.Owed.{AreOwed, IsOpened, Owes, OwesChange}
+use Rattle.law_log.specs.Enabled.{AreEnabled, IsOpened, IsEnabled, IsChangeEnabled}
 use Rattle.law_log.specs.Trace.{TraceLine}
 use Rattle.law_log.proofs.Shown.{set_else}
 use Rattle.fkv_plane.specs.declared.asks.Ask.{Ask}
@@ -25,7 +25,7 @@ use Rattle.law_refine.specs.Events.Reserved.{tail_at}
 use Rattle.law_refine.specs.Events.Sessions.{sitting_ghosts, step_ghosts}
 use Rattle.law_refine.proofs.OfEvents.SessionSteps.{life_on}
 use Rattle.law_refine.proofs.OfEvents.Fixed.{life_rises}
-use Rattle.law_order.proofs.OfServed.Lists.{one_step, owed_before}
+use Rattle.law_order.proofs.OfServed.Lists.{one_step, enabled_before}
 
 -- what an event takes lies at or above this address
 abbrev is_above : ℕ → GhostEvent → Type 0
@@ -54,36 +54,36 @@ drop_low log b a logged its free = refl
 least : (bound fixed b : ℕ) → bound ≤ fixed → fixed ≤ b → bound ≤ b
 least bound fixed b one other = omega (arith, one, other)
 
-change_low : (home : ℕ → ℕ) (g : Ghosts) (bound b a : ℕ) (entry : HistoryEntry) (logged : Logged) → OwesChange home g b entry logged → bound ≤ g.log.fixed → a < bound → (changed g.log b entry logged).cells a ≡ g.log.cells a
-change_low home g bound b a entry (Published cell) owed fixed low = set_else g.log.cells b _ a (other_place bound a b (least bound g.log.fixed b fixed owed.0.not_fixed) low)
-change_low home g bound b a entry logged owed fixed low = refl
+change_low : (home : ℕ → ℕ) (g : Ghosts) (bound b a : ℕ) (entry : HistoryEntry) (logged : Logged) → IsChangeEnabled home g b entry logged → bound ≤ g.log.fixed → a < bound → (changed g.log b entry logged).cells a ≡ g.log.cells a
+change_low home g bound b a entry (Published cell) enabled fixed low = set_else g.log.cells b _ a (other_place bound a b (least bound g.log.fixed b fixed enabled.0.not_fixed) low)
+change_low home g bound b a entry logged enabled fixed low = refl
 
-one_low : (home : ℕ → ℕ) (g : Ghosts) (bound a : ℕ) (event : GhostEvent) → is_above bound event → Owes home g event → bound ≤ g.log.fixed → a < bound → IsFree (g.log.cells a) → (log_after home g.log event).cells a ≡ g.log.cells a
-one_low home g bound a (Reserves b entry cell) above owed fixed low free = set_else g.log.cells b (Reserved entry cell) a (other_place bound a b above low)
-one_low home g bound a (Publishes b) above owed fixed low free = publish_low home g.log b a (g.log.cells b) refl free
-one_low home g bound a (Drops b) above owed fixed low free = drop_low g.log b a (g.log.cells b) refl free
-one_low home g bound a (Changes b entry) above owed fixed low free = change_low home g bound b a entry (g.log.cells b) owed fixed low
-one_low home g bound a (Tells line) above owed fixed low free = refl
-one_low home g bound a (FindsEntry reader) above owed fixed low free = refl
-one_low home g bound a (TakesValue reader) above owed fixed low free = refl
-one_low home g bound a (Fixes b) above owed fixed low free = refl
+one_low : (home : ℕ → ℕ) (g : Ghosts) (bound a : ℕ) (event : GhostEvent) → is_above bound event → IsEnabled home g event → bound ≤ g.log.fixed → a < bound → IsFree (g.log.cells a) → (log_after home g.log event).cells a ≡ g.log.cells a
+one_low home g bound a (Reserves b entry cell) above enabled fixed low free = set_else g.log.cells b (Reserved entry cell) a (other_place bound a b above low)
+one_low home g bound a (Publishes b) above enabled fixed low free = publish_low home g.log b a (g.log.cells b) refl free
+one_low home g bound a (Drops b) above enabled fixed low free = drop_low g.log b a (g.log.cells b) refl free
+one_low home g bound a (Changes b entry) above enabled fixed low free = change_low home g bound b a entry (g.log.cells b) enabled fixed low
+one_low home g bound a (Tells line) above enabled fixed low free = refl
+one_low home g bound a (FindsEntry reader) above enabled fixed low free = refl
+one_low home g bound a (TakesValue reader) above enabled fixed low free = refl
+one_low home g bound a (Fixes b) above enabled fixed low free = refl
 
 -- ---- and so do many
 pub record StaysBelow (bound : ℕ) (first g : Ghosts) : Type 0 where
   pub same : (a : ℕ) → a < bound → g.log.cells a ≡ first.log.cells a
   pub fixed : bound ≤ g.log.fixed
 
-behind_below : (home : ℕ → ℕ) (m : Map) (number : ℕ) (first : Ghosts) (bound : ℕ) (later before : List GhostEvent) → IsOpened home m number first → AreOwed home first (later ++ before) → AreAbove bound later
+behind_below : (home : ℕ → ℕ) (m : Map) (number : ℕ) (first : Ghosts) (bound : ℕ) (later before : List GhostEvent) → IsOpened home m number first → AreEnabled home first (later ++ before) → AreAbove bound later
     → StaysBelow bound first (ghost_run home first before) → StaysBelow bound first (ghost_run home first (later ++ before))
-unfolding ghost_run ghosts_after AreOwed
-behind_below home m number first bound [] before opened owed above was = was
-behind_below home m number first bound (event ∷ later) before opened owed above was =
+unfolding ghost_run ghosts_after AreEnabled
+behind_below home m number first bound [] before opened enabled above was = was
+behind_below home m number first bound (event ∷ later) before opened enabled above was =
     let g : Ghosts = ghost_run home first (later ++ before) in
-    let here = behind_below home m number first bound later before opened owed.0 above.1 was in
-    let steps = one_step home m number first event (later ++ before) opened owed in
+    let here = behind_below home m number first bound later before opened enabled.0 above.1 was in
+    let steps = one_step home m number first event (later ++ before) opened enabled in
     record {
       same = λ a low.
-          one_low home g bound a event above.0 owed.1 here.fixed low (λ entry cell e. opened.none_reserved a entry cell (sym (here.same a low) ∙ e))
+          one_low home g bound a event above.0 enabled.1 here.fixed low (λ entry cell e. opened.none_reserved a entry cell (sym (here.same a low) ∙ e))
           ∙ here.same a low;
       fixed = least bound g.log.fixed (log_after home g.log event).fixed here.fixed steps.grows.fixed;
     }
@@ -177,10 +177,10 @@ event_above opening start before event opened = by_test w.now.crashed
 
 -- ---- and of a life
 pub life_below : (opening : World) (start : ℕ) (m : Map) (number : ℕ) (ghosts : Ghosts) (events : List Event) → guard.IsOpened opening.now start → IsOpened (home_of_world opening) m number ghosts → start ≤ ghosts.log.fixed
-    → AreOwed (home_of_world opening) ghosts (mapped opening events) → StaysBelow start ghosts (life_ghosts opening ghosts events)
+    → AreEnabled (home_of_world opening) ghosts (mapped opening events) → StaysBelow start ghosts (life_ghosts opening ghosts events)
 unfolding mapped ghost_run
-life_below opening start m number ghosts [] opened log fixed owed = record { same = λ a low. refl; fixed = fixed }
-life_below opening start m number ghosts (event ∷ before) opened log fixed owed =
+life_below opening start m number ghosts [] opened log fixed enabled = record { same = λ a low. refl; fixed = fixed }
+life_below opening start m number ghosts (event ∷ before) opened log fixed enabled =
     let its : List GhostEvent = ghost_events (serials_in opening.now) (run opening before) event in
-    behind_below (home_of_world opening) m number ghosts start its (mapped opening before) log owed (event_above opening start before event opened)
-    (life_below opening start m number ghosts before opened log fixed (owed_before (home_of_world opening) ghosts its (mapped opening before) owed))
+    behind_below (home_of_world opening) m number ghosts start its (mapped opening before) log enabled (event_above opening start before event opened)
+    (life_below opening start m number ghosts before opened log fixed (enabled_before (home_of_world opening) ghosts its (mapped opening before) enabled))

@@ -10,13 +10,13 @@ use Rattle.fkv_flush.specs.GuardLevels.{levels_of}
 use Rattle.fkv_map.specs.Map.{Map}
 use Rattle.law_log.specs.Chains.{Cell, Published}
 use Rattle.law_log.specs.Ghosts.{Ghosts}
-use Rattle.law_log.specs.Owed.{AreOwed}
+use Rattle.law_log.specs.Enabled.{AreEnabled}
 use Rattle.fkv_record.specs.Places as image
 use Rattle.fkv_world.specs.Runs.{World, run}
 use Rattle.fkv_world.specs.World.{Event}
 use Rattle.law_guard.specs.Guarded.GuardEvents as guarded
 use Rattle.law_guard.specs.Guarded.OpenedStore.{IsOpenedStore}
-use Rattle.law_guard.specs.Guarded.Shows.{AreFair, guard_opening}
+use Rattle.law_guard.specs.Guarded.Shows.{ArePermitted, guard_opening}
 use Rattle.law_guard.proofs.OfGuarded.Worlds.{life_shows}
 use Rattle.law_guard.proofs.OfGuarded.Flushed.{life_synced}
 use Rattle.law_order.specs.Known.Begins.{BeginsLife, IsInImage, home_of_world}
@@ -25,7 +25,7 @@ use Rattle.law_refine.proofs.OfEvents.Fixed.{ghost_fixed}
 use Rattle.law_refine.specs.Records.Cells.{ShowsCell}
 use Rattle.law_refine.specs.Records.Changes.{AreChangesPublished}
 use Rattle.law_refine.proofs.OfRecords.Life.{life_holds}
-use Rattle.law_refine.proofs.OfRecords.Below.{published_fair}
+use Rattle.law_refine.proofs.OfRecords.Below.{published_permitted}
 use Rattle.law_refine.proofs.OfRecords.Standing.{stands_in}
 use Rattle.law_order.proofs.OfServed.Below.{life_below}
 use Rattle.law_order.proofs.OfServed.Bytes.{further, range_same, reads_same, same_further}
@@ -42,21 +42,21 @@ itself : (bytes : List ℕ) (calls : List Call) → ReadsAs bytes calls (reads_a
 itself bytes calls = record { no_shorter = omega arith; no_longer = reads_within bytes calls; last_written = λ i sure. refl }
 
 -- so it is synced, whatever it was opened with
-synced : CallsLaw → (opening : World) (start : ℕ) (events : List Event) (bytes : List ℕ) → IsOpenedStore opening start → AreFair opening events
+synced : CallsLaw → (opening : World) (start : ℕ) (events : List Event) (bytes : List ℕ) → IsOpenedStore opening start → ArePermitted opening events
     → IsSynced opening.now.shape bytes (run opening events).past.calls (stands_in opening start events) start (levels_of (run opening events).now.words).flushed
-synced law opening start events bytes store fair =
+synced law opening start events bytes store permitted =
     subst (λ (calls : List Call). IsSynced opening.now.shape bytes calls (stands_in opening start events) start (levels_of (run opening events).now.words).flushed) (law opening start events store)
-    (life_synced opening start events bytes store.now fair)
+    (life_synced opening start events bytes store.now permitted)
 
 -- ---- since the opening
-since_there : CallsLaw → (opening : World) (start : ℕ) (events : List Event) (a : ℕ) (cell : Cell) → IsOpenedStore opening start → AreFair opening events → start ≤ a → a < (levels_of (run opening events).now.words).flushed
+since_there : CallsLaw → (opening : World) (start : ℕ) (events : List Event) (a : ℕ) (cell : Cell) → IsOpenedStore opening start → ArePermitted opening events → start ≤ a → a < (levels_of (run opening events).now.words).flushed
     → ShowsCell (stands_in opening start events a) cell → IsInImage opening.now.shape (read_then opening events) a cell
-since_there law opening start events a cell store fair from to shows = record {
+since_there law opening start events a cell store permitted from to shows = record {
   words = stands_in opening start events a;
   leads = record { version = record { 0 = cell.version }; says = shows.header };
   key = shows.key;
   value = shows.value;
-  there = (synced law opening start events opening.past.opened store fair).records (read_then opening events) (inl (itself opening.past.opened (run opening events).past.calls)) a from to;
+  there = (synced law opening start events opening.past.opened store permitted).records (read_then opening events) (inl (itself opening.past.opened (run opening events).past.calls)) a from to;
 }
 
 -- ---- and before it
@@ -69,9 +69,9 @@ placed_to base a start i low to = omega (arith, low, to)
 within_further : (n more size i : ℕ) → size ≡ n + more → i < more → i < size
 within_further n more size i is below = omega (arith, is, below)
 
-range_there : CallsLaw → (opening : World) (start : ℕ) (events : List Event) (a : ℕ) → IsOpenedStore opening start → AreFair opening events → a < start
+range_there : CallsLaw → (opening : World) (start : ℕ) (events : List Event) (a : ℕ) → IsOpenedStore opening start → ArePermitted opening events → a < start
     → bytes_at (read_then opening events) (image.record_place opening.now.shape a) 24 ≡ bytes_at opening.past.opened (image.record_place opening.now.shape a) 24
-range_there law opening start events a store fair low =
+range_there law opening start events a store permitted low =
     let bytes : List ℕ = opening.past.opened in
     let calls : List Call = (run opening events).past.calls in
     let end : ℕ = image.record_place opening.now.shape start in
@@ -80,18 +80,18 @@ range_there law opening start events a store fair low =
     let size : length more ≡ length bytes + end = length-bytes_at bytes 0 (length bytes + end) in
     range_same (read_then opening events) bytes (image.record_place opening.now.shape a) 24 (λ i from to.
     sym (reads_same more bytes calls (same_further bytes end) i)
-    ∙ ((synced law opening start events more store fair).earlier (reads_as more calls) (inl (itself more calls)) i (placed_from base a i from) (placed_to base a start i low to)
+    ∙ ((synced law opening start events more store permitted).earlier (reads_as more calls) (inl (itself more calls)) i (placed_from base a i from) (placed_to base a start i low to)
     (within_further (length bytes) end (length more) i size (placed_to base a start i low to))
     ∙ same_further bytes end i))
 
-before_there : CallsLaw → (opening : World) (start : ℕ) (events : List Event) (a : ℕ) (cell : Cell) → IsOpenedStore opening start → AreFair opening events → a < start
+before_there : CallsLaw → (opening : World) (start : ℕ) (events : List Event) (a : ℕ) (cell : Cell) → IsOpenedStore opening start → ArePermitted opening events → a < start
     → IsInImage opening.now.shape opening.past.opened a cell → IsInImage opening.now.shape (read_then opening events) a cell
-before_there law opening start events a cell store fair low was = record {
+before_there law opening start events a cell store permitted low was = record {
   words = was.words;
   leads = was.leads;
   key = was.key;
   value = was.value;
-  there = range_there law opening start events a store fair low ∙ was.there;
+  there = range_there law opening start events a store permitted low ∙ was.there;
 }
 
 -- ---- each that is flushed
@@ -102,15 +102,15 @@ start_fixed opening start lists version m number ghosts begins =
     omega (arith, fixed, safe)
 
 pub device_there : CallsLaw → (opening : World) (start : ℕ) (lists : ℕ → List ℕ) (version : Version) (m : Map) (number : ℕ) (ghosts : Ghosts) (events : List Event) (a : ℕ) (cell : Cell)
-    → BeginsLife opening start lists version m number ghosts → AreOwed (home_of_world opening) ghosts (mapped opening events) → AreChangesPublished opening ghosts events
+    → BeginsLife opening start lists version m number ghosts → AreEnabled (home_of_world opening) ghosts (mapped opening events) → AreChangesPublished opening ghosts events
     → (life_ghosts opening ghosts events).log.cells a ≡ Published cell → a < (levels_of (run opening events).now.words).flushed → IsInImage opening.now.shape (read_then opening events) a cell
-device_there law opening start lists version m number ghosts events a cell begins owed published e to =
-    let fair : AreFair opening events = published_fair opening start ghosts events begins.store.now begins.unborn published in
+device_there law opening start lists version m number ghosts events a cell begins enabled published e to =
+    let permitted : ArePermitted opening events = published_permitted opening start ghosts events begins.store.now begins.unborn published in
     elim (cases_lt a start) [
       | inl low ↦
-          let low_stays = life_below opening start m number ghosts events begins.store.now begins.log (start_fixed opening start lists version m number ghosts begins) owed in
-          before_there law opening start events a cell begins.store fair low (begins.device a cell (sym (low_stays.same a low) ∙ e))
-      | inr high ↦ since_there law opening start events a cell begins.store fair high to ((life_holds opening start ghosts events begins.store.now begins.unborn begins.reserves published).shows a cell high e)
+          let low_stays = life_below opening start m number ghosts events begins.store.now begins.log (start_fixed opening start lists version m number ghosts begins) enabled in
+          before_there law opening start events a cell begins.store permitted low (begins.device a cell (sym (low_stays.same a low) ∙ e))
+      | inr high ↦ since_there law opening start events a cell begins.store permitted high to ((life_holds opening start ghosts events begins.store.now begins.unborn begins.reserves published).shows a cell high e)
     ]
 
 -- and it is fixed

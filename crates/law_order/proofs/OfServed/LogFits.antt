@@ -8,7 +8,7 @@ use Rattle.fkv_map.specs.Keys.{key_of, value_applied}
 use Rattle.fkv_map.specs.Map.{Map, greatest_value}
 use Rattle.law_log.specs.Chains.{Cell, Logged, Unborn, Reserved, Published, Dropped, value_at}
 use Rattle.law_log.specs.Ghosts.{Log, Ghosts, GhostEvent, Tells, FindsEntry, TakesValue, Reserves, Publishes, Drops, Changes, Fixes, set_at, published, dropped, changed, changed_by, first_from, log_after, trace_after, ghosts_after, ghost_run}
-use Rattle.law_log.specs.Owed.{AreOwed, IsOpened, IsInHand, Owes, OwesPublish, OwesChange}
+use Rattle.law_log.specs.Enabled.{AreEnabled, IsOpened, IsInHand, IsEnabled, IsPublishEnabled, IsChangeEnabled}
 use Rattle.law_log.specs.Trace.{TraceLine, CallsUpdate, RefusesUpdate, GivesResult, CallsRead, AnswersRead, called_as}
 use Rattle.law_log.proofs.Shown.{Held, at_one, run_held}
 use Rattle.law_order.specs.Served.Fits.{NumberFits, OpFits, ValueFits, CellFits, CellsFit}
@@ -118,41 +118,41 @@ made_fits home m g b entry cell held its fits was =
       subst ValueFits (sym made.its_value) (applied_fits (value_at (g.log.cells x)) entry.op (logged_fits (g.log.cells x) (λ its_cell e. was x its_cell e)) fits),
     )
 
-publish_fits : (home : ℕ → ℕ) (m : Map) (g : Ghosts) (b : ℕ) (logged : Logged) → g.log.cells b ≡ logged → Held home m g.log → OwesPublish home g logged → LinesFit g.trace → CellsFit g.log → CellsFit (published home g.log b logged)
-publish_fits home m g b (Reserved entry cell) its held owed fits was =
-    put_fits g.log b cell _ was (one_place g.log.cells b (Published cell)) (made_fits home m g b entry cell held its (in_hand_fits g entry fits owed.2) was)
-publish_fits home m g b logged its held owed fits was = was
+publish_fits : (home : ℕ → ℕ) (m : Map) (g : Ghosts) (b : ℕ) (logged : Logged) → g.log.cells b ≡ logged → Held home m g.log → IsPublishEnabled home g logged → LinesFit g.trace → CellsFit g.log → CellsFit (published home g.log b logged)
+publish_fits home m g b (Reserved entry cell) its held enabled fits was =
+    put_fits g.log b cell _ was (one_place g.log.cells b (Published cell)) (made_fits home m g b entry cell held its (in_hand_fits g entry fits enabled.2) was)
+publish_fits home m g b logged its held enabled fits was = was
 
 drop_fits : (log : Log) (b : ℕ) (logged : Logged) → CellsFit log → CellsFit (dropped log b logged)
 drop_fits log b (Reserved entry cell) was = unput_fits log b (Dropped cell) _ was (same_or log.cells b (Dropped cell)) (dropped_none cell)
 drop_fits log b logged was = was
 
-change_fits : (home : ℕ → ℕ) (g : Ghosts) (b : ℕ) (entry : HistoryEntry) (logged : Logged) → g.log.cells b ≡ logged → OwesChange home g b entry logged → LinesFit g.trace → CellsFit g.log → CellsFit (changed g.log b entry logged)
-change_fits home g b entry (Published cell) its owed fits was =
+change_fits : (home : ℕ → ℕ) (g : Ghosts) (b : ℕ) (entry : HistoryEntry) (logged : Logged) → g.log.cells b ≡ logged → IsChangeEnabled home g b entry logged → LinesFit g.trace → CellsFit g.log → CellsFit (changed g.log b entry logged)
+change_fits home g b entry (Published cell) its enabled fits was =
     put_fits g.log b (changed_by entry cell) _ was (one_place g.log.cells b (Published (changed_by entry cell)))
-    ((was b cell its).0, applied_fits cell.value entry.op (was b cell its).1 (in_hand_fits g entry fits owed.1))
-change_fits home g b entry logged its owed fits was = was
+    ((was b cell its).0, applied_fits cell.value entry.op (was b cell its).1 (in_hand_fits g entry fits enabled.1))
+change_fits home g b entry logged its enabled fits was = was
 
-one_fits : (home : ℕ → ℕ) (m : Map) (g : Ghosts) (event : GhostEvent) → Held home m g.log → Owes home g event → LinesFit g.trace → CellsFit g.log → CellsFit (log_after home g.log event)
-one_fits home m g (Reserves b entry cell) held owed fits was = unput_fits g.log b (Reserved entry cell) _ was (same_or g.log.cells b (Reserved entry cell)) (reserved_none entry cell)
-one_fits home m g (Publishes b) held owed fits was = publish_fits home m g b (g.log.cells b) refl held owed fits was
-one_fits home m g (Drops b) held owed fits was = drop_fits g.log b (g.log.cells b) was
-one_fits home m g (Changes b entry) held owed fits was = change_fits home g b entry (g.log.cells b) refl owed fits was
-one_fits home m g (Tells line) held owed fits was = was
-one_fits home m g (FindsEntry reader) held owed fits was = was
-one_fits home m g (TakesValue reader) held owed fits was = was
-one_fits home m g (Fixes b) held owed fits was = was
+one_fits : (home : ℕ → ℕ) (m : Map) (g : Ghosts) (event : GhostEvent) → Held home m g.log → IsEnabled home g event → LinesFit g.trace → CellsFit g.log → CellsFit (log_after home g.log event)
+one_fits home m g (Reserves b entry cell) held enabled fits was = unput_fits g.log b (Reserved entry cell) _ was (same_or g.log.cells b (Reserved entry cell)) (reserved_none entry cell)
+one_fits home m g (Publishes b) held enabled fits was = publish_fits home m g b (g.log.cells b) refl held enabled fits was
+one_fits home m g (Drops b) held enabled fits was = drop_fits g.log b (g.log.cells b) was
+one_fits home m g (Changes b entry) held enabled fits was = change_fits home g b entry (g.log.cells b) refl enabled fits was
+one_fits home m g (Tells line) held enabled fits was = was
+one_fits home m g (FindsEntry reader) held enabled fits was = was
+one_fits home m g (TakesValue reader) held enabled fits was = was
+one_fits home m g (Fixes b) held enabled fits was = was
 
 -- ---- and a run
 earlier_fit : (trace : List TraceLine) (event : GhostEvent) → LinesFit (trace_after trace event) → LinesFit trace
 earlier_fit trace (Tells line) fits = fits.1
 earlier_fit trace event fits = fits
 
-pub run_fits : (home : ℕ → ℕ) (m : Map) (number : ℕ) (first : Ghosts) (events : List GhostEvent) → IsOpened home m number first → AreOwed home first events → CellsFit first.log → LinesFit (ghost_run home first events).trace
+pub run_fits : (home : ℕ → ℕ) (m : Map) (number : ℕ) (first : Ghosts) (events : List GhostEvent) → IsOpened home m number first → AreEnabled home first events → CellsFit first.log → LinesFit (ghost_run home first events).trace
     → CellsFit (ghost_run home first events).log
-unfolding ghost_run ghosts_after AreOwed
-run_fits home m number first [] opened owed was fits = was
-run_fits home m number first (event ∷ before) opened owed was fits =
+unfolding ghost_run ghosts_after AreEnabled
+run_fits home m number first [] opened enabled was fits = was
+run_fits home m number first (event ∷ before) opened enabled was fits =
     let g : Ghosts = ghost_run home first before in
     let lines = earlier_fit g.trace event fits in
-    one_fits home m g event (run_held home m number first before opened owed.0) owed.1 lines (run_fits home m number first before opened owed.0 was lines)
+    one_fits home m g event (run_held home m number first before opened enabled.0) enabled.1 lines (run_fits home m number first before opened enabled.0 was lines)

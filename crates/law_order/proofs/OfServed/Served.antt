@@ -7,7 +7,7 @@ use Rattle.fkv_disk.specs.Calls.{reads_as}
 use Rattle.fkv_map.specs.Map.{Map}
 use Rattle.law_log.specs.Chains.{Cell, Logged, Published}
 use Rattle.law_log.specs.Ghosts.{Ghosts}
-use Rattle.law_log.specs.Owed.{AreOwed}
+use Rattle.law_log.specs.Enabled.{AreEnabled}
 use Rattle.fkv_plane.specs.declared.places.RecordWord.TheVariants as rec
 use Rattle.fkv_record.specs.Places as image
 use Rattle.law_local.specs.Tries.MailRows.{IsRecordOf}
@@ -23,7 +23,7 @@ use Rattle.law_refine.specs.Records.Changes.{AreChangesPublished}
 use Rattle.law_order.specs.Served.Fits.{CallsFit, CellFits, CellsFit}
 use Rattle.law_order.specs.Served.Served.{ServedShow}
 use Rattle.law_order.proofs.OfServed.Device.{CallsLaw, device_there, flushed_fixed, read_then}
-use Rattle.law_order.proofs.OfServed.Later.{life_owed_before, life_stays}
+use Rattle.law_order.proofs.OfServed.Later.{life_enabled_before, life_stays}
 use Rattle.law_order.proofs.OfServed.LinesFit.{life_lines_fit}
 use Rattle.law_order.proofs.OfServed.LogFits.{run_fits}
 use Rattle.law_order.proofs.OfServed.Words.{WordsLaw, header_fits, read_back, value_fits}
@@ -39,9 +39,9 @@ fit_before (event ∷ later) earlier fits = fit_before later earlier fits.1
 
 -- ---- all records are of numbers that fit
 pub cells_fit : (opening : World) (start : ℕ) (lists : ℕ → List ℕ) (version : Version) (m : Map) (number : ℕ) (ghosts : Ghosts) (events : List Event) → BeginsLife opening start lists version m number ghosts
-    → CellsFit ghosts.log → CallsFit events → AreOwed (home_of_world opening) ghosts (mapped opening events) → CellsFit (life_ghosts opening ghosts events).log
-cells_fit opening start lists version m number ghosts events begins was fits owed =
-    run_fits (home_of_world opening) m number ghosts (mapped opening events) begins.log owed was (life_lines_fit opening ghosts events begins.world.no_trace begins.log.no_trace fits)
+    → CellsFit ghosts.log → CallsFit events → AreEnabled (home_of_world opening) ghosts (mapped opening events) → CellsFit (life_ghosts opening ghosts events).log
+cells_fit opening start lists version m number ghosts events begins was fits enabled =
+    run_fits (home_of_world opening) m number ghosts (mapped opening events) begins.log enabled was (life_lines_fit opening ghosts events begins.world.no_trace begins.log.no_trace fits)
 
 -- ---- what the device gives then
 there_read : (opening : World) (events : List Event) (a : ℕ) → record_there (run opening events) a ≡ record_read (bytes_at (read_then opening events) (image.record_place opening.now.shape a) 24)
@@ -61,16 +61,16 @@ image_record law shape bytes a logged cell e fits its =
 
 -- ---- and what is there now
 pub served_show : CallsLaw → WordsLaw → (opening : World) (start : ℕ) (lists : ℕ → List ℕ) (version : Version) (m : Map) (number : ℕ) (ghosts : Ghosts) (events : List Event)
-    → BeginsLife opening start lists version m number ghosts → CellsFit ghosts.log → CallsFit events → AreOwed (home_of_world opening) ghosts (mapped opening events) → AreChangesPublished opening ghosts events
+    → BeginsLife opening start lists version m number ghosts → CellsFit ghosts.log → CallsFit events → AreEnabled (home_of_world opening) ghosts (mapped opening events) → AreChangesPublished opening ghosts events
     → ServedShow opening ghosts events
-served_show calls words opening start lists version m number ghosts events begins was fits owed published = λ session addr its earlier later cell cut gives e to.
-    let owed_all : AreOwed (home_of_world opening) ghosts (mapped opening (later ++ earlier)) = subst (λ (es : List Event). AreOwed (home_of_world opening) ghosts (mapped opening es)) cut owed in
-    let owed_then : AreOwed (home_of_world opening) ghosts (mapped opening earlier) = life_owed_before opening ghosts later earlier owed_all in
+served_show calls words opening start lists version m number ghosts events begins was fits enabled published = λ session addr its earlier later cell cut gives e to.
+    let enabled_all : AreEnabled (home_of_world opening) ghosts (mapped opening (later ++ earlier)) = subst (λ (es : List Event). AreEnabled (home_of_world opening) ghosts (mapped opening es)) cut enabled in
+    let enabled_then : AreEnabled (home_of_world opening) ghosts (mapped opening earlier) = life_enabled_before opening ghosts later earlier enabled_all in
     let published_then : AreChangesPublished opening ghosts earlier = published_before opening ghosts later earlier (subst (AreChangesPublished opening ghosts) cut published) in
     let fits_then : CallsFit earlier = fit_before later earlier (subst CallsFit cut fits) in
-    let cell_fits : CellFits cell = cells_fit opening start lists version m number ghosts earlier begins was fits_then owed_then addr.0 cell e in
-    let there = device_there calls opening start lists version m number ghosts earlier addr.0 cell begins owed_then published_then e to in
-    let stays = life_stays opening m number ghosts later earlier addr.0 cell begins.log owed_all (record { there = e; fixed = flushed_fixed opening start lists version m number ghosts earlier addr.0 begins to }) in
+    let cell_fits : CellFits cell = cells_fit opening start lists version m number ghosts earlier begins was fits_then enabled_then addr.0 cell e in
+    let there = device_there calls opening start lists version m number ghosts earlier addr.0 cell begins enabled_then published_then e to in
+    let stays = life_stays opening m number ghosts later earlier addr.0 cell begins.log enabled_all (record { there = e; fixed = flushed_fixed opening start lists version m number ghosts earlier addr.0 begins to }) in
     let now : (life_ghosts opening ghosts events).log.cells addr.0 ≡ Published cell = subst (λ (es : List Event). (life_ghosts opening ghosts es).log.cells addr.0 ≡ Published cell) (sym cut) stays.there in
     subst (IsRecordOf ((life_ghosts opening ghosts events).log.cells addr.0)) (sym (gives ∙ there_read opening earlier addr.0))
     (image_record words opening.now.shape (read_then opening earlier) addr.0 ((life_ghosts opening ghosts events).log.cells addr.0) cell now cell_fits there)

@@ -7,7 +7,7 @@ use Rattle.fkv_map.specs.Keys.{key_of}
 use Rattle.fkv_map.specs.Map.{Map}
 use Rattle.law_log.specs.Chains.{head_of}
 use Rattle.law_log.specs.Ghosts.{Ghosts, Log}
-use Rattle.law_log.specs.Owed.{AreOwed}
+use Rattle.law_log.specs.Enabled.{AreEnabled}
 use Rattle.fkv_ops.specs.declared.requests.Seen.{Seen}
 use Rattle.fkv_pending.specs.Attempting.{attempt_ask}
 use Rattle.fkv_plane.specs.Asked.{reply_to}
@@ -46,9 +46,9 @@ told_truly home log n session s attempts seen show knows meets =
     (attempt_true home log n.places session n.words s.attempt (subst (λ (x : Seen). WordsShow log n.places x n.words) (sym seen) show) knows (subst (AttemptMeets home log n.places s.attempt s.attempt.step) same meets))
 
 pub words_true : (opening : World) (start : ℕ) (lists : ℕ → List ℕ) (version : Version) (m : Map) (number : ℕ) (ghosts : Ghosts) (before : List Event) → BeginsLife opening start lists version m number ghosts
-    → AreOwed (home_of_world opening) ghosts (mapped opening before) → AreChangesPublished opening ghosts before → AreKnown opening ghosts before
+    → AreEnabled (home_of_world opening) ghosts (mapped opening before) → AreChangesPublished opening ghosts before → AreKnown opening ghosts before
     → LookTruly (life_ghosts opening ghosts before).log (run opening before).now → AreToldTruly (home_of_world opening) (life_ghosts opening ghosts before).log (run opening before).now
-words_true opening start lists version m number ghosts before begins owed published known look = λ session s found attempts.
+words_true opening start lists version m number ghosts before begins enabled published known look = λ session s found attempts.
     let n : Now = (run opening before).now in
     let log : Log = (life_ghosts opening ghosts before).log in
     let opened = begins.store.now in
@@ -56,6 +56,6 @@ words_true opening start lists version m number ghosts before begins owed publis
     let finds : FindsBy n.places (head_at log (home_attempted n s)) (reply_in n session s) (session_part s).work =
     λ its searches. (life_found opening start lists ghosts before opened begins.index begins.unborn begins.reserves begins.heads session s its found searches).replied in
     told_truly (home_of_world opening) log n session s attempts (life_seen opening start before session s begins.world opened found attempts)
-    (words_show opening start lists version m number ghosts before session s begins owed published found (attempting_is s.step attempts)) knows
+    (words_show opening start lists version m number ghosts before session s begins enabled published found (attempting_is s.step attempts)) knows
     (attempt_meets (home_of_world opening) log n.places (head_at log (home_attempted n s)) (reply_in n session s) s.attempt s.attempt.step (begins_for opening before log s) knows.row
     (finds_by n.places (head_at log (home_attempted n s)) (reply_in n session s) s s.step attempts finds) (look session s found attempts))

@@ -4,7 +4,7 @@ use Rattle.std.specs.Prelude.{Some, slice_get}
 use Rattle.fkv_base.specs.declared.numbers.Version.{Version}
 use Rattle.fkv_map.specs.Map.{Map}
 use Rattle.law_log.specs.Ghosts.{Ghosts}
-use Rattle.law_log.specs.Owed.{AreOwed}
+use Rattle.law_log.specs.Enabled.{AreEnabled}
 use Rattle.law_log.proofs.Shown.{run_held}
 use Rattle.fkv_session.specs.Sessions.{SessionState}
 use Rattle.law_local.specs.Tries.Replies.{IsAboveAll}
@@ -32,23 +32,23 @@ some_tail opening start lists version m number ghosts events begins =
     omega (arith, some, fixed, safe, tail, rises)
 
 tail_above : (opening : World) (start : ℕ) (lists : ℕ → List ℕ) (version : Version) (m : Map) (number : ℕ) (ghosts : Ghosts) (events : List Event) → BeginsLife opening start lists version m number ghosts
-    → AreOwed (home_of_world opening) ghosts (mapped opening events) → IsAboveAll (life_ghosts opening ghosts events).log (tail_at (run opening events).now)
-tail_above opening start lists version m number ghosts events begins owed =
-    let held = run_held (home_of_world opening) m number ghosts (mapped opening events) begins.log owed in
+    → AreEnabled (home_of_world opening) ghosts (mapped opening events) → IsAboveAll (life_ghosts opening ghosts events).log (tail_at (run opening events).now)
+tail_above opening start lists version m number ghosts events begins enabled =
+    let held = run_held (home_of_world opening) m number ghosts (mapped opening events) begins.log enabled in
     record {
       some = some_tail opening start lists version m number ghosts events begins;
       above = λ h a is_in. let its = held.chains.in_chain h a is_in in published_below opening start ghosts events a its.cell begins.store.now begins.unborn its.its;
     }
 
 pub words_show : (opening : World) (start : ℕ) (lists : ℕ → List ℕ) (version : Version) (m : Map) (number : ℕ) (ghosts : Ghosts) (events : List Event) (session : ℕ) (s : SessionState) → BeginsLife opening start lists version m number ghosts
-    → AreOwed (home_of_world opening) ghosts (mapped opening events) → AreChangesPublished opening ghosts events → slice_get (run opening events).now.sessions session ≡ Some s → IsAttempting s.step
+    → AreEnabled (home_of_world opening) ghosts (mapped opening events) → AreChangesPublished opening ghosts events → slice_get (run opening events).now.sessions session ≡ Some s → IsAttempting s.step
     → WordsShow (life_ghosts opening ghosts events).log (run opening events).now.places s.seen (run opening events).now.words
-words_show opening start lists version m number ghosts events session s begins owed published found attempts =
+words_show opening start lists version m number ghosts events session s begins enabled published found attempts =
     let opened = begins.store.now in
     record {
       header = λ a here cell e. (shows_here opening start ghosts events session s a opened begins.unborn begins.reserves published found attempts here cell e).header;
       key = λ a here cell e. (shows_here opening start ghosts events session s a opened begins.unborn begins.reserves published found attempts here cell e).key;
       value = λ a here cell e. (shows_here opening start ghosts events session s a opened begins.unborn begins.reserves published found attempts here cell e).value;
       fixed = sym (ghost_fixed opening start ghosts events opened begins.fixed);
-      tail = tail_above opening start lists version m number ghosts events begins owed;
+      tail = tail_above opening start lists version m number ghosts events begins enabled;
     }

@@ -1,7 +1,7 @@
--- What the answers of reads owe among the lines that an event tells.
+-- When the answers of reads are enabled among the lines that an event tells.
 use Rattle.std.specs.Prelude.{ℕ, ⊤, map, List, [], ◌∷◌, ◌++◌}
 use Rattle.law_log.specs.Ghosts.{Ghosts, GhostEvent, Tells, ghost_run}
-use Rattle.law_log.specs.Owed.{OwesLine}
+use Rattle.law_log.specs.Enabled.{IsLineEnabled}
 use Rattle.law_log.specs.Trace.{TraceLine, AnswersRead}
 use Rattle.fkv_world.specs.Runs.{World, run}
 use Rattle.fkv_world.specs.World.{Event}
@@ -16,12 +16,12 @@ acted opening before event = fixed_ghosts (safe_at (run opening before).now) (sa
 abbrev pub acted_ghosts : World → Ghosts → List Event → Event → Ghosts
 acted_ghosts opening ghosts before event = ghost_run (home_of_world opening) (life_ghosts opening ghosts before) (acted opening before event)
 
--- the answer of a read is owed; of other lines nothing is said
-abbrev pub AnswerOwed : Ghosts → TraceLine → Type 0
-AnswerOwed g (AnswersRead reader reply) = OwesLine g (AnswersRead reader reply)
-AnswerOwed g line = ⊤
+-- the answer of a read is enabled; of other lines nothing is said
+abbrev pub IsAnswerEnabled : Ghosts → TraceLine → Type 0
+IsAnswerEnabled g (AnswersRead reader reply) = IsLineEnabled g (AnswersRead reader reply)
+IsAnswerEnabled g line = ⊤
 
 -- so of each of these lines, where it is told: behind the earlier ones of them
 abbrev pub EachAnswered : (ℕ → ℕ) → Ghosts → List TraceLine → Type 0
 EachAnswered home base [] = ⊤
-EachAnswered home base (line ∷ earlier) = AnswerOwed (ghost_run home base (map Tells earlier)) line × EachAnswered home base earlier
+EachAnswered home base (line ∷ earlier) = IsAnswerEnabled (ghost_run home base (map Tells earlier)) line × EachAnswered home base earlier

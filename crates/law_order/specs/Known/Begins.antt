@@ -7,7 +7,7 @@ use Rattle.fkv_map.specs.Map.{Map}
 use Rattle.fkv_ops.specs.Values.{value_of}
 use Rattle.law_log.specs.Chains.{Cell, Published}
 use Rattle.law_log.specs.Ghosts.{Ghosts}
-use Rattle.law_log.specs.Owed as order
+use Rattle.law_log.specs.Enabled as order
 use Rattle.fkv_plane.specs.declared.places.RecordWord.{RecordWord}
 use Rattle.fkv_plane.specs.declared.places.RecordWord.TheVariants as rec
 use Rattle.fkv_record.specs.Numbers.{spelled}

@@ -1,7 +1,7 @@
 -- What every life without commits keeps to, event by event.
 use Rattle.std.specs.Prelude.{List}
 use Rattle.law_log.specs.Ghosts.{Ghosts}
-use Rattle.law_log.specs.Owed.{AreOwed}
+use Rattle.law_log.specs.Enabled.{AreEnabled}
 use Rattle.fkv_world.specs.Runs.{World}
 use Rattle.fkv_world.specs.World.{Event}
 use Rattle.law_order.specs.Known.Begins.{home_of_world}
@@ -10,10 +10,10 @@ use Rattle.law_refine.specs.Events.GhostEvents.{mapped}
 use Rattle.law_order.specs.Reads.Reads.{AreReadsKnown}
 use Rattle.law_refine.specs.Records.Changes.{AreChangesPublished}
 
--- The life has kept to the rules of the log beside it so far: each event of the log was owed, and what a session was about to change in place was published.
+-- The life has kept to the rules of the log beside it so far: each event of the log was enabled, and what a session was about to change in place was published.
 -- At each moment its sessions have known what they have to of the log, and reads have come as far in it as their sessions' control states say.
 pub record KeepsOrder (opening : World) (ghosts : Ghosts) (events : List Event) : Type 0 where
-  pub owed : AreOwed (home_of_world opening) ghosts (mapped opening events)
+  pub enabled : AreEnabled (home_of_world opening) ghosts (mapped opening events)
   pub published : AreChangesPublished opening ghosts events
   pub known : AreKnown opening ghosts events
   pub reads : AreReadsKnown opening ghosts events

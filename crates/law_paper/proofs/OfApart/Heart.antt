@@ -1,7 +1,7 @@
 -- At one home no update of an older version is past its walk, or shares its latch, while one of a later version takes effect.
 use Rattle.std.proofs.Common.{◌≡◌, inl, inr, ℕ, ◌<◌, true, sym, subst, ◌∙◌, arith, true≢false}
 use Rattle.law_log.specs.Ghosts.{Log}
-use Rattle.law_log.specs.Owed.{NoneAbove}
+use Rattle.law_log.specs.Enabled.{NoneAbove}
 use Rattle.law_log.specs.Trace.{IsIn}
 use Rattle.law_paper.specs.Apart.{Trier, Waiter, IsBetween, Knows, HoldsHome, AreTwo, PassesOlder, PassesWaiter, ChangesCopied}
 

@@ -1,15 +1,9 @@
 -- Down a chain of the log.
 use Rattle.std.proofs.Common.{◌≡◌, ◌⊎◌, inl, inr, ℕ, ◌<◌, ◌≤◌, Bool, true, false, cond, Some, List, [], ◌∷◌, refl, sym, ap, subst, ◌∙◌, arith}
-<<<<<<< HEAD
-use Rattle.law_log.specs.Chains.{Cell, Logged, Published, head_of, first_such, version_at, VersionsFall, IsWithin}
-use Rattle.law_log.specs.Owed.{IsLinked, previous_of}
-use Rattle.law_log.specs.Trace.{IsIn}
-=======
 use Rattle.law_log.proofs.Shown.{head_within}
 use Rattle.law_log.specs.Chains.{Cell, Logged, Published, head_of, first_such, version_at, VersionsFall, IsWithin}
-use Rattle.law_log.specs.Owed.{IsLinked, previous_of}
+use Rattle.law_log.specs.Enabled.{IsLinked, previous_of}
 use Rattle.law_log.specs.Trace.{IsIn}
->>>>>>> paper
 
 -- what a record leads to
 pub leads_to : (logged : Logged) (cell : Cell) (p : ℕ) → logged ≡ Published cell → previous_of logged ≡ Some p → cell.previous ≡ p

@@ -5,15 +5,9 @@ use Rattle.std.proofs.lemmas.Bool.{cases_lt, cases_eq}
 use Rattle.fkv_chains.specs.Chains.{HasChains}
 use Rattle.fkv_chains.specs.Entries.{Counts}
 use Rattle.fkv_chains.specs.Reached.{LeadsTo, from_triple, from_record, Reached, in_scan, led_to, linked}
-<<<<<<< HEAD
-use Rattle.law_log.specs.Chains.{Cell, Published, version_at, IsWithin}
-use Rattle.law_log.specs.Ghosts.{Log}
-use Rattle.law_log.specs.Trace.{IsIn}
-=======
 use Rattle.law_log.specs.Chains.{version_at, IsWithin}
 use Rattle.law_log.specs.Ghosts.{Log}
 use Rattle.law_log.specs.Trace.{IsIn}
->>>>>>> paper
 use Rattle.fkv_record.specs.Layout.{record_bytes}
 use Rattle.fkv_record.specs.declared.records.Record.{Record}
 use Rattle.fkv_record.specs.declared.triples.Triple.{Triple}

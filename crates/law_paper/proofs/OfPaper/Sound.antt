@@ -7,7 +7,7 @@ use Rattle.fkv_chains.specs.Entries.{Counts}
 use Rattle.fkv_chains.specs.Reached.{LeadsTo, from_triple, from_record, Reached, in_scan, led_to, linked}
 use Rattle.law_log.specs.Chains.{Cell, Unborn, Published, head_of, version_at, IsWithin}
 use Rattle.law_log.specs.Ghosts.{Log}
-use Rattle.law_log.specs.Owed.{IsLinked}
+use Rattle.law_log.specs.Enabled.{IsLinked}
 use Rattle.law_log.specs.Trace.{IsIn}
 use Rattle.fkv_record.specs.Layout.{record_bytes}
 use Rattle.fkv_record.specs.declared.records.Record.{Record}

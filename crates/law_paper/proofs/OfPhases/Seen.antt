@@ -1,14 +1,8 @@
 -- Each enabled event of a run of phases keeps what views show; and the floor of each view by the stage.
 use Rattle.std.proofs.Common.{◌≡◌, ◌≢◌, ◌⊎◌, inl, inr, ℕ, ◌<◌, ◌≤◌, Bool, true, false, List, [], ◌∷◌, refl, sym, ap, subst, ◌∙◌, arith}
-<<<<<<< HEAD
-use Rattle.law_log.proofs.Shown.{at_one, set_there, set_else}
-use Rattle.law_log.specs.Ghosts.{set_at}
-use Rattle.law_paper.specs.Phases.{View, Phasing, PhaseEvent, Prepares, WaitsFlush, Rests, RaisesProgress, RaisesPending, RaisesEnding, StoresNext, RaisesElse, IsSafe, Reserves, Loads, Completes, Leaves, Sessions, view_now, phase_after, phase_run, IsEnabled, AreEnabled, IsStaged, rests, prepares, defers, goes_on, enters, pends, flushes, AreRaised, Sees, IsSound, HasFloor, HaveFloor}
-=======
 use Rattle.law_log.proofs.Shown.{at_one, set_there, set_else}
 use Rattle.law_log.specs.Ghosts.{set_at}
 use Rattle.law_paper.specs.Phases.{View, Phasing, PhaseEvent, Prepares, WaitsFlush, Rests, RaisesProgress, RaisesPending, RaisesEnding, StoresNext, RaisesElse, IsSafe, Reserves, Loads, Completes, Leaves, Sessions, rank_of, view_now, phase_after, phase_run, IsEnabled, AreEnabled, IsStaged, rests, prepares, defers, goes_on, enters, pends, flushes, AreRaised, Sees, IsSound, HasFloor, HaveFloor}
->>>>>>> paper
 
 -- where a function changed at one place has P, the old one does elsewhere, or it is that place
 at_either : {X : Type 0} → (P : X → Type 0) (f : ℕ → X) (i : ℕ) (x : X) (j : ℕ) → P (set_at f i x j) → ((j ≢ i) × P (f j)) ⊎ ((j ≡ i) × P x)

@@ -3,7 +3,7 @@ use Rattle.std.specs.Prelude.{◌≡◌, ◌⊎◌, ℕ, ◌+◌, ◌<◌, ◌�
 use Rattle.fkv_ops.specs.Values.{value_of}
 use Rattle.law_log.specs.Chains.{Cell, Logged, Unborn, Published, Dropped, VersionsFall}
 use Rattle.law_log.specs.Ghosts.{Log}
-use Rattle.law_log.specs.Owed.{AreChains}
+use Rattle.law_log.specs.Enabled.{AreChains}
 use Rattle.fkv_record.specs.declared.records.Record.{Record}
 use Rattle.fkv_scan.specs.Log as scan
 use Rattle.fkv_scan.specs.Log.{record_home}

@@ -26,10 +26,9 @@ use Rattle.fkv_epoch.specs.Arming.{arm_ask, arm_next}
 use Rattle.fkv_epoch.specs.Claiming.{IsClaimInRange, run_of, claim_ask, slot_after, slot_armed, claim_next, claim_given}
 use Rattle.fkv_epoch.specs.Leaving.{leave_ask}
 use Rattle.fkv_epoch.specs.Protecting.{protect_ask}
-use Rattle.fkv_epoch.specs.Raising.{IsRaiseInRange, raise_ask}
+use Rattle.fkv_epoch.specs.Raising.{IsRaiseInRange, raise_ask, HasSlotInRange}
 use Rattle.fkv_epoch.specs.Refreshing.{refresh_ask}
 use Rattle.fkv_epoch.specs.Scanning.{scan_ask}
-use Rattle.fkv_commit.specs.Deferring.{HasSlotInRange}
 use Rattle.law_parts.specs.Footprint.{Part, HasSeat, Spares}
 use Rattle.law_parts.proofs.Footprint.Outside.{shared_outside, drain_outside, own_outside}
 

@@ -11,9 +11,8 @@ use Rattle.fkv_epoch.specs.declared.raising.RaiseAnswer.{RaiseAnswer}
 use Rattle.fkv_epoch.specs.declared.raising.RaiseAnswer.TheVariants as raised
 use Rattle.fkv_epoch.specs.declared.raising.Raising.{Raising}
 use Rattle.fkv_epoch.specs.Arming.{arm_ask, arm_next}
-use Rattle.fkv_epoch.specs.Raising.{IsRaiseInRange, raise_ask, raise_next, raise_next_ask, raise_on}
-use Rattle.fkv_commit.specs.Deferring.{HasSlotInRange}
-use Rattle.fkv_commit.proofs.Shown.{next_in_range, on_in_range, next_ask_in_range}
+use Rattle.fkv_epoch.specs.Raising.{IsRaiseInRange, raise_ask, raise_next, raise_next_ask, raise_on, HasSlotInRange}
+use Rattle.fkv_epoch.proofs.Shown.{next_in_range, on_in_range, next_ask_in_range}
 use Rattle.fkv_log.specs.declared.moving.MoveAnswer.{MoveAnswer}
 use Rattle.fkv_log.specs.declared.moving.Moving.{Moving}
 use Rattle.fkv_log.specs.declared.moving.Moving.TheVariants as move

@@ -24,7 +24,7 @@ use Rattle.fkv_world.specs.Runs.{World, run}
 use Rattle.law_parts.specs.Index.Finders.{Search, SessionWork, NoWork, Searches, KeepsSlot, PublishesEntry, search_in, session_part}
 use Rattle.law_parts.specs.Index.IndexEvents.{mapped}
 use Rattle.law_parts.specs.Index.LifeEntries.{lists_seen, spare_held, session_spare, IsIndexNow, FullIsSo, ContendedHasLost, AreAnsweredSo, AreSlotsKept, AreOrders, AskForThese}
-use Rattle.law_parts.specs.Index.Shows.{IsOpened, AreFair, opening_index, IsWork, Shows, seen_by_index}
+use Rattle.law_parts.specs.Index.Shows.{IsOpened, ArePermitted, opening_index, IsWork, Shows, seen_by_index}
 use Rattle.law_parts.proofs.OfIndex.SessionAsks.{search_asks, entry_asks}
 use Rattle.law_parts.proofs.OfIndex.Worlds.{opening_holds, run_holds}
 
@@ -110,9 +110,9 @@ swap_passed : (place word entry : ℕ) → passed (publish_ask (publish_first pl
 unfolding publish_ask passed
 swap_passed place word entry = refl
 
-pub life_asks : (opening : World) (lists : ℕ → List ℕ) (events : List Event) → IsOpened opening lists → AreFair opening events → AskForThese (run opening events).now (lists_seen opening lists events)
-life_asks opening lists events opened fair i s at =
-    let its = run_holds opening events (replicate (length opening.now.sessions) rested_actor) fair (opening_holds opening lists opened) in
+pub life_asks : (opening : World) (lists : ℕ → List ℕ) (events : List Event) → IsOpened opening lists → ArePermitted opening events → AskForThese (run opening events).now (lists_seen opening lists events)
+life_asks opening lists events opened permitted i s at =
+    let its = run_holds opening events (replicate (length opening.now.sessions) rested_actor) permitted (opening_holds opening lists opened) in
     let seat = its.holds.seats i s at in
     record {
       searches = λ search work. search_asks (seat_at (run opening events).now i) s search seat.knows work;

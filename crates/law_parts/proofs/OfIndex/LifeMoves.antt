@@ -29,7 +29,7 @@ use Rattle.law_parts.specs.Index.Finders.{Search, KeptSlot, SessionWork, NoWork,
 use Rattle.law_parts.specs.Index.IndexEvents.{search_begun, publish_begun, begun_by, changed_at, changed_by, asked_by, moved_events, called_events, life_events, index_events, mapped}
 use Rattle.law_parts.specs.Index.LifeEntries.{won_there, entry_won, IsLinkNow, MovesIndex, EachMovesIndex}
 use Rattle.law_parts.specs.Index.Shows.{opening_index, IsWork, Shows, seen_by_index}
-use Rattle.law_parts.proofs.OfIndex.Fair.{are_fair}
+use Rattle.law_parts.proofs.OfIndex.Permitted.{are_permitted}
 use Rattle.law_parts.proofs.OfIndex.LifeFacts.{life_sound, of_life}
 use Rattle.law_parts.proofs.OfIndex.Worlds.{life_shows}
 
@@ -357,11 +357,11 @@ moves_index n n' event w w' shows shows' (ByMove i s same there won moved) = rec
 pub life_moves : EachMovesIndex
 unfolding mapped
 life_moves opening lists event before opened =
-    let fair = are_fair opening lists (event ∷ before) opened in
+    let permitted = are_permitted opening lists (event ∷ before) opened in
     let w : IndexWorld = seen_by_index opening lists before in
     let n : Now = (run opening before).now in
-    let shows = life_shows opening lists before opened fair.1 in
-    let shows' = life_shows opening lists (event ∷ before) opened fair in
+    let shows = life_shows opening lists before opened permitted.1 in
+    let shows' = life_shows opening lists (event ∷ before) opened permitted in
     let same = seen_on opening lists event before in
     moves_index n (run opening (event ∷ before)).now event w (seen_by_index opening lists (event ∷ before)) shows shows'
     (subst (λ x. EventMoved n event w x) (sym same) (happens_moved n w event (life_sound opening lists before opened) shows))

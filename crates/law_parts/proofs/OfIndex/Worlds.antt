@@ -18,7 +18,7 @@ use Rattle.fkv_world.proofs.Shown.{is_over, lives}
 use Rattle.law_world.proofs.OfRuns.OneWord.{keeper_writes}
 use Rattle.law_parts.specs.Index.Finders.{NoWork, session_part, session_search, session_entry}
 use Rattle.law_parts.specs.Index.IndexEvents.{begun_by, asked_by, changed_by, moved_events, called_events, life_events, index_events, mapped}
-use Rattle.law_parts.specs.Index.Shows.{SparesIndex, SessionSpares, IsFair, AreFair, IsOpened, opening_index, IsPart, Shows, seen_by_index}
+use Rattle.law_parts.specs.Index.Shows.{SparesIndex, SessionSpares, IsPermitted, ArePermitted, IsOpened, opening_index, IsPart, Shows, seen_by_index}
 use Rattle.law_parts.proofs.Items.{Here, There, set_at, get_set, get_other, set_twice, there_low}
 use Rattle.law_parts.proofs.OfIndex.Goes.{part}
 use Rattle.law_parts.proofs.OfIndex.SessionParts.{SittingKnows, Homes, call_goes, idle_knows, idle_part}
@@ -99,15 +99,15 @@ call_happened n actors i call (Some s) there holds = by_busy (is_busy s.step) re
 
 -- a session's step
 move_happened : (n : Now) (actors : List IndexActor) (i : ℕ) (found : Option SessionState) → slice_get n.sessions i ≡ found → SessionSpares n i found → Holds n actors → Happened n (session_moves n i found) actors (moved_events n i found)
-move_happened n actors i None there fair holds = record { actors_then = actors; same = refl; holds = holds }
-move_happened n actors i (Some s) there fair holds =
+move_happened n actors i None there permitted holds = record { actors_then = actors; same = refl; holds = holds }
+move_happened n actors i (Some s) there permitted holds =
     let k : Seat = seat_at n i in
     let seat = holds.seats i s there in
     let ask : Ask Told = session_ask k s in
     let reply : ℕ = reply_to n.words ask in
     let after : Near SessionState = session_moved k (near n s) in
     let moved = moves_on k (near n s) ask (homes_there n i holds.buckets) refl seat.knows in
-    let made = has_made (beside n actors) i (session_part s) ask seat.actor seat.got seat.part fair (λ its at. search_asks k s its seat.knows at) (λ slot addr at. entry_asks k s slot addr seat.knows at) in
+    let made = has_made (beside n actors) i (session_part s) ask seat.actor seat.got seat.part permitted (λ its at. search_asks k s its seat.knows at) (λ slot addr at. entry_asks k s slot addr seat.knows at) in
     let mid : IndexNow = record { places = n.places; words = words_after n.words ask; actors = slice_set actors i made.actor } in
     let begun = begins_then n.places mid i reply made.actor (session_part s) (session_part after.machine) refl (get_set actors i seat.actor made.actor seat.got) moved.goes.goes made.asked in
     let later : List IndexEvent = begun_events n.places i reply (session_part s).work (session_part after.machine).work in
@@ -124,12 +124,12 @@ move_happened n actors i (Some s) there fair holds =
 keeper_happened : (w : World) (actors : List IndexActor) (granted done : Bool) → w.now.crashed ≡ false → SparesIndex w.now.places w.now.words (keeper_ask w.now.shape w.now.places w.now.keeper) → Holds w.now actors
     → Happened w.now (life_goes w.now (read_by_keeper w) (KeeperMoves granted done)) actors (changed_by w.now.words (keeper_ask w.now.shape w.now.places w.now.keeper))
 unfolding life_goes
-keeper_happened w actors granted done lives_on fair holds =
+keeper_happened w actors granted done lives_on permitted holds =
     let ask : Ask KeeperTold = keeper_ask w.now.shape w.now.places w.now.keeper in
     let words = ap (λ (n : Now). n.words) (sym (lives w (KeeperMoves granted done) lives_on)) ∙ keeper_writes w granted done lives_on in
     record {
       actors_then = actors;
-      same = spared_now (beside w.now actors) ask fair ∙ ap (λ ws. record { places = w.now.places; words = ws; actors = actors }) (sym words);
+      same = spared_now (beside w.now actors) ask permitted ∙ ap (λ ws. record { places = w.now.places; words = ws; actors = actors }) (sym words);
       holds = record { buckets = holds.buckets; seats = λ i s at. let seat = holds.seats i s at in record { actor = seat.actor; got = seat.got; knows = seat.knows; part = seat.part } };
     }
 
@@ -143,22 +143,22 @@ still n after actors holds places words shape sessions = record {
   };
 }
 
-goes_happened : (w : World) (actors : List IndexActor) (event : Event) → w.now.crashed ≡ false → IsFair w.now event → Holds w.now actors → Happened w.now (life_goes w.now (read_by_keeper w) event) actors (life_events w.now event)
+goes_happened : (w : World) (actors : List IndexActor) (event : Event) → w.now.crashed ≡ false → IsPermitted w.now event → Holds w.now actors → Happened w.now (life_goes w.now (read_by_keeper w) event) actors (life_events w.now event)
 unfolding life_goes life_events
-goes_happened w actors (Calls i call) on fair holds = call_happened w.now actors i call (slice_get w.now.sessions i) refl holds
-goes_happened w actors (Moves i) on fair holds = move_happened w.now actors i (slice_get w.now.sessions i) refl fair holds
-goes_happened w actors (KeeperMoves granted done) on fair holds = keeper_happened w actors granted done on fair holds
-goes_happened w actors (Commits kind) on fair holds = still w.now _ actors holds refl refl refl refl
-goes_happened w actors Turns on fair holds = still w.now _ actors holds refl refl refl refl
-goes_happened w actors Crashes on fair holds = still w.now _ actors holds refl refl refl refl
+goes_happened w actors (Calls i call) on permitted holds = call_happened w.now actors i call (slice_get w.now.sessions i) refl holds
+goes_happened w actors (Moves i) on permitted holds = move_happened w.now actors i (slice_get w.now.sessions i) refl permitted holds
+goes_happened w actors (KeeperMoves granted done) on permitted holds = keeper_happened w actors granted done on permitted holds
+goes_happened w actors (Commits kind) on permitted holds = still w.now _ actors holds refl refl refl refl
+goes_happened w actors Turns on permitted holds = still w.now _ actors holds refl refl refl refl
+goes_happened w actors Crashes on permitted holds = still w.now _ actors holds refl refl refl refl
 
 -- each event
-pub happened : (w : World) (actors : List IndexActor) (event : Event) → IsFair w.now event → Holds w.now actors → Happened w.now (happens w event).now actors (index_events w.now event)
-happened w actors event fair holds = by_crash w.now.crashed refl
+pub happened : (w : World) (actors : List IndexActor) (event : Event) → IsPermitted w.now event → Holds w.now actors → Happened w.now (happens w event).now actors (index_events w.now event)
+happened w actors event permitted holds = by_crash w.now.crashed refl
   where
     by_crash : (b : Bool) → w.now.crashed ≡ b → Happened w.now (happens w event).now actors (if b then [] else life_events w.now event)
     by_crash true over = subst (λ (v : World). Happened w.now v.now actors []) (sym (is_over w event over)) (record { actors_then = actors; same = refl; holds = holds })
-    by_crash false on = subst (λ (n : Now). Happened w.now n actors (life_events w.now event)) (sym (lives w event on)) (goes_happened w actors event on fair holds)
+    by_crash false on = subst (λ (n : Now). Happened w.now n actors (life_events w.now event)) (sym (lives w event on)) (goes_happened w actors event on permitted holds)
 
 -- as a life begins
 replicated : {X : Type 0} (m j : ℕ) (x : X) → j < m → slice_get (replicate m x) j ≡ Some x
@@ -181,21 +181,21 @@ opening_holds opening lists opened = record {
 }
 
 -- every life
-pub run_holds : (opening : World) (events : List Event) (first : List IndexActor) → AreFair opening events → Holds opening.now first → Happened opening.now (run opening events).now first (mapped opening events)
+pub run_holds : (opening : World) (events : List Event) (first : List IndexActor) → ArePermitted opening events → Holds opening.now first → Happened opening.now (run opening events).now first (mapped opening events)
 unfolding run mapped
-run_holds opening [] first fair holds = record { actors_then = first; same = refl; holds = holds }
-run_holds opening (event ∷ before) first fair holds =
-    let was = run_holds opening before first fair.1 holds in
-    let is = happened (run opening before) was.actors_then event fair.0 was.holds in
+run_holds opening [] first permitted holds = record { actors_then = first; same = refl; holds = holds }
+run_holds opening (event ∷ before) first permitted holds =
+    let was = run_holds opening before first permitted.1 holds in
+    let is = happened (run opening before) was.actors_then event permitted.0 was.holds in
     record {
       actors_then = is.actors_then;
       same = now_on (beside opening.now first) (index_events (run opening before).now event) (mapped opening before) ∙ ap (λ m. now_run m (index_events (run opening before).now event)) was.same ∙ is.same;
       holds = is.holds;
     }
 
-pub life_shows : (opening : World) (lists : ℕ → List ℕ) (events : List Event) → IsOpened opening lists → AreFair opening events → Shows (run opening events).now (seen_by_index opening lists events)
-life_shows opening lists events opened fair =
-    let its = run_holds opening events (replicate (length opening.now.sessions) rested_actor) fair (opening_holds opening lists opened) in
+pub life_shows : (opening : World) (lists : ℕ → List ℕ) (events : List Event) → IsOpened opening lists → ArePermitted opening events → Shows (run opening events).now (seen_by_index opening lists events)
+life_shows opening lists events opened permitted =
+    let its = run_holds opening events (replicate (length opening.now.sessions) rested_actor) permitted (opening_holds opening lists opened) in
     let same : (seen_by_index opening lists events).now ≡ beside (run opening events).now its.actors_then = runs_now (opening_index opening lists) (mapped opening events) ∙ its.same in
     record {
       places = ap (λ (n : IndexNow). n.places) same;

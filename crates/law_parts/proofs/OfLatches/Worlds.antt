@@ -26,7 +26,7 @@ use Rattle.fkv_world.specs.Moves.{Near, session_moved, keeper_settled, keeper_re
 use Rattle.fkv_world.specs.Runs.{World, run, read_by_keeper}
 use Rattle.law_parts.specs.Latches.Latchers.{session_latching, sitting_latching, sitting_alone}
 use Rattle.law_parts.specs.Latches.LatchEvents.{begun_at, asked_by, changed_by, moved_events, called_events, life_events, latch_events, mapped}
-use Rattle.law_parts.specs.Latches.Shows.{SparesLatches, SessionSpares, IsFair, AreFair, IsOpened}
+use Rattle.law_parts.specs.Latches.Shows.{SparesLatches, SessionSpares, IsPermitted, ArePermitted, IsOpened}
 use Rattle.law_parts.proofs.Items.{Here, There, set_at, get_set, get_other, set_twice, there_low}
 use Rattle.law_parts.proofs.OfLatches.AttemptLatches.{HomesAreLow}
 use Rattle.law_parts.proofs.OfLatches.SessionLatches.{SittingKnows, begun_led}
@@ -126,16 +126,16 @@ session_called_holds n w i call (Some s) there holds = by_busy (is_busy s.step) 
 -- a session's step
 moved_holds : (n : Now) (w : LatchWorld) (i : ℕ) (found : Option SessionState) → slice_get n.sessions i ≡ found → SessionSpares n i found → Holds n w → Holds (session_moves n i found) (latch_run w (moved_events n i found))
 unfolding latch_run
-moved_holds n w i None there fair holds = holds
-moved_holds n w i (Some s) there fair holds =
+moved_holds n w i None there permitted holds = holds
+moved_holds n w i (Some s) there permitted holds =
     let k : Seat = seat_at n i in
     let seat = holds.seats i s there in
     let low = seat_low n w i s holds there in
     let ask : Ask _ = session_ask k s in
     let after : Near SessionState = session_moved k (near n s) in
-    let moved = moves_on k (near n s) seat.actor ask (homes_low n.places n.shape.bucket_bits holds.buckets) refl fair seat.sits in
-    let fair_there : session_latching s ≡ latching.AtRest → SparesLatches w.places w.words ask = λ e. rw (holds.places, holds.words) (fair e) in
-    let main_there = asked_run k s seat.actor w i _ refl seat.got seat.sits.step fair_there in
+    let moved = moves_on k (near n s) seat.actor ask (homes_low n.places n.shape.bucket_bits holds.buckets) refl permitted seat.sits in
+    let permitted_there : session_latching s ≡ latching.AtRest → SparesLatches w.places w.words ask = λ e. rw (holds.places, holds.words) (permitted e) in
+    let main_there = asked_run k s seat.actor w i _ refl seat.got seat.sits.step permitted_there in
     let main : latch_run w (asked_by n.words i (session_latching s) ask) ≡ record w { words = words_after n.words ask; actors = slice_set w.actors i (replied seat.actor (reply_to n.words ask)) } =
     subst (λ (x : List ℕ). latch_run w (asked_by x i (session_latching s) ask) ≡ record w { words = words_after x ask; actors = slice_set w.actors i (replied seat.actor (reply_to x ask)) }) holds.words main_there in
     let behind : LatchWorld = record w { words = words_after n.words ask; actors = slice_set w.actors i (replied seat.actor (reply_to n.words ask)) } in
@@ -181,11 +181,11 @@ keeper_words shape p granted done read n (Max place number) = settled_words shap
 keeper_holds : (n : Now) (w : LatchWorld) (read : List ℕ) (granted done : Bool) → SparesLatches n.places n.words (keeper_ask n.shape n.places n.keeper) → Holds n w
     → Holds (life_goes n read (KeeperMoves granted done)) (latch_run w (changed_by n.words (keeper_ask n.shape n.places n.keeper)))
 unfolding life_goes
-keeper_holds n w read granted done fair holds =
+keeper_holds n w read granted done permitted holds =
     let ask : Ask KeeperTold = keeper_ask n.shape n.places n.keeper in
-    let fair_there : SparesLatches w.places w.words ask = rw (holds.places, holds.words) fair in
+    let permitted_there : SparesLatches w.places w.words ask = rw (holds.places, holds.words) permitted in
     let same : latch_run w (changed_by n.words ask) ≡ record w { words = words_after n.words ask } =
-    subst (λ (x : List ℕ). latch_run w (changed_by x ask) ≡ record w { words = words_after x ask }) holds.words (spared_run w ask fair_there) in
+    subst (λ (x : List ℕ). latch_run w (changed_by x ask) ≡ record w { words = words_after x ask }) holds.words (spared_run w ask permitted_there) in
     let sound = run_sound w (changed_by n.words ask) holds.sound in
     let kept = keeper_words n.shape n.places granted done read (near n n.keeper) ask in
     subst (λ (x : LatchWorld). Holds (life_goes n read (KeeperMoves granted done)) x) (sym same) (record {
@@ -198,22 +198,22 @@ keeper_holds n w read granted done fair holds =
     })
 
 -- each event
-goes_holds : (n : Now) (w : LatchWorld) (read : List ℕ) (event : Event) → IsFair n event → Holds n w → Holds (life_goes n read event) (latch_run w (life_events n event))
+goes_holds : (n : Now) (w : LatchWorld) (read : List ℕ) (event : Event) → IsPermitted n event → Holds n w → Holds (life_goes n read event) (latch_run w (life_events n event))
 unfolding life_goes life_events latch_run
-goes_holds n w read (Calls i call) fair holds = session_called_holds n w i call (slice_get n.sessions i) refl holds
-goes_holds n w read (Moves i) fair holds = moved_holds n w i (slice_get n.sessions i) refl fair holds
-goes_holds n w read (KeeperMoves granted done) fair holds = keeper_holds n w read granted done fair holds
-goes_holds n w read (Commits kind) fair holds = record { places = holds.places; words = holds.words; sound = holds.sound; buckets = holds.buckets; few = holds.few; seats = λ i s at. let seat = holds.seats i s at in record { actor = seat.actor; got = seat.got; sits = seat.sits } }
-goes_holds n w read Turns fair holds = record { places = holds.places; words = holds.words; sound = holds.sound; buckets = holds.buckets; few = holds.few; seats = λ i s at. let seat = holds.seats i s at in record { actor = seat.actor; got = seat.got; sits = seat.sits } }
-goes_holds n w read Crashes fair holds = record { places = holds.places; words = holds.words; sound = holds.sound; buckets = holds.buckets; few = holds.few; seats = λ i s at. let seat = holds.seats i s at in record { actor = seat.actor; got = seat.got; sits = seat.sits } }
+goes_holds n w read (Calls i call) permitted holds = session_called_holds n w i call (slice_get n.sessions i) refl holds
+goes_holds n w read (Moves i) permitted holds = moved_holds n w i (slice_get n.sessions i) refl permitted holds
+goes_holds n w read (KeeperMoves granted done) permitted holds = keeper_holds n w read granted done permitted holds
+goes_holds n w read (Commits kind) permitted holds = record { places = holds.places; words = holds.words; sound = holds.sound; buckets = holds.buckets; few = holds.few; seats = λ i s at. let seat = holds.seats i s at in record { actor = seat.actor; got = seat.got; sits = seat.sits } }
+goes_holds n w read Turns permitted holds = record { places = holds.places; words = holds.words; sound = holds.sound; buckets = holds.buckets; few = holds.few; seats = λ i s at. let seat = holds.seats i s at in record { actor = seat.actor; got = seat.got; sits = seat.sits } }
+goes_holds n w read Crashes permitted holds = record { places = holds.places; words = holds.words; sound = holds.sound; buckets = holds.buckets; few = holds.few; seats = λ i s at. let seat = holds.seats i s at in record { actor = seat.actor; got = seat.got; sits = seat.sits } }
 
-happens_holds : (n : Now) (w : LatchWorld) (read : List ℕ) (event : Event) → IsFair n event → Holds n w → Holds (happens_now n read event) (latch_run w (latch_events n event))
+happens_holds : (n : Now) (w : LatchWorld) (read : List ℕ) (event : Event) → IsPermitted n event → Holds n w → Holds (happens_now n read event) (latch_run w (latch_events n event))
 unfolding latch_run
-happens_holds n w read event fair holds = by_crash n.crashed
+happens_holds n w read event permitted holds = by_crash n.crashed
   where
     by_crash : (b : Bool) → Holds (if b then n else life_goes n read event) (latch_run w (if b then [] else life_events n event))
     by_crash true = holds
-    by_crash false = goes_holds n w read event fair holds
+    by_crash false = goes_holds n w read event permitted holds
 
 -- as a life begins
 opened_seat : (n : Now) (i : ℕ) (s : SessionState) → IsOpened n → slice_get n.sessions i ≡ Some s → Seated n (opening n.places (length n.sessions) n.words) i s
@@ -255,9 +255,9 @@ opening_holds n opened = record {
 }
 
 -- every life
-pub run_holds : (first : World) (events : List Event) (w : LatchWorld) → AreFair first events → Holds first.now w → Holds (run first events).now (latch_run w (mapped first events))
+pub run_holds : (first : World) (events : List Event) (w : LatchWorld) → ArePermitted first events → Holds first.now w → Holds (run first events).now (latch_run w (mapped first events))
 unfolding run mapped latch_run
-run_holds first [] w fair holds = holds
-run_holds first (event ∷ before) w fair holds =
+run_holds first [] w permitted holds = holds
+run_holds first (event ∷ before) w permitted holds =
     subst (λ (x : LatchWorld). Holds (run first (event ∷ before)).now x) (sym (runs_on w (latch_events (run first before).now event) (mapped first before)))
-    (happens_holds (run first before).now (latch_run w (mapped first before)) (read_by_keeper (run first before)) event fair.0 (run_holds first before w fair.1 holds))
+    (happens_holds (run first before).now (latch_run w (mapped first before)) (read_by_keeper (run first before)) event permitted.0 (run_holds first before w permitted.1 holds))

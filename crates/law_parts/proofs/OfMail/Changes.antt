@@ -29,7 +29,7 @@ use Rattle.law_parts.specs.Mail.Reads.{mail_past, ChangesBy, EachChangesBy}
 use Rattle.law_parts.specs.Mail.Servers.{serving_of, is_serving, ServesIt, record_of}
 use Rattle.law_parts.specs.Mail.Shows.{SessionSpares, IsOpened, Shows, seen_by_mailbox}
 use Rattle.law_parts.specs.Mail.Spares.{SparesMailbox}
-use Rattle.law_parts.proofs.OfMail.Fair.{is_fair, broken_rests}
+use Rattle.law_parts.proofs.OfMail.Permitted.{is_permitted, broken_rests}
 use Rattle.law_parts.proofs.OfMail.KeeperServes.{is_at, serve_words}
 use Rattle.law_parts.proofs.OfMail.Lives.{life_sound, life_holds, life_shows}
 use Rattle.law_parts.proofs.OfMail.MailSteps.{loaded, spared_ask}
@@ -88,14 +88,14 @@ module _ (changes : AtEachMoment ChangesAreKept) (opening : World) (session : �
       subst (λ (x : Mailing). SessionThen n.words session x) far.0
       (subst (λ (x : ℕ). SessionThen n.words x w.mailing) shown.session_same (subst (λ (x : List ℕ). SessionThen x w.session w.mailing) shown.words law))
 
-  fair_moves : (number : ℕ) (s : SessionState) → slice_get n.sessions number ≡ Some s → (number ≡ session → session_mailing s ≡ None) → SparesMailbox session (session_ask (seat_at n number) s)
-  fair_moves number s there none = subst (λ (found : Option SessionState). SessionSpares n session number found) there (is_fair opening session before (Moves number) opened) none
+  permitted_moves : (number : ℕ) (s : SessionState) → slice_get n.sessions number ≡ Some s → (number ≡ session → session_mailing s ≡ None) → SparesMailbox session (session_ask (seat_at n number) s)
+  permitted_moves number s there none = subst (λ (found : Option SessionState). SessionSpares n session number found) there (is_permitted opening session before (Moves number) opened) none
 
   session_part : (s : SessionState) → n.crashed ≡ false → slice_get n.sessions session ≡ Some s → SessionChanges box (mailbox_of (happens v (Moves session)).now.words session)
   session_part s alive there = by_task (session_mailing s) refl
     where
       by_task : (found : Option Mailing) → session_mailing s ≡ found → SessionChanges box (mailbox_of (happens v (Moves session)).now.words session)
-      by_task None e = inl (spared (Moves session) (session_ask (seat_at n session) s) (session_writes v session s alive there) (fair_moves session s there (λ same. e)))
+      by_task None e = inl (spared (Moves session) (session_ask (seat_at n session) s) (session_writes v session s alive there) (permitted_moves session s there (λ same. e)))
       by_task (Some step) e =
           subst (λ (x : List ℕ). SessionChanges box (mailbox_of x session)) (sym (session_writes v session s alive there ∙ own_words (seat_at n session) s step n.words e)) (own_changes s there step e)
 
@@ -107,7 +107,7 @@ module _ (changes : AtEachMoment ChangesAreKept) (opening : World) (session : �
       by_number true e =
           let same : number ≡ session = test_same session number e in
           inr (same, subst (λ (x : ℕ). SessionChanges box (mailbox_of (happens v (Moves x)).now.words session)) (sym same) (session_part s alive (ap (slice_get n.sessions) (sym same) ∙ there)))
-      by_number false e = inl (spared (Moves number) (session_ask (seat_at n number) s) (session_writes v number s alive there) (fair_moves number s there (λ same. absurd (test_apart session number e same))))
+      by_number false e = inl (spared (Moves number) (session_ask (seat_at n number) s) (session_writes v number s alive there) (permitted_moves number s there (λ same. absurd (test_apart session number e same))))
 
   -- the keeper
   served_changes : (keeping : Keeping) → w.keeping ≡ keeping → KeeperThen n.words session keeping
@@ -146,7 +146,7 @@ module _ (changes : AtEachMoment ChangesAreKept) (opening : World) (session : �
           ∙ serve_words n.shape n.places n.keeper n.words (serving_of n.keeper) in
           subst (λ (x : List ℕ). KeeperChanges box (mailbox_of x session)) (sym words)
           (serve_part (serving_of n.keeper) e (own_keeps v session w (mail_past opening session before) granted done alive rests (life_holds opening session before opened) (life_sound opening session before opened) e))
-      by_serving false e = inl (spared (KeeperMoves granted done) (keeper_ask n.shape n.places n.keeper) (keeper_writes v granted done alive) (is_fair opening session before (KeeperMoves granted done) opened e))
+      by_serving false e = inl (spared (KeeperMoves granted done) (keeper_ask n.shape n.places n.keeper) (keeper_writes v granted done alive) (is_permitted opening session before (KeeperMoves granted done) opened e))
 
   -- every event
   alive_part : (event : Event) → n.crashed ≡ false → ChangesBy session event box (mailbox_of (happens v event).now.words session)

@@ -28,7 +28,7 @@ use Rattle.law_parts.specs.Mail.Mailers.{session_mailing}
 use Rattle.law_parts.specs.Mail.Reads.{mail_past, mail_notes, record_there, ReadSince}
 use Rattle.law_parts.specs.Mail.Servers.{serving_of, is_serving, ServesIt}
 use Rattle.law_parts.specs.Mail.Shows.{IsOpened, mail_opening, seen_by_mailbox}
-use Rattle.law_parts.proofs.OfMail.Fair.{broken_rests}
+use Rattle.law_parts.proofs.OfMail.Permitted.{broken_rests}
 use Rattle.law_parts.proofs.OfMail.KeeperServes.{is_at_serve, is_at}
 use Rattle.law_parts.proofs.OfMail.Lives.{life_sound, life_holds}
 use Rattle.law_parts.proofs.OfMail.ReadSteps.{IsRead, later_read, IsQuiet, one_read, NoServes}

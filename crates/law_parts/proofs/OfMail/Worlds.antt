@@ -120,8 +120,8 @@ module _ (n : Now) (session : ℕ) (w : MailWorld) (holds : Holds n session w) w
   asked_run : (s : SessionState) (found : Option Mailing) → session_mailing s ≡ found → (found ≡ None → SparesMailbox session (session_ask (seat_at n session) s)) → IsAsFar found w.mailing
       → mail_run w (asked_by n.words found (session_ask (seat_at n session) s))
       ≡ record w { words = words_after n.words (session_ask (seat_at n session) s); mailing = moved_of found w.mailing (reply_to n.words (session_ask (seat_at n session) s)) }
-  asked_run s None e fair far = spared_run (session_ask (seat_at n session) s) (fair refl)
-  asked_run s (Some its) e fair far =
+  asked_run s None e permitted far = spared_run (session_ask (seat_at n session) s) (permitted refl)
+  asked_run s (Some its) e permitted far =
       moves_run w
       ∙ ap (λ (x : List ℕ). record w { words = words_after x (mail_ask w.session w.mailing); mailing = mail_next w.mailing (reply_to x (mail_ask w.session w.mailing)) }) holds.words
       ∙ ap (λ (x : ℕ). record w { words = words_after n.words (mail_ask x w.mailing); mailing = mail_next w.mailing (reply_to n.words (mail_ask x w.mailing)) }) holds.session_same
@@ -131,8 +131,8 @@ module _ (n : Now) (session : ℕ) (w : MailWorld) (holds : Holds n session w) w
 
   asked_on : (past : MailPast) → Known n session w past → (s : SessionState) (found : Option Mailing) → session_mailing s ≡ found → (found ≡ None → SparesMailbox session (session_ask (seat_at n session) s)) → IsAsFar found w.mailing
       → (mailbox_of n.words session).state ≡ mail_asked → (mailbox_of (words_after n.words (session_ask (seat_at n session) s)) session).state ≡ mail_asked
-  asked_on past its s None e fair far asks = ap (λ (x : Mailbox). x.state) (spared_ask n.words session its.enough (session_ask (seat_at n session) s) (fair refl)) ∙ asks
-  asked_on past its s (Some step) e fair far asks =
+  asked_on past its s None e permitted far asks = ap (λ (x : Mailbox). x.state) (spared_ask n.words session its.enough (session_ask (seat_at n session) s) (permitted refl)) ∙ asks
+  asked_on past its s (Some step) e permitted far asks =
       ap (λ (x : List ℕ). (mailbox_of x session).state) (own_words (seat_at n session) s step n.words e)
       ∙ ap (λ (x : Mailbox). x.state) (moved_box n.words session its.enough step)
       ∙ asked_stays (mailbox_of n.words session) past.task step (subst (λ (x : Mailing). KnowsMail (mailbox_of n.words session) past.task x) far.0 its.knows) asks
@@ -140,7 +140,7 @@ module _ (n : Now) (session : ℕ) (w : MailWorld) (holds : Holds n session w) w
   -- the mailbox's own session
   own_moved : (past : MailPast) (s : SessionState) → slice_get n.sessions session ≡ Some s → (session_mailing s ≡ None → SparesMailbox session (session_ask (seat_at n session) s)) → IsSound w past
       → Holds (session_moves n session (Some s)) session (mail_run w (own_events n session s))
-  own_moved past s there fair sound =
+  own_moved past s there permitted sound =
       let k : Seat = seat_at n session in
       let ask : Ask Told = session_ask k s in
       let after : Near SessionState = session_moved k (near n s) in
@@ -148,7 +148,7 @@ module _ (n : Now) (session : ℕ) (w : MailWorld) (holds : Holds n session w) w
       let far = sits_far s w.mailing sits in
       let moved = moves_on k (near n s) ask w.mailing refl sits in
       let m : Mailing = moved_of (session_mailing s) w.mailing (reply_to n.words ask) in
-      let main = asked_run s (session_mailing s) refl (λ none. fair none) far in
+      let main = asked_run s (session_mailing s) refl (λ none. permitted none) far in
       let ran : mail_run w (own_events n session s) ≡ record w { words = after.words; mailing = begun m (session_mailing after.machine) } =
       runs_on w (begins (session_mailing after.machine)) (asked_by n.words (session_mailing s) ask)
       ∙ ap (λ (x : MailWorld). mail_run x (begins (session_mailing after.machine))) main
@@ -160,7 +160,7 @@ module _ (n : Now) (session : ℕ) (w : MailWorld) (holds : Holds n session w) w
         sits = own_sits n session after.machine (begun m (session_mailing after.machine)) moved.leads;
         serves = holds.serves;
         finds = λ works. finds_on session (serving_of n.keeper) (mailbox_of n.words session) (mailbox_of after.words session)
-            (λ asks. ap (λ (x : List ℕ). (mailbox_of x session).state) moved.words ∙ asked_on past (known n session w past holds sound) s (session_mailing s) refl (λ none. fair none) far asks) (holds.finds works);
+            (λ asks. ap (λ (x : List ℕ). (mailbox_of x session).state) moved.words ∙ asked_on past (known n session w past holds sound) s (session_mailing s) refl (λ none. permitted none) far asks) (holds.finds works);
       })
 
 -- another session's step
@@ -188,8 +188,8 @@ other_moved v session number w past s alive there apart spares holds sound =
 pub moved_holds : (v : World) (session number : ℕ) (w : MailWorld) (past : MailPast) (found : Option SessionState) → v.now.crashed ≡ false → slice_get v.now.sessions number ≡ found → SessionSpares v.now session number found → Holds v.now session w → IsSound w past
     → Holds (session_moves v.now number found) session (mail_run w (moved_events v.now session number found))
 unfolding mail_run
-moved_holds v session number w past None alive there fair holds sound = holds
-moved_holds v session number w past (Some s) alive there fair holds sound = by_number (number == session) refl
+moved_holds v session number w past None alive there permitted holds sound = holds
+moved_holds v session number w past (Some s) alive there permitted holds sound = by_number (number == session) refl
   where
     own_part : (x : ℕ) → x ≡ number → slice_get v.now.sessions x ≡ Some s → (x ≡ session → session_mailing s ≡ None → SparesMailbox session (session_ask (seat_at v.now x) s)) → session ≡ x
         → Holds (session_moves v.now x (Some s)) session (mail_run w (own_events v.now session s))
@@ -199,8 +199,8 @@ moved_holds v session number w past (Some s) alive there fair holds sound = by_n
         (λ none. subst (λ (y : ℕ). SparesMailbox session (session_ask (seat_at v.now y) s)) (sym same) (spares (sym same) none)) sound)
 
     by_number : (c : Bool) → (number == session) ≡ c → Holds (session_moves v.now number (Some s)) session (mail_run w (if c then own_events v.now session s else changed_by v.now.words (session_ask (seat_at v.now number) s)))
-    by_number true e = own_part number refl there (λ same none. fair (λ at. none)) (test_same number session e)
-    by_number false e = other_moved v session number w past s alive there (test_apart number session e) (fair (λ same. absurd (test_apart number session e same))) holds sound
+    by_number true e = own_part number refl there (λ same none. permitted (λ at. none)) (test_same number session e)
+    by_number false e = other_moved v session number w past s alive there (test_apart number session e) (permitted (λ same. absurd (test_apart number session e same))) holds sound
 
 -- the keeper's step
 abbrev keeper_then : World → Bool → Bool → KeeperState
@@ -353,11 +353,11 @@ module _ (v : World) (session : ℕ) (w : MailWorld) (past : MailPast) (granted 
       })
 
   pub keeper_holds : (is_serving session serving ≡ false → SparesMailbox session ask) → Holds after session (mail_run w (keeper_events n (read_by_keeper v) session done))
-  keeper_holds fair = by_serving (is_serving session serving) refl
+  keeper_holds permitted = by_serving (is_serving session serving) refl
     where
       by_serving : (c : Bool) → is_serving session serving ≡ c → Holds after session (mail_run w (if c then its_events n.words session else changed_by n.words ask))
       by_serving true e = serves_own e
-      by_serving false e = serves_other e (fair e)
+      by_serving false e = serves_other e (permitted e)
 
 -- a turn, or a commit, is asked for
 pub asked_holds : (n : Now) (session : ℕ) (w : MailWorld) (begun_keeper : KeeperState) → Holds n session w → serving_of begun_keeper ≡ serve.AtRest → (begun_keeper.is_broken ≡ false → n.keeper.is_broken ≡ false)

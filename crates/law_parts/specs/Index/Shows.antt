@@ -38,15 +38,15 @@ abbrev pub SessionSpares : Now → ℕ → Option SessionState → Type 0
 SessionSpares n session None = ⊤
 SessionSpares n session (Some s) = session_search s ≡ None → session_entry s ≡ None → SparesIndex n.places n.words (session_ask (seat_at n session) s)
 
-abbrev pub IsFair : Now → Event → Type 0
-IsFair n (Moves session) = SessionSpares n session (slice_get n.sessions session)
-IsFair n (KeeperMoves granted done) = SparesIndex n.places n.words (keeper_ask n.shape n.places n.keeper)
-IsFair n event = ⊤
+abbrev pub IsPermitted : Now → Event → Type 0
+IsPermitted n (Moves session) = SessionSpares n session (slice_get n.sessions session)
+IsPermitted n (KeeperMoves granted done) = SparesIndex n.places n.words (keeper_ask n.shape n.places n.keeper)
+IsPermitted n event = ⊤
 
--- each step of a life is fair
-abbrev pub AreFair : World → List Event → Type 0
-AreFair opening [] = ⊤
-AreFair opening (event ∷ before) = IsFair (run opening before).now event × AreFair opening before
+-- each step of a life is permitted
+abbrev pub ArePermitted : World → List Event → Type 0
+ArePermitted opening [] = ⊤
+ArePermitted opening (event ∷ before) = IsPermitted (run opening before).now event × ArePermitted opening before
 
 -- the world of the index as a life begins: all rest, and these overflow buckets were linked to each bucket
 abbrev pub opening_index : World → (ℕ → List ℕ) → IndexWorld

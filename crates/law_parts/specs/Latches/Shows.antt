@@ -32,15 +32,15 @@ abbrev pub SessionSpares : Now → ℕ → Option SessionState → Type 0
 SessionSpares n session None = ⊤
 SessionSpares n session (Some s) = session_latching s ≡ AtRest → SparesLatches n.places n.words (session_ask (seat_at n session) s)
 
-abbrev pub IsFair : Now → Event → Type 0
-IsFair n (Moves session) = SessionSpares n session (slice_get n.sessions session)
-IsFair n (KeeperMoves granted done) = SparesLatches n.places n.words (keeper_ask n.shape n.places n.keeper)
-IsFair n event = ⊤
+abbrev pub IsPermitted : Now → Event → Type 0
+IsPermitted n (Moves session) = SessionSpares n session (slice_get n.sessions session)
+IsPermitted n (KeeperMoves granted done) = SparesLatches n.places n.words (keeper_ask n.shape n.places n.keeper)
+IsPermitted n event = ⊤
 
--- each step of a life is fair
-abbrev pub AreFair : World → List Event → Type 0
-AreFair opening [] = ⊤
-AreFair opening (event ∷ before) = IsFair (run opening before).now event × AreFair opening before
+-- each step of a life is permitted
+abbrev pub ArePermitted : World → List Event → Type 0
+ArePermitted opening [] = ⊤
+ArePermitted opening (event ∷ before) = IsPermitted (run opening before).now event × ArePermitted opening before
 
 -- As a life begins no latch is held, the index has its buckets, there is a session for each seat of the store, and each session and the keeper are as their store was
 -- opened; the keeper serves and finishes commits for just the store's sessions.

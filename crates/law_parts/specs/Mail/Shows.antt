@@ -20,15 +20,15 @@ SessionSpares n session number None = ⊤
 SessionSpares n session number (Some s) = (number ≡ session → session_mailing s ≡ None) → SparesMailbox session (session_ask (seat_at n number) s)
 
 -- and with each of the keeper where it isn't at the mailbox
-abbrev pub IsFair : Now → ℕ → Event → Type 0
-IsFair n session (Moves number) = SessionSpares n session number (slice_get n.sessions number)
-IsFair n session (KeeperMoves granted done) = is_serving session (serving_of n.keeper) ≡ false → SparesMailbox session (keeper_ask n.shape n.places n.keeper)
-IsFair n session event = ⊤
+abbrev pub IsPermitted : Now → ℕ → Event → Type 0
+IsPermitted n session (Moves number) = SessionSpares n session number (slice_get n.sessions number)
+IsPermitted n session (KeeperMoves granted done) = is_serving session (serving_of n.keeper) ≡ false → SparesMailbox session (keeper_ask n.shape n.places n.keeper)
+IsPermitted n session event = ⊤
 
--- each step of a life is fair
-abbrev pub AreFair : World → ℕ → List Event → Type 0
-AreFair opening session [] = ⊤
-AreFair opening session (event ∷ before) = IsFair (run opening before).now session event × AreFair opening session before
+-- each step of a life is permitted
+abbrev pub ArePermitted : World → ℕ → List Event → Type 0
+ArePermitted opening session [] = ⊤
+ArePermitted opening session (event ∷ before) = IsPermitted (run opening before).now session event × ArePermitted opening session before
 
 -- As a life begins the session is one of the store's, its mailbox is there and empty, and each session and the keeper are as their store was opened.
 pub record IsOpened (n : Now) (session : ℕ) : Type 0 where

@@ -11,7 +11,7 @@ use Rattle.fkv_world.specs.World.{Event}
 use Rattle.fkv_world.specs.Runs.{World, run}
 use Rattle.law_guard.specs.Guarded.GuardEvents.{mapped}
 use Rattle.law_guard.specs.Guarded.OpenedStore.{IsOpenedStore}
-use Rattle.law_guard.specs.Guarded.Shows.{AreFair, guard_opening}
+use Rattle.law_guard.specs.Guarded.Shows.{ArePermitted, guard_opening}
 use Rattle.law_parts.specs.Mail.MailEvents.{record_read}
 use Rattle.law_parts.specs.Mail.Reads.{ReadSince}
 
@@ -25,9 +25,9 @@ record_standing opening start events addr =
     ∷ []
     ))
 
--- In a life in which each step of a session does what it owes: what was read at an address that is one since the opening and was flushed by then is
+-- In a life in which each step of a session is permitted: what was read at an address that is one since the opening and was flushed by then is
 -- what stood there then.
 abbrev pub ReadsWhatStood : Type 0
-ReadsWhatStood = (opening : World) (start session : ℕ) (events : List Event) (addr : Addr) (its : MailRecord) (asked : List MailNote) → IsOpenedStore opening start → AreFair opening events
+ReadsWhatStood = (opening : World) (start session : ℕ) (events : List Event) (addr : Addr) (its : MailRecord) (asked : List MailNote) → IsOpenedStore opening start → ArePermitted opening events
     → (read : ReadSince opening session events addr its asked) → start ≤ addr.0 → addr.0 < (levels_of (run opening read.earlier).now.words).flushed
     → its ≡ record_standing opening start read.earlier addr.0

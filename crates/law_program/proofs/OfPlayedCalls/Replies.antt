@@ -11,7 +11,7 @@ use Rattle.fkv_epoch.proofs.Shown.{none_some, some_same}
 use Rattle.fkv_map.specs.declared.operations.Call.{Call}
 use Rattle.fkv_map.specs.declared.operations.Call.TheVariants as call
 use Rattle.fkv_map.specs.declared.operations.Op.{Op}
-use Rattle.law_order.specs.OneHistory.EachLife.{InEachLife}
+use Rattle.law_order.specs.OneHistory.EachLife.{InEachLife, WithoutCommits}
 use Rattle.fkv_opening.specs.declared.opened_store.Opened.{Opened}
 use Rattle.law_order.specs.Rules.Ordered.{HasLegalHistory, OrdersItsCalls, ReadsFreshly}
 use Rattle.law_order.proofs.OfRules.Beginning.{world_opens}
@@ -134,7 +134,7 @@ told_to number op serial before after (tellings.PendingRead ticket) result = res
 told_to number op serial before after (tellings.Refused why) result = tt
 told_to number op serial before after other result = absurd result
 
-module _ (legal : InEachLife HasLegalHistory) (ordered : InEachLife OrdersItsCalls) (fresh : InEachLife ReadsFreshly) (whole : AnswersWholeCalls) where
+module _ (legal : InEachLife (WithoutCommits HasLegalHistory)) (ordered : InEachLife (WithoutCommits OrdersItsCalls)) (fresh : InEachLife (WithoutCommits ReadsFreshly)) (whole : AnswersWholeCalls) where
   -- a call that has ended in a life is the map's reply
   pub reply_of : {D : Type 0} (telling : Telling) (number moves : ℕ) (op : Op) (bytes : List ℕ) (o : Opened) (first : Now) (life : List Event) (before after : PlayerState D) (text : List ℕ)
       → IsQuietLife bytes o first life before.world.now → NobodyCalls before.world.now → OpFits op → HasFewCalls (Calls number (call.Op op) ∷ life)
@@ -153,9 +153,9 @@ module _ (legal : InEachLife HasLegalHistory) (ordered : InEachLife OrdersItsCal
       let there = was_there opening life number moves (call.Op op) answered.s is_now in
       let result = result_told opening life number moves op there.s answered.s answered.its (world_opens o first bytes quiet.opening) alive there.found (here number there.s there.found) is_now answered.at_rest in
       let by_map = whole bytes o first life number moves op there.s answered.s answered.its quiet.opening
-      (legal bytes o first all quiet.store quiet.opening no_commit all_fit small)
-      (ordered bytes o first all quiet.store quiet.opening no_commit all_fit small)
-      (fresh bytes o first all quiet.store quiet.opening no_commit all_fit small)
+      (legal bytes o first all quiet.store quiet.opening all_fit small no_commit)
+      (ordered bytes o first all quiet.store quiet.opening all_fit small no_commit)
+      (fresh bytes o first all quiet.store quiet.opening all_fit small no_commit)
       here alive there.found is_now answered.at_rest in
       record {
         answer = answered.answer;

@@ -1,4 +1,4 @@
--- What the lines of calls and of updates owe, event by event.
+-- That the lines of calls and of updates are enabled, event by event.
 use Rattle.std.proofs.Common.{◌≡◌, ℕ, ◌+◌, ◌<◌, ◌≤◌, ◌∙◌, List, [], ◌∷◌, ◌++◌, length, refl, arith, ap, sym, subst, Bool, true, false, inl, inr, ◌⊎◌, append_assoc}
 use Rattle.std.specs.Prelude.{Option, Some, None, map, ◌==◌, ◌&&◌, if◌then◌else◌, ⊤}
 use Rattle.std.proofs.lemmas.Bool.Decides.{nat_tests}
@@ -35,16 +35,16 @@ use Rattle.law_world.proofs.OfSessions.OwnRun.{of_run, opened_so, to_run}
 use Rattle.law_world.proofs.OfRuns.Added.{trace_so}
 use Rattle.law_refine.specs.Events.GhostEvents.{serials_in}
 use Rattle.law_refine.specs.Events.Lines.{CallMade, last_call, next_serial, call_lines, finished_line, finished_lines, refused_call, refused_lines, answer_lines, event_lines, lines_of, lines_added}
-use Rattle.law_refine.specs.Calls.Calls.{effects_in_log, effects_of_life, lines_of_life, event_adds, OwesCall, EachOwes}
+use Rattle.law_refine.specs.Calls.Calls.{effects_in_log, effects_of_life, lines_of_life, event_adds, IsCallEnabled, EachIsEnabled}
 use Rattle.law_refine.proofs.OfCalls.Called.{ledger_of, same_number, with_called, with_answered, IsRefusal}
 use Rattle.law_refine.proofs.OfCalls.InHand.{WasOpened, was_opened, none_counted}
 use Rattle.law_refine.proofs.OfCalls.Life.{told_split, told_so, next_at, life_stood, idle_calm}
 use Rattle.law_refine.proofs.OfCalls.Telling.{is_of_keeper, AreOfKeeper, Part, Starts, GoesOn, TellsSo, Keepers, Sessions, tells_so}
 
 -- ---- lists
-pub each_both : (Owes : List TraceLine → TraceLine → Type 0) (lines later before : List TraceLine) → EachOwes Owes (before ++ lines) later → EachOwes Owes lines before → EachOwes Owes lines (later ++ before)
-each_both Owes lines [] before ones others = others
-each_both Owes lines (line ∷ later) before ones others = (subst (λ (x : List TraceLine). Owes x line) (sym (append_assoc later before lines)) ones.0, each_both Owes lines later before ones.1 others)
+pub each_both : (IsEnabled : List TraceLine → TraceLine → Type 0) (lines later before : List TraceLine) → EachIsEnabled IsEnabled (before ++ lines) later → EachIsEnabled IsEnabled lines before → EachIsEnabled IsEnabled lines (later ++ before)
+each_both IsEnabled lines [] before ones others = others
+each_both IsEnabled lines (line ∷ later) before ones others = (subst (λ (x : List TraceLine). IsEnabled x line) (sym (append_assoc later before lines)) ones.0, each_both IsEnabled lines later before ones.1 others)
 
 pub split_lines : (first : ℕ → ℕ) (added before : List Traced) → lines_of first (added ++ before) ≡ lines_added first before added ++ lines_of first before
 unfolding lines_of lines_added
@@ -53,24 +53,24 @@ split_lines first (it ∷ earlier) before =
     ap (λ (x : List TraceLine). event_lines first (earlier ++ before) it.its ++ x) (split_lines first earlier before)
     ∙ sym (append_assoc (event_lines first (earlier ++ before) it.its) (lines_added first before earlier) (lines_of first before))
 
--- each of what is told owes its lines
-abbrev pub EventsOwe : (List TraceLine → TraceLine → Type 0) → (ℕ → ℕ) → List Traced → List Traced → Type 0
-EventsOwe Owes first before [] = ⊤
-EventsOwe Owes first before (it ∷ earlier) = EachOwes Owes (lines_of first (earlier ++ before)) (event_lines first (earlier ++ before) it.its) × EventsOwe Owes first before earlier
+-- the lines of each event that is told are enabled
+abbrev pub EventsAreEnabled : (List TraceLine → TraceLine → Type 0) → (ℕ → ℕ) → List Traced → List Traced → Type 0
+EventsAreEnabled IsEnabled first before [] = ⊤
+EventsAreEnabled IsEnabled first before (it ∷ earlier) = EachIsEnabled IsEnabled (lines_of first (earlier ++ before)) (event_lines first (earlier ++ before) it.its) × EventsAreEnabled IsEnabled first before earlier
 
-pub events_owe : (Owes : List TraceLine → TraceLine → Type 0) (first : ℕ → ℕ) (before added : List Traced) → EventsOwe Owes first before added → EachOwes Owes (lines_of first before) (lines_added first before added)
+pub events_are_enabled : (IsEnabled : List TraceLine → TraceLine → Type 0) (first : ℕ → ℕ) (before added : List Traced) → EventsAreEnabled IsEnabled first before added → EachIsEnabled IsEnabled (lines_of first before) (lines_added first before added)
 unfolding lines_added
-events_owe Owes first before [] all = tt
-events_owe Owes first before (it ∷ earlier) all =
-    each_both Owes (lines_of first before) (event_lines first (earlier ++ before) it.its) (lines_added first before earlier)
-    (subst (λ (x : List TraceLine). EachOwes Owes x (event_lines first (earlier ++ before) it.its)) (split_lines first earlier before) all.0)
-    (events_owe Owes first before earlier all.1)
+events_are_enabled IsEnabled first before [] all = tt
+events_are_enabled IsEnabled first before (it ∷ earlier) all =
+    each_both IsEnabled (lines_of first before) (event_lines first (earlier ++ before) it.its) (lines_added first before earlier)
+    (subst (λ (x : List TraceLine). EachIsEnabled IsEnabled x (event_lines first (earlier ++ before) it.its)) (split_lines first earlier before) all.0)
+    (events_are_enabled IsEnabled first before earlier all.1)
 
-pub keepers_owe : (Owes : List TraceLine → TraceLine → Type 0) (first : ℕ → ℕ) (before : List Traced) (effects : ℕ) (told : List TraceEvent) → AreOfKeeper told → EventsOwe Owes first before (told_at effects told)
-keepers_owe Owes first before effects [] all = tt
-keepers_owe Owes first before effects (it ∷ earlier) all = (by_event it all.0, keepers_owe Owes first before effects earlier all.1)
+pub keepers_are_enabled : (IsEnabled : List TraceLine → TraceLine → Type 0) (first : ℕ → ℕ) (before : List Traced) (effects : ℕ) (told : List TraceEvent) → AreOfKeeper told → EventsAreEnabled IsEnabled first before (told_at effects told)
+keepers_are_enabled IsEnabled first before effects [] all = tt
+keepers_are_enabled IsEnabled first before effects (it ∷ earlier) all = (by_event it all.0, keepers_are_enabled IsEnabled first before effects earlier all.1)
   where
-    by_event : (event : TraceEvent) → is_of_keeper event → EachOwes Owes (lines_of first (told_at effects earlier ++ before)) (event_lines first (told_at effects earlier ++ before) event)
+    by_event : (event : TraceEvent) → is_of_keeper event → EachIsEnabled IsEnabled (lines_of first (told_at effects earlier ++ before)) (event_lines first (told_at effects earlier ++ before) event)
     by_event (Called session its) its_own = absurd its_own
     by_event (Answered session its) its_own = absurd its_own
     by_event event its_own = tt
@@ -139,11 +139,11 @@ called_below key reader first (it ∷ before) is_in = elim (in_either (CallsRead
 ]
 
 -- ---- a call
-call_owes : (effects : List log.Effect) (first : ℕ → ℕ) (number : ℕ) (trace : List Traced) (made : Call) → called_as (lines_of first trace) number (next_serial first number trace) ≡ None
-    → EachOwes (OwesCall effects) (lines_of first trace) (call_lines first trace number made)
-call_owes effects first number trace (call.Op (op.Read key)) none = (λ other is_in. (let low = called_below other (length trace) first trace is_in in omega (arith, low)), tt)
-call_owes effects first number trace (call.Op o) none = (none, tt)
-call_owes effects first number trace made none = tt
+call_is_enabled : (effects : List log.Effect) (first : ℕ → ℕ) (number : ℕ) (trace : List Traced) (made : Call) → called_as (lines_of first trace) number (next_serial first number trace) ≡ None
+    → EachIsEnabled (IsCallEnabled effects) (lines_of first trace) (call_lines first trace number made)
+call_is_enabled effects first number trace (call.Op (op.Read key)) none = (λ other is_in. (let low = called_below other (length trace) first trace is_in in omega (arith, low)), tt)
+call_is_enabled effects first number trace (call.Op o) none = (none, tt)
+call_is_enabled effects first number trace made none = tt
 
 -- ---- an answer
 -- an update that this answer tells as done
@@ -151,34 +151,34 @@ abbrev pub IsToldDone : Serial → Reply → List UpdateDone → Type 0
 IsToldDone serial its [] = ⊥
 IsToldDone serial its (done ∷ rest) = ((done.serial ≡ serial) × (done.reply ≡ its)) ⊎ IsToldDone serial its rest
 
-polled_owes : (effects : List log.Effect) (number : ℕ) (lines : List TraceLine) (trace : List Traced) (list : List Finished) → ((serial : Serial) (its : Reply) → IsToldDone serial its (done_by_poll list) → HasReply effects number serial.0 its)
-    → EachOwes (OwesCall effects) lines (finished_lines number trace list)
-polled_owes effects number lines trace [] has = tt
-polled_owes effects number lines trace (finished.Update serial its ∷ rest) has =
-    each_both (OwesCall effects) lines (finished_lines number trace rest) (GivesResult number serial.0 its ∷ [])
-    (polled_owes effects number (GivesResult number serial.0 its ∷ lines) trace rest (λ s r is_told. has s r (inr is_told))) (has serial its (inl (refl, refl)), tt)
-polled_owes effects number lines trace (finished.Read ticket value ∷ rest) has =
-    each_both (OwesCall effects) lines (finished_lines number trace rest) (finished_line number trace (finished.Read ticket value) ∷ [])
-    (polled_owes effects number (finished_line number trace (finished.Read ticket value) ∷ lines) trace rest has) (tt, tt)
+polled_is_enabled : (effects : List log.Effect) (number : ℕ) (lines : List TraceLine) (trace : List Traced) (list : List Finished) → ((serial : Serial) (its : Reply) → IsToldDone serial its (done_by_poll list) → HasReply effects number serial.0 its)
+    → EachIsEnabled (IsCallEnabled effects) lines (finished_lines number trace list)
+polled_is_enabled effects number lines trace [] has = tt
+polled_is_enabled effects number lines trace (finished.Update serial its ∷ rest) has =
+    each_both (IsCallEnabled effects) lines (finished_lines number trace rest) (GivesResult number serial.0 its ∷ [])
+    (polled_is_enabled effects number (GivesResult number serial.0 its ∷ lines) trace rest (λ s r is_told. has s r (inr is_told))) (has serial its (inl (refl, refl)), tt)
+polled_is_enabled effects number lines trace (finished.Read ticket value ∷ rest) has =
+    each_both (IsCallEnabled effects) lines (finished_lines number trace rest) (finished_line number trace (finished.Read ticket value) ∷ [])
+    (polled_is_enabled effects number (finished_line number trace (finished.Read ticket value) ∷ lines) trace rest has) (tt, tt)
 
-refused_owes : (effects : List log.Effect) (number serial : ℕ) (lines : List TraceLine) (made : Option CallMade) → (HasUpdate effects number serial → ⊥) → EachOwes (OwesCall effects) lines (refused_lines number serial made)
-refused_owes effects number serial lines None none = tt
-refused_owes effects number serial lines (Some made) none = by_call made.call
+refused_is_enabled : (effects : List log.Effect) (number serial : ℕ) (lines : List TraceLine) (made : Option CallMade) → (HasUpdate effects number serial → ⊥) → EachIsEnabled (IsCallEnabled effects) lines (refused_lines number serial made)
+refused_is_enabled effects number serial lines None none = tt
+refused_is_enabled effects number serial lines (Some made) none = by_call made.call
   where
-    by_call : (its : Call) → EachOwes (OwesCall effects) lines (refused_call number serial its)
+    by_call : (its : Call) → EachIsEnabled (IsCallEnabled effects) lines (refused_call number serial its)
     by_call (call.Op (op.Read key)) = tt
     by_call (call.Op o) = (none, tt)
     by_call its = tt
 
-answer_owes : (effects : List log.Effect) (first : ℕ → ℕ) (number : ℕ) (trace : List Traced) (its : Told) (list : List Finished)
+answer_is_enabled : (effects : List log.Effect) (first : ℕ → ℕ) (number : ℕ) (trace : List Traced) (its : Told) (list : List Finished)
     → ((serial : Serial) (r : Reply) → IsToldDone serial r (with_done its (done_by_poll list)) → HasReply effects number serial.0 r) → (IsRefusal its → HasUpdate effects number (next_serial first number trace) → ⊥)
-    → EachOwes (OwesCall effects) (lines_of first trace) (answer_lines first trace number its list)
-answer_owes effects first number trace (told.Done serial r) list has none = (has serial r (inl (refl, refl)), tt)
-answer_owes effects first number trace (told.Found value) list has none = (tt, tt)
-answer_owes effects first number trace told.Absent list has none = (tt, tt)
-answer_owes effects first number trace (told.Polled left) list has none = polled_owes effects number (lines_of first trace) trace list has
-answer_owes effects first number trace (told.Refused why) list has none = refused_owes effects number (next_serial first number trace) (lines_of first trace) (last_call number trace) (none tt)
-answer_owes effects first number trace its list has none = tt
+    → EachIsEnabled (IsCallEnabled effects) (lines_of first trace) (answer_lines first trace number its list)
+answer_is_enabled effects first number trace (told.Done serial r) list has none = (has serial r (inl (refl, refl)), tt)
+answer_is_enabled effects first number trace (told.Found value) list has none = (tt, tt)
+answer_is_enabled effects first number trace told.Absent list has none = (tt, tt)
+answer_is_enabled effects first number trace (told.Polled left) list has none = polled_is_enabled effects number (lines_of first trace) trace list has
+answer_is_enabled effects first number trace (told.Refused why) list has none = refused_is_enabled effects number (next_serial first number trace) (lines_of first trace) (last_call number trace) (none tt)
+answer_is_enabled effects first number trace its list has none = tt
 
 -- ---- what is told as done has taken effect with that reply
 same_reply : Reply → Reply → Bool
@@ -311,36 +311,36 @@ refusal_next : (first : ℕ → ℕ) (number effects : ℕ) (its : Told) (list :
 refusal_next first number effects (told.Refused why) list trace refusal = rw (same_number number) refl
 refusal_next first number effects its list trace refusal = absurd refusal
 
-ended_owes : (opening : World) (events : List Event) (number : ℕ) (first its : SessionState) (effects : ℕ) (trace : List Traced) (step : Sitting) → its.step ≡ step → HasBecome opening events number first its
+ended_is_enabled : (opening : World) (events : List Event) (number : ℕ) (first its : SessionState) (effects : ℕ) (trace : List Traced) (step : Sitting) → its.step ≡ step → HasBecome opening events number first its
     → (run opening events).past.trace ≡ told_at effects (call_answered number true step its.finished) ++ trace
-    → EventsOwe (OwesCall (effects_of_life opening events)) (serials_in opening.now) trace (told_at effects (call_answered number true step its.finished))
-ended_owes opening events number first its effects trace (Idle answer) at became traced =
+    → EventsAreEnabled (IsCallEnabled (effects_of_life opening events)) (serials_in opening.now) trace (told_at effects (call_answered number true step its.finished))
+ended_is_enabled opening events number first its effects trace (Idle answer) at became traced =
     let idle : is_busy its.step ≡ false = ap is_busy at in (
-      answer_owes (effects_of_life opening events) (serials_in opening.now) number trace answer (with_finished answer its.finished)
+      answer_is_enabled (effects_of_life opening events) (serials_in opening.now) number trace answer (with_finished answer its.finished)
           (has_reply opening events number first its answer (with_finished answer its.finished) effects trace became idle traced)
           (λ refusal has. none_next opening events number first its became idle
           (subst (HasUpdate (effects_of_life opening events) number)
           (sym (refusal_next (serials_in opening.now) number effects answer (with_finished answer its.finished) trace refusal) ∙ (ap (next_serial (serials_in opening.now) number) (sym traced) ∙ next_at opening events number first its became idle)) has)),
       tt,
     )
-ended_owes opening events number first its effects trace step at became traced = tt
+ended_is_enabled opening events number first its effects trace step at became traced = tt
 
-pub events_both : (Owes : List TraceLine → TraceLine → Type 0) (first : ℕ → ℕ) (trace : List Traced) (effects : ℕ) (later before : List TraceEvent) → EventsOwe Owes first (told_at effects before ++ trace) (told_at effects later)
-    → EventsOwe Owes first trace (told_at effects before) → EventsOwe Owes first trace (told_at effects (later ++ before))
-events_both Owes first trace effects [] before ones others = others
-events_both Owes first trace effects (it ∷ later) before ones others =
-    (subst (λ (x : List Traced). EachOwes Owes (lines_of first x) (event_lines first x it)) (sym (told_split effects later before trace)) ones.0, events_both Owes first trace effects later before ones.1 others)
+pub events_both : (IsEnabled : List TraceLine → TraceLine → Type 0) (first : ℕ → ℕ) (trace : List Traced) (effects : ℕ) (later before : List TraceEvent) → EventsAreEnabled IsEnabled first (told_at effects before ++ trace) (told_at effects later)
+    → EventsAreEnabled IsEnabled first trace (told_at effects before) → EventsAreEnabled IsEnabled first trace (told_at effects (later ++ before))
+events_both IsEnabled first trace effects [] before ones others = others
+events_both IsEnabled first trace effects (it ∷ later) before ones others =
+    (subst (λ (x : List Traced). EachIsEnabled IsEnabled (lines_of first x) (event_lines first x it)) (sym (told_split effects later before trace)) ones.0, events_both IsEnabled first trace effects later before ones.1 others)
 
-part_owes : (opening : World) (before : List Event) (event : Event) (number : ℕ) (first s its : SessionState) → HasBecome opening before number first s → HasBecome opening (event ∷ before) number first its
+part_is_enabled : (opening : World) (before : List Event) (event : Event) (number : ℕ) (first s its : SessionState) → HasBecome opening before number first s → HasBecome opening (event ∷ before) number first its
     → Part (seat_at (run opening before).now number) number s its (told_by (run opening before).now (happens (run opening before) event).now event)
-    → EventsOwe (OwesCall (effects_of_life opening (event ∷ before))) (serials_in opening.now) (run opening before).past.trace (told_at (length (happens (run opening before) event).past.history) (told_by (run opening before).now (happens (run opening before) event).now event))
+    → EventsAreEnabled (IsCallEnabled (effects_of_life opening (event ∷ before))) (serials_in opening.now) (run opening before).past.trace (told_at (length (happens (run opening before) event).past.history) (told_by (run opening before).now (happens (run opening before) event).now event))
 unfolding run
-part_owes opening before event number first s its had became (Starts made idle begins is_told) =
-    subst (λ (x : List TraceEvent). EventsOwe (OwesCall (effects_of_life opening (event ∷ before))) (serials_in opening.now) w.past.trace (told_at effects x)) (sym is_told)
-    (events_both (OwesCall (effects_of_life opening (event ∷ before))) (serials_in opening.now) w.past.trace effects (call_answered number true its.step its.finished) (Called number made ∷ [])
-    (ended_owes opening (event ∷ before) number first its effects (with_called effects number made w.past.trace) its.step refl became
+part_is_enabled opening before event number first s its had became (Starts made idle begins is_told) =
+    subst (λ (x : List TraceEvent). EventsAreEnabled (IsCallEnabled (effects_of_life opening (event ∷ before))) (serials_in opening.now) w.past.trace (told_at effects x)) (sym is_told)
+    (events_both (IsCallEnabled (effects_of_life opening (event ∷ before))) (serials_in opening.now) w.past.trace effects (call_answered number true its.step its.finished) (Called number made ∷ [])
+    (ended_is_enabled opening (event ∷ before) number first its effects (with_called effects number made w.past.trace) its.step refl became
     (trace_so w event ∙ (ap (λ (x : List TraceEvent). told_at effects x ++ w.past.trace) is_told ∙ told_split effects (call_answered number true its.step its.finished) (Called number made ∷ []) w.past.trace))) (
-      call_owes (effects_of_life opening (event ∷ before)) (serials_in opening.now) number w.past.trace made
+      call_is_enabled (effects_of_life opening (event ∷ before)) (serials_in opening.now) number w.past.trace made
           (ap (called_as (lines_of_life opening before) number) (next_at opening before number first s had idle) ∙ (idle_calm (ledger_of (serials_in opening.now) number w.past.trace) s s.step idle (life_stood opening before number first s had)).none),
       tt,
     ))
@@ -350,9 +350,9 @@ part_owes opening before event number first s its had became (Starts made idle b
 
     effects : ℕ
     effects = length (happens w event).past.history
-part_owes opening before event number first s its had became (GoesOn events busy all goes is_told) =
-    subst (λ (x : List TraceEvent). EventsOwe (OwesCall (effects_of_life opening (event ∷ before))) (serials_in opening.now) w.past.trace (told_at effects x)) (sym is_told)
-    (ended_owes opening (event ∷ before) number first its effects w.past.trace its.step refl became (trace_so w event ∙ ap (λ (x : List TraceEvent). told_at effects x ++ w.past.trace) is_told))
+part_is_enabled opening before event number first s its had became (GoesOn events busy all goes is_told) =
+    subst (λ (x : List TraceEvent). EventsAreEnabled (IsCallEnabled (effects_of_life opening (event ∷ before))) (serials_in opening.now) w.past.trace (told_at effects x)) (sym is_told)
+    (ended_is_enabled opening (event ∷ before) number first its effects w.past.trace its.step refl became (trace_so w event ∙ ap (λ (x : List TraceEvent). told_at effects x ++ w.past.trace) is_told))
   where
     w : World
     w = run opening before
@@ -360,13 +360,13 @@ part_owes opening before event number first s its had became (GoesOn events busy
     effects : ℕ
     effects = length (happens w event).past.history
 
-tells_owe : (opening : World) (before : List Event) (event : Event) → IsOpenedWorld opening → TellsSo (run opening before) event
-    → EventsOwe (OwesCall (effects_of_life opening (event ∷ before))) (serials_in opening.now) (run opening before).past.trace (told_at (length (happens (run opening before) event).past.history) (told_by (run opening before).now (happens (run opening before) event).now event))
+tells_are_enabled : (opening : World) (before : List Event) (event : Event) → IsOpenedWorld opening → TellsSo (run opening before) event
+    → EventsAreEnabled (IsCallEnabled (effects_of_life opening (event ∷ before))) (serials_in opening.now) (run opening before).past.trace (told_at (length (happens (run opening before) event).past.history) (told_by (run opening before).now (happens (run opening before) event).now event))
 unfolding run
-tells_owe opening before event opened (Keepers quiet stay) = keepers_owe (OwesCall (effects_of_life opening (event ∷ before))) (serials_in opening.now) (run opening before).past.trace (length (happens (run opening before) event).past.history) (told_by (run opening before).now (happens (run opening before) event).now event) quiet
-tells_owe opening before event opened (Sessions at s its found is_now others part) =
+tells_are_enabled opening before event opened (Keepers quiet stay) = keepers_are_enabled (IsCallEnabled (effects_of_life opening (event ∷ before))) (serials_in opening.now) (run opening before).past.trace (length (happens (run opening before) event).past.history) (told_by (run opening before).now (happens (run opening before) event).now event) quiet
+tells_are_enabled opening before event opened (Sessions at s its found is_now others part) =
     let was : WasOpened opening before at s = was_opened opening before at s opened found in
-    part_owes opening before event at was.first s its was.became (record { opened = opened; was = was.became.was; is_now = is_now }) part
+    part_is_enabled opening before event at was.first s its was.became (record { opened = opened; was = was.became.was; is_now = is_now }) part
 
-pub event_owes : (opening : World) (before : List Event) (event : Event) → IsOpenedWorld opening → EachOwes (OwesCall (effects_of_life opening (event ∷ before))) (lines_of_life opening before) (event_adds opening before event)
-event_owes opening before event opened = events_owe (OwesCall (effects_of_life opening (event ∷ before))) (serials_in opening.now) (run opening before).past.trace (told_at (length (happens (run opening before) event).past.history) (told_by (run opening before).now (happens (run opening before) event).now event)) (tells_owe opening before event opened (tells_so (run opening before) event))
+pub event_is_enabled : (opening : World) (before : List Event) (event : Event) → IsOpenedWorld opening → EachIsEnabled (IsCallEnabled (effects_of_life opening (event ∷ before))) (lines_of_life opening before) (event_adds opening before event)
+event_is_enabled opening before event opened = events_are_enabled (IsCallEnabled (effects_of_life opening (event ∷ before))) (serials_in opening.now) (run opening before).past.trace (told_at (length (happens (run opening before) event).past.history) (told_by (run opening before).now (happens (run opening before) event).now event)) (tells_are_enabled opening before event opened (tells_so (run opening before) event))

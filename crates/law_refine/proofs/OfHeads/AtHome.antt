@@ -34,7 +34,7 @@ use Rattle.law_world.proofs.OfRuns.Nothing.{none_ever}
 use Rattle.law_parts.specs.Index.Finders.{NoWork, KeepsSlot, slot_kept, kept_work, walk_work, append_work, try_work, attempt_part, sitting_part}
 use Rattle.law_parts.specs.Index.Shows.{IsOpened}
 use Rattle.law_parts.proofs.OfIndex.SessionParts.{SittingKnows}
-use Rattle.law_parts.proofs.OfIndex.Fair.{are_fair}
+use Rattle.law_parts.proofs.OfIndex.Permitted.{are_permitted}
 use Rattle.law_parts.proofs.OfIndex.Worlds.{opening_holds, run_holds}
 use Rattle.law_refine.specs.Heads.Searches.{TriesFor, AttemptsFor, IsWorkAt, IsAtHome, AreAtHome}
 
@@ -123,7 +123,7 @@ ran_shares k its first events s opened same = subst (λ (x : SessionState). Step
 
 pub life_at_home : (opening : World) (lists : ℕ → List ℕ) (events : List Event) → IsOpened opening lists → AreAtHome (run opening events).now
 life_at_home opening lists events opened number s got =
-    let holds = (run_holds opening events (replicate (length opening.now.sessions) rested_actor) (are_fair opening lists events opened) (opening_holds opening lists opened)).holds in
+    let holds = (run_holds opening events (replicate (length opening.now.sessions) rested_actor) (are_permitted opening lists events opened) (opening_holds opening lists opened)).holds in
     let knows : SittingKnows (run opening events).now.places s s.step = (holds.seats number s got).knows in
     let its = has_run opening events number s (slice_get opening.now.sessions number) refl got in
     let k : Seat = seat_at opening.now number in

@@ -33,7 +33,7 @@ use Rattle.law_parts.specs.Index.Finders.{Search, KeptSlot, SessionWork, NoWork,
 use Rattle.law_parts.specs.Index.LifeEntries.{lists_seen, AskForThese, entry_won, won_there}
 use Rattle.law_parts.specs.Index.Shows as index
 use Rattle.law_parts.specs.Index.Shows.{IsWork, Shows, seen_by_index}
-use Rattle.law_parts.proofs.OfIndex.Fair.{are_fair}
+use Rattle.law_parts.proofs.OfIndex.Permitted.{are_permitted}
 use Rattle.law_parts.proofs.OfIndex.LifeFacts.{answers_shown, life_asks, life_sound}
 use Rattle.law_parts.proofs.OfIndex.LifeMoves.{life_moves}
 use Rattle.law_parts.proofs.OfIndex.Worlds.{life_shows}
@@ -141,9 +141,9 @@ life_publishing : (opening : World) (start : ℕ) (lists : ℕ → List ℕ) (gh
 unfolding won_entry
 life_publishing opening start lists ghosts before number s slot addr opened in_order none free got is stands published =
     let n : Now = (run opening before).now in
-    let fair = are_fair opening lists before in_order in
-    let enters = entering n (seen_by_index opening lists before) number s slot addr (life_sound opening lists before in_order) (life_shows opening lists before in_order fair) got is in
-    let replied = publish_replied n number s (life_asks opening lists before in_order fair number s got) slot addr is in
+    let permitted = are_permitted opening lists before in_order in
+    let enters = entering n (seen_by_index opening lists before) number s slot addr (life_sound opening lists before in_order) (life_shows opening lists before in_order permitted) got is in
+    let replied = publish_replied n number s (life_asks opening lists before in_order permitted number s got) slot addr is in
     let its = published.its in
     let reserved = life_reserved opening start ghosts before opened none free number its (record { state = s; found = got; reserved = published.publishes.reserved }) in
     let op : its.entry.op ≡ s.attempt.pending.request.op = reserved_op number s s.step its published.publishes.reserved in
@@ -230,7 +230,7 @@ pub life_stepped : (opening : World) (start : ℕ) (lists : ℕ → List ℕ) (g
 life_stepped opening start lists ghosts [] opened in_order none free leads = opening_stepped opening lists ghosts leads
 life_stepped opening start lists ghosts (event ∷ before) opened in_order none free leads =
     let s = life_stepped opening start lists ghosts before opened in_order none free leads in
-    let asks = life_asks opening lists before in_order (are_fair opening lists before in_order) in
+    let asks = life_asks opening lists before in_order (are_permitted opening lists before in_order) in
     more_stepped opening lists ghosts before event s
     (event_stepped opening start lists ghosts before event opened in_order none free s.leads (event_won (serials_in opening.now) (run opening before) (lists_seen opening lists before) event asks))
 
@@ -280,8 +280,8 @@ pub life_found : (opening : World) (start : ℕ) (lists : ℕ → List ℕ) (gho
 life_found opening start lists ghosts events opened in_order none free leads number s its got searches =
     let n : Now = (run opening events).now in
     let seen : ℕ → List ℕ = lists_seen opening lists events in
-    let fair = are_fair opening lists events in_order in
-    let answered = answers_shown n (seen_by_index opening lists events) (life_sound opening lists events in_order) (life_shows opening lists events in_order fair) number s its got searches in
+    let permitted = are_permitted opening lists events in_order in
+    let answered = answers_shown n (seen_by_index opening lists events) (life_sound opening lists events in_order) (life_shows opening lists events in_order permitted) number s its got searches in
     let log : Log = (life_ghosts opening ghosts events).log in
     let work : (session_part s).work ≡ Searches its = searches_then (session_part s).work its searches in
     let home : its.finding.home ≡ home_attempted n s = subst (λ (x : SessionWork). IsWorkAt (home_attempted n s) x) work (life_at_home opening lists events in_order number s got).work in
@@ -290,7 +290,7 @@ life_found opening start lists ghosts events opened in_order none free leads num
     let found : IsHeadAnswered (head_at log its.finding.home) (find_next_ask n.places its.finding (reply_to n.words (find_ask its.finding))) =
     answered_head (entry_at n.places n.words seen its.finding.home) (head_at log its.finding.home) (find_next_ask n.places its.finding (reply_to n.words (find_ask its.finding)))
     (head_addr n seen log its.finding.home (life_leads opening start lists ghosts events opened in_order none free leads) there) answered.its_entry in
-    let asks : session_ask (seat_at n number) s ≡ passed (find_ask its.finding) Slept = (life_asks opening lists events in_order fair number s got).searches its work in
+    let asks : session_ask (seat_at n number) s ≡ passed (find_ask its.finding) Slept = (life_asks opening lists events in_order permitted number s got).searches its work in
     let reply : reply_to n.words (find_ask its.finding) ≡ reply_to n.words (session_ask (seat_at n number) s) = sym (passed_reply n.words (find_ask its.finding) Slept) ∙ sym (ap (reply_to n.words) asks) in
     record {
       found = found;

@@ -7,8 +7,8 @@ use Rattle.law_log.specs.Ghosts.{Ghosts}
 use Rattle.fkv_session.specs.Sessions.{SessionState}
 use Rattle.fkv_world.specs.Runs.{World, run}
 use Rattle.fkv_world.specs.World.{Event, Moves}
-use Rattle.law_guard.specs.Guarded.Shows.{IsOpened, SessionIsBelowTail, ChangesBelowTail, AreBelowTail, AreFair}
-use Rattle.law_guard.proofs.OfGuarded.BelowTail.{below_fair}
+use Rattle.law_guard.specs.Guarded.Shows.{IsOpened, SessionIsBelowTail, ChangesBelowTail, AreBelowTail, ArePermitted}
+use Rattle.law_guard.proofs.OfGuarded.BelowTail.{below_permitted}
 use Rattle.law_refine.specs.Events.GhostEvents.{life_ghosts}
 use Rattle.law_refine.specs.Events.Reserved.{tail_at, IsUnbornFrom}
 use Rattle.law_refine.specs.Events.Published.{IsPublished}
@@ -36,5 +36,5 @@ pub life_below : (opening : World) (start : ℕ) (ghosts : Ghosts) (events : Lis
 life_below opening start ghosts [] opened none its = tt
 life_below opening start ghosts (event ∷ before) opened none its = (event_below opening start ghosts before event opened none its.0, life_below opening start ghosts before opened none its.1)
 
-pub published_fair : (opening : World) (start : ℕ) (ghosts : Ghosts) (events : List Event) → IsOpened opening.now start → IsUnbornFrom (tail_at opening.now) ghosts → AreChangesPublished opening ghosts events → AreFair opening events
-published_fair opening start ghosts events opened none its = below_fair opening start events opened (life_below opening start ghosts events opened none its)
+pub published_permitted : (opening : World) (start : ℕ) (ghosts : Ghosts) (events : List Event) → IsOpened opening.now start → IsUnbornFrom (tail_at opening.now) ghosts → AreChangesPublished opening ghosts events → ArePermitted opening events
+published_permitted opening start ghosts events opened none its = below_permitted opening start events opened (life_below opening start ghosts events opened none its)

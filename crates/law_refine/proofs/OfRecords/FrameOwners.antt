@@ -34,7 +34,7 @@ use Rattle.fkv_session.specs.Sessions.{SessionState}
 use Rattle.law_guard.specs.Sessions.Attempts.{attempt_likeness_at}
 use Rattle.law_guard.specs.Sessions.Followed.{Sits}
 use Rattle.law_guard.specs.Sessions.Likenesses.{last_seen}
-use Rattle.law_guard.specs.Sessions.Owing.{try_changes, attempt_changes, sitting_changes, changed_in_place, SessionOwes}
+use Rattle.law_guard.specs.Sessions.InPlace.{try_changes, attempt_changes, sitting_changes, changed_in_place, SessionMayChange}
 use Rattle.law_guard.specs.Sessions.Sessions.{sitting_likeness, is_protected_at}
 use Rattle.law_guard.specs.Sessions.Tries.{try_likeness_at}
 use Rattle.fkv_world.specs.Runs.{World, run}
@@ -178,13 +178,13 @@ changes_attempts s step a e = cc
 
 -- ---- so the record has its frame
 pub owner_frame : (opening : World) (start : ℕ) (before : List Event) (number : ℕ) (s : SessionState) (f : FrameWord) → IsOpened opening.now start → slice_get (run opening before).now.sessions number ≡ Some s
-    → SessionOwes (run opening before).now.words s → IsOwner (changed_in_place s) (reserved_by number s) f → HasFrame (run opening before).now f.addr
-owner_frame opening start before number s f opened found owes (ByChange changes word) =
-    let may = owes f.addr changes in
+    → SessionMayChange (run opening before).now.words s → IsOwner (changed_in_place s) (reserved_by number s) f → HasFrame (run opening before).now f.addr
+owner_frame opening start before number s f opened found may (ByChange changes word) =
+    let may = may f.addr changes in
     let safe = (sees_safely opening start before number s opened found (changes_attempts s s.step f.addr changes)).read_only in
     let above = may.0 in
     record { safe = omega (arith, safe, above); below = may.1 }
-owner_frame opening start before number s f opened found owes (ByReservation its reserved same) =
+owner_frame opening start before number s f opened found may (ByReservation its reserved same) =
     let there = reserved_open opening start before opened number its (record { state = s; found = found; reserved = reserved }) in
     let safe = there.0 in
     let below = there.1 in

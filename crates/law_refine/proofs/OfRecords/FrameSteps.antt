@@ -9,7 +9,7 @@ use Rattle.fkv_plane.specs.declared.places.Places.{Places}
 use Rattle.fkv_plane.specs.Asked.{word_at}
 use Rattle.fkv_plane.specs.Places.{frames_start}
 use Rattle.fkv_flush.specs.GuardCalm.{IsOther}
-use Rattle.fkv_flush.specs.Guarded.{event_writes, IsFairEvent, AreFairEvents}
+use Rattle.fkv_flush.specs.Guarded.{event_writes, IsPermittedEvent, ArePermittedEvents}
 use Rattle.fkv_flush.specs.GuardWorld as guard
 use Rattle.fkv_flush.specs.GuardWorld.{Actor, Work, GuardWorld, GuardEvent, ToDo, Begins, Resumes, Publishes, Updates, RaisesReadOnly, RaisesFor, Changes, guard_happens, guard_run, is_idle, may_update}
 use Rattle.fkv_flush.proofs.Shown.{IsSound, Spares, unwritten}
@@ -32,7 +32,7 @@ use Rattle.fkv_world.specs.World.{Event, Calls, Moves, Commits, Turns, KeeperMov
 use Rattle.law_guard.specs.Guarded.GuardEvents.{called_events, moved_events, keeper_number, life_events, guard_events}
 use Rattle.law_guard.specs.Guarded.Shows.{IsOpened, Shows, seen_by_guard}
 use Rattle.law_guard.proofs.OfGuarded.OneStep.{IsStep}
-use Rattle.law_guard.proofs.OfGuarded.Fair.{are_fair}
+use Rattle.law_guard.proofs.OfGuarded.Permitted.{are_permitted}
 use Rattle.law_guard.proofs.OfGuarded.Worlds.{happens_shows, life_shows}
 use Rattle.law_guard.proofs.OfGuarded.Kept.{is_steps}
 use Rattle.law_guard.proofs.OfGuarded.KeeperSteps.{keeper_steps}
@@ -79,18 +79,18 @@ step_written keeper a w (event ∷ before) place step changes = elim step.0.plac
 record FirstWriter (w : GuardWorld) (a place : ℕ) : Type 0 where
   event : GuardEvent
   own : (b : ℕ) → a ≢ b → IsOther event b
-  fair : IsFairEvent w.now event
+  permitted : IsPermittedEvent w.now event
   its_place : event_writes w.now event ≡ Some place
 
-first_written : (keeper a : ℕ) (w : GuardWorld) (events : List GuardEvent) (place : ℕ) → IsStep keeper a events → AreFairEvents w events → word_at (guard_run w events).now.words place ≢ word_at w.now.words place → FirstWriter w a place
+first_written : (keeper a : ℕ) (w : GuardWorld) (events : List GuardEvent) (place : ℕ) → IsStep keeper a events → ArePermittedEvents w events → word_at (guard_run w events).now.words place ≢ word_at w.now.words place → FirstWriter w a place
 unfolding guard_run
-first_written keeper a w [] place step fair changes = absurd (changes refl)
-first_written keeper a w (event ∷ before) place step fair changes = elim step.0.place [
-  | inl quiet ↦ first_written keeper a w before place step.1 fair.1 (λ e. changes (quiet_same (guard_run w before) event place quiet ∙ e))
+first_written keeper a w [] place step permitted changes = absurd (changes refl)
+first_written keeper a w (event ∷ before) place step permitted changes = elim step.0.place [
+  | inl quiet ↦ first_written keeper a w before place step.1 permitted.1 (λ e. changes (quiet_same (guard_run w before) event place quiet ∙ e))
   | inr first ↦ record {
     event = event;
     own = step.0.own;
-    fair = subst (λ (b : List GuardEvent). IsFairEvent (guard_run w b).now event) first fair.0;
+    permitted = subst (λ (b : List GuardEvent). IsPermittedEvent (guard_run w b).now event) first permitted.0;
     its_place = one_writes w event place (subst (λ (b : List GuardEvent). word_at (guard_happens (guard_run w b) event).now.words place ≢ word_at w.now.words place) first changes);
   }
 ]
@@ -116,20 +116,20 @@ is_session w a addr x may =
     let low : nat_lt a w.now.places.sessions ≡ true = first_of (nat_lt a w.now.places.sessions) (not (own_epoch w.now.words a == 0)) one in
     grind (arith, nat_tests, low)
 
-writer_works : (w : GuardWorld) (a : ℕ) (x : Actor) (place : ℕ) (event : GuardEvent) → IsSound w → slice_get w.now.actors a ≡ Some x → w.now.places.sessions ≤ a → ((b : ℕ) → a ≢ b → IsOther event b) → IsFairEvent w.now event
+writer_works : (w : GuardWorld) (a : ℕ) (x : Actor) (place : ℕ) (event : GuardEvent) → IsSound w → slice_get w.now.actors a ≡ Some x → w.now.places.sessions ≤ a → ((b : ℕ) → a ≢ b → IsOther event b) → IsPermittedEvent w.now event
     → event_writes w.now event ≡ Some place → frames_start w.now.places ≤ place → IsFrameWork x.work
-writer_works w a x place (guard.Moves c) sound got none own fair e high =
+writer_works w a x place (guard.Moves c) sound got none own permitted e high =
     let same : a ≡ c = own_actor a c own in
     frame_work w a x place sound got (subst (λ (b : ℕ). event_writes w.now (guard.Moves b) ≡ Some place) (sym same) e) high
-writer_works w a x place (Updates c addr word) sound got none own fair e high =
+writer_works w a x place (Updates c addr word) sound got none own permitted e high =
     let same : a ≡ c = own_actor a c own in
-    let may : may_update w.now c x addr ≡ true = fair x (subst (λ (b : ℕ). slice_get w.now.actors b ≡ Some x) same got) in
+    let may : may_update w.now c x addr ≡ true = permitted x (subst (λ (b : ℕ). slice_get w.now.actors b ≡ Some x) same got) in
     let low = is_session w c addr x may in
     absurd (omega (arith, low, same, none))
-writer_works w a x place (RaisesReadOnly c to) sound got none own fair e high = let same = some_same 5 place e in absurd (omega (arith, same, high))
-writer_works w a x place (RaisesFor c action) sound got none own fair e high = let same = some_same 0 place e in absurd (omega (arith, same, high))
-writer_works w a x place (Changes c at word) sound got none own fair e high = change_none w at place e high
-writer_works w a x place event sound got none own fair e high = writes_none place e
+writer_works w a x place (RaisesReadOnly c to) sound got none own permitted e high = let same = some_same 5 place e in absurd (omega (arith, same, high))
+writer_works w a x place (RaisesFor c action) sound got none own permitted e high = let same = some_same 0 place e in absurd (omega (arith, same, high))
+writer_works w a x place (Changes c at word) sound got none own permitted e high = change_none w at place e high
+writer_works w a x place event sound got none own permitted e high = writes_none place e
 
 -- what it drives writes no frame
 maintaining_none : (s : MaintainState) (step : Maintaining) → IsNoFrame (maintaining_work s step)
@@ -151,11 +151,11 @@ keeper_none n w read granted done place alive shows high changes =
     let x : Actor = shows.keeper.actor in
     let its = shows.keeper.keeps in
     let events : List GuardEvent = keeper_move_events a n.shape n.places granted done read n.keeper n.words in
-    let fair : AreFairEvents w events = subst (λ (b : Bool). AreFairEvents w (if b then [] else events)) alive (are_fair n w read (KeeperMoves granted done) tt shows) in
-    let f = first_written a a w events place (keeper_steps a n.shape n.places granted done read n.keeper n.words) fair changes in
+    let permitted : ArePermittedEvents w events = subst (λ (b : Bool). ArePermittedEvents w (if b then [] else events)) alive (are_permitted n w read (KeeperMoves granted done) tt shows) in
+    let f = first_written a a w events place (keeper_steps a n.shape n.places granted done read n.keeper n.words) permitted changes in
     let sessions : w.now.places.sessions ≡ a = ap (λ (p : Places). p.sessions) shows.places in
     no_frame (keeping_work n.keeper n.keeper.step) x.work its.fits.work (keeping_none n.keeper n.keeper.step)
-    (writer_works w a x place f.event shows.sound its.got (omega (arith, sessions)) f.own f.fair f.its_place high)
+    (writer_works w a x place f.event shows.sound its.got (omega (arith, sessions)) f.own f.permitted f.its_place high)
 
 -- ---- which step of a session it is
 pub record FrameWriter (n : Now) (event : Event) : Type 0 where

@@ -43,7 +43,7 @@ use Rattle.fkv_pending.specs.Attempting.{AttemptState, attempt_ask, attempt_next
 use Rattle.fkv_session.specs.declared.sessions.Sitting.{Sitting}
 use Rattle.fkv_session.specs.declared.sessions.Sitting.TheVariants.{Attempts, Polls}
 use Rattle.fkv_session.specs.Sessions.{SessionState, Seat, bits_of, room_of, sitting_ask}
-use Rattle.law_guard.specs.Sessions.Owing.{try_changes, attempt_changes, sitting_changes}
+use Rattle.law_guard.specs.Sessions.InPlace.{try_changes, attempt_changes, sitting_changes}
 use Rattle.fkv_world.specs.Past.{Traced}
 use Rattle.law_refine.specs.Events.Appends.{entry_made, is_for_entry, cell_of, reserved_ghosts, publish_ghosts, invalidate_ghosts, append_ghosts}
 use Rattle.law_refine.specs.Events.Effects.{AreQuiet}

@@ -9,7 +9,7 @@ use Rattle.law_refine.specs.Events.GhostEvents.{mapped, life_ghosts}
 use Rattle.law_refine.specs.Events.Reserved.{tail_at, IsUnbornFrom, ReservesNothing}
 use Rattle.law_refine.specs.Records.Cells.{StandsShowLog}
 use Rattle.law_refine.specs.Records.Changes.{AreChangesPublished}
-use Rattle.law_refine.proofs.OfRecords.Below.{published_fair}
+use Rattle.law_refine.proofs.OfRecords.Below.{published_permitted}
 use Rattle.law_refine.proofs.OfRecords.OneEvent.{rows_then, shows_then}
 use Rattle.law_refine.proofs.OfRecords.SessionRows.{opened_so}
 use Rattle.law_refine.proofs.OfRecords.Standing.{stands_in}
@@ -35,8 +35,8 @@ life_holds opening start ghosts [] opened none free published = record {
     opening_shows a cell above e = let tail = opened.words.tail in absurd (none_published (ghosts.log.cells a) cell (none a (omega (arith, above, tail))) e)
 life_holds opening start ghosts (event ∷ before) opened none free published =
     let was = life_holds opening start ghosts before opened none free published.1 in
-    let fair = published_fair opening start ghosts (event ∷ before) opened none published in
+    let permitted = published_permitted opening start ghosts (event ∷ before) opened none published in
     record {
-      rows = rows_then opening start ghosts opened none free before event fair was.rows published.0;
-      shows = shows_then opening start ghosts opened none free before event fair was.rows published.0 was.shows;
+      rows = rows_then opening start ghosts opened none free before event permitted was.rows published.0;
+      shows = shows_then opening start ghosts opened none free before event permitted was.rows published.0 was.shows;
     }

@@ -9,7 +9,7 @@ use Rattle.fkv_plane.specs.declared.asks.Ask.TheVariants.{Put, Take, Done}
 use Rattle.fkv_plane.specs.Asked.{reply_to}
 use Rattle.fkv_session.specs.declared.answers.Told.{Told}
 use Rattle.fkv_session.specs.Sessions.{SessionState, Seat, session_ask}
-use Rattle.law_guard.specs.Sessions.Owing.{changed_in_place}
+use Rattle.law_guard.specs.Sessions.InPlace.{changed_in_place}
 use Rattle.fkv_world.specs.Runs.{World, happens, run}
 use Rattle.fkv_world.specs.World.{Event, Moves, seat_at}
 use Rattle.law_guard.specs.Guarded.Shows.{IsOpened}

@@ -20,14 +20,14 @@ use Rattle.fkv_ops.specs.HeaderWords.{header_said}
 use Rattle.fkv_ops.specs.Values.{value_of, word_of}
 use Rattle.fkv_session.specs.declared.answers.Told.{Told}
 use Rattle.fkv_session.specs.Sessions.{SessionState, Seat, session_ask}
-use Rattle.law_guard.specs.Sessions.Owing.{changed_in_place, SessionOwes}
+use Rattle.law_guard.specs.Sessions.InPlace.{changed_in_place, SessionMayChange}
 use Rattle.fkv_world.specs.Actors.{is_of_session, session_goes}
 use Rattle.fkv_world.specs.Moves.{session_moved}
 use Rattle.fkv_world.specs.Runs.{World, happens, run}
 use Rattle.fkv_world.specs.World.{Event, Calls, Moves, Commits, Turns, KeeperMoves, Crashes, Now, seat_at, near, session_called}
 use Rattle.fkv_world.proofs.Shown.{is_over, session_apart, session_written}
 use Rattle.law_world.proofs.OfRuns.Nothing.{no_session}
-use Rattle.law_guard.specs.Guarded.Shows.{IsOpened, AreFair, IsFair, SessionIsFair}
+use Rattle.law_guard.specs.Guarded.Shows.{IsOpened, ArePermitted, IsPermitted, SessionIsPermitted}
 use Rattle.law_refine.specs.Events.Effects.{AreQuiet, TakesEffect, Quietly, Behind, InPlace, ByRecord, step_of}
 use Rattle.law_refine.specs.Events.GhostEvents.{home_in, moved_ghosts, own_ghosts, safe_at, fixed_ghosts, traced_by, serials_in, ghost_events, mapped, life_ghosts}
 use Rattle.law_refine.specs.Events.Lines.{lines_added}
@@ -109,7 +109,7 @@ same_shows one other cell same shows = record {
 }
 
 module _ (opening : World) (start : ℕ) (ghosts : Ghosts) (opened : IsOpened opening.now start) (none : IsUnbornFrom (tail_at opening.now) ghosts) (free : ReservesNothing ghosts) (before : List Event) (event : Event)
-    (fair : AreFair opening (event ∷ before)) (so : AreSo (stands_in opening start before) (run opening before).now) (published : ChangesPublished (run opening before).now (life_ghosts opening ghosts before).log event) where
+    (permitted : ArePermitted opening (event ∷ before)) (so : AreSo (stands_in opening start before) (run opening before).now) (published : ChangesPublished (run opening before).now (life_ghosts opening ghosts before).log event) where
   abbrev W : World
   W = run opening before
 
@@ -174,22 +174,22 @@ module _ (opening : World) (start : ℕ) (ghosts : Ghosts) (opened : IsOpened op
 
   -- ---- rows
   others_stay : (number : ℕ) (s : SessionState) → slice_get N.sessions number ≡ Some s → (event ≡ Moves number → ⊥) → ReservedStays S T (reserved_by number s)
-  others_stay number s found other = λ its reserved part. elim (stays_or opening start before event opened its.addr part fair so (reserved_below number s its found reserved)) [
+  others_stay number s found other = λ its reserved part. elim (stays_or opening start before event opened its.addr part permitted so (reserved_below number s its found reserved)) [
     | inl same ↦ same
     | inr w ↦ absurd (other (writes_own number s its part found reserved w))
   ]
 
-  owes_of : (number : ℕ) (s : SessionState) → event ≡ Moves number → slice_get N.sessions number ≡ Some s → SessionOwes N.words s
+  owes_of : (number : ℕ) (s : SessionState) → event ≡ Moves number → slice_get N.sessions number ≡ Some s → SessionMayChange N.words s
   owes_of number s moves found =
-      let its : SessionIsFair N (slice_get N.sessions number) = subst (λ (x : Event). IsFair N x) moves fair.0 in
-      subst (λ (x : Option SessionState). SessionIsFair N x) found its
+      let its : SessionIsPermitted N (slice_get N.sessions number) = subst (λ (x : Event). IsPermitted N x) moves permitted.0 in
+      subst (λ (x : Option SessionState). SessionIsPermitted N x) found its
 
   own_stores : (number : ℕ) (s : SessionState) → event ≡ Moves number → slice_get N.sessions number ≡ Some s → N.crashed ≡ false → Stores S T (sitting_word s s.step) (asked (session_ask (seat_at N number) s))
   own_stores number s moves found alive = λ f e.
       let its = wrote opening start before event opened number s f moves found alive (owes_of number s moves found) (so number s found) e in
       record {
         its = its.written;
-        others = λ part other. elim (stays_or opening start before event opened f.addr part fair so its.frame.below) [
+        others = λ part other. elim (stays_or opening start before event opened f.addr part permitted so its.frame.below) [
           | inl same ↦ same
           | inr w ↦
               let same = same_state number s w.writer moves found in
@@ -210,7 +210,7 @@ module _ (opening : World) (start : ℕ) (ghosts : Ghosts) (opened : IsOpened op
       let k : Seat = seat_at N number in
       let ask : Ask Told = session_ask k s in
       let stays : asked_place ask ≡ None → ReservedStays S T (reserved_by number s) = λ nowhere its reserved part.
-      elim (stays_or opening start before event opened its.addr part fair so (reserved_below number s its found reserved)) [
+      elim (stays_or opening start before event opened its.addr part permitted so (reserved_below number s its found reserved)) [
         | inl same ↦ same
         | inr w ↦ absurd (no_writer number s its.addr part moves found nowhere w)
       ] in
@@ -229,7 +229,7 @@ module _ (opening : World) (start : ℕ) (ghosts : Ghosts) (opened : IsOpened op
   crashed_so : N.crashed ≡ true → (number : ℕ) (s : SessionState) → After number s → IsSo T s
   crashed_so over number s after =
       let found : slice_get N.sessions number ≡ Some s = sym (ap (λ (w : World). slice_get w.now.sessions number) (is_over W event over)) ∙ after in
-      so_stays S T number s (λ its reserved part. crashed_stays opening start before event opened its.addr part fair over (reserved_below number s its found reserved)) (so number s found)
+      so_stays S T number s (λ its reserved part. crashed_stays opening start before event opened its.addr part permitted over (reserved_below number s its found reserved)) (so number s found)
 
   -- what another call or another session's step leaves
   stayed_so : (number : ℕ) (s : SessionState) → slice_get N.sessions number ≡ Some s → (event ≡ Moves number → ⊥) → IsSo T s
@@ -288,13 +288,13 @@ module _ (opening : World) (start : ℕ) (ghosts : Ghosts) (opened : IsOpened op
     -- a published record that no session changes in place
     unchanged_shows : (a : ℕ) (cell : Cell) → start ≤ a → G.log.cells a ≡ Published cell → ((writer : FrameWriter N event) → changed_in_place writer.state ≡ Some a → ⊥) → ShowsCell (T a) cell
     unchanged_shows a cell above e other =
-        same_shows (S a) (T a) cell (λ part. elim (stays_or opening start before event opened a part fair so (published_below a cell e)) [
+        same_shows (S a) (T a) cell (λ part. elim (stays_or opening start before event opened a part permitted so (published_below a cell e)) [
           | inl same ↦ same
           | inr w ↦ absurd (other w.writer (writes_changed a cell part e w).0)
         ]) (shows a cell above e)
 
     crashed_shows : N.crashed ≡ true → StandsShowLog start T G.log
-    crashed_shows over = λ a cell above e. same_shows (S a) (T a) cell (λ part. crashed_stays opening start before event opened a part fair over (published_below a cell e)) (shows a cell above e)
+    crashed_shows over = λ a cell above e. same_shows (S a) (T a) cell (λ part. crashed_stays opening start before event opened a part permitted over (published_below a cell e)) (shows a cell above e)
 
     -- no session moves
     still_shows : ((number : ℕ) → event ≡ Moves number → ⊥) → StandsShowLog start T G.log
@@ -323,7 +323,7 @@ module _ (opening : World) (start : ℕ) (ghosts : Ghosts) (opened : IsOpened op
       -- an ask that leaves its word as it is
       left_shows : (a : ℕ) (cell : Cell) → start ≤ a → G.log.cells a ≡ Published cell → asked A R ≡ R → ShowsCell (T a) cell
       left_shows a cell above e left =
-          same_shows (S a) (T a) cell (λ part. elim (stays_or opening start before event opened a part fair so (published_below a cell e)) [
+          same_shows (S a) (T a) cell (λ part. elim (stays_or opening start before event opened a part permitted so (published_below a cell e)) [
             | inl same ↦ same
             | inr w ↦
                 let same = same_state number s w.writer moves found in
@@ -355,7 +355,7 @@ module _ (opening : World) (start : ℕ) (ghosts : Ghosts) (opened : IsOpened op
           }
         where
           kept : (b : ℕ) (its : Cell) → G.log.cells b ≡ Published its → (part : RecordWord) → part ≢ rec.Value → T b part ≡ S b part
-          kept b its published_there part other = elim (stays_or opening start before event opened b part fair so (published_below b its published_there)) [
+          kept b its published_there part other = elim (stays_or opening start before event opened b part permitted so (published_below b its published_there)) [
             | inl same ↦ same
             | inr w ↦ absurd (other (writes_changed b its part published_there w).1)
           ]
@@ -363,7 +363,7 @@ module _ (opening : World) (start : ℕ) (ghosts : Ghosts) (opened : IsOpened op
       -- the record that it publishes
       published_now : (its : Reservation) → reserved_by number s ≡ Some its → sitting_word s s.step ≡ None → ShowsCell (S its.addr) its.cell → ShowsCell (T its.addr) its.cell
       published_now its reserved nowhere was =
-          same_shows (S its.addr) (T its.addr) its.cell (λ part. elim (stays_or opening start before event opened its.addr part fair so (reserved_below number s its found reserved)) [
+          same_shows (S its.addr) (T its.addr) its.cell (λ part. elim (stays_or opening start before event opened its.addr part permitted so (reserved_below number s its found reserved)) [
             | inl same ↦ same
             | inr w ↦
                 let same = same_state number s w.writer moves found in
@@ -401,7 +401,7 @@ module _ (opening : World) (start : ℕ) (ghosts : Ghosts) (opened : IsOpened op
       -- where it asks for no word
       nowhere_shows : asked_place A ≡ None → StandsShowLog start T G.log
       nowhere_shows nowhere = λ a cell above e.
-          same_shows (S a) (T a) cell (λ part. elim (stays_or opening start before event opened a part fair so (published_below a cell e)) [
+          same_shows (S a) (T a) cell (λ part. elim (stays_or opening start before event opened a part permitted so (published_below a cell e)) [
             | inl same ↦ same
             | inr w ↦ absurd (no_writer number s a part moves found nowhere w)
           ]) (shows a cell above e)

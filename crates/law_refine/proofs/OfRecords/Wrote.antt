@@ -14,12 +14,12 @@ use Rattle.fkv_flush.specs.GuardLevels.{levels_of}
 use Rattle.fkv_flush.specs.GuardWorld.{GuardWorld}
 use Rattle.fkv_session.specs.declared.answers.Told.{Told}
 use Rattle.fkv_session.specs.Sessions.{SessionState, Seat, session_ask}
-use Rattle.law_guard.specs.Sessions.Owing.{changed_in_place, SessionOwes}
+use Rattle.law_guard.specs.Sessions.InPlace.{changed_in_place, SessionMayChange}
 use Rattle.fkv_world.specs.Runs.{World, happens, run}
 use Rattle.fkv_world.specs.World.{Event, Moves, Now, seat_at}
 use Rattle.fkv_world.proofs.Shown.{is_over, places_stay}
 use Rattle.law_world.proofs.OfRuns.OneWord.{session_writes}
-use Rattle.law_guard.specs.Guarded.Shows.{IsOpened, AreFair, IsFair, SessionIsFair, seen_by_guard}
+use Rattle.law_guard.specs.Guarded.Shows.{IsOpened, ArePermitted, IsPermitted, SessionIsPermitted, seen_by_guard}
 use Rattle.law_guard.proofs.OfGuarded.Worlds.{life_shows}
 use Rattle.law_guard.proofs.OfGuarded.Flushed.{life_steady}
 use Rattle.law_refine.specs.Events.GhostEvents.{safe_at}
@@ -135,13 +135,13 @@ module _ (opening : World) (start : ℕ) (before : List Event) (event : Event) (
   abbrev T : Standing
   T = stands_in opening start (event ∷ before)
 
-  owes : (writer : FrameWriter N event) → IsFair N event → SessionOwes N.words writer.state
-  owes writer fair =
-      let its : SessionIsFair N (slice_get N.sessions writer.number) = subst (λ (x : Event). IsFair N x) writer.moves fair in
-      subst (λ (found : Option SessionState). SessionIsFair N found) writer.found its
+  may : (writer : FrameWriter N event) → IsPermitted N event → SessionMayChange N.words writer.state
+  may writer permitted =
+      let its : SessionIsPermitted N (slice_get N.sessions writer.number) = subst (λ (x : Event). IsPermitted N x) writer.moves permitted in
+      subst (λ (found : Option SessionState). SessionIsPermitted N found) writer.found its
 
   -- the word for which a session's step asks is as the step makes it
-  pub wrote : (number : ℕ) (s : SessionState) (f : FrameWord) → event ≡ Moves number → slice_get N.sessions number ≡ Some s → N.crashed ≡ false → SessionOwes N.words s → IsSo S s → sitting_word s s.step ≡ Some f → HasWritten N number s S T f
+  pub wrote : (number : ℕ) (s : SessionState) (f : FrameWord) → event ≡ Moves number → slice_get N.sessions number ≡ Some s → N.crashed ≡ false → SessionMayChange N.words s → IsSo S s → sitting_word s s.step ≡ Some f → HasWritten N number s S T f
   unfolding run
   wrote number s f moves found alive its_owes so e =
       let k : Seat = seat_at N number in
@@ -164,16 +164,16 @@ module _ (opening : World) (start : ℕ) (before : List Event) (event : Event) (
       }
 
   -- the word in the frame changes
-  written : (a : ℕ) (part : RecordWord) → IsFair N event → AreSo S N → HasFrame N a → N.crashed ≡ false → word_at (happens (run opening before) event).now.words (record_place P a part) ≢ word_at N.words (record_place P a part)
+  written : (a : ℕ) (part : RecordWord) → IsPermitted N event → AreSo S N → HasFrame N a → N.crashed ≡ false → word_at (happens (run opening before) event).now.words (record_place P a part) ≢ word_at N.words (record_place P a part)
       → IsWritten N event S T a part
   unfolding run
-  written a part fair so has alive changes =
+  written a part permitted so has alive changes =
       let high : frames_start N.places ≤ record_place P a part = subst (λ (p : Places). frames_start p ≤ record_place P a part) (sym (places_stay opening before)) (high_place P a part) in
       let writer : FrameWriter N event = life_writer opening start before event (record_place P a part) opened high changes in
       let s : SessionState = writer.state in
       let ask : Ask Told = session_ask (seat_at N writer.number) s in
       let f : FrameWord = writer.word in
-      let its : HasWritten N writer.number s S T f = wrote writer.number s f writer.moves writer.found alive (owes writer fair) (so writer.number s writer.found) writer.its_word in
+      let its : HasWritten N writer.number s S T f = wrote writer.number s f writer.moves writer.found alive (may writer permitted) (so writer.number s writer.found) writer.its_word in
       let words : (happens (run opening before) event).now.words ≡ words_after N.words ask =
       ap (λ (x : Event). (happens (run opening before) x).now.words) writer.moves ∙ session_writes (run opening before) writer.number s alive writer.found in
       let moved : word_at (words_after N.words ask) (record_place P a part) ≢ word_at N.words (record_place P a part) =
@@ -196,26 +196,26 @@ module _ (opening : World) (start : ℕ) (before : List Event) (event : Event) (
   unfolding run
   unchanged a part has same = stood_then opening start before event a part opened has ∙ (same ∙ sym (stood_here opening start before a part opened has))
 
-  framed : (a : ℕ) (part : RecordWord) → IsFair N event → AreSo S N → HasFrame N a → (T a part ≡ S a part) ⊎ IsWritten N event S T a part
-  framed a part fair so has = elim (same_or (word_at (happens (run opening before) event).now.words (record_place P a part)) (word_at N.words (record_place P a part))) [
+  framed : (a : ℕ) (part : RecordWord) → IsPermitted N event → AreSo S N → HasFrame N a → (T a part ≡ S a part) ⊎ IsWritten N event S T a part
+  framed a part permitted so has = elim (same_or (word_at (happens (run opening before) event).now.words (record_place P a part)) (word_at N.words (record_place P a part))) [
     | inl same ↦ inl (unchanged a part has same)
     | inr changes ↦ by_crash N.crashed refl changes
   ]
     where
       by_crash : (b : Bool) → N.crashed ≡ b → word_at (happens (run opening before) event).now.words (record_place P a part) ≢ word_at N.words (record_place P a part) → (T a part ≡ S a part) ⊎ IsWritten N event S T a part
       by_crash true e changes = absurd (changes (ap (λ (w : World). word_at w.now.words (record_place P a part)) (is_over (run opening before) event e)))
-      by_crash false e changes = inr (written a part fair so has e changes)
+      by_crash false e changes = inr (written a part permitted so has e changes)
 
   -- below the tail
-  pub stays_or : (a : ℕ) (part : RecordWord) → AreFair opening (event ∷ before) → AreSo S N → a < tail_at N → (T a part ≡ S a part) ⊎ IsWritten N event S T a part
-  stays_or a part fair so below = elim (cases_lt a (safe_at N)) [
-    | inl low ↦ inl (life_steady opening start before event a part opened fair low)
-    | inr high ↦ framed a part fair.0 so (record { safe = high; below = below })
+  pub stays_or : (a : ℕ) (part : RecordWord) → ArePermitted opening (event ∷ before) → AreSo S N → a < tail_at N → (T a part ≡ S a part) ⊎ IsWritten N event S T a part
+  stays_or a part permitted so below = elim (cases_lt a (safe_at N)) [
+    | inl low ↦ inl (life_steady opening start before event a part opened permitted low)
+    | inr high ↦ framed a part permitted.0 so (record { safe = high; below = below })
   ]
 
   -- after a crash all does
-  pub crashed_stays : (a : ℕ) (part : RecordWord) → AreFair opening (event ∷ before) → N.crashed ≡ true → a < tail_at N → T a part ≡ S a part
-  crashed_stays a part fair over below = elim (cases_lt a (safe_at N)) [
-    | inl low ↦ life_steady opening start before event a part opened fair low
+  pub crashed_stays : (a : ℕ) (part : RecordWord) → ArePermitted opening (event ∷ before) → N.crashed ≡ true → a < tail_at N → T a part ≡ S a part
+  crashed_stays a part permitted over below = elim (cases_lt a (safe_at N)) [
+    | inl low ↦ life_steady opening start before event a part opened permitted low
     | inr high ↦ unchanged a part (record { safe = high; below = below }) (ap (λ (w : World). word_at w.now.words (record_place P a part)) (is_over (run opening before) event over))
   ]

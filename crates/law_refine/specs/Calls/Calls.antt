@@ -1,4 +1,4 @@
--- What calls and answers owe in the log's words, beside what has taken effect and what was told before.
+-- When calls and answers are enabled, in the log's words, beside what has taken effect and what was told before.
 use Rattle.std.specs.Prelude.{◌≡◌, ⊤, ℕ, Some, None, List, [], ◌∷◌, ◌++◌}
 use Rattle.fkv_map.specs.declared.history.HistoryEntry.{HistoryEntry}
 use Rattle.law_log.specs.Trace.{Effect, TraceLine, CallsUpdate, RefusesUpdate, GivesResult, CallsRead, AnswersRead, IsIn, called_as, HasUpdate, HasReply}
@@ -39,14 +39,14 @@ pub record IsUpdateInHand (effects : List Effect) (lines : List TraceLine) (entr
 
 -- A call's name is free; an update that is refused has not taken effect; a result is the reply of the update's effect. A read is called by a number that
 -- no earlier line calls.
-abbrev pub OwesCall : List Effect → List TraceLine → TraceLine → Type 0
-OwesCall effects lines (CallsUpdate session serial op) = called_as lines session serial ≡ None
-OwesCall effects lines (RefusesUpdate session serial) = HasUpdate effects session serial → ⊥
-OwesCall effects lines (GivesResult session serial reply) = HasReply effects session serial reply
-OwesCall effects lines (CallsRead reader key) = (other : ℕ) → IsIn (CallsRead reader other) lines → ⊥
-OwesCall effects lines (AnswersRead reader reply) = ⊤
+abbrev pub IsCallEnabled : List Effect → List TraceLine → TraceLine → Type 0
+IsCallEnabled effects lines (CallsUpdate session serial op) = called_as lines session serial ≡ None
+IsCallEnabled effects lines (RefusesUpdate session serial) = HasUpdate effects session serial → ⊥
+IsCallEnabled effects lines (GivesResult session serial reply) = HasReply effects session serial reply
+IsCallEnabled effects lines (CallsRead reader key) = (other : ℕ) → IsIn (CallsRead reader other) lines → ⊥
+IsCallEnabled effects lines (AnswersRead reader reply) = ⊤
 
 -- each of these lines, behind others and those of them before it
-abbrev pub EachOwes : (List TraceLine → TraceLine → Type 0) → List TraceLine → List TraceLine → Type 0
-EachOwes Owes lines [] = ⊤
-EachOwes Owes lines (line ∷ before) = Owes (before ++ lines) line × EachOwes Owes lines before
+abbrev pub EachIsEnabled : (List TraceLine → TraceLine → Type 0) → List TraceLine → List TraceLine → Type 0
+EachIsEnabled IsEnabled lines [] = ⊤
+EachIsEnabled IsEnabled lines (line ∷ before) = IsEnabled (before ++ lines) line × EachIsEnabled IsEnabled lines before

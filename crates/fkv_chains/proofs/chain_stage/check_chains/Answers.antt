@@ -1,10 +1,9 @@
 use Rattle.std.proofs.Common.{◌≡◌, length, sym, ap, subst, ◌∙◌, arith}
 use Rattle.std.specs.Prelude.{Some, slice_get}
 use Rattle.std.proofs.lemmas.Option.{slice_get-get_or}
-use Rattle.fkv_disk.proofs.Shown.{more_reads}
+use Rattle.fkv_disk.proofs.Shown.{more_reads, quiet_on}
 use Rattle.fkv_scan.specs.Log.{Log, log_in}
 use Rattle.fkv_chains.specs.Along.{IsFollowed, IsToFollow}
-use Rattle.fkv_scan.proofs.Shown.{quiet_on}
 use Rattle.fkv_chains.proofs.Reaching.{has_chains}
 use Rattle.fkv_chains.proofs.Staging.{refused_after, follows_from, one_more, each_way, AreFollowed}
 use Rattle.fkv_chains.proofs.Ways.{all_ways}

@@ -5,7 +5,7 @@ use Rattle.std.specs.BTreeMap.{get}
 use Rattle.fkv_record.specs.declared.triples.Triple.{Triple}
 use Rattle.fkv_scan.specs.Log.{log_in, triple_home}
 use Rattle.fkv_disk.specs.Kinds.{OnlyReads}
-use Rattle.fkv_scan.specs.Quiet.{IsQuiet}
+use Rattle.fkv_disk.specs.Quiet.{IsQuiet}
 use Rattle.fkv_chains.specs.Along.{IsFollowed}
 use Rattle.fkv_chains.specs.Ways.{way_below}
 use Rattle.fkv_chains.proofs.chain_stage.check_chains.Given as goal

@@ -1,11 +1,10 @@
 use Rattle.std.proofs.Common.{◌<◌, sym, subst, ◌∙◌, arith}
-use Rattle.fkv_disk.proofs.Shown.{more_reads}
+use Rattle.fkv_disk.proofs.Shown.{more_reads, quiet_on}
 use Rattle.fkv_words.specs.Fields.{Reads}
 use Rattle.fkv_disk.specs.Bytes.{bytes_at}
 use Rattle.fkv_record.specs.Layout.{record_bytes}
 use Rattle.fkv_record.specs.Places.{record_place}
 use Rattle.fkv_scan.specs.Log.{log_in}
-use Rattle.fkv_scan.proofs.Shown.{quiet_on}
 use Rattle.fkv_chains.proofs.FollowedTo.{IsFollowedTo, read_stands, read_alone, follow_on, led_on, all_followed, invalid_fault, home_fault}
 use Rattle.fkv_chains.proofs.following.follow.Goals as goal
 use Rattle.fkv_chains.proofs.following.follow.Goals.{then-found-via-then-found, then-found-via-else-found+then-record_home-home}

@@ -2,7 +2,7 @@ use Rattle.std.proofs.Common.{◌≤◌, List}
 use Rattle.fkv_record.specs.declared.triples.Triple.{Triple}
 use Rattle.fkv_scan.specs.Log.{log_in}
 use Rattle.fkv_disk.specs.Kinds.{OnlyReads}
-use Rattle.fkv_scan.specs.Quiet.{IsQuiet}
+use Rattle.fkv_disk.specs.Quiet.{IsQuiet}
 use Rattle.fkv_chains.specs.Along.{IsToFollow}
 use Rattle.fkv_chains.proofs.FollowedTo.{IsFollowedTo}
 use Rattle.fkv_chains.proofs.following.follow.Given as goal

@@ -15,8 +15,8 @@ pub returns-in-Put-clause-next : goal.returns-in-Put-clause-next
 returns-in-Put-clause-next c = λ granted.
     let k = c.args.keeper.now in
     let n : Near KeeperState = beside c.args.words.now k.state in
-    let after : KeeperState = c.drive.new.self.state in
-    let asked : Ask KeeperTold = c.ask.result in
+    let after : KeeperState = c.go_on.new.self.state in
+    let asked : Ask KeeperTold = c.args.next in
     let is : asked ≡ keeper_ask k.shape k.places n.machine = search rules in
     let puts : asked ≡ Put c.in-Put.slot c.in-Put.action = search rules in
     let goes : after ≡ keeper_next k.shape k.places n.machine 0 after.is_granted = search rules in

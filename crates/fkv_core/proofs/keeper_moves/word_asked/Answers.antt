@@ -13,28 +13,21 @@ pub returns-in-Put-clause-moved : goal.returns-in-Put-clause-moved
 unfolding keeper_asks keeper_settled
 returns-in-Put-clause-moved c =
     let k = c.args.keeper.now in
-    let granted : Bool = c.drive.new.self.state.is_granted in
-    let it : (done : Bool) (read : List ℕ) → beside c.put.new.self c.drive.new.self.state ≡ keeper_moved k.shape k.places granted done read (beside c.args.words.now k.state) = search rules in
+    let granted : Bool = c.go_on.new.self.state.is_granted in
+    let it : (done : Bool) (read : List ℕ) → beside c.put.new.self c.go_on.new.self.state ≡ keeper_moved k.shape k.places granted done read (beside c.args.words.now k.state) = search rules in
     (granted, it)
 
 pub returns-in-Some-clause-moved : goal.returns-in-Some-clause-moved
 unfolding keeper_asks keeper_settled
 returns-in-Some-clause-moved c =
     let k = c.args.keeper.now in
-    let it : (done : Bool) (read : List ℕ) → beside c.take.new.self c.given.new.self.state ≡ keeper_moved k.shape k.places true done read (beside c.args.words.now k.state) = search rules in
-    (true, it)
-
-pub returns-in-None-clause-moved : goal.returns-in-None-clause-moved
-unfolding keeper_asks keeper_settled
-returns-in-None-clause-moved c =
-    let k = c.args.keeper.now in
-    let it : (done : Bool) (read : List ℕ) → beside c.take.new.self k.state ≡ keeper_moved k.shape k.places true done read (beside c.args.words.now k.state) = search rules in
+    let it : (done : Bool) (read : List ℕ) → beside c.take.new.self c.take-in-Some.new.self.state ≡ keeper_moved k.shape k.places true done read (beside c.args.words.now k.state) = search rules in
     (true, it)
 
 pub returns-in_default : goal.returns-in_default
 returns-in_default c =
     let k = c.args.keeper.now in
-    let between = c.drive-next.new.self in
+    let between = c.go_on-next.new.self in
     let granted : Bool = between.state.is_granted in
     let n : Near KeeperState = beside c.args.words.now k.state in
     let ask : Ask KeeperTold = c.args.ask in
@@ -46,5 +39,4 @@ returns-in_default c =
     record {
       store = search rules;
       moved = (granted, λ done read. two_steps k.shape between.shape k.places between.places n (beside c.perform-reply.new.self between.state) (beside c.settle.new.words c.settle.new.keeper.state) granted done read ask asked word same also first (c.settle.ensures.next granted));
-      ask = c.settle.ensures.ask;
     }

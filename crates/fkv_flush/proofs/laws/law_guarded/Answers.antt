@@ -13,8 +13,8 @@ use Rattle.fkv_flush.proofs.Still.{not_written}
 use Rattle.fkv_flush.proofs.laws.law_guarded.Goals as goal
 
 pub returns-clause-writes : goal.returns-clause-writes
-returns-clause-writes c = λ shape places actors words start events event o fair.
-    guards_writes (guard_run (opening shape places actors words start) events) event (run_sound (opening shape places actors words start) events (opening_sound shape places actors words start o)) fair
+returns-clause-writes c = λ shape places actors words start events event o permitted.
+    guards_writes (guard_run (opening shape places actors words start) events) event (run_sound (opening shape places actors words start) events (opening_sound shape places actors words start o)) permitted
 
 pub returns-clause-limit : goal.returns-clause-limit
 returns-clause-limit c = λ shape places actors words start events event o.

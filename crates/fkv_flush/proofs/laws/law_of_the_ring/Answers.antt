@@ -75,5 +75,5 @@ returns c = record {
   turned = record { written = refl; flushed = refl; closed = refl; limit = refl };
   flushed = record { header = refl; key = refl; value = refl; calls = refl };
   one_flushes = search;
-  fair = search;
+  permitted = search;
 }

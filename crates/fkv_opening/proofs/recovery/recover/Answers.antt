@@ -1,7 +1,6 @@
 use Rattle.std.proofs.Common.{◌≡◌, sym, subst}
-use Rattle.fkv_disk.proofs.Shown.{reads_behind}
+use Rattle.fkv_disk.proofs.Shown.{reads_behind, quiet_on}
 use Rattle.fkv_newest.specs.Newest.{IsNewestOf}
-use Rattle.fkv_scan.proofs.Shown.{quiet_on}
 use Rattle.fkv_opening.specs.declared.opened_store.Opened.{Opened}
 use Rattle.fkv_opening.specs.Faults.{IsFaultOf}
 use Rattle.fkv_opening.specs.Opened.{IsStoreOf}

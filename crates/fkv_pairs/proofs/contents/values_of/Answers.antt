@@ -3,8 +3,7 @@ use Rattle.std.specs.Prelude.{Some, slice_get}
 use Rattle.std.proofs.lemmas.Option.{slice_get-get_or}
 use Rattle.std.specs.Ordering.{nat_cmp}
 use Rattle.std.specs.BTreeMap.{get}
-use Rattle.fkv_disk.proofs.Shown.{more_reads}
-use Rattle.fkv_scan.proofs.Shown.{quiet_on}
+use Rattle.fkv_disk.proofs.Shown.{more_reads, quiet_on}
 use Rattle.fkv_opening.specs.Entries.{entry_home}
 use Rattle.fkv_pairs.specs.Gathered.{IsReadFrom, AreGathered}
 use Rattle.fkv_pairs.specs.Pairs.{log_of_store}

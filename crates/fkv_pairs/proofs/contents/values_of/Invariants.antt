@@ -1,7 +1,7 @@
 use Rattle.std.specs.Ordering.{nat_cmp}
 use Rattle.std.specs.BTreeMap.{get}
 use Rattle.fkv_disk.specs.Kinds.{OnlyReads}
-use Rattle.fkv_scan.specs.Quiet.{IsQuiet}
+use Rattle.fkv_disk.specs.Quiet.{IsQuiet}
 use Rattle.fkv_opening.specs.Opened.{IsStoreOf}
 use Rattle.fkv_pairs.specs.Pairs.{log_of_store}
 use Rattle.fkv_pairs.specs.Gathered.{AreGathered}

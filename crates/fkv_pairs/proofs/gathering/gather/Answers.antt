@@ -2,12 +2,12 @@ use Rattle.std.proofs.Common.{◌≡◌, ℕ, false, refl, sym, subst, ◌∙◌
 use Rattle.std.specs.Ordering.{nat_cmp}
 use Rattle.std.specs.Option.{is_some}
 use Rattle.std.specs.BTreeMap.{BTreeMap, get}
-use Rattle.fkv_disk.proofs.Shown.{no_read, more_reads}
+use Rattle.fkv_disk.proofs.Shown.{no_read, more_reads, quiet_still, quiet_on}
 use Rattle.fkv_words.specs.Fields.{Reads}
 use Rattle.fkv_disk.specs.Bytes.{bytes_at}
 use Rattle.fkv_record.specs.Layout.{record_bytes}
 use Rattle.fkv_record.specs.Places.{record_place}
-use Rattle.fkv_scan.proofs.Shown.{no_call, quiet_on, stands_read, none_read}
+use Rattle.fkv_scan.proofs.Shown.{stands_read, none_read}
 use Rattle.fkv_pairs.specs.Gathered.{lower_or_none}
 use Rattle.fkv_pairs.proofs.Along.{IsGathering, gather_first, gather_seen, gather_new, all_gathered, next_short, read_of, none_is}
 use Rattle.fkv_pairs.proofs.gathering.gather.Goals as goal
@@ -16,7 +16,7 @@ use Rattle.fkv_pairs.proofs.gathering.gather.Goals.{then-not-contains_key+in_ok-
 pub loop-addr-init : goal.loop-addr-init
 loop-addr-init g c = record {
   short = c.requires;
-  quiet = no_call g.D.Device.honest g.D.Device.seen g.D.Device.may_leave g.D.Device.moment g.D.Device.left_since g.D.Device.failed c.args.d.now;
+  quiet = quiet_still g.D.Device.honest g.D.Device.seen g.D.Device.may_leave g.D.Device.moment g.D.Device.left_since g.D.Device.failed c.args.d.now;
   reads = no_read g.D.Device.refuses g.D.Device.expects c.args.d.now;
   gathering = λ log its_home claim reads entry newest. gather_first c.law_spellings_apart.ensures.records log reads.faultless its_home (get nat_cmp c.args.values.now) c.args.entry.0 entry newest;
 }

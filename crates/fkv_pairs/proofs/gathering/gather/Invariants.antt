@@ -3,7 +3,7 @@ use Rattle.std.specs.Ordering.{nat_cmp}
 use Rattle.std.specs.BTreeMap.{get}
 use Rattle.fkv_scan.specs.Log.{Log}
 use Rattle.fkv_disk.specs.Kinds.{OnlyReads}
-use Rattle.fkv_scan.specs.Quiet.{IsQuiet}
+use Rattle.fkv_disk.specs.Quiet.{IsQuiet}
 use Rattle.fkv_chains.specs.Entries.{IsEntry}
 use Rattle.fkv_pairs.specs.Gathered.{IsReadFrom, AreNewest}
 use Rattle.fkv_pairs.proofs.Along.{IsGathering}

@@ -1,11 +1,10 @@
 use Rattle.std.proofs.Common.{◌≡◌, length, refl, sym, ap, subst, ◌∙◌, arith, inr, true, false}
 use Rattle.std.specs.Prelude.{Some, slice_get}
 use Rattle.std.proofs.lemmas.Option.{slice_get-get_or}
-use Rattle.fkv_disk.proofs.Shown.{more_reads}
+use Rattle.fkv_disk.proofs.Shown.{more_reads, quiet_on}
 use Rattle.fkv_scan.specs.Log.{log_in}
 use Rattle.fkv_scan.specs.Scan.{IsLed, AreLed}
 use Rattle.fkv_scan.proofs.Leading.{led_to_more}
-use Rattle.fkv_scan.proofs.Quieter.{quiet_on}
 use Rattle.fkv_scan.proofs.scans.check_led.Goals as goal
 
 pub returns-then-not-led-clause-err : goal.returns-then-not-led-clause-err

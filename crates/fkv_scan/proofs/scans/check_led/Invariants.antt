@@ -1,7 +1,7 @@
 use Rattle.fkv_scan.specs.Log.{log_in}
 use Rattle.fkv_scan.specs.Scan.{AreLed}
 use Rattle.fkv_disk.specs.Kinds.{OnlyReads}
-use Rattle.fkv_scan.specs.Quiet.{IsQuiet}
+use Rattle.fkv_disk.specs.Quiet.{IsQuiet}
 use Rattle.fkv_scan.proofs.scans.check_led.Given as goal
 
 abbrev pub invariant-loop-i : goal.invariant-loop-i

@@ -2,14 +2,13 @@ use Rattle.std.proofs.Common.{◌≡◌, sym, ap, subst, true, ◌+◌, arith}
 use Rattle.std.specs.Prelude.{◌||◌, ◌↔◌}
 use Rattle.std.specs.Ordering.{nat_cmp}
 use Rattle.std.specs.BTreeMap.{get}
-use Rattle.fkv_disk.proofs.Shown.{more_reads}
+use Rattle.fkv_disk.proofs.Shown.{more_reads, quiet_on}
 use Rattle.fkv_scan.specs.Log.{log_in}
 use Rattle.fkv_scan.specs.Records.{IsNewer}
 use Rattle.fkv_scan.specs.Scan.{Has, IsScanned, IsScannedTo}
 use Rattle.fkv_scan.specs.Scanned.{TellsNewer}
 use Rattle.fkv_scan.specs.Known.{KnowsAll}
 use Rattle.fkv_scan.proofs.Looping.{scanned_more, newer_more, refused_from}
-use Rattle.fkv_scan.proofs.Quieter.{quiet_on}
 use Rattle.fkv_scan.proofs.scans.meet_all.Goals as goal
 use Rattle.fkv_scan.proofs.scans.meet_all.Goals.{then-newer, else-newer}
 

@@ -7,7 +7,7 @@ use Rattle.fkv_scan.specs.Scan.{IsScannedTo}
 use Rattle.fkv_scan.specs.Scanned.{TellsNewer}
 use Rattle.fkv_scan.specs.Known.{KnowsAll}
 use Rattle.fkv_disk.specs.Kinds.{OnlyReads}
-use Rattle.fkv_scan.specs.Quiet.{IsQuiet}
+use Rattle.fkv_disk.specs.Quiet.{IsQuiet}
 use Rattle.fkv_scan.proofs.scans.meet_all.Given as goal
 
 abbrev pub invariant-loop-addr : goal.invariant-loop-addr

@@ -2,10 +2,9 @@ use Rattle.std.proofs.Common.{◌≡◌, Some, sym, ap, subst, ◌∙◌, arith,
 use Rattle.std.specs.Prelude.{◌↔◌, ◌∷◌, [], ◌++◌}
 use Rattle.std.specs.Ordering.{nat_cmp}
 use Rattle.std.specs.BTreeMap.{get}
-use Rattle.fkv_disk.proofs.Shown.{more_reads}
+use Rattle.fkv_disk.proofs.Shown.{more_reads, quiet_on}
 use Rattle.fkv_record.specs.declared.triples.Triple.{Triple}
 use Rattle.fkv_scan.specs.Checkpoint.{checkpoint_in, IsTripleAt}
-use Rattle.fkv_scan.proofs.Quieter.{quiet_on}
 use Rattle.fkv_scan.proofs.Triples.{AreSeen, AreRead, seen_next, read_next, fault_none, fault_again, none_is}
 use Rattle.fkv_scan.proofs.triple_stage.read_triples.Goals as goal
 

@@ -2,7 +2,7 @@ use Rattle.std.specs.Ordering.{nat_cmp}
 use Rattle.std.specs.BTreeMap.{get}
 use Rattle.fkv_scan.specs.Checkpoint.{checkpoint_in}
 use Rattle.fkv_disk.specs.Kinds.{OnlyReads}
-use Rattle.fkv_scan.specs.Quiet.{IsQuiet}
+use Rattle.fkv_disk.specs.Quiet.{IsQuiet}
 use Rattle.fkv_scan.proofs.Triples.{AreSeen, AreRead}
 use Rattle.fkv_scan.proofs.triple_stage.read_triples.Given as goal
 

@@ -11,7 +11,7 @@ pub returns-clause-shows : goal.returns-clause-shows
 returns-clause-shows c = λ first start events opened. life_shows first start events opened
 
 pub returns-clause-writes : goal.returns-clause-writes
-returns-clause-writes c = λ first start events event opened fair. event_writes_open first events event (seen_by_guard first start events) (write_outer first start events opened) fair (life_shows first start events opened)
+returns-clause-writes c = λ first start events event opened permitted. event_writes_open first events event (seen_by_guard first start events) (write_outer first start events opened) permitted (life_shows first start events opened)
 
 pub returns-clause-limit : goal.returns-clause-limit
 returns-clause-limit c = λ first start events event opened. event_opens_next first events event (seen_by_guard first start events) (write_outer first start events opened) (life_shows first start events opened)

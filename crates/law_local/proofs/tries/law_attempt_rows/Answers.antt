@@ -8,9 +8,9 @@ use Rattle.law_local.proofs.OfTries.OwnEvents.{attempt_needs}
 use Rattle.law_local.proofs.tries.law_attempt_rows.Goals as goal
 
 pub returns-clause-waits : goal.returns-clause-waits
-returns-clause-waits c = λ pending seen home m version opening events event opened owed owes keeps knows.
-    let held = run_held home m version opening events opened owed in
-    pending_grows home m (ghost_run home opening events).log (log_after home (ghost_run home opening events).log event) pending seen held (log_steps home m (ghost_run home opening events) event held owes).grows knows
+returns-clause-waits c = λ pending seen home m version opening events event opened enabled is_enabled keeps knows.
+    let held = run_held home m version opening events opened enabled in
+    pending_grows home m (ghost_run home opening events).log (log_after home (ghost_run home opening events).log event) pending seen held (log_steps home m (ghost_run home opening events) event held is_enabled).grows knows
 
 pub returns-clause-later : goal.returns-clause-later
 returns-clause-later c = pending_later
@@ -19,14 +19,14 @@ pub returns-clause-begins : goal.returns-clause-begins
 returns-clause-begins c = attempt_begins
 
 pub returns-clause-stay : goal.returns-clause-stay
-returns-clause-stay c = λ a home m version opening events event opened owed owes keeps knows.
-    let held = run_held home m version opening events opened owed in
-    attempt_grows home m (ghost_run home opening events).log (log_after home (ghost_run home opening events).log event) a held (log_steps home m (ghost_run home opening events) event held owes).grows keeps knows
+returns-clause-stay c = λ a home m version opening events event opened enabled is_enabled keeps knows.
+    let held = run_held home m version opening events opened enabled in
+    attempt_grows home m (ghost_run home opening events).log (log_after home (ghost_run home opening events).log event) a held (log_steps home m (ghost_run home opening events) event held is_enabled).grows keeps knows
 
 pub returns-clause-rest : goal.returns-clause-rest
-returns-clause-rest c = λ a home m version opening events event opened owed owes older knows.
-    let held = run_held home m version opening events opened owed in
-    let grows = (log_steps home m (ghost_run home opening events) event held owes).grows in
+returns-clause-rest c = λ a home m version opening events event opened enabled is_enabled older knows.
+    let held = run_held home m version opening events opened enabled in
+    let grows = (log_steps home m (ghost_run home opening events) event held is_enabled).grows in
     attempt_grows home m (ghost_run home opening events).log (log_after home (ghost_run home opening events).log event) a held grows
     (older_kept_for home m (ghost_run home opening events).log (log_after home (ghost_run home opening events).log event) a held grows older knows) knows
 

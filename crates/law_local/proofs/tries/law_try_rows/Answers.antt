@@ -13,9 +13,9 @@ pub returns-clause-begins : goal.returns-clause-begins
 returns-clause-begins c = try_begins
 
 pub returns-clause-stay : goal.returns-clause-stay
-returns-clause-stay c = λ t home m version opening events event opened owed owes keeps knows.
-    let held = run_held home m version opening events opened owed in
-    try_grows home m (ghost_run home opening events).log (log_after home (ghost_run home opening events).log event) t held (log_steps home m (ghost_run home opening events) event held owes).grows keeps knows
+returns-clause-stay c = λ t home m version opening events event opened enabled is_enabled keeps knows.
+    let held = run_held home m version opening events opened enabled in
+    try_grows home m (ghost_run home opening events).log (log_after home (ghost_run home opening events).log event) t held (log_steps home m (ghost_run home opening events) event held is_enabled).grows keeps knows
 
 pub returns-clause-leads_on : goal.returns-clause-leads_on
 returns-clause-leads_on c = try_leads

@@ -6,9 +6,9 @@ use Rattle.law_local.proofs.OfTries.WalkRows.{walk_grows, walk_leads, walk_tells
 use Rattle.law_local.proofs.tries.law_walk_rows.Goals as goal
 
 pub returns-clause-stay : goal.returns-clause-stay
-returns-clause-stay c = λ w home m version opening events event opened owed owes keeps knows.
-    let held = run_held home m version opening events opened owed in
-    walk_grows home m (ghost_run home opening events).log (log_after home (ghost_run home opening events).log event) w held (log_steps home m (ghost_run home opening events) event held owes).grows knows
+returns-clause-stay c = λ w home m version opening events event opened enabled is_enabled keeps knows.
+    let held = run_held home m version opening events opened enabled in
+    walk_grows home m (ghost_run home opening events).log (log_after home (ghost_run home opening events).log event) w held (log_steps home m (ghost_run home opening events) event held is_enabled).grows knows
 
 pub returns-clause-leads_on : goal.returns-clause-leads_on
 returns-clause-leads_on c = walk_leads

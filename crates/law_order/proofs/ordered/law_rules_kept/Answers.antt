@@ -1,9 +1,9 @@
 -- The law, of a life that keeps order.
 use Rattle.law_order.proofs.ordered.law_rules_kept.Goals as goal
 
-pub returns-clause-owed : goal.returns-clause-owed
-returns-clause-owed c = λ opening start lists version m number ghosts events begins cells none fits apart.
-    (c.law_world_ordered.ensures opening start lists version m number ghosts events begins cells none fits apart).owed
+pub returns-clause-enabled : goal.returns-clause-enabled
+returns-clause-enabled c = λ opening start lists version m number ghosts events begins cells none fits apart.
+    (c.law_world_ordered.ensures opening start lists version m number ghosts events begins cells none fits apart).enabled
 
 pub returns-clause-published : goal.returns-clause-published
 returns-clause-published c = λ opening start lists version m number ghosts events begins cells none fits apart.

@@ -1,6 +1,6 @@
 -- The law, by what each event of the log takes.
 use Rattle.std.proofs.Common.{sym, subst}
-use Rattle.law_log.specs.Owed.{NoneAbove, NoneCopies}
+use Rattle.law_log.specs.Enabled.{NoneAbove, NoneCopies}
 use Rattle.law_order.proofs.OfRest.Cells.{none_above, none_above_reserved, none_copies}
 use Rattle.law_order.proofs.OfRest.Lives.{life_cells, moment_cells, moment_since}
 use Rattle.law_order.proofs.OfRest.Reserves.{life_reserves}

@@ -7,7 +7,7 @@ pub returns-clause-older : goal.returns-clause-older
 returns-clause-older c = λ opening start lists version m number ghosts events later before begins none all. older_fixed opening start lists version m number ghosts events later before begins none all
 
 pub returns-clause-waits : goal.returns-clause-waits
-returns-clause-waits c = λ opening start lists version m number ghosts before event pending seen begins owed knows. pending_stays opening start lists version m number ghosts before event pending seen begins owed knows
+returns-clause-waits c = λ opening start lists version m number ghosts before event pending seen begins enabled knows. pending_stays opening start lists version m number ghosts before event pending seen begins enabled knows
 
 pub returns-clause-attempts : goal.returns-clause-attempts
-returns-clause-attempts c = λ opening start lists version m number ghosts before event attempt begins none owed same knows. attempt_stays opening start lists version m number ghosts before event attempt begins none owed same knows
+returns-clause-attempts c = λ opening start lists version m number ghosts before event attempt begins none enabled same knows. attempt_stays opening start lists version m number ghosts before event attempt begins none enabled same knows

@@ -1,7 +1,7 @@
 -- The law, by those of its parts.
 use Rattle.std.proofs.Common.{sym, subst, arith}
 use Rattle.fkv_base.specs.declared.shapes.Shape.{Shape}
-use Rattle.law_log.specs.Owed.{IsOpened}
+use Rattle.law_log.specs.Enabled.{IsOpened}
 use Rattle.law_parts.proofs.OfMail.Openings.{opened_mailbox}
 use Rattle.law_refine.specs.Events.GhostEvents.{home_in}
 use Rattle.law_opening.specs.Log.Maps.{opening_map}

@@ -4,19 +4,19 @@ use Rattle.fkv_base.specs.declared.shapes.Shape.{Shape}
 use Rattle.fkv_core.specs.Openings.{beginning}
 use Rattle.fkv_map.specs.History.{IsLegal}
 use Rattle.law_log.specs.Ghosts.{Ghosts}
-use Rattle.law_log.specs.Owed.{IsOpened}
+use Rattle.law_log.specs.Enabled.{IsOpened}
 use Rattle.law_log.specs.Trace.{OrdersCalls, ReadsAreFresh, TraceLine}
 use Rattle.law_opening.specs.Log.Lives.{ghosts_beside}
 use Rattle.law_opening.specs.Log.Maps.{opening_map}
 use Rattle.law_opening.specs.Log.OpeningLog.{opening_ghosts}
 use Rattle.law_refine.proofs.OfCalls.SameHistory.{same_history}
 use Rattle.fkv_world.specs.Runs.{run}
-use Rattle.law_guard.specs.Guarded.Shows.{AreFair}
+use Rattle.law_guard.specs.Guarded.Shows.{ArePermitted}
 use Rattle.law_refine.specs.Events.GhostEvents.{home_in}
-use Rattle.law_refine.proofs.OfRecords.Below.{published_fair}
+use Rattle.law_refine.proofs.OfRecords.Below.{published_permitted}
 use Rattle.law_order.specs.Rules.Ordered.{effects_so_far, lines_so_far}
 use Rattle.law_order.proofs.OfRules.InTime.{reads_in_time}
-use Rattle.law_order.proofs.OfRules.Kept.{fair_at, same_entries}
+use Rattle.law_order.proofs.OfRules.Kept.{permitted_at, same_entries}
 use Rattle.law_order.proofs.OfRules.SameEntries.{fresh_by, orders_by}
 use Rattle.law_order.proofs.rules.law_order_of_rules.Goals as goal
 
@@ -50,12 +50,12 @@ unfolding run
 returns-clause-guarded c = λ bytes o n events store world rules published.
     let opened = (c.law_guard_opens.ensures o n bytes world).now in
     let begins = c.law_log_begins.ensures bytes o n store world in
-    let fair : AreFair (beginning n bytes) events = published_fair (beginning n bytes) o.tail.0 (opening_ghosts bytes o) events opened begins.unborn published in
+    let permitted : ArePermitted (beginning n bytes) events = published_permitted (beginning n bytes) o.tail.0 (opening_ghosts bytes o) events opened begins.unborn published in
     record {
       shows = c.law_world_is_guarded.ensures.shows (beginning n bytes) o.tail.0 events opened;
-      fair = fair;
+      permitted = permitted;
       writes = λ later before event whole. c.law_world_is_guarded.ensures.writes (beginning n bytes) o.tail.0 before event opened
-          (fair_at (beginning n bytes) later before event (subst (AreFair (beginning n bytes)) whole fair));
+          (permitted_at (beginning n bytes) later before event (subst (ArePermitted (beginning n bytes)) whole permitted));
       limit = λ later before event whole. c.law_world_is_guarded.ensures.limit (beginning n bytes) o.tail.0 before event opened;
       order = c.law_world_is_guarded.ensures.order (beginning n bytes) o.tail.0 events opened;
       rises = λ later before event whole. c.law_world_is_guarded.ensures.rises (beginning n bytes) o.tail.0 before (event ∷ []) opened;

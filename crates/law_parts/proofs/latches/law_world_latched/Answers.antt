@@ -6,11 +6,11 @@ use Rattle.fkv_world.specs.Runs.{run}
 use Rattle.law_parts.specs.Latches.LatchEvents.{mapped}
 use Rattle.law_parts.specs.Latches.Shows.{seen_by_latches}
 use Rattle.law_parts.proofs.OfLatches.Apart.{holds_shows, holds_apart}
-use Rattle.law_parts.proofs.OfLatches.Fair.{are_fair, life_holds}
+use Rattle.law_parts.proofs.OfLatches.Permitted.{are_permitted, life_holds}
 use Rattle.law_parts.proofs.latches.law_world_latched.Goals as goal
 
-pub returns-clause-fair : goal.returns-clause-fair
-returns-clause-fair c = λ first events opened. are_fair first events opened
+pub returns-clause-permitted : goal.returns-clause-permitted
+returns-clause-permitted c = λ first events opened. are_permitted first events opened
 
 pub returns-clause-shows : goal.returns-clause-shows
 returns-clause-shows c = λ first events opened. holds_shows (run first events).now (seen_by_latches first events) (life_holds first events opened)

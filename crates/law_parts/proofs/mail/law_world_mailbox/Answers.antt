@@ -1,12 +1,12 @@
 -- The law, by what stands between events, and by that of mailboxes.
 use Rattle.law_parts.specs.Mail.MailEvents.{mapped}
 use Rattle.law_parts.proofs.OfMail.Changes.{each_changes}
-use Rattle.law_parts.proofs.OfMail.Fair.{are_fair}
+use Rattle.law_parts.proofs.OfMail.Permitted.{are_permitted}
 use Rattle.law_parts.proofs.OfMail.Lives.{life_shows}
 use Rattle.law_parts.proofs.mail.law_world_mailbox.Goals as goal
 
-pub returns-clause-fair : goal.returns-clause-fair
-returns-clause-fair c = λ opening session events opened. are_fair opening session events opened
+pub returns-clause-permitted : goal.returns-clause-permitted
+returns-clause-permitted c = λ opening session events opened. are_permitted opening session events opened
 
 pub returns-clause-shows : goal.returns-clause-shows
 returns-clause-shows c = λ opening session events opened. life_shows opening session events opened

@@ -2,7 +2,7 @@
 use Rattle.fkv_flush.specs.GuardLevels.{levels_of}
 use Rattle.fkv_world.specs.Runs.{run}
 use Rattle.law_refine.specs.Events.GhostEvents.{life_ghosts}
-use Rattle.law_refine.proofs.OfRecords.Below.{published_fair}
+use Rattle.law_refine.proofs.OfRecords.Below.{published_permitted}
 use Rattle.law_refine.proofs.OfRecords.Frames.{device_shows_log}
 use Rattle.law_refine.proofs.OfRecords.Life.{life_holds}
 use Rattle.law_refine.proofs.OfRecords.Standing.{stands_in}
@@ -10,9 +10,9 @@ use Rattle.law_refine.proofs.records.law_device_shows_log.Goals as goal
 
 pub returns-clause-synced : goal.returns-clause-synced
 returns-clause-synced c = λ opening start ghosts events store none published.
-    c.law_world_flushed_is_synced.ensures.synced opening start events store (published_fair opening start ghosts events store.now none published)
+    c.law_world_flushed_is_synced.ensures.synced opening start events store (published_permitted opening start ghosts events store.now none published)
 
 pub returns-clause-shows : goal.returns-clause-shows
 returns-clause-shows c = λ opening start ghosts events store none free published.
     device_shows_log opening.now.shape opening.past.opened (run opening events).past.calls (stands_in opening start events) start (levels_of (run opening events).now.words).flushed (life_ghosts opening ghosts events).log (life_holds opening start ghosts events store.now none free published).shows
-    (c.law_world_flushed_is_synced.ensures.synced opening start events store (published_fair opening start ghosts events store.now none published))
+    (c.law_world_flushed_is_synced.ensures.synced opening start events store (published_permitted opening start ghosts events store.now none published))

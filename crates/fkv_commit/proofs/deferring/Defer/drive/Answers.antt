@@ -1,5 +1,5 @@
 -- The raise inside stays at one of the eight slots, and tells one of them.
-use Rattle.fkv_commit.proofs.RaiseRange.{next_in_range, next_ask_in_range}
+use Rattle.fkv_epoch.proofs.Shown.{next_in_range, next_ask_in_range}
 use Rattle.fkv_commit.proofs.deferring.Defer.drive.Goals as goal
 
 pub invariant_of-self : goal.invariant_of-self

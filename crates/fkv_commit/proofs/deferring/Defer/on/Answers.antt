@@ -1,5 +1,5 @@
 -- The raise inside stays at one of the eight slots.
-use Rattle.fkv_commit.proofs.RaiseRange.{on_in_range}
+use Rattle.fkv_epoch.proofs.Shown.{on_in_range}
 use Rattle.fkv_commit.proofs.deferring.Defer.on.Goals as goal
 
 pub invariant_of-self : goal.invariant_of-self

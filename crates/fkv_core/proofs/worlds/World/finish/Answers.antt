@@ -1,5 +1,10 @@
 -- The moves so far are those of one actor, whatever ends them.
-use Rattle.std.proofs.Common.{◌∙◌, inl, inr, sym, arith}
+use Rattle.std.proofs.Common.{◌∙◌, inl, inr, sym, subst, refl, arith, Bool}
+use Rattle.std.specs.Prelude.{Option, None}
+use Rattle.fkv_world.specs.World.{Now}
+use Rattle.fkv_core.specs.declared.events.Told.{Told}
+use Rattle.fkv_core.specs.Told.{IsAnswerBehind}
+use Rattle.fkv_core.proofs.Answered.{ended_rests}
 use Rattle.fkv_core.proofs.LoneMoves.{none_yet, told_last, told_nothing}
 use Rattle.fkv_core.proofs.worlds.World.finish.Goals as goal
 
@@ -14,23 +19,28 @@ returns-then-not-is_in_hand-clause-alone g c =
 pub returns-then-not-is_in_hand-clause-honest : goal.returns-then-not-is_in_hand-clause-honest
 returns-then-not-is_in_hand-clause-honest g c = c.loop.invariant.honest
 
-pub returns-then-is_some-clause-alone : goal.returns-then-is_some-clause-alone
-returns-then-is_some-clause-alone g c =
-    told_last c.args.actor c.moving.result c.loop.counter c.args.self.now.now c.loop.self.now c.step-told.new.self.now c.step-told.result _ _ _ _ _ _ _ _ _ _ _ _ _ _ c.loop.invariant.so_far c.loop.invariant.honest.0 c.moving.ensures c.step-told.ensures.step (sym c.is_some.ensures ∙ c.if-is_some.true)
+pub returns-then-advance-clause-alone : goal.returns-then-advance-clause-alone
+returns-then-advance-clause-alone g c =
+    let after : Now = c.advance.new.self.now in
+    let told : Option Told = c.answer.result in
+    let tells : IsAnswerBehind c.advance.result c.moving-event.result after told = subst (λ (ended : Bool). IsAnswerBehind ended c.moving-event.result after told) (sym c.if-advance.true) c.answer.ensures.told in
+    rw c.answer.ensures.same
+    (told_last c.args.actor c.moving-event.result c.loop.counter c.args.self.now.now c.loop.self.now after told _ _ _ _ _ _ _ _ _ _ _ _ _ _ c.loop.invariant.so_far c.loop.invariant.honest.0 c.moving-event.ensures (c.advance.ensures.step told tells)
+    (ended_rests c.args.actor c.moving-event.result c.loop.self.now after c.advance.result c.moving-event.ensures c.advance.ensures.ended c.if-advance.true))
 
-pub returns-then-is_some-clause-honest : goal.returns-then-is_some-clause-honest
-returns-then-is_some-clause-honest g c =
+pub returns-then-advance-clause-honest : goal.returns-then-advance-clause-honest
+returns-then-advance-clause-honest g c =
     let was = c.loop.invariant.honest in
-    let more = c.step-told.ensures.honest in
-    (λ it. more.0 (was.0 it), λ it. was.1 (more.1 it))
+    let more = c.advance.ensures.honest in
+    rw c.answer.ensures.same (λ it. more.0 (was.0 it), λ it. was.1 (more.1 it))
 
 pub loop-preserved : goal.loop-preserved
 loop-preserved g c =
     let was = c.loop.invariant.honest in
-    let more = c.step-told.ensures.honest in
+    let more = c.advance.ensures.honest in
     record {
       honest = (λ it. more.0 (was.0 it), λ it. was.1 (more.1 it));
-      so_far = told_nothing c.args.actor c.moving.result c.loop.counter c.args.self.now.now c.loop.self.now c.step-told.new.self.now c.step-told.result _ _ _ _ _ _ _ _ _ _ _ _ _ _ c.loop.invariant.so_far was.0 c.moving.ensures c.step-told.ensures.step (sym c.is_some.ensures ∙ c.if-is_some.false);
+      so_far = told_nothing c.args.actor c.moving-event.result c.loop.counter c.args.self.now.now c.loop.self.now c.advance.new.self.now _ _ _ _ _ _ _ _ _ _ _ _ _ _ c.loop.invariant.so_far was.0 c.moving-event.ensures (c.advance.ensures.step None (subst (λ (ended : Bool). IsAnswerBehind ended c.moving-event.result c.advance.new.self.now None) (sym c.if-advance.false) refl));
     }
 
 pub returns-clause-alone : goal.returns-clause-alone

@@ -2,7 +2,7 @@
 use Rattle.std.proofs.Common.{rules, ◌≡◌, ◌-◌, ◌≤◌, arith, refl, subst}
 use Rattle.fkv_log.specs.Moving.{Mover, moving_next, moving_asks_left, move_asks_left}
 use Rattle.fkv_log.proofs.NestedLeft.{moving_fewer}
-use Rattle.fkv_log.proofs.RaiseRange.{next_in_range, on_in_range, ask_in_range, next_ask_in_range, next_ask_asks}
+use Rattle.fkv_epoch.proofs.Shown.{next_in_range, on_in_range, ask_in_range, next_ask_in_range, next_ask_asks}
 use Rattle.fkv_log.proofs.moving.MoveOffset.drive.Goals as goal
 
 pub after_raise-requires-clause-in_range : goal.after_raise-requires-clause-in_range

@@ -1,0 +1,201 @@
+-- That a session's own events in the log are enabled, beside a life without commits.
+use Rattle.std.proofs.Common.{◌≡◌, ℕ, ◌≤◌, ◌∙◌, List, [], ◌∷◌, ◌++◌, refl, arith, ap, sym, subst, Bool, true, false}
+use Rattle.std.specs.Prelude.{map, ◌==◌, if◌then◌else◌, Option, Some, None, slice_get}
+use Rattle.fkv_base.specs.declared.numbers.Version.{Version}
+use Rattle.fkv_epoch.proofs.Shown.{none_some}
+use Rattle.fkv_map.specs.Map.{Map}
+use Rattle.fkv_ops.specs.declared.requests.Request.{Request}
+use Rattle.fkv_ops.specs.declared.requests.Seen.{Seen}
+use Rattle.law_log.specs.Ghosts.{Log, Ghosts, GhostEvent, Fixes, Tells}
+use Rattle.law_log.specs.Enabled.{AreEnabled, NoneAbove, NoneCopies}
+use Rattle.law_log.specs.Trace.{TraceLine}
+use Rattle.fkv_plane.specs.declared.asks.Ask.{Ask}
+use Rattle.fkv_plane.specs.declared.asks.Ask.TheVariants.{Put, Take, Done}
+use Rattle.fkv_plane.specs.Asked.{asked, asked_place, reply_to, word_found}
+use Rattle.fkv_session.specs.declared.answers.Told.{Told}
+use Rattle.fkv_session.specs.declared.sessions.Sitting.{Sitting}
+use Rattle.fkv_session.specs.declared.sessions.Sitting.TheVariants.{Attempts, Polls}
+use Rattle.fkv_session.specs.Sessions.{SessionState, Seat, session_ask, session_next}
+use Rattle.law_local.specs.Sessions.Inputs.{AttemptsBy}
+use Rattle.law_local.specs.Sessions.Known.{is_attempting}
+use Rattle.law_local.specs.Tries.AttemptRows.{IsTrueOfAttempt}
+use Rattle.law_local.specs.Tries.Changes.{IsAlone}
+use Rattle.law_local.specs.Tries.TryRows.{key_in}
+use Rattle.fkv_world.specs.Runs.{World, happens, run}
+use Rattle.fkv_world.specs.World.{Event, Calls, Moves, Commits, Turns, KeeperMoves, Crashes, Now, seat_at}
+use Rattle.law_refine.specs.Heads.Heads.{AllMeetHeads}
+use Rattle.law_refine.proofs.OfHeads.LifeHeads.{life_meets}
+use Rattle.law_order.specs.Known.Begins.{BeginsLife, home_of_world}
+use Rattle.law_order.specs.Known.Knows.{AreKnown}
+use Rattle.law_order.specs.Known.Told.{AreToldTruly}
+use Rattle.law_refine.specs.Events.Effects.{mover_step, step_at}
+use Rattle.law_refine.specs.Events.GhostEvents.{fixed_ghosts, ghost_events, life_ghosts, mapped, moved_ghosts, own_ghosts, safe_at, serials_in, traced_by}
+use Rattle.law_refine.specs.Events.Lines.{lines_added}
+use Rattle.law_refine.specs.Events.Reservations.{Reservation}
+use Rattle.law_refine.specs.Events.Reserved.{HasReserved, reserved_by, tail_at}
+use Rattle.law_refine.specs.Events.Sessions.{sitting_ghosts, step_ghosts}
+use Rattle.law_refine.proofs.OfEvents.Fixed.{ghost_fixed}
+use Rattle.law_refine.proofs.OfEvents.Unborn.{ghost_unborn}
+use Rattle.law_refine.proofs.OfEvents.EventEffects.{life_makes}
+use Rattle.law_refine.proofs.OfEvents.SessionSteps.{life_on}
+use Rattle.law_refine.proofs.OfEvents.ReservedLife.{life_reserved}
+use Rattle.law_refine.specs.Records.Changes.{AreChangesPublished}
+use Rattle.law_refine.specs.Records.Frames.{IsAttempting}
+use Rattle.law_refine.proofs.OfRecords.FrameOwners.{sees_safely}
+use Rattle.law_order.specs.Rest.Logs.{CellsRest}
+use Rattle.law_order.specs.Rest.Resting.{HasNoCommit}
+use Rattle.law_order.specs.Rest.Sessions.{SitsAtRest}
+use Rattle.law_order.proofs.OfRest.Lives.{life_cells}
+use Rattle.law_order.proofs.OfRest.Worlds.{life_rests}
+use Rattle.law_order.proofs.OfRest.Cells.{none_above, none_above_reserved, none_copies}
+use Rattle.law_order.proofs.OfEnabled.Attempts.{life_attempts}
+use Rattle.law_order.proofs.OfKnown.Newest.{known_now}
+use Rattle.law_order.proofs.OfEnabled.InHand.{made_in_hand}
+use Rattle.law_order.proofs.OfEnabled.Ready.{AreTakesEnabled, AllTakeUnborn, behind_enabled, meets_then, takes_enabled, takes_unborn}
+use Rattle.law_order.proofs.OfEnabled.Tries.{sitting_enabled}
+
+-- ---- by the session's control state
+seen_at : (k : Seat) (s : SessionState) (step : Sitting) → AttemptsBy k s step → is_attempting step ≡ true → s.attempt.seen ≡ s.seen
+seen_at k s (Attempts has_shifted) so e = so.goes.its_seen
+seen_at k s (Polls index) so e = so.goes.its_seen
+seen_at k s step so e = cc
+
+version_at : (version : Version) (s : SessionState) (step : Sitting) → SitsAtRest version s step → is_attempting step ≡ true → s.attempt.pending.request.version ≡ version
+version_at version s (Attempts has_shifted) sits e = sits.goes.1.0
+version_at version s (Polls index) sits e = sits.goes.1.0
+version_at version s step sits e = cc
+
+attempting : (step : Sitting) → is_attempting step ≡ true → IsAttempting step
+attempting (Attempts has_shifted) e = tt
+attempting (Polls index) e = tt
+attempting step e = cc
+
+-- ---- no copy overlaps a change in place, where the request is of the version that all that is made is of
+none_overlap : (home : ℕ → ℕ) (log : Log) (request : Request) (seen : Seen) (version : Version) (at : ℕ) → log.fixed ≤ seen.offsets.read_only.0 → request.version ≡ version → CellsRest version.0 log.cells → IsAlone home log request seen at
+none_overlap home log request seen version at low same rests = record {
+  not_fixed = low;
+  newest = subst (λ (v : Version). NoneAbove log (home (key_in request)) v.0) (sym same) (none_above version.0 log (home (key_in request)) rests);
+  no_copies = subst (λ (v : Version). NoneCopies home log at v.0) (sym same) (none_copies version.0 home log at rests);
+}
+
+-- ---- lists of the log's events
+no_fix_enabled : (home : ℕ → ℕ) (g : Ghosts) (before safe : ℕ) (events : List GhostEvent) → AreEnabled home g events → AreEnabled home g (fixed_ghosts before safe ++ events)
+unfolding AreEnabled
+no_fix_enabled home g before safe events enabled = by_test (safe == before)
+  where
+    by_test : (c : Bool) → AreEnabled home g ((if c then [] else Fixes safe ∷ []) ++ events)
+    by_test true = enabled
+    by_test false = (enabled, tt)
+
+of_alive : (home : ℕ → ℕ) (g : Ghosts) (c : Bool) (events : List GhostEvent) → c ≡ false → AreTakesEnabled home g (if c then [] else events) → AreTakesEnabled home g events
+of_alive home g true events e takes = cc
+of_alive home g false events e takes = takes
+
+-- what the session that moves has reserved
+mover_reserves : (n : Now) (session : ℕ) (found : Option SessionState) (its : Reservation) → slice_get n.sessions session ≡ found → (mover_step n session found).reserved ≡ Some its → HasReserved n session its
+mover_reserves n session None its e reserved = none_some its reserved
+mover_reserves n session (Some s) its e reserved = record { state = s; found = e; reserved = reserved }
+
+step_reserves : (n : Now) (event : Event) (its : Reservation) → (step_at n event).reserved ≡ Some its → (session : ℕ) × HasReserved n session its
+step_reserves n (Moves session) its reserved = (session, mover_reserves n session (slice_get n.sessions session) its refl reserved)
+step_reserves n (Calls session call) its reserved = none_some its reserved
+step_reserves n (Commits kind) its reserved = none_some its reserved
+step_reserves n Turns its reserved = none_some its reserved
+step_reserves n (KeeperMoves granted done) its reserved = none_some its reserved
+step_reserves n Crashes its reserved = none_some its reserved
+
+module _ (opening : World) (start : ℕ) (lists : ℕ → List ℕ) (version : Version) (m : Map) (number : ℕ) (ghosts : Ghosts) (before : List Event) (begins : BeginsLife opening start lists version m number ghosts)
+    (none : HasNoCommit before) (published : AreChangesPublished opening ghosts before) (known : AreKnown opening ghosts before)
+    (told : AreToldTruly (home_of_world opening) (life_ghosts opening ghosts before).log (run opening before).now) where
+  abbrev W : World
+  W = run opening before
+
+  abbrev N : Now
+  N = W.now
+
+  abbrev G : Ghosts
+  G = life_ghosts opening ghosts before
+
+  abbrev H : ℕ → ℕ
+  H = home_of_world opening
+
+  cells_rest : CellsRest version.0 G.log.cells
+  cells_rest = life_cells opening start version ghosts before begins.store.now begins.rests none begins.cells
+
+  -- ---- what takes effect by an event
+  event_takes : (event : Event) → AreTakesEnabled H G (ghost_events (serials_in opening.now) W event)
+  unfolding mapped
+  event_takes event =
+      let events : List GhostEvent = ghost_events (serials_in opening.now) W event in
+      let makes = life_makes opening start before event begins.store.now in
+      let meets : AllMeetHeads H ghosts (events ++ mapped opening before) = life_meets opening start lists ghosts (event ∷ before) begins.store.now begins.index begins.unborn begins.reserves begins.heads in
+      takes_enabled H G (step_at N event) events makes.made makes.takes (meets_then H ghosts events (mapped opening before) meets)
+      (λ its reserved. life_reserved opening start ghosts before begins.store.now begins.unborn begins.reserves (step_reserves N event its reserved).0 its (step_reserves N event its reserved).1)
+      (λ a entry cell there. none_above_reserved version.0 G.log (H cell.key) a entry cell cells_rest there)
+      (λ entry is. made_in_hand opening start lists version m number ghosts begins before event makes.made (step_at N event).version entry published makes.history is)
+
+  own_takes : (event : Event) → N.crashed ≡ false → AreTakesEnabled H G (own_ghosts W event)
+  unfolding ghost_events
+  own_takes event alive =
+      let lines : List TraceLine = lines_added (serials_in opening.now) W.past.trace (traced_by W event) in
+      let fresh : List GhostEvent = fixed_ghosts (safe_at N) (safe_at (happens W event).now) in
+      behind_enabled H G fresh (own_ghosts W event)
+      (behind_enabled H G (map Tells lines) (fresh ++ own_ghosts W event) (of_alive H G N.crashed (map Tells lines ++ (fresh ++ own_ghosts W event)) alive (event_takes event)))
+
+  -- ---- the address that a step takes is the tail
+  tail_unborn : (session : ℕ) (s : SessionState) (ask : Ask Told) → session_ask (seat_at N session) s ≡ ask → slice_get N.sessions session ≡ Some s
+      → AllTakeUnborn G.log (sitting_ghosts (seat_at N session) W.past.trace s s.step (reply_to N.words ask))
+  tail_unborn session s ask e found =
+      let k : Seat = seat_at N session in
+      let reply : ℕ = reply_to N.words ask in
+      takes_unborn G.log (asked_place (session_ask k s)) (asked (session_ask k s)) reply (sitting_ghosts k W.past.trace s s.step reply) (reserved_by session s) (reserved_by session (session_next k s reply))
+      (life_on opening start before session s reply begins.store.now found)
+      (λ a takes.
+      let at_tail : reply ≡ tail_at N = ap (λ (x : Ask Told). reply_to N.words x) (sym e) ∙ ap (word_found N.words) takes.at in
+      let same : a ≡ tail_at N = takes.found ∙ at_tail in
+      ghost_unborn opening start ghosts before begins.store.now begins.unborn a (omega (arith, same)))
+
+  -- ---- a session's step
+  none_beside : (session : ℕ) (s : SessionState) → slice_get N.sessions session ≡ Some s → is_attempting s.step ≡ true → (at : ℕ) → IsAlone H G.log s.attempt.pending.request s.attempt.seen at
+  none_beside session s found attempts at =
+      let fixed : G.log.fixed ≡ safe_at N = ghost_fixed opening start ghosts before begins.store.now begins.fixed in
+      let safe : safe_at N ≤ s.seen.offsets.read_only.0 = (sees_safely opening start before session s begins.store.now found (attempting s.step attempts)).read_only in
+      let seen : s.attempt.seen ≡ s.seen = seen_at (seat_at opening.now session) s s.step (life_attempts opening before session s begins.world found) attempts in
+      let low : G.log.fixed ≤ s.seen.offsets.read_only.0 = omega (arith, fixed, safe) in
+      none_overlap H G.log s.attempt.pending.request s.attempt.seen version at (subst (λ (x : Seen). G.log.fixed ≤ x.offsets.read_only.0) (sym seen) low)
+      (version_at version s s.step ((life_rests opening start version before begins.store.now begins.rests none).sessions session s found).sits attempts) cells_rest
+
+  step_enabled : (session : ℕ) (s : SessionState) → slice_get N.sessions session ≡ Some s → (ask : Ask Told) → session_ask (seat_at N session) s ≡ ask
+      → AreTakesEnabled H G (step_ghosts (seat_at N session) W.past.trace s N.words ask) → AreEnabled H G (step_ghosts (seat_at N session) W.past.trace s N.words ask)
+  unfolding step_ghosts AreEnabled
+  step_enabled session s found (Done its) e takes = tt
+  step_enabled session s found (Put slot action) e takes = tt
+  step_enabled session s found (Take slot) e takes = tt
+  step_enabled session s found ask e takes =
+      let k : Seat = seat_at N session in
+      let reply : ℕ = reply_to N.words ask in
+      sitting_enabled H G k W.past.trace s s.step reply (λ attempts. (known_now opening ghosts before known session s found).attempted attempts)
+      (λ attempts. subst (λ (x : Ask Told). IsTrueOfAttempt H G.log N.places s.attempt s.attempt.step (reply_to N.words x)) e (told session s found attempts))
+      (none_beside session s found) (record { takes = takes; unborn = tail_unborn session s ask e found })
+
+  moved_enabled : (session : ℕ) (found : Option SessionState) → slice_get N.sessions session ≡ found → AreTakesEnabled H G (moved_ghosts W session found) → AreEnabled H G (moved_ghosts W session found)
+  unfolding AreEnabled
+  moved_enabled session None e takes = tt
+  moved_enabled session (Some s) e takes = step_enabled session s e (session_ask (seat_at N session) s) refl takes
+
+  event_enabled : (event : Event) → AreTakesEnabled H G (own_ghosts W event) → AreEnabled H G (own_ghosts W event)
+  unfolding AreEnabled
+  event_enabled (Moves session) takes = moved_enabled session (slice_get N.sessions session) refl takes
+  event_enabled event takes = tt
+
+  pub events_enabled : (event : Event) → N.crashed ≡ false → AreEnabled H G (own_ghosts W event)
+  events_enabled event alive = event_enabled event (own_takes event alive)
+
+pub own_enabled : (opening : World) (start : ℕ) (lists : ℕ → List ℕ) (version : Version) (m : Map) (number : ℕ) (ghosts : Ghosts) (before : List Event) (event : Event)
+    → BeginsLife opening start lists version m number ghosts → HasNoCommit (event ∷ before) → AreEnabled (home_of_world opening) ghosts (mapped opening before)
+    → AreChangesPublished opening ghosts before → AreKnown opening ghosts before → AreToldTruly (home_of_world opening) (life_ghosts opening ghosts before).log (run opening before).now
+    → (run opening before).now.crashed ≡ false
+    → AreEnabled (home_of_world opening) (life_ghosts opening ghosts before) (fixed_ghosts (safe_at (run opening before).now) (safe_at (run opening (event ∷ before)).now) ++ own_ghosts (run opening before) event)
+own_enabled opening start lists version m number ghosts before event begins none enabled published known told alive =
+    no_fix_enabled (home_of_world opening) (life_ghosts opening ghosts before) (safe_at (run opening before).now) (safe_at (run opening (event ∷ before)).now) (own_ghosts (run opening before) event)
+    (events_enabled opening start lists version m number ghosts before begins none.1 published known told event alive)

@@ -1,0 +1,190 @@
+-- The law of prefixes: what each image holds that a crash may leave of a life, and what points a commit has.
+use Rattle.std.specs.Prelude.{◌≡◌, ⊤, ℕ, ◌+◌, ◌≤◌, true, false, List, [], ◌∷◌, ◌++◌, Some}
+use Rattle.fkv_base.specs.declared.faults.Fault.{Fault}
+use Rattle.fkv_base.specs.declared.numbers.Serial.{Serial}
+use Rattle.fkv_commit.specs.declared.commits.Commit.{Commit}
+use Rattle.fkv_core.specs.Openings.{IsOpeningWorld, beginning}
+use Rattle.fkv_creating.specs.Long.{IsLong}
+use Rattle.fkv_disk.specs.Calls.{Call, MayLeave}
+use Rattle.fkv_map.specs.History.{AreAtMost, IsLegal, IsWhole, content, kept, point_of}
+use Rattle.fkv_map.specs.Map.{Map}
+use Rattle.fkv_map.specs.declared.history.HistoryEntry.{HistoryEntry}
+use Rattle.fkv_newest.specs.Newest.{IsNewestOf}
+use Rattle.fkv_newest.specs.declared.newest_slots.Newest.{Newest}
+use Rattle.fkv_opening.specs.Faults.{IsFaultOf}
+use Rattle.fkv_opening.specs.Opened.{IsStoreOf}
+use Rattle.fkv_opening.specs.declared.opened_store.Opened.{Opened}
+use Rattle.fkv_world.specs.Runs.{run}
+use Rattle.fkv_world.specs.World.{Event, Now}
+use Rattle.law_commit.specs.Accepted.{serial_at}
+use Rattle.law_commit.specs.BegunCommits.{BegunCommit}
+use Rattle.law_commit.specs.PrefixPast.{PrefixPast, prefix_past}
+use Rattle.law_commit.specs.ToldPoints.{ToldPoint}
+use Rattle.law_log.specs.Trace.{IsIn, history_of}
+use Rattle.law_opening.specs.Log.Maps.{opening_map}
+use Rattle.law_order.specs.OneHistory.EachLife.{InEachLife}
+use Rattle.law_order.specs.Rules.InTime.{ReadsInTime}
+use Rattle.law_order.specs.Rules.Ordered.{HasLegalHistory, IsGuarded, OrdersItsCalls, ReadsFreshly, RunsActionsOnce, effects_so_far, now_after}
+use Rattle.law_order.specs.Served.Fits.{CallsFit}
+use Rattle.law_order.specs.Tickets.Few.{HasFewCalls}
+
+-- ---- a life so far: its updates in their order of effect; its writes and syncs of the device; its commits, and what sessions were told of them
+abbrev pub history_so_far : Now → List ℕ → List Event → List HistoryEntry
+history_so_far n bytes events = history_of (effects_so_far n bytes events)
+
+abbrev pub calls_so_far : Now → List ℕ → List Event → List Call
+calls_so_far n bytes events = (run (beginning n bytes) events).past.calls
+
+abbrev pub past_so_far : Now → List ℕ → List Event → PrefixPast
+past_so_far n bytes events = prefix_past (beginning n bytes) events
+
+-- ---- recovered
+-- An image ends at or above the end of all that its newest slot names. One that somebody cut may open too, since bytes past the end read as 0. Once a later
+-- write makes it longer a crash may leave anything there. A new store reaches far, and so does each image that a life leaves.
+pub record ReachesFar (image : List ℕ) : Type 0 where
+  pub newest : Newest
+  pub its : IsNewestOf image newest
+  pub long : IsLong image newest.shape newest.slot
+
+-- A commit is current: it has begun, no finished one is newer, and its points are no less than what sessions were told as durable.
+pub record IsCurrent (past : PrefixPast) (c : BegunCommit) : Type 0 where
+  pub begun : IsIn c past.begun
+  pub newest : (d : BegunCommit) → IsIn d past.begun → d.is_finished ≡ true → d.number.0 ≤ c.number.0
+  pub durable : (session : ℕ) (told : ToldPoint) → IsIn told (past.told session) → told.point ≤ point_of c.points session
+
+-- the updates of a life so far that these points keep
+abbrev pub kept_so_far : Now → List ℕ → List Event → List Serial → List HistoryEntry
+kept_so_far n bytes events points = kept (history_so_far n bytes events) points
+
+-- A store is what a commit keeps of a life. It has the commit's number and points. Its map is the one with which the life began, behind a replay of just each
+-- session's updates up to its point, in their order of effect. The replay is legal with the replies that were given. No point has fallen in the life.
+pub record IsKeptOf (o : Opened) (n : Now) (bytes : List ℕ) (events : List Event) (c : BegunCommit) (image : List ℕ) (r : Opened) : Type 0 where
+  pub shape : r.shape ≡ o.shape
+  pub number : r.number ≡ c.number
+  pub points : (session : ℕ) → point_of r.points.items session ≡ point_of c.points session
+  pub pairs : opening_map image r ≡ content (opening_map bytes o) (kept_so_far n bytes events r.points.items)
+  pub legal : IsLegal (opening_map bytes o) (kept_so_far n bytes events r.points.items)
+  pub whole : IsWhole (history_so_far n bytes events) o.points.items r.points.items
+  pub risen : AreAtMost o.points.items r.points.items
+
+-- An image holds a prefix of a life. No fault stands in it, and any store that it holds is what one current commit keeps. It reaches as far as the next life
+-- asks.
+pub record HoldsPrefix (o : Opened) (n : Now) (bytes : List ℕ) (events : List Event) (image : List ℕ) : Type 0 where
+  pub commit : BegunCommit
+  pub current : IsCurrent (past_so_far n bytes events) commit
+  pub faultless : (fault : Fault) → IsFaultOf image fault → ⊥
+  pub kept : (r : Opened) → IsStoreOf image r → IsKeptOf o n bytes events commit image r
+  pub reaches : ReachesFar image
+
+-- If a life began with an image that reaches far, each image holds a prefix of it that a crash may leave.
+abbrev pub RecoversPrefix : Opened → Now → List ℕ → List Event → Type 0
+RecoversPrefix o n bytes events = ReachesFar bytes → (image : List ℕ) → MayLeave bytes (calls_so_far n bytes events) image → HoldsPrefix o n bytes events image
+
+-- ---- permitted
+-- A session's point is permitted. It is at least the last serial that the session had given as the commit was asked for, and at most the last that it has given. It
+-- is no less than its point in the commit before.
+pub record IsPermittedPoint (asked given before point : ℕ) : Type 0 where
+  pub since_asked : asked ≤ point
+  pub till_now : point ≤ given
+  pub risen : before ≤ point
+
+-- The points of the commit in hand are permitted, from the moment at which they are taken.
+abbrev pub TakesPermittedPoints : Now → PrefixPast → Type 0
+TakesPermittedPoints now past = (c : Commit) → now.keeper.commit ≡ Some c → now.keeper.has_points ≡ true
+    → (session : ℕ) → IsPermittedPoint (past.asked session) (serial_at now session) (point_of now.keeper.last.points session) (point_of now.keeper.seek.points session)
+
+-- The newest commit that has begun has the points that were taken, as long as it isn't finished.
+abbrev pub BeginsWithTaken : Now → List BegunCommit → Type 0
+BeginsWithTaken now [] = ⊤
+BeginsWithTaken now (c ∷ older) = c.is_finished ≡ false → (now.keeper.has_points ≡ true) × (c.points ≡ now.keeper.seek.points)
+
+-- So it is at each moment of a life.
+abbrev pub HasPermittedPoints : Opened → Now → List ℕ → List Event → Type 0
+HasPermittedPoints o n bytes events = (later before : List Event) → events ≡ later ++ before
+    → TakesPermittedPoints (now_after n bytes before) (past_so_far n bytes before) × BeginsWithTaken (now_after n bytes before) (past_so_far n bytes before).begun
+
+-- ---- durable
+-- A commit is one of so many that were told as finished: their numbers come one behind the other, from the opening's on.
+abbrev pub IsAmongFinished : Opened → ℕ → BegunCommit → Type 0
+IsAmongFinished o finished c = c.number.0 ≤ o.number.0 + finished
+
+-- What a session was told as durable is its point in a commit whose open gate is synced. It is no less than its point in each commit that was told as finished
+-- before its call.
+pub record IsToldDurable (o : Opened) (past : PrefixPast) (session : ℕ) (told : ToldPoint) : Type 0 where
+  pub commit : BegunCommit
+  pub begun : IsIn commit past.begun
+  pub is_sealed : (let c = commit in c.is_sealed ≡ true)
+  pub point : (let c = commit in told.point ≡ point_of c.points session)
+  pub since : (d : BegunCommit) → IsIn d past.begun → IsAmongFinished o told.finished d → point_of d.points session ≤ told.point
+
+-- So is each answer.
+abbrev pub TellsDurable : Opened → Now → List ℕ → List Event → Type 0
+TellsDurable o n bytes events = (session : ℕ) (told : ToldPoint) → IsIn told ((past_so_far n bytes events).told session) → IsToldDurable o (past_so_far n bytes events) session told
+
+-- ---- lives that follow one another
+-- a life: the bytes with which it begins, the store that they hold, the world that this opens with, and its events
+pub record Life : Type 0 where
+  pub bytes : List ℕ
+  pub opened : Opened
+  pub world : Now
+  pub events : List Event
+
+pub record IsLife (its : Life) : Type 0 where
+  pub store : IsStoreOf its.bytes its.opened
+  pub begins : IsOpeningWorld its.opened its.world
+  pub fits : CallsFit its.events
+  pub few : HasFewCalls its.events
+
+abbrev pub map_of : Life → Map
+map_of its = opening_map its.bytes its.opened
+
+abbrev pub points_of : Life → List Serial
+points_of its = its.opened.points.items
+
+-- The first of them begins with an image that reaches far, each other one with an image that a crash may leave of the life before it.
+abbrev pub BeginsBehind : Life → List Life → Type 0
+BeginsBehind its [] = ReachesFar its.bytes
+BeginsBehind its (last ∷ before) = MayLeave last.bytes (calls_so_far last.world last.bytes last.events) its.bytes
+
+-- the newest first
+abbrev pub AreLives : List Life → Type 0
+AreLives [] = ⊤
+AreLives (its ∷ before) = IsLife its × BeginsBehind its before × AreLives before
+
+-- the first of a life and those before it
+abbrev pub first_of : Life → List Life → Life
+first_of its [] = its
+first_of its (last ∷ before) = first_of last before
+
+-- What the points of a store keep of all lives before it: of what the last of them began with, and of the last one's own updates.
+abbrev pub kept_of_all : List Serial → List Life → List HistoryEntry
+kept_of_all points [] = []
+kept_of_all points (last ∷ before) = kept (kept_of_all (points_of last) before ++ history_so_far last.world last.bytes last.events) points
+
+-- A life begins with all that was kept. Its map is the first life's, behind a replay of what is kept of all lives before. The replay is legal with the replies
+-- that were given. It has each session's serials above the first life's point, up to the point now, once each, and no others.
+pub record BeginsWithKept (its : Life) (before : List Life) : Type 0 where
+  pub pairs : map_of its ≡ content (map_of (first_of its before)) (kept_of_all (points_of its) before)
+  pub legal : IsLegal (map_of (first_of its before)) (kept_of_all (points_of its) before)
+  pub whole : IsWhole (kept_of_all (points_of its) before) (points_of (first_of its before)) (points_of its)
+
+-- So does each of the lives that follow one another.
+abbrev pub LivesFollow : Type 0
+LivesFollow = (its : Life) (before : List Life) → AreLives (its ∷ before) → BeginsWithKept its before
+
+-- ---- The law of prefixes, by its ten clauses. `law_order` shows the first six of lives without commits. `law_lives` shows the last, by `recovered`.
+pub record PrefixLaw : Type 0 where
+  -- the updates of a life take effect in one order, legal with the replies that were given, and reads are answered from it
+  pub legal : InEachLife HasLegalHistory
+  pub ordered : InEachLife OrdersItsCalls
+  pub fresh : InEachLife ReadsFreshly
+  pub in_time : InEachLife ReadsInTime
+  -- no step changes a flushed record or a frame that an epoch protects
+  pub guarded : InEachLife IsGuarded
+  pub once : InEachLife RunsActionsOnce
+  -- what is recovered of any image left is what the newest finished commit keeps, or the one that is being finished
+  pub recovered : InEachLife RecoversPrefix
+  -- and that is what its points say
+  pub permitted : InEachLife HasPermittedPoints
+  pub durable : InEachLife TellsDurable
+  pub lives : LivesFollow

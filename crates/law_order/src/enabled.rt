@@ -1,0 +1,29 @@
+//! That a session's own steps are enabled in the order law's log, in every life without commits of a store that was opened.
+ghost use Rattle.std.specs.Prelude.{◌≡◌, ◌∷◌, ◌++◌, ℕ, List, false};
+ghost use Rattle.fkv_base.specs.declared.numbers.Version.{Version};
+ghost use Rattle.fkv_map.specs.Map.{Map};
+ghost use Rattle.law_log.specs.Ghosts.{Ghosts};
+ghost use Rattle.law_log.specs.Enabled.{AreEnabled};
+ghost use Rattle.fkv_world.specs.Runs.{World, run};
+ghost use Rattle.fkv_world.specs.World.{Event};
+ghost use Rattle.law_order.specs.Known.Begins.{BeginsLife, home_of_world};
+ghost use Rattle.law_order.specs.Known.Knows.{AreKnown};
+ghost use Rattle.law_order.specs.Known.Told.{AreToldTruly};
+ghost use Rattle.law_refine.specs.Events.GhostEvents.{fixed_ghosts, life_ghosts, mapped, own_ghosts, safe_at};
+ghost use Rattle.law_refine.specs.Records.Changes.{AreChangesPublished, ChangesPublished};
+ghost use Rattle.law_order.specs.Rest.Resting.{HasNoCommit};
+
+/// In every life without commits, at each moment at which its sessions know what they have to of the log beside it: the record that a session is about to
+/// change in place is published there. Where moreover all events of the log were enabled so far, each such change met a published record, and the words
+/// of the store tell each session the truth, what a session does by the next event is enabled too, and so is a raise of the safe read-only offset.
+pub fn law_world_enabled()
+    ensures published { (opening : World) (start : ℕ) (lists : ℕ → List ℕ) (version : Version) (m : Map) (number : ℕ) (ghosts : Ghosts) (before : List Event) (event : Event)
+        → BeginsLife opening start lists version m number ghosts → AreKnown opening ghosts before
+        → ChangesPublished (run opening before).now (life_ghosts opening ghosts before).log event }
+    ensures enabled { (opening : World) (start : ℕ) (lists : ℕ → List ℕ) (version : Version) (m : Map) (number : ℕ) (ghosts : Ghosts) (before : List Event) (event : Event)
+        → BeginsLife opening start lists version m number ghosts → HasNoCommit (event ∷ before) → AreEnabled (home_of_world opening) ghosts (mapped opening before)
+        → AreChangesPublished opening ghosts before → AreKnown opening ghosts before
+        → AreToldTruly (home_of_world opening) (life_ghosts opening ghosts before).log (run opening before).now
+        → (run opening before).now.crashed ≡ false
+        → AreEnabled (home_of_world opening) (life_ghosts opening ghosts before) (fixed_ghosts (safe_at (run opening before).now) (safe_at (run opening (event ∷ before)).now) ++ own_ghosts (run opening before) event) }
+{}

@@ -1,0 +1,31 @@
+//! The law of prefixes: what follows of its parts. The law itself is `PrefixLaw`, of which not all is proved yet.
+ghost use Rattle.std.specs.Prelude.{◌≡◌, ℕ, List};
+ghost use Rattle.fkv_map.specs.History.{content, kept};
+ghost use Rattle.fkv_map.specs.Map.{Map};
+ghost use Rattle.fkv_newest.specs.declared.newest_slots.Newest.{Newest};
+ghost use Rattle.fkv_opening.specs.Opened.{IsStoreOf};
+ghost use Rattle.fkv_opening.specs.declared.opened_store.Opened.{Opened};
+ghost use Rattle.law_log.specs.Ghosts.{Ghosts};
+ghost use Rattle.law_log.specs.Trace.{history_of};
+ghost use Rattle.law_opening.specs.Log.Maps.{opening_map};
+ghost use Rattle.law_order.specs.OneHistory.EachLife.{InEachLife};
+ghost use Rattle.law_order.specs.Prefix.Law.{LivesFollow, RecoversPrefix};
+ghost use Rattle.law_paper.specs.Kept.{KeepsPrefix};
+ghost use Rattle.law_paper.specs.Paper.Named.{IsOfCommit};
+
+use law_opening::law_log_opened;
+
+/// If each image that a crash may leave of a life holds a prefix of it, lives follow one another. Each begins with the first store's map behind a replay of
+/// what was kept of all lives before. That is legal with the replies that were given, and has each session's serials up to its point once.
+pub fn law_lives()
+    ensures { InEachLife RecoversPrefix → LivesFollow }
+{}
+
+/// If an image's store has the values that a log shows of versions up to a commit's, and its points keep just what the log has of these, its map is the
+/// content of what they keep. `law_paper` shows the one of each image with a commit in force, and the other of each commit's points.
+pub fn law_join()
+    ensures { (home : ℕ → ℕ) (image : List ℕ) (n : Newest) (r : Opened) (store : IsStoreOf image r) (m : Map) (g : Ghosts) → IsOfCommit home image n g.log r store
+        → KeepsPrefix home m r.points.items n.slot.number g → opening_map image r ≡ content m (kept (history_of g.log.history) r.points.items) }
+{
+    law_log_opened();
+}

@@ -1,0 +1,114 @@
+"""The program over a store's file: one process alone has it open, what is no store is left as it is, and the folder of a new file is
+synced before anything is written."""
+import os
+import re
+import subprocess
+import sys
+import tempfile
+
+from programs import TOP
+
+PROGRAM = os.environ.get("FKV") or os.path.join(TOP, "crates/fkv/out/fkv")
+SHAPE = "shape 4 16 4 2 1 0 64\n"
+# more answers than a pipe holds, so that the program waits for its reader, with its store open
+LONG = SHAPE + "0 get 1\n" * 20_000
+OPENED = "open commit 0 points 0 pairs 0\n"
+REFUSED = "refused 14 Device\n"
+SECONDS = 60
+# a call by its name, the path of the file that it is about, and its answer
+CALL = re.compile(r"^(?:\d+ +)?(\w+)\((?:AT_FDCWD<[^>]*>, \"([^\"]*)\"|\d+<([^>]*)>)(.*)\) += (\S+)")
+
+
+def need(name, got, wanted):
+    if got != wanted:
+        sys.exit(f"{name}: {got!r}; it should be {wanted!r}")
+
+
+def ran(path, script):
+    """The status, what is written, and the complaint."""
+    run = subprocess.run([PROGRAM, "--file", path], input=script, capture_output=True, text=True, timeout=SECONDS)
+    return run.returncode, run.stdout, run.stderr
+
+
+def held(path):
+    with open(path, "rb") as file:
+        return file.read()
+
+
+def started(path):
+    """A process that has a new store open in the file, and waits."""
+    with tempfile.TemporaryFile("w+") as script:
+        script.write(LONG)
+        script.seek(0)
+        process = subprocess.Popen([PROGRAM, "--file", path], stdin=script, stdout=subprocess.PIPE)
+    need("a process that has the store open", process.stdout.read(1), b"0")
+    return process
+
+
+def one_alone(path):
+    """Two processes on one file; and the first is killed with the lock held."""
+    first = started(path)
+    try:
+        before = held(path)
+        for script in ("open\n", SHAPE):
+            status, output, complaint = ran(path, script)
+            refused = (status, output, complaint.endswith("is in use by another process\n"))
+            need(f"{script.split()[0]} in a second process", refused, (3, REFUSED, True))
+            need("the file behind it", held(path), before)
+    finally:
+        first.kill()
+        first.wait()
+        first.stdout.close()
+    need("open once the first process is killed", ran(path, "open\n"), (0, OPENED, ""))
+
+
+def calls_of(path, script):
+    """The calls that a run makes on files, in turn: name, path, whatever else is said, answer."""
+    with tempfile.NamedTemporaryFile("r") as calls:
+        asked = "trace=open,openat,flock,ftruncate,fsync,fdatasync,read,write,pread64,pwrite64,lseek"
+        strace = ["strace", "-f", "-y", "-qq", "-s", "0", "-e", asked, "-o", calls.name]
+        run = subprocess.run([*strace, PROGRAM, "--file", path], input=script, capture_output=True, text=True, timeout=SECONDS)
+        found = [it.groups() for line in calls if (it := CALL.match(line))]
+    return run.returncode, [(name, named or about, more, answer) for name, named, about, more, answer in found]
+
+
+def place_of(calls, name, path):
+    """Where the first such call stands that succeeds; none where there is none."""
+    return next((n for n, it in enumerate(calls) if it[:2] == (name, path) and not it[3].startswith("-")), None)
+
+
+def folder_is_synced(path):
+    """The file is locked before anything else, and neither it nor an answer is written before its folder is synced."""
+    folder = os.path.dirname(path)
+    status, calls = calls_of(path, SHAPE + "0 get 1\n")
+    need("the status of a new store", status, 0)
+    opened, locked = place_of(calls, "openat", path), place_of(calls, "flock", path)
+    synced, written = place_of(calls, "fsync", folder), place_of(calls, "write", path)
+    answered = next(n for n, it in enumerate(calls) if it[0] == "write" and it[1].startswith("pipe:"))
+    if not opened < locked < synced < written < answered or any("O_TRUNC" in it[2] or it[0] == "ftruncate" for it in calls):
+        sys.exit(f"a new file: its opening, its lock, its folder's sync, its first write and the first answer come in another turn: {calls}")
+    if any(it[1] == path and it[0] not in ("openat", "flock") for it in calls[:locked]):
+        sys.exit(f"a new file is used before its lock: {calls}")
+    status, calls = calls_of(path, SHAPE)
+    need("the status of a store over an older one", (status, place_of(calls, "fsync", folder)), (0, None))
+
+
+def foreign_is_left(path):
+    """A file that is no store is read and left."""
+    text = b"not a store\n" * 400
+    with open(path, "wb") as file:
+        file.write(text)
+    status, calls = calls_of(path, SHAPE)
+    need("the status of a store over a foreign file", status, 3)
+    need("the writes to a foreign file", [it for it in calls if it[1] == path and it[0] in ("write", "pwrite64", "ftruncate")], [])
+    need("a foreign file", held(path), text)
+
+
+def alone(folder):
+    """How many of these there are; it ends the program where one goes wrong."""
+    if not os.path.exists(PROGRAM):
+        sys.exit(f"{sys.argv[0]}: there is no program {PROGRAM}: `make fkv` proves and leaves it")
+    checks = (one_alone, folder_is_synced, foreign_is_left)
+    for number, check in enumerate(checks):
+        check(os.path.join(os.path.realpath(folder), f"alone{number}"))
+    return len(checks)

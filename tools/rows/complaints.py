@@ -1,0 +1,109 @@
+"""Complaints: the line on standard error that says in words why a run ended as it did. rows.py counts these lines for each row; here
+stands what they say."""
+from files import FILE
+from rows import Row
+from samples import NEW, ONE, Sample, changed
+from shapes import ONE as SHAPE
+
+WORDS = "; the words are --seed N, --check, --torn B and --file PATH"
+MOST = 2**64 - 1
+
+OPTIONS = [
+    (("x",), 'the word "x" is unknown'),
+    (("--threads",), 'the word "--threads" is unknown'),
+    (("--", "--check"), 'the word "--check" is unknown'),
+    (("y" * 99,), f'the word "{"y" * 40}.." is unknown'),
+    (("a\n",), 'the word "a\\n" is unknown'),
+    (("--seed",), "--seed needs a value"),
+    (("--file", "--check"), "--file needs a value"),
+    (("--seed", "x"), f'--seed needs a number from 0 to {MOST}, and "x" is none'),
+    (("--torn=256",), '--torn needs a number from 0 to 255, and "256" is none'),
+    (("--check=1",), "--check takes no value"),
+    (("--file", "a", "--file", "b"), "--file stands twice"),
+    ((b"\xff",), "a word is no UTF-8 text"),
+]
+
+SIZES = [
+    ("11 16 4 2 1 0 64", "K, the bucket bits, is 11, and has to be from 0 to 10"),
+    ("4 6 4 2 1 0 64", "P, the records of a page, is 6, and has to be a power of two from 4 to 1024"),
+    ("4 16 128 2 1 0 64", "F, the frames, is 128, and has to be a power of two from 2 to 64"),
+    ("4 16 4 4 1 0 64", "M, the mutable pages, is 4, and has to be from 1 to 3"),
+    ("4 16 4 2 33 0 64", "S, the sessions, is 33, and has to be from 1 to 32"),
+    ("4 16 4 2 1 1025 64", "O, the overflow buckets, is 1025, and has to be from 0 to 1024"),
+    ("4 16 4 2 1 0 0", "D, the pages on the device, is 0, and has to be from 1 to 65536"),
+    ("11 6 4 2 1 0 0", "K, the bucket bits, is 11, and has to be from 0 to 10"),
+]
+
+SESSION = "up, del, add, max, get, refresh, poll, sleep or wake"
+HEAD = "a session's number, k, crash or fail"
+
+# what stands behind `shape`, and the complaint of it
+LINES = [
+    ("#" * 201, "Size", "it has 201 bytes, and a line has at most 200"),
+    ("open", "Order", '"open" opens a store, which the first line alone does'),
+    ("put 1", "Word", f'"put" is unknown; this place takes {HEAD}'),
+    ("k\xfc turn", "Word", f'"k\\xc3\\xbc" is unknown; this place takes {HEAD}'),
+    ("0 put 1", "Word", f'"put" is unknown; this place takes {SESSION}'),
+    ("k tur", "Word", '"tur" is unknown; this place takes commit, turn or finish'),
+    ("k commit full", "Word", '"full" is unknown; this place takes log or nothing'),
+    ("k", "Count", '"k" takes a verb, and has 0 words behind it'),
+    ("0 up 1", "Count", '"up" takes two numbers, and has 1 word behind it'),
+    ("0 poll 1 2", "Count", '"poll" takes no word, and has 2 words behind it'),
+    ("crash 1 2", "Count", '"crash" takes the number of a call or nothing, and has 2 words behind it'),
+    ("0 up 1 +2", "Number", f'"+2" is no number from 0 to {MOST}'),
+    ("0x up 1 2", "Number", f'"0x" is no number from 0 to {MOST}'),
+    (f"0 get {2**64}", "Number", f'"{2**64}" is no number from 0 to {MOST}'),
+    ("fail 0", "Number", f'"0" is no number from 1 to {MOST}'),
+]
+
+LINES_OF_FILE = [("crash", '"crash" is for a store in memory: not with --file'), ("fail 1", '"fail" is for a store in memory: not with --file')]
+
+# files, the line that opens the store, what is printed, and the complaint of the file
+TEXT = b"not a store\n"
+FILES = [
+    (None, "open", "14 Device", "can't be opened: entity not found"),
+    (TEXT, SHAPE, "14 Device", "holds something that is no store, and is left as it is"),
+    (TEXT, "open", "15 NotAStore", "holds no store"),
+    (b"\0" * 1535 + b"\1", SHAPE, "14 Device", "holds something that is no store, and is left as it is"),
+    (b"FKVSTOR" + b"\0" * 2000, SHAPE, "14 Device", "holds something that is no store, and is left as it is"),
+    (changed(ONE.image(), (3334, 1)), "open", "16 Damaged(Triple, 0)", "can't be used: the image is damaged: triple 0"),
+]
+
+NEW_FRONT = Sample((NEW,), ()).image()[:1536]
+# and files that a store may lie in, with what it leaves of them
+TAKEN = [
+    (b"", NEW_FRONT),
+    (b"\0" * 20, NEW_FRONT),
+    (b"\0" * 1536 + TEXT, NEW_FRONT + TEXT),
+    (b"FKVSTOR1" + b"\1" * 2000, NEW_FRONT + b"\1" * 472),
+]
+
+
+def complained(name, script, wanted, status, complaint, **more):
+    return Row(name, script, wanted, status, complaint=f"fkv: {complaint}\n", **more)
+
+
+def complaints():
+    for words, complaint in OPTIONS:
+        yield complained(f"the words {words}", "", "options\n", 2, complaint + WORDS, words=words)
+    for sizes, complaint in SIZES:
+        yield complained(f"the sizes {sizes}", f"shape {sizes}\n", "refused 1 BadShape\n", 2, f"the size {complaint}")
+    for line, kind, complaint in LINES:
+        yield complained(f"the line {line}", f"{SHAPE}\n{line}\n", f"script line 2 {kind}\n", 2, f"line 2 of the script: {complaint}")
+    for line, complaint in LINES_OF_FILE:
+        script = f"{SHAPE}\n{line}\n"
+        yield complained(f"the line {line} over a file", script, "script line 2 Mode\n", 2, f"line 2 of the script: {complaint}", words=tuple(FILE.split()), left=None)
+    first = "line 1 of the script: "
+    yield complained("no opening", "0 get 1\n", "script line 1 Order\n", 2, f'{first}"0" opens no store, and the first line has to: shape or open')
+    yield complained("an opening in memory", "open\n", "script line 1 Mode\n", 2, f'{first}"open" needs a store in a file: --file PATH')
+    yield complained("too many lines", "\n" * 65536 + "#", "script line 65537 Size\n", 2, "line 65537 of the script: a script has at most 65536 lines")
+    yield complained("a folder", "open\n", "refused 14 Device\n", 3, 'the file "." can\'t be opened: is a directory', words=("--file", "."))
+    for image, line, fault, complaint in FILES:
+        name = f"{line} over a file that begins with {image and image[:12]}"
+        yield complained(name, f"{line}\n", f"refused {fault}\n", 3, f'the file "store" {complaint}', words=tuple(FILE.split()), image=image, left=image)
+    for image, left in TAKEN:
+        yield Row(f"a store is made over {image[:12]}", f"{SHAPE}\n", "", 0, tuple(FILE.split()), image, left, complaint="")
+    failed = "a call of the store's device failed: nothing more was asked of it, and commits behind it were refused"
+    script = f"{SHAPE}\n0 up 1 10\nk commit\nfail 1\nk finish\nk turn\ncrash\n"
+    answers = "0 #1 done\nk commit 1\nk refused 14 Device\nk refused 13 Broken\ncrash commit 0 points 0 pairs 0\n"
+    yield complained("a device that fails", script, answers, 0, failed)
