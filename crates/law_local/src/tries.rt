@@ -12,8 +12,8 @@ pub fn law_walk_rows()
 {}
 
 /// The same of a try: it begins with what it has to know, where its request knows what it has to; that stays, as long as a record of an older version
-/// of which it is about to make one keeps its value, where it isn't fixed; and each true reply leads it on, where no record of its home is of a
-/// later version than its request.
+/// of which it is about to make one keeps its value, where it isn't fixed; and each true reply leads it on. One reply needs more than that. If it ends
+/// the walk of an update at a record of the key, and the try passes its test for a later version, then its home has no record of one.
 pub fn law_try_rows()
     ensures later { RequestsKnowLater }
     ensures begins { TriesBegin }
@@ -38,8 +38,8 @@ pub fn law_try_tells()
 {}
 
 /// What a request that waits knows of the log, by the record that it holds and the one that it seeks, and what an attempt for it knows: both stay, and as
-/// the head rises that the session has seen; an attempt begins with it, and each true reply leads it on. Behind a step of its own that changes the log
-/// nothing has to be kept, and nor has it where all records of older versions are fixed.
+/// the head rises that the session has seen; an attempt begins with it, and each true reply leads it on, where its try's walk ends as above. Behind a step
+/// of its own that changes the log nothing has to be kept, and nor has it where all records of older versions are fixed.
 pub fn law_attempt_rows()
     ensures waits { PendingRowsStay }
     ensures later { PendingsKnowLater }

@@ -1,19 +1,15 @@
 -- No call of a life makes as many moves as a count has numbers.
-use Rattle.std.proofs.Common.{◌≡◌, ℕ, suc, ◌-◌, ◌^◌, ◌<◌, ◌≤◌, ◌∙◌, refl, sym, ap, subst, arith, List, [], ◌∷◌, ◌++◌, length, Bool, true, false}
+use Rattle.std.proofs.Common.{◌≡◌, ℕ, suc, ◌-◌, ◌^◌, ◌<◌, ◌≤◌, ◌∙◌, refl, sym, ap, subst, arith, List, [], ◌∷◌, ◌++◌, length, true, false}
 use Rattle.std.specs.Prelude.{Option, Some, None, replicate, slice_get}
-use Rattle.std.proofs.lemmas.Bool.Decides.{nat_tests}
 use Rattle.fkv_base.specs.Limits.{max_sessions}
 use Rattle.fkv_base.specs.declared.shapes.Shape.{Shape}
 use Rattle.fkv_keeper.specs.KeeperRun.{is_in_hand}
-use Rattle.fkv_map.specs.declared.operations.Call.TheVariants.{Poll}
 use Rattle.fkv_session.specs.Sessions.{SessionState, is_busy}
-use Rattle.fkv_world.specs.Actors.{is_of_session}
 use Rattle.law_world.specs.Runs.Ends.{asks_left_of, asks_left_of_keeper, moves_alone}
-use Rattle.fkv_world.specs.Runs.{World, happens, run}
-use Rattle.fkv_world.specs.World.{Calls, Event, Moves}
-use Rattle.law_world.proofs.OfRuns.Nothing.{no_session}
+use Rattle.fkv_world.specs.Runs.{World, run}
+use Rattle.fkv_world.specs.World.{Event, Moves}
+use Rattle.law_world.proofs.OfRuns.Nothing.{none_ever}
 use Rattle.law_world.proofs.OfRuns.Lives.{runs_on}
-use Rattle.fkv_world.proofs.Shown.{session_apart}
 use Rattle.law_guard.specs.Guarded.EndsAlone.{AreKeeperMoves, most_keeper_asks, most_session_asks}
 use Rattle.law_guard.specs.Guarded.OpenedStore.{IsOpenedStore}
 use Rattle.law_guard.specs.Guarded.Shows.{IsOpened}
@@ -33,24 +29,6 @@ are_keepers (move ∷ before) = (tt, are_keepers before)
 as_many : (moves : List Move) → length (moves_of Keeper moves) ≡ length moves
 as_many [] = refl
 as_many (move ∷ before) = ap suc (as_many before)
-
--- no session comes where none was
-none_here : (w : World) (event : Event) (number : ℕ) (own : Bool) → is_of_session number event ≡ own → slice_get w.now.sessions number ≡ None → slice_get (happens w event).now.sessions number ≡ None
-none_here w event number false other none = session_apart w event number other ∙ none
-none_here w (Calls session its) number true own none =
-    let same : session ≡ number = grind (arith, nat_tests, own) in
-    let there : slice_get w.now.sessions session ≡ None = ap (λ (at : ℕ). slice_get w.now.sessions at) same ∙ none in
-    ap (λ (it : World). slice_get it.now.sessions number) (no_session w session its there).0 ∙ none
-none_here w (Moves session) number true own none =
-    let same : session ≡ number = grind (arith, nat_tests, own) in
-    let there : slice_get w.now.sessions session ≡ None = ap (λ (at : ℕ). slice_get w.now.sessions at) same ∙ none in
-    ap (λ (it : World). slice_get it.now.sessions number) (no_session w session Poll there).1 ∙ none
-none_here w event number true own none = cc
-
-none_comes : (opening : World) (events : List Event) (number : ℕ) → slice_get opening.now.sessions number ≡ None → slice_get (run opening events).now.sessions number ≡ None
-unfolding run
-none_comes opening [] number none = none
-none_comes opening (event ∷ before) number none = none_here (run opening before) event number (is_of_session number event) refl (none_comes opening before number none)
 
 -- what `law_world_ends` says
 abbrev pub SessionsEnd : Type 0
@@ -82,7 +60,7 @@ first_ends : SessionsEnd → SessionsAskFew → ShapesAskFew → (opening : Worl
     → (run opening events).now.crashed ≡ false → length moves ≡ 2 ^ 64 - 1 → slice_get opening.now.sessions number ≡ first → IsBusy (moves_alone (run opening events) number (length moves)).now number → ⊥
 first_ends ends few small opening start events number moves None store alive many was is =
     let later : List Event = replicate (length moves) (Moves number) in
-    let none : slice_get (run opening (later ++ events)).now.sessions number ≡ None = none_comes opening (later ++ events) number was in
+    let none : slice_get (run opening (later ++ events)).now.sessions number ≡ None = none_ever opening (later ++ events) number was in
     let clash : Some is.its ≡ None = sym is.found ∙ (ap (λ (w : World). slice_get w.now.sessions number) (sym (runs_on opening later events)) ∙ none) in
     cc
 first_ends ends few small opening start events number moves (Some first) store alive many was is =

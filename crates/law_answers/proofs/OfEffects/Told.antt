@@ -1,6 +1,5 @@
 -- Each event adds to the history what is told behind it.
-use Rattle.std.proofs.Common.{◌≡◌, ℕ, ◌∙◌, refl, sym, ap, subst, arith, inl, inr, Bool, true, false, List, [], ◌∷◌, ◌++◌}
-use Rattle.std.proofs.lemmas.Bool.Decides.{nat_tests}
+use Rattle.std.proofs.Common.{◌≡◌, ℕ, ◌∙◌, refl, sym, ap, subst, inl, inr, Bool, true, false, List, [], ◌∷◌, ◌++◌}
 use Rattle.std.specs.Prelude.{◌&&◌, not, if◌then◌else◌, Option, Some, None, slice_get}
 use Rattle.fkv_map.specs.declared.history.HistoryEntry.{HistoryEntry}
 use Rattle.fkv_map.specs.declared.operations.Call.TheVariants.{Poll}
@@ -11,7 +10,7 @@ use Rattle.fkv_core.specs.declared.events.Actor.TheVariants.{Session}
 use Rattle.fkv_session.specs.Replies.{effects_told, with_effect}
 use Rattle.fkv_session.specs.SessionRun.{SessionEvent, session_run}
 use Rattle.fkv_session.specs.Sessions.{SessionState, Seat, is_busy, session_ask}
-use Rattle.fkv_world.specs.Actors.{is_of_session, slot_asked}
+use Rattle.fkv_world.specs.Actors.{slot_asked}
 use Rattle.law_world.specs.Runs.Added.{IsEffectOf, IsHistoryAfter}
 use Rattle.fkv_world.specs.Opened.{IsOpenedWorld, effects_of}
 use Rattle.fkv_world.specs.OwnEvents.{session_events, session_part_of}
@@ -19,9 +18,9 @@ use Rattle.fkv_world.specs.Past.{Effect}
 use Rattle.fkv_world.specs.Runs.{World, happens, run}
 use Rattle.fkv_world.specs.World.{Event, Calls, Moves, Commits, Turns, KeeperMoves, Crashes, seat_at}
 use Rattle.law_world.proofs.OfRuns.Added.{history_so}
-use Rattle.fkv_world.proofs.Shown.{is_over, same_seat, session_apart, session_runs}
+use Rattle.fkv_world.proofs.Shown.{is_over, same_seat, session_runs}
 use Rattle.law_world.proofs.OfSessions.Effects.{life_made}
-use Rattle.law_world.proofs.OfRuns.Nothing.{no_session, none_in_hand}
+use Rattle.law_world.proofs.OfRuns.Nothing.{no_session, none_ever, none_in_hand}
 use Rattle.law_guard.specs.Guarded.OpenedStore.{IsOpenedStore}
 use Rattle.law_guard.specs.Guarded.Shows.{IsOpened}
 use Rattle.law_answers.specs.Effects.Kept.{effects_kept, told_behind, updates}
@@ -45,21 +44,6 @@ idle_moves w number idle = idle_so w number w.now.crashed (slice_get w.now.sessi
 -- no session comes where none was
 not_there : (its : SessionState) → None ≡ Some its → ⊥
 not_there its e = cc
-
-none_here : (w : World) (event : Event) (number : ℕ) (own : Bool) → is_of_session number event ≡ own → slice_get w.now.sessions number ≡ None → slice_get (happens w event).now.sessions number ≡ None
-none_here w event number false other none = session_apart w event number other ∙ none
-none_here w (Calls session call) number true own none =
-    let same : session ≡ number = grind (arith, nat_tests, own) in
-    ap (λ (it : World). slice_get it.now.sessions number) (no_session w session call (ap (slice_get w.now.sessions) same ∙ none)).0 ∙ none
-none_here w (Moves session) number true own none =
-    let same : session ≡ number = grind (arith, nat_tests, own) in
-    ap (λ (it : World). slice_get it.now.sessions number) (no_session w session Poll (ap (slice_get w.now.sessions) same ∙ none)).1 ∙ none
-none_here w event number true own none = cc
-
-none_comes : (opening : World) (events : List Event) (number : ℕ) → slice_get opening.now.sessions number ≡ None → slice_get (run opening events).now.sessions number ≡ None
-unfolding run
-none_comes opening [] number none = none
-none_comes opening (event ∷ before) number none = none_here (run opening before) event number (is_of_session number event) refl (none_comes opening before number none)
 
 -- which session moves
 number_of : Event → ℕ
@@ -105,7 +89,7 @@ module _ (slots : StandAtNoSlots) (opening : World) (start : ℕ) (opened : IsOp
       ap effect_at (session_runs opening number first (Moves number ∷ before) was ∙ ap (λ (events : List SessionEvent). Some (session_run k first events)) own_part) ∙ stays
 
   busy_told : (first : Option SessionState) → slice_get opening.now.sessions number ≡ first → IsBusy w.now number → after.past.history ≡ w.past.history → effect_of after.now number ≡ None
-  busy_told None was is same = absurd (not_there is.its (sym (none_comes opening before number was) ∙ is.found))
+  busy_told None was is same = absurd (not_there is.its (sym (none_ever opening before number was) ∙ is.found))
   busy_told (Some first) was is same = none_told first was is same
 
   told_so : (its : Effect) → IsEffectOf w (Moves number) its → effect_of after.now number ≡ Some its.entry

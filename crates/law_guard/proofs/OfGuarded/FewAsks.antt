@@ -28,7 +28,7 @@ use Rattle.fkv_world.specs.World.{Calls, Event, Moves, Now, near, seat_at}
 use Rattle.fkv_world.proofs.Shown.{same_seat, session_runs, session_runs_on}
 use Rattle.law_guard.specs.Guarded.EndsAlone.{most_session_asks}
 use Rattle.law_guard.specs.Guarded.OpenedStore.{IsOpenedStore}
-use Rattle.law_guard.proofs.OfGuarded.BelowTail.{none_stays}
+use Rattle.law_world.proofs.OfRuns.Nothing.{none_ever}
 
 -- of two lists of events, one after the other
 asked_on : (k : Seat) (first : SessionState) (later before : List SessionEvent) → AreAsked k (session_run k first before) later → AreAsked k first before → AreAsked k first (later ++ before)
@@ -122,7 +122,7 @@ pub life_few : (opening : World) (start : ℕ) (events : List Event) (number : �
 life_few opening start events number store = by (slice_get opening.now.sessions number) refl
   where
     by : (was : Option SessionState) → slice_get opening.now.sessions number ≡ was → asks_left_of (run opening events).now number ≤ most_session_asks opening.now.shape
-    by None at_first = let none : asks_left_of (run opening events).now number ≡ 0 = ap (left_at (run opening events).now number) (none_stays opening events number at_first) in omega (arith, none)
+    by None at_first = let none : asks_left_of (run opening events).now number ≡ 0 = ap (left_at (run opening events).now number) (none_ever opening events number at_first) in omega (arith, none)
     by (Some first) at_first =
         let k : Seat = seat_at opening.now number in
         let own : List SessionEvent = session_events opening number events in

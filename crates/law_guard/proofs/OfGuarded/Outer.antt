@@ -11,7 +11,7 @@ use Rattle.fkv_world.specs.World.{Event, Now, seat_at}
 use Rattle.fkv_world.proofs.Shown.{same_seat, session_runs}
 use Rattle.law_world.proofs.OfRuns.Lives.{runs_on}
 use Rattle.law_guard.specs.Guarded.Shows.{IsOpened}
-use Rattle.law_guard.proofs.OfGuarded.BelowTail.{none_stays}
+use Rattle.law_world.proofs.OfRuns.Nothing.{none_ever}
 
 abbrev pub WriteOuter : Now → Type 0
 WriteOuter n = (number : ℕ) (s : SessionState) → slice_get n.sessions number ≡ Some s → SessionWritesOuter (seat_at n number) s
@@ -25,7 +25,7 @@ pub write_outer : (first : World) (start : ℕ) (events : List Event) → IsOpen
 write_outer first start events opened number s there = by (slice_get first.now.sessions number) refl
   where
     by : (was : Option SessionState) → slice_get first.now.sessions number ≡ was → SessionWritesOuter (seat_at (run first events).now number) s
-    by None at_first = let clash : Some s ≡ None = sym there ∙ none_stays first events number at_first in cc
+    by None at_first = let clash : Some s ≡ None = sym there ∙ none_ever first events number at_first in cc
     by (Some o) at_first =
         let k : Seat = seat_at first.now number in
         let came : List SessionEvent = session_events first number events in

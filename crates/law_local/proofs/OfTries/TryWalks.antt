@@ -187,9 +187,9 @@ record_knows home log p t addr version orderly newest request free stands = by_r
     by_read false e = region_knows home log p t addr version orderly (newest e) request e stands
 
 -- ---- where the walk has ended
-walked_knows : (home : ℕ → ℕ) (log : Log) (p : Places) (t : TryState) (its : WalkAnswer) → IsOrderly home log → NoneIsLater home log t.request → RequestKnows home log t.request t.seen → IsFree t.request t.has_shared t.has_exclusive
+walked_knows : (home : ℕ → ℕ) (log : Log) (p : Places) (t : TryState) (its : WalkAnswer) → IsOrderly home log → ((addr : Addr) (version : Version) → its ≡ walk.Found addr version → NoneIsLater home log t.request) → RequestKnows home log t.request t.seen → IsFree t.request t.has_shared t.has_exclusive
     → IsWalkFor t.request t.seen t.walk → WalkTells home log t.walk its → TryKnows home log (walked p t its)
-walked_knows home log p t (walk.Found addr version) orderly newest request free walks tells = record_knows home log p t addr version orderly newest request free (record { its = walks; at = tells.0; knows = tells.1 })
+walked_knows home log p t (walk.Found addr version) orderly newest request free walks tells = record_knows home log p t addr version orderly (newest addr version refl) request free (record { its = walks; at = tells.0; knows = tells.1 })
 walked_knows home log p t walk.Nowhere orderly newest request free walks tells = nowhere_knows home log p t orderly request free (subst (λ (k : Key). FindsNone home log k.0 (begin_of t.walk)) walks.its_key tells)
 walked_knows home log p t (walk.OnDisk addr) orderly newest request free walks tells = disk_knows home log p t addr orderly request free
     (subst (λ (a : Addr). ComesBelow home log (key_in t.request) (begin_of t.walk) addr.0 a.0) walks.its_head (subst (λ (k : Key). ComesBelow home log k.0 (begin_of t.walk) addr.0 t.walk.head.0) walks.its_key tells))
@@ -197,14 +197,18 @@ walked_knows home log p t (walk.Value value) orderly newest request free walks t
 walked_knows home log p t walk.Full orderly newest request free walks tells = full_knows home log p t answer.IndexFull t.occasion request free tt
 walked_knows home log p t walk.Contended orderly newest request free walks tells = ends_knows home log p t (answer.Wait reason.Contended) request free tt
 
-pub walk_led_knows : (home : ℕ → ℕ) (log : Log) (p : Places) (t : TryState) (ask : Ask WalkAnswer) → IsOrderly home log → NoneIsLater home log t.request → RequestKnows home log t.request t.seen → IsFree t.request t.has_shared t.has_exclusive
+-- a walk that has ended at a record has passed the test where the try goes on
+passed : (its : WalkAnswer) (shifts : Bool) (addr : Addr) (version : Version) → its ≡ walk.Found addr version → (has_walked its && shifts) ≡ false → shifts ≡ false
+passed its shifts addr version is e = subst (λ (x : WalkAnswer). (has_walked x && shifts) ≡ false) is e
+
+pub walk_led_knows : (home : ℕ → ℕ) (log : Log) (p : Places) (t : TryState) (ask : Ask WalkAnswer) → IsOrderly home log → ((addr : Addr) (version : Version) → ask ≡ Done (walk.Found addr version) → must_shift t ≡ false → NoneIsLater home log t.request) → RequestKnows home log t.request t.seen → IsFree t.request t.has_shared t.has_exclusive
     → t.step ≡ Walks → IsWalkFor t.request t.seen t.walk → WalkKnows home log t.walk → walk_ask p t.walk ≡ ask → TryKnows home log (walk_ledto p t ask)
 unfolding walk_ledto
-walk_led_knows home log p t (Done its) orderly newest request free at walks knows asks = by_test (has_walked its && must_shift (record t { spare = t.walk.spare }))
+walk_led_knows home log p t (Done its) orderly newest request free at walks knows asks = by_test (has_walked its && must_shift (record t { spare = t.walk.spare })) refl
   where
-    by_test : (b : Bool) → TryKnows home log (if b then ends p (record t { spare = t.walk.spare }) answer.Shift else walked p (record t { spare = t.walk.spare }) its)
-    by_test true = ends_knows home log p (record t { spare = t.walk.spare }) answer.Shift request free tt
-    by_test false = walked_knows home log p (record t { spare = t.walk.spare }) its orderly newest request free walks (walk_tells home log p t.walk its knows asks)
+    by_test : (b : Bool) → (has_walked its && must_shift (record t { spare = t.walk.spare })) ≡ b → TryKnows home log (if b then ends p (record t { spare = t.walk.spare }) answer.Shift else walked p (record t { spare = t.walk.spare }) its)
+    by_test true e = ends_knows home log p (record t { spare = t.walk.spare }) answer.Shift request free tt
+    by_test false e = walked_knows home log p (record t { spare = t.walk.spare }) its orderly (λ addr version is. newest addr version (ap Done is) (passed its (must_shift t) addr version is e)) request free walks (walk_tells home log p t.walk its knows asks)
 walk_led_knows home log p t ask orderly newest request free at walks knows asks = record { request = request; free = free; row = subst (TryRow home log t) (sym at) (walks, knows) }
 
 -- ---- the safe read-only offset

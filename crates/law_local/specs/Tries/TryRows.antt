@@ -24,8 +24,11 @@ use Rattle.fkv_ops.specs.declared.trying.Trying.TheVariants.{Ended, TakesShared,
 use Rattle.fkv_ops.specs.declared.walking.Walking.TheVariants.{HasFound}
 use Rattle.fkv_ops.specs.Requests.{is_read, is_blind}
 use Rattle.fkv_ops.specs.Values.{value_of}
-use Rattle.fkv_ops.specs.Walking.{WalkState}
-use Rattle.fkv_ops.specs.Trying.{TryState}
+use Rattle.fkv_ops.specs.Walking.{WalkState, walk_ask, walk_next}
+use Rattle.fkv_ops.specs.Trying.{TryState, must_shift}
+use Rattle.fkv_ops.specs.declared.walking.WalkAnswer.TheVariants as walked
+use Rattle.fkv_plane.specs.declared.asks.Ask.TheVariants.{Done}
+use Rattle.fkv_plane.specs.declared.places.Places.{Places}
 use Rattle.law_local.specs.Tries.OnWay.{IsFoundAt}
 use Rattle.law_local.specs.Tries.WalkRows.{begin_of, FoundKnows, LoadsFrom, WalkKnows}
 use Rattle.law_local.specs.Tries.HeldRows.{HeldKnows, IsSoughtFrom}
@@ -128,6 +131,12 @@ IsUpdate request = is_read request.op ≡ false
 -- no record of the home of an update's key is of a later version than its request
 abbrev pub NoneIsLater : (ℕ → ℕ) → Log → Request → Type 0
 NoneIsLater home log request = IsUpdate request → NoneAbove log (home (key_in request)) request.version.0
+
+-- if the reply ends the walk at a record of the key, and the try passes its test for a later version, then there is none
+abbrev pub NoneLaterPast : (ℕ → ℕ) → Log → Places → TryState → ℕ → Type 0
+NoneLaterPast home log p t reply =
+    t.step ≡ Walks → (addr : Addr) (version : Version) → walk_ask p (walk_next p t.walk reply) ≡ Done (walked.Found addr version) → must_shift (record t { walk = walk_next p t.walk reply }) ≡ false
+    → NoneIsLater home log t.request
 
 abbrev pub TryRow : (ℕ → ℕ) → Log → TryState → Trying → Type 0
 TryRow home log t (Ended its) = AnswerKnows home log t.request t.seen its

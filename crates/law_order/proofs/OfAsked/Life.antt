@@ -6,7 +6,6 @@ use Rattle.fkv_base.specs.declared.numbers.Addr.{Addr}
 use Rattle.fkv_base.specs.declared.numbers.Version.{Version}
 use Rattle.fkv_epoch.proofs.Shown.{none_some, some_same}
 use Rattle.fkv_map.specs.declared.operations.Call.{Call}
-use Rattle.fkv_map.specs.declared.operations.Call.TheVariants.{Refresh}
 use Rattle.fkv_plane.specs.declared.asks.Ask.{Ask}
 use Rattle.fkv_plane.specs.Asked.{reply_to}
 use Rattle.fkv_ops.specs.Trying.{is_prepare}
@@ -30,7 +29,7 @@ use Rattle.fkv_world.specs.Moves.{session_moved}
 use Rattle.fkv_world.specs.Runs.{World, read_by_keeper, happens, run}
 use Rattle.fkv_world.specs.World.{Event, Calls, Moves, Now, seat_at, near, session_called}
 use Rattle.fkv_world.proofs.Shown.{is_over, same_seat, session_apart, session_written}
-use Rattle.law_world.proofs.OfRuns.Nothing.{no_session}
+use Rattle.law_world.proofs.OfRuns.Nothing.{none_then}
 use Rattle.law_guard.specs.Guarded.Shows as guard
 use Rattle.law_parts.specs.Mail.MailEvents.{begins, changed_by, asked_by, own_events, begun_events, called_events, moved_events, life_events, mapped}
 use Rattle.law_parts.specs.Mail.Mailers.{session_mailing, IsAsFar}
@@ -59,16 +58,6 @@ sitting_sees : (version : Version) (s : SessionState) (step : Sitting) → SitsA
 sitting_sees version s (Attempts has_shifted) rests = attempt_sees version s.attempt s.attempt.step rests.goes
 sitting_sees version s (Polls index) rests = attempt_sees version s.attempt s.attempt.step rests.goes
 sitting_sees version s step rests = tt
-
--- a session that isn't there doesn't come
-none_then : (v : World) (session : ℕ) (event : Event) → is_of_session session event ≡ true → slice_get v.now.sessions session ≡ None → slice_get (happens v event).now.sessions session ≡ None
-none_then v session (Calls number call) own none =
-    let same : number ≡ session = grind (arith, nat_tests, own) in
-    ap (λ (x : World). slice_get x.now.sessions session) (no_session v number call (ap (slice_get v.now.sessions) same ∙ none)).0 ∙ none
-none_then v session (Moves number) own none =
-    let same : number ≡ session = grind (arith, nat_tests, own) in
-    ap (λ (x : World). slice_get x.now.sessions session) (no_session v number Refresh (ap (slice_get v.now.sessions) same ∙ none)).1 ∙ none
-none_then v session event own none = cc
 
 module _ (opening : World) (start : ℕ) (version : Version) (session : ℕ) (opened : IsOpened opening.now session) (store : guard.IsOpened opening.now start) (rests : RestsIn version opening.now) where
   abbrev k : Seat
@@ -233,7 +222,7 @@ module _ (opening : World) (start : ℕ) (version : Version) (session : ℕ) (op
 
     found_asks : (event : Event) (found : Option SessionState) → slice_get n.sessions session ≡ found → is_of_session session event ≡ true → AllAsk (event ∷ before)
     unfolding run
-    found_asks event None e own s there = none_some s (sym (none_then v session event own e) ∙ there)
+    found_asks event None e own s there = none_some s (sym (none_then v event session e) ∙ there)
     found_asks event (Some was) e own s there =
         let written : slice_get (happens v event).now.sessions session ≡ Some (session_goes (seat_at n session) (near n was) event).machine = session_written v event session was own alive e in
         subst (λ (x : SessionState). AsksBehind (mail_past opening session (event ∷ before)) x) (some_same _ s (sym written ∙ there)) (own_asks event was own e written)

@@ -10,6 +10,7 @@ use Rattle.fkv_map.specs.Map.{IsReserved, is_reserved, absent_word}
 use Rattle.law_log.specs.Ghosts.{Log}
 use Rattle.fkv_ops.specs.declared.requests.Occasion.TheVariants.{Call as AtCall, Poll as AtPoll}
 use Rattle.fkv_ops.specs.declared.requests.Seen.{Seen}
+use Rattle.fkv_pending.specs.declared.attempting.Attempting.TheVariants.{Tries}
 use Rattle.fkv_pending.specs.declared.pending_requests.PendingRequest.{PendingRequest}
 use Rattle.fkv_pending.specs.Attempting.{AttemptState}
 use Rattle.fkv_plane.specs.declared.asks.Ask.TheVariants.{Done}
@@ -28,7 +29,7 @@ use Rattle.law_local.proofs.OfSessions.Known.{begun_known, next_known}
 use Rattle.law_local.proofs.OfSessions.Moves.{next_requests}
 use Rattle.law_local.specs.Tries.AttemptRows.{AttemptKnows, IsTrueOfAttempt, PendingKnows}
 use Rattle.law_local.specs.Tries.OnWay.{IsOrderly}
-use Rattle.law_local.specs.Tries.TryRows.{NoneIsLater, head_in}
+use Rattle.law_local.specs.Tries.TryRows.{NoneLaterPast, head_in}
 use Rattle.law_local.proofs.OfTries.AttemptSteps.{attempt_begins, attempt_leads}
 use Rattle.law_order.specs.Rows.Asked.{SeeksWhereAsked, AttemptSeeks}
 use Rattle.law_order.proofs.OfRows.Seeks.{attempt_seeks, attempt_begun_seeks}
@@ -104,7 +105,7 @@ module _ (home : ℕ → ℕ) where
     pub record StepFacts : Type 0 where
       pub orderly : IsOrderly home log
       pub inputs : AttemptsSo k s
-      pub newest : is_attempting s.step ≡ true → NoneIsLater home log s.attempt.pending.request
+      pub newest : is_attempting s.step ≡ true → s.attempt.step ≡ Tries → NoneLaterPast home log k.places s.attempt.trial reply
       pub says : is_attempting s.step ≡ true → IsTrueOfAttempt home log k.places s.attempt s.attempt.step reply
       -- what is known stays
       pub waiting : (pending : PendingRequest) → PendingKnows home log pending s.seen → PendingKnows home log' pending s.seen

@@ -8,6 +8,7 @@ use Rattle.law_log.specs.Ghosts.{Log, Ghosts}
 use Rattle.law_log.specs.Enabled.{AreEnabled, NoneAbove}
 use Rattle.law_log.proofs.Shown.{run_held}
 use Rattle.fkv_ops.specs.declared.requests.Seen.{Seen}
+use Rattle.fkv_pending.specs.declared.attempting.Attempting.TheVariants.{Tries}
 use Rattle.fkv_pending.specs.declared.pending_requests.PendingRequest.{PendingRequest}
 use Rattle.fkv_pending.specs.Attempting.{AttemptState}
 use Rattle.fkv_plane.specs.declared.asks.Ask.{Ask}
@@ -23,8 +24,8 @@ use Rattle.fkv_session.specs.Sessions.{SessionState, Seat, asks_after, attempts,
 use Rattle.law_local.specs.Sessions.Inputs.{AttemptsSo}
 use Rattle.law_local.specs.Sessions.Known.{KnowsRequests, catch_after, catch_comes_to, is_attempting}
 use Rattle.law_local.proofs.OfSessions.Known.{stays_known}
-use Rattle.law_local.specs.Tries.AttemptRows.{AttemptKnows, PendingKnows}
-use Rattle.law_local.specs.Tries.TryRows.{head_in, key_in}
+use Rattle.law_local.specs.Tries.AttemptRows.{AttemptKnows, AttemptRow, PendingKnows}
+use Rattle.law_local.specs.Tries.TryRows.{NoneIsLater, head_in, key_in}
 use Rattle.law_local.proofs.OfTries.OnWay.{orderly}
 use Rattle.law_local.proofs.OfTries.AttemptGrows.{pending_later}
 use Rattle.fkv_world.specs.Moves.{Near, session_moved}
@@ -144,6 +145,13 @@ module _ (opening : World) (start : ℕ) (lists : ℕ → List ℕ) (version : V
     trying : is_attempting s.step ≡ true → (a : AttemptState) → a.pending.request.version ≡ s.attempt.pending.request.version → AttemptKnows H L a → AttemptKnows H L' a
     trying attempting a same its = attempt_stays opening start lists version m number ghosts before event a begins none enabled (same ∙ version_at version s s.step sits attempting) its
 
+    -- without commits no record is of a later version than its request, wherever its walk ends
+    none_later : is_attempting s.step ≡ true → s.attempt.step ≡ Tries → NoneIsLater H L s.attempt.trial.request
+    none_later attempting tries update =
+        let same = (subst (AttemptRow H L s.attempt) tries (knows.attempted attempting).0.row).its_request in
+        subst (λ (v : Version). NoneAbove L (H (key_in s.attempt.trial.request)) v.0) (sym (ap (λ request. request.version) same ∙ version_at version s s.step sits attempting))
+            (none_above version.0 L (H (key_in s.attempt.trial.request)) cells_rest)
+
     -- where it makes no step
     stays : KnowsSo H L' s.seen s
     stays =
@@ -154,8 +162,7 @@ module _ (opening : World) (start : ℕ) (lists : ℕ → List ℕ) (version : V
     facts is = record {
       orderly = orderly H m L (run_held H m number ghosts (mapped opening before) begins.log (enabled_until opening ghosts before event enabled));
       inputs = subst (λ (k : Seat). AttemptsSo k s) (sym (same_seat opening before session)) (life_attempts opening before session s begins.world was);
-      newest = λ attempting update.
-          subst (λ (v : Version). NoneAbove L (H (key_in s.attempt.pending.request)) v.0) (sym (version_at version s s.step sits attempting)) (none_above version.0 L (H (key_in s.attempt.pending.request)) cells_rest);
+      newest = λ attempting tries walks addr found ends passes. none_later attempting tries;
       says = λ attempting. told session s was attempting;
       waiting = waiting;
       trying = trying;

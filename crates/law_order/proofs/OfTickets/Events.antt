@@ -1,8 +1,6 @@
--- For a session no more calls begin than in its life, and no session comes that wasn't there.
-use Rattle.std.proofs.Common.{◌≡◌, ℕ, ◌+◌, ◌≤◌, ◌∙◌, refl, ap, arith, Bool, true, false, List, [], ◌∷◌, ◌++◌}
+-- For a session no more calls begin than in its life.
+use Rattle.std.proofs.Common.{◌≡◌, ℕ, ◌+◌, ◌≤◌, refl, arith, Bool, true, false, List, [], ◌∷◌, ◌++◌}
 use Rattle.std.specs.Prelude.{Option, Some, None, slice_get, if◌then◌else◌}
-use Rattle.std.proofs.lemmas.Bool.Decides.{nat_tests}
-use Rattle.fkv_map.specs.declared.operations.Call.TheVariants.{Poll}
 use Rattle.fkv_plane.specs.declared.actions.Action.{Action}
 use Rattle.fkv_plane.specs.declared.asks.Ask.{Ask}
 use Rattle.fkv_plane.specs.declared.asks.Ask.TheVariants.{Put, Take, Done}
@@ -14,10 +12,8 @@ use Rattle.fkv_session.specs.Sessions.{SessionState, Seat, session_ask, session_
 use Rattle.fkv_world.specs.Actors.{is_of_session}
 use Rattle.fkv_world.specs.Moves.{Near}
 use Rattle.fkv_world.specs.OwnEvents.{session_events, session_got, session_part, session_part_found, session_part_of, session_slots, session_steps}
-use Rattle.fkv_world.specs.Runs.{World, happens, run}
+use Rattle.fkv_world.specs.Runs.{World, run}
 use Rattle.fkv_world.specs.World.{Event, Calls, Moves, Now, near, seat_at}
-use Rattle.law_world.proofs.OfRuns.Nothing.{no_session}
-use Rattle.fkv_world.proofs.Shown.{session_apart}
 use Rattle.law_order.specs.Tickets.Few.{HasFewCalls, calls_in, with_begun}
 use Rattle.law_order.proofs.OfTickets.Begun.{begun_on, calls_begun}
 
@@ -84,19 +80,3 @@ begun_few opening number (event ∷ before) =
 -- no fewer begin in a longer life
 pub before_few : (event : Event) (before : List Event) → HasFewCalls (event ∷ before) → HasFewCalls before
 before_few event before few = let so = counted event (calls_in before) in omega (arith, so, few)
-
--- ---- a session that wasn't there never is
-none_stays : (w : World) (event : Event) (number : ℕ) (own : Bool) → is_of_session number event ≡ own → slice_get w.now.sessions number ≡ None → slice_get (happens w event).now.sessions number ≡ None
-none_stays w event number false e none = session_apart w event number e ∙ none
-none_stays w (Calls at call) number true e none =
-    let same : at ≡ number = grind (arith, nat_tests, e) in
-    ap (λ (x : World). slice_get x.now.sessions number) (no_session w at call (ap (slice_get w.now.sessions) same ∙ none)).0 ∙ none
-none_stays w (Moves at) number true e none =
-    let same : at ≡ number = grind (arith, nat_tests, e) in
-    ap (λ (x : World). slice_get x.now.sessions number) (no_session w at Poll (ap (slice_get w.now.sessions) same ∙ none)).1 ∙ none
-none_stays w event number true e none = cc
-
-pub never_comes : (opening : World) (events : List Event) (number : ℕ) → slice_get opening.now.sessions number ≡ None → slice_get (run opening events).now.sessions number ≡ None
-unfolding run
-never_comes opening [] number none = none
-never_comes opening (event ∷ before) number none = none_stays (run opening before) event number (is_of_session number event) refl (never_comes opening before number none)

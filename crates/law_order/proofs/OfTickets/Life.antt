@@ -10,12 +10,13 @@ use Rattle.fkv_world.specs.Opened.{IsOpenedWorld}
 use Rattle.fkv_world.specs.OwnEvents.{session_events}
 use Rattle.fkv_world.specs.Runs.{World, run}
 use Rattle.fkv_world.specs.World.{Event, seat_at}
+use Rattle.law_world.proofs.OfRuns.Nothing.{none_ever}
 use Rattle.law_world.proofs.OfSessions.OwnRun.{of_run}
 use Rattle.law_order.specs.Known.Told.{AreApart, NamesAreApart, TicketsAreApart}
 use Rattle.law_order.specs.Tickets.Few.{HasFewCalls}
 use Rattle.law_order.proofs.OfTickets.Apart.{apart, rise_once}
 use Rattle.law_order.proofs.OfTickets.Begun.{calls_begun, told_few}
-use Rattle.law_order.proofs.OfTickets.Events.{before_few, begun_few, never_comes}
+use Rattle.law_order.proofs.OfTickets.Events.{before_few, begun_few}
 use Rattle.law_order.proofs.OfTickets.Tickets.{is_ticket, left_once, tickets_few}
 
 -- ---- a session's own run in which fewer than 2^64 calls begin
@@ -41,7 +42,7 @@ names_apart : (opening : World) (events : List Event) → IsOpenedWorld opening 
 names_apart opening events opened few session s found = by_first (slice_get opening.now.sessions session) refl
   where
     by_first : (first : Option SessionState) → slice_get opening.now.sessions session ≡ first → AreApart (names_of s.requests)
-    by_first None was = none_some s (sym (never_comes opening events session was) ∙ found)
+    by_first None was = none_some s (sym (none_ever opening events session was) ∙ found)
     by_first (Some first) was =
         let begun = begun_few opening session events in
         of_run (λ (x : SessionState). AreApart (names_of x.requests)) opening events session first s (record { opened = opened; was = was; is_now = found })

@@ -1,41 +1,22 @@
 -- What holds at each moment of a session's own run holds of it at each moment of a life, and so for the keeper. So each ask of the keeper's
 -- spares each part, but the mailbox that it is at.
-use Rattle.std.proofs.Common.{◌≡◌, ℕ, ◌∙◌, refl, sym, ap, subst, arith, List, [], ◌∷◌, Bool, true, false}
+use Rattle.std.proofs.Common.{◌≡◌, ℕ, ◌∙◌, refl, sym, subst, arith, List}
 use Rattle.std.specs.Prelude.{Option, Some, None, slice_get}
-use Rattle.std.proofs.lemmas.Bool.Decides.{nat_tests}
 use Rattle.fkv_base.specs.declared.shapes.Shape.{Shape}
-use Rattle.fkv_map.specs.declared.operations.Call.TheVariants.{Refresh}
 use Rattle.fkv_plane.specs.declared.places.Places.{Places}
 use Rattle.fkv_keeper.specs.KeeperRun as keeper
 use Rattle.fkv_keeper.specs.Keeping.{KeeperState, keeper_ask}
 use Rattle.fkv_session.specs.Sessions.{SessionState, Seat}
 use Rattle.fkv_session.specs.SessionRun.{session_run}
-use Rattle.fkv_world.specs.Actors.{is_of_session}
 use Rattle.fkv_world.specs.OwnEvents.{keeper_events, session_events}
-use Rattle.fkv_world.specs.Runs.{World, happens, run}
-use Rattle.fkv_world.specs.World.{Event, Calls, Moves, seat_at}
-use Rattle.fkv_world.proofs.Shown.{keeper_runs, session_runs, same_seat, session_apart, places_stay, shape_stays}
-use Rattle.law_world.proofs.OfRuns.Nothing.{no_session}
+use Rattle.fkv_world.specs.Runs.{World, run}
+use Rattle.fkv_world.specs.World.{Event, seat_at}
+use Rattle.fkv_world.proofs.Shown.{keeper_runs, session_runs, same_seat, places_stay, shape_stays}
+use Rattle.law_world.proofs.OfRuns.Nothing.{none_ever}
 use Rattle.law_parts.specs.Footprint.{Part, HasSeats, Spares}
 use Rattle.law_parts.specs.Mail.Servers.{serving_of}
 use Rattle.law_parts.proofs.Footprint.Keepers.{IsKeeperSparing, keeper_asks_spares, keeper_run_spares}
 use Rattle.law_parts.proofs.Footprint.Serves.{IsServedNot}
-
--- a session that isn't there as a life begins never comes
-pub other_stays : (w : World) (event : Event) (number : ℕ) (mine : Bool) → is_of_session number event ≡ mine → slice_get w.now.sessions number ≡ None → slice_get (happens w event).now.sessions number ≡ None
-other_stays w event number false e none = session_apart w event number e ∙ none
-other_stays w (Calls at call) number true e none =
-    let same : at ≡ number = grind (arith, nat_tests, e) in
-    ap (λ (x : World). slice_get x.now.sessions number) (no_session w at call (ap (slice_get w.now.sessions) same ∙ none)).0 ∙ none
-other_stays w (Moves at) number true e none =
-    let same : at ≡ number = grind (arith, nat_tests, e) in
-    ap (λ (x : World). slice_get x.now.sessions number) (no_session w at Refresh (ap (slice_get w.now.sessions) same ∙ none)).1 ∙ none
-other_stays w event number true e none = cc
-
-pub none_stays : (opening : World) (events : List Event) (number : ℕ) → slice_get opening.now.sessions number ≡ None → slice_get (run opening events).now.sessions number ≡ None
-unfolding run
-none_stays opening [] number none = none
-none_stays opening (event ∷ before) number none = other_stays (run opening before) event number (is_of_session number event) refl (none_stays opening before number none)
 
 -- an item of a list is one
 no_item : {X : Type 0} {A : Type 0} (found : Option X) (its : X) → found ≡ None → found ≡ Some its → A
@@ -51,7 +32,7 @@ pub at_each_moment : (Q : Seat → SessionState → Type 0) (opening : World) (e
 at_each_moment Q opening events i s ran is = by_first (slice_get opening.now.sessions i) refl
   where
     by_first : (first : Option SessionState) → slice_get opening.now.sessions i ≡ first → Q (seat_at (run opening events).now i) s
-    by_first None none = no_item _ s (none_stays opening events i none) is
+    by_first None none = no_item _ s (none_ever opening events i none) is
     by_first (Some first) was =
         let now : s ≡ session_run (seat_at opening.now i) first (session_events opening i events) = some_same is (session_runs opening i first events was) in
         let so : Q (seat_at opening.now i) s = subst (λ (x : SessionState). Q (seat_at opening.now i) x) (sym now) (ran first was) in

@@ -26,7 +26,7 @@ use Rattle.fkv_world.specs.World.{Event, seat_at}
 use Rattle.law_world.proofs.OfSessions.OwnRun.{here, opened_so}
 use Rattle.law_world.proofs.OfSessions.Effects.{life_made}
 use Rattle.fkv_world.proofs.Shown.{same_seat}
-use Rattle.law_parts.proofs.Footprint.Lives.{none_stays}
+use Rattle.law_world.proofs.OfRuns.Nothing.{none_ever}
 use Rattle.law_refine.specs.Events.GhostEvents.{serials_in}
 use Rattle.law_refine.specs.Calls.Calls.{effects_in_log, effects_of_life, lines_of_life, IsUpdateInHand}
 use Rattle.law_refine.proofs.OfCalls.Standing.{IsCalled, Knows, polled_called, update_is_some}
@@ -44,7 +44,7 @@ pub was_opened : (opening : World) (events : List Event) (number : ℕ) (its : S
 was_opened opening events number its opened found = by_first (slice_get opening.now.sessions number) refl
   where
     by_first : (first : Option SessionState) → slice_get opening.now.sessions number ≡ first → WasOpened opening events number its
-    by_first None e = none_some its (sym (none_stays opening events number e) ∙ found)
+    by_first None e = none_some its (sym (none_ever opening events number e) ∙ found)
     by_first (Some first) e = record { first = first; became = record { opened = opened; was = e; is_now = found } }
 
 -- ---- counting

@@ -56,13 +56,12 @@ use Rattle.fkv_session.specs.SessionRun.{SessionEvent, Begins, Replies, Gets, be
 use Rattle.fkv_session.specs.Sessions.{SessionState, Seat, bits_of, room_of, is_busy, session_ask, answers, answers_after_turn, request_in_hand, attempts, polls_request, polls_at, update_done, is_no_room, with_request, serial_taken, ticket_after, accepts, shifts, attempted, attempt_left, attempt_ledto, caught_up, catch_ledto, clear_ledto, is_finished, is_owed, request_finished, finishes_request, lacks_room, keeps_request, poll_ledto, turn_ledto, leave_ledto, attempt_moved, caught, own_turn_moved, sitting_next, sitting_given, is_word_ask, asks_after, refusal_of, op_begun, refresh_call, poll_begun, poll_call, sleep_call, wake_call, call_begun}
 use Rattle.fkv_session.proofs.Shown.{attempt_keeps}
 use Rattle.fkv_map.specs.declared.operations.Call.TheVariants.{Refresh}
-use Rattle.fkv_world.specs.Actors.{is_of_session}
 use Rattle.fkv_world.specs.OwnEvents.{session_part_of}
 use Rattle.fkv_world.specs.Runs.{World, happens, run}
 use Rattle.fkv_world.specs.World.{Event, Now, seat_at}
 use Rattle.fkv_world.proofs.Shown.{happens_session}
 use Rattle.law_guard.specs.Guarded.Shows as guard
-use Rattle.law_parts.proofs.Footprint.Lives.{other_stays}
+use Rattle.law_world.proofs.OfRuns.Nothing.{none_then}
 use Rattle.law_refine.specs.Events.Names.{is_read_name, IsNamedSo, AreNamedSo, AttemptsNamedSo, RequestsAreNamed}
 use Rattle.law_refine.proofs.OfEvents.ReadTries.{IsReadTry, try_read, begun_read}
 use Rattle.law_refine.proofs.OfEvents.TryAppends.{IsTryAt, begun_at, try_at}
@@ -393,7 +392,7 @@ abbrev AreSo : Now → Type 0
 AreSo n = (number : ℕ) (s : SessionState) → slice_get n.sessions number ≡ Some s → IsSo s
 
 happens_so : (w : World) (event : Event) (number : ℕ) (s : SessionState) (before : Option SessionState) → AreSo w.now → slice_get w.now.sessions number ≡ before → slice_get (happens w event).now.sessions number ≡ Some s → IsSo s
-happens_so w event number s None are e found = none_some s (sym (other_stays w event number (is_of_session number event) refl e) ∙ found)
+happens_so w event number s None are e found = none_some s (sym (none_then w event number e) ∙ found)
 happens_so w event number s (Some before) are e found =
     let after : SessionState = session_run (seat_at w.now number) before (session_part_of w.now number event) in
     let same : s ≡ after = some_same s after (sym found ∙ happens_session w event number before e) in

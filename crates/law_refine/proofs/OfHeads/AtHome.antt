@@ -30,7 +30,7 @@ use Rattle.fkv_world.specs.OwnEvents.{session_events}
 use Rattle.fkv_world.specs.Runs.{World, run}
 use Rattle.fkv_world.specs.World.{Event, seat_at}
 use Rattle.fkv_world.proofs.Shown.{same_seat, session_runs}
-use Rattle.law_parts.proofs.Footprint.Lives.{none_stays}
+use Rattle.law_world.proofs.OfRuns.Nothing.{none_ever}
 use Rattle.law_parts.specs.Index.Finders.{NoWork, KeepsSlot, slot_kept, kept_work, walk_work, append_work, try_work, attempt_part, sitting_part}
 use Rattle.law_parts.specs.Index.Shows.{IsOpened}
 use Rattle.law_parts.proofs.OfIndex.SessionParts.{SittingKnows}
@@ -108,7 +108,7 @@ record HasRun (opening : World) (events : List Event) (number : ℕ) (s : Sessio
   same : s ≡ session_run (seat_at opening.now number) first (session_events opening number events)
 
 has_run : (opening : World) (events : List Event) (number : ℕ) (s : SessionState) (found : Option SessionState) → slice_get opening.now.sessions number ≡ found → slice_get (run opening events).now.sessions number ≡ Some s → HasRun opening events number s
-has_run opening events number s None e got = none_some s (sym (none_stays opening events number e) ∙ got)
+has_run opening events number s None e got = none_some s (sym (none_ever opening events number e) ∙ got)
 has_run opening events number s (Some first) e got = record {
   first = first;
   was = e;

@@ -1,41 +1,16 @@
 -- A session that there is at a moment of a life was there as the life began, and is the run of its own events since.
-use Rattle.std.proofs.Common.{◌≡◌, ℕ, ◌∙◌, refl, sym, ap, arith, Bool, true, false, List, [], ◌∷◌}
+use Rattle.std.proofs.Common.{◌≡◌, ℕ, ◌∙◌, refl, sym, List, [], ◌∷◌}
 use Rattle.std.specs.Prelude.{Option, Some, None, slice_get}
-use Rattle.std.proofs.lemmas.Bool.Decides.{nat_tests}
 use Rattle.fkv_epoch.proofs.Shown.{some_same}
-use Rattle.fkv_map.specs.declared.operations.Call.{Call}
-use Rattle.fkv_map.specs.declared.operations.Call.TheVariants.{Refresh}
 use Rattle.fkv_session.specs.SessionRun.{session_run}
 use Rattle.fkv_session.specs.Sessions.{SessionState}
-use Rattle.fkv_world.specs.Actors.{is_of_session}
 use Rattle.fkv_world.specs.OwnEvents.{session_events}
 use Rattle.fkv_world.specs.Runs.{World, happens, run}
-use Rattle.fkv_world.specs.World.{Event, Calls, Moves, Commits, Turns, KeeperMoves, Crashes, seat_at}
-use Rattle.law_world.proofs.OfRuns.Nothing.{no_session}
-use Rattle.fkv_world.proofs.Shown.{session_apart, session_runs}
+use Rattle.fkv_world.specs.World.{Event, seat_at}
+use Rattle.law_world.proofs.OfRuns.Nothing.{none_then}
+use Rattle.fkv_world.proofs.Shown.{session_runs}
 
--- an event of a session that there isn't changes nothing
-none_called : (w : World) (i s : ℕ) (its : Call) (own : Bool) → is_of_session s (Calls i its) ≡ own → slice_get w.now.sessions s ≡ None → slice_get (happens w (Calls i its)).now.sessions s ≡ None
-none_called w i s its true e none =
-    let here : i ≡ s = grind (arith, nat_tests, e) in
-    ap (λ (x : World). slice_get x.now.sessions s) (no_session w i its (ap (λ (n : ℕ). slice_get w.now.sessions n) here ∙ none)).0 ∙ none
-none_called w i s its false e none = session_apart w (Calls i its) s e ∙ none
-
-none_moved : (w : World) (i s : ℕ) (own : Bool) → is_of_session s (Moves i) ≡ own → slice_get w.now.sessions s ≡ None → slice_get (happens w (Moves i)).now.sessions s ≡ None
-none_moved w i s true e none =
-    let here : i ≡ s = grind (arith, nat_tests, e) in
-    ap (λ (x : World). slice_get x.now.sessions s) (no_session w i Refresh (ap (λ (n : ℕ). slice_get w.now.sessions n) here ∙ none)).1 ∙ none
-none_moved w i s false e none = session_apart w (Moves i) s e ∙ none
-
-none_then : (w : World) (event : Event) (s : ℕ) → slice_get w.now.sessions s ≡ None → slice_get (happens w event).now.sessions s ≡ None
-none_then w (Calls i its) s none = none_called w i s its (is_of_session s (Calls i its)) refl none
-none_then w (Moves i) s none = none_moved w i s (is_of_session s (Moves i)) refl none
-none_then w (Commits kind) s none = session_apart w (Commits kind) s refl ∙ none
-none_then w Turns s none = session_apart w Turns s refl ∙ none
-none_then w (KeeperMoves granted done) s none = session_apart w (KeeperMoves granted done) s refl ∙ none
-none_then w Crashes s none = session_apart w Crashes s refl ∙ none
-
--- so who is there behind an event was there before it
+-- who is there behind an event was there before it
 pub there_before : (w : World) (event : Event) (number : ℕ) (after : SessionState) → slice_get (happens w event).now.sessions number ≡ Some after → (s : SessionState) × (slice_get w.now.sessions number ≡ Some s)
 there_before w event number after is_now = by (slice_get w.now.sessions number) refl
   where

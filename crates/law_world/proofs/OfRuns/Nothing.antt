@@ -1,7 +1,9 @@
 -- An event that finds nothing to do leaves the world as it was, all that is past too.
-use Rattle.std.proofs.Common.{◌≡◌, ℕ, zero, suc, ◌∙◌, List, [], ◌∷◌, refl, ap, sym, Bool, true, false}
+use Rattle.std.proofs.Common.{◌≡◌, ℕ, zero, suc, ◌∙◌, List, [], ◌∷◌, refl, ap, sym, arith, Bool, true, false}
 use Rattle.std.specs.Prelude.{⊤, Some, None, slice_get, slice_set}
+use Rattle.std.proofs.lemmas.Bool.Decides.{nat_tests}
 use Rattle.fkv_map.specs.declared.operations.Call.{Call}
+use Rattle.fkv_map.specs.declared.operations.Call.TheVariants.{Refresh}
 use Rattle.fkv_commit.specs.declared.commits.CommitKind.{CommitKind}
 use Rattle.fkv_plane.specs.declared.asks.Ask.TheVariants.{Done}
 use Rattle.fkv_session.specs.declared.answers.Told.{Told}
@@ -14,11 +16,12 @@ use Rattle.fkv_keeper.specs.declared.keepers.Keeping.{Keeping}
 use Rattle.fkv_keeper.specs.declared.keepers.Keeping.TheVariants.{Ended}
 use Rattle.fkv_keeper.specs.Keeping.{KeeperState, keeper_ask, keeping_ask, end_told, turn_over}
 use Rattle.fkv_keeper.specs.KeeperRun.{is_in_hand}
+use Rattle.fkv_world.specs.Actors.{is_of_session}
 use Rattle.fkv_world.specs.Moves.{session_asks, keeper_asks}
 use Rattle.fkv_world.specs.Past.{Past, history_after, life_past}
-use Rattle.fkv_world.specs.Runs.{World, happens, read_by_keeper}
+use Rattle.fkv_world.specs.Runs.{World, happens, read_by_keeper, run}
 use Rattle.fkv_world.specs.World.{Event, Calls, Moves, Commits, Turns, KeeperMoves, Now, seat_at, life_goes}
-use Rattle.fkv_world.proofs.Shown.{is_over, lived, world_of}
+use Rattle.fkv_world.proofs.Shown.{is_over, lived, session_apart, world_of}
 
 -- what is read at an index and written back
 pub item_back : {X : Type 0} (xs : List X) (i : ℕ) (x : X) → slice_get xs i ≡ Some x → slice_set xs i x ≡ xs
@@ -38,6 +41,25 @@ stays w event false e same none = lived w event e ∙ (ap (world_of w event) sam
 pub no_session : (w : World) (session : ℕ) (call : Call) → slice_get w.now.sessions session ≡ None → (happens w (Calls session call) ≡ w) × (happens w (Moves session) ≡ w)
 unfolding life_goes life_past
 no_session w session call none = (stays w (Calls session call) w.now.crashed refl (rw none refl) (rw none refl), stays w (Moves session) w.now.crashed refl (rw none refl) (rw none refl))
+
+-- so a session that isn't there never comes
+none_by : (w : World) (event : Event) (session : ℕ) (own : Bool) → is_of_session session event ≡ own → slice_get w.now.sessions session ≡ None → slice_get (happens w event).now.sessions session ≡ None
+none_by w event session false e none = session_apart w event session e ∙ none
+none_by w (Calls at call) session true e none =
+    let same : at ≡ session = grind (arith, nat_tests, e) in
+    ap (λ (x : World). slice_get x.now.sessions session) (no_session w at call (ap (slice_get w.now.sessions) same ∙ none)).0 ∙ none
+none_by w (Moves at) session true e none =
+    let same : at ≡ session = grind (arith, nat_tests, e) in
+    ap (λ (x : World). slice_get x.now.sessions session) (no_session w at Refresh (ap (slice_get w.now.sessions) same ∙ none)).1 ∙ none
+none_by w event session true e none = cc
+
+pub none_then : (w : World) (event : Event) (session : ℕ) → slice_get w.now.sessions session ≡ None → slice_get (happens w event).now.sessions session ≡ None
+none_then w event session none = none_by w event session (is_of_session session event) refl none
+
+pub none_ever : (opening : World) (events : List Event) (session : ℕ) → slice_get opening.now.sessions session ≡ None → slice_get (run opening events).now.sessions session ≡ None
+unfolding run
+none_ever opening [] session none = none
+none_ever opening (event ∷ before) session none = none_then (run opening before) event session (none_ever opening before session none)
 
 pub in_hand : (w : World) (session : ℕ) (call : Call) (its : SessionState) → slice_get w.now.sessions session ≡ Some its → is_busy its.step ≡ true → happens w (Calls session call) ≡ w
 unfolding life_goes life_past

@@ -23,14 +23,13 @@ use Rattle.fkv_world.specs.Past.{Effect, effect_made, history_after}
 use Rattle.fkv_world.specs.OwnEvents.{session_got, session_slots, session_steps, session_part, session_part_found, session_part_of, session_events}
 use Rattle.law_world.proofs.OfRuns.EffectStays.{catch_keeps, leave_keeps, turn_keeps}
 use Rattle.law_world.proofs.OfRuns.NoSlots.{IsOffSlots, passed_off, mail_off, attempt_off_slots}
-use Rattle.fkv_map.specs.declared.operations.Call.TheVariants.{Refresh}
 use Rattle.fkv_epoch.proofs.Shown.{none_some, some_same}
 use Rattle.fkv_world.specs.Actors.{is_of_session}
 use Rattle.fkv_world.specs.Runs.{World, happens, read_by_keeper, run}
 use Rattle.fkv_world.specs.World.{Event, Calls, Moves, Commits, Turns, KeeperMoves, Crashes, Now, seat_at, near, life_goes}
 use Rattle.law_world.proofs.OfRuns.Added.{added_history, history_added, history_found}
-use Rattle.fkv_world.proofs.Shown.{lived, is_over, session_apart, same_seat, session_runs, session_runs_on}
-use Rattle.law_world.proofs.OfRuns.Nothing.{no_session}
+use Rattle.fkv_world.proofs.Shown.{lived, is_over, same_seat, session_runs, session_runs_on}
+use Rattle.law_world.proofs.OfRuns.Nothing.{none_ever}
 
 -- an ask that is off the slots puts nothing
 never_puts : {A : Type 0} (ask : Ask A) (slot : ℕ) (action : Action) → IsOffSlots ask → ask ≡ Put slot action → ⊥
@@ -197,31 +196,12 @@ happens_made w event number s own found =
     event_made w event number s w.now.crashed own refl found
     ∙ ap (λ (y : Option SessionState). effects_told (seat_at w.now number) s (if w.now.crashed then [] else session_part_found w.now number event y) ++ effects_of number w.past.history) (sym found)
 
--- a session that wasn't there never is
-other_stays : (w : World) (event : Event) (number : ℕ) (mine : Bool) → is_of_session number event ≡ mine → slice_get w.now.sessions number ≡ None → slice_get (happens w event).now.sessions number ≡ None
-other_stays w event number false e none = session_apart w event number e ∙ none
-other_stays w (Calls at call) number true e none =
-    let same : at ≡ number = grind (arith, nat_tests, e) in
-    ap (λ (x : World). slice_get x.now.sessions number) (no_session w at call (ap (slice_get w.now.sessions) same ∙ none)).0 ∙ none
-other_stays w (Moves at) number true e none =
-    let same : at ≡ number = grind (arith, nat_tests, e) in
-    ap (λ (x : World). slice_get x.now.sessions number) (no_session w at Refresh (ap (slice_get w.now.sessions) same ∙ none)).1 ∙ none
-other_stays w (Commits kind) number true e none = cc
-other_stays w Turns number true e none = cc
-other_stays w (KeeperMoves granted done) number true e none = cc
-other_stays w Crashes number true e none = cc
-
-none_stays : (opening : World) (events : List Event) (number : ℕ) → slice_get opening.now.sessions number ≡ None → slice_get (run opening events).now.sessions number ≡ None
-unfolding run
-none_stays opening [] number none = none
-none_stays opening (event ∷ before) number none = other_stays (run opening before) event number (is_of_session number event) refl (none_stays opening before number none)
-
 -- in a life of an opened world
 are_own : (opening : World) (events : List Event) → IsOpenedWorld opening → AreOwn (run opening events).now
 are_own opening events opened = λ at x found. by_first at x found (slice_get opening.now.sessions at) refl
   where
     by_first : (at : ℕ) (x : SessionState) → slice_get (run opening events).now.sessions at ≡ Some x → (first : Option SessionState) → slice_get opening.now.sessions at ≡ first → IsOwn (seat_at (run opening events).now at) x
-    by_first at x found None e = none_some x (sym (none_stays opening events at e) ∙ found)
+    by_first at x found None e = none_some x (sym (none_ever opening events at e) ∙ found)
     by_first at x found (Some first) e =
         let same : x ≡ session_run (seat_at opening.now at) first (session_events opening at events) = some_same _ _ (sym found ∙ session_runs opening at first events e) in
         subst (λ (k : Seat). IsOwn k x) (sym (same_seat opening events at))
