@@ -111,7 +111,10 @@ fn complain_of_fault<E: Write>(complaints: &mut E, path: &str, fault: Fault) {
 const KEPT_PAGES: usize = 8192;
 
 /// The store that a device holds, with its pairs. The device is read page by page.
-fn opened<D: Device>(alloc: Global, device: D) -> Result<(D, Opened, Vec<(Key, Value)>), Fault> {
+fn opened<D: Device + Drop>(
+    alloc: Global,
+    device: D,
+) -> Result<(D, Opened, Vec<(Key, Value)>), Fault> {
     let pages = Pages::new(alloc, PageSize::Kib4, KEPT_PAGES)?;
     let mut ahead = ReadAhead::new(device, pages);
     let opened = recover(alloc, &mut ahead)?;
