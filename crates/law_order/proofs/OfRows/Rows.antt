@@ -150,7 +150,7 @@ module _ (opening : World) (start : ℕ) (lists : ℕ → List ℕ) (version : V
     none_later attempting tries update =
         let same = (subst (AttemptRow H L s.attempt) tries (knows.attempted attempting).0.row).its_request in
         subst (λ (v : Version). NoneAbove L (H (key_in s.attempt.trial.request)) v.0) (sym (ap (λ request. request.version) same ∙ version_at version s s.step sits attempting))
-            (none_above version.0 L (H (key_in s.attempt.trial.request)) cells_rest)
+        (none_above version.0 L (H (key_in s.attempt.trial.request)) cells_rest)
 
     -- where it makes no step
     stays : KnowsSo H L' s.seen s
