@@ -10,10 +10,12 @@ ghost use Rattle.law_log.specs.Trace.{history_of};
 ghost use Rattle.law_opening.specs.Log.Maps.{opening_map};
 ghost use Rattle.law_order.specs.OneHistory.EachLife.{InEachLife};
 ghost use Rattle.law_order.specs.Prefix.Law.{LivesFollow, RecoversPrefix};
+ghost use Rattle.law_order.specs.Prefix.Stores.{KeepsLegally, OfEachCommit, ReplaysKept};
 ghost use Rattle.law_paper.specs.Kept.{KeepsPrefix};
 ghost use Rattle.law_paper.specs.Paper.Named.{IsOfCommit};
 
-use law_opening::law_log_opened;
+use law_opening::{law_guard_opens, law_log_begins, law_log_beside, law_log_opened};
+use law_paper::law_kept;
 
 /// If each image that a crash may leave of a life holds a prefix of it, lives follow one another. Each begins with the first store's map behind a replay of
 /// what was kept of all lives before. That is legal with the replies that were given, and has each session's serials up to its point once.
@@ -28,4 +30,18 @@ pub fn law_join()
         → KeepsPrefix home m r.points.items n.slot.number g → opening_map image r ≡ content m (kept (history_of g.log.history) r.points.items) }
 {
     law_log_opened();
+}
+
+/// So it is in each life in which the order law's rules are kept, with commits or without. If a store has the values that the log beside the life shows of
+/// versions up to a commit's, and its points keep just the updates of these, its map is the life's first one behind a replay of the updates that its points
+/// keep. The replay is legal with the replies that were given.
+pub fn law_replays_kept()
+    ensures pairs { OfEachCommit ReplaysKept }
+    ensures legal { OfEachCommit KeepsLegally }
+{
+    law_guard_opens();
+    law_log_begins();
+    law_log_beside();
+    law_kept();
+    law_join();
 }

@@ -1,0 +1,40 @@
+-- A store that is of a commit by the log beside a life.
+use Rattle.std.specs.Prelude.{◌≡◌, ◌≤◌, ℕ, List}
+use Rattle.fkv_core.specs.Openings.{IsOpeningWorld, beginning}
+use Rattle.fkv_map.specs.History.{IsLegal, content}
+use Rattle.fkv_newest.specs.declared.newest_slots.Newest.{Newest}
+use Rattle.fkv_opening.specs.Opened.{IsStoreOf}
+use Rattle.fkv_opening.specs.declared.opened_store.Opened.{Opened}
+use Rattle.fkv_world.specs.World.{Event, Now}
+use Rattle.law_opening.specs.Log.Lives.{KeepsRules, ghosts_beside}
+use Rattle.law_opening.specs.Log.Maps.{opening_map}
+use Rattle.law_opening.specs.Log.OpeningLog.{opening_ghosts}
+use Rattle.law_order.specs.Prefix.Law.{kept_so_far}
+use Rattle.law_paper.specs.Kept.{PointsSplit}
+use Rattle.law_paper.specs.Paper.Named.{IsOfCommit}
+use Rattle.law_refine.specs.Events.GhostEvents.{home_in}
+use Rattle.law_refine.specs.Records.Changes.{AreChangesPublished}
+
+-- The store has the values that the log beside the life shows of versions up to its commit's, which is no older than the opening's. Its points keep just the
+-- updates of these versions.
+pub record IsOfCommitBeside (o : Opened) (n : Now) (bytes : List ℕ) (events : List Event) (image : List ℕ) (r : Opened) (store : IsStoreOf image r) : Type 0 where
+  pub newest : Newest
+  pub values : (let beside = ghosts_beside o n bytes events in IsOfCommit (home_in n.shape.bucket_bits) image newest beside.log r store)
+  pub since : (let it = newest in o.number.0 ≤ it.slot.number)
+  pub split : (let it = newest in let beside = ghosts_beside o n bytes events in PointsSplit r.points.items it.slot.number beside.log.history)
+
+-- its map is the one with which the life began, behind a replay of the updates that its points keep
+abbrev pub ReplaysKept : Opened → Now → List ℕ → List Event → List ℕ → Opened → Type 0
+ReplaysKept o n bytes events image r = opening_map image r ≡ content (opening_map bytes o) (kept_so_far n bytes events r.points.items)
+
+-- which is legal with the replies that were given
+abbrev pub KeepsLegally : Opened → Now → List ℕ → List Event → List ℕ → Opened → Type 0
+KeepsLegally o n bytes events image r = IsLegal (opening_map bytes o) (kept_so_far n bytes events r.points.items)
+
+-- So it is of each store of such a commit, beside each life of an opened store in which each event of the log keeps to its rule, and what a session changes in
+-- place is published.
+abbrev pub OfEachCommit : (Opened → Now → List ℕ → List Event → List ℕ → Opened → Type 0) → Type 0
+OfEachCommit P =
+    (bytes : List ℕ) (o : Opened) (n : Now) (events : List Event) (image : List ℕ) (r : Opened) (store : IsStoreOf image r) → IsStoreOf bytes o → IsOpeningWorld o n
+    → KeepsRules o n bytes events → AreChangesPublished (beginning n bytes) (opening_ghosts bytes o) events → IsOfCommitBeside o n bytes events image r store
+    → P o n bytes events image r
