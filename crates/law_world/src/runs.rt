@@ -13,6 +13,7 @@ ghost use Rattle.fkv_session.specs.SessionRun.{session_run};
 ghost use Rattle.fkv_session.specs.Sessions.{SessionState, is_busy, session_ask};
 ghost use Rattle.fkv_world.specs.Actors.{NoneOfKeeper, NoneOfSession, is_of_keeper, is_of_session, keeper_goes, place_named, session_goes, slot_named};
 ghost use Rattle.law_world.specs.Runs.Added.{IsCallsAfter, IsHistoryAfter, told_at, told_by};
+ghost use Rattle.law_world.specs.Runs.Crashes.{NoneIsCrash};
 ghost use Rattle.law_world.specs.Runs.Ends.{IsFreeToMove, KeeperStandsAtNoSlot, StandsAtNoSlot, asks_left_of, asks_left_of_keeper, moves_alone};
 ghost use Rattle.fkv_world.specs.Opened.{IsOpenedWorld};
 ghost use Rattle.fkv_world.specs.OwnEvents.{keeper_events, session_events};
@@ -93,10 +94,13 @@ pub fn law_of_nothing_to_do()
 {}
 
 /// A crash ends a life: that it goes on no more is all that it changes, nothing is past through it, and no event behind it changes anything.
+/// No other event ends one: a life that goes on does so behind every list of events without a crash.
 pub fn law_of_a_crash()
     ensures ends { (w : World) → (happens w Crashes).now ≡ record w.now { crashed = true } }
     ensures past { (w : World) → (happens w Crashes).past ≡ w.past }
     ensures behind { (w : World) (later : List Event) → run (happens w Crashes) later ≡ happens w Crashes }
+    ensures goes_on { (opening : World) (events : List Event) → opening.now.crashed ≡ false → NoneIsCrash events
+        → (run opening events).now.crashed ≡ false }
 {}
 
 /// A call ends by the asks that its machine has left: a move of a session that has some left, and of the keeper, leaves fewer, whatever the
