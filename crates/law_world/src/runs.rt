@@ -26,7 +26,8 @@ pub fn law_of_lives()
 {}
 
 /// An event of another actor leaves a machine as it was: where it isn't the session's, the session, and where it isn't the keeper's, the
-/// keeper. So it is over every list of such events. The shape and the places of the store stay in all of them.
+/// keeper. So it is over every list of such events. The calls of the device stay in all that aren't the keeper's. The shape and the places of
+/// the store stay in every life.
 pub fn law_of_others()
     ensures session { (w : World) (event : Event) (session : ℕ) → is_of_session session event ≡ false
         → slice_get (happens w event).now.sessions session ≡ slice_get w.now.sessions session }
@@ -35,6 +36,9 @@ pub fn law_of_others()
         → slice_get (run opening (later ++ before)).now.sessions session ≡ slice_get (run opening before).now.sessions session }
     ensures keepers { (opening : World) (later before : List Event) → NoneOfKeeper later
         → (run opening (later ++ before)).now.keeper ≡ (run opening before).now.keeper }
+    ensures calls { (w : World) (event : Event) → is_of_keeper event ≡ false → (happens w event).past.calls ≡ w.past.calls }
+    ensures all_calls { (opening : World) (later before : List Event) → NoneOfKeeper later
+        → (run opening (later ++ before)).past.calls ≡ (run opening before).past.calls }
     ensures shape { (opening : World) (events : List Event) → (run opening events).now.shape ≡ opening.now.shape }
     ensures places { (opening : World) (events : List Event) → (run opening events).now.places ≡ opening.now.places }
 {}
