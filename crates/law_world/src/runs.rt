@@ -69,12 +69,14 @@ pub fn law_of_starts()
 {}
 
 /// An event changes one word at most, at the place that the ask of its machine names, and there as the ask does; and the action of one
-/// slot at most, of the slot that the ask names, or the ask that goes with it. A start of a call and a crash name none.
+/// slot at most, of the slot that the ask names, or the ask that goes with it. A start of a call and a crash name none. In every life there
+/// are as many slots as there were when it began.
 pub fn law_of_one_word()
     ensures word { (w : World) (event : Event) (place : ℕ) → place_named w.now event ≢ Some place
         → slice_get (happens w event).now.words place ≡ slice_get w.now.words place }
     ensures slot { (w : World) (event : Event) (slot : ℕ) → slot_named w.now event ≢ Some slot
         → slice_get (happens w event).now.actions slot ≡ slice_get w.now.actions slot }
+    ensures slots { (opening : World) (events : List Event) → length (run opening events).now.actions ≡ length opening.now.actions }
     ensures session { (w : World) (session : ℕ) (its : SessionState) → w.now.crashed ≡ false → slice_get w.now.sessions session ≡ Some its
         → (happens w (Moves session)).now.words ≡ words_after w.now.words (session_ask (seat_at w.now session) its) }
     ensures keeper { (w : World) (granted done : Bool) → w.now.crashed ≡ false
