@@ -6,4 +6,5 @@ pub mod Lives
 pub mod NoSlots
 pub mod Nothing
 pub mod OneWord
+pub mod SlotCount
 pub mod Starts

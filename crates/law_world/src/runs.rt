@@ -13,6 +13,7 @@ ghost use Rattle.fkv_session.specs.SessionRun.{session_run};
 ghost use Rattle.fkv_session.specs.Sessions.{SessionState, is_busy, session_ask};
 ghost use Rattle.fkv_world.specs.Actors.{NoneOfKeeper, NoneOfSession, is_of_keeper, is_of_session, keeper_goes, place_named, session_goes, slot_named};
 ghost use Rattle.law_world.specs.Runs.Added.{IsCallsAfter, IsHistoryAfter, told_at, told_by};
+ghost use Rattle.law_world.specs.Runs.Crashes.{NoneIsCrash};
 ghost use Rattle.law_world.specs.Runs.Ends.{IsFreeToMove, KeeperStandsAtNoSlot, StandsAtNoSlot, asks_left_of, asks_left_of_keeper, moves_alone};
 ghost use Rattle.fkv_world.specs.Opened.{IsOpenedWorld};
 ghost use Rattle.fkv_world.specs.OwnEvents.{keeper_events, session_events};
@@ -25,7 +26,8 @@ pub fn law_of_lives()
 {}
 
 /// An event of another actor leaves a machine as it was: where it isn't the session's, the session, and where it isn't the keeper's, the
-/// keeper. So it is over every list of such events. The shape and the places of the store stay in all of them.
+/// keeper. So it is over every list of such events. The calls of the device stay in all that aren't the keeper's. The shape and the places of
+/// the store stay in every life.
 pub fn law_of_others()
     ensures session { (w : World) (event : Event) (session : ℕ) → is_of_session session event ≡ false
         → slice_get (happens w event).now.sessions session ≡ slice_get w.now.sessions session }
@@ -34,6 +36,9 @@ pub fn law_of_others()
         → slice_get (run opening (later ++ before)).now.sessions session ≡ slice_get (run opening before).now.sessions session }
     ensures keepers { (opening : World) (later before : List Event) → NoneOfKeeper later
         → (run opening (later ++ before)).now.keeper ≡ (run opening before).now.keeper }
+    ensures calls { (w : World) (event : Event) → is_of_keeper event ≡ false → (happens w event).past.calls ≡ w.past.calls }
+    ensures all_calls { (opening : World) (later before : List Event) → NoneOfKeeper later
+        → (run opening (later ++ before)).past.calls ≡ (run opening before).past.calls }
     ensures shape { (opening : World) (events : List Event) → (run opening events).now.shape ≡ opening.now.shape }
     ensures places { (opening : World) (events : List Event) → (run opening events).now.places ≡ opening.now.places }
 {}
@@ -64,12 +69,14 @@ pub fn law_of_starts()
 {}
 
 /// An event changes one word at most, at the place that the ask of its machine names, and there as the ask does; and the action of one
-/// slot at most, of the slot that the ask names, or the ask that goes with it. A start of a call and a crash name none.
+/// slot at most, of the slot that the ask names, or the ask that goes with it. A start of a call and a crash name none. In every life there
+/// are as many slots as there were when it began.
 pub fn law_of_one_word()
     ensures word { (w : World) (event : Event) (place : ℕ) → place_named w.now event ≢ Some place
         → slice_get (happens w event).now.words place ≡ slice_get w.now.words place }
     ensures slot { (w : World) (event : Event) (slot : ℕ) → slot_named w.now event ≢ Some slot
         → slice_get (happens w event).now.actions slot ≡ slice_get w.now.actions slot }
+    ensures slots { (opening : World) (events : List Event) → length (run opening events).now.actions ≡ length opening.now.actions }
     ensures session { (w : World) (session : ℕ) (its : SessionState) → w.now.crashed ≡ false → slice_get w.now.sessions session ≡ Some its
         → (happens w (Moves session)).now.words ≡ words_after w.now.words (session_ask (seat_at w.now session) its) }
     ensures keeper { (w : World) (granted done : Bool) → w.now.crashed ≡ false
@@ -93,10 +100,13 @@ pub fn law_of_nothing_to_do()
 {}
 
 /// A crash ends a life: that it goes on no more is all that it changes, nothing is past through it, and no event behind it changes anything.
+/// No other event ends one: a life that goes on does so behind every list of events without a crash.
 pub fn law_of_a_crash()
     ensures ends { (w : World) → (happens w Crashes).now ≡ record w.now { crashed = true } }
     ensures past { (w : World) → (happens w Crashes).past ≡ w.past }
     ensures behind { (w : World) (later : List Event) → run (happens w Crashes) later ≡ happens w Crashes }
+    ensures goes_on { (opening : World) (events : List Event) → opening.now.crashed ≡ false → NoneIsCrash events
+        → (run opening events).now.crashed ≡ false }
 {}
 
 /// A call ends by the asks that its machine has left: a move of a session that has some left, and of the keeper, leaves fewer, whatever the

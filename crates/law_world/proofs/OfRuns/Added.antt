@@ -1,4 +1,4 @@
--- What an event adds to the history, to the trace and to the calls of the device.
+-- What an event adds to the history, to the trace and to the calls of the device, to which others than the keeper add none.
 use Rattle.std.proofs.Common.{◌≡◌, ◌⊎◌, inl, inr, ℕ, ◌∙◌, ◌++◌, List, [], ◌∷◌, length, refl, ap, sym, subst, Bool, true, false, arith}
 use Rattle.std.specs.Prelude.{Option, Some, None, slice_get, if◌then◌else◌}
 use Rattle.fkv_base.specs.declared.numbers.Version.{Version}
@@ -23,11 +23,11 @@ use Rattle.fkv_keeper.specs.KeeperRun.{is_in_hand}
 use Rattle.fkv_keeper.proofs.Shown.{calls_one}
 use Rattle.law_world.specs.Runs.Added.{IsCallsAfter, IsHistoryAfter, told_at, call_begun, begun_by, call_answered, session_answered, keeper_told, is_calling, ended_by, told_by}
 use Rattle.fkv_world.specs.Past.{Effect, Past, Traced, TraceEvent, Called, CommitAsked, TurnAsked, traced, effect_made, history_after, answer_traced, session_traced, call_traced, move_traced, keeper_answered, calls_after, life_past}
-use Rattle.fkv_world.specs.Runs.{World, happens, read_by_keeper}
+use Rattle.fkv_world.specs.Runs.{World, happens, read_by_keeper, run}
 use Rattle.fkv_world.specs.World.{Event, Calls, Moves, Commits, Turns, KeeperMoves, Crashes, Now, seat_at, life_goes, near}
 use Rattle.fkv_world.proofs.Shown.{added_calls, calls_added, is_over, lived, session_written, world_of}
 use Rattle.std.proofs.lemmas.Bool.Decides.{nat_tests}
-use Rattle.fkv_world.specs.Actors.{session_goes}
+use Rattle.fkv_world.specs.Actors.{NoneOfKeeper, is_of_keeper, session_goes}
 use Rattle.law_world.proofs.OfRuns.EffectStays.{IsWordAsk, effect_stays}
 
 -- the history behind an event
@@ -210,6 +210,21 @@ event_calls w event = inl refl
 pub calls_so : (w : World) (event : Event) → IsCallsAfter w event (happens w event).past.calls
 calls_so w event = by_life (λ (x : World). IsCallsAfter w event x.past.calls) w event w.now.crashed refl (inl refl)
     (λ alive. subst (λ (calls : List device.Call). IsCallsAfter w event calls) (sym (added_calls w (life_goes w.now (read_by_keeper w) event) event)) (event_calls w event))
+
+-- an event that isn't the keeper's adds none
+none_added : (n : Now) (event : Event) (calls : List device.Call) → is_of_keeper event ≡ false → calls_added n event calls ≡ calls
+unfolding calls_added
+none_added n (KeeperMoves granted done) calls other = cc
+none_added n event calls other = refl
+
+pub calls_stay : (w : World) (event : Event) → is_of_keeper event ≡ false → (happens w event).past.calls ≡ w.past.calls
+calls_stay w event other = by_life (λ (x : World). x.past.calls ≡ w.past.calls) w event w.now.crashed refl refl
+    (λ alive. added_calls w (life_goes w.now (read_by_keeper w) event) event ∙ none_added w.now event w.past.calls other)
+
+pub all_calls_stay : (opening : World) (later before : List Event) → NoneOfKeeper later → (run opening (later ++ before)).past.calls ≡ (run opening before).past.calls
+unfolding run
+all_calls_stay opening [] before none = refl
+all_calls_stay opening (event ∷ later) before none = calls_stay (run opening (later ++ before)) event none.0 ∙ all_calls_stay opening later before none.1
 
 -- the trace
 same_now : (w : World) (event : Event) (after : Now) → (world_of w event after).now ≡ after

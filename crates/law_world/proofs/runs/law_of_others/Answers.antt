@@ -1,5 +1,6 @@
 -- Others' events, by what each event changes.
 use Rattle.fkv_world.proofs.Shown.{keeper_apart, keeper_aparts, places_stay, session_apart, session_aparts, shape_stays}
+use Rattle.law_world.proofs.OfRuns.Added.{all_calls_stay, calls_stay}
 use Rattle.law_world.proofs.runs.law_of_others.Goals as goal
 
 pub returns-clause-session : goal.returns-clause-session
@@ -13,6 +14,12 @@ returns-clause-sessions c = λ opening later before session none. session_aparts
 
 pub returns-clause-keepers : goal.returns-clause-keepers
 returns-clause-keepers c = λ opening later before none. keeper_aparts opening later before none
+
+pub returns-clause-calls : goal.returns-clause-calls
+returns-clause-calls c = λ w event other. calls_stay w event other
+
+pub returns-clause-all_calls : goal.returns-clause-all_calls
+returns-clause-all_calls c = λ opening later before none. all_calls_stay opening later before none
 
 pub returns-clause-shape : goal.returns-clause-shape
 returns-clause-shape c = λ opening events. shape_stays opening events
