@@ -1,0 +1,4 @@
+pub mod Asks
+pub mod Lives
+pub mod Moved
+pub mod Sessions
