@@ -1,4 +1,6 @@
 -- So it is in the world.
+use Rattle.law_world.proofs.OfRuns.InHand.Turns.{maintain_called_now}
+use Rattle.law_world.proofs.OfRuns.InHand.Defers.{start_at, seek_at, enter_at}
 use Rattle.std.proofs.Common.{◌≡◌, ℕ, ◌∙◌, sym, ap, true, false}
 use Rattle.std.specs.Prelude.{Option, Some, None, slice_get}
 use Rattle.fkv_epoch.proofs.Shown.{some_same}

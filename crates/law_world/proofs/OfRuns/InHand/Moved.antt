@@ -45,7 +45,7 @@ raised_at took target raising arming (Done raised.Spent) = tt
 raised_at took target raising arming (Done (raised.Raised slot epoch)) = (refl, refl)
 raised_at took target raising arming ask = passed_at _ took (raise_ask raising) moved.Through (off_at _ took (raise_ask raising) (raise_off raising))
 
-arm_off : (step : Arming) → IsOffSlots (arm_ask step)
+pub arm_off : (step : Arming) → IsOffSlots (arm_ask step)
 unfolding arm_ask
 arm_off arm.AtRest = tt
 arm_off (arm.PutsAction slot epoch) = tt
