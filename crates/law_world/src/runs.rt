@@ -83,15 +83,19 @@ pub fn law_of_one_word()
         → (happens w (KeeperMoves granted done)).now.words ≡ words_after w.now.words (keeper_ask w.now.shape w.now.places w.now.keeper) }
 {}
 
-/// A call never ends in a step that names a slot: what is put into a slot is armed behind it, and what comes out of one is run. So behind a
-/// session's move that names a slot its call is in hand. It is supposed that it didn't stand at a slot before the move: it comes to one in the
-/// step that moves the action too.
+/// No call ends in a step that names a slot: what is put into a slot is armed behind it, and what comes out of one is run. So behind a move
+/// that names a slot the call is still in hand. Of a session it is supposed that it didn't stand at a slot before the move: it comes to one in
+/// the step that moves the action too. Of the keeper it holds in every life of a store that was opened.
 pub fn law_of_slots()
-    ensures { (w : World) (session slot : ℕ) (its after : SessionState) → w.now.crashed ≡ false → slice_get w.now.sessions session ≡ Some its
+    ensures session { (w : World) (session slot : ℕ) (its after : SessionState) → w.now.crashed ≡ false → slice_get w.now.sessions session ≡ Some its
         → slot_asked (session_ask (seat_at w.now session) its) ≡ None
         → slot_named w.now (Moves session) ≡ Some slot
         → slice_get (happens w (Moves session)).now.sessions session ≡ Some after
         → is_busy after.step ≡ true }
+    ensures keeper { (opening : World) (events : List Event) (granted done : Bool) (slot : ℕ) → IsOpenedWorld opening
+        → (run opening events).now.crashed ≡ false
+        → slot_named (run opening events).now (KeeperMoves granted done) ≡ Some slot
+        → is_in_hand (happens (run opening events) (KeeperMoves granted done)).now.keeper.step ≡ true }
 {}
 
 /// An event that finds nothing to do leaves the world as it was, what is past too: an event of a session that isn't there, a call where

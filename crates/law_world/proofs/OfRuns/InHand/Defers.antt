@@ -8,10 +8,10 @@ use Rattle.fkv_base.specs.declared.phases.Phase.TheVariants.{Rest}
 use Rattle.fkv_words.specs.declared.phase_words.PhaseSaid.{PhaseSaid}
 use Rattle.fkv_words.specs.declared.phase_words.PhaseSaid.TheVariants.{Says}
 use Rattle.fkv_words.specs.PhaseWords.{phase_said}
-use Rattle.fkv_commit.specs.Cuts.{serial_said, version_said, cut_of, other_cut_of}
+use Rattle.fkv_commit.specs.Cuts.{serial_said, version_said}
 use Rattle.fkv_plane.specs.declared.asks.Ask.{Ask}
-use Rattle.fkv_plane.specs.declared.asks.Ask.TheVariants.{Put, Take, Done}
-use Rattle.fkv_plane.specs.Passing.{is_done, passed}
+use Rattle.fkv_plane.specs.declared.asks.Ask.TheVariants.{Done}
+use Rattle.fkv_plane.specs.Passing.{is_done}
 use Rattle.fkv_plane.proofs.Shown.{passed_done}
 use Rattle.fkv_epoch.specs.declared.raising.RaiseAnswer.{RaiseAnswer}
 use Rattle.fkv_epoch.specs.declared.raising.RaiseAnswer.TheVariants as raised
@@ -31,14 +31,13 @@ use Rattle.fkv_commit.specs.declared.seeking.Seeking.TheVariants as seek
 use Rattle.fkv_commit.specs.declared.starting.StartAnswer.TheVariants as start_told
 use Rattle.fkv_commit.specs.declared.starting.Starting.{Starting}
 use Rattle.fkv_commit.specs.declared.starting.Starting.TheVariants as start
-use Rattle.fkv_commit.specs.Deferring.{DeferState, defer_ask, defer_next, defer_on, deferring_ask, deferring_next, deferring_on, seek_ledto, raise_ledto, arm_ledto}
+use Rattle.fkv_commit.specs.Deferring.{DeferState, defer_ask, defer_next, deferring_ask, deferring_next, deferring_on, seek_ledto, raise_ledto, arm_ledto}
 use Rattle.fkv_commit.specs.Entering as entering
 use Rattle.fkv_commit.specs.Entering.{EnterState, enter_ask, enter_next, entering_ask, entering_next}
 use Rattle.fkv_commit.specs.Seeking as seeking
 use Rattle.fkv_commit.specs.Seeking.{SeekState, owing_from, point_taken, points_from, seek_ask, seek_next, seeking_ask, seeking_next, slot_led}
 use Rattle.fkv_commit.specs.Starting as starting
 use Rattle.fkv_commit.specs.Starting.{StartState, phase_found, start_ask, start_next, starting_ask, starting_next, is_lost_full}
-use Rattle.law_world.proofs.OfRuns.NoSlots.{IsOffSlots}
 use Rattle.law_world.proofs.OfRuns.InHand.Asks.{AtSlot, at_more, off_at, passed_at, raise_off}
 use Rattle.law_world.proofs.OfRuns.InHand.Moved.{arm_off}
 

@@ -1,6 +1,5 @@
 -- Behind an action that it has put, or been given, a turn of the keeper goes on.
 use Rattle.std.proofs.Common.{◌≡◌, ℕ, ◌∙◌, refl, ap, sym, subst, Bool, true, false}
-use Rattle.std.specs.Prelude.{⊤}
 use Rattle.fkv_base.specs.declared.shapes.Shape.{Shape}
 use Rattle.fkv_plane.specs.declared.actions.Action.{Action}
 use Rattle.fkv_plane.specs.declared.asks.Ask.{Ask}
@@ -24,7 +23,6 @@ use Rattle.fkv_log.specs.declared.shifting.ShiftAnswer.{ShiftAnswer}
 use Rattle.fkv_log.specs.declared.shifting.ShiftAnswer.TheVariants as shifted
 use Rattle.fkv_log.specs.Shifting.{shift_ask, shift_next, shift_next_ask, shifting_ask}
 use Rattle.fkv_log.specs.Turning.{turn_ask, turn_next, turn_next_ask, turning_ask}
-use Rattle.fkv_maintain.specs.declared.maintaining.MaintainAnswer.{MaintainAnswer}
 use Rattle.fkv_maintain.specs.declared.maintaining.MaintainAnswer.TheVariants as answer
 use Rattle.fkv_maintain.specs.declared.maintaining.Maintaining.{Maintaining}
 use Rattle.fkv_maintain.specs.declared.maintaining.Maintaining.TheVariants.{Through, Spent, Broken, Scans, Claims, Flushes, Shifts, Turns, Serves}
