@@ -2,6 +2,7 @@ pub mod Added
 pub mod Crashed
 pub mod EffectStays
 pub mod Ends
+pub mod InHand
 pub mod Lives
 pub mod NoSlots
 pub mod Nothing

@@ -9,8 +9,8 @@ mod standing;
 pub use keeper::{law_world_checkpoints, law_world_keeper, law_world_one_commit_stands};
 pub use runs::{
     law_of_a_crash, law_of_ends, law_of_lives, law_of_nothing_to_do, law_of_one_word,
-    law_of_others, law_of_own_events, law_of_own_runs, law_of_starts, law_of_the_device,
-    law_of_the_past,
+    law_of_others, law_of_own_events, law_of_own_runs, law_of_slots, law_of_starts,
+    law_of_the_device, law_of_the_past,
 };
 pub use sessions::{
     law_world_answers, law_world_cuts, law_world_effects, law_world_latches, law_world_reads,

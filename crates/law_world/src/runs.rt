@@ -11,7 +11,7 @@ ghost use Rattle.fkv_plane.specs.Asked.{words_after};
 ghost use Rattle.fkv_plane.specs.declared.asks.Ask.TheVariants.{Done};
 ghost use Rattle.fkv_session.specs.SessionRun.{session_run};
 ghost use Rattle.fkv_session.specs.Sessions.{SessionState, is_busy, session_ask};
-ghost use Rattle.fkv_world.specs.Actors.{NoneOfKeeper, NoneOfSession, is_of_keeper, is_of_session, keeper_goes, place_named, session_goes, slot_named};
+ghost use Rattle.fkv_world.specs.Actors.{NoneOfKeeper, NoneOfSession, is_of_keeper, is_of_session, keeper_goes, place_named, session_goes, slot_asked, slot_named};
 ghost use Rattle.law_world.specs.Runs.Added.{IsCallsAfter, IsHistoryAfter, told_at, told_by};
 ghost use Rattle.law_world.specs.Runs.Crashes.{NoneIsCrash};
 ghost use Rattle.law_world.specs.Runs.Ends.{IsFreeToMove, KeeperStandsAtNoSlot, StandsAtNoSlot, asks_left_of, asks_left_of_keeper, moves_alone};
@@ -81,6 +81,21 @@ pub fn law_of_one_word()
         → (happens w (Moves session)).now.words ≡ words_after w.now.words (session_ask (seat_at w.now session) its) }
     ensures keeper { (w : World) (granted done : Bool) → w.now.crashed ≡ false
         → (happens w (KeeperMoves granted done)).now.words ≡ words_after w.now.words (keeper_ask w.now.shape w.now.places w.now.keeper) }
+{}
+
+/// No call ends in a step that names a slot: what is put into a slot is armed behind it, and what comes out of one is run. So behind a move
+/// that names a slot the call is still in hand. Of a session it is supposed that it didn't stand at a slot before the move: it comes to one in
+/// the step that moves the action too. Of the keeper it holds in every life of a store that was opened.
+pub fn law_of_slots()
+    ensures session { (w : World) (session slot : ℕ) (its after : SessionState) → w.now.crashed ≡ false → slice_get w.now.sessions session ≡ Some its
+        → slot_asked (session_ask (seat_at w.now session) its) ≡ None
+        → slot_named w.now (Moves session) ≡ Some slot
+        → slice_get (happens w (Moves session)).now.sessions session ≡ Some after
+        → is_busy after.step ≡ true }
+    ensures keeper { (opening : World) (events : List Event) (granted done : Bool) (slot : ℕ) → IsOpenedWorld opening
+        → (run opening events).now.crashed ≡ false
+        → slot_named (run opening events).now (KeeperMoves granted done) ≡ Some slot
+        → is_in_hand (happens (run opening events) (KeeperMoves granted done)).now.keeper.step ≡ true }
 {}
 
 /// An event that finds nothing to do leaves the world as it was, what is past too: an event of a session that isn't there, a call where

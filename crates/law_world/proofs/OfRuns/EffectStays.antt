@@ -30,7 +30,7 @@ use Rattle.fkv_session.specs.Sessions.{attempts, catch_ledto, leave_ledto, turn_
 use Rattle.law_world.proofs.OfRuns.NoSlots.{IsOffSlots, passed_off, attempt_off_slots}
 
 -- of a session at a step
-abbrev IsOff : Seat → SessionState → Type 0
+abbrev pub IsOff : Seat → SessionState → Type 0
 IsOff k s = IsOffSlots (session_ask k s)
 
 either_off : (k : Seat) (b : Bool) (s other : SessionState) → IsOff k s → IsOff k other → IsOff k (if b then s else other)
@@ -61,7 +61,7 @@ attempted_off k s again tried.Shift = shifts_off k s again
 attempted_off k s again tried.IndexFull = tt
 attempted_off k s again tried.LogFull = tt
 
-at_call_off : (k : Seat) (s : SessionState) (again : Bool) → s.step ≡ Attempts again → IsOff k s
+pub at_call_off : (k : Seat) (s : SessionState) (again : Bool) → s.step ≡ Attempts again → IsOff k s
 unfolding sitting_ask
 at_call_off k s again e = rw e (passed_off _ _ (attempt_off_slots k.places k.number s.attempt s.attempt.step))
 
@@ -69,12 +69,12 @@ at_poll_off : (k : Seat) (s : SessionState) (index : ℕ) → s.step ≡ Polls i
 unfolding sitting_ask
 at_poll_off k s index e = rw e (passed_off _ _ (attempt_off_slots k.places k.number s.attempt s.attempt.step))
 
-call_off : (k : Seat) (s : SessionState) (again : Bool) (ask : Ask TryAnswer) → s.step ≡ Attempts again → IsOff k (attempt_ledto s again ask)
+pub call_off : (k : Seat) (s : SessionState) (again : Bool) (ask : Ask TryAnswer) → s.step ≡ Attempts again → IsOff k (attempt_ledto s again ask)
 unfolding attempt_ledto
 call_off k s again (Done its) e = attempted_off k (attempt_left s) again its
 call_off k s again ask e = at_call_off k s again e
 
-polls_off : (k : Seat) (s : SessionState) (index : ℕ) (found : Option PendingRequest) → IsOff k (polls_request k s index found)
+pub polls_off : (k : Seat) (s : SessionState) (index : ℕ) (found : Option PendingRequest) → IsOff k (polls_request k s index found)
 polls_off k s index None = turn_off k s _
 polls_off k s index (Some pending) = at_poll_off k _ index refl
 
@@ -85,7 +85,7 @@ stores_off k s index e = rw e tt
 abbrev kept : SessionState → ℕ → TryAnswer → SessionState
 kept s index its = record (attempt_left s) { requests = slice_set s.requests index s.attempt.pending; wants_turn = s.wants_turn || lacks_room its }
 
-poll_off : (k : Seat) (s : SessionState) (index : ℕ) (ask : Ask TryAnswer) → s.step ≡ Polls index → IsOff k (poll_ledto k s index ask)
+pub poll_off : (k : Seat) (s : SessionState) (index : ℕ) (ask : Ask TryAnswer) → s.step ≡ Polls index → IsOff k (poll_ledto k s index ask)
 unfolding poll_ledto finishes_request keeps_request polls_at
 poll_off k s index (Done its) e = either_off k (is_finished its) _ _
     (either_off k (is_owed (attempt_left s)) (request_finished (attempt_left s) index its) _ (stores_off k (request_finished (attempt_left s) index its) index refl) (polls_off k (request_finished (attempt_left s) index its) index (slice_get (request_finished (attempt_left s) index its).requests index)))

@@ -198,7 +198,7 @@ moves_end w session (suc count) alive free =
     omega (arith, so_far, down)
 
 -- the keeper's move
-goes_keeper : (n : Now) (read : List ℕ) (granted done : Bool) → life_goes n read (KeeperMoves granted done) ≡ with_keeper n (keeper_moved n.shape n.places granted done read (near n n.keeper))
+pub goes_keeper : (n : Now) (read : List ℕ) (granted done : Bool) → life_goes n read (KeeperMoves granted done) ≡ with_keeper n (keeper_moved n.shape n.places granted done read (near n n.keeper))
 unfolding life_goes
 goes_keeper n read granted done = refl
 
