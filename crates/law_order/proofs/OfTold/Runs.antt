@@ -1,15 +1,10 @@
 -- Runs of a log behind one another: when each is enabled, and whose numbers are free.
-use Rattle.std.proofs.Common.{◌≡◌, ℕ, List, [], ◌∷◌, ◌++◌, refl, ap, sym, subst}
+use Rattle.std.proofs.Common.{◌≡◌, ℕ, List, [], ◌∷◌, ◌++◌, refl, sym, subst}
 use Rattle.fkv_map.specs.Map.{Map}
-use Rattle.law_log.specs.Ghosts.{Log, Reading, NotCalled, Called, Walks, HasValue, Ghosts, GhostEvent, ghosts_after, ghost_run}
+use Rattle.law_log.specs.Ghosts.{Log, Reading, NotCalled, Called, Walks, HasValue, Ghosts, GhostEvent, ghost_run}
 use Rattle.law_log.specs.Enabled.{AreEnabled, IsEnabled}
 use Rattle.law_log.specs.Trace.{TraceLine, CallsRead, IsIn}
-use Rattle.law_log.proofs.Shown.{KnowsRead}
-
-pub run_on : (home : ℕ → ℕ) (g : Ghosts) (later before : List GhostEvent) → ghost_run home g (later ++ before) ≡ ghost_run home (ghost_run home g before) later
-unfolding ghost_run
-run_on home g [] before = refl
-run_on home g (event ∷ later) before = ap (λ (x : Ghosts). ghosts_after home x event) (run_on home g later before)
+use Rattle.law_log.proofs.Shown.{run_on, KnowsRead}
 
 -- what is enabled after a run that is enabled is enabled with it
 pub enabled_on : (home : ℕ → ℕ) (g : Ghosts) (later before : List GhostEvent) → AreEnabled home g before → AreEnabled home (ghost_run home g before) later → AreEnabled home g (later ++ before)

@@ -11,6 +11,7 @@ use Rattle.fkv_epoch.proofs.Shown.{none_some, same_or, some_same}
 use Rattle.law_log.specs.Chains.{Cell, Logged, Unborn, Reserved, Published}
 use Rattle.law_log.specs.Ghosts.{Ghosts, GhostEvent, Tells, Fixes, changed_by, ghosts_after, ghost_run}
 use Rattle.law_log.specs.Trace.{TraceLine}
+use Rattle.law_log.proofs.Shown.{run_on}
 use Rattle.fkv_plane.specs.declared.asks.Ask.{Ask}
 use Rattle.fkv_plane.specs.declared.asks.Ask.TheVariants.{Put, Take, Done}
 use Rattle.fkv_plane.specs.declared.places.RecordWord.{RecordWord}
@@ -94,11 +95,6 @@ fixed_quiet before safe = by_test (safe == before)
     by_test : (c : Bool) → AreQuiet (if c then [] else Fixes safe ∷ [])
     by_test true = tt
     by_test false = (tt, tt)
-
-pub run_on : (home : ℕ → ℕ) (g : Ghosts) (later before : List GhostEvent) → ghost_run home g (later ++ before) ≡ ghost_run home (ghost_run home g before) later
-unfolding ghost_run
-run_on home g [] before = refl
-run_on home g (event ∷ later) before = ap (λ (x : Ghosts). ghosts_after home x event) (run_on home g later before)
 
 -- the words of a record that stand as they stood show what they showed
 pub same_shows : (one other : RecordWord → ℕ) (cell : Cell) → ((part : RecordWord) → other part ≡ one part) → ShowsCell one cell → ShowsCell other cell
