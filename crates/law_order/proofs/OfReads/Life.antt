@@ -31,7 +31,8 @@ use Rattle.law_order.proofs.OfReads.LifeNumbers.{AreOthers, others_given, others
 use Rattle.law_order.proofs.OfReads.Numbers.{IsOwn, own_below, own_same, Numbered, with_called, called_hand}
 use Rattle.law_order.proofs.OfReads.Steps.{StepFacts, steps_by, steps_touch}
 use Rattle.law_order.proofs.OfReads.Touched.{untouched}
-use Rattle.law_order.proofs.OfReads.Turns.{is_of_keeper, AreOfKeeper, Begins, Goes, moved_to}
+use Rattle.law_refine.proofs.OfCalls.Telling.{is_of_keeper, AreOfKeeper}
+use Rattle.law_order.proofs.OfReads.Turns.{Begins, Goes, moved_to}
 
 -- ---- the log behind an event
 -- what the event does, before it tells anything
