@@ -143,6 +143,12 @@ unfolding ghost_run
 run_on home g [] before = refl
 run_on home g (event ∷ later) before = ap (λ (x : Ghosts). ghosts_after home x event) (run_on home g later before)
 
+-- an earlier part of a run whose events are enabled has such events
+pub enabled_before : (home : ℕ → ℕ) (g : Ghosts) (later before : List GhostEvent) → AreEnabled home g (later ++ before) → AreEnabled home g before
+unfolding AreEnabled
+enabled_before home g [] before enabled = enabled
+enabled_before home g (event ∷ later) before enabled = enabled_before home g later before enabled.0
+
 pub run_held : (home : ℕ → ℕ) (m : Map) (version : ℕ) (opening : Ghosts) (events : List GhostEvent) → IsOpened home m version opening → AreEnabled home opening events → Held home m (ghost_run home opening events).log
 unfolding ghosts_after ghost_run AreEnabled
 run_held home m version opening [] opened enabled = opening_held home m version opening opened

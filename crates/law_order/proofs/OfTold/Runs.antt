@@ -13,11 +13,6 @@ enabled_on home g [] before enabled its = enabled
 enabled_on home g (event ∷ later) before enabled its = (enabled_on home g later before enabled its.0, subst (λ (x : Ghosts). IsEnabled home x event) (sym (run_on home g later before)) its.1)
 
 -- and a run's beginning with it
-pub enabled_behind : (home : ℕ → ℕ) (g : Ghosts) (later before : List GhostEvent) → AreEnabled home g (later ++ before) → AreEnabled home g before
-unfolding AreEnabled
-enabled_behind home g [] before enabled = enabled
-enabled_behind home g (event ∷ later) before enabled = enabled_behind home g later before enabled.0
-
 -- a number by which no read was called is no read's
 pub free_read : (home : ℕ → ℕ) (m : Map) (log : Log) (trace : List TraceLine) (reader : ℕ) (reading : Reading) → KnowsRead home m log trace reader reading → ((key : ℕ) → IsIn (CallsRead reader key) trace → ⊥) → reading ≡ NotCalled
 free_read home m log trace reader NotCalled knows none = refl

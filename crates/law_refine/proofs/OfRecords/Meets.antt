@@ -27,8 +27,9 @@ use Rattle.law_refine.proofs.OfRecords.AppendRows.{Standing}
 use Rattle.law_refine.proofs.OfRecords.FrameWords.{FrameWord, sitting_word}
 use Rattle.law_refine.proofs.OfRecords.GhostFits.{Fit, sitting_fit}
 use Rattle.law_refine.proofs.OfRecords.Life.{life_holds}
-use Rattle.law_refine.proofs.OfRecords.OneEvent.{fixed_quiet, told_quiet}
+use Rattle.law_refine.proofs.OfRecords.OneEvent.{told_quiet}
 use Rattle.law_refine.proofs.OfRecords.Standing.{stands_in}
+use Rattle.law_refine.proofs.OfEvents.EventEffects.{fixed_quiet}
 
 quiet_meet : (log : Log) (event : GhostEvent) → is_quiet event → meets_published log event
 quiet_meet log (Changes a entry) quiet = absurd quiet
