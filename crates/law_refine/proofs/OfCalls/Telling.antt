@@ -64,11 +64,11 @@ slots_reply actions (Put slot action) = tt
 slots_reply actions (Take slot) = got_replies (action_at actions slot)
 slots_reply actions ask = tt
 
-both_reply : (later : List SessionEvent) (reply : ℕ) → AreReplies later → AreReplies (later ++ Replies reply ∷ [])
-both_reply [] reply all = tt
-both_reply (Begins its ∷ later) reply all = absurd all
-both_reply (Replies other ∷ later) reply all = both_reply later reply all
-both_reply (Gets action ∷ later) reply all = both_reply later reply all
+pub both_reply : (later before : List SessionEvent) → AreReplies later → AreReplies before → AreReplies (later ++ before)
+both_reply [] before ones others = others
+both_reply (Begins its ∷ later) before ones others = absurd ones
+both_reply (Replies reply ∷ later) before ones others = both_reply later before ones others
+both_reply (Gets action ∷ later) before ones others = both_reply later before ones others
 
 steps_reply : (k : Seat) (n : Near SessionState) (ask : Ask Told) → AreReplies (session_steps k n ask)
 unfolding session_steps
@@ -77,9 +77,9 @@ steps_reply k n (Put slot action) = slots_reply n.actions (Put slot action)
 steps_reply k n (Take slot) = slots_reply n.actions (Take slot)
 steps_reply k n ask =
     let next : Ask Told = session_ask k (session_next k n.machine (reply_to n.words ask)) in
-    both_reply (session_slots n.actions next) (reply_to n.words ask) (slots_reply n.actions next)
+    both_reply (session_slots n.actions next) (Replies (reply_to n.words ask) ∷ []) (slots_reply n.actions next) tt
 
-part_replies : (n : Now) (number : ℕ) → AreReplies (session_part_of n number (Moves number))
+pub part_replies : (n : Now) (number : ℕ) → AreReplies (session_part_of n number (Moves number))
 unfolding session_part
 part_replies n number = by_crash n.crashed (slice_get n.sessions number)
   where
