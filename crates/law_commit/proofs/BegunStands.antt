@@ -21,10 +21,11 @@ use Rattle.fkv_keeper.specs.declared.answers.KeeperTold.{KeeperTold}
 use Rattle.fkv_keeper.specs.declared.keepers.Keeping.{Keeping}
 use Rattle.fkv_keeper.specs.declared.keepers.Keeping.TheVariants.{Ended, Starts, Maintains, LoadsPhase, Enters, Copies, Seeks, Waits, Writes, Finishes}
 use Rattle.fkv_keeper.specs.CheckpointLaws.{MayFollow, IsFinished}
-use Rattle.fkv_keeper.specs.Keeping.{Finality, KeeperState, commit_asked, finish_ledto, finished, keeping_called, keeping_given, keeping_next, triples_written, turn_asked, wait_ledto, write_ledto, writes_begun, writes_called}
-use Rattle.fkv_keeper.specs.KeeperRun.{KeeperEvent, BeginsTurn, BeginsCommit, Replies, Gets, Calls, IsOpened, begins, is_in_hand, keeper_happens, keeper_run}
+use Rattle.fkv_keeper.specs.Keeping.{Finality, KeeperState, finish_ledto, finished, keeping_called, keeping_given, keeping_next, triples_written, wait_ledto, write_ledto, writes_begun, writes_called}
+use Rattle.fkv_keeper.specs.KeeperRun.{KeeperEvent, BeginsTurn, BeginsCommit, Replies, Gets, Calls, IsOpened, is_in_hand, keeper_happens, keeper_run}
 use Rattle.fkv_keeper.specs.LastCommits.{is_gate_open}
 use Rattle.fkv_keeper.proofs.Shown.{each_move}
+use Rattle.law_world.proofs.OfStanding.Runs.{happens_at, happens_so}
 use Rattle.law_commit.specs.BegunCommits.{BegunCommit, AtEnd, AtKeeping, HaveFinished, IsInHand, OneIsOpen, commit_opening, begun_at_end, begun_at_writes, begun_by, commits_begun}
 
 -- as far as its writes have come
@@ -58,22 +59,6 @@ still_stands begun s step e its = subst (λ (x : Keeping). StandsAt begun s x) (
 
 still_finishing : (begun : List BegunCommit) (s : KeeperState) → s.step ≡ Finishes → IsInHand begun s true → Stands (begun_at_end s.step begun) s
 still_finishing begun s e its = subst (λ (x : Keeping). StandsAt (begun_at_end x begun) s x) (sym e) its
-
--- the state with its step told beside it, so that tables by step compute
-abbrev pub happens_at : Shape → Places → KeeperState → Keeping → KeeperEvent → KeeperState
-happens_at shape p s step BeginsTurn = begins s (is_in_hand step) (turn_asked s)
-happens_at shape p s step (BeginsCommit kind) = begins s (is_in_hand step) (commit_asked s kind)
-happens_at shape p s step (Replies reply granted) = keeping_next shape p s step reply granted
-happens_at shape p s step (Gets action) = keeping_given shape p s step action
-happens_at shape p s step (Calls done bytes) = keeping_called shape p s step done bytes
-
-happens_so : (shape : Shape) (p : Places) (s : KeeperState) (event : KeeperEvent) → happens_at shape p s s.step event ≡ keeper_happens shape p s event
-unfolding keeper_happens
-happens_so shape p s BeginsTurn = refl
-happens_so shape p s (BeginsCommit kind) = refl
-happens_so shape p s (Replies reply granted) = refl
-happens_so shape p s (Gets action) = refl
-happens_so shape p s (Calls done bytes) = refl
 
 -- ---- where no writes are near
 abbrev pub IsCalm : Keeping → Type 0

@@ -28,7 +28,8 @@ use Rattle.fkv_world.specs.World.{Event}
 use Rattle.law_world.proofs.OfKeeper.OwnRun.{of_keeper}
 use Rattle.law_commit.specs.BegunCommits.{BegunCommit, HaveFinished, IsInHand, commit_opened, commits_begun, life_begun}
 use Rattle.law_commit.specs.WrittenCommits.{NewestIsWritten, UsesAsKind, life_told, life_writing}
-use Rattle.law_commit.proofs.BegunStands.{IsCalm, StandsAt, happens_at, no_finish, no_writes, run_stands, same_commit, there}
+use Rattle.law_world.proofs.OfStanding.Runs.{happens_at}
+use Rattle.law_commit.proofs.BegunStands.{IsCalm, StandsAt, no_finish, no_writes, run_stands, same_commit, there}
 use Rattle.law_commit.proofs.LifeBegun.{opening_finished}
 
 -- while a commit is written, its triples are those with which its writes began

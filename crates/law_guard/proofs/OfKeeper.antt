@@ -18,7 +18,7 @@ mod Movers
 pub mod NoCalls
 mod PartLed
 mod PhaseKept
-mod Puts
+pub mod Puts
 mod Quiet
 mod Scanned
 mod SeekKept

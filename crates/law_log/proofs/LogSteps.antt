@@ -1,5 +1,5 @@
 -- Each event keeps what holds of a log, and so does each run.
-use Rattle.std.proofs.Common.{◌≡◌, inl, inr, ℕ, ◌≤◌, ◌∙◌, Bool, max, List, [], ◌∷◌, refl, sym, ap, subst, arith}
+use Rattle.std.proofs.Common.{◌≡◌, inl, inr, ℕ, ◌≤◌, ◌∙◌, Bool, max, List, [], ◌∷◌, ◌++◌, refl, sym, ap, subst, arith}
 use Rattle.std.specs.Prelude.{◌&&◌, nat_eq, nat_le}
 use Rattle.std.proofs.lemmas.Bool.Decides.{nat_tests}
 use Rattle.fkv_map.specs.declared.history.HistoryEntry.{HistoryEntry}
@@ -136,6 +136,18 @@ opening_held home m version opening opened = record {
   legal = subst (λ effects. IsLegal m (history_of effects)) (sym opened.no_history) tt;
   made = λ a entry cell is. absurd (opened.none_reserved a entry cell is);
 }
+
+-- a run goes on from where an earlier part of it has led
+pub run_on : (home : ℕ → ℕ) (g : Ghosts) (later before : List GhostEvent) → ghost_run home g (later ++ before) ≡ ghost_run home (ghost_run home g before) later
+unfolding ghost_run
+run_on home g [] before = refl
+run_on home g (event ∷ later) before = ap (λ (x : Ghosts). ghosts_after home x event) (run_on home g later before)
+
+-- an earlier part of a run whose events are enabled has such events
+pub enabled_before : (home : ℕ → ℕ) (g : Ghosts) (later before : List GhostEvent) → AreEnabled home g (later ++ before) → AreEnabled home g before
+unfolding AreEnabled
+enabled_before home g [] before enabled = enabled
+enabled_before home g (event ∷ later) before enabled = enabled_before home g later before enabled.0
 
 pub run_held : (home : ℕ → ℕ) (m : Map) (version : ℕ) (opening : Ghosts) (events : List GhostEvent) → IsOpened home m version opening → AreEnabled home opening events → Held home m (ghost_run home opening events).log
 unfolding ghosts_after ghost_run AreEnabled

@@ -4,7 +4,7 @@ pub use Rattle.law_log.proofs.Versions.{upto_is_all, latest_is_first}
 pub use Rattle.law_log.proofs.Held.{Held, Grows, StaysPublished, first_stays, shown_stays, fixed_stays, made_stays, made_of_fixed_stays, not_reserved, not_unborn}
 pub use Rattle.law_log.proofs.Upto.{HeldUpto}
 pub use Rattle.law_log.proofs.InOrder.{HeldInOrder}
-pub use Rattle.law_log.proofs.LogSteps.{Steps, log_steps, run_held, run_upto, run_in_order}
+pub use Rattle.law_log.proofs.LogSteps.{Steps, log_steps, run_on, enabled_before, run_held, run_upto, run_in_order}
 pub use Rattle.law_log.proofs.Readings.{IsBegun, HasSeen, HadValue, KnowsRead, KnowsWalk, read_steps, read_told}
 pub use Rattle.law_log.proofs.Sound.{IsSound, event_sound, run_sound}
 pub use Rattle.law_log.proofs.Walks.{BeginsAt, begins_at, first_from_head, first_from_none, first_from_own, LeadsOn, leads_on}

@@ -7,5 +7,5 @@ mod Named
 mod Once
 pub mod SameHistory
 mod Standing
-mod Telling
+pub mod Telling
 pub mod UpdateLines

@@ -3,14 +3,12 @@ use Rattle.std.proofs.Common.{◌≡◌, suc, ◌≤◌, ◌∙◌, refl, ap, ar
 use Rattle.std.specs.Prelude.{⊤, Option, Some, None}
 use Rattle.fkv_map.specs.declared.history.HistoryEntry.{HistoryEntry}
 use Rattle.fkv_plane.specs.declared.actions.Action.{Action}
-use Rattle.fkv_plane.specs.declared.asks.Ask.{Ask}
 use Rattle.fkv_session.specs.Replies.{effects_told, with_effect}
 use Rattle.fkv_session.specs.SessionRun.{SessionEvent, Begins, Replies, Gets, session_happens, session_run}
-use Rattle.fkv_session.specs.Sessions.{SessionState, Seat, sitting_given, turn_ledto}
-use Rattle.fkv_session.specs.declared.answers.Told.{Told}
+use Rattle.fkv_session.specs.Sessions.{SessionState, Seat, sitting_given}
 use Rattle.fkv_session.specs.declared.sessions.Sitting.{Sitting}
 use Rattle.fkv_session.specs.declared.sessions.Sitting.TheVariants.{Turns}
-use Rattle.fkv_plane.specs.declared.asks.Ask.TheVariants.{Done}
+use Rattle.law_world.proofs.OfRuns.EffectStays.{turn_keeps}
 
 -- some reply, and behind it nothing but actions that it gets; the newest first
 abbrev pub HaveReply : List SessionEvent → Type 0
@@ -20,11 +18,6 @@ HaveReply (Replies reply ∷ before) = ⊤
 HaveReply (Gets action ∷ before) = HaveReply before
 
 -- an action makes no effect, and leaves the one that is told
-turn_keeps : (s : SessionState) (its : Told) (ask : Ask (Unit {0})) → (turn_ledto s its ask).effect ≡ s.effect
-unfolding turn_ledto
-turn_keeps s its (Done through) = refl
-turn_keeps s its ask = refl
-
 given_keeps : (k : Seat) (s : SessionState) (step : Sitting) (action : Action) → (sitting_given k s step action).effect ≡ s.effect
 unfolding sitting_given
 given_keeps k s (Turns its) action = turn_keeps _ its _

@@ -71,7 +71,7 @@ keeper_slot w a x seen s keeps =
       | inr r ↦ waits_not w a x seen s keeps r
     ]
 
-no_slot : {A : Type 0} (ask : Ask A) → is_of_slot ask ≡ false → slot_asked ask ≡ None
+pub no_slot : {A : Type 0} (ask : Ask A) → is_of_slot ask ≡ false → slot_asked ask ≡ None
 no_slot (Put slot action) off = cc
 no_slot (Take slot) off = cc
 no_slot ask off = refl

@@ -53,7 +53,7 @@ unfolding passed
 passed_puts actions (Done its) told empty slot e = cc
 passed_puts actions ask told empty slot e = empty slot e
 
-claim_puts : (actions : List (Option Action)) (c : Claiming) → PutsIntoEmpty actions (claim_ask c)
+pub claim_puts : (actions : List (Option Action)) (c : Claiming) → PutsIntoEmpty actions (claim_ask c)
 unfolding claim_ask
 claim_puts actions claim.AtRest slot e = cc
 claim_puts actions (claim.Runs its epoch safe (act.SafeReadOnly addr)) slot e = cc
@@ -62,7 +62,7 @@ claim_puts actions (claim.Runs its epoch safe (act.Phase phase version)) slot e 
 claim_puts actions c slot e = cc
 
 -- what a shift or a page's turn gives to a slot
-work_puts_empty : (w : GuardWorld) (a : ℕ) (x : Actor) (work : Work) → IsSound w → slice_get w.now.actors a ≡ Some x → x.work ≡ work → is_idle work ≡ false
+pub work_puts_empty : (w : GuardWorld) (a : ℕ) (x : Actor) (work : Work) → IsSound w → slice_get w.now.actors a ≡ Some x → x.work ≡ work → is_idle work ≡ false
     → (slot : ℕ) → work_puts w.now work ≡ Some slot → action_at w.now.actions slot ≡ None
 work_puts_empty w a x work sound got its busy slot e =
     (finds_slots w (Moves a) sound).puts slot

@@ -1,17 +1,15 @@
 -- What a session finds in the drain slot that it turns to: where it gives an action to one, this is empty, and where it takes the action of one, there is one.
-use Rattle.std.proofs.Common.{◌≡◌, ℕ, ◌∙◌, List, refl, sym, ap, subst, Bool, false}
-use Rattle.std.specs.Prelude.{Option, Some, None, slice_get, if◌then◌else◌}
+use Rattle.std.proofs.Common.{◌≡◌, ℕ, ◌∙◌, List, refl, sym, ap, subst, false}
+use Rattle.std.specs.Prelude.{Option, Some, None, slice_get}
 use Rattle.fkv_base.specs.declared.shapes.Shape.{Shape}
 use Rattle.fkv_plane.specs.declared.actions.Action.{Action}
-use Rattle.fkv_plane.specs.declared.actions.Action.TheVariants as act
 use Rattle.fkv_plane.specs.declared.asks.Ask.{Ask}
-use Rattle.fkv_plane.specs.declared.asks.Ask.TheVariants.{Put, Take, Done}
+use Rattle.fkv_plane.specs.declared.asks.Ask.TheVariants.{Take, Done}
 use Rattle.fkv_plane.specs.Asked.{reply_to}
 use Rattle.fkv_plane.specs.Passing.{passed, is_done}
 use Rattle.fkv_plane.specs.Plane.{action_at}
 use Rattle.fkv_plane.proofs.Shown.{passed_reply}
 use Rattle.fkv_epoch.specs.declared.claiming.Claiming.{Claiming}
-use Rattle.fkv_epoch.specs.declared.claiming.Claiming.TheVariants as claim
 use Rattle.fkv_epoch.specs.declared.scanning.Scanning.{Scanning}
 use Rattle.fkv_epoch.specs.Claiming.{claim_ask, claim_next}
 use Rattle.fkv_epoch.specs.Scanning.{scan_ask, scan_next}
@@ -27,10 +25,9 @@ use Rattle.fkv_session.specs.declared.sessions.Sitting.TheVariants.{Turns}
 use Rattle.fkv_session.specs.OwnTurns.{OwnTurnState, own_turning_ask, own_turn_ask, own_turning_next, own_turn_next, scan_ledto, claim_ledto, shift_ledto, open_ledto}
 use Rattle.fkv_session.specs.Sessions.{SessionState, Seat, asks_after, is_word_ask, sitting_ask, sitting_next, session_ask, session_next, turn_ledto}
 use Rattle.fkv_flush.specs.GuardSeen.{LastSeen}
-use Rattle.fkv_flush.specs.GuardSlots.{slot_put, work_puts, actor_puts}
 use Rattle.fkv_flush.specs.GuardWorld as guard
-use Rattle.fkv_flush.specs.GuardWorld.{Actor, Work, GuardWorld, Moves, is_idle}
-use Rattle.fkv_flush.proofs.Shown.{IsSound, Fits, finds_slots}
+use Rattle.fkv_flush.specs.GuardWorld.{Actor, GuardWorld, is_idle}
+use Rattle.fkv_flush.proofs.Shown.{IsSound, Fits}
 use Rattle.fkv_world.specs.Actors.{slot_asked}
 use Rattle.law_guard.specs.Sessions.Followed.{Sits, seat_in, is_turning}
 use Rattle.law_guard.specs.Sessions.Likenesses.{last_seen}
@@ -42,36 +39,8 @@ use Rattle.law_guard.specs.Keeper.Settled.{is_of_slot}
 use Rattle.law_guard.proofs.OfSessions.OwnTurns.{scan_behind, work_is, turn_is, opening_busy}
 use Rattle.law_guard.proofs.OfSessions.OwnTurnsLed.{shift_asking}
 use Rattle.law_guard.proofs.OfSessions.WorldSteps.{First, Final, Whole, clash, first_slot, sits_on, whole}
-
--- where an ask gives an action to a slot, this is empty
-abbrev pub PutsIntoEmpty : {A : Type 0} → List (Option Action) → Ask A → Type 0
-PutsIntoEmpty actions ask = (slot : ℕ) → slot_put ask ≡ Some slot → action_at actions slot ≡ None
-
-puts_none : {A : Type 0} (actions : List (Option Action)) (ask : Ask A) → is_of_slot ask ≡ false → PutsIntoEmpty actions ask
-puts_none actions (Put slot action) off other e = cc
-puts_none actions (Take slot) off other e = cc
-puts_none actions ask off other e = cc
-
-passed_puts : {A B : Type 0} (actions : List (Option Action)) (ask : Ask A) (told : B) → PutsIntoEmpty actions ask → PutsIntoEmpty actions (passed ask told)
-unfolding passed
-passed_puts actions (Done its) told empty slot e = cc
-passed_puts actions ask told empty slot e = empty slot e
-
-claim_puts : (actions : List (Option Action)) (c : Claiming) → PutsIntoEmpty actions (claim_ask c)
-unfolding claim_ask
-claim_puts actions claim.AtRest slot e = cc
-claim_puts actions (claim.Runs its epoch safe (act.SafeReadOnly addr)) slot e = cc
-claim_puts actions (claim.Runs its epoch safe (act.Close addr)) slot e = cc
-claim_puts actions (claim.Runs its epoch safe (act.Phase phase version)) slot e = cc
-claim_puts actions c slot e = cc
-
--- what a shift or a page's turn gives to a slot
-work_puts_empty : (w : GuardWorld) (a : ℕ) (x : Actor) (work : Work) → IsSound w → slice_get w.now.actors a ≡ Some x → x.work ≡ work → is_idle work ≡ false
-    → (slot : ℕ) → work_puts w.now work ≡ Some slot → action_at w.now.actions slot ≡ None
-work_puts_empty w a x work sound got its busy slot e =
-    (finds_slots w (Moves a) sound).puts slot
-    (ap (λ (found : Option Actor). actor_puts w.now found) got ∙ ap (λ (k : Work). if is_idle k then None else work_puts w.now k) its
-    ∙ ap (λ (b : Bool). if b then None else work_puts w.now work) busy ∙ e)
+use Rattle.law_guard.proofs.OfKeeper.Finds.{no_slot}
+use Rattle.law_guard.proofs.OfKeeper.Puts.{PutsIntoEmpty, claim_puts, passed_puts, puts_none, work_puts_empty}
 
 -- by what the machine inside a session's own turn asks next
 claims_put : (actions : List (Option Action)) (shape : Shape) (o : OwnTurnState) (next : Claiming) (ask : Ask (Unit {0})) → PutsIntoEmpty actions (own_turn_ask shape (claim_ledto (record o { claiming = next; step = Claims }) ask))
@@ -141,11 +110,6 @@ by_step : (w : GuardWorld) (number : ℕ) (x : Actor) (s : SessionState) (step :
 by_step w number x s (Turns its) at sits owes = turning_puts w number x s its at sits
 by_step w number x s step at sits owes =
     puts_none w.now.actions (session_ask (seat_in w.now number) (First w number s)) (first_slot w number x s sits (ap is_turning at) owes)
-
-no_slot : {A : Type 0} (ask : Ask A) → is_of_slot ask ≡ false → slot_asked ask ≡ None
-no_slot (Put slot action) off = cc
-no_slot (Take slot) off = cc
-no_slot ask off = refl
 
 -- a session that sits in a sound world of the guard stands at no slot
 pub session_rests : (w : GuardWorld) (number : ℕ) (x : Actor) (s : SessionState) → Sits w number x s → slot_asked (session_ask (seat_in w.now number) s) ≡ None

@@ -60,7 +60,7 @@ seen_at k s (Attempts has_shifted) so e = so.goes.its_seen
 seen_at k s (Polls index) so e = so.goes.its_seen
 seen_at k s step so e = cc
 
-version_at : (version : Version) (s : SessionState) (step : Sitting) → SitsAtRest version s step → is_attempting step ≡ true → s.attempt.pending.request.version ≡ version
+pub version_at : (version : Version) (s : SessionState) (step : Sitting) → SitsAtRest version s step → is_attempting step ≡ true → s.attempt.pending.request.version ≡ version
 version_at version s (Attempts has_shifted) sits e = sits.goes.1.0
 version_at version s (Polls index) sits e = sits.goes.1.0
 version_at version s step sits e = cc

@@ -1,10 +1,11 @@
 -- That the log's events of a step are enabled, but for what its session knows: by what takes effect by them, and by the address that they take.
-use Rattle.std.proofs.Common.{◌≡◌, ℕ, List, [], ◌∷◌, ◌++◌, refl, ap, sym, subst}
+use Rattle.std.proofs.Common.{◌≡◌, ℕ, List, [], ◌∷◌, ◌++◌, refl, sym, subst}
 use Rattle.std.specs.Prelude.{⊤, Option, Some}
 use Rattle.fkv_map.specs.declared.history.HistoryEntry.{HistoryEntry}
 use Rattle.law_log.specs.Chains.{Cell, Unborn, Reserved as HoldsReserved}
-use Rattle.law_log.specs.Ghosts.{Log, Ghosts, GhostEvent, Reserves, Publishes, Changes, ghosts_after, ghost_run}
+use Rattle.law_log.specs.Ghosts.{Log, Ghosts, GhostEvent, Reserves, Publishes, Changes, ghost_run}
 use Rattle.law_log.specs.Enabled.{IsInHand, NoneAbove, IsPublishEnabled}
+use Rattle.law_log.proofs.Shown.{run_on}
 use Rattle.law_refine.specs.Heads.Heads.{AllMeetHeads, IsAtHead, meets_head}
 use Rattle.law_refine.specs.Events.Effects.{AreQuiet, Behind, ByRecord, InPlace, Quietly, Stepped, TakesEffect, is_quiet}
 use Rattle.law_refine.specs.Events.Reservations as moved
@@ -89,11 +90,6 @@ pub ready_behind : (home : ℕ → ℕ) (g : Ghosts) (later before : List GhostE
 ready_behind home g later before ready = record { takes = behind_enabled home g later before ready.takes; unborn = behind_unborn g.log later before ready.unborn }
 
 -- ---- records are published at the heads of their chains, in a part of a run too
-pub run_on : (home : ℕ → ℕ) (g : Ghosts) (later before : List GhostEvent) → ghost_run home g (later ++ before) ≡ ghost_run home (ghost_run home g before) later
-unfolding ghost_run
-run_on home g [] before = refl
-run_on home g (event ∷ later) before = ap (λ (x : Ghosts). ghosts_after home x event) (run_on home g later before)
-
 pub meets_then : (home : ℕ → ℕ) (g : Ghosts) (later before : List GhostEvent) → AllMeetHeads home g (later ++ before) → AllMeetHeads home (ghost_run home g before) later
 unfolding AllMeetHeads
 meets_then home g [] before meets = tt

@@ -8,7 +8,7 @@ use Rattle.fkv_map.specs.declared.operations.Call.TheVariants as call
 use Rattle.fkv_map.specs.declared.operations.Op.TheVariants as op
 use Rattle.law_log.specs.Ghosts.{Ghosts, GhostEvent, Tells, Fixes, Reading, ghosts_after, ghost_run}
 use Rattle.law_log.specs.Trace.{TraceLine}
-use Rattle.law_log.proofs.Shown.{set_there}
+use Rattle.law_log.proofs.Shown.{run_on, set_there}
 use Rattle.fkv_session.specs.declared.answers.Finished.{Finished}
 use Rattle.fkv_session.specs.declared.sessions.Sitting.{Sitting}
 use Rattle.fkv_session.specs.declared.sessions.Sitting.TheVariants.{Idle}
@@ -31,14 +31,10 @@ use Rattle.law_order.proofs.OfReads.LifeNumbers.{AreOthers, others_given, others
 use Rattle.law_order.proofs.OfReads.Numbers.{IsOwn, own_below, own_same, Numbered, with_called, called_hand}
 use Rattle.law_order.proofs.OfReads.Steps.{StepFacts, steps_by, steps_touch}
 use Rattle.law_order.proofs.OfReads.Touched.{untouched}
-use Rattle.law_order.proofs.OfReads.Turns.{is_of_keeper, AreOfKeeper, Begins, Goes, moved_to}
+use Rattle.law_refine.proofs.OfCalls.Telling.{is_of_keeper, AreOfKeeper}
+use Rattle.law_order.proofs.OfReads.Turns.{Begins, Goes, moved_to}
 
 -- ---- the log behind an event
-run_both : (home : ℕ → ℕ) (g : Ghosts) (later before : List GhostEvent) → ghost_run home g (later ++ before) ≡ ghost_run home (ghost_run home g before) later
-unfolding ghost_run
-run_both home g [] before = refl
-run_both home g (event ∷ later) before = ap (λ (x : Ghosts). ghosts_after home x event) (run_both home g later before)
-
 -- what the event does, before it tells anything
 abbrev pub acted : World → Event → List GhostEvent
 acted w event = fixed_ghosts (safe_at w.now) (safe_at (happens w event).now) ++ own_ghosts w event
@@ -53,7 +49,7 @@ life_next opening ghosts before event alive =
     let home = home_of_world opening in
     let lines : List GhostEvent = map Tells (event_adds opening before event) in
     ap (λ (c : Bool). ghost_run home ghosts ((if c then [] else lines ++ acted (run opening before) event) ++ mapped opening before)) alive
-    ∙ (run_both home ghosts (lines ++ acted (run opening before) event) (mapped opening before) ∙ run_both home (life_ghosts opening ghosts before) lines (acted (run opening before) event))
+    ∙ (run_on home ghosts (lines ++ acted (run opening before) event) (mapped opening before) ∙ run_on home (life_ghosts opening ghosts before) lines (acted (run opening before) event))
 
 pub life_over : (opening : World) (ghosts : Ghosts) (before : List Event) (event : Event) → (run opening before).now.crashed ≡ true → life_ghosts opening ghosts (event ∷ before) ≡ life_ghosts opening ghosts before
 unfolding mapped ghost_events

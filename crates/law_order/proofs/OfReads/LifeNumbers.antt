@@ -19,7 +19,8 @@ use Rattle.law_world.proofs.OfRuns.Added.{trace_so}
 use Rattle.law_refine.specs.Events.Lines.{read_in_hand, read_waiting}
 use Rattle.law_order.specs.Reads.Reads.{is_given}
 use Rattle.law_order.proofs.OfReads.Numbers.{Numbered, none_numbered, is_other, other_given, other_waiting, other_hand, other_numbered, with_called, called_numbered, answered_numbered}
-use Rattle.law_order.proofs.OfReads.Turns.{is_of_keeper, AreOfKeeper, Begins, Goes, Turn, Rests, BeginsOne, GoesOne, moved_to, turn_of}
+use Rattle.law_refine.proofs.OfCalls.Telling.{is_of_keeper, AreOfKeeper}
+use Rattle.law_order.proofs.OfReads.Turns.{Begins, Goes, Turn, Rests, BeginsOne, GoesOne, moved_to, turn_of}
 
 -- ---- what others tell
 abbrev pub AreOthers : ℕ → List TraceEvent → Type 0

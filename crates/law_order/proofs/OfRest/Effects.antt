@@ -1,9 +1,9 @@
 -- In a life of a store at rest each effect is of its version.
 use Rattle.std.proofs.Common.{◌≡◌, ℕ, List, [], ◌∷◌, ◌++◌, refl, sym, subst, inl, inr, Bool, true, false}
-use Rattle.std.specs.Prelude.{◌⊎◌, map, slice_get, if◌then◌else◌, ◌==◌, Option, Some, None}
+use Rattle.std.specs.Prelude.{◌⊎◌, map, slice_get, if◌then◌else◌, Option, Some, None}
 use Rattle.fkv_base.specs.declared.numbers.Version.{Version}
 use Rattle.fkv_map.specs.declared.history.HistoryEntry.{HistoryEntry}
-use Rattle.law_log.specs.Ghosts.{GhostEvent, Tells, Fixes}
+use Rattle.law_log.specs.Ghosts.{GhostEvent, Tells}
 use Rattle.law_log.specs.Trace.{TraceLine}
 use Rattle.fkv_plane.specs.declared.asks.Ask.{Ask}
 use Rattle.fkv_plane.specs.declared.asks.Ask.TheVariants.{Put, Take, Done}
@@ -21,7 +21,7 @@ use Rattle.law_refine.specs.Events.Effects.{AreQuiet, Behind, ByRecord, InPlace,
 use Rattle.law_refine.specs.Events.GhostEvents.{fixed_ghosts, ghost_events, own_ghosts, safe_at, serials_in, traced_by}
 use Rattle.law_refine.specs.Events.Lines.{lines_added}
 use Rattle.law_refine.specs.Events.Sessions.{sitting_ghosts, step_ghosts}
-use Rattle.law_refine.proofs.OfEvents.EventEffects.{life_makes}
+use Rattle.law_refine.proofs.OfEvents.EventEffects.{fixed_quiet, life_makes}
 use Rattle.law_order.specs.Rest.Resting.{AreEffectsOf, HasNoCommit, RestsIn}
 use Rattle.law_order.specs.Rest.Sessions.{IsAtRest, SitsAtRest}
 use Rattle.law_order.proofs.OfRest.Worlds.{life_rests}
@@ -34,13 +34,6 @@ both_quiet (event ∷ later) before one other = (one.0, both_quiet later before 
 told_quiet : (lines : List TraceLine) → AreQuiet (map Tells lines)
 told_quiet [] = tt
 told_quiet (line ∷ rest) = (tt, told_quiet rest)
-
-fixed_quiet : (before safe : ℕ) → AreQuiet (fixed_ghosts before safe)
-fixed_quiet before safe = by_test (safe == before)
-  where
-    by_test : (c : Bool) → AreQuiet (if c then [] else Fixes safe ∷ [])
-    by_test true = tt
-    by_test false = (tt, tt)
 
 quiet_none : (its_step : Stepped) (events : List GhostEvent) (made : Option HistoryEntry) → AreQuiet events → TakesEffect its_step events made → made ≡ None
 quiet_none its_step events made quiet (Quietly others all) = refl

@@ -14,11 +14,6 @@ use Rattle.law_local.proofs.OfTries.AttemptGrows.{attempt_grows, pending_grows}
 use Rattle.law_local.proofs.OfTries.Keeping.{older_kept_for}
 
 -- what is enabled after a list is enabled before it
-pub enabled_before : (home : ℕ → ℕ) (g : Ghosts) (later before : List GhostEvent) → AreEnabled home g (later ++ before) → AreEnabled home g before
-unfolding AreEnabled
-enabled_before home g [] before enabled = enabled
-enabled_before home g (event ∷ later) before enabled = enabled_before home g later before enabled.0
-
 module _ (home : ℕ → ℕ) (m : Map) (number : ℕ) (g : Ghosts) (opened : order.IsOpened home m number g) where
   -- the log behind these events
   abbrev log_then : List GhostEvent → Log

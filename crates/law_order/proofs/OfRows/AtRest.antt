@@ -4,6 +4,7 @@ use Rattle.fkv_base.specs.declared.numbers.Version.{Version}
 use Rattle.fkv_map.specs.Map.{Map}
 use Rattle.law_log.specs.Ghosts.{Ghosts, GhostEvent, ghost_run}
 use Rattle.law_log.specs.Enabled.{AreEnabled}
+use Rattle.law_log.proofs.Shown.{enabled_before}
 use Rattle.fkv_ops.specs.declared.requests.Seen.{Seen}
 use Rattle.fkv_pending.specs.declared.pending_requests.PendingRequest.{PendingRequest}
 use Rattle.fkv_pending.specs.Attempting.{AttemptState}
@@ -14,7 +15,7 @@ use Rattle.fkv_world.specs.World.{Event}
 use Rattle.law_order.specs.Known.Begins.{BeginsLife, home_of_world}
 use Rattle.law_refine.specs.Events.GhostEvents.{ghost_events, life_ghosts, mapped, serials_in}
 use Rattle.law_order.specs.Rest.Resting.{HasNoCommit}
-use Rattle.law_order.proofs.OfRows.Along.{attempt_along, enabled_before, pending_along}
+use Rattle.law_order.proofs.OfRows.Along.{attempt_along, pending_along}
 use Rattle.law_order.proofs.OfRows.Fixed.{older_fixed}
 
 -- the log's events until then were enabled

@@ -18,7 +18,7 @@ use Rattle.fkv_session.specs.declared.catching_up.Catching.TheVariants.{Latches}
 use Rattle.fkv_session.specs.declared.sessions.CatchCause.{CatchCause}
 use Rattle.fkv_session.specs.declared.sessions.CatchCause.TheVariants.{Shifts}
 use Rattle.fkv_session.specs.declared.sessions.Sitting.{Sitting}
-use Rattle.fkv_session.specs.declared.sessions.Sitting.TheVariants.{Idle, Attempts, CatchesUp, Polls, Turns}
+use Rattle.fkv_session.specs.declared.sessions.Sitting.TheVariants.{Idle, CatchesUp, Turns}
 use Rattle.fkv_session.specs.CatchingUp.{CatchState, catch_requests, catching_requests}
 use Rattle.fkv_session.specs.Sessions.{SessionState, Seat, asks_after, attempts, catch_ledto, caught, is_busy, is_word_ask, session_ask, session_next, sitting_next}
 use Rattle.law_local.specs.Sessions.Inputs.{AttemptsSo}
@@ -38,6 +38,7 @@ use Rattle.law_order.specs.Known.Told.{AreToldTruly, reply_in}
 use Rattle.law_refine.specs.Events.GhostEvents.{life_ghosts, mapped}
 use Rattle.law_order.proofs.OfKnown.Newest.{known_now}
 use Rattle.law_order.proofs.OfEnabled.Attempts.{life_attempts}
+use Rattle.law_order.proofs.OfEnabled.Own.{version_at}
 use Rattle.law_order.specs.Rest.Logs.{CellsRest}
 use Rattle.law_order.specs.Rest.Machines.{CatchesAtRest}
 use Rattle.law_order.specs.Rest.Resting.{HasNoCommit}
@@ -57,11 +58,6 @@ use Rattle.law_order.proofs.OfRows.Lives.{SessionComes, Stays, Begins, Steps, li
 use Rattle.law_order.proofs.OfRows.Replies.{KnowsSo, StepFacts, TriesSo, WaitsSo, call_so, plain_op, step_so}
 
 -- ---- control states
-version_at : (version : Version) (s : SessionState) (step : Sitting) → SitsAtRest version s step → is_attempting step ≡ true → s.attempt.pending.request.version ≡ version
-version_at version s (Attempts has_shifted) sits e = sits.goes.1.0
-version_at version s (Polls index) sits e = sits.goes.1.0
-version_at version s step sits e = cc
-
 -- no latch is taken at rest
 catch_none : (version : Version) (c : CatchState) (requests : List PendingRequest) (step : Catching) (reply : ℕ) → CatchesAtRest version c step → catching_requests c requests step reply ≡ requests
 unfolding catching_requests

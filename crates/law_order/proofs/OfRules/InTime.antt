@@ -13,6 +13,7 @@ use Rattle.law_log.specs.Ghosts.{Ghosts, GhostEvent, Log, Tells, ghosts_after, g
 use Rattle.law_log.specs.Enabled as order
 use Rattle.law_log.specs.Enabled.{AreEnabled}
 use Rattle.law_log.specs.Trace.{AnswersRead, CallsRead, IsIn, TraceLine, history_of}
+use Rattle.law_log.proofs.Shown.{enabled_before}
 use Rattle.law_world.specs.Runs.Added.{told_at, told_by}
 use Rattle.fkv_world.specs.Past.{TraceEvent}
 use Rattle.fkv_world.specs.Runs.{World, happens, run}
@@ -52,11 +53,6 @@ log_told home g (line ∷ lines) before = log_told home g lines before
 line_log : (home : ℕ → ℕ) (g : Ghosts) (line : TraceLine) (before : List GhostEvent) → (ghost_run home g (Tells line ∷ before)).log ≡ (ghost_run home g before).log
 unfolding ghost_run ghosts_after
 line_log home g line before = refl
-
-enabled_behind : (home : ℕ → ℕ) (g : Ghosts) (later before : List GhostEvent) → AreEnabled home g (later ++ before) → AreEnabled home g before
-unfolding AreEnabled
-enabled_behind home g [] before enabled = enabled
-enabled_behind home g (event ∷ later) before enabled = enabled_behind home g later before enabled.0
 
 published_behind : (opening : World) (ghosts : Ghosts) (later before : List Event) → AreChangesPublished opening ghosts (later ++ before) → AreChangesPublished opening ghosts before
 published_behind opening ghosts [] before its = its
@@ -139,7 +135,7 @@ in_ghosts home version bytes o opening ghosts between earlier call answer reader
     let same : its_answer.older ++ mapped opening (between ++ call ∷ earlier) ≡ middle ++ Tells (CallsRead reader key) ∷ last =
     apart_so its_answer.older front.front its_call.newer last (Tells (CallsRead reader key)) (mapped opening (between ++ call ∷ earlier)) (mapped opening (call ∷ earlier)) front.all its_call.all in
     let enabled_there : AreEnabled home ghosts (Tells (AnswersRead reader reply) ∷ (its_answer.older ++ mapped opening (between ++ call ∷ earlier))) =
-    enabled_behind home ghosts its_answer.newer _ (subst (AreEnabled home ghosts) its_answer.all enabled) in
+    enabled_before home ghosts its_answer.newer _ (subst (AreEnabled home ghosts) its_answer.all enabled) in
     let so = in_time home m version ghosts middle last reader key reply opened (subst (λ (x : List GhostEvent). AreEnabled home ghosts (Tells (AnswersRead reader reply) ∷ x)) same enabled_there) in
     subst (λ (log : Log). IsInTime m (history_of log.history) (history_of (ghost_run home ghosts (mapped opening (answer ∷ (between ++ call ∷ earlier)))).log.history) key reply) (sym (its_call.log home ghosts))
     (subst (λ (log : Log). IsInTime m (history_of (ghost_run home ghosts last).log.history) (history_of log.history) key reply) (sym (its_answer.log home ghosts))
@@ -158,7 +154,7 @@ reads_in_time bytes o n events world opened begins log rules published = λ late
     let published_first : AreChangesPublished opening (opening_ghosts bytes o) (call ∷ earlier) = published_behind opening (opening_ghosts bytes o) (answer ∷ between) (call ∷ earlier) published_last in
     let front = behind opening later last in
     let enabled : AreEnabled home (opening_ghosts bytes o) (mapped opening last) =
-    enabled_behind home (opening_ghosts bytes o) front.front (mapped opening last) (subst (AreEnabled home (opening_ghosts bytes o)) (ap (mapped opening) whole ∙ front.all) rules) in
+    enabled_before home (opening_ghosts bytes o) front.front (mapped opening last) (subst (AreEnabled home (opening_ghosts bytes o)) (ap (mapped opening) whole ∙ front.all) rules) in
     let so = in_ghosts home o.number.0 bytes o opening (opening_ghosts bytes o) between earlier call answer reader key reply log enabled calls answers in
     subst (λ (x : List HistoryEntry). IsInTime m x (history_of (effects_so_far n bytes last)) key reply)
     (same_history (ghosts_beside o n bytes (call ∷ earlier)).log.history (effects_so_far n bytes (call ∷ earlier)) (same_entries bytes o n (call ∷ earlier) world opened begins published_first))

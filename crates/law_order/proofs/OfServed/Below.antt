@@ -7,7 +7,7 @@ use Rattle.law_log.specs.Chains.{Cell, Logged, Reserved, Published, Dropped}
 use Rattle.law_log.specs.Ghosts.{Log, Ghosts, GhostEvent, Tells, FindsEntry, TakesValue, Reserves, Publishes, Drops, Changes, Fixes, published, dropped, changed, log_after, ghosts_after, ghost_run}
 use Rattle.law_log.specs.Enabled.{AreEnabled, IsOpened, IsEnabled, IsChangeEnabled}
 use Rattle.law_log.specs.Trace.{TraceLine}
-use Rattle.law_log.proofs.Shown.{set_else}
+use Rattle.law_log.proofs.Shown.{enabled_before, set_else}
 use Rattle.fkv_plane.specs.declared.asks.Ask.{Ask}
 use Rattle.fkv_plane.specs.declared.asks.Ask.TheVariants.{Put, Take, Done}
 use Rattle.fkv_plane.specs.Asked.{asked, asked_place, reply_to, word_found}
@@ -25,7 +25,7 @@ use Rattle.law_refine.specs.Events.Reserved.{tail_at}
 use Rattle.law_refine.specs.Events.Sessions.{sitting_ghosts, step_ghosts}
 use Rattle.law_refine.proofs.OfEvents.SessionSteps.{life_on}
 use Rattle.law_refine.proofs.OfEvents.Fixed.{life_rises}
-use Rattle.law_order.proofs.OfServed.Lists.{one_step, enabled_before}
+use Rattle.law_order.proofs.OfServed.Lists.{one_step}
 
 -- what an event takes lies at or above this address
 abbrev is_above : ℕ → GhostEvent → Type 0

@@ -1,14 +1,9 @@
 -- Of events that are enabled the earlier ones are; and a log on which all are steps from what it was to what it is.
-use Rattle.std.proofs.Common.{ℕ, List, [], ◌∷◌, ◌++◌}
+use Rattle.std.proofs.Common.{ℕ, List, ◌∷◌}
 use Rattle.fkv_map.specs.Map.{Map}
 use Rattle.law_log.specs.Ghosts.{Ghosts, GhostEvent, ghost_run, log_after}
 use Rattle.law_log.specs.Enabled.{AreEnabled, IsOpened}
 use Rattle.law_log.proofs.Shown.{Steps, log_steps, run_held}
-
-pub enabled_before : (home : ℕ → ℕ) (first : Ghosts) (later before : List GhostEvent) → AreEnabled home first (later ++ before) → AreEnabled home first before
-unfolding AreEnabled
-enabled_before home first [] before enabled = enabled
-enabled_before home first (event ∷ later) before enabled = enabled_before home first later before enabled.0
 
 -- one event
 pub one_step : (home : ℕ → ℕ) (m : Map) (number : ℕ) (first : Ghosts) (event : GhostEvent) (before : List GhostEvent) → IsOpened home m number first → AreEnabled home first (event ∷ before)

@@ -6,7 +6,7 @@ use Rattle.fkv_map.specs.Map.{Map}
 use Rattle.law_log.specs.Ghosts.{Log, Ghosts, GhostEvent, Tells, ghost_run}
 use Rattle.law_log.specs.Enabled.{AreEnabled, IsLineEnabled, IsOpened}
 use Rattle.law_log.specs.Trace.{Effect, TraceLine, CallsUpdate, RefusesUpdate, GivesResult, CallsRead, AnswersRead, IsIn, called_as}
-use Rattle.law_log.proofs.Shown.{IsSound, run_sound}
+use Rattle.law_log.proofs.Shown.{run_on, IsSound, run_sound}
 use Rattle.fkv_world.specs.Runs.{World, run}
 use Rattle.fkv_world.specs.World.{Event}
 use Rattle.law_refine.specs.Calls.Calls.{EachIsEnabled, IsCallEnabled, effects_of_life, entries_of, event_adds, lines_of_life}
@@ -20,7 +20,7 @@ use Rattle.law_refine.proofs.OfEvents.Trace.{ghost_trace}
 use Rattle.law_refine.specs.Records.Changes.{AreChangesPublished}
 use Rattle.law_refine.proofs.OfRecords.Meets.{life_meets_published}
 use Rattle.law_order.proofs.OfTold.Lines.{acted_trace, told_log, told_trace}
-use Rattle.law_order.proofs.OfTold.Runs.{free_read, enabled_on, run_on}
+use Rattle.law_order.proofs.OfTold.Runs.{free_read, enabled_on}
 
 -- ---- one line, of a log that has the entries of these effects and these lines
 line_is_enabled : (home : ℕ → ℕ) (m : Map) (g : Ghosts) (effects : List Effect) (lines : List TraceLine) (line : TraceLine) → IsSound home m g → entries_of g.log.history ≡ entries_of effects → g.trace ≡ lines

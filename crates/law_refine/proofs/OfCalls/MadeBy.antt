@@ -24,8 +24,9 @@ use Rattle.fkv_session.specs.declared.sessions.CatchCause.{CatchCause}
 use Rattle.fkv_session.specs.declared.sessions.CatchCause.TheVariants as cause
 use Rattle.fkv_session.specs.declared.sessions.Sitting.{Sitting}
 use Rattle.fkv_session.specs.declared.sessions.Sitting.TheVariants.{Idle, Attempts, CatchesUp, ClearsMail, Polls, StoresOwing, Turns, StoresCut, Leaves, LoadsDurable}
-use Rattle.fkv_session.specs.Sessions.{SessionState, Seat, bits_of, room_of, entry_of, answers_after_turn, attempts, polls_request, polls_at, is_no_room, with_request, serial_taken, accepts, shifts, attempted, attempt_left, attempt_ledto, catch_ledto, clear_ledto, is_finished, is_owed, request_finished, finishes_request, lacks_room, keeps_request, poll_ledto, turn_ledto, leave_ledto, attempt_moved, caught, own_turn_moved, session_next, sitting_next}
+use Rattle.fkv_session.specs.Sessions.{SessionState, Seat, bits_of, room_of, entry_of, answers_after_turn, attempts, polls_request, polls_at, is_no_room, with_request, serial_taken, accepts, shifts, attempted, attempt_left, attempt_ledto, catch_ledto, clear_ledto, is_finished, is_owed, request_finished, finishes_request, lacks_room, keeps_request, poll_ledto, attempt_moved, caught, own_turn_moved, session_next, sitting_next}
 use Rattle.fkv_session.proofs.Shown.{attempt_keeps}
+use Rattle.law_world.proofs.OfRuns.EffectStays.{turn_keeps as turned_keeps, leave_keeps}
 
 either_keeps : (b : Bool) (s other : SessionState) (its : Option HistoryEntry) → s.effect ≡ its → other.effect ≡ its → (if b then s else other).effect ≡ its
 either_keeps true s other its one two = one
@@ -85,16 +86,6 @@ unfolding clear_ledto
 clear_keeps k s (Done Cleared) = polls_keep k (record s { is_orphaned = false }) 0
 clear_keeps k s (Done its) = polls_keep k s 0
 clear_keeps k s ask = refl
-
-turned_keeps : (s : SessionState) (its : Told) (ask : Ask (Unit {0})) → (turn_ledto s its ask).effect ≡ s.effect
-unfolding turn_ledto
-turned_keeps s its (Done through) = refl
-turned_keeps s its ask = refl
-
-leave_keeps : (s : SessionState) (ask : Ask (Unit {0})) → (leave_ledto s ask).effect ≡ s.effect
-unfolding leave_ledto
-leave_keeps s (Done through) = refl
-leave_keeps s ask = refl
 
 -- it is of this session and this request
 pub record IsMadeBy (number : ℕ) (pending : PendingRequest) (its : HistoryEntry) : Type 0 where

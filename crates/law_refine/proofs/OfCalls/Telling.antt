@@ -64,11 +64,11 @@ slots_reply actions (Put slot action) = tt
 slots_reply actions (Take slot) = got_replies (action_at actions slot)
 slots_reply actions ask = tt
 
-both_reply : (later : List SessionEvent) (reply : ℕ) → AreReplies later → AreReplies (later ++ Replies reply ∷ [])
-both_reply [] reply all = tt
-both_reply (Begins its ∷ later) reply all = absurd all
-both_reply (Replies other ∷ later) reply all = both_reply later reply all
-both_reply (Gets action ∷ later) reply all = both_reply later reply all
+pub both_reply : (later before : List SessionEvent) → AreReplies later → AreReplies before → AreReplies (later ++ before)
+both_reply [] before ones others = others
+both_reply (Begins its ∷ later) before ones others = absurd ones
+both_reply (Replies reply ∷ later) before ones others = both_reply later before ones others
+both_reply (Gets action ∷ later) before ones others = both_reply later before ones others
 
 steps_reply : (k : Seat) (n : Near SessionState) (ask : Ask Told) → AreReplies (session_steps k n ask)
 unfolding session_steps
@@ -77,9 +77,9 @@ steps_reply k n (Put slot action) = slots_reply n.actions (Put slot action)
 steps_reply k n (Take slot) = slots_reply n.actions (Take slot)
 steps_reply k n ask =
     let next : Ask Told = session_ask k (session_next k n.machine (reply_to n.words ask)) in
-    both_reply (session_slots n.actions next) (reply_to n.words ask) (slots_reply n.actions next)
+    both_reply (session_slots n.actions next) (Replies (reply_to n.words ask) ∷ []) (slots_reply n.actions next) tt
 
-part_replies : (n : Now) (number : ℕ) → AreReplies (session_part_of n number (Moves number))
+pub part_replies : (n : Now) (number : ℕ) → AreReplies (session_part_of n number (Moves number))
 unfolding session_part
 part_replies n number = by_crash n.crashed (slice_get n.sessions number)
   where
@@ -93,16 +93,16 @@ part_replies n number = by_crash n.crashed (slice_get n.sessions number)
     by_crash false (Some s) = by_owner (number == number) s
 
 -- ---- what the keeper tells
-keeper_end : (was : Bool) (step : Keeping) (last : Finality) → AreOfKeeper (keeper_told was step last)
+pub keeper_end : (was : Bool) (step : Keeping) (last : Finality) → AreOfKeeper (keeper_told was step last)
 keeper_end true (Ended its) last = (tt, tt)
 keeper_end true step last = tt
 keeper_end false step last = tt
 
-keeper_start : (was : Bool) (it : TraceEvent) → is_of_keeper it → AreOfKeeper (if was then [] else it ∷ [])
+pub keeper_start : (was : Bool) (it : TraceEvent) → is_of_keeper it → AreOfKeeper (if was then [] else it ∷ [])
 keeper_start true it its = tt
 keeper_start false it its = (its, tt)
 
-both_keepers : (later before : List TraceEvent) → AreOfKeeper later → AreOfKeeper before → AreOfKeeper (later ++ before)
+pub both_keepers : (later before : List TraceEvent) → AreOfKeeper later → AreOfKeeper before → AreOfKeeper (later ++ before)
 both_keepers [] before ones others = others
 both_keepers (it ∷ later) before ones others = (ones.0, both_keepers later before ones.1 others)
 
@@ -110,13 +110,13 @@ both_keepers (it ∷ later) before ones others = (ones.0, both_keepers later bef
 abbrev pub ToldAlive : World → Event → List TraceEvent
 ToldAlive w event = ended_by w.now (happens w event).now event ++ begun_by w.now event
 
-alive_told : (w : World) (event : Event) → w.now.crashed ≡ false → told_by w.now (happens w event).now event ≡ ToldAlive w event
+pub alive_told : (w : World) (event : Event) → w.now.crashed ≡ false → told_by w.now (happens w event).now event ≡ ToldAlive w event
 alive_told w event alive = ap (λ (c : Bool). if c then [] else ToldAlive w event) alive
 
 over_told : (w : World) (event : Event) → w.now.crashed ≡ true → told_by w.now (happens w event).now event ≡ []
 over_told w event over = ap (λ (c : Bool). if c then [] else ToldAlive w event) over
 
-none_answered : (session : ℕ) (after : Option SessionState) → session_answered session false after ≡ []
+pub none_answered : (session : ℕ) (after : Option SessionState) → session_answered session false after ≡ []
 none_answered session None = refl
 none_answered session (Some s) = refl
 
@@ -127,7 +127,7 @@ other_event : (number other : ℕ) → (number == other) ≡ false → is_of_ses
 other_event number other e = e
 
 -- a call
-call_nothing : (w : World) (at : ℕ) (its : Call) → w.now.crashed ≡ false → is_calling true (slice_get w.now.sessions at) ≡ false → call_begun at its (slice_get w.now.sessions at) ≡ []
+pub call_nothing : (w : World) (at : ℕ) (its : Call) → w.now.crashed ≡ false → is_calling true (slice_get w.now.sessions at) ≡ false → call_begun at its (slice_get w.now.sessions at) ≡ []
     → told_by w.now (happens w (Calls at its)).now (Calls at its) ≡ []
 unfolding ended_by begun_by
 call_nothing w at its alive quiet none =
@@ -164,7 +164,7 @@ call_found w at its (Some s) alive e = by_busy (is_busy s.step) refl
     by_busy false b = call_starts w at its s alive e b
 
 -- a move
-move_nothing : (w : World) (at : ℕ) → w.now.crashed ≡ false → is_calling false (slice_get w.now.sessions at) ≡ false → told_by w.now (happens w (Moves at)).now (Moves at) ≡ []
+pub move_nothing : (w : World) (at : ℕ) → w.now.crashed ≡ false → is_calling false (slice_get w.now.sessions at) ≡ false → told_by w.now (happens w (Moves at)).now (Moves at) ≡ []
 unfolding ended_by begun_by
 move_nothing w at alive quiet =
     alive_told w (Moves at) alive

@@ -11,7 +11,7 @@ use Rattle.fkv_map.specs.declared.operations.Op.TheVariants as op
 use Rattle.fkv_map.specs.declared.operations.Reply.{Reply}
 use Rattle.fkv_map.specs.declared.operations.Reply.TheVariants as reply
 use Rattle.law_log.specs.Trace as log
-use Rattle.law_log.specs.Trace.{TraceLine, CallsUpdate, RefusesUpdate, GivesResult, CallsRead, AnswersRead, IsIn, called_as, HasUpdate, HasReply}
+use Rattle.law_log.specs.Trace.{TraceLine, GivesResult, CallsRead, IsIn, called_as, HasUpdate, HasReply}
 use Rattle.fkv_session.specs.declared.answers.Finished.{Finished}
 use Rattle.fkv_session.specs.declared.answers.Finished.TheVariants as finished
 use Rattle.fkv_session.specs.declared.answers.Told.{Told}
@@ -40,18 +40,12 @@ use Rattle.law_refine.proofs.OfCalls.Called.{ledger_of, same_number, with_called
 use Rattle.law_refine.proofs.OfCalls.InHand.{WasOpened, was_opened, none_counted}
 use Rattle.law_refine.proofs.OfCalls.Life.{told_split, told_so, next_at, life_stood, idle_calm}
 use Rattle.law_refine.proofs.OfCalls.Telling.{is_of_keeper, AreOfKeeper, Part, Starts, GoesOn, TellsSo, Keepers, Sessions, tells_so}
+use Rattle.law_refine.proofs.OfEvents.Trace.{split_lines}
 
 -- ---- lists
 pub each_both : (IsEnabled : List TraceLine → TraceLine → Type 0) (lines later before : List TraceLine) → EachIsEnabled IsEnabled (before ++ lines) later → EachIsEnabled IsEnabled lines before → EachIsEnabled IsEnabled lines (later ++ before)
 each_both IsEnabled lines [] before ones others = others
 each_both IsEnabled lines (line ∷ later) before ones others = (subst (λ (x : List TraceLine). IsEnabled x line) (sym (append_assoc later before lines)) ones.0, each_both IsEnabled lines later before ones.1 others)
-
-pub split_lines : (first : ℕ → ℕ) (added before : List Traced) → lines_of first (added ++ before) ≡ lines_added first before added ++ lines_of first before
-unfolding lines_of lines_added
-split_lines first [] before = refl
-split_lines first (it ∷ earlier) before =
-    ap (λ (x : List TraceLine). event_lines first (earlier ++ before) it.its ++ x) (split_lines first earlier before)
-    ∙ sym (append_assoc (event_lines first (earlier ++ before) it.its) (lines_added first before earlier) (lines_of first before))
 
 -- the lines of each event that is told are enabled
 abbrev pub EventsAreEnabled : (List TraceLine → TraceLine → Type 0) → (ℕ → ℕ) → List Traced → List Traced → Type 0
@@ -181,14 +175,14 @@ answer_is_enabled effects first number trace (told.Refused why) list has none = 
 answer_is_enabled effects first number trace its list has none = tt
 
 -- ---- what is told as done has taken effect with that reply
-same_reply : Reply → Reply → Bool
+pub same_reply : Reply → Reply → Bool
 same_reply reply.Nothing reply.Nothing = true
 same_reply (reply.Number a) (reply.Number b) = a.0 == b.0
 same_reply (reply.Found a) (reply.Found b) = a.0 == b.0
 same_reply reply.Absent reply.Absent = true
 same_reply a b = false
 
-reply_is : (a b : Reply) → same_reply a b ≡ true → a ≡ b
+pub reply_is : (a b : Reply) → same_reply a b ≡ true → a ≡ b
 unfolding same_reply
 reply_is reply.Nothing reply.Nothing e = refl
 reply_is (reply.Number a) (reply.Number b) e = let same : a.0 ≡ b.0 = grind (arith, nat_tests, e) in ap (λ (n : ℕ). reply.Number (record { 0 = n })) same
@@ -196,7 +190,7 @@ reply_is (reply.Found a) (reply.Found b) e = let same : a.0 ≡ b.0 = grind (ari
 reply_is reply.Absent reply.Absent e = refl
 reply_is a b e = cc
 
-reply_self : (a : Reply) → same_reply a a ≡ true
+pub reply_self : (a : Reply) → same_reply a a ≡ true
 unfolding same_reply
 reply_self reply.Nothing = refl
 reply_self (reply.Number a) = same_number a.0
@@ -221,7 +215,7 @@ pub record IsEntryAmong (serial : ℕ) (its : Reply) (entries : List HistoryEntr
   pub its_serial : entry.serial.0 ≡ serial
   pub its_reply : entry.reply ≡ its
 
-both_true : (a b : Bool) → (a && b) ≡ true → (a ≡ true) × (b ≡ true)
+pub both_true : (a b : Bool) → (a && b) ≡ true → (a ≡ true) × (b ≡ true)
 both_true true true e = (refl, refl)
 both_true true false e = cc
 both_true false b e = cc

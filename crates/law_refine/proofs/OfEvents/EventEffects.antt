@@ -86,7 +86,7 @@ told_quiet : (lines : List TraceLine) → AreQuiet (map Tells lines)
 told_quiet [] = tt
 told_quiet (line ∷ rest) = (tt, told_quiet rest)
 
-fixed_quiet : (before safe : ℕ) → AreQuiet (fixed_ghosts before safe)
+pub fixed_quiet : (before safe : ℕ) → AreQuiet (fixed_ghosts before safe)
 fixed_quiet before safe = by_test (safe == before)
   where
     by_test : (c : Bool) → AreQuiet (if c then [] else Fixes safe ∷ [])

@@ -5,7 +5,7 @@ use Rattle.fkv_map.specs.declared.history.HistoryEntry.{HistoryEntry}
 use Rattle.fkv_epoch.proofs.Shown.{none_some, same_or, some_same}
 use Rattle.law_log.specs.Chains.{Cell, Logged, Unborn, Reserved, Published, Dropped}
 use Rattle.law_log.specs.Ghosts.{Log, Ghosts, GhostEvent, Reserves, Publishes, Drops, Changes, set_at, published, dropped, changed, changed_by, log_after, ghosts_after, ghost_run}
-use Rattle.law_log.proofs.Shown.{set_there, set_else, at_one}
+use Rattle.law_log.proofs.Shown.{run_on, set_there, set_else, at_one}
 use Rattle.law_refine.specs.Events.Reservations.{is_still, AreStill, Reservation, TakesTail, MovesOn, Keeps, Behind, TakesOne, LosesOne, PublishesOne, DropsOne}
 use Rattle.law_refine.specs.Events.Reserved.{IsReserved, meets_reserved, AllMeetReserved}
 
@@ -222,11 +222,6 @@ moves_stepped home g r after number place change reply events one other was is o
     }
 
 -- ---- and all of them behind others
-pub run_on : (home : ℕ → ℕ) (g : Ghosts) (later before : List GhostEvent) → ghost_run home g (later ++ before) ≡ ghost_run home (ghost_run home g before) later
-unfolding ghost_run
-run_on home g [] before = refl
-run_on home g (event ∷ later) before = ap (λ (x : Ghosts). ghosts_after home x event) (run_on home g later before)
-
 pub meets_on : (home : ℕ → ℕ) (g : Ghosts) (later before : List GhostEvent) → AllMeetReserved home (ghost_run home g before) later → AllMeetReserved home g before → AllMeetReserved home g (later ++ before)
 unfolding AllMeetReserved
 meets_on home g [] before one other = other

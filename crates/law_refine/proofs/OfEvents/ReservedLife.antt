@@ -9,6 +9,7 @@ use Rattle.fkv_epoch.proofs.Shown.{none_some, same_or}
 use Rattle.law_log.specs.Chains.{Cell, Unborn}
 use Rattle.law_log.specs.Ghosts.{Ghosts, GhostEvent, Tells, Fixes, ghost_run}
 use Rattle.law_log.specs.Trace.{TraceLine}
+use Rattle.law_log.proofs.Shown.{run_on}
 use Rattle.fkv_plane.specs.declared.asks.Ask.{Ask}
 use Rattle.fkv_plane.specs.declared.places.SharedWord.TheVariants as one
 use Rattle.fkv_plane.specs.Asked.{asked, asked_place, reply_to, word_at, word_found}
@@ -28,7 +29,7 @@ use Rattle.law_refine.specs.Events.Reserved.{reserved_by, HasReserved, tail_at, 
 use Rattle.law_refine.specs.Events.Sessions.{step_ghosts}
 use Rattle.law_refine.proofs.OfEvents.Apart.{reserved_apart}
 use Rattle.law_refine.proofs.OfEvents.Between.{idle_free, called_same, asks_moves}
-use Rattle.law_refine.proofs.OfEvents.ReservedCells.{Reservings, IsHeld, Matches, AreApart, Stepped, still_behind, nothing_stepped, moves_stepped, run_on, meets_on}
+use Rattle.law_refine.proofs.OfEvents.ReservedCells.{Reservings, IsHeld, Matches, AreApart, Stepped, still_behind, nothing_stepped, moves_stepped, meets_on}
 use Rattle.law_refine.proofs.OfEvents.SessionSteps.{life_on}
 use Rattle.law_refine.proofs.OfEvents.Unborn.{ghost_unborn}
 

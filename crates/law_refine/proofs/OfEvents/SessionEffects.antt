@@ -24,7 +24,7 @@ use Rattle.fkv_session.specs.declared.sessions.Sitting.{Sitting}
 use Rattle.fkv_session.specs.declared.sessions.Sitting.TheVariants.{Idle, Attempts, CatchesUp, ClearsMail, Polls, StoresOwing, Turns, StoresCut, Leaves, LoadsDurable}
 use Rattle.fkv_session.specs.CatchingUp.{catch_ask}
 use Rattle.fkv_session.specs.OwnTurns.{own_turn_ask, own_turn_begun}
-use Rattle.fkv_session.specs.Sessions.{SessionState, Seat, bits_of, room_of, sitting_ask, session_ask, answers, answers_after_turn, attempts, polls_request, polls_at, update_done, is_no_room, with_request, serial_taken, ticket_after, accepts, shifts, attempted, attempt_left, attempt_ledto, caught_up, catch_ledto, clear_ledto, is_finished, is_owed, request_finished, finishes_request, lacks_room, keeps_request, poll_ledto, turn_ledto, leave_ledto, attempt_moved, caught, own_turn_moved, sitting_next, is_word_ask, asks_after, entry_of}
+use Rattle.fkv_session.specs.Sessions.{SessionState, Seat, bits_of, room_of, sitting_ask, session_ask, answers, answers_after_turn, attempts, polls_request, polls_at, update_done, is_no_room, with_request, serial_taken, ticket_after, accepts, shifts, attempted, attempt_left, attempt_ledto, caught_up, catch_ledto, clear_ledto, is_finished, is_owed, request_finished, finishes_request, lacks_room, keeps_request, poll_ledto, attempt_moved, caught, own_turn_moved, sitting_next, is_word_ask, asks_after, entry_of}
 use Rattle.fkv_world.specs.Past.{Traced}
 use Rattle.fkv_world.specs.Runs.{World, run}
 use Rattle.fkv_world.specs.World.{Event, seat_at}
@@ -39,6 +39,7 @@ use Rattle.fkv_map.specs.declared.operations.Reply.{Reply}
 use Rattle.fkv_pending.specs.declared.pending_requests.RequestName.{RequestName}
 use Rattle.fkv_pending.specs.declared.pending_requests.RequestName.TheVariants.{Update, Read}
 use Rattle.fkv_session.proofs.Shown.{IsSameRequest, attempt_keeps}
+use Rattle.law_world.proofs.OfRuns.EffectStays.{turn_keeps, leave_keeps}
 use Rattle.law_refine.specs.Events.Appends.{serial_of}
 use Rattle.law_refine.specs.Events.Effects.{AreQuiet, Stepped, stepped, TakesEffect, Quietly, TakesItsEffect, AttemptsRead, TakesNoEffect}
 use Rattle.law_refine.specs.Events.Names.{is_read_name}
@@ -124,16 +125,6 @@ unfolding clear_ledto
 clear_keeps k s (Done Cleared) = polls_keeps k (record s { is_orphaned = false }) 0
 clear_keeps k s (Done its) = polls_keeps k s 0
 clear_keeps k s ask = refl
-
-turn_keeps : (s : SessionState) (its : Told) (ask : Ask (Unit {0})) → (turn_ledto s its ask).effect ≡ s.effect
-unfolding turn_ledto
-turn_keeps s its (Done through) = refl
-turn_keeps s its ask = refl
-
-leave_keeps : (s : SessionState) (ask : Ask (Unit {0})) → (leave_ledto s ask).effect ≡ s.effect
-unfolding leave_ledto
-leave_keeps s (Done its) = refl
-leave_keeps s ask = refl
 
 -- ---- an update's effect is the entry that it would make, and a read has none
 abbrev entry_with : ℕ → Serial → Op → Reply → Option HistoryEntry

@@ -79,7 +79,7 @@ told_here first w event = by_test w.now.crashed (nothing_traced w event)
     by_test false none = told_alive first w event (lines_added first w.past.trace (traced_by w event))
 
 -- ---- and the trace's lines are these, event by event
-split_lines : (first : ℕ → ℕ) (added before : List Traced) → lines_of first (added ++ before) ≡ lines_added first before added ++ lines_of first before
+pub split_lines : (first : ℕ → ℕ) (added before : List Traced) → lines_of first (added ++ before) ≡ lines_added first before added ++ lines_of first before
 unfolding lines_of lines_added
 split_lines first [] before = refl
 split_lines first (it ∷ earlier) before =

@@ -6,6 +6,7 @@ use Rattle.fkv_map.specs.declared.operations.Op.{Op}
 use Rattle.fkv_map.specs.Keys.{key_of}
 use Rattle.law_log.specs.Ghosts.{Log, Ghosts, GhostEvent, Tells, Fixes, ghost_run}
 use Rattle.law_log.specs.Trace.{TraceLine}
+use Rattle.law_log.proofs.Shown.{run_on}
 use Rattle.fkv_plane.specs.declared.asks.Ask.{Ask}
 use Rattle.fkv_plane.specs.declared.asks.Ask.TheVariants.{Load, Store, Swap, Cas, Add, Max, Put, Take, Done}
 use Rattle.fkv_plane.specs.declared.places.Places.{Places}
@@ -48,7 +49,7 @@ use Rattle.law_refine.specs.Heads.Searches.{IsWorkAt, home_attempted, IsHeadFoun
 use Rattle.law_refine.proofs.OfHeads.AtHome.{life_at_home}
 use Rattle.law_refine.proofs.OfHeads.Entries.{IsTagged, entry_tagged, head_addr, lists_first}
 use Rattle.law_refine.proofs.OfHeads.Reserved.{PublishesAt, takes_one, takes_behind, reserved_op}
-use Rattle.law_refine.proofs.OfHeads.Steps.{LeaveChains, LeadTo, Stepped, one_behind, quietly_stepped, IsPublishing, publish_stepped, run_on, meets_on}
+use Rattle.law_refine.proofs.OfHeads.Steps.{LeaveChains, LeadTo, Stepped, one_behind, quietly_stepped, IsPublishing, publish_stepped, meets_on}
 use Rattle.law_refine.proofs.OfHeads.Won.{ShowsWon, Quietly, Behind, PublishesOne, won_behind, won_entry, entry_is_won, publish_replied, moved_won}
 
 -- ---- what an event is to the log and to the index

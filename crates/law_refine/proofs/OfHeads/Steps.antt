@@ -11,7 +11,7 @@ use Rattle.fkv_index.specs.OneEntry.{IsHome}
 use Rattle.fkv_index.specs.Slots.{entry_addr}
 use Rattle.law_log.specs.Chains.{Cell, Logged, Reserved, Published, head_of}
 use Rattle.law_log.specs.Ghosts.{Log, Ghosts, GhostEvent, Publishes, Drops, Changes, set_at, published, dropped, changed, log_after, ghosts_after, ghost_run}
-use Rattle.law_log.proofs.Shown.{set_there, set_else}
+use Rattle.law_log.proofs.Shown.{run_on, set_there, set_else}
 use Rattle.law_refine.specs.Events.GhostEvents.{home_number}
 use Rattle.law_refine.specs.Heads.Heads.{entry_to, head_at, IsAtHead, meets_head, AllMeetHeads}
 use Rattle.law_refine.proofs.OfHeads.Entries.{IsTagged, entry_some, leads_addr, same_home}
@@ -124,11 +124,6 @@ publish_stepped home g p a its entry after is moves tagged leads = record {
 }
 
 -- ---- and all of them behind others
-pub run_on : (home : ℕ → ℕ) (g : Ghosts) (later before : List GhostEvent) → ghost_run home g (later ++ before) ≡ ghost_run home (ghost_run home g before) later
-unfolding ghost_run
-run_on home g [] before = refl
-run_on home g (event ∷ later) before = ap (λ (x : Ghosts). ghosts_after home x event) (run_on home g later before)
-
 pub meets_on : (home : ℕ → ℕ) (g : Ghosts) (later before : List GhostEvent) → AllMeetHeads home (ghost_run home g before) later → AllMeetHeads home g before → AllMeetHeads home g (later ++ before)
 unfolding AllMeetHeads
 meets_on home g [] before one other = other

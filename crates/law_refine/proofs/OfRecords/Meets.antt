@@ -4,6 +4,7 @@ use Rattle.std.specs.Prelude.{map, Option, Some, None, slice_get, if◌then◌el
 use Rattle.fkv_map.specs.declared.history.HistoryEntry.{HistoryEntry}
 use Rattle.law_log.specs.Ghosts.{Log, Ghosts, GhostEvent, Tells, Changes, ghost_run}
 use Rattle.law_log.specs.Trace.{TraceLine}
+use Rattle.law_log.proofs.Shown.{run_on}
 use Rattle.fkv_plane.specs.declared.asks.Ask.{Ask}
 use Rattle.fkv_plane.specs.declared.asks.Ask.TheVariants.{Put, Take, Done}
 use Rattle.fkv_plane.specs.Asked.{reply_to}
@@ -26,8 +27,9 @@ use Rattle.law_refine.proofs.OfRecords.AppendRows.{Standing}
 use Rattle.law_refine.proofs.OfRecords.FrameWords.{FrameWord, sitting_word}
 use Rattle.law_refine.proofs.OfRecords.GhostFits.{Fit, sitting_fit}
 use Rattle.law_refine.proofs.OfRecords.Life.{life_holds}
-use Rattle.law_refine.proofs.OfRecords.OneEvent.{fixed_quiet, run_on, told_quiet}
+use Rattle.law_refine.proofs.OfRecords.OneEvent.{told_quiet}
 use Rattle.law_refine.proofs.OfRecords.Standing.{stands_in}
+use Rattle.law_refine.proofs.OfEvents.EventEffects.{fixed_quiet}
 
 quiet_meet : (log : Log) (event : GhostEvent) → is_quiet event → meets_published log event
 quiet_meet log (Changes a entry) quiet = absurd quiet

@@ -9,8 +9,9 @@ use Rattle.fkv_map.specs.declared.operations.Call.TheVariants.{Refresh}
 use Rattle.fkv_map.specs.Keys.{value_applied}
 use Rattle.fkv_epoch.proofs.Shown.{none_some, same_or, some_same}
 use Rattle.law_log.specs.Chains.{Cell, Logged, Unborn, Reserved, Published}
-use Rattle.law_log.specs.Ghosts.{Ghosts, GhostEvent, Tells, Fixes, changed_by, ghosts_after, ghost_run}
+use Rattle.law_log.specs.Ghosts.{Ghosts, GhostEvent, Tells, changed_by, ghosts_after, ghost_run}
 use Rattle.law_log.specs.Trace.{TraceLine}
+use Rattle.law_log.proofs.Shown.{run_on}
 use Rattle.fkv_plane.specs.declared.asks.Ask.{Ask}
 use Rattle.fkv_plane.specs.declared.asks.Ask.TheVariants.{Put, Take, Done}
 use Rattle.fkv_plane.specs.declared.places.RecordWord.{RecordWord}
@@ -54,6 +55,7 @@ use Rattle.law_refine.proofs.OfRecords.RowsStay.{ReservedStays, Stores, asks_so,
 use Rattle.law_refine.proofs.OfRecords.SessionRows.{IsSo, called_now_so}
 use Rattle.law_refine.proofs.OfRecords.Standing.{stands_in}
 use Rattle.law_refine.proofs.OfRecords.Wrote.{AreSo, IsWritten, crashed_stays, stays_or, wrote}
+use Rattle.law_refine.proofs.OfEvents.EventEffects.{fixed_quiet}
 
 -- ---- what is published is not reserved, and is born
 published_free : (logged : Logged) (entry : HistoryEntry) (cell : Cell) → IsPublished logged → logged ≡ Reserved entry cell → ⊥
@@ -87,18 +89,6 @@ found_or (Some q) a = elim (same_or q a) [
 pub told_quiet : (lines : List TraceLine) → AreQuiet (map Tells lines)
 told_quiet [] = tt
 told_quiet (line ∷ rest) = (tt, told_quiet rest)
-
-pub fixed_quiet : (before safe : ℕ) → AreQuiet (fixed_ghosts before safe)
-fixed_quiet before safe = by_test (safe == before)
-  where
-    by_test : (c : Bool) → AreQuiet (if c then [] else Fixes safe ∷ [])
-    by_test true = tt
-    by_test false = (tt, tt)
-
-pub run_on : (home : ℕ → ℕ) (g : Ghosts) (later before : List GhostEvent) → ghost_run home g (later ++ before) ≡ ghost_run home (ghost_run home g before) later
-unfolding ghost_run
-run_on home g [] before = refl
-run_on home g (event ∷ later) before = ap (λ (x : Ghosts). ghosts_after home x event) (run_on home g later before)
 
 -- the words of a record that stand as they stood show what they showed
 pub same_shows : (one other : RecordWord → ℕ) (cell : Cell) → ((part : RecordWord) → other part ≡ one part) → ShowsCell one cell → ShowsCell other cell

@@ -7,7 +7,6 @@ use Rattle.fkv_words.specs.Fields.{bit_of}
 use Rattle.fkv_map.specs.declared.history.HistoryEntry.{HistoryEntry}
 use Rattle.fkv_map.specs.declared.operations.Op.{Op}
 use Rattle.fkv_map.specs.declared.operations.Reply.{Reply}
-use Rattle.fkv_map.specs.declared.operations.Reply.TheVariants as reply
 use Rattle.law_log.specs.Trace.{IsIn}
 use Rattle.fkv_session.specs.Accounts.{number_of}
 use Rattle.fkv_session.specs.declared.answers.Finished.{Finished}
@@ -25,6 +24,7 @@ use Rattle.fkv_world.specs.World.{Event, seat_at}
 use Rattle.law_world.proofs.OfSessions.Effects.{life_made}
 use Rattle.law_world.proofs.OfSessions.OwnRun.{of_run, opened_so}
 use Rattle.law_refine.specs.Results.Results.{StaysOrTakes, TakesEffect, history_at}
+use Rattle.law_refine.proofs.OfCalls.UpdateLines.{same_reply, reply_is, reply_self, both_true}
 
 -- so many effects, whatever is asked of them, as updates that are told as done
 abbrev pub CountAlike : List HistoryEntry → List UpdateDone → Type 0
@@ -55,36 +55,9 @@ no_more_told step finished told idle = cc
 same_number : (n : ℕ) → (n == n) ≡ true
 same_number n = grind (arith, nat_tests)
 
-same_reply : Reply → Reply → Bool
-same_reply reply.Nothing reply.Nothing = true
-same_reply (reply.Number a) (reply.Number b) = a.0 == b.0
-same_reply (reply.Found a) (reply.Found b) = a.0 == b.0
-same_reply reply.Absent reply.Absent = true
-same_reply a b = false
-
-reply_is : (a b : Reply) → same_reply a b ≡ true → a ≡ b
-unfolding same_reply
-reply_is reply.Nothing reply.Nothing e = refl
-reply_is (reply.Number a) (reply.Number b) e = let same : a.0 ≡ b.0 = grind (arith, nat_tests, e) in ap (λ (n : ℕ). reply.Number (record { 0 = n })) same
-reply_is (reply.Found a) (reply.Found b) e = let same : a.0 ≡ b.0 = grind (arith, nat_tests, e) in ap (λ (n : ℕ). reply.Found (record { 0 = n })) same
-reply_is reply.Absent reply.Absent e = refl
-reply_is a b e = cc
-
-reply_self : (a : Reply) → same_reply a a ≡ true
-unfolding same_reply
-reply_self reply.Nothing = refl
-reply_self (reply.Number a) = same_number a.0
-reply_self (reply.Found a) = same_number a.0
-reply_self reply.Absent = refl
-
 -- it is of this serial and this reply
 pub is_as : ℕ → Reply → UpdateDone → Bool
 is_as serial its done = (done.serial.0 == serial) && same_reply done.reply its
-
-both_true : (a b : Bool) → (a && b) ≡ true → (a ≡ true) × (b ≡ true)
-both_true true true e = (refl, refl)
-both_true true false e = cc
-both_true false b e = cc
 
 pub as_so : (serial : ℕ) (its : Reply) (done : UpdateDone) → is_as serial its done ≡ true → (done.serial.0 ≡ serial) × (done.reply ≡ its)
 unfolding is_as

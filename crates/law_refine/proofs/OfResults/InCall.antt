@@ -1,76 +1,33 @@
 -- What takes effect in a session's call of an operation, and what its answer says of that.
 use Rattle.std.proofs.Common.{◌≡◌, ℕ, zero, suc, ◌+◌, ◌∙◌, List, [], ◌∷◌, ◌++◌, refl, arith, ap, sym, subst, append_assoc, inl, inr, Bool, true, false}
-use Rattle.std.specs.Prelude.{slice_get, Option, Some, None, if◌then◌else◌, ◌==◌}
+use Rattle.std.specs.Prelude.{slice_get, Some, if◌then◌else◌, ◌==◌}
 use Rattle.std.proofs.lemmas.Bool.Decides.{nat_tests}
 use Rattle.fkv_map.specs.declared.operations.Call.TheVariants as call
 use Rattle.fkv_map.specs.declared.operations.Op.{Op}
 use Rattle.law_log.specs.Trace.{HasUpdate, IsIn}
-use Rattle.fkv_plane.specs.declared.actions.Action.{Action}
-use Rattle.fkv_plane.specs.declared.asks.Ask.{Ask}
-use Rattle.fkv_plane.specs.declared.asks.Ask.TheVariants.{Put, Take, Done}
 use Rattle.fkv_plane.specs.Asked.{reply_to}
-use Rattle.fkv_plane.specs.Plane.{action_at}
 use Rattle.fkv_session.specs.declared.answers.Finished.{Finished}
 use Rattle.fkv_session.specs.declared.answers.Told.{Told}
 use Rattle.fkv_session.specs.declared.answers.Told.TheVariants as told
 use Rattle.fkv_session.specs.declared.sessions.Sitting.TheVariants.{Idle}
 use Rattle.fkv_session.specs.Replies.{done_told}
-use Rattle.fkv_session.specs.SessionRun.{SessionEvent, Begins, Replies, Gets, session_run, Telling, telling, tellings}
+use Rattle.fkv_session.specs.SessionRun.{SessionEvent, Begins, session_run, Telling, telling, tellings}
 use Rattle.fkv_session.specs.Sessions.{SessionState, Seat, is_busy, session_ask, session_next}
 use Rattle.law_world.specs.Runs.Added.{IsEffectOf, IsHistoryAfter}
-use Rattle.fkv_world.specs.Moves.{Near}
 use Rattle.fkv_world.specs.Opened.{HasBecome, IsOpenedWorld, effects_of, life_told}
-use Rattle.fkv_world.specs.OwnEvents.{session_got, session_slots, session_steps, session_part, session_part_found, session_part_of, session_events}
+use Rattle.fkv_world.specs.OwnEvents.{session_part, session_part_found, session_part_of, session_events}
 use Rattle.fkv_world.specs.Past.{Effect}
 use Rattle.fkv_world.specs.Runs.{World, happens, run}
 use Rattle.fkv_world.specs.World.{Event, Calls, Moves, Now, seat_at, near}
 use Rattle.law_world.proofs.OfSessions.OwnRun.{here, of_run, opened_so, to_run}
 use Rattle.law_world.proofs.OfRuns.Added.{history_so}
 use Rattle.law_refine.proofs.OfCalls.InHand.{effect_in_hand, was_opened}
+use Rattle.law_refine.proofs.OfCalls.Telling.{AreReplies, both_reply, part_replies}
 use Rattle.law_refine.specs.Calls.Calls.{effect_in_log, effects_in_log, effects_of_life}
 use Rattle.law_refine.specs.Results.Results.{in_call, history_at, TakesEffect, StaysOrTakes, IsResult}
 use Rattle.law_refine.proofs.OfResults.Counted.{CountAlike, life_counts, no_more_told, none_more, one_more}
 use Rattle.law_refine.proofs.OfResults.MadeInCall.{IsMadeInCall, made_in_call}
-use Rattle.law_refine.proofs.OfResults.OwnCall.{AreReplies, IsAnswer, KnowsOp, Stands, StandsAt, TellsAt, run_knows, run_stands, run_tells}
-
--- ---- what the call is for the session's machine
-got_replies : (found : Option Action) → AreReplies (session_got found)
-got_replies None = tt
-got_replies (Some action) = tt
-
-slots_reply : (actions : List (Option Action)) (ask : Ask Told) → AreReplies (session_slots actions ask)
-unfolding session_slots
-slots_reply actions (Put slot action) = tt
-slots_reply actions (Take slot) = got_replies (action_at actions slot)
-slots_reply actions ask = tt
-
-both_reply : (later before : List SessionEvent) → AreReplies later → AreReplies before → AreReplies (later ++ before)
-both_reply [] before ones others = others
-both_reply (Begins its ∷ later) before ones others = absurd ones
-both_reply (Replies reply ∷ later) before ones others = both_reply later before ones others
-both_reply (Gets action ∷ later) before ones others = both_reply later before ones others
-
-steps_reply : (k : Seat) (n : Near SessionState) (ask : Ask Told) → AreReplies (session_steps k n ask)
-unfolding session_steps
-steps_reply k n (Done its) = tt
-steps_reply k n (Put slot action) = slots_reply n.actions (Put slot action)
-steps_reply k n (Take slot) = slots_reply n.actions (Take slot)
-steps_reply k n ask =
-    let next : Ask Told = session_ask k (session_next k n.machine (reply_to n.words ask)) in
-    both_reply (session_slots n.actions next) (Replies (reply_to n.words ask) ∷ []) (slots_reply n.actions next) tt
-
-part_replies : (n : Now) (number : ℕ) → AreReplies (session_part_of n number (Moves number))
-unfolding session_part
-part_replies n number = by_crash n.crashed (slice_get n.sessions number)
-  where
-    by_owner : (c : Bool) (s : SessionState) → AreReplies (if c then session_part (seat_at n number) (near n s) (Moves number) else [])
-    by_owner true s = steps_reply (seat_at n number) (near n s) (session_ask (seat_at n number) s)
-    by_owner false s = tt
-
-    by_crash : (crashed : Bool) (found : Option SessionState) → AreReplies (if crashed then [] else session_part_found n number (Moves number) found)
-    by_crash true found = tt
-    by_crash false None = tt
-    by_crash false (Some s) = by_owner (number == number) s
+use Rattle.law_refine.proofs.OfResults.OwnCall.{IsAnswer, KnowsOp, Stands, StandsAt, TellsAt, run_knows, run_stands, run_tells}
 
 call_begins : (n : Now) (number : ℕ) (op : Op) (s : SessionState) → n.crashed ≡ false → slice_get n.sessions number ≡ Some s → session_part_of n number (Calls number (call.Op op)) ≡ Begins (call.Op op) ∷ []
 unfolding session_part

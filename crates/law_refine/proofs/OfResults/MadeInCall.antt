@@ -21,8 +21,9 @@ use Rattle.fkv_session.specs.declared.answers.Told.{Told}
 use Rattle.fkv_session.specs.declared.sessions.CatchCause.TheVariants.{Refreshes, Wakes, Shifts}
 use Rattle.fkv_session.specs.declared.sessions.Sitting.{Sitting}
 use Rattle.fkv_session.specs.declared.sessions.Sitting.TheVariants.{Idle, Attempts, CatchesUp, Turns}
-use Rattle.fkv_session.specs.Sessions.{SessionState, Seat, bits_of, room_of, entry_of, answers_after_turn, ticket_after, name_of, attempts, is_no_room, with_request, serial_taken, accepts, shifts, attempted, attempt_left, attempt_ledto, catch_ledto, turn_ledto, attempt_moved, caught, own_turn_moved, session_next, sitting_next}
+use Rattle.fkv_session.specs.Sessions.{SessionState, Seat, bits_of, room_of, entry_of, answers_after_turn, ticket_after, name_of, attempts, is_no_room, with_request, serial_taken, accepts, shifts, attempted, attempt_left, attempt_ledto, catch_ledto, attempt_moved, caught, own_turn_moved, session_next, sitting_next}
 use Rattle.fkv_session.proofs.Shown.{attempt_keeps}
+use Rattle.law_world.proofs.OfRuns.EffectStays.{turn_keeps as turned_keeps}
 use Rattle.law_refine.proofs.OfResults.OwnCall.{KnowsOp, Stands, StandsAt, asked, asked_knows, asked_stands}
 
 -- ---- what ends an attempt makes no effect of its own
@@ -58,11 +59,6 @@ catch_keeps : (k : Seat) (s : SessionState) (ask : Ask (Unit {0})) → (catch_le
 unfolding catch_ledto attempts
 catch_keeps k s (Done through) = refl
 catch_keeps k s ask = refl
-
-turned_keeps : (s : SessionState) (its : Told) (ask : Ask (Unit {0})) → (turn_ledto s its ask).effect ≡ s.effect
-unfolding turn_ledto
-turned_keeps s its (Done through) = refl
-turned_keeps s its ask = refl
 
 -- ---- the attempt's own
 pub record IsMadeInCall (number : ℕ) (op : Op) (serial : ℕ) (its : HistoryEntry) : Type 0 where

@@ -24,12 +24,7 @@ use Rattle.fkv_session.specs.Replies.{effects_told, op_called, serials_taken}
 use Rattle.fkv_session.specs.SessionRun.{SessionEvent, Begins, Replies, Gets, begins, session_happens, session_run, Telling, telling, answered, told_after, tellings, all_told}
 use Rattle.fkv_session.specs.Sessions.{SessionState, Seat, IsOpened, bits_of, room_of, is_busy, answers, answers_after_turn, ticket_after, name_of, attempts, op_begun, attempt_left, serial_taken, is_no_room, with_request, accepts, shifts, attempted, attempt_ledto, catch_ledto, turn_ledto, attempt_moved, caught, own_turn_moved, sitting_next, sitting_given, session_given, session_next, session_ask, asks_after, is_word_ask}
 use Rattle.fkv_session.proofs.Shown.{attempt_ends, attempt_keeps, attempt_so, IsTold, IsUnderWay, IsUpdateEnd, KnowsUpdate, run_told}
-
--- these begin no call
-abbrev pub AreReplies : List SessionEvent → Type 0
-AreReplies [] = ⊤
-AreReplies (Begins its ∷ before) = ⊥
-AreReplies (event ∷ before) = AreReplies before
+use Rattle.law_refine.proofs.OfCalls.Telling.{AreReplies}
 
 -- what a call of this operation is told, by a session that had this serial
 abbrev pub IsAnswer : Op → ℕ → Told → Type 0

@@ -42,7 +42,7 @@ use Rattle.law_world.proofs.OfStanding.Written.{under_way_stands, under_way_trip
 use Rattle.law_world.proofs.OfStanding.WritesStepped.{wait_on, write_on, finish_on}
 
 -- the state with its step told beside it, so that tables by step compute
-abbrev happens_at : Shape → Places → KeeperState → Keeping → KeeperEvent → KeeperState
+abbrev pub happens_at : Shape → Places → KeeperState → Keeping → KeeperEvent → KeeperState
 happens_at shape p s step BeginsTurn = begins s (is_in_hand step) (turn_asked s)
 happens_at shape p s step (BeginsCommit kind) = begins s (is_in_hand step) (commit_asked s kind)
 happens_at shape p s step (Replies reply granted) = keeping_next shape p s step reply granted
@@ -53,7 +53,7 @@ abbrev calls_at : Shape → KeeperState → Keeping → KeeperEvent → List Cal
 calls_at shape s step (Calls done bytes) = keeping_calls shape s step done
 calls_at shape s step event = []
 
-happens_so : (shape : Shape) (p : Places) (s : KeeperState) (event : KeeperEvent) → happens_at shape p s s.step event ≡ keeper_happens shape p s event
+pub happens_so : (shape : Shape) (p : Places) (s : KeeperState) (event : KeeperEvent) → happens_at shape p s s.step event ≡ keeper_happens shape p s event
 unfolding keeper_happens
 happens_so shape p s BeginsTurn = refl
 happens_so shape p s (BeginsCommit kind) = refl
