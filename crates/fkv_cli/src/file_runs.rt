@@ -1,5 +1,5 @@
 //! Stores in a file.
-ghost use Rattle.std.specs.Prelude.{◌⊎◌, IfOk, OnErr};
+ghost use Rattle.std.specs.Prelude.{◌⊎◌, ◌<◌, IfOk, OnErr};
 ghost use Rattle.fkv_base.specs.declared.faults.Fault.TheVariants.{Device};
 ghost use Rattle.fkv_playing.specs.InTurn.{Writes};
 ghost use Rattle.fkv_playing.specs.Players.{EngineStep};
@@ -71,14 +71,14 @@ where
     ensures whole { IfOk result (λ status. Writes (λ text. IsRunInFile (EngineStep ⟦<FileDisk<H::File> as Device>⟧.honest ⟦<FileDisk<H::File> as Device>⟧.seen ⟦<FileDisk<H::File> as Device>⟧.may_leave ⟦<FileDisk<H::File> as Device>⟧.failed ⟦<FileDisk<H::File> as Device>⟧.refuses ⟦<FileDisk<H::File> as Breaks>⟧.broken) pieces.now status text ⊎ ((fault : Fault) × Refuses fault 3 status text)) (W.contents output.old) (W.contents output.new)) }
     ensures part { OnErr result (BreaksOff (λ text. IsRunInFile (EngineStep ⟦<FileDisk<H::File> as Device>⟧.honest ⟦<FileDisk<H::File> as Device>⟧.seen ⟦<FileDisk<H::File> as Device>⟧.may_leave ⟦<FileDisk<H::File> as Device>⟧.failed ⟦<FileDisk<H::File> as Device>⟧.refuses ⟦<FileDisk<H::File> as Breaks>⟧.broken) pieces.now 4 text ⊎ ((fault : Fault) × Refuses fault 3 4 text)) (W.contents output.old) (W.contents output.new)) }
 {
-    let device = match open_alone(rt, path) {
-        Ok(device) => device,
+    let (device, length) = match open_alone(rt, path) {
+        Ok(found) => found,
         Err(trouble) => {
             complain(complaints, Complaint::File { path, trouble });
             return refuse(alloc, output, Fault::Device, 3);
         }
     };
-    match opened(alloc, device) {
+    match opened(alloc, device, length) {
         Ok((device, opened, pairs)) => {
             let mut report = Vec::new(alloc);
             write_report(
@@ -107,15 +107,29 @@ fn complain_of_fault<E: Write>(complaints: &mut E, path: &str, fault: Fault) {
     }
 }
 
-/// So many pages of 4 KiB are kept while a file is read: 32 MiB, since a chain's walk meets the log's pages in any order.
-const KEPT_PAGES: usize = 8192;
+/// At most so many pages of 4 KiB are kept while a file is read: 32 MiB.
+const MOST_PAGES: usize = 8192;
 
-/// The store that a device holds, with its pairs. The device is read page by page.
+/// How many pages of 4 KiB to keep while a file of so many bytes is read: all of them, if they aren't too many, since a chain's walk
+/// meets the log's pages in any order.
+fn pages_to_keep(length: u64) -> usize
+    ensures { 0 < result }
+{
+    let pages = length / 4096 + 1;
+    if pages < MOST_PAGES as u64 {
+        pages as usize
+    } else {
+        MOST_PAGES
+    }
+}
+
+/// The store that a device of so many bytes holds, with its pairs. The device is read page by page.
 fn opened<D: Device + Drop>(
     alloc: Global,
     device: D,
+    length: u64,
 ) -> Result<(D, Opened, Vec<(Key, Value)>), Fault> {
-    let pages = Pages::new(alloc, PageSize::Kib4, KEPT_PAGES)?;
+    let pages = Pages::new(alloc, PageSize::Kib4, pages_to_keep(length))?;
     let mut ahead = ReadAhead::new(device, pages);
     let opened = recover(alloc, &mut ahead)?;
     let pairs = content(alloc, &opened, &mut ahead)?;

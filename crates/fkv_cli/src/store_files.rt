@@ -39,13 +39,17 @@ pub(crate) enum Trouble {
     Met(Fault),
 }
 
-/// Opens the file of a store that is there, for this process alone.
-pub(crate) fn open_alone<H: Files>(rt: &H, path: &str) -> Result<FileDisk<H::File>, Trouble>
+/// Opens the file of a store that is there, for this process alone, and tells how many bytes it has.
+pub(crate) fn open_alone<H: Files>(rt: &H, path: &str) -> Result<(FileDisk<H::File>, u64), Trouble>
 where
     H::File: Lockable,
 {
     let file = open_locked(rt, OpenOptions::new().read(true).write(true), path)?;
-    Ok(FileDisk::new(file))
+    let length = match file.metadata() {
+        Ok(known) => known.len(),
+        Err(error) => return Err(Trouble::Refused(error.kind())),
+    };
+    Ok((FileDisk::new(file), length))
 }
 
 /// Opens a file that a new store is to lie in, for this process alone, and makes it where there is none. The bytes of one that is
