@@ -80,18 +80,18 @@ pub record HoldsPrefix (o : Opened) (n : Now) (bytes : List ℕ) (events : List 
 abbrev pub RecoversPrefix : Opened → Now → List ℕ → List Event → Type 0
 RecoversPrefix o n bytes events = ReachesFar bytes → (image : List ℕ) → MayLeave bytes (calls_so_far n bytes events) image → HoldsPrefix o n bytes events image
 
--- ---- permitted
--- A session's point is permitted. It is at least the last serial that the session had given as the commit was asked for, and at most the last that it has given. It
+-- ---- fair
+-- A session's point is fair. It is at least the last serial that the session had given as the commit was asked for, and at most the last that it has given. It
 -- is no less than its point in the commit before.
-pub record IsPermittedPoint (asked given before point : ℕ) : Type 0 where
+pub record IsFairPoint (asked given before point : ℕ) : Type 0 where
   pub since_asked : asked ≤ point
   pub till_now : point ≤ given
   pub risen : before ≤ point
 
--- The points of the commit in hand are permitted, from the moment at which they are taken.
-abbrev pub TakesPermittedPoints : Now → PrefixPast → Type 0
-TakesPermittedPoints now past = (c : Commit) → now.keeper.commit ≡ Some c → now.keeper.has_points ≡ true
-    → (session : ℕ) → IsPermittedPoint (past.asked session) (serial_at now session) (point_of now.keeper.last.points session) (point_of now.keeper.seek.points session)
+-- The points of the commit in hand are fair, from the moment at which they are taken.
+abbrev pub TakesFairPoints : Now → PrefixPast → Type 0
+TakesFairPoints now past = (c : Commit) → now.keeper.commit ≡ Some c → now.keeper.has_points ≡ true
+    → (session : ℕ) → IsFairPoint (past.asked session) (serial_at now session) (point_of now.keeper.last.points session) (point_of now.keeper.seek.points session)
 
 -- The newest commit that has begun has the points that were taken, as long as it isn't finished.
 abbrev pub BeginsWithTaken : Now → List BegunCommit → Type 0
@@ -99,9 +99,9 @@ BeginsWithTaken now [] = ⊤
 BeginsWithTaken now (c ∷ older) = c.is_finished ≡ false → (now.keeper.has_points ≡ true) × (c.points ≡ now.keeper.seek.points)
 
 -- So it is at each moment of a life.
-abbrev pub HasPermittedPoints : Opened → Now → List ℕ → List Event → Type 0
-HasPermittedPoints o n bytes events = (later before : List Event) → events ≡ later ++ before
-    → TakesPermittedPoints (now_after n bytes before) (past_so_far n bytes before) × BeginsWithTaken (now_after n bytes before) (past_so_far n bytes before).begun
+abbrev pub HasFairPoints : Opened → Now → List ℕ → List Event → Type 0
+HasFairPoints o n bytes events = (later before : List Event) → events ≡ later ++ before
+    → TakesFairPoints (now_after n bytes before) (past_so_far n bytes before) × BeginsWithTaken (now_after n bytes before) (past_so_far n bytes before).begun
 
 -- ---- durable
 -- A commit is one of so many that were told as finished: their numbers come one behind the other, from the opening's on.
@@ -185,6 +185,6 @@ pub record PrefixLaw : Type 0 where
   -- what is recovered of any image left is what the newest finished commit keeps, or the one that is being finished
   pub recovered : InEachLife RecoversPrefix
   -- and that is what its points say
-  pub permitted : InEachLife HasPermittedPoints
+  pub fair : InEachLife HasFairPoints
   pub durable : InEachLife TellsDurable
   pub lives : LivesFollow
