@@ -1,12 +1,9 @@
 //! That a session's own steps are enabled in the order law's log, in every life without commits of a store that was opened.
-ghost use Rattle.std.specs.Prelude.{◌≡◌, ◌∷◌, ◌++◌, ℕ, List, false};
-ghost use Rattle.fkv_base.specs.declared.numbers.Version.{Version};
-ghost use Rattle.fkv_map.specs.Map.{Map};
-ghost use Rattle.law_log.specs.Ghosts.{Ghosts};
+ghost use Rattle.std.specs.Prelude.{◌≡◌, ◌∷◌, ◌++◌, List, false};
 ghost use Rattle.law_log.specs.Enabled.{AreEnabled};
-ghost use Rattle.fkv_world.specs.Runs.{World, run};
+ghost use Rattle.fkv_world.specs.Runs.{run};
 ghost use Rattle.fkv_world.specs.World.{Event};
-ghost use Rattle.law_order.specs.Known.Begins.{BeginsLife, home_of_world};
+ghost use Rattle.law_order.specs.Known.Begins.{BegunLife, home_of_world};
 ghost use Rattle.law_order.specs.Known.Knows.{AreKnown};
 ghost use Rattle.law_order.specs.Known.Told.{AreToldTruly};
 ghost use Rattle.law_refine.specs.Events.GhostEvents.{fixed_ghosts, life_ghosts, mapped, own_ghosts, safe_at};
@@ -17,13 +14,12 @@ ghost use Rattle.law_order.specs.Rest.Resting.{HasNoCommit};
 /// change in place is published there. Where moreover all events of the log were enabled so far, each such change met a published record, and the words
 /// of the store tell each session the truth, what a session does by the next event is enabled too, and so is a raise of the safe read-only offset.
 pub fn law_world_enabled()
-    ensures published { (opening : World) (start : ℕ) (lists : ℕ → List ℕ) (version : Version) (m : Map) (number : ℕ) (ghosts : Ghosts) (before : List Event) (event : Event)
-        → BeginsLife opening start lists version m number ghosts → AreKnown opening ghosts before
-        → ChangesPublished (run opening before).now (life_ghosts opening ghosts before).log event }
-    ensures enabled { (opening : World) (start : ℕ) (lists : ℕ → List ℕ) (version : Version) (m : Map) (number : ℕ) (ghosts : Ghosts) (before : List Event) (event : Event)
-        → BeginsLife opening start lists version m number ghosts → HasNoCommit (event ∷ before) → AreEnabled (home_of_world opening) ghosts (mapped opening before)
-        → AreChangesPublished opening ghosts before → AreKnown opening ghosts before
-        → AreToldTruly (home_of_world opening) (life_ghosts opening ghosts before).log (run opening before).now
-        → (run opening before).now.crashed ≡ false
-        → AreEnabled (home_of_world opening) (life_ghosts opening ghosts before) (fixed_ghosts (safe_at (run opening before).now) (safe_at (run opening (event ∷ before)).now) ++ own_ghosts (run opening before) event) }
+    ensures published { (life : BegunLife) (before : List Event) (event : Event) → AreKnown life.opening life.ghosts before
+        → ChangesPublished (run life.opening before).now (life_ghosts life.opening life.ghosts before).log event }
+    ensures enabled { (life : BegunLife) (before : List Event) (event : Event)
+        → HasNoCommit (event ∷ before) → AreEnabled (home_of_world life.opening) life.ghosts (mapped life.opening before)
+        → AreChangesPublished life.opening life.ghosts before → AreKnown life.opening life.ghosts before
+        → AreToldTruly (home_of_world life.opening) (life_ghosts life.opening life.ghosts before).log (run life.opening before).now
+        → (run life.opening before).now.crashed ≡ false
+        → AreEnabled (home_of_world life.opening) (life_ghosts life.opening life.ghosts before) (fixed_ghosts (safe_at (run life.opening before).now) (safe_at (run life.opening (event ∷ before)).now) ++ own_ghosts (run life.opening before) event) }
 {}

@@ -1,12 +1,9 @@
 //! What a session loads from its mailbox is true of the log.
-ghost use Rattle.std.specs.Prelude.{List, ℕ};
-ghost use Rattle.fkv_base.specs.declared.numbers.Version.{Version};
-ghost use Rattle.fkv_map.specs.Map.{Map};
-ghost use Rattle.law_log.specs.Ghosts.{Ghosts};
+ghost use Rattle.std.specs.Prelude.{List};
 ghost use Rattle.law_log.specs.Enabled.{AreEnabled};
-ghost use Rattle.fkv_world.specs.Runs.{World, run};
+ghost use Rattle.fkv_world.specs.Runs.{run};
 ghost use Rattle.fkv_world.specs.World.{Event};
-ghost use Rattle.law_order.specs.Known.Begins.{BeginsLife, home_of_world};
+ghost use Rattle.law_order.specs.Known.Begins.{BegunLife, home_of_world};
 ghost use Rattle.law_order.specs.Known.Knows.{AreKnown};
 ghost use Rattle.law_order.specs.Known.Told.{LookTruly};
 ghost use Rattle.law_refine.specs.Events.GhostEvents.{life_ghosts, mapped};
@@ -18,8 +15,7 @@ ghost use Rattle.law_order.specs.Served.Served.{ServedShow};
 /// place met a published record, and sessions know what they have to: where what the device gives for a flushed record shows the log, the words that
 /// an attempt loads from its session's mailbox lead where the record does that its request seeks, and are its key and its value.
 pub fn law_looks_true()
-    ensures { (opening : World) (start : ℕ) (lists : ℕ → List ℕ) (version : Version) (m : Map) (number : ℕ) (ghosts : Ghosts) (before : List Event)
-        → BeginsLife opening start lists version m number ghosts → HasNoCommit before → AreEnabled (home_of_world opening) ghosts (mapped opening before)
-        → AreChangesPublished opening ghosts before → AreKnown opening ghosts before → ServedShow opening ghosts before
-        → LookTruly (life_ghosts opening ghosts before).log (run opening before).now }
+    ensures { (life : BegunLife) (before : List Event) → HasNoCommit before → AreEnabled (home_of_world life.opening) life.ghosts (mapped life.opening before)
+        → AreChangesPublished life.opening life.ghosts before → AreKnown life.opening life.ghosts before → ServedShow life.opening life.ghosts before
+        → LookTruly (life_ghosts life.opening life.ghosts before).log (run life.opening before).now }
 {}

@@ -1,8 +1,6 @@
 //! How what requests and attempts know goes on. These functions do nothing: what they promise holds of every life.
-ghost use Rattle.std.specs.Prelude.{◌≡◌, ◌∷◌, ◌++◌, ℕ, List};
-ghost use Rattle.fkv_base.specs.declared.numbers.Version.{Version};
-ghost use Rattle.fkv_map.specs.Map.{Map};
-ghost use Rattle.law_log.specs.Ghosts.{GhostEvent, Ghosts, ghost_run};
+ghost use Rattle.std.specs.Prelude.{◌≡◌, ◌∷◌, ◌++◌, List};
+ghost use Rattle.law_log.specs.Ghosts.{GhostEvent, ghost_run};
 ghost use Rattle.law_log.specs.Enabled.{AreEnabled};
 ghost use Rattle.fkv_ops.specs.declared.requests.Seen.{Seen};
 ghost use Rattle.fkv_pending.specs.declared.pending_requests.PendingRequest.{PendingRequest};
@@ -11,9 +9,9 @@ ghost use Rattle.fkv_session.specs.SessionRun.{SessionEvent, session_run};
 ghost use Rattle.fkv_session.specs.Sessions.{IsOpened, Seat, SessionState};
 ghost use Rattle.law_local.specs.Tries.AttemptRows.{AttemptKnows, PendingKnows};
 ghost use Rattle.law_local.specs.Tries.Kept.{OlderAreFixed};
-ghost use Rattle.fkv_world.specs.Runs.{World, run};
+ghost use Rattle.fkv_world.specs.Runs.{run};
 ghost use Rattle.fkv_world.specs.World.{Event};
-ghost use Rattle.law_order.specs.Known.Begins.{BeginsLife, home_of_world};
+ghost use Rattle.law_order.specs.Known.Begins.{BegunLife, home_of_world};
 ghost use Rattle.law_order.specs.Known.Knows.{AllKnowBehind, AreKnown};
 ghost use Rattle.law_order.specs.Known.Told.{AreToldTruly};
 ghost use Rattle.law_refine.specs.Events.GhostEvents.{life_ghosts, mapped};
@@ -30,24 +28,23 @@ pub fn law_requests_asked()
 /// So what a request that waits knows of the log stays along those of the next event, whatever happens by it, and so does what an attempt knows whose request is of the life's
 /// version, as long as each event of the log was enabled.
 pub fn law_rows_at_rest()
-    ensures older { (opening : World) (start : ℕ) (lists : ℕ → List ℕ) (version : Version) (m : Map) (number : ℕ) (ghosts : Ghosts) (events : List Event) (later before : List GhostEvent)
-        → BeginsLife opening start lists version m number ghosts → HasNoCommit events → mapped opening events ≡ later ++ before
-        → OlderAreFixed (ghost_run (home_of_world opening) ghosts before).log version.0 }
-    ensures waits { (opening : World) (start : ℕ) (lists : ℕ → List ℕ) (version : Version) (m : Map) (number : ℕ) (ghosts : Ghosts) (before : List Event) (event : Event) (pending : PendingRequest) (seen : Seen)
-        → BeginsLife opening start lists version m number ghosts → AreEnabled (home_of_world opening) ghosts (mapped opening (event ∷ before))
-        → PendingKnows (home_of_world opening) (life_ghosts opening ghosts before).log pending seen
-        → PendingKnows (home_of_world opening) (life_ghosts opening ghosts (event ∷ before)).log pending seen }
-    ensures attempts { (opening : World) (start : ℕ) (lists : ℕ → List ℕ) (version : Version) (m : Map) (number : ℕ) (ghosts : Ghosts) (before : List Event) (event : Event) (attempt : AttemptState)
-        → BeginsLife opening start lists version m number ghosts → HasNoCommit (event ∷ before) → AreEnabled (home_of_world opening) ghosts (mapped opening (event ∷ before))
-        → attempt.pending.request.version ≡ version → AttemptKnows (home_of_world opening) (life_ghosts opening ghosts before).log attempt
-        → AttemptKnows (home_of_world opening) (life_ghosts opening ghosts (event ∷ before)).log attempt }
+    ensures older { (life : BegunLife) (events : List Event) (later before : List GhostEvent) → HasNoCommit events → mapped life.opening events ≡ later ++ before
+        → OlderAreFixed (ghost_run (home_of_world life.opening) life.ghosts before).log life.version.0 }
+    ensures waits { (life : BegunLife) (before : List Event) (event : Event) (pending : PendingRequest) (seen : Seen)
+        → AreEnabled (home_of_world life.opening) life.ghosts (mapped life.opening (event ∷ before))
+        → PendingKnows (home_of_world life.opening) (life_ghosts life.opening life.ghosts before).log pending seen
+        → PendingKnows (home_of_world life.opening) (life_ghosts life.opening life.ghosts (event ∷ before)).log pending seen }
+    ensures attempts { (life : BegunLife) (before : List Event) (event : Event) (attempt : AttemptState)
+        → HasNoCommit (event ∷ before) → AreEnabled (home_of_world life.opening) life.ghosts (mapped life.opening (event ∷ before))
+        → attempt.pending.request.version ≡ life.version → AttemptKnows (home_of_world life.opening) (life_ghosts life.opening life.ghosts before).log attempt
+        → AttemptKnows (home_of_world life.opening) (life_ghosts life.opening life.ghosts (event ∷ before)).log attempt }
 {}
 
 /// In every life without commits what sessions know of the log goes on by each event: where all events of the log until then, and those of the event too, were enabled, and each
 /// session knew what it has to at each moment and was told truly before the event, each knows it behind the event.
 pub fn law_rows_go_on()
-    ensures { (opening : World) (start : ℕ) (lists : ℕ → List ℕ) (version : Version) (m : Map) (number : ℕ) (ghosts : Ghosts) (before : List Event) (event : Event)
-        → BeginsLife opening start lists version m number ghosts → HasNoCommit (event ∷ before) → AreEnabled (home_of_world opening) ghosts (mapped opening (event ∷ before))
-        → AreKnown opening ghosts before → AreToldTruly (home_of_world opening) (life_ghosts opening ghosts before).log (run opening before).now
-        → AllKnowBehind opening ghosts (event ∷ before) }
+    ensures { (life : BegunLife) (before : List Event) (event : Event)
+        → HasNoCommit (event ∷ before) → AreEnabled (home_of_world life.opening) life.ghosts (mapped life.opening (event ∷ before))
+        → AreKnown life.opening life.ghosts before → AreToldTruly (home_of_world life.opening) (life_ghosts life.opening life.ghosts before).log (run life.opening before).now
+        → AllKnowBehind life.opening life.ghosts (event ∷ before) }
 {}

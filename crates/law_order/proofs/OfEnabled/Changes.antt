@@ -1,15 +1,13 @@
 -- What a session is about to change in place is published: its try has found the record.
 use Rattle.std.proofs.Common.{◌≡◌, ℕ, List, refl, sym, subst, true}
 use Rattle.std.specs.Prelude.{Option, Some, None, slice_get}
-use Rattle.fkv_base.specs.declared.numbers.Version.{Version}
 use Rattle.fkv_epoch.proofs.Shown.{none_some, some_same}
 use Rattle.law_guard.specs.Sessions.InPlace.{try_changes, attempt_changes, sitting_changes}
-use Rattle.fkv_map.specs.Map.{Map}
 use Rattle.fkv_ops.specs.declared.trying.Trying.{Trying}
 use Rattle.fkv_ops.specs.declared.trying.Trying.TheVariants.{SwapsValue, ChangesValue}
 use Rattle.fkv_ops.specs.Trying.{TryState}
 use Rattle.law_log.specs.Chains.{Cell, Published}
-use Rattle.law_log.specs.Ghosts.{Log, Ghosts}
+use Rattle.law_log.specs.Ghosts.{Log}
 use Rattle.fkv_pending.specs.declared.attempting.Attempting.{Attempting}
 use Rattle.fkv_pending.specs.declared.attempting.Attempting.TheVariants.{Tries}
 use Rattle.fkv_pending.specs.Attempting.{AttemptState}
@@ -19,12 +17,12 @@ use Rattle.fkv_session.specs.Sessions.{SessionState}
 use Rattle.law_local.specs.Sessions.Known.{is_attempting}
 use Rattle.law_local.specs.Tries.AttemptRows.{AttemptKnows, AttemptRow}
 use Rattle.law_local.specs.Tries.TryRows.{TryRow}
-use Rattle.fkv_world.specs.Runs.{World, run}
+use Rattle.fkv_world.specs.Runs.{run}
 use Rattle.fkv_world.specs.World.{Event, Moves}
 use Rattle.law_refine.specs.Events.GhostEvents.{life_ghosts}
 use Rattle.law_refine.specs.Events.Published.{IsPublished}
 use Rattle.law_refine.specs.Records.Changes.{ChangesPublished, SessionChangesPublished}
-use Rattle.law_order.specs.Known.Begins.{BeginsLife, home_of_world}
+use Rattle.law_order.specs.Known.Begins.{BegunLife, home_of_world}
 use Rattle.law_order.specs.Known.Knows.{AreKnown, SessionKnows}
 use Rattle.law_order.proofs.OfKnown.Newest.{known_now}
 
@@ -51,8 +49,8 @@ session_published home log None knows = tt
 session_published home log (Some s) knows = λ a e. sitting_published home log s s.step a (knows s refl).attempted e
 
 -- ---- before each event of a life
-pub changes_published : (opening : World) (start : ℕ) (lists : ℕ → List ℕ) (version : Version) (m : Map) (number : ℕ) (ghosts : Ghosts) (before : List Event) (event : Event)
-    → BeginsLife opening start lists version m number ghosts → AreKnown opening ghosts before → ChangesPublished (run opening before).now (life_ghosts opening ghosts before).log event
-changes_published opening start lists version m number ghosts before (Moves session) begins known =
-    session_published (home_of_world opening) (life_ghosts opening ghosts before).log (slice_get (run opening before).now.sessions session) (λ s found. known_now opening ghosts before known session s found)
-changes_published opening start lists version m number ghosts before event begins known = tt
+pub changes_published : (life : BegunLife) (before : List Event) (event : Event)
+    → AreKnown life.opening life.ghosts before → ChangesPublished (run life.opening before).now (life_ghosts life.opening life.ghosts before).log event
+changes_published life before (Moves session) known =
+    session_published (home_of_world life.opening) (life_ghosts life.opening life.ghosts before).log (slice_get (run life.opening before).now.sessions session) (λ s found. known_now life.opening life.ghosts before known session s found)
+changes_published life before event known = tt

@@ -1,37 +1,35 @@
 -- An update that takes effect by an event of a life is in hand in the log beside it.
-use Rattle.std.proofs.Common.{◌≡◌, ℕ, ◌∙◌, inl, inr, List, [], ◌∷◌, ap, sym, subst}
+use Rattle.std.proofs.Common.{◌≡◌, ◌∙◌, inl, inr, List, [], ◌∷◌, ap, sym, subst}
 use Rattle.std.specs.Prelude.{Option, Some}
 use Rattle.fkv_base.specs.declared.numbers.Version.{Version}
 use Rattle.fkv_map.specs.declared.history.HistoryEntry.{HistoryEntry}
-use Rattle.fkv_map.specs.Map.{Map}
 use Rattle.law_log.specs.Ghosts.{Ghosts}
 use Rattle.law_log.specs.Enabled.{IsInHand}
 use Rattle.law_log.specs.Trace.{TraceLine, called_as, Effect as LogEffect}
 use Rattle.law_world.specs.Runs.Added.{IsEffectOf, IsHistoryAfter}
 use Rattle.fkv_world.specs.Past.{Effect, effect_made}
-use Rattle.fkv_world.specs.Runs.{World, happens, run}
+use Rattle.fkv_world.specs.Runs.{happens, run}
 use Rattle.fkv_world.specs.World.{Event}
 use Rattle.law_world.proofs.OfRuns.Added.{history_so}
 use Rattle.law_refine.specs.Calls.Calls.{IsUpdateInHand, effects_of_life, entries_of, lines_of_life}
 use Rattle.law_refine.proofs.OfCalls.InHand.{effect_in_hand}
 use Rattle.law_refine.proofs.OfCalls.LifeHistory.{life_entries}
 use Rattle.law_refine.proofs.OfCalls.SameHistory.{same_update}
-use Rattle.law_order.specs.Known.Begins.{BeginsLife}
+use Rattle.law_order.specs.Known.Begins.{BegunLife}
 use Rattle.law_refine.specs.Events.GhostEvents.{life_ghosts}
 use Rattle.law_refine.proofs.OfEvents.Trace.{ghost_trace}
 use Rattle.law_refine.specs.Records.Changes.{AreChangesPublished}
 use Rattle.law_refine.proofs.OfRecords.Meets.{life_meets_published}
 
 -- ---- the log's trace and history beside a life are the life's
-pub life_same_trace : (opening : World) (start : ℕ) (lists : ℕ → List ℕ) (version : Version) (m : Map) (number : ℕ) (ghosts : Ghosts) (events : List Event) → BeginsLife opening start lists version m number ghosts
-    → (life_ghosts opening ghosts events).trace ≡ lines_of_life opening events
-life_same_trace opening start lists version m number ghosts events begins = ghost_trace opening ghosts events begins.world.no_trace begins.log.no_trace
+pub life_same_trace : (life : BegunLife) (events : List Event) → (life_ghosts life.opening life.ghosts events).trace ≡ lines_of_life life.opening events
+life_same_trace life events = ghost_trace life.opening life.ghosts events life.begins.world.no_trace life.begins.log.no_trace
 
-pub life_same_entries : (opening : World) (start : ℕ) (lists : ℕ → List ℕ) (version : Version) (m : Map) (number : ℕ) (ghosts : Ghosts) (events : List Event) → BeginsLife opening start lists version m number ghosts
-    → AreChangesPublished opening ghosts events → entries_of (life_ghosts opening ghosts events).log.history ≡ entries_of (effects_of_life opening events)
-life_same_entries opening start lists version m number ghosts events begins published =
-    life_entries opening start ghosts events begins.world begins.store.now begins.unborn begins.reserves begins.log.no_history
-    (life_meets_published opening start ghosts begins.store.now begins.unborn begins.reserves events published)
+pub life_same_entries : (life : BegunLife) (events : List Event)
+    → AreChangesPublished life.opening life.ghosts events → entries_of (life_ghosts life.opening life.ghosts events).log.history ≡ entries_of (effects_of_life life.opening events)
+life_same_entries life events published =
+    life_entries life.opening life.start life.ghosts events life.begins.world life.begins.store.now life.begins.unborn life.begins.reserves life.begins.log.no_history
+    (life_meets_published life.opening life.start life.ghosts life.begins.store.now life.begins.unborn life.begins.reserves events published)
 
 in_log : (g : Ghosts) (effects : List LogEffect) (lines : List TraceLine) (entry : HistoryEntry) → g.trace ≡ lines → entries_of g.log.history ≡ entries_of effects → IsUpdateInHand effects lines entry → IsInHand g entry
 in_log g effects lines entry same_trace same_entries its = record {
@@ -47,24 +45,25 @@ not_longer x (y ∷ before) e = let rest : y ∷ before ≡ before = cc in not_l
 first_same : {X : Type 0} (x y : X) (before : List X) → x ∷ before ≡ y ∷ before → x ≡ y
 first_same x y before e = cc
 
-module _ (opening : World) (start : ℕ) (lists : ℕ → List ℕ) (version : Version) (m : Map) (number : ℕ) (ghosts : Ghosts) (begins : BeginsLife opening start lists version m number ghosts) where
-  effect_so : (before : List Event) (event : Event) (its : Effect) → AreChangesPublished opening ghosts before → IsEffectOf (run opening before) event its → IsInHand (life_ghosts opening ghosts before) its.entry
+module _ (life : BegunLife) where
+  effect_so : (before : List Event) (event : Event) (its : Effect) → AreChangesPublished life.opening life.ghosts before
+      → IsEffectOf (run life.opening before) event its → IsInHand (life_ghosts life.opening life.ghosts before) its.entry
   effect_so before event its published from =
-      in_log (life_ghosts opening ghosts before) (effects_of_life opening before) (lines_of_life opening before) its.entry (life_same_trace opening start lists version m number ghosts before begins)
-      (life_same_entries opening start lists version m number ghosts before begins published) (effect_in_hand opening before event its begins.world from)
+      in_log (life_ghosts life.opening life.ghosts before) (effects_of_life life.opening before) (lines_of_life life.opening before) its.entry (life_same_trace life before)
+      (life_same_entries life before published) (effect_in_hand life.opening before event its life.begins.world from)
 
-  pub made_in_hand : (before : List Event) (event : Event) (made : Option HistoryEntry) (its_version : Version) (entry : HistoryEntry) → AreChangesPublished opening ghosts before
-      → (happens (run opening before) event).past.history ≡ effect_made made its_version (run opening before).past.history → made ≡ Some entry → IsInHand (life_ghosts opening ghosts before) entry
-  made_in_hand before event made its_version entry published history is = by_history (history_so (run opening before) event)
+  pub made_in_hand : (before : List Event) (event : Event) (made : Option HistoryEntry) (its_version : Version) (entry : HistoryEntry) → AreChangesPublished life.opening life.ghosts before
+      → (happens (run life.opening before) event).past.history ≡ effect_made made its_version (run life.opening before).past.history → made ≡ Some entry → IsInHand (life_ghosts life.opening life.ghosts before) entry
+  made_in_hand before event made its_version entry published history is = by_history (history_so (run life.opening before) event)
     where
       its : Effect
       its = record { entry = entry; version = its_version }
 
-      after : (happens (run opening before) event).past.history ≡ its ∷ (run opening before).past.history
-      after = history ∙ ap (λ (x : Option HistoryEntry). effect_made x its_version (run opening before).past.history) is
+      after : (happens (run life.opening before) event).past.history ≡ its ∷ (run life.opening before).past.history
+      after = history ∙ ap (λ (x : Option HistoryEntry). effect_made x its_version (run life.opening before).past.history) is
 
-      by_history : IsHistoryAfter (run opening before) event (happens (run opening before) event).past.history → IsInHand (life_ghosts opening ghosts before) entry
-      by_history (inl same) = absurd (not_longer its (run opening before).past.history (sym after ∙ same))
+      by_history : IsHistoryAfter (run life.opening before) event (happens (run life.opening before) event).past.history → IsInHand (life_ghosts life.opening life.ghosts before) entry
+      by_history (inl same) = absurd (not_longer its (run life.opening before).past.history (sym after ∙ same))
       by_history (inr other) =
-          let same : other.0 ≡ its = first_same other.0 its (run opening before).past.history (sym other.1 ∙ after) in
-          subst (λ (x : Effect). IsInHand (life_ghosts opening ghosts before) x.entry) same (effect_so before event other.0 published other.2)
+          let same : other.0 ≡ its = first_same other.0 its (run life.opening before).past.history (sym other.1 ∙ after) in
+          subst (λ (x : Effect). IsInHand (life_ghosts life.opening life.ghosts before) x.entry) same (effect_so before event other.0 published other.2)

@@ -3,7 +3,6 @@ use Rattle.std.proofs.Common.{◌≡◌, ℕ, ◌≤◌, ◌∙◌, List, [], �
 use Rattle.std.specs.Prelude.{map, ◌==◌, if◌then◌else◌, Option, Some, None, slice_get}
 use Rattle.fkv_base.specs.declared.numbers.Version.{Version}
 use Rattle.fkv_epoch.proofs.Shown.{none_some}
-use Rattle.fkv_map.specs.Map.{Map}
 use Rattle.fkv_ops.specs.declared.requests.Request.{Request}
 use Rattle.fkv_ops.specs.declared.requests.Seen.{Seen}
 use Rattle.law_log.specs.Ghosts.{Log, Ghosts, GhostEvent, Fixes, Tells}
@@ -25,7 +24,7 @@ use Rattle.fkv_world.specs.Runs.{World, happens, run}
 use Rattle.fkv_world.specs.World.{Event, Calls, Moves, Commits, Turns, KeeperMoves, Crashes, Now, seat_at}
 use Rattle.law_refine.specs.Heads.Heads.{AllMeetHeads}
 use Rattle.law_refine.proofs.OfHeads.LifeHeads.{life_meets}
-use Rattle.law_order.specs.Known.Begins.{BeginsLife, home_of_world}
+use Rattle.law_order.specs.Known.Begins.{BegunLife, home_of_world}
 use Rattle.law_order.specs.Known.Knows.{AreKnown}
 use Rattle.law_order.specs.Known.Told.{AreToldTruly}
 use Rattle.law_refine.specs.Events.Effects.{mover_step, step_at}
@@ -104,40 +103,40 @@ step_reserves n Turns its reserved = none_some its reserved
 step_reserves n (KeeperMoves granted done) its reserved = none_some its reserved
 step_reserves n Crashes its reserved = none_some its reserved
 
-module _ (opening : World) (start : ℕ) (lists : ℕ → List ℕ) (version : Version) (m : Map) (number : ℕ) (ghosts : Ghosts) (before : List Event) (begins : BeginsLife opening start lists version m number ghosts)
-    (none : HasNoCommit before) (published : AreChangesPublished opening ghosts before) (known : AreKnown opening ghosts before)
-    (told : AreToldTruly (home_of_world opening) (life_ghosts opening ghosts before).log (run opening before).now) where
+module _ (life : BegunLife) (before : List Event)
+    (none : HasNoCommit before) (published : AreChangesPublished life.opening life.ghosts before) (known : AreKnown life.opening life.ghosts before)
+    (told : AreToldTruly (home_of_world life.opening) (life_ghosts life.opening life.ghosts before).log (run life.opening before).now) where
   abbrev W : World
-  W = run opening before
+  W = run life.opening before
 
   abbrev N : Now
   N = W.now
 
   abbrev G : Ghosts
-  G = life_ghosts opening ghosts before
+  G = life_ghosts life.opening life.ghosts before
 
   abbrev H : ℕ → ℕ
-  H = home_of_world opening
+  H = home_of_world life.opening
 
-  cells_rest : CellsRest version.0 G.log.cells
-  cells_rest = life_cells opening start version ghosts before begins.store.now begins.rests none begins.cells
+  cells_rest : CellsRest life.version.0 G.log.cells
+  cells_rest = life_cells life.opening life.start life.version life.ghosts before life.begins.store.now life.begins.rests none life.begins.cells
 
   -- ---- what takes effect by an event
-  event_takes : (event : Event) → AreTakesEnabled H G (ghost_events (serials_in opening.now) W event)
+  event_takes : (event : Event) → AreTakesEnabled H G (ghost_events (serials_in life.opening.now) W event)
   unfolding mapped
   event_takes event =
-      let events : List GhostEvent = ghost_events (serials_in opening.now) W event in
-      let makes = life_makes opening start before event begins.store.now in
-      let meets : AllMeetHeads H ghosts (events ++ mapped opening before) = life_meets opening start lists ghosts (event ∷ before) begins.store.now begins.index begins.unborn begins.reserves begins.heads in
-      takes_enabled H G (step_at N event) events makes.made makes.takes (meets_then H ghosts events (mapped opening before) meets)
-      (λ its reserved. life_reserved opening start ghosts before begins.store.now begins.unborn begins.reserves (step_reserves N event its reserved).0 its (step_reserves N event its reserved).1)
-      (λ a entry cell there. none_above_reserved version.0 G.log (H cell.key) a entry cell cells_rest there)
-      (λ entry is. made_in_hand opening start lists version m number ghosts begins before event makes.made (step_at N event).version entry published makes.history is)
+      let events : List GhostEvent = ghost_events (serials_in life.opening.now) W event in
+      let makes = life_makes life.opening life.start before event life.begins.store.now in
+      let meets : AllMeetHeads H life.ghosts (events ++ mapped life.opening before) = life_meets life.opening life.start life.lists life.ghosts (event ∷ before) life.begins.store.now life.begins.index life.begins.unborn life.begins.reserves life.begins.heads in
+      takes_enabled H G (step_at N event) events makes.made makes.takes (meets_then H life.ghosts events (mapped life.opening before) meets)
+      (λ its reserved. life_reserved life.opening life.start life.ghosts before life.begins.store.now life.begins.unborn life.begins.reserves (step_reserves N event its reserved).0 its (step_reserves N event its reserved).1)
+      (λ a entry cell there. none_above_reserved life.version.0 G.log (H cell.key) a entry cell cells_rest there)
+      (λ entry is. made_in_hand life before event makes.made (step_at N event).version entry published makes.history is)
 
   own_takes : (event : Event) → N.crashed ≡ false → AreTakesEnabled H G (own_ghosts W event)
   unfolding ghost_events
   own_takes event alive =
-      let lines : List TraceLine = lines_added (serials_in opening.now) W.past.trace (traced_by W event) in
+      let lines : List TraceLine = lines_added (serials_in life.opening.now) W.past.trace (traced_by W event) in
       let fresh : List GhostEvent = fixed_ghosts (safe_at N) (safe_at (happens W event).now) in
       behind_enabled H G fresh (own_ghosts W event)
       (behind_enabled H G (map Tells lines) (fresh ++ own_ghosts W event) (of_alive H G N.crashed (map Tells lines ++ (fresh ++ own_ghosts W event)) alive (event_takes event)))
@@ -149,21 +148,21 @@ module _ (opening : World) (start : ℕ) (lists : ℕ → List ℕ) (version : V
       let k : Seat = seat_at N session in
       let reply : ℕ = reply_to N.words ask in
       takes_unborn G.log (asked_place (session_ask k s)) (asked (session_ask k s)) reply (sitting_ghosts k W.past.trace s s.step reply) (reserved_by session s) (reserved_by session (session_next k s reply))
-      (life_on opening start before session s reply begins.store.now found)
+      (life_on life.opening life.start before session s reply life.begins.store.now found)
       (λ a takes.
       let at_tail : reply ≡ tail_at N = ap (λ (x : Ask Told). reply_to N.words x) (sym e) ∙ ap (word_found N.words) takes.at in
       let same : a ≡ tail_at N = takes.found ∙ at_tail in
-      ghost_unborn opening start ghosts before begins.store.now begins.unborn a (omega (arith, same)))
+      ghost_unborn life.opening life.start life.ghosts before life.begins.store.now life.begins.unborn a (omega (arith, same)))
 
   -- ---- a session's step
   none_beside : (session : ℕ) (s : SessionState) → slice_get N.sessions session ≡ Some s → is_attempting s.step ≡ true → (at : ℕ) → IsAlone H G.log s.attempt.pending.request s.attempt.seen at
   none_beside session s found attempts at =
-      let fixed : G.log.fixed ≡ safe_at N = ghost_fixed opening start ghosts before begins.store.now begins.fixed in
-      let safe : safe_at N ≤ s.seen.offsets.read_only.0 = (sees_safely opening start before session s begins.store.now found (attempting s.step attempts)).read_only in
-      let seen : s.attempt.seen ≡ s.seen = seen_at (seat_at opening.now session) s s.step (life_attempts opening before session s begins.world found) attempts in
+      let fixed : G.log.fixed ≡ safe_at N = ghost_fixed life.opening life.start life.ghosts before life.begins.store.now life.begins.fixed in
+      let safe : safe_at N ≤ s.seen.offsets.read_only.0 = (sees_safely life.opening life.start before session s life.begins.store.now found (attempting s.step attempts)).read_only in
+      let seen : s.attempt.seen ≡ s.seen = seen_at (seat_at life.opening.now session) s s.step (life_attempts life.opening before session s life.begins.world found) attempts in
       let low : G.log.fixed ≤ s.seen.offsets.read_only.0 = omega (arith, fixed, safe) in
-      none_overlap H G.log s.attempt.pending.request s.attempt.seen version at (subst (λ (x : Seen). G.log.fixed ≤ x.offsets.read_only.0) (sym seen) low)
-      (version_at version s s.step ((life_rests opening start version before begins.store.now begins.rests none).sessions session s found).sits attempts) cells_rest
+      none_overlap H G.log s.attempt.pending.request s.attempt.seen life.version at (subst (λ (x : Seen). G.log.fixed ≤ x.offsets.read_only.0) (sym seen) low)
+      (version_at life.version s s.step ((life_rests life.opening life.start life.version before life.begins.store.now life.begins.rests none).sessions session s found).sits attempts) cells_rest
 
   step_enabled : (session : ℕ) (s : SessionState) → slice_get N.sessions session ≡ Some s → (ask : Ask Told) → session_ask (seat_at N session) s ≡ ask
       → AreTakesEnabled H G (step_ghosts (seat_at N session) W.past.trace s N.words ask) → AreEnabled H G (step_ghosts (seat_at N session) W.past.trace s N.words ask)
@@ -174,7 +173,7 @@ module _ (opening : World) (start : ℕ) (lists : ℕ → List ℕ) (version : V
   step_enabled session s found ask e takes =
       let k : Seat = seat_at N session in
       let reply : ℕ = reply_to N.words ask in
-      sitting_enabled H G k W.past.trace s s.step reply (λ attempts. (known_now opening ghosts before known session s found).attempted attempts)
+      sitting_enabled H G k W.past.trace s s.step reply (λ attempts. (known_now life.opening life.ghosts before known session s found).attempted attempts)
       (λ attempts. subst (λ (x : Ask Told). IsTrueOfAttempt H G.log N.places s.attempt s.attempt.step (reply_to N.words x)) e (told session s found attempts))
       (none_beside session s found) (record { takes = takes; unborn = tail_unborn session s ask e found })
 
@@ -191,11 +190,11 @@ module _ (opening : World) (start : ℕ) (lists : ℕ → List ℕ) (version : V
   pub events_enabled : (event : Event) → N.crashed ≡ false → AreEnabled H G (own_ghosts W event)
   events_enabled event alive = event_enabled event (own_takes event alive)
 
-pub own_enabled : (opening : World) (start : ℕ) (lists : ℕ → List ℕ) (version : Version) (m : Map) (number : ℕ) (ghosts : Ghosts) (before : List Event) (event : Event)
-    → BeginsLife opening start lists version m number ghosts → HasNoCommit (event ∷ before) → AreEnabled (home_of_world opening) ghosts (mapped opening before)
-    → AreChangesPublished opening ghosts before → AreKnown opening ghosts before → AreToldTruly (home_of_world opening) (life_ghosts opening ghosts before).log (run opening before).now
-    → (run opening before).now.crashed ≡ false
-    → AreEnabled (home_of_world opening) (life_ghosts opening ghosts before) (fixed_ghosts (safe_at (run opening before).now) (safe_at (run opening (event ∷ before)).now) ++ own_ghosts (run opening before) event)
-own_enabled opening start lists version m number ghosts before event begins none enabled published known told alive =
-    no_fix_enabled (home_of_world opening) (life_ghosts opening ghosts before) (safe_at (run opening before).now) (safe_at (run opening (event ∷ before)).now) (own_ghosts (run opening before) event)
-    (events_enabled opening start lists version m number ghosts before begins none.1 published known told event alive)
+pub own_enabled : (life : BegunLife) (before : List Event) (event : Event)
+    → HasNoCommit (event ∷ before) → AreEnabled (home_of_world life.opening) life.ghosts (mapped life.opening before)
+    → AreChangesPublished life.opening life.ghosts before → AreKnown life.opening life.ghosts before → AreToldTruly (home_of_world life.opening) (life_ghosts life.opening life.ghosts before).log (run life.opening before).now
+    → (run life.opening before).now.crashed ≡ false
+    → AreEnabled (home_of_world life.opening) (life_ghosts life.opening life.ghosts before) (fixed_ghosts (safe_at (run life.opening before).now) (safe_at (run life.opening (event ∷ before)).now) ++ own_ghosts (run life.opening before) event)
+own_enabled life before event none enabled published known told alive =
+    no_fix_enabled (home_of_world life.opening) (life_ghosts life.opening life.ghosts before) (safe_at (run life.opening before).now) (safe_at (run life.opening (event ∷ before)).now) (own_ghosts (run life.opening before) event)
+    (events_enabled life before none.1 published known told event alive)

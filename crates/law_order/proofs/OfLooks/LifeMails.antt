@@ -1,9 +1,6 @@
 -- At each moment of a life a session says that it asks in an attempt that puts an address, alone.
 use Rattle.std.proofs.Common.{◌≡◌, ℕ, zero, suc, ◌<◌, ◌∙◌, List, [], ◌∷◌, refl, sym, subst, arith, length}
 use Rattle.std.specs.Prelude.{Some, slice_get}
-use Rattle.fkv_base.specs.declared.numbers.Version.{Version}
-use Rattle.fkv_map.specs.Map.{Map}
-use Rattle.law_log.specs.Ghosts.{Ghosts}
 use Rattle.fkv_plane.specs.declared.places.Places.{Places}
 use Rattle.fkv_session.specs.Sessions.{SessionState}
 use Rattle.fkv_world.specs.Opened.{HasBecome, IsOpenedWorld}
@@ -14,7 +11,7 @@ use Rattle.law_world.proofs.OfSessions.OwnRun.{of_run, opened_so}
 use Rattle.fkv_world.proofs.Shown.{places_stay}
 use Rattle.law_guard.specs.Guarded.Shows.{IsOpened}
 use Rattle.law_guard.proofs.OfGuarded.Worlds.{life_shows}
-use Rattle.law_order.specs.Known.Begins.{BeginsLife}
+use Rattle.law_order.specs.Known.Begins.{BegunLife}
 use Rattle.law_parts.specs.Mail.Shows as mail
 use Rattle.law_order.proofs.OfLooks.SessionMails.{MailsSo, run_mails}
 
@@ -25,9 +22,9 @@ its_seat opening start events session s opened found =
     subst (λ (p : Places). session < p.sessions) (shows.places ∙ places_stay opening events) (shows.sessions session s found).sits.below
 
 -- so it has its mailbox
-pub its_mailbox : (opening : World) (start : ℕ) (lists : ℕ → List ℕ) (version : Version) (m : Map) (number : ℕ) (ghosts : Ghosts) (events : List Event) (session : ℕ) (s : SessionState)
-    → BeginsLife opening start lists version m number ghosts → slice_get (run opening events).now.sessions session ≡ Some s → mail.IsOpened opening.now session
-its_mailbox opening start lists version m number ghosts events session s begins found = begins.mailboxes session (its_seat opening start events session s begins.store.now found)
+pub its_mailbox : (life : BegunLife) (events : List Event) (session : ℕ) (s : SessionState)
+    → slice_get (run life.opening events).now.sessions session ≡ Some s → mail.IsOpened life.opening.now session
+its_mailbox life events session s found = life.begins.mailboxes session (its_seat life.opening life.start events session s life.begins.store.now found)
 
 -- ---- it was there as the life began, and is its own run since
 found_at : {X : Type 0} (xs : List X) (i : ℕ) → i < length xs → (x : X) × (slice_get xs i ≡ Some x)

@@ -3,9 +3,7 @@ use Rattle.std.proofs.Common.{◌≡◌, ℕ, ◌∙◌, refl, sym, ap, subst, t
 use Rattle.std.specs.Prelude.{Option, Some, None, slice_get}
 use Rattle.std.proofs.lemmas.List.{append_assoc}
 use Rattle.fkv_base.specs.declared.numbers.Addr.{Addr}
-use Rattle.fkv_base.specs.declared.numbers.Version.{Version}
 use Rattle.fkv_epoch.proofs.Shown.{some_same}
-use Rattle.fkv_map.specs.Map.{Map}
 use Rattle.fkv_ops.specs.declared.answers.DiskRecord.{DiskRecord}
 use Rattle.fkv_ops.specs.declared.answers.TryAnswer.{TryAnswer}
 use Rattle.fkv_ops.specs.declared.answers.TryAnswer.TheVariants.{Shift}
@@ -30,7 +28,7 @@ use Rattle.law_local.specs.Sessions.Known.{is_attempting}
 use Rattle.law_local.specs.Tries.MailRows.{IsRecordOf, IsTrueOfLook, IsTrueOfMail, LeadsTo}
 use Rattle.fkv_world.specs.Runs.{World, run}
 use Rattle.fkv_world.specs.World.{Event, Now, seat_at}
-use Rattle.law_order.specs.Known.Begins.{BeginsLife, home_of_world}
+use Rattle.law_order.specs.Known.Begins.{BegunLife, home_of_world}
 use Rattle.law_order.specs.Known.Knows.{AreKnown}
 use Rattle.law_order.specs.Known.Told.{LookTruly, reply_in}
 use Rattle.law_parts.specs.Mail.Reads.{ReadSince, mail_notes}
@@ -90,34 +88,35 @@ LooksLaw opening events =
     (session : ℕ) (s : SessionState) → slice_get (run opening events).now.sessions session ≡ Some s → is_attempting s.step ≡ true → LooksForAsked (mail_notes opening session events) s.attempt s.attempt.step
 
 -- in a life of a store that was opened
-module _ (opening : World) (start : ℕ) (lists : ℕ → List ℕ) (version : Version) (m : Map) (number : ℕ) (ghosts : Ghosts) (events : List Event) (begins : BeginsLife opening start lists version m number ghosts)
-    (none : HasNoCommit events) (enabled : AreEnabled (home_of_world opening) ghosts (mapped opening events)) (known : AreKnown opening ghosts events) (served : ServedShow opening ghosts events)
-    (looks_for : LooksLaw opening events) (law : AsksLaw opening) where
+module _ (life : BegunLife) (events : List Event)
+    (none : HasNoCommit events) (enabled : AreEnabled (home_of_world life.opening) life.ghosts (mapped life.opening events)) (known : AreKnown life.opening life.ghosts events) (served : ServedShow life.opening life.ghosts events)
+    (looks_for : LooksLaw life.opening events) (law : AsksLaw life.opening) where
   abbrev n : Now
-  n = (run opening events).now
+  n = (run life.opening events).now
 
   abbrev log : Log
-  log = (life_ghosts opening ghosts events).log
+  log = (life_ghosts life.opening life.ghosts events).log
 
   -- what was read for it since it was asked for is the record of the log
-  read_true : (session : ℕ) (addr : Addr) (its : MailRecord) (before : List MailNote) → mail.IsOpened opening.now session → ReadSince opening session events addr its (HasAskedFor addr ∷ before) → IsRecordOf (log.cells addr.0) its
+  read_true : (session : ℕ) (addr : Addr) (its : MailRecord) (before : List MailNote) → mail.IsOpened life.opening.now session
+      → ReadSince life.opening session events addr its (HasAskedFor addr ∷ before) → IsRecordOf (log.cells addr.0) its
   read_true session addr its before opened read =
       let later : List Event = read.later ++ (read.event ∷ []) in
       let cut : events ≡ later ++ read.earlier = read.cut ∙ sym (append_assoc read.later (read.event ∷ []) read.earlier) in
-      let enabled_then = life_enabled_before opening ghosts later read.earlier (subst (λ (es : List Event). AreEnabled (home_of_world opening) ghosts (mapped opening es)) cut enabled) in
-      let known_then = known_before opening ghosts later read.earlier (subst (AreKnown opening ghosts) cut known) in
+      let enabled_then = life_enabled_before life.opening life.ghosts later read.earlier (subst (λ (es : List Event). AreEnabled (home_of_world life.opening) life.ghosts (mapped life.opening es)) cut enabled) in
+      let known_then = known_before life.opening life.ghosts later read.earlier (subst (AreKnown life.opening life.ghosts) cut known) in
       let none_then = none_before later read.earlier (subst HasNoCommit cut none) in
-      let there : IsThere opening ghosts read.earlier addr.0 = asked_there opening start lists version m number ghosts begins law read.earlier session addr opened none_then enabled_then known_then (asked_last read.since) in
+      let there : IsThere life.opening life.ghosts read.earlier addr.0 = asked_there life law read.earlier session addr opened none_then enabled_then known_then (asked_last read.since) in
       served session addr its read.earlier later there.cell cut read.gives there.published there.flushed
 
   -- what is loaded for the record that is sought is that one
   sought_true : (session : ℕ) (s : SessionState) (it : DiskRecord) → slice_get n.sessions session ≡ Some s → is_attempting s.step ≡ true → s.attempt.step ≡ Looks → s.attempt.pending.sought ≡ Some it
       → loads_word s.attempt.mailing ≡ true → IsRecordOf (log.cells it.addr.0) (record_in (mailbox_of n.words session))
   sought_true session s it found attempts looks sought loads =
-      let opened = its_mailbox opening start lists version m number ghosts events session s begins found in
-      let ready : HasReady opening session events (record_in (mailbox_of n.words session)) =
-      ready_read opening session events opened (loads_ready opening session events s s.attempt.mailing opened found (look_mailing s s.step attempts looks) loads) in
-      let looks_for_it : LooksForAsked (mail_notes opening session events) s.attempt Looks = subst (LooksForAsked (mail_notes opening session events) s.attempt) looks (looks_for session s found attempts) in
+      let opened = its_mailbox life events session s found in
+      let ready : HasReady life.opening session events (record_in (mailbox_of n.words session)) =
+      ready_read life.opening session events opened (loads_ready life.opening session events s s.attempt.mailing opened found (look_mailing s s.step attempts looks) loads) in
+      let looks_for_it : LooksForAsked (mail_notes life.opening session events) s.attempt Looks = subst (LooksForAsked (mail_notes life.opening session events) s.attempt) looks (looks_for session s found attempts) in
       let same : ready.addr ≡ it.addr = some_same ready.addr it.addr (sym (served_asked ready.notes) ∙ looks_for_it it sought) in
       subst (λ (addr : Addr). IsRecordOf (log.cells addr.0) (record_in (mailbox_of n.words session))) same (read_true session ready.addr (record_in (mailbox_of n.words session)) ready.before opened ready.read)
 

@@ -2,11 +2,9 @@
 use Rattle.std.proofs.Common.{◌≡◌, ℕ, ◌<◌, ◌≤◌, ◌∙◌, inl, inr, refl, sym, subst, arith, true, List, [], ◌∷◌}
 use Rattle.std.specs.Prelude.{Option, Some, None, slice_get}
 use Rattle.fkv_base.specs.declared.numbers.Addr.{Addr}
-use Rattle.fkv_base.specs.declared.numbers.Version.{Version}
 use Rattle.fkv_epoch.proofs.Shown.{none_some, some_same}
 use Rattle.fkv_flush.specs.GuardLevels.{levels_of}
 use Rattle.fkv_index.specs.Slots.{entry_addr}
-use Rattle.fkv_map.specs.Map.{Map}
 use Rattle.fkv_ops.specs.declared.answers.DiskRecord.{DiskRecord}
 use Rattle.fkv_ops.specs.declared.requests.Seen.{Seen}
 use Rattle.law_log.specs.Chains.{Cell, IsWithin, Published}
@@ -27,7 +25,7 @@ use Rattle.law_local.specs.Tries.OnWay.{ComesBelow}
 use Rattle.law_local.specs.Tries.TryRows.{head_in, key_in}
 use Rattle.fkv_world.specs.Runs.{World, run}
 use Rattle.fkv_world.specs.World.{Event}
-use Rattle.law_order.specs.Known.Begins.{BeginsLife, home_of_world}
+use Rattle.law_order.specs.Known.Begins.{BegunLife, home_of_world}
 use Rattle.law_order.specs.Known.Knows.{AreKnown}
 use Rattle.law_parts.specs.Mail.MailEvents as mail
 use Rattle.law_parts.specs.Mail.Reads.{mail_notes, mail_past}
@@ -74,60 +72,62 @@ AsksLaw opening =
     → AsksForSought (mail_past opening session events).task s.attempt s.attempt.step
 
 -- in a life of a store that was opened
-module _ (opening : World) (start : ℕ) (lists : ℕ → List ℕ) (version : Version) (m : Map) (number : ℕ) (ghosts : Ghosts) (begins : BeginsLife opening start lists version m number ghosts) where
+module _ (life : BegunLife) where
   abbrev Enabled : List Event → Type 0
-  Enabled events = AreEnabled (home_of_world opening) ghosts (mapped opening events)
+  Enabled events = AreEnabled (home_of_world life.opening) life.ghosts (mapped life.opening events)
 
   abbrev log_behind : List Event → Log
-  log_behind events = (life_ghosts opening ghosts events).log
+  log_behind events = (life_ghosts life.opening life.ghosts events).log
 
   -- it stays so
-  there_stays : (event : Event) (before : List Event) (a : ℕ) → Enabled (event ∷ before) → IsThere opening ghosts before a → IsThere opening ghosts (event ∷ before) a
+  there_stays : (event : Event) (before : List Event) (a : ℕ) → Enabled (event ∷ before) → IsThere life.opening life.ghosts before a → IsThere life.opening life.ghosts (event ∷ before) a
   unfolding run
   there_stays event before a enabled its =
-      let fixed = flushed_fixed opening start lists version m number ghosts before a begins its.flushed in
+      let fixed = flushed_fixed life before a its.flushed in
       record {
         cell = its.cell;
-        published = (life_stays opening m number ghosts (event ∷ []) before a its.cell begins.log enabled (record { there = its.published; fixed = fixed })).there;
-        flushed = lower a (levels_of (run opening before).now.words).flushed _ its.flushed (life_rises opening start before (event ∷ []) begins.store.now).flushed;
+        published = (life_stays life.opening life.map life.number life.ghosts (event ∷ []) before a its.cell life.begins.log enabled (record { there = its.published; fixed = fixed })).there;
+        flushed = lower a (levels_of (run life.opening before).now.words).flushed _ its.flushed (life_rises life.opening life.start before (event ∷ []) life.begins.store.now).flushed;
       }
 
   -- what an attempt seeks on the device is there
-  sought_there : (events : List Event) (session : ℕ) (s : SessionState) (it : DiskRecord) → Enabled events → AreKnown opening ghosts events → slice_get (run opening events).now.sessions session ≡ Some s → is_attempting s.step ≡ true
-      → s.attempt.pending.sought ≡ Some it → IsThere opening ghosts events it.addr.0
+  sought_there : (events : List Event) (session : ℕ) (s : SessionState) (it : DiskRecord) → Enabled events
+      → AreKnown life.opening life.ghosts events → slice_get (run life.opening events).now.sessions session ≡ Some s → is_attempting s.step ≡ true
+      → s.attempt.pending.sought ≡ Some it → IsThere life.opening life.ghosts events it.addr.0
   sought_there events session s it enabled known found attempts sought =
-      let home : ℕ → ℕ = home_of_world opening in
+      let home : ℕ → ℕ = home_of_world life.opening in
       let log : Log = log_behind events in
       let key : ℕ = key_in s.attempt.pending.request in
-      let knows : AttemptKnows home log s.attempt = (known_now opening ghosts events known session s found).attempted attempts in
+      let knows : AttemptKnows home log s.attempt = (known_now life.opening life.ghosts events known session s found).attempted attempts in
       let comes : ComesBelow home log key (entry_addr it.entry) it.addr.0 (head_in s.attempt.seen) = subst (SoughtKnows home log key (head_in s.attempt.seen)) sought knows.pending.sought in
-      let held = run_held home m number ghosts (mapped opening events) begins.log enabled in
+      let held = run_held home life.map life.number life.ghosts (mapped life.opening events) life.begins.log enabled in
       let its = in_chain home log (home key) it.addr.0 held.chains comes.some comes.way.within in
-      let head : s.seen.offsets.head.0 ≤ (levels_of (run opening events).now.words).flushed = head_flushed opening start events session s begins.store.now found (attempting_is s.step attempts) in
-      let below : it.addr.0 < s.seen.offsets.head.0 = subst (λ (seen : Seen). it.addr.0 < head_in seen) (life_seen opening start events session s begins.world begins.store.now found attempts) comes.below in
+      let head : s.seen.offsets.head.0 ≤ (levels_of (run life.opening events).now.words).flushed = head_flushed life.opening life.start events session s life.begins.store.now found (attempting_is s.step attempts) in
+      let below : it.addr.0 < s.seen.offsets.head.0 = subst (λ (seen : Seen). it.addr.0 < head_in seen) (life_seen life.opening life.start events session s life.begins.world life.begins.store.now found attempts) comes.below in
       record { cell = its.0; published = its.1; flushed = lower it.addr.0 s.seen.offsets.head.0 _ below head }
 
   -- so is what a session is about to ask for
-  about_there : AsksLaw opening → (before : List Event) (session : ℕ) (addr : Addr) → HasNoCommit before → Enabled before → AreKnown opening ghosts before → IsAboutToAsk opening session before addr → IsThere opening ghosts before addr.0
+  about_there : AsksLaw life.opening → (before : List Event) (session : ℕ) (addr : Addr) → HasNoCommit before → Enabled before
+      → AreKnown life.opening life.ghosts before → IsAboutToAsk life.opening session before addr → IsThere life.opening life.ghosts before addr.0
   about_there law before session addr none enabled known about =
       let s : SessionState = about.asker in
-      let task : Option MailTask = (mail_past opening session before).task in
-      let puts = asks_by_put s (life_mails opening start before session s begins.world begins.store.now about.there) about.under_way in
-      let knows : AttemptKnows (home_of_world opening) (log_behind before) s.attempt = (known_now opening ghosts before known session s about.there).attempted puts.attempts in
-      let row : PutsSought s.attempt.pending.sought s.attempt.mailing = subst (AttemptRow (home_of_world opening) (log_behind before) s.attempt) puts.puts knows.row in
+      let task : Option MailTask = (mail_past life.opening session before).task in
+      let puts = asks_by_put s (life_mails life.opening life.start before session s life.begins.world life.begins.store.now about.there) about.under_way in
+      let knows : AttemptKnows (home_of_world life.opening) (log_behind before) s.attempt = (known_now life.opening life.ghosts before known session s about.there).attempted puts.attempts in
+      let row : PutsSought s.attempt.pending.sought s.attempt.mailing = subst (AttemptRow (home_of_world life.opening) (log_behind before) s.attempt) puts.puts knows.row in
       let seeks = sought_of s.attempt.pending.sought s.attempt.mailing row in
       let its_task : AsksForSought task s.attempt Puts = subst (AsksForSought task s.attempt) puts.puts (law before none session s about.there puts.attempts) in
       let same : Put seeks.0.addr ≡ Put addr = some_same (Put seeks.0.addr) (Put addr) (sym (its_task puts.stores seeks.0 seeks.1) ∙ about.its_task) in
-      subst (λ (at : Addr). IsThere opening ghosts before at.0) (same_put seeks.0.addr addr same) (sought_there before session s seeks.0 enabled known about.there puts.attempts seeks.1)
+      subst (λ (at : Addr). IsThere life.opening life.ghosts before at.0) (same_put seeks.0.addr addr same) (sought_there before session s seeks.0 enabled known about.there puts.attempts seeks.1)
 
   -- and what is asked for
-  pub asked_there : AsksLaw opening → (events : List Event) (session : ℕ) (addr : Addr) → mail_shows.IsOpened opening.now session → HasNoCommit events → Enabled events → AreKnown opening ghosts events
-      → outstanding (mail_notes opening session events) ≡ Some addr → IsThere opening ghosts events addr.0
+  pub asked_there : AsksLaw life.opening → (events : List Event) (session : ℕ) (addr : Addr) → mail_shows.IsOpened life.opening.now session → HasNoCommit events → Enabled events → AreKnown life.opening life.ghosts events
+      → outstanding (mail_notes life.opening session events) ≡ Some addr → IsThere life.opening life.ghosts events addr.0
   unfolding AreKnown mail.mapped past_of outstanding
   asked_there law [] session addr opened none enabled known e = none_some addr e
   asked_there law (event ∷ before) session addr opened none enabled known e =
-      let enabled_before : Enabled before = life_enabled_before opening ghosts (event ∷ []) before enabled in
-      elim (was_or_comes opening session opened event before addr e) [
+      let enabled_before : Enabled before = life_enabled_before life.opening life.ghosts (event ∷ []) before enabled in
+      elim (was_or_comes life.opening session opened event before addr e) [
         | inl was ↦ there_stays event before addr.0 enabled (asked_there law before session addr opened none.1 enabled_before known.0 was)
         | inr about ↦ there_stays event before addr.0 enabled (about_there law before session addr none.1 enabled_before known.0 about)
       ]

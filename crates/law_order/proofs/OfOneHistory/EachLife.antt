@@ -1,18 +1,14 @@
 -- What holds where a life keeps to its rules holds in each life of an opened store, as each of them does.
 use Rattle.std.specs.Prelude.{ℕ, List}
-use Rattle.fkv_base.specs.declared.numbers.Version.{Version}
 use Rattle.fkv_core.specs.Openings.{IsOpeningWorld, beginning}
 use Rattle.fkv_filling.specs.OpeningIndex.{opening_lists}
-use Rattle.fkv_map.specs.Map.{Map}
 use Rattle.fkv_opening.specs.Opened.{IsStoreOf}
 use Rattle.fkv_opening.specs.declared.opened_store.Opened.{Opened}
 use Rattle.law_opening.specs.Log.Maps.{opening_map}
 use Rattle.law_opening.specs.Log.OpeningLog.{opening_ghosts}
-use Rattle.law_log.specs.Ghosts.{Ghosts}
 use Rattle.law_order.specs.Rules.Ordered.{OfEachKept, opening_version}
-use Rattle.fkv_world.specs.Runs.{World}
 use Rattle.fkv_world.specs.World.{Event, Now}
-use Rattle.law_order.specs.Known.Begins.{BeginsLife}
+use Rattle.law_order.specs.Known.Begins.{BeginsLife, BegunLife}
 use Rattle.law_order.specs.Known.Told.{TicketsAreApart}
 use Rattle.law_order.specs.Ordered.Keeps.{KeepsOrder}
 use Rattle.law_order.specs.Rest.Resting.{HasNoCommit}
@@ -31,14 +27,21 @@ OpeningsFit = (bytes : List ℕ) (o : Opened) → IsStoreOf bytes o → CellsFit
 
 -- and that it keeps to its rules
 abbrev pub LivesKeepOrder : Type 0
-LivesKeepOrder = (opening : World) (start : ℕ) (lists : ℕ → List ℕ) (version : Version) (m : Map) (number : ℕ) (ghosts : Ghosts) (events : List Event) → BeginsLife opening start lists version m number ghosts
-    → CellsFit ghosts.log → HasNoCommit events → CallsFit events → TicketsAreApart opening events
-    → KeepsOrder opening ghosts events
+LivesKeepOrder = (life : BegunLife) (events : List Event) → CellsFit life.ghosts.log → HasNoCommit events → CallsFit events → TicketsAreApart life.opening events
+    → KeepsOrder life.opening life.ghosts events
 
 pub of_each_life : (P : Opened → Now → List ℕ → List Event → Type 0) → LivesBegin → OpeningsFit → LivesKeepOrder → OfEachKept P → InEachLife (WithoutCommits P)
 of_each_life P lives fit keep kept = λ bytes o n events store world calls few none.
-    let begins : BeginsLife (beginning n bytes) o.tail.0 (opening_lists o.entries.items) (opening_version o) (opening_map bytes o) o.number.0 (opening_ghosts bytes o) = lives bytes o n store world in
+    let life : BegunLife = record {
+      opening = beginning n bytes;
+      start = o.tail.0;
+      lists = opening_lists o.entries.items;
+      version = opening_version o;
+      map = opening_map bytes o;
+      number = o.number.0;
+      ghosts = opening_ghosts bytes o;
+      begins = lives bytes o n store world;
+    } in
     let keeps : KeepsOrder (beginning n bytes) (opening_ghosts bytes o) events =
-    keep (beginning n bytes) o.tail.0 (opening_lists o.entries.items) (opening_version o) (opening_map bytes o) o.number.0 (opening_ghosts bytes o) events begins (fit bytes o store) none calls
-    (tickets_apart (beginning n bytes) events begins.world few) in
+    keep life events (fit bytes o store) none calls (tickets_apart (beginning n bytes) events life.begins.world few) in
     kept bytes o n events store world keeps.enabled keeps.published

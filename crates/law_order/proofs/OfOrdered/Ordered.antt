@@ -1,14 +1,12 @@
 -- Every life without commits keeps order, by one induction over its events.
 use Rattle.std.proofs.Common.{◌≡◌, ℕ, refl, sym, subst, Bool, true, false, List, [], ◌∷◌}
-use Rattle.fkv_base.specs.declared.numbers.Version.{Version}
-use Rattle.fkv_map.specs.Map.{Map}
 use Rattle.law_log.specs.Ghosts.{Ghosts}
 use Rattle.law_log.specs.Enabled.{AreEnabled}
 use Rattle.fkv_world.specs.Runs.{World, run}
 use Rattle.fkv_world.specs.World.{Event}
 use Rattle.law_refine.specs.Calls.Calls.{event_adds}
 use Rattle.law_order.specs.Known.Answered.{EachAnswered, acted_ghosts}
-use Rattle.law_order.specs.Known.Begins.{BeginsLife, home_of_world}
+use Rattle.law_order.specs.Known.Begins.{BegunLife, home_of_world}
 use Rattle.law_order.specs.Known.Knows.{AllKnowBehind, AreKnown}
 use Rattle.law_order.specs.Known.Told.{AreToldTruly, TicketsAreApart}
 use Rattle.law_order.proofs.OfKnown.Begun.{begun_known}
@@ -30,13 +28,13 @@ use Rattle.law_order.proofs.OfTruth.Truth.{words_true}
 use Rattle.law_order.specs.Ordered.Keeps.{KeepsOrder}
 
 -- ---- at first nothing has happened
-pub begins_ordered : (opening : World) (start : ℕ) (lists : ℕ → List ℕ) (version : Version) (m : Map) (number : ℕ) (ghosts : Ghosts) → BeginsLife opening start lists version m number ghosts → KeepsOrder opening ghosts []
+pub begins_ordered : (life : BegunLife) → KeepsOrder life.opening life.ghosts []
 unfolding AreEnabled mapped
-begins_ordered opening start lists version m number ghosts begins = record {
+begins_ordered life = record {
   enabled = tt;
   published = tt;
-  known = begun_known opening start lists version m number ghosts begins;
-  reads = reads_begin_so opening start lists version m number ghosts begins;
+  known = begun_known life;
+  reads = reads_begin_so life;
 }
 
 -- ---- what is known at each moment so far, and at the next one
@@ -49,46 +47,46 @@ unfolding TicketsAreApart
 apart_before opening before event apart = apart.0
 
 -- ---- by the next event
-module _ (calls : CallsLaw) (words : WordsLaw) (opening : World) (start : ℕ) (lists : ℕ → List ℕ) (version : Version) (m : Map) (number : ℕ) (ghosts : Ghosts)
-    (begins : BeginsLife opening start lists version m number ghosts) (cells : CellsFit ghosts.log) where
+module _ (calls : CallsLaw) (words : WordsLaw) (life : BegunLife) (cells : CellsFit life.ghosts.log) where
   abbrev H : ℕ → ℕ
-  H = home_of_world opening
+  H = home_of_world life.opening
 
   -- What the words of the store tell sessions is true: so is what they load from their mailboxes, which the device has given as the log has it.
-  told_truly : (before : List Event) → HasNoCommit before → CallsFit before → KeepsOrder opening ghosts before → AreToldTruly H (life_ghosts opening ghosts before).log (run opening before).now
+  told_truly : (before : List Event) → HasNoCommit before → CallsFit before → KeepsOrder life.opening life.ghosts before → AreToldTruly H (life_ghosts life.opening life.ghosts before).log (run life.opening before).now
   told_truly before none fits its =
-      let served : ServedShow opening ghosts before = served_show calls words opening start lists version m number ghosts before begins cells fits its.enabled its.published in
-      words_true opening start lists version m number ghosts before begins its.enabled its.published its.known
-      (looks_true opening start lists version m number ghosts before begins none its.enabled its.published its.known served)
+      let served : ServedShow life.opening life.ghosts before = served_show calls words life before cells fits its.enabled its.published in
+      words_true life before its.enabled its.published its.known
+      (looks_true life before none its.enabled its.published its.known served)
 
   -- All that the event is to the log is enabled: what its session does there, and the lines that it tells. After a crash it is nothing.
-  event_enabled : (before : List Event) (event : Event) → HasNoCommit (event ∷ before) → TicketsAreApart opening (event ∷ before) → KeepsOrder opening ghosts before
-      → AreToldTruly H (life_ghosts opening ghosts before).log (run opening before).now → AreChangesPublished opening ghosts (event ∷ before) → AreEnabled H ghosts (mapped opening (event ∷ before))
-  event_enabled before event none apart its truly published = by_crash (run opening before).now.crashed refl
+  event_enabled : (before : List Event) (event : Event) → HasNoCommit (event ∷ before) → TicketsAreApart life.opening (event ∷ before) → KeepsOrder life.opening life.ghosts before
+      → AreToldTruly H (life_ghosts life.opening life.ghosts before).log (run life.opening before).now
+      → AreChangesPublished life.opening life.ghosts (event ∷ before) → AreEnabled H life.ghosts (mapped life.opening (event ∷ before))
+  event_enabled before event none apart its truly published = by_crash (run life.opening before).now.crashed refl
     where
-      answered : EachAnswered H (acted_ghosts opening ghosts before event) (event_adds opening before event)
-      answered = answers_enabled opening start lists version m number ghosts before event begins its.enabled its.known apart truly its.reads
+      answered : EachAnswered H (acted_ghosts life.opening life.ghosts before event) (event_adds life.opening before event)
+      answered = answers_enabled life before event its.enabled its.known apart truly its.reads
 
-      by_crash : (crashed : Bool) → (run opening before).now.crashed ≡ crashed → AreEnabled H ghosts (mapped opening (event ∷ before))
-      by_crash true over = subst (AreEnabled H ghosts) (sym (mapped_crashed opening before event over)) its.enabled
+      by_crash : (crashed : Bool) → (run life.opening before).now.crashed ≡ crashed → AreEnabled H life.ghosts (mapped life.opening (event ∷ before))
+      by_crash true over = subst (AreEnabled H life.ghosts) (sym (mapped_crashed life.opening before event over)) its.enabled
       by_crash false alive =
-          lines_enabled opening start lists version m number ghosts before event begins its.enabled published
-          (own_enabled opening start lists version m number ghosts before event begins none its.enabled its.published its.known truly alive)
+          lines_enabled life before event its.enabled published
+          (own_enabled life before event none its.enabled its.published its.known truly alive)
           answered
 
-  pub goes_on : (before : List Event) (event : Event) → HasNoCommit (event ∷ before) → CallsFit (event ∷ before) → TicketsAreApart opening (event ∷ before) → KeepsOrder opening ghosts before
-      → KeepsOrder opening ghosts (event ∷ before)
+  pub goes_on : (before : List Event) (event : Event) → HasNoCommit (event ∷ before) → CallsFit (event ∷ before) → TicketsAreApart life.opening (event ∷ before) → KeepsOrder life.opening life.ghosts before
+      → KeepsOrder life.opening life.ghosts (event ∷ before)
   goes_on before event none fits apart its =
-      let truly : AreToldTruly H (life_ghosts opening ghosts before).log (run opening before).now = told_truly before none.1 fits.1 its in
-      let published : AreChangesPublished opening ghosts (event ∷ before) = (changes_published opening start lists version m number ghosts before event begins its.known, its.published) in
-      let enabled : AreEnabled H ghosts (mapped opening (event ∷ before)) = event_enabled before event none apart its truly published in
+      let truly : AreToldTruly H (life_ghosts life.opening life.ghosts before).log (run life.opening before).now = told_truly before none.1 fits.1 its in
+      let published : AreChangesPublished life.opening life.ghosts (event ∷ before) = (changes_published life before event its.known, its.published) in
+      let enabled : AreEnabled H life.ghosts (mapped life.opening (event ∷ before)) = event_enabled before event none apart its truly published in
       record {
         enabled = enabled;
         published = published;
-        known = known_on opening ghosts before event its.known (rows_go_on opening start lists version m number ghosts before event begins none enabled its.known truly);
-        reads = reads_go_on opening start lists version m number ghosts before event begins its.enabled its.known apart truly its.reads enabled;
+        known = known_on life.opening life.ghosts before event its.known (rows_go_on life before event none enabled its.known truly);
+        reads = reads_go_on life before event its.enabled its.known apart truly its.reads enabled;
       }
 
-  pub life_goes : (events : List Event) → HasNoCommit events → CallsFit events → TicketsAreApart opening events → KeepsOrder opening ghosts events
-  life_goes [] none fits apart = begins_ordered opening start lists version m number ghosts begins
-  life_goes (event ∷ before) none fits apart = goes_on before event none fits apart (life_goes before none.1 fits.1 (apart_before opening before event apart))
+  pub life_goes : (events : List Event) → HasNoCommit events → CallsFit events → TicketsAreApart life.opening events → KeepsOrder life.opening life.ghosts events
+  life_goes [] none fits apart = begins_ordered life
+  life_goes (event ∷ before) none fits apart = goes_on before event none fits apart (life_goes before none.1 fits.1 (apart_before life.opening before event apart))

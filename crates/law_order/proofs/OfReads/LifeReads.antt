@@ -1,8 +1,6 @@
 -- At each moment of a life: what is known of the session that moves, and what follows of its event.
 use Rattle.std.proofs.Common.{◌≡◌, ℕ, ◌∙◌, refl, sym, ap, subst, Bool, true, false, List, [], ◌∷◌}
 use Rattle.std.specs.Prelude.{◌==◌, slice_get, Some}
-use Rattle.fkv_base.specs.declared.numbers.Version.{Version}
-use Rattle.fkv_map.specs.Map.{Map}
 use Rattle.law_log.specs.Ghosts.{Ghosts}
 use Rattle.law_log.specs.Enabled.{AreEnabled}
 use Rattle.law_log.proofs.Shown.{run_held}
@@ -25,7 +23,7 @@ use Rattle.fkv_world.specs.World.{Event, seat_at}
 use Rattle.fkv_world.proofs.Shown.{is_over, same_seat, session_runs}
 use Rattle.law_refine.specs.Calls.Calls.{event_adds}
 use Rattle.law_order.specs.Known.Answered.{EachAnswered, acted_ghosts}
-use Rattle.law_order.specs.Known.Begins.{home_of_world, BeginsLife}
+use Rattle.law_order.specs.Known.Begins.{BegunLife, home_of_world}
 use Rattle.law_order.specs.Known.Knows.{AreKnown}
 use Rattle.law_order.specs.Known.Told.{AreToldTruly, NamesAreApart, TicketsAreApart}
 use Rattle.law_refine.specs.Events.GhostEvents.{life_ghosts, mapped, moved_ghosts, own_ghosts, serials_in}
@@ -99,28 +97,30 @@ run_under_way k first own opened attempting = by_step (session_run k first own).
     by_step step e is = cc
 
 -- ---- the step of a session
-moment_facts : (opening : World) (start : ℕ) (lists : ℕ → List ℕ) (version : Version) (m : Map) (number : ℕ) (ghosts : Ghosts) (before : List Event) (event : Event) → BeginsLife opening start lists version m number ghosts → AreEnabled (home_of_world opening) ghosts (mapped opening before)
-    → AreKnown opening ghosts before → TicketsAreApart opening (event ∷ before) → AreToldTruly (home_of_world opening) (life_ghosts opening ghosts before).log (run opening before).now → AreReadsKnown opening ghosts before
-    → (its : Goes (run opening before) event) → StepFacts (home_of_world opening) (life_ghosts opening ghosts before) (seat_at (run opening before).now its.number) (run opening before).past.trace (run opening before).now.words its.s
-moment_facts opening start lists version m number ghosts before event begins enabled known apart truly reads its =
-    let w : World = run opening before in
+moment_facts : (life : BegunLife) (before : List Event) (event : Event) → AreEnabled (home_of_world life.opening) life.ghosts (mapped life.opening before)
+    → AreKnown life.opening life.ghosts before → TicketsAreApart life.opening (event ∷ before)
+    → AreToldTruly (home_of_world life.opening) (life_ghosts life.opening life.ghosts before).log (run life.opening before).now → AreReadsKnown life.opening life.ghosts before
+    → (its : Goes (run life.opening before) event)
+    → StepFacts (home_of_world life.opening) (life_ghosts life.opening life.ghosts before) (seat_at (run life.opening before).now its.number) (run life.opening before).past.trace (run life.opening before).now.words its.s
+moment_facts life before event enabled known apart truly reads its =
+    let w : World = run life.opening before in
     let k : Seat = seat_at w.now its.number in
-    let first = first_of opening before its.number its.s its.found in
-    let own : List SessionEvent = session_events opening its.number before in
-    let opened : IsOpened first.0 = begins.world.sessions its.number first.0 first.1 in
-    let seat : k ≡ seat_at opening.now its.number = same_seat opening before its.number in
-    let same : its.s ≡ session_run (seat_at opening.now its.number) first.0 own = some_same its.s (session_run (seat_at opening.now its.number) first.0 own) (sym its.found ∙ session_runs opening its.number first.0 before first.1) in
+    let first = first_of life.opening before its.number its.s its.found in
+    let own : List SessionEvent = session_events life.opening its.number before in
+    let opened : IsOpened first.0 = life.begins.world.sessions its.number first.0 first.1 in
+    let seat : k ≡ seat_at life.opening.now its.number = same_seat life.opening before its.number in
+    let same : its.s ≡ session_run (seat_at life.opening.now its.number) first.0 own = some_same its.s (session_run (seat_at life.opening.now its.number) first.0 own) (sym its.found ∙ session_runs life.opening its.number first.0 before first.1) in
     record {
       busy = its.busy;
-      orderly = orderly (home_of_world opening) m (life_ghosts opening ghosts before).log (run_held (home_of_world opening) m number ghosts (mapped opening before) begins.log enabled);
-      knows = (known_now opening ghosts before known its.number its.s its.found).attempted;
+      orderly = orderly (home_of_world life.opening) life.map (life_ghosts life.opening life.ghosts before).log (run_held (home_of_world life.opening) life.map life.number life.ghosts (mapped life.opening before) life.begins.log enabled);
+      knows = (known_now life.opening life.ghosts before known its.number its.s its.found).attempted;
       says = truly its.number its.s its.found;
-      inputs = subst (λ (x : Seat). AttemptsSo x its.s) (sym seat) (subst (AttemptsSo (seat_at opening.now its.number)) (sym same) (run_so (seat_at opening.now its.number) first.0 own opened));
-      under_way = subst (λ (x : SessionState). is_attempting x.step ≡ true → IsUnderWay x.attempt) (sym same) (run_under_way (seat_at opening.now its.number) first.0 own opened);
-      named = life_named opening start before its.number its.s begins.store.now its.found;
-      apart = apart_before opening event before apart its.number its.s its.found;
-      numbered = subst (Numbered its.number w.past.trace) its.busy (life_numbered opening before its.number its.s begins.world its.found);
-      reads = reads_now opening ghosts before reads its.number its.s its.found;
+      inputs = subst (λ (x : Seat). AttemptsSo x its.s) (sym seat) (subst (AttemptsSo (seat_at life.opening.now its.number)) (sym same) (run_so (seat_at life.opening.now its.number) first.0 own opened));
+      under_way = subst (λ (x : SessionState). is_attempting x.step ≡ true → IsUnderWay x.attempt) (sym same) (run_under_way (seat_at life.opening.now its.number) first.0 own opened);
+      named = life_named life.opening life.start before its.number its.s life.begins.store.now its.found;
+      apart = apart_before life.opening event before apart its.number its.s its.found;
+      numbered = subst (Numbered its.number w.past.trace) its.busy (life_numbered life.opening before its.number its.s life.begins.world its.found);
+      reads = reads_now life.opening life.ghosts before reads its.number its.s its.found;
     }
 
 freshly : (opening : World) (before : List Event) (event : Event) → TicketsAreApart opening (event ∷ before) → (its : Goes (run opening before) event) → IsFreshly (moved_to (run opening before) its.number its.s)
@@ -133,16 +133,17 @@ begins_own w event its = ap (own_ghosts w) its.is
 goes_own : (w : World) (event : Event) (its : Goes w event) → own_ghosts w event ≡ moved_ghosts w its.number (Some its.s)
 goes_own w event its = ap (own_ghosts w) its.is ∙ ap (moved_ghosts w its.number) its.found
 
-alive_so : (opening : World) (start : ℕ) (lists : ℕ → List ℕ) (version : Version) (m : Map) (number : ℕ) (ghosts : Ghosts) (before : List Event) (event : Event) → BeginsLife opening start lists version m number ghosts → AreEnabled (home_of_world opening) ghosts (mapped opening before)
-    → AreKnown opening ghosts before → TicketsAreApart opening (event ∷ before) → AreToldTruly (home_of_world opening) (life_ghosts opening ghosts before).log (run opening before).now → AreReadsKnown opening ghosts before
-    → Turn (run opening before) event → IsAnsweredSo opening ghosts before event
-alive_so opening start lists version m number ghosts before event begins enabled known apart truly reads (Rests quiet own stay) =
-    rests_so opening ghosts before event quiet own stay (λ n s found. life_numbered opening before n s begins.world found) (reads_now opening ghosts before reads)
-alive_so opening start lists version m number ghosts before event begins enabled known apart truly reads (BeginsOne its) =
-    begins_so opening ghosts before event its (begins_own (run opening before) event its) (λ n s found. life_numbered opening before n s begins.world found) (reads_now opening ghosts before reads)
-alive_so opening start lists version m number ghosts before event begins enabled known apart truly reads (GoesOne its) =
-    goes_so opening ghosts before event its (goes_own (run opening before) event its) (moment_facts opening start lists version m number ghosts before event begins enabled known apart truly reads its)
-    (freshly opening before event apart its) (λ n s found. life_numbered opening before n s begins.world found) (reads_now opening ghosts before reads)
+alive_so : (life : BegunLife) (before : List Event) (event : Event) → AreEnabled (home_of_world life.opening) life.ghosts (mapped life.opening before)
+    → AreKnown life.opening life.ghosts before → TicketsAreApart life.opening (event ∷ before)
+    → AreToldTruly (home_of_world life.opening) (life_ghosts life.opening life.ghosts before).log (run life.opening before).now → AreReadsKnown life.opening life.ghosts before
+    → Turn (run life.opening before) event → IsAnsweredSo life.opening life.ghosts before event
+alive_so life before event enabled known apart truly reads (Rests quiet own stay) =
+    rests_so life.opening life.ghosts before event quiet own stay (λ n s found. life_numbered life.opening before n s life.begins.world found) (reads_now life.opening life.ghosts before reads)
+alive_so life before event enabled known apart truly reads (BeginsOne its) =
+    begins_so life.opening life.ghosts before event its (begins_own (run life.opening before) event its) (λ n s found. life_numbered life.opening before n s life.begins.world found) (reads_now life.opening life.ghosts before reads)
+alive_so life before event enabled known apart truly reads (GoesOne its) =
+    goes_so life.opening life.ghosts before event its (goes_own (run life.opening before) event its) (moment_facts life before event enabled known apart truly reads its)
+    (freshly life.opening before event apart its) (λ n s found. life_numbered life.opening before n s life.begins.world found) (reads_now life.opening life.ghosts before reads)
 
 -- ---- after a crash nothing is told
 over_told : (w : World) (event : Event) → w.now.crashed ≡ true → told_by w.now (happens w event).now event ≡ []
@@ -154,46 +155,49 @@ over_adds opening before event over =
     ap (λ (told : List TraceEvent). lines_added (serials_in opening.now) (run opening before).past.trace (told_at (effects_behind (run opening before) event) told)) (over_told (run opening before) event over)
 
 -- ---- what is shown
-pub answers_enabled : (opening : World) (start : ℕ) (lists : ℕ → List ℕ) (version : Version) (m : Map) (number : ℕ) (ghosts : Ghosts) (before : List Event) (event : Event) → BeginsLife opening start lists version m number ghosts → AreEnabled (home_of_world opening) ghosts (mapped opening before)
-    → AreKnown opening ghosts before → TicketsAreApart opening (event ∷ before) → AreToldTruly (home_of_world opening) (life_ghosts opening ghosts before).log (run opening before).now → AreReadsKnown opening ghosts before
-    → EachAnswered (home_of_world opening) (acted_ghosts opening ghosts before event) (event_adds opening before event)
+pub answers_enabled : (life : BegunLife) (before : List Event) (event : Event) → AreEnabled (home_of_world life.opening) life.ghosts (mapped life.opening before)
+    → AreKnown life.opening life.ghosts before → TicketsAreApart life.opening (event ∷ before)
+    → AreToldTruly (home_of_world life.opening) (life_ghosts life.opening life.ghosts before).log (run life.opening before).now → AreReadsKnown life.opening life.ghosts before
+    → EachAnswered (home_of_world life.opening) (acted_ghosts life.opening life.ghosts before event) (event_adds life.opening before event)
 unfolding run
-answers_enabled opening start lists version m number ghosts before event begins enabled known apart truly reads = by_crash (run opening before).now.crashed refl
+answers_enabled life before event enabled known apart truly reads = by_crash (run life.opening before).now.crashed refl
   where
-    by_crash : (crashed : Bool) → (run opening before).now.crashed ≡ crashed → EachAnswered (home_of_world opening) (acted_ghosts opening ghosts before event) (event_adds opening before event)
-    by_crash true over = subst (EachAnswered (home_of_world opening) (acted_ghosts opening ghosts before event)) (sym (over_adds opening before event over)) tt
-    by_crash false alive = (alive_so opening start lists version m number ghosts before event begins enabled known apart truly reads (turn_of (run opening before) event alive)).each
+    by_crash : (crashed : Bool) → (run life.opening before).now.crashed ≡ crashed → EachAnswered (home_of_world life.opening) (acted_ghosts life.opening life.ghosts before event) (event_adds life.opening before event)
+    by_crash true over = subst (EachAnswered (home_of_world life.opening) (acted_ghosts life.opening life.ghosts before event)) (sym (over_adds life.opening before event over)) tt
+    by_crash false alive = (alive_so life before event enabled known apart truly reads (turn_of (run life.opening before) event alive)).each
 
-reads_go : (opening : World) (start : ℕ) (lists : ℕ → List ℕ) (version : Version) (m : Map) (number : ℕ) (ghosts : Ghosts) (before : List Event) (event : Event) → BeginsLife opening start lists version m number ghosts → AreEnabled (home_of_world opening) ghosts (mapped opening before)
-    → AreKnown opening ghosts before → TicketsAreApart opening (event ∷ before) → AreToldTruly (home_of_world opening) (life_ghosts opening ghosts before).log (run opening before).now → AreReadsKnown opening ghosts before
-    → ReadsKnown opening ghosts (event ∷ before)
+reads_go : (life : BegunLife) (before : List Event) (event : Event) → AreEnabled (home_of_world life.opening) life.ghosts (mapped life.opening before)
+    → AreKnown life.opening life.ghosts before → TicketsAreApart life.opening (event ∷ before)
+    → AreToldTruly (home_of_world life.opening) (life_ghosts life.opening life.ghosts before).log (run life.opening before).now → AreReadsKnown life.opening life.ghosts before
+    → ReadsKnown life.opening life.ghosts (event ∷ before)
 unfolding run
-reads_go opening start lists version m number ghosts before event begins enabled known apart truly reads = by_crash (run opening before).now.crashed refl
+reads_go life before event enabled known apart truly reads = by_crash (run life.opening before).now.crashed refl
   where
-    by_crash : (crashed : Bool) → (run opening before).now.crashed ≡ crashed → ReadsKnown opening ghosts (event ∷ before)
+    by_crash : (crashed : Bool) → (run life.opening before).now.crashed ≡ crashed → ReadsKnown life.opening life.ghosts (event ∷ before)
     by_crash true over = λ n s found.
-        let same : happens (run opening before) event ≡ run opening before = is_over (run opening before) event over in
-        subst (λ (g : Ghosts). SessionReads g.reads (happens (run opening before) event).past.trace n s) (sym (life_over opening ghosts before event over))
-        (subst (λ (x : World). SessionReads (life_ghosts opening ghosts before).reads x.past.trace n s) (sym same)
-        (reads_now opening ghosts before reads n s (sym (ap (λ (x : World). slice_get x.now.sessions n) same) ∙ found)))
+        let same : happens (run life.opening before) event ≡ run life.opening before = is_over (run life.opening before) event over in
+        subst (λ (g : Ghosts). SessionReads g.reads (happens (run life.opening before) event).past.trace n s) (sym (life_over life.opening life.ghosts before event over))
+        (subst (λ (x : World). SessionReads (life_ghosts life.opening life.ghosts before).reads x.past.trace n s) (sym same)
+        (reads_now life.opening life.ghosts before reads n s (sym (ap (λ (x : World). slice_get x.now.sessions n) same) ∙ found)))
     by_crash false alive = λ n s found.
-        subst (λ (g : Ghosts). SessionReads g.reads (happens (run opening before) event).past.trace n s) (sym (life_next opening ghosts before event alive))
-        ((alive_so opening start lists version m number ghosts before event begins enabled known apart truly reads (turn_of (run opening before) event alive)).known n s found)
+        subst (λ (g : Ghosts). SessionReads g.reads (happens (run life.opening before) event).past.trace n s) (sym (life_next life.opening life.ghosts before event alive))
+        ((alive_so life before event enabled known apart truly reads (turn_of (run life.opening before) event alive)).known n s found)
 
-pub reads_go_on : (opening : World) (start : ℕ) (lists : ℕ → List ℕ) (version : Version) (m : Map) (number : ℕ) (ghosts : Ghosts) (before : List Event) (event : Event) → BeginsLife opening start lists version m number ghosts → AreEnabled (home_of_world opening) ghosts (mapped opening before)
-    → AreKnown opening ghosts before → TicketsAreApart opening (event ∷ before) → AreToldTruly (home_of_world opening) (life_ghosts opening ghosts before).log (run opening before).now → AreReadsKnown opening ghosts before
-    → AreEnabled (home_of_world opening) ghosts (mapped opening (event ∷ before)) → AreReadsKnown opening ghosts (event ∷ before)
+pub reads_go_on : (life : BegunLife) (before : List Event) (event : Event) → AreEnabled (home_of_world life.opening) life.ghosts (mapped life.opening before)
+    → AreKnown life.opening life.ghosts before → TicketsAreApart life.opening (event ∷ before)
+    → AreToldTruly (home_of_world life.opening) (life_ghosts life.opening life.ghosts before).log (run life.opening before).now → AreReadsKnown life.opening life.ghosts before
+    → AreEnabled (home_of_world life.opening) life.ghosts (mapped life.opening (event ∷ before)) → AreReadsKnown life.opening life.ghosts (event ∷ before)
 unfolding AreReadsKnown
-reads_go_on opening start lists version m number ghosts before event begins enabled known apart truly reads later =
-    (reads, reads_go opening start lists version m number ghosts before event begins enabled known apart truly reads)
+reads_go_on life before event enabled known apart truly reads later =
+    (reads, reads_go life before event enabled known apart truly reads)
 
 -- ---- as the life begins
 idle_sits : (opening : World) (ghosts : Ghosts) (n : ℕ) (s : SessionState) (step : Sitting) → is_busy step ≡ false → s.requests ≡ [] → SitsReads (readings_of ghosts.reads opening.past.trace n) s step
 idle_sits opening ghosts n s (Idle its) idle none = λ index pending got. let at = sym (ap (λ requests. slice_get requests index) none) ∙ got in cc
 idle_sits opening ghosts n s step idle none = cc
 
-pub reads_begin_so : (opening : World) (start : ℕ) (lists : ℕ → List ℕ) (version : Version) (m : Map) (number : ℕ) (ghosts : Ghosts) → BeginsLife opening start lists version m number ghosts → AreReadsKnown opening ghosts []
+pub reads_begin_so : (life : BegunLife) → AreReadsKnown life.opening life.ghosts []
 unfolding AreReadsKnown run
-reads_begin_so opening start lists version m number ghosts begins = λ n s found.
-    let its = begins.world.sessions n s found in
-    idle_sits opening (life_ghosts opening ghosts []) n s s.step its.none_in_hand its.none_wait
+reads_begin_so life = λ n s found.
+    let its = life.begins.world.sessions n s found in
+    idle_sits life.opening (life_ghosts life.opening life.ghosts []) n s s.step its.none_in_hand its.none_wait

@@ -1,6 +1,5 @@
 -- In a life without commits all records of versions older than the life's are fixed: so were those with which the store was opened, and all others are of its version.
 use Rattle.std.proofs.Common.{◌≡◌, ℕ, ◌≤◌, inl, inr, List, [], ◌∷◌, ◌++◌, refl, arith, subst}
-use Rattle.fkv_base.specs.declared.numbers.Version.{Version}
 use Rattle.fkv_map.specs.declared.history.HistoryEntry.{HistoryEntry}
 use Rattle.fkv_map.specs.Map.{Map}
 use Rattle.law_log.specs.Chains.{Cell, Logged, Unborn, Reserved, Published, Dropped}
@@ -8,9 +7,8 @@ use Rattle.law_log.specs.Ghosts.{Log, Ghosts, GhostEvent, Tells, FindsEntry, Tak
 use Rattle.law_log.specs.Enabled as order
 use Rattle.law_log.specs.Enabled.{IsFixed}
 use Rattle.law_local.specs.Tries.Kept.{OlderAreFixed}
-use Rattle.fkv_world.specs.Runs.{World}
 use Rattle.fkv_world.specs.World.{Event}
-use Rattle.law_order.specs.Known.Begins.{BeginsLife, home_of_world}
+use Rattle.law_order.specs.Known.Begins.{BegunLife, home_of_world}
 use Rattle.law_refine.specs.Events.GhostEvents.{mapped}
 use Rattle.law_order.specs.Rest.Logs.{CellsSince, LoggedSince, WasOf}
 use Rattle.law_order.specs.Rest.Resting.{HasNoCommit}
@@ -72,8 +70,8 @@ since_fixed home m number version g log opened rises since a cell its low =
     ]
 
 -- at every moment of such a life, also between the events of the log that one event of the life is
-pub older_fixed : (opening : World) (start : ℕ) (lists : ℕ → List ℕ) (version : Version) (m : Map) (number : ℕ) (ghosts : Ghosts) (events : List Event) (later before : List GhostEvent) → BeginsLife opening start lists version m number ghosts → HasNoCommit events
-    → mapped opening events ≡ later ++ before → OlderAreFixed (ghost_run (home_of_world opening) ghosts before).log version.0
-older_fixed opening start lists version m number ghosts events later before begins none all =
-    since_fixed (home_of_world opening) m number version.0 ghosts (ghost_run (home_of_world opening) ghosts before).log begins.log (run_fixed (home_of_world opening) ghosts before)
-    (moment_since opening start version ghosts events later before begins.store.now begins.rests none begins.cells all)
+pub older_fixed : (life : BegunLife) (events : List Event) (later before : List GhostEvent) → HasNoCommit events
+    → mapped life.opening events ≡ later ++ before → OlderAreFixed (ghost_run (home_of_world life.opening) life.ghosts before).log life.version.0
+older_fixed life events later before none all =
+    since_fixed (home_of_world life.opening) life.map life.number life.version.0 life.ghosts (ghost_run (home_of_world life.opening) life.ghosts before).log life.begins.log (run_fixed (home_of_world life.opening) life.ghosts before)
+    (moment_since life.opening life.start life.version life.ghosts events later before life.begins.store.now life.begins.rests none life.begins.cells all)

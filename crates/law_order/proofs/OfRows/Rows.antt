@@ -3,8 +3,8 @@ use Rattle.std.proofs.Common.{◌≡◌, ℕ, ◌≤◌, ◌∙◌, List, ◌∷
 use Rattle.std.specs.Prelude.{Some, None, slice_get}
 use Rattle.fkv_base.specs.declared.numbers.Version.{Version}
 use Rattle.law_guard.specs.Sessions.Followed.{is_turning}
-use Rattle.fkv_map.specs.Map.{Map, is_reserved}
-use Rattle.law_log.specs.Ghosts.{Log, Ghosts}
+use Rattle.fkv_map.specs.Map.{is_reserved}
+use Rattle.law_log.specs.Ghosts.{Log}
 use Rattle.law_log.specs.Enabled.{AreEnabled, NoneAbove}
 use Rattle.law_log.proofs.Shown.{run_held}
 use Rattle.fkv_ops.specs.declared.requests.Seen.{Seen}
@@ -32,7 +32,7 @@ use Rattle.fkv_world.specs.Moves.{Near, session_moved}
 use Rattle.fkv_world.specs.Runs.{World, run}
 use Rattle.fkv_world.specs.World.{Event, Now, near, seat_at}
 use Rattle.fkv_world.proofs.Shown.{same_seat}
-use Rattle.law_order.specs.Known.Begins.{BeginsLife, home_of_world}
+use Rattle.law_order.specs.Known.Begins.{BegunLife, home_of_world}
 use Rattle.law_order.specs.Known.Knows.{AllKnowBehind, AreKnown, SessionKnows}
 use Rattle.law_order.specs.Known.Told.{AreToldTruly, reply_in}
 use Rattle.law_refine.specs.Events.GhostEvents.{life_ghosts, mapped}
@@ -95,58 +95,58 @@ both P P' Q Q' s one other = record {
   attempted = λ attempting. (one.attempted attempting, other.attempted attempting);
 }
 
-module _ (opening : World) (start : ℕ) (lists : ℕ → List ℕ) (version : Version) (m : Map) (number : ℕ) (ghosts : Ghosts) (before : List Event) (event : Event) (begins : BeginsLife opening start lists version m number ghosts)
-    (none : HasNoCommit (event ∷ before)) (enabled : AreEnabled (home_of_world opening) ghosts (mapped opening (event ∷ before))) (known : AreKnown opening ghosts before)
-    (told : AreToldTruly (home_of_world opening) (life_ghosts opening ghosts before).log (run opening before).now) where
+module _ (life : BegunLife) (before : List Event) (event : Event)
+    (none : HasNoCommit (event ∷ before)) (enabled : AreEnabled (home_of_world life.opening) life.ghosts (mapped life.opening (event ∷ before))) (known : AreKnown life.opening life.ghosts before)
+    (told : AreToldTruly (home_of_world life.opening) (life_ghosts life.opening life.ghosts before).log (run life.opening before).now) where
   abbrev W : World
-  W = run opening before
+  W = run life.opening before
 
   abbrev N : Now
   N = W.now
 
   abbrev H : ℕ → ℕ
-  H = home_of_world opening
+  H = home_of_world life.opening
 
   abbrev L : Log
-  L = (life_ghosts opening ghosts before).log
+  L = (life_ghosts life.opening life.ghosts before).log
 
   abbrev L' : Log
-  L' = (life_ghosts opening ghosts (event ∷ before)).log
+  L' = (life_ghosts life.opening life.ghosts (event ∷ before)).log
 
-  cells_rest : CellsRest version.0 L.cells
-  cells_rest = life_cells opening start version ghosts before begins.store.now begins.rests none.1 begins.cells
+  cells_rest : CellsRest life.version.0 L.cells
+  cells_rest = life_cells life.opening life.start life.version life.ghosts before life.begins.store.now life.begins.rests none.1 life.begins.cells
 
-  module _ (session : ℕ) (s after : SessionState) (was : slice_get N.sessions session ≡ Some s) (is_now : slice_get (run opening (event ∷ before)).now.sessions session ≡ Some after) where
+  module _ (session : ℕ) (s after : SessionState) (was : slice_get N.sessions session ≡ Some s) (is_now : slice_get (run life.opening (event ∷ before)).now.sessions session ≡ Some after) where
     abbrev K : Seat
     K = seat_at N session
 
-    sits : SitsAtRest version s s.step
-    sits = ((life_rests opening start version before begins.store.now begins.rests none.1).sessions session s was).sits
+    sits : SitsAtRest life.version s s.step
+    sits = ((life_rests life.opening life.start life.version before life.begins.store.now life.begins.rests none.1).sessions session s was).sits
 
     -- the head that it has seen
     rises : head_in s.seen ≤ head_in after.seen
-    rises = head_rises opening start before event session s after begins.store.now was is_now
+    rises = head_rises life.opening life.start before event session s after life.begins.store.now was is_now
 
     below : head_in after.seen ≤ L'.fixed
-    below = life_head_fixed opening start ghosts (event ∷ before) session after begins.store.now begins.fixed is_now
+    below = life_head_fixed life.opening life.start life.ghosts (event ∷ before) session after life.begins.store.now life.begins.fixed is_now
 
     knows : KnowsSo H L s.seen s
     knows =
-        both (λ pending. PendingKnows H L pending s.seen) SeeksWhereAsked (λ a. AttemptKnows H L a) AttemptSeeks s (known_now opening ghosts before known session s was)
-        (life_seeks opening before session s begins.world was)
+        both (λ pending. PendingKnows H L pending s.seen) SeeksWhereAsked (λ a. AttemptKnows H L a) AttemptSeeks s (known_now life.opening life.ghosts before known session s was)
+        (life_seeks life.opening before session s life.begins.world was)
 
     waiting : (pending : PendingRequest) → PendingKnows H L pending s.seen → PendingKnows H L' pending s.seen
-    waiting pending its = pending_stays opening start lists version m number ghosts before event pending s.seen begins enabled its
+    waiting pending its = pending_stays life before event pending s.seen enabled its
 
     trying : is_attempting s.step ≡ true → (a : AttemptState) → a.pending.request.version ≡ s.attempt.pending.request.version → AttemptKnows H L a → AttemptKnows H L' a
-    trying attempting a same its = attempt_stays opening start lists version m number ghosts before event a begins none enabled (same ∙ version_at version s s.step sits attempting) its
+    trying attempting a same its = attempt_stays life before event a none enabled (same ∙ version_at life.version s s.step sits attempting) its
 
     -- without commits no record is of a later version than its request, wherever its walk ends
     none_later : is_attempting s.step ≡ true → s.attempt.step ≡ Tries → NoneIsLater H L s.attempt.trial.request
     none_later attempting tries update =
         let same = (subst (AttemptRow H L s.attempt) tries (knows.attempted attempting).0.row).its_request in
-        subst (λ (v : Version). NoneAbove L (H (key_in s.attempt.trial.request)) v.0) (sym (ap (λ request. request.version) same ∙ version_at version s s.step sits attempting))
-        (none_above version.0 L (H (key_in s.attempt.trial.request)) cells_rest)
+        subst (λ (v : Version). NoneAbove L (H (key_in s.attempt.trial.request)) v.0) (sym (ap (λ request. request.version) same ∙ version_at life.version s s.step sits attempting))
+        (none_above life.version.0 L (H (key_in s.attempt.trial.request)) cells_rest)
 
     -- where it makes no step
     stays : KnowsSo H L' s.seen s
@@ -156,14 +156,14 @@ module _ (opening : World) (start : ℕ) (lists : ℕ → List ℕ) (version : V
     -- by its step
     facts : after ≡ session_next K s (reply_in N session s) → StepFacts H L L' K s (reply_in N session s)
     facts is = record {
-      orderly = orderly H m L (run_held H m number ghosts (mapped opening before) begins.log (enabled_until opening ghosts before event enabled));
-      inputs = subst (λ (k : Seat). AttemptsSo k s) (sym (same_seat opening before session)) (life_attempts opening before session s begins.world was);
+      orderly = orderly H life.map L (run_held H life.map life.number life.ghosts (mapped life.opening before) life.begins.log (enabled_until life.opening life.ghosts before event enabled));
+      inputs = subst (λ (k : Seat). AttemptsSo k s) (sym (same_seat life.opening before session)) (life_attempts life.opening before session s life.begins.world was);
       newest = λ attempting tries walks addr found ends passes. none_later attempting tries;
       says = λ attempting. told session s was attempting;
       waiting = waiting;
       trying = trying;
-      latches = λ cause at. sits_none version s s.step cause (reply_in N session s) at sits;
-      plain = λ at. plain_op s.op (plain_in_hand s at (life_op_kept opening start before session s begins.store.now was));
+      latches = λ cause at. sits_none life.version s s.step cause (reply_in N session s) at sits;
+      plain = λ at. plain_op s.op (plain_in_hand s at (life_op_kept life.opening life.start before session s life.begins.store.now was));
       caught = λ its at done.
           subst (λ (seen : Seen). head_in seen ≤ L'.fixed) (ap (λ (x : SessionState). x.seen) is ∙ caught_seen K s (reply_in N session s) its at done) below;
     }
@@ -173,7 +173,7 @@ module _ (opening : World) (start : ℕ) (lists : ℕ → List ℕ) (version : V
 
     moved : after ≡ (session_moved K (near N s)).machine → (calm : Bool) → is_calm s.step ≡ calm → KnowsSo H L' s.seen after
     moved is true e = subst (KnowsSo H L' s.seen) (sym is) (calm_known (WaitsSo H L' s.seen) (TriesSo H L') K (near N s) e stays)
-    moved is false e = let busy = not_calm s.step e in replied (is ∙ ap (λ (x : Near SessionState). x.machine) (moves_alone opening start before session s begins.store.now was busy.0 busy.1))
+    moved is false e = let busy = not_calm s.step e in replied (is ∙ ap (λ (x : Near SessionState). x.machine) (moves_alone life.opening life.start before session s life.begins.store.now was busy.0 busy.1))
 
     comes : SessionComes W session s after → KnowsSo H L' s.seen after
     comes (Stays is) = subst (KnowsSo H L' s.seen) (sym is) stays
@@ -186,7 +186,7 @@ module _ (opening : World) (start : ℕ) (lists : ℕ → List ℕ) (version : V
         stays_known (WaitsSo H L' s.seen) (λ pending. PendingKnows H L' pending after.seen) (TriesSo H L') (λ a. AttemptKnows H L' a) after
         (λ pending its. pending_later H L' pending s.seen after.seen rises below its.0) (λ attempting its. its.0) (comes how)
 
-  pub rows_go_on : AllKnowBehind opening ghosts (event ∷ before)
+  pub rows_go_on : AllKnowBehind life.opening life.ghosts (event ∷ before)
   unfolding run
   rows_go_on session after is_now =
       let s = there_before W event session after is_now in

@@ -1,15 +1,12 @@
 -- The device has each published record that is flushed: those since the opening as they stand, and those of before as it was opened with them.
 use Rattle.std.proofs.Common.{◌≡◌, ℕ, ◌+◌, ◌*◌, ◌<◌, ◌≤◌, ◌∙◌, inl, inr, refl, sym, subst, arith, List, length}
 use Rattle.std.proofs.lemmas.Bool.{cases_lt}
-use Rattle.fkv_base.specs.declared.numbers.Version.{Version}
 use Rattle.fkv_disk.specs.Bytes.{bytes_at}
 use Rattle.fkv_disk.specs.Calls.{Call, ReadsAs, reads_as}
 use Rattle.fkv_disk.proofs.Shown.{length-bytes_at, reads_within}
 use Rattle.fkv_flush.specs.GuardFlushed.{IsSynced, calls_made}
 use Rattle.fkv_flush.specs.GuardLevels.{levels_of}
-use Rattle.fkv_map.specs.Map.{Map}
 use Rattle.law_log.specs.Chains.{Cell, Published}
-use Rattle.law_log.specs.Ghosts.{Ghosts}
 use Rattle.law_log.specs.Enabled.{AreEnabled}
 use Rattle.fkv_record.specs.Places as image
 use Rattle.fkv_world.specs.Runs.{World, run}
@@ -19,7 +16,7 @@ use Rattle.law_guard.specs.Guarded.OpenedStore.{IsOpenedStore}
 use Rattle.law_guard.specs.Guarded.Shows.{ArePermitted, guard_opening}
 use Rattle.law_guard.proofs.OfGuarded.Worlds.{life_shows}
 use Rattle.law_guard.proofs.OfGuarded.Flushed.{life_synced}
-use Rattle.law_order.specs.Known.Begins.{BeginsLife, IsInImage, home_of_world}
+use Rattle.law_order.specs.Known.Begins.{BegunLife, IsInImage, home_of_world}
 use Rattle.law_refine.specs.Events.GhostEvents.{life_ghosts, mapped, safe_at}
 use Rattle.law_refine.proofs.OfEvents.Fixed.{ghost_fixed}
 use Rattle.law_refine.specs.Records.Cells.{ShowsCell}
@@ -95,30 +92,30 @@ before_there law opening start events a cell store permitted low was = record {
 }
 
 -- ---- each that is flushed
-pub start_fixed : (opening : World) (start : ℕ) (lists : ℕ → List ℕ) (version : Version) (m : Map) (number : ℕ) (ghosts : Ghosts) → BeginsLife opening start lists version m number ghosts → start ≤ ghosts.log.fixed
-start_fixed opening start lists version m number ghosts begins =
-    let fixed : ghosts.log.fixed ≡ safe_at opening.now = begins.fixed in
-    let safe : safe_at opening.now ≡ start = begins.store.now.words.safe_read_only in
+pub start_fixed : (life : BegunLife) → life.start ≤ life.ghosts.log.fixed
+start_fixed life =
+    let fixed : life.ghosts.log.fixed ≡ safe_at life.opening.now = life.begins.fixed in
+    let safe : safe_at life.opening.now ≡ life.start = life.begins.store.now.words.safe_read_only in
     omega (arith, fixed, safe)
 
-pub device_there : CallsLaw → (opening : World) (start : ℕ) (lists : ℕ → List ℕ) (version : Version) (m : Map) (number : ℕ) (ghosts : Ghosts) (events : List Event) (a : ℕ) (cell : Cell)
-    → BeginsLife opening start lists version m number ghosts → AreEnabled (home_of_world opening) ghosts (mapped opening events) → AreChangesPublished opening ghosts events
-    → (life_ghosts opening ghosts events).log.cells a ≡ Published cell → a < (levels_of (run opening events).now.words).flushed → IsInImage opening.now.shape (read_then opening events) a cell
-device_there law opening start lists version m number ghosts events a cell begins enabled published e to =
-    let permitted : ArePermitted opening events = published_permitted opening start ghosts events begins.store.now begins.unborn published in
-    elim (cases_lt a start) [
+pub device_there : CallsLaw → (life : BegunLife) (events : List Event) (a : ℕ) (cell : Cell)
+    → AreEnabled (home_of_world life.opening) life.ghosts (mapped life.opening events) → AreChangesPublished life.opening life.ghosts events
+    → (life_ghosts life.opening life.ghosts events).log.cells a ≡ Published cell → a < (levels_of (run life.opening events).now.words).flushed → IsInImage life.opening.now.shape (read_then life.opening events) a cell
+device_there law life events a cell enabled published e to =
+    let permitted : ArePermitted life.opening events = published_permitted life.opening life.start life.ghosts events life.begins.store.now life.begins.unborn published in
+    elim (cases_lt a life.start) [
       | inl low ↦
-          let low_stays = life_below opening start m number ghosts events begins.store.now begins.log (start_fixed opening start lists version m number ghosts begins) enabled in
-          before_there law opening start events a cell begins.store permitted low (begins.device a cell (sym (low_stays.same a low) ∙ e))
-      | inr high ↦ since_there law opening start events a cell begins.store permitted high to ((life_holds opening start ghosts events begins.store.now begins.unborn begins.reserves published).shows a cell high e)
+          let low_stays = life_below life.opening life.start life.map life.number life.ghosts events life.begins.store.now life.begins.log (start_fixed life) enabled in
+          before_there law life.opening life.start events a cell life.begins.store permitted low (life.begins.device a cell (sym (low_stays.same a low) ∙ e))
+      | inr high ↦ since_there law life.opening life.start events a cell life.begins.store permitted high to ((life_holds life.opening life.start life.ghosts events life.begins.store.now life.begins.unborn life.begins.reserves published).shows a cell high e)
     ]
 
 -- and it is fixed
-pub flushed_fixed : (opening : World) (start : ℕ) (lists : ℕ → List ℕ) (version : Version) (m : Map) (number : ℕ) (ghosts : Ghosts) (events : List Event) (a : ℕ) → BeginsLife opening start lists version m number ghosts
-    → a < (levels_of (run opening events).now.words).flushed → a < (life_ghosts opening ghosts events).log.fixed
-flushed_fixed opening start lists version m number ghosts events a begins to =
-    let shows = life_shows opening start events begins.store.now in
-    let below : (levels_of (run opening events).now.words).flushed ≤ (levels_of (run opening events).now.words).safe_read_only =
+pub flushed_fixed : (life : BegunLife) (events : List Event) (a : ℕ)
+    → a < (levels_of (run life.opening events).now.words).flushed → a < (life_ghosts life.opening life.ghosts events).log.fixed
+flushed_fixed life events a to =
+    let shows = life_shows life.opening life.start events life.begins.store.now in
+    let below : (levels_of (run life.opening events).now.words).flushed ≤ (levels_of (run life.opening events).now.words).safe_read_only =
     subst (λ (words : List ℕ). (levels_of words).flushed ≤ (levels_of words).safe_read_only) shows.words shows.sound.guard.in_order.flushed_below in
-    let fixed : (life_ghosts opening ghosts events).log.fixed ≡ safe_at (run opening events).now = ghost_fixed opening start ghosts events begins.store.now begins.fixed in
+    let fixed : (life_ghosts life.opening life.ghosts events).log.fixed ≡ safe_at (run life.opening events).now = ghost_fixed life.opening life.start life.ghosts events life.begins.store.now life.begins.fixed in
     omega (arith, to, below, fixed)

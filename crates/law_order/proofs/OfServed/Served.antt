@@ -1,10 +1,8 @@
 -- What was read at an address that was flushed by then is the record that is there.
 use Rattle.std.proofs.Common.{◌≡◌, ℕ, ◌<◌, ◌^◌, ◌∙◌, sym, ap, subst, List, [], ◌∷◌, ◌++◌}
-use Rattle.fkv_base.specs.declared.numbers.Version.{Version}
 use Rattle.fkv_base.specs.declared.shapes.Shape.{Shape}
 use Rattle.fkv_disk.specs.Bytes.{bytes_at}
 use Rattle.fkv_disk.specs.Calls.{reads_as}
-use Rattle.fkv_map.specs.Map.{Map}
 use Rattle.law_log.specs.Chains.{Cell, Logged, Published}
 use Rattle.law_log.specs.Ghosts.{Ghosts}
 use Rattle.law_log.specs.Enabled.{AreEnabled}
@@ -15,7 +13,7 @@ use Rattle.fkv_world.specs.Runs.{World, run}
 use Rattle.fkv_world.specs.World.{Event}
 use Rattle.law_world.proofs.OfKeeper.OwnCalls.{opened_stays}
 use Rattle.fkv_world.proofs.Shown.{shape_stays}
-use Rattle.law_order.specs.Known.Begins.{BeginsLife, IsInImage, home_of_world}
+use Rattle.law_order.specs.Known.Begins.{BegunLife, IsInImage, home_of_world}
 use Rattle.law_parts.specs.Mail.MailEvents.{record_read}
 use Rattle.law_parts.specs.Mail.Reads.{record_there}
 use Rattle.law_refine.specs.Events.GhostEvents.{life_ghosts, mapped}
@@ -38,10 +36,10 @@ fit_before [] earlier fits = fits
 fit_before (event ∷ later) earlier fits = fit_before later earlier fits.1
 
 -- ---- all records are of numbers that fit
-pub cells_fit : (opening : World) (start : ℕ) (lists : ℕ → List ℕ) (version : Version) (m : Map) (number : ℕ) (ghosts : Ghosts) (events : List Event) → BeginsLife opening start lists version m number ghosts
-    → CellsFit ghosts.log → CallsFit events → AreEnabled (home_of_world opening) ghosts (mapped opening events) → CellsFit (life_ghosts opening ghosts events).log
-cells_fit opening start lists version m number ghosts events begins was fits enabled =
-    run_fits (home_of_world opening) m number ghosts (mapped opening events) begins.log enabled was (life_lines_fit opening ghosts events begins.world.no_trace begins.log.no_trace fits)
+pub cells_fit : (life : BegunLife) (events : List Event)
+    → CellsFit life.ghosts.log → CallsFit events → AreEnabled (home_of_world life.opening) life.ghosts (mapped life.opening events) → CellsFit (life_ghosts life.opening life.ghosts events).log
+cells_fit life events was fits enabled =
+    run_fits (home_of_world life.opening) life.map life.number life.ghosts (mapped life.opening events) life.begins.log enabled was (life_lines_fit life.opening life.ghosts events life.begins.world.no_trace life.begins.log.no_trace fits)
 
 -- ---- what the device gives then
 there_read : (opening : World) (events : List Event) (a : ℕ) → record_there (run opening events) a ≡ record_read (bytes_at (read_then opening events) (image.record_place opening.now.shape a) 24)
@@ -60,17 +58,17 @@ image_record law shape bytes a logged cell e fits its =
     subst (IsRecordOf logged) (sym read) (record { cell = cell; its = e; leads = its.leads; key = its.key; value = its.value })
 
 -- ---- and what is there now
-pub served_show : CallsLaw → WordsLaw → (opening : World) (start : ℕ) (lists : ℕ → List ℕ) (version : Version) (m : Map) (number : ℕ) (ghosts : Ghosts) (events : List Event)
-    → BeginsLife opening start lists version m number ghosts → CellsFit ghosts.log → CallsFit events → AreEnabled (home_of_world opening) ghosts (mapped opening events) → AreChangesPublished opening ghosts events
-    → ServedShow opening ghosts events
-served_show calls words opening start lists version m number ghosts events begins was fits enabled published = λ session addr its earlier later cell cut gives e to.
-    let enabled_all : AreEnabled (home_of_world opening) ghosts (mapped opening (later ++ earlier)) = subst (λ (es : List Event). AreEnabled (home_of_world opening) ghosts (mapped opening es)) cut enabled in
-    let enabled_then : AreEnabled (home_of_world opening) ghosts (mapped opening earlier) = life_enabled_before opening ghosts later earlier enabled_all in
-    let published_then : AreChangesPublished opening ghosts earlier = published_before opening ghosts later earlier (subst (AreChangesPublished opening ghosts) cut published) in
+pub served_show : CallsLaw → WordsLaw → (life : BegunLife) (events : List Event)
+    → CellsFit life.ghosts.log → CallsFit events → AreEnabled (home_of_world life.opening) life.ghosts (mapped life.opening events) → AreChangesPublished life.opening life.ghosts events
+    → ServedShow life.opening life.ghosts events
+served_show calls words life events was fits enabled published = λ session addr its earlier later cell cut gives e to.
+    let enabled_all : AreEnabled (home_of_world life.opening) life.ghosts (mapped life.opening (later ++ earlier)) = subst (λ (es : List Event). AreEnabled (home_of_world life.opening) life.ghosts (mapped life.opening es)) cut enabled in
+    let enabled_then : AreEnabled (home_of_world life.opening) life.ghosts (mapped life.opening earlier) = life_enabled_before life.opening life.ghosts later earlier enabled_all in
+    let published_then : AreChangesPublished life.opening life.ghosts earlier = published_before life.opening life.ghosts later earlier (subst (AreChangesPublished life.opening life.ghosts) cut published) in
     let fits_then : CallsFit earlier = fit_before later earlier (subst CallsFit cut fits) in
-    let cell_fits : CellFits cell = cells_fit opening start lists version m number ghosts earlier begins was fits_then enabled_then addr.0 cell e in
-    let there = device_there calls opening start lists version m number ghosts earlier addr.0 cell begins enabled_then published_then e to in
-    let stays = life_stays opening m number ghosts later earlier addr.0 cell begins.log enabled_all (record { there = e; fixed = flushed_fixed opening start lists version m number ghosts earlier addr.0 begins to }) in
-    let now : (life_ghosts opening ghosts events).log.cells addr.0 ≡ Published cell = subst (λ (es : List Event). (life_ghosts opening ghosts es).log.cells addr.0 ≡ Published cell) (sym cut) stays.there in
-    subst (IsRecordOf ((life_ghosts opening ghosts events).log.cells addr.0)) (sym (gives ∙ there_read opening earlier addr.0))
-    (image_record words opening.now.shape (read_then opening earlier) addr.0 ((life_ghosts opening ghosts events).log.cells addr.0) cell now cell_fits there)
+    let cell_fits : CellFits cell = cells_fit life earlier was fits_then enabled_then addr.0 cell e in
+    let there = device_there calls life earlier addr.0 cell enabled_then published_then e to in
+    let stays = life_stays life.opening life.map life.number life.ghosts later earlier addr.0 cell life.begins.log enabled_all (record { there = e; fixed = flushed_fixed life earlier addr.0 to }) in
+    let now : (life_ghosts life.opening life.ghosts events).log.cells addr.0 ≡ Published cell = subst (λ (es : List Event). (life_ghosts life.opening life.ghosts es).log.cells addr.0 ≡ Published cell) (sym cut) stays.there in
+    subst (IsRecordOf ((life_ghosts life.opening life.ghosts events).log.cells addr.0)) (sym (gives ∙ there_read life.opening earlier addr.0))
+    (image_record words life.opening.now.shape (read_then life.opening earlier) addr.0 ((life_ghosts life.opening life.ghosts events).log.cells addr.0) cell now cell_fits there)

@@ -1,7 +1,6 @@
 -- Each line that an event tells is enabled in the log.
 use Rattle.std.proofs.Common.{◌≡◌, ℕ, ◌∙◌, refl, ap, sym, subst, Bool, true, false, List, [], ◌∷◌, ◌++◌, append_assoc}
 use Rattle.std.specs.Prelude.{map, if◌then◌else◌}
-use Rattle.fkv_base.specs.declared.numbers.Version.{Version}
 use Rattle.fkv_map.specs.Map.{Map}
 use Rattle.law_log.specs.Ghosts.{Log, Ghosts, GhostEvent, Tells, ghost_run}
 use Rattle.law_log.specs.Enabled.{AreEnabled, IsLineEnabled, IsOpened}
@@ -14,7 +13,7 @@ use Rattle.law_refine.proofs.OfCalls.UpdateLines.{event_is_enabled}
 use Rattle.law_refine.proofs.OfCalls.LifeHistory.{life_entries}
 use Rattle.law_refine.proofs.OfCalls.SameHistory.{same_reply, same_update}
 use Rattle.law_order.specs.Known.Answered.{IsAnswerEnabled, EachAnswered, acted, acted_ghosts}
-use Rattle.law_order.specs.Known.Begins.{BeginsLife, home_of_world}
+use Rattle.law_order.specs.Known.Begins.{BegunLife, home_of_world}
 use Rattle.law_refine.specs.Events.GhostEvents.{ghost_events, life_ghosts, mapped}
 use Rattle.law_refine.proofs.OfEvents.Trace.{ghost_trace}
 use Rattle.law_refine.specs.Records.Changes.{AreChangesPublished}
@@ -61,47 +60,50 @@ pub mapped_crashed : (opening : World) (before : List Event) (event : Event) →
 unfolding mapped ghost_events run
 mapped_crashed opening before event crashed = ap (λ (c : Bool). (if c then [] else map Tells (event_adds opening before event) ++ acted opening before event) ++ mapped opening before) crashed
 
-module _ (opening : World) (start : ℕ) (lists : ℕ → List ℕ) (version : Version) (m : Map) (number : ℕ) (ghosts : Ghosts) (before : List Event) (event : Event) (begins : BeginsLife opening start lists version m number ghosts) where
+module _ (life : BegunLife) (before : List Event) (event : Event) where
   abbrev H : ℕ → ℕ
-  H = home_of_world opening
+  H = home_of_world life.opening
 
   -- the lines, and what the life is to the log until they are told
   abbrev told : List TraceLine
-  told = event_adds opening before event
+  told = event_adds life.opening before event
 
   abbrev behind : List GhostEvent
-  behind = acted opening before event ++ mapped opening before
+  behind = acted life.opening before event ++ mapped life.opening before
 
   abbrev base : Ghosts
-  base = acted_ghosts opening ghosts before event
+  base = acted_ghosts life.opening life.ghosts before event
 
-  behind_is : ghost_run H ghosts behind ≡ base
-  behind_is = run_on H ghosts (acted opening before event) (mapped opening before)
+  behind_is : ghost_run H life.ghosts behind ≡ base
+  behind_is = run_on H life.ghosts (acted life.opening before event) (mapped life.opening before)
 
-  behind_trace : (ghost_run H ghosts behind).trace ≡ lines_of_life opening before
+  behind_trace : (ghost_run H life.ghosts behind).trace ≡ lines_of_life life.opening before
   behind_trace =
       ap (λ (x : Ghosts). x.trace) behind_is
-      ∙ (acted_trace H (life_ghosts opening ghosts before) opening before event ∙ ghost_trace opening ghosts before begins.world.no_trace begins.log.no_trace)
+      ∙ (acted_trace H (life_ghosts life.opening life.ghosts before) life.opening before event ∙ ghost_trace life.opening life.ghosts before life.begins.world.no_trace life.begins.log.no_trace)
 
-  behind_entries : (run opening before).now.crashed ≡ false → AreChangesPublished opening ghosts (event ∷ before) → entries_of (ghost_run H ghosts behind).log.history ≡ entries_of (effects_of_life opening (event ∷ before))
+  behind_entries : (run life.opening before).now.crashed ≡ false → AreChangesPublished life.opening life.ghosts (event ∷ before)
+      → entries_of (ghost_run H life.ghosts behind).log.history ≡ entries_of (effects_of_life life.opening (event ∷ before))
   behind_entries alive published =
-      sym (ap (λ (x : Log). entries_of x.history) (told_log H (ghost_run H ghosts behind) told))
-      ∙ (sym (ap (λ (x : Ghosts). entries_of x.log.history) (run_on H ghosts (map Tells told) behind))
-      ∙ (sym (ap (λ (x : List GhostEvent). entries_of (ghost_run H ghosts x).log.history) (mapped_alive opening before event alive))
-      ∙ life_entries opening start ghosts (event ∷ before) begins.world begins.store.now begins.unborn begins.reserves begins.log.no_history
-      (life_meets_published opening start ghosts begins.store.now begins.unborn begins.reserves (event ∷ before) published)))
+      sym (ap (λ (x : Log). entries_of x.history) (told_log H (ghost_run H life.ghosts behind) told))
+      ∙ (sym (ap (λ (x : Ghosts). entries_of x.log.history) (run_on H life.ghosts (map Tells told) behind))
+      ∙ (sym (ap (λ (x : List GhostEvent). entries_of (ghost_run H life.ghosts x).log.history) (mapped_alive life.opening before event alive))
+      ∙ life_entries life.opening life.start life.ghosts (event ∷ before) life.begins.world life.begins.store.now life.begins.unborn life.begins.reserves life.begins.log.no_history
+      (life_meets_published life.opening life.start life.ghosts life.begins.store.now life.begins.unborn life.begins.reserves (event ∷ before) published)))
 
-  alive_enabled : (run opening before).now.crashed ≡ false → AreEnabled H ghosts (mapped opening before) → AreChangesPublished opening ghosts (event ∷ before) → AreEnabled H (life_ghosts opening ghosts before) (acted opening before event)
-      → EachAnswered H base told → AreEnabled H ghosts (mapped opening (event ∷ before))
+  alive_enabled : (run life.opening before).now.crashed ≡ false → AreEnabled H life.ghosts (mapped life.opening before)
+      → AreChangesPublished life.opening life.ghosts (event ∷ before) → AreEnabled H (life_ghosts life.opening life.ghosts before) (acted life.opening before event)
+      → EachAnswered H base told → AreEnabled H life.ghosts (mapped life.opening (event ∷ before))
   alive_enabled alive enabled published own answered =
-      subst (AreEnabled H ghosts) (sym (mapped_alive opening before event alive))
-      (told_enabled H m number ghosts behind (effects_of_life opening (event ∷ before)) (lines_of_life opening before) told begins.log (enabled_on H ghosts (acted opening before event) (mapped opening before) enabled own)
-      (behind_entries alive published) behind_trace (event_is_enabled opening before event begins.world) (subst (λ (x : Ghosts). EachAnswered H x told) (sym behind_is) answered))
+      subst (AreEnabled H life.ghosts) (sym (mapped_alive life.opening before event alive))
+      (told_enabled H life.map life.number life.ghosts behind (effects_of_life life.opening (event ∷ before)) (lines_of_life life.opening before) told life.begins.log (enabled_on H life.ghosts (acted life.opening before event) (mapped life.opening before) enabled own)
+      (behind_entries alive published) behind_trace (event_is_enabled life.opening before event life.begins.world) (subst (λ (x : Ghosts). EachAnswered H x told) (sym behind_is) answered))
 
-  pub lines_enabled : AreEnabled H ghosts (mapped opening before) → AreChangesPublished opening ghosts (event ∷ before) → AreEnabled H (life_ghosts opening ghosts before) (acted opening before event)
-      → EachAnswered H base told → AreEnabled H ghosts (mapped opening (event ∷ before))
-  lines_enabled enabled published own answered = by_test (run opening before).now.crashed refl
+  pub lines_enabled : AreEnabled H life.ghosts (mapped life.opening before) → AreChangesPublished life.opening life.ghosts (event ∷ before)
+      → AreEnabled H (life_ghosts life.opening life.ghosts before) (acted life.opening before event)
+      → EachAnswered H base told → AreEnabled H life.ghosts (mapped life.opening (event ∷ before))
+  lines_enabled enabled published own answered = by_test (run life.opening before).now.crashed refl
     where
-      by_test : (c : Bool) → (run opening before).now.crashed ≡ c → AreEnabled H ghosts (mapped opening (event ∷ before))
-      by_test true crashed = subst (AreEnabled H ghosts) (sym (mapped_crashed opening before event crashed)) enabled
+      by_test : (c : Bool) → (run life.opening before).now.crashed ≡ c → AreEnabled H life.ghosts (mapped life.opening (event ∷ before))
+      by_test true crashed = subst (AreEnabled H life.ghosts) (sym (mapped_crashed life.opening before event crashed)) enabled
       by_test false alive = alive_enabled alive enabled published own answered

@@ -1,12 +1,10 @@
 -- What sessions are told by the words of the store is true of the log.
 use Rattle.std.proofs.Common.{◌≡◌, ℕ, sym, ap, subst, true, List}
-use Rattle.fkv_base.specs.declared.numbers.Version.{Version}
 use Rattle.fkv_base.specs.declared.shapes.Shape.{Shape}
 use Rattle.fkv_index.specs.Slots.{home_of}
 use Rattle.fkv_map.specs.Keys.{key_of}
-use Rattle.fkv_map.specs.Map.{Map}
 use Rattle.law_log.specs.Chains.{head_of}
-use Rattle.law_log.specs.Ghosts.{Ghosts, Log}
+use Rattle.law_log.specs.Ghosts.{Log}
 use Rattle.law_log.specs.Enabled.{AreEnabled}
 use Rattle.fkv_ops.specs.declared.requests.Seen.{Seen}
 use Rattle.fkv_pending.specs.Attempting.{attempt_ask}
@@ -23,7 +21,7 @@ use Rattle.law_refine.specs.Heads.Heads.{head_at}
 use Rattle.law_refine.specs.Heads.Searches.{home_attempted}
 use Rattle.law_refine.proofs.OfHeads.LifeHeads.{life_found}
 use Rattle.law_parts.specs.Index.Finders.{session_part}
-use Rattle.law_order.specs.Known.Begins.{BeginsLife, home_of_world}
+use Rattle.law_order.specs.Known.Begins.{BegunLife, home_of_world}
 use Rattle.law_order.specs.Known.Knows.{AreKnown}
 use Rattle.law_order.specs.Known.Told.{AreToldTruly, LookTruly, reply_in}
 use Rattle.law_refine.specs.Events.GhostEvents.{home_number, life_ghosts, mapped}
@@ -45,17 +43,17 @@ told_truly home log n session s attempts seen show knows meets =
     subst (IsTrueOfAttempt home log n.places s.attempt s.attempt.step) (sym same)
     (attempt_true home log n.places session n.words s.attempt (subst (λ (x : Seen). WordsShow log n.places x n.words) (sym seen) show) knows (subst (AttemptMeets home log n.places s.attempt s.attempt.step) same meets))
 
-pub words_true : (opening : World) (start : ℕ) (lists : ℕ → List ℕ) (version : Version) (m : Map) (number : ℕ) (ghosts : Ghosts) (before : List Event) → BeginsLife opening start lists version m number ghosts
-    → AreEnabled (home_of_world opening) ghosts (mapped opening before) → AreChangesPublished opening ghosts before → AreKnown opening ghosts before
-    → LookTruly (life_ghosts opening ghosts before).log (run opening before).now → AreToldTruly (home_of_world opening) (life_ghosts opening ghosts before).log (run opening before).now
-words_true opening start lists version m number ghosts before begins enabled published known look = λ session s found attempts.
-    let n : Now = (run opening before).now in
-    let log : Log = (life_ghosts opening ghosts before).log in
-    let opened = begins.store.now in
-    let knows : AttemptKnows (home_of_world opening) log s.attempt = (known_now opening ghosts before known session s found).attempted attempts in
+pub words_true : (life : BegunLife) (before : List Event)
+    → AreEnabled (home_of_world life.opening) life.ghosts (mapped life.opening before) → AreChangesPublished life.opening life.ghosts before → AreKnown life.opening life.ghosts before
+    → LookTruly (life_ghosts life.opening life.ghosts before).log (run life.opening before).now → AreToldTruly (home_of_world life.opening) (life_ghosts life.opening life.ghosts before).log (run life.opening before).now
+words_true life before enabled published known look = λ session s found attempts.
+    let n : Now = (run life.opening before).now in
+    let log : Log = (life_ghosts life.opening life.ghosts before).log in
+    let opened = life.begins.store.now in
+    let knows : AttemptKnows (home_of_world life.opening) log s.attempt = (known_now life.opening life.ghosts before known session s found).attempted attempts in
     let finds : FindsBy n.places (head_at log (home_attempted n s)) (reply_in n session s) (session_part s).work =
-    λ its searches. (life_found opening start lists ghosts before opened begins.index begins.unborn begins.reserves begins.heads session s its found searches).replied in
-    told_truly (home_of_world opening) log n session s attempts (life_seen opening start before session s begins.world opened found attempts)
-    (words_show opening start lists version m number ghosts before session s begins enabled published found (attempting_is s.step attempts)) knows
-    (attempt_meets (home_of_world opening) log n.places (head_at log (home_attempted n s)) (reply_in n session s) s.attempt s.attempt.step (begins_for opening before log s) knows.row
+    λ its searches. (life_found life.opening life.start life.lists life.ghosts before opened life.begins.index life.begins.unborn life.begins.reserves life.begins.heads session s its found searches).replied in
+    told_truly (home_of_world life.opening) log n session s attempts (life_seen life.opening life.start before session s life.begins.world opened found attempts)
+    (words_show life before session s enabled published found (attempting_is s.step attempts)) knows
+    (attempt_meets (home_of_world life.opening) log n.places (head_at log (home_attempted n s)) (reply_in n session s) s.attempt s.attempt.step (begins_for life.opening before log s) knows.row
     (finds_by n.places (head_at log (home_attempted n s)) (reply_in n session s) s s.step attempts finds) (look session s found attempts))

@@ -52,3 +52,15 @@ pub record BeginsLife (opening : World) (start : ℕ) (lists : ℕ → List ℕ)
   pub cells : CellsRest version.0 ghosts.log.cells
   pub heads : LeadToHeads opening.now lists ghosts.log
   pub device : (a : ℕ) (cell : Cell) → ghosts.log.cells a ≡ Published cell → IsInImage opening.now.shape opening.past.opened a cell
+
+-- A life as the order law begins it: its world, where its records end, its overflow buckets, and the version in which it rests. Beside it stands the log, with
+-- the map from which that begins and the number of the map's version.
+pub record BegunLife : Type 0 where
+  pub opening : World
+  pub start : ℕ
+  pub lists : ℕ → List ℕ
+  pub version : Version
+  pub map : Map
+  pub number : ℕ
+  pub ghosts : Ghosts
+  pub begins : BeginsLife opening start lists version map number ghosts

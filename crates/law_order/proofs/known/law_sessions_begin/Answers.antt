@@ -3,4 +3,4 @@ use Rattle.law_order.proofs.OfKnown.Begun.{begun_known}
 use Rattle.law_order.proofs.known.law_sessions_begin.Goals as goal
 
 pub returns : goal.returns
-returns c = λ opening start lists version m number ghosts begins. begun_known opening start lists version m number ghosts begins
+returns c = λ life. begun_known life

@@ -4,10 +4,10 @@ use Rattle.law_order.proofs.OfRows.Fixed.{older_fixed}
 use Rattle.law_order.proofs.rows.law_rows_at_rest.Goals as goal
 
 pub returns-clause-older : goal.returns-clause-older
-returns-clause-older c = λ opening start lists version m number ghosts events later before begins none all. older_fixed opening start lists version m number ghosts events later before begins none all
+returns-clause-older c = λ life events later before none all. older_fixed life events later before none all
 
 pub returns-clause-waits : goal.returns-clause-waits
-returns-clause-waits c = λ opening start lists version m number ghosts before event pending seen begins enabled knows. pending_stays opening start lists version m number ghosts before event pending seen begins enabled knows
+returns-clause-waits c = λ life before event pending seen enabled knows. pending_stays life before event pending seen enabled knows
 
 pub returns-clause-attempts : goal.returns-clause-attempts
-returns-clause-attempts c = λ opening start lists version m number ghosts before event attempt begins none enabled same knows. attempt_stays opening start lists version m number ghosts before event attempt begins none enabled same knows
+returns-clause-attempts c = λ life before event attempt none enabled same knows. attempt_stays life before event attempt none enabled same knows

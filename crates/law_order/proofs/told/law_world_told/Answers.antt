@@ -3,4 +3,4 @@ use Rattle.law_order.proofs.OfTold.Enabled.{lines_enabled}
 use Rattle.law_order.proofs.told.law_world_told.Goals as goal
 
 pub returns : goal.returns
-returns c = λ opening start lists version m number ghosts before event begins enabled published own answered. lines_enabled opening start lists version m number ghosts before event begins enabled published own answered
+returns c = λ life before event enabled published own answered. lines_enabled life before event enabled published own answered
