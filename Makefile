@@ -1,5 +1,5 @@
 # make run     runs a script and prints its answers: the stored one, or SCRIPT=path, by the words of WORDS. The program is built
-#              without proof, and stays at build/unproved/fkv
+#              without proof, and stays in build/unproved
 # make test    the gate: whether generated pages are up to date, what crates name of each other, every proof from nothing, the
 #              must-fail edits, the tests and the program; then tools/openings, and what `make rows` and `make memory` do
 # make fkv     proves the program, says at which crate it is, and leaves it at build/fkv
