@@ -1,1 +1,2 @@
 pub mod CatchStamps
+pub mod SessionStamps

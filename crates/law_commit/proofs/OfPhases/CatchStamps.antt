@@ -5,6 +5,7 @@ use Rattle.std.specs.List.{position}
 use Rattle.fkv_plane.specs.declared.asks.Ask.{Ask}
 use Rattle.fkv_plane.specs.declared.asks.Ask.TheVariants.{Done}
 use Rattle.fkv_plane.specs.declared.places.Places.{Places}
+use Rattle.fkv_plane.specs.Passing.{is_done, passed}
 use Rattle.fkv_epoch.specs.declared.refreshing.Refreshing.{Refreshing}
 use Rattle.fkv_epoch.specs.declared.refreshing.Refreshing.TheVariants as refresh
 use Rattle.fkv_epoch.specs.declared.protecting.Protecting.{Protecting}
@@ -14,8 +15,10 @@ use Rattle.fkv_epoch.specs.EpochWorld.{EpochMachine, Loads, epoch_of}
 use Rattle.fkv_epoch.specs.Refreshing.{refresh_ask, refresh_next, refresh_finish}
 use Rattle.fkv_epoch.specs.Protecting.{protect_ask, protect_next, protect_next_ask}
 use Rattle.fkv_latch.specs.declared.latching.LatchAnswer.{LatchAnswer}
-use Rattle.fkv_latch.specs.declared.latching.LatchAnswer.TheVariants.{Taken}
-use Rattle.fkv_latch.specs.Latching.{latch_next, latch_next_ask}
+use Rattle.fkv_latch.specs.declared.latching.LatchAnswer.TheVariants.{Busy, Taken}
+use Rattle.fkv_latch.specs.declared.latching.Latching.{Latching}
+use Rattle.fkv_latch.specs.declared.latching.Latching.TheVariants as latching
+use Rattle.fkv_latch.specs.Latching.{is_exclusive, is_free, latch_ask, latch_next, latch_next_ask}
 use Rattle.fkv_ops.specs.declared.requests.Seen.{Seen}
 use Rattle.fkv_pending.specs.declared.pending_requests.PendingRequest.{PendingRequest}
 use Rattle.fkv_pending.specs.Pending.{is_unlatched}
@@ -24,9 +27,9 @@ use Rattle.fkv_words.specs.declared.phase_words.PhaseSaid.TheVariants.{Says, Spo
 use Rattle.fkv_words.specs.PhaseWords.{phase_said}
 use Rattle.fkv_session.specs.declared.catching_up.Catching.{Catching}
 use Rattle.fkv_session.specs.declared.catching_up.Catching.TheVariants as catching
-use Rattle.fkv_session.specs.CatchingUp.{CatchState, finishes, latch_begun, latch_wanted, latches, cuts, is_same_version, enters_prepare, takes_up, refresh_ledto, protect_ledto, latch_ledto, finish_ledto, catching_next}
+use Rattle.fkv_session.specs.CatchingUp.{CatchState, catching_ask, finishes, latch_begun, latch_wanted, latches, cuts, is_same_version, enters_prepare, takes_up, refresh_ledto, protect_ledto, latch_ledto, finish_ledto, catching_next}
 use Rattle.law_commit.specs.Views.{View, Sight, view_said, is_at_phase, wakes_at_phase, loads_phase, with_loaded}
-use Rattle.law_commit.specs.Phases.Stamped.{driven, loads_by, force_by, IsOf, RefreshStamped, ProtectStamped, HoldsAll, StoresLast, HeldStamped, CatchStamped, RepliesKeepStamps}
+use Rattle.law_commit.specs.Phases.Stamped.{driven, loads_by, force_by, IsLatching, IsOf, RefreshStamped, ProtectStamped, HoldsAll, StoresLast, HeldStamped, CatchStamped, RepliesKeepStamps}
 
 module _ (its : Sight) (l f : Loads) where
   abbrev Here : CatchState → Type 0
@@ -59,7 +62,7 @@ module _ (its : Sight) (l f : Loads) where
 
   begun_here : (p : Places) (bits : ℕ) (c : CatchState) (i : ℕ) (found : Option PendingRequest) → HeldStamped its l f c c.is_refresh → Here (latch_begun p bits c i found)
   begun_here p bits c i None held = finishes_here c held
-  begun_here p bits c i (Some pending) held = held
+  begun_here p bits c i (Some pending) held = (held, tt)
 
   wanted_here : (p : Places) (bits : ℕ) (c : CatchState) (requests : List PendingRequest) (at : Option ℕ) → HeldStamped its l f c c.is_refresh → Here (latch_wanted p bits c requests at)
   wanted_here p bits c requests None held = finishes_here c held
@@ -75,11 +78,30 @@ module _ (its : Sight) (l f : Loads) where
   takes_here : (p : Places) (bits : ℕ) (c : CatchState) (requests : List PendingRequest) (after : Seen) → HeldStamped its l f c c.is_refresh → Here (takes_up p bits c requests after)
   takes_here p bits c requests after held = cuts_here p bits (record c { seen = after; is_entering = enters_prepare c.seen after }) requests (not (is_same_version c.seen after)) held
 
-  latched_here : (p : Places) (bits : ℕ) (c : CatchState) (requests : List PendingRequest) (i : ℕ) (ask : Ask LatchAnswer) → c.step ≡ catching.Latches i → HeldStamped its l f c c.is_refresh → Here (latch_ledto p bits c requests ask)
+  latched_here : (p : Places) (bits : ℕ) (c : CatchState) (requests : List PendingRequest) (i : ℕ) (ask : Ask LatchAnswer) → c.step ≡ catching.Latches i → HeldStamped its l f c c.is_refresh → (is_done ask ≡ false → IsLatching c.latching)
+      → Here (latch_ledto p bits c requests ask)
   unfolding latch_ledto
-  latched_here p bits c requests i (Done Taken) e held = latches_here p bits c requests held
-  latched_here p bits c requests i (Done other) e held = finishes_here c held
-  latched_here p bits c requests i ask e held = at_step c (catching.Latches i) e held
+  latched_here p bits c requests i (Done Taken) e held asks = latches_here p bits c requests held
+  latched_here p bits c requests i (Done other) e held asks = finishes_here c held
+  latched_here p bits c requests i ask e held asks = at_step c (catching.Latches i) e (held, asks refl)
+
+shared_on : (place : ℕ) (taken : Bool) → is_done (if taken then latch_ask (latching.GivesBack place) else Done Taken) ≡ false → IsLatching (if taken then latching.GivesBack place else latching.AtRest)
+shared_on place true asks = tt
+shared_on place false asks = cc
+
+exclusive_on : (place reply : ℕ) (free : Bool) → is_done (if free then latch_ask (latching.SetsExclusive place reply) else Done Busy) ≡ false → IsLatching (if free then latching.SetsExclusive place reply else latching.AtRest)
+exclusive_on place reply true asks = tt
+exclusive_on place reply false asks = cc
+
+latches_on : (step : Latching) (reply : ℕ) → is_done (latch_next_ask step reply) ≡ false → IsLatching (latch_next step reply)
+unfolding latch_next_ask latch_next
+latches_on (latching.AddsShare place) reply asks = shared_on place (is_exclusive reply) asks
+latches_on (latching.LoadsWord place) reply asks = exclusive_on place reply (is_free reply) asks
+latches_on latching.AtRest reply asks = cc
+latches_on (latching.GivesBack place) reply asks = cc
+latches_on (latching.DropsShare place) reply asks = cc
+latches_on (latching.SetsExclusive place word) reply asks = cc
+latches_on (latching.DropsExclusive place) reply asks = cc
 
 -- the load of the phase
 said_of : (words : List ℕ) (before : View) (said : PhaseSaid) → (view_said words before said).stamp ≡ epoch_of words
@@ -141,8 +163,46 @@ keeps words p bits n its l f c requests catching.Refreshes reply e stamped = ref
 keeps words p bits n its l f c requests catching.Protects reply e stamped = protected words p bits n its l f c requests c.protecting reply e stamped.0 stamped.1
 keeps words p bits n its l f c requests catching.StoresCut reply e stamped = stamped
 keeps words p bits n its l f c requests catching.StoresOwing reply e stamped = latches_here its l f p bits c requests stamped
-keeps words p bits n its l f c requests (catching.Latches i) reply e stamped = latched_here its l f p bits (record c { latching = latch_next c.latching reply }) requests i (latch_next_ask c.latching reply) e stamped
+keeps words p bits n its l f c requests (catching.Latches i) reply e stamped = latched_here its l f p bits (record c { latching = latch_next c.latching reply }) requests i (latch_next_ask c.latching reply) e stamped.0 (latches_on c.latching reply)
 keeps words p bits n its l f c requests catching.Finishes reply e stamped = finished p bits n its l f c words c.refreshing reply stamped.0 stamped.1
 
 pub replies_keep : RepliesKeepStamps
 replies_keep words p bits n its l f c requests reply stamped = keeps words p bits n its l f c requests c.step reply refl stamped
+
+-- where it is done, what is coming is in force
+refresh_not_done : (n : ℕ) (its : Sight) (l f : Loads) (step : Refreshing) (through : Unit {0}) → RefreshStamped its l f step → passed {B = Unit {0}} (refresh_ask n step) tt ≡ Done through → ⊥
+unfolding refresh_ask passed
+refresh_not_done n its l f refresh.AtRest through stamped e = stamped
+refresh_not_done n its l f (refresh.HasLoaded epoch values) through stamped e = stamped
+refresh_not_done n its l f (refresh.StoresEpoch epoch) through stamped e = stamped
+refresh_not_done n its l f step through stamped e = cc
+
+protect_not_done : (n : ℕ) (its : Sight) (l f : Loads) (step : Protecting) (through : Unit {0}) → ProtectStamped its l f step → passed {B = Unit {0}} (protect_ask n step) tt ≡ Done through → ⊥
+unfolding protect_ask passed
+protect_not_done n its l f protect.AtRest through stamped e = stamped
+protect_not_done n its l f step through stamped e = cc
+
+finish_not_done : (n : ℕ) (step : Refreshing) (through : Unit {0}) → StoresLast step → passed {B = Unit {0}} (refresh_ask n step) tt ≡ Done through → ⊥
+unfolding refresh_ask passed
+finish_not_done n (refresh.StoresEpoch epoch) through last e = cc
+finish_not_done n refresh.AtRest through last e = last
+finish_not_done n refresh.LoadsEpoch through last e = last
+finish_not_done n (refresh.LoadsPhase epoch) through last e = last
+finish_not_done n (refresh.LoadsReadOnly epoch phase) through last e = last
+finish_not_done n (refresh.LoadsHead epoch phase read_only) through last e = last
+finish_not_done n (refresh.HasLoaded epoch values) through last e = last
+
+latch_not_done : (step : Latching) (through : Unit {0}) → IsLatching step → passed {B = Unit {0}} (latch_ask step) tt ≡ Done through → ⊥
+unfolding latch_ask passed
+latch_not_done latching.AtRest through asks e = asks
+latch_not_done step through asks e = cc
+
+pub done_stamped : (p : Places) (n : ℕ) (its : Sight) (l f : Loads) (c : CatchState) (requests : List PendingRequest) (step : Catching) (through : Unit {0}) → CatchStamped its l f c step → catching_ask p n c requests step ≡ Done through → IsOf its.coming f.phase
+unfolding catching_ask
+done_stamped p n its l f c requests catching.Refreshes through stamped e = absurd (refresh_not_done n its l f c.refreshing through stamped.1 e)
+done_stamped p n its l f c requests catching.Protects through stamped e = absurd (protect_not_done n its l f c.protecting through stamped.1 e)
+done_stamped p n its l f c requests catching.Ended through stamped e = stamped
+done_stamped p n its l f c requests catching.StoresCut through stamped e = cc
+done_stamped p n its l f c requests catching.StoresOwing through stamped e = cc
+done_stamped p n its l f c requests (catching.Latches i) through stamped e = absurd (latch_not_done c.latching through stamped.1 e)
+done_stamped p n its l f c requests catching.Finishes through stamped e = absurd (finish_not_done n c.refreshing through stamped.0 e)

@@ -6,11 +6,16 @@ use Rattle.fkv_epoch.specs.declared.protecting.Protecting.{Protecting}
 use Rattle.fkv_epoch.specs.declared.protecting.Protecting.TheVariants as protect
 use Rattle.fkv_epoch.specs.EpochWorld as epochs
 use Rattle.fkv_epoch.specs.EpochWorld.{EpochMachine, Loads, epoch_of, sight_of, with_load}
+use Rattle.fkv_latch.specs.declared.latching.Latching.{Latching}
+use Rattle.fkv_latch.specs.declared.latching.Latching.TheVariants as latching
 use Rattle.fkv_plane.specs.declared.places.Places.{Places}
 use Rattle.fkv_pending.specs.declared.pending_requests.PendingRequest.{PendingRequest}
 use Rattle.fkv_session.specs.declared.catching_up.Catching.{Catching}
 use Rattle.fkv_session.specs.declared.catching_up.Catching.TheVariants as catching
+use Rattle.fkv_session.specs.declared.sessions.Sitting.{Sitting}
+use Rattle.fkv_session.specs.declared.sessions.Sitting.TheVariants.{CatchesUp}
 use Rattle.fkv_session.specs.CatchingUp.{CatchState, catching_next}
+use Rattle.fkv_session.specs.Sessions.{SessionState}
 use Rattle.law_commit.specs.Views.{Sight, View, loads_phase, with_loaded}
 
 -- ---- what a step of catching up is to the epochs: the machine that moves, what it loads, and what is in force then (as `loaded` and `in_force_by` of fkv_epoch have it)
@@ -64,10 +69,16 @@ abbrev pub HeldStamped : Sight → Loads → Loads → CatchState → Bool → T
 HeldStamped its l f c true = HoldsAll c.refreshing × IsOf its.coming l.phase × (its.view.stamp ≡ f.phase)
 HeldStamped its l f c false = IsOf its.coming f.phase
 
+-- a latch asks for something yet
+abbrev pub IsLatching : Latching → Type 0
+IsLatching latching.AtRest = ⊥
+IsLatching step = ⊤
+
 abbrev pub CatchStamped : Sight → Loads → Loads → CatchState → Catching → Type 0
 CatchStamped its l f c catching.Refreshes = (c.is_refresh ≡ true) × RefreshStamped its l f c.refreshing
 CatchStamped its l f c catching.Protects = (c.is_refresh ≡ false) × ProtectStamped its l f c.protecting
 CatchStamped its l f c catching.Finishes = StoresLast c.refreshing × IsOf its.coming l.phase × (its.view.stamp ≡ f.phase)
+CatchStamped its l f c (catching.Latches index) = HeldStamped its l f c c.is_refresh × IsLatching c.latching
 CatchStamped its l f c catching.Ended = IsOf its.coming f.phase
 CatchStamped its l f c step = HeldStamped its l f c c.is_refresh
 
@@ -76,3 +87,11 @@ abbrev pub RepliesKeepStamps : Type 0
 RepliesKeepStamps =
     (words : List ℕ) (p : Places) (bits n : ℕ) (its : Sight) (l f : Loads) (c : CatchState) (requests : List PendingRequest) (reply : ℕ) → CatchStamped its l f c c.step
     → CatchStamped (with_loaded words (loads_phase c c.step) reply its) (loads_by l (driven c c.step) (epoch_of words)) (force_by l f (driven c c.step) (epoch_of words)) (catching_next p bits n c requests c.step reply) (catching_next p bits n c requests c.step reply).step
+
+-- ---- so it is with a session: nothing is coming to one that doesn't catch up, and its view is that of the load in force
+abbrev pub SittingStamped : Sight → Loads → Loads → SessionState → Sitting → Type 0
+SittingStamped its l f s (CatchesUp cause) = CatchStamped its l f s.catching s.catching.step
+SittingStamped its l f s step = (its.view.stamp ≡ f.phase) × (its.coming ≡ None)
+
+abbrev pub SessionStamped : Sight → Loads → Loads → SessionState → Type 0
+SessionStamped its l f s = SittingStamped its l f s s.step
