@@ -1,2 +1,5 @@
 pub mod CatchStamps
+pub mod GuardLoads
+pub mod LifeStamps
+pub mod SessionLoads
 pub mod SessionStamps
