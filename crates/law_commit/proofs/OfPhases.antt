@@ -1,5 +1,6 @@
 pub mod CatchStamps
 pub mod GuardLoads
 pub mod LifeStamps
+pub mod SafeSeen
 pub mod SessionLoads
 pub mod SessionStamps

@@ -29,7 +29,7 @@ use Rattle.fkv_session.specs.declared.catching_up.Catching.{Catching}
 use Rattle.fkv_session.specs.declared.catching_up.Catching.TheVariants as catching
 use Rattle.fkv_session.specs.CatchingUp.{CatchState, catching_ask, finishes, latch_begun, latch_wanted, latches, cuts, is_same_version, enters_prepare, takes_up, refresh_ledto, protect_ledto, latch_ledto, finish_ledto, catching_next}
 use Rattle.law_commit.specs.Views.{View, Sight, view_said, is_at_phase, wakes_at_phase, loads_phase, with_loaded}
-use Rattle.law_commit.specs.Phases.Stamped.{driven, loads_by, force_by, IsLatching, IsOf, RefreshStamped, ProtectStamped, HoldsAll, StoresLast, HeldStamped, CatchStamped, RepliesKeepStamps}
+use Rattle.law_commit.specs.Phases.Stamped.{driven, loads_by, force_by, IsLatching, IsOf, IsUnderWay, RefreshStamped, ProtectStamped, HoldsAll, StoresLast, HeldStamped, CatchStamped, RepliesKeepStamps}
 
 module _ (its : Sight) (l f : Loads) where
   abbrev Here : CatchState → Type 0
@@ -119,7 +119,7 @@ refreshed : (words : List ℕ) (p : Places) (bits n : ℕ) (its : Sight) (l f : 
     (refresh_ledto p bits (record c { refreshing = refresh_next step reply }) requests (refresh_ask n (refresh_next step reply)))
 unfolding refresh_ledto refresh_next refresh_ask
 refreshed words p bits n its l f c requests refresh.LoadsEpoch reply e is stamped = rw e (is, stamped)
-refreshed words p bits n its l f c requests (refresh.LoadsPhase epoch) reply e is stamped = rw e (is, (said_of words its.view (phase_said reply), stamped))
+refreshed words p bits n its l f c requests (refresh.LoadsPhase epoch) reply e is stamped = rw e (is, (said_of words its.view (phase_said reply), stamped.0))
 refreshed words p bits n its l f c requests (refresh.LoadsReadOnly epoch phase) reply e is stamped = rw e (is, stamped)
 refreshed words p bits n its l f c requests (refresh.LoadsHead epoch phase read_only) reply e is stamped =
     let after : CatchState = record c { refreshing = refresh_next (refresh.LoadsHead epoch phase read_only) reply } in
@@ -206,3 +206,9 @@ done_stamped p n its l f c requests catching.StoresCut through stamped e = cc
 done_stamped p n its l f c requests catching.StoresOwing through stamped e = cc
 done_stamped p n its l f c requests (catching.Latches i) through stamped e = absurd (latch_not_done c.latching through stamped.1 e)
 done_stamped p n its l f c requests catching.Finishes through stamped e = absurd (finish_not_done n c.refreshing through stamped.0 e)
+
+-- and where it asks for something, it is under way
+pub asks_under_way : (p : Places) (n : ℕ) (c : CatchState) (requests : List PendingRequest) (step : Catching) → is_done (catching_ask p n c requests step) ≡ false → IsUnderWay step
+unfolding catching_ask
+asks_under_way p n c requests catching.Ended asks = cc
+asks_under_way p n c requests step asks = tt

@@ -1,18 +1,14 @@
 -- What the guard's events do to a session's loads of the values by which it goes.
-use Rattle.std.proofs.Common.{◌≡◌, ◌≢◌, ◌⊎◌, ℕ, ◌∙◌, List, [], ◌∷◌, ◌++◌, refl, arith, sym, ap, subst, Bool, true, false}
+use Rattle.std.proofs.Common.{◌≡◌, ◌≢◌, ℕ, ◌∙◌, List, [], ◌∷◌, refl, arith, sym, ap, Bool, true, false}
 use Rattle.std.specs.Prelude.{Option, Some, None, ◌==◌, if◌then◌else◌, slice_get}
 use Rattle.std.proofs.lemmas.Bool.Decides.{nat_tests}
-use Rattle.fkv_epoch.specs.declared.leaving.Leaving.TheVariants as leave
-use Rattle.fkv_epoch.specs.declared.protecting.Protecting.{Protecting}
 use Rattle.fkv_epoch.specs.declared.protecting.Protecting.TheVariants as protect
-use Rattle.fkv_epoch.specs.declared.refreshing.Refreshing.{Refreshing}
 use Rattle.fkv_epoch.specs.declared.refreshing.Refreshing.TheVariants as refresh
 use Rattle.fkv_epoch.specs.EpochWorld as epochs
 use Rattle.fkv_epoch.specs.EpochWorld.{EpochMachine, EpochPast, Loads, Sight, epoch_of, in_force_by, is_at_rest, loaded, past_moved, past_seen, sight_of, with_load}
 use Rattle.fkv_flush.specs.GuardCalm.{AreOther, IsOther}
 use Rattle.fkv_flush.specs.GuardWorld.{Actor, Begins, Calls, Changes, CallsElse, GuardEvent, GuardWorld, Moves, Publishes, RaisesFor, RaisesReadOnly, Reads, Resumes, Sees, Updates, Work, Shifts, Turns, drives_epochs, epoch_now, guard_happens, guard_run, is_idle, is_none, machine_moved, sight_moved, shift_drives, turn_drives}
 use Rattle.fkv_flush.specs.GuardWorld as guard
-use Rattle.fkv_flush.proofs.Shown.{FitsMachine}
 use Rattle.fkv_log.specs.declared.shifting.Shifting.{Shifting}
 use Rattle.fkv_log.specs.declared.shifting.Shifting.TheVariants as shift
 use Rattle.fkv_log.specs.declared.turning.Turning.{Turning}

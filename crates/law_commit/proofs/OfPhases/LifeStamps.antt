@@ -1,5 +1,5 @@
 -- Over a life the stamps of each session's views are the guard's loads of the phase.
-use Rattle.std.proofs.Common.{◌≡◌, ◌≢◌, ℕ, ◌<◌, ◌∙◌, List, [], ◌∷◌, ◌++◌, refl, arith, sym, ap, subst, Bool, true, false}
+use Rattle.std.proofs.Common.{◌≡◌, ◌≢◌, ℕ, ◌<◌, List, [], ◌∷◌, ◌++◌, refl, arith, sym, subst, Bool, true, false}
 use Rattle.std.specs.Prelude.{Option, Some, None, ◌==◌, if◌then◌else◌, slice_get}
 use Rattle.std.proofs.lemmas.Bool.Decides.{nat_tests}
 use Rattle.fkv_map.specs.declared.operations.Call.{Call}
@@ -26,14 +26,11 @@ use Rattle.fkv_session.specs.declared.answers.Told.{Told}
 use Rattle.fkv_session.specs.declared.answers.Told.TheVariants.{Slept}
 use Rattle.fkv_session.specs.declared.catching_up.Catching.{Catching}
 use Rattle.fkv_session.specs.declared.catching_up.Catching.TheVariants as catching
-use Rattle.fkv_session.specs.declared.sessions.CatchCause.{CatchCause}
 use Rattle.fkv_session.specs.declared.sessions.Sitting.{Sitting}
 use Rattle.fkv_session.specs.declared.sessions.Sitting.TheVariants.{Idle, Attempts, CatchesUp, ClearsMail, Polls, StoresOwing, Turns, StoresCut, Leaves, LoadsDurable}
-use Rattle.fkv_session.specs.CatchingUp.{catch_ask, catching_ask}
-use Rattle.fkv_session.specs.Sessions.{IsOpened, Seat, SessionState, is_busy, session_ask, session_begun, session_next, sitting_ask}
-use Rattle.fkv_session.specs.Sessions as session
-use Rattle.fkv_session.specs.SessionRun.{Begins, Gets, Replies, SessionEvent, session_happens, session_run}
-use Rattle.fkv_world.specs.Actors.{is_of_session}
+use Rattle.fkv_session.specs.CatchingUp.{catching_ask}
+use Rattle.fkv_session.specs.Sessions.{Seat, SessionState, is_busy, session_ask, session_begun, session_next, sitting_ask}
+use Rattle.fkv_session.specs.SessionRun.{Begins, Replies, SessionEvent, session_happens, session_run}
 use Rattle.fkv_world.specs.Moves.{Near, session_moved}
 use Rattle.fkv_world.specs.OwnEvents.{session_events, session_got, session_part, session_part_found, session_part_of, session_slots, session_steps}
 use Rattle.fkv_world.specs.Runs.{World, read_by_keeper, run}
@@ -51,7 +48,7 @@ use Rattle.law_commit.specs.Phases.Stamped.{SessionStamped, SittingStamped, forc
 use Rattle.law_commit.specs.Views.{Sight, sight_by, sight_in, sight_opened, sight_through}
 use Rattle.law_commit.proofs.OfPhases.GuardLoads.{LoadsBy, others_stay, stay}
 use Rattle.law_commit.proofs.OfPhases.SessionLoads.{called_loads, called_other, session_loads, session_other}
-use Rattle.law_commit.proofs.OfPhases.SessionStamps.{IsPlain, begins_stamped, given_stamped, next_stamped, plain_stamped, sitting_driven}
+use Rattle.law_commit.proofs.OfPhases.SessionStamps.{IsPlain, begins_stamped, given_stamped, next_stamped, sitting_driven}
 
 -- ---- who catches up asks for no slot
 abbrev AsksNoSlot : {A : Type 0} → Ask A → Type 0
@@ -277,6 +274,7 @@ module _ (n : Now) (w : GuardWorld) (its : Sight) (session : ℕ) (s : SessionSt
     where
       after : SessionState
       after = (session_moved k (near n s)).machine
+
       by_done : (done : Bool) → is_done (session_ask k s) ≡ done → Behind (moved_events n session (Some s)) (session_steps k (near n s) (session_ask k s))
       by_done true e = by_loads (moved_events n session (Some s)) _ None (rw e (others_stay w [] session tt)) (done_stamped n.words n.actions its l f k s stamped (session_ask k s) e)
       by_done false e =
@@ -333,7 +331,7 @@ opened_stamped opening start session first step opened idle = cc
 
 pub life_stamped : (opening : World) (start session : ℕ) (first : SessionState) (events : List Event) → guard.IsOpened opening.now start → slice_get opening.now.sessions session ≡ Some first
     → SessionStamped (sight_in opening session first events) ((seen_by_guard opening start events).past.loads session) ((seen_by_guard opening start events).past.in_force session)
-        (session_run (seat_at opening.now session) first (session_events opening session events))
+    (session_run (seat_at opening.now session) first (session_events opening session events))
 unfolding sight_in session_events session_run mapped guard_run
 life_stamped opening start session first [] opened found = opened_stamped opening start session first first.step opened (opened.sessions session first found).none_in_hand
 life_stamped opening start session first (event ∷ before) opened found =
@@ -346,7 +344,7 @@ life_stamped opening start session first (event ∷ before) opened found =
     let past = life_stamped opening start session first before opened found in
     let one = event_behind now w its session s (life_shows opening start before opened) (session_runs opening session first before found) past read event in
     let seated = subst (λ (k : Seat). SessionStamped (sight_through now.words k s part its) ((guard_run w (guard_events now read event)).past.loads session) ((guard_run w (guard_events now read event)).past.in_force session) (session_run k s part))
-        (same_seat opening before session) one in
+    (same_seat opening before session) one in
     let world : _ = sym (runs_on (guard_opening opening.now start) (guard_events now read event) (mapped opening before)) in
     let joined = sym (session_runs_on (seat_at opening.now session) first part (session_events opening session before)) in
     subst (λ (x : SessionState). SessionStamped (sight_in opening session first (event ∷ before)) ((seen_by_guard opening start (event ∷ before)).past.loads session) ((seen_by_guard opening start (event ∷ before)).past.in_force session) x) joined

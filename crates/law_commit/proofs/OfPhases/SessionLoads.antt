@@ -152,11 +152,11 @@ called_loads w k after b = by_onward (sitting_onward after after.step)
     by_onward GoesOn = record { loads = refl; in_force = refl }
 
 -- ---- where it doesn't catch up, its machine loads none of them
-abbrev BlindOf : Option EpochMachine → Type 0
+abbrev pub BlindOf : Option EpochMachine → Type 0
 BlindOf None = Unit {0}
 BlindOf (Some machine) = IsBlind machine
 
-fits_blind : (shown : Option EpochMachine) (machine : EpochMachine) → FitsMachine shown machine → BlindOf shown → IsBlind machine
+pub fits_blind : (shown : Option EpochMachine) (machine : EpochMachine) → FitsMachine shown machine → BlindOf shown → IsBlind machine
 fits_blind None machine rests blind = rest_blind machine rests
 fits_blind (Some its) machine same blind = subst IsBlind (sym same) blind
 
@@ -198,7 +198,7 @@ leave_blind : (step : Leaving) → BlindOf (leave_machine step)
 leave_blind leave.AtRest = tt
 leave_blind step = tt
 
-sitting_blind : (s : SessionState) (step : Sitting) → IsPlain step → BlindOf (sitting_likeness s step).machine
+pub sitting_blind : (s : SessionState) (step : Sitting) → IsPlain step → BlindOf (sitting_likeness s step).machine
 sitting_blind s (Attempts has_shifted) plain = attempt_blind _ s.attempt s.attempt.step
 sitting_blind s (Polls index) plain = attempt_blind _ s.attempt s.attempt.step
 sitting_blind s (CatchesUp cause) plain = absurd plain

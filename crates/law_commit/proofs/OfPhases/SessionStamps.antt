@@ -1,9 +1,10 @@
 -- Each event of a session keeps the stamps of its views, if the guard's loads go on with it.
-use Rattle.std.proofs.Common.{◌≡◌, ℕ, List, refl, sym, subst, true, false}
+use Rattle.std.proofs.Common.{◌≡◌, ℕ, List, refl, sym, ap, subst, true, false}
 use Rattle.std.specs.Prelude.{Option, Some, None}
 use Rattle.fkv_plane.specs.declared.actions.Action.{Action}
 use Rattle.fkv_plane.specs.declared.asks.Ask.{Ask}
 use Rattle.fkv_plane.specs.declared.asks.Ask.TheVariants.{Done}
+use Rattle.fkv_plane.specs.Passing.{is_done}
 use Rattle.fkv_epoch.specs.EpochWorld.{EpochMachine, Loads, epoch_of}
 use Rattle.fkv_map.specs.declared.operations.Call.{Call}
 use Rattle.fkv_session.specs.declared.catching_up.Catching.{Catching}
@@ -12,13 +13,13 @@ use Rattle.fkv_session.specs.declared.sessions.CatchCause.{CatchCause}
 use Rattle.fkv_session.specs.declared.sessions.CatchCause.TheVariants.{Refreshes, Wakes, Shifts}
 use Rattle.fkv_session.specs.declared.sessions.Sitting.{Sitting}
 use Rattle.fkv_session.specs.declared.sessions.Sitting.TheVariants.{Idle, Attempts, CatchesUp, ClearsMail, Polls, StoresOwing, Turns, StoresCut, Leaves, LoadsDurable}
-use Rattle.fkv_session.specs.CatchingUp.{CatchState, catch_ask, catch_requests}
+use Rattle.fkv_session.specs.CatchingUp.{catch_ask, catch_requests}
 use Rattle.fkv_session.specs.Sessions.{SessionState, Seat, attempts, bits_of, caught, caught_up, catch_ledto, is_busy, sitting_given, sitting_next}
 use Rattle.fkv_session.specs.SessionRun.{begins}
-use Rattle.law_commit.specs.Phases.Stamped.{CatchStamped, IsOf, SessionStamped, SittingStamped, driven, force_by, loads_by}
+use Rattle.law_commit.specs.Phases.Stamped.{CatchStamped, IsOf, IsUnderWay, SessionStamped, SittingStamped, driven, force_by, loads_by}
 use Rattle.law_commit.specs.Views.{Sight, View, loads_phase, sight_left, sight_moved, with_loaded}
-use Rattle.law_commit.proofs.Goes.{BeginsToCatch, Calm, Goes, HasBegun, calm_goes, call_calm, given_on, moves_on}
-use Rattle.law_commit.proofs.OfPhases.CatchStamps.{done_stamped, replies_keep}
+use Rattle.law_commit.proofs.Goes.{BeginsToCatch, Goes, HasBegun, calm_goes, call_calm, given_on, moves_on}
+use Rattle.law_commit.proofs.OfPhases.CatchStamps.{asks_under_way, done_stamped, replies_keep}
 
 -- the machine of the epochs that a session drives while it catches up
 abbrev pub sitting_driven : SessionState → Sitting → Option EpochMachine
@@ -31,13 +32,13 @@ IsPlain step = Unit {0}
 
 module _ (l f : Loads) where
   -- where it begins to catch up
-  begun_stamped : (its : Sight) (a : SessionState) (step : Catching) → its.view.stamp ≡ f.phase → HasBegun a.seen a.catching step → CatchStamped its l f a.catching step
-  begun_stamped its a catching.Refreshes stamp begun = let loads = begun.1 in (begun.2, rw loads stamp)
-  begun_stamped its a catching.Protects stamp begun = let loads = begun.1 in (begun.2, rw loads stamp)
-  begun_stamped its a step stamp begun = absurd begun
+  begun_stamped : (its : Sight) (a : SessionState) (step : Catching) → its.view.stamp ≡ f.phase → its.coming ≡ None → HasBegun a.seen a.catching step → CatchStamped its l f a.catching step × IsUnderWay step
+  begun_stamped its a catching.Refreshes stamp none begun = let loads = begun.1 in ((begun.2, rw loads (stamp, none)), tt)
+  begun_stamped its a catching.Protects stamp none begun = let loads = begun.1 in ((begun.2, rw loads none), tt)
+  begun_stamped its a step stamp none begun = absurd begun
 
   step_stamped : (its : Sight) (a : SessionState) (step : Sitting) → its.view.stamp ≡ f.phase → its.coming ≡ None → BeginsToCatch a step → SittingStamped its l f a step
-  step_stamped its a (CatchesUp cause) stamp none begins = begun_stamped its a a.catching.step stamp begins
+  step_stamped its a (CatchesUp cause) stamp none begins = begun_stamped its a a.catching.step stamp none begins
   step_stamped its a step stamp none begins = (stamp, none)
 
   goes_stamped : (its : Sight) (was : _) (n : ℕ) (a : SessionState) → (its.view.stamp ≡ f.phase) × (its.coming ≡ None) → Goes was n a → SessionStamped its l f a
@@ -71,7 +72,7 @@ module _ (l f : Loads) where
       → catch_ask k.places k.number s.catching s.requests ≡ ask → SessionStamped (sight_left (catch_ledto k s cause ask).step its) l f (catch_ledto k s cause ask)
   unfolding catch_ledto
   left_stamped its k s cause (Done through) e stamped asks = caught_stamped its k (record s { seen = s.catching.seen }) cause (done_stamped k.places k.number its l f s.catching s.requests s.catching.step through stamped asks)
-  left_stamped its k s cause ask e stamped asks = rw e stamped
+  left_stamped its k s cause ask e stamped asks = rw e (stamped, asks_under_way k.places k.number s.catching s.requests s.catching.step (ap is_done asks))
 
   still_stamped : (its : Sight) (s a : SessionState) → a ≡ s → SessionStamped its l f s → SessionStamped its l f a
   still_stamped its s a same stamped = subst (λ (x : SessionState). SessionStamped its l f x) (sym same) stamped
@@ -103,7 +104,7 @@ module _ (l f : Loads) where
 -- a reply
 catching_stamped : (words : List ℕ) (its : Sight) (l f : Loads) (k : Seat) (s : SessionState) (asks : ℕ) (cause : CatchCause) (reply : ℕ) → s.step ≡ CatchesUp cause → CatchStamped its l f s.catching s.catching.step
     → SessionStamped (sight_moved words s (CatchesUp cause) reply (sitting_next k (record s { asks = asks; effect = None }) (CatchesUp cause) reply).step its) (loads_by l (driven s.catching s.catching.step) (epoch_of words))
-        (force_by l f (driven s.catching s.catching.step) (epoch_of words)) (sitting_next k (record s { asks = asks; effect = None }) (CatchesUp cause) reply)
+    (force_by l f (driven s.catching s.catching.step) (epoch_of words)) (sitting_next k (record s { asks = asks; effect = None }) (CatchesUp cause) reply)
 unfolding sitting_next
 catching_stamped words its l f k s asks cause reply e stamped =
     let t : SessionState = caught k (record s { asks = asks; effect = None }) reply in
@@ -112,8 +113,8 @@ catching_stamped words its l f k s asks cause reply e stamped =
 
 pub next_stamped : (words : List ℕ) (its : Sight) (l f : Loads) (k : Seat) (s : SessionState) (asks : ℕ) (step : Sitting) (reply : ℕ) → s.step ≡ step → SittingStamped its l f s step
     → SessionStamped (sight_moved words s step reply (sitting_next k (record s { asks = asks; effect = None }) step reply).step its) (loads_by l (sitting_driven s step) (epoch_of words)) (force_by l f (sitting_driven s step) (epoch_of words))
-        (sitting_next k (record s { asks = asks; effect = None }) step reply)
-next_stamped words its l f k s asks (CatchesUp cause) reply e stamped = catching_stamped words its l f k s asks cause reply e stamped
+    (sitting_next k (record s { asks = asks; effect = None }) step reply)
+next_stamped words its l f k s asks (CatchesUp cause) reply e stamped = catching_stamped words its l f k s asks cause reply e stamped.0
 next_stamped words its l f k s asks (Attempts has_shifted) reply e stamped = goes_stamped l f its s.seen s.serial _ stamped (moves_on k s asks (Attempts has_shifted) reply e)
 next_stamped words its l f k s asks (Idle told) reply e stamped = goes_stamped l f its s.seen s.serial _ stamped (calm_goes (moves_on k s asks (Idle told) reply e))
 next_stamped words its l f k s asks ClearsMail reply e stamped = goes_stamped l f its s.seen s.serial _ stamped (calm_goes (moves_on k s asks ClearsMail reply e))

@@ -13,7 +13,7 @@ use Rattle.fkv_pending.specs.declared.pending_requests.PendingRequest.{PendingRe
 use Rattle.fkv_session.specs.declared.catching_up.Catching.{Catching}
 use Rattle.fkv_session.specs.declared.catching_up.Catching.TheVariants as catching
 use Rattle.fkv_session.specs.declared.sessions.Sitting.{Sitting}
-use Rattle.fkv_session.specs.declared.sessions.Sitting.TheVariants.{CatchesUp}
+use Rattle.fkv_session.specs.declared.sessions.Sitting.TheVariants.{CatchesUp, Idle, LoadsDurable}
 use Rattle.fkv_session.specs.CatchingUp.{CatchState, catching_next}
 use Rattle.fkv_session.specs.Sessions.{SessionState}
 use Rattle.law_commit.specs.Views.{Sight, View, loads_phase, with_loaded}
@@ -41,16 +41,16 @@ IsOf None epoch = ⊥
 IsOf (Some its) epoch = its.stamp ≡ epoch
 
 abbrev pub RefreshStamped : Sight → Loads → Loads → Refreshing → Type 0
-RefreshStamped its l f refresh.LoadsEpoch = its.view.stamp ≡ f.phase
-RefreshStamped its l f (refresh.LoadsPhase epoch) = its.view.stamp ≡ f.phase
+RefreshStamped its l f refresh.LoadsEpoch = (its.view.stamp ≡ f.phase) × (its.coming ≡ None)
+RefreshStamped its l f (refresh.LoadsPhase epoch) = (its.view.stamp ≡ f.phase) × (its.coming ≡ None)
 RefreshStamped its l f (refresh.LoadsReadOnly epoch phase) = IsOf its.coming l.phase × (its.view.stamp ≡ f.phase)
 RefreshStamped its l f (refresh.LoadsHead epoch phase read_only) = IsOf its.coming l.phase × (its.view.stamp ≡ f.phase)
 RefreshStamped its l f step = ⊥
 
 abbrev pub ProtectStamped : Sight → Loads → Loads → Protecting → Type 0
-ProtectStamped its l f protect.LoadsEpoch = its.view.stamp ≡ f.phase
-ProtectStamped its l f (protect.StoresEpoch epoch) = its.view.stamp ≡ f.phase
-ProtectStamped its l f protect.LoadsPhase = its.view.stamp ≡ f.phase
+ProtectStamped its l f protect.LoadsEpoch = its.coming ≡ None
+ProtectStamped its l f (protect.StoresEpoch epoch) = its.coming ≡ None
+ProtectStamped its l f protect.LoadsPhase = its.coming ≡ None
 ProtectStamped its l f (protect.LoadsReadOnly phase) = IsOf its.coming l.phase × IsOf its.coming f.phase
 ProtectStamped its l f (protect.LoadsHead phase read_only) = IsOf its.coming l.phase × IsOf its.coming f.phase
 ProtectStamped its l f protect.AtRest = ⊥
@@ -88,10 +88,25 @@ RepliesKeepStamps =
     (words : List ℕ) (p : Places) (bits n : ℕ) (its : Sight) (l f : Loads) (c : CatchState) (requests : List PendingRequest) (reply : ℕ) → CatchStamped its l f c c.step
     → CatchStamped (with_loaded words (loads_phase c c.step) reply its) (loads_by l (driven c c.step) (epoch_of words)) (force_by l f (driven c c.step) (epoch_of words)) (catching_next p bits n c requests c.step reply) (catching_next p bits n c requests c.step reply).step
 
+-- a session that catches up isn't through with that
+abbrev pub IsUnderWay : Catching → Type 0
+IsUnderWay catching.Ended = ⊥
+IsUnderWay step = ⊤
+
 -- ---- so it is with a session: nothing is coming to one that doesn't catch up, and its view is that of the load in force
 abbrev pub SittingStamped : Sight → Loads → Loads → SessionState → Sitting → Type 0
-SittingStamped its l f s (CatchesUp cause) = CatchStamped its l f s.catching s.catching.step
+SittingStamped its l f s (CatchesUp cause) = CatchStamped its l f s.catching s.catching.step × IsUnderWay s.catching.step
 SittingStamped its l f s step = (its.view.stamp ≡ f.phase) × (its.coming ≡ None)
 
 abbrev pub SessionStamped : Sight → Loads → Loads → SessionState → Type 0
 SessionStamped its l f s = SittingStamped its l f s s.step
+
+-- A session goes by its view while it is awake, and while it refreshes. One that wakes goes by none yet.
+abbrev pub is_live_at : SessionState → Sitting → Bool
+is_live_at s (Idle told) = s.is_awake
+is_live_at s LoadsDurable = s.is_awake
+is_live_at s (CatchesUp cause) = s.catching.is_refresh
+is_live_at s step = true
+
+abbrev pub is_live : SessionState → Bool
+is_live s = is_live_at s s.step
