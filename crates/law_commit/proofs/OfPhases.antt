@@ -1,3 +1,4 @@
+pub mod Awake
 pub mod CatchStamps
 pub mod GuardLoads
 pub mod LifeStamps
