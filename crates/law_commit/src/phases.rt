@@ -6,6 +6,7 @@ ghost use Rattle.fkv_world.specs.Opened.{HasBecome};
 ghost use Rattle.fkv_world.specs.Runs.{World, run};
 ghost use Rattle.fkv_world.specs.World.{Event};
 ghost use Rattle.law_guard.specs.Guarded.Shows.{IsOpened, seen_by_guard};
+ghost use Rattle.law_commit.specs.Phases.Projected.{RepliesAreShown};
 ghost use Rattle.law_commit.specs.Phases.Stamped.{RepliesKeepStamps, SessionStamped, is_live};
 ghost use Rattle.law_commit.specs.Views.{View, sight_of};
 
@@ -24,4 +25,12 @@ pub fn law_stamps_are_loads()
         → is_live its ≡ true → epoch ≤ safe_of (run opening events).now.words → epoch < (sight_of opening events session).view.stamp }
     ensures coming { (opening : World) (start : ℕ) (events : List Event) (session : ℕ) (first its : SessionState) (epoch : ℕ) (view : View) → IsOpened opening.now start → HasBecome opening events session first its
         → (sight_of opening events session).coming ≡ Some view → epoch ≤ safe_of (run opening events).now.words → epoch < view.stamp }
+{}
+
+/// In each life of a store that was opened a session is live where it is awake. Each of its replies is a list of enabled events of the phases on paper: it
+/// loads the phase word, goes by the view that was coming, or leaves. As long as what is on paper shows the words and a session, it shows the session that
+/// the reply leaves, and the others are as they were.
+pub fn law_replies_are_phases()
+    ensures live { (opening : World) (events : List Event) (session : ℕ) (first its : SessionState) → HasBecome opening events session first its → is_live its ≡ its.is_awake }
+    ensures replies { RepliesAreShown }
 {}

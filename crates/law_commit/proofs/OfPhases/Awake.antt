@@ -1,5 +1,5 @@
 -- A session is awake but while it sleeps and wakes.
-use Rattle.std.proofs.Common.{◌≡◌, ℕ, ◌+◌, ◌⊎◌, inl, inr, List, [], ◌∷◌, ◌++◌, length, refl, sym, ap, ◌∙◌, subst, Bool, true, false}
+use Rattle.std.proofs.Common.{◌≡◌, ℕ, ◌+◌, List, [], ◌∷◌, length, refl, sym, ◌∙◌, subst, Bool, true, false}
 use Rattle.std.specs.Prelude.{Option, Some, None, if◌then◌else◌, not, ◌==◌, ◌||◌, slice_get, slice_set}
 use Rattle.std.specs.List.{position}
 use Rattle.fkv_base.specs.declared.faults.Fault.{Fault}
@@ -39,9 +39,15 @@ use Rattle.fkv_session.specs.declared.sessions.Sitting.{Sitting}
 use Rattle.fkv_session.specs.declared.sessions.Sitting.TheVariants.{Idle, Attempts, CatchesUp, ClearsMail, Polls, StoresOwing, Turns, StoresCut, Leaves, LoadsDurable}
 use Rattle.fkv_session.specs.CatchingUp.{CatchState, catching_next, cuts, enters_prepare, finish_ledto, finishes, is_same_version, latch_begun, latch_ledto, latch_wanted, latches, protect_ledto, refresh_ledto, seen_after, takes_up}
 use Rattle.fkv_session.specs.OwnTurns.{own_turn_given}
-use Rattle.fkv_session.specs.Sessions.{SessionState, Seat, accepts, answers, answers_after_turn, attempt_ledto, attempt_left, attempt_moved, attempted, attempts, bits_of, call_begun, catch_ledto, caught, caught_up, clear_ledto, finishes_request, is_busy, is_finished, is_no_room, is_owed, keeps_request, lacks_room, leave_ledto, op_begun, own_turn_moved, poll_begun, poll_call, poll_ledto, polls_at, polls_request, refresh_call, refusal_of, refuses, request_finished, serial_taken, shifts, sitting_given, sitting_next, sleep_call, ticket_after, turn_ledto, update_done, wake_call, with_request}
-use Rattle.fkv_session.specs.SessionRun.{begins}
+use Rattle.fkv_session.specs.Sessions.{IsOpened, SessionState, Seat, accepts, answers, answers_after_turn, attempt_ledto, attempt_left, attempt_moved, asks_after, attempted, attempts, bits_of, call_begun, catch_ledto, caught, caught_up, clear_ledto, finishes_request, is_busy, is_finished, is_no_room, is_owed, is_word_ask, keeps_request, lacks_room, leave_ledto, op_begun, own_turn_moved, poll_begun, poll_call, poll_ledto, polls_at, polls_request, refresh_call, refusal_of, refuses, request_finished, serial_taken, session_ask, shifts, sitting_given, sitting_next, sleep_call, ticket_after, turn_ledto, update_done, wake_call, with_request}
+use Rattle.fkv_session.specs.SessionRun.{Begins, Gets, Replies, SessionEvent, begins, session_happens, session_run}
+use Rattle.fkv_world.specs.Opened.{HasBecome}
+use Rattle.fkv_world.specs.OwnEvents.{session_events}
+use Rattle.fkv_world.specs.Runs.{World}
+use Rattle.fkv_world.specs.World.{Event, seat_at}
+use Rattle.law_world.proofs.OfSessions.OwnRun.{of_run, opened_so}
 use Rattle.law_commit.specs.Phases.Projected.{SitsAwake}
+use Rattle.law_commit.specs.Phases.Stamped.{is_live, is_live_at}
 
 abbrev pub SitsSo : SessionState → Type 0
 SitsSo a = SitsAwake a a.step
@@ -259,3 +265,41 @@ call_so k s call.Durable = tt
 pub begins_so : (k : Seat) (s : SessionState) (its : Call) (busy : Bool) → SitsSo s → SitsSo (begins k s busy its)
 begins_so k s its true sits = sits
 begins_so k s its false sits = call_so k (record s { asks = 0; effect = None; wants_turn = false }) its
+
+-- so it is at each moment of its run
+idle_so : (s : SessionState) (step : Sitting) → is_busy step ≡ false → SitsAwake s step
+idle_so s (Idle told) idle = tt
+idle_so s step idle = cc
+
+pub happens_so : (k : Seat) (s : SessionState) (event : SessionEvent) → SitsSo s → SitsSo (session_happens k s event)
+unfolding session_happens
+happens_so k s (Begins its) sits = begins_so k s its (is_busy s.step) sits
+happens_so k s (Replies reply) sits = next_so k s (asks_after s.asks (is_word_ask (session_ask k s))) s.step reply refl sits
+happens_so k s (Gets action) sits = given_so k s s.step action refl sits
+
+pub run_so : (k : Seat) (first : SessionState) (events : List SessionEvent) → IsOpened first → SitsSo (session_run k first events)
+unfolding session_run
+run_so k first [] opened = idle_so first first.step opened.none_in_hand
+run_so k first (event ∷ before) opened = happens_so k (session_run k first before) event (run_so k first before opened)
+
+pub life_so : (opening : World) (events : List Event) (session : ℕ) (first its : SessionState) → HasBecome opening events session first its → SitsAwake its its.step
+life_so opening events session first its became =
+    of_run SitsSo opening events session first its became (run_so (seat_at opening.now session) first (session_events opening session events) (opened_so opening events session first its became))
+
+-- so it is live where it is awake
+live_at : (s : SessionState) (step : Sitting) → SitsAwake s step → is_live_at s step ≡ s.is_awake
+live_at s (Idle told) sits = refl
+live_at s LoadsDurable sits = refl
+live_at s (CatchesUp Refreshes) sits = sits.1 ∙ sym sits.0
+live_at s (CatchesUp Wakes) sits = sits.1 ∙ sym sits.0
+live_at s (CatchesUp Shifts) sits = sits.1 ∙ sym sits.0
+live_at s (Attempts has_shifted) sits = sym sits
+live_at s ClearsMail sits = sym sits
+live_at s (Polls i) sits = sym sits
+live_at s (StoresOwing i) sits = sym sits
+live_at s (Turns told) sits = sym sits
+live_at s StoresCut sits = sym sits
+live_at s Leaves sits = sym sits
+
+pub life_live : (opening : World) (events : List Event) (session : ℕ) (first its : SessionState) → HasBecome opening events session first its → is_live its ≡ its.is_awake
+life_live opening events session first its became = live_at its its.step (life_so opening events session first its became)

@@ -1,9 +1,10 @@
 -- What a session's events are among the phases on paper.
-use Rattle.std.specs.Prelude.{◌≡◌, ⊤, ℕ, Bool, true, false, List, [], ◌∷◌, ◌++◌, Option, Some, None}
+use Rattle.std.specs.Prelude.{◌≡◌, ◌≢◌, ⊤, ℕ, Bool, true, false, List, [], ◌∷◌, ◌++◌, Option, Some, None}
 use Rattle.fkv_base.specs.declared.numbers.Version.{Version}
 use Rattle.fkv_base.specs.declared.phases.Phase.{Phase}
 use Rattle.fkv_words.specs.declared.phase_words.PhaseSaid.TheVariants.{Says}
 use Rattle.fkv_words.specs.PhaseWords.{phase_said}
+use Rattle.fkv_epoch.specs.EpochWorld as epochs
 use Rattle.fkv_plane.specs.declared.places.SharedWord.TheVariants as one
 use Rattle.fkv_plane.specs.Asked.{word_at}
 use Rattle.fkv_plane.specs.Places.{shared_place}
@@ -13,6 +14,7 @@ use Rattle.fkv_session.specs.declared.sessions.Sitting.TheVariants.{CatchesUp, I
 use Rattle.fkv_session.specs.Sessions.{Seat, SessionState, session_next}
 use Rattle.law_paper.specs.Phases as paper
 use Rattle.law_paper.specs.Phases.{AreEnabled, Completes, Leaves, Loads, PhaseEvent, Phasing, phase_run}
+use Rattle.law_commit.specs.Phases.Stamped.{SessionStamped}
 use Rattle.law_commit.specs.Ranks.{rank}
 use Rattle.law_commit.specs.Views.{Sight, View, loads_phase, rank_of, sight_moved}
 
@@ -57,6 +59,12 @@ abbrev pub is_coming : Option View → Bool
 is_coming None = false
 is_coming (Some view) = true
 
+pub record SameSession (x y : paper.Sessions) (session : ℕ) : Type 0 where
+  pub live : x.live session ≡ y.live session
+  pub view : x.view session ≡ y.view session
+  pub comes : x.comes session ≡ y.comes session
+  pub coming : x.coming session ≡ y.coming session
+
 pub record ShowsSession (x : paper.Sessions) (session : ℕ) (its : Sight) (awake : Bool) : Type 0 where
   pub live : x.live session ≡ awake
   pub view : awake ≡ true → x.view session ≡ paper_view its.view
@@ -72,7 +80,15 @@ pub record ShowsWords (p : Phasing) (words : List ℕ) : Type 0 where
   pub says : phase_said (word_at words (shared_place one.Phase)) ≡ Says phase version
   pub rank : paper.rank_of p ≡ rank phase version.0
 
--- Each event is enabled, and then the session is shown as the reply leaves it.
-pub record ReplyShown (p : Phasing) (k : Seat) (words : List ℕ) (its : Sight) (s : SessionState) (reply : ℕ) : Type 0 where
-  pub enabled : AreEnabled p (reply_events k.number s (session_next k s reply))
-  pub shows : ShowsSession (phase_run p (reply_events k.number s (session_next k s reply))).sessions k.number (sight_moved words s s.step reply (session_next k s reply).step its) (session_next k s reply).is_awake
+-- These events are enabled, and then this session is so; and the others are as they were.
+pub record Shown (p : Phasing) (session : ℕ) (events : List PhaseEvent) (its : Sight) (awake : Bool) : Type 0 where
+  pub enabled : AreEnabled p events
+  pub shows : ShowsSession (phase_run p events).sessions session its awake
+  pub others : (other : ℕ) → other ≢ session → SameSession (phase_run p events).sessions p.sessions other
+
+-- Each reply is such events, as long as one to the load of the phase word is that word.
+abbrev pub RepliesAreShown : Type 0
+RepliesAreShown =
+    (p : Phasing) (words : List ℕ) (its : Sight) (l f : epochs.Loads) (k : Seat) (s : SessionState) (reply : ℕ) → SessionStamped its l f s → SitsAwake s s.step → ShowsWords p words
+    → (loads_now s s.step ≡ true → reply ≡ word_at words (shared_place one.Phase)) → ShowsSession p.sessions k.number its s.is_awake
+    → Shown p k.number (reply_events k.number s (session_next k s reply)) (sight_moved words s s.step reply (session_next k s reply).step its) (session_next k s reply).is_awake
