@@ -33,10 +33,10 @@ use Rattle.fkv_session.specs.CatchingUp.{CatchState}
 use Rattle.fkv_session.specs.OwnTurns.{own_turn_given}
 use Rattle.fkv_session.specs.Sessions.{SessionState, Seat, answers, answers_after_turn, ticket_after, attempts, polls_request, polls_at, refusal_of, op_begun, refresh_call, poll_begun, poll_call, sleep_call, wake_call, call_begun, attempt_left, serial_taken, update_done, is_no_room, with_request, accepts, shifts, attempted, attempt_ledto, clear_ledto, is_finished, is_owed, request_finished, lacks_room, finishes_request, keeps_request, poll_ledto, turn_ledto, leave_ledto, attempt_moved, own_turn_moved, sitting_next, sitting_given, refuses}
 
--- where it begins to catch up, it goes by what the session goes by, and loads the epoch first
+-- where it begins to catch up, it goes by what the session goes by, and loads the epoch first; it knows whether it refreshes
 abbrev pub HasBegun : Seen → CatchState → Catching → Type 0
-HasBegun seen c catching.Refreshes = (c.seen ≡ seen) × (c.refreshing ≡ refresh.LoadsEpoch)
-HasBegun seen c catching.Protects = (c.seen ≡ seen) × (c.protecting ≡ protect.LoadsEpoch)
+HasBegun seen c catching.Refreshes = (c.seen ≡ seen) × (c.refreshing ≡ refresh.LoadsEpoch) × (c.is_refresh ≡ true)
+HasBegun seen c catching.Protects = (c.seen ≡ seen) × (c.protecting ≡ protect.LoadsEpoch) × (c.is_refresh ≡ false)
 HasBegun seen c step = ⊥
 
 abbrev pub BeginsToCatch : SessionState → Sitting → Type 0
@@ -95,7 +95,7 @@ accepts_goes s why =
 
 shifts_goes : (s : SessionState) (has_shifted : Bool) → Goes s.seen s.serial (shifts s has_shifted)
 unfolding shifts
-shifts_goes s false = record { seen = refl; serial = inl refl; begins = (refl, refl) }
+shifts_goes s false = record { seen = refl; serial = inl refl; begins = (refl, refl, refl) }
 shifts_goes s true = accepts_goes s reason.Contended
 
 attempted_goes : (s : SessionState) (has_shifted : Bool) (its : TryAnswer) → Goes s.seen s.serial (attempted s has_shifted its)
@@ -156,12 +156,12 @@ polls_begun k s = either_calm s.is_orphaned _ (polls_at k s 0) (record { seen = 
 pub call_calm : (k : Seat) (s : SessionState) (its : Call) → Calm s.seen s.serial (call_begun k s its)
 unfolding refresh_call poll_call sleep_call wake_call
 call_calm k s (call.Op op) = op_calm k s op (refusal_of s op)
-call_calm k s call.Refresh = either_calm s.is_awake _ (refuses s fault.Asleep) (record { seen = refl; serial = refl; begins = (refl, refl) }) (record { seen = refl; serial = refl; begins = tt })
+call_calm k s call.Refresh = either_calm s.is_awake _ (refuses s fault.Asleep) (record { seen = refl; serial = refl; begins = (refl, refl, refl) }) (record { seen = refl; serial = refl; begins = tt })
 call_calm k s call.Poll = either_calm s.is_awake (poll_begun k (record s { finished = [] })) (refuses s fault.Asleep) (polls_begun k (record s { finished = [] })) (record { seen = refl; serial = refl; begins = tt })
 call_calm k s call.Sleep =
     either_calm (not s.is_awake) (refuses s fault.Asleep) _ (record { seen = refl; serial = refl; begins = tt })
     (either_calm (length s.requests == 0) (record s { step = StoresCut }) (refuses s fault.PendingLeft) (record { seen = refl; serial = refl; begins = tt }) (record { seen = refl; serial = refl; begins = tt }))
-call_calm k s call.Wake = either_calm s.is_awake (refuses s fault.Awake) _ (record { seen = refl; serial = refl; begins = tt }) (record { seen = refl; serial = refl; begins = (refl, refl) })
+call_calm k s call.Wake = either_calm s.is_awake (refuses s fault.Awake) _ (record { seen = refl; serial = refl; begins = tt }) (record { seen = refl; serial = refl; begins = (refl, refl, refl) })
 call_calm k s call.Durable = record { seen = refl; serial = refl; begins = tt }
 
 -- what a reply leads to, where the session doesn't catch up

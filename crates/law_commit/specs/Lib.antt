@@ -2,6 +2,7 @@ pub mod Accepted
 pub mod BegunCommits
 pub mod FinishedNumbers
 pub mod PhaseStores
+pub mod Phases
 pub mod PhaseVersions
 pub mod PrefixPast
 pub mod Raises

@@ -1,0 +1,94 @@
+-- What a session's events are among the phases on paper.
+use Rattle.std.specs.Prelude.{◌≡◌, ◌≢◌, ⊤, ℕ, Bool, true, false, List, [], ◌∷◌, ◌++◌, Option, Some, None}
+use Rattle.fkv_base.specs.declared.numbers.Version.{Version}
+use Rattle.fkv_base.specs.declared.phases.Phase.{Phase}
+use Rattle.fkv_words.specs.declared.phase_words.PhaseSaid.TheVariants.{Says}
+use Rattle.fkv_words.specs.PhaseWords.{phase_said}
+use Rattle.fkv_epoch.specs.EpochWorld as epochs
+use Rattle.fkv_plane.specs.declared.places.SharedWord.TheVariants as one
+use Rattle.fkv_plane.specs.Asked.{word_at}
+use Rattle.fkv_plane.specs.Places.{shared_place}
+use Rattle.fkv_session.specs.declared.sessions.CatchCause.TheVariants.{Wakes}
+use Rattle.fkv_session.specs.declared.sessions.Sitting.{Sitting}
+use Rattle.fkv_session.specs.declared.sessions.Sitting.TheVariants.{CatchesUp, Idle, LoadsDurable}
+use Rattle.fkv_session.specs.Sessions.{Seat, SessionState, session_next}
+use Rattle.law_paper.specs.Phases as paper
+use Rattle.law_paper.specs.Phases.{AreEnabled, Completes, Leaves, Loads, PhaseEvent, Phasing, phase_run}
+use Rattle.law_commit.specs.Phases.Stamped.{SessionStamped}
+use Rattle.law_commit.specs.Ranks.{rank}
+use Rattle.law_commit.specs.Views.{Sight, View, loads_phase, rank_of, sight_moved}
+
+-- ---- a session is awake but while it sleeps and wakes; and it refreshes where it doesn't wake
+abbrev pub SitsAwake : SessionState → Sitting → Type 0
+SitsAwake s (Idle told) = ⊤
+SitsAwake s LoadsDurable = ⊤
+SitsAwake s (CatchesUp Wakes) = (s.is_awake ≡ false) × (s.catching.is_refresh ≡ false)
+SitsAwake s (CatchesUp cause) = (s.is_awake ≡ true) × (s.catching.is_refresh ≡ true)
+SitsAwake s step = s.is_awake ≡ true
+
+-- ---- the events of a reply
+-- it is to the load of the phase word
+abbrev pub loads_now : SessionState → Sitting → Bool
+loads_now s (CatchesUp cause) = loads_phase s.catching s.catching.step
+loads_now s step = false
+
+abbrev pub loaded_events : ℕ → Bool → List PhaseEvent
+loaded_events session true = Loads session ∷ []
+loaded_events session false = []
+
+-- the session is through with catching up
+abbrev pub completed_events : ℕ → Sitting → Sitting → List PhaseEvent
+completed_events session (CatchesUp cause) (CatchesUp other) = []
+completed_events session (CatchesUp cause) after = Completes session ∷ []
+completed_events session step after = []
+
+-- it was awake and isn't any more
+abbrev pub left_events : ℕ → Bool → Bool → List PhaseEvent
+left_events session true false = Leaves session ∷ []
+left_events session before after = []
+
+-- from what it was to what it is; the newest first
+abbrev pub reply_events : ℕ → SessionState → SessionState → List PhaseEvent
+reply_events session s after = left_events session s.is_awake after.is_awake ++ (completed_events session s.step after.step ++ loaded_events session (loads_now s s.step))
+
+-- ---- what is on paper shows a session
+abbrev pub paper_view : View → paper.View
+paper_view its = record { stamp = its.stamp; rank = rank_of its; tail = its.tail }
+
+abbrev pub is_coming : Option View → Bool
+is_coming None = false
+is_coming (Some view) = true
+
+pub record SameSession (x y : paper.Sessions) (session : ℕ) : Type 0 where
+  pub live : x.live session ≡ y.live session
+  pub view : x.view session ≡ y.view session
+  pub comes : x.comes session ≡ y.comes session
+  pub coming : x.coming session ≡ y.coming session
+
+pub record ShowsSession (x : paper.Sessions) (session : ℕ) (its : Sight) (awake : Bool) : Type 0 where
+  pub live : x.live session ≡ awake
+  pub view : awake ≡ true → x.view session ≡ paper_view its.view
+  pub comes : x.comes session ≡ is_coming its.coming
+  pub coming : (view : View) → its.coming ≡ Some view → x.coming session ≡ paper_view view
+
+-- and the words: the phase word says a phase of its rank
+pub record ShowsWords (p : Phasing) (words : List ℕ) : Type 0 where
+  pub epoch : p.epoch ≡ word_at words (shared_place one.Epoch)
+  pub tail : p.tail ≡ word_at words (shared_place one.Tail)
+  pub phase : Phase
+  pub version : Version
+  pub says : phase_said (word_at words (shared_place one.Phase)) ≡ Says phase version
+  pub rank : paper.rank_of p ≡ rank phase version.0
+
+-- These events are enabled, and then this session is so; and the others are as they were.
+pub record Shown (p : Phasing) (session : ℕ) (events : List PhaseEvent) (its : Sight) (awake : Bool) : Type 0 where
+  pub enabled : AreEnabled p events
+  pub shows : ShowsSession (phase_run p events).sessions session its awake
+  pub others : (other : ℕ) → other ≢ session → SameSession (phase_run p events).sessions p.sessions other
+
+-- Each reply is such events, as long as one to the load of the phase word is that word.
+abbrev pub RepliesAreShown : Type 0
+RepliesAreShown =
+    (p : Phasing) (words : List ℕ) (its : Sight) (l f : epochs.Loads) (k : Seat) (s : SessionState) (reply : ℕ) → SessionStamped its l f s → SitsAwake s s.step → ShowsWords p words
+    → (loads_now s s.step ≡ true → reply ≡ word_at words (shared_place one.Phase)) → ShowsSession p.sessions k.number its s.is_awake
+    → Shown p k.number (reply_events k.number s (session_next k s reply)) (sight_moved words s s.step reply (session_next k s reply).step its) (session_next k s reply).is_awake

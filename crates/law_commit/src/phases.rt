@@ -1,0 +1,36 @@
+//! Phases, views and epochs of a life.
+ghost use Rattle.std.specs.Prelude.{◌≡◌, ◌<◌, ◌≤◌, ℕ, List, Some, true};
+ghost use Rattle.fkv_epoch.specs.EpochWorld.{safe_of};
+ghost use Rattle.fkv_session.specs.Sessions.{SessionState};
+ghost use Rattle.fkv_world.specs.Opened.{HasBecome};
+ghost use Rattle.fkv_world.specs.Runs.{World, run};
+ghost use Rattle.fkv_world.specs.World.{Event};
+ghost use Rattle.law_guard.specs.Guarded.Shows.{IsOpened, seen_by_guard};
+ghost use Rattle.law_commit.specs.Phases.Projected.{RepliesAreShown};
+ghost use Rattle.law_commit.specs.Phases.Stamped.{RepliesKeepStamps, SessionStamped, is_live};
+ghost use Rattle.law_commit.specs.Views.{View, sight_of};
+
+/// While a session catches up, by a refresh or a wake, its views' stamps are the epochs that the guard has for its loads of the phase. Each reply keeps it
+/// so: the view by which the session goes has the epoch of the load in force, and the one that is coming has that of the last load.
+pub fn law_replies_keep_stamps()
+    ensures { RepliesKeepStamps }
+{}
+
+/// In each life of a store that was opened, whatever its calls, commits and the order of its steps, the stamps of each session's views are the guard's loads of
+/// the phase. So each view by which a live session goes, or that is coming, was loaded after each safe epoch was raised: its stamp is above.
+pub fn law_stamps_are_loads()
+    ensures stamped { (opening : World) (start : ℕ) (events : List Event) (session : ℕ) (first its : SessionState) → IsOpened opening.now start → HasBecome opening events session first its
+        → SessionStamped (sight_of opening events session) ((seen_by_guard opening start events).past.loads session) ((seen_by_guard opening start events).past.in_force session) its }
+    ensures view { (opening : World) (start : ℕ) (events : List Event) (session : ℕ) (first its : SessionState) (epoch : ℕ) → IsOpened opening.now start → HasBecome opening events session first its
+        → is_live its ≡ true → epoch ≤ safe_of (run opening events).now.words → epoch < (sight_of opening events session).view.stamp }
+    ensures coming { (opening : World) (start : ℕ) (events : List Event) (session : ℕ) (first its : SessionState) (epoch : ℕ) (view : View) → IsOpened opening.now start → HasBecome opening events session first its
+        → (sight_of opening events session).coming ≡ Some view → epoch ≤ safe_of (run opening events).now.words → epoch < view.stamp }
+{}
+
+/// In each life of a store that was opened a session is live where it is awake. Each of its replies is a list of enabled events of the phases on paper: it
+/// loads the phase word, goes by the view that was coming, or leaves. As long as what is on paper shows the words and a session, it shows the session that
+/// the reply leaves, and the others are as they were.
+pub fn law_replies_are_phases()
+    ensures live { (opening : World) (events : List Event) (session : ℕ) (first its : SessionState) → HasBecome opening events session first its → is_live its ≡ its.is_awake }
+    ensures replies { RepliesAreShown }
+{}
