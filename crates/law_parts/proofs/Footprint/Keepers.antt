@@ -1,4 +1,4 @@
--- The keeper spares each part, but the mailbox that it is at.
+-- The keeper spares each part, but the mailbox that it is at and the durable word that it stores.
 use Rattle.std.proofs.Common.{◌≡◌, ℕ, ◌≤◌, refl, sym, subst, List, [], ◌∷◌, length, Bool, true, false}
 use Rattle.std.specs.Prelude.{if◌then◌else◌, ⊤, Option, Some, None}
 use Rattle.fkv_base.specs.declared.faults.Fault.TheVariants as fault
@@ -48,7 +48,7 @@ use Rattle.law_parts.specs.Footprint.{Part, HasSeats, Spares}
 use Rattle.law_parts.proofs.Footprint.Latching.{passed_spares}
 use Rattle.law_parts.proofs.Footprint.Outside.{fewer_seats}
 use Rattle.law_parts.proofs.Footprint.Serves.{IsServedNot}
-use Rattle.law_parts.proofs.Footprint.Commits.{IsStartSparing, start_spares, start_next_spares, start_begun_spares, IsEnterSparing, enter_spares, enter_next_spares, enter_begun_spares, IsSeekSparing, seek_spares, seek_next_spares, seek_begun_spares, wait_spares, FinishBounds, finish_spares, finish_next_spares, finish_begun_spares}
+use Rattle.law_parts.proofs.Footprint.Commits.{IsStartSparing, start_spares, start_next_spares, start_begun_spares, IsEnterSparing, enter_spares, enter_next_spares, enter_begun_spares, IsSeekSparing, seek_spares, seek_next_spares, seek_begun_spares, wait_spares, FinishBounds, IsStoredNot, finish_spares, finish_next_spares, finish_begun_spares}
 use Rattle.law_parts.proofs.Footprint.Maintains.{IsMaintainSparing, maintain_spares, maintain_next_spares, maintain_given_spares, maintain_called_spares, maintain_begun_spares}
 
 -- the machine of its step keeps to its bounds
@@ -91,23 +91,23 @@ write_spares part p (write.Broken why) told = tt
 
 -- what it asks for
 keeping_spares : (part : Part) (shape : Shape) (p : Places) (n : ℕ) (s : KeeperState) (step : Keeping) → HasSeats part p n → HasSeats part p s.finish.sessions → KeeperBounds n s step → IsServedNot part (keeper_serving s step)
-    → Spares part p (keeping_ask shape p s step)
+    → (step ≡ Finishes → IsStoredNot part s.finish.step) → Spares part p (keeping_ask shape p s step)
 unfolding keeping_ask
-keeping_spares part shape p n s (Ended its) few its_few bounds none = tt
-keeping_spares part shape p n s Starts few its_few bounds none = passed_spares part p _ _ (start_spares part p s.start bounds)
-keeping_spares part shape p n s Maintains few its_few bounds none = device_spares part p (maintain_ask shape p s.maintain) _ (maintain_spares part shape p n s.maintain few bounds none)
-keeping_spares part shape p n s LoadsPhase few its_few bounds none = tt
-keeping_spares part shape p n s Enters few its_few bounds none = passed_spares part p _ _ (enter_spares part p s.enter bounds)
-keeping_spares part shape p n s Copies few its_few bounds none = passed_spares part p _ _ (copy_spares part p s.copy)
-keeping_spares part shape p n s Seeks few its_few bounds none = passed_spares part p _ _ (seek_spares part p s.seek bounds)
-keeping_spares part shape p n s Waits few its_few bounds none = passed_spares part p _ _ (wait_spares part p s.wait)
-keeping_spares part shape p n s Writes few its_few bounds none = write_spares part p (commit_answer s.writes) _
-keeping_spares part shape p n s Finishes few its_few bounds none = passed_spares part p _ _ (finish_spares part p s.seek.points s.finish its_few bounds)
+keeping_spares part shape p n s (Ended its) few its_few bounds none other = tt
+keeping_spares part shape p n s Starts few its_few bounds none other = passed_spares part p _ _ (start_spares part p s.start bounds)
+keeping_spares part shape p n s Maintains few its_few bounds none other = device_spares part p (maintain_ask shape p s.maintain) _ (maintain_spares part shape p n s.maintain few bounds none)
+keeping_spares part shape p n s LoadsPhase few its_few bounds none other = tt
+keeping_spares part shape p n s Enters few its_few bounds none other = passed_spares part p _ _ (enter_spares part p s.enter bounds)
+keeping_spares part shape p n s Copies few its_few bounds none other = passed_spares part p _ _ (copy_spares part p s.copy)
+keeping_spares part shape p n s Seeks few its_few bounds none other = passed_spares part p _ _ (seek_spares part p s.seek bounds)
+keeping_spares part shape p n s Waits few its_few bounds none other = passed_spares part p _ _ (wait_spares part p s.wait)
+keeping_spares part shape p n s Writes few its_few bounds none other = write_spares part p (commit_answer s.writes) _
+keeping_spares part shape p n s Finishes few its_few bounds none other = passed_spares part p _ _ (finish_spares part p s.seek.points s.finish its_few bounds (other refl))
 
 -- where each session that it serves and finishes commits for has its seat
 pub keeper_asks_spares : (part : Part) (shape : Shape) (p : Places) (most : ℕ) (s : KeeperState) → HasSeats part p shape.sessions → HasSeats part p most → IsKeeperSparing shape.sessions most s → IsServedNot part (keeper_serving s s.step)
-    → Spares part p (keeper_ask shape p s)
-keeper_asks_spares part shape p most s few all its none = keeping_spares part shape p shape.sessions s s.step few (fewer_seats part p s.finish.sessions most all its.counts) its.bounds none
+    → (s.step ≡ Finishes → IsStoredNot part s.finish.step) → Spares part p (keeper_ask shape p s)
+keeper_asks_spares part shape p most s few all its none other = keeping_spares part shape p shape.sessions s s.step few (fewer_seats part p s.finish.sessions most all its.counts) its.bounds none other
 
 -- where a reply leads, for commits of so many sessions at most
 module _ (most : ℕ) where
