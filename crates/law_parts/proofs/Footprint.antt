@@ -1,6 +1,6 @@
 mod Appends
 mod Attempts
-mod Catches
+pub mod Catches
 mod Commits
 mod Deferred
 mod Epochs

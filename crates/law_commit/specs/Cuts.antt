@@ -1,0 +1,44 @@
+-- The words in which a session tells where it has left a version, and its durable word: who stores them, and what was stored there last.
+use Rattle.std.specs.Prelude.{◌≤◌, ℕ, ◌==◌, if◌then◌else◌, List, [], ◌∷◌, length}
+use Rattle.fkv_base.specs.declared.shapes.Shape.{Shape}
+use Rattle.fkv_plane.specs.declared.asks.Ask.{Ask}
+use Rattle.fkv_plane.specs.declared.asks.Ask.TheVariants.{Store}
+use Rattle.fkv_plane.specs.declared.places.Places.{Places}
+use Rattle.fkv_plane.specs.Asked.{word_at}
+use Rattle.fkv_plane.specs.Places.{word_count}
+use Rattle.fkv_keeper.specs.Keeping.{KeeperState, keeper_ask}
+use Rattle.fkv_keeper.specs.KeeperRun.{KeeperEvent, Replies, keeper_run}
+use Rattle.fkv_session.specs.Sessions.{SessionState}
+use Rattle.fkv_session.specs.Words as session
+use Rattle.fkv_world.specs.OwnEvents.{keeper_events, session_events}
+use Rattle.fkv_world.specs.Runs.{World, run}
+use Rattle.fkv_world.specs.World.{Event, Now, seat_at}
+
+-- each word of the store is there
+abbrev pub HasItsWords : Now → Type 0
+HasItsWords n = word_count n.places ≤ length n.words
+
+-- what stands at a place, as a life has led to it
+abbrev pub word_now : World → List Event → ℕ → ℕ
+word_now opening events place = word_at (run opening events).now.words place
+
+-- what a session has stored last there, by its own events; up to then what stood there as the life began
+abbrev pub stored_by_session : World → ℕ → SessionState → List Event → ℕ → ℕ
+stored_by_session opening number first events place = session.stored_last (seat_at opening.now number) first (λ at. word_at opening.now.words at) (session_events opening number events) place
+
+-- what an ask stores there
+abbrev pub stored_by : {A : Type 0} → Ask A → ℕ → ℕ → ℕ
+stored_by (Store at word) place before = if at == place then word else before
+stored_by ask place before = before
+
+-- what the keeper has stored last at a place, by the asks that were replied to; up to then what was there first
+abbrev pub stored_behind : Shape → Places → KeeperState → KeeperEvent → ℕ → ℕ → ℕ
+stored_behind shape p s (Replies reply granted) place before = stored_by (keeper_ask shape p s) place before
+stored_behind shape p s event place before = before
+
+unfoldable pub stored_last : Shape → Places → KeeperState → (ℕ → ℕ) → List KeeperEvent → ℕ → ℕ
+stored_last shape p opening first [] place = first place
+stored_last shape p opening first (event ∷ before) place = stored_behind shape p (keeper_run shape p opening before) event place (stored_last shape p opening first before place)
+
+abbrev pub stored_by_keeper : World → List Event → ℕ → ℕ
+stored_by_keeper opening events place = stored_last opening.now.shape opening.now.places opening.now.keeper (λ at. word_at opening.now.words at) (keeper_events opening events) place
