@@ -194,10 +194,10 @@ mark_among number place (inr (inl odd)) = record { from = omega (arith, odd); to
 mark_among number place (inr (inr owing)) = record { from = omega (arith, owing); to = omega (arith, owing) }
 
 -- a place of a session's is one of the store's words
-few_places : (p : Places) (count number place : ℕ) → number < p.sessions → word_count p ≤ count → place < 24 + 16 * number + 16 → place < count
+pub few_places : (p : Places) (count number place : ℕ) → number < p.sessions → word_count p ≤ count → place < 24 + 16 * number + 16 → place < count
 few_places p count number place seat words low = omega (arith, seat, words, low)
 
-sparing_now : (opening : World) (events : List Event) (number : ℕ) (s : SessionState) → IsOpenedWorld opening → slice_get (run opening events).now.sessions number ≡ Some s → IsSessionSparing (run opening events).now.places s
+pub sparing_now : (opening : World) (events : List Event) (number : ℕ) (s : SessionState) → IsOpenedWorld opening → slice_get (run opening events).now.sessions number ≡ Some s → IsSessionSparing (run opening events).now.places s
 sparing_now opening events number s opened found =
     at_each_moment (λ seat x. IsSessionSparing seat.places x) opening events number s
     (λ first was. session_run_spares (seat_at opening.now number) first (session_events opening number events) (opened.sessions number first was)) found
