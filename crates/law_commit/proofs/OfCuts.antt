@@ -1,4 +1,5 @@
 pub mod Durables
 pub mod Events
 pub mod Marks
+pub mod Told
 pub mod Words

@@ -1,13 +1,19 @@
 //! What stands in the words by which a session tells where it has left a version, in every life of a store that was opened.
-ghost use Rattle.std.specs.Prelude.{◌≡◌, ◌<◌, ℕ, List};
+ghost use Rattle.std.specs.Prelude.{◌≡◌, ◌≢◌, ◌<◌, ℕ, List, Some, false};
 ghost use Rattle.fkv_plane.specs.declared.places.SessionWord.TheVariants.{Durable};
 ghost use Rattle.fkv_plane.specs.Places.{session_place};
-ghost use Rattle.fkv_session.specs.Sessions.{SessionState};
-ghost use Rattle.fkv_session.specs.Words.{IsMark};
+ghost use Rattle.fkv_session.specs.InOrder.{AreToldInOrder, IsOwedOrOneMore, owing_place, owing_told, serial_leaving};
+ghost use Rattle.fkv_session.specs.Sessions.{SessionState, is_busy};
+ghost use Rattle.fkv_session.specs.Words.{AreMarksTold, IsCutAsleep, IsMark, serial_left};
+ghost use Rattle.fkv_session.specs.declared.sessions.CatchCause.TheVariants.{Wakes};
+ghost use Rattle.fkv_session.specs.declared.sessions.Sitting.TheVariants.{CatchesUp, Leaves, StoresOwing};
 ghost use Rattle.fkv_world.specs.Opened.{HasBecome, IsOpenedWorld};
+ghost use Rattle.fkv_world.specs.OwnEvents.{session_events};
 ghost use Rattle.fkv_world.specs.Runs.{World};
-ghost use Rattle.fkv_world.specs.World.{Event};
+ghost use Rattle.fkv_world.specs.World.{Event, seat_at};
 ghost use Rattle.law_commit.specs.Cuts.{HasItsWords, stored_by_keeper, stored_by_session, word_now};
+
+use law_world::law_world_cuts;
 
 /// In every life of a store that was opened, whatever the other actors do, both cut words of a session and its owing word are at each moment what the session
 /// has stored there last, by its own events; before its first store there, what stood there as the life began. So is its durable word what the keeper has
@@ -19,3 +25,35 @@ pub fn law_marks_stand()
     ensures durable { (opening : World) (events : List Event) (session : ℕ) → IsOpenedWorld opening → HasItsWords opening.now → session < opening.now.places.sessions
         → word_now opening events (session_place session Durable) ≡ stored_by_keeper opening events (session_place session Durable) }
 {}
+
+/// So the words themselves show what the law of cuts says that a session tells in them. Once a session has changed its version, and where no call is in hand,
+/// the cut word of the version before shows the serial at which it has left that one, and its owing word how many updates of that version wait. If it
+/// sleeps, but in a wake, and before it leaves for that, the cut word of its own version shows its serial. In the middle of a call all is shown but what
+/// the session is about to store: first the cut word, and behind that the owing word, which a poll finds one too high at most.
+pub fn law_cuts_stand()
+    ensures told { (opening : World) (events : List Event) (session : ℕ) (first its : SessionState) (serial : ℕ) → HasBecome opening events session first its
+        → HasItsWords opening.now
+        → is_busy its.step ≡ false
+        → serial_left (seat_at opening.now session) first (session_events opening session events) ≡ Some serial
+        → AreMarksTold (seat_at opening.now session) its (λ place. word_now opening events place) serial }
+    ensures asleep { (opening : World) (events : List Event) (session : ℕ) (first its : SessionState) → HasBecome opening events session first its
+        → HasItsWords opening.now
+        → its.is_awake ≡ false
+        → its.step ≢ CatchesUp Wakes
+        → IsCutAsleep (seat_at opening.now session) its (λ place. word_now opening events place) }
+    ensures leaves { (opening : World) (events : List Event) (session : ℕ) (first its : SessionState) → HasBecome opening events session first its
+        → HasItsWords opening.now
+        → its.step ≡ Leaves
+        → IsCutAsleep (seat_at opening.now session) its (λ place. word_now opening events place) }
+    ensures in_order { (opening : World) (events : List Event) (session : ℕ) (first its : SessionState) (serial : ℕ) → HasBecome opening events session first its
+        → HasItsWords opening.now
+        → serial_leaving (seat_at opening.now session) first (session_events opening session events) ≡ Some serial
+        → AreToldInOrder (seat_at opening.now session) its (λ place. word_now opening events place) serial }
+    ensures polls_owing { (opening : World) (events : List Event) (session : ℕ) (first its : SessionState) (index serial : ℕ) → HasBecome opening events session first its
+        → HasItsWords opening.now
+        → its.step ≡ StoresOwing index
+        → serial_left (seat_at opening.now session) first (session_events opening session events) ≡ Some serial
+        → IsOwedOrOneMore (word_now opening events (owing_place (seat_at opening.now session))) (owing_told its) }
+{
+    law_world_cuts();
+}
