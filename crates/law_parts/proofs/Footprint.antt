@@ -5,7 +5,7 @@ mod Commits
 mod Deferred
 mod Epochs
 mod Finds
-mod Keepers
+pub mod Keepers
 mod Latching
 pub mod Lives
 mod Maintains

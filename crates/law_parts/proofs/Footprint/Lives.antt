@@ -1,6 +1,6 @@
 -- What holds at each moment of a session's own run holds of it at each moment of a life, and so for the keeper. So each ask of the keeper's
 -- spares each part, but the mailbox that it is at and the durable word that it stores.
-use Rattle.std.proofs.Common.{◌≡◌, ℕ, ◌∙◌, refl, sym, subst, arith, List}
+use Rattle.std.proofs.Common.{◌≡◌, ℕ, ◌∙◌, refl, sym, subst, List}
 use Rattle.std.specs.Prelude.{Option, Some, None, slice_get}
 use Rattle.fkv_base.specs.declared.shapes.Shape.{Shape}
 use Rattle.fkv_plane.specs.declared.places.Places.{Places}
@@ -43,9 +43,9 @@ at_each_moment Q opening events i s ran is = by_first (slice_get opening.now.ses
 -- of the keeper
 keeper_spared : (opening : World) (events : List Event) → keeper.IsOpened opening.now.keeper → IsKeeperSparing opening.now.shape.sessions opening.now.keeper.finish.sessions (run opening events).now.keeper
 keeper_spared opening events opened =
-    let most : ℕ = opening.now.keeper.finish.sessions in
-    let ran = keeper_run_spares most opening.now.shape opening.now.places opening.now.keeper (keeper_events opening events) opened (omega arith) in
-    subst (λ (s : KeeperState). IsKeeperSparing opening.now.shape.sessions most s) (sym (keeper_runs opening events)) ran
+    let count : ℕ = opening.now.keeper.finish.sessions in
+    let ran = keeper_run_spares count opening.now.shape opening.now.places opening.now.keeper (keeper_events opening events) opened refl in
+    subst (λ (s : KeeperState). IsKeeperSparing opening.now.shape.sessions count s) (sym (keeper_runs opening events)) ran
 
 pub keeper_spares : (part : Part) (opening : World) (events : List Event) → keeper.IsOpened opening.now.keeper → HasSeats part opening.now.places opening.now.shape.sessions → HasSeats part opening.now.places opening.now.keeper.finish.sessions
     → IsServedNot part (serving_of (run opening events).now.keeper) → ((run opening events).now.keeper.step ≡ Finishes → IsStoredNot part (run opening events).now.keeper.finish.step)

@@ -163,8 +163,3 @@ pub seat_of : (part : Part) (p : Places) (count number : ℕ) → HasSeats part 
 seat_of TheIndex p count number few low = omega (arith, few, low)
 seat_of TheLatches p count number few low = omega (arith, few, low)
 seat_of (OfSession session its) p count number few low = tt
-
-pub fewer_seats : (part : Part) (p : Places) (fewer count : ℕ) → HasSeats part p count → fewer ≤ count → HasSeats part p fewer
-fewer_seats TheIndex p fewer count few low = omega (arith, few, low)
-fewer_seats TheLatches p fewer count few low = omega (arith, few, low)
-fewer_seats (OfSession session its) p fewer count few low = tt
