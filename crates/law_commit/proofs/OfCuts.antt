@@ -1,5 +1,6 @@
 pub mod Durables
 pub mod Events
 pub mod Marks
+pub mod Points
 pub mod Told
 pub mod Words

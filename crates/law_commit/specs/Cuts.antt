@@ -1,11 +1,18 @@
 -- The words in which a session tells where it has left a version, and its durable word: who stores them, and what was stored there last.
-use Rattle.std.specs.Prelude.{◌≤◌, ℕ, ◌==◌, if◌then◌else◌, List, [], ◌∷◌, length}
+use Rattle.std.specs.Prelude.{◌≡◌, ◌<◌, ◌≤◌, ℕ, ◌==◌, nat_lt, if◌then◌else◌, List, [], ◌∷◌, length, slice_get}
+use Rattle.fkv_base.specs.declared.numbers.Serial.{Serial}
 use Rattle.fkv_base.specs.declared.shapes.Shape.{Shape}
 use Rattle.fkv_plane.specs.declared.asks.Ask.{Ask}
 use Rattle.fkv_plane.specs.declared.asks.Ask.TheVariants.{Store}
 use Rattle.fkv_plane.specs.declared.places.Places.{Places}
+use Rattle.fkv_plane.specs.declared.places.SessionWord.TheVariants as own
 use Rattle.fkv_plane.specs.Asked.{word_at}
-use Rattle.fkv_plane.specs.Places.{word_count}
+use Rattle.fkv_plane.specs.Places.{session_place, word_count}
+use Rattle.fkv_commit.specs.declared.finishing.Finishing.{Finishing}
+use Rattle.fkv_commit.specs.declared.finishing.Finishing.TheVariants.{StoresDurable}
+use Rattle.fkv_commit.specs.Finishing.{point_of}
+use Rattle.fkv_keeper.specs.declared.keepers.Keeping.{Keeping}
+use Rattle.fkv_keeper.specs.declared.keepers.Keeping.TheVariants.{Finishes}
 use Rattle.fkv_keeper.specs.Keeping.{KeeperState, keeper_ask}
 use Rattle.fkv_keeper.specs.KeeperRun.{KeeperEvent, Replies, keeper_run}
 use Rattle.fkv_session.specs.Sessions.{SessionState}
@@ -42,3 +49,18 @@ stored_last shape p opening first (event ∷ before) place = stored_behind shape
 
 abbrev pub stored_by_keeper : World → List Event → ℕ → ℕ
 stored_by_keeper opening events place = stored_last opening.now.shape opening.now.places opening.now.keeper (λ at. word_at opening.now.words at) (keeper_events opening events) place
+
+-- While a commit finishes, the durable words below the one that is stored next are its points, and the others those of the commit before.
+abbrev pub durable_in : List Serial → List Serial → Finishing → ℕ → ℕ
+durable_in last points (StoresDurable next) session = if nat_lt session next then point_of (slice_get points session) else point_of (slice_get last session)
+durable_in last points step session = point_of (slice_get points session)
+
+-- At all other times each is a point of the newest finished commit.
+abbrev pub durable_at : KeeperState → Keeping → ℕ → ℕ
+durable_at s Finishes session = durable_in s.last.points s.seek.points s.finish.step session
+durable_at s step session = point_of (slice_get s.last.points session)
+
+-- As a life begins, the durable words show the points of the newest finished commit. The keeper finishes commits for all sessions of the store.
+pub record ShowsDurable (n : Now) : Type 0 where
+  pub points : (session : ℕ) → session < n.places.sessions → word_at n.words (session_place session own.Durable) ≡ point_of (slice_get n.keeper.last.points session)
+  pub sessions : n.keeper.finish.sessions ≡ n.places.sessions

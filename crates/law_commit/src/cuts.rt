@@ -9,9 +9,9 @@ ghost use Rattle.fkv_session.specs.declared.sessions.CatchCause.TheVariants.{Wak
 ghost use Rattle.fkv_session.specs.declared.sessions.Sitting.TheVariants.{CatchesUp, Leaves, StoresOwing};
 ghost use Rattle.fkv_world.specs.Opened.{HasBecome, IsOpenedWorld};
 ghost use Rattle.fkv_world.specs.OwnEvents.{session_events};
-ghost use Rattle.fkv_world.specs.Runs.{World};
+ghost use Rattle.fkv_world.specs.Runs.{World, run};
 ghost use Rattle.fkv_world.specs.World.{Event, seat_at};
-ghost use Rattle.law_commit.specs.Cuts.{HasItsWords, stored_by_keeper, stored_by_session, word_now};
+ghost use Rattle.law_commit.specs.Cuts.{HasItsWords, ShowsDurable, durable_at, stored_by_keeper, stored_by_session, word_now};
 
 use law_world::law_world_cuts;
 
@@ -57,3 +57,11 @@ pub fn law_cuts_stand()
 {
     law_world_cuts();
 }
+
+/// In every life of a store that was opened, whatever the sessions do: if the durable words showed the points of the newest finished commit as the life began,
+/// they do so at each moment. While a commit's words are stored, those that are stored already are its points.
+pub fn law_durable_stands()
+    ensures { (opening : World) (events : List Event) (session : ℕ) → IsOpenedWorld opening → HasItsWords opening.now → ShowsDurable opening.now
+        → session < opening.now.places.sessions
+        → word_now opening events (session_place session Durable) ≡ durable_at (run opening events).now.keeper (run opening events).now.keeper.step session }
+{}

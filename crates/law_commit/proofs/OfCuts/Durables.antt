@@ -32,9 +32,10 @@ use Rattle.law_world.proofs.OfRuns.OneWord.{keeper_writes}
 use Rattle.law_parts.specs.Footprint.{Durable, TheDurable, Spares}
 use Rattle.law_parts.proofs.Footprint.Lives.{keeper_spares}
 use Rattle.law_parts.proofs.Footprint.Sessions.{IsSessionSparing, SessionRests, session_asks_spares}
-use Rattle.law_commit.specs.Cuts.{HasItsWords, stored_behind, stored_by, stored_by_keeper, stored_last, word_now}
+use Rattle.law_commit.specs.Cuts.{HasItsWords, ShowsDurable, durable_at, stored_behind, stored_by, stored_by_keeper, stored_last, word_now}
 use Rattle.law_commit.proofs.OfCuts.Events.{event_words, length_stays}
 use Rattle.law_commit.proofs.OfCuts.Marks.{few_places, sparing_now}
+use Rattle.law_commit.proofs.OfCuts.Points.{run_shows}
 use Rattle.law_commit.proofs.OfCuts.Words.{IsStore, IsThere, followed_word, spared_word}
 
 -- ---- what it has stored over events that follow one another
@@ -242,3 +243,12 @@ life_durable opening (event ∷ before) number opened words seat =
     ∙ (ap (λ (p : Places). stored_last opening.now.shape p w.now.keeper g (keeper_part_of w event) place) (places_stay opening before)
     ∙ (ap (λ (s : KeeperState). stored_last opening.now.shape opening.now.places s g (keeper_part_of w event) place) (keeper_runs opening before)
     ∙ sym (stored_on opening.now.shape opening.now.places opening.now.keeper f (keeper_part_of w event) own place))))
+
+-- so it is a point of the newest finished commit, or of the one that finishes
+pub life_shows : (opening : World) (events : List Event) (number : ℕ) → IsOpenedWorld opening → HasItsWords opening.now → ShowsDurable opening.now → number < opening.now.places.sessions
+    → word_now opening events (session_place number own.Durable) ≡ durable_at (run opening events).now.keeper (run opening events).now.keeper.step number
+life_shows opening events number opened words shows seat =
+    let same = shows.sessions in
+    life_durable opening events number opened words seat
+    ∙ (run_shows opening.now.shape opening.now.places number opening.now.keeper (λ at. word_at opening.now.words at) (keeper_events opening events) opened.keeper (omega (arith, same, seat)) (shows.points number seat)
+    ∙ ap (λ (s : KeeperState). durable_at s s.step number) (sym (keeper_runs opening events)))
