@@ -1,3 +1,4 @@
+pub mod Always
 pub mod Durables
 pub mod Events
 pub mod Marks

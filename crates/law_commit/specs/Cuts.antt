@@ -1,5 +1,5 @@
 -- The words in which a session tells where it has left a version, and its durable word: who stores them, and what was stored there last.
-use Rattle.std.specs.Prelude.{◌≡◌, ◌<◌, ◌≤◌, ℕ, ◌==◌, nat_lt, if◌then◌else◌, List, [], ◌∷◌, length, slice_get}
+use Rattle.std.specs.Prelude.{◌≡◌, ◌<◌, ◌≤◌, ℕ, ◌==◌, nat_lt, if◌then◌else◌, List, [], ◌∷◌, length, Some, slice_get}
 use Rattle.fkv_base.specs.declared.numbers.Serial.{Serial}
 use Rattle.fkv_base.specs.declared.shapes.Shape.{Shape}
 use Rattle.fkv_plane.specs.declared.asks.Ask.{Ask}
@@ -15,7 +15,11 @@ use Rattle.fkv_keeper.specs.declared.keepers.Keeping.{Keeping}
 use Rattle.fkv_keeper.specs.declared.keepers.Keeping.TheVariants.{Finishes}
 use Rattle.fkv_keeper.specs.Keeping.{KeeperState, keeper_ask}
 use Rattle.fkv_keeper.specs.KeeperRun.{KeeperEvent, Replies, keeper_run}
-use Rattle.fkv_session.specs.Sessions.{SessionState}
+use Rattle.fkv_session.specs.CatchingUp.{cut_at, cut_of, version_before}
+use Rattle.fkv_session.specs.InOrder.{taken_up}
+use Rattle.fkv_session.specs.Sessions.{SessionState, Seat}
+use Rattle.fkv_session.specs.SessionRun.{SessionEvent, session_run}
+use Rattle.fkv_session.specs.Versions.{IsVersion}
 use Rattle.fkv_session.specs.Words as session
 use Rattle.fkv_world.specs.OwnEvents.{keeper_events, session_events}
 use Rattle.fkv_world.specs.Runs.{World, run}
@@ -32,6 +36,28 @@ word_now opening events place = word_at (run opening events).now.words place
 -- what a session has stored last there, by its own events; up to then what stood there as the life began
 abbrev pub stored_by_session : World → ℕ → SessionState → List Event → ℕ → ℕ
 stored_by_session opening number first events place = session.stored_last (seat_at opening.now number) first (λ at. word_at opening.now.words at) (session_events opening number events) place
+
+-- the serial at which a session has left the version before its own; if it has left none in these events, the serial that it had before them
+unfoldable pub serial_before : Seat → SessionState → List SessionEvent → ℕ
+serial_before k opening [] = opening.serial
+serial_before k opening (event ∷ before) =
+    if (session_run k opening (event ∷ before)).seen.version.0 == (session_run k opening before).seen.version.0 then serial_before k opening before else (session_run k opening before).serial
+
+-- or at which it leaves it now
+abbrev pub serial_leaving : SessionState → ℕ → ℕ
+serial_leaving s before = if (taken_up s).version.0 == s.seen.version.0 then before else s.serial
+
+abbrev pub life_leaving : World → ℕ → SessionState → List Event → SessionState → ℕ
+life_leaving opening number first events its = serial_leaving its (serial_before (seat_at opening.now number) first (session_events opening number events))
+
+-- As a life begins, the cut word of the version before shows the session's serial, and it owes nothing.
+pub record ShowsCut (k : Seat) (s : SessionState) (words : ℕ → ℕ) : Type 0 where
+  pub version : IsVersion s.seen.version.0
+  pub cut : words (session_place k.number (cut_of (version_before s.seen).0)) ≡ cut_at s.serial (version_before s.seen).0
+  pub owing : words (session_place k.number own.Owing) ≡ 0
+
+abbrev pub ShowCuts : Now → Type 0
+ShowCuts n = (session : ℕ) (s : SessionState) → slice_get n.sessions session ≡ Some s → ShowsCut (seat_at n session) s (λ place. word_at n.words place)
 
 -- what an ask stores there
 abbrev pub stored_by : {A : Type 0} → Ask A → ℕ → ℕ → ℕ

@@ -11,7 +11,7 @@ ghost use Rattle.fkv_world.specs.Opened.{HasBecome, IsOpenedWorld};
 ghost use Rattle.fkv_world.specs.OwnEvents.{session_events};
 ghost use Rattle.fkv_world.specs.Runs.{World, run};
 ghost use Rattle.fkv_world.specs.World.{Event, seat_at};
-ghost use Rattle.law_commit.specs.Cuts.{HasItsWords, ShowsDurable, durable_at, stored_by_keeper, stored_by_session, word_now};
+ghost use Rattle.law_commit.specs.Cuts.{HasItsWords, ShowCuts, ShowsDurable, durable_at, life_leaving, stored_by_keeper, stored_by_session, word_now};
 
 use law_world::law_world_cuts;
 
@@ -29,7 +29,8 @@ pub fn law_marks_stand()
 /// So the words themselves show what the law of cuts says that a session tells in them. Once a session has changed its version, and where no call is in hand,
 /// the cut word of the version before shows the serial at which it has left that one, and its owing word how many updates of that version wait. If it
 /// sleeps, but in a wake, and before it leaves for that, the cut word of its own version shows its serial. In the middle of a call all is shown but what
-/// the session is about to store: first the cut word, and behind that the owing word, which a poll finds one too high at most.
+/// the session is about to store: first the cut word, and behind that the owing word, which a poll finds one too high at most. So it is from the first moment
+/// on, if it was so as the life began: a session that has left no version yet counts as if it had left the version before its own then.
 pub fn law_cuts_stand()
     ensures told { (opening : World) (events : List Event) (session : ℕ) (first its : SessionState) (serial : ℕ) → HasBecome opening events session first its
         → HasItsWords opening.now
@@ -54,6 +55,9 @@ pub fn law_cuts_stand()
         → its.step ≡ StoresOwing index
         → serial_left (seat_at opening.now session) first (session_events opening session events) ≡ Some serial
         → IsOwedOrOneMore (word_now opening events (owing_place (seat_at opening.now session))) (owing_told its) }
+    ensures always { (opening : World) (events : List Event) (session : ℕ) (first its : SessionState) → HasBecome opening events session first its
+        → HasItsWords opening.now → ShowCuts opening.now
+        → AreToldInOrder (seat_at opening.now session) its (λ place. word_now opening events place) (life_leaving opening session first events its) }
 {
     law_world_cuts();
 }

@@ -3,6 +3,7 @@ use Rattle.std.specs.Prelude.{ℕ}
 use Rattle.fkv_plane.specs.Asked.{word_at}
 use Rattle.fkv_world.specs.World.{seat_at}
 use Rattle.law_commit.specs.Cuts.{stored_by_session, word_now}
+use Rattle.law_commit.proofs.OfCuts.Always.{always_told}
 use Rattle.law_commit.proofs.OfCuts.Marks.{life_marks}
 use Rattle.law_commit.proofs.OfCuts.Told.{cut_asleep, marks_told, owed_near, told_in_order}
 use Rattle.law_commit.proofs.cuts.law_cuts_stand.Goals as goal
@@ -36,3 +37,6 @@ returns-clause-polls_owing c = λ opening events session first its index serial 
     owed_near (seat_at opening.now session) its (λ place. word_now opening events place) (λ place. stored_by_session opening session first events place)
     (λ place mark. life_marks opening events session first place became.opened words became.was mark)
     (c.law_world_cuts.ensures.polls_owing opening events session first its (λ (at : ℕ). word_at opening.now.words at) index serial became stores left)
+
+pub returns-clause-always : goal.returns-clause-always
+returns-clause-always c = λ opening events session first its became words shows. always_told opening events session first its became words shows
