@@ -1,9 +1,10 @@
 //! What stands in the words by which a session tells where it has left a version, in every life of a store that was opened.
-ghost use Rattle.std.specs.Prelude.{◌≡◌, ◌≢◌, ◌<◌, ℕ, List, Some, false};
+ghost use Rattle.std.specs.Prelude.{◌≡◌, ◌≢◌, ◌<◌, ◌-◌, ℕ, List, Some, false};
 ghost use Rattle.fkv_plane.specs.declared.places.SessionWord.TheVariants.{Durable};
 ghost use Rattle.fkv_plane.specs.Places.{session_place};
 ghost use Rattle.fkv_session.specs.InOrder.{AreToldInOrder, IsOwedOrOneMore, owing_place, owing_told, serial_leaving};
 ghost use Rattle.fkv_session.specs.Sessions.{SessionState, is_busy};
+ghost use Rattle.fkv_session.specs.Versions.{IsVersion};
 ghost use Rattle.fkv_session.specs.Words.{AreMarksTold, IsCutAsleep, IsMark, serial_left};
 ghost use Rattle.fkv_session.specs.declared.sessions.CatchCause.TheVariants.{Wakes};
 ghost use Rattle.fkv_session.specs.declared.sessions.Sitting.TheVariants.{CatchesUp, Leaves, StoresOwing};
@@ -11,7 +12,8 @@ ghost use Rattle.fkv_world.specs.Opened.{HasBecome, IsOpenedWorld};
 ghost use Rattle.fkv_world.specs.OwnEvents.{session_events};
 ghost use Rattle.fkv_world.specs.Runs.{World, run};
 ghost use Rattle.fkv_world.specs.World.{Event, seat_at};
-ghost use Rattle.law_commit.specs.Cuts.{HasItsWords, ShowCuts, ShowsDurable, durable_at, life_leaving, stored_by_keeper, stored_by_session, word_now};
+ghost use Rattle.law_commit.specs.Accepted.{HasRisingVersion, point};
+ghost use Rattle.law_commit.specs.Cuts.{HasItsWords, ShowCuts, ShowsDurable, durable_at, life_leaving, serial_before, stored_by_keeper, stored_by_session, word_now};
 
 use law_world::law_world_cuts;
 
@@ -30,7 +32,8 @@ pub fn law_marks_stand()
 /// the cut word of the version before shows the serial at which it has left that one, and its owing word how many updates of that version wait. If it
 /// sleeps, but in a wake, and before it leaves for that, the cut word of its own version shows its serial. In the middle of a call all is shown but what
 /// the session is about to store: first the cut word, and behind that the owing word, which a poll finds one too high at most. So it is from the first moment
-/// on, if it was so as the life began: a session that has left no version yet counts as if it had left the version before its own then.
+/// on, if it was so as the life began: a session that has left no version yet counts as if it had left the version before its own then. As long as the
+/// version that the session goes by has never fallen, the serial at which it has left the version before is its point of that version.
 pub fn law_cuts_stand()
     ensures told { (opening : World) (events : List Event) (session : ℕ) (first its : SessionState) (serial : ℕ) → HasBecome opening events session first its
         → HasItsWords opening.now
@@ -58,6 +61,10 @@ pub fn law_cuts_stand()
     ensures always { (opening : World) (events : List Event) (session : ℕ) (first its : SessionState) → HasBecome opening events session first its
         → HasItsWords opening.now → ShowCuts opening.now
         → AreToldInOrder (seat_at opening.now session) its (λ place. word_now opening events place) (life_leaving opening session first events its) }
+    ensures left { (opening : World) (events : List Event) (session : ℕ) (first its : SessionState) → HasBecome opening events session first its
+        → IsVersion first.seen.version.0
+        → HasRisingVersion (seat_at opening.now session) first (session_events opening session events)
+        → serial_before (seat_at opening.now session) first (session_events opening session events) ≡ point opening events session (its.seen.version.0 - 1) }
 {
     law_world_cuts();
 }

@@ -4,6 +4,7 @@ use Rattle.fkv_plane.specs.Asked.{word_at}
 use Rattle.fkv_world.specs.World.{seat_at}
 use Rattle.law_commit.specs.Cuts.{stored_by_session, word_now}
 use Rattle.law_commit.proofs.OfCuts.Always.{always_told}
+use Rattle.law_commit.proofs.OfCuts.Left.{life_left}
 use Rattle.law_commit.proofs.OfCuts.Marks.{life_marks}
 use Rattle.law_commit.proofs.OfCuts.Told.{cut_asleep, marks_told, owed_near, told_in_order}
 use Rattle.law_commit.proofs.cuts.law_cuts_stand.Goals as goal
@@ -40,3 +41,6 @@ returns-clause-polls_owing c = λ opening events session first its index serial 
 
 pub returns-clause-always : goal.returns-clause-always
 returns-clause-always c = λ opening events session first its became words shows. always_told opening events session first its became words shows
+
+pub returns-clause-left : goal.returns-clause-left
+returns-clause-left c = λ opening events session first its became fits rises. life_left opening events session first its became fits rises
