@@ -25,7 +25,7 @@ use Rattle.law_commit.specs.Accepted.{serial_of, serial_at, versions_of, version
 use Rattle.law_commit.proofs.Goes.{attempts_calm, call_calm, moves_on, given_on}
 
 -- a reply by which the next serial is taken, at a call's attempt
-abbrev Takes : SessionState → SessionEvent → ℕ → Type 0
+abbrev pub Takes : SessionState → SessionEvent → ℕ → Type 0
 Takes s (Replies reply) n = (has_shifted : Bool) × (s.step ≡ Attempts has_shifted) × (n ≡ s.serial + 1)
 Takes s event n = ⊥
 
@@ -86,10 +86,10 @@ event_serial k s (Replies reply) = next_serial k s (asks_after s.asks (is_word_a
 event_serial k s (Gets action) = inl (given_serial k s s.step action refl)
 
 -- what is taken by an event
-none_taken : (a : SessionState) (n : ℕ) (called : Option Op) (taken : List TakenAt) → a.serial ≡ n → taken_by n a called taken ≡ taken
+pub none_taken : (a : SessionState) (n : ℕ) (called : Option Op) (taken : List TakenAt) → a.serial ≡ n → taken_by n a called taken ≡ taken
 none_taken a n called taken same = let equal : (a.serial == n) ≡ true = grind (arith, nat_tests, same) in rw equal refl
 
-one_taken : (a : SessionState) (n : ℕ) (op : Op) (called : Option Op) (taken : List TakenAt) → a.serial ≡ n + 1 → called ≡ Some op → versions_of (taken_by n a called taken) ≡ a.seen.version.0 ∷ versions_of taken
+pub one_taken : (a : SessionState) (n : ℕ) (op : Op) (called : Option Op) (taken : List TakenAt) → a.serial ≡ n + 1 → called ≡ Some op → versions_of (taken_by n a called taken) ≡ a.seen.version.0 ∷ versions_of taken
 one_taken a n op called taken next its = let other : (a.serial == n) ≡ false = grind (arith, nat_tests, next) in rw other (rw its refl)
 
 counted_by : (k : Seat) (first : SessionState) (event : SessionEvent) (before : List SessionEvent) → IsOpened first
@@ -106,12 +106,12 @@ counted_by k first (Replies reply) before opened was (inr takes) =
 counted_by k first (Begins call) before opened was (inr takes) = absurd takes
 counted_by k first (Gets action) before opened was (inr takes) = absurd takes
 
-run_moves : (k : Seat) (first : SessionState) (event : SessionEvent) (before : List SessionEvent)
+pub run_moves : (k : Seat) (first : SessionState) (event : SessionEvent) (before : List SessionEvent)
     → ((session_run k first (event ∷ before)).serial ≡ (session_run k first before).serial) ⊎ Takes (session_run k first before) event (session_run k first (event ∷ before)).serial
 unfolding session_run
 run_moves k first event before = event_serial k (session_run k first before) event
 
-run_counted : (k : Seat) (first : SessionState) (events : List SessionEvent) → IsOpened first → (session_run k first events).serial ≡ first.serial + length (versions_of (versions_taken k first events))
+pub run_counted : (k : Seat) (first : SessionState) (events : List SessionEvent) → IsOpened first → (session_run k first events).serial ≡ first.serial + length (versions_of (versions_taken k first events))
 unfolding session_run versions_taken
 run_counted k first [] opened = omega arith
 run_counted k first (event ∷ before) opened = counted_by k first event before opened (run_counted k first before opened) (run_moves k first event before)
@@ -137,12 +137,12 @@ risen_by k first (Replies reply) before opened up was (inr takes) =
 risen_by k first (Begins call) before opened up was (inr takes) = absurd takes
 risen_by k first (Gets action) before opened up was (inr takes) = absurd takes
 
-run_risen : (k : Seat) (first : SessionState) (events : List SessionEvent) → IsOpened first → HasRisingVersion k first events → NeverFall (session_run k first events).seen.version.0 (versions_of (versions_taken k first events))
+pub run_risen : (k : Seat) (first : SessionState) (events : List SessionEvent) → IsOpened first → HasRisingVersion k first events → NeverFall (session_run k first events).seen.version.0 (versions_of (versions_taken k first events))
 unfolding versions_taken HasRisingVersion
 run_risen k first [] opened rises = tt
 run_risen k first (event ∷ before) opened rises = risen_by k first event before opened rises.0 (run_risen k first before opened rises.1) (run_moves k first event before)
 
-all_upto : (last version : ℕ) (versions : List ℕ) → last ≤ version → NeverFall last versions → count_upto version versions ≡ length versions
+pub all_upto : (last version : ℕ) (versions : List ℕ) → last ≤ version → NeverFall last versions → count_upto version versions ≡ length versions
 all_upto last version [] up falls = refl
 all_upto last version (its ∷ before) up falls =
     let one = falls.0 in
@@ -151,7 +151,7 @@ all_upto last version (its ∷ before) up falls =
     rw counts (omega (arith, rest))
 
 -- of a life
-found_so : (opening : World) (events : List Event) (session : ℕ) (first : SessionState) → slice_get opening.now.sessions session ≡ Some first
+pub found_so : (opening : World) (events : List Event) (session : ℕ) (first : SessionState) → slice_get opening.now.sessions session ≡ Some first
     → versions_accepted opening events session ≡ versions_of (versions_taken (seat_at opening.now session) first (session_events opening session events))
 found_so opening events session first found = ap (versions_found opening events session) found
 

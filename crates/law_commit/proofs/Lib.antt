@@ -7,6 +7,7 @@ mod LifeBegun
 mod NewestWritten
 mod NextNumbers
 mod OfPhases
+pub mod OfCuts
 mod OwnTurnStores
 mod PhaseStores
 mod Pieces

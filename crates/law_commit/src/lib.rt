@@ -1,9 +1,11 @@
 //! What the law of prefixes asks of the past of a life, beside its run.
 #![tactic(auto)]
 
+mod cuts;
 mod laws;
 mod phases;
 
+pub use cuts::{law_cuts_stand, law_durable_stands, law_marks_stand};
 pub use laws::{
     law_begun, law_of_worked_pasts, law_of_worked_pieces, law_phase_stored, law_versions_counted,
     law_view_is_seen,

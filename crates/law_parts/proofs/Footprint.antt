@@ -1,11 +1,11 @@
 mod Appends
 mod Attempts
-mod Catches
+pub mod Catches
 mod Commits
 mod Deferred
 mod Epochs
 mod Finds
-mod Keepers
+pub mod Keepers
 mod Latching
 pub mod Lives
 mod Maintains

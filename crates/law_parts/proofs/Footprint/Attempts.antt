@@ -1,5 +1,5 @@
 -- An attempt spares each part but where it works there: in its try, and in a task with its session's mailbox.
-use Rattle.std.proofs.Common.{◌≡◌, ◌≢◌, ℕ, refl, sym, subst, Bool, true, false}
+use Rattle.std.proofs.Common.{◌≡◌, ◌≢◌, ℕ, refl, sym, subst, arith, Bool, true, false}
 use Rattle.std.specs.Prelude.{if◌then◌else◌, ◌==◌, ⊤, Option, Some, None}
 use Rattle.fkv_map.specs.Keys.{key_of}
 use Rattle.fkv_plane.specs.declared.asks.Ask.{Ask}
@@ -34,7 +34,7 @@ use Rattle.law_parts.specs.Footprint.{Part, TheIndex, TheLatches, TheMailbox, Ha
 use Rattle.law_parts.specs.Index.Finders.{attempt_part, search_in, entry_in}
 use Rattle.law_parts.specs.Latches.Latchers.{attempt_latching}
 use Rattle.law_parts.proofs.Footprint.Latching.{passed_spares}
-use Rattle.law_parts.proofs.Footprint.Outside.{other_outside}
+use Rattle.law_parts.proofs.Footprint.Outside.{mail_outside}
 use Rattle.law_parts.proofs.OfIndex.AttemptParts.{AttemptKnows}
 use Rattle.law_parts.proofs.Footprint.Tries.{IsTrySparing, try_spares, try_next_spares, try_begun_spares}
 
@@ -57,9 +57,9 @@ pub record AttemptRests (part : Part) (p : Places) (n : ℕ) (a : AttemptState) 
 -- a task with a mailbox
 pub mail_spares : (part : Part) (p : Places) (n : ℕ) (step : Mailing) → HasSeat part p n → part ≢ TheMailbox n → Spares part p (mail_ask n step)
 unfolding mail_ask
-mail_spares part p n (mailing.StoresEmpty its) there other = other_outside part p n own.MailState there other
-mail_spares part p n (mailing.StoresAddress addr) there other = other_outside part p n own.MailAddress there other
-mail_spares part p n mailing.StoresAsked there other = other_outside part p n own.MailState there other
+mail_spares part p n (mailing.StoresEmpty its) there other = mail_outside part p n own.MailState (omega arith) there other
+mail_spares part p n (mailing.StoresAddress addr) there other = mail_outside part p n own.MailAddress (omega arith) there other
+mail_spares part p n mailing.StoresAsked there other = mail_outside part p n own.MailState (omega arith) there other
 mail_spares part p n step there other = tt
 
 -- where one is under way, no part is its mailbox

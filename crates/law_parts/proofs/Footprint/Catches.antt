@@ -1,5 +1,5 @@
--- A session that catches up spares each part, but the latch that it works on.
-use Rattle.std.proofs.Common.{◌≡◌, ℕ, refl, sym, subst, List, Bool, true, false}
+-- A session that catches up spares each part, but the latch that it works on, and its marks where it stores one.
+use Rattle.std.proofs.Common.{◌≡◌, ◌≢◌, ℕ, refl, sym, subst, List, Bool, true, false}
 use Rattle.std.specs.Prelude.{if◌then◌else◌, not, ⊤, Option, Some, None, slice_get}
 use Rattle.std.specs.List.{position}
 use Rattle.fkv_words.specs.PhaseWords.{phase_said}
@@ -7,7 +7,6 @@ use Rattle.fkv_map.specs.Keys.{key_of}
 use Rattle.fkv_plane.specs.declared.asks.Ask.{Ask}
 use Rattle.fkv_plane.specs.declared.asks.Ask.TheVariants.{Done}
 use Rattle.fkv_plane.specs.declared.places.Places.{Places}
-use Rattle.fkv_plane.specs.declared.places.SessionWord.TheVariants as own
 use Rattle.fkv_epoch.specs.declared.values.Seen as loaded
 use Rattle.fkv_epoch.specs.declared.refreshing.RefreshAnswer.{RefreshAnswer}
 use Rattle.fkv_epoch.specs.declared.refreshing.RefreshAnswer.TheVariants.{Loaded, Stored}
@@ -27,9 +26,9 @@ use Rattle.fkv_session.specs.declared.catching_up.Catching.TheVariants.{Ended, R
 use Rattle.fkv_session.specs.CatchingUp.{CatchState, version_before, catching_ask, catch_ask, finishes, latch_begun, latch_wanted, latches, cuts, is_same_version, enters_prepare, takes_up, seen_after, refresh_ledto, protect_ledto, latch_ledto, finish_ledto, catch_requests, catching_next, catch_next}
 use Rattle.law_parts.proofs.Footprint.Epochs.{refresh_spares, protect_spares}
 use Rattle.law_parts.specs.Latches.Latchers.{catch_latching}
-use Rattle.law_parts.specs.Footprint.{Part, TheLatches, HasSeat, Spares}
+use Rattle.law_parts.specs.Footprint.{Part, TheLatches, TheMarks, HasSeat, Spares}
 use Rattle.law_parts.proofs.Footprint.Latching.{passed_spares, IsAtLatch, latch_spares, latch_stays, latch_begins}
-use Rattle.law_parts.proofs.Footprint.Outside.{own_outside, cut_outside}
+use Rattle.law_parts.proofs.Footprint.Outside.{owing_outside, cut_outside}
 
 -- its machine for latches is at an eighth word
 abbrev pub CatchBounds : Places → CatchState → Catching → Type 0
@@ -39,20 +38,31 @@ CatchBounds p c step = ⊤
 abbrev pub IsCatchSparing : Places → CatchState → Type 0
 IsCatchSparing p c = CatchBounds p c c.step
 
+-- it stores a cut word or the owing word
+abbrev pub is_marking : Catching → Bool
+is_marking StoresCut = true
+is_marking StoresOwing = true
+is_marking step = false
+
+-- where it does, no part is its marks
+pub not_marks : (part : Part) (n : ℕ) → (part ≡ TheMarks n → true ≡ false) → part ≢ TheMarks n
+not_marks part n none = λ same. let clash : true ≡ false = none same in cc
+
 -- what it asks for
 catching_spares : (part : Part) (p : Places) (n : ℕ) (c : CatchState) (requests : List PendingRequest) (step : Catching) → HasSeat part p n → CatchBounds p c step → (part ≡ TheLatches → catch_latching c step ≡ latching.AtRest)
-    → Spares part p (catching_ask p n c requests step)
+    → (part ≡ TheMarks n → is_marking step ≡ false) → Spares part p (catching_ask p n c requests step)
 unfolding catching_ask
-catching_spares part p n c requests Ended there place rests = tt
-catching_spares part p n c requests Refreshes there place rests = passed_spares part p _ _ (refresh_spares part p n c.refreshing there)
-catching_spares part p n c requests Protects there place rests = passed_spares part p _ _ (protect_spares part p n c.protecting there)
-catching_spares part p n c requests StoresCut there place rests = cut_outside part p n (version_before c.seen).0 there
-catching_spares part p n c requests StoresOwing there place rests = own_outside part p n own.Owing there refl
-catching_spares part p n c requests (Latches index) there place rests = passed_spares part p _ _ (latch_spares part p c.latching place rests)
-catching_spares part p n c requests Finishes there place rests = passed_spares part p _ _ (refresh_spares part p n c.refreshing there)
+catching_spares part p n c requests Ended there place rests marks = tt
+catching_spares part p n c requests Refreshes there place rests marks = passed_spares part p _ _ (refresh_spares part p n c.refreshing there)
+catching_spares part p n c requests Protects there place rests marks = passed_spares part p _ _ (protect_spares part p n c.protecting there)
+catching_spares part p n c requests StoresCut there place rests marks = cut_outside part p n (version_before c.seen).0 there (not_marks part n marks)
+catching_spares part p n c requests StoresOwing there place rests marks = owing_outside part p n there (not_marks part n marks)
+catching_spares part p n c requests (Latches index) there place rests marks = passed_spares part p _ _ (latch_spares part p c.latching place rests)
+catching_spares part p n c requests Finishes there place rests marks = passed_spares part p _ _ (refresh_spares part p n c.refreshing there)
 
-pub catch_spares : (part : Part) (p : Places) (n : ℕ) (c : CatchState) (requests : List PendingRequest) → HasSeat part p n → IsCatchSparing p c → (part ≡ TheLatches → catch_latching c c.step ≡ latching.AtRest) → Spares part p (catch_ask p n c requests)
-catch_spares part p n c requests there place rests = catching_spares part p n c requests c.step there place rests
+pub catch_spares : (part : Part) (p : Places) (n : ℕ) (c : CatchState) (requests : List PendingRequest) → HasSeat part p n → IsCatchSparing p c → (part ≡ TheLatches → catch_latching c c.step ≡ latching.AtRest)
+    → (part ≡ TheMarks n → is_marking c.step ≡ false) → Spares part p (catch_ask p n c requests)
+catch_spares part p n c requests there place rests marks = catching_spares part p n c requests c.step there place rests marks
 
 -- where a reply leads
 either_spares : (b : Bool) (p : Places) (c d : CatchState) → IsCatchSparing p c → IsCatchSparing p d → IsCatchSparing p (if b then c else d)

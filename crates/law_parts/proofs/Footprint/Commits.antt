@@ -1,5 +1,5 @@
 -- The machines of a commit spare each part.
-use Rattle.std.proofs.Common.{◌≡◌, ℕ, ◌+◌, ◌<◌, refl, sym, subst, arith, List, [], ◌∷◌, ◌++◌, length, Bool, true, false}
+use Rattle.std.proofs.Common.{◌≡◌, ◌≢◌, ℕ, ◌+◌, ◌<◌, refl, sym, subst, arith, List, [], ◌∷◌, ◌++◌, length, Bool, true, false}
 use Rattle.std.specs.Prelude.{if◌then◌else◌, ◌==◌, nat_lt, nat_le, max, ⊤}
 use Rattle.std.proofs.lemmas.Bool.Decides.{nat_tests}
 use Rattle.fkv_base.specs.Limits.{last_version}
@@ -14,7 +14,6 @@ use Rattle.fkv_words.specs.PhaseWords.{phase_said}
 use Rattle.fkv_plane.specs.declared.asks.Ask.{Ask}
 use Rattle.fkv_plane.specs.declared.asks.Ask.TheVariants.{Done}
 use Rattle.fkv_plane.specs.declared.places.Places.{Places}
-use Rattle.fkv_plane.specs.declared.places.SessionWord.TheVariants as own
 use Rattle.fkv_plane.specs.declared.places.SharedWord.TheVariants as one
 use Rattle.fkv_commit.specs.declared.commits.CommitKind.{CommitKind}
 use Rattle.fkv_commit.specs.declared.deferring.Deferred.TheVariants.{EntersPhase, ShowsReadOnly}
@@ -41,9 +40,9 @@ use Rattle.fkv_commit.specs.Seeking.{SeekState, owing_from, seek_begun, seeking_
 use Rattle.fkv_commit.specs.Starting as starts
 use Rattle.fkv_commit.specs.Starting.{StartState, start_begun, is_lost_full, starting_ask, start_ask, refused, phase_found, starting_next, start_next}
 use Rattle.fkv_commit.specs.Waiting.{WaitState, waiting_ask, wait_ask}
-use Rattle.law_parts.specs.Footprint.{Part, HasSeats, Spares}
+use Rattle.law_parts.specs.Footprint.{Part, TheDurable, HasSeats, Spares}
 use Rattle.law_parts.proofs.Footprint.Latching.{passed_spares}
-use Rattle.law_parts.proofs.Footprint.Outside.{shared_outside, own_outside, seat_of}
+use Rattle.law_parts.proofs.Footprint.Outside.{shared_outside, durable_outside, seat_of}
 use Rattle.law_parts.proofs.Footprint.Deferred.{IsDeferSparing, defer_spares, defer_next_spares, defer_on_spares, defer_begun_spares}
 
 -- how a commit starts
@@ -250,14 +249,18 @@ FinishBounds n (finishing.Ended its) = ⊤
 FinishBounds n (finishing.StoresDurable session) = session < n
 FinishBounds n finishing.StoresRest = ⊤
 
-finishing_spares : (part : Part) (p : Places) (n : ℕ) (points : List Serial) (s : FinishState) (step : Finishing) → HasSeats part p n → FinishBounds n step → Spares part p (finishing_ask points s step)
-unfolding finishing_ask
-finishing_spares part p n points s (finishing.Ended its) few low = tt
-finishing_spares part p n points s (finishing.StoresDurable session) few low = own_outside part p session own.Durable (seat_of part p n session few low) refl
-finishing_spares part p n points s finishing.StoresRest few low = shared_outside part p one.Phase (λ e. cc)
+-- the part is a durable word that isn't stored
+abbrev pub IsStoredNot : Part → Finishing → Type 0
+IsStoredNot part step = (session : ℕ) → part ≡ TheDurable session → step ≢ finishing.StoresDurable session
 
-pub finish_spares : (part : Part) (p : Places) (points : List Serial) (s : FinishState) → HasSeats part p s.sessions → FinishBounds s.sessions s.step → Spares part p (finish_ask points s)
-finish_spares part p points s few low = finishing_spares part p s.sessions points s s.step few low
+finishing_spares : (part : Part) (p : Places) (n : ℕ) (points : List Serial) (s : FinishState) (step : Finishing) → HasSeats part p n → FinishBounds n step → IsStoredNot part step → Spares part p (finishing_ask points s step)
+unfolding finishing_ask
+finishing_spares part p n points s (finishing.Ended its) few low none = tt
+finishing_spares part p n points s (finishing.StoresDurable session) few low none = durable_outside part p session (seat_of part p n session few low) (λ same. none session same refl)
+finishing_spares part p n points s finishing.StoresRest few low none = shared_outside part p one.Phase (λ e. cc)
+
+pub finish_spares : (part : Part) (p : Places) (points : List Serial) (s : FinishState) → HasSeats part p s.sessions → FinishBounds s.sessions s.step → IsStoredNot part s.step → Spares part p (finish_ask points s)
+finish_spares part p points s few low none = finishing_spares part p s.sessions points s s.step few low none
 
 durable_spares : (n session : ℕ) → FinishBounds n (durable_from n session)
 unfolding durable_from

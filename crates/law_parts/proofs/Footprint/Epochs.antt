@@ -7,7 +7,6 @@ use Rattle.fkv_plane.specs.declared.actions.Action.{Action}
 use Rattle.fkv_plane.specs.declared.actions.Action.TheVariants as act
 use Rattle.fkv_plane.specs.declared.places.Places.{Places}
 use Rattle.fkv_plane.specs.declared.places.SharedWord.TheVariants as one
-use Rattle.fkv_plane.specs.declared.places.SessionWord.TheVariants as own
 use Rattle.fkv_epoch.specs.declared.arming.Arming.{Arming}
 use Rattle.fkv_epoch.specs.declared.arming.Arming.TheVariants as arm
 use Rattle.fkv_epoch.specs.declared.claiming.Claiming.{Claiming}
@@ -30,22 +29,22 @@ use Rattle.fkv_epoch.specs.Raising.{IsRaiseInRange, raise_ask, HasSlotInRange}
 use Rattle.fkv_epoch.specs.Refreshing.{refresh_ask}
 use Rattle.fkv_epoch.specs.Scanning.{scan_ask}
 use Rattle.law_parts.specs.Footprint.{Part, HasSeat, Spares}
-use Rattle.law_parts.proofs.Footprint.Outside.{shared_outside, drain_outside, own_outside}
+use Rattle.law_parts.proofs.Footprint.Outside.{shared_outside, drain_outside, epoch_outside}
 
 -- a session's own words
 pub refresh_spares : (part : Part) (p : Places) (n : ℕ) (step : Refreshing) → HasSeat part p n → Spares part p (refresh_ask n step)
 unfolding refresh_ask
-refresh_spares part p n (refresh.StoresEpoch epoch) there = own_outside part p n own.Epoch there refl
+refresh_spares part p n (refresh.StoresEpoch epoch) there = epoch_outside part p n there
 refresh_spares part p n step there = tt
 
 pub protect_spares : (part : Part) (p : Places) (n : ℕ) (step : Protecting) → HasSeat part p n → Spares part p (protect_ask n step)
 unfolding protect_ask
-protect_spares part p n (protect.StoresEpoch epoch) there = own_outside part p n own.Epoch there refl
+protect_spares part p n (protect.StoresEpoch epoch) there = epoch_outside part p n there
 protect_spares part p n step there = tt
 
 pub leave_spares : (part : Part) (p : Places) (n : ℕ) (step : Leaving) → HasSeat part p n → Spares part p (leave_ask n step)
 unfolding leave_ask
-leave_spares part p n leave.StoresZero there = own_outside part p n own.Epoch there refl
+leave_spares part p n leave.StoresZero there = epoch_outside part p n there
 leave_spares part p n leave.AtRest there = tt
 
 -- a scan

@@ -1,5 +1,5 @@
--- The keeper spares each part, but the mailbox that it is at.
-use Rattle.std.proofs.Common.{◌≡◌, ℕ, ◌≤◌, refl, sym, subst, List, [], ◌∷◌, length, Bool, true, false}
+-- The keeper spares each part, but the mailbox that it is at and the durable word that it stores.
+use Rattle.std.proofs.Common.{◌≡◌, ℕ, refl, sym, subst, List, [], ◌∷◌, length, Bool, true, false}
 use Rattle.std.specs.Prelude.{if◌then◌else◌, ⊤, Option, Some, None}
 use Rattle.fkv_base.specs.declared.faults.Fault.TheVariants as fault
 use Rattle.fkv_base.specs.declared.phases.Phase.TheVariants as phase
@@ -46,9 +46,8 @@ use Rattle.fkv_keeper.specs.KeeperRun.{KeeperEvent, BeginsTurn, BeginsCommit, Re
 use Rattle.law_parts.specs.Mail.Servers.{keeper_serving}
 use Rattle.law_parts.specs.Footprint.{Part, HasSeats, Spares}
 use Rattle.law_parts.proofs.Footprint.Latching.{passed_spares}
-use Rattle.law_parts.proofs.Footprint.Outside.{fewer_seats}
 use Rattle.law_parts.proofs.Footprint.Serves.{IsServedNot}
-use Rattle.law_parts.proofs.Footprint.Commits.{IsStartSparing, start_spares, start_next_spares, start_begun_spares, IsEnterSparing, enter_spares, enter_next_spares, enter_begun_spares, IsSeekSparing, seek_spares, seek_next_spares, seek_begun_spares, wait_spares, FinishBounds, finish_spares, finish_next_spares, finish_begun_spares}
+use Rattle.law_parts.proofs.Footprint.Commits.{IsStartSparing, start_spares, start_next_spares, start_begun_spares, IsEnterSparing, enter_spares, enter_next_spares, enter_begun_spares, IsSeekSparing, seek_spares, seek_next_spares, seek_begun_spares, wait_spares, FinishBounds, IsStoredNot, finish_spares, finish_next_spares, finish_begun_spares}
 use Rattle.law_parts.proofs.Footprint.Maintains.{IsMaintainSparing, maintain_spares, maintain_next_spares, maintain_given_spares, maintain_called_spares, maintain_begun_spares}
 
 -- the machine of its step keeps to its bounds
@@ -61,8 +60,8 @@ KeeperBounds n s Finishes = FinishBounds s.finish.sessions s.finish.step
 KeeperBounds n s step = ⊤
 
 -- it finishes commits for so many sessions, and its machines keep to their bounds
-pub record IsKeeperSparing (n most : ℕ) (s : KeeperState) : Type 0 where
-  pub counts : s.finish.sessions ≤ most
+pub record IsKeeperSparing (n count : ℕ) (s : KeeperState) : Type 0 where
+  pub counts : s.finish.sessions ≡ count
   pub bounds : KeeperBounds n s s.step
 
 -- what its machines ask for
@@ -91,57 +90,57 @@ write_spares part p (write.Broken why) told = tt
 
 -- what it asks for
 keeping_spares : (part : Part) (shape : Shape) (p : Places) (n : ℕ) (s : KeeperState) (step : Keeping) → HasSeats part p n → HasSeats part p s.finish.sessions → KeeperBounds n s step → IsServedNot part (keeper_serving s step)
-    → Spares part p (keeping_ask shape p s step)
+    → (step ≡ Finishes → IsStoredNot part s.finish.step) → Spares part p (keeping_ask shape p s step)
 unfolding keeping_ask
-keeping_spares part shape p n s (Ended its) few its_few bounds none = tt
-keeping_spares part shape p n s Starts few its_few bounds none = passed_spares part p _ _ (start_spares part p s.start bounds)
-keeping_spares part shape p n s Maintains few its_few bounds none = device_spares part p (maintain_ask shape p s.maintain) _ (maintain_spares part shape p n s.maintain few bounds none)
-keeping_spares part shape p n s LoadsPhase few its_few bounds none = tt
-keeping_spares part shape p n s Enters few its_few bounds none = passed_spares part p _ _ (enter_spares part p s.enter bounds)
-keeping_spares part shape p n s Copies few its_few bounds none = passed_spares part p _ _ (copy_spares part p s.copy)
-keeping_spares part shape p n s Seeks few its_few bounds none = passed_spares part p _ _ (seek_spares part p s.seek bounds)
-keeping_spares part shape p n s Waits few its_few bounds none = passed_spares part p _ _ (wait_spares part p s.wait)
-keeping_spares part shape p n s Writes few its_few bounds none = write_spares part p (commit_answer s.writes) _
-keeping_spares part shape p n s Finishes few its_few bounds none = passed_spares part p _ _ (finish_spares part p s.seek.points s.finish its_few bounds)
+keeping_spares part shape p n s (Ended its) few its_few bounds none other = tt
+keeping_spares part shape p n s Starts few its_few bounds none other = passed_spares part p _ _ (start_spares part p s.start bounds)
+keeping_spares part shape p n s Maintains few its_few bounds none other = device_spares part p (maintain_ask shape p s.maintain) _ (maintain_spares part shape p n s.maintain few bounds none)
+keeping_spares part shape p n s LoadsPhase few its_few bounds none other = tt
+keeping_spares part shape p n s Enters few its_few bounds none other = passed_spares part p _ _ (enter_spares part p s.enter bounds)
+keeping_spares part shape p n s Copies few its_few bounds none other = passed_spares part p _ _ (copy_spares part p s.copy)
+keeping_spares part shape p n s Seeks few its_few bounds none other = passed_spares part p _ _ (seek_spares part p s.seek bounds)
+keeping_spares part shape p n s Waits few its_few bounds none other = passed_spares part p _ _ (wait_spares part p s.wait)
+keeping_spares part shape p n s Writes few its_few bounds none other = write_spares part p (commit_answer s.writes) _
+keeping_spares part shape p n s Finishes few its_few bounds none other = passed_spares part p _ _ (finish_spares part p s.seek.points s.finish its_few bounds (other refl))
 
 -- where each session that it serves and finishes commits for has its seat
-pub keeper_asks_spares : (part : Part) (shape : Shape) (p : Places) (most : ℕ) (s : KeeperState) → HasSeats part p shape.sessions → HasSeats part p most → IsKeeperSparing shape.sessions most s → IsServedNot part (keeper_serving s s.step)
-    → Spares part p (keeper_ask shape p s)
-keeper_asks_spares part shape p most s few all its none = keeping_spares part shape p shape.sessions s s.step few (fewer_seats part p s.finish.sessions most all its.counts) its.bounds none
+pub keeper_asks_spares : (part : Part) (shape : Shape) (p : Places) (count : ℕ) (s : KeeperState) → HasSeats part p shape.sessions → HasSeats part p count → IsKeeperSparing shape.sessions count s → IsServedNot part (keeper_serving s s.step)
+    → (s.step ≡ Finishes → IsStoredNot part s.finish.step) → Spares part p (keeper_ask shape p s)
+keeper_asks_spares part shape p count s few all its none other = keeping_spares part shape p shape.sessions s s.step few (subst (λ (x : ℕ). HasSeats part p x) (sym its.counts) all) its.bounds none other
 
--- where a reply leads, for commits of so many sessions at most
-module _ (most : ℕ) where
-  stays_spares : (n : ℕ) (s : KeeperState) (step : Keeping) → s.step ≡ step → s.finish.sessions ≤ most → KeeperBounds n s step → IsKeeperSparing n most s
+-- where a reply leads, for commits of so many sessions
+module _ (count : ℕ) where
+  stays_spares : (n : ℕ) (s : KeeperState) (step : Keeping) → s.step ≡ step → s.finish.sessions ≡ count → KeeperBounds n s step → IsKeeperSparing n count s
   stays_spares n s step at counts bounds = record { counts = counts; bounds = subst (λ x. KeeperBounds n s x) (sym at) bounds }
 
-  ended_spares : (n : ℕ) (s : KeeperState) (told : KeeperTold) → s.finish.sessions ≤ most → IsKeeperSparing n most (ended s told)
+  ended_spares : (n : ℕ) (s : KeeperState) (told : KeeperTold) → s.finish.sessions ≡ count → IsKeeperSparing n count (ended s told)
   ended_spares n s told counts = record { counts = counts; bounds = tt }
 
-  either_spares : (c : Bool) (n : ℕ) (a b : KeeperState) → IsKeeperSparing n most a → IsKeeperSparing n most b → IsKeeperSparing n most (if c then a else b)
+  either_spares : (c : Bool) (n : ℕ) (a b : KeeperState) → IsKeeperSparing n count a → IsKeeperSparing n count b → IsKeeperSparing n count (if c then a else b)
   either_spares true n a b one other = one
   either_spares false n a b one other = other
 
-  started_spares : (n : ℕ) (s : KeeperState) (ask : Ask StartAnswer) → s.step ≡ Starts → s.finish.sessions ≤ most → IsStartSparing s.start → IsKeeperSparing n most (start_ledto s ask)
+  started_spares : (n : ℕ) (s : KeeperState) (ask : Ask StartAnswer) → s.step ≡ Starts → s.finish.sessions ≡ count → IsStartSparing s.start → IsKeeperSparing n count (start_ledto s ask)
   unfolding start_ledto
   started_spares n s (Done (start.Begun number first)) at counts bounds = record { counts = counts; bounds = tt }
   started_spares n s (Done (start.Refused why)) at counts bounds = ended_spares n s _ counts
   started_spares n s (Done start.Idle) at counts bounds = ended_spares n s _ counts
   started_spares n s ask at counts bounds = stays_spares n s Starts at counts bounds
 
-  maintained_spares : (n : ℕ) (s : KeeperState) (ask : Ask MaintainAnswer) → s.step ≡ Maintains → s.finish.sessions ≤ most → IsMaintainSparing n s.maintain → IsKeeperSparing n most (maintain_ledto s ask)
+  maintained_spares : (n : ℕ) (s : KeeperState) (ask : Ask MaintainAnswer) → s.step ≡ Maintains → s.finish.sessions ≡ count → IsMaintainSparing n s.maintain → IsKeeperSparing n count (maintain_ledto s ask)
   unfolding maintain_ledto
   maintained_spares n s (Done maintain.Through) at counts bounds = record { counts = counts; bounds = tt }
   maintained_spares n s (Done maintain.Spent) at counts bounds = ended_spares n s _ counts
   maintained_spares n s (Done maintain.Broken) at counts bounds = record { counts = counts; bounds = tt }
   maintained_spares n s ask at counts bounds = stays_spares n s Maintains at counts bounds
 
-  copies_spares : (p : Places) (n : ℕ) (s : KeeperState) (granted : Bool) → s.finish.sessions ≤ most → IsKeeperSparing n most (copies p s granted)
+  copies_spares : (p : Places) (n : ℕ) (s : KeeperState) (granted : Bool) → s.finish.sessions ≡ count → IsKeeperSparing n count (copies p s granted)
   copies_spares p n s granted counts = either_spares granted n (record s { copy = Some (copy_begun p); is_granted = true; step = Copies }) (ended (record s { is_granted = false }) (TurnRefused fault.Memory)) (record { counts = counts; bounds = tt }) (record { counts = counts; bounds = tt })
 
-  copies_next_spares : (p : Places) (n : ℕ) (s : KeeperState) (c : Commit) (granted : Bool) (other : KeeperState) → s.finish.sessions ≤ most → IsKeeperSparing n most other → IsKeeperSparing n most (copies_next p s c granted other)
+  copies_next_spares : (p : Places) (n : ℕ) (s : KeeperState) (c : Commit) (granted : Bool) (other : KeeperState) → s.finish.sessions ≡ count → IsKeeperSparing n count other → IsKeeperSparing n count (copies_next p s c granted other)
   copies_next_spares p n s c granted other counts its = either_spares c.is_copied n other (copies p s granted) its (copies_spares p n s granted counts)
 
-  part_spares : (p : Places) (n : ℕ) (s : KeeperState) (c : Commit) (said : PhaseSaid) (granted : Bool) → s.finish.sessions ≤ most → IsKeeperSparing n most (part_begun p s c said granted)
+  part_spares : (p : Places) (n : ℕ) (s : KeeperState) (c : Commit) (said : PhaseSaid) (granted : Bool) → s.finish.sessions ≡ count → IsKeeperSparing n count (part_begun p s c said granted)
   part_spares p n s c (Says phase.InProgress version) granted counts =
       either_spares s.has_entered n (copies_next p s c granted (turned s)) (record s { enter = enter_begun s.enter c.number; step = Enters })
       (copies_next_spares p n s c granted (turned s) counts (ended_spares n s _ counts)) (record { counts = counts; bounds = enter_begun_spares s.enter c.number })
@@ -153,12 +152,12 @@ module _ (most : ℕ) where
   part_spares p n s c (Says phase.Prepare version) granted counts = ended_spares n s _ counts
   part_spares p n s c Spoiled granted counts = ended_spares n s _ counts
 
-  phase_spares : (p : Places) (n : ℕ) (s : KeeperState) (found : Option Commit) (said : PhaseSaid) (granted : Bool) → s.finish.sessions ≤ most → IsKeeperSparing n most (phase_ledto p s found said granted)
+  phase_spares : (p : Places) (n : ℕ) (s : KeeperState) (found : Option Commit) (said : PhaseSaid) (granted : Bool) → s.finish.sessions ≡ count → IsKeeperSparing n count (phase_ledto p s found said granted)
   unfolding phase_ledto
   phase_spares p n s None said granted counts = ended_spares n s _ counts
   phase_spares p n s (Some c) said granted counts = part_spares p n s c said granted counts
 
-  entered_spares : (n : ℕ) (s : KeeperState) (ask : Ask EnterAnswer) → s.step ≡ Enters → s.finish.sessions ≤ most → IsEnterSparing s.enter → IsKeeperSparing n most (enter_ledto s ask)
+  entered_spares : (n : ℕ) (s : KeeperState) (ask : Ask EnterAnswer) → s.step ≡ Enters → s.finish.sessions ≡ count → IsEnterSparing s.enter → IsKeeperSparing n count (enter_ledto s ask)
   unfolding enter_ledto
   entered_spares n s (Done enter.Entered) at counts bounds = record { counts = counts; bounds = tt }
   entered_spares n s (Done enter.DrainFull) at counts bounds = record { counts = counts; bounds = tt }
@@ -166,12 +165,12 @@ module _ (most : ℕ) where
   entered_spares n s (Done enter.Idle) at counts bounds = ended_spares n s _ counts
   entered_spares n s ask at counts bounds = stays_spares n s Enters at counts bounds
 
-  copied_spares : (n : ℕ) (s : KeeperState) (ask : Ask (Unit {0})) → s.step ≡ Copies → s.finish.sessions ≤ most → IsKeeperSparing n most (copy_ledto s ask)
+  copied_spares : (n : ℕ) (s : KeeperState) (ask : Ask (Unit {0})) → s.step ≡ Copies → s.finish.sessions ≡ count → IsKeeperSparing n count (copy_ledto s ask)
   unfolding copy_ledto
   copied_spares n s (Done its) at counts = record { counts = counts; bounds = tt }
   copied_spares n s ask at counts = stays_spares n s Copies at counts tt
 
-  sought_spares : (n : ℕ) (s : KeeperState) (ask : Ask SeekAnswer) → s.step ≡ Seeks → s.finish.sessions ≤ most → IsSeekSparing s.seek → IsKeeperSparing n most (seek_ledto s ask)
+  sought_spares : (n : ℕ) (s : KeeperState) (ask : Ask SeekAnswer) → s.step ≡ Seeks → s.finish.sessions ≡ count → IsSeekSparing s.seek → IsKeeperSparing n count (seek_ledto s ask)
   unfolding seek_ledto
   sought_spares n s (Done (seek.Taken end epoch)) at counts bounds = record { counts = counts; bounds = tt }
   sought_spares n s (Done seek.DrainFull) at counts bounds = record { counts = counts; bounds = tt }
@@ -180,28 +179,28 @@ module _ (most : ℕ) where
   sought_spares n s (Done seek.Idle) at counts bounds = ended_spares n s _ counts
   sought_spares n s ask at counts bounds = stays_spares n s Seeks at counts bounds
 
-  writes_spares : (shape : Shape) (n : ℕ) (s : KeeperState) (found : Option Commit) → s.finish.sessions ≤ most → IsKeeperSparing n most (writes_begun shape s found)
+  writes_spares : (shape : Shape) (n : ℕ) (s : KeeperState) (found : Option Commit) → s.finish.sessions ≡ count → IsKeeperSparing n count (writes_begun shape s found)
   writes_spares shape n s None counts = ended_spares n s _ counts
   writes_spares shape n s (Some c) counts = record { counts = counts; bounds = tt }
 
-  waited_spares : (shape : Shape) (n : ℕ) (s : KeeperState) (ask : Ask WaitAnswer) → s.step ≡ Waits → s.finish.sessions ≤ most → IsKeeperSparing n most (wait_ledto shape s ask)
+  waited_spares : (shape : Shape) (n : ℕ) (s : KeeperState) (ask : Ask WaitAnswer) → s.step ≡ Waits → s.finish.sessions ≡ count → IsKeeperSparing n count (wait_ledto shape s ask)
   unfolding wait_ledto
   waited_spares shape n s (Done wait.Flushed) at counts = writes_spares shape n s s.commit counts
   waited_spares shape n s (Done wait.NotYet) at counts = ended_spares n s _ counts
   waited_spares shape n s (Done wait.Idle) at counts = ended_spares n s _ counts
   waited_spares shape n s ask at counts = stays_spares n s Waits at counts tt
 
-  finished_spares : (n : ℕ) (s : KeeperState) (found : Option Commit) → s.finish.sessions ≤ most → IsKeeperSparing n most (finished s found)
+  finished_spares : (n : ℕ) (s : KeeperState) (found : Option Commit) → s.finish.sessions ≡ count → IsKeeperSparing n count (finished s found)
   finished_spares n s None counts = ended_spares n s _ counts
   finished_spares n s (Some c) counts = record { counts = counts; bounds = tt }
 
-  finish_ledto_spares : (n : ℕ) (s : KeeperState) (ask : Ask FinishAnswer) → s.step ≡ Finishes → s.finish.sessions ≤ most → FinishBounds s.finish.sessions s.finish.step → IsKeeperSparing n most (finish_ledto s ask)
+  finish_ledto_spares : (n : ℕ) (s : KeeperState) (ask : Ask FinishAnswer) → s.step ≡ Finishes → s.finish.sessions ≡ count → FinishBounds s.finish.sessions s.finish.step → IsKeeperSparing n count (finish_ledto s ask)
   unfolding finish_ledto
   finish_ledto_spares n s (Done its) at counts bounds = finished_spares n s s.commit counts
   finish_ledto_spares n s ask at counts bounds = stays_spares n s Finishes at counts bounds
 
-  next_spares : (shape : Shape) (p : Places) (s : KeeperState) (step : Keeping) (reply : ℕ) (granted : Bool) → s.step ≡ step → s.finish.sessions ≤ most → KeeperBounds shape.sessions s step
-      → IsKeeperSparing shape.sessions most (keeping_next shape p s step reply granted)
+  next_spares : (shape : Shape) (p : Places) (s : KeeperState) (step : Keeping) (reply : ℕ) (granted : Bool) → s.step ≡ step → s.finish.sessions ≡ count → KeeperBounds shape.sessions s step
+      → IsKeeperSparing shape.sessions count (keeping_next shape p s step reply granted)
   unfolding keeping_next
   next_spares shape p s (Ended its) reply granted at counts bounds = stays_spares shape.sessions s (Ended its) at counts tt
   next_spares shape p s Starts reply granted at counts bounds = started_spares shape.sessions (record s { start = start_next s.start reply }) _ at counts (start_next_spares s.start reply bounds)
@@ -215,44 +214,44 @@ module _ (most : ℕ) where
   next_spares shape p s Finishes reply granted at counts bounds = finish_ledto_spares shape.sessions (record s { finish = finish_next s.finish reply }) _ at counts (finish_next_spares s.finish reply)
 
   -- each action, and each call of the device
-  given_spares : (shape : Shape) (p : Places) (n : ℕ) (s : KeeperState) (step : Keeping) (action : Action) → s.step ≡ step → s.finish.sessions ≤ most → KeeperBounds n s step → IsKeeperSparing n most (keeping_given shape p s step action)
+  given_spares : (shape : Shape) (p : Places) (n : ℕ) (s : KeeperState) (step : Keeping) (action : Action) → s.step ≡ step → s.finish.sessions ≡ count → KeeperBounds n s step → IsKeeperSparing n count (keeping_given shape p s step action)
   unfolding keeping_given
   given_spares shape p n s Maintains action at counts bounds = maintained_spares n (record s { maintain = maintain_given s.maintain action }) _ at counts (maintain_given_spares n s.maintain action bounds)
   given_spares shape p n s step action at counts bounds = stays_spares n s step at counts bounds
 
-  written_spares : (n : ℕ) (s : KeeperState) (found : Option Commit) (answer : WriteAnswer) → s.step ≡ Writes → s.finish.sessions ≤ most → IsKeeperSparing n most (write_ledto s found answer)
+  written_spares : (n : ℕ) (s : KeeperState) (found : Option Commit) (answer : WriteAnswer) → s.step ≡ Writes → s.finish.sessions ≡ count → IsKeeperSparing n count (write_ledto s found answer)
   unfolding write_ledto
   written_spares n s None answer at counts = ended_spares n s _ counts
   written_spares n s (Some c) write.Written at counts = record { counts = counts; bounds = finish_begun_spares s.finish c.number }
   written_spares n s (Some c) write.Device at counts = stays_spares n s Writes at counts tt
   written_spares n s (Some c) (write.Broken why) at counts = stays_spares n s Writes at counts tt
 
-  writes_called_spares : (n : ℕ) (s : KeeperState) (done : Bool) → s.step ≡ Writes → s.finish.sessions ≤ most → IsKeeperSparing n most (writes_called s done)
+  writes_called_spares : (n : ℕ) (s : KeeperState) (done : Bool) → s.step ≡ Writes → s.finish.sessions ≡ count → IsKeeperSparing n count (writes_called s done)
   writes_called_spares n s true at counts = written_spares n (record s { writes = commit_next s.writes true }) s.commit (commit_answer (commit_next s.writes true)) at counts
   writes_called_spares n s false at counts = record { counts = counts; bounds = tt }
 
-  called_spares : (shape : Shape) (p : Places) (n : ℕ) (s : KeeperState) (step : Keeping) (done : Bool) (bytes : List ℕ) → s.step ≡ step → s.finish.sessions ≤ most → KeeperBounds n s step → IsKeeperSparing n most (keeping_called shape p s step done bytes)
+  called_spares : (shape : Shape) (p : Places) (n : ℕ) (s : KeeperState) (step : Keeping) (done : Bool) (bytes : List ℕ) → s.step ≡ step → s.finish.sessions ≡ count → KeeperBounds n s step → IsKeeperSparing n count (keeping_called shape p s step done bytes)
   unfolding keeping_called
   called_spares shape p n s Maintains done bytes at counts bounds = maintained_spares n (record s { maintain = maintain_called shape p s.maintain done bytes }) _ at counts (maintain_called_spares shape p n s.maintain done bytes bounds)
   called_spares shape p n s Writes done bytes at counts bounds = writes_called_spares n s done at counts
   called_spares shape p n s step done bytes at counts bounds = stays_spares n s step at counts bounds
 
   -- what is begun
-  turn_spares : (n : ℕ) (s : KeeperState) → s.finish.sessions ≤ most → IsKeeperSparing n most (turn_asked s)
+  turn_spares : (n : ℕ) (s : KeeperState) → s.finish.sessions ≡ count → IsKeeperSparing n count (turn_asked s)
   turn_spares n s counts =
       either_spares s.is_broken n (ended s (TurnRefused fault.Broken)) (record s { maintain = maintain_begun s.maintain; is_drain_full = false; step = Maintains }) (ended_spares n s _ counts)
       (record { counts = counts; bounds = maintain_begun_spares n s.maintain })
 
-  commit_spares : (n : ℕ) (s : KeeperState) (kind : CommitKind) → s.finish.sessions ≤ most → IsKeeperSparing n most (commit_asked s kind)
+  commit_spares : (n : ℕ) (s : KeeperState) (kind : CommitKind) → s.finish.sessions ≡ count → IsKeeperSparing n count (commit_asked s kind)
   commit_spares n s kind counts =
       either_spares s.is_broken n (ended s (CommitRefused fault.Broken)) (record s { start = start_begun s.start kind (length s.lost); step = Starts }) (ended_spares n s _ counts)
       (record { counts = counts; bounds = start_begun_spares s.start kind (length s.lost) })
 
-  begins_spares : (n : ℕ) (s : KeeperState) (busy : Bool) (begun : KeeperState) → IsKeeperSparing n most s → IsKeeperSparing n most begun → IsKeeperSparing n most (begins s busy begun)
+  begins_spares : (n : ℕ) (s : KeeperState) (busy : Bool) (begun : KeeperState) → IsKeeperSparing n count s → IsKeeperSparing n count begun → IsKeeperSparing n count (begins s busy begun)
   begins_spares n s true begun one other = one
   begins_spares n s false begun one other = other
 
-  happens_spares : (shape : Shape) (p : Places) (s : KeeperState) (event : KeeperEvent) → IsKeeperSparing shape.sessions most s → IsKeeperSparing shape.sessions most (keeper_happens shape p s event)
+  happens_spares : (shape : Shape) (p : Places) (s : KeeperState) (event : KeeperEvent) → IsKeeperSparing shape.sessions count s → IsKeeperSparing shape.sessions count (keeper_happens shape p s event)
   unfolding keeper_happens
   happens_spares shape p s BeginsTurn its = begins_spares shape.sessions s (is_in_hand s.step) (turn_asked s) its (turn_spares shape.sessions s its.counts)
   happens_spares shape p s (BeginsCommit kind) its = begins_spares shape.sessions s (is_in_hand s.step) (commit_asked s kind) its (commit_spares shape.sessions s kind its.counts)
@@ -265,7 +264,7 @@ module _ (most : ℕ) where
   opened_spares n s step idle = cc
 
   -- at every moment of a keeper's run
-  pub keeper_run_spares : (shape : Shape) (p : Places) (opening : KeeperState) (events : List KeeperEvent) → IsOpened opening → opening.finish.sessions ≤ most → IsKeeperSparing shape.sessions most (keeper_run shape p opening events)
+  pub keeper_run_spares : (shape : Shape) (p : Places) (opening : KeeperState) (events : List KeeperEvent) → IsOpened opening → opening.finish.sessions ≡ count → IsKeeperSparing shape.sessions count (keeper_run shape p opening events)
   unfolding keeper_run
   keeper_run_spares shape p opening [] opened few = record { counts = few; bounds = opened_spares shape.sessions opening opening.step opened.none_in_hand }
   keeper_run_spares shape p opening (event ∷ before) opened few = happens_spares shape p (keeper_run shape p opening before) event (keeper_run_spares shape p opening before opened few)

@@ -1,5 +1,5 @@
--- An ask that is passed on spares what it spared. The machine for latches spares the index and each mailbox where it is at an eighth word,
--- and the latches where it rests.
+-- An ask that is passed on spares what it spared. The machine for latches spares the index and the words of sessions where it is at an eighth
+-- word, and the latches where it rests.
 use Rattle.std.proofs.Common.{◌≡◌, refl, sym, subst, arith, inl, inr, ℕ, Bool, true, false}
 use Rattle.std.specs.Prelude.{if◌then◌else◌, ⊤}
 use Rattle.fkv_plane.specs.declared.asks.Ask.{Ask}
@@ -12,7 +12,7 @@ use Rattle.fkv_latch.specs.declared.latching.Latching.TheVariants as latch
 use Rattle.fkv_latch.specs.declared.latching.LatchTask.{LatchTask}
 use Rattle.fkv_latch.specs.declared.latching.LatchTask.TheVariants.{TakeShared, DropShared, TakeExclusive, DropExclusive}
 use Rattle.fkv_latch.specs.Latching.{latch_first, latch_ask, latch_next, is_exclusive, is_free}
-use Rattle.law_parts.specs.Footprint.{Part, TheIndex, TheLatches, TheMailbox, IsOutside, IsEighth, Spares}
+use Rattle.law_parts.specs.Footprint.{OwnWords, Part, TheIndex, TheLatches, OfSession, IsOutside, IsEighth, Spares}
 use Rattle.law_parts.proofs.Footprint.Outside.{bucket_outside}
 
 -- one that is passed on
@@ -34,9 +34,9 @@ IsAtLatch p (latch.LoadsWord place) = IsEighth p place
 IsAtLatch p (latch.SetsExclusive place word) = IsEighth p place
 IsAtLatch p (latch.DropsExclusive place) = IsEighth p place
 
--- no mailbox has such a word
-eighth_outside : (session : ℕ) (p : Places) (place : ℕ) → IsEighth p place → IsOutside (TheMailbox session) p place
-eighth_outside session p place its = subst (λ (x : ℕ). IsOutside (TheMailbox session) p x) (sym its.at) (bucket_outside session p its.bucket 7)
+-- no session has such a word
+eighth_outside : (session : ℕ) (own : OwnWords) (p : Places) (place : ℕ) → IsEighth p place → IsOutside (OfSession session own) p place
+eighth_outside session own p place its = subst (λ (x : ℕ). IsOutside (OfSession session own) p x) (sym its.at) (bucket_outside session own p its.bucket 7)
 
 -- it changes the bits above the link
 above_link : (p : Places) (step : Latching) → IsAtLatch p step → Spares TheIndex p (latch_ask step)
@@ -49,16 +49,16 @@ above_link p (latch.LoadsWord place) at = tt
 above_link p (latch.SetsExclusive place word) at = inr (at, omega arith)
 above_link p (latch.DropsExclusive place) at = inr (at, omega arith)
 
--- which no mailbox has
-of_no_mail : (session : ℕ) (p : Places) (step : Latching) → IsAtLatch p step → Spares (TheMailbox session) p (latch_ask step)
+-- which no session has
+of_no_session : (session : ℕ) (own : OwnWords) (p : Places) (step : Latching) → IsAtLatch p step → Spares (OfSession session own) p (latch_ask step)
 unfolding latch_ask
-of_no_mail session p latch.AtRest at = tt
-of_no_mail session p (latch.AddsShare place) at = inl (eighth_outside session p place at)
-of_no_mail session p (latch.GivesBack place) at = inl (eighth_outside session p place at)
-of_no_mail session p (latch.DropsShare place) at = inl (eighth_outside session p place at)
-of_no_mail session p (latch.LoadsWord place) at = tt
-of_no_mail session p (latch.SetsExclusive place word) at = inl (eighth_outside session p place at)
-of_no_mail session p (latch.DropsExclusive place) at = inl (eighth_outside session p place at)
+of_no_session session own p latch.AtRest at = tt
+of_no_session session own p (latch.AddsShare place) at = inl (eighth_outside session own p place at)
+of_no_session session own p (latch.GivesBack place) at = inl (eighth_outside session own p place at)
+of_no_session session own p (latch.DropsShare place) at = inl (eighth_outside session own p place at)
+of_no_session session own p (latch.LoadsWord place) at = tt
+of_no_session session own p (latch.SetsExclusive place word) at = inl (eighth_outside session own p place at)
+of_no_session session own p (latch.DropsExclusive place) at = inl (eighth_outside session own p place at)
 
 -- at rest it asks for nothing
 at_rest : (p : Places) (step : Latching) → step ≡ latch.AtRest → Spares TheLatches p (latch_ask step)
@@ -69,7 +69,7 @@ at_rest p step e = rw e tt
 pub latch_spares : (part : Part) (p : Places) (step : Latching) → IsAtLatch p step → (part ≡ TheLatches → step ≡ latch.AtRest) → Spares part p (latch_ask step)
 latch_spares TheIndex p step at rests = above_link p step at
 latch_spares TheLatches p step at rests = at_rest p step (rests refl)
-latch_spares (TheMailbox session) p step at rests = of_no_mail session p step at
+latch_spares (OfSession session own) p step at rests = of_no_session session own p step at
 
 either_at : (c : Bool) (p : Places) (a b : Latching) → IsAtLatch p a → IsAtLatch p b → IsAtLatch p (if c then a else b)
 either_at true p a b one other = one

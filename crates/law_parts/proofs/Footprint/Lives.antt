@@ -1,9 +1,10 @@
 -- What holds at each moment of a session's own run holds of it at each moment of a life, and so for the keeper. So each ask of the keeper's
--- spares each part, but the mailbox that it is at.
-use Rattle.std.proofs.Common.{◌≡◌, ℕ, ◌∙◌, refl, sym, subst, arith, List}
+-- spares each part, but the mailbox that it is at and the durable word that it stores.
+use Rattle.std.proofs.Common.{◌≡◌, ℕ, ◌∙◌, refl, sym, subst, List}
 use Rattle.std.specs.Prelude.{Option, Some, None, slice_get}
 use Rattle.fkv_base.specs.declared.shapes.Shape.{Shape}
 use Rattle.fkv_plane.specs.declared.places.Places.{Places}
+use Rattle.fkv_keeper.specs.declared.keepers.Keeping.TheVariants.{Finishes}
 use Rattle.fkv_keeper.specs.KeeperRun as keeper
 use Rattle.fkv_keeper.specs.Keeping.{KeeperState, keeper_ask}
 use Rattle.fkv_session.specs.Sessions.{SessionState, Seat}
@@ -15,6 +16,7 @@ use Rattle.fkv_world.proofs.Shown.{keeper_runs, session_runs, same_seat, places_
 use Rattle.law_world.proofs.OfRuns.Nothing.{none_ever}
 use Rattle.law_parts.specs.Footprint.{Part, HasSeats, Spares}
 use Rattle.law_parts.specs.Mail.Servers.{serving_of}
+use Rattle.law_parts.proofs.Footprint.Commits.{IsStoredNot}
 use Rattle.law_parts.proofs.Footprint.Keepers.{IsKeeperSparing, keeper_asks_spares, keeper_run_spares}
 use Rattle.law_parts.proofs.Footprint.Serves.{IsServedNot}
 
@@ -41,14 +43,15 @@ at_each_moment Q opening events i s ran is = by_first (slice_get opening.now.ses
 -- of the keeper
 keeper_spared : (opening : World) (events : List Event) → keeper.IsOpened opening.now.keeper → IsKeeperSparing opening.now.shape.sessions opening.now.keeper.finish.sessions (run opening events).now.keeper
 keeper_spared opening events opened =
-    let most : ℕ = opening.now.keeper.finish.sessions in
-    let ran = keeper_run_spares most opening.now.shape opening.now.places opening.now.keeper (keeper_events opening events) opened (omega arith) in
-    subst (λ (s : KeeperState). IsKeeperSparing opening.now.shape.sessions most s) (sym (keeper_runs opening events)) ran
+    let count : ℕ = opening.now.keeper.finish.sessions in
+    let ran = keeper_run_spares count opening.now.shape opening.now.places opening.now.keeper (keeper_events opening events) opened refl in
+    subst (λ (s : KeeperState). IsKeeperSparing opening.now.shape.sessions count s) (sym (keeper_runs opening events)) ran
 
 pub keeper_spares : (part : Part) (opening : World) (events : List Event) → keeper.IsOpened opening.now.keeper → HasSeats part opening.now.places opening.now.shape.sessions → HasSeats part opening.now.places opening.now.keeper.finish.sessions
-    → IsServedNot part (serving_of (run opening events).now.keeper) → Spares part (run opening events).now.places (keeper_ask (run opening events).now.shape (run opening events).now.places (run opening events).now.keeper)
-keeper_spares part opening events opened served finished none =
+    → IsServedNot part (serving_of (run opening events).now.keeper) → ((run opening events).now.keeper.step ≡ Finishes → IsStoredNot part (run opening events).now.keeper.finish.step)
+    → Spares part (run opening events).now.places (keeper_ask (run opening events).now.shape (run opening events).now.places (run opening events).now.keeper)
+keeper_spares part opening events opened served finished none other =
     let s : KeeperState = (run opening events).now.keeper in
-    let its : Spares part opening.now.places (keeper_ask opening.now.shape opening.now.places s) = keeper_asks_spares part opening.now.shape opening.now.places opening.now.keeper.finish.sessions s served finished (keeper_spared opening events opened) none in
+    let its : Spares part opening.now.places (keeper_ask opening.now.shape opening.now.places s) = keeper_asks_spares part opening.now.shape opening.now.places opening.now.keeper.finish.sessions s served finished (keeper_spared opening events opened) none other in
     subst (λ (shape : Shape). Spares part (run opening events).now.places (keeper_ask shape (run opening events).now.places s)) (sym (shape_stays opening events))
     (subst (λ (p : Places). Spares part p (keeper_ask opening.now.shape p s)) (sym (places_stay opening events)) its)

@@ -13,7 +13,7 @@ use Rattle.fkv_flush.specs.Flushing.{flush_ask}
 use Rattle.fkv_flush.specs.Serving.{asked_state, serve_ask, mailbox_from, serve_next, serve_read}
 use Rattle.law_parts.specs.Mail.Servers.{is_serving}
 use Rattle.law_parts.specs.Footprint.{Part, TheMailbox, HasSeats, Spares}
-use Rattle.law_parts.proofs.Footprint.Outside.{shared_outside, other_outside, seat_of}
+use Rattle.law_parts.proofs.Footprint.Outside.{shared_outside, mail_outside, seat_of}
 
 -- what a flush asks for
 pub flush_spares : (part : Part) (p : Places) (step : Flushing) → Spares part p (flush_ask p step)
@@ -42,10 +42,10 @@ other_than part session none = λ same. let itself : (session == session) ≡ tr
 -- what it asks for
 pub serve_spares : (part : Part) (p : Places) (n : ℕ) (step : Serving) → HasSeats part p n → ServesBelow n step → IsServedNot part step → Spares part p (serve_ask step)
 unfolding serve_ask
-serve_spares part p n (serve.StoresHeader session mail) few low none = other_outside part p session own.MailHeader (seat_of part p n session few low) (other_than part session (none session))
-serve_spares part p n (serve.StoresKey session mail) few low none = other_outside part p session own.MailKey (seat_of part p n session few low) (other_than part session (none session))
-serve_spares part p n (serve.StoresValue session mail) few low none = other_outside part p session own.MailValue (seat_of part p n session few low) (other_than part session (none session))
-serve_spares part p n (serve.StoresReady session) few low none = other_outside part p session own.MailState (seat_of part p n session few low) (other_than part session (none session))
+serve_spares part p n (serve.StoresHeader session mail) few low none = mail_outside part p session own.MailHeader (omega arith) (seat_of part p n session few low) (other_than part session (none session))
+serve_spares part p n (serve.StoresKey session mail) few low none = mail_outside part p session own.MailKey (omega arith) (seat_of part p n session few low) (other_than part session (none session))
+serve_spares part p n (serve.StoresValue session mail) few low none = mail_outside part p session own.MailValue (omega arith) (seat_of part p n session few low) (other_than part session (none session))
+serve_spares part p n (serve.StoresReady session) few low none = mail_outside part p session own.MailState (omega arith) (seat_of part p n session few low) (other_than part session (none session))
 serve_spares part p n step few low none = tt
 
 -- the next mailbox is one of these, behind each reply and each read

@@ -1,5 +1,5 @@
--- A session spares each part but where it works there: where it searches or publishes, where it works on a latch, and where a task with its
--- mailbox is under way.
+-- A session spares each part but where it works there: where it searches or publishes, where it works on a latch, where a task with its
+-- mailbox is under way, and where it stores a mark.
 use Rattle.std.proofs.Common.{◌≡◌, ℕ, ◌+◌, refl, sym, subst, List, [], ◌∷◌, length, Bool, true, false}
 use Rattle.std.specs.Prelude.{if◌then◌else◌, ◌==◌, ◌||◌, not, ⊤, Option, Some, None, slice_get, slice_set}
 use Rattle.fkv_base.specs.declared.faults.Fault.{Fault}
@@ -11,7 +11,6 @@ use Rattle.fkv_plane.specs.declared.actions.Action.{Action}
 use Rattle.fkv_plane.specs.declared.asks.Ask.{Ask}
 use Rattle.fkv_plane.specs.declared.asks.Ask.TheVariants.{Done}
 use Rattle.fkv_plane.specs.declared.places.Places.{Places}
-use Rattle.fkv_plane.specs.declared.places.SessionWord.TheVariants as own
 use Rattle.fkv_epoch.specs.Leaving.{leave_next}
 use Rattle.fkv_latch.specs.declared.latching.Latching.TheVariants as latching
 use Rattle.fkv_ops.specs.declared.answers.Reason.{Reason}
@@ -36,17 +35,17 @@ use Rattle.fkv_session.specs.CatchingUp.{refresh_begun, wake_begun}
 use Rattle.fkv_session.specs.OwnTurns.{own_turn_begun, own_turn_given}
 use Rattle.fkv_session.specs.Sessions.{SessionState, Seat, IsOpened, bits_of, room_of, answers, refuses, answers_after_turn, request_in_hand, attempts, polls_request, polls_at, refusal_of, op_begun, refresh_call, poll_begun, poll_call, sleep_call, wake_call, call_begun, ticket_after, attempt_left, serial_taken, update_done, is_no_room, lacks_room, with_request, accepts, shifts, attempted, attempt_ledto, caught_up, catch_ledto, clear_ledto, is_finished, is_owed, request_finished, finishes_request, keeps_request, poll_ledto, turn_ledto, leave_ledto, attempt_moved, caught, own_turn_moved, sitting_ask, session_ask, sitting_next, session_next, sitting_given, session_given, asks_after, is_word_ask, is_busy}
 use Rattle.fkv_session.specs.SessionRun.{SessionEvent, Begins, Replies, Gets, begins, session_happens, session_run}
-use Rattle.law_parts.specs.Footprint.{Part, TheIndex, TheLatches, TheMailbox, HasSeat, Spares}
+use Rattle.law_parts.specs.Footprint.{Part, TheIndex, TheLatches, TheMarks, TheMailbox, HasSeat, Spares}
 use Rattle.law_parts.specs.Index.Finders.{sitting_part, search_in, entry_in}
 use Rattle.law_parts.specs.Latches.Latchers.{sitting_latching}
 use Rattle.law_parts.specs.Mail.Mailers.{sitting_mailing}
 use Rattle.law_parts.proofs.Footprint.Attempts.{mail_spares, is_other, IsAttemptSparing, attempt_spares, attempt_begun_spares, attempt_next_spares}
-use Rattle.law_parts.proofs.Footprint.Catches.{IsCatchSparing, catch_spares, catch_next_spares}
+use Rattle.law_parts.proofs.Footprint.Catches.{IsCatchSparing, is_marking, not_marks, catch_spares, catch_next_spares}
 use Rattle.law_parts.proofs.Footprint.Epochs.{leave_spares}
 use Rattle.law_parts.proofs.Footprint.Latching.{passed_spares}
 use Rattle.law_parts.proofs.Footprint.OwnTurns.{IsOwnTurnSparing, own_turn_spares, own_turn_next_spares, own_turn_given_spares, own_turn_begun_spares}
 use Rattle.law_parts.proofs.OfIndex.SessionParts.{SittingKnows}
-use Rattle.law_parts.proofs.Footprint.Outside.{own_outside, cut_outside}
+use Rattle.law_parts.proofs.Footprint.Outside.{owing_outside, cut_outside}
 
 -- by its step: its attempt, its catching up, or its own turn keeps to its bounds
 abbrev pub SittingBounds : Places → SessionState → Sitting → Type 0
@@ -59,6 +58,13 @@ SittingBounds p s step = ⊤
 abbrev pub IsSessionSparing : Places → SessionState → Type 0
 IsSessionSparing p s = SittingBounds p s s.step
 
+-- it stores one of its marks
+abbrev pub sitting_marks : SessionState → Sitting → Bool
+sitting_marks s (CatchesUp cause) = is_marking s.catching.step
+sitting_marks s (StoresOwing index) = true
+sitting_marks s StoresCut = true
+sitting_marks s step = false
+
 -- no machine that works on the part is under way
 pub record SittingRests (part : Part) (k : Seat) (s : SessionState) (step : Sitting) : Type 0 where
   pub knows : part ≡ TheIndex → SittingKnows k.places s step
@@ -66,6 +72,7 @@ pub record SittingRests (part : Part) (k : Seat) (s : SessionState) (step : Sitt
   pub entry : part ≡ TheIndex → entry_in (sitting_part s step).work ≡ None
   pub latch : part ≡ TheLatches → sitting_latching s step ≡ latching.AtRest
   pub mail : part ≡ TheMailbox k.number → sitting_mailing s step ≡ None
+  pub marks : part ≡ TheMarks k.number → sitting_marks s step ≡ false
 
 abbrev pub SessionRests : Part → Seat → SessionState → Type 0
 SessionRests part k s = SittingRests part k s s.step
@@ -76,13 +83,13 @@ unfolding sitting_ask
 sitting_spares part k s (Idle its) there at rests = tt
 sitting_spares part k s (Attempts has_shifted) there at rests =
     passed_spares part k.places _ _ (attempt_spares part k.places k.number s.attempt there at (record { knows = λ index. (rests.knows index).knows; search = rests.search; entry = rests.entry; latch = rests.latch; mail = rests.mail }))
-sitting_spares part k s (CatchesUp cause) there at rests = passed_spares part k.places _ _ (catch_spares part k.places k.number s.catching s.requests there at rests.latch)
+sitting_spares part k s (CatchesUp cause) there at rests = passed_spares part k.places _ _ (catch_spares part k.places k.number s.catching s.requests there at rests.latch rests.marks)
 sitting_spares part k s ClearsMail there at rests = passed_spares part k.places _ _ (mail_spares part k.places k.number s.mailing there (is_other part k.number s.mailing rests.mail))
 sitting_spares part k s (Polls index) there at rests =
     passed_spares part k.places _ _ (attempt_spares part k.places k.number s.attempt there at (record { knows = λ same. (rests.knows same).knows; search = rests.search; entry = rests.entry; latch = rests.latch; mail = rests.mail }))
-sitting_spares part k s (StoresOwing index) there at rests = own_outside part k.places k.number own.Owing there refl
+sitting_spares part k s (StoresOwing index) there at rests = owing_outside part k.places k.number there (not_marks part k.number rests.marks)
 sitting_spares part k s (Turns its) there at rests = passed_spares part k.places _ _ (own_turn_spares part k.places k.shape s.own_turn at)
-sitting_spares part k s StoresCut there at rests = cut_outside part k.places k.number s.seen.version.0 there
+sitting_spares part k s StoresCut there at rests = cut_outside part k.places k.number s.seen.version.0 there (not_marks part k.number rests.marks)
 sitting_spares part k s Leaves there at rests = passed_spares part k.places _ _ (leave_spares part k.places k.number s.leaving there)
 sitting_spares part k s LoadsDurable there at rests = tt
 
