@@ -6,6 +6,7 @@ mod InTurn
 mod LifeBegun
 mod NewestWritten
 mod NextNumbers
+mod OfCopied
 mod OwnTurnStores
 mod PhaseStores
 mod Pieces

@@ -1,5 +1,6 @@
 pub mod Accepted
 pub mod BegunCommits
+pub mod Copied
 pub mod FinishedNumbers
 pub mod PhaseStores
 pub mod PhaseVersions

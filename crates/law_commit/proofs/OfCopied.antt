@@ -1,0 +1,2 @@
+mod Keepers
+pub mod Lives
