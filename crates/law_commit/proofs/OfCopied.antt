@@ -1,2 +1,5 @@
+pub mod Began
+pub mod Covers
 mod Keepers
 pub mod Lives
+pub mod Sound

@@ -4,7 +4,7 @@
 mod copied;
 mod laws;
 
-pub use copied::law_world_copied;
+pub use copied::{law_copies_cover, law_world_copied};
 pub use laws::{
     law_begun, law_of_worked_pasts, law_of_worked_pieces, law_phase_stored, law_versions_counted,
     law_view_is_seen,

@@ -24,7 +24,7 @@ use Rattle.fkv_keeper.proofs.Shown.{each_move}
 use Rattle.fkv_world.specs.Moves.{Near}
 use Rattle.fkv_world.specs.OwnEvents.{keeper_got, keeper_slots, keeper_steps}
 use Rattle.fkv_world.proofs.Shown.{keeper_runs_on}
-use Rattle.law_commit.specs.Copied.{IsCopyBy, copy_moves, keeper_copies}
+use Rattle.law_commit.specs.Copied.Runs.{IsCopyBy, copy_moves, keeper_copies}
 
 -- ---- the copy in hand
 -- where the keeper copies, it has the copy that its replies told

@@ -31,7 +31,7 @@ use Rattle.law_parts.specs.Index.Shows as index
 use Rattle.law_parts.specs.Index.Shows.{Shows, seen_by_index}
 use Rattle.law_parts.proofs.OfIndex.Permitted.{are_permitted}
 use Rattle.law_parts.proofs.OfIndex.Worlds.{life_shows}
-use Rattle.law_commit.specs.Copied.{HasInHand, IsCheckpointOf, IsCopyBy, KeepsCopy, WritesCopy, copy_events, keeper_copies, opening_copy, seen_by_copy}
+use Rattle.law_commit.specs.Copied.Runs.{HasInHand, IsCheckpointOf, IsCopyBy, KeepsCopy, WritesCopy, copy_events, keeper_copies, opening_copy, seen_by_copy}
 use Rattle.law_commit.proofs.OfCopied.Keepers.{AreReplied, GoesOn, copies_on, own_on, steps_replied}
 
 -- what the keeper's part in an event is replied

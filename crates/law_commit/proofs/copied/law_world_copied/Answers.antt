@@ -1,8 +1,8 @@
 -- The law, by the law of a copy while others go on.
-use Rattle.std.specs.Prelude.{length}
-use Rattle.fkv_checkpoint.proofs.Shown.{copy_opens, copy_sound, sound_left_out}
-use Rattle.law_commit.specs.Copied.{copy_events, opening_copy}
+use Rattle.fkv_checkpoint.proofs.Shown.{sound_left_out}
+use Rattle.law_commit.specs.Copied.Runs.{copy_events, opening_copy}
 use Rattle.law_commit.proofs.OfCopied.Lives.{life_copies, life_keeps, life_writes}
+use Rattle.law_commit.proofs.OfCopied.Sound.{life_sound}
 use Rattle.law_commit.proofs.copied.law_world_copied.Goals as goal
 
 pub returns-clause-index : goal.returns-clause-index
@@ -18,14 +18,10 @@ pub returns-clause-written : goal.returns-clause-written
 returns-clause-written c = λ opening lists events opened. life_writes opening lists events opened
 
 pub returns-clause-stood : goal.returns-clause-stood
-returns-clause-stood c = λ opening lists events opened.
-    (copy_sound (opening_copy opening lists) (copy_events opening events) (copy_opens opening.now.places opening.now.words lists (length opening.now.sessions) opened.its_index)).stood
+returns-clause-stood c = λ opening lists events opened. (life_sound opening lists events opened).stood
 
 pub returns-clause-once : goal.returns-clause-once
-returns-clause-once c = λ opening lists events opened.
-    (copy_sound (opening_copy opening lists) (copy_events opening events) (copy_opens opening.now.places opening.now.words lists (length opening.now.sessions) opened.its_index)).copied.apart
+returns-clause-once c = λ opening lists events opened. (life_sound opening lists events opened).copied.apart
 
 pub returns-clause-whole : goal.returns-clause-whole
-returns-clause-whole c = λ opening lists events opened.
-    sound_left_out (opening_copy opening lists) (copy_events opening events)
-    (copy_sound (opening_copy opening lists) (copy_events opening events) (copy_opens opening.now.places opening.now.words lists (length opening.now.sessions) opened.its_index))
+returns-clause-whole c = λ opening lists events opened. sound_left_out (opening_copy opening lists) (copy_events opening events) (life_sound opening lists events opened)
