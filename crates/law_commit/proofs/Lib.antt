@@ -3,10 +3,12 @@ mod Catches
 mod Counted
 mod Goes
 mod InTurn
+mod Leads
 mod LifeBegun
 mod NewestWritten
 mod NextNumbers
 mod OfCopied
+mod OfLinked
 mod OwnTurnStores
 mod PhaseStores
 mod Pieces

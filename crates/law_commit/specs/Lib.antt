@@ -2,6 +2,7 @@ pub mod Accepted
 pub mod BegunCommits
 pub mod Copied
 pub mod FinishedNumbers
+pub mod Linked
 pub mod PhaseStores
 pub mod PhaseVersions
 pub mod PrefixPast

@@ -1,5 +1,5 @@
 -- The triples of a copy lead into the chains of their homes, and cover the chains as they were when it began.
-use Rattle.std.proofs.Common.{◌≡◌, inl, inr, ℕ, ◌∙◌, List, [], ◌∷◌, ◌++◌, refl, sym, ap, subst, arith, Bool, true, false}
+use Rattle.std.proofs.Common.{◌≡◌, inl, inr, ℕ, ◌∙◌, List, [], ◌∷◌, ◌++◌, refl, sym, subst, arith, Bool, true, false}
 use Rattle.std.specs.Prelude.{cond, nat_eq}
 use Rattle.std.specs.List.{AllByRecursion}
 use Rattle.std.proofs.lemmas.Bool.Decides.{nat_tests}
@@ -8,7 +8,6 @@ use Rattle.fkv_plane.specs.declared.places.Places.{Places}
 use Rattle.fkv_checkpoint.specs.declared.copying.CopyStep.TheVariants.{Ended}
 use Rattle.fkv_checkpoint.specs.Fuzzy.{HasCopy, IsEntryThen, NoneLeftOut}
 use Rattle.fkv_checkpoint.specs.Triples.{CopiedEntry}
-use Rattle.fkv_index.specs.declared.homes.Home.{Home}
 use Rattle.fkv_index.specs.Entries.{entry_of}
 use Rattle.fkv_index.specs.IndexWorld.{IndexWorld}
 use Rattle.fkv_index.specs.OneEntry.{IsHome}
@@ -16,23 +15,17 @@ use Rattle.fkv_index.specs.Slots.{entry_addr}
 use Rattle.fkv_world.specs.Runs.{World, run}
 use Rattle.fkv_world.specs.World.{Event, Now}
 use Rattle.fkv_world.proofs.Shown.{places_stay}
-use Rattle.law_guard.specs.Guarded.Shows as guard
 use Rattle.law_log.specs.Chains.{Logged, Published, Reserved, head_of}
 use Rattle.law_log.specs.Ghosts.{Changes, Drops, Ghosts, GhostEvent, Log, Publishes, changed, dropped, ghost_run, ghosts_after, published, set_at}
 use Rattle.law_log.specs.Trace.{IsIn}
 use Rattle.law_log.proofs.Shown.{run_on}
 use Rattle.law_parts.specs.Index.LifeEntries.{lists_seen}
-use Rattle.law_parts.specs.Index.Shows as index
-use Rattle.law_parts.specs.Index.Shows.{Shows, seen_by_index}
-use Rattle.law_parts.proofs.OfIndex.Permitted.{are_permitted}
-use Rattle.law_parts.proofs.OfIndex.Worlds.{life_shows}
+use Rattle.law_parts.specs.Index.Shows.{seen_by_index}
 use Rattle.law_refine.specs.Events.GhostEvents.{ghost_events, home_in, home_number, life_ghosts, mapped, serials_in}
-use Rattle.law_refine.specs.Events.Reserved.{IsUnbornFrom, ReservesNothing, tail_at}
-use Rattle.law_refine.specs.Heads.Heads.{LeadToHeads, head_at}
-use Rattle.law_refine.proofs.OfHeads.Entries.{entry_none, head_addr}
-use Rattle.law_refine.proofs.OfHeads.LifeHeads.{life_leads}
+use Rattle.law_refine.specs.Heads.Heads.{head_at}
 use Rattle.law_commit.specs.Copied.Covers.{CoverHeads, HasStoodSince, LeadIntoChains, before_copy}
 use Rattle.law_commit.specs.Copied.Runs.{copy_events, opening_copy, seen_by_copy}
+use Rattle.law_commit.proofs.Leads.{HasHeads, entry_led, leads_then, none_led, shows_then, some_led}
 use Rattle.law_commit.proofs.OfCopied.Began.{all_of, life_begun}
 
 -- ---- a chain keeps what it has
@@ -81,34 +74,7 @@ head_in : (chain : List ℕ) (a : ℕ) → head_of chain ≡ a → (a ≡ 0 → 
 head_in [] a is some = absurd (some (sym is))
 head_in (b ∷ older) a is some = inl is
 
--- ---- the entry of a home leads to where its chain begins
-entry_led : (n : Now) (lists : ℕ → List ℕ) (log : Log) (w : IndexWorld) (home : Home) → Shows n w → w.lists ≡ lists → LeadToHeads n lists log → IsHome w.now.places home → entry_addr (entry_of w home) ≡ head_at log home
-entry_led n lists log w home shows same leads there =
-    rw (shows.places, shows.words, same) (head_addr n lists log home leads (subst (λ (p : Places). IsHome p home) shows.places there))
-
-none_led : (word head : ℕ) → entry_addr word ≡ head → (head ≡ 0 → ⊥) → word ≡ 0 → ⊥
-none_led word head leads some none = some (sym leads ∙ ap entry_addr none)
-
--- an entry that isn't none leads to a record
-some_led : (n : Now) (lists : ℕ → List ℕ) (log : Log) (w : IndexWorld) (home : Home) → Shows n w → w.lists ≡ lists → LeadToHeads n lists log → IsHome w.now.places home → (entry_of w home ≡ 0 → ⊥) → head_at log home ≡ 0 → ⊥
-some_led n lists log w home shows same leads there some none =
-    some (rw (shows.places, shows.words, same) (leads home (subst (λ (p : Places). IsHome p home) shows.places there) ∙ entry_none (head_at log home) home.tag none))
-
 -- ---- a life
--- What the law of heads supposes of a life.
-pub record HasHeads (opening : World) (start : ℕ) (lists : ℕ → List ℕ) (ghosts : Ghosts) : Type 0 where
-  pub opened : guard.IsOpened opening.now start
-  pub in_order : index.IsOpened opening lists
-  pub none : IsUnbornFrom (tail_at opening.now) ghosts
-  pub free : ReservesNothing ghosts
-  pub leads : LeadToHeads opening.now lists ghosts.log
-
-leads_then : (opening : World) (start : ℕ) (lists : ℕ → List ℕ) (ghosts : Ghosts) (events : List Event) → HasHeads opening start lists ghosts → LeadToHeads (run opening events).now (lists_seen opening lists events) (life_ghosts opening ghosts events).log
-leads_then opening start lists ghosts events has = life_leads opening start lists ghosts events has.opened has.in_order has.none has.free has.leads
-
-shows_then : (opening : World) (start : ℕ) (lists : ℕ → List ℕ) (ghosts : Ghosts) (events : List Event) → HasHeads opening start lists ghosts → Shows (run opening events).now (seen_by_index opening lists events)
-shows_then opening start lists ghosts events has = life_shows opening lists events has.in_order (are_permitted opening lists events has.in_order)
-
 stood_in : (opening : World) (start : ℕ) (lists : ℕ → List ℕ) (ghosts : Ghosts) (events : List Event) (e : CopiedEntry) → HasHeads opening start lists ghosts → IsEntryThen (seen_by_index opening lists events) e
     → IsIn e.addr ((life_ghosts opening ghosts events).log.chains (home_number e.home))
 stood_in opening start lists ghosts events e has stood =

@@ -1,0 +1,2 @@
+mod Unlinked
+pub mod Lives
