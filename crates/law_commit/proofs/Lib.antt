@@ -3,12 +3,11 @@ mod Catches
 mod Counted
 mod Goes
 mod InTurn
-mod Leads
 mod LifeBegun
 mod NewestWritten
 mod NextNumbers
-mod OfCopied
-mod OfLinked
+pub mod OfCopied
+pub mod OfLinked
 mod OwnTurnStores
 mod PhaseStores
 mod Pieces

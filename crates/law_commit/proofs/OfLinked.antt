@@ -1,2 +1,4 @@
-mod Unlinked
 pub mod Lives
+mod Searches
+pub mod Since
+mod Unlinked

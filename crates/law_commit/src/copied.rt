@@ -38,9 +38,10 @@ pub fn law_world_copied()
         → NoneLeftOut (opening_copy opening lists) (copy_events opening events) }
 {}
 
-/// Over every life of an opened store whose chains begin where the entries of the index lead: each triple of the copy that began last leads into the chain of its home. If
-/// the copy is finished, each home whose chain wasn't empty when it began has a triple that leads to where the chain began then, or above it. For each
-/// entry that was copied stood in the index of the life at a moment since the copy began, and the copy began with the index as it was then.
+/// Over every life of an opened store whose chains begin where the entries of the index lead: each triple of the copy that began last leads into the
+/// chain of its home. If the copy is finished, each home whose chain wasn't empty when it began has a triple. That leads to where the chain began then,
+/// or above it. For each entry that was copied stood in the index of the life at a moment since the copy began, and the copy began with the index as
+/// it was then.
 pub fn law_copies_cover()
     ensures begun { (opening : World) (lists : ℕ → List ℕ) (events : List Event) → index.IsOpened opening lists
         → begun_at (opening_copy opening lists) (copy_events opening events) ≡ seen_by_index opening lists (before_copy opening events) }

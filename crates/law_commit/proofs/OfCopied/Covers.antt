@@ -25,7 +25,7 @@ use Rattle.law_refine.specs.Events.GhostEvents.{ghost_events, home_in, home_numb
 use Rattle.law_refine.specs.Heads.Heads.{head_at}
 use Rattle.law_commit.specs.Copied.Covers.{CoverHeads, HasStoodSince, LeadIntoChains, before_copy}
 use Rattle.law_commit.specs.Copied.Runs.{copy_events, opening_copy, seen_by_copy}
-use Rattle.law_commit.proofs.Leads.{HasHeads, entry_led, leads_then, none_led, shows_then, some_led}
+use Rattle.law_commit.proofs.OfCopied.Leads.{HasHeads, entry_led, leads_then, none_led, shows_then, some_led}
 use Rattle.law_commit.proofs.OfCopied.Began.{all_of, life_begun}
 
 -- ---- a chain keeps what it has

@@ -24,7 +24,7 @@ use Rattle.law_parts.proofs.OfIndex.Permitted.{are_permitted}
 use Rattle.law_refine.specs.Events.GhostEvents.{life_ghosts}
 use Rattle.law_refine.specs.Heads.Heads.{head_at}
 use Rattle.law_commit.specs.Linked.{MeetEmpty}
-use Rattle.law_commit.proofs.Leads.{HasHeads, entry_led, leads_then, shows_then}
+use Rattle.law_commit.proofs.OfCopied.Leads.{HasHeads, entry_led, leads_then, shows_then}
 use Rattle.law_commit.proofs.OfLinked.Unlinked.{no_entry}
 
 -- the word that is loaded there
