@@ -6,13 +6,15 @@ mod InTurn
 mod LifeBegun
 mod NewestWritten
 mod NextNumbers
-mod OfPhases
+pub mod OfCopied
 pub mod OfCuts
+pub mod OfLinked
+mod OfPhases
 mod OwnTurnStores
 mod PhaseStores
 mod Pieces
-pub mod Shown
 mod Rising
+pub mod Shown
 mod Sights
 mod Stamps
 mod ToldFinished

@@ -1,10 +1,12 @@
 pub mod Accepted
 pub mod BegunCommits
+pub mod Copied
 pub mod Cuts
 pub mod FinishedNumbers
+pub mod Linked
 pub mod PhaseStores
-pub mod Phases
 pub mod PhaseVersions
+pub mod Phases
 pub mod PrefixPast
 pub mod Raises
 pub mod Ranks

@@ -1,13 +1,17 @@
 //! What the law of prefixes asks of the past of a life, beside its run.
 #![tactic(auto)]
 
+mod copied;
 mod cuts;
 mod laws;
+mod linked;
 mod phases;
 
+pub use copied::{law_copies_cover, law_world_copied};
 pub use cuts::{law_cuts_stand, law_durable_stands, law_marks_stand};
 pub use laws::{
     law_begun, law_of_worked_pasts, law_of_worked_pieces, law_phase_stored, law_versions_counted,
     law_view_is_seen,
 };
+pub use linked::law_links_meet_empty;
 pub use phases::{law_replies_are_phases, law_replies_keep_stamps, law_stamps_are_loads};

@@ -3,11 +3,11 @@ mod AppendParts
 pub mod AttemptParts
 pub mod Permitted
 mod FindingFacts
-mod Goes
+pub mod Goes
 mod Leaves
 pub mod LifeFacts
 pub mod LifeMoves
-mod Moved
+pub mod Moved
 mod Openings
 mod OwnAsks
 mod SessionAsks

@@ -1,5 +1,5 @@
 pub mod AtHome
-mod Entries
+pub mod Entries
 pub mod LifeHeads
 mod Reserved
 mod Steps

@@ -1,0 +1,4 @@
+pub mod Lives
+mod Searches
+pub mod Since
+mod Unlinked

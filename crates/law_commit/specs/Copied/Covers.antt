@@ -1,0 +1,49 @@
+-- When the last copy of a life began, and what its triples are to the chains of the log.
+use Rattle.std.specs.Prelude.{◌≡◌, ℕ, if◌then◌else◌, Bool, true, false, List, [], ◌∷◌, ◌++◌}
+use Rattle.std.specs.List.{AllByRecursion}
+use Rattle.fkv_plane.specs.declared.places.Places.{Places}
+use Rattle.fkv_index.specs.declared.homes.Home.{Home}
+use Rattle.fkv_index.specs.OneEntry.{IsHome}
+use Rattle.fkv_checkpoint.specs.CopyWorld.{CopyEvent, CopyBegins}
+use Rattle.fkv_checkpoint.specs.Fuzzy.{HasCopy, IsEntryThen}
+use Rattle.fkv_checkpoint.specs.Triples.{CopiedEntry}
+use Rattle.fkv_world.specs.OwnEvents.{keeper_part_of}
+use Rattle.fkv_world.specs.Runs.{World, run}
+use Rattle.fkv_world.specs.World.{Event}
+use Rattle.law_log.specs.Ghosts.{Log}
+use Rattle.law_log.specs.Trace.{IsIn}
+use Rattle.law_parts.specs.Index.Shows.{seen_by_index}
+use Rattle.law_refine.specs.Events.GhostEvents.{home_number}
+use Rattle.law_refine.specs.Heads.Heads.{head_at}
+use Rattle.law_commit.specs.Copied.Runs.{keeper_copies}
+
+-- a copy begins by one of these
+abbrev pub begins_copy : List CopyEvent → Bool
+begins_copy [] = false
+begins_copy (CopyBegins ∷ before) = true
+begins_copy (event ∷ before) = begins_copy before
+
+abbrev pub begins_at : World → Event → Bool
+begins_at w event = begins_copy (keeper_copies w.now.shape w.now.places w.now.keeper (keeper_part_of w event))
+
+-- the events of a life before the one by which its last copy began; none, where none began
+unfoldable pub before_copy : World → List Event → List Event
+before_copy opening [] = []
+before_copy opening (event ∷ before) = if begins_at (run opening before) event then before else before_copy opening before
+
+-- The entry stood in the index at a moment of the life since then.
+pub record HasStoodSince (opening : World) (lists : ℕ → List ℕ) (events : List Event) (e : CopiedEntry) : Type 0 where
+  pub moment : List Event
+  pub later : List Event
+  pub split : events ≡ later ++ moment
+  pub between : List Event
+  pub since : moment ≡ between ++ before_copy opening events
+  pub stood : IsEntryThen (seen_by_index opening lists moment) e
+
+-- each triple leads into the chain of its home
+abbrev pub LeadIntoChains : List CopiedEntry → Log → Type 0
+LeadIntoChains triples log = AllByRecursion (λ e. IsIn e.addr (log.chains (home_number e.home))) triples
+
+-- each home whose chain isn't empty has a triple that leads to where the chain begins, or above it
+abbrev pub CoverHeads : Places → List CopiedEntry → Log → Type 0
+CoverHeads p triples log = (home : Home) → IsHome p home → (head_at log home ≡ 0 → ⊥) → HasCopy triples home (head_at log home)
