@@ -31,7 +31,10 @@ LivesKeepOrder = (life : BegunLife) (events : List Event) → CellsFit life.ghos
     → KeepsOrder life.opening life.ghosts events
 
 pub of_each_life : (P : Opened → Now → List ℕ → List Event → Type 0) → LivesBegin → OpeningsFit → LivesKeepOrder → OfEachKept P → InEachLife (WithoutCommits P)
-of_each_life P lives fit keep kept = λ bytes o n events store world calls few none.
+of_each_life P lives fit keep kept = λ its is none.
+    let n : Now = its.world in
+    let bytes : List ℕ = its.bytes in
+    let o : Opened = its.opened in
     let life : BegunLife = record {
       opening = beginning n bytes;
       start = o.tail.0;
@@ -40,8 +43,8 @@ of_each_life P lives fit keep kept = λ bytes o n events store world calls few n
       map = opening_map bytes o;
       number = o.number.0;
       ghosts = opening_ghosts bytes o;
-      begins = lives bytes o n store world;
+      begins = lives bytes o n is.store is.begins;
     } in
-    let keeps : KeepsOrder (beginning n bytes) (opening_ghosts bytes o) events =
-    keep life events (fit bytes o store) none calls (tickets_apart (beginning n bytes) events life.begins.world few) in
-    kept bytes o n events store world keeps.enabled keeps.published
+    let keeps : KeepsOrder (beginning n bytes) (opening_ghosts bytes o) its.events =
+    keep life its.events (fit bytes o is.store) none is.fits (tickets_apart (beginning n bytes) its.events life.begins.world is.few) in
+    kept bytes o n its.events is.store is.begins keeps.enabled keeps.published

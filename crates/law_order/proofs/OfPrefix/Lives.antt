@@ -7,8 +7,8 @@ use Rattle.fkv_map.specs.declared.history.HistoryEntry.{HistoryEntry}
 use Rattle.fkv_map.specs.Map.{Map}
 use Rattle.fkv_map.specs.History.{AreAtMost, IsLegal, IsWhole, content, kept, point_of}
 use Rattle.fkv_map.proofs.Shown.{content-append, IsLegal-append, kept-append, kept_again, kept_by_more, whole_of_lives}
-use Rattle.law_order.specs.OneHistory.EachLife.{InEachLife}
-use Rattle.law_order.specs.Prefix.Law.{AreLives, BeginsWithKept, HoldsPrefix, IsKeptOf, IsLife, Life, LivesFollow, ReachesFar, RecoversPrefix, first_of, history_so_far, kept_of_all, map_of, points_of}
+use Rattle.law_order.specs.OneHistory.EachLife.{InEachLife, IsLife, Life}
+use Rattle.law_order.specs.Prefix.Law.{AreLives, BeginsWithKept, HoldsPrefix, IsKeptOf, LivesFollow, ReachesFar, RecoversPrefix, first_of, history_so_far, kept_of_all, map_of, points_of}
 
 -- what points keep of all lives they keep again
 kept_before : (points : List Serial) (before : List Life) → kept (kept_of_all points before) points ≡ kept_of_all points before
@@ -63,7 +63,7 @@ module _ (recovers : InEachLife RecoversPrefix) where
   left : (its earlier : Life) (rest : List Life) → AreLives (its ∷ (earlier ∷ rest)) → ReachesFar earlier.bytes → HoldsPrefix earlier.opened earlier.world earlier.bytes earlier.events its.bytes
   left its earlier rest lives far =
       let e : IsLife earlier = (let older = lives.2 in older.0) in
-      recovers earlier.bytes earlier.opened earlier.world earlier.events e.store e.begins e.fits e.few far its.bytes lives.1
+      recovers earlier e far its.bytes lives.1
 
   reaches : (its : Life) (before : List Life) → AreLives (its ∷ before) → ReachesFar its.bytes
   reaches its [] lives = lives.1
@@ -76,7 +76,7 @@ module _ (recovers : InEachLife RecoversPrefix) where
   follow its (earlier ∷ rest) lives =
       let own : IsLife its = lives.0 in
       let held : HoldsPrefix earlier.opened earlier.world earlier.bytes earlier.events its.bytes = left its earlier rest lives (reaches earlier rest lives.2) in
-      let k : IsKeptOf earlier.opened earlier.world earlier.bytes earlier.events held.commit its.bytes its.opened = held.kept its.opened own.store in
+      let k : IsKeptOf earlier.opened earlier.world earlier.bytes earlier.events held.commit its.bytes its.opened = held.each its.opened own.store in
       one_more its earlier rest (follow earlier rest lives.2) k.whole k.risen k.legal k.pairs
 
   pub lives_follow : LivesFollow

@@ -8,10 +8,24 @@ use Rattle.law_order.specs.Rest.Resting.{HasNoCommit}
 use Rattle.law_order.specs.Served.Fits.{CallsFit}
 use Rattle.law_order.specs.Tickets.Few.{HasFewCalls}
 
--- So it is in each life of an opened store: over every list of events of its sessions, its keeper and its device, wherever a crash ends it. Its calls are of
--- numbers below 2^64, as all that a program can make are. Fewer than 2^64 - 1 calls of sessions begin in it, so no ticket comes again.
+-- a life: the bytes with which it begins, the store that they hold, the world that this opens with, and its events, the newest first
+pub record Life : Type 0 where
+  pub bytes : List ℕ
+  pub opened : Opened
+  pub world : Now
+  pub events : List Event
+
+-- It is one of an opened store: of any events of its sessions, its keeper and its device, wherever a crash ends it. Its calls are of numbers below 2^64, as
+-- all that a program can make are. Fewer than 2^64 - 1 calls of sessions begin in it, so no ticket comes again.
+pub record IsLife (its : Life) : Type 0 where
+  pub store : IsStoreOf its.bytes its.opened
+  pub begins : IsOpeningWorld its.opened its.world
+  pub fits : CallsFit its.events
+  pub few : HasFewCalls its.events
+
+-- so it is in each life
 abbrev pub InEachLife : (Opened → Now → List ℕ → List Event → Type 0) → Type 0
-InEachLife P = (bytes : List ℕ) (o : Opened) (n : Now) (events : List Event) → IsStoreOf bytes o → IsOpeningWorld o n → CallsFit events → HasFewCalls events → P o n bytes events
+InEachLife P = (its : Life) → IsLife its → P its.opened its.world its.bytes its.events
 
 -- so it is if no commit begins
 abbrev pub WithoutCommits : (Opened → Now → List ℕ → List Event → Type 0) → Opened → Now → List ℕ → List Event → Type 0

@@ -1,11 +1,13 @@
 -- The law of prefixes: what each image holds that a crash may leave of a life, and what points a commit has.
-use Rattle.std.specs.Prelude.{◌≡◌, ⊤, ℕ, ◌+◌, ◌≤◌, true, false, List, [], ◌∷◌, ◌++◌, Some}
+use Rattle.std.specs.Prelude.{◌≡◌, ⊤, ℕ, ◌+◌, ◌≤◌, Bool, true, false, List, [], ◌∷◌, ◌++◌, Some}
 use Rattle.fkv_base.specs.declared.faults.Fault.{Fault}
 use Rattle.fkv_base.specs.declared.numbers.Serial.{Serial}
 use Rattle.fkv_commit.specs.declared.commits.Commit.{Commit}
-use Rattle.fkv_core.specs.Openings.{IsOpeningWorld, beginning}
+use Rattle.fkv_core.specs.Openings.{beginning}
 use Rattle.fkv_creating.specs.Long.{IsLong}
 use Rattle.fkv_disk.specs.Calls.{Call, MayLeave}
+use Rattle.fkv_keeper.specs.Keeping.{Finality}
+use Rattle.fkv_keeper.specs.declared.answers.KeeperTold.TheVariants.{Turned}
 use Rattle.fkv_map.specs.History.{AreAtMost, IsLegal, IsWhole, content, kept, point_of}
 use Rattle.fkv_map.specs.Map.{Map}
 use Rattle.fkv_map.specs.declared.history.HistoryEntry.{HistoryEntry}
@@ -14,33 +16,42 @@ use Rattle.fkv_newest.specs.declared.newest_slots.Newest.{Newest}
 use Rattle.fkv_opening.specs.Faults.{IsFaultOf}
 use Rattle.fkv_opening.specs.Opened.{IsStoreOf}
 use Rattle.fkv_opening.specs.declared.opened_store.Opened.{Opened}
+use Rattle.fkv_world.specs.Past.{KeeperAnswered, Traced}
 use Rattle.fkv_world.specs.Runs.{run}
 use Rattle.fkv_world.specs.World.{Event, Now}
 use Rattle.law_commit.specs.Accepted.{serial_at}
-use Rattle.law_commit.specs.BegunCommits.{BegunCommit}
+use Rattle.law_commit.specs.BegunCommits.{AreInTurn, BegunCommit}
 use Rattle.law_commit.specs.PrefixPast.{PrefixPast, prefix_past}
 use Rattle.law_commit.specs.ToldPoints.{ToldPoint}
 use Rattle.law_log.specs.Trace.{IsIn, history_of}
 use Rattle.law_opening.specs.Log.Maps.{opening_map}
-use Rattle.law_order.specs.OneHistory.EachLife.{InEachLife}
+use Rattle.law_order.specs.OneHistory.EachLife.{InEachLife, IsLife, Life}
 use Rattle.law_order.specs.Rules.InTime.{ReadsInTime}
 use Rattle.law_order.specs.Rules.Ordered.{HasLegalHistory, IsGuarded, OrdersItsCalls, ReadsFreshly, RunsActionsOnce, effects_so_far, now_after}
-use Rattle.law_order.specs.Served.Fits.{CallsFit}
-use Rattle.law_order.specs.Tickets.Few.{HasFewCalls}
 
--- ---- a life so far: its updates in their order of effect; its writes and syncs of the device; its commits, and what sessions were told of them
+-- ---- a life so far
+-- Of a life, `o` is the store with which it begins, `n` the world that this opens with, and `bytes` what its file held. `events` are those so far, the newest
+-- first.
+
+-- its updates in their order of effect
 abbrev pub history_so_far : Now → List ℕ → List Event → List HistoryEntry
 history_so_far n bytes events = history_of (effects_so_far n bytes events)
 
+-- its writes and syncs of the device
 abbrev pub calls_so_far : Now → List ℕ → List Event → List Call
 calls_so_far n bytes events = (run (beginning n bytes) events).past.calls
 
+-- its calls and answers
+abbrev pub trace_so_far : Now → List ℕ → List Event → List Traced
+trace_so_far n bytes events = (run (beginning n bytes) events).past.trace
+
+-- its commits, and what sessions were told of them
 abbrev pub past_so_far : Now → List ℕ → List Event → PrefixPast
 past_so_far n bytes events = prefix_past (beginning n bytes) events
 
 -- ---- recovered
 -- An image ends at or above the end of all that its newest slot names. One that somebody cut may open too, since bytes past the end read as 0. Once a later
--- write makes it longer a crash may leave anything there. A new store reaches far, and so does each image that a life leaves.
+-- write makes it longer a crash may leave anything there. A new store reaches far; `recovered` says it of each image that a life leaves.
 pub record ReachesFar (image : List ℕ) : Type 0 where
   pub newest : Newest
   pub its : IsNewestOf image newest
@@ -56,8 +67,8 @@ pub record IsCurrent (past : PrefixPast) (c : BegunCommit) : Type 0 where
 abbrev pub kept_so_far : Now → List ℕ → List Event → List Serial → List HistoryEntry
 kept_so_far n bytes events points = kept (history_so_far n bytes events) points
 
--- A store is what a commit keeps of a life. It has the commit's number and points. Its map is the one with which the life began, behind a replay of just each
--- session's updates up to its point, in their order of effect. The replay is legal with the replies that were given. No point has fallen in the life.
+-- A store is what a commit keeps of a life. It has the commit's number and points. Its map is the one with which the life began, behind a replay in order of
+-- effect. The replay has just each session's updates up to its point, and is legal with the replies that were given. No point has fallen in the life.
 pub record IsKeptOf (o : Opened) (n : Now) (bytes : List ℕ) (events : List Event) (c : BegunCommit) (image : List ℕ) (r : Opened) : Type 0 where
   pub shape : r.shape ≡ o.shape
   pub number : r.number ≡ c.number
@@ -67,22 +78,40 @@ pub record IsKeptOf (o : Opened) (n : Now) (bytes : List ℕ) (events : List Eve
   pub whole : IsWhole (history_so_far n bytes events) o.points.items r.points.items
   pub risen : AreAtMost o.points.items r.points.items
 
--- An image holds a prefix of a life. No fault stands in it, and any store that it holds is what one current commit keeps. It reaches as far as the next life
--- asks.
+-- An image holds a prefix of a life. No fault stands in it, and any store that it holds is what one current commit keeps. So `recover` refuses it for the
+-- device or want of memory alone, and `content` answers this map. It reaches as far as the next life asks.
 pub record HoldsPrefix (o : Opened) (n : Now) (bytes : List ℕ) (events : List Event) (image : List ℕ) : Type 0 where
   pub commit : BegunCommit
   pub current : IsCurrent (past_so_far n bytes events) commit
   pub faultless : (fault : Fault) → IsFaultOf image fault → ⊥
-  pub kept : (r : Opened) → IsStoreOf image r → IsKeptOf o n bytes events commit image r
+  pub each : (r : Opened) → IsStoreOf image r → IsKeptOf o n bytes events commit image r
   pub reaches : ReachesFar image
 
 -- If a life began with an image that reaches far, each image holds a prefix of it that a crash may leave.
 abbrev pub RecoversPrefix : Opened → Now → List ℕ → List Event → Type 0
 RecoversPrefix o n bytes events = ReachesFar bytes → (image : List ℕ) → MayLeave bytes (calls_so_far n bytes events) image → HoldsPrefix o n bytes events image
 
+-- ---- finished
+-- What the keeper tells as finished is a commit that has begun and is finished, with its number and points.
+pub record IsToldFinished (begun : List BegunCommit) (last : Finality) : Type 0 where
+  pub commit : BegunCommit
+  pub is_begun : IsIn commit begun
+  pub finished : (let c = commit in c.is_finished ≡ true)
+  pub number : (let c = commit in c.number ≡ last.number)
+  pub points : (let c = commit in c.points ≡ last.points)
+
+-- So is each answer to a turn that finishes one.
+abbrev pub TellsFinished : Opened → Now → List ℕ → List Event → Type 0
+TellsFinished o n bytes events = (full : Bool) (last : Finality) (effects : ℕ) → IsIn (record { its = KeeperAnswered (Turned true full) last; effects = effects }) (trace_so_far n bytes events)
+    → IsToldFinished (past_so_far n bytes events).begun last
+
+-- Each commit has the number behind that of the one before, from the opening's on.
+abbrev pub HasCommitsInTurn : Opened → Now → List ℕ → List Event → Type 0
+HasCommitsInTurn o n bytes events = AreInTurn (past_so_far n bytes events).begun
+
 -- ---- fair
--- A session's point is fair. It is at least the last serial that the session had given as the commit was asked for, and at most the last that it has given. It
--- is no less than its point in the commit before.
+-- A session's point is fair. It is at least the last serial that the session had given as the commit was asked for. It is at most the last that it has given,
+-- and no less than its point in the commit before.
 pub record IsFairPoint (asked given before point : ℕ) : Type 0 where
   pub since_asked : asked ≤ point
   pub till_now : point ≤ given
@@ -93,18 +122,26 @@ abbrev pub TakesFairPoints : Now → PrefixPast → Type 0
 TakesFairPoints now past = (c : Commit) → now.keeper.commit ≡ Some c → now.keeper.has_points ≡ true
     → (session : ℕ) → IsFairPoint (past.asked session) (serial_at now session) (point_of now.keeper.last.points session) (point_of now.keeper.seek.points session)
 
--- The newest commit that has begun has the points that were taken, as long as it isn't finished.
+-- A commit that has begun is the one in hand, with the points that were taken.
+pub record IsInHandAsTaken (now : Now) (c : BegunCommit) : Type 0 where
+  pub commit : Commit
+  pub in_hand : now.keeper.commit ≡ Some commit
+  pub number : (let it = commit in it.number ≡ c.number)
+  pub taken : now.keeper.has_points ≡ true
+  pub points : c.points ≡ now.keeper.seek.points
+
+-- So is the newest that has begun, as long as it isn't finished.
 abbrev pub BeginsWithTaken : Now → List BegunCommit → Type 0
 BeginsWithTaken now [] = ⊤
-BeginsWithTaken now (c ∷ older) = c.is_finished ≡ false → (now.keeper.has_points ≡ true) × (c.points ≡ now.keeper.seek.points)
+BeginsWithTaken now (c ∷ older) = c.is_finished ≡ false → IsInHandAsTaken now c
 
--- So it is at each moment of a life.
+-- So it is at each moment of a life. A commit's points never change, so each that has begun has fair points.
 abbrev pub HasFairPoints : Opened → Now → List ℕ → List Event → Type 0
 HasFairPoints o n bytes events = (later before : List Event) → events ≡ later ++ before
     → TakesFairPoints (now_after n bytes before) (past_so_far n bytes before) × BeginsWithTaken (now_after n bytes before) (past_so_far n bytes before).begun
 
 -- ---- durable
--- A commit is one of so many that were told as finished: their numbers come one behind the other, from the opening's on.
+-- A commit has one of so many numbers behind the opening's. If numbers are in turn (`in_turn`), these are the commits that were told as finished first.
 abbrev pub IsAmongFinished : Opened → ℕ → BegunCommit → Type 0
 IsAmongFinished o finished c = c.number.0 ≤ o.number.0 + finished
 
@@ -122,31 +159,20 @@ abbrev pub TellsDurable : Opened → Now → List ℕ → List Event → Type 0
 TellsDurable o n bytes events = (session : ℕ) (told : ToldPoint) → IsIn told ((past_so_far n bytes events).told session) → IsToldDurable o (past_so_far n bytes events) session told
 
 -- ---- lives that follow one another
--- a life: the bytes with which it begins, the store that they hold, the world that this opens with, and its events
-pub record Life : Type 0 where
-  pub bytes : List ℕ
-  pub opened : Opened
-  pub world : Now
-  pub events : List Event
-
-pub record IsLife (its : Life) : Type 0 where
-  pub store : IsStoreOf its.bytes its.opened
-  pub begins : IsOpeningWorld its.opened its.world
-  pub fits : CallsFit its.events
-  pub few : HasFewCalls its.events
-
+-- the map with which a life begins
 abbrev pub map_of : Life → Map
 map_of its = opening_map its.bytes its.opened
 
+-- and the points
 abbrev pub points_of : Life → List Serial
 points_of its = its.opened.points.items
 
--- The first of them begins with an image that reaches far, each other one with an image that a crash may leave of the life before it.
+-- The first of them begins with an image that reaches far. Each other one begins with an image that a crash may leave of the life before it.
 abbrev pub BeginsBehind : Life → List Life → Type 0
 BeginsBehind its [] = ReachesFar its.bytes
 BeginsBehind its (last ∷ before) = MayLeave last.bytes (calls_so_far last.world last.bytes last.events) its.bytes
 
--- the newest first
+-- lives that follow one another, the newest first
 abbrev pub AreLives : List Life → Type 0
 AreLives [] = ⊤
 AreLives (its ∷ before) = IsLife its × BeginsBehind its before × AreLives before
@@ -172,7 +198,8 @@ pub record BeginsWithKept (its : Life) (before : List Life) : Type 0 where
 abbrev pub LivesFollow : Type 0
 LivesFollow = (its : Life) (before : List Life) → AreLives (its ∷ before) → BeginsWithKept its before
 
--- ---- The law of prefixes, by its ten clauses. `law_order` shows the first six of lives without commits. `law_lives` shows the last, by `recovered`.
+-- ---- The law of prefixes, by its twelve clauses
+-- `law_order` shows the first six, all but `once` of lives without commits. `law_lives` shows the last, by `recovered`.
 pub record PrefixLaw : Type 0 where
   -- the updates of a life take effect in one order, legal with the replies that were given, and reads are answered from it
   pub legal : InEachLife HasLegalHistory
@@ -184,7 +211,10 @@ pub record PrefixLaw : Type 0 where
   pub once : InEachLife RunsActionsOnce
   -- what is recovered of any image left is what the newest finished commit keeps, or the one that is being finished
   pub recovered : InEachLife RecoversPrefix
-  -- and that is what its points say
+  -- finished commits are those of which the keeper has told it, each with its number and points, and their numbers are in turn
+  pub told : InEachLife TellsFinished
+  pub in_turn : InEachLife HasCommitsInTurn
+  -- and points are what sessions had given, and were told
   pub fair : InEachLife HasFairPoints
   pub durable : InEachLife TellsDurable
   pub lives : LivesFollow

@@ -31,8 +31,8 @@ ReplaysKept o n bytes events image r = opening_map image r ≡ content (opening_
 abbrev pub KeepsLegally : Opened → Now → List ℕ → List Event → List ℕ → Opened → Type 0
 KeepsLegally o n bytes events image r = IsLegal (opening_map bytes o) (kept_so_far n bytes events r.points.items)
 
--- So it is of each store of such a commit, beside each life of an opened store in which each event of the log keeps to its rule, and what a session changes in
--- place is published.
+-- So it is of each store of such a commit, beside each life of an opened store that keeps the rules: each event of the log is enabled, and what a session
+-- changes in place is published.
 abbrev pub OfEachCommit : (Opened → Now → List ℕ → List Event → List ℕ → Opened → Type 0) → Type 0
 OfEachCommit P =
     (bytes : List ℕ) (o : Opened) (n : Now) (events : List Event) (image : List ℕ) (r : Opened) (store : IsStoreOf image r) → IsStoreOf bytes o → IsOpeningWorld o n

@@ -11,7 +11,7 @@ use Rattle.fkv_epoch.proofs.Shown.{none_some, some_same}
 use Rattle.fkv_map.specs.declared.operations.Call.{Call}
 use Rattle.fkv_map.specs.declared.operations.Call.TheVariants as call
 use Rattle.fkv_map.specs.declared.operations.Op.{Op}
-use Rattle.law_order.specs.OneHistory.EachLife.{InEachLife, WithoutCommits}
+use Rattle.law_order.specs.OneHistory.EachLife.{InEachLife, IsLife, Life, WithoutCommits}
 use Rattle.fkv_opening.specs.declared.opened_store.Opened.{Opened}
 use Rattle.law_order.specs.Rules.Ordered.{HasLegalHistory, OrdersItsCalls, ReadsFreshly}
 use Rattle.law_order.proofs.OfRules.Beginning.{world_opens}
@@ -152,10 +152,12 @@ module _ (legal : InEachLife (WithoutCommits HasLegalHistory)) (ordered : InEach
       let is_now : slice_get (run opening all).now.sessions number ≡ Some answered.s = ap (λ (x : Now). slice_get x.sessions number) ends.shows ∙ answered.found in
       let there = was_there opening life number moves (call.Op op) answered.s is_now in
       let result = result_told opening life number moves op there.s answered.s answered.its (world_opens o first bytes quiet.opening) alive there.found (here number there.s there.found) is_now answered.at_rest in
+      let lived : Life = record { bytes = bytes; opened = o; world = first; events = all } in
+      let is_life : IsLife lived = record { store = quiet.store; begins = quiet.opening; fits = all_fit; few = small } in
       let by_map = whole bytes o first life number moves op there.s answered.s answered.its quiet.opening
-      (legal bytes o first all quiet.store quiet.opening all_fit small no_commit)
-      (ordered bytes o first all quiet.store quiet.opening all_fit small no_commit)
-      (fresh bytes o first all quiet.store quiet.opening all_fit small no_commit)
+      (legal lived is_life no_commit)
+      (ordered lived is_life no_commit)
+      (fresh lived is_life no_commit)
       here alive there.found is_now answered.at_rest in
       record {
         answer = answered.answer;
