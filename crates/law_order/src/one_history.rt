@@ -1,4 +1,4 @@
-//! The order law of the engine, in every life without commits.
+//! The order law of the engine, in every life without commits, and what is known already of those with commits.
 ghost use Rattle.law_order.specs.OneHistory.EachLife.{InEachLife, WithoutCommits};
 ghost use Rattle.law_order.specs.Rules.InTime.{ReadsInTime};
 ghost use Rattle.law_order.specs.Rules.Ordered.{HasLegalHistory, IsGuarded, OrdersItsCalls, ReadsFreshly, RunsActionsOnce};
@@ -11,15 +11,16 @@ use crate::rules::{law_life_begins, law_order_of_rules};
 /// of a device whose calls fail, with any actor at any step and a crash anywhere: what has taken effect so far is one history, legal from the store's map
 /// on, with the replies that were given. It orders the calls: each update whose result was given took effect once, with that reply, none took effect but
 /// those that were called, and one whose result was given before another was called took effect before it. Each read is answered by its key's
-/// value at some moment between its call and its answer. No step changes a flushed record or a frame that an epoch protects, and each action is run once at most, and when each
-/// protected session goes by what it loaded since its epoch was raised. The calls are of numbers below 2^64, and fewer than 2^64 - 1 calls of sessions begin.
+/// value at some moment between its call and its answer. No step changes a flushed record or a frame that an epoch protects. The calls are of numbers below
+/// 2^64, and fewer than 2^64 - 1 calls of sessions begin. With commits or without, each action is run once at most, and when each protected session goes by
+/// what it loaded since its epoch was raised.
 pub fn law_order()
     ensures legal { InEachLife (WithoutCommits HasLegalHistory) }
     ensures ordered { InEachLife (WithoutCommits OrdersItsCalls) }
     ensures fresh { InEachLife (WithoutCommits ReadsFreshly) }
     ensures in_time { InEachLife (WithoutCommits ReadsInTime) }
     ensures guarded { InEachLife (WithoutCommits IsGuarded) }
-    ensures once { InEachLife (WithoutCommits RunsActionsOnce) }
+    ensures once { InEachLife RunsActionsOnce }
 {
     law_life_begins();
     law_order_of_rules();

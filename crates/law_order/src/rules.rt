@@ -8,6 +8,7 @@ ghost use Rattle.law_opening.specs.Log.Maps.{opening_map};
 ghost use Rattle.law_opening.specs.Log.OpeningLog.{opening_ghosts};
 ghost use Rattle.fkv_world.specs.World.{Now};
 ghost use Rattle.law_order.specs.Known.Begins.{BeginsLife};
+ghost use Rattle.law_order.specs.OneHistory.EachLife.{InEachLife};
 ghost use Rattle.law_order.specs.Rules.InTime.{ReadsInTime};
 ghost use Rattle.law_order.specs.Rules.Ordered.{HasLegalHistory, IsGuarded, OfEachKept, OrdersItsCalls, ReadsFreshly, RunsActionsOnce, opening_version};
 
@@ -39,15 +40,15 @@ pub fn law_life_begins()
 /// Where each event of the log beside such a life keeps to its rule, and what a session changes in place is published, the life itself has one history: what
 /// has taken effect so far is legal from the store's map on, with the replies that were given. It orders the calls: each update whose result was given took
 /// effect once, with that reply, none took effect but those that were called, and one whose result was given before another was called took effect before it.
-/// And each read is answered by its key's value at some moment between its call and its answer. The life is guarded, and each action is run once at most,
-/// and when each protected session goes by what it loaded since.
+/// And each read is answered by its key's value at some moment between its call and its answer. The life is guarded. In each life, with commits or without,
+/// each action is run once at most, and when each protected session goes by what it loaded since.
 pub fn law_order_of_rules()
     ensures legal { OfEachKept HasLegalHistory }
     ensures ordered { OfEachKept OrdersItsCalls }
     ensures fresh { OfEachKept ReadsFreshly }
     ensures in_time { OfEachKept ReadsInTime }
     ensures guarded { OfEachKept IsGuarded }
-    ensures once { OfEachKept RunsActionsOnce }
+    ensures once { InEachLife RunsActionsOnce }
 {
     law_guard_opens();
     law_log_opened();

@@ -1,6 +1,6 @@
 -- The law, by those of its parts.
 use Rattle.law_order.specs.Rules.InTime.{ReadsInTime}
-use Rattle.law_order.specs.Rules.Ordered.{HasLegalHistory, IsGuarded, OrdersItsCalls, ReadsFreshly, RunsActionsOnce}
+use Rattle.law_order.specs.Rules.Ordered.{HasLegalHistory, IsGuarded, OrdersItsCalls, ReadsFreshly}
 use Rattle.law_order.proofs.OfOneHistory.EachLife.{of_each_life}
 use Rattle.law_order.proofs.one_history.law_order.Goals as goal
 
@@ -20,4 +20,4 @@ pub returns-clause-guarded : goal.returns-clause-guarded
 returns-clause-guarded c = of_each_life IsGuarded c.law_life_begins.ensures c.law_opening_fits.ensures c.law_world_ordered.ensures c.law_order_of_rules.ensures.guarded
 
 pub returns-clause-once : goal.returns-clause-once
-returns-clause-once c = of_each_life RunsActionsOnce c.law_life_begins.ensures c.law_opening_fits.ensures c.law_world_ordered.ensures c.law_order_of_rules.ensures.once
+returns-clause-once c = c.law_order_of_rules.ensures.once

@@ -1,5 +1,5 @@
 -- The laws, from the log beside the life to the life itself.
-use Rattle.std.proofs.Common.{subst, sym, List, [], ◌∷◌}
+use Rattle.std.proofs.Common.{ℕ, subst, sym, List, [], ◌∷◌}
 use Rattle.fkv_base.specs.declared.shapes.Shape.{Shape}
 use Rattle.fkv_core.specs.Openings.{beginning}
 use Rattle.fkv_map.specs.History.{IsLegal}
@@ -10,7 +10,9 @@ use Rattle.law_opening.specs.Log.Lives.{ghosts_beside}
 use Rattle.law_opening.specs.Log.Maps.{opening_map}
 use Rattle.law_opening.specs.Log.OpeningLog.{opening_ghosts}
 use Rattle.law_refine.proofs.OfCalls.SameHistory.{same_history}
+use Rattle.fkv_opening.specs.declared.opened_store.Opened.{Opened}
 use Rattle.fkv_world.specs.Runs.{run}
+use Rattle.fkv_world.specs.World.{Event, Now}
 use Rattle.law_guard.specs.Guarded.Shows.{ArePermitted}
 use Rattle.law_refine.specs.Events.GhostEvents.{home_in}
 use Rattle.law_refine.proofs.OfRecords.Below.{published_permitted}
@@ -64,8 +66,12 @@ returns-clause-guarded c = λ bytes o n events store world rules published.
     }
 
 pub returns-clause-once : goal.returns-clause-once
-returns-clause-once c = λ bytes o n events store world rules published.
-    let opened = (c.law_guard_opens.ensures o n bytes world).now in
+returns-clause-once c = λ its is.
+    let n : Now = its.world in
+    let bytes : List ℕ = its.bytes in
+    let o : Opened = its.opened in
+    let events : List Event = its.events in
+    let opened = (c.law_guard_opens.ensures o n bytes is.begins).now in
     record {
       once = c.law_world_once.ensures.once (beginning n bytes) o.tail.0 events opened;
       claimed = λ later before event claim whole among. c.law_world_once.ensures.seen (beginning n bytes) o.tail.0 before event claim opened among;
