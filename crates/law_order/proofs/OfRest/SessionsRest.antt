@@ -113,10 +113,10 @@ other_rests false version a b e other = other
 still : (version : Version) (s : SessionState) (step : Sitting) → s.step ≡ step → HasSeenRest version s.seen → AreOfVersion version s.requests → SitsAtRest version s step → SessionRests version s
 still version s step at saw all its = record { saw = saw; waiting = all; sits = subst (SitsAtRest version s) (sym at) its }
 
--- not owed: its version is the session's
-owes_none : (b : Bool) (version one other : ℕ) → one ≡ version → other ≡ version → (b && nat_lt one other) ≡ false
-owes_none true version one other e o = grind (arith, nat_tests, e, o)
-owes_none false version one other e o = refl
+-- no update of the version before waits: this one is of the session's
+none_owing : (b : Bool) (version one other : ℕ) → one ≡ version → other ≡ version → (b && nat_lt one other) ≡ false
+none_owing true version one other e o = grind (arith, nat_tests, e, o)
+none_owing false version one other e o = refl
 
 module _ (version : Version) (fits : HasRequests version) where
   in_hand : (s : SessionState) → HasSeenRest version s.seen → IsOfVersion version (request_in_hand s)
@@ -175,7 +175,7 @@ module _ (version : Version) (fits : HasRequests version) where
   unfolding finishes_request
   finishes_rest k s index its saw all of_it =
       other_rests (is_owed s) version (request_finished s index its) (polls_at k (request_finished s index its) index)
-      (owes_none (not (is_read s.attempt.pending.request.op)) version.0 s.attempt.pending.request.version.0 s.seen.version.0 (ap (λ (v : Version). v.0) of_it.0) (ap (λ (v : Version). v.0) saw.same))
+      (none_owing (not (is_read s.attempt.pending.request.op)) version.0 s.attempt.pending.request.version.0 s.seen.version.0 (ap (λ (v : Version). v.0) of_it.0) (ap (λ (v : Version). v.0) saw.same))
       (polls_rest k (request_finished s index its) index saw (one_less version s.requests index all))
 
   keeps_rest : (k : Seat) (s : SessionState) (index : ℕ) (its : TryAnswer) → HasSeenRest version s.seen → AreOfVersion version s.requests → IsOfVersion version s.attempt.pending → SessionRests version (keeps_request k s index its)

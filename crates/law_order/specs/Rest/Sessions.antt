@@ -23,7 +23,7 @@ abbrev pub OwnTurnsAtRest : OwnTurnState → OwnTurning → Type 0
 OwnTurnsAtRest o turning.Claims = RunsNoPhase o.claiming
 OwnTurnsAtRest o step = ⊤
 
--- what it attempts, how it catches up, and its own turn; a poll owes nothing
+-- what it attempts, how it catches up, and its own turn; no poll stores how many of its updates still wait
 abbrev pub SitsAtRest : Version → SessionState → Sitting → Type 0
 SitsAtRest version s (Attempts has_shifted) = AttemptRests version s.attempt
 SitsAtRest version s (Polls index) = AttemptRests version s.attempt

@@ -1,4 +1,4 @@
--- How the world of the index shows the engine's, and what a step of the engine owes for that.
+-- How the world of the index shows the engine's, and when its steps are permitted.
 use Rattle.std.specs.Prelude.{◌≡◌, ℕ, ◌^◌, true, false, List, [], ◌∷◌, length, slice_get, Option, Some, None, ⊤}
 use Rattle.fkv_plane.specs.declared.asks.Ask.{Ask}
 use Rattle.fkv_plane.specs.declared.places.Places.{Places}

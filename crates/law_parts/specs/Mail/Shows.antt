@@ -1,4 +1,4 @@
--- How a mailbox's world shows the engine's, and what a step of the engine owes for that.
+-- How a mailbox's world shows the engine's, and when its steps are permitted.
 use Rattle.std.specs.Prelude.{◌≡◌, ℕ, ◌<◌, false, List, [], ◌∷◌, slice_get, Option, Some, None, ⊤}
 use Rattle.fkv_pending.specs.MailWorld.{MailWorld, mail_run}
 use Rattle.fkv_pending.specs.Mailbox as mailbox
