@@ -3,6 +3,7 @@ ghost use Rattle.std.specs.Prelude.{◌≡◌, ◌↔◌, ℕ, List, Some};
 ghost use Rattle.fkv_base.specs.declared.numbers.Key.{Key};
 ghost use Rattle.fkv_base.specs.declared.numbers.Value.{Value};
 ghost use Rattle.fkv_core.specs.Openings.{IsOpeningWorld};
+ghost use Rattle.fkv_filling.specs.OpeningIndex.{opening_lists};
 ghost use Rattle.fkv_opening.specs.Opened.{IsStoreOf};
 ghost use Rattle.fkv_opening.specs.declared.opened_store.Opened.{Opened};
 ghost use Rattle.law_log.specs.Ghosts.{shown};
@@ -11,8 +12,8 @@ ghost use Rattle.fkv_pairs.specs.Pairs.{ArePairs, HasValue, log_of_store};
 ghost use Rattle.fkv_world.specs.World.{Event, Now};
 ghost use Rattle.law_refine.specs.Events.GhostEvents.{home_in};
 ghost use Rattle.law_opening.specs.Log.Begins.{Begins};
-ghost use Rattle.law_opening.specs.Log.Heads.{LeadToHeads};
-ghost use Rattle.law_opening.specs.Log.Left.{LosesTheRest};
+ghost use Rattle.law_refine.specs.Heads.Heads.{LeadToHeads};
+ghost use Rattle.law_paper.specs.Paper.Old.{LosesTheRest};
 ghost use Rattle.law_opening.specs.Log.Lives.{IsBeside, IsOrdered, KeepsRules};
 ghost use Rattle.law_opening.specs.Log.Maps.{opening_map};
 ghost use Rattle.law_opening.specs.Log.OpeningLog.{opening_ghosts, opening_log};
@@ -57,7 +58,7 @@ pub fn law_log_begins()
 /// The index of the store's world has the entries of its chains: that of each home leads to where its chain begins, and a home whose chain is empty has
 /// none.
 pub fn law_log_heads()
-    ensures { (image : List ℕ) (o : Opened) (n : Now) → IsStoreOf image o → IsOpeningWorld o n → LeadToHeads o n (opening_log image o) }
+    ensures { (image : List ℕ) (o : Opened) (n : Now) → IsStoreOf image o → IsOpeningWorld o n → LeadToHeads n (opening_lists o.entries.items) (opening_log image o) }
 {
     law_spellings_apart();
     law_chain_of_entry();
@@ -67,7 +68,7 @@ pub fn law_log_heads()
 /// Of the valid records that the scan met, the lost ranges in the store's hand lose just those that the log doesn't have: each of them is lost or in the
 /// log, and none is both. The slot of a log commit has to name these ranges.
 pub fn law_lost_is_the_rest()
-    ensures { (image : List ℕ) (o : Opened) (store : IsStoreOf image o) → LosesTheRest (log_of_store image o store) o (opening_log image o) }
+    ensures { (image : List ℕ) (o : Opened) (store : IsStoreOf image o) → LosesTheRest o.lost.items (log_of_store image o store) (opening_log image o) }
 {
     law_spellings_apart();
     law_chain_of_entry();

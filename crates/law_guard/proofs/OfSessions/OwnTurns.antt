@@ -35,9 +35,9 @@ use Rattle.fkv_flush.specs.GuardWorld.{Actor, Work, GuardNow, GuardNear, GuardWo
 use Rattle.fkv_flush.proofs.Shown.{runs_now, moves_work, Likeness, FitsMachine, FitsWork, Fits, Follows, Knows, Awake, IsSound, Goes, shift_goes}
 use Rattle.law_guard.specs.Sessions.Likenesses.{likeness, through}
 use Rattle.law_guard.specs.Sessions.Steps.{Stays}
-use Rattle.law_guard.specs.Sessions.OwnTurns.{scan_machine, claim_machine, claim_onward, shift_machine, shift_work, turn_work, shift_onward, turn_gets, turn_settled, actions_settled, own_turn_likeness_at}
+use Rattle.law_guard.specs.Sessions.OwnTurns.{scan_machine, claim_machine, claim_onward, shift_machine, shift_work, turn_work, shift_onward, turn_gets, turn_settled, own_turn_likeness_at}
 use Rattle.law_guard.proofs.OfSessions.Catches.{machine_moves}
-use Rattle.law_guard.specs.Keeper.Settled.{is_of_slot}
+use Rattle.law_guard.specs.Keeper.Settled.{is_of_slot, actions_settled}
 use Rattle.law_guard.proofs.OfKeeper.Slots.{emptied, passed_slot}
 use Rattle.law_guard.proofs.OfSessions.Movers.{shift_fits, known_after, shift_rests_so, shift_under_way}
 use Rattle.law_guard.proofs.OfSessions.OwnTurnsLed.{OwnTurnLed, scan_led, claim_later, claim_led, shift_ends, shift_stays, shift_asking, shift_on, shift_later}

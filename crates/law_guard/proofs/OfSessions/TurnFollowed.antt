@@ -52,7 +52,8 @@ use Rattle.fkv_log.specs.Turning.{turning_ask, limit_after}
 use Rattle.law_guard.specs.Sessions.Steps.{onward_events}
 use Rattle.law_guard.specs.Sessions.Followed.{TurnsFollow, SessionFollows, seat_in}
 use Rattle.law_guard.specs.Sessions.Likenesses.{last_seen}
-use Rattle.law_guard.specs.Sessions.OwnTurns.{own_turn_likeness, own_turn_likeness_at, turn_gets, turn_settled, actions_settled}
+use Rattle.law_guard.specs.Sessions.OwnTurns.{own_turn_likeness, own_turn_likeness_at, turn_gets, turn_settled}
+use Rattle.law_guard.specs.Keeper.Settled.{actions_settled}
 use Rattle.law_guard.specs.Sessions.Sessions.{sitting_events, sitting_onward, sitting_likeness, session_likeness, is_protected_at, session_gets, session_settled}
 use Rattle.law_guard.proofs.OfSessions.Onwards.{Keeps, goes_onward}
 use Rattle.law_guard.proofs.OfSessions.Epochs.{machine_keeps, ask_keeps}

@@ -15,14 +15,13 @@ use Rattle.fkv_session.specs.Sessions.{SessionState, Seat, session_ask, session_
 use Rattle.fkv_world.specs.Moves as world
 use Rattle.fkv_world.specs.Moves.{Near, session_replied, session_asks, session_moved}
 use Rattle.law_guard.specs.Sessions.Followed.{Sits, SessionFollows, seat_in, is_turning}
-use Rattle.law_guard.specs.Sessions.OwnTurns.{actions_settled}
 use Rattle.law_guard.specs.Sessions.Sessions.{SessionWritesOuter, session_settled, sitting_events, sitting_onward}
 use Rattle.law_guard.specs.Sessions.Steps.{onward_events}
 use Rattle.law_guard.specs.Sessions.WorldSteps.{MovesFollow, beside}
 use Rattle.law_guard.proofs.OfSessions.Followed.{session_follows}
 use Rattle.law_guard.proofs.OfSessions.NoSlots.{session_slot}
 use Rattle.law_guard.proofs.OfSessions.Outer.{no_event}
-use Rattle.law_guard.specs.Keeper.Settled.{is_of_slot}
+use Rattle.law_guard.specs.Keeper.Settled.{is_of_slot, actions_settled}
 use Rattle.law_guard.proofs.OfSessions.TurnFollowed.{turn_follows}
 
 pub clash : {X : Type 0} (b : Bool) → b ≡ true → b ≡ false → X

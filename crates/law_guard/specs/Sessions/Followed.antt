@@ -12,7 +12,7 @@ use Rattle.fkv_session.specs.declared.sessions.Sitting.{Sitting}
 use Rattle.fkv_session.specs.declared.sessions.Sitting.TheVariants.{Turns}
 use Rattle.fkv_session.specs.Sessions.{SessionState, Seat, is_busy, session_ask, session_next, session_begun}
 use Rattle.law_guard.specs.Sessions.Steps.{onward_events}
-use Rattle.law_guard.specs.Sessions.OwnTurns.{actions_settled}
+use Rattle.law_guard.specs.Keeper.Settled.{actions_settled}
 use Rattle.law_guard.specs.Sessions.Rows.{SittingKnows}
 use Rattle.law_guard.specs.Sessions.Sessions.{sitting_events, sitting_onward, session_likeness, session_settled, called_guard_events, is_protected_at, SessionWritesOuter}
 

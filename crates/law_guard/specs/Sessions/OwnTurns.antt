@@ -1,5 +1,5 @@
 -- What the guard's actor is like in a session's own turn. What the machine of the epochs inside a shift is at is what the move inside has come to.
-use Rattle.std.specs.Prelude.{◌==◌, if◌then◌else◌, List, slice_set, Option, Some, None}
+use Rattle.std.specs.Prelude.{◌==◌, if◌then◌else◌, List, Option, Some, None}
 use Rattle.fkv_base.specs.declared.shapes.Shape.{Shape}
 use Rattle.fkv_plane.specs.declared.actions.Action.{Action}
 use Rattle.fkv_plane.specs.declared.asks.Ask.{Ask}
@@ -102,8 +102,3 @@ abbrev pub turn_settled : Shape → List (Option Action) → OwnTurnState → As
 turn_settled shape actions o (Put slot action) = own_turn_next shape o 0
 turn_settled shape actions o (Take slot) = turn_gets o (action_at actions slot)
 turn_settled shape actions o ask = o
-
-abbrev pub actions_settled : {A : Type 0} → List (Option Action) → Ask A → List (Option Action)
-actions_settled actions (Put slot action) = slice_set actions slot (Some action)
-actions_settled actions (Take slot) = slice_set actions slot None
-actions_settled actions ask = actions

@@ -36,7 +36,8 @@ use Rattle.fkv_ops.specs.Values.{value_of}
 use Rattle.fkv_ops.specs.Walking.{walk_ask, walk_next, walk_on}
 use Rattle.fkv_ops.specs.Appending.{append_ask, append_next}
 use Rattle.fkv_ops.specs.Trying.{TryState, with_latch, is_wait, ended_without, ends, takes_effect, full_at, wants_shared, walks, try_begun, shared_ledto, must_shift, wants_exclusive, appends, copies_from, copies, awaits, held_used, changes, is_own_version, region_met, walked, has_walked, walk_ledto, safe_loaded, current_ledto, value_changed, told_value, answer_ledto, exclusive_ledto, old_ledto, append_ledto, exclusive_dropped, shared_dropped, latch_moved, walk_moved, trying_next, try_next}
-use Rattle.law_local.specs.Sessions.Inputs.{IsWalkFor, WalksFor, IsTryFor}
+use Rattle.law_local.specs.Sessions.Inputs.{WalksFor, IsTryFor}
+use Rattle.law_local.specs.Tries.TryRows.{IsWalkFor}
 use Rattle.law_local.proofs.OfSessions.WalkInputs.{walk_for, walk_on_for}
 
 module _ (bits : ℕ) (request : Request) (seen : Seen) (occasion : Occasion) where

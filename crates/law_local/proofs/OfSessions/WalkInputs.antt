@@ -24,7 +24,7 @@ use Rattle.fkv_ops.specs.declared.walking.Walking.{Walking}
 use Rattle.fkv_ops.specs.declared.walking.Walking.TheVariants.{Ended, Finds, Meets, HasFound, LoadsValue}
 use Rattle.fkv_ops.specs.HeaderWords.{header_said}
 use Rattle.fkv_ops.specs.Walking.{WalkState, walk_ended, reached, slot_found, find_ledto, first_met, record_met, load_ledto, value_ledto, walking_next, walk_next, walking_on, walk_on}
-use Rattle.law_local.specs.Sessions.Inputs.{IsWalkFor}
+use Rattle.law_local.specs.Tries.TryRows.{IsWalkFor}
 
 -- it has the same key and the same head
 abbrev pub IsSameWalk : WalkState → WalkState → Type 0

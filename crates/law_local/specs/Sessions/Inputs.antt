@@ -18,13 +18,9 @@ use Rattle.fkv_session.specs.declared.sessions.Sitting.TheVariants.{Attempts, Po
 use Rattle.fkv_session.specs.Polls.{IsSameRequest}
 use Rattle.fkv_session.specs.Sessions.{SessionState, Seat, bits_of, request_in_hand}
 use Rattle.fkv_session.specs.Versions.{IsAttemptOfRequest}
+use Rattle.law_local.specs.Tries.TryRows.{IsWalkFor}
 
--- a walk is for the key of a request, and leaves memory at the head that was seen
-pub record IsWalkFor (request : Request) (seen : Seen) (w : WalkState) : Type 0 where
-  pub its_key : w.key ≡ key_of request.op
-  pub its_head : w.head ≡ seen.offsets.head
-
--- so is that of a try from where it has begun up to the end
+-- the walk of a try is for its request, from where it has begun up to the end
 abbrev pub WalksFor : Request → Seen → WalkState → Trying → Type 0
 WalksFor request seen w (Ended its) = ⊤
 WalksFor request seen w TakesShared = ⊤

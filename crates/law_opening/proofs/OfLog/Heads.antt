@@ -15,7 +15,7 @@ use Rattle.fkv_pairs.specs.Pairs.{log_of_store}
 use Rattle.fkv_room.proofs.Shown.{in_head, in_tail}
 use Rattle.fkv_world.specs.World.{Now}
 use Rattle.law_refine.specs.Events.GhostEvents.{home_number}
-use Rattle.law_opening.specs.Log.Heads.{LeadToHeads, entry_to}
+use Rattle.law_refine.specs.Heads.Heads.{LeadToHeads, entry_to}
 use Rattle.law_opening.specs.Log.OpeningLog.{chain_of, entry_of, opening_log}
 use Rattle.law_opening.proofs.OfLog.Counted.{chain_head}
 use Rattle.law_opening.proofs.OfLog.Reaching.{IsOfStore}
@@ -63,7 +63,7 @@ entry_none addr tag none = rw none refl
 entry_some : (addr tag : ℕ) → 0 < addr → entry_to addr tag ≡ addr + tag * 2 ^ 48
 entry_some addr tag some = let off : (addr == 0) ≡ false = grind (arith, nat_tests) in rw off refl
 
-pub lead_to_heads : (image : List ℕ) (o : Opened) (store : IsStoreOf image o) → IsOfStore (log_of_store image o store) o.entries.items → (n : Now) → IsOpeningIndex n.places o.entries.items n.words → LeadToHeads o n (opening_log image o)
+pub lead_to_heads : (image : List ℕ) (o : Opened) (store : IsStoreOf image o) → IsOfStore (log_of_store image o store) o.entries.items → (n : Now) → IsOpeningIndex n.places o.entries.items n.words → LeadToHeads n (opening_lists o.entries.items) (opening_log image o)
 lead_to_heads image o store its n index its_home there = elim (has_one o.entries.items its_home there.fits) [
   | inl found ↦
       let x : HomeEntry = found.its in

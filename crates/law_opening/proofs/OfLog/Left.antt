@@ -15,7 +15,7 @@ use Rattle.fkv_record.specs.declared.records.Record.{Record}
 use Rattle.fkv_scan.specs.Log.{Log, record_home}
 use Rattle.fkv_scan.specs.Records.{Stands, losses, is_in}
 use Rattle.fkv_scan.specs.Scanned.{TellsNewer}
-use Rattle.law_opening.specs.Log.Left.{LosesTheRest}
+use Rattle.law_paper.specs.Paper.Old.{LosesTheRest}
 use Rattle.law_opening.specs.Log.OpeningLog.{opening_log}
 use Rattle.law_opening.proofs.OfLog.Counted.{chain_counts, counts_chain}
 use Rattle.law_opening.proofs.OfLog.Reaching.{IsOfStore, one}
@@ -52,7 +52,7 @@ module _ (log : Log) (a : ℕ) (x : Record) (from : log.start ≤ a) (within : a
       let all = ap (λ (rs : List LostRange). losses rs a x) extends.3 in
       omega (arith, all, more, one_more, none)
 
-pub loses_the_rest : (image : List ℕ) (o : Opened) (store : IsStoreOf image o) → IsOfStore (log_of_store image o store) o.entries.items → LosesTheRest (log_of_store image o store) o (opening_log image o)
+pub loses_the_rest : (image : List ℕ) (o : Opened) (store : IsStoreOf image o) → IsOfStore (log_of_store image o store) o.entries.items → LosesTheRest o.lost.items (log_of_store image o store) (opening_log image o)
 loses_the_rest image o store its a x from within stands valid = (
   λ has.
       let counts = chain_counts image o store its _ a has in

@@ -48,7 +48,9 @@ use Rattle.fkv_world.specs.Past.{Traced}
 use Rattle.fkv_world.specs.Runs.{World, happens, run}
 use Rattle.fkv_world.specs.World.{Event, Moves, seat_at}
 use Rattle.law_guard.specs.Guarded.Shows as guard
-use Rattle.law_refine.specs.Events.Appends.{append_ghosts, cell_of, entry_made, invalidate_ghosts, is_for_entry, publish_ghosts, reserved_ghosts}
+use Rattle.law_refine.specs.Events.Appends.{append_ghosts, entry_made, invalidate_ghosts, publish_ghosts, reserved_ghosts}
+use Rattle.law_guard.specs.Sessions.Tries.{is_for_entry}
+use Rattle.law_local.specs.Tries.TryRows.{cell_of}
 use Rattle.law_refine.specs.Events.GhostEvents.{fixed_ghosts, ghost_events, mapped, moved_ghosts, own_ghosts, safe_at, serials_in, traced_by}
 use Rattle.law_refine.specs.Events.Lines.{lines_added}
 use Rattle.law_refine.specs.Events.Sessions.{attempt_ghosts, sitting_ghosts, step_ghosts, tried_ghosts, value_ghosts}

@@ -1,11 +1,12 @@
 -- What stands of a log where the commit in force uses the checkpoint with which the store was opened: recovery meets again what the opening's recovery met, and
 -- then what this life has written.
-use Rattle.std.specs.Prelude.{◌≡◌, ◌↔◌, ℕ, ◌<◌, ◌≤◌, false}
+use Rattle.std.specs.Prelude.{◌≡◌, ◌↔◌, ℕ, ◌<◌, ◌≤◌, false, List}
 use Rattle.fkv_chains.specs.Chains.{HasChains}
 use Rattle.fkv_chains.specs.Entries.{Counts}
 use Rattle.law_log.specs.Chains.{Cell, Published}
 use Rattle.law_log.specs.Ghosts.{Log}
 use Rattle.law_log.specs.Trace.{IsIn}
+use Rattle.fkv_record.specs.declared.lost_ranges.LostRange.{LostRange}
 use Rattle.fkv_record.specs.declared.records.Record.{Record}
 use Rattle.fkv_scan.specs.Log as scan
 use Rattle.fkv_scan.specs.Log.{AreApart, AreBelow, record_home}
@@ -36,10 +37,10 @@ pub record HasWhatCounted (was : scan.Log) (g : Log) : Type 0 where
   pub counted : (h a : ℕ) → a < was.tail → IsIn a (g.chains h) ↔ Has (Counts was h) a
   pub one_version : (a : ℕ) (cell : Cell) → a < was.tail → g.cells a ≡ Published cell → cell.version ≡ was.version
 
--- of the valid records that the opening's scan met, the ranges lose just those that aren't in the log's chains
-abbrev pub LosesTheRest : scan.Log → scan.Log → Log → Type 0
-LosesTheRest was image g = (a : ℕ) (x : Record) → was.start ≤ a → a < was.tail → Stands was a x → x.header.invalid ≡ false
-    → IsIn a (g.chains (record_home was.shape.bucket_bits x)) ↔ (losses image.lost a x ≡ 0)
+-- of the valid records that the opening's scan met, these ranges lose just those that aren't in the log's chains
+abbrev pub LosesTheRest : List LostRange → scan.Log → Log → Type 0
+LosesTheRest lost was g = (a : ℕ) (x : Record) → was.start ≤ a → a < was.tail → Stands was a x → x.header.invalid ≡ false
+    → IsIn a (g.chains (record_home was.shape.bucket_bits x)) ↔ (losses lost a x ≡ 0)
 
 -- The log is in order, the image shows it from the opening's end on, and the commit cuts it. What lies below that end is what the opening's recovery met, and
 -- the log has of it just what counted.
@@ -50,4 +51,4 @@ pub record StandsOnOld (home : ℕ → ℕ) (was image : scan.Log) (g : Log) : T
   pub goes_on : GoesOnFrom was image
   pub opened : WasSound was
   pub before : HasWhatCounted was g
-  pub loses : LosesTheRest was image g
+  pub loses : LosesTheRest image.lost was g

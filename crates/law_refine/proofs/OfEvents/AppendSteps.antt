@@ -27,7 +27,8 @@ use Rattle.fkv_ops.specs.declared.appending.AppendAnswer.TheVariants as answer
 use Rattle.fkv_ops.specs.declared.appending.Appending.{Appending}
 use Rattle.fkv_ops.specs.declared.appending.Appending.TheVariants.{Ended, Reserves as Taking, Fills, Publishes as Publishing, Invalidates}
 use Rattle.fkv_ops.specs.Appending.{AppendState, append_ended, appending_ask, append_ask, addr_reserved, reserve_ledto, fill_ledto, publish_ledto, invalidate_ledto, appending_next, append_next}
-use Rattle.law_refine.specs.Events.Appends.{cell_of, reserved_ghosts, publish_ghosts, invalidate_ghosts, append_ghosts}
+use Rattle.law_refine.specs.Events.Appends.{reserved_ghosts, publish_ghosts, invalidate_ghosts, append_ghosts}
+use Rattle.law_local.specs.Tries.TryRows.{cell_of}
 use Rattle.law_refine.specs.Events.Reservations.{Reservation, MovesOn, TakesTail, Keeps, TakesOne, LosesOne, PublishesOne, DropsOne, reservation, invalidate_reserves, append_reserves}
 
 -- so it is of an ask that is passed on

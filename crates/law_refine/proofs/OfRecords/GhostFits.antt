@@ -45,7 +45,9 @@ use Rattle.fkv_session.specs.declared.sessions.Sitting.TheVariants.{Attempts, Po
 use Rattle.fkv_session.specs.Sessions.{SessionState, Seat, bits_of, room_of, sitting_ask}
 use Rattle.law_guard.specs.Sessions.InPlace.{try_changes, attempt_changes, sitting_changes}
 use Rattle.fkv_world.specs.Past.{Traced}
-use Rattle.law_refine.specs.Events.Appends.{entry_made, is_for_entry, cell_of, reserved_ghosts, publish_ghosts, invalidate_ghosts, append_ghosts}
+use Rattle.law_refine.specs.Events.Appends.{entry_made, reserved_ghosts, publish_ghosts, invalidate_ghosts, append_ghosts}
+use Rattle.law_guard.specs.Sessions.Tries.{is_for_entry}
+use Rattle.law_local.specs.Tries.TryRows.{cell_of}
 use Rattle.law_refine.specs.Events.Effects.{AreQuiet}
 use Rattle.law_refine.specs.Events.Lines.{read_in_hand, read_waiting}
 use Rattle.law_refine.specs.Events.Reservations.{Reservation, reservation, append_reserves, try_reserves, attempt_reserves}

@@ -15,7 +15,7 @@ use Rattle.fkv_ops.specs.declared.header_words.HeaderSaid.TheVariants.{Says}
 use Rattle.fkv_ops.specs.HeaderWords.{header_said}
 use Rattle.fkv_ops.specs.Values.{value_of, word_of}
 use Rattle.fkv_plane.specs.declared.places.RecordWord.{RecordWord}
-use Rattle.law_refine.specs.Events.Appends.{cell_of}
+use Rattle.law_local.specs.Tries.TryRows.{cell_of}
 use Rattle.law_refine.specs.Records.Cells.{ShowsCell}
 use Rattle.law_refine.proofs.OfRecords.AppendRows.{IsFilled}
 use Rattle.law_refine.proofs.OfRecords.AttemptRows.{IsAllowed}

@@ -1,16 +1,13 @@
 -- What a step of an append is to the log: an address is taken for a record, and the record is published or given up.
-use Rattle.std.specs.Prelude.{ℕ, ◌^◌, ◌&&◌, nat_lt, if◌then◌else◌, Bool, List, [], ◌∷◌}
-use Rattle.fkv_base.specs.declared.numbers.Addr.{Addr}
+use Rattle.std.specs.Prelude.{ℕ, if◌then◌else◌, List, [], ◌∷◌}
 use Rattle.fkv_base.specs.declared.numbers.Serial.{Serial}
 use Rattle.fkv_map.specs.declared.history.HistoryEntry.{HistoryEntry}
 use Rattle.fkv_map.specs.declared.operations.Reply.{Reply}
-use Rattle.law_log.specs.Chains.{Cell}
 use Rattle.law_log.specs.Ghosts.{GhostEvent, Reserves, Publishes, Drops}
 use Rattle.fkv_plane.specs.declared.asks.Ask.{Ask}
 use Rattle.fkv_plane.specs.declared.asks.Ask.TheVariants.{Done}
 use Rattle.fkv_log.specs.declared.invalidating.Invalidating.{Invalidating}
 use Rattle.fkv_log.specs.declared.invalidating.Invalidating.TheVariants as invalidating
-use Rattle.fkv_log.specs.declared.record_words.RecordWords.{RecordWords}
 use Rattle.fkv_log.specs.declared.reserving.ReserveAnswer.{ReserveAnswer}
 use Rattle.fkv_log.specs.declared.reserving.ReserveAnswer.TheVariants.{Reserved}
 use Rattle.fkv_log.specs.Reserving.{reserve_next_ask}
@@ -20,10 +17,11 @@ use Rattle.fkv_index.specs.Publishing.{publish_next_ask}
 use Rattle.fkv_ops.specs.declared.appending.Appending.{Appending}
 use Rattle.fkv_ops.specs.declared.appending.Appending.TheVariants as appending
 use Rattle.fkv_ops.specs.Appending.{AppendState}
-use Rattle.fkv_ops.specs.Values.{value_of}
 use Rattle.fkv_pending.specs.declared.pending_requests.PendingRequest.{PendingRequest}
 use Rattle.fkv_pending.specs.declared.pending_requests.RequestName.{RequestName}
 use Rattle.fkv_pending.specs.declared.pending_requests.RequestName.TheVariants.{Update, Read}
+use Rattle.law_guard.specs.Sessions.Tries.{is_for_entry}
+use Rattle.law_local.specs.Tries.TryRows.{cell_of}
 
 -- the serial of an update; a read has none, and makes no entry
 abbrev pub serial_of : RequestName → Serial
@@ -33,14 +31,6 @@ serial_of (Read ticket) = record { 0 = 0 }
 -- the entry of the history that a session's request makes where it takes effect with this reply
 abbrev pub entry_made : ℕ → PendingRequest → Reply → HistoryEntry
 entry_made session pending reply = record { session = session; serial = serial_of pending.name; op = pending.request.op; reply = reply }
-
--- the record that these words are
-abbrev pub cell_of : RecordWords → Cell
-cell_of its = record { key = its.key.0; value = value_of its.value; version = its.header.version.0; previous = its.header.previous.0 }
-
--- an entry can have this address, and it is above that of the entry before
-abbrev pub is_for_entry : AppendState → Addr → Bool
-is_for_entry a addr = nat_lt a.its_words.header.previous.0 addr.0 && nat_lt addr.0 (2 ^ 48)
 
 -- the won Cas of the tail takes the address for the record; one that no entry can have is given up at once
 abbrev pub reserved_ghosts : AppendState → HistoryEntry → Ask ReserveAnswer → List GhostEvent

@@ -17,7 +17,8 @@ use Rattle.fkv_pending.specs.declared.attempting.Attempting.{Attempting}
 use Rattle.fkv_pending.specs.declared.attempting.Attempting.TheVariants.{Tries}
 use Rattle.fkv_pending.specs.declared.pending_requests.PendingRequest.{PendingRequest}
 use Rattle.fkv_pending.specs.Attempting.{AttemptState}
-use Rattle.law_refine.specs.Events.Appends.{entry_made, cell_of}
+use Rattle.law_refine.specs.Events.Appends.{entry_made}
+use Rattle.law_local.specs.Tries.TryRows.{cell_of}
 
 -- an address that is taken for a record, and the entry of the history that its publishing makes
 pub record Reservation : Type 0 where
