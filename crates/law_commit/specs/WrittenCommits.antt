@@ -5,7 +5,7 @@ use Rattle.fkv_commit.specs.declared.commits.CommitKind.{CommitKind}
 use Rattle.fkv_commit.specs.declared.commits.CommitKind.TheVariants.{Full, Log}
 use Rattle.fkv_keeper.specs.CheckpointLaws.{BegunWith, begun_with}
 use Rattle.fkv_keeper.specs.Keeping.{Finality}
-use Rattle.fkv_keeper.specs.KeeperRun.{Writing, writing}
+use Rattle.fkv_keeper.specs.KeeperRun.{Writing}
 use Rattle.fkv_keeper.specs.LastCommits.{slot_written}
 use Rattle.fkv_world.specs.OwnEvents.{keeper_events}
 use Rattle.fkv_world.specs.Runs.{World}
@@ -29,9 +29,6 @@ pub record NewestIsWritten (shape : Shape) (told : Option BegunWith) (w : Writin
   pub slot : w.first.gate.slot ≡ slot_written shape.sessions newest.number newest.end newest.checkpoint newest.points newest.lost
   pub checkpoint : UsesAsKind newest.kind newest last
 
--- in a life: what the start of the newest commit has told, and what is written for it
+-- in a life: what the start of the newest commit has told
 abbrev pub life_told : World → List Event → Option BegunWith
 life_told opening events = begun_with opening.now.shape opening.now.places opening.now.keeper (keeper_events opening events)
-
-abbrev pub life_writing : World → List Event → Writing
-life_writing opening events = writing opening.now.shape opening.now.places opening.now.keeper (keeper_events opening events)

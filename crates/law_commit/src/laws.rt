@@ -12,14 +12,15 @@ ghost use Rattle.fkv_world.specs.Runs.{World, run};
 ghost use Rattle.fkv_world.specs.World.{Event, KeeperMoves, seat_at};
 ghost use Rattle.law_commit.specs.Accepted.{HasRisingVersion, NeverFall, point, serial_at};
 ghost use Rattle.law_commit.specs.BegunCommits.{AreInTurn, AtKeeping};
-ghost use Rattle.law_commit.specs.FinishedNumbers.{numbers_finished, numbers_told};
+ghost use Rattle.law_commit.specs.FinishedCommits.{commits_finished, commits_told, told_of};
 ghost use Rattle.law_commit.specs.PhaseStores.{SparesPhase, StoresClaimed, StoresItsPhase, phase_at};
 ghost use Rattle.law_commit.specs.PhaseVersions.{HasRisingPhase, NoneIsAhead, RestsAreNext, phase_version};
 ghost use Rattle.law_commit.specs.PrefixPast.{prefix_past};
 ghost use Rattle.law_commit.specs.Views.{IsComing, IsSeenAs, IsSightAfter};
 ghost use Rattle.law_commit.specs.Worked.{AskedChanges, BegunChange, CountsUpto, OpenedWith, RaisesChange, RanksInTurn, ToldChanges, ViewsChange};
 ghost use Rattle.law_commit.specs.WorkedRuns.{IsWorkedPast, RaisesOfRuns};
-ghost use Rattle.law_commit.specs.WrittenCommits.{NewestIsWritten, life_told, life_writing};
+ghost use Rattle.law_commit.specs.WrittenCommits.{NewestIsWritten, life_told};
+ghost use Rattle.law_world.specs.Keeper.Lives.{life_writing};
 
 /// In every life of a store that was opened, whatever the other actors do, a session's serial is the one with which the life began, and one more for
 /// each update whose version is counted. As long as the version that the session goes by has never fallen, these versions never fall from an
@@ -61,7 +62,7 @@ pub fn law_view_is_seen()
 /// commit in hand, and sealed: it is of the kind that was asked for, with the number and the first address that its start has told; its triples were
 /// written, and its slot, which names its number, end, points, checkpoint and lost ranges. As long as each commit that begins has the number behind the newest finished one's, their numbers come one behind the
 /// other, from the opening's on; and each has that number as long as the phase word says rest only of the version behind the newest finished one's
-/// number. Those that are finished are the opening's and those that callers were told as finished, in their order.
+/// number. Those that are finished are the opening's and those that callers were told as finished, in their order, each with its number and points.
 pub fn law_begun()
     ensures begun { (opening : World) (events : List Event) → IsOpenedWorld opening
         → AtKeeping (prefix_past opening events).begun (run opening events).now.keeper (run opening events).now.keeper.step }
@@ -74,7 +75,7 @@ pub fn law_begun()
     ensures numbers { (opening : World) (events : List Event) → IsOpenedWorld opening → RestsAreNext opening events
         → AreNumbersInTurn opening.now.shape opening.now.places opening.now.keeper (keeper_events opening events) }
     ensures finished { (opening : World) (events : List Event) → IsOpenedWorld opening
-        → numbers_finished (prefix_past opening events).begun ≡ numbers_told (run opening events).past.trace (opening.now.keeper.last.number.0 ∷ []) }
+        → commits_finished (prefix_past opening events).begun ≡ commits_told (run opening events).past.trace (told_of opening.now.keeper.last ∷ []) }
 {}
 
 /// In every life of a store that was opened, whatever the sessions do, a step of the keeper leaves the phase word as it was, or makes it that of a phase that

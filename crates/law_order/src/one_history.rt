@@ -7,13 +7,13 @@ use crate::fits::law_opening_fits;
 use crate::ordered::law_world_ordered;
 use crate::rules::{law_life_begins, law_order_of_rules};
 
-/// Over every list of events without commits, of sessions that turn pages, sleep, wake, stall in the middle of calls, meet the disk and fill overflow buckets,
-/// of a device whose calls fail, with any actor at any step and a crash anywhere: what has taken effect so far is one history, legal from the store's map
-/// on, with the replies that were given. It orders the calls: each update whose result was given took effect once, with that reply, none took effect but
-/// those that were called, and one whose result was given before another was called took effect before it. Each read is answered by its key's
-/// value at some moment between its call and its answer. No step changes a flushed record or a frame that an epoch protects. The calls are of numbers below
-/// 2^64, and fewer than 2^64 - 1 calls of sessions begin. With commits or without, each action is run once at most, and when each protected session goes by
-/// what it loaded since its epoch was raised.
+/// In each life without commits what has taken effect so far is one history, legal from the store's map on, with the replies given. Sessions turn pages, sleep,
+/// wake, stall in the middle of calls, meet the disk and fill overflow buckets. Calls of the device fail, any actor moves at any step, and a crash comes
+/// anywhere. The history orders the calls. Each update whose result was given took effect once, with that reply, and none took effect but those that were
+/// called. One whose result was given before another was called took effect before it. Each read is answered by its key's value at some moment between its
+/// call and its answer. No step changes a flushed record or a frame that an epoch protects. The calls are of numbers below 2^64, and fewer than 2^64 - 1 calls
+/// of sessions begin. With commits or without, each action is run once at most. Each protected session then goes by what it loaded since the action's epoch
+/// was raised.
 pub fn law_order()
     ensures legal { InEachLife (WithoutCommits HasLegalHistory) }
     ensures ordered { InEachLife (WithoutCommits OrdersItsCalls) }

@@ -9,13 +9,22 @@ ghost use Rattle.law_log.specs.Ghosts.{Ghosts};
 ghost use Rattle.law_log.specs.Trace.{history_of};
 ghost use Rattle.law_opening.specs.Log.Maps.{opening_map};
 ghost use Rattle.law_order.specs.OneHistory.EachLife.{InEachLife};
-ghost use Rattle.law_order.specs.Prefix.Law.{LivesFollow, RecoversPrefix};
+ghost use Rattle.law_order.specs.Prefix.Law.{LivesFollow, RecoversPrefix, TellsFinished};
 ghost use Rattle.law_order.specs.Prefix.Stores.{KeepsLegally, OfEachCommit, ReplaysKept};
 ghost use Rattle.law_paper.specs.Kept.{KeepsPrefix};
 ghost use Rattle.law_paper.specs.Paper.Named.{IsOfCommit};
 
+use law_commit::law_begun;
 use law_opening::{law_guard_opens, law_log_begins, law_log_beside, law_log_opened};
 use law_paper::law_kept;
+
+/// In each life the commits that are finished are the opening's and those that the keeper has told as finished, in their order. Each has the number and the
+/// points that were told.
+pub fn law_finished_is_told()
+    ensures { InEachLife TellsFinished }
+{
+    law_begun();
+}
 
 /// If each image that a crash may leave of a life holds a prefix of it, lives follow one another. Each begins with the first store's map behind a replay of
 /// what was kept of all lives before. That is legal with the replies that were given, and has each session's serials up to its point once.
@@ -23,8 +32,9 @@ pub fn law_lives()
     ensures { InEachLife RecoversPrefix → LivesFollow }
 {}
 
-/// If an image's store has the values that a log shows of versions up to a commit's, and its points keep just what the log has of these, its map is the
-/// content of what they keep. `law_paper` shows the one of each image with a commit in force, and the other of each commit's points.
+/// The map of an image's store is the content of what its points keep, if two things hold. Its values are those that a log shows of versions up to a
+/// commit's. Its points keep just what the log has of these. `law_paper` shows the one of each image with a commit in force, and the other of each commit's
+/// points.
 pub fn law_join()
     ensures { (home : ℕ → ℕ) (image : List ℕ) (n : Newest) (r : Opened) (store : IsStoreOf image r) (m : Map) (g : Ghosts) → IsOfCommit home image n g.log r store
         → KeepsPrefix home m r.points.items n.slot.number g → opening_map image r ≡ content m (kept (history_of g.log.history) r.points.items) }
@@ -32,9 +42,9 @@ pub fn law_join()
     law_log_opened();
 }
 
-/// So it is in each life in which the order law's rules are kept, with commits or without. If a store has the values that the log beside the life shows of
-/// versions up to a commit's, and its points keep just the updates of these, its map is the life's first one behind a replay of the updates that its points
-/// keep. The replay is legal with the replies that were given.
+/// So it is in each life in which the order law's rules are kept, with commits or without. Let a store have the values that the log beside the life shows of
+/// versions up to a commit's, and let its points keep just the updates of these. Then its map is the life's first one, behind a replay of these updates. The
+/// replay is legal with the replies that were given.
 pub fn law_replays_kept()
     ensures pairs { OfEachCommit ReplaysKept }
     ensures legal { OfEachCommit KeepsLegally }

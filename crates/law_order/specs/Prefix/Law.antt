@@ -1,13 +1,11 @@
 -- The law of prefixes: what each image holds that a crash may leave of a life, and what points a commit has.
-use Rattle.std.specs.Prelude.{◌≡◌, ⊤, ℕ, ◌+◌, ◌≤◌, Bool, true, false, List, [], ◌∷◌, ◌++◌, Some}
+use Rattle.std.specs.Prelude.{◌≡◌, ⊤, ℕ, ◌+◌, ◌≤◌, true, false, List, [], ◌∷◌, ◌++◌, Some}
 use Rattle.fkv_base.specs.declared.faults.Fault.{Fault}
 use Rattle.fkv_base.specs.declared.numbers.Serial.{Serial}
 use Rattle.fkv_commit.specs.declared.commits.Commit.{Commit}
-use Rattle.fkv_core.specs.Openings.{beginning}
+use Rattle.fkv_core.specs.Openings.{beginning, newest_commit}
 use Rattle.fkv_creating.specs.Long.{IsLong}
 use Rattle.fkv_disk.specs.Calls.{Call, MayLeave}
-use Rattle.fkv_keeper.specs.Keeping.{Finality}
-use Rattle.fkv_keeper.specs.declared.answers.KeeperTold.TheVariants.{Turned}
 use Rattle.fkv_map.specs.History.{AreAtMost, IsLegal, IsWhole, content, kept, point_of}
 use Rattle.fkv_map.specs.Map.{Map}
 use Rattle.fkv_map.specs.declared.history.HistoryEntry.{HistoryEntry}
@@ -16,11 +14,12 @@ use Rattle.fkv_newest.specs.declared.newest_slots.Newest.{Newest}
 use Rattle.fkv_opening.specs.Faults.{IsFaultOf}
 use Rattle.fkv_opening.specs.Opened.{IsStoreOf}
 use Rattle.fkv_opening.specs.declared.opened_store.Opened.{Opened}
-use Rattle.fkv_world.specs.Past.{KeeperAnswered, Traced}
+use Rattle.fkv_world.specs.Past.{Traced}
 use Rattle.fkv_world.specs.Runs.{run}
 use Rattle.fkv_world.specs.World.{Event, Now}
 use Rattle.law_commit.specs.Accepted.{serial_at}
 use Rattle.law_commit.specs.BegunCommits.{AreInTurn, BegunCommit}
+use Rattle.law_commit.specs.FinishedCommits.{commits_finished, commits_told, told_of}
 use Rattle.law_commit.specs.PrefixPast.{PrefixPast, prefix_past}
 use Rattle.law_commit.specs.ToldPoints.{ToldPoint}
 use Rattle.law_log.specs.Trace.{IsIn, history_of}
@@ -30,8 +29,8 @@ use Rattle.law_order.specs.Rules.InTime.{ReadsInTime}
 use Rattle.law_order.specs.Rules.Ordered.{HasLegalHistory, IsGuarded, OrdersItsCalls, ReadsFreshly, RunsActionsOnce, effects_so_far, now_after}
 
 -- ---- a life so far
--- Of a life, `o` is the store with which it begins, `n` the world that this opens with, and `bytes` what its file held. `events` are those so far, the newest
--- first.
+-- Of a life, `o` is the store with which it begins, and `n` the world that this opens with. `bytes` are those that its file held. `events` are those so far,
+-- the newest first.
 
 -- its updates in their order of effect
 abbrev pub history_so_far : Now → List ℕ → List Event → List HistoryEntry
@@ -92,18 +91,9 @@ abbrev pub RecoversPrefix : Opened → Now → List ℕ → List Event → Type 
 RecoversPrefix o n bytes events = ReachesFar bytes → (image : List ℕ) → MayLeave bytes (calls_so_far n bytes events) image → HoldsPrefix o n bytes events image
 
 -- ---- finished
--- What the keeper tells as finished is a commit that has begun and is finished, with its number and points.
-pub record IsToldFinished (begun : List BegunCommit) (last : Finality) : Type 0 where
-  pub commit : BegunCommit
-  pub is_begun : IsIn commit begun
-  pub finished : (let c = commit in c.is_finished ≡ true)
-  pub number : (let c = commit in c.number ≡ last.number)
-  pub points : (let c = commit in c.points ≡ last.points)
-
--- So is each answer to a turn that finishes one.
+-- The commits that are finished are the opening's and those that the keeper has told as finished. They are so in their order, each with its number and points.
 abbrev pub TellsFinished : Opened → Now → List ℕ → List Event → Type 0
-TellsFinished o n bytes events = (full : Bool) (last : Finality) (effects : ℕ) → IsIn (record { its = KeeperAnswered (Turned true full) last; effects = effects }) (trace_so_far n bytes events)
-    → IsToldFinished (past_so_far n bytes events).begun last
+TellsFinished o n bytes events = commits_finished (past_so_far n bytes events).begun ≡ commits_told (trace_so_far n bytes events) (told_of (newest_commit o) ∷ [])
 
 -- Each commit has the number behind that of the one before, from the opening's on.
 abbrev pub HasCommitsInTurn : Opened → Now → List ℕ → List Event → Type 0
@@ -199,7 +189,7 @@ abbrev pub LivesFollow : Type 0
 LivesFollow = (its : Life) (before : List Life) → AreLives (its ∷ before) → BeginsWithKept its before
 
 -- ---- The law of prefixes, by its twelve clauses
--- `law_order` shows the first six, all but `once` of lives without commits. `law_lives` shows the last, by `recovered`.
+-- `law_order` shows the first six, all but `once` of lives without commits. `law_finished_is_told` shows `told`, and `law_lives` the last, by `recovered`.
 pub record PrefixLaw : Type 0 where
   -- the updates of a life take effect in one order, legal with the replies that were given, and reads are answered from it
   pub legal : InEachLife HasLegalHistory
@@ -211,7 +201,7 @@ pub record PrefixLaw : Type 0 where
   pub once : InEachLife RunsActionsOnce
   -- what is recovered of any image left is what the newest finished commit keeps, or the one that is being finished
   pub recovered : InEachLife RecoversPrefix
-  -- finished commits are those of which the keeper has told it, each with its number and points, and their numbers are in turn
+  -- finished commits are those that the keeper has told as finished, with these numbers and points, and numbers are in turn
   pub told : InEachLife TellsFinished
   pub in_turn : InEachLife HasCommitsInTurn
   -- and points are what sessions had given, and were told
