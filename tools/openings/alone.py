@@ -1,7 +1,8 @@
 """The program over a store's file: one process alone has it open, what is no store is left as it is, and the folder of a new file is
-synced before anything is written."""
+synced before anything is written. A lock or a sync that fails, and a path of something else than a file, end the run with its reason."""
 import os
 import re
+import socket
 import subprocess
 import sys
 import tempfile
@@ -62,13 +63,18 @@ def one_alone(path):
     need("open once the first process is killed", ran(path, "open\n"), (0, OPENED, ""))
 
 
-def calls_of(path, script):
-    """The calls that a run makes on files, in turn: name, path, whatever else is said, answer."""
+def traced(path, script, *asked):
+    """A run under strace that is asked for this, and the lines that strace writes."""
     with tempfile.NamedTemporaryFile("r") as calls:
-        asked = "trace=open,openat,flock,ftruncate,fsync,fdatasync,read,write,pread64,pwrite64,lseek"
-        strace = ["strace", "-f", "-y", "-qq", "-s", "0", "-e", asked, "-o", calls.name]
+        strace = ["strace", "-f", "-y", "-qq", "-s", "0", *asked, "-o", calls.name]
         run = subprocess.run([*strace, PROGRAM, "--file", path], input=script, capture_output=True, text=True, timeout=SECONDS)
-        found = [it.groups() for line in calls if (it := CALL.match(line))]
+        return run, calls.readlines()
+
+
+def calls_of(path, script):
+    """The status, and the calls that a run makes on files, in turn: name, path, whatever else is said, answer."""
+    run, lines = traced(path, script, "-e", "trace=open,openat,flock,ftruncate,fsync,fdatasync,read,write,pread64,pwrite64,lseek")
+    found = [it.groups() for line in lines if (it := CALL.match(line))]
     return run.returncode, [(name, named or about, more, answer) for name, named, about, more, answer in found]
 
 
@@ -84,8 +90,9 @@ def folder_is_synced(path):
     need("the status of a new store", status, 0)
     opened, locked = place_of(calls, "openat", path), place_of(calls, "flock", path)
     synced, written = place_of(calls, "fsync", folder), place_of(calls, "write", path)
-    answered = next(n for n, it in enumerate(calls) if it[0] == "write" and it[1].startswith("pipe:"))
-    if not opened < locked < synced < written < answered or any("O_TRUNC" in it[2] or it[0] == "ftruncate" for it in calls):
+    answered = next((n for n, it in enumerate(calls) if it[0] == "write" and it[1].startswith("pipe:")), None)
+    in_turn = (opened, locked, synced, written, answered)
+    if None in in_turn or list(in_turn) != sorted(in_turn) or any("O_TRUNC" in it[2] or it[0] == "ftruncate" for it in calls):
         sys.exit(f"a new file: its opening, its lock, its folder's sync, its first write and the first answer come in another turn: {calls}")
     if any(it[1] == path and it[0] not in ("openat", "flock") for it in calls[:locked]):
         sys.exit(f"a new file is used before its lock: {calls}")
@@ -104,11 +111,46 @@ def foreign_is_left(path):
     need("a foreign file", held(path), text)
 
 
+# calls of which the first fails in a run over a new file, with what the system says then, and the complaint
+FAILING = [
+    ("flock", "ENOLCK", "can't be locked: No locks available (os error 37)"),
+    ("fsync", "ENOSPC", "is new, and its folder can't be synced: No space left on device (os error 28)"),
+]
+
+
+def refusal(path, complaint):
+    """How a run ends over a file that is refused."""
+    return 3, REFUSED, f'fkv: the file "{path}" {complaint}\n'
+
+
+def failing_call_is_told(path):
+    """A lock or a sync of the folder that fails ends the run, and nothing is written to the file."""
+    for call, error, complaint in FAILING:
+        run, lines = traced(path, SHAPE, "-e", f"trace={call}", "-e", f"inject={call}:error={error}:when=1")
+        if not any("(INJECTED)" in line for line in lines):
+            sys.exit(f"{sys.argv[0]}: strace makes no {call} fail, so what is said then is not tested: {lines}")
+        need(f"a {call} that fails", (run.returncode, run.stdout, run.stderr), refusal(path, complaint))
+        need(f"the file after a {call} that fails", held(path), b"")
+    need("the status of a store in the same file after all", ran(path, SHAPE)[0], 0)
+
+
+def no_file_is_refused(path):
+    """A FIFO and a socket hold no store. Nobody waits for them."""
+    fifo, other = f"{path}fifo", f"{path}socket"
+    os.mkfifo(fifo)
+    with socket.socket(socket.AF_UNIX) as bound:
+        bound.bind(other)
+        for script in ("open\n", SHAPE):
+            need(f"{script.split()[0]} over a FIFO", ran(fifo, script), refusal(fifo, "could not be read or written"))
+            unopened = refusal(other, "can't be opened: No such device or address (os error 6)")
+            need(f"{script.split()[0]} over a socket", ran(other, script), unopened)
+
+
 def alone(folder):
     """How many of these there are; it ends the program where one goes wrong."""
     if not os.path.exists(PROGRAM):
         sys.exit(f"{sys.argv[0]}: there is no program {PROGRAM}: `make fkv` proves and leaves it")
-    checks = (one_alone, folder_is_synced, foreign_is_left)
+    checks = (one_alone, folder_is_synced, foreign_is_left, failing_call_is_told, no_file_is_refused)
     for number, check in enumerate(checks):
         check(os.path.join(os.path.realpath(folder), f"alone{number}"))
     return len(checks)

@@ -15,7 +15,8 @@ OPTIONS = [
     (("y" * 99,), f'the word "{"y" * 40}.." is unknown'),
     (("a\n",), 'the word "a\\n" is unknown'),
     (("--seed",), "--seed needs a value"),
-    (("--file", "--check"), "--file needs a value"),
+    (("--file", "--check"), '--file needs a value, and "--check" is none'),
+    (("--seed", "-1"), '--seed needs a value, and "-1" is none'),
     (("--seed", "x"), f'--seed needs a number from 0 to {MOST}, and "x" is none'),
     (("--torn=256",), '--torn needs a number from 0 to 255, and "256" is none'),
     (("--check=1",), "--check takes no value"),
@@ -39,7 +40,7 @@ HEAD = "a session's number, k, crash or fail"
 
 # what stands behind `shape`, and the complaint of it
 LINES = [
-    ("#" * 201, "Size", "it has 201 bytes, and a line has at most 200"),
+    ("#" * 201, "Size", "it has more than 200 bytes"),
     ("open", "Order", '"open" opens a store, which the first line alone does'),
     ("put 1", "Word", f'"put" is unknown; this place takes {HEAD}'),
     ("k\xfc turn", "Word", f'"k\\xc3\\xbc" is unknown; this place takes {HEAD}'),
@@ -58,10 +59,14 @@ LINES = [
 
 LINES_OF_FILE = [("crash", '"crash" is for a store in memory: not with --file'), ("fail 1", '"fail" is for a store in memory: not with --file')]
 
+NOT_THERE = "can't be opened: No such file or directory (os error 2)"
+# a path of 250 bytes, of which the last 200 are told
+LONG_PATH = "a" * 120 + "/" + "b" * 129
+
 # files, the line that opens the store, what is printed, and the complaint of the file
 TEXT = b"not a store\n"
 FILES = [
-    (None, "open", "14 Device", "can't be opened: entity not found"),
+    (None, "open", "14 Device", NOT_THERE),
     (TEXT, SHAPE, "14 Device", "holds something that is no store, and is left as it is"),
     (TEXT, "open", "15 NotAStore", "holds no store"),
     (b"\0" * 1535 + b"\1", SHAPE, "14 Device", "holds something that is no store, and is left as it is"),
@@ -97,13 +102,20 @@ def complaints():
     yield complained("no opening", "0 get 1\n", "script line 1 Order\n", 2, f'{first}"0" opens no store, and the first line has to: shape or open')
     yield complained("an opening in memory", "open\n", "script line 1 Mode\n", 2, f'{first}"open" needs a store in a file: --file PATH')
     yield complained("too many lines", "\n" * 65536 + "#", "script line 65537 Size\n", 2, "line 65537 of the script: a script has at most 65536 lines")
-    yield complained("a folder", "open\n", "refused 14 Device\n", 3, 'the file "." can\'t be opened: is a directory', words=("--file", "."))
+    yield complained("a folder", "open\n", "refused 14 Device\n", 3, 'the file "." can\'t be opened: Is a directory (os error 21)', words=("--file", "."))
     for image, line, fault, complaint in FILES:
         name = f"{line} over a file that begins with {image and image[:12]}"
         yield complained(name, f"{line}\n", f"refused {fault}\n", 3, f'the file "store" {complaint}', words=tuple(FILE.split()), image=image, left=image)
     for image, left in TAKEN:
         yield Row(f"a store is made over {image[:12]}", f"{SHAPE}\n", "", 0, tuple(FILE.split()), image, left, complaint="")
-    failed = "a call of the store's device failed: nothing more was asked of it, and commits behind it were refused"
+    for path, shown in ((LONG_PATH, f"..{LONG_PATH[50:]}"), (LONG_PATH[50:], LONG_PATH[50:])):
+        for line in ("open", SHAPE):
+            name = f"{line} over a path of {len(path)} bytes"
+            yield complained(name, f"{line}\n", "refused 14 Device\n", 3, f'the file "{shown}" {NOT_THERE}', words=("--file", path))
+    failed = "a call of the store's device failed: until a crash or a new opening nothing more is asked of it, and commits are refused"
     script = f"{SHAPE}\n0 up 1 10\nk commit\nfail 1\nk finish\nk turn\ncrash\n"
     answers = "0 #1 done\nk commit 1\nk refused 14 Device\nk refused 13 Broken\ncrash commit 0 points 0 pairs 0\n"
     yield complained("a device that fails", script, answers, 0, failed)
+    script += "0 up 1 10\nk commit\nk finish\n"
+    answers += "0 #1 done\nk commit 1\nk finished 1 points 1\n"
+    yield complained("a device that fails before a crash, and a commit after it", script, answers, 0, failed)

@@ -163,7 +163,8 @@ def unmade():
         for line in ("open", SHAPE):
             yield Row(f"{line} over the file {path!r}", f"{line}\n0 get 1\n", "refused 14 Device\n", 3, ("--file", path), left=None)
     yield Row("a file that isn't there is not opened", "open\n0 get 1\n", "refused 14 Device\n", 3, tuple(FILE.split()), left=None)
-    yield Row("a device that is full", f"{SHAPE}\n0 get 1\n", "refused 14 Device\n", 3, ("--file", "/dev/full"))
+    unwritten = 'fkv: the file "/dev/full" could not be read or written\n'
+    yield Row("a device that is full", f"{SHAPE}\n0 get 1\n", "refused 14 Device\n", 3, ("--file", "/dev/full"), complaint=unwritten)
 
 
 def files():

@@ -106,7 +106,7 @@ def streams(program):
         with open("/dev/full", "wb") as full:
             expect(f"answers to /dev/full, with {words}", ended(program, words, script, stdout=full), 4)
     with open("/dev/full", "wb") as full:
-        full_output = b"fkv: standard output could not be written: no storage space\n"
+        full_output = b"fkv: standard output could not be written: No space left on device (os error 28)\n"
         expect("the complaint of a full output", complaint(program, (), script, stdout=full), full_output)
         expect("the same of a faulty line's", complaint(program, (), "0 up 1", stdout=full).splitlines(keepends=True)[-1:], [full_output])
         expect("an empty script's to /dev/full", ended(program, (), "", stdout=full), 0)
@@ -126,7 +126,7 @@ def streams(program):
         run = subprocess.run([program, *words], stdin=folder, capture_output=True, timeout=SECONDS)
         expect(name, (run.returncode, run.stdout), wished)
     unread = complaint(program, (), None, stdin=folder, stdout=subprocess.DEVNULL)
-    expect("the complaint of a script that can't be read", unread, b"fkv: standard input could not be read: is a directory\n")
+    expect("the complaint of a script that can't be read", unread, b"fkv: standard input could not be read: Is a directory (os error 21)\n")
     os.close(folder)
     with open("/dev/full", "wb") as full:
         lost = subprocess.run([program], input=b"0 up 1", stdout=subprocess.PIPE, stderr=full, timeout=SECONDS)

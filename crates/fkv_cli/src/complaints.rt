@@ -7,10 +7,10 @@ mod sizes;
 use crate::store_files::Trouble;
 pub(crate) use lines::LineFault;
 pub(crate) use options::WordFault;
-use quoted::Quoted;
+use quoted::QuotedPath;
 pub(crate) use sizes::SizeFault;
 use std::fmt;
-use std::io::{Cursor, ErrorKind, Write};
+use std::io::{self, Cursor, Write};
 
 /// Why a run ended as it did.
 #[derive(Clone, Copy)]
@@ -21,6 +21,8 @@ pub(crate) enum Complaint<'a> {
     Line { number: u64, fault: LineFault<'a> },
     /// A size of the shape is outside its limits.
     SizeOutside(SizeFault),
+    /// The sizes are no shape's, and which of them is outside its limits isn't known.
+    SizesRefused,
     /// No store could be made or opened in the file of this path.
     File { path: &'a str, trouble: Trouble },
     /// No store could be made in memory.
@@ -34,9 +36,9 @@ pub(crate) enum Complaint<'a> {
     /// Memory was refused.
     MemoryRefused,
     /// Standard input could not be read.
-    InputFailed(ErrorKind),
+    InputFailed(io::Error),
     /// Standard output could not be written.
-    OutputFailed(ErrorKind),
+    OutputFailed(io::Error),
 }
 
 impl fmt::Display for Complaint<'_> {
@@ -45,8 +47,9 @@ impl fmt::Display for Complaint<'_> {
             Complaint::Words(fault) => write!(f, "{fault}"),
             Complaint::Line { number, fault } => write!(f, "line {number} of the script: {fault}"),
             Complaint::SizeOutside(fault) => write!(f, "{fault}"),
+            Complaint::SizesRefused => f.write_str("a size is outside its limits"),
             Complaint::File { path, trouble } => {
-                let path = Quoted(path.as_bytes());
+                let path = QuotedPath(path.as_bytes());
                 write!(f, "the file {path} {trouble}")
             }
             Complaint::NoStoreInMemory => f.write_str(
@@ -59,15 +62,15 @@ impl fmt::Display for Complaint<'_> {
                 "a check differs: a recovered store is not the replay of what its commit keeps",
             ),
             Complaint::DeviceFailed => f.write_str(
-                "a call of the store's device failed: nothing more was asked of it, and commits behind it were refused",
+                "a call of the store's device failed: until a crash or a new opening nothing more is asked of it, and commits are refused",
             ),
             Complaint::MemoryRefused => f.write_str(
                 "memory was refused: what is written is a beginning",
             ),
-            Complaint::InputFailed(kind) => write!(f, "standard input could not be read: {kind}"),
-            Complaint::OutputFailed(kind) => write!(
+            Complaint::InputFailed(error) => write!(f, "standard input could not be read: {error}"),
+            Complaint::OutputFailed(error) => write!(
                 f,
-                "standard output could not be written: {kind}"
+                "standard output could not be written: {error}"
             ),
         }
     }

@@ -102,7 +102,7 @@ where
 /// Tells why the file of this path holds no store. Refused memory is told where it ends the run.
 fn complain_of_fault<E: Write>(complaints: &mut E, path: &str, fault: Fault) {
     if fault != Fault::Memory {
-        let trouble = Trouble::Met(fault);
+        let trouble = Trouble::Fault(fault);
         complain(complaints, Complaint::File { path, trouble });
     }
 }
@@ -111,10 +111,13 @@ fn complain_of_fault<E: Write>(complaints: &mut E, path: &str, fault: Fault) {
 const MOST_PAGES: usize = 8192;
 
 /// How many pages of 4 KiB to keep while a file of so many bytes is read: all of them, if they aren't too many, since a chain's walk
-/// meets the log's pages in any order.
-fn pages_to_keep(length: u64) -> usize
+/// meets the log's pages in any order. Where its length isn't known, the most.
+fn pages_to_keep(length: Option<u64>) -> usize
     ensures { 0 < result }
 {
+    let Some(length) = length else {
+        return MOST_PAGES;
+    };
     let pages = length / 4096 + 1;
     if pages < MOST_PAGES as u64 {
         pages as usize
@@ -127,7 +130,7 @@ fn pages_to_keep(length: u64) -> usize
 fn opened<D: Device + Drop>(
     alloc: Global,
     device: D,
-    length: u64,
+    length: Option<u64>,
 ) -> Result<(D, Opened, Vec<(Key, Value)>), Fault> {
     let pages = Pages::new(alloc, PageSize::Kib4, pages_to_keep(length))?;
     let mut ahead = ReadAhead::new(device, pages);

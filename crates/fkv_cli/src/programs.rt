@@ -46,7 +46,7 @@ where
     match run_words(rt, alloc, words, memory, input, output, complaints) {
         Ok(status) => status,
         Err(stop) => {
-            complain(complaints, stop.told());
+            complain(complaints, stop.complaint());
             4
         }
     }
@@ -56,7 +56,7 @@ where
 #[derive(Drop)]
 enum Stop {
     /// The script could not be read.
-    Input(ErrorKind),
+    Input(io::Error),
     /// Memory was refused, or the answers could not be written.
     Other(io::Error),
 }
@@ -68,21 +68,20 @@ impl From<io::Error> for Stop {
 }
 
 impl Stop {
-    fn told(&self) -> Complaint<'static> {
+    fn complaint(&self) -> Complaint<'static> {
         match self {
-            Stop::Input(ErrorKind::OutOfMemory) => Complaint::MemoryRefused,
-            Stop::Input(kind) => Complaint::InputFailed(*kind),
-            Stop::Other(error) => match error.kind() {
-                ErrorKind::OutOfMemory => Complaint::MemoryRefused,
-                kind => Complaint::OutputFailed(kind),
-            },
+            Stop::Input(error) | Stop::Other(error) if error.kind() == ErrorKind::OutOfMemory => {
+                Complaint::MemoryRefused
+            }
+            Stop::Input(error) => Complaint::InputFailed(*error),
+            Stop::Other(error) => Complaint::OutputFailed(*error),
         }
     }
 }
 
 /// Writes a line of complaint for an error that stopped the program outside of `run`: memory that was refused, or standard output.
-pub fn complain_of_stop<E: Write>(error: io::Error, complaints: &mut E) {
-    complain(complaints, Stop::Other(error).told());
+pub fn complain_of_stop<E: Write>(complaints: &mut E, error: io::Error) {
+    complain(complaints, Stop::Other(error).complaint());
 }
 
 /// Words of which one is no text are none that the program takes: writes the line `options`, and a line of complaint. The status: 2;
@@ -97,7 +96,7 @@ pub fn refuse_unread<W: Write, E: Write>(output: &mut W, complaints: &mut E) -> 
             2
         }
         Err(failed) => {
-            complain_of_stop(failed, complaints);
+            complain_of_stop(complaints, failed);
             4
         }
     }
@@ -150,7 +149,7 @@ fn script_bytes<R: Read + Drop>(alloc: Global, input: R) -> Result<Vec<u8>, Stop
     let mut bytes = Vec::new(alloc);
     match input.take(SCRIPT_LIMIT).read_to_end(&mut bytes) {
         Ok(_count) => Ok(bytes),
-        Err(error) => Err(Stop::Input(error.kind())),
+        Err(error) => Err(Stop::Input(error)),
     }
 }
 

@@ -140,9 +140,11 @@ fn shape_of(sizes: Sizes) -> Result<Shape, Fault>
 
 /// Tells which of these sizes is none of a shape.
 fn complain_of_sizes<E: Write>(complaints: &mut E, sizes: Sizes) {
-    if let Some(fault) = SizeFault::of(sizes) {
-        complain(complaints, Complaint::SizeOutside(fault));
-    }
+    let complaint = match SizeFault::of(sizes) {
+        Some(fault) => Complaint::SizeOutside(fault),
+        None => Complaint::SizesRefused,
+    };
+    complain(complaints, complaint);
 }
 
 /// Prints the refusal that ends a run. Memory that was refused ends it without one.

@@ -1,11 +1,11 @@
 //! The file of a store: one process alone has it open, and no other file is written over.
 use fkv_base::Fault;
 use fkv_disk::{Device, FileDisk};
-use std::fmt;
 use std::fs::{File, OpenFile, OpenOptions, TryLockError};
-use std::io::ErrorKind;
 use std::rt::Files;
+use std::{fmt, io};
 
+// Both are copies: `fkv_record` has them in its own code alone, and isn't opened for this.
 /// The bytes of a store before its first area: the shape's block and two slots.
 const FRONT: usize = 1536;
 
@@ -27,27 +27,34 @@ impl Lockable for File {
 /// Why no store can be made or opened in a file.
 #[derive(Clone, Copy)]
 pub(crate) enum Trouble {
-    /// The system didn't open or lock it.
-    Refused(ErrorKind),
+    /// The system didn't open it.
+    Refused(io::Error),
+    /// The system didn't lock it, for something else than another process that has it open.
+    Unlocked(io::Error),
     /// Another process has it open.
     InUse,
     /// It holds something else than a store.
     Foreign,
     /// The folder of a new file could not be synced.
-    Folder(ErrorKind),
+    Folder(io::Error),
     /// The file is open, and what was done with it met this fault.
-    Met(Fault),
+    Fault(Fault),
 }
 
-/// Opens the file of a store that is there, for this process alone, and tells how many bytes it has.
-pub(crate) fn open_alone<H: Files>(rt: &H, path: &str) -> Result<(FileDisk<H::File>, u64), Trouble>
+/// Opens the file of a store that is there, for this process alone, and tells how many bytes it has. That is known of a regular file
+/// alone: the system says 0 of a block device.
+pub(crate) fn open_alone<H: Files>(
+    rt: &H,
+    path: &str,
+) -> Result<(FileDisk<H::File>, Option<u64>), Trouble>
 where
     H::File: Lockable,
 {
     let file = open_locked(rt, OpenOptions::new().read(true).write(true), path)?;
     let length = match file.metadata() {
-        Ok(known) => known.len(),
-        Err(error) => return Err(Trouble::Refused(error.kind())),
+        Ok(known) if known.is_file() => Some(known.len()),
+        Ok(_) => None,
+        Err(error) => return Err(Trouble::Refused(error)),
     };
     Ok((FileDisk::new(file), length))
 }
@@ -66,7 +73,7 @@ where
     )?;
     let known = match file.metadata() {
         Ok(known) => known,
-        Err(error) => return Err(Trouble::Refused(error.kind())),
+        Err(error) => return Err(Trouble::Refused(error)),
     };
     // Nobody has written to it, so nobody may have synced its folder.
     if known.is_file() && known.len() == 0 {
@@ -87,12 +94,12 @@ where
     // to that stream is not to come into the store.
     let file = match how.open(rt, path).and_then(|file| file.try_clone()) {
         Ok(file) => file,
-        Err(error) => return Err(Trouble::Refused(error.kind())),
+        Err(error) => return Err(Trouble::Refused(error)),
     };
     match file.lock_alone() {
         Ok(()) => Ok(file),
         Err(TryLockError::WouldBlock) => Err(Trouble::InUse),
-        Err(TryLockError::Error(error)) => Err(Trouble::Refused(error.kind())),
+        Err(TryLockError::Error(error)) => Err(Trouble::Unlocked(error)),
     }
 }
 
@@ -113,7 +120,7 @@ fn sync_folder<H: Files>(rt: &H, folder: &str) -> Result<(), Trouble> {
     };
     match synced {
         Ok(()) => Ok(()),
-        Err(error) => Err(Trouble::Folder(error.kind())),
+        Err(error) => Err(Trouble::Folder(error)),
     }
 }
 
@@ -122,22 +129,23 @@ fn may_hold_store<D: Device>(disk: &mut D) -> Result<bool, Trouble> {
     let mut front = [0; FRONT];
     match disk.read(0, &mut front) {
         Ok(()) => Ok(front.starts_with(STORE_TEXT) || front.iter().all(|byte| *byte == 0)),
-        Err(fault) => Err(Trouble::Met(fault)),
+        Err(fault) => Err(Trouble::Fault(fault)),
     }
 }
 
 impl fmt::Display for Trouble {
     fn fmt<W: fmt::Write>(&self, f: &mut fmt::Formatter<W>) -> fmt::Result {
         match self {
-            Trouble::Refused(kind) => write!(f, "can't be opened: {kind}"),
+            Trouble::Refused(error) => write!(f, "can't be opened: {error}"),
+            Trouble::Unlocked(error) => write!(f, "can't be locked: {error}"),
             Trouble::InUse => f.write_str("is in use by another process"),
             Trouble::Foreign => f.write_str(
                 "holds something that is no store, and is left as it is",
             ),
-            Trouble::Folder(kind) => write!(f, "is new, and its folder can't be synced: {kind}"),
-            Trouble::Met(Fault::NotAStore) => f.write_str("holds no store"),
-            Trouble::Met(Fault::Device) => f.write_str("could not be read or written"),
-            Trouble::Met(fault) => write!(f, "can't be used: {fault}"),
+            Trouble::Folder(error) => write!(f, "is new, and its folder can't be synced: {error}"),
+            Trouble::Fault(Fault::NotAStore) => f.write_str("holds no store"),
+            Trouble::Fault(Fault::Device) => f.write_str("could not be read or written"),
+            Trouble::Fault(fault) => write!(f, "can't be used: {fault}"),
         }
     }
 }

@@ -40,17 +40,17 @@ impl<W: Write> Watched<W> {
 }
 
 impl Seen {
-    /// What is seen with these bytes.
-    fn behind(self, bytes: &[u8]) -> Seen {
+    /// What is seen after these bytes more.
+    fn after(self, bytes: &[u8]) -> Seen {
         let mut seen = self;
         for byte in bytes {
-            seen = seen.with(*byte);
+            seen = seen.after_byte(*byte);
         }
         seen
     }
 
-    /// What is seen with one more byte. The text's first byte stands in it once, so a beginning of it that breaks off hides no other.
-    fn with(self, byte: u8) -> Seen {
+    /// What is seen after one byte more. The text's first byte stands in it once, so a beginning of it that breaks off hides no other.
+    fn after_byte(self, byte: u8) -> Seen {
         let bytes = match FAILED_TURN.get(self.bytes) {
             Some(next) if *next == byte => self.bytes.saturating_add(1),
             _ if byte == b'k' => 1,
@@ -68,7 +68,7 @@ impl<W: Write> Write for Watched<W> {
 
     fn write(&mut self, buf: &[u8]) -> io::Result<usize> {
         let taken = self.inner.write(buf)?;
-        self.seen = self.seen.behind(&buf[..taken]);
+        self.seen = self.seen.after(&buf[..taken]);
         Ok(taken)
     }
 

@@ -3,7 +3,6 @@ pub mod BegunCommits
 pub mod Copied
 pub mod Cuts
 pub mod FinishedCommits
-pub mod FinishedNumbers
 pub mod Linked
 pub mod PhaseStores
 pub mod PhaseVersions

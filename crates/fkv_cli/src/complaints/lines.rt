@@ -8,7 +8,7 @@ use std::{fmt, str};
 #[derive(Clone, Copy)]
 pub(crate) enum LineFault<'a> {
     /// The line has more bytes than a line may have.
-    TooLong(usize),
+    TooLong,
     /// The line stands behind the last that a script may have.
     TooMany,
     /// The script's first line begins with this word, which opens no store.
@@ -43,7 +43,7 @@ impl<'a> LineFault<'a> {
         let line = line_at(script, number);
         let head = word_at(line, 0);
         match kind {
-            ScriptFault::Size if line.len() > MOST_BYTES => LineFault::TooLong(line.len()),
+            ScriptFault::Size if line.len() > MOST_BYTES => LineFault::TooLong,
             ScriptFault::Size => LineFault::TooMany,
             ScriptFault::Order if is_opening(head) => LineFault::SecondOpening(Quoted(head)),
             ScriptFault::Order => LineFault::NoOpening(Quoted(head)),
@@ -164,10 +164,7 @@ impl fmt::Display for LineFault<'_> {
     fn fmt<W: fmt::Write>(&self, f: &mut fmt::Formatter<W>) -> fmt::Result {
         let most = u64::MAX;
         match self {
-            LineFault::TooLong(bytes) => write!(
-                f,
-                "it has {bytes} bytes, and a line has at most {MOST_BYTES}"
-            ),
+            LineFault::TooLong => write!(f, "it has more than {MOST_BYTES} bytes"),
             LineFault::TooMany => write!(f, "a script has at most {MOST_LINES} lines"),
             LineFault::NoOpening(word) => write!(
                 f,

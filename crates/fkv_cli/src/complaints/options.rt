@@ -7,8 +7,13 @@ use std::fmt;
 pub(crate) enum WordFault<'a> {
     /// The program knows no such word.
     Unknown(&'a str),
-    /// No value stands behind this option.
+    /// No word stands behind this option, which needs a value.
     NoValue(&'a str),
+    /// The word behind this option, which needs a value, is none.
+    NotValue {
+        option: &'a str,
+        word: &'a str,
+    },
     /// This option takes no value.
     NeedlessValue(&'a str),
     /// This option stands twice.
@@ -47,7 +52,7 @@ fn faulty_word<'a>(words: &[&'a str]) -> Option<WordFault<'a>> {
         match waiting {
             Some(option) => {
                 if word.starts_with('-') && word != "-" {
-                    return Some(WordFault::NoValue(option));
+                    return Some(WordFault::NotValue { option, word });
                 }
                 if let Some(fault) = faulty_value(option, word) {
                     return Some(fault);
@@ -139,6 +144,10 @@ impl fmt::Display for WordFault<'_> {
                 write!(f, "the word {word} is unknown")?;
             }
             WordFault::NoValue(option) => write!(f, "{option} needs a value")?,
+            WordFault::NotValue { option, word } => {
+                let word = Quoted(word.as_bytes());
+                write!(f, "{option} needs a value, and {word} is none")?;
+            }
             WordFault::NeedlessValue(option) => write!(f, "{option} takes no value")?,
             WordFault::Twice(option) => write!(f, "{option} stands twice")?,
             WordFault::NoNumber {

@@ -40,13 +40,13 @@ impl SizeFault {
 
 /// The sizes by their names, with the limits of each.
 fn limited(sizes: Sizes) -> [(&'static str, u64, Limits); 7] {
-    let bucket_bits = any(0, MAX_BUCKET_BITS);
+    let bucket_bits = within(0, MAX_BUCKET_BITS);
     let page = power_of_two(MIN_PAGE, MAX_PAGE);
     let frames = power_of_two(MIN_FRAMES, MAX_FRAMES);
-    let mutable = any(1, sizes.frames.saturating_sub(1));
-    let sessions = any(1, MAX_SESSIONS);
-    let overflow = any(0, MAX_OVERFLOW);
-    let disk_pages = any(1, MAX_DISK_PAGES);
+    let mutable = within(1, sizes.frames.saturating_sub(1));
+    let sessions = within(1, MAX_SESSIONS);
+    let overflow = within(0, MAX_OVERFLOW);
+    let disk_pages = within(1, MAX_DISK_PAGES);
     [
         ("K, the bucket bits,", sizes.bucket_bits, bucket_bits),
         ("P, the records of a page,", sizes.page, page),
@@ -58,7 +58,7 @@ fn limited(sizes: Sizes) -> [(&'static str, u64, Limits); 7] {
     ]
 }
 
-fn any(least: u64, most: u64) -> Limits {
+fn within(least: u64, most: u64) -> Limits {
     Limits {
         least,
         most,
