@@ -44,7 +44,7 @@ part_replied w Turns = (tt, tt)
 part_replied w (KeeperMoves granted done) = steps_replied w.now.shape w.now.places granted done (read_by_keeper w) (near w.now w.now.keeper) (keeper_ask w.now.shape w.now.places w.now.keeper) refl
 part_replied w Crashes = tt
 
-event_replied : (w : World) (event : Event) → AreReplied w.now.shape w.now.places w.now.words w.now.keeper (keeper_part_of w event)
+pub event_replied : (w : World) (event : Event) → AreReplied w.now.shape w.now.places w.now.words w.now.keeper (keeper_part_of w event)
 event_replied w event = by_crash w.now.crashed
   where
     by_crash : (over : Bool) → AreReplied w.now.shape w.now.places w.now.words w.now.keeper (if over then [] else keeper_part w.now.shape w.now.places (read_by_keeper w) (near w.now w.now.keeper) event)
