@@ -1,6 +1,6 @@
 pub mod Began
 pub mod BegunFor
-mod Commits
+pub mod Commits
 pub mod Covers
 mod Keepers
 pub mod Leads

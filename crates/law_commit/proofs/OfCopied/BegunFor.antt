@@ -28,7 +28,7 @@ use Rattle.fkv_world.proofs.Shown.{happens_keeper}
 use Rattle.law_commit.specs.Copied.Covers.{HasBegunFor, MayBeCopied, before_copy, begins_at, begins_copy}
 use Rattle.law_commit.specs.Copied.Runs.{copy_moves, keeper_copies}
 use Rattle.law_commit.specs.PhaseStores.{phase_at}
-use Rattle.law_commit.proofs.OfCopied.Commits.{begun_commit, event_copied, still_same}
+use Rattle.law_commit.proofs.OfCopied.Commits.{begun_commit, event_copied, some_same, still_same}
 use Rattle.law_commit.proofs.OfCopied.Keepers.{AreReplied, IsReplied}
 use Rattle.law_commit.proofs.OfCopied.Lives.{event_replied}
 
@@ -62,9 +62,6 @@ goes_on shape p b s event still its = record {
 }
 
 -- ---- one by which one begins
-some_same : (one other : Commit) → Some one ≡ Some other → one ≡ other
-some_same one other both = cc
-
 loads_word : (shape : Shape) (p : Places) (words : List ℕ) (s : KeeperState) → s.step ≡ LoadsPhase → reply_to words (keeper_ask shape p s) ≡ reply_to words (keeping_ask shape p s LoadsPhase)
 loads_word shape p words s at = ap (λ (step : Keeping). reply_to words (keeping_ask shape p s step)) at
 

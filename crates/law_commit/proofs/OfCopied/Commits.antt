@@ -52,7 +52,7 @@ pub record WasInHand (s : KeeperState) (c : Commit) : Type 0 where
 abbrev pub IsCopiedFrom : KeeperState → Option Commit → Type 0
 IsCopiedFrom s found = (c : Commit) → found ≡ Some c → c.kind ≡ Full → c.is_copied ≡ true → WasInHand s c
 
-some_same : (one other : Commit) → Some one ≡ Some other → one ≡ other
+pub some_same : {X : Type 0} (one other : X) → Some one ≡ Some other → one ≡ other
 some_same one other both = cc
 
 stays : (s : KeeperState) (found : Option Commit) → found ≡ s.commit → IsCopiedFrom s found
