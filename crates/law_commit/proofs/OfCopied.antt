@@ -1,4 +1,6 @@
 pub mod Began
+pub mod BegunFor
+pub mod Commits
 pub mod Covers
 mod Keepers
 pub mod Leads

@@ -14,7 +14,7 @@ ghost use Rattle.law_parts.specs.Index.Shows.{seen_by_index};
 ghost use Rattle.law_refine.specs.Events.GhostEvents.{life_ghosts};
 ghost use Rattle.law_refine.specs.Events.Reserved.{IsUnbornFrom, ReservesNothing, tail_at};
 ghost use Rattle.law_refine.specs.Heads.Heads.{LeadToHeads};
-ghost use Rattle.law_commit.specs.Copied.Covers.{CoverHeads, HasStoodSince, LeadIntoChains, before_copy};
+ghost use Rattle.law_commit.specs.Copied.Covers.{CoverHeads, HasBegunFor, HasStoodSince, LeadIntoChains, before_copy};
 ghost use Rattle.law_commit.specs.Copied.Runs.{IsCopyBy, KeepsCopy, WritesCopy, copy_events, opening_copy, seen_by_copy};
 
 /// In every life of a store that was opened, with commits too, the copy that the keeper has begun last is a run of the world of a copy, over the index
@@ -41,7 +41,7 @@ pub fn law_world_copied()
 /// Over every life of an opened store whose chains begin where the entries of the index lead: each triple of the copy that began last leads into the
 /// chain of its home. If the copy is finished, each home whose chain wasn't empty when it began has a triple. That leads to where the chain began then,
 /// or above it. For each entry that was copied stood in the index of the life at a moment since the copy began, and the copy began with the index as
-/// it was then.
+/// it was then. If a full commit in hand is copied, its copy began while it was in hand, and the phase word said in-progress or wait-pending then.
 pub fn law_copies_cover()
     ensures begun { (opening : World) (lists : ℕ → List ℕ) (events : List Event) → index.IsOpened opening lists
         → begun_at (opening_copy opening lists) (copy_events opening events) ≡ seen_by_index opening lists (before_copy opening events) }
@@ -54,4 +54,6 @@ pub fn law_copies_cover()
         → IsUnbornFrom (tail_at opening.now) ghosts → ReservesNothing ghosts → LeadToHeads opening.now lists ghosts.log
         → (seen_by_copy opening lists events).copying.step ≡ Ended
         → CoverHeads opening.now.places (seen_by_copy opening lists events).triples (life_ghosts opening ghosts (before_copy opening events)).log }
+    ensures commit { (opening : World) (lists : ℕ → List ℕ) (events : List Event) → index.IsOpened opening lists
+        → HasBegunFor opening events }
 {}

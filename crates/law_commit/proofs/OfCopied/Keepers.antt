@@ -64,7 +64,7 @@ copying_asks shape p replies s words has copies =
     rw copies (passed_reply words (copy_asked s.copy) (turn_over s) ∙ ap (λ (x : Option Copier). reply_to words (copy_asked x)) (has copies))
 
 -- ---- the replies of an event of the keeper are those to its asks
-abbrev IsReplied : Shape → Places → List ℕ → KeeperState → KeeperEvent → Type 0
+abbrev pub IsReplied : Shape → Places → List ℕ → KeeperState → KeeperEvent → Type 0
 IsReplied shape p words s (Replies reply granted) = reply ≡ reply_to words (keeper_ask shape p s)
 IsReplied shape p words s event = ⊤
 

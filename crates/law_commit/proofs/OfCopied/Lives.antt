@@ -1,6 +1,6 @@
 -- Beside each life the copy goes on as its keeper's replies tell, over the index of the life.
 use Rattle.std.proofs.Common.{◌≡◌, ℕ, ◌∙◌, List, [], ◌∷◌, ◌++◌, refl, sym, ap, subst, Bool, true, false}
-use Rattle.std.specs.Prelude.{if◌then◌else◌, map, length, Some}
+use Rattle.std.specs.Prelude.{if◌then◌else◌, map, length}
 use Rattle.fkv_base.specs.declared.shapes.Shape.{Shape}
 use Rattle.fkv_plane.specs.declared.asks.Ask.TheVariants.{Done}
 use Rattle.fkv_plane.specs.declared.places.Places.{Places}
@@ -32,6 +32,7 @@ use Rattle.law_parts.specs.Index.Shows.{Shows, seen_by_index}
 use Rattle.law_parts.proofs.OfIndex.Permitted.{are_permitted}
 use Rattle.law_parts.proofs.OfIndex.Worlds.{life_shows}
 use Rattle.law_commit.specs.Copied.Runs.{HasInHand, IsCheckpointOf, IsCopyBy, KeepsCopy, WritesCopy, copy_events, keeper_copies, opening_copy, seen_by_copy}
+use Rattle.law_commit.proofs.OfCopied.Commits.{some_same}
 use Rattle.law_commit.proofs.OfCopied.Keepers.{AreReplied, GoesOn, copies_on, own_on, steps_replied}
 
 -- what the keeper's part in an event is replied
@@ -44,7 +45,7 @@ part_replied w Turns = (tt, tt)
 part_replied w (KeeperMoves granted done) = steps_replied w.now.shape w.now.places granted done (read_by_keeper w) (near w.now w.now.keeper) (keeper_ask w.now.shape w.now.places w.now.keeper) refl
 part_replied w Crashes = tt
 
-event_replied : (w : World) (event : Event) → AreReplied w.now.shape w.now.places w.now.words w.now.keeper (keeper_part_of w event)
+pub event_replied : (w : World) (event : Event) → AreReplied w.now.shape w.now.places w.now.words w.now.keeper (keeper_part_of w event)
 event_replied w event = by_crash w.now.crashed
   where
     by_crash : (over : Bool) → AreReplied w.now.shape w.now.places w.now.words w.now.keeper (if over then [] else keeper_part w.now.shape w.now.places (read_by_keeper w) (near w.now w.now.keeper) event)
@@ -151,6 +152,3 @@ life_writes opening lists events opened c held full behind =
     (run_used opening.now.shape opening.now.places opening.now.keeper (keeper_events opening events) opened.keeper (to_keeper (λ s. IsBehindWait s.step) opening events behind)) in
     let same : written.commit ≡ c = some_same written.commit c (sym written.in_hand ∙ held) in
     uses_so opening.now.places replies opening events (run opening events).now.keeper (seen_by_copy opening lists events) written.commit (life_copies opening lists events opened).told (ap (λ (x : Commit). x.kind) same ∙ full) written.uses
-  where
-    some_same : (its c : Commit) → Some its ≡ Some c → its ≡ c
-    some_same its c both = cc

@@ -24,6 +24,7 @@ use Rattle.law_parts.proofs.OfIndex.Worlds.{opening_holds, run_holds}
 use Rattle.law_refine.specs.Events.GhostEvents.{life_ghosts}
 use Rattle.law_refine.specs.Heads.Heads.{head_at}
 use Rattle.law_commit.specs.Linked.{HasMetEmpty, HaveMetEmpty, IsLinking, LinksFor}
+use Rattle.law_commit.proofs.OfCopied.Commits.{some_same}
 use Rattle.law_commit.proofs.OfCopied.Leads.{HasHeads}
 use Rattle.law_commit.proofs.OfLinked.Lives.{life_meets}
 use Rattle.law_commit.proofs.OfLinked.Searches.{WorkFrom, work_from}
@@ -54,9 +55,6 @@ came n number s home got its = elim its.so [
   | inl links ↦ Linked (record { s = s; got = got; its = its.its; searches = its.was; of_home = its.of_home; links = links })
   | inr none ↦ Loaded s its.its got its.was its.of_home none.0 none.1
 ]
-
-some_same : (one other : SessionState) → Some one ≡ Some other → one ≡ other
-some_same one other both = cc
 
 moved : (w : World) (number : ℕ) (before after : SessionState) (its : Search) → w.now.crashed ≡ false → SeatKnows w.now number → slice_get w.now.sessions number ≡ Some before → slice_get (happens w (Moves number)).now.sessions number ≡ Some after
     → is_of_session number (Moves number) ≡ true → (session_part after).work ≡ Searches its → IsLinking its.finding → CameFrom w.now number its.finding.home

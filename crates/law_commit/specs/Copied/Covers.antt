@@ -1,21 +1,27 @@
 -- When the last copy of a life began, and what its triples are to the chains of the log.
-use Rattle.std.specs.Prelude.{◌≡◌, ℕ, if◌then◌else◌, Bool, true, false, List, [], ◌∷◌, ◌++◌}
+use Rattle.std.specs.Prelude.{◌≡◌, ℕ, if◌then◌else◌, Bool, true, false, List, [], ◌∷◌, ◌++◌, Some}
 use Rattle.std.specs.List.{AllByRecursion}
+use Rattle.fkv_words.specs.PhaseWords.{phase_said}
 use Rattle.fkv_plane.specs.declared.places.Places.{Places}
 use Rattle.fkv_index.specs.declared.homes.Home.{Home}
 use Rattle.fkv_index.specs.OneEntry.{IsHome}
 use Rattle.fkv_checkpoint.specs.CopyWorld.{CopyEvent, CopyBegins}
 use Rattle.fkv_checkpoint.specs.Fuzzy.{HasCopy, IsEntryThen}
 use Rattle.fkv_checkpoint.specs.Triples.{CopiedEntry}
+use Rattle.fkv_commit.specs.declared.commits.Commit.{Commit}
+use Rattle.fkv_commit.specs.declared.commits.CommitKind.TheVariants.{Full}
+use Rattle.fkv_keeper.specs.declared.keepers.Keeping.TheVariants.{LoadsPhase}
+use Rattle.fkv_keeper.specs.CheckpointLaws.{IsCopyPhase}
 use Rattle.fkv_world.specs.OwnEvents.{keeper_part_of}
 use Rattle.fkv_world.specs.Runs.{World, run}
-use Rattle.fkv_world.specs.World.{Event}
+use Rattle.fkv_world.specs.World.{Event, Now}
 use Rattle.law_log.specs.Ghosts.{Log}
 use Rattle.law_log.specs.Trace.{IsIn}
 use Rattle.law_parts.specs.Index.Shows.{seen_by_index}
 use Rattle.law_refine.specs.Events.GhostEvents.{home_number}
 use Rattle.law_refine.specs.Heads.Heads.{head_at}
 use Rattle.law_commit.specs.Copied.Runs.{keeper_copies}
+use Rattle.law_commit.specs.PhaseStores.{phase_at}
 
 -- a copy begins by one of these
 abbrev pub begins_copy : List CopyEvent → Bool
@@ -47,3 +53,18 @@ LeadIntoChains triples log = AllByRecursion (λ e. IsIn e.addr (log.chains (home
 -- each home whose chain isn't empty has a triple that leads to where the chain begins, or above it
 abbrev pub CoverHeads : Places → List CopiedEntry → Log → Type 0
 CoverHeads p triples log = (home : Home) → IsHome p home → (head_at log home ≡ 0 → ⊥) → HasCopy triples home (head_at log home)
+
+-- At this moment a copy for this commit may begin: the commit is in hand and not copied, and the phase word says in-progress or wait-pending.
+pub record MayBeCopied (n : Now) (c : Commit) : Type 0 where
+  pub loads : n.keeper.step ≡ LoadsPhase
+  pub phase : IsCopyPhase (phase_said (phase_at n))
+  pub commit : Commit
+  pub in_hand : n.keeper.commit ≡ Some commit
+  pub not_copied : commit.is_copied ≡ false
+  pub number : commit.number ≡ c.number
+  pub kind : commit.kind ≡ c.kind
+  pub first : commit.first ≡ c.first
+
+-- the copy of a full commit in hand that is copied began at such a moment, by the event after it
+abbrev pub HasBegunFor : World → List Event → Type 0
+HasBegunFor opening events = (c : Commit) → (run opening events).now.keeper.commit ≡ Some c → c.kind ≡ Full → c.is_copied ≡ true → MayBeCopied (run opening (before_copy opening events)).now c
