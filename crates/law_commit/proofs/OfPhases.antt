@@ -6,3 +6,4 @@ pub mod RepliesShown
 pub mod SafeSeen
 pub mod SessionLoads
 pub mod SessionStamps
+pub mod SessionsShown

@@ -1,5 +1,5 @@
 -- What a session's events are among the phases on paper.
-use Rattle.std.specs.Prelude.{◌≡◌, ◌≢◌, ⊤, ℕ, Bool, true, false, List, [], ◌∷◌, ◌++◌, Option, Some, None}
+use Rattle.std.specs.Prelude.{◌≡◌, ◌≢◌, ⊤, ℕ, Bool, true, false, List, [], ◌∷◌, ◌++◌, Option, Some, None, slice_get}
 use Rattle.fkv_base.specs.declared.numbers.Version.{Version}
 use Rattle.fkv_base.specs.declared.phases.Phase.{Phase}
 use Rattle.fkv_words.specs.declared.phase_words.PhaseSaid.TheVariants.{Says}
@@ -12,11 +12,16 @@ use Rattle.fkv_session.specs.declared.sessions.CatchCause.TheVariants.{Wakes}
 use Rattle.fkv_session.specs.declared.sessions.Sitting.{Sitting}
 use Rattle.fkv_session.specs.declared.sessions.Sitting.TheVariants.{CatchesUp, Idle, LoadsDurable}
 use Rattle.fkv_session.specs.Sessions.{Seat, SessionState, session_next}
+use Rattle.fkv_session.specs.SessionRun.{Replies, SessionEvent, session_run}
+use Rattle.fkv_world.specs.Opened.{HasBecome, IsOpenedWorld}
+use Rattle.fkv_world.specs.OwnEvents.{session_part_of}
+use Rattle.fkv_world.specs.Runs.{World, run}
+use Rattle.fkv_world.specs.World.{Event, Moves, Now, seat_at}
 use Rattle.law_paper.specs.Phases as paper
 use Rattle.law_paper.specs.Phases.{AreEnabled, Completes, Leaves, Loads, PhaseEvent, Phasing, phase_run}
 use Rattle.law_commit.specs.Phases.Stamped.{SessionStamped}
 use Rattle.law_commit.specs.Ranks.{rank}
-use Rattle.law_commit.specs.Views.{Sight, View, loads_phase, rank_of, sight_moved}
+use Rattle.law_commit.specs.Views.{Sight, View, loads_phase, rank_of, sight_moved, sight_of, view_at}
 
 -- ---- a session is awake but while it sleeps and wakes; and it refreshes where it doesn't wake
 abbrev pub SitsAwake : SessionState → Sitting → Type 0
@@ -92,3 +97,46 @@ RepliesAreShown =
     (p : Phasing) (words : List ℕ) (its : Sight) (l f : epochs.Loads) (k : Seat) (s : SessionState) (reply : ℕ) → SessionStamped its l f s → SitsAwake s s.step → ShowsWords p words
     → (loads_now s s.step ≡ true → reply ≡ word_at words (shared_place one.Phase)) → ShowsSession p.sessions k.number its s.is_awake
     → Shown p k.number (reply_events k.number s (session_next k s reply)) (sight_moved words s s.step reply (session_next k s reply).step its) (session_next k s reply).is_awake
+
+-- ---- a life's events of sessions
+abbrev pub phase_events_by : Seat → SessionState → SessionEvent → List PhaseEvent
+phase_events_by k s (Replies reply) = reply_events k.number s (session_next k s reply)
+phase_events_by k s event = []
+
+unfoldable pub phase_events_through : Seat → SessionState → List SessionEvent → List PhaseEvent
+phase_events_through k s [] = []
+phase_events_through k s (event ∷ before) = phase_events_by k (session_run k s before) event ++ phase_events_through k s before
+
+-- of the session that there is
+abbrev pub events_found : Now → ℕ → List SessionEvent → Option SessionState → List PhaseEvent
+events_found n session own None = []
+events_found n session own (Some s) = phase_events_through (seat_at n session) s own
+
+unfoldable pub session_phase_events : Now → Event → List PhaseEvent
+session_phase_events n (Moves session) = events_found n session (session_part_of n session (Moves session)) (slice_get n.sessions session)
+session_phase_events n event = []
+
+-- what is on paper shows each session of a life so far
+unfoldable pub ShowsSessions : paper.Sessions → World → List Event → Type 0
+ShowsSessions x opening events = (session : ℕ) (first its : SessionState) → HasBecome opening events session first its → ShowsSession x session (sight_of opening events session) its.is_awake
+
+-- As a life begins each session is awake, and its view is of the words as they stand.
+abbrev pub first_seen : Option SessionState → List ℕ → paper.View
+first_seen None words = record { stamp = 0; rank = 0; tail = 0 }
+first_seen (Some first) words = paper_view (view_at words first.seen.phase first.seen.version)
+
+abbrev pub sessions_opened : Now → paper.Sessions
+sessions_opened n = record {
+  live = λ session. true;
+  view = λ session. first_seen (slice_get n.sessions session) n.words;
+  comes = λ session. false;
+  coming = λ session. first_seen (slice_get n.sessions session) n.words;
+}
+
+-- One event of a life is enabled as those of its session, and shows each session again.
+pub record EventShown (p : Phasing) (opening : World) (events : List Event) (event : Event) : Type 0 where
+  pub enabled : AreEnabled p (session_phase_events (run opening events).now event)
+  pub shows : ShowsSessions (phase_run p (session_phase_events (run opening events).now event)).sessions opening (event ∷ events)
+
+abbrev pub EventsAreShown : Type 0
+EventsAreShown = (p : Phasing) (opening : World) (events : List Event) (event : Event) → IsOpenedWorld opening → ShowsWords p (run opening events).now.words → ShowsSessions p.sessions opening events → EventShown p opening events event
