@@ -23,7 +23,6 @@ use Rattle.fkv_session.specs.declared.sessions.Sitting.TheVariants.{Idle, Attemp
 use Rattle.fkv_session.specs.OwnTurns.{own_turn_ask, own_turn_given}
 use Rattle.fkv_session.specs.Sessions.{IsOpened, Seat, SessionState, answers, answers_after_turn, asks_after, attempts, call_begun, is_busy, is_word_ask, op_begun, poll_begun, poll_call, polls_at, polls_request, refresh_call, refusal_of, refuses, session_ask, sitting_given, sleep_call, turn_ledto, wake_call}
 use Rattle.fkv_session.specs.SessionRun.{Begins, Gets, Replies, SessionEvent, begins, session_happens, session_run}
-use Rattle.fkv_world.specs.Actors.{is_of_session}
 use Rattle.fkv_world.specs.Opened.{HasBecome, IsOpenedWorld}
 use Rattle.fkv_world.specs.OwnEvents.{session_events, session_part, session_part_found, session_part_of}
 use Rattle.fkv_world.specs.Runs.{World, run}
@@ -34,7 +33,7 @@ use Rattle.law_world.proofs.OfRuns.Nothing.{none_ever}
 use Rattle.law_world.proofs.OfSessions.OwnRun.{here}
 use Rattle.law_paper.specs.Phases as paper
 use Rattle.law_paper.specs.Phases.{AreEnabled, IsEnabled, PhaseEvent, Phasing, phase_after, phase_run}
-use Rattle.law_commit.specs.Phases.Projected.{EventShown, EventsAreShown, SameSession, ShowsSession, ShowsSessions, ShowsWords, Shown, SitsAwake, completed_events, events_found, first_seen, left_events, loaded_events, loads_now, phase_events_by, phase_events_through, reply_events, session_phase_events, sessions_opened}
+use Rattle.law_commit.specs.Phases.Projected.{EventShown, EventsAreShown, SameSession, ShowsSession, ShowsSessions, ShowsWords, Shown, completed_events, events_found, first_seen, is_there, left_events, loaded_events, loads_now, phase_events_through, reply_events, session_phase_events, sessions_opened}
 use Rattle.law_commit.specs.Phases.Stamped.{SessionStamped, SittingStamped, force_by, loads_by}
 use Rattle.law_commit.specs.Views.{Sight, sight_by, sight_found, sight_in, sight_of, sight_opened, sight_through}
 use Rattle.law_commit.proofs.OfPhases.Awake.{SitsSo, happens_so, run_so}
@@ -317,6 +316,10 @@ no_events : (p : Phasing) → phase_run p [] ≡ p
 unfolding phase_run
 no_events p = refl
 
+-- a session that isn't there
+abbrev IsNone : paper.Sessions → ℕ → Type 0
+IsNone x session = (x.live session ≡ false) × (x.comes session ≡ false)
+
 none_enabled : (p : Phasing) → AreEnabled p []
 unfolding AreEnabled
 none_enabled p = tt
@@ -332,12 +335,11 @@ module _ (p : Phasing) (opening : World) (events : List Event) (event : Event) (
   seat i = seat_at opening.now i
 
   session_went : (i : ℕ) (first : SessionState) → slice_get opening.now.sessions i ≡ Some first → Went p n.words (sight_in opening i first events) (seat i) (own_run opening events i first) (part i)
-  unfolding ShowsSessions
   session_went i first was =
       let s : SessionState = own_run opening events i first in
       let is = opened.sessions i first was in
       let there = session_runs opening i first events was in
-      let now_shows = shows i first s (record { opened = opened; was = was; is_now = there }) in
+      let now_shows = shows.there i first s (record { opened = opened; was = was; is_now = there }) in
       let own_shows = subst (λ (x : Sight). ShowsSession p.sessions i x s.is_awake) (found_so opening events i first was) now_shows in
       went p n.words holds (sight_in opening i first events) (seat i) s (life_stampedly opening i first events is) (run_so (seat i) first (session_events opening i events) is) own_shows (part i)
       (found_all n (seat i) s i event (slice_get n.sessions i) there (same_seat opening events i))
@@ -360,12 +362,14 @@ module _ (p : Phasing) (opening : World) (events : List Event) (event : Event) (
       (become i first its (phase_run p (phase_events_through (seat i) (own_run opening events i first) (part i))).sessions became (session_went i first became.was).shown.shows)
 
   quiet_shown : MovesNone event → EventShown p opening events event
-  unfolding ShowsSessions
   quiet_shown none = record {
     enabled = subst (λ (own : List PhaseEvent). AreEnabled p own) (sym (event_none n event none)) (none_enabled p);
-    shows = λ i first its became.
-        subst (λ (own : List PhaseEvent). ShowsSession (phase_run p own).sessions i (sight_of opening (event ∷ events) i) its.is_awake) (sym (event_none n event none))
-        (by_own i first its [] became (part_none (seat i) (own_run opening events i first) n i event n.crashed none));
+    shows = record {
+      there = λ i first its became.
+          subst (λ (own : List PhaseEvent). ShowsSession (phase_run p own).sessions i (sight_of opening (event ∷ events) i) its.is_awake) (sym (event_none n event none))
+          (by_own i first its [] became (part_none (seat i) (own_run opening events i first) n i event n.crashed none));
+      none = λ i gone. subst (λ (own : List PhaseEvent). IsNone (phase_run p own).sessions i) (sym (event_none n event none)) (subst (λ (q : Phasing). IsNone q.sessions i) (sym (no_events p)) (shows.none i gone));
+    };
   }
 
 through_none : (k : Seat) (s : SessionState) → phase_events_through k s [] ≡ []
@@ -422,16 +426,25 @@ module _ (p : Phasing) (opening : World) (events : List Event) (j : ℕ) (opened
       (λ became. mine_shown first other its was became)
 
   there_shown : (first : SessionState) → slice_get opening.now.sessions j ≡ Some first → EventShown p opening events (Moves j)
-  unfolding ShowsSessions
   there_shown first was =
       let own : List PhaseEvent = phase_events_through (seat_at opening.now j) (own_run opening events j first) j_part in
       let went = session_went p opening events (Moves j) opened holds shows j first was in
       record {
         enabled = subst (λ (its : List PhaseEvent). AreEnabled p its) (sym (mine_events first was)) went.shown.enabled;
-        shows = λ i other its became.
-            subst (λ (x : List PhaseEvent). ShowsSession (phase_run p x).sessions i (sight_of opening (Moves j ∷ events) i) its.is_awake) (sym (mine_events first was)) (by_number i other its became (j == i) refl);
+        shows = record {
+          there = λ i other its became.
+              subst (λ (x : List PhaseEvent). ShowsSession (phase_run p x).sessions i (sight_of opening (Moves j ∷ events) i) its.is_awake) (sym (mine_events first was)) (by_number i other its became (j == i) refl);
+          none = λ i gone. subst (λ (x : List PhaseEvent). IsNone (phase_run p x).sessions i) (sym (mine_events first was)) (none_number i gone (j == i) refl);
+        };
       }
     where
+      none_number : (i : ℕ) → slice_get opening.now.sessions i ≡ None → (mine : Bool) → (j == i) ≡ mine → IsNone (phase_run p (phase_events_through (seat_at opening.now j) (own_run opening events j first) j_part)).sessions i
+      none_number i gone true e = not_there (slice_get opening.now.sessions j) first (subst (λ (x : ℕ). slice_get opening.now.sessions x ≡ None) (sym (same_number i j e)) gone) was
+      none_number i gone false e =
+          let same = (session_went p opening events (Moves j) opened holds shows j first was).shown.others i (other_number i j e) in
+          let none = shows.none i gone in
+          (same.live ∙ none.0, same.comes ∙ none.1)
+
       by_number : (i : ℕ) (other its : SessionState) → HasBecome opening (Moves j ∷ events) i other its → (mine : Bool) → (j == i) ≡ mine
           → ShowsSession (phase_run p (phase_events_through (seat_at opening.now j) (own_run opening events j first) j_part)).sessions i (sight_of opening (Moves j ∷ events) i) its.is_awake
       by_number i other its became true e = mine_number i first other its was (same_number i j e) became
@@ -439,12 +452,14 @@ module _ (p : Phasing) (opening : World) (events : List Event) (j : ℕ) (opened
           same_shows _ p.sessions i (sight_of opening (Moves j ∷ events) i) its.is_awake ((session_went p opening events (Moves j) opened holds shows j first was).shown.others i (other_number i j e)) (else_shown i other its e became)
 
   gone_shown : slice_get opening.now.sessions j ≡ None → EventShown p opening events (Moves j)
-  unfolding ShowsSessions
   gone_shown none = record {
     enabled = subst (λ (its : List PhaseEvent). AreEnabled p its) (sym (none_events none)) (none_enabled p);
-    shows = λ i other its became.
-        subst (λ (x : List PhaseEvent). ShowsSession (phase_run p x).sessions i (sight_of opening (Moves j ∷ events) i) its.is_awake) (sym (none_events none))
-        (subst (λ (q : Phasing). ShowsSession q.sessions i (sight_of opening (Moves j ∷ events) i) its.is_awake) (sym (no_events p)) (by_number i other its became (j == i) refl));
+    shows = record {
+      there = λ i other its became.
+          subst (λ (x : List PhaseEvent). ShowsSession (phase_run p x).sessions i (sight_of opening (Moves j ∷ events) i) its.is_awake) (sym (none_events none))
+          (subst (λ (q : Phasing). ShowsSession q.sessions i (sight_of opening (Moves j ∷ events) i) its.is_awake) (sym (no_events p)) (by_number i other its became (j == i) refl));
+      none = λ i gone. subst (λ (x : List PhaseEvent). IsNone (phase_run p x).sessions i) (sym (none_events none)) (subst (λ (q : Phasing). IsNone q.sessions i) (sym (no_events p)) (shows.none i gone));
+    };
   }
     where
       by_number : (i : ℕ) (other its : SessionState) → HasBecome opening (Moves j ∷ events) i other its → (mine : Bool) → (j == i) ≡ mine → ShowsSession p.sessions i (sight_of opening (Moves j ∷ events) i) its.is_awake
@@ -475,13 +490,15 @@ opening_seen : (opening : World) (session : ℕ) (first its : SessionState) → 
 opening_seen opening session first its became =
     let same = opening_so opening session first its became in
     let awake : its.is_awake ≡ true = ap (λ (s : SessionState). s.is_awake) same ∙ (became.opened.sessions session first became.was).awake in
-    record { live = sym awake; view = λ is. ap (λ (found : Option SessionState). first_seen found opening.now.words) became.was; comes = refl; coming = λ view none. cc }
+    record { live = ap is_there became.was ∙ sym awake; view = λ is. ap (λ (found : Option SessionState). first_seen found opening.now.words) became.was; comes = refl; coming = λ view none. cc }
 
 opening_sight : (opening : World) (session : ℕ) (first : SessionState) → slice_get opening.now.sessions session ≡ Some first → sight_of opening [] session ≡ sight_opened opening.now first
 unfolding sight_in
 opening_sight opening session first was = found_so opening [] session first was
 
 pub opening_shown : (opening : World) → ShowsSessions (sessions_opened opening.now) opening []
-unfolding ShowsSessions
-opening_shown opening session first its became =
-    subst (λ (x : Sight). ShowsSession (sessions_opened opening.now) session x its.is_awake) (sym (opening_sight opening session first became.was)) (opening_seen opening session first its became)
+opening_shown opening = record {
+  there = λ session first its became.
+      subst (λ (x : Sight). ShowsSession (sessions_opened opening.now) session x its.is_awake) (sym (opening_sight opening session first became.was)) (opening_seen opening session first its became);
+  none = λ session gone. (ap is_there gone, refl);
+}

@@ -1,5 +1,5 @@
 -- What a session's events are among the phases on paper.
-use Rattle.std.specs.Prelude.{◌≡◌, ◌≢◌, ⊤, ℕ, Bool, true, false, List, [], ◌∷◌, ◌++◌, Option, Some, None, slice_get}
+use Rattle.std.specs.Prelude.{◌≡◌, ◌≢◌, ◌≤◌, ⊤, ℕ, Bool, true, false, List, [], ◌∷◌, ◌++◌, Option, Some, None, slice_get}
 use Rattle.fkv_base.specs.declared.numbers.Version.{Version}
 use Rattle.fkv_base.specs.declared.phases.Phase.{Phase}
 use Rattle.fkv_words.specs.declared.phase_words.PhaseSaid.TheVariants.{Says}
@@ -17,6 +17,7 @@ use Rattle.fkv_world.specs.Opened.{HasBecome, IsOpenedWorld}
 use Rattle.fkv_world.specs.OwnEvents.{session_part_of}
 use Rattle.fkv_world.specs.Runs.{World, run}
 use Rattle.fkv_world.specs.World.{Event, Moves, Now, seat_at}
+use Rattle.law_guard.specs.Guarded.Shows as guard
 use Rattle.law_paper.specs.Phases as paper
 use Rattle.law_paper.specs.Phases.{AreEnabled, Completes, Leaves, Loads, PhaseEvent, Phasing, phase_run}
 use Rattle.law_commit.specs.Phases.Stamped.{SessionStamped}
@@ -117,17 +118,23 @@ session_phase_events n (Moves session) = events_found n session (session_part_of
 session_phase_events n event = []
 
 -- what is on paper shows each session of a life so far
-unfoldable pub ShowsSessions : paper.Sessions → World → List Event → Type 0
-ShowsSessions x opening events = (session : ℕ) (first its : SessionState) → HasBecome opening events session first its → ShowsSession x session (sight_of opening events session) its.is_awake
+-- and a session that isn't there is neither live nor coming
+pub record ShowsSessions (x : paper.Sessions) (opening : World) (events : List Event) : Type 0 where
+  pub there : (session : ℕ) (first its : SessionState) → HasBecome opening events session first its → ShowsSession x session (sight_of opening events session) its.is_awake
+  pub none : (session : ℕ) → slice_get opening.now.sessions session ≡ None → (x.live session ≡ false) × (x.comes session ≡ false)
 
 -- As a life begins each session is awake, and its view is of the words as they stand.
 abbrev pub first_seen : Option SessionState → List ℕ → paper.View
 first_seen None words = record { stamp = 0; rank = 0; tail = 0 }
 first_seen (Some first) words = paper_view (view_at words first.seen.phase first.seen.version)
 
+abbrev pub is_there : Option SessionState → Bool
+is_there None = false
+is_there (Some first) = true
+
 abbrev pub sessions_opened : Now → paper.Sessions
 sessions_opened n = record {
-  live = λ session. true;
+  live = λ session. is_there (slice_get n.sessions session);
   view = λ session. first_seen (slice_get n.sessions session) n.words;
   comes = λ session. false;
   coming = λ session. first_seen (slice_get n.sessions session) n.words;
@@ -140,3 +147,9 @@ pub record EventShown (p : Phasing) (opening : World) (events : List Event) (eve
 
 abbrev pub EventsAreShown : Type 0
 EventsAreShown = (p : Phasing) (opening : World) (events : List Event) (event : Event) → IsOpenedWorld opening → ShowsWords p (run opening events).now.words → ShowsSessions p.sessions opening events → EventShown p opening events event
+
+-- An epoch that is safe in a life may be so on paper.
+abbrev pub SafeIsEnabled : Type 0
+SafeIsEnabled =
+    (p : Phasing) (opening : World) (start : ℕ) (events : List Event) (m : ℕ) → guard.IsOpened opening.now start → IsOpenedWorld opening → p.epoch ≡ epochs.epoch_of (run opening events).now.words → ShowsSessions p.sessions opening events
+    → m ≤ epochs.safe_of (run opening events).now.words → paper.IsEnabled p (paper.IsSafe m)
