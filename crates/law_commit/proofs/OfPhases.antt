@@ -2,6 +2,7 @@ pub mod Awake
 pub mod CatchStamps
 pub mod GuardLoads
 pub mod LifeStamps
+pub mod OpeningSound
 pub mod RepliesShown
 pub mod SafeEnabled
 pub mod SafeSeen

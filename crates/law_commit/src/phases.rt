@@ -6,7 +6,7 @@ ghost use Rattle.fkv_world.specs.Opened.{HasBecome};
 ghost use Rattle.fkv_world.specs.Runs.{World, run};
 ghost use Rattle.fkv_world.specs.World.{Event};
 ghost use Rattle.law_guard.specs.Guarded.Shows.{IsOpened, seen_by_guard};
-ghost use Rattle.law_commit.specs.Phases.Projected.{EventsAreShown, RepliesAreShown, SafeIsEnabled, ShowsSessions, sessions_opened};
+ghost use Rattle.law_commit.specs.Phases.Projected.{EventsAreShown, OpeningsAreSound, RepliesAreShown, SafeIsEnabled, ShowsSessions, sessions_opened};
 ghost use Rattle.law_commit.specs.Phases.Stamped.{RepliesKeepStamps, SessionStamped, is_live};
 ghost use Rattle.law_commit.specs.Views.{View, sight_of};
 
@@ -31,11 +31,12 @@ pub fn law_stamps_are_loads()
 /// loads the phase word, goes by the view that was coming, or leaves. As long as what is on paper shows the words and a session, it shows the session that
 /// the reply leaves, and the others are as they were. So it is with each event of a life: what is on paper shows each session again. It does so as the
 /// life begins, where each session is awake and its view is of the words as they stand. Then an epoch that is safe in the life may be safe on paper: each view
-/// that counts there was loaded after its raise.
+/// that counts there was loaded after its raise. And what is on paper is sound as a life begins whose store rests, and shows its words.
 pub fn law_sessions_are_phases()
     ensures live { (opening : World) (events : List Event) (session : ℕ) (first its : SessionState) → HasBecome opening events session first its → is_live its ≡ its.is_awake }
     ensures replies { RepliesAreShown }
     ensures events { EventsAreShown }
     ensures safe { SafeIsEnabled }
+    ensures sound { OpeningsAreSound }
     ensures opening { (opening : World) → ShowsSessions (sessions_opened opening.now) opening [] }
 {}

@@ -1,7 +1,8 @@
 -- What a session's events are among the phases on paper.
-use Rattle.std.specs.Prelude.{◌≡◌, ◌≢◌, ◌≤◌, ⊤, ℕ, Bool, true, false, List, [], ◌∷◌, ◌++◌, Option, Some, None, slice_get}
+use Rattle.std.specs.Prelude.{◌≡◌, ◌≢◌, ◌≤◌, ◌*◌, ⊤, ℕ, Bool, true, false, List, [], ◌∷◌, ◌++◌, Option, Some, None, slice_get}
 use Rattle.fkv_base.specs.declared.numbers.Version.{Version}
 use Rattle.fkv_base.specs.declared.phases.Phase.{Phase}
+use Rattle.fkv_base.specs.declared.phases.Phase.TheVariants.{Rest}
 use Rattle.fkv_words.specs.declared.phase_words.PhaseSaid.TheVariants.{Says}
 use Rattle.fkv_words.specs.PhaseWords.{phase_said}
 use Rattle.fkv_epoch.specs.EpochWorld as epochs
@@ -153,3 +154,30 @@ abbrev pub SafeIsEnabled : Type 0
 SafeIsEnabled =
     (p : Phasing) (opening : World) (start : ℕ) (events : List Event) (m : ℕ) → guard.IsOpened opening.now start → IsOpenedWorld opening → p.epoch ≡ epochs.epoch_of (run opening events).now.words → ShowsSessions p.sessions opening events
     → m ≤ epochs.safe_of (run opening events).now.words → paper.IsEnabled p (paper.IsSafe m)
+
+-- ---- as a life begins
+-- the phase word says rest in this version, and each session has seen that
+pub record BeginsAtRest (n : Now) (version : Version) : Type 0 where
+  pub says : phase_said (word_at n.words (shared_place one.Phase)) ≡ Says Rest version
+  pub phase : (session : ℕ) (first : SessionState) → slice_get n.sessions session ≡ Some first → first.seen.phase ≡ Rest
+  pub version_seen : (session : ℕ) (first : SessionState) → slice_get n.sessions session ≡ Some first → first.seen.version ≡ version
+
+-- what is on paper then: nothing is raised
+abbrev pub phasing_opened : Now → Version → Phasing
+phasing_opened n version = record {
+  base = 5 * version.0;
+  stage = 0;
+  epoch = epochs.epoch_of n.words;
+  safe = epochs.safe_of n.words;
+  tail = word_at n.words (shared_place one.Tail);
+  raises = record { progress = 0; first = 0; pending = 0; ending = 0; end = 0; due = 0 };
+  sessions = sessions_opened n;
+}
+
+-- It is sound, and shows the words.
+pub record OpensSound (n : Now) (version : Version) : Type 0 where
+  pub sound : paper.IsSound (phasing_opened n version)
+  pub words : ShowsWords (phasing_opened n version) n.words
+
+abbrev pub OpeningsAreSound : Type 0
+OpeningsAreSound = (n : Now) (start : ℕ) (version : Version) → guard.IsOpened n start → BeginsAtRest n version → OpensSound n version
