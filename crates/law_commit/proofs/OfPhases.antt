@@ -3,6 +3,7 @@ pub mod CatchStamps
 pub mod GuardLoads
 pub mod LifeStamps
 pub mod OpeningSound
+pub mod QuietShown
 pub mod RepliesShown
 pub mod SafeEnabled
 pub mod SafeSeen

@@ -8,4 +8,7 @@ pub use laws::{
     law_begun, law_of_worked_pasts, law_of_worked_pieces, law_phase_stored, law_versions_counted,
     law_view_is_seen,
 };
-pub use phases::{law_replies_keep_stamps, law_sessions_are_phases, law_stamps_are_loads};
+pub use phases::{
+    law_quiet_events_are_phases, law_replies_keep_stamps, law_sessions_are_phases,
+    law_stamps_are_loads,
+};

@@ -6,7 +6,7 @@ ghost use Rattle.fkv_world.specs.Opened.{HasBecome};
 ghost use Rattle.fkv_world.specs.Runs.{World, run};
 ghost use Rattle.fkv_world.specs.World.{Event};
 ghost use Rattle.law_guard.specs.Guarded.Shows.{IsOpened, seen_by_guard};
-ghost use Rattle.law_commit.specs.Phases.Projected.{EventsAreShown, OpeningsAreSound, RepliesAreShown, SafeIsEnabled, ShowsSessions, sessions_opened};
+ghost use Rattle.law_commit.specs.Phases.Projected.{EventsAreShown, OpeningsAreSound, QuietEventsAreShown, RepliesAreShown, SafeIsEnabled, ShowsSessions, sessions_opened};
 ghost use Rattle.law_commit.specs.Phases.Stamped.{RepliesKeepStamps, SessionStamped, is_live};
 ghost use Rattle.law_commit.specs.Views.{View, sight_of};
 
@@ -39,4 +39,11 @@ pub fn law_sessions_are_phases()
     ensures safe { SafeIsEnabled }
     ensures sound { OpeningsAreSound }
     ensures opening { (opening : World) → ShowsSessions (sessions_opened opening.now) opening [] }
+{}
+
+/// In each life of a store that was opened an event that leaves the phase word as it is, whoever makes it, is a list of enabled events of the phases on
+/// paper: its session's, then raises of the epoch, reservations, and what is safe then. If what is on paper shows the life before, it does behind it: the epoch, what
+/// is safe, the tail, the rank of the phase word, and each session.
+pub fn law_quiet_events_are_phases()
+    ensures { QuietEventsAreShown }
 {}

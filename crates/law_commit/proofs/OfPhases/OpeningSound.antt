@@ -1,5 +1,5 @@
 -- What is on paper as a life begins is sound.
-use Rattle.std.proofs.Common.{◌≡◌, ℕ, ◌+◌, ◌*◌, ◌<◌, ◌≤◌, ◌∙◌, refl, arith, sym, ap, Bool, true, false}
+use Rattle.std.proofs.Common.{◌≡◌, ℕ, ◌*◌, ◌<◌, refl, arith, true}
 use Rattle.std.specs.Prelude.{Option, Some, None, slice_get}
 use Rattle.fkv_base.specs.declared.numbers.Version.{Version}
 use Rattle.fkv_base.specs.declared.phases.Phase.{Phase}
@@ -8,7 +8,6 @@ use Rattle.fkv_epoch.specs.EpochWorld.{epoch_of, safe_of}
 use Rattle.fkv_session.specs.Sessions.{SessionState}
 use Rattle.fkv_world.specs.World.{Now}
 use Rattle.law_guard.specs.Guarded.Shows as guard
-use Rattle.law_paper.specs.Phases as paper
 use Rattle.law_paper.specs.Phases.{Sees, rests}
 use Rattle.law_commit.specs.Phases.Projected.{BeginsAtRest, OpeningsAreSound, first_seen, is_there, paper_view, phasing_opened}
 use Rattle.law_commit.specs.Ranks.{rank}

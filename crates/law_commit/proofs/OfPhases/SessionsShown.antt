@@ -21,7 +21,7 @@ use Rattle.fkv_session.specs.declared.answers.Told.{Told}
 use Rattle.fkv_session.specs.declared.sessions.Sitting.{Sitting}
 use Rattle.fkv_session.specs.declared.sessions.Sitting.TheVariants.{Idle, Attempts, CatchesUp, ClearsMail, Polls, StoresOwing, Turns, StoresCut, Leaves, LoadsDurable}
 use Rattle.fkv_session.specs.OwnTurns.{own_turn_ask, own_turn_given}
-use Rattle.fkv_session.specs.Sessions.{IsOpened, Seat, SessionState, answers, answers_after_turn, asks_after, attempts, call_begun, is_busy, is_word_ask, op_begun, poll_begun, poll_call, polls_at, polls_request, refresh_call, refusal_of, refuses, session_ask, sitting_given, sleep_call, turn_ledto, wake_call}
+use Rattle.fkv_session.specs.Sessions.{IsOpened, Seat, SessionState, answers, answers_after_turn, asks_after, attempts, call_begun, is_busy, is_word_ask, op_begun, poll_begun, poll_call, polls_at, polls_request, refresh_call, refusal_of, refuses, session_ask, session_next, sitting_given, sleep_call, turn_ledto, wake_call}
 use Rattle.fkv_session.specs.SessionRun.{Begins, Gets, Replies, SessionEvent, begins, session_happens, session_run}
 use Rattle.fkv_world.specs.Opened.{HasBecome, IsOpenedWorld}
 use Rattle.fkv_world.specs.OwnEvents.{session_events, session_part, session_part_found, session_part_of}
@@ -33,7 +33,7 @@ use Rattle.law_world.proofs.OfRuns.Nothing.{none_ever}
 use Rattle.law_world.proofs.OfSessions.OwnRun.{here}
 use Rattle.law_paper.specs.Phases as paper
 use Rattle.law_paper.specs.Phases.{AreEnabled, IsEnabled, PhaseEvent, Phasing, phase_after, phase_run}
-use Rattle.law_commit.specs.Phases.Projected.{EventShown, EventsAreShown, SameSession, ShowsSession, ShowsSessions, ShowsWords, Shown, completed_events, events_found, first_seen, is_there, left_events, loaded_events, loads_now, phase_events_through, reply_events, session_phase_events, sessions_opened}
+use Rattle.law_commit.specs.Phases.Projected.{EventShown, EventsAreShown, SameSession, ShowsSession, ShowsSessions, ShowsWords, Shown, completed_events, events_found, first_seen, is_there, left_events, loaded_events, loads_now, phase_events_by, phase_events_through, reply_events, session_phase_events, sessions_opened}
 use Rattle.law_commit.specs.Phases.Stamped.{SessionStamped, SittingStamped, force_by, loads_by}
 use Rattle.law_commit.specs.Views.{Sight, sight_by, sight_found, sight_in, sight_of, sight_opened, sight_through}
 use Rattle.law_commit.proofs.OfPhases.Awake.{SitsSo, happens_so, run_so}
@@ -110,32 +110,33 @@ shown_on p session later before was its awake after one past =
     }
 
 -- ---- the words stay as they are
-record SameWords (q p : Phasing) : Type 0 where
-  epoch : q.epoch ≡ p.epoch
-  tail : q.tail ≡ p.tail
-  rank : paper.rank_of q ≡ paper.rank_of p
+pub record SameWords (q p : Phasing) : Type 0 where
+  pub epoch : q.epoch ≡ p.epoch
+  pub tail : q.tail ≡ p.tail
+  pub rank : paper.rank_of q ≡ paper.rank_of p
+  pub safe : q.safe ≡ p.safe
 
 words_on : (q p : Phasing) (words : List ℕ) → SameWords q p → ShowsWords p words → ShowsWords q words
 words_on q p words same holds = record { epoch = same.epoch ∙ holds.epoch; tail = same.tail ∙ holds.tail; phase = holds.phase; version = holds.version; says = holds.says; rank = same.rank ∙ holds.rank }
 
 left_words : (p : Phasing) (session : ℕ) (before after : Bool) (events : List PhaseEvent) → SameWords (phase_run p events) p → SameWords (phase_run p (left_events session before after ++ events)) p
 unfolding phase_run phase_after
-left_words p session true false events same = record { epoch = same.epoch; tail = same.tail; rank = same.rank }
+left_words p session true false events same = record { epoch = same.epoch; tail = same.tail; rank = same.rank; safe = same.safe }
 left_words p session true true events same = same
 left_words p session false true events same = same
 left_words p session false false events same = same
 
 loaded_words : (p : Phasing) (session : ℕ) (loads : Bool) → SameWords (phase_run p (loaded_events session loads)) p
 unfolding phase_run phase_after
-loaded_words p session true = record { epoch = refl; tail = refl; rank = refl }
-loaded_words p session false = record { epoch = refl; tail = refl; rank = refl }
+loaded_words p session true = record { epoch = refl; tail = refl; rank = refl; safe = refl }
+loaded_words p session false = record { epoch = refl; tail = refl; rank = refl; safe = refl }
 
 none_words : (p : Phasing) (events : List PhaseEvent) → SameWords (phase_run p events) p → SameWords (phase_run p ([] ++ events)) p
 none_words p events same = same
 
 one_words : (p : Phasing) (session : ℕ) (events : List PhaseEvent) → SameWords (phase_run p events) p → SameWords (phase_run p (paper.Completes session ∷ events)) p
 unfolding phase_run phase_after
-one_words p session events same = record { epoch = same.epoch; tail = same.tail; rank = same.rank }
+one_words p session events same = record { epoch = same.epoch; tail = same.tail; rank = same.rank; safe = same.safe }
 
 caught_words : (p : Phasing) (session : ℕ) (cause : _) (after : Sitting) (events : List PhaseEvent) → SameWords (phase_run p events) p → SameWords (phase_run p (completed_events session (CatchesUp cause) after ++ events)) p
 caught_words p session cause (CatchesUp other) events same = same
@@ -224,12 +225,12 @@ record Went (p : Phasing) (words : List ℕ) (its : Sight) (k : Seat) (s : Sessi
   sits : SitsSo (session_run k s own)
 
 same_words : (p q r : Phasing) → SameWords r q → SameWords q p → SameWords r p
-same_words p q r one other = record { epoch = one.epoch ∙ other.epoch; tail = one.tail ∙ other.tail; rank = one.rank ∙ other.rank }
+same_words p q r one other = record { epoch = one.epoch ∙ other.epoch; tail = one.tail ∙ other.tail; rank = one.rank ∙ other.rank; safe = one.safe ∙ other.safe }
 
 module _ (p : Phasing) (words : List ℕ) (holds : ShowsWords p words) (its : Sight) (k : Seat) (s : SessionState) (so : Stampedly its s) (sits : SitsSo s) (shows : ShowsSession p.sessions k.number its s.is_awake) where
   none_went : Went p words its k s []
   unfolding sight_through session_run phase_events_through phase_run
-  none_went = record { shown = none_shown p k.number its s.is_awake shows; words_stay = record { epoch = refl; tail = refl; rank = refl }; sits = sits }
+  none_went = record { shown = none_shown p k.number its s.is_awake shows; words_stay = record { epoch = refl; tail = refl; rank = refl; safe = refl }; sits = sits }
 
   one_went : (event : SessionEvent) (own : List SessionEvent) → Went p words its k s own → TellsBy words (session_run k s own) event → Went p words its k s (event ∷ own)
   unfolding sight_through session_run phase_events_through session_happens
@@ -502,3 +503,32 @@ opening_shown opening = record {
       subst (λ (x : Sight). ShowsSession (sessions_opened opening.now) session x its.is_awake) (sym (opening_sight opening session first became.was)) (opening_seen opening session first its became);
   none = λ session gone. (ap is_there gone, refl);
 }
+
+-- ---- sessions' events change neither the words nor what is safe
+same_still : (p : Phasing) → SameWords (phase_run p []) p
+unfolding phase_run
+same_still p = record { epoch = refl; tail = refl; rank = refl; safe = refl }
+
+through_same : (p : Phasing) (k : Seat) (s : SessionState) (own : List SessionEvent) → SameWords (phase_run p (phase_events_through k s own)) p
+unfolding phase_events_through
+through_same p k s [] = same_still p
+through_same p k s (Replies reply ∷ own) =
+    let before : List PhaseEvent = phase_events_through k s own in
+    let a : SessionState = session_run k s own in
+    let later : List PhaseEvent = phase_events_by k a (Replies reply) in
+    subst (λ (r : Phasing). SameWords r p) (sym (runs_on p later before)) (same_words p (phase_run p before) (phase_run (phase_run p before) later) (reply_words (phase_run p before) k.number a (session_next k a reply)) (through_same p k s own))
+through_same p k s (Begins call ∷ own) = through_same p k s own
+through_same p k s (Gets action ∷ own) = through_same p k s own
+
+found_events : (p : Phasing) (n : Now) (j : ℕ) (own : List SessionEvent) (found : Option SessionState) → SameWords (phase_run p (events_found n j own found)) p
+found_events p n j own None = same_still p
+found_events p n j own (Some s) = through_same p (seat_at n j) s own
+
+pub events_same : (p : Phasing) (n : Now) (event : Event) → SameWords (phase_run p (session_phase_events n event)) p
+unfolding session_phase_events
+events_same p n (Moves j) = found_events p n j (session_part_of n j (Moves j)) (slice_get n.sessions j)
+events_same p n (Calls j call) = same_still p
+events_same p n (Commits kind) = same_still p
+events_same p n world.Turns = same_still p
+events_same p n (KeeperMoves granted done) = same_still p
+events_same p n Crashes = same_still p

@@ -1,5 +1,5 @@
 -- What a session's events are among the phases on paper.
-use Rattle.std.specs.Prelude.{◌≡◌, ◌≢◌, ◌≤◌, ◌*◌, ⊤, ℕ, Bool, true, false, List, [], ◌∷◌, ◌++◌, Option, Some, None, slice_get}
+use Rattle.std.specs.Prelude.{◌≡◌, ◌≢◌, ◌≤◌, ◌-◌, ◌*◌, replicate, ⊤, ℕ, Bool, true, false, List, [], ◌∷◌, ◌++◌, Option, Some, None, slice_get}
 use Rattle.fkv_base.specs.declared.numbers.Version.{Version}
 use Rattle.fkv_base.specs.declared.phases.Phase.{Phase}
 use Rattle.fkv_base.specs.declared.phases.Phase.TheVariants.{Rest}
@@ -181,3 +181,27 @@ pub record OpensSound (n : Now) (version : Version) : Type 0 where
 
 abbrev pub OpeningsAreSound : Type 0
 OpeningsAreSound = (n : Now) (start : ℕ) (version : Version) → guard.IsOpened n start → BeginsAtRest n version → OpensSound n version
+
+-- ---- what is on paper shows a life: its words, what is safe, and its sessions
+pub record ShowsLife (p : Phasing) (opening : World) (events : List Event) : Type 0 where
+  pub words : ShowsWords p (run opening events).now.words
+  pub safe : p.safe ≡ epochs.safe_of (run opening events).now.words
+  pub sessions : ShowsSessions p.sessions opening events
+
+-- an event that leaves the phase word as it is, from these words to those: its session's, then raises, reservations, and what is safe then
+abbrev pub word_events : List ℕ → List ℕ → List PhaseEvent → List PhaseEvent
+word_events words after events =
+    paper.IsSafe (epochs.safe_of after) ∷ (replicate (word_at after (shared_place one.Tail) - word_at words (shared_place one.Tail)) paper.Reserves ++ (replicate (epochs.epoch_of after - epochs.epoch_of words) paper.RaisesElse ++ events))
+
+abbrev pub quiet_events : World → List Event → Event → List PhaseEvent
+quiet_events opening events event = word_events (run opening events).now.words (run opening (event ∷ events)).now.words (session_phase_events (run opening events).now event)
+
+-- Those are enabled, and show the life again.
+pub record LifeShown (p : Phasing) (opening : World) (events : List Event) (event : Event) : Type 0 where
+  pub enabled : AreEnabled p (quiet_events opening events event)
+  pub shows : ShowsLife (phase_run p (quiet_events opening events event)) opening (event ∷ events)
+
+abbrev pub QuietEventsAreShown : Type 0
+QuietEventsAreShown =
+    (p : Phasing) (opening : World) (start : ℕ) (events : List Event) (event : Event) → guard.IsOpened opening.now start → IsOpenedWorld opening → ShowsLife p opening events
+    → word_at (run opening (event ∷ events)).now.words (shared_place one.Phase) ≡ word_at (run opening events).now.words (shared_place one.Phase) → LifeShown p opening events event
