@@ -2,7 +2,11 @@ pub mod Awake
 pub mod CatchStamps
 pub mod GuardLoads
 pub mod LifeStamps
+pub mod OpeningSound
+pub mod QuietShown
 pub mod RepliesShown
+pub mod SafeEnabled
 pub mod SafeSeen
 pub mod SessionLoads
 pub mod SessionStamps
+pub mod SessionsShown

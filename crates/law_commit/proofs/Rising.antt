@@ -97,7 +97,7 @@ left_risen top its Leaves below = completed_risen top its its.coming refl below
 left_risen top its LoadsDurable below = completed_risen top its its.coming refl below
 
 -- where the phase is what a session loads, the reply is the phase word
-abbrev Tells : List ℕ → SessionState → Sitting → ℕ → Type 0
+abbrev pub Tells : List ℕ → SessionState → Sitting → ℕ → Type 0
 Tells words s (CatchesUp cause) reply = loads_phase s.catching s.catching.step ≡ true → reply ≡ word_at words (shared_place one.Phase)
 Tells words s step reply = ⊤
 
@@ -117,7 +117,7 @@ moved_risen words its s StoresCut reply after below tells = stays (phase_version
 moved_risen words its s Leaves reply after below tells = stays (phase_version words) its below
 moved_risen words its s LoadsDurable reply after below tells = stays (phase_version words) its below
 
-abbrev TellsBy : List ℕ → SessionState → SessionEvent → Type 0
+abbrev pub TellsBy : List ℕ → SessionState → SessionEvent → Type 0
 TellsBy words s (Replies reply) = Tells words s s.step reply
 TellsBy words s event = ⊤
 
@@ -127,7 +127,7 @@ by_risen words its k s (Begins call) below tells = stays (phase_version words) i
 by_risen words its k s (Gets action) below tells = stays (phase_version words) its below
 
 -- so it is of each of these events
-unfoldable TellAll : List ℕ → Seat → SessionState → List SessionEvent → Type 0
+unfoldable pub TellAll : List ℕ → Seat → SessionState → List SessionEvent → Type 0
 TellAll words k s [] = ⊤
 TellAll words k s (event ∷ before) = TellsBy words (session_run k s before) event × TellAll words k s before
 
@@ -259,7 +259,7 @@ either_all : (c : Bool) (words : List ℕ) (k : Seat) (s : SessionState) (a b : 
 either_all true words k s a b one other = one
 either_all false words k s a b one other = other
 
-found_all : (n : Now) (k : Seat) (s : SessionState) (session : ℕ) (event : Event) (found : Option SessionState) → found ≡ Some s → seat_at n session ≡ k
+pub found_all : (n : Now) (k : Seat) (s : SessionState) (session : ℕ) (event : Event) (found : Option SessionState) → found ≡ Some s → seat_at n session ≡ k
     → TellAll n.words k s (if n.crashed then [] else session_part_found n session event found)
 found_all n k s session event found e seat =
     rw (e, seat) (either_all n.crashed n.words k s [] (if is_of_session session event then session_part k (near n s) event else []) (nothing_told n.words k s)

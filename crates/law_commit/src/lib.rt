@@ -14,4 +14,7 @@ pub use laws::{
     law_view_is_seen,
 };
 pub use linked::law_links_meet_empty;
-pub use phases::{law_replies_are_phases, law_replies_keep_stamps, law_stamps_are_loads};
+pub use phases::{
+    law_quiet_events_are_phases, law_replies_keep_stamps, law_sessions_are_phases,
+    law_stamps_are_loads,
+};

@@ -1,12 +1,12 @@
 //! Phases, views and epochs of a life.
-ghost use Rattle.std.specs.Prelude.{◌≡◌, ◌<◌, ◌≤◌, ℕ, List, Some, true};
+ghost use Rattle.std.specs.Prelude.{◌≡◌, ◌<◌, ◌≤◌, ℕ, List, [], Some, true};
 ghost use Rattle.fkv_epoch.specs.EpochWorld.{safe_of};
 ghost use Rattle.fkv_session.specs.Sessions.{SessionState};
 ghost use Rattle.fkv_world.specs.Opened.{HasBecome};
 ghost use Rattle.fkv_world.specs.Runs.{World, run};
 ghost use Rattle.fkv_world.specs.World.{Event};
 ghost use Rattle.law_guard.specs.Guarded.Shows.{IsOpened, seen_by_guard};
-ghost use Rattle.law_commit.specs.Phases.Projected.{RepliesAreShown};
+ghost use Rattle.law_commit.specs.Phases.Projected.{EventsAreShown, OpeningsAreSound, QuietEventsAreShown, RepliesAreShown, SafeIsEnabled, ShowsSessions, sessions_opened};
 ghost use Rattle.law_commit.specs.Phases.Stamped.{RepliesKeepStamps, SessionStamped, is_live};
 ghost use Rattle.law_commit.specs.Views.{View, sight_of};
 
@@ -29,8 +29,21 @@ pub fn law_stamps_are_loads()
 
 /// In each life of a store that was opened a session is live where it is awake. Each of its replies is a list of enabled events of the phases on paper: it
 /// loads the phase word, goes by the view that was coming, or leaves. As long as what is on paper shows the words and a session, it shows the session that
-/// the reply leaves, and the others are as they were.
-pub fn law_replies_are_phases()
+/// the reply leaves, and the others are as they were. So it is with each event of a life: what is on paper shows each session again. It does so as the
+/// life begins, where each session is awake and its view is of the words as they stand. Then an epoch that is safe in the life may be safe on paper: each view
+/// that counts there was loaded after its raise. And what is on paper is sound as a life begins whose store rests, and shows its words.
+pub fn law_sessions_are_phases()
     ensures live { (opening : World) (events : List Event) (session : ℕ) (first its : SessionState) → HasBecome opening events session first its → is_live its ≡ its.is_awake }
     ensures replies { RepliesAreShown }
+    ensures events { EventsAreShown }
+    ensures safe { SafeIsEnabled }
+    ensures sound { OpeningsAreSound }
+    ensures opening { (opening : World) → ShowsSessions (sessions_opened opening.now) opening [] }
+{}
+
+/// In each life of a store that was opened an event that leaves the phase word as it is, whoever makes it, is a list of enabled events of the phases on
+/// paper: its session's, then raises of the epoch, reservations, and what is safe then. If what is on paper shows the life before, it does behind it: the epoch, what
+/// is safe, the tail, the rank of the phase word, and each session.
+pub fn law_quiet_events_are_phases()
+    ensures { QuietEventsAreShown }
 {}

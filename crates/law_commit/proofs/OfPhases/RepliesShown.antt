@@ -29,7 +29,7 @@ same_session : (x : paper.Sessions) (session : ℕ) → SameSession x x session
 same_session x session = record { live = refl; view = refl; comes = refl; coming = refl }
 
 -- nothing happens
-none_shown : (p : Phasing) (session : ℕ) (its : Sight) (awake : Bool) → ShowsSession p.sessions session its awake → Shown p session [] its awake
+pub none_shown : (p : Phasing) (session : ℕ) (its : Sight) (awake : Bool) → ShowsSession p.sessions session its awake → Shown p session [] its awake
 unfolding AreEnabled phase_run
 none_shown p session its awake shows = record { enabled = tt; shows = shows; others = λ other apart. same_session p.sessions other }
 

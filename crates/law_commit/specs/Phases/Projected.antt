@@ -1,7 +1,8 @@
 -- What a session's events are among the phases on paper.
-use Rattle.std.specs.Prelude.{◌≡◌, ◌≢◌, ⊤, ℕ, Bool, true, false, List, [], ◌∷◌, ◌++◌, Option, Some, None}
+use Rattle.std.specs.Prelude.{◌≡◌, ◌≢◌, ◌≤◌, ◌-◌, ◌*◌, replicate, ⊤, ℕ, Bool, true, false, List, [], ◌∷◌, ◌++◌, Option, Some, None, slice_get}
 use Rattle.fkv_base.specs.declared.numbers.Version.{Version}
 use Rattle.fkv_base.specs.declared.phases.Phase.{Phase}
+use Rattle.fkv_base.specs.declared.phases.Phase.TheVariants.{Rest}
 use Rattle.fkv_words.specs.declared.phase_words.PhaseSaid.TheVariants.{Says}
 use Rattle.fkv_words.specs.PhaseWords.{phase_said}
 use Rattle.fkv_epoch.specs.EpochWorld as epochs
@@ -12,11 +13,17 @@ use Rattle.fkv_session.specs.declared.sessions.CatchCause.TheVariants.{Wakes}
 use Rattle.fkv_session.specs.declared.sessions.Sitting.{Sitting}
 use Rattle.fkv_session.specs.declared.sessions.Sitting.TheVariants.{CatchesUp, Idle, LoadsDurable}
 use Rattle.fkv_session.specs.Sessions.{Seat, SessionState, session_next}
+use Rattle.fkv_session.specs.SessionRun.{Replies, SessionEvent, session_run}
+use Rattle.fkv_world.specs.Opened.{HasBecome, IsOpenedWorld}
+use Rattle.fkv_world.specs.OwnEvents.{session_part_of}
+use Rattle.fkv_world.specs.Runs.{World, run}
+use Rattle.fkv_world.specs.World.{Event, Moves, Now, seat_at}
+use Rattle.law_guard.specs.Guarded.Shows as guard
 use Rattle.law_paper.specs.Phases as paper
 use Rattle.law_paper.specs.Phases.{AreEnabled, Completes, Leaves, Loads, PhaseEvent, Phasing, phase_run}
 use Rattle.law_commit.specs.Phases.Stamped.{SessionStamped}
 use Rattle.law_commit.specs.Ranks.{rank}
-use Rattle.law_commit.specs.Views.{Sight, View, loads_phase, rank_of, sight_moved}
+use Rattle.law_commit.specs.Views.{Sight, View, loads_phase, rank_of, sight_moved, sight_of, view_at}
 
 -- ---- a session is awake but while it sleeps and wakes; and it refreshes where it doesn't wake
 abbrev pub SitsAwake : SessionState → Sitting → Type 0
@@ -92,3 +99,109 @@ RepliesAreShown =
     (p : Phasing) (words : List ℕ) (its : Sight) (l f : epochs.Loads) (k : Seat) (s : SessionState) (reply : ℕ) → SessionStamped its l f s → SitsAwake s s.step → ShowsWords p words
     → (loads_now s s.step ≡ true → reply ≡ word_at words (shared_place one.Phase)) → ShowsSession p.sessions k.number its s.is_awake
     → Shown p k.number (reply_events k.number s (session_next k s reply)) (sight_moved words s s.step reply (session_next k s reply).step its) (session_next k s reply).is_awake
+
+-- ---- a life's events of sessions
+abbrev pub phase_events_by : Seat → SessionState → SessionEvent → List PhaseEvent
+phase_events_by k s (Replies reply) = reply_events k.number s (session_next k s reply)
+phase_events_by k s event = []
+
+unfoldable pub phase_events_through : Seat → SessionState → List SessionEvent → List PhaseEvent
+phase_events_through k s [] = []
+phase_events_through k s (event ∷ before) = phase_events_by k (session_run k s before) event ++ phase_events_through k s before
+
+-- of the session that there is
+abbrev pub events_found : Now → ℕ → List SessionEvent → Option SessionState → List PhaseEvent
+events_found n session own None = []
+events_found n session own (Some s) = phase_events_through (seat_at n session) s own
+
+unfoldable pub session_phase_events : Now → Event → List PhaseEvent
+session_phase_events n (Moves session) = events_found n session (session_part_of n session (Moves session)) (slice_get n.sessions session)
+session_phase_events n event = []
+
+-- what is on paper shows each session of a life so far
+-- and a session that isn't there is neither live nor coming
+pub record ShowsSessions (x : paper.Sessions) (opening : World) (events : List Event) : Type 0 where
+  pub there : (session : ℕ) (first its : SessionState) → HasBecome opening events session first its → ShowsSession x session (sight_of opening events session) its.is_awake
+  pub none : (session : ℕ) → slice_get opening.now.sessions session ≡ None → (x.live session ≡ false) × (x.comes session ≡ false)
+
+-- As a life begins each session is awake, and its view is of the words as they stand.
+abbrev pub first_seen : Option SessionState → List ℕ → paper.View
+first_seen None words = record { stamp = 0; rank = 0; tail = 0 }
+first_seen (Some first) words = paper_view (view_at words first.seen.phase first.seen.version)
+
+abbrev pub is_there : Option SessionState → Bool
+is_there None = false
+is_there (Some first) = true
+
+abbrev pub sessions_opened : Now → paper.Sessions
+sessions_opened n = record {
+  live = λ session. is_there (slice_get n.sessions session);
+  view = λ session. first_seen (slice_get n.sessions session) n.words;
+  comes = λ session. false;
+  coming = λ session. first_seen (slice_get n.sessions session) n.words;
+}
+
+-- One event of a life is enabled as those of its session, and shows each session again.
+pub record EventShown (p : Phasing) (opening : World) (events : List Event) (event : Event) : Type 0 where
+  pub enabled : AreEnabled p (session_phase_events (run opening events).now event)
+  pub shows : ShowsSessions (phase_run p (session_phase_events (run opening events).now event)).sessions opening (event ∷ events)
+
+abbrev pub EventsAreShown : Type 0
+EventsAreShown = (p : Phasing) (opening : World) (events : List Event) (event : Event) → IsOpenedWorld opening → ShowsWords p (run opening events).now.words → ShowsSessions p.sessions opening events → EventShown p opening events event
+
+-- An epoch that is safe in a life may be so on paper.
+abbrev pub SafeIsEnabled : Type 0
+SafeIsEnabled =
+    (p : Phasing) (opening : World) (start : ℕ) (events : List Event) (m : ℕ) → guard.IsOpened opening.now start → IsOpenedWorld opening → p.epoch ≡ epochs.epoch_of (run opening events).now.words → ShowsSessions p.sessions opening events
+    → m ≤ epochs.safe_of (run opening events).now.words → paper.IsEnabled p (paper.IsSafe m)
+
+-- ---- as a life begins
+-- the phase word says rest in this version, and each session has seen that
+pub record BeginsAtRest (n : Now) (version : Version) : Type 0 where
+  pub says : phase_said (word_at n.words (shared_place one.Phase)) ≡ Says Rest version
+  pub phase : (session : ℕ) (first : SessionState) → slice_get n.sessions session ≡ Some first → first.seen.phase ≡ Rest
+  pub version_seen : (session : ℕ) (first : SessionState) → slice_get n.sessions session ≡ Some first → first.seen.version ≡ version
+
+-- what is on paper then: nothing is raised
+abbrev pub phasing_opened : Now → Version → Phasing
+phasing_opened n version = record {
+  base = 5 * version.0;
+  stage = 0;
+  epoch = epochs.epoch_of n.words;
+  safe = epochs.safe_of n.words;
+  tail = word_at n.words (shared_place one.Tail);
+  raises = record { progress = 0; first = 0; pending = 0; ending = 0; end = 0; due = 0 };
+  sessions = sessions_opened n;
+}
+
+-- It is sound, and shows the words.
+pub record OpensSound (n : Now) (version : Version) : Type 0 where
+  pub sound : paper.IsSound (phasing_opened n version)
+  pub words : ShowsWords (phasing_opened n version) n.words
+
+abbrev pub OpeningsAreSound : Type 0
+OpeningsAreSound = (n : Now) (start : ℕ) (version : Version) → guard.IsOpened n start → BeginsAtRest n version → OpensSound n version
+
+-- ---- what is on paper shows a life: its words, what is safe, and its sessions
+pub record ShowsLife (p : Phasing) (opening : World) (events : List Event) : Type 0 where
+  pub words : ShowsWords p (run opening events).now.words
+  pub safe : p.safe ≡ epochs.safe_of (run opening events).now.words
+  pub sessions : ShowsSessions p.sessions opening events
+
+-- an event that leaves the phase word as it is, from these words to those: its session's, then raises, reservations, and what is safe then
+abbrev pub word_events : List ℕ → List ℕ → List PhaseEvent → List PhaseEvent
+word_events words after events =
+    paper.IsSafe (epochs.safe_of after) ∷ (replicate (word_at after (shared_place one.Tail) - word_at words (shared_place one.Tail)) paper.Reserves ++ (replicate (epochs.epoch_of after - epochs.epoch_of words) paper.RaisesElse ++ events))
+
+abbrev pub quiet_events : World → List Event → Event → List PhaseEvent
+quiet_events opening events event = word_events (run opening events).now.words (run opening (event ∷ events)).now.words (session_phase_events (run opening events).now event)
+
+-- Those are enabled, and show the life again.
+pub record LifeShown (p : Phasing) (opening : World) (events : List Event) (event : Event) : Type 0 where
+  pub enabled : AreEnabled p (quiet_events opening events event)
+  pub shows : ShowsLife (phase_run p (quiet_events opening events event)) opening (event ∷ events)
+
+abbrev pub QuietEventsAreShown : Type 0
+QuietEventsAreShown =
+    (p : Phasing) (opening : World) (start : ℕ) (events : List Event) (event : Event) → guard.IsOpened opening.now start → IsOpenedWorld opening → ShowsLife p opening events
+    → word_at (run opening (event ∷ events)).now.words (shared_place one.Phase) ≡ word_at (run opening events).now.words (shared_place one.Phase) → LifeShown p opening events event

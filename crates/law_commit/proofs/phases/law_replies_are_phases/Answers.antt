@@ -1,6 +1,0 @@
-use Rattle.law_commit.proofs.OfPhases.Awake.{life_live}
-use Rattle.law_commit.proofs.OfPhases.RepliesShown.{replies_shown}
-use Rattle.law_commit.proofs.phases.law_replies_are_phases.Goals as goal
-
-pub returns : goal.returns
-returns c = record { live = life_live; replies = replies_shown }
