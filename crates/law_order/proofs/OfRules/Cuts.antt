@@ -1,5 +1,5 @@
 -- The cut words, the owing words and the durable words of an opened store: they show the points of its newest commit, and that nothing is owed.
-use Rattle.std.proofs.Common.{◌≡◌, ◌∙◌, ap, sym, refl, subst, arith, ℕ, ◌+◌, ◌-◌, ◌*◌, ◌%◌, ◌^◌, ◌<◌, ◌≤◌, Bool, true, false, length}
+use Rattle.std.proofs.Common.{◌≡◌, ◌∙◌, ap, sym, refl, subst, arith, ℕ, ◌+◌, ◌-◌, ◌*◌, ◌%◌, ◌^◌, ◌<◌, ◌≤◌, Bool, true, false, length, inl, inr}
 use Rattle.std.specs.Prelude.{◌==◌, if◌then◌else◌, min, nat_eq, Some, slice_get}
 use Rattle.std.proofs.Math.Nat.{min-eq_left}
 use Rattle.std.proofs.lemmas.Bool.Decides.{nat_tests}
@@ -7,6 +7,7 @@ use Rattle.std.proofs.lemmas.List.{get_or-map}
 use Rattle.std.proofs.lemmas.Option.{slice_get-get_or, slice_get_within}
 use Rattle.fkv_base.specs.Limits.{last_serial, last_version}
 use Rattle.fkv_base.specs.declared.numbers.Serial.{Serial}
+use Rattle.fkv_commit.specs.Cuts.{serial_said}
 use Rattle.fkv_commit.specs.Finishing as finishing
 use Rattle.fkv_core.specs.OpeningPlaces.{StandAsTold, StandOfSession}
 use Rattle.fkv_core.specs.Openings.{IsOpeningWorld}
@@ -19,7 +20,8 @@ use Rattle.fkv_plane.specs.declared.places.SessionWord.TheVariants as own
 use Rattle.fkv_session.specs.CatchingUp.{cut_at, cut_of}
 use Rattle.fkv_session.specs.Sessions.{SessionState}
 use Rattle.fkv_world.specs.World.{Now, seat_at}
-use Rattle.law_commit.specs.Cuts.{ShowCuts, ShowsCut, ShowsDurable}
+use Rattle.law_commit.specs.Cuts.{IsCutPlace, ShowCuts, ShowsCut, ShowsDurable}
+use Rattle.law_commit.proofs.OfCuts.Serials.{low_said}
 use Rattle.law_order.proofs.OfRules.Words.{are_told, words_told}
 
 module _ (o : Opened) (n : Now) (its : IsOpeningWorld o n) (told : StandAsTold o n.words) where
@@ -40,6 +42,17 @@ module _ (o : Opened) (n : Now) (its : IsOpeningWorld o n) (told : StandAsTold o
       let b : min version last_version ≡ version = min-eq_left few in
       omega (arith, a, b)
 
+  -- neither cut word shows more than the point
+  low : (is_its : Bool) (point number serial word : ℕ) → point ≤ serial → serial ≤ last_serial → word ≡ (if is_its then point else 0) + (if is_its then number else 0) * 2 ^ 48 → serial_said word ≤ serial
+  low true point number serial word few small is = low_said word serial (omega (arith, few, small, is))
+  low false point number serial word few small is = low_said word serial (omega (arith, is))
+
+  none_above : (session serial : ℕ) → session < o.shape.sessions → serial ≡ point_of o session → serial ≤ last_serial → (place : ℕ) → IsCutPlace session place → serial_said (word_at n.words place) ≤ serial
+  none_above session serial there same small place (inl even) =
+      low (nat_eq (o.number.0 % 2) 0) (point_of o session) o.number.0 serial (word_at n.words place) (omega (arith, same)) small (ap (λ (at : ℕ). word_at n.words at) even ∙ (stands session there).even_cut)
+  none_above session serial there same small place (inr odd) =
+      low (nat_eq (o.number.0 % 2) 1) (point_of o session) o.number.0 serial (word_at n.words place) (omega (arith, same)) small (ap (λ (at : ℕ). word_at n.words at) odd ∙ (stands session there).odd_cut)
+
   session_shows : (session : ℕ) (s : SessionState) → slice_get n.sessions session ≡ Some s → ShowsCut (seat_at n session) s (λ place. word_at n.words place)
   session_shows session s found =
       let sits = its.its_sessions session s found in
@@ -55,6 +68,7 @@ module _ (o : Opened) (n : Now) (its : IsOpeningWorld o n) (told : StandAsTold o
         version = (omega (arith, saw), omega (arith, saw, few));
         cut = subst (λ (version : ℕ). word_at n.words (session_place session (cut_of version)) ≡ cut_at s.serial version) number
             (cut_there session there ∙ (ap (λ (x : ℕ). x + o.number.0 * 2 ^ 48) (sym serial) ∙ sym said));
+        serials = λ place is_cut. none_above session s.serial there serial sits.opened.serial_fits place is_cut;
         owing = (stands session there).owing;
       }
 
