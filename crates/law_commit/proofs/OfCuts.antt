@@ -4,5 +4,6 @@ pub mod Events
 pub mod Left
 pub mod Marks
 pub mod Points
+pub mod Serials
 pub mod Told
 pub mod Words

@@ -1,5 +1,5 @@
 -- The words in which a session tells where it has left a version, and its durable word: who stores them, and what was stored there last.
-use Rattle.std.specs.Prelude.{◌≡◌, ◌<◌, ◌≤◌, ℕ, ◌==◌, nat_lt, if◌then◌else◌, List, [], ◌∷◌, length, Some, slice_get}
+use Rattle.std.specs.Prelude.{◌≡◌, ◌<◌, ◌≤◌, ◌⊎◌, ℕ, ◌==◌, nat_lt, if◌then◌else◌, List, [], ◌∷◌, length, Some, slice_get}
 use Rattle.fkv_base.specs.declared.numbers.Serial.{Serial}
 use Rattle.fkv_base.specs.declared.shapes.Shape.{Shape}
 use Rattle.fkv_plane.specs.declared.asks.Ask.{Ask}
@@ -10,6 +10,7 @@ use Rattle.fkv_plane.specs.Asked.{word_at}
 use Rattle.fkv_plane.specs.Places.{session_place, word_count}
 use Rattle.fkv_commit.specs.declared.finishing.Finishing.{Finishing}
 use Rattle.fkv_commit.specs.declared.finishing.Finishing.TheVariants.{StoresDurable}
+use Rattle.fkv_commit.specs.Cuts.{serial_said}
 use Rattle.fkv_commit.specs.Finishing.{point_of}
 use Rattle.fkv_keeper.specs.declared.keepers.Keeping.{Keeping}
 use Rattle.fkv_keeper.specs.declared.keepers.Keeping.TheVariants.{Finishes}
@@ -50,10 +51,15 @@ serial_leaving s before = if (taken_up s).version.0 == s.seen.version.0 then bef
 abbrev pub life_leaving : World → ℕ → SessionState → List Event → SessionState → ℕ
 life_leaving opening number first events its = serial_leaving its (serial_before (seat_at opening.now number) first (session_events opening number events))
 
--- As a life begins, the cut word of the version before shows the session's serial, and it owes nothing.
+-- one of a session's two cut words
+abbrev pub IsCutPlace : ℕ → ℕ → Type 0
+IsCutPlace number place = (place ≡ session_place number own.EvenCut) ⊎ (place ≡ session_place number own.OddCut)
+
+-- As a life begins, the cut word of the version before shows the session's serial, none shows a later one, and it owes nothing.
 pub record ShowsCut (k : Seat) (s : SessionState) (words : ℕ → ℕ) : Type 0 where
   pub version : IsVersion s.seen.version.0
   pub cut : words (session_place k.number (cut_of (version_before s.seen).0)) ≡ cut_at s.serial (version_before s.seen).0
+  pub serials : (place : ℕ) → IsCutPlace k.number place → serial_said (words place) ≤ s.serial
   pub owing : words (session_place k.number own.Owing) ≡ 0
 
 abbrev pub ShowCuts : Now → Type 0

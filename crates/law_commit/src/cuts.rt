@@ -1,5 +1,6 @@
 //! What stands in the words by which a session tells where it has left a version, in every life of a store that was opened.
-ghost use Rattle.std.specs.Prelude.{◌≡◌, ◌≢◌, ◌<◌, ◌-◌, ℕ, List, Some, false};
+ghost use Rattle.std.specs.Prelude.{◌≡◌, ◌≢◌, ◌<◌, ◌≤◌, ◌-◌, ℕ, List, Some, false};
+ghost use Rattle.fkv_commit.specs.Cuts.{serial_said};
 ghost use Rattle.fkv_plane.specs.declared.places.SessionWord.TheVariants.{Durable};
 ghost use Rattle.fkv_plane.specs.Places.{session_place};
 ghost use Rattle.fkv_session.specs.InOrder.{AreToldInOrder, IsOwedOrOneMore, owing_place, owing_told, serial_leaving};
@@ -13,7 +14,7 @@ ghost use Rattle.fkv_world.specs.OwnEvents.{session_events};
 ghost use Rattle.fkv_world.specs.Runs.{World, run};
 ghost use Rattle.fkv_world.specs.World.{Event, seat_at};
 ghost use Rattle.law_commit.specs.Accepted.{HasRisingVersion, point};
-ghost use Rattle.law_commit.specs.Cuts.{HasItsWords, ShowCuts, ShowsDurable, durable_at, life_leaving, serial_before, stored_by_keeper, stored_by_session, word_now};
+ghost use Rattle.law_commit.specs.Cuts.{HasItsWords, IsCutPlace, ShowCuts, ShowsDurable, durable_at, life_leaving, serial_before, stored_by_keeper, stored_by_session, word_now};
 
 use law_world::law_world_cuts;
 
@@ -33,7 +34,8 @@ pub fn law_marks_stand()
 /// sleeps, but in a wake, and before it leaves for that, the cut word of its own version shows its serial. In the middle of a call all is shown but what
 /// the session is about to store: first the cut word, and behind that the owing word, which a poll finds one too high at most. So it is from the first moment
 /// on, if it was so as the life began: a session that has left no version yet counts as if it had left the version before its own then. As long as the
-/// version that the session goes by has never fallen, the serial at which it has left the version before is its point of that version.
+/// version that the session goes by has never fallen, the serial at which it has left the version before is its point of that version. Neither cut word
+/// shows a serial above the session's.
 pub fn law_cuts_stand()
     ensures told { (opening : World) (events : List Event) (session : ℕ) (first its : SessionState) (serial : ℕ) → HasBecome opening events session first its
         → HasItsWords opening.now
@@ -61,6 +63,9 @@ pub fn law_cuts_stand()
     ensures always { (opening : World) (events : List Event) (session : ℕ) (first its : SessionState) → HasBecome opening events session first its
         → HasItsWords opening.now → ShowCuts opening.now
         → AreToldInOrder (seat_at opening.now session) its (λ place. word_now opening events place) (life_leaving opening session first events its) }
+    ensures serials { (opening : World) (events : List Event) (session : ℕ) (first its : SessionState) (place : ℕ) → HasBecome opening events session first its
+        → HasItsWords opening.now → ShowCuts opening.now → IsCutPlace session place
+        → serial_said (word_now opening events place) ≤ its.serial }
     ensures left { (opening : World) (events : List Event) (session : ℕ) (first its : SessionState) → HasBecome opening events session first its
         → IsVersion first.seen.version.0
         → HasRisingVersion (seat_at opening.now session) first (session_events opening session events)

@@ -1,4 +1,5 @@
 pub mod Beginning
+pub mod Cuts
 pub mod Image
 pub mod InTime
 pub mod Kept

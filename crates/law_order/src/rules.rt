@@ -7,6 +7,7 @@ ghost use Rattle.fkv_opening.specs.declared.opened_store.Opened.{Opened};
 ghost use Rattle.law_opening.specs.Log.Maps.{opening_map};
 ghost use Rattle.law_opening.specs.Log.OpeningLog.{opening_ghosts};
 ghost use Rattle.fkv_world.specs.World.{Now};
+ghost use Rattle.law_commit.specs.Cuts.{HasItsWords, ShowCuts, ShowsDurable};
 ghost use Rattle.law_order.specs.Known.Begins.{BeginsLife};
 ghost use Rattle.law_order.specs.OneHistory.EachLife.{InEachLife};
 ghost use Rattle.law_order.specs.Rules.InTime.{ReadsInTime};
@@ -35,6 +36,17 @@ pub fn law_life_begins()
     law_log_opened();
     law_log_begins();
     law_log_heads();
+}
+
+/// The world of an opened store has all its words. The cut word of its commit's version shows each session's serial, no session owes an update, and the
+/// durable words show the commit's points. So the laws of cuts and of durable words hold of each life of an opened store.
+pub fn law_cuts_open()
+    ensures words { (o : Opened) (n : Now) → IsOpeningWorld o n → HasItsWords n }
+    ensures cuts { (o : Opened) (n : Now) → IsOpeningWorld o n → ShowCuts n }
+    ensures durable { (o : Opened) (n : Now) → IsOpeningWorld o n → ShowsDurable n }
+{
+    law_guard_opens();
+    law_words_open();
 }
 
 /// Where each event of the log beside such a life keeps to its rule, and what a session changes in place is published, the life itself has one history: what

@@ -38,7 +38,7 @@ rests_in o n its says = record {
 }
 
 -- ---- mailboxes
-point_small : (o : Opened) (session : ℕ) → session < o.shape.sessions → point_of o session < 2 ^ 48
+pub point_small : (o : Opened) (session : ℕ) → session < o.shape.sessions → point_of o session < 2 ^ 48
 point_small o session there =
     let many = o.each_session in
     let within : session < length o.points.items = omega (arith, many, there) in
@@ -47,12 +47,12 @@ point_small o session there =
     let same = get_or-map (λ (point : Serial). point.0) o.points.items session none 0 within in
     omega (arith, small, same)
 
-either_small : (b : Bool) (m most : ℕ) → m < most → 0 < most → (if b then m else 0) < most
+pub either_small : (b : Bool) (m most : ℕ) → m < most → 0 < most → (if b then m else 0) < most
 either_small true m most small some = small
 either_small false m most small some = some
 
 -- what the opened store tells of a session's words
-abbrev cut_told : (o : Opened) (session parity : ℕ) → session < o.shape.sessions → CutWord
+abbrev pub cut_told : (o : Opened) (session parity : ℕ) → session < o.shape.sessions → CutWord
 cut_told o session parity there = record {
   serial = record { 0 = if nat_eq (o.number.0 % 2) parity then point_of o session else 0 };
   version = record { 0 = if nat_eq (o.number.0 % 2) parity then o.number.0 else 0 };
@@ -60,7 +60,7 @@ cut_told o session parity there = record {
   version_fits = let few = o.few_commits in either_small (nat_eq (o.number.0 % 2) parity) o.number.0 (2 ^ 13) (omega (arith, few)) (omega arith);
 }
 
-abbrev words_told : (o : Opened) (session : ℕ) → session < o.shape.sessions → SessionWords
+abbrev pub words_told : (o : Opened) (session : ℕ) → session < o.shape.sessions → SessionWords
 words_told o session there = record {
   epoch = 1;
   even_cut = cut_told o session 0 there;
@@ -74,7 +74,7 @@ words_told o session there = record {
   mail_value = 0;
 }
 
-are_told : (o : Opened) (session : ℕ) (there : session < o.shape.sessions) → AreSessionWords o session (words_told o session there)
+pub are_told : (o : Opened) (session : ℕ) (there : session < o.shape.sessions) → AreSessionWords o session (words_told o session there)
 are_told o session there = record {
   epoch = refl;
   even_cut = record { version = refl; serial = refl };

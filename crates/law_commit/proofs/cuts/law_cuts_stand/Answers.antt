@@ -6,6 +6,7 @@ use Rattle.law_commit.specs.Cuts.{stored_by_session, word_now}
 use Rattle.law_commit.proofs.OfCuts.Always.{always_told}
 use Rattle.law_commit.proofs.OfCuts.Left.{life_left}
 use Rattle.law_commit.proofs.OfCuts.Marks.{life_marks}
+use Rattle.law_commit.proofs.OfCuts.Serials.{life_most}
 use Rattle.law_commit.proofs.OfCuts.Told.{cut_asleep, marks_told, owed_near, told_in_order}
 use Rattle.law_commit.proofs.cuts.law_cuts_stand.Goals as goal
 
@@ -44,3 +45,6 @@ returns-clause-always c = λ opening events session first its became words shows
 
 pub returns-clause-left : goal.returns-clause-left
 returns-clause-left c = λ opening events session first its became fits rises. life_left opening events session first its became fits rises
+
+pub returns-clause-serials : goal.returns-clause-serials
+returns-clause-serials c = λ opening events session first its place became words shows cut. life_most opening events session first its place became words shows cut
