@@ -3,5 +3,4 @@ pub mod Mailers
 pub mod Reads
 pub mod Servers
 pub mod Shows
-pub mod Spares
 pub mod Stood

@@ -27,9 +27,9 @@ use Rattle.law_parts.specs.Mail.MailEvents.{mapped}
 use Rattle.law_parts.specs.Mail.Mailers.{session_mailing, IsAsFar}
 use Rattle.law_parts.specs.Mail.Reads.{mail_past, ChangesBy, EachChangesBy}
 use Rattle.law_parts.specs.Mail.Servers.{serving_of, is_serving, ServesIt, record_of}
+use Rattle.law_parts.specs.Footprint.{Spares, TheMailbox}
 use Rattle.law_parts.specs.Mail.Shows.{SessionSpares, IsOpened, Shows, seen_by_mailbox}
-use Rattle.law_parts.specs.Mail.Spares.{SparesMailbox}
-use Rattle.law_parts.proofs.OfMail.Permitted.{is_permitted, broken_rests}
+use Rattle.law_parts.proofs.OfMail.Permitted.{is_permitted, broken_rests, its_seat}
 use Rattle.law_parts.proofs.OfMail.KeeperServes.{is_at, serve_words}
 use Rattle.law_parts.proofs.OfMail.Lives.{life_sound, life_holds, life_shows}
 use Rattle.law_parts.proofs.OfMail.MailSteps.{loaded, spared_ask}
@@ -76,8 +76,8 @@ module _ (changes : AtEachMoment ChangesAreKept) (opening : World) (session : �
   still : (event : Event) → (happens v event).now.words ≡ n.words → mailbox_of (happens v event).now.words session ≡ box
   still event same = ap (λ (x : List ℕ). mailbox_of x session) same
 
-  spared : {A : Type 0} (event : Event) (ask : Ask A) → (happens v event).now.words ≡ words_after n.words ask → SparesMailbox session ask → mailbox_of (happens v event).now.words session ≡ box
-  spared event ask words spares = ap (λ (x : List ℕ). mailbox_of x session) words ∙ spared_ask n.words session enough ask spares
+  spared : {A : Type 0} (event : Event) (ask : Ask A) → (happens v event).now.words ≡ words_after n.words ask → Spares (TheMailbox session) n.places ask → mailbox_of (happens v event).now.words session ≡ box
+  spared event ask words spares = ap (λ (x : List ℕ). mailbox_of x session) words ∙ spared_ask n.words session enough n.places ask (its_seat opening session before opened) spares
 
   -- the mailbox's session
   own_changes : (s : SessionState) → slice_get n.sessions session ≡ Some s → (step : Mailing) → session_mailing s ≡ Some step → SessionThen n.words session step
@@ -88,7 +88,7 @@ module _ (changes : AtEachMoment ChangesAreKept) (opening : World) (session : �
       subst (λ (x : Mailing). SessionThen n.words session x) far.0
       (subst (λ (x : ℕ). SessionThen n.words x w.mailing) shown.session_same (subst (λ (x : List ℕ). SessionThen x w.session w.mailing) shown.words law))
 
-  permitted_moves : (number : ℕ) (s : SessionState) → slice_get n.sessions number ≡ Some s → (number ≡ session → session_mailing s ≡ None) → SparesMailbox session (session_ask (seat_at n number) s)
+  permitted_moves : (number : ℕ) (s : SessionState) → slice_get n.sessions number ≡ Some s → (number ≡ session → session_mailing s ≡ None) → Spares (TheMailbox session) n.places (session_ask (seat_at n number) s)
   permitted_moves number s there none = subst (λ (found : Option SessionState). SessionSpares n session number found) there (is_permitted opening session before (Moves number) opened) none
 
   session_part : (s : SessionState) → n.crashed ≡ false → slice_get n.sessions session ≡ Some s → SessionChanges box (mailbox_of (happens v (Moves session)).now.words session)

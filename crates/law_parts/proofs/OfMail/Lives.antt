@@ -1,5 +1,5 @@
 -- The mailbox's world shows every life.
-use Rattle.std.proofs.Common.{◌≡◌, ℕ, ◌∙◌, refl, sym, subst, List, [], ◌∷◌, length, Bool, true, false}
+use Rattle.std.proofs.Common.{◌≡◌, ℕ, ◌<◌, ◌∙◌, refl, sym, subst, List, [], ◌∷◌, length, Bool, true, false}
 use Rattle.std.specs.Prelude.{if◌then◌else◌, slice_get}
 use Rattle.fkv_base.specs.declared.faults.Fault.TheVariants as fault
 use Rattle.fkv_commit.specs.declared.commits.CommitKind.{CommitKind}
@@ -23,7 +23,7 @@ use Rattle.fkv_world.proofs.Shown.{is_over, lives}
 use Rattle.law_parts.specs.Mail.MailEvents.{called_events, moved_events, life_events, mail_events, mapped}
 use Rattle.law_parts.specs.Mail.Servers.{serving_of, keeper_serving, KeepsUp}
 use Rattle.law_parts.specs.Mail.Shows.{IsPermitted, IsOpened, Shows, mail_opening, seen_by_mailbox}
-use Rattle.law_parts.proofs.OfMail.Permitted.{is_permitted, broken_rests}
+use Rattle.law_parts.proofs.OfMail.Permitted.{is_permitted, broken_rests, its_seat}
 use Rattle.law_parts.proofs.OfMail.KeeperKeeps.{FindsAsked}
 use Rattle.law_parts.proofs.OfMail.MailSteps.{runs_on}
 use Rattle.law_parts.proofs.OfMail.SessionSits.{idle_sits, sits_far}
@@ -58,31 +58,31 @@ turn_broken : (s : KeeperState) → (turn_asked s).is_broken ≡ s.is_broken
 turn_broken s = either_broken s.is_broken s.is_broken (ended s (TurnRefused fault.Broken)) (record s { maintain = maintain_begun s.maintain; is_drain_full = false; step = Maintains }) refl refl
 
 -- each event
-goes_holds : (v : World) (session : ℕ) (w : MailWorld) (past : MailPast) (event : Event) → v.now.crashed ≡ false → IsPermitted v.now session event → (v.now.keeper.is_broken ≡ true → is_in_hand v.now.keeper.step ≡ false)
+goes_holds : (v : World) (session : ℕ) (w : MailWorld) (past : MailPast) (event : Event) → v.now.crashed ≡ false → session < v.now.places.sessions → IsPermitted v.now session event → (v.now.keeper.is_broken ≡ true → is_in_hand v.now.keeper.step ≡ false)
     → Holds v.now session w → IsSound w past → Holds (happens v event).now session (mail_run w (life_events v.now (read_by_keeper v) session event))
 unfolding life_goes life_events mail_run
-goes_holds v session w past (Calls number call) alive permitted rests holds sound =
+goes_holds v session w past (Calls number call) alive seated permitted rests holds sound =
     subst (λ (n : Now). Holds n session (mail_run w (called_events v.now session number call (slice_get v.now.sessions number)))) (sym (lives v (Calls number call) alive)) (called_holds v.now session number w call (slice_get v.now.sessions number) refl holds)
-goes_holds v session w past (Moves number) alive permitted rests holds sound =
-    subst (λ (n : Now). Holds n session (mail_run w (moved_events v.now session number (slice_get v.now.sessions number)))) (sym (lives v (Moves number) alive)) (moved_holds v session number w past (slice_get v.now.sessions number) alive refl permitted holds sound)
-goes_holds v session w past (KeeperMoves granted done) alive permitted rests holds sound = keeper_holds v session w past granted done alive rests holds sound permitted
-goes_holds v session w past (Commits kind) alive permitted rests holds sound =
+goes_holds v session w past (Moves number) alive seated permitted rests holds sound =
+    subst (λ (n : Now). Holds n session (mail_run w (moved_events v.now session number (slice_get v.now.sessions number)))) (sym (lives v (Moves number) alive)) (moved_holds v session number w past (slice_get v.now.sessions number) alive refl seated permitted holds sound)
+goes_holds v session w past (KeeperMoves granted done) alive seated permitted rests holds sound = keeper_holds v session w past granted done alive rests holds sound seated permitted
+goes_holds v session w past (Commits kind) alive seated permitted rests holds sound =
     subst (λ (n : Now). Holds n session w) (sym (lives v (Commits kind) alive))
     (asked_holds v.now session w (commit_asked v.now.keeper kind) holds (commit_rests v.now.keeper kind) (λ works. sym (commit_broken v.now.keeper kind) ∙ works) (λ idle. idle_serving v.now.keeper idle))
-goes_holds v session w past Turns alive permitted rests holds sound =
+goes_holds v session w past Turns alive seated permitted rests holds sound =
     subst (λ (n : Now). Holds n session w) (sym (lives v Turns alive))
     (asked_holds v.now session w (turn_asked v.now.keeper) holds (turn_rests v.now.keeper) (λ works. sym (turn_broken v.now.keeper) ∙ works) (λ idle. idle_serving v.now.keeper idle))
-goes_holds v session w past Crashes alive permitted rests holds sound =
+goes_holds v session w past Crashes alive seated permitted rests holds sound =
     subst (λ (n : Now). Holds n session w) (sym (lives v Crashes alive)) (record { session_same = holds.session_same; words = holds.words; sits = holds.sits; serves = holds.serves; finds = holds.finds })
 
-happened : (v : World) (session : ℕ) (w : MailWorld) (past : MailPast) (event : Event) → IsPermitted v.now session event → (v.now.keeper.is_broken ≡ true → is_in_hand v.now.keeper.step ≡ false)
+happened : (v : World) (session : ℕ) (w : MailWorld) (past : MailPast) (event : Event) → session < v.now.places.sessions → IsPermitted v.now session event → (v.now.keeper.is_broken ≡ true → is_in_hand v.now.keeper.step ≡ false)
     → Holds v.now session w → IsSound w past → Holds (happens v event).now session (mail_run w (mail_events v.now (read_by_keeper v) session event))
 unfolding mail_run
-happened v session w past event permitted rests holds sound = by_crash v.now.crashed refl
+happened v session w past event seated permitted rests holds sound = by_crash v.now.crashed refl
   where
     by_crash : (c : Bool) → v.now.crashed ≡ c → Holds (happens v event).now session (mail_run w (if c then [] else life_events v.now (read_by_keeper v) session event))
     by_crash true e = subst (λ (x : World). Holds x.now session w) (sym (is_over v event e)) holds
-    by_crash false e = goes_holds v session w past event e permitted rests holds sound
+    by_crash false e = goes_holds v session w past event e seated permitted rests holds sound
 
 opening_holds : (opening : World) (session : ℕ) → IsOpened opening.now session → Holds opening.now session (mail_opening opening session)
 opening_holds opening session opened = record {
@@ -103,7 +103,7 @@ life_holds opening session [] opened = opening_holds opening session opened
 life_holds opening session (event ∷ before) opened =
     let v : World = run opening before in
     subst (λ (x : MailWorld). Holds (happens v event).now session x) (sym (runs_on (mail_opening opening session) (mail_events v.now (read_by_keeper v) session event) (mapped opening session before)))
-    (happened v session (seen_by_mailbox opening session before) (past_of (mail_opening opening session) (mapped opening session before)) event (is_permitted opening session before event opened) (λ broken. broken_rests opening before opened.keeper broken)
+    (happened v session (seen_by_mailbox opening session before) (past_of (mail_opening opening session) (mapped opening session before)) event (its_seat opening session before opened) (is_permitted opening session before event opened) (λ broken. broken_rests opening before opened.keeper broken)
     (life_holds opening session before opened) (life_sound opening session before opened))
 
 pub life_shows : (opening : World) (session : ℕ) (events : List Event) → IsOpened opening.now session → Shows (run opening events).now session (seen_by_mailbox opening session events)

@@ -1,53 +1,27 @@
 -- Each step of a life that begins as a store was opened spares the mailbox, but those that are its session's and its keeper's; and a keeper whose
 -- device has failed has no call in hand.
-use Rattle.std.proofs.Common.{◌≡◌, ℕ, ◌<◌, ◌∙◌, refl, sym, ap, subst, arith, inl, inr, List, [], ◌∷◌, Bool, true, false}
+use Rattle.std.proofs.Common.{◌≡◌, ℕ, ◌<◌, ◌∙◌, refl, sym, ap, subst, List, [], ◌∷◌, Bool, true, false}
 use Rattle.std.specs.Prelude.{Option, Some, None, slice_get}
-use Rattle.std.proofs.lemmas.Bool.Decides.{nat_tests}
 use Rattle.fkv_base.specs.declared.shapes.Shape.{Shape}
-use Rattle.fkv_plane.specs.declared.asks.Ask.{Ask}
-use Rattle.fkv_plane.specs.declared.asks.Ask.TheVariants.{Load, Store, Swap, Cas, Add, Max, Put, Take, Done}
 use Rattle.fkv_plane.specs.declared.places.Places.{Places}
 use Rattle.fkv_keeper.specs.declared.keepers.Keeping.{Keeping}
 use Rattle.fkv_keeper.specs.declared.keepers.Keeping.TheVariants.{Ended, Starts, Maintains, LoadsPhase, Enters, Copies, Seeks, Waits, Writes, Finishes}
 use Rattle.fkv_keeper.specs.KeeperRun.{IsOpened as IsKeeperOpened, is_in_hand, keeper_run}
 use Rattle.fkv_keeper.specs.Keeping.{KeeperState, keeper_ask}
 use Rattle.fkv_keeper.proofs.Shown.{IsSound, run_sound}
-use Rattle.fkv_pending.specs.MailWorld.{is_mail_place}
-use Rattle.fkv_session.specs.Sessions.{SessionState, Seat, session_ask}
+use Rattle.fkv_session.specs.Sessions.{SessionState, Seat}
 use Rattle.fkv_world.specs.OwnEvents.{keeper_events, session_events}
 use Rattle.fkv_world.specs.Runs.{World, run}
 use Rattle.fkv_world.specs.World.{Event, Calls, Moves, Commits, Turns, KeeperMoves, Crashes, Now, seat_at}
 use Rattle.fkv_world.proofs.Shown.{keeper_runs, places_stay}
 use Rattle.law_parts.specs.Mail.Servers.{serving_of, is_serving}
 use Rattle.law_parts.specs.Mail.Shows.{SessionSpares, IsPermitted, ArePermitted, IsOpened}
-use Rattle.law_parts.specs.Mail.Spares.{SparesMailbox}
-use Rattle.law_parts.specs.Footprint.{Mail, TheMailbox, IsAmong, Spares}
+use Rattle.law_parts.specs.Footprint.{TheMailbox, Spares}
 use Rattle.law_parts.proofs.Footprint.Lives.{at_each_moment, keeper_spares}
 use Rattle.law_parts.proofs.Footprint.Sessions.{IsSessionSparing, SessionRests, session_asks_spares, session_run_spares}
 
--- a place that is none of a mailbox's
-not_mail : (session place : ℕ) → (IsAmong session Mail place → ⊥) → is_mail_place session place ≡ false
-not_mail session place none = by_test (is_mail_place session place) refl
-  where
-    by_test : (b : Bool) → is_mail_place session place ≡ b → is_mail_place session place ≡ false
-    by_test false e = e
-    by_test true e = absurd (none (record { from = grind (arith, nat_tests, e); to = grind (arith, nat_tests, e) }))
-
--- an ask that spares the mailbox of one of the store's sessions
-leaves_mailbox : {A : Type 0} (p : Places) (session : ℕ) (ask : Ask A) → session < p.sessions → Spares (TheMailbox session) p ask → SparesMailbox session ask
-leaves_mailbox p session (Load place) there spares = tt
-leaves_mailbox p session (Store place word) there spares = not_mail session place (spares there)
-leaves_mailbox p session (Swap place word) there spares = not_mail session place (spares there)
-leaves_mailbox p session (Cas place old new) there (inl spares) = not_mail session place (spares there)
-leaves_mailbox p session (Cas place old new) there (inr its) = absurd its
-leaves_mailbox p session (Add place k) there (inl spares) = not_mail session place (spares there)
-leaves_mailbox p session (Add place k) there (inr its) = absurd its
-leaves_mailbox p session (Max place k) there spares = not_mail session place (spares there)
-leaves_mailbox p session (Put slot action) there spares = tt
-leaves_mailbox p session (Take slot) there spares = tt
-leaves_mailbox p session (Done its) there spares = tt
-
-its_seat : (opening : World) (session : ℕ) (events : List Event) → IsOpened opening.now session → session < (run opening events).now.places.sessions
+-- the session stays one of the store's
+pub its_seat : (opening : World) (session : ℕ) (events : List Event) → IsOpened opening.now session → session < (run opening events).now.places.sessions
 its_seat opening session events opened = subst (λ (p : Places). session < p.sessions) (sym (places_stay opening events)) opened.its_seat
 
 same_number : (one other : ℕ) → TheMailbox one ≡ TheMailbox other → other ≡ one
@@ -61,15 +35,15 @@ session_spares opening session events i (Some s) opened is = λ none.
     let k : Seat = seat_at n i in
     let its : IsSessionSparing k.places s = at_each_moment (λ seat x. IsSessionSparing seat.places x) opening events i s (λ first was. session_run_spares (seat_at opening.now i) first (session_events opening i events) (opened.sessions i first was)) is in
     let rests : SessionRests (TheMailbox session) k s = record { knows = λ e. cc; search = λ e. cc; entry = λ e. cc; latch = λ e. cc; mail = λ e. none (same_number session i e); marks = λ e. cc } in
-    leaves_mailbox n.places session (session_ask k s) (its_seat opening session events opened) (session_asks_spares (TheMailbox session) k s tt its rests)
+    session_asks_spares (TheMailbox session) k s tt its rests
 
 -- so does the keeper
 keeper_spared : (opening : World) (session : ℕ) (events : List Event) → IsOpened opening.now session → is_serving session (serving_of (run opening events).now.keeper) ≡ false
-    → SparesMailbox session (keeper_ask (run opening events).now.shape (run opening events).now.places (run opening events).now.keeper)
+    → Spares (TheMailbox session) (run opening events).now.places (keeper_ask (run opening events).now.shape (run opening events).now.places (run opening events).now.keeper)
 keeper_spared opening session events opened none =
     let n : Now = (run opening events).now in
     let other : (number : ℕ) → TheMailbox session ≡ TheMailbox number → is_serving number (serving_of n.keeper) ≡ false = λ number e. subst (λ (x : ℕ). is_serving x (serving_of n.keeper) ≡ false) (sym (same_number session number e)) none in
-    leaves_mailbox n.places session (keeper_ask n.shape n.places n.keeper) (its_seat opening session events opened) (keeper_spares (TheMailbox session) opening events opened.keeper tt tt other (λ finishes number e. cc))
+    keeper_spares (TheMailbox session) opening events opened.keeper tt tt other (λ finishes number e. cc)
 
 pub is_permitted : (opening : World) (session : ℕ) (before : List Event) (event : Event) → IsOpened opening.now session → IsPermitted (run opening before).now session event
 is_permitted opening session before (Moves i) opened = session_spares opening session before i (slice_get (run opening before).now.sessions i) opened refl

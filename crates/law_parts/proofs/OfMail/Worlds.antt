@@ -29,8 +29,8 @@ use Rattle.law_world.proofs.OfRuns.OneWord.{keeper_writes, session_writes}
 use Rattle.law_parts.specs.Mail.MailEvents.{begins, changed_by, asked_by, own_events, moved_events, begun_events, called_events, served_events, record_read, keeper_events}
 use Rattle.law_parts.specs.Mail.Mailers.{session_mailing, IsAsFar}
 use Rattle.law_parts.specs.Mail.Servers.{serving_of, is_serving, ServesIf, KeepsUp}
+use Rattle.law_parts.specs.Footprint.{Spares, TheMailbox}
 use Rattle.law_parts.specs.Mail.Shows.{SessionSpares}
-use Rattle.law_parts.specs.Mail.Spares.{SparesMailbox}
 use Rattle.law_parts.proofs.Items.{Here, There, set_at}
 use Rattle.law_parts.proofs.OfMail.AttemptSits.{begun, moved_of}
 use Rattle.law_parts.proofs.OfMail.KeeperKeeps.{FindsAsked, finds_on, idle_keeps, idle_finds, other_keeps, other_finds, IsGiven, ServedOwn, own_served}
@@ -111,13 +111,13 @@ called_holds n session number w call (Some s) there holds = by_number (number ==
     by_number false e = other_called n session number w call s (test_apart number session e) holds
 
 -- a session's step: its ask
-module _ (n : Now) (session : ℕ) (w : MailWorld) (holds : Holds n session w) where
-  spared_run : {A : Type 0} (ask : Ask A) → SparesMailbox session ask → mail_run w (changed_by n.words ask) ≡ record w { words = words_after n.words ask }
+module _ (n : Now) (session : ℕ) (w : MailWorld) (holds : Holds n session w) (seated : session < n.places.sessions) where
+  spared_run : {A : Type 0} (ask : Ask A) → Spares (TheMailbox session) n.places ask → mail_run w (changed_by n.words ask) ≡ record w { words = words_after n.words ask }
   spared_run ask spares =
       subst (λ (x : List ℕ). mail_run w (changed_by x ask) ≡ record w { words = words_after x ask }) holds.words
-      (changed_run w ask (subst (λ (x : ℕ). SparesMailbox x ask) (sym holds.session_same) spares))
+      (changed_run w n.places ask (subst (λ (x : ℕ). x < n.places.sessions) (sym holds.session_same) seated) (subst (λ (x : ℕ). Spares (TheMailbox x) n.places ask) (sym holds.session_same) spares))
 
-  asked_run : (s : SessionState) (found : Option Mailing) → session_mailing s ≡ found → (found ≡ None → SparesMailbox session (session_ask (seat_at n session) s)) → IsAsFar found w.mailing
+  asked_run : (s : SessionState) (found : Option Mailing) → session_mailing s ≡ found → (found ≡ None → Spares (TheMailbox session) n.places (session_ask (seat_at n session) s)) → IsAsFar found w.mailing
       → mail_run w (asked_by n.words found (session_ask (seat_at n session) s))
       ≡ record w { words = words_after n.words (session_ask (seat_at n session) s); mailing = moved_of found w.mailing (reply_to n.words (session_ask (seat_at n session) s)) }
   asked_run s None e permitted far = spared_run (session_ask (seat_at n session) s) (permitted refl)
@@ -129,16 +129,16 @@ module _ (n : Now) (session : ℕ) (w : MailWorld) (holds : Holds n session w) w
       ∙ ap (λ (x : List ℕ). record w { words = x; mailing = mail_next its (reply_to n.words (mail_ask session its)) }) (sym (own_words (seat_at n session) s its n.words e))
       ∙ ap (λ (x : ℕ). record w { words = words_after n.words (session_ask (seat_at n session) s); mailing = mail_next its x }) (sym (own_reply (seat_at n session) s its n.words e))
 
-  asked_on : (past : MailPast) → Known n session w past → (s : SessionState) (found : Option Mailing) → session_mailing s ≡ found → (found ≡ None → SparesMailbox session (session_ask (seat_at n session) s)) → IsAsFar found w.mailing
+  asked_on : (past : MailPast) → Known n session w past → (s : SessionState) (found : Option Mailing) → session_mailing s ≡ found → (found ≡ None → Spares (TheMailbox session) n.places (session_ask (seat_at n session) s)) → IsAsFar found w.mailing
       → (mailbox_of n.words session).state ≡ mail_asked → (mailbox_of (words_after n.words (session_ask (seat_at n session) s)) session).state ≡ mail_asked
-  asked_on past its s None e permitted far asks = ap (λ (x : Mailbox). x.state) (spared_ask n.words session its.enough (session_ask (seat_at n session) s) (permitted refl)) ∙ asks
+  asked_on past its s None e permitted far asks = ap (λ (x : Mailbox). x.state) (spared_ask n.words session its.enough n.places (session_ask (seat_at n session) s) seated (permitted refl)) ∙ asks
   asked_on past its s (Some step) e permitted far asks =
       ap (λ (x : List ℕ). (mailbox_of x session).state) (own_words (seat_at n session) s step n.words e)
       ∙ ap (λ (x : Mailbox). x.state) (moved_box n.words session its.enough step)
       ∙ asked_stays (mailbox_of n.words session) past.task step (subst (λ (x : Mailing). KnowsMail (mailbox_of n.words session) past.task x) far.0 its.knows) asks
 
   -- the mailbox's own session
-  own_moved : (past : MailPast) (s : SessionState) → slice_get n.sessions session ≡ Some s → (session_mailing s ≡ None → SparesMailbox session (session_ask (seat_at n session) s)) → IsSound w past
+  own_moved : (past : MailPast) (s : SessionState) → slice_get n.sessions session ≡ Some s → (session_mailing s ≡ None → Spares (TheMailbox session) n.places (session_ask (seat_at n session) s)) → IsSound w past
       → Holds (session_moves n session (Some s)) session (mail_run w (own_events n session s))
   own_moved past s there permitted sound =
       let k : Seat = seat_at n session in
@@ -169,38 +169,38 @@ unfolding life_goes
 moved_words v number s alive there =
     ap (λ (found : Option SessionState). (session_moves v.now number found).words) (sym there) ∙ ap (λ (n : Now). n.words) (sym (lives v (Moves number) alive)) ∙ session_writes v number s alive there
 
-other_moved : (v : World) (session number : ℕ) (w : MailWorld) (past : MailPast) (s : SessionState) → v.now.crashed ≡ false → slice_get v.now.sessions number ≡ Some s → (number ≡ session → ⊥) → SparesMailbox session (session_ask (seat_at v.now number) s)
+other_moved : (v : World) (session number : ℕ) (w : MailWorld) (past : MailPast) (s : SessionState) → v.now.crashed ≡ false → slice_get v.now.sessions number ≡ Some s → (number ≡ session → ⊥) → session < v.now.places.sessions → Spares (TheMailbox session) v.now.places (session_ask (seat_at v.now number) s)
     → Holds v.now session w → IsSound w past → Holds (session_moves v.now number (Some s)) session (mail_run w (changed_by v.now.words (session_ask (seat_at v.now number) s)))
-other_moved v session number w past s alive there apart spares holds sound =
+other_moved v session number w past s alive there apart seated spares holds sound =
     let n : Now = v.now in
     let ask : Ask Told = session_ask (seat_at n number) s in
     let words = moved_words v number s alive there in
     let its = known n session w past holds sound in
-    subst (λ (x : MailWorld). Holds (session_moves n number (Some s)) session x) (sym (spared_run n session w holds ask spares)) (record {
+    subst (λ (x : MailWorld). Holds (session_moves n number (Some s)) session x) (sym (spared_run n session w holds seated ask spares)) (record {
       session_same = holds.session_same;
       words = sym words;
       sits = other_sits n session number _ w.mailing apart holds.sits;
       serves = holds.serves;
       finds = λ works. finds_on session (serving_of n.keeper) (mailbox_of n.words session) (mailbox_of (session_moves n number (Some s)).words session)
-          (λ asks. ap (λ (x : List ℕ). (mailbox_of x session).state) words ∙ (ap (λ (x : Mailbox). x.state) (spared_ask n.words session its.enough ask spares) ∙ asks)) (holds.finds works);
+          (λ asks. ap (λ (x : List ℕ). (mailbox_of x session).state) words ∙ (ap (λ (x : Mailbox). x.state) (spared_ask n.words session its.enough n.places ask seated spares) ∙ asks)) (holds.finds works);
     })
 
-pub moved_holds : (v : World) (session number : ℕ) (w : MailWorld) (past : MailPast) (found : Option SessionState) → v.now.crashed ≡ false → slice_get v.now.sessions number ≡ found → SessionSpares v.now session number found → Holds v.now session w → IsSound w past
+pub moved_holds : (v : World) (session number : ℕ) (w : MailWorld) (past : MailPast) (found : Option SessionState) → v.now.crashed ≡ false → slice_get v.now.sessions number ≡ found → session < v.now.places.sessions → SessionSpares v.now session number found → Holds v.now session w → IsSound w past
     → Holds (session_moves v.now number found) session (mail_run w (moved_events v.now session number found))
 unfolding mail_run
-moved_holds v session number w past None alive there permitted holds sound = holds
-moved_holds v session number w past (Some s) alive there permitted holds sound = by_number (number == session) refl
+moved_holds v session number w past None alive there seated permitted holds sound = holds
+moved_holds v session number w past (Some s) alive there seated permitted holds sound = by_number (number == session) refl
   where
-    own_part : (x : ℕ) → x ≡ number → slice_get v.now.sessions x ≡ Some s → (x ≡ session → session_mailing s ≡ None → SparesMailbox session (session_ask (seat_at v.now x) s)) → session ≡ x
+    own_part : (x : ℕ) → x ≡ number → slice_get v.now.sessions x ≡ Some s → (x ≡ session → session_mailing s ≡ None → Spares (TheMailbox session) v.now.places (session_ask (seat_at v.now x) s)) → session ≡ x
         → Holds (session_moves v.now x (Some s)) session (mail_run w (own_events v.now session s))
     own_part x e at spares same =
         subst (λ (y : ℕ). Holds (session_moves v.now y (Some s)) session (mail_run w (own_events v.now session s))) same
-        (own_moved v.now session w holds past s (ap (λ (y : ℕ). slice_get v.now.sessions y) same ∙ at)
-        (λ none. subst (λ (y : ℕ). SparesMailbox session (session_ask (seat_at v.now y) s)) (sym same) (spares (sym same) none)) sound)
+        (own_moved v.now session w holds seated past s (ap (λ (y : ℕ). slice_get v.now.sessions y) same ∙ at)
+        (λ none. subst (λ (y : ℕ). Spares (TheMailbox session) v.now.places (session_ask (seat_at v.now y) s)) (sym same) (spares (sym same) none)) sound)
 
     by_number : (c : Bool) → (number == session) ≡ c → Holds (session_moves v.now number (Some s)) session (mail_run w (if c then own_events v.now session s else changed_by v.now.words (session_ask (seat_at v.now number) s)))
     by_number true e = own_part number refl there (λ same none. permitted (λ at. none)) (test_same number session e)
-    by_number false e = other_moved v session number w past s alive there (test_apart number session e) (permitted (λ same. absurd (test_apart number session e same))) holds sound
+    by_number false e = other_moved v session number w past s alive there (test_apart number session e) seated (permitted (λ same. absurd (test_apart number session e same))) holds sound
 
 -- the keeper's step
 abbrev keeper_then : World → Bool → Bool → KeeperState
@@ -276,9 +276,9 @@ module _ (v : World) (session : ℕ) (w : MailWorld) (past : MailPast) (granted 
       by_part true e = subst (λ (x : Serving). FindsAsked session x box) (sym (served_on e works)) (other_finds session n.shape.sessions n.words (read_by_keeper v) serving box none)
       by_part false e = idle_finds session (serving_of after.keeper) box (other_idle e)
 
-  serves_other : is_serving session serving ≡ false → SparesMailbox session ask → Holds after session (mail_run w (changed_by n.words ask))
-  serves_other none spares =
-      subst (λ (x : MailWorld). Holds after session x) (sym (spared_run n session w holds ask spares)) (record {
+  serves_other : is_serving session serving ≡ false → session < n.places.sessions → Spares (TheMailbox session) n.places ask → Holds after session (mail_run w (changed_by n.words ask))
+  serves_other none seated spares =
+      subst (λ (x : MailWorld). Holds after session x) (sym (spared_run n session w holds seated ask spares)) (record {
         session_same = holds.session_same;
         words = sym (keeper_writes v granted done alive);
         sits = still_sits;
@@ -352,12 +352,12 @@ module _ (v : World) (session : ℕ) (w : MailWorld) (past : MailPast) (granted 
             (subst (λ (x : Serving). FindsAsked w.session x (mailbox_of (words_after w.words (serve_ask serving)) w.session)) (far still) (its.finds (given still))));
       })
 
-  pub keeper_holds : (is_serving session serving ≡ false → SparesMailbox session ask) → Holds after session (mail_run w (keeper_events n (read_by_keeper v) session done))
-  keeper_holds permitted = by_serving (is_serving session serving) refl
+  pub keeper_holds : session < n.places.sessions → (is_serving session serving ≡ false → Spares (TheMailbox session) n.places ask) → Holds after session (mail_run w (keeper_events n (read_by_keeper v) session done))
+  keeper_holds seated permitted = by_serving (is_serving session serving) refl
     where
       by_serving : (c : Bool) → is_serving session serving ≡ c → Holds after session (mail_run w (if c then its_events n.words session else changed_by n.words ask))
       by_serving true e = serves_own e
-      by_serving false e = serves_other e (permitted e)
+      by_serving false e = serves_other e seated (permitted e)
 
 -- a turn, or a commit, is asked for
 pub asked_holds : (n : Now) (session : ℕ) (w : MailWorld) (begun_keeper : KeeperState) → Holds n session w → serving_of begun_keeper ≡ serve.AtRest → (begun_keeper.is_broken ≡ false → n.keeper.is_broken ≡ false)

@@ -9,20 +9,20 @@ use Rattle.fkv_session.specs.Sessions as sessions
 use Rattle.fkv_session.specs.Sessions.{SessionState, session_ask}
 use Rattle.fkv_world.specs.World.{Event, Moves, KeeperMoves, Now, seat_at}
 use Rattle.fkv_world.specs.Runs.{World, run}
+use Rattle.law_parts.specs.Footprint.{Spares, TheMailbox}
 use Rattle.law_parts.specs.Mail.MailEvents.{mapped}
 use Rattle.law_parts.specs.Mail.Mailers.{session_mailing, IsAsFar}
 use Rattle.law_parts.specs.Mail.Servers.{serving_of, is_serving, KeepsUp}
-use Rattle.law_parts.specs.Mail.Spares.{SparesMailbox}
 
 -- Each ask of another session spares the mailbox, and so does the session's own where no task with it is under way.
 abbrev pub SessionSpares : Now → ℕ → ℕ → Option SessionState → Type 0
 SessionSpares n session number None = ⊤
-SessionSpares n session number (Some s) = (number ≡ session → session_mailing s ≡ None) → SparesMailbox session (session_ask (seat_at n number) s)
+SessionSpares n session number (Some s) = (number ≡ session → session_mailing s ≡ None) → Spares (TheMailbox session) n.places (session_ask (seat_at n number) s)
 
 -- and with each of the keeper where it isn't at the mailbox
 abbrev pub IsPermitted : Now → ℕ → Event → Type 0
 IsPermitted n session (Moves number) = SessionSpares n session number (slice_get n.sessions number)
-IsPermitted n session (KeeperMoves granted done) = is_serving session (serving_of n.keeper) ≡ false → SparesMailbox session (keeper_ask n.shape n.places n.keeper)
+IsPermitted n session (KeeperMoves granted done) = is_serving session (serving_of n.keeper) ≡ false → Spares (TheMailbox session) n.places (keeper_ask n.shape n.places n.keeper)
 IsPermitted n session event = ⊤
 
 -- each step of a life is permitted
