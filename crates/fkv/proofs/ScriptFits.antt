@@ -14,19 +14,18 @@ use Rattle.fkv_lines.proofs.Shown.{IsLineOfWords, IsOfWords, script_words}
 use Rattle.fkv_map.specs.declared.operations.Op.{Op}
 use Rattle.fkv_map.specs.declared.operations.Op.TheVariants.{Upsert, Delete, Add, Max, Read}
 use Rattle.law_program.specs.PlayedCalls.Scripts.{EachFits, SessionOp, op_line}
-use Rattle.law_order.specs.Served.Fits.{OpFits}
 
 -- ---- numbers
-op_fits : (op : Op) → IsOfWords op → OpFits op
-op_fits (Upsert key value) its = (its.its_key, its.word)
-op_fits (Delete key) its = its.its_key
-op_fits (Add key n) its = (its.its_key, its.word)
-op_fits (Max key n) its = (its.its_key, its.word)
-op_fits (Read key) its = its.its_key
+one_fits : (session : ℕ) (op : Op) → IsOfWords op → EachFits ((session, op) ∷ [])
+one_fits session (Upsert key value) its = ((its.its_key, its.word), tt)
+one_fits session (Delete key) its = (its.its_key, tt)
+one_fits session (Add key n) its = ((its.its_key, its.word), tt)
+one_fits session (Max key n) its = ((its.its_key, its.word), tt)
+one_fits session (Read key) its = (its.its_key, tt)
 
 each_fits : (ops : List SessionOp) → All IsLineOfWords (map op_line ops) → EachFits ops
 each_fits [] all = tt
-each_fits (one ∷ later) all = (op_fits one.1 (All-head IsLineOfWords (op_line one) (map op_line later) all).1, each_fits later (All-tail IsLineOfWords (op_line one) (map op_line later) all))
+each_fits (one ∷ later) all = ((one_fits one.0 one.1 (All-head IsLineOfWords (op_line one) (map op_line later) all).1).0, each_fits later (All-tail IsLineOfWords (op_line one) (map op_line later) all))
 
 -- ---- how many lines
 ok_is : {A E : Type 0} (a b : A) → ◌≡◌ {A = Result A E} (Ok a) (Ok b) → a ≡ b
