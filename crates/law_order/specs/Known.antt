@@ -1,4 +1,6 @@
 pub mod Answered
 pub mod Begins
+pub mod Enabled
 pub mod Knows
+pub mod Lines
 pub mod Told

@@ -1,3 +1,4 @@
+pub mod Laws
 pub mod Logs
 pub mod Machines
 pub mod Resting

@@ -1,0 +1,19 @@
+-- The law, by what each thing that a seat may do keeps.
+use Rattle.fkv_seats.proofs.Keeps.{allows}
+use Rattle.fkv_seats.proofs.Seats.{splits, joins, opens, sits_down}
+use Rattle.fkv_seats.proofs.laws.law_seats.Goals as goal
+
+pub returns-clause-opens : goal.returns-clause-opens
+returns-clause-opens g c = λ plane. opens plane
+
+pub returns-clause-steps : goal.returns-clause-steps
+returns-clause-steps g c = λ plane. allows plane
+
+pub returns-clause-splits : goal.returns-clause-splits
+returns-clause-splits g c = λ plane. splits plane
+
+pub returns-clause-joins : goal.returns-clause-joins
+returns-clause-joins g c = λ plane. joins plane
+
+pub returns-clause-sits : goal.returns-clause-sits
+returns-clause-sits g c = λ plane. sits_down plane
