@@ -50,7 +50,7 @@ impl Session {
         let pending = self.request_in_hand();
         let (seen, spare, is_orphaned) = (self.seen, self.spare, self.is_orphaned);
         self.attempt
-            .start(pending, seen, Occasion::Call, spare, is_orphaned);
+            .start(&pending, seen, Occasion::Call, spare, is_orphaned);
         self.step = Sitting::Attempts(has_shifted);
     }
 
@@ -83,7 +83,7 @@ impl Session {
         ensures ask { result ≡ attempt_ask self.old.seat.places self.old.seat.number self.new.state.attempt }
     {
         let ask = self.attempt.drive(reply);
-        let pending = self.attempt.pending();
+        let pending = *self.attempt.pending();
         self.effect = entry_of(self.number, pending, self.attempt.effect());
         ask
     }
@@ -139,7 +139,7 @@ impl Session {
         requires { HasRoom self.old.state.requests self.old.state.op self.old.state.serial }
         ensures { self.new ≡ record self.old { state = accepts self.old.state why } }
     {
-        let pending = self.attempt.pending();
+        let pending = *self.attempt.pending();
         if is_read(self.op) {
             self.ticket = ticket_after(self.ticket);
             self.step = Sitting::Idle(Told::PendingRead(Ticket(self.ticket)));

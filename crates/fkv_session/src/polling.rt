@@ -40,7 +40,7 @@ impl Session {
             Some(pending) => {
                 let (seen, spare, is_orphaned) = (self.seen, self.spare, self.is_orphaned);
                 self.attempt
-                    .start(pending, seen, Occasion::Poll, spare, is_orphaned);
+                    .start(&pending, seen, Occasion::Poll, spare, is_orphaned);
                 self.step = Sitting::Polls(index);
             }
         }
@@ -84,7 +84,7 @@ impl Session {
         requires index { index < length self.old.state.requests }
         ensures { self.new ≡ record self.old { state = finishes_request self.old.seat self.old.state index answer } }
     {
-        let pending = self.attempt.pending();
+        let pending = *self.attempt.pending();
         self.finished.push(finished_of(pending.name, answer));
         self.requests.remove(index);
         self.step = Sitting::StoresOwing(index);
@@ -107,7 +107,7 @@ impl Session {
         requires index { index < length self.old.state.requests }
         ensures { self.new ≡ record self.old { state = keeps_request self.old.seat self.old.state index answer } }
     {
-        self.requests.set(index, self.attempt.pending());
+        self.requests.set(index, *self.attempt.pending());
         self.wants_turn = self.wants_turn || lacks_room(answer);
         self.polls_at(index + 1);
     }
