@@ -9,13 +9,14 @@ ghost use Rattle.fkv_session.specs.declared.sessions.Sitting.TheVariants.{Idle, 
 ghost use Rattle.fkv_session.specs.Accounts.{AreInTurn, AreAccountedFor, IsAnsweredOnce, RiseWithin, names_of, number_of};
 ghost use Rattle.fkv_session.specs.declared.sessions.CatchCause.{CatchCause};
 ghost use Rattle.fkv_session.specs.declared.sessions.CatchCause.TheVariants.{Wakes};
+ghost use Rattle.fkv_session.specs.Causes.{IsFirstCause};
 ghost use Rattle.fkv_session.specs.Cuts.{IsCutTold};
 ghost use Rattle.fkv_session.specs.InOrder.{AreToldInOrder, IsEpochLast, IsOwedOrOneMore, exchanged, owing_place, owing_told, serial_leaving};
 ghost use Rattle.fkv_session.specs.Reads.{AreReadsAnswered, IsAttemptOf, reads_ended};
 ghost use Rattle.fkv_session.specs.Refused.{before_call, has_caught_up, IsRefusal, IsRefusedWhole};
 ghost use Rattle.fkv_session.specs.Replies.{AreOfTheirCalls, AreRepliesOfEffects, HasOneEffect, effects_told, is_of, op_called, serials_taken};
 ghost use Rattle.fkv_session.specs.SessionRun.{Replies, SessionEvent, session_run, all_told, in_hand};
-ghost use Rattle.fkv_session.specs.Sessions.{IsOpened, Seat, SessionState, is_busy, session_ask};
+ghost use Rattle.fkv_session.specs.Sessions.{IsOpened, Seat, SessionState, is_busy, session_ask, session_begun};
 ghost use Rattle.fkv_ops.specs.Trying.{is_prepare};
 ghost use Rattle.fkv_session.specs.Shares.{AllUpdatesShare, HasItsBuckets, OnlyUpdatesShare, has_missed, shares_added, shares_dropped, sharing};
 ghost use Rattle.fkv_session.specs.Words.{AreMarkStores, AreMarksTold, IsCutAsleep, serial_left, stored_last};
@@ -36,10 +37,16 @@ pub fn law_sessions()
         → RiseWithin opening.serial (session_run seat opening events).serial (names_of (session_run seat opening events).requests) }
 {}
 
-/// A call that is refused before its first ask leaves all but its answer as it was. One that is refused later has taken no serial and
+/// A call is refused before its first ask just where a fault has a cause, and by the first that has one: the session sleeps; the operation
+/// brings 2^64 - 1, which is no value; 64 requests wait; an update comes and the last serial is taken; a sleep comes and requests are left;
+/// a wake comes and the session is awake. Such a call leaves all but its answer as it was. One that is refused later has taken no serial and
 /// no ticket, no request has come or gone by it, and what a poll has finished stays. What the session goes by and the latches that its
 /// requests share stay too, but where the call caught up with the store on its way.
 pub fn law_of_refusals()
+    ensures cause { (seat : Seat) (session : SessionState) (its : Call) (why : Fault) → (session_begun seat session its).step ≡ Idle (Refused why)
+        → IsFirstCause session its why }
+    ensures refused { (seat : Seat) (session : SessionState) (its : Call) (why : Fault) → IsFirstCause session its why
+        → (session_begun seat session its).step ≡ Idle (Refused why) }
     ensures at_once { (seat : Seat) (session : SessionState) (its : Call) (why : Fault) → IsRefusedWhole seat session its why }
     ensures later { (seat : Seat) (opening : SessionState) (events : List SessionEvent) (why : Fault) → IsOpened opening
         → (session_run seat opening events).step ≡ Idle (Refused why)
