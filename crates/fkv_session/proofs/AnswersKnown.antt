@@ -1,5 +1,5 @@
 -- What a call knows of its answer, at each of its steps: what its try has come to, and what it has loaded.
-use Rattle.std.proofs.Common.{◌≡◌, ℕ, ◌+◌, List, [], ◌∷◌, length, refl, sym, ap, subst, ◌∙◌, arith, Bool, true, false}
+use Rattle.std.proofs.Common.{◌≡◌, ℕ, ◌+◌, List, [], ◌∷◌, length, refl, sym, subst, ◌∙◌, arith, Bool, true, false}
 use Rattle.std.proofs.lemmas.Bool.Decides.{nat_tests}
 use Rattle.std.specs.Prelude.{⊤, Option, Some, None, if◌then◌else◌, not, ◌==◌, ◌||◌, slice_get, slice_set}
 use Rattle.fkv_base.specs.declared.faults.Fault.{Fault}
@@ -16,9 +16,8 @@ use Rattle.fkv_plane.specs.declared.places.Places.{Places}
 use Rattle.fkv_plane.specs.declared.places.SessionWord.TheVariants as own
 use Rattle.fkv_plane.specs.declared.places.SharedWord.TheVariants as one
 use Rattle.fkv_plane.specs.Places.{shared_place, session_place}
-use Rattle.fkv_plane.specs.Passing.{passed, is_done}
+use Rattle.fkv_plane.specs.Passing.{is_done}
 use Rattle.fkv_epoch.specs.Leaving.{leave_next}
-use Rattle.fkv_ops.specs.declared.answers.DiskRecord.{DiskRecord}
 use Rattle.fkv_ops.specs.declared.answers.Reason.{Reason}
 use Rattle.fkv_ops.specs.declared.answers.Reason.TheVariants as reason
 use Rattle.fkv_ops.specs.declared.answers.TryAnswer.{TryAnswer}
@@ -47,7 +46,7 @@ use Rattle.fkv_session.specs.OwnTurns.{own_turn_given}
 use Rattle.fkv_session.specs.Sessions.{SessionState, Seat, bits_of, room_of, is_busy, answers, refuses, answers_after_turn, ticket_after, request_in_hand, attempts, polls_request, polls_at, refusal_of, op_begun, refresh_call, poll_begun, poll_call, sleep_call, wake_call, call_begun, attempt_left, serial_taken, update_done, is_no_room, with_request, accepts, shifts, attempted, attempt_ledto, catch_ledto, clear_ledto, is_finished, is_owed, request_finished, lacks_room, finishes_request, keeps_request, poll_ledto, turn_ledto, leave_ledto, attempt_moved, caught, own_turn_moved, sitting_ask, sitting_next, sitting_given}
 use Rattle.fkv_session.specs.Shares.{HasItsBuckets}
 use Rattle.fkv_session.specs.TrueAnswers.{trial_of, IsPhaseSeen}
-use Rattle.fkv_session.proofs.CallTries.{LastTry, HasWaited, HasAwaited, HasShifted, SomeTry, TryEnded, AttemptAt, AttemptNow, AttemptEnd, begun_ran, ended_true, more_last, attempt_goes}
+use Rattle.fkv_session.proofs.CallTries.{LastTry, HasAwaited, HasShifted, SomeTry, TryEnded, AttemptAt, AttemptNow, AttemptEnd, begun_ran, ended_true, more_last, attempt_goes}
 use Rattle.fkv_session.proofs.PhaseTold.{PhaseNow, phase_step, phase_taken, refresh_now, wake_now}
 
 -- what an operation is answered, by its last try
@@ -296,29 +295,29 @@ module _ (k : Seat) (buckets : HasItsBuckets k) (was : Seen) (called : Option Op
       moved_turned its known = absurd known
   given_known asked s step action e busy known = still asked s step e busy known
 
+  idle_next : (asked : List Exchange) (s : SessionState) (asks : ℕ) (step : Sitting) (reply : ℕ) → s.step ≡ step → is_busy step ≡ false → KnownNow (with_ask s step reply asked) (sitting_next k (record s { asks = asks; effect = None }) step reply)
+  unfolding sitting_next
+  idle_next asked s asks (Idle its) reply e rests = subst (λ (x : Sitting). StepKnown (with_ask s (Idle its) reply asked) (record s { asks = asks; effect = None }) x) (sym e) tt
+  idle_next asked s asks step reply e rests = cc
+
   pub next_now : (asked : List Exchange) (s : SessionState) (asks : ℕ) (step : Sitting) (reply : ℕ) → s.step ≡ step → StepKnown asked s step → KnownNow (with_ask s step reply asked) (sitting_next k (record s { asks = asks; effect = None }) step reply)
   next_now asked s asks step reply e known = tested (is_busy step) refl
     where
-      idle_next : (step : Sitting) → s.step ≡ step → is_busy step ≡ false → KnownNow (with_ask s step reply asked) (sitting_next k (record s { asks = asks; effect = None }) step reply)
-      unfolding sitting_next
-      idle_next (Idle its) e rests = subst (λ (x : Sitting). StepKnown (with_ask s (Idle its) reply asked) (record s { asks = asks; effect = None }) x) (sym e) tt
-      idle_next step e rests = cc
-
       tested : (b : Bool) → is_busy step ≡ b → KnownNow (with_ask s step reply asked) (sitting_next k (record s { asks = asks; effect = None }) step reply)
       tested true busy = let after : SessionState = sitting_next k (record s { asks = asks; effect = None }) step reply in after_step _ after after.step (next_known asked s asks step reply e busy known)
-      tested false rests = idle_next step e rests
+      tested false rests = idle_next asked s asks step reply e rests
+
+  idle_given : (asked : List Exchange) (s : SessionState) (step : Sitting) (action : Action) → s.step ≡ step → is_busy step ≡ false → KnownNow asked (sitting_given k s step action)
+  unfolding sitting_given
+  idle_given asked s (Idle its) action e rests = subst (λ (x : Sitting). StepKnown asked s x) (sym e) tt
+  idle_given asked s step action e rests = cc
 
   pub given_now : (asked : List Exchange) (s : SessionState) (step : Sitting) (action : Action) → s.step ≡ step → StepKnown asked s step → KnownNow asked (sitting_given k s step action)
   given_now asked s step action e known = tested (is_busy step) refl
     where
-      idle_given : (step : Sitting) → s.step ≡ step → is_busy step ≡ false → KnownNow asked (sitting_given k s step action)
-      unfolding sitting_given
-      idle_given (Idle its) e rests = subst (λ (x : Sitting). StepKnown asked s x) (sym e) tt
-      idle_given step e rests = cc
-
       tested : (b : Bool) → is_busy step ≡ b → KnownNow asked (sitting_given k s step action)
       tested true busy = let after : SessionState = sitting_given k s step action in after_step asked after after.step (given_known asked s step action e busy known)
-      tested false rests = idle_given step e rests
+      tested false rests = idle_given asked s step action e rests
 
   pub next_end : (asked : List Exchange) (s : SessionState) (asks : ℕ) (reply : ℕ) (its : Told) → is_busy s.step ≡ true → KnownNow asked s → (sitting_next k (record s { asks = asks; effect = None }) s.step reply).step ≡ Idle its
       → EndKnown (with_ask s s.step reply asked) (sitting_next k (record s { asks = asks; effect = None }) s.step reply) its

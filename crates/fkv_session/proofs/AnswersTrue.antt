@@ -1,7 +1,6 @@
 -- At every moment of a run the answer of a call is what its try has come to, and what it has loaded.
-use Rattle.std.proofs.Common.{◌≡◌, ◌⊎◌, inl, inr, ℕ, List, [], ◌∷◌, refl, sym, ap, subst, ◌∙◌, Bool, true, false}
-use Rattle.std.specs.Prelude.{⊤, Option, Some, None}
-use Rattle.fkv_base.specs.declared.faults.Fault.{Fault}
+use Rattle.std.proofs.Common.{◌≡◌, inl, inr, List, [], ◌∷◌, refl, sym, subst, ◌∙◌, Bool, true, false}
+use Rattle.std.specs.Prelude.{Option, Some, None}
 use Rattle.fkv_base.specs.declared.faults.Fault.TheVariants as fault
 use Rattle.fkv_base.specs.declared.numbers.Serial.{Serial}
 use Rattle.fkv_base.specs.declared.numbers.Version.{Version}
@@ -16,7 +15,6 @@ use Rattle.fkv_ops.specs.declared.answers.Reason.{Reason}
 use Rattle.fkv_ops.specs.declared.answers.Reason.TheVariants as reason
 use Rattle.fkv_ops.specs.declared.answers.TryAnswer.TheVariants as tried
 use Rattle.fkv_ops.specs.declared.requests.Seen.{Seen}
-use Rattle.fkv_ops.specs.Reasons.{IsReason}
 use Rattle.fkv_ops.specs.TryRun.{Trial}
 use Rattle.fkv_session.specs.declared.answers.Told.{Told}
 use Rattle.fkv_session.specs.declared.answers.Told.TheVariants as told
@@ -29,7 +27,7 @@ use Rattle.fkv_session.specs.Replies.{op_after, op_called}
 use Rattle.fkv_session.specs.Sessions.{SessionState, Seat, IsOpened, asks_after, is_busy, is_word_ask, session_ask}
 use Rattle.fkv_session.specs.SessionRun.{SessionEvent, Begins, Replies, Gets, begins, session_happens, session_run}
 use Rattle.fkv_session.specs.Shares.{HasItsBuckets}
-use Rattle.fkv_session.specs.TrueAnswers.{trial_of, WaitsFor, IsFullFor, IsTrueOf, IsPhaseSeen}
+use Rattle.fkv_session.specs.TrueAnswers.{trial_of, WaitsFor, IsTrueOf, IsPhaseSeen}
 use Rattle.fkv_session.proofs.CallTries.{LastTry, HasWaited, HasAwaited, HasShifted, TryEnded, ended_true}
 use Rattle.fkv_session.proofs.AnswersKnown.{OpKnown, OtherKnown, EndKnown, ByOp, ByOther, StepKnown, KnownNow, next_now, given_now, next_end, given_end, call_known}
 

@@ -1,17 +1,15 @@
 -- The try of a call at each of its steps: all that it has asked the call has asked, and what it has come to.
-use Rattle.std.proofs.Common.{◌≡◌, ◌⊎◌, inl, inr, ℕ, List, [], ◌∷◌, refl, sym, ap, subst, ◌∙◌, Bool, true, false}
+use Rattle.std.proofs.Common.{◌≡◌, inl, inr, ℕ, List, [], ◌∷◌, refl, sym, ap, subst, ◌∙◌, Bool, true, false}
 use Rattle.std.specs.Prelude.{Option, Some, None, if◌then◌else◌}
 use Rattle.fkv_map.specs.declared.operations.Op.{Op}
-use Rattle.fkv_map.specs.declared.operations.Reply.{Reply}
 use Rattle.fkv_plane.specs.declared.asks.Ask.{Ask}
 use Rattle.fkv_plane.specs.declared.asks.Ask.TheVariants.{Done}
-use Rattle.fkv_plane.specs.Passing.{passed, is_done}
+use Rattle.fkv_plane.specs.Passing.{passed}
 use Rattle.fkv_ops.specs.declared.answers.DiskRecord.{DiskRecord}
 use Rattle.fkv_ops.specs.declared.answers.Reason.{Reason}
 use Rattle.fkv_ops.specs.declared.answers.Reason.TheVariants as reason
 use Rattle.fkv_ops.specs.declared.answers.TryAnswer.{TryAnswer}
 use Rattle.fkv_ops.specs.declared.answers.TryAnswer.TheVariants as answer
-use Rattle.fkv_ops.specs.declared.requests.Occasion.TheVariants.{Call as AtCall}
 use Rattle.fkv_ops.specs.declared.requests.Seen.{Seen}
 use Rattle.fkv_ops.specs.Reasons.{IsTrue}
 use Rattle.fkv_ops.specs.Trying.{TryState, try_ask, try_next}
@@ -23,8 +21,7 @@ use Rattle.fkv_pending.specs.declared.mailing.MailAnswer.{MailAnswer}
 use Rattle.fkv_pending.specs.declared.mailing.MailAnswer.TheVariants as mail
 use Rattle.fkv_pending.specs.Mailing.{mail_ask, mail_next}
 use Rattle.fkv_pending.specs.Pending.{with_sought, with_held, with_latch}
-use Rattle.fkv_pending.specs.Attempting.{AttemptState, attempt_ended, puts_addr, puts, held_kept, awaits_record, waits_for_disk, leaves, tried, try_ledto, put_ledto, mail_moved, try_moved, attempting_ask, attempting_next}
-use Rattle.fkv_session.specs.declared.answers.Told.{Told}
+use Rattle.fkv_pending.specs.Attempting.{AttemptState, puts_addr, puts, held_kept, awaits_record, waits_for_disk, tried, try_ledto, put_ledto, mail_moved, try_moved, attempting_ask, attempting_next}
 use Rattle.fkv_session.specs.declared.answers.Told.TheVariants as told
 use Rattle.fkv_session.specs.CallAsks.{told_in}
 use Rattle.fkv_session.specs.InOrder.{Exchange}

@@ -146,7 +146,7 @@ taken_so before seen values (Some word) e loads =
     rw same (rw e (said_so before values (phase_said values.phase)))
 
 -- what a refresh asks, and knows behind the reply
-pub asks_refresh : ℕ → Refreshing → Ask Told
+unfoldable pub asks_refresh : ℕ → Refreshing → Ask Told
 asks_refresh n step = passed (passed {B = Unit {0}} (refresh_ask n step) tt) told.Slept
 
 refresh_knows : (n : ℕ) (step : Refreshing) (reply : ℕ) (before : List Exchange) → RefreshKnows step before → RefreshKnows (refresh_next step reply) (exchange (asks_refresh n step) reply ∷ before)

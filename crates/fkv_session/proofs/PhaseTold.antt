@@ -3,13 +3,10 @@ use Rattle.std.proofs.Common.{◌≡◌, ℕ, ◌-◌, List, ◌∷◌, refl, sy
 use Rattle.std.specs.Prelude.{Option, Some, None, if◌then◌else◌, not, ◌==◌, ◌%◌, slice_get}
 use Rattle.std.specs.List.{position}
 use Rattle.fkv_plane.specs.declared.asks.Ask.{Ask}
-use Rattle.fkv_plane.specs.declared.asks.Ask.TheVariants.{Done}
+use Rattle.fkv_plane.specs.declared.asks.Ask.TheVariants.{Store, Done}
 use Rattle.fkv_plane.specs.declared.places.Places.{Places}
-use Rattle.fkv_plane.specs.declared.places.SharedWord.TheVariants as one
-use Rattle.fkv_plane.specs.Places.{shared_place}
+use Rattle.fkv_plane.specs.Places.{session_place}
 use Rattle.fkv_plane.specs.Passing.{passed}
-use Rattle.fkv_epoch.specs.declared.refreshing.RefreshAnswer.{RefreshAnswer}
-use Rattle.fkv_epoch.specs.declared.refreshing.RefreshAnswer.TheVariants.{Loaded, Stored}
 use Rattle.fkv_epoch.specs.declared.refreshing.Refreshing.{Refreshing}
 use Rattle.fkv_epoch.specs.declared.refreshing.Refreshing.TheVariants as refresh
 use Rattle.fkv_epoch.specs.declared.protecting.Protecting.{Protecting}
@@ -19,7 +16,7 @@ use Rattle.fkv_epoch.specs.Protecting.{protect_ask, protect_next, protect_next_a
 use Rattle.fkv_epoch.specs.Values.{seen as values_of}
 use Rattle.fkv_latch.specs.declared.latching.LatchAnswer.{LatchAnswer}
 use Rattle.fkv_latch.specs.declared.latching.LatchAnswer.TheVariants.{Taken}
-use Rattle.fkv_latch.specs.Latching.{latch_ask, latch_next}
+use Rattle.fkv_latch.specs.Latching.{latch_next}
 use Rattle.fkv_ops.specs.declared.requests.Seen.{Seen}
 use Rattle.fkv_pending.specs.declared.pending_requests.PendingRequest.{PendingRequest}
 use Rattle.fkv_pending.specs.Pending.{is_unlatched}
@@ -28,19 +25,19 @@ use Rattle.fkv_session.specs.declared.answers.Told.{Told}
 use Rattle.fkv_session.specs.declared.answers.Told.TheVariants as told
 use Rattle.fkv_session.specs.declared.catching_up.Catching.{Catching}
 use Rattle.fkv_session.specs.declared.catching_up.Catching.TheVariants as catching
-use Rattle.fkv_session.specs.CatchingUp.{CatchState, refresh_begun, wake_begun, catching_ask, seen_after, finishes, latch_begun, latch_wanted, latches, cuts, is_same_version, enters_prepare, takes_up, refresh_ledto, protect_ledto, latch_ledto, finish_ledto, catching_next}
+use Rattle.fkv_session.specs.CatchingUp.{CatchState, cut_at, cut_of, refresh_begun, wake_begun, catching_ask, seen_after, finishes, latch_begun, latch_wanted, latches, cuts, is_same_version, enters_prepare, takes_up, refresh_ledto, protect_ledto, latch_ledto, finish_ledto, catching_next}
 use Rattle.fkv_session.specs.InOrder.{Exchange, IsTakenUp}
 use Rattle.fkv_session.proofs.PhaseTaken.{phase_loaded, exchange, IsPastLoads, IsShared, finish_past, taken_so, asks_refresh, shared_next, AsksAside, aside_loads, latch_aside, cut_aside, owing_aside}
 
 -- while it loads
-abbrev RefreshLoads : Refreshing → List Exchange → Type 0
+abbrev pub RefreshLoads : Refreshing → List Exchange → Type 0
 RefreshLoads refresh.LoadsEpoch asked = Unit {0}
 RefreshLoads (refresh.LoadsPhase epoch) asked = Unit {0}
 RefreshLoads (refresh.LoadsReadOnly epoch phase) asked = phase_loaded asked ≡ Some phase
 RefreshLoads (refresh.LoadsHead epoch phase read_only) asked = phase_loaded asked ≡ Some phase
 RefreshLoads step asked = ⊥
 
-abbrev ProtectLoads : Protecting → List Exchange → Type 0
+abbrev pub ProtectLoads : Protecting → List Exchange → Type 0
 ProtectLoads protect.LoadsEpoch asked = Unit {0}
 ProtectLoads (protect.StoresEpoch epoch) asked = Unit {0}
 ProtectLoads protect.LoadsPhase asked = Unit {0}
@@ -49,9 +46,9 @@ ProtectLoads (protect.LoadsHead phase read_only) asked = phase_loaded asked ≡ 
 ProtectLoads protect.AtRest asked = ⊥
 
 -- once it has taken up what it loaded; a refresh loads no more then
-record HasTakenUp (seen : Seen) (asked : List Exchange) (c : CatchState) : Type 0 where
-  taken : IsTakenUp seen c.seen (phase_loaded asked)
-  past : c.is_refresh ≡ true → IsPastLoads c.refreshing
+pub record HasTakenUp (seen : Seen) (asked : List Exchange) (c : CatchState) : Type 0 where
+  pub taken : IsTakenUp seen c.seen (phase_loaded asked)
+  pub past : c.is_refresh ≡ true → IsPastLoads c.refreshing
 
 abbrev pub PhaseAt : Seen → List Exchange → CatchState → Catching → Type 0
 PhaseAt seen asked c catching.Refreshes = (c.seen ≡ seen) × RefreshLoads c.refreshing asked
@@ -166,7 +163,7 @@ phase_step p bits n seen before c requests after catching.Ended reply e at = sti
 phase_step p bits n seen before c requests after catching.Refreshes reply e at = refreshes_now p bits n seen before c after c.refreshing reply e at.0 at.1
 phase_step p bits n seen before c requests after catching.Protects reply e at = protects_now p bits n seen before c after c.protecting reply e at.0 at.1 at.2
 phase_step p bits n seen before c requests after catching.StoresCut reply e at =
-    let has = aside_now n _ reply before seen c (cut_aside n ((c.seen.version.0 - 1) % 2 == 0)) at in
+    let has = aside_now n (Store (session_place n (cut_of (c.seen.version.0 - 1))) (cut_at c.serial (c.seen.version.0 - 1))) reply before seen c (cut_aside n ((c.seen.version.0 - 1) % 2 == 0)) at in
     record { taken = has.taken; past = has.past }
 phase_step p bits n seen before c requests after catching.StoresOwing reply e at = latches_now p bits seen _ c after (aside_now n _ reply before seen c (owing_aside n) at)
 phase_step p bits n seen before c requests after (catching.Latches i) reply e at =
