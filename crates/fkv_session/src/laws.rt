@@ -11,7 +11,7 @@ ghost use Rattle.fkv_session.specs.declared.sessions.CatchCause.{CatchCause};
 ghost use Rattle.fkv_session.specs.declared.sessions.CatchCause.TheVariants.{Wakes};
 ghost use Rattle.fkv_session.specs.Causes.{IsFirstCause};
 ghost use Rattle.fkv_session.specs.Cuts.{IsCutTold};
-ghost use Rattle.fkv_session.specs.InOrder.{AreToldInOrder, IsEpochLast, IsOwedOrOneMore, exchanged, owing_place, owing_told, serial_leaving};
+ghost use Rattle.fkv_session.specs.InOrder.{AreToldInOrder, IsEpochLast, IsOwedOrOneMore, epoch_place, exchanged, owing_place, owing_told, serial_leaving};
 ghost use Rattle.fkv_session.specs.Reads.{AreReadsAnswered, IsAttemptOf, reads_ended};
 ghost use Rattle.fkv_session.specs.Refused.{before_call, has_caught_up, IsRefusal, IsRefusedWhole};
 ghost use Rattle.fkv_session.specs.Replies.{AreOfTheirCalls, AreRepliesOfEffects, HasOneEffect, effects_told, is_of, op_called, serials_taken};
@@ -58,7 +58,8 @@ pub fn law_of_refusals()
 /// owing word where a poll has finished an update of the version before; and no other ask of it stores one of these words. Once it has
 /// changed its version, and where no call is in hand, what it has stored last as the cut word of the version before tells the serial
 /// that it had as it left that, and its owing word how many updates of that version wait. While it sleeps, but in a wake, and before it
-/// leaves for that, the cut word of its own version tells its serial.
+/// leaves for that, the cut word of its own version tells its serial. While it sleeps, but in a wake, what it has stored last as its epoch
+/// word is 0.
 /// In the middle of a call too all is told of the version that it leaves, or has left last, but what it is about to store: first the cut
 /// word, and behind that the owing word, which a poll finds one too high at most. So before it takes latches, or stores its epoch word,
 /// both are told. Where a session that refreshes stores its epoch word, it has taken up the phase word that it has loaded, and it stores
@@ -75,6 +76,9 @@ pub fn law_of_cuts()
     ensures asleep { (seat : Seat) (opening : SessionState) (first : ℕ → ℕ) (events : List SessionEvent) → IsOpened opening
         → (session_run seat opening events).is_awake ≡ false → (session_run seat opening events).step ≢ CatchesUp Wakes
         → IsCutAsleep seat (session_run seat opening events) (λ place. stored_last seat opening first events place) }
+    ensures unprotected { (seat : Seat) (opening : SessionState) (first : ℕ → ℕ) (events : List SessionEvent) → IsOpened opening
+        → (session_run seat opening events).is_awake ≡ false → (session_run seat opening events).step ≢ CatchesUp Wakes
+        → stored_last seat opening first events (epoch_place seat) ≡ 0 }
     ensures leaves { (seat : Seat) (opening : SessionState) (first : ℕ → ℕ) (events : List SessionEvent) → IsOpened opening
         → (session_run seat opening events).step ≡ Leaves
         → IsCutAsleep seat (session_run seat opening events) (λ place. stored_last seat opening first events place) }
