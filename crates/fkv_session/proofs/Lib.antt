@@ -3,6 +3,7 @@ mod AnswersKnown
 mod AnswersTrue
 mod AsksCounted
 mod AsleepKept
+mod AwakeTold
 mod Bounded
 mod CallTries
 mod CatchFits

@@ -1,9 +1,9 @@
 -- The cut word of its version is told as a session leaves, and while it sleeps, but in a wake; and then its epoch word is 0.
-use Rattle.std.proofs.Common.{◌≡◌, ℕ, List, refl, subst, Bool, true, false}
+use Rattle.std.proofs.Common.{◌≡◌, ℕ, List, refl, subst, false}
 use Rattle.std.specs.Prelude.{◌≢◌}
 use Rattle.fkv_session.specs.declared.sessions.CatchCause.TheVariants.{Refreshes, Wakes, Shifts}
 use Rattle.fkv_session.specs.declared.sessions.Sitting.{Sitting}
-use Rattle.fkv_session.specs.declared.sessions.Sitting.TheVariants.{Idle, Attempts, CatchesUp, ClearsMail, Polls, StoresOwing, Turns, StoresCut, Leaves, LoadsDurable}
+use Rattle.fkv_session.specs.declared.sessions.Sitting.TheVariants.{Idle, CatchesUp, Leaves, LoadsDurable}
 use Rattle.fkv_session.specs.Asleep.{IsStepAsleep}
 use Rattle.fkv_session.specs.InOrder.{epoch_place}
 use Rattle.fkv_session.specs.Sessions.{SessionState, Seat, IsOpened}
