@@ -5,7 +5,7 @@ pub use Rattle.fkv_ops.proofs.TryAsks.{try_left, try_begun_left, try_fewer}
 pub use Rattle.fkv_ops.proofs.TryRests.{is_try_end, TryRestsOrAsks, try_done, try_begun_rests, try_begun_asks, try_rests}
 pub use Rattle.fkv_ops.proofs.WalkAsks.{walk_left, walk_begun_left, walk_fewer, walk_on_left}
 pub use Rattle.fkv_ops.proofs.WalkRests.{is_walk_end, WalkRestsOrAsks, IsWalkUnderWay, walk_done, walk_begun_under_way, walk_begun_asks, walk_rests, walk_on_rests, walk_found, walk_goes_on}
-pub use Rattle.fkv_ops.proofs.TryRuns.{each_is_true, effects_once, latches_kept}
+pub use Rattle.fkv_ops.proofs.TryRuns.{each_is_true, effects_once, found_true, latches_kept}
 pub use Rattle.fkv_ops.proofs.Effected.{effects_true, each_may_stay, shares_first, kinds_so}
 pub use Rattle.fkv_ops.proofs.EachAsk.{each_ask}
 pub use Rattle.fkv_ops.proofs.LatchRuns.{each_holds, each_leaves}

@@ -19,7 +19,7 @@ use Rattle.fkv_ops.specs.Walking.{walk_ask}
 use Rattle.fkv_ops.specs.Appending.{append_ask}
 use Rattle.fkv_ops.specs.Trying.{TryState, new_try, trying_ask, try_ask, trying_next, try_next, with_latch, walks}
 use Rattle.fkv_ops.specs.TryRun.{Trial, trial_begun, try_run, Told, told_by, with_effect, effects_of}
-use Rattle.fkv_ops.specs.Reasons.{latch_place, EachIsTrue}
+use Rattle.fkv_ops.specs.Reasons.{latch_place, IsTrue, EachIsTrue}
 use Rattle.fkv_ops.specs.Effects.{EffectsAreOnce, LatchesAreKept, shares_latch}
 use Rattle.fkv_ops.proofs.BoolTests.{both}
 use Rattle.fkv_ops.proofs.Walked.{loads_asks}
@@ -163,12 +163,16 @@ run_known c spare replies = run_true c (told_by c (trial_begun c spare) replies)
 pub at_end : (c : Trial) (told : Told) (effects : List Reply) (t : TryState) (its : TryAnswer) → Known c told effects t → try_ask c.places t ≡ Done its → t.step ≡ Ended its
 at_end c told effects t its known e = row_ended c told t t.step its known.row e
 
-pub each_is_true : EachIsTrue
-each_is_true c spare replies its e =
-    let known = run_known c spare replies in
-    let told : Told = told_by c (trial_begun c spare) replies in
+-- what it ends with was found by it, also as whoever knows more of what was asked sees it
+pub found_true : (c : Trial) (told : Told) (spare : ℕ) (replies : List ℕ) (its : TryAnswer) → ((ask : Ask TryAnswer) (reply : ℕ) → told_by c (trial_begun c spare) replies ask reply → told ask reply)
+    → try_ask c.places (try_run c (trial_begun c spare) replies) ≡ Done its → IsTrue c told its
+found_true c told spare replies its all e =
+    let known = run_true c told spare replies all in
     let ends = subst (TryRow c told (try_run c (trial_begun c spare) replies)) (at_end c told (effects_of c (trial_begun c spare) replies) (try_run c (trial_begun c spare) replies) its known e) known.row in
     ends.truth
+
+pub each_is_true : EachIsTrue
+each_is_true c spare replies its e = found_true c (told_by c (trial_begun c spare) replies) spare replies its (λ ask reply among. among) e
 
 pub effects_once : EffectsAreOnce
 effects_once c spare replies its e =

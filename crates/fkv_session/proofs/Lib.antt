@@ -1,10 +1,16 @@
 mod Answered
+mod AnswersKnown
+mod AnswersTrue
 mod AsksCounted
 mod AsleepKept
+mod AwakeTold
 mod Bounded
+mod CallTries
 mod CatchFits
 mod CatchLeft
+mod FirstCauses
 mod OwnTurnLeft
+mod PhaseTold
 mod Polled
 mod Ranges
 mod RoomKept

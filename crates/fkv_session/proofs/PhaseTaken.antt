@@ -34,13 +34,13 @@ use Rattle.fkv_session.specs.declared.catching_up.Catching.TheVariants as catchi
 use Rattle.fkv_session.specs.CatchingUp.{CatchState, catching_ask, seen_after, finishes, latch_begun, latch_wanted, latches, cuts, is_same_version, enters_prepare, takes_up, refresh_ledto, protect_ledto, latch_ledto, finish_ledto, catching_next}
 use Rattle.fkv_session.specs.InOrder.{Exchange, loaded_by, loaded_last, StoresElsewhere, HasStoredNone, IsSaid, IsTakenUp}
 
-abbrev phase_loaded : List Exchange → Option ℕ
+abbrev pub phase_loaded : List Exchange → Option ℕ
 phase_loaded exchanges = loaded_last exchanges (shared_place one.Phase)
 
 abbrev NoneStored : ℕ → List Exchange → Type 0
 NoneStored n exchanges = HasStoredNone (session_place n own.Epoch) exchanges
 
-abbrev exchange : Ask Told → ℕ → Exchange
+abbrev pub exchange : Ask Told → ℕ → Exchange
 exchange ask reply = record { ask = ask; reply = reply }
 
 -- what a refresh knows of the phase word, while it loads and as it has loaded
@@ -96,7 +96,7 @@ still_knows : (n : ℕ) (exchanges : List Exchange) (seen : Seen) (refreshes : B
 still_knows n exchanges seen refreshes c step e knows = subst (λ (x : Catching). CatchKnows n exchanges seen refreshes c x) (sym e) knows
 
 -- the take-up
-finish_past : (step : Refreshing) → IsPastLoads step → IsPastLoads (refresh_finish step)
+pub finish_past : (step : Refreshing) → IsPastLoads step → IsPastLoads (refresh_finish step)
 unfolding refresh_finish
 finish_past (refresh.HasLoaded epoch values) past = tt
 finish_past refresh.AtRest past = tt
@@ -139,14 +139,14 @@ said_so : (seen : Seen) (values : loaded.Seen) (said : PhaseSaid) → IsSaid see
 said_so seen values Spoiled = (refl, refl)
 said_so seen values (Says phase version) = (refl, refl)
 
-taken_so : (before seen : Seen) (values : loaded.Seen) (its : Option ℕ) → seen ≡ before → its ≡ Some values.phase → IsTakenUp before (seen_after seen values (phase_said values.phase)) its
+pub taken_so : (before seen : Seen) (values : loaded.Seen) (its : Option ℕ) → seen ≡ before → its ≡ Some values.phase → IsTakenUp before (seen_after seen values (phase_said values.phase)) its
 taken_so before seen values None e loads = cc
 taken_so before seen values (Some word) e loads =
     let same : word ≡ values.phase = cc in
     rw same (rw e (said_so before values (phase_said values.phase)))
 
 -- what a refresh asks, and knows behind the reply
-asks_refresh : ℕ → Refreshing → Ask Told
+unfoldable pub asks_refresh : ℕ → Refreshing → Ask Told
 asks_refresh n step = passed (passed {B = Unit {0}} (refresh_ask n step) tt) told.Slept
 
 refresh_knows : (n : ℕ) (step : Refreshing) (reply : ℕ) (before : List Exchange) → RefreshKnows step before → RefreshKnows (refresh_next step reply) (exchange (asks_refresh n step) reply ∷ before)
@@ -193,7 +193,7 @@ either_shared : (t : Bool) (a b : Latching) → IsShared a → IsShared b → Is
 either_shared true a b one other = one
 either_shared false a b one other = other
 
-shared_next : (step : Latching) (reply : ℕ) → IsShared step → IsShared (latch_next step reply)
+pub shared_next : (step : Latching) (reply : ℕ) → IsShared step → IsShared (latch_next step reply)
 unfolding latch_next
 shared_next (latch.AddsShare place) reply shared = either_shared (is_exclusive reply) (latch.GivesBack place) latch.AtRest tt tt
 shared_next (latch.LoadsWord place) reply shared = absurd shared
@@ -207,12 +207,12 @@ latched_knows p bits n exchanges seen refreshes c requests i (Done its) e shared
 latched_knows p bits n exchanges seen refreshes c requests i ask e shared past = still_knows n exchanges seen refreshes c (catching.Latches i) e (shared, past)
 
 -- an ask that neither stores the epoch word nor loads anything
-abbrev AsksAside : ℕ → Ask Told → Type 0
+abbrev pub AsksAside : ℕ → Ask Told → Type 0
 AsksAside n (Load at) = ⊥
 AsksAside n (Store at word) = at ≢ session_place n own.Epoch
 AsksAside n ask = Unit {0}
 
-aside_loads : (n : ℕ) (ask : Ask Told) (reply : ℕ) (before : Option ℕ) → AsksAside n ask → loaded_by ask reply (shared_place one.Phase) before ≡ before
+pub aside_loads : (n : ℕ) (ask : Ask Told) (reply : ℕ) (before : Option ℕ) → AsksAside n ask → loaded_by ask reply (shared_place one.Phase) before ≡ before
 aside_loads n (Load at) reply before aside = absurd aside
 aside_loads n ask reply before aside = refl
 
@@ -228,16 +228,16 @@ aside_past n ask reply before seen refreshes c aside past =
       none = (aside_stores n ask aside, (past e).none);
     }
 
-latch_aside : (n : ℕ) (step : Latching) → IsShared step → AsksAside n (passed (passed {B = Unit {0}} (latch_ask step) tt) told.Slept)
+pub latch_aside : (n : ℕ) (step : Latching) → IsShared step → AsksAside n (passed (passed {B = Unit {0}} (latch_ask step) tt) told.Slept)
 unfolding latch_ask passed
 latch_aside n (latch.LoadsWord place) shared = absurd shared
 latch_aside n step shared = tt
 
-cut_aside : (n : ℕ) (even : Bool) → session_place n (if even then own.EvenCut else own.OddCut) ≢ session_place n own.Epoch
+pub cut_aside : (n : ℕ) (even : Bool) → session_place n (if even then own.EvenCut else own.OddCut) ≢ session_place n own.Epoch
 cut_aside n true = λ e. absurd (omega (arith, e))
 cut_aside n false = λ e. absurd (omega (arith, e))
 
-owing_aside : (n : ℕ) → session_place n own.Owing ≢ session_place n own.Epoch
+pub owing_aside : (n : ℕ) → session_place n own.Owing ≢ session_place n own.Epoch
 owing_aside n = λ e. absurd (omega (arith, e))
 
 -- the store of the epoch word ends it

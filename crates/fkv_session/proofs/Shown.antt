@@ -4,6 +4,9 @@ pub use Rattle.fkv_session.proofs.OwnTurnLeft.{own_turn_left, own_turn_fewer, ow
 pub use Rattle.fkv_session.proofs.SessionLeft.{session_left, session_begun_left, session_fewer, session_given_fewer}
 pub use Rattle.fkv_session.proofs.Bounded.{run_within}
 pub use Rattle.fkv_session.proofs.RoomKept.{HasRoomNow, run_room}
+pub use Rattle.fkv_session.proofs.AnswersTrue.{run_durable, run_refreshed, run_true, run_woken}
+pub use Rattle.fkv_session.proofs.AwakeTold.{run_awake}
+pub use Rattle.fkv_session.proofs.FirstCauses.{begun_caused, begun_refused}
 pub use Rattle.fkv_session.proofs.AttemptKeeps.{attempt_keeps}
 pub use Rattle.fkv_session.proofs.AttemptMade.{made_in, made_of, KnowsUpdate, IsMadeSo, begun_so, begun_nothing, attempt_so, attempt_ends}
 pub use Rattle.fkv_session.proofs.Books.{AreBooksKept}
@@ -25,7 +28,7 @@ pub use Rattle.fkv_session.proofs.AttemptShares.{there, trial_at, IsTryOf, owed_
 pub use Rattle.fkv_session.proofs.CatchShares.{owed_at, KnowsCatch, catch_shares}
 pub use Rattle.fkv_session.proofs.Shared.{Book, IsPlain, StepShares, run_shares, run_accounts, run_updates}
 pub use Rattle.fkv_session.proofs.Latched.{StepLatched, run_latched, run_prepared}
-pub use Rattle.fkv_session.proofs.Sleeps.{run_leaves, run_sleeps}
+pub use Rattle.fkv_session.proofs.Sleeps.{run_leaves, run_sleeps, run_unprotected}
 pub use Rattle.fkv_session.proofs.Slept.{run_slept}
 pub use Rattle.fkv_session.proofs.ToldInOrder.{run_order}
 pub use Rattle.fkv_session.proofs.Sound.{Knows, IsHeld, Holds, next_held, given_held, call_held, event_holds, run_holds}

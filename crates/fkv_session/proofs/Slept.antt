@@ -1,4 +1,4 @@
--- While a session sleeps the cut word of its version tells its serial.
+-- While a session sleeps the cut word of its version tells its serial, and its epoch word is 0.
 use Rattle.std.proofs.Common.{◌≡◌, ℕ, ◌+◌, ◌∙◌, List, [], ◌∷◌, length, refl, sym, subst, Bool, true, false}
 use Rattle.std.specs.Prelude.{Option, Some, None, if◌then◌else◌, not, ◌==◌, ◌||◌, ◌%◌, slice_get, slice_set}
 use Rattle.fkv_base.specs.declared.faults.Fault.{Fault}
@@ -9,8 +9,11 @@ use Rattle.fkv_map.specs.declared.operations.Op.{Op}
 use Rattle.fkv_plane.specs.declared.actions.Action.{Action}
 use Rattle.fkv_plane.specs.declared.asks.Ask.{Ask}
 use Rattle.fkv_plane.specs.declared.asks.Ask.TheVariants.{Done}
+use Rattle.fkv_plane.specs.declared.places.SessionWord.TheVariants as own
 use Rattle.fkv_plane.specs.Places.{session_place}
 use Rattle.fkv_plane.specs.Passing.{passed}
+use Rattle.fkv_epoch.specs.declared.leaving.Leaving.{Leaving}
+use Rattle.fkv_epoch.specs.declared.leaving.Leaving.TheVariants as leave
 use Rattle.fkv_epoch.specs.Leaving.{leave_ask, leave_next}
 use Rattle.fkv_ops.specs.declared.answers.Reason.{Reason}
 use Rattle.fkv_ops.specs.declared.answers.Reason.TheVariants as reason
@@ -35,11 +38,15 @@ use Rattle.fkv_session.specs.Words.{stored_by, stored_behind, stored_last, IsCut
 use Rattle.fkv_session.proofs.MarksSpared.{passed_off, leave_off}
 use Rattle.fkv_session.proofs.Marked.{off_word, cut_mark, same_place}
 
+-- what it has stored before it sleeps
+abbrev pub HasLeft : Seat → SessionState → (ℕ → ℕ) → Type 0
+HasLeft k s words = IsCutAsleep k s words × (words (session_place k.number own.Epoch) ≡ 0)
+
 -- only a session that is awake does anything but to wake, to leave, and to load its durable word
 abbrev pub StepSlept : Seat → (ℕ → ℕ) → SessionState → Sitting → Type 0
-StepSlept k words s (Idle its) = s.is_awake ≡ false → IsCutAsleep k s words
-StepSlept k words s LoadsDurable = s.is_awake ≡ false → IsCutAsleep k s words
-StepSlept k words s Leaves = IsCutAsleep k s words
+StepSlept k words s (Idle its) = s.is_awake ≡ false → HasLeft k s words
+StepSlept k words s LoadsDurable = s.is_awake ≡ false → HasLeft k s words
+StepSlept k words s Leaves = IsCutAsleep k s words × (s.leaving ≡ leave.StoresZero)
 StepSlept k words s (CatchesUp Wakes) = Unit {0}
 StepSlept k words s step = s.is_awake ≡ true
 
@@ -142,10 +149,15 @@ unfolding turn_ledto
 turned_slept k words s its (Done through) e awake = λ asleep. cc
 turned_slept k words s its ask e awake = still_slept k words s (Turns its) e awake
 
-left_slept : (k : Seat) (words : ℕ → ℕ) (s : SessionState) (ask : Ask (Unit {0})) → s.step ≡ Leaves → IsCutAsleep k s words → SleptAfter k words (leave_ledto s ask)
-unfolding leave_ledto
-left_slept k words s (Done its) e slept = λ asleep. slept
-left_slept k words s ask e slept = still_slept k words s Leaves e slept
+left_slept : (k : Seat) (words : ℕ → ℕ) (s : SessionState) (leaving : Leaving) → leaving ≡ leave.StoresZero → HasLeft k s words → SleptAfter k words (leave_ledto (record s { leaving = leave_next leaving }) (leave_ask k.number (leave_next leaving)))
+unfolding leave_ledto leave_next leave_ask
+left_slept k words s leave.StoresZero e left = λ asleep. left
+left_slept k words s leave.AtRest e left = cc
+
+zero_stored : (n : ℕ) (leaving : Leaving) (before : ℕ) → leaving ≡ leave.StoresZero → stored_by (passed (leave_ask n leaving) told.Slept) (session_place n own.Epoch) before ≡ 0
+unfolding leave_ask passed
+zero_stored n leave.StoresZero before e = same_place (session_place n own.Epoch) 0 before
+zero_stored n leave.AtRest before e = cc
 
 next_slept : (k : Seat) (words : ℕ → ℕ) (s : SessionState) (asks : ℕ) (step : Sitting) (reply : ℕ) → s.step ≡ step → StepSlept k words s step
     → SleptAfter k (λ place. stored_by (sitting_ask k s step) place (words place)) (sitting_next k (record s { asks = asks; effect = None }) step reply)
@@ -164,12 +176,12 @@ next_slept k words s asks ClearsMail reply e slept = let t : SessionState = reco
 next_slept k words s asks (Polls i) reply e slept = let t : SessionState = record s { asks = asks; effect = None } in poll_slept k (λ place. stored_by (sitting_ask k s (Polls i)) place (words place)) (attempt_moved k t reply) i _ e slept
 next_slept k words s asks (StoresOwing i) reply e slept = let t : SessionState = record s { asks = asks; effect = None } in polls_slept k (λ place. stored_by (sitting_ask k s (StoresOwing i)) place (words place)) t i slept
 next_slept k words s asks (Turns its) reply e slept = let t : SessionState = record s { asks = asks; effect = None } in turned_slept k (λ place. stored_by (sitting_ask k s (Turns its)) place (words place)) (own_turn_moved k t reply) its _ e slept
-next_slept k words s asks StoresCut reply e slept = same_place (session_place k.number (cut_of s.seen.version.0)) (cut_at s.serial s.seen.version.0) _
+next_slept k words s asks StoresCut reply e slept = (same_place (session_place k.number (cut_of s.seen.version.0)) (cut_at s.serial s.seen.version.0) _, refl)
 next_slept k words s asks Leaves reply e slept =
-    let t : SessionState = record s { asks = asks; effect = None } in
-    left_slept k (λ place. stored_by (sitting_ask k s Leaves) place (words place)) (record t { leaving = leave_next s.leaving }) _ e
-    (off_word k.number (passed (leave_ask k.number s.leaving) told.Slept) (session_place k.number (cut_of s.seen.version.0)) (words (session_place k.number (cut_of s.seen.version.0))) (passed_off k.number _ told.Slept (leave_off k.number s.leaving))
-    (cut_mark k.number (s.seen.version.0 % 2 == 0)) ∙ slept)
+    let cut = off_word k.number (passed (leave_ask k.number s.leaving) told.Slept) (session_place k.number (cut_of s.seen.version.0)) (words (session_place k.number (cut_of s.seen.version.0))) (passed_off k.number _ told.Slept (leave_off k.number s.leaving))
+        (cut_mark k.number (s.seen.version.0 % 2 == 0)) in
+    left_slept k (λ place. stored_by (sitting_ask k s Leaves) place (words place)) (record s { asks = asks; effect = None }) s.leaving slept.1
+    (cut ∙ slept.0, zero_stored k.number s.leaving (words (session_place k.number own.Epoch)) slept.1)
 next_slept k words s asks LoadsDurable reply e slept = λ asleep. slept asleep
 
 given_slept : (k : Seat) (words : ℕ → ℕ) (s : SessionState) (step : Sitting) (action : Action) → s.step ≡ step → StepSlept k words s step → SleptAfter k words (sitting_given k s step action)
@@ -190,7 +202,7 @@ awake_first : (awake : Bool) (rest : Option Fault) → (if not awake then Some f
 awake_first true rest none = refl
 awake_first false rest none = cc
 
-op_slept : (k : Seat) (words : ℕ → ℕ) (s : SessionState) (op : Op) (why : Option Fault) → refusal_of s op ≡ why → (s.is_awake ≡ false → IsCutAsleep k s words) → SleptAfter k words (op_begun k s op why)
+op_slept : (k : Seat) (words : ℕ → ℕ) (s : SessionState) (op : Op) (why : Option Fault) → refusal_of s op ≡ why → (s.is_awake ≡ false → HasLeft k s words) → SleptAfter k words (op_begun k s op why)
 unfolding op_begun
 op_slept k words s op (Some why) e slept = slept
 op_slept k words s op None e slept = attempts_slept k words (record s { op = op }) false (awake_first s.is_awake _ e)
@@ -202,7 +214,7 @@ not_true : (c : Bool) → not c ≡ false → c ≡ true
 not_true true e = refl
 not_true false e = cc
 
-call_slept : (k : Seat) (words : ℕ → ℕ) (s : SessionState) (its : Call) → (s.is_awake ≡ false → IsCutAsleep k s words) → SleptAfter k words (call_begun k s its)
+call_slept : (k : Seat) (words : ℕ → ℕ) (s : SessionState) (its : Call) → (s.is_awake ≡ false → HasLeft k s words) → SleptAfter k words (call_begun k s its)
 unfolding refresh_call poll_call sleep_call wake_call
 call_slept k words s (call.Op op) slept = op_slept k words s op (refusal_of s op) refl slept
 call_slept k words s call.Refresh slept = tested_slept s.is_awake k words _ (refuses s fault.Asleep) (λ awake. awake) (λ asleep. slept)
@@ -213,7 +225,7 @@ call_slept k words s call.Sleep slept =
 call_slept k words s call.Wake slept = either_slept s.is_awake k words (refuses s fault.Awake) _ slept tt
 call_slept k words s call.Durable slept = slept
 
-idle_slept : (k : Seat) (words : ℕ → ℕ) (s : SessionState) (step : Sitting) → is_busy step ≡ false → StepSlept k words s step → s.is_awake ≡ false → IsCutAsleep k s words
+idle_slept : (k : Seat) (words : ℕ → ℕ) (s : SessionState) (step : Sitting) → is_busy step ≡ false → StepSlept k words s step → s.is_awake ≡ false → HasLeft k s words
 idle_slept k words s (Idle its) idle slept = slept
 idle_slept k words s step idle slept = cc
 
@@ -242,4 +254,5 @@ pub run_slept : (k : Seat) (opening : SessionState) (first : ℕ → ℕ) (event
     → IsCutAsleep k (session_run k opening events) (λ place. stored_last k opening first events place)
 run_slept k opening first events opened rests asleep =
     let s : SessionState = session_run k opening events in
-    idle_slept k (λ place. stored_last k opening first events place) s s.step rests (run_steps k opening first events opened) asleep
+    let left = idle_slept k (λ place. stored_last k opening first events place) s s.step rests (run_steps k opening first events opened) asleep in
+    left.0

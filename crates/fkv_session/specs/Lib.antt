@@ -3,7 +3,9 @@ pub mod Answers
 pub mod AsksLeft
 pub mod Asleep
 pub mod Bounds
+pub mod CallAsks
 pub mod CatchingUp
+pub mod Causes
 pub mod Counted
 pub mod Cuts
 pub mod InOrder
@@ -16,5 +18,6 @@ pub mod SessionRun
 pub mod Sessions
 pub mod Shares
 pub mod Tickets
+pub mod TrueAnswers
 pub mod Versions
 pub mod Words

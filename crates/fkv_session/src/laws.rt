@@ -9,13 +9,14 @@ ghost use Rattle.fkv_session.specs.declared.sessions.Sitting.TheVariants.{Idle, 
 ghost use Rattle.fkv_session.specs.Accounts.{AreInTurn, AreAccountedFor, IsAnsweredOnce, RiseWithin, names_of, number_of};
 ghost use Rattle.fkv_session.specs.declared.sessions.CatchCause.{CatchCause};
 ghost use Rattle.fkv_session.specs.declared.sessions.CatchCause.TheVariants.{Wakes};
+ghost use Rattle.fkv_session.specs.Causes.{IsFirstCause};
 ghost use Rattle.fkv_session.specs.Cuts.{IsCutTold};
-ghost use Rattle.fkv_session.specs.InOrder.{AreToldInOrder, IsEpochLast, IsOwedOrOneMore, exchanged, owing_place, owing_told, serial_leaving};
+ghost use Rattle.fkv_session.specs.InOrder.{AreToldInOrder, IsEpochLast, IsOwedOrOneMore, epoch_place, exchanged, owing_place, owing_told, serial_leaving};
 ghost use Rattle.fkv_session.specs.Reads.{AreReadsAnswered, IsAttemptOf, reads_ended};
 ghost use Rattle.fkv_session.specs.Refused.{before_call, has_caught_up, IsRefusal, IsRefusedWhole};
 ghost use Rattle.fkv_session.specs.Replies.{AreOfTheirCalls, AreRepliesOfEffects, HasOneEffect, effects_told, is_of, op_called, serials_taken};
 ghost use Rattle.fkv_session.specs.SessionRun.{Replies, SessionEvent, session_run, all_told, in_hand};
-ghost use Rattle.fkv_session.specs.Sessions.{IsOpened, Seat, SessionState, is_busy, session_ask};
+ghost use Rattle.fkv_session.specs.Sessions.{IsOpened, Seat, SessionState, is_busy, session_ask, session_begun};
 ghost use Rattle.fkv_ops.specs.Trying.{is_prepare};
 ghost use Rattle.fkv_session.specs.Shares.{AllUpdatesShare, HasItsBuckets, OnlyUpdatesShare, has_missed, shares_added, shares_dropped, sharing};
 ghost use Rattle.fkv_session.specs.Words.{AreMarkStores, AreMarksTold, IsCutAsleep, serial_left, stored_last};
@@ -36,10 +37,16 @@ pub fn law_sessions()
         → RiseWithin opening.serial (session_run seat opening events).serial (names_of (session_run seat opening events).requests) }
 {}
 
-/// A call that is refused before its first ask leaves all but its answer as it was. One that is refused later has taken no serial and
+/// A call is refused before its first ask just where a fault has a cause, and by the first that has one: the session sleeps; the operation
+/// brings 2^64 - 1, which is no value; 64 requests wait; an update comes and the last serial is taken; a sleep comes and requests are left;
+/// a wake comes and the session is awake. Such a call leaves all but its answer as it was. One that is refused later has taken no serial and
 /// no ticket, no request has come or gone by it, and what a poll has finished stays. What the session goes by and the latches that its
 /// requests share stay too, but where the call caught up with the store on its way.
 pub fn law_of_refusals()
+    ensures cause { (seat : Seat) (session : SessionState) (its : Call) (why : Fault) → (session_begun seat session its).step ≡ Idle (Refused why)
+        → IsFirstCause session its why }
+    ensures refused { (seat : Seat) (session : SessionState) (its : Call) (why : Fault) → IsFirstCause session its why
+        → (session_begun seat session its).step ≡ Idle (Refused why) }
     ensures at_once { (seat : Seat) (session : SessionState) (its : Call) (why : Fault) → IsRefusedWhole seat session its why }
     ensures later { (seat : Seat) (opening : SessionState) (events : List SessionEvent) (why : Fault) → IsOpened opening
         → (session_run seat opening events).step ≡ Idle (Refused why)
@@ -51,7 +58,8 @@ pub fn law_of_refusals()
 /// owing word where a poll has finished an update of the version before; and no other ask of it stores one of these words. Once it has
 /// changed its version, and where no call is in hand, what it has stored last as the cut word of the version before tells the serial
 /// that it had as it left that, and its owing word how many updates of that version wait. While it sleeps, but in a wake, and before it
-/// leaves for that, the cut word of its own version tells its serial.
+/// leaves for that, the cut word of its own version tells its serial. While it sleeps, but in a wake, what it has stored last as its epoch
+/// word is 0.
 /// In the middle of a call too all is told of the version that it leaves, or has left last, but what it is about to store: first the cut
 /// word, and behind that the owing word, which a poll finds one too high at most. So before it takes latches, or stores its epoch word,
 /// both are told. Where a session that refreshes stores its epoch word, it has taken up the phase word that it has loaded, and it stores
@@ -68,6 +76,9 @@ pub fn law_of_cuts()
     ensures asleep { (seat : Seat) (opening : SessionState) (first : ℕ → ℕ) (events : List SessionEvent) → IsOpened opening
         → (session_run seat opening events).is_awake ≡ false → (session_run seat opening events).step ≢ CatchesUp Wakes
         → IsCutAsleep seat (session_run seat opening events) (λ place. stored_last seat opening first events place) }
+    ensures unprotected { (seat : Seat) (opening : SessionState) (first : ℕ → ℕ) (events : List SessionEvent) → IsOpened opening
+        → (session_run seat opening events).is_awake ≡ false → (session_run seat opening events).step ≢ CatchesUp Wakes
+        → stored_last seat opening first events (epoch_place seat) ≡ 0 }
     ensures leaves { (seat : Seat) (opening : SessionState) (first : ℕ → ℕ) (events : List SessionEvent) → IsOpened opening
         → (session_run seat opening events).step ≡ Leaves
         → IsCutAsleep seat (session_run seat opening events) (λ place. stored_last seat opening first events place) }

@@ -2,6 +2,7 @@
 //! commit; and the turn that it makes where its log had no room.
 #![tactic(auto)]
 
+mod answer_laws;
 mod answers;
 mod bounds;
 mod calls;
@@ -13,6 +14,7 @@ mod polling;
 mod request_laws;
 mod sessions;
 
+pub use answer_laws::law_of_answers;
 pub use answers::{Answer, Finished, Told};
 pub use bounds::law_of_asks;
 pub use catching_up::CatchUp;

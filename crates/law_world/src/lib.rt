@@ -14,6 +14,6 @@ pub use runs::{
 };
 pub use sessions::{
     law_world_answers, law_world_cuts, law_world_effects, law_world_latches, law_world_reads,
-    law_world_refusals, law_world_replies, law_world_requests, law_world_sessions,
+    law_world_refusals, law_world_replies, law_world_requests, law_world_sessions, law_world_told,
 };
 pub use standing::{law_of_slot_places, law_one_commit_stands};

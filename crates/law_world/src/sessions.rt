@@ -1,26 +1,37 @@
 //! What holds of each session in every life of a store that was opened: what its own crate proves of every run of it.
 ghost use Rattle.std.specs.Prelude.{◌≡◌, ◌≢◌, ◌⊎◌, ◌+◌, ◌-◌, ◌^◌, ◌<◌, ◌≤◌, ◌∷◌, ◌++◌, ℕ, Bool, List, Some, false, min, true};
 ghost use Rattle.fkv_base.specs.declared.faults.Fault.{Fault};
+ghost use Rattle.fkv_base.specs.declared.numbers.Serial.{Serial};
+ghost use Rattle.fkv_base.specs.declared.numbers.Version.{Version};
+ghost use Rattle.fkv_base.specs.declared.phases.Phase.{Phase};
 ghost use Rattle.fkv_map.specs.declared.operations.Call.{Call};
+ghost use Rattle.fkv_map.specs.declared.operations.Op.{Op};
 ghost use Rattle.fkv_plane.specs.declared.asks.Ask.TheVariants.{Add};
+ghost use Rattle.fkv_plane.specs.declared.places.SessionWord.TheVariants.{Durable as DurableWord};
+ghost use Rattle.fkv_plane.specs.declared.places.SharedWord.TheVariants.{Phase as PhaseWord};
+ghost use Rattle.fkv_plane.specs.Places.{session_place, shared_place};
 ghost use Rattle.fkv_latch.specs.Latching.{is_exclusive, one_share};
 ghost use Rattle.fkv_ops.specs.Trying.{is_prepare};
 ghost use Rattle.fkv_session.specs.Accounts.{AreAccountedFor, AreInTurn, IsAnsweredOnce, RiseWithin, names_of, number_of};
-ghost use Rattle.fkv_session.specs.Asleep.{IsAsleep};
+ghost use Rattle.fkv_session.specs.Asleep.{IsAsleep, is_awake_told};
+ghost use Rattle.fkv_session.specs.CallAsks.{Ends, asked_in_call, told_in};
+ghost use Rattle.fkv_session.specs.Causes.{IsFirstCause};
 ghost use Rattle.fkv_session.specs.Counted.{words_replied};
 ghost use Rattle.fkv_session.specs.Cuts.{IsCutTold};
-ghost use Rattle.fkv_session.specs.InOrder.{AreToldInOrder, IsEpochLast, IsOwedOrOneMore, exchanged, owing_place, owing_told, serial_leaving};
+ghost use Rattle.fkv_session.specs.InOrder.{AreToldInOrder, IsEpochLast, IsOwedOrOneMore, epoch_place, exchanged, loaded_last, owing_place, owing_told, serial_leaving};
 ghost use Rattle.fkv_session.specs.Polls.{IsPollOf, attempted_in_poll};
 ghost use Rattle.fkv_session.specs.Reads.{AreReadsAnswered, IsAttemptOf, reads_ended};
 ghost use Rattle.fkv_session.specs.Refused.{IsRefusal, IsRefusedWhole, before_call, has_caught_up};
 ghost use Rattle.fkv_session.specs.Replies.{AreOfTheirCalls, AreRepliesOfEffects, HasOneEffect, is_of, op_called, serials_taken};
 ghost use Rattle.fkv_session.specs.SessionRun.{SessionEvent, in_hand, is_calling, session_run, with_coming};
-ghost use Rattle.fkv_session.specs.Sessions.{SessionState, is_busy, session_ask, session_next};
+ghost use Rattle.fkv_session.specs.Sessions.{SessionState, is_busy, session_ask, session_begun, session_next};
 ghost use Rattle.fkv_session.specs.Shares.{AllUpdatesShare, HasItsBuckets, OnlyUpdatesShare, has_missed, shares_added, shares_dropped, sharing};
 ghost use Rattle.fkv_session.specs.Tickets.{AreTicketsInTurn};
+ghost use Rattle.fkv_session.specs.TrueAnswers.{IsPhaseSeen, IsTrueOf, trial_of};
 ghost use Rattle.fkv_session.specs.Versions.{AreAsTaken, IsAttemptOfCall, IsAttemptOfRequest, IsVersion, versions_taken};
 ghost use Rattle.fkv_session.specs.Words.{AreMarkStores, AreMarksTold, IsCutAsleep, serial_left, stored_last};
-ghost use Rattle.fkv_session.specs.declared.answers.Told.TheVariants.{Polled, Refused};
+ghost use Rattle.fkv_session.specs.declared.answers.Told.{Told};
+ghost use Rattle.fkv_session.specs.declared.answers.Told.TheVariants.{Durable, Polled, Refreshed, Refused, Woken};
 ghost use Rattle.fkv_session.specs.declared.sessions.CatchCause.TheVariants.{Wakes};
 ghost use Rattle.fkv_session.specs.declared.sessions.CatchCause.{CatchCause};
 ghost use Rattle.fkv_session.specs.declared.sessions.Sitting.TheVariants.{Attempts, CatchesUp, Idle, Leaves, Polls, StoresOwing};
@@ -62,6 +73,10 @@ pub fn law_world_cuts()
         → its.is_awake ≡ false
         → its.step ≢ CatchesUp Wakes
         → IsCutAsleep (seat_at opening.now session) its (λ place. stored_last (seat_at opening.now session) first words (session_events opening session events) place) }
+    ensures unprotected { (opening : World) (events : List Event) (session : ℕ) (first its : SessionState) (words : ℕ → ℕ) → HasBecome opening events session first its
+        → its.is_awake ≡ false
+        → its.step ≢ CatchesUp Wakes
+        → stored_last (seat_at opening.now session) first words (session_events opening session events) (epoch_place (seat_at opening.now session)) ≡ 0 }
     ensures leaves { (opening : World) (events : List Event) (session : ℕ) (first its : SessionState) (words : ℕ → ℕ) → HasBecome opening events session first its
         → its.step ≡ Leaves
         → IsCutAsleep (seat_at opening.now session) its (λ place. stored_last (seat_at opening.now session) first words (session_events opening session events) place) }
@@ -169,14 +184,50 @@ pub fn law_world_requests()
         → IsPollOf (before_call (seat_at opening.now session) first (session_events opening session events)).requests (attempted_in_poll (seat_at opening.now session) first (session_events opening session events)) its.finished its.requests left }
 {}
 
-/// Whatever the other actors do, a call of a session that is refused before its first ask leaves all but its answer as it was. One that is refused
-/// later has taken no serial and no ticket, no request has come or gone by it, and what a poll has finished stays.
+/// Whatever the other actors do, a call of a session is refused before its first ask just where a fault has a cause, and by the first that has one.
+/// Such a call leaves all but its answer as it was. One that is refused later has taken no serial and no ticket, no request has come or gone by it,
+/// and what a poll has finished stays.
 pub fn law_world_refusals()
+    ensures cause { (opening : World) (events : List Event) (session : ℕ) (first its : SessionState) (call : Call) (why : Fault) → HasBecome opening events session first its
+        → (session_begun (seat_at opening.now session) its call).step ≡ Idle (Refused why)
+        → IsFirstCause its call why }
+    ensures refused { (opening : World) (events : List Event) (session : ℕ) (first its : SessionState) (call : Call) (why : Fault) → HasBecome opening events session first its
+        → IsFirstCause its call why
+        → (session_begun (seat_at opening.now session) its call).step ≡ Idle (Refused why) }
     ensures at_once { (opening : World) (events : List Event) (session : ℕ) (first its : SessionState) (call : Call) (why : Fault) → HasBecome opening events session first its
         → IsRefusedWhole (seat_at opening.now session) its call why }
     ensures later { (opening : World) (events : List Event) (session : ℕ) (first its : SessionState) (why : Fault) → HasBecome opening events session first its
         → its.step ≡ Idle (Refused why)
         → IsRefusal (before_call (seat_at opening.now session) first (session_events opening session events)) its (has_caught_up (seat_at opening.now session) first (session_events opening session events)) }
+{}
+
+/// Whatever the other actors do, what an operation of a session is answered behind its asks stands in the words that its call has loaded. A
+/// refresh and a wake tell what the session goes by from then on, by the phase word that the call has loaded last; and what is durable is the
+/// word that the call has loaded. A session sleeps from the answer that it sleeps to the answer that it has woken, as callers see these, and is
+/// awake at all other times.
+pub fn law_world_told()
+    ensures operations { (opening : World) (events : List Event) (session : ℕ) (first its : SessionState) (event : SessionEvent) (before : List SessionEvent) (buckets : HasItsBuckets (seat_at opening.now session)) (told : Told) (op : Op) → HasBecome opening events session first its
+        → session_events opening session events ≡ event ∷ before
+        → Ends (seat_at opening.now session) first event before told
+        → op_called (seat_at opening.now session) first (event ∷ before) ≡ Some op
+        → IsTrueOf (trial_of (seat_at opening.now session) buckets its.seen op) (told_in (asked_in_call (seat_at opening.now session) first (event ∷ before))) told }
+    ensures refreshed { (opening : World) (events : List Event) (session : ℕ) (first its : SessionState) (event : SessionEvent) (before : List SessionEvent) (phase : Phase) (version : Version) → HasBecome opening events session first its
+        → session_events opening session events ≡ event ∷ before
+        → HasItsBuckets (seat_at opening.now session)
+        → Ends (seat_at opening.now session) first event before (Refreshed phase version)
+        → IsPhaseSeen (before_call (seat_at opening.now session) first (event ∷ before)).seen its.seen (loaded_last (asked_in_call (seat_at opening.now session) first (event ∷ before)) (shared_place PhaseWord)) phase version }
+    ensures woken { (opening : World) (events : List Event) (session : ℕ) (first its : SessionState) (event : SessionEvent) (before : List SessionEvent) (phase : Phase) (version : Version) → HasBecome opening events session first its
+        → session_events opening session events ≡ event ∷ before
+        → HasItsBuckets (seat_at opening.now session)
+        → Ends (seat_at opening.now session) first event before (Woken phase version)
+        → IsPhaseSeen (before_call (seat_at opening.now session) first (event ∷ before)).seen its.seen (loaded_last (asked_in_call (seat_at opening.now session) first (event ∷ before)) (shared_place PhaseWord)) phase version }
+    ensures durable { (opening : World) (events : List Event) (session : ℕ) (first its : SessionState) (event : SessionEvent) (before : List SessionEvent) (serial : Serial) → HasBecome opening events session first its
+        → session_events opening session events ≡ event ∷ before
+        → HasItsBuckets (seat_at opening.now session)
+        → Ends (seat_at opening.now session) first event before (Durable serial)
+        → loaded_last (asked_in_call (seat_at opening.now session) first (event ∷ before)) (session_place session DurableWord) ≡ Some serial.0 }
+    ensures awake { (opening : World) (events : List Event) (session : ℕ) (first its : SessionState) → HasBecome opening events session first its
+        → its.is_awake ≡ is_awake_told (answers_of session (run opening events).past.trace) }
 {}
 
 /// The answers of which the laws of sessions speak are those that callers see: in every life what a session has told is what the trace has as

@@ -241,7 +241,7 @@ happens_heard w event number s found =
     ∙ ap (λ (y : Option SessionState). tellings (seat_at w.now number) s (if w.now.crashed then [] else session_part_found w.now number event y) ++ answers_of number w.past.trace) (sym found)
 
 -- over a whole life
-run_heard : (opening : World) (events : List Event) (number : ℕ) (first : SessionState) → opening.past.trace ≡ [] → slice_get opening.now.sessions number ≡ Some first
+pub run_heard : (opening : World) (events : List Event) (number : ℕ) (first : SessionState) → opening.past.trace ≡ [] → slice_get opening.now.sessions number ≡ Some first
     → answers_of number (run opening events).past.trace ≡ tellings (seat_at opening.now number) first (session_events opening number events)
 unfolding run session_events
 run_heard opening [] number first none found = ap (answers_of number) none ∙ sym (no_tellings (seat_at opening.now number) first)

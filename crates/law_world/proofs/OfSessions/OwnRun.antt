@@ -43,6 +43,12 @@ of_run P opening events number first its became holds = subst P (sym (here openi
 pub to_run : (P : SessionState → Type 0) (opening : World) (events : List Event) (number : ℕ) (first its : SessionState) → HasBecome opening events number first its → P its → P (ran opening events number first)
 to_run P opening events number first its became holds = subst P (here opening events number first its became) holds
 
+-- and by the newest of its events
+pub of_newest : (P : SessionState → Type 0) (opening : World) (events : List Event) (number : ℕ) (first its : SessionState) (event : SessionEvent) (before : List SessionEvent) → HasBecome opening events number first its
+    → session_events opening number events ≡ event ∷ before → P (session_run (seat_at opening.now number) first (event ∷ before)) → P its
+of_newest P opening events number first its event before became newest holds =
+    of_run P opening events number first its became (subst (λ (own : List SessionEvent). P (session_run (seat_at opening.now number) first own)) (sym newest) holds)
+
 -- where a poll stores the owing word
 pub owing_near : (k : Seat) (first : SessionState) (words : ℕ → ℕ) (events : List SessionEvent) (index serial : ℕ) → IsOpened first → k.number < k.places.sessions
     → (session_run k first events).step ≡ StoresOwing index → serial_left k first events ≡ Some serial

@@ -3,7 +3,7 @@ use Rattle.fkv_session.proofs.CutsTold.{run_cuts}
 use Rattle.fkv_session.proofs.EpochLast.{run_epoch}
 use Rattle.fkv_session.proofs.MarkRuns.{run_stores, run_told_marks}
 use Rattle.fkv_session.proofs.OwingNear.{run_near}
-use Rattle.fkv_session.proofs.Sleeps.{run_leaves, run_sleeps}
+use Rattle.fkv_session.proofs.Sleeps.{run_leaves, run_sleeps, run_unprotected}
 use Rattle.fkv_session.proofs.ToldInOrder.{run_order}
 use Rattle.fkv_session.proofs.laws.law_of_cuts.Goals as goal
 
@@ -30,3 +30,6 @@ returns-clause-polls_owing c = λ seat opening first events index serial opened 
 
 pub returns-clause-leaves : goal.returns-clause-leaves
 returns-clause-leaves c = λ seat opening first events opened leaves. run_leaves seat opening first events opened leaves
+
+pub returns-clause-unprotected : goal.returns-clause-unprotected
+returns-clause-unprotected c = λ seat opening first events opened asleep other. run_unprotected seat opening first events opened asleep other

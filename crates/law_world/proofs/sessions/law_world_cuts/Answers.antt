@@ -6,7 +6,7 @@ use Rattle.fkv_session.specs.Sessions.{is_busy}
 use Rattle.fkv_session.specs.Words.{AreMarkStores, AreMarksTold, IsCutAsleep, stored_last}
 use Rattle.fkv_session.specs.declared.sessions.CatchCause.TheVariants.{Wakes}
 use Rattle.fkv_session.specs.declared.sessions.Sitting.TheVariants.{CatchesUp, Leaves, StoresOwing}
-use Rattle.fkv_session.proofs.Shown.{run_cuts, run_epoch, run_leaves, run_order, run_sleeps, run_stores, run_told_marks}
+use Rattle.fkv_session.proofs.Shown.{run_cuts, run_epoch, run_leaves, run_order, run_sleeps, run_stores, run_told_marks, run_unprotected}
 use Rattle.fkv_world.specs.OwnEvents.{session_events}
 use Rattle.fkv_world.specs.World.{seat_at}
 use Rattle.law_world.proofs.OfSessions.OwnRun.{of_run, opened_so, owing_near, seated, to_run}
@@ -35,3 +35,6 @@ returns-clause-polls_owing c = λ opening events session first its words index s
 
 pub returns-clause-epoch_last : goal.returns-clause-epoch_last
 returns-clause-epoch_last c = λ opening events session first its cause became catching other. of_run (λ s. IsEpochLast (seat_at opening.now session) s (exchanged (seat_at opening.now session) first (session_events opening session events))) opening events session first its became (run_epoch (seat_at opening.now session) first (session_events opening session events) cause (opened_so opening events session first its became) (to_run (λ s. s.step ≡ CatchesUp cause) opening events session first its became catching) other)
+
+pub returns-clause-unprotected : goal.returns-clause-unprotected
+returns-clause-unprotected c = λ opening events session first its words became asleep other. run_unprotected (seat_at opening.now session) first words (session_events opening session events) (opened_so opening events session first its became) (to_run (λ s. s.is_awake ≡ false) opening events session first its became asleep) (to_run (λ s. s.step ≢ CatchesUp Wakes) opening events session first its became other)
