@@ -1,12 +1,17 @@
 -- Going once over entries by bucket.
 use Rattle.std.proofs.Common.{◌≡◌, ◌≢◌, ◌⊎◌, inl, inr, ℕ, Bool, zero, suc, ◌+◌, ◌-◌, ◌*◌, ◌^◌, ◌<◌, ◌≤◌, List, [], ◌∷◌, ◌++◌, true, false, length, map, take, drop, get_or, cond, refl, sym, ap, subst, ◌∙◌, arith}
-use Rattle.std.specs.Prelude.{nat_eq}
-use Rattle.std.specs.List.{filter, take_while}
-use Rattle.std.specs.List.Sorted.{IsNonDecreasingBy}
+use Rattle.std.specs.Prelude.{nat_eq, nat_lt, not, ◌&&◌}
+use Rattle.std.specs.Ordering.{nat_cmp, is_lt}
+use Rattle.std.specs.declared.cmp.Ordering.{Ordering}
+use Rattle.std.specs.declared.cmp.Ordering.TheVariants.{Less, Equal, Greater}
+use Rattle.std.specs.Cmp.{nat_cmp_is}
+use Rattle.std.specs.List.{filter, take_while, prefix_len}
+use Rattle.std.specs.List.Sorted.{IsNonDecreasingBy, IsStableByKey, ties}
 use Rattle.std.proofs.Math.ListN.{drop_of_length-le}
 use Rattle.std.proofs.lemmas.Bool.Decides.{nat_tests}
-use Rattle.std.proofs.lemmas.List.{append-nil, append_assoc, drop_more, drop-drop, get_or-drop, length-drop}
+use Rattle.std.proofs.lemmas.List.{append-nil, append_assoc, length-map, length-take, drop_more, drop-drop, get_or-drop, length-drop}
 use Rattle.std.proofs.lemmas.List.Sums.{take_while-cons}
+use Rattle.std.proofs.lemmas.List.Elements.{filter_agree}
 use Rattle.fkv_words.specs.Layout.{entry_word}
 use Rattle.fkv_entries.specs.Room.{needed, bucket_words}
 use Rattle.fkv_entries.specs.declared.home_entries.HomeEntry.{HomeEntry}
@@ -36,6 +41,13 @@ first_with b x xs same =
 first_without : (b : ℕ) (x : HomeEntry) (xs : List HomeEntry) → x.bucket ≢ b → first_words b (x ∷ xs) ≡ []
 first_without b x xs other =
     ap (map word_of) (take_while-cons (λ y. nat_eq y.bucket b) x xs ∙ ap (λ t. cond t (x ∷ take_while (λ y. nat_eq y.bucket b) xs) []) (eq_false x.bucket b other))
+
+-- and no more words come first than there are entries
+pub first_few : (b : ℕ) (xs : List HomeEntry) → length (first_words b xs) ≤ length xs
+first_few b xs = omega (arith, length-map (take_while (λ x. nat_eq x.bucket b) xs) word_of, take_few (λ x. nat_eq x.bucket b) xs)
+  where
+    take_few : (p : HomeEntry → Bool) (ys : List HomeEntry) → length (take_while p ys) ≤ length ys
+    take_few p ys = omega (arith, length-take (prefix_len p ys) ys)
 
 -- the same of all entries of the bucket
 bucket_with : (b : ℕ) (x : HomeEntry) (xs : List HomeEntry) → x.bucket ≡ b → bucket_words b (x ∷ xs) ≡ word_of x ∷ bucket_words b xs
@@ -80,12 +92,12 @@ pub record AreFirst (b : ℕ) (xs : List HomeEntry) : Type 0 where
 
 pub are_first : (b : ℕ) (xs : List HomeEntry) → IsNonDecreasingBy (λ x. x.bucket) xs → AreFrom b xs → AreFirst b xs
 are_first b [] rising from = record { words = refl; fits = omega arith; others = λ c above. refl; from = λ k d low. absurd (omega (arith, low)) }
-are_first b (x ∷ xs) rising from = by_test (nat_eq x.bucket b) refl
+are_first b (x ∷ xs) rising from =
+    by_test (are_first b xs (λ i j d le low. rising (suc i) (suc j) d (omega (arith, le)) (omega (arith, low))) (λ k d low. from (suc k) d (omega (arith, low)))) (nat_eq x.bucket b) refl
   where
-    by_test : (t : Bool) → nat_eq x.bucket b ≡ t → AreFirst b (x ∷ xs)
-    by_test true e =
+    by_test : AreFirst b xs → (t : Bool) → nat_eq x.bucket b ≡ t → AreFirst b (x ∷ xs)
+    by_test rest true e =
         let same : x.bucket ≡ b = true_eq x.bucket b e in
-        let rest : AreFirst b xs = are_first b xs (λ i j d le low. rising (suc i) (suc j) d (omega (arith, le)) (omega (arith, low))) (λ k d low. from (suc k) d (omega (arith, low))) in
         let first : first_words b (x ∷ xs) ≡ word_of x ∷ first_words b xs = first_with b x xs same in
         let many : length (first_words b (x ∷ xs)) ≡ suc (length (first_words b xs)) = ap length first in
         record {
@@ -94,7 +106,7 @@ are_first b (x ∷ xs) rising from = by_test (nat_eq x.bucket b) refl
           others = λ c above. ap (λ n. bucket_words c (drop n (x ∷ xs))) many ∙ rest.others c above ∙ sym (bucket_without c x xs (λ it. omega (arith, it, same, above)));
           from = subst (λ n. AreFrom (b + 1) (drop n (x ∷ xs))) (sym many) rest.from;
         }
-    by_test false e =
+    by_test rest false e =
         let other : x.bucket ≢ b = false_eq x.bucket b e in
         let here : b ≤ x.bucket = from 0 x (omega arith) in
         let above : AreFrom (b + 1) (x ∷ xs) = λ k d low. (let rise : x.bucket ≤ (let y = get_or (x ∷ xs) k d in y.bucket) = rising 0 k d (omega arith) low in omega (arith, rise, here, other)) in
@@ -106,6 +118,55 @@ are_first b (x ∷ xs) rising from = by_test (nat_eq x.bucket b) refl
           others = λ c up. ap (λ n. bucket_words c (drop n (x ∷ xs))) none;
           from = subst (λ n. AreFrom (b + 1) (drop n (x ∷ xs))) (sym none) above;
         }
+
+-- entries that a stable sort by bucket leaves
+cmp_less : (x y : ℕ) → x < y → nat_cmp x y ≡ Less
+cmp_less x y low = sym (nat_cmp_is x y Less low)
+
+cmp_same : (x y : ℕ) → x ≡ y → nat_cmp x y ≡ Equal
+cmp_same x y same = sym (nat_cmp_is x y Equal same)
+
+cmp_more : (x y : ℕ) → y < x → nat_cmp x y ≡ Greater
+cmp_more x y high = sym (nat_cmp_is x y Greater high)
+
+ties_so : (a b : ℕ) (one other : Ordering) → nat_cmp b a ≡ one → nat_cmp a b ≡ other → (not (is_lt (nat_cmp b a)) && not (is_lt (nat_cmp a b))) ≡ (not (is_lt one) && not (is_lt other))
+ties_so a b one other e f =
+    ap (λ (o : Ordering). not (is_lt o) && not (is_lt (nat_cmp a b))) e ∙ ap (λ (o : Ordering). not (is_lt one) && not (is_lt o)) f
+
+tie_is : (a b : ℕ) → nat_eq a b ≡ (not (is_lt (nat_cmp b a)) && not (is_lt (nat_cmp a b)))
+tie_is a b = by_test (nat_lt a b) (nat_lt b a) refl refl
+  where
+    is_below : (x y : ℕ) → nat_lt x y ≡ true → x < y
+    is_below x y e = grind (arith, nat_tests)
+
+    are_same : (x y : ℕ) → nat_lt x y ≡ false → nat_lt y x ≡ false → x ≡ y
+    are_same x y e f = grind (arith, nat_tests)
+
+    by_test : (l m : Bool) → nat_lt a b ≡ l → nat_lt b a ≡ m → nat_eq a b ≡ (not (is_lt (nat_cmp b a)) && not (is_lt (nat_cmp a b)))
+    by_test true m e f =
+        let low : a < b = is_below a b e in
+        eq_false a b (λ same. omega (arith, low, same)) ∙ sym (ties_so a b Greater Less (cmp_more b a low) (cmp_less a b low))
+    by_test false true e f =
+        let low : b < a = is_below b a f in
+        eq_false a b (λ same. omega (arith, low, same)) ∙ sym (ties_so a b Less Greater (cmp_less b a low) (cmp_more a b low))
+    by_test false false e f =
+        let same : a ≡ b = are_same a b e f in
+        eq_true a b same ∙ sym (ties_so a b Equal Equal (cmp_same b a (sym same)) (cmp_same a b same))
+
+-- entries in the bucket of one are those that tie with it
+same_words : (w : HomeEntry) (entries grouped : List HomeEntry) → IsStableByKey (λ x. x.bucket) nat_cmp entries grouped → bucket_words w.bucket grouped ≡ bucket_words w.bucket entries
+same_words w entries grouped stable =
+    let agree : (x : HomeEntry) → nat_eq x.bucket w.bucket ≡ ties (λ y z. is_lt (nat_cmp y.bucket z.bucket)) w x = λ x. tie_is x.bucket w.bucket in
+    ap (map word_of) (filter_agree (λ x. nat_eq x.bucket w.bucket) (ties (λ y z. is_lt (nat_cmp y.bucket z.bucket)) w) agree grouped
+    ∙ stable w ∙ sym (filter_agree (λ x. nat_eq x.bucket w.bucket) (ties (λ y z. is_lt (nat_cmp y.bucket z.bucket)) w) agree entries))
+
+grouped_words : (entries grouped : List HomeEntry) → IsStableByKey (λ x. x.bucket) nat_cmp entries grouped → length grouped ≡ length entries → (b : ℕ) → bucket_words b grouped ≡ bucket_words b entries
+grouped_words [] [] stable many b = refl
+grouped_words [] (y ∷ grouped) stable many b = absurd (omega (arith, many))
+grouped_words (x ∷ entries) grouped stable many b = same_words (record x { bucket = b }) (x ∷ entries) grouped stable
+
+pub grouped_by : (entries grouped : List HomeEntry) → IsStableByKey (λ x. x.bucket) nat_cmp entries grouped → length grouped ≡ length entries → IsNonDecreasingBy (λ x. x.bucket) grouped → AreByBucket entries grouped
+grouped_by entries grouped stable many rising = record { same = grouped_words entries grouped stable many; many = many; ascending = rising }
 
 -- up to which entry the buckets below this one go
 pub record IsStart (bucket : ℕ) (grouped : List HomeEntry) (next : ℕ) : Type 0 where

@@ -14,9 +14,9 @@ pub(crate) type Store = World<Fuse<MemDisk>>;
 /// The rounds in which a commit is to finish.
 const ROUNDS: u64 = 64;
 
-/// A new store of 2^18 buckets and as many overflow buckets, with 65,536 records in memory and room for 2^22 on the device.
+/// A new store of 2^18 buckets and 4,096 overflow buckets, with 65,536 records in memory and room for 2^22 on the device.
 pub(crate) fn new_store(alloc: Global) -> Result<Store, Fault> {
-    let shape = Shape::large(18, 1024, 64, 32, 1, 262144, 4096)?;
+    let shape = Shape::large(18, 1024, 64, 32, 1, 4096, 4096)?;
     let mut device = Fuse::new(MemDisk::new(alloc));
     let opened = create_opened(alloc, &mut device, shape)?;
     World::open(alloc, opened, device)
