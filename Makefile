@@ -1,10 +1,11 @@
 # make run     runs a script and prints its answers: the stored one, or SCRIPT=path, by the words of WORDS. The program is built
 #              without proof, and stays in build/unproved
 # make test    the gate: whether generated pages are up to date, what crates name of each other, every proof from nothing, the
-#              must-fail edits, the tests and the program; then tools/openings, and what `make rows` and `make memory` do
+#              must-fail edits, the tests and the program; then tools/openings, and what `make rows`, `make memory` and `make large` do
 # make fkv     proves the program, says at which crate it is, and leaves it at build/fkv
 # make rows    runs the built program on whole scripts, and compares what it writes
 # make memory  runs stored scripts, a store's creation and its opening, a commit's copy and the options' words, with each request for memory refused in turn
+# make large   plays scripts of 2^20 keys over a large store, in a file and in memory, and compares with a plain map
 # make bench   times the proved program on scripts of up to 65,536 lines, and recovery of images of up to 1,000,000 records
 # make gate    runs the gate, and writes the processor time of each crate into docs/GATE.md
 # make audit   tries the wrong bodies that the gate leaves out, those of crates/*/audit, or of the crates in CRATES
@@ -19,7 +20,7 @@ WORDS ?=
 # The crates whose wrong bodies `make audit` tries, as CRATES="fkv_log fkv_ops"; all where nothing is said.
 CRATES ?=
 
-.PHONY: run test fkv rows memory bench gate audit docs toolchain
+.PHONY: run test fkv rows memory large bench gate audit docs toolchain
 
 run: toolchain
 	@tools/script/run "$(SCRIPT)" $(WORDS)
@@ -36,6 +37,7 @@ test: toolchain
 	@tools/memory/creating > /dev/null
 	@tools/memory/keeper > /dev/null
 	@tools/memory/options > /dev/null
+	@tools/large/run crates/fkv/out/fkv > /dev/null
 
 fkv: toolchain
 	@tools/script/prove
@@ -53,6 +55,9 @@ memory: fkv
 	tools/memory/creating
 	tools/memory/keeper
 	tools/memory/options
+
+large: fkv
+	tools/large/run build/fkv
 
 bench: fkv
 	cd crates/fkv_opening_tests && rt test > /dev/null

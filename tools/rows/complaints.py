@@ -35,6 +35,15 @@ SIZES = [
     ("11 6 4 2 1 0 0", "K, the bucket bits, is 11, and has to be from 0 to 10"),
 ]
 
+LARGE_SIZES = [
+    ("25 16 4 2 1 0 64", "the size K, the bucket bits, is 25, and has to be from 0 to 24"),
+    ("11 131072 4 2 1 0 64", "the size P, the records of a page, is 131072, and has to be a power of two from 4 to 65536"),
+    ("11 16 8192 2 1 0 64", "the size F, the frames, is 8192, and has to be a power of two from 2 to 4096"),
+    ("11 16 4 2 1 16777217 64", "the size O, the overflow buckets, is 16777217, and has to be from 0 to 16777216"),
+    ("11 16 4 2 1 0 1073741825", "the size D, the pages on the device, is 1073741825, and has to be from 1 to 1073741824"),
+    ("4 16 4 2 1 0 64", "the sizes are those of a small store, which a line of the word shape makes"),
+]
+
 SESSION = "up, del, add, max, get, refresh, poll, sleep or wake"
 HEAD = "a session's number, k, crash or fail"
 
@@ -81,6 +90,7 @@ TAKEN = [
     (b"\0" * 20, NEW_FRONT),
     (b"\0" * 1536 + TEXT, NEW_FRONT + TEXT),
     (b"FKVSTOR1" + b"\1" * 2000, NEW_FRONT + b"\1" * 472),
+    (b"FKVSTOR2" + b"\1" * 2000, NEW_FRONT + b"\1" * 472),
 ]
 
 
@@ -93,13 +103,15 @@ def complaints():
         yield complained(f"the words {words}", "", "options\n", 2, complaint + WORDS, words=words)
     for sizes, complaint in SIZES:
         yield complained(f"the sizes {sizes}", f"shape {sizes}\n", "refused 1 BadShape\n", 2, f"the size {complaint}")
+    for sizes, complaint in LARGE_SIZES:
+        yield complained(f"the sizes {sizes} of a large store", f"large {sizes}\n", "refused 1 BadShape\n", 2, complaint)
     for line, kind, complaint in LINES:
         yield complained(f"the line {line}", f"{SHAPE}\n{line}\n", f"script line 2 {kind}\n", 2, f"line 2 of the script: {complaint}")
     for line, complaint in LINES_OF_FILE:
         script = f"{SHAPE}\n{line}\n"
         yield complained(f"the line {line} over a file", script, "script line 2 Mode\n", 2, f"line 2 of the script: {complaint}", words=tuple(FILE.split()), left=None)
     first = "line 1 of the script: "
-    yield complained("no opening", "0 get 1\n", "script line 1 Order\n", 2, f'{first}"0" opens no store, and the first line has to: shape or open')
+    yield complained("no opening", "0 get 1\n", "script line 1 Order\n", 2, f'{first}"0" opens no store, and the first line has to: shape, large or open')
     yield complained("an opening in memory", "open\n", "script line 1 Mode\n", 2, f'{first}"open" needs a store in a file: --file PATH')
     yield complained("too many lines", "\n" * 65536 + "#", "script line 65537 Size\n", 2, "line 65537 of the script: a script has at most 65536 lines")
     yield complained("a folder", "open\n", "refused 14 Device\n", 3, 'the file "." can\'t be opened: Is a directory (os error 21)', words=("--file", "."))

@@ -42,6 +42,10 @@ LINES = [
     (SHAPE + "crash 0 x\n", "2 Count"),
     (SHAPE + "fail\n", "2 Count"),
     ("shape 4 16 4 2 1 0\n", "1 Count"),
+    ("large 11 16 4 2 1 0\n", "1 Count"),
+    ("large 11 16 4 2 1 0 x\n", "1 Number"),
+    (SHAPE + "large 11 16 4 2 1 0 64\n", "2 Order"),
+    ("Large 11 16 4 2 1 0 64\n", "1 Order"),
     ("shape 4 2 1 3 2 k\n", "1 Count"),
     ("open 1\n", "1 Count"),
     (SHAPE + "0x up 1 2\n", "2 Number"),
@@ -97,6 +101,22 @@ SHAPES = [
     "4 16 4 2 1 0 0",
     "4 16 4 2 1 0 65537",
     "18446744073709551615 16 4 2 1 0 64",
+]
+
+# sizes behind `large`: each outside of its limits, and those of a small store
+LARGE = [
+    "25 16 4 2 1 0 64",
+    "11 6 4 2 1 0 64",
+    "11 131072 4 2 1 0 64",
+    "11 16 8192 2 1 0 64",
+    "11 16 4 4 1 0 64",
+    "11 16 4 2 33 0 64",
+    "11 16 4 2 1 16777217 64",
+    "11 16 4 2 1 0 0",
+    "11 16 4 2 1 0 1073741825",
+    "4 16 4 2 1 0 64",
+    "10 1024 64 63 32 1024 65536",
+    "11 16 4 2 0 0 64",
 ]
 
 WORDS = [
@@ -157,6 +177,7 @@ def refused():
     over_file = ("--file", STORE)
     yield from (Row(f"script line {fault} over a file", it, f"script line {fault}\n", 2, over_file, left=None) for it, fault in LINES_OF_FILE)
     yield from (Row(f"shape {sizes}", f"shape {sizes}\n0 get 1\n", "refused 1 BadShape\n", 2) for sizes in SHAPES)
+    yield from (Row(f"large {sizes}", f"large {sizes}\n0 get 1\n", "refused 1 BadShape\n", 2) for sizes in LARGE)
     # before the script is looked at
     yield from (Row(f"the words {words}", "0 up\n", "options\n", 2, words) for words in WORDS)
     yield from (Row(f"the words {words}", SHAPE + "0 get 1\n", "0 get 1 absent\n", 0, words) for words in ACCEPTED)

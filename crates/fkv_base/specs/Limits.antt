@@ -13,34 +13,57 @@ max_pending = 64
 abbrev pub drain_slots : ℕ
 drain_slots = 8
 
--- at most 2^10 buckets, so many overflow buckets, and pages of the log on the device
+-- at most 2^24 buckets, as many overflow buckets, and 2^30 pages of the log on the device
 abbrev pub max_bucket_bits : ℕ
-max_bucket_bits = 10
+max_bucket_bits = 24
 
 abbrev pub max_buckets : ℕ
-max_buckets = 1024
+max_buckets = 16777216
 
 abbrev pub max_overflow : ℕ
-max_overflow = 1024
+max_overflow = 16777216
+
+-- the slots of them all, seven each
+abbrev pub most_slots : ℕ
+most_slots = 234881024
 
 abbrev pub max_disk_pages : ℕ
-max_disk_pages = 65536
+max_disk_pages = 1073741824
 
--- the records of a page, the frames, and the records that all frames hold together
+-- the records of a page, the frames, the records that all frames hold together, at most 2^28, and those of the log, at most 2^46
 abbrev pub min_page : ℕ
 min_page = 4
 
 abbrev pub max_page : ℕ
-max_page = 1024
+max_page = 65536
 
 abbrev pub min_frames : ℕ
 min_frames = 2
 
 abbrev pub max_frames : ℕ
-max_frames = 64
+max_frames = 4096
 
 abbrev pub max_ring : ℕ
-max_ring = 65536
+max_ring = 268435456
+
+abbrev pub max_log : ℕ
+max_log = 70368744177664
+
+-- what a small store has of these at most
+abbrev pub small_bucket_bits : ℕ
+small_bucket_bits = 10
+
+abbrev pub small_page : ℕ
+small_page = 1024
+
+abbrev pub small_frames : ℕ
+small_frames = 64
+
+abbrev pub small_overflow : ℕ
+small_overflow = 1024
+
+abbrev pub small_disk_pages : ℕ
+small_disk_pages = 65536
 
 -- the last version, and the last serial of a session
 abbrev pub last_version : ℕ
@@ -75,3 +98,16 @@ abbrev pub is_shape : ℕ → ℕ → ℕ → ℕ → ℕ → ℕ → ℕ → Bo
 is_shape bucket_bits page frames mutable sessions overflow disk_pages =
     nat_le bucket_bits max_bucket_bits && is_ring_size page min_page max_page && is_ring_size frames min_frames max_frames && nat_le 1 mutable && nat_lt mutable frames
     && nat_le 1 sessions && nat_le sessions max_sessions && nat_le overflow max_overflow && nat_le 1 disk_pages && nat_le disk_pages max_disk_pages
+
+-- a shape is small if none of five sizes is above what a small store has
+pub record IsSmall (bucket_bits page frames overflow disk_pages : ℕ) : Type 0 where
+  pub small_buckets : bucket_bits ≤ small_bucket_bits
+  pub small_pages : page ≤ small_page
+  pub small_ring : frames ≤ small_frames
+  pub small_chains : overflow ≤ small_overflow
+  pub small_disk : disk_pages ≤ small_disk_pages
+
+-- the same as a test
+abbrev pub is_small : ℕ → ℕ → ℕ → ℕ → ℕ → Bool
+is_small bucket_bits page frames overflow disk_pages =
+    nat_le bucket_bits small_bucket_bits && nat_le page small_page && nat_le frames small_frames && nat_le overflow small_overflow && nat_le disk_pages small_disk_pages

@@ -1,37 +1,108 @@
 //! How large a store is.
-ghost use Rattle.std.specs.Prelude.{◌≡◌, ◌↔◌, ℕ, IsOk, is_ok, IfOk, OnErr, Err};
-ghost use Rattle.fkv_base.specs.Limits.{IsShape, is_ring_size, is_shape};
+ghost use Rattle.std.specs.Prelude.{◌≡◌, ◌↔◌, ℕ, IsOk, is_ok, IfOk, OnErr, Err, ◌&&◌, not};
+ghost use Rattle.fkv_base.specs.Limits.{IsShape, IsSmall, is_ring_size, is_shape, is_small};
 ghost use Rattle.fkv_base.specs.declared.faults.Fault.TheVariants.{BadShape};
 
 use crate::faults::Fault;
 use crate::limits::{
     MAX_BUCKET_BITS, MAX_DISK_PAGES, MAX_FRAMES, MAX_OVERFLOW, MAX_PAGE, MAX_SESSIONS, MIN_FRAMES,
-    MIN_PAGE,
+    MIN_PAGE, SMALL_BUCKET_BITS, SMALL_DISK_PAGES, SMALL_FRAMES, SMALL_OVERFLOW, SMALL_PAGE,
 };
 
-/// The seven sizes of a store, each within its limits.
+/// The seven sizes of a store, each within its limits. A store is small or large: `new` makes the small shapes, `large` the others.
 #[derive(Clone, Copy, Debug, PartialEq, Eq)]
 pub struct Shape {
-    /// The index has 2^bucket_bits buckets; 0 to 10.
+    /// The index has 2^bucket_bits buckets; 0 to 10, of a large store 0 to 24.
     pub bucket_bits: u64,
-    /// Records in a page, a power of two from 4 to 1024.
+    /// Records in a page, a power of two from 4 to 1024, of a large store to 65,536.
     pub page: u64,
-    /// Frames of the ring in memory, a power of two from 2 to 64.
+    /// Frames of the ring in memory, a power of two from 2 to 64, of a large store to 4,096.
     pub frames: u64,
     /// Pages that stay mutable, 1 to frames - 1.
     pub mutable: u64,
     /// Sessions, 1 to 32.
     pub sessions: u64,
-    /// Overflow buckets, 0 to 1024.
+    /// Overflow buckets, 0 to 1024, of a large store to 2^24.
     pub overflow: u64,
-    /// Pages that the log may have on the device, 1 to 65536.
+    /// Pages that the log may have on the device, 1 to 65,536, of a large store to 2^30.
     pub disk_pages: u64,
     ghost limits: { IsShape bucket_bits page frames mutable sessions overflow disk_pages },
 }
 
 impl Shape {
-    /// The shape of these sizes, or `BadShape` where one of them is outside its limits.
+    /// The small shape of these sizes, or `BadShape` where one of them is outside the limits of small stores.
     pub fn new(
+        bucket_bits: u64,
+        page: u64,
+        frames: u64,
+        mutable: u64,
+        sessions: u64,
+        overflow: u64,
+        disk_pages: u64,
+    ) -> Result<Shape, Fault>
+        ensures accepted { IsOk result ↔ (IsShape bucket_bits page frames mutable sessions overflow disk_pages × IsSmall bucket_bits page frames overflow disk_pages) }
+        ensures tested { is_ok result ≡ (is_shape bucket_bits page frames mutable sessions overflow disk_pages && is_small bucket_bits page frames overflow disk_pages) }
+        ensures bucket_bits { IfOk result (λ shape. shape.bucket_bits ≡ bucket_bits) }
+        ensures page { IfOk result (λ shape. shape.page ≡ page) }
+        ensures frames { IfOk result (λ shape. shape.frames ≡ frames) }
+        ensures mutable { IfOk result (λ shape. shape.mutable ≡ mutable) }
+        ensures sessions { IfOk result (λ shape. shape.sessions ≡ sessions) }
+        ensures overflow { IfOk result (λ shape. shape.overflow ≡ overflow) }
+        ensures disk_pages { IfOk result (λ shape. shape.disk_pages ≡ disk_pages) }
+        ensures refused { OnErr result (result ≡ Err BadShape) }
+    {
+        if !is_small(bucket_bits, page, frames, overflow, disk_pages) {
+            return Err(Fault::BadShape);
+        }
+        Shape::within(
+            bucket_bits,
+            page,
+            frames,
+            mutable,
+            sessions,
+            overflow,
+            disk_pages,
+        )
+    }
+
+    /// The large shape of these sizes. `BadShape` where one of them is outside the limits of large stores, and where the sizes are
+    /// those of a small store: so each shape is made by one of the two calls alone.
+    pub fn large(
+        bucket_bits: u64,
+        page: u64,
+        frames: u64,
+        mutable: u64,
+        sessions: u64,
+        overflow: u64,
+        disk_pages: u64,
+    ) -> Result<Shape, Fault>
+        ensures accepted { IsOk result ↔ (IsShape bucket_bits page frames mutable sessions overflow disk_pages × (IsSmall bucket_bits page frames overflow disk_pages → ⊥)) }
+        ensures tested { is_ok result ≡ (is_shape bucket_bits page frames mutable sessions overflow disk_pages && not (is_small bucket_bits page frames overflow disk_pages)) }
+        ensures bucket_bits { IfOk result (λ shape. shape.bucket_bits ≡ bucket_bits) }
+        ensures page { IfOk result (λ shape. shape.page ≡ page) }
+        ensures frames { IfOk result (λ shape. shape.frames ≡ frames) }
+        ensures mutable { IfOk result (λ shape. shape.mutable ≡ mutable) }
+        ensures sessions { IfOk result (λ shape. shape.sessions ≡ sessions) }
+        ensures overflow { IfOk result (λ shape. shape.overflow ≡ overflow) }
+        ensures disk_pages { IfOk result (λ shape. shape.disk_pages ≡ disk_pages) }
+        ensures refused { OnErr result (result ≡ Err BadShape) }
+    {
+        if is_small(bucket_bits, page, frames, overflow, disk_pages) {
+            return Err(Fault::BadShape);
+        }
+        Shape::within(
+            bucket_bits,
+            page,
+            frames,
+            mutable,
+            sessions,
+            overflow,
+            disk_pages,
+        )
+    }
+
+    /// The shape of these sizes, small or large, or `BadShape` where one of them is outside the limits of large stores.
+    fn within(
         bucket_bits: u64,
         page: u64,
         frames: u64,
@@ -74,6 +145,19 @@ impl Shape {
             disk_pages,
         })
     }
+
+    /// Whether it is a shape that `new` makes: a small store's image begins with another text than a large one's.
+    pub fn is_small(self) -> bool
+        ensures { result ≡ is_small self.bucket_bits self.page self.frames self.overflow self.disk_pages }
+    {
+        is_small(
+            self.bucket_bits,
+            self.page,
+            self.frames,
+            self.overflow,
+            self.disk_pages,
+        )
+    }
 }
 
 /// Whether a size is a power of two within two bounds.
@@ -81,4 +165,15 @@ fn is_ring_size(size: u64, least: u64, most: u64) -> bool
     ensures { result ≡ is_ring_size size least most }
 {
     size.is_power_of_two() && least <= size && size <= most
+}
+
+/// Whether none of five sizes is above what a small store has.
+fn is_small(bucket_bits: u64, page: u64, frames: u64, overflow: u64, disk_pages: u64) -> bool
+    ensures { result ≡ is_small bucket_bits page frames overflow disk_pages }
+{
+    bucket_bits <= SMALL_BUCKET_BITS
+        && page <= SMALL_PAGE
+        && frames <= SMALL_FRAMES
+        && overflow <= SMALL_OVERFLOW
+        && disk_pages <= SMALL_DISK_PAGES
 }

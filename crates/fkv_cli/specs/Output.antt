@@ -3,7 +3,7 @@ use Rattle.std.specs.Prelude.{◌≡◌, ◌⊎◌, ◌*◌, ◌+◌, ℕ, Bool,
 use Rattle.fkv_base.specs.declared.numbers.Key.{Key}
 use Rattle.fkv_base.specs.declared.numbers.Value.{Value}
 use Rattle.fkv_base.specs.Fault.{script_fault_name}
-use Rattle.fkv_base.specs.Limits.{IsShape}
+use Rattle.fkv_base.specs.Limits.{IsShape, IsSmall}
 use Rattle.fkv_base.specs.declared.faults.Fault.{Fault}
 use Rattle.fkv_base.specs.declared.faults.Fault.TheVariants.{BadShape, Device}
 use Rattle.fkv_base.specs.declared.shapes.Shape.{Shape}
@@ -12,6 +12,8 @@ use Rattle.fkv_core.specs.Worlds.{WorldModel}
 use Rattle.fkv_core.specs.declared.events.Event.{Event}
 use Rattle.fkv_core.specs.declared.events.Told.{Told}
 use Rattle.fkv_lines.specs.Script.{LineFault, ScriptText, script_of}
+use Rattle.fkv_lines.specs.declared.scripts.Class.{Class}
+use Rattle.fkv_lines.specs.declared.scripts.Class.TheVariants.{Small, Large}
 use Rattle.fkv_lines.specs.declared.scripts.Line.{Line}
 use Rattle.fkv_lines.specs.declared.scripts.Mode.{Mode}
 use Rattle.fkv_lines.specs.declared.scripts.Mode.TheVariants as mode
@@ -61,8 +63,15 @@ pub record HasSizes (sizes : Sizes) (shape : Shape) : Type 0 where
   pub overflow : shape.overflow ≡ sizes.overflow
   pub disk_pages : shape.disk_pages ≡ sizes.disk_pages
 
+-- behind `shape` stand the sizes of a small store, and behind `large` those of a store that isn't small
+abbrev pub IsOfClass : Class → Type 0 → Type 0
+IsOfClass Small small = small
+IsOfClass Large small = small → ⊥
+
 abbrev pub AreSizes : Sizes → Type 0
-AreSizes sizes = IsShape sizes.bucket_bits sizes.page sizes.frames sizes.mutable sizes.sessions sizes.overflow sizes.disk_pages
+AreSizes sizes =
+    IsShape sizes.bucket_bits sizes.page sizes.frames sizes.mutable sizes.sessions sizes.overflow sizes.disk_pages
+    × IsOfClass sizes.class (IsSmall sizes.bucket_bits sizes.page sizes.frames sizes.overflow sizes.disk_pages)
 
 -- crashes are taken as the options say
 abbrev pub settings_of : Options → Settings

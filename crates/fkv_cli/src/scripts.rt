@@ -13,7 +13,7 @@ use crate::memory_runs::play_memory;
 use crate::store_files::Lockable;
 use fkv_base::{Fault, Shape};
 use fkv_disk::{Device, FileDisk};
-use fkv_lines::{Opening, Script, Sizes};
+use fkv_lines::{Class, Opening, Script, Sizes};
 use fkv_options::Options;
 use fkv_playing::{Breaks, Picks};
 use fkv_runs::{Crashes, Piece, pieces_of, write_text};
@@ -127,22 +127,34 @@ fn shape_of(sizes: Sizes) -> Result<Shape, Fault>
     ensures sized { IfOk result (HasSizes sizes) }
     ensures refused { IfErr result (λ fault. (¬ (AreSizes sizes)) × (fault ≡ BadShape)) }
 {
-    Shape::new(
-        sizes.bucket_bits,
-        sizes.page,
-        sizes.frames,
-        sizes.mutable,
-        sizes.sessions,
-        sizes.overflow,
-        sizes.disk_pages,
-    )
+    match sizes.class {
+        Class::Small => Shape::new(
+            sizes.bucket_bits,
+            sizes.page,
+            sizes.frames,
+            sizes.mutable,
+            sizes.sessions,
+            sizes.overflow,
+            sizes.disk_pages,
+        ),
+        Class::Large => Shape::large(
+            sizes.bucket_bits,
+            sizes.page,
+            sizes.frames,
+            sizes.mutable,
+            sizes.sessions,
+            sizes.overflow,
+            sizes.disk_pages,
+        ),
+    }
 }
 
 /// Tells which of these sizes is none of a shape.
 fn complain_of_sizes<E: Write>(complaints: &mut E, sizes: Sizes) {
-    let complaint = match SizeFault::of(sizes) {
-        Some(fault) => Complaint::SizeOutside(fault),
-        None => Complaint::SizesRefused,
+    let complaint = match (SizeFault::of(sizes), sizes.class) {
+        (Some(fault), _) => Complaint::SizeOutside(fault),
+        (None, Class::Large) => Complaint::SizesOfSmallStore,
+        (None, Class::Small) => Complaint::SizesRefused,
     };
     complain(complaints, complaint);
 }

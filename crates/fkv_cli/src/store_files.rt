@@ -9,8 +9,8 @@ use std::{fmt, io};
 /// The bytes of a store before its first area: the shape's block and two slots.
 const FRONT: usize = 1536;
 
-/// What a store's first bytes are.
-const STORE_TEXT: &[u8] = b"FKVSTOR1";
+/// What the first bytes of a store are, of a small one and of a large one.
+const STORE_TEXTS: [&[u8]; 2] = [b"FKVSTOR1", b"FKVSTOR2"];
 
 /// A file that one open handle can have alone.
 pub trait Lockable {
@@ -128,9 +128,13 @@ fn sync_folder<H: Files>(rt: &H, folder: &str) -> Result<(), Trouble> {
 fn may_hold_store<D: Device>(disk: &mut D) -> Result<bool, Trouble> {
     let mut front = [0; FRONT];
     match disk.read(0, &mut front) {
-        Ok(()) => Ok(front.starts_with(STORE_TEXT) || front.iter().all(|byte| *byte == 0)),
+        Ok(()) => Ok(begins_store(&front) || front.iter().all(|byte| *byte == 0)),
         Err(fault) => Err(Trouble::Fault(fault)),
     }
+}
+
+fn begins_store(front: &[u8]) -> bool {
+    front.starts_with(STORE_TEXTS[0]) || front.starts_with(STORE_TEXTS[1])
 }
 
 impl fmt::Display for Trouble {

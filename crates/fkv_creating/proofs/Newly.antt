@@ -1,6 +1,6 @@
 -- The image of a new store is told as new.
 use Rattle.std.proofs.Common.{◌≡◌, ℕ, zero, suc, ◌*◌, ◌≤◌, List, ◌∷◌, ◌++◌, length, drop, refl, sym, ◌∙◌, ap, arith}
-use Rattle.std.specs.Prelude.{Option, Some, None, codes, replicate, if◌then◌else◌, ◌==◌}
+use Rattle.std.specs.Prelude.{Option, Some, None, replicate, if◌then◌else◌, ◌==◌}
 use Rattle.std.specs.Int.{w64, from_le_bytes, to_le_bytes}
 use Rattle.std.proofs.lemmas.List.{get_or_append_left}
 use Rattle.std.proofs.lemmas.List.Concat.{flat_map-cons}
@@ -13,7 +13,7 @@ use Rattle.fkv_newest.specs.declared.newest_slots.Newest.{Newest}
 use Rattle.fkv_newest.specs.Newest.{IsNewestOf, slot_place}
 use Rattle.fkv_record.specs.declared.formats.Format.TheVariants.{Third}
 use Rattle.fkv_record.specs.declared.manifest_slots.ManifestSlot.{ManifestSlot}
-use Rattle.fkv_record.specs.Layout.{shape_bytes, size_numbers}
+use Rattle.fkv_record.specs.Layout.{shape_bytes, shape_text, size_numbers}
 use Rattle.fkv_record.specs.Manifest.{manifest_bytes, newest_bytes, newest_numbers, said_in, SlotSaid}
 use Rattle.fkv_record.specs.Numbers.{spelled}
 use Rattle.fkv_record.specs.Places.{open_number, number_at}
@@ -50,7 +50,7 @@ closed : (bytes : List ℕ) → byte_at bytes 0 ≡ 0 → open_number bytes ≡ 
 closed bytes gate = ap (λ (b : ℕ). if b == 165 then Some (number_at bytes 8) else None) gate
 
 pub long_block : (shape : Shape) → length (shape_bytes shape) ≡ 64
-long_block shape = ap length (shape_numbered.same shape) ∙ length-spelled (from_le_bytes w64 (codes "FKVSTOR1") ∷ size_numbers shape) ∙ ap (λ (n : ℕ). 8 * n) (shape_numbered.len shape)
+long_block shape = ap length (shape_numbered.same shape) ∙ length-spelled (from_le_bytes w64 (shape_text shape) ∷ size_numbers shape) ∙ ap (λ (n : ℕ). 8 * n) (shape_numbered.len shape)
 
 module _ (old : List ℕ) (n : Newest) (shape : Shape) (new : IsNew shape n) where
   block : List ℕ

@@ -29,33 +29,6 @@ equal_or_not a b = elim (truth (nat_eq a b)) [ inl e ↦ inl (by_true e) | inr e
     by_false : nat_eq a b ≡ false → a ≢ b
     by_false e = grind (arith, nat_tests)
 
--- a store has no more slots than any may have
-pub slots_few : (bits overflow : ℕ) → bits ≤ max_bucket_bits → overflow ≤ max_overflow → 7 * (2 ^ bits + overflow) ≤ all_slots
-slots_few bits overflow few_bits few_overflow =
-    let few : 2 ^ bits ≤ 2 ^ max_bucket_bits = pow_mono {i = bits} {j = max_bucket_bits} few_bits in omega (arith, few, few_overflow)
-
-eq_true : (a b : ℕ) → a ≡ b → nat_eq a b ≡ true
-eq_true a b h = grind (arith, nat_tests)
-
-eq_false : (a b : ℕ) → a ≢ b → nat_eq a b ≡ false
-eq_false a b h = grind (arith, nat_tests)
-
-abbrev word_of : HomeEntry → ℕ
-word_of x = entry_word x.entry
-
-words_step : (b : ℕ) (xs : List HomeEntry) (i : ℕ) (d : HomeEntry) → i < length xs
-    → bucket_words b (take (i + 1) xs) ≡ bucket_words b (take i xs) ++ map word_of (cond (nat_eq (let x = get_or xs i d in x.bucket) b) (get_or xs i d ∷ []) [])
-words_step b xs i d low = ap (map word_of) (filter_more (λ x. nat_eq x.bucket b) xs i d low) ∙ map-append word_of _ _
-
--- one entry more, of the bucket or of another
-pub words_with : (b : ℕ) (xs : List HomeEntry) (i : ℕ) (d : HomeEntry) → i < length xs → (let x = get_or xs i d in x.bucket ≡ b)
-    → bucket_words b (take (i + 1) xs) ≡ bucket_words b (take i xs) ++ word_of (get_or xs i d) ∷ []
-words_with b xs i d low same = words_step b xs i d low ∙ ap (λ t. bucket_words b (take i xs) ++ map word_of (cond t (get_or xs i d ∷ []) [])) (eq_true _ b same)
-
-pub words_without : (b : ℕ) (xs : List HomeEntry) (i : ℕ) (d : HomeEntry) → i < length xs → (let x = get_or xs i d in x.bucket ≢ b)
-    → bucket_words b (take (i + 1) xs) ≡ bucket_words b (take i xs)
-words_without b xs i d low other = words_step b xs i d low ∙ ap (λ t. bucket_words b (take i xs) ++ map word_of (cond t (get_or xs i d ∷ []) [])) (eq_false _ b other) ∙ append-nil _
-
 -- zeros for the empty slots
 pub zeros_taken : (n : ℕ) → n ≤ 7 → take {A = ℕ} n (replicate 7 0) ≡ replicate n 0
 zeros_taken zero few = refl
@@ -90,7 +63,7 @@ pub record IsFilling (buckets : ℕ) (entries : List HomeEntry) (words behind : 
   pub filled : words ≡ filled_by first_link 0 chains
   pub overflowed : behind ≡ filled_by other_links 0 chains
   pub all_taken : taken ≡ all_needed chains
-  pub few : taken ≤ 16384 * buckets
+  pub few : taken ≤ 33554432 * buckets
 
 -- one bucket more, with the words of its entries by tag
 pub filling_more : (b : ℕ) (entries : List HomeEntry) (words behind : List ℕ) (taken : ℕ) (c : List ℕ) → IsFilling b entries words behind taken → AreByTag (bucket_words b entries) c
@@ -116,7 +89,7 @@ filling_more b entries words behind taken c so_far by_tag few = record {
     last : get_or (so_far.chains ++ c ∷ []) b [] ≡ c
     last = ap (λ n. get_or (so_far.chains ++ c ∷ []) n []) (sym so_far.many) ∙ get_or-append_seam so_far.chains c [] []
 
-    small : needed (length c) ≤ 16384
+    small : needed (length c) ≤ 33554432
     small = omega (arith, few)
 
 pub behind_start : (index words : List ℕ) (taken : ℕ) → index ≡ index ++ links_behind words taken 0
@@ -134,10 +107,6 @@ behind_step start index index' words taken j so_far more =
     more ∙ ap (λ xs. xs ++ link_words words taken (j + 1)) so_far ∙ append_assoc start (links_behind words taken j) (link_words words taken (j + 1))
     ∙ ap (λ xs. start ++ xs) (subst (λ k. links_behind words taken j ++ link_words words taken k ≡ links_behind words taken k) next (sym (behind_more words taken j)))
 
--- the words of all entries
-pub words_whole : (b : ℕ) (xs : List HomeEntry) (i : ℕ) (ws : List ℕ) → length xs ≤ i → ws ≡ bucket_words b (take i xs) → ws ≡ bucket_words b xs
-words_whole b xs i ws all are = are ∙ ap (bucket_words b) (take_all i xs all)
-
 -- the words of a bucket, pushed in three parts
 pub eight_pushed : (index words : List ℕ) (next slots : ℕ) (one two three : List ℕ) → slots ≡ min 7 (length words) → one ≡ index ++ take slots words → two ≡ one ++ take (7 - slots) (replicate 7 0)
     → three ≡ two ++ next ∷ [] → three ≡ index ++ eight_words words next
@@ -154,7 +123,7 @@ eight_pushed index words next slots one two three is first second third =
 pub link_in_words : (n j : ℕ) → j < needed n → 7 * (j + 1) ≤ n
 link_in_words n j low = omega (arith, low)
 
-pub needed_few : (n : ℕ) → n ≤ all_slots → needed n ≤ 16384
+pub needed_few : (n : ℕ) → n ≤ all_slots → needed n ≤ 33554432
 needed_few n few = omega (arith, few)
 
 pub filling_none : (entries : List HomeEntry) → IsFilling 0 entries [] [] 0
@@ -190,6 +159,3 @@ filling_done buckets overflow entries words behind words' taken done all = recor
   all_taken = done.all_taken;
 }
 
--- a bucket has no more words than there are entries
-pub bucket_few : (b : ℕ) (xs : List HomeEntry) → length (bucket_words b xs) ≤ length xs
-bucket_few b xs = omega (arith, length-map (filter (λ x. nat_eq x.bucket b) xs) word_of, length-filter (λ x. nat_eq x.bucket b) xs, count_by-le-length (λ x. nat_eq x.bucket b) xs)

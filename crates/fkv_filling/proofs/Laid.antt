@@ -3,6 +3,7 @@ use Rattle.std.proofs.Common.{◌≡◌, inl, inr, ℕ, Bool, zero, suc, ◌+◌
 use Rattle.std.specs.Prelude.{nat_lt, if◌then◌else◌}
 use Rattle.std.proofs.lemmas.List.{get_or_past}
 use Rattle.std.proofs.lemmas.Bool.Decides.{nat_tests}
+use Rattle.fkv_base.specs.Limits.{max_overflow}
 use Rattle.fkv_index.specs.Slots.{entry_tag, entry_addr, link_of}
 use Rattle.fkv_index.specs.Buckets.{overflow_bucket, IsLinked, IsAmong, AreFilled, HasOneEntry, IsMember, IsOnce}
 use Rattle.fkv_index.specs.OneEntry.{Owner, Nobody, ListedAt}
@@ -22,7 +23,7 @@ pub record IsLaid (buckets overflow taken : ℕ) (chain : ℕ → List ℕ) (bel
   pub step : (b : ℕ) → below (suc b) ≡ below b + needed (length (chain b))
   pub all : below buckets ≡ taken
   pub room : taken ≤ overflow
-  pub small : overflow ≤ 1024
+  pub small : overflow ≤ max_overflow
   pub bucket : (b i : ℕ) → b < buckets → i < 8 → g b i ≡ get_or (link_words (chain b) (below b) 0) i 0
   pub behind : (b j i : ℕ) → b < buckets → j < needed (length (chain b)) → i < 8 → g (buckets + (below b + j)) i ≡ get_or (link_words (chain b) (below b) (suc j)) i 0
   pub nothing : (n i : ℕ) → taken ≤ n → n < overflow → i < 8 → g (buckets + n) i ≡ 0

@@ -1,6 +1,7 @@
 mod EntriesFound
 mod FilledBuckets
 mod FilledIndex
+mod Grouped
 mod Laid
 mod Opening
 mod Positions

@@ -1,7 +1,9 @@
 -- The index that a store opens with: the buckets are filled upwards, each with its homes by tag, seven to a bucket, and overflow buckets are taken in
 -- order by the buckets that need them.
-use Rattle.std.specs.Prelude.{◌≡◌, ℕ, zero, suc, ◌+◌, ◌-◌, ◌*◌, ◌<◌, List, [], ◌∷◌, ◌++◌, length, take, drop, replicate, slice_index_or, nat_lt, if◌then◌else◌}
-use Rattle.std.specs.List.Sorted.{IsPermutation, IsNonDecreasing}
+use Rattle.std.specs.Prelude.{◌≡◌, ℕ, zero, suc, ◌+◌, ◌-◌, ◌*◌, ◌<◌, List, [], ◌∷◌, ◌++◌, length, take, drop, replicate, slice_index_or, nat_eq, nat_lt, map, if◌then◌else◌}
+use Rattle.std.specs.List.Sorted.{IsPermutation, IsNonDecreasing, IsNonDecreasingBy}
+use Rattle.std.specs.List.{take_while}
+use Rattle.fkv_words.specs.Layout.{entry_word}
 use Rattle.fkv_base.specs.Limits.{max_buckets, max_overflow}
 use Rattle.fkv_entries.specs.Room.{needed, bucket_words}
 use Rattle.fkv_entries.specs.declared.home_entries.HomeEntry.{HomeEntry}
@@ -9,6 +11,16 @@ use Rattle.fkv_entries.specs.declared.home_entries.HomeEntry.{HomeEntry}
 -- the slots of all buckets that a store may have, seven each
 abbrev pub all_slots : ℕ
 all_slots = 7 * (max_buckets + max_overflow)
+
+-- the entries, those of lower buckets first, and those of one bucket in their order
+pub record AreByBucket (entries grouped : List HomeEntry) : Type 0 where
+  pub same : (bucket : ℕ) → bucket_words bucket grouped ≡ bucket_words bucket entries
+  pub many : length grouped ≡ length entries
+  pub ascending : IsNonDecreasingBy (λ x. x.bucket) grouped
+
+-- the words of the entries in a bucket, up to the first entry in another
+abbrev pub first_words : ℕ → List HomeEntry → List ℕ
+first_words bucket entries = map (λ x. entry_word x.entry) (take_while (λ x. nat_eq x.bucket bucket) entries)
 
 -- The same words ascending. A tag counts for more than an address in a word, so these are the homes by tag.
 pub record AreByTag (words sorted : List ℕ) : Type 0 where

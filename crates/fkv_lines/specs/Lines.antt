@@ -5,6 +5,8 @@ use Rattle.std.specs.Char.{is_ascii_digit}
 use Rattle.fkv_base.specs.declared.faults.ScriptFault.{ScriptFault}
 use Rattle.fkv_base.specs.declared.faults.ScriptFault.TheVariants as fault
 use Rattle.fkv_commit.specs.declared.commits.CommitKind.TheVariants.{Full, Log}
+use Rattle.fkv_lines.specs.declared.scripts.Class.{Class}
+use Rattle.fkv_lines.specs.declared.scripts.Class.TheVariants.{Small, Large}
 use Rattle.fkv_lines.specs.declared.scripts.Line.{Line}
 use Rattle.fkv_lines.specs.declared.scripts.Line.TheVariants.{Call, Commit, Turn, Finish, Crash, CrashAt, FailAt}
 use Rattle.fkv_lines.specs.declared.scripts.Mode.{Mode}
@@ -17,28 +19,29 @@ use Rattle.fkv_lines.specs.Calls.{alone, call_of}
 
 -- ---- the line that opens the store
 
--- `shape K P F M S O D` has the seven sizes in this order
-abbrev pub sizes_of : List ℕ → Sizes
-sizes_of n = record { bucket_bits = slice_index n 0; page = slice_index n 1; frames = slice_index n 2; mutable = slice_index n 3; sessions = slice_index n 4; overflow = slice_index n 5; disk_pages = slice_index n 6 }
+-- `shape K P F M S O D` and `large K P F M S O D` have the seven sizes in this order
+abbrev pub sizes_of : Class → List ℕ → Sizes
+sizes_of class n = record { class = class; bucket_bits = slice_index n 0; page = slice_index n 1; frames = slice_index n 2; mutable = slice_index n 3; sessions = slice_index n 4; overflow = slice_index n 5; disk_pages = slice_index n 6 }
 
--- behind `shape` stand the sizes
-unfoldable pub shape_line : List (List ℕ) → Result Opening ScriptFault
-shape_line words = arguments_of 7 words >>= λ n. Ok (Shape (sizes_of n))
+-- behind `shape` and `large` stand the sizes
+unfoldable pub shape_line : Class → List (List ℕ) → Result Opening ScriptFault
+shape_line class words = arguments_of 7 words >>= λ n. Ok (Shape (sizes_of class n))
 
 -- `open` stands alone, and only a store in a file can be opened
 unfoldable pub open_line : Mode → List (List ℕ) → Result Opening ScriptFault
 open_line Memory words = alone words Open >>= λ said. Err fault.Mode
 open_line File words = alone words Open
 
--- the words `shape` and `open` open a store, and stand in the first line that says something, and there alone
+-- the words `shape`, `large` and `open` open a store, and stand in the first line that says something, and there alone
 abbrev pub is_opening : List ℕ → Bool
-is_opening head = bytes_eq head (codes "shape") || bytes_eq head (codes "open")
+is_opening head = bytes_eq head (codes "shape") || bytes_eq head (codes "large") || bytes_eq head (codes "open")
 
--- the first line that says something: `shape` and seven numbers, or `open`
+-- the first line that says something: `shape` or `large` and seven numbers, or `open`
 unfoldable pub opening_line : Mode → List (List ℕ) → Result Opening ScriptFault
 opening_line mode [] = Err fault.Order
 opening_line mode (head ∷ words) =
-    if bytes_eq head (codes "shape") then shape_line words
+    if bytes_eq head (codes "shape") then shape_line Small words
+    else if bytes_eq head (codes "large") then shape_line Large words
     else if bytes_eq head (codes "open") then open_line mode words
     else Err fault.Order
 

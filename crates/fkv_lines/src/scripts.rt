@@ -11,9 +11,19 @@ pub enum Mode {
     File,
 }
 
-/// The sizes of a `shape` line, in its order, each below 2^64 and not yet judged.
+/// Which limits the sizes of a store have.
+#[derive(Clone, Copy, Debug, PartialEq, Eq)]
+pub enum Class {
+    /// Those of small stores: the line begins with `shape`.
+    Small,
+    /// Those of large stores: the line begins with `large`.
+    Large,
+}
+
+/// The sizes of a `shape` or a `large` line, in its order, each below 2^64 and not yet judged.
 #[derive(Clone, Copy, Debug, PartialEq, Eq)]
 pub struct Sizes {
+    pub class: Class,
     pub bucket_bits: u64,
     pub page: u64,
     pub frames: u64,
@@ -26,7 +36,7 @@ pub struct Sizes {
 /// The first line of a script that says something: where its store comes from.
 #[derive(Clone, Copy, Debug, PartialEq, Eq)]
 pub enum Opening {
-    /// `shape K P F M S O D`: a new store of these sizes.
+    /// `shape K P F M S O D` or `large K P F M S O D`: a new store of these sizes.
     Shape(Sizes),
     /// `open`: the store that the file holds.
     Open,

@@ -2,7 +2,7 @@
 use Rattle.std.proofs.Common.{◌≡◌, ℕ, ◌<◌, ◌≤◌, ◌*◌, ◌^◌, List, arith}
 use Rattle.std.proofs.Math.Nat.{mul-le-mul}
 use Rattle.fkv_base.proofs.Shown.{ring_between}
-use Rattle.fkv_base.specs.Limits.{min_page, max_page}
+use Rattle.fkv_base.specs.Limits.{min_page, max_page, max_disk_pages}
 use Rattle.fkv_base.specs.declared.faults.Fault.{Fault}
 use Rattle.fkv_base.specs.declared.faults.Fault.TheVariants as fault
 use Rattle.fkv_base.specs.declared.faults.Damage.TheVariants as damage
@@ -20,9 +20,9 @@ use Rattle.fkv_opening.specs.Faults.{IsLogFault, of_room, IsFaultOf, of_newest, 
 -- a log is shorter than what an address can name
 pub log_short : (s : Shape) (end : ℕ) → end ≤ s.disk_pages * s.page → end < 2 ^ 48
 log_short s end on_disk =
-    let page : s.page ≤ 1024 = (ring_between s.page min_page max_page s.limits.page_size).1 in
-    let disk : s.disk_pages ≤ 65536 = s.limits.few_disk in
-    let most : s.disk_pages * s.page ≤ 65536 * 1024 = mul-le-mul disk page in
+    let page : s.page ≤ max_page = (ring_between s.page min_page max_page s.limits.page_size).1 in
+    let disk : s.disk_pages ≤ max_disk_pages = s.limits.few_disk in
+    let most : s.disk_pages * s.page ≤ max_disk_pages * max_page = mul-le-mul disk page in
     omega (arith, on_disk, most)
 
 -- by the room

@@ -1,6 +1,7 @@
 mod ManifestApart
 mod ManifestBytes
 mod ManifestSections
+mod PlacesFit
 mod PointApart
 mod PointPlaces
 mod RangePlaces

@@ -1,15 +1,19 @@
 //! The block that begins an image.
 ghost use Rattle.std.specs.Prelude.{◌≡◌};
+ghost use Rattle.std.specs.Int.{w64, from_le_bytes};
 ghost use Rattle.fkv_words.specs.Fields.{Reads};
-ghost use Rattle.fkv_record.specs.Layout.{shape_bytes};
+ghost use Rattle.fkv_record.specs.Layout.{shape_bytes, shape_text};
 
 use crate::numbers::{numbers, spell};
 use fkv_base::Shape;
 
-/// The text that begins every image.
-const TEXT: [u8; 8] = *b"FKVSTOR1";
+/// The text that begins the image of a small store.
+const SMALL_TEXT: [u8; 8] = *b"FKVSTOR1";
+/// The text that begins the image of a large store.
+const LARGE_TEXT: [u8; 8] = *b"FKVSTOR2";
 
-/// The shape that the bytes spell, if they spell one: the text, and seven sizes of eight bytes within their limits.
+/// The shape that the bytes spell, if they spell one: the text of small stores, or that of large ones, and seven sizes of eight bytes
+/// that such a store may have.
 pub fn read_shape(bytes: &[u8; 64]) -> Option<Shape>
     ensures { Reads shape_bytes bytes.now result }
 {
@@ -23,19 +27,31 @@ pub fn read_shape(bytes: &[u8; 64]) -> Option<Shape>
         overflow,
         disk_pages,
     ] = numbers::<8>(bytes);
-    if text != u64::from_le_bytes(TEXT) {
-        return None;
+    if text == u64::from_le_bytes(SMALL_TEXT) {
+        return Shape::new(
+            bucket_bits,
+            page,
+            frames,
+            mutable,
+            sessions,
+            overflow,
+            disk_pages,
+        )
+        .ok();
     }
-    Shape::new(
-        bucket_bits,
-        page,
-        frames,
-        mutable,
-        sessions,
-        overflow,
-        disk_pages,
-    )
-    .ok()
+    if text == u64::from_le_bytes(LARGE_TEXT) {
+        return Shape::large(
+            bucket_bits,
+            page,
+            frames,
+            mutable,
+            sessions,
+            overflow,
+            disk_pages,
+        )
+        .ok();
+    }
+    None
 }
 
 /// The bytes of the shape.
@@ -44,7 +60,7 @@ pub fn write_shape(shape: Shape) -> [u8; 64]
     ensures { result ≡ shape_bytes shape }
 {
     spell(&[
-        u64::from_le_bytes(TEXT),
+        text_of(shape),
         shape.bucket_bits,
         shape.page,
         shape.frames,
@@ -53,4 +69,15 @@ pub fn write_shape(shape: Shape) -> [u8; 64]
         shape.overflow,
         shape.disk_pages,
     ])
+}
+
+/// The text that begins the image of a store of this shape, as one number.
+fn text_of(shape: Shape) -> u64
+    ensures { result ≡ from_le_bytes w64 (shape_text shape) }
+{
+    if shape.is_small() {
+        u64::from_le_bytes(SMALL_TEXT)
+    } else {
+        u64::from_le_bytes(LARGE_TEXT)
+    }
 }

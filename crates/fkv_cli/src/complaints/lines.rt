@@ -85,7 +85,7 @@ fn count_words(line: &[u8]) -> usize {
 }
 
 fn is_opening(head: &[u8]) -> bool {
-    matches!(head, b"shape" | b"open")
+    matches!(head, b"shape" | b"large" | b"open")
 }
 
 fn is_session(head: &[u8]) -> bool {
@@ -115,7 +115,7 @@ fn wrong_count<'a>(line: &'a [u8], head: &'a [u8]) -> LineFault<'a> {
     let given = count_words(line).saturating_sub(place).saturating_sub(1);
     let takes = match verb {
         b"" => "a verb",
-        b"shape" => "seven numbers",
+        b"shape" | b"large" => "seven numbers",
         b"crash" => "the number of a call or nothing",
         b"fail" => "the number of a call",
         b"commit" => "log or nothing",
@@ -168,7 +168,7 @@ impl fmt::Display for LineFault<'_> {
             LineFault::TooMany => write!(f, "a script has at most {MOST_LINES} lines"),
             LineFault::NoOpening(word) => write!(
                 f,
-                "{word} opens no store, and the first line has to: shape or open"
+                "{word} opens no store, and the first line has to: shape, large or open"
             ),
             LineFault::SecondOpening(word) => write!(
                 f,

@@ -1,9 +1,9 @@
 //! Sizes that are no shape's.
 use fkv_base::{
     MAX_BUCKET_BITS, MAX_DISK_PAGES, MAX_FRAMES, MAX_OVERFLOW, MAX_PAGE, MAX_SESSIONS, MIN_FRAMES,
-    MIN_PAGE,
+    MIN_PAGE, SMALL_BUCKET_BITS, SMALL_DISK_PAGES, SMALL_FRAMES, SMALL_OVERFLOW, SMALL_PAGE,
 };
-use fkv_lines::Sizes;
+use fkv_lines::{Class, Sizes};
 use std::fmt;
 
 /// The first size that is outside its limits.
@@ -38,15 +38,44 @@ impl SizeFault {
     }
 }
 
+/// What five of the sizes are at most.
+struct Most {
+    bucket_bits: u64,
+    page: u64,
+    frames: u64,
+    overflow: u64,
+    disk_pages: u64,
+}
+
+const MOST_SMALL: Most = Most {
+    bucket_bits: SMALL_BUCKET_BITS,
+    page: SMALL_PAGE,
+    frames: SMALL_FRAMES,
+    overflow: SMALL_OVERFLOW,
+    disk_pages: SMALL_DISK_PAGES,
+};
+
+const MOST_LARGE: Most = Most {
+    bucket_bits: MAX_BUCKET_BITS,
+    page: MAX_PAGE,
+    frames: MAX_FRAMES,
+    overflow: MAX_OVERFLOW,
+    disk_pages: MAX_DISK_PAGES,
+};
+
 /// The sizes by their names, with the limits of each.
 fn limited(sizes: Sizes) -> [(&'static str, u64, Limits); 7] {
-    let bucket_bits = within(0, MAX_BUCKET_BITS);
-    let page = power_of_two(MIN_PAGE, MAX_PAGE);
-    let frames = power_of_two(MIN_FRAMES, MAX_FRAMES);
+    let most = match sizes.class {
+        Class::Small => MOST_SMALL,
+        Class::Large => MOST_LARGE,
+    };
+    let bucket_bits = within(0, most.bucket_bits);
+    let page = power_of_two(MIN_PAGE, most.page);
+    let frames = power_of_two(MIN_FRAMES, most.frames);
     let mutable = within(1, sizes.frames.saturating_sub(1));
     let sessions = within(1, MAX_SESSIONS);
-    let overflow = within(0, MAX_OVERFLOW);
-    let disk_pages = within(1, MAX_DISK_PAGES);
+    let overflow = within(0, most.overflow);
+    let disk_pages = within(1, most.disk_pages);
     [
         ("K, the bucket bits,", sizes.bucket_bits, bucket_bits),
         ("P, the records of a page,", sizes.page, page),

@@ -5,11 +5,11 @@ ghost use Rattle.fkv_lines.specs.Lines.{is_opening, opening_line, shape_line, op
 
 use crate::reading::calls::{alone, call_of};
 use crate::reading::numbers::{arguments_of, number_of};
-use crate::scripts::{Line, Mode, Opening, Sizes};
+use crate::scripts::{Class, Line, Mode, Opening, Sizes};
 use fkv_base::ScriptFault;
 use fkv_commit::CommitKind;
 
-/// The first line that says something: `shape` and seven numbers, or `open`.
+/// The first line that says something: `shape` or `large` and seven numbers, or `open`.
 #[tactic(auto, unfolding(crate::specs::Lines::opening_line))]
 pub(super) fn opening_line(mode: Mode, words: &[&[u8]]) -> Result<Opening, ScriptFault>
     ensures { result ≡ opening_line mode (texts words.now) }
@@ -18,16 +18,17 @@ pub(super) fn opening_line(mode: Mode, words: &[&[u8]]) -> Result<Opening, Scrip
         return Err(ScriptFault::Order);
     };
     match *head {
-        b"shape" => shape_line(words),
+        b"shape" => shape_line(Class::Small, words),
+        b"large" => shape_line(Class::Large, words),
         b"open" => open_line(mode, words),
         _ => Err(ScriptFault::Order),
     }
 }
 
-/// What stands behind `shape`: seven numbers.
+/// What stands behind `shape` or `large`: seven numbers.
 #[tactic(auto, unfolding(crate::specs::Lines::shape_line))]
-fn shape_line(words: &[&[u8]]) -> Result<Opening, ScriptFault>
-    ensures { result ≡ shape_line (texts words.now) }
+fn shape_line(class: Class, words: &[&[u8]]) -> Result<Opening, ScriptFault>
+    ensures { result ≡ shape_line class (texts words.now) }
 {
     let [
         bucket_bits,
@@ -39,6 +40,7 @@ fn shape_line(words: &[&[u8]]) -> Result<Opening, ScriptFault>
         disk_pages,
     ] = arguments_of::<7>(words)?;
     Ok(Opening::Shape(Sizes {
+        class,
         bucket_bits,
         page,
         frames,
@@ -85,7 +87,7 @@ pub(super) fn later_line(mode: Mode, words: &[&[u8]]) -> Result<Line, ScriptFaul
 fn is_opening(head: &[u8]) -> bool
     ensures { result ≡ is_opening head.now }
 {
-    head == b"shape".as_slice() || head == b"open".as_slice()
+    head == b"shape".as_slice() || head == b"large".as_slice() || head == b"open".as_slice()
 }
 
 /// A line that a store in memory alone serves.

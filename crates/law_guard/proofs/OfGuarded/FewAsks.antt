@@ -2,7 +2,7 @@
 use Rattle.std.proofs.Common.{◌≡◌, ℕ, ◌+◌, ◌*◌, ◌-◌, ◌^◌, ◌<◌, ◌≤◌, ◌∙◌, refl, sym, ap, subst, arith, List, [], ◌∷◌, ◌++◌, Bool, true, false}
 use Rattle.std.specs.Prelude.{if◌then◌else◌, Option, Some, None, slice_get}
 use Rattle.std.proofs.Math.Nat.{mul-le-mul}
-use Rattle.fkv_base.specs.Limits.{max_frames, max_page, min_frames, min_page}
+use Rattle.fkv_base.specs.Limits.{max_frames, max_overflow, max_page, min_frames, min_page}
 use Rattle.fkv_base.specs.declared.shapes.Shape.{Shape}
 use Rattle.fkv_base.proofs.Shown.{ring_between}
 use Rattle.fkv_map.specs.declared.operations.Call.{Call}
@@ -144,5 +144,5 @@ shape_few shape =
     let page : shape.page ≤ max_page = (ring_between shape.page min_page max_page shape.limits.page_size).1 in
     few shape.overflow (shape.frames * shape.page) shape.limits.few_overflow (mul-le-mul frames page)
   where
-    few : (overflow ring : ℕ) → overflow ≤ 1024 → ring ≤ 65536 → 64 * (8 * (overflow + 1) + 2 * ring + 64) + 128 < 2 ^ 64 - 1
+    few : (overflow ring : ℕ) → overflow ≤ max_overflow → ring ≤ max_frames * max_page → 64 * (8 * (overflow + 1) + 2 * ring + 64) + 128 < 2 ^ 64 - 1
     few overflow ring low small = omega (arith, low, small)

@@ -1,7 +1,8 @@
 use Rattle.std.proofs.Common.{ap, length, subst, arith}
 use Rattle.std.specs.List.Sorted.{IsPermutation}
 use Rattle.std.proofs.lemmas.List.Sorted.{IsNonDecreasingBy-from_sort, length_permutation}
-use Rattle.fkv_filling.proofs.FilledBuckets.{bucket_few, slots_few}
+use Rattle.fkv_base.proofs.Shown.{slots_few}
+use Rattle.fkv_filling.proofs.Grouped.{first_few}
 use Rattle.fkv_filling.proofs.filling.sorted_words.Goals as goal
 
 pub returns-clause-ok : goal.returns-clause-ok
@@ -17,7 +18,7 @@ returns-clause-few c =
       arith,
       length_permutation c.in_ok-words.words.items c.sort.new.self.items c.in_ok-sort.ensures.permutation,
       ap length c.in_ok-words.ensures.ok,
-      bucket_few c.args.bucket c.args.entries.now,
+      first_few c.args.bucket c.args.entries.now,
       c.requires,
       slots_few shape.bucket_bits shape.overflow shape.limits.few_buckets shape.limits.few_overflow,
     )
