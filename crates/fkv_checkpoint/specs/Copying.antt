@@ -1,6 +1,6 @@
 -- How the index is copied into triples: for each bucket in order its slots and those of the overflow buckets that follow it. Behind the
 -- seventh slot the link is loaded; where none follows comes the next bucket.
-use Rattle.std.specs.Prelude.{ℕ, ◌+◌, ◌-◌, ◌*◌, ◌^◌, ◌<◌, ◌≤◌, ◌≡◌, ◌&&◌, nat_lt, nat_le, if◌then◌else◌, List, [], ◌∷◌, ◌++◌, ⊤}
+use Rattle.std.specs.Prelude.{ℕ, ◌+◌, ◌-◌, ◌*◌, ◌^◌, ◌<◌, ◌≤◌, ◌≡◌, ◌&&◌, nat_lt, nat_le, if◌then◌else◌, List, [], ◌∷◌, ◌++◌, ⊤, Option, Some, None}
 use Rattle.fkv_plane.specs.declared.asks.Ask.{Ask}
 use Rattle.fkv_plane.specs.declared.asks.Ask.TheVariants.{Load, Done}
 use Rattle.fkv_plane.specs.declared.places.Places.{Places}
@@ -31,6 +31,11 @@ first_copying p = bucket_entered p (record { bucket = 0; base = 0; links = p.ove
 
 abbrev pub copy_begun : Places → Copier
 copy_begun p = record { places = p; copying = first_copying p; triples = [] }
+
+-- room that was got for a copy, if any was, is for a store with these places
+abbrev pub IsRoomFor : Places → Option Places → Type 0
+IsRoomFor p None = ⊤
+IsRoomFor p (Some got) = got ≡ p
 
 -- what each state asks
 unfoldable pub copy_step_ask : ℕ → CopyStep → Ask (Unit {0})

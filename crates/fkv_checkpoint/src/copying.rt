@@ -34,6 +34,25 @@ pub(crate) struct Copying {
     pub step: CopyStep,
 }
 
+/// Memory for all triples that a copy of the index may come to, in a store with these places.
+#[derive(Drop)]
+pub struct CopyRoom {
+    places: Places,
+    triples: TripleBuffer,
+}
+
+impl Model for CopyRoom {
+    ghost use Rattle.std.specs.Prelude.{◌≡◌, [], ◌*◌};
+    ghost use Rattle.fkv_plane.specs.declared.places.Places.{Places};
+    ghost use Rattle.fkv_checkpoint.specs.Copying.{most_copied};
+
+    ghost Value = { Places };
+
+    ghost view = { λ m. m.places };
+
+    ghost invariant = { λ m. m.triples ≡ record { space = 16 * most_copied m.places; entries = [] } };
+}
+
 /// Copies the entries of the index into triples, one load at a time, while others go on.
 #[derive(Drop)]
 pub struct IndexCopy {
@@ -56,14 +75,24 @@ impl Model for IndexCopy {
 /// The slots of a bucket; its last word leads on.
 const BUCKET_SLOTS: usize = 7;
 
-impl IndexCopy {
-    /// A copy that is to begin, of a store with these places. Where memory for all triples that there can be is refused, none begins.
-    pub fn begin(alloc: Global, places: Places) -> Result<IndexCopy, Fault>
-        ensures made { IfOk result (λ copy. copy ≡ copy_begun places) }
-        ensures bounded { copy_asks_left places (copy_begun places).copying ≤ 8 * (places.buckets + places.overflow) }
+impl CopyRoom {
+    /// Asks for it, in one request. `Fault::Memory` where that is refused.
+    pub fn ask(alloc: Global, places: Places) -> Result<CopyRoom, Fault>
+        ensures made { IfOk result (λ room. room ≡ places) }
         ensures err { OnErr result (result ≡ Err Memory) }
     {
         let triples = TripleBuffer::new(alloc, BUCKET_SLOTS * (places.buckets + places.overflow))?;
+        Ok(CopyRoom { places, triples })
+    }
+}
+
+impl IndexCopy {
+    /// A copy that is to begin, of the store that this room was got for.
+    pub fn begin(room: CopyRoom) -> IndexCopy
+        ensures made { result ≡ copy_begun room }
+        ensures bounded { copy_asks_left room (copy_begun room).copying ≤ 8 * (room.buckets + room.overflow) }
+    {
+        let places = room.places;
         let unbegun = Copying {
             bucket: 0,
             base: 0,
@@ -71,11 +100,11 @@ impl IndexCopy {
             step: CopyStep::Ended,
         };
         let copying = bucket_entered(&places, unbegun, 0);
-        Ok(IndexCopy {
+        IndexCopy {
             places,
             copying,
-            triples,
-        })
+            triples: room.triples,
+        }
     }
 
     /// Goes on with the reply to its ask. At its end it stays where it is.

@@ -5,5 +5,5 @@ mod copying;
 mod laws;
 mod triple_buffers;
 
-pub use copying::IndexCopy;
+pub use copying::{CopyRoom, IndexCopy};
 pub use laws::{law_copied, law_fuzzy_copy, law_of_a_fuzzy_copy};

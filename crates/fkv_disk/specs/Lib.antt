@@ -1,4 +1,5 @@
 pub mod Ahead
+pub mod Asks
 pub mod Bytes
 pub mod Calls
 pub mod Countdown

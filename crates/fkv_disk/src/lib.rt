@@ -3,6 +3,7 @@
 #![tactic(auto)]
 
 mod ahead;
+mod asks;
 mod crashes;
 mod devices;
 mod files;
@@ -14,6 +15,7 @@ mod pages;
 mod refusals;
 mod single;
 
+pub use asks::DeviceAsk;
 pub use ahead::{PageSize, Pages, ReadAhead};
 pub use devices::Device;
 pub use files::{FileDisk, make_file, open_file};

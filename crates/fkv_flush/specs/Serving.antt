@@ -1,7 +1,9 @@
 -- How the sessions' mailboxes are served.
-use Rattle.std.specs.Prelude.{ℕ, ◌+◌, ◌^◌, ◌<◌, ◌==◌, nat_lt, if◌then◌else◌, List, ⊤}
+use Rattle.std.specs.Prelude.{ℕ, ◌+◌, ◌^◌, ◌<◌, ◌==◌, nat_lt, if◌then◌else◌, List, ⊤, Option, Some, None}
 use Rattle.fkv_base.specs.Limits.{max_sessions}
 use Rattle.fkv_base.specs.declared.shapes.Shape.{Shape}
+use Rattle.fkv_disk.specs.Asks.{AskedCall}
+use Rattle.fkv_disk.specs.Asks as disk
 use Rattle.fkv_record.specs.Places.{number_at, record_place}
 use Rattle.fkv_plane.specs.declared.asks.Ask.{Ask}
 use Rattle.fkv_plane.specs.declared.asks.Ask.TheVariants.{Load, Store, Done}
@@ -74,3 +76,8 @@ serve_read step bytes = step
 unfoldable pub mail_place : Shape → Serving → ℕ
 mail_place shape (Reads session addr) = record_place shape addr
 mail_place shape step = 0
+
+-- the read of the device that a step needs, if it needs one: of a record's 24 bytes
+unfoldable pub mail_read : Shape → Serving → Option AskedCall
+mail_read shape (Reads session addr) = Some (disk.Reads (record_place shape addr) 24)
+mail_read shape step = None

@@ -3,6 +3,7 @@ ghost use Rattle.std.specs.Prelude.{◌≡◌, ◌<◌, ◌≤◌, ◌-◌, ◌^
 ghost use Rattle.std.specs.Vec.{vec_capacity};
 ghost use Rattle.fkv_base.specs.Limits.{max_page};
 ghost use Rattle.fkv_base.specs.declared.faults.Fault.TheVariants.{Memory};
+ghost use Rattle.fkv_disk.specs.Asks.{asked_call, first_asked, kinds_by};
 ghost use Rattle.fkv_disk.specs.Device.{Elapses, HasCause, MakesCalls};
 ghost use Rattle.fkv_flush.specs.Flushing.{flush_ask, flush_next, bytes_next, flush_calls, flush_done, bytes_done, part_begun, record_after, count_next, count_done, HasRoom, IsWithin};
 ghost use Rattle.fkv_flush.specs.AsksLeft.{flush_asks_left, most_flush_asks, EndsWithin, GoesOnWhereLeft};
@@ -12,7 +13,7 @@ ghost use Rattle.fkv_plane.specs.declared.places.Places.{Places};
 
 use crate::answers::DeviceAnswer;
 use fkv_base::{Addr, Fault, Shape};
-use fkv_disk::Device;
+use fkv_disk::{Device, DeviceAsk};
 use fkv_plane::{Ask, Places, RecordWord, SharedWord};
 use fkv_record::record_place;
 use std::alloc::Global;
@@ -116,6 +117,7 @@ impl Flush {
         ensures none { OnErr result (flush_asks_left self.new.step ≡ 0) }
         ensures cause { HasCause (D.failed d.old) (D.failed d.new) result }
         ensures counted { MakesCalls (calls_asked (flush_ask self.old.places self.old.step)) (D.refuses d.old) (D.refuses d.new) result }
+        ensures kind { D.expects d.new ≡ kinds_by (first_asked (flush_calls self.old.shape self.old.bytes self.old.step true)) (D.expects d.old) }
         ensures honest { D.honest d.old ↔ D.honest d.new }
         ensures calls { D.honest d.old → Adds (flush_calls self.old.shape self.old.bytes self.old.step (is_ok result)) (D.seen d.old) (D.seen d.new) (D.may_leave d.old) (D.may_leave d.new) }
         ensures time { D.honest d.old → Elapses (D.moment d.old) (D.moment d.new) (D.left_since d.old) (D.left_since d.new) (D.may_leave d.new) }
@@ -125,6 +127,21 @@ impl Flush {
         self.step = step_called(self.shape.page, self.step, called.is_ok());
         called?;
         Ok(self.ask())
+    }
+
+    /// The call of the device that `device_step` makes, if it makes one.
+    #[tactic(auto, unfolding(crate::specs::Flushing::flush_calls))]
+    pub fn device_ask(&self) -> Option<DeviceAsk<'_>>
+        ensures { asked_call result ≡ first_asked (flush_calls self.now.shape self.now.bytes self.now.step true) }
+    {
+        match self.step {
+            Flushing::WritesPart(part) => {
+                let at = record_place(self.shape, Addr(part.from));
+                Some(DeviceAsk::Write(at, &self.bytes))
+            }
+            Flushing::Syncs(_) => Some(DeviceAsk::Sync),
+            _ => None,
+        }
     }
 
     /// What it asks now.
@@ -226,6 +243,7 @@ fn call_device<D: Device>(
     ensures cause { HasCause (D.failed d.old) (D.failed d.new) result }
     ensures called { (places : Places) → OnErr result (0 < calls_asked (flush_ask places step)) }
     ensures counted { (places : Places) → MakesCalls (calls_asked (flush_ask places step)) (D.refuses d.old) (D.refuses d.new) result }
+    ensures kind { D.expects d.new ≡ kinds_by (first_asked (flush_calls shape bytes.now step true)) (D.expects d.old) }
     ensures honest { D.honest d.old ↔ D.honest d.new }
     ensures calls { D.honest d.old → Adds (flush_calls shape bytes.now step (is_ok result)) (D.seen d.old) (D.seen d.new) (D.may_leave d.old) (D.may_leave d.new) }
     ensures time { D.honest d.old → Elapses (D.moment d.old) (D.moment d.new) (D.left_since d.old) (D.left_since d.new) (D.may_leave d.new) }

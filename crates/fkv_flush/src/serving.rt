@@ -1,16 +1,17 @@
 //! How the sessions' mailboxes are served.
 ghost use Rattle.std.specs.Prelude.{◌≡◌, ◌+◌, ◌-◌, ◌<◌, ◌≤◌, ◌↔◌, ℕ, List, length, IfOk, OnOk, OnErr};
+ghost use Rattle.fkv_disk.specs.Asks.{asked_call, kinds_by};
 ghost use Rattle.fkv_disk.specs.Bytes.{bytes_at};
 ghost use Rattle.fkv_disk.specs.Device.{LeavesNoMore, Elapses, HasCause, MakesCalls};
 ghost use Rattle.fkv_flush.specs.AsksLeft.{serve_asks_left, most_serve_asks, GoesOnWhereLeft};
 ghost use Rattle.fkv_flush.specs.Devices.{calls_asked};
 ghost use Rattle.fkv_record.specs.Places.{number_at};
-ghost use Rattle.fkv_flush.specs.Serving.{serve_ask, serve_next, serve_read, mailbox_from, mail_place, mail_of, IsServeInRange};
+ghost use Rattle.fkv_flush.specs.Serving.{serve_ask, serve_next, serve_read, mailbox_from, mail_place, mail_read, mail_of, IsServeInRange};
 ghost use Rattle.fkv_flush.specs.declared.serving.Serving.TheVariants.{AtRest};
 
 use crate::answers::DeviceAnswer;
 use fkv_base::{Addr, Fault, Shape};
-use fkv_disk::Device;
+use fkv_disk::{Device, DeviceAsk};
 use fkv_plane::{Ask, SessionWord};
 use fkv_record::record_place;
 use std::marker::Model;
@@ -53,6 +54,9 @@ impl Model for Serve {
 
     ghost invariant = { λ m. IsServeInRange m.step };
 }
+
+/// The bytes of a record that is read for a session.
+const MAIL_BYTES: usize = 24;
 
 /// The state of a mailbox in which a record is asked for.
 const ASKED: u64 = 1;
@@ -118,7 +122,7 @@ impl Serve {
 
     /// Makes the one call of the device that it needs, a read of 24 bytes, and goes on. Where it needs none it makes none,
     /// and stays where it is. `Fault::Device` where the device failed: the machine is at rest then, and nothing was stored.
-    #[tactic(auto, unfolding(crate::specs::Serving::serve_read, crate::specs::Serving::mail_place, crate::specs::Serving::serve_ask))]
+    #[tactic(auto, unfolding(crate::specs::Serving::serve_read, crate::specs::Serving::mail_place, crate::specs::Serving::mail_read, crate::specs::Serving::serve_ask))]
     pub fn device_step<D: Device>(&mut self, d: &mut D) -> Result<Ask<DeviceAnswer>, Fault>
         ensures next { OnOk result ((bytes : List ℕ) × (self.new ≡ record self.old { step = serve_read self.old.step bytes })) }
         ensures read { D.honest d.old → OnOk result (self.new ≡ record self.old { step = serve_read self.old.step (bytes_at (D.seen d.old) (mail_place self.old.shape self.old.step) 24) }) }
@@ -129,6 +133,7 @@ impl Serve {
         ensures none { OnErr result (serve_asks_left self.old.shape.sessions self.new.step ≡ 0) }
         ensures cause { HasCause (D.failed d.old) (D.failed d.new) result }
         ensures counted { MakesCalls (calls_asked (serve_ask self.old.step)) (D.refuses d.old) (D.refuses d.new) result }
+        ensures kind { D.expects d.new ≡ kinds_by (mail_read self.old.shape self.old.step) (D.expects d.old) }
         ensures honest { D.honest d.old ↔ D.honest d.new }
         ensures seen { D.honest d.old → D.seen d.new ≡ D.seen d.old }
         ensures crash { D.honest d.old → LeavesNoMore (D.may_leave d.old) (D.may_leave d.new) }
@@ -136,11 +141,25 @@ impl Serve {
     {
         if let Serving::Reads(session, addr) = self.step {
             self.step = Serving::AtRest;
-            let mut bytes = [0; 24];
+            let mut bytes = [0; MAIL_BYTES];
             d.read(record_place(self.shape, Addr(addr)), &mut bytes)?;
             self.step = Serving::StoresHeader(session, mail_of(&bytes));
         }
         Ok(self.ask())
+    }
+
+    /// The call of the device that `device_step` makes, if it makes one.
+    #[tactic(auto, unfolding(crate::specs::Serving::mail_read))]
+    pub fn device_ask(&self) -> Option<DeviceAsk<'_>>
+        ensures { asked_call result ≡ mail_read self.now.shape self.now.step }
+    {
+        match self.step {
+            Serving::Reads(_, addr) => {
+                let at = record_place(self.shape, Addr(addr));
+                Some(DeviceAsk::Read(at, MAIL_BYTES))
+            }
+            _ => None,
+        }
     }
 
     /// What it asks now.

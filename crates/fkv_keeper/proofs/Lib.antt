@@ -14,10 +14,12 @@ mod DrainParts
 mod DrainRuns
 mod DrainSought
 mod FewLost
+mod Granted
 mod HandBusy
 mod KeeperBegun
 mod KeeperCalls
 mod KeeperDevice
+mod KeeperDue
 mod KeeperFewer
 mod KeeperLeft
 mod KeeperRuns

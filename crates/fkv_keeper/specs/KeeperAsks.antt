@@ -4,8 +4,10 @@ use Rattle.fkv_base.specs.Limits.{drain_slots}
 use Rattle.fkv_base.specs.declared.faults.Fault.{Fault}
 use Rattle.fkv_base.specs.declared.shapes.Shape.{Shape}
 use Rattle.fkv_disk.specs.Bytes.{bytes_at}
+use Rattle.fkv_disk.specs.Asks.{AskedCall, Reads, first_asked, calls_by, count_by, kinds_by}
 use Rattle.fkv_disk.specs.Calls.{Call}
 use Rattle.fkv_disk.specs.Device.{HasCause, MakesCalls}
+use Rattle.fkv_disk.specs.Kinds.{Kind}
 use Rattle.fkv_plane.specs.declared.asks.Ask.{Ask}
 use Rattle.fkv_plane.specs.declared.asks.Ask.TheVariants.{Done}
 use Rattle.fkv_plane.specs.declared.places.Places.{Places}
@@ -27,7 +29,7 @@ use Rattle.fkv_keeper.specs.declared.keepers.Keeping.TheVariants.{Ended, Starts,
 use Rattle.fkv_keeper.specs.Answers.{is_busy}
 use Rattle.fkv_maintain.specs.AsksLeft.{maintain_asks_left, most_maintain_asks}
 use Rattle.fkv_keeper.specs.Keeping.{KeeperModel, KeeperState, keeper_called}
-use Rattle.fkv_maintain.specs.Maintaining.{maintain_calls, maintain_made}
+use Rattle.fkv_maintain.specs.Maintaining.{maintain_asked, maintain_calls, maintain_made}
 
 -- how many calls of the device it makes
 unfoldable pub keeping_made : Places → KeeperState → Keeping → ℕ
@@ -52,6 +54,15 @@ keeping_calls shape s step done = []
 abbrev pub keeper_calls : Shape → KeeperState → Bool → List Call
 keeper_calls shape s done = keeping_calls shape s s.step done
 
+-- The call of the device that it makes next, if it makes one.
+unfoldable pub keeping_due : Shape → KeeperState → Keeping → Option AskedCall
+keeping_due shape s Maintains = maintain_asked shape s.maintain
+keeping_due shape s Writes = first_asked (with_call (commit_call s.writes true) [])
+keeping_due shape s step = None
+
+abbrev pub keeper_due : KeeperModel → Option AskedCall
+keeper_due k = keeping_due k.shape k.state k.state.step
+
 -- what a device of these bytes gives for the address of the mailbox that is served
 abbrev pub keeper_read : KeeperModel → List ℕ → List ℕ
 keeper_read k seen = bytes_at seen (mail_place k.shape k.state.maintain.serving) 24
@@ -66,6 +77,14 @@ pub record IsDeviceStep (k : KeeperModel) (honest : Type 0) (failed failed' : �
   pub counted : MakesCalls (keeper_made k.places k.state) refuses refuses' called
   pub read : honest → next ≡ record k { state = keeper_called k.shape k.places k.state (is_ok called) (keeper_read k seen) }
   pub wrote : honest → Adds (keeper_calls k.shape k.state (is_ok called)) seen seen' may_leave may_leave'
+
+-- What a step makes of the device is the call that is due, and nothing else. Any device has met a call of this kind. The calls that the step
+-- counts, and those that it writes and syncs, are this one, and what it reads of a device is what this one reads.
+pub record MakesDue (k : KeeperModel) (expects expects' : List Kind → Bool) : Type 0 where
+  pub kind : expects' ≡ kinds_by (keeper_due k) expects
+  pub counted : keeper_made k.places k.state ≡ count_by (keeper_due k)
+  pub calls : (done : Bool) → keeper_calls k.shape k.state done ≡ calls_by (keeper_due k) done
+  pub read : (seen : List ℕ) (at count : ℕ) → keeper_due k ≡ Some (Reads at count) → keeper_read k seen ≡ bytes_at seen at count
 
 -- the calls that the writes of a commit have left, at most: two for the triples, and those of the slot
 abbrev pub committing_calls_left : GateWriter → Committing → ℕ

@@ -1,6 +1,6 @@
 -- What the keeper does: it begins commits, and makes turns, in each of which it does what every turn does and then at most one thing for the
 -- commit in hand.
-use Rattle.std.specs.Prelude.{ℕ, List, [], length, replicate, Bool, true, false, if◌then◌else◌, Option, Some, None}
+use Rattle.std.specs.Prelude.{ℕ, List, [], length, replicate, Bool, true, false, not, ◌&&◌, if◌then◌else◌, Option, Some, None}
 use Rattle.fkv_base.specs.declared.faults.Fault.TheVariants as fault
 use Rattle.fkv_base.specs.declared.numbers.Addr.{Addr}
 use Rattle.fkv_base.specs.declared.numbers.Serial.{Serial}
@@ -294,6 +294,14 @@ finish_ledto s ask = s
 abbrev pub copy_driven : Option Copier → ℕ → Option Copier
 copy_driven None reply = None
 copy_driven (Some m) reply = Some (copy_after m reply)
+
+-- A copy may begin by the reply: the phase is loaded, wait-pending is deferred, and the commit in hand isn't copied.
+unfoldable pub step_may_copy : Keeping → Option Commit → Bool → Bool
+step_may_copy LoadsPhase (Some c) has_entered = has_entered && not c.is_copied
+step_may_copy step commit has_entered = false
+
+abbrev pub may_copy : KeeperState → Bool
+may_copy s = step_may_copy s.step s.commit s.has_entered
 
 -- Where the reply leads. Where a copy begins it goes by whether memory was granted for it.
 unfoldable pub keeping_next : Shape → Places → KeeperState → Keeping → ℕ → Bool → KeeperState

@@ -2,7 +2,7 @@
 ghost use Rattle.std.specs.Prelude.{◌≡◌, ◌<◌, ◌≤◌, ◌↔◌, true, false};
 ghost use Rattle.fkv_keeper.specs.Answers.{AreFinishesTold, IsAsked, IsFinishTold, IsKeeperTold, is_busy};
 ghost use Rattle.fkv_disk.specs.Device.{Elapses};
-ghost use Rattle.fkv_keeper.specs.KeeperAsks.{IsBusyWhereLeft, IsDeviceStep, keeper_asks_left, keeper_calls_asked, keeper_made, most_begin_asks, most_turn_asks};
+ghost use Rattle.fkv_keeper.specs.KeeperAsks.{IsBusyWhereLeft, IsDeviceStep, MakesDue, keeper_asks_left, keeper_calls_asked, keeper_made, most_begin_asks, most_turn_asks};
 ghost use Rattle.fkv_epoch.specs.Claiming.{takes_action};
 ghost use Rattle.fkv_plane.specs.declared.asks.Ask.TheVariants.{Done};
 ghost use Rattle.fkv_plane.specs.Passing.{is_done};
@@ -40,7 +40,7 @@ impl Keeper {
         self.asked(ask)
     }
 
-    /// Goes on with the reply to its ask.
+    /// Goes on with the reply to its ask. Memory for a copy that the step may begin is asked for first.
     pub fn drive(&mut self, reply: u64) -> KeeperAsk
         ensures next { self.new ≡ record self.old { state = keeper_next self.old.shape self.old.places self.old.state reply self.new.state.is_granted } }
         ensures ask { IsAsked self.new.state.last (keeper_ask self.old.shape self.old.places self.new.state) result }
@@ -60,10 +60,11 @@ impl Keeper {
         self.asked(ask)
     }
 
-    /// Makes the one call of the device that it asks for. Where it asks for none it makes none, and stays where it is. Where the
+    /// Makes the one call of the device that it asks for, which is the one that `device_ask` tells. Where it asks for none it makes none, and stays where it is. Where the
     /// device fails the turn ends with `Device`, and no call of the device is ever made again.
     pub fn device_step<D: Device>(&mut self, d: &mut D) -> KeeperAsk
         ensures step { IsDeviceStep self.old (D.honest d.old) (D.failed d.old) (D.failed d.new) (D.refuses d.old) (D.refuses d.new) (D.seen d.old) (D.seen d.new) (D.may_leave d.old) (D.may_leave d.new) self.new }
+        ensures due { MakesDue self.old (D.expects d.old) (D.expects d.new) }
         ensures asked { keeper_made self.old.places self.old.state ≡ keeper_calls_asked (keeper_ask self.old.shape self.old.places self.old.state) }
         ensures ask { IsAsked self.new.state.last (keeper_ask self.old.shape self.old.places self.new.state) result }
         ensures fewer { keeper_ask self.old.shape self.old.places self.old.state ≡ Done AtDevice → keeper_asks_left self.old.shape self.old.places self.new.state < keeper_asks_left self.old.shape self.old.places self.old.state }

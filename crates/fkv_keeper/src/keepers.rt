@@ -1,9 +1,11 @@
 //! The keeper: its turns and its commits.
-ghost use Rattle.std.specs.Prelude.{◌≡◌, ◌<◌, ◌≤◌, ◌↔◌, ℕ, Bool, List, [], is_ok, true, false, IfOk, OnErr, Err, None};
+ghost use Rattle.std.specs.Prelude.{◌≡◌, ◌<◌, ◌≤◌, ◌↔◌, ℕ, Bool, List, [], is_ok, is_some, true, false, IfOk, OnErr, Err, None};
+ghost use Rattle.fkv_checkpoint.specs.Copying.{IsRoomFor};
+ghost use Rattle.fkv_disk.specs.Asks.{asked_call, first_asked, kinds_by};
 ghost use Rattle.fkv_manifest.specs.Committing.{commit_answer, commit_call};
 ghost use Rattle.fkv_manifest.specs.Devices.{calls_next};
 ghost use Rattle.fkv_manifest.specs.Made.{with_call};
-ghost use Rattle.fkv_maintain.specs.Maintaining.{maintain_calls, maintain_made};
+ghost use Rattle.fkv_maintain.specs.Maintaining.{maintain_asked, maintain_calls, maintain_made};
 ghost use Rattle.fkv_base.specs.declared.faults.Fault.TheVariants.{Memory, Device as Failed};
 ghost use Rattle.fkv_epoch.specs.Claiming.{takes_action};
 ghost use Rattle.fkv_plane.specs.declared.asks.Ask.TheVariants.{Done};
@@ -11,22 +13,22 @@ ghost use Rattle.fkv_plane.specs.Passing.{is_done};
 ghost use Rattle.fkv_keeper.specs.declared.answers.KeeperTold.TheVariants.{Device as AtDevice, TurnRefused};
 ghost use Rattle.fkv_disk.specs.Device.{Elapses, HasCause, MakesCalls};
 ghost use Rattle.fkv_flush.specs.Devices.{Adds};
-ghost use Rattle.fkv_keeper.specs.KeeperAsks.{IsBusyWhereLeft, keeper_asks_left, most_begin_asks, most_turn_asks, keeper_calls, keeper_calls_asked, keeper_made, keeper_read};
-ghost use Rattle.fkv_keeper.specs.Keeping.{commit_asked, turn_asked, keeper_ask, keeper_next, keeper_given, keeper_called, turn_called, writes_called};
+ghost use Rattle.fkv_keeper.specs.KeeperAsks.{IsBusyWhereLeft, keeper_asks_left, most_begin_asks, most_turn_asks, keeper_calls, keeper_calls_asked, keeper_due, keeper_made, keeper_read};
+ghost use Rattle.fkv_keeper.specs.Keeping.{commit_asked, turn_asked, keeper_ask, keeper_next, keeper_given, keeper_called, may_copy, turn_called, writes_called};
 ghost use Rattle.fkv_keeper.specs.KeeperRun.{IsOpened};
 ghost use Rattle.fkv_keeper.specs.NewKeepers.{IsNewKeeper};
 ghost use Rattle.fkv_keeper.specs.declared.keepers.Keeping.TheVariants.{Ended};
 
 use crate::answers::KeeperTold;
 use crate::last_commits::{Checkpoint, LastCommit};
-use crate::leading::{copy_driven, device_passed, end_told, no_writes, write_asked};
+use crate::leading::{copy_driven, device_passed, end_told, no_writes, write_asked, write_due};
 use arrayvec::ArrayVec;
 use fkv_base::{Fault, Shape};
-use fkv_checkpoint::IndexCopy;
+use fkv_checkpoint::{CopyRoom, IndexCopy};
 use fkv_commit::{
     Commit, CommitKind, EnterWaitPending, FinishCommit, SeekPoints, StartCommit, WaitFlush,
 };
-use fkv_disk::Device;
+use fkv_disk::{Device, DeviceAsk};
 use fkv_maintain::Maintain;
 use fkv_manifest::CommitWrites;
 use fkv_plane::{Action, Ask, Places, SharedWord, passed};
@@ -72,6 +74,8 @@ pub struct Keeper {
     pub(crate) maintain: Maintain,
     pub(crate) start: StartCommit,
     pub(crate) enter: EnterWaitPending,
+    /// What was got for the copy that comes next.
+    pub(crate) room: Option<CopyRoom>,
     pub(crate) copy: Option<IndexCopy>,
     pub(crate) seek: SeekPoints,
     pub(crate) wait: WaitFlush,
@@ -92,13 +96,14 @@ pub struct Keeper {
 
 impl Model for Keeper {
     ghost use Rattle.std.specs.Prelude.{◌≡◌};
+    ghost use Rattle.fkv_checkpoint.specs.Copying.{IsRoomFor};
     ghost use Rattle.fkv_keeper.specs.Keeping.{KeeperModel};
 
     ghost Value = { KeeperModel };
 
     ghost view = { λ m. record { shape = m.shape; places = m.places; state = record { maintain = m.maintain.state; start = m.start; enter = m.enter; copy = m.copy; seek = m.seek; wait = m.wait; writes = m.writes; finish = m.finish; commit = m.commit; has_entered = m.has_entered; has_points = m.has_points; is_granted = m.is_granted; is_broken = m.is_broken; is_drain_full = m.is_drain_full; has_finished = m.has_finished; used = m.used; last = record { number = m.last.number; points = m.last.points.items; checkpoint = m.last.checkpoint; gates = m.last.gates }; lost = m.lost.items; step = m.step } } };
 
-    ghost invariant = { λ m. (m.maintain.shape ≡ m.shape) × (m.maintain.places ≡ m.places) × (m.seek.sessions ≡ m.shape.sessions) × (m.finish.sessions ≡ m.shape.sessions) };
+    ghost invariant = { λ m. (m.maintain.shape ≡ m.shape) × (m.maintain.places ≡ m.places) × (m.seek.sessions ≡ m.shape.sessions) × (m.finish.sessions ≡ m.shape.sessions) × IsRoomFor m.places m.room };
 }
 
 impl Keeper {
@@ -124,6 +129,7 @@ impl Keeper {
             maintain,
             start: StartCommit::new(),
             enter: EnterWaitPending::new(),
+            room: None,
             copy: None,
             seek: SeekPoints::new(shape.sessions as usize),
             wait: WaitFlush::new(),
@@ -178,10 +184,56 @@ impl Keeper {
         self.ask()
     }
 
-    /// Goes on with the reply to its ask. At a call's end, and where it needs the device, it stays where it is.
-    #[tactic(auto, using(fkv_commit::proofs::Shown::seek_keeps), unfolding(crate::specs::Keeping::keeping_next))]
+    /// Goes on with the reply to its ask. At a call's end, and where it needs the device, it stays where it is. Memory for a copy that
+    /// the step may begin is asked for first.
+    #[tactic(auto, using(crate::proofs::Granted::is_granted_so))]
     pub fn go_on(&mut self, reply: u64) -> Ask<KeeperTold>
         ensures next { self.new ≡ record self.old { state = keeper_next self.old.shape self.old.places self.old.state reply self.new.state.is_granted } }
+        ensures ask { result ≡ keeper_ask self.old.shape self.old.places self.new.state }
+        ensures left { IsBusyWhereLeft (keeper_asks_left self.old.shape self.old.places self.new.state) result }
+        ensures fewer { is_done (keeper_ask self.old.shape self.old.places self.old.state) ≡ false → takes_action (keeper_ask self.old.shape self.old.places self.old.state) ≡ false → keeper_asks_left self.old.shape self.old.places self.new.state < keeper_asks_left self.old.shape self.old.places self.old.state }
+    {
+        let room = self.room();
+        self.go_on_with(reply, room)
+    }
+
+    /// Memory for the copy of the index that its next step may begin: where it loads the phase, wait-pending is deferred, and the commit in
+    /// hand isn't copied. `None` elsewhere, and where memory is refused. What a commit has got once it isn't asked for again.
+    ///
+    /// It is for a caller that has to know whether memory is granted before the step: others may see a step that is made before its
+    /// reply is gone on with.
+    pub fn room(&mut self) -> Option<CopyRoom>
+        ensures same { self.new ≡ self.old }
+        ensures none { may_copy self.old.state ≡ false → result ≡ None }
+        ensures fits { IsRoomFor self.old.places result }
+    {
+        if !self.may_copy() {
+            return None;
+        }
+        let kept = self.room.take();
+        if kept.is_some() {
+            return kept;
+        }
+        CopyRoom::ask(self.alloc, self.places).ok()
+    }
+
+    /// Whether its next step may begin a copy.
+    #[tactic(auto, unfolding(crate::specs::Keeping::step_may_copy))]
+    fn may_copy(&self) -> bool
+        ensures { result ≡ may_copy self.now.state }
+    {
+        match (self.step, self.commit) {
+            (Keeping::LoadsPhase, Some(commit)) => self.has_entered && !commit.is_copied,
+            _ => false,
+        }
+    }
+
+    /// Goes on as `go_on` does, and a copy begins in this room, which `room` has given. Where none begins the room is kept; where one
+    /// begins and there is no room, the turn ends with `Memory`.
+    #[tactic(auto, using(fkv_commit::proofs::Shown::seek_keeps), unfolding(crate::specs::Keeping::keeping_next))]
+    pub fn go_on_with(&mut self, reply: u64, room: Option<CopyRoom>) -> Ask<KeeperTold>
+        requires { IsRoomFor self.old.places room }
+        ensures next { self.new ≡ record self.old { state = keeper_next self.old.shape self.old.places self.old.state reply (is_some room) } }
         ensures ask { result ≡ keeper_ask self.old.shape self.old.places self.new.state }
         ensures left { IsBusyWhereLeft (keeper_asks_left self.old.shape self.old.places self.new.state) result }
         ensures fewer { is_done (keeper_ask self.old.shape self.old.places self.old.state) ≡ false → takes_action (keeper_ask self.old.shape self.old.places self.old.state) ≡ false → keeper_asks_left self.old.shape self.old.places self.new.state < keeper_asks_left self.old.shape self.old.places self.old.state }
@@ -196,7 +248,7 @@ impl Keeper {
                 let ask = self.maintain.drive(reply);
                 self.after_maintain(ask);
             }
-            Keeping::LoadsPhase => self.after_phase(phase_said(reply)),
+            Keeping::LoadsPhase => self.after_phase(phase_said(reply), room),
             Keeping::Enters => {
                 let ask = self.enter.drive(reply);
                 self.after_enter(ask);
@@ -238,7 +290,7 @@ impl Keeper {
 
     /// Makes the one call of the device that it needs, and goes on. Where it needs none it makes none, and stays where it is.
     /// Where the device fails the turn ends, and no other call of the device is ever made.
-    #[tactic(auto, using(crate::proofs::KeeperDevice::keeper_asked_calls), unfolding(crate::specs::Keeping::keeping_called, crate::specs::KeeperAsks::keeping_made, crate::specs::KeeperAsks::keeping_calls))]
+    #[tactic(auto, using(crate::proofs::KeeperDevice::keeper_asked_calls), unfolding(crate::specs::Keeping::keeping_called, crate::specs::KeeperAsks::keeping_made, crate::specs::KeeperAsks::keeping_calls, crate::specs::KeeperAsks::keeping_due))]
     pub fn call_device<D: Device>(&mut self, d: &mut D) -> Result<Ask<KeeperTold>, Fault>
         ensures next { (bytes : List ℕ) × (self.new ≡ record self.old { state = keeper_called self.old.shape self.old.places self.old.state (is_ok result) bytes }) }
         ensures ask { IfOk result (λ ask. ask ≡ keeper_ask self.old.shape self.old.places self.new.state) }
@@ -248,6 +300,7 @@ impl Keeper {
         ensures none { OnErr result (keeper_asks_left self.old.shape self.old.places self.new.state ≡ 0) }
         ensures cause { HasCause (D.failed d.old) (D.failed d.new) result }
         ensures counted { MakesCalls (keeper_made self.old.places self.old.state) (D.refuses d.old) (D.refuses d.new) result }
+        ensures kind { D.expects d.new ≡ kinds_by (keeper_due self.old) (D.expects d.old) }
         ensures asked { keeper_made self.old.places self.old.state ≡ keeper_calls_asked (keeper_ask self.old.shape self.old.places self.old.state) }
         ensures honest { D.honest d.old ↔ D.honest d.new }
         ensures read { D.honest d.old → self.new ≡ record self.old { state = keeper_called self.old.shape self.old.places self.old.state (is_ok result) (keeper_read self.old (D.seen d.old)) } }
@@ -269,6 +322,7 @@ impl Keeper {
         ensures refused { OnErr result (self.new.state.step ≡ Ended (TurnRefused Failed)) }
         ensures cause { HasCause (D.failed d.old) (D.failed d.new) result }
         ensures counted { MakesCalls (maintain_made self.old.places self.old.state.maintain) (D.refuses d.old) (D.refuses d.new) result }
+        ensures kind { D.expects d.new ≡ kinds_by (maintain_asked self.old.shape self.old.state.maintain) (D.expects d.old) }
         ensures honest { D.honest d.old ↔ D.honest d.new }
         ensures read { D.honest d.old → self.new ≡ record self.old { state = turn_called self.old.shape self.old.places self.old.state (is_ok result) (keeper_read self.old (D.seen d.old)) } }
         ensures calls { D.honest d.old → Adds (maintain_calls self.old.shape self.old.state.maintain (is_ok result)) (D.seen d.old) (D.seen d.new) (D.may_leave d.old) (D.may_leave d.new) }
@@ -290,6 +344,7 @@ impl Keeper {
         ensures refused { OnErr result (self.new.state.step ≡ Ended (TurnRefused Failed)) }
         ensures cause { HasCause (D.failed d.old) (D.failed d.new) result }
         ensures counted { MakesCalls (calls_next (commit_answer self.old.state.writes)) (D.refuses d.old) (D.refuses d.new) result }
+        ensures kind { D.expects d.new ≡ kinds_by (first_asked (with_call (commit_call self.old.state.writes true) [])) (D.expects d.old) }
         ensures honest { D.honest d.old ↔ D.honest d.new }
         ensures calls { D.honest d.old → Adds (with_call (commit_call self.old.state.writes (is_ok result)) []) (D.seen d.old) (D.seen d.new) (D.may_leave d.old) (D.may_leave d.new) }
         ensures time { D.honest d.old → Elapses (D.moment d.old) (D.moment d.new) (D.left_since d.old) (D.left_since d.new) (D.may_leave d.new) }
@@ -303,6 +358,19 @@ impl Keeper {
                 self.breaks();
                 Err(fault)
             }
+        }
+    }
+
+    /// The call of the device that its next step makes, if it makes one. A caller that makes calls of the device himself makes this one,
+    /// and then gives `call_device` or `device_step` a device that answers it with what came of that.
+    #[tactic(auto, unfolding(crate::specs::KeeperAsks::keeping_due))]
+    pub fn device_ask(&self) -> Option<DeviceAsk<'_>>
+        ensures { asked_call result ≡ keeper_due self.now }
+    {
+        match self.step {
+            Keeping::Maintains => self.maintain.device_ask(),
+            Keeping::Writes => write_due(self.writes.next_call()),
+            _ => None,
         }
     }
 

@@ -1,6 +1,10 @@
 //! Where the keeper goes on by what the machines inside it come to.
-ghost use Rattle.std.specs.Prelude.{◌≡◌, true, None, Some};
+ghost use Rattle.std.specs.Prelude.{◌≡◌, [], is_some, true, None, Some};
+ghost use Rattle.fkv_checkpoint.specs.Copying.{IsRoomFor};
+ghost use Rattle.fkv_disk.specs.Asks.{asked_call, first_asked};
 ghost use Rattle.fkv_manifest.specs.Committing.{commit_answer};
+ghost use Rattle.fkv_manifest.specs.Devices.{next_made};
+ghost use Rattle.fkv_manifest.specs.Made.{with_call};
 ghost use Rattle.fkv_base.specs.declared.faults.Fault.TheVariants as fault;
 ghost use Rattle.fkv_keeper.specs.Keeping.{device_passed, end_told, write_asked, copy_asked, copy_driven, points_known, ended, turned, turned_full, start_ledto, maintain_ledto, phase_ledto, part_begun, copies_next, copies, enter_ledto, copy_ledto, seek_ledto, wait_ledto, writes_begun, gate_writes_of, write_ledto, finish_ledto, finished, no_writes, checkpoint_used, triples_written, lost_left};
 ghost use Rattle.fkv_keeper.specs.declared.answers.KeeperTold.TheVariants.{TurnRefused};
@@ -10,12 +14,13 @@ use crate::keepers::{Keeper, Keeping};
 use crate::last_commits::Checkpoint;
 use crate::manifests::{slot_place, slot_written};
 use fkv_base::{Addr, Fault, Phase};
-use fkv_checkpoint::IndexCopy;
+use fkv_checkpoint::{CopyRoom, IndexCopy};
 use fkv_commit::{
     Commit, CommitKind, EnterAnswer, FinishAnswer, SeekAnswer, StartAnswer, WaitAnswer,
 };
+use fkv_disk::DeviceAsk;
 use fkv_maintain::MaintainAnswer;
-use fkv_manifest::{CommitWrites, GateWrites, WriteAnswer};
+use fkv_manifest::{CommitWrites, GateWrites, NextCall, WriteAnswer};
 use fkv_plane::{Ask, passed};
 use fkv_record::{LostRange, area_place};
 use fkv_words::PhaseSaid;
@@ -58,6 +63,17 @@ pub(crate) fn write_asked(answer: WriteAnswer, told: KeeperTold) -> Ask<KeeperTo
     match answer {
         WriteAnswer::Device => Ask::Done(KeeperTold::Device),
         _ => Ask::Done(told),
+    }
+}
+
+/// The call of the device that the writes of a commit make next, if they make one.
+pub(crate) fn write_due<'a>(next: Option<NextCall<'a>>) -> Option<DeviceAsk<'a>>
+    ensures { asked_call result ≡ first_asked (with_call (next_made next.entry true) []) }
+{
+    match next {
+        Some(NextCall::Writes(at, bytes)) => Some(DeviceAsk::Write(at, bytes)),
+        Some(NextCall::Syncs) => Some(DeviceAsk::Sync),
+        None => None,
     }
 }
 
@@ -146,20 +162,35 @@ impl Keeper {
         }
     }
 
-    /// Goes on by what the phase word says.
+    /// Goes on by what the phase word says. A copy takes the room; where none begins it is kept.
     #[tactic(auto, unfolding(crate::specs::Keeping::phase_ledto))]
-    pub(crate) fn after_phase(&mut self, said: PhaseSaid)
-        ensures { self.new ≡ record self.old { state = phase_ledto self.old.places self.old.state self.old.state.commit said self.new.state.is_granted } }
+    pub(crate) fn after_phase(&mut self, said: PhaseSaid, room: Option<CopyRoom>)
+        requires { IsRoomFor self.old.places room }
+        ensures { self.new ≡ record self.old { state = phase_ledto self.old.places self.old.state self.old.state.commit said (is_some room) } }
     {
+        let mut room = room;
         match self.commit {
             None => self.turns(),
-            Some(commit) => self.begins_part(commit, said),
+            Some(commit) => self.begins_part(commit, said, &mut room),
+        }
+        self.keeps(room);
+    }
+
+    /// Keeps room for a later copy, if there is some.
+    fn keeps(&mut self, room: Option<CopyRoom>)
+        requires { IsRoomFor self.old.places room }
+        ensures { self.new ≡ self.old }
+    {
+        if room.is_some() {
+            self.room = room;
         }
     }
 
     /// Begins what the phase calls for.
-    fn begins_part(&mut self, commit: Commit, said: PhaseSaid)
-        ensures { self.new ≡ record self.old { state = part_begun self.old.places self.old.state commit said self.new.state.is_granted } }
+    fn begins_part(&mut self, commit: Commit, said: PhaseSaid, room: &mut Option<CopyRoom>)
+        requires { IsRoomFor self.old.places room.old }
+        ensures next { self.new ≡ record self.old { state = part_begun self.old.places self.old.state commit said (is_some room.old) } }
+        ensures left { IsRoomFor self.old.places room.new }
     {
         match said {
             PhaseSaid::Says(Phase::InProgress, _) => {
@@ -169,7 +200,7 @@ impl Keeper {
                 } else if commit.is_copied {
                     self.turns();
                 } else {
-                    self.copies();
+                    self.copies(room);
                 }
             }
             PhaseSaid::Says(Phase::WaitPending, _) => {
@@ -178,7 +209,7 @@ impl Keeper {
                     self.has_points = false;
                     self.step = Keeping::Seeks;
                 } else {
-                    self.copies();
+                    self.copies(room);
                 }
             }
             PhaseSaid::Says(Phase::WaitFlush, _) if self.has_points => {
@@ -189,19 +220,21 @@ impl Keeper {
         }
     }
 
-    /// The copy begins, where memory is granted for it.
-    fn copies(&mut self)
-        ensures { self.new ≡ record self.old { state = copies self.old.places self.old.state self.new.state.is_granted } }
+    /// The copy begins, where there is room for it.
+    fn copies(&mut self, room: &mut Option<CopyRoom>)
+        requires { IsRoomFor self.old.places room.old }
+        ensures next { self.new ≡ record self.old { state = copies self.old.places self.old.state (is_some room.old) } }
+        ensures taken { room.new ≡ None }
     {
-        match IndexCopy::begin(self.alloc, self.places) {
-            Ok(copy) => {
-                self.copy = Some(copy);
+        match room.take() {
+            Some(room) => {
+                self.copy = Some(IndexCopy::begin(room));
                 self.is_granted = true;
                 self.step = Keeping::Copies;
             }
-            Err(why) => {
+            None => {
                 self.is_granted = false;
-                self.ends(KeeperTold::TurnRefused(why));
+                self.ends(KeeperTold::TurnRefused(Fault::Memory));
             }
         }
     }

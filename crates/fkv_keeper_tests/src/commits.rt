@@ -20,7 +20,7 @@ pub(crate) const PREPARE: u64 = 65537;
 const IN_PROGRESS: u64 = 131074;
 
 /// That of wait-pending.
-const WAIT_PENDING: u64 = 196610;
+pub(crate) const WAIT_PENDING: u64 = 196610;
 
 /// That of wait-flush.
 const WAIT_FLUSH: u64 = 262146;
@@ -268,18 +268,18 @@ fn ends<D: Device>(own: &mut SmallStore, disk: &mut D, begun: KeeperAsk) -> (Kee
 }
 
 /// The session refreshes, and the keeper makes a turn.
-fn turn<D: Device>(own: &mut SmallStore, disk: &mut D) -> (KeeperAsk, u8) {
+pub(crate) fn turn<D: Device>(own: &mut SmallStore, disk: &mut D) -> (KeeperAsk, u8) {
     sees(&mut own.plane);
     let begun = own.keeper.start_turn();
     ends(own, disk, begun)
 }
 
-fn commit<D: Device>(own: &mut SmallStore, disk: &mut D, kind: CommitKind) -> KeeperAsk {
+pub(crate) fn commit<D: Device>(own: &mut SmallStore, disk: &mut D, kind: CommitKind) -> KeeperAsk {
     let begun = own.keeper.start_commit(kind);
     ends(own, disk, begun).0
 }
 
-fn begun(number: u64) -> KeeperAsk {
+pub(crate) fn begun(number: u64) -> KeeperAsk {
     KeeperAsk::Begun(Ok(Version(number)))
 }
 
@@ -288,7 +288,7 @@ fn turn_refused(why: Fault) -> KeeperAsk {
 }
 
 /// A turn that has finished no commit.
-fn turned() -> KeeperAsk {
+pub(crate) fn turned() -> KeeperAsk {
     KeeperAsk::Turned(Ok(Turn {
         finished: None,
         drain_full: false,

@@ -1,8 +1,9 @@
 -- What a turn of the keeper does whether a commit is in hand or not: it scans, runs what is armed, flushes, shifts the read-only offset,
 -- opens a page or moves the head for it, and serves the mailboxes.
-use Rattle.std.specs.Prelude.{ℕ, List, [], Bool, true, false, None}
+use Rattle.std.specs.Prelude.{ℕ, List, [], Bool, true, false, Option, None}
 use Rattle.fkv_base.specs.declared.numbers.Addr.{Addr}
 use Rattle.fkv_base.specs.declared.shapes.Shape.{Shape}
+use Rattle.fkv_disk.specs.Asks.{AskedCall, first_asked}
 use Rattle.fkv_disk.specs.Calls.{Call}
 use Rattle.fkv_plane.specs.declared.actions.Action.{Action}
 use Rattle.fkv_plane.specs.declared.asks.Ask.{Ask}
@@ -30,7 +31,7 @@ use Rattle.fkv_flush.specs.declared.serving.Serving.{Serving}
 use Rattle.fkv_flush.specs.declared.serving.Serving.TheVariants as serving
 use Rattle.fkv_flush.specs.Devices.{calls_asked}
 use Rattle.fkv_flush.specs.Flushing.{flush_ask, flush_next, flush_done, flush_calls, bytes_next, bytes_done}
-use Rattle.fkv_flush.specs.Serving.{serve_ask, serve_next, serve_read, mailbox_from}
+use Rattle.fkv_flush.specs.Serving.{serve_ask, serve_next, serve_read, mailbox_from, mail_read}
 use Rattle.fkv_maintain.specs.declared.maintaining.MaintainAnswer.{MaintainAnswer}
 use Rattle.fkv_maintain.specs.declared.maintaining.MaintainAnswer.TheVariants as answer
 use Rattle.fkv_maintain.specs.declared.maintaining.Maintaining.{Maintaining}
@@ -167,3 +168,12 @@ maintain_made p s = maintaining_made p s s.step
 abbrev pub maintain_calls_asked : Ask MaintainAnswer → ℕ
 maintain_calls_asked (Done answer.Device) = 1
 maintain_calls_asked ask = 0
+
+-- that call itself, before it is made: a write or the sync of the flush, or a read for a mailbox
+unfoldable pub maintaining_asked : Shape → MaintainState → Maintaining → Option AskedCall
+maintaining_asked shape s Flushes = first_asked (flush_calls shape s.bytes s.flushing true)
+maintaining_asked shape s Serves = mail_read shape s.serving
+maintaining_asked shape s step = None
+
+abbrev pub maintain_asked : Shape → MaintainState → Option AskedCall
+maintain_asked shape s = maintaining_asked shape s s.step

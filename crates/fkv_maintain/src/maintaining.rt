@@ -1,6 +1,7 @@
 //! What a turn of the keeper does whether a commit is in hand or not.
 ghost use Rattle.std.specs.Prelude.{◌≡◌, ◌<◌, ◌≤◌, ◌↔◌, ℕ, List, [], is_ok, true, false, IfOk, OnOk, OnErr, Err};
 ghost use Rattle.fkv_base.specs.declared.faults.Fault.TheVariants.{Memory};
+ghost use Rattle.fkv_disk.specs.Asks.{asked_call, kinds_by};
 ghost use Rattle.fkv_disk.specs.Bytes.{bytes_at};
 ghost use Rattle.fkv_disk.specs.Device.{Elapses, HasCause, MakesCalls};
 ghost use Rattle.fkv_epoch.specs.Claiming.{takes_action};
@@ -11,10 +12,10 @@ ghost use Rattle.fkv_maintain.specs.declared.maintaining.MaintainAnswer.TheVaria
 ghost use Rattle.fkv_maintain.specs.declared.maintaining.Maintaining.TheVariants.{Through, Broken};
 ghost use Rattle.fkv_plane.specs.Passing.{is_done};
 ghost use Rattle.fkv_plane.specs.declared.asks.Ask.TheVariants.{Done};
-ghost use Rattle.fkv_maintain.specs.Maintaining.{maintain_begun, maintain_ask, maintain_next, maintain_given, maintain_called, maintain_calls, maintain_calls_asked, maintain_made, device_asked, scan_ledto, claim_ledto, flush_ledto, shift_ledto, turn_ledto, serve_begun, serve_ledto, turn_form};
+ghost use Rattle.fkv_maintain.specs.Maintaining.{maintain_begun, maintain_ask, maintain_next, maintain_given, maintain_called, maintain_asked, maintain_calls, maintain_calls_asked, maintain_made, device_asked, scan_ledto, claim_ledto, flush_ledto, shift_ledto, turn_ledto, serve_begun, serve_ledto, turn_form};
 
 use fkv_base::{Addr, Fault, Shape};
-use fkv_disk::Device;
+use fkv_disk::{Device, DeviceAsk};
 use fkv_epoch::{Claim, Scan};
 use fkv_flush::{DeviceAnswer, Flush, Serve};
 use fkv_log::{MoveAnswer, ShiftAnswer, ShiftReadOnly, TurnForm, TurnPage};
@@ -172,7 +173,7 @@ impl Maintain {
 
     /// Makes the one call of the device that it needs, and goes on. Where it needs none it makes none, and stays where it is.
     /// Where the device failed it ends as broken.
-    #[tactic(auto, unfolding(crate::specs::Maintaining::maintaining_called, crate::specs::Maintaining::maintaining_made, crate::specs::Maintaining::maintaining_calls))]
+    #[tactic(auto, unfolding(crate::specs::Maintaining::maintaining_called, crate::specs::Maintaining::maintaining_made, crate::specs::Maintaining::maintaining_calls, crate::specs::Maintaining::maintaining_asked))]
     pub fn device_step<D: Device>(&mut self, d: &mut D) -> Result<Ask<MaintainAnswer>, Fault>
         ensures next { (bytes : List ℕ) × (self.new ≡ record self.old { state = maintain_called self.old.shape self.old.places self.old.state (is_ok result) bytes }) }
         ensures ask { IfOk result (λ ask. ask ≡ maintain_ask self.old.shape self.old.places self.new.state) }
@@ -182,6 +183,7 @@ impl Maintain {
         ensures none { OnErr result (maintain_asks_left self.old.shape self.new.state ≡ 0) }
         ensures cause { HasCause (D.failed d.old) (D.failed d.new) result }
         ensures counted { MakesCalls (maintain_made self.old.places self.old.state) (D.refuses d.old) (D.refuses d.new) result }
+        ensures kind { D.expects d.new ≡ kinds_by (maintain_asked self.old.shape self.old.state) (D.expects d.old) }
         ensures asked { maintain_made self.old.places self.old.state ≡ maintain_calls_asked (maintain_ask self.old.shape self.old.places self.old.state) }
         ensures honest { D.honest d.old ↔ D.honest d.new }
         ensures read { D.honest d.old → self.new ≡ record self.old { state = maintain_called self.old.shape self.old.places self.old.state (is_ok result) (bytes_at (D.seen d.old) (mail_place self.old.shape self.old.state.serving) 24) } }
@@ -200,6 +202,18 @@ impl Maintain {
             _ => {}
         }
         Ok(self.ask())
+    }
+
+    /// The call of the device that `device_step` makes, if it makes one.
+    #[tactic(auto, unfolding(crate::specs::Maintaining::maintaining_asked))]
+    pub fn device_ask(&self) -> Option<DeviceAsk<'_>>
+        ensures { asked_call result ≡ maintain_asked self.now.shape self.now.state }
+    {
+        match self.step {
+            Maintaining::Flushes => self.flush.device_ask(),
+            Maintaining::Serves => self.serve.device_ask(),
+            _ => None,
+        }
     }
 
     /// What it asks now.

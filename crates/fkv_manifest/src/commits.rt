@@ -1,10 +1,13 @@
 //! What a commit writes once its records are flushed.
-ghost use Rattle.std.specs.Prelude.{◌≡◌, ◌≤◌, ◌↔◌, is_ok};
+ghost use Rattle.std.specs.Prelude.{◌≡◌, ◌≤◌, ◌↔◌, [], Bool, is_ok, true};
+ghost use Rattle.fkv_disk.specs.Asks.{first_asked, kinds_by};
 ghost use Rattle.fkv_disk.specs.Device.{Elapses, HasCause, MakesCalls};
 ghost use Rattle.fkv_manifest.specs.Committing.{commit_start, commit_call, commit_next, commit_step_next, commit_answer};
-ghost use Rattle.fkv_manifest.specs.Devices.{DoesNext, calls_next};
+ghost use Rattle.fkv_manifest.specs.Devices.{DoesNext, calls_next, calls_told, next_made};
+ghost use Rattle.fkv_manifest.specs.Made.{with_call};
 
 use crate::answers::WriteAnswer;
+use crate::calls::NextCall;
 use crate::gates::GateWrites;
 use fkv_base::Fault;
 use fkv_disk::Device;
@@ -67,6 +70,20 @@ impl CommitWrites {
         }
     }
 
+    /// The call of the device that it needs, if it needs one.
+    #[tactic(auto, unfolding(crate::specs::Committing::commit_step_call, crate::specs::Committing::commit_step_answer))]
+    pub fn next_call(&self) -> Option<NextCall<'_>>
+        ensures call { (done : Bool) → next_made result done ≡ commit_call self.now done }
+        ensures counted { calls_told result ≡ calls_next (commit_answer self.now) }
+    {
+        match self.step {
+            Committing::WritesTriples => Some(NextCall::Writes(self.area, &self.triples)),
+            Committing::SyncsTriples => Some(NextCall::Syncs),
+            Committing::PutsSlot => self.gate.next_call(),
+            Committing::Broken(_) => None,
+        }
+    }
+
     /// Makes the one call of the device that it needs, and goes on. Where it needs none it makes none, and stays where it
     /// is. `Fault::Device` where the call failed: the machine is broken then.
     #[tactic(auto, unfolding(crate::specs::Committing::commit_step_call, crate::specs::Committing::commit_step_answer, crate::specs::Committing::gate_after))]
@@ -74,6 +91,7 @@ impl CommitWrites {
         ensures next { self.new ≡ commit_next self.old (is_ok result) }
         ensures cause { HasCause (D.failed d.old) (D.failed d.new) result }
         ensures counted { MakesCalls (calls_next (commit_answer self.old)) (D.refuses d.old) (D.refuses d.new) result }
+        ensures kind { D.expects d.new ≡ kinds_by (first_asked (with_call (commit_call self.old true) [])) (D.expects d.old) }
         ensures honest { D.honest d.old ↔ D.honest d.new }
         ensures does { D.honest d.old → DoesNext (commit_call self.old (is_ok result)) (D.seen d.old) (D.seen d.new) (D.may_leave d.old) (D.may_leave d.new) }
         ensures time { D.honest d.old → Elapses (D.moment d.old) (D.moment d.new) (D.left_since d.old) (D.left_since d.new) (D.may_leave d.new) }

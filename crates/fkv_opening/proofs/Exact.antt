@@ -65,7 +65,7 @@ module _ (apart : Apart) where
       })
 
   module _ (image : List ℕ) (n m : Newest) (first : IsNewestOf image n) (second : IsNewestOf image m) where
-    same_shape : n.shape ≡ m.shape
+    pub same_shape : n.shape ≡ m.shape
     same_shape = apart.shapes n.shape m.shape (first.block ∙ sym second.block)
 
     same_index : n.index ≡ m.index
@@ -74,7 +74,7 @@ module _ (apart : Apart) where
     same_bytes : manifest_bytes (n.format, n.slot) ≡ manifest_bytes (m.format, m.slot)
     same_bytes = first.manifest.stands ∙ ap (λ i. Some (slot_in image (slot_place i))) same_index ∙ sym second.manifest.stands
 
-    same_slot : n.slot ≡ m.slot
+    pub same_slot : n.slot ≡ m.slot
     same_slot = ap (λ (p : Format × ManifestSlot). p.1) (apart.slots (n.format, n.slot) (m.format, m.slot) (subst (λ o. IsSome o) (sym first.manifest.stands) refl) same_bytes)
 
     pub same_checkpoint : checkpoint_in image m.shape m.slot ≡ checkpoint_in image n.shape n.slot
@@ -85,6 +85,12 @@ module _ (apart : Apart) where
         ap (λ (s : Shape). log_in image s m.slot ys) (sym same_shape)
         ∙ ap (λ (s : ManifestSlot). log_in image n.shape s ys) (sym same_slot)
         ∙ ap (λ (ts : List Triple). log_in image n.shape n.slot ts) same
+
+  -- whatever newest slot and triples an image has, its log is one
+  pub one_log : (image : List ℕ) (n m : Newest) (xs ys : List Triple) → HasCheckpoint image n xs → HasCheckpoint image m ys → log_of image m ys ≡ log_of image n xs
+  one_log image n m xs ys has its =
+      let stored : AreTriples (checkpoint_in image n.shape n.slot) ys = subst (λ at. AreTriples at ys) (same_checkpoint image n m has.newest its.newest) its.stored in
+      same_log image n m has.newest its.newest xs ys (one_list (checkpoint_in image n.shape n.slot) ys xs stored has.stored)
 
   module _ (image : List ℕ) (n : Newest) (triples : List Triple) (has : HasCheckpoint image n triples) (sound : IsSound (log_of image n triples)) where
     no_triples_fault : (why : Fault) → IsTriplesFault (checkpoint_in image n.shape n.slot) why → ⊥
@@ -99,7 +105,4 @@ module _ (apart : Apart) where
     pub no_fault : (why : Fault) → IsFaultOf image why → ⊥
     no_fault why (of_newest found) = no_newest_fault apart.shapes image n why has.newest found
     no_fault why (of_triples m is found) = no_triples_fault why (subst (λ at. IsTriplesFault at why) (same_checkpoint image n m has.newest is) found)
-    no_fault why (of_log m ys its found) =
-        let stored : AreTriples (checkpoint_in image n.shape n.slot) ys = subst (λ at. AreTriples at ys) (same_checkpoint image n m has.newest its.newest) its.stored in
-        let same : ys ≡ triples = one_list (checkpoint_in image n.shape n.slot) ys triples stored has.stored in
-        no_log_fault why (subst (λ log. IsLogFault log why) (same_log image n m has.newest its.newest triples ys same) found)
+    no_fault why (of_log m ys its found) = no_log_fault why (subst (λ log. IsLogFault log why) (one_log image n m triples ys has its) found)

@@ -7,4 +7,5 @@ mod OneFault
 mod Refusing
 mod Shared
 mod SharedChains
+pub mod Shown
 mod Telling

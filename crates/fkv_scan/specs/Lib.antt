@@ -1,7 +1,6 @@
 pub mod Checkpoint
 pub mod Known
 pub mod Log
-pub mod Quiet
 pub mod Records
 pub mod Refused
 pub mod Scan

@@ -1,7 +1,7 @@
 //! The index's copy: two buckets, at places 40 and 48, and one overflow bucket, at 56.
 use crate::words::{make, store};
 use fkv_base::{Fault, Shape};
-use fkv_checkpoint::{IndexCopy, law_copied, law_fuzzy_copy, law_of_a_fuzzy_copy};
+use fkv_checkpoint::{CopyRoom, IndexCopy, law_copied, law_fuzzy_copy, law_of_a_fuzzy_copy};
 use fkv_plane::{Ask, Places, PlainWords};
 use std::alloc::Global;
 use std::process::Abort;
@@ -29,16 +29,17 @@ const BYTES: [u8; 64] = [
     1, 0, 0, 0, 1, 0, 0, 0, 7, 0, 0, 0, 0, 0, 0, 0,
 ];
 
-/// Begins a copy. Where memory is refused none has begun, and another one can.
+/// Begins a copy. Where memory is refused for it, it can be asked for again.
 fn begin(rt: &impl Abort, alloc: Global) -> Result<IndexCopy, Fault> {
     let places = Places::of(&Shape::new(1, 4, 2, 1, 1, 1, 64)?);
-    match IndexCopy::begin(alloc, places) {
-        Ok(copy) => Ok(copy),
+    let room = match CopyRoom::ask(alloc, places) {
+        Ok(room) => room,
         Err(fault) => {
             assert_eq!(rt; fault, Fault::Memory);
-            IndexCopy::begin(alloc, places)
+            CopyRoom::ask(alloc, places)?
         }
-    }
+    };
+    Ok(IndexCopy::begin(room))
 }
 
 fn copies(rt: &impl Abort, alloc: Global, spoiled: &[(usize, u64)]) -> Result<(), Fail> {

@@ -20,7 +20,8 @@ use Rattle.law_paper.specs.Paper.Named.{HoldsCommit}
 use Rattle.law_paper.specs.Paper.Old.{GoesOnFrom, WasSound}
 use Rattle.law_paper.specs.Paper.Opened.{StandsAsOpened}
 use Rattle.law_paper.specs.Paper.Values.{CountsAsLog}
-use Rattle.law_paper.proofs.OfPaper.Named.{Spellings, holds_with, one_log}
+use Rattle.fkv_opening.proofs.Shown.{Apart, one_log}
+use Rattle.law_paper.proofs.OfPaper.Named.{holds_with}
 use Rattle.law_paper.proofs.OfPaper.Reach.{again, valid_now, was_low, was_some}
 
 -- ---- two images that share a log
@@ -48,7 +49,7 @@ module _ (n : Newest) (xs : List Triple) where
     bytes = λ a x some low. (let same = share.records a some low in (λ stands. stands ∙ same, λ stands. stands ∙ sym same));
   }
 
-  module _ (spellings : Spellings) (bytes other : List ℕ) (share : ShareLog n bytes other) (has : HasCheckpoint bytes n xs) (sound : IsSound (log bytes)) where
+  module _ (spellings : Apart) (bytes other : List ℕ) (share : ShareLog n bytes other) (has : HasCheckpoint bytes n xs) (sound : IsSound (log bytes)) where
     abbrev was : WasSound (log bytes)
     was = was_sound bytes has sound
 
@@ -68,7 +69,7 @@ module _ (n : Newest) (xs : List Triple) where
     counts_below h a x counts = was_low spellings.records was a counts.reached
 
 -- ---- the image of which the opening's commit is told
-module _ (spellings : Spellings) (bytes image : List ℕ) (o : Opened) (store : IsStoreOf bytes o) (agree : Agree bytes image) (turned : Agree image bytes) (again_store : IsStoreOf image o) where
+module _ (spellings : Apart) (bytes image : List ℕ) (o : Opened) (store : IsStoreOf bytes o) (agree : Agree bytes image) (turned : Agree image bytes) (again_store : IsStoreOf image o) where
   abbrev n : Newest
   n = store.newest
 
@@ -99,7 +100,7 @@ module _ (spellings : Spellings) (bytes image : List ℕ) (o : Opened) (store : 
   checkpoint_here = record { newest = its_newest; stored = its_triples; apart = (let has = was_checkpoint in has.apart) }
 
   sound_here : IsSound (log_of image n xs)
-  sound_here = subst IsSound (one_log spellings image n xs checkpoint_here again_store.newest again_store.triples again_store.checkpoint) again_store.sound
+  sound_here = subst IsSound (one_log spellings image n again_store.newest xs again_store.triples checkpoint_here again_store.checkpoint) again_store.sound
 
   module _ (home : ℕ → ℕ) (g : Log) (paper : StandsAsOpened home (log_of bytes n xs) g) where
     back : (h a : ℕ) (x : Record) → Counts (log_of image n xs) h a x → Counts (log_of bytes n xs) h a x

@@ -1,6 +1,7 @@
 use Rattle.fkv_opening.specs.Faults.{log_of}
 use Rattle.law_paper.proofs.OfPaper.Old.{has_scan, has_chains, counts_of, of_counts, old_counts_as_log, old_shows}
-use Rattle.law_paper.proofs.OfPaper.Named.{Spellings, holds_commit}
+use Rattle.fkv_opening.proofs.Shown.{Apart}
+use Rattle.law_paper.proofs.OfPaper.Named.{holds_commit}
 use Rattle.law_paper.proofs.OfPaper.Room.{has_room}
 use Rattle.law_paper.proofs.paper.law_old_paper_is_sound.Goals as goal
 
@@ -8,7 +9,7 @@ pub returns : goal.returns
 returns c =
     let apart = c.law_spellings_apart.ensures in
     let spells = apart.records in
-    let spellings : Spellings = record { records = spells; triples = apart.triples; shapes = apart.shapes; slots = c.law_formats_apart.ensures } in
+    let spellings : Apart = record { records = spells; triples = apart.triples; shapes = apart.shapes; slots = c.law_formats_apart.ensures } in
     record {
       scan = λ home was image g paper. has_scan home was image g spells paper;
       chains = λ home was image g paper. has_chains home was image g spells paper;

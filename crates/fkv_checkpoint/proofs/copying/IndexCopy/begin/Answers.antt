@@ -2,8 +2,5 @@
 use Rattle.fkv_checkpoint.proofs.CopyAsks.{copy_bounded}
 use Rattle.fkv_checkpoint.proofs.copying.IndexCopy.begin.Goals as goal
 
-pub returns-in_err-triples-clause-bounded : goal.returns-in_err-triples-clause-bounded
-returns-in_err-triples-clause-bounded c = copy_bounded c.args.places
-
 pub returns-clause-bounded : goal.returns-clause-bounded
-returns-clause-bounded c = copy_bounded c.args.places
+returns-clause-bounded c = copy_bounded c.args.room

@@ -1,17 +1,17 @@
 -- It is busy where some asks and calls are left, and each reply leaves fewer.
-use Rattle.std.proofs.Common.{rules, ◌≡◌, ◌<◌, ap, sym, subst}
+use Rattle.std.proofs.Common.{rules, ◌≡◌, ◌<◌, ap, sym, subst, is_some}
 use Rattle.fkv_keeper.specs.Keeping.{KeeperModel, KeeperState, keeping_next, keeper_ask, keeper_next}
 use Rattle.fkv_keeper.specs.KeeperAsks.{keeper_asks_left}
 use Rattle.fkv_keeper.proofs.KeeperFewer.{keeper_fewer}
 use Rattle.fkv_keeper.proofs.KeeperLeft.{keeper_asked}
-use Rattle.fkv_keeper.proofs.keepers.Keeper.go_on.Goals as goal
+use Rattle.fkv_keeper.proofs.keepers.Keeper.go_on_with.Goals as goal
 
 pub returns-clause-left : goal.returns-clause-left
 unfolding keeping_next
 returns-clause-left c =
     let before = c.args.self.now in
     let after = c.match-self.self in
-    let next = keeper_next before.shape before.places before.state c.args.reply after.state.is_granted in
+    let next = keeper_next before.shape before.places before.state c.args.reply (is_some c.args.room) in
     let its : after ≡ record before { state = next } = search rules in
     let asked : c.ask.result ≡ keeper_ask before.shape before.places after.state = search rules in
     keeper_asked before.shape before.places after.state c.ask.result asked
@@ -21,7 +21,7 @@ unfolding keeping_next
 returns-clause-fewer c =
     let before = c.args.self.now in
     let after = c.match-self.self in
-    let its : after ≡ record before { state = keeper_next before.shape before.places before.state c.args.reply after.state.is_granted } = search rules in
+    let its : after ≡ record before { state = keeper_next before.shape before.places before.state c.args.reply (is_some c.args.room) } = search rules in
     let state = ap (λ (k : KeeperModel). k.state) its in
     λ asks takes. subst (λ (s : KeeperState). keeper_asks_left before.shape before.places s < keeper_asks_left before.shape before.places before.state) (sym state)
-    (keeper_fewer before.shape before.places before.state c.args.reply after.state.is_granted asks takes)
+    (keeper_fewer before.shape before.places before.state c.args.reply (is_some c.args.room) asks takes)

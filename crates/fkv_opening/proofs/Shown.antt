@@ -1,0 +1,2 @@
+-- What the crates above may cite of these proofs.
+pub use Rattle.fkv_opening.proofs.Exact.{Apart, same_shape, same_slot, one_log, no_fault}
