@@ -15,5 +15,6 @@ pub mod Outer
 mod PastCalls
 mod SessionCalls
 mod SessionSteps
+pub mod Sleepers
 pub mod Slots
 pub mod Worlds
