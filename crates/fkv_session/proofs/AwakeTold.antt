@@ -1,6 +1,6 @@
 -- A session is awake unless the last of its answers that tell of that is that it sleeps; and it falls asleep where it stores 0 as its epoch word.
-use Rattle.std.proofs.Common.{◌≡◌, ℕ, ◌+◌, ◌∙◌, List, [], ◌∷◌, length, refl, sym, subst, Bool, true, false}
-use Rattle.std.specs.Prelude.{⊤, Option, Some, None, if◌then◌else◌, not, ◌==◌, ◌||◌, slice_get, slice_set}
+use Rattle.std.proofs.Common.{◌≡◌, ℕ, ◌+◌, ◌∙◌, List, [], ◌∷◌, length, refl, sym, ap, subst, Bool, true, false}
+use Rattle.std.specs.Prelude.{◌≢◌, ⊤, Option, Some, None, if◌then◌else◌, not, ◌==◌, ◌||◌, slice_get, slice_set}
 use Rattle.fkv_base.specs.declared.faults.Fault.{Fault}
 use Rattle.fkv_base.specs.declared.faults.Fault.TheVariants as fault
 use Rattle.fkv_map.specs.declared.operations.Call.{Call}
@@ -8,7 +8,9 @@ use Rattle.fkv_map.specs.declared.operations.Call.TheVariants as call
 use Rattle.fkv_map.specs.declared.operations.Op.{Op}
 use Rattle.fkv_plane.specs.declared.actions.Action.{Action}
 use Rattle.fkv_plane.specs.declared.asks.Ask.{Ask}
-use Rattle.fkv_plane.specs.declared.asks.Ask.TheVariants.{Store, Done}
+use Rattle.fkv_plane.specs.declared.asks.Ask.TheVariants.{Load, Store, Done}
+use Rattle.fkv_plane.specs.declared.places.SessionWord.TheVariants as own
+use Rattle.fkv_plane.specs.Places.{session_place}
 use Rattle.fkv_plane.specs.Passing.{passed}
 use Rattle.fkv_epoch.specs.declared.leaving.Leaving.{Leaving}
 use Rattle.fkv_epoch.specs.declared.leaving.Leaving.TheVariants as leave
@@ -30,10 +32,11 @@ use Rattle.fkv_session.specs.declared.sessions.CatchCause.TheVariants.{Refreshes
 use Rattle.fkv_session.specs.declared.sessions.Sitting.{Sitting}
 use Rattle.fkv_session.specs.declared.sessions.Sitting.TheVariants.{Idle, Attempts, CatchesUp, ClearsMail, Polls, StoresOwing, Turns, StoresCut, Leaves, LoadsDurable}
 use Rattle.fkv_session.specs.InOrder.{epoch_place}
+use Rattle.fkv_session.proofs.AsleepKept.{run_asleep}
 use Rattle.fkv_session.specs.OwnTurns.{own_turn_given}
 use Rattle.fkv_session.specs.Sessions.{SessionState, Seat, IsOpened, asks_after, is_word_ask, is_busy, answers, refuses, answers_after_turn, ticket_after, attempts, polls_request, polls_at, refusal_of, op_begun, refresh_call, poll_begun, poll_call, sleep_call, wake_call, call_begun, attempt_left, serial_taken, update_done, is_no_room, with_request, accepts, shifts, attempted, attempt_ledto, catch_ledto, clear_ledto, is_finished, is_owed, request_finished, lacks_room, finishes_request, keeps_request, poll_ledto, turn_ledto, leave_ledto, attempt_moved, caught, own_turn_moved, sitting_ask, session_ask, sitting_next, sitting_given}
 use Rattle.fkv_session.specs.SessionRun.{SessionEvent, Begins, Replies, Gets, Telling, begins, is_calling, session_happens, session_run, answered, told_after, tellings}
-use Rattle.fkv_session.specs.Asleep.{is_awake_told}
+use Rattle.fkv_session.specs.Asleep.{IsStepAsleep, is_awake_told}
 
 -- an answer that tells nothing of sleep
 abbrev pub TellsNoSleep : Told → Type 0
@@ -227,8 +230,11 @@ record IsAwakeSo (s : SessionState) (before : List Telling) : Type 0 where
   same : s.is_awake ≡ is_awake_told before
   row : SleepRow s s.step
 
-no_ask : Ask Told
+abbrev no_ask : Ask Told
 no_ask = Done told.Slept
+
+no_store : {A : Type 0} (k : Seat) → no_ask ≡ Store (epoch_place k) 0 → A
+no_store k e = cc
 
 after_so : (k : Seat) (ask : Ask Told) (awake : Bool) (s : SessionState) (before : List Telling) → AwakeNow k ask awake s → awake ≡ is_awake_told before → IsAwakeSo s (told_after true s before)
 after_so k ask awake s before now e = record { same = told_so k ask awake s s.step s.finished before now e; row = row_of k ask awake s s.step now }
@@ -281,3 +287,147 @@ run_so k opening (event ∷ before) opened = event_so k (session_run k opening b
 
 pub run_awake : (k : Seat) (opening : SessionState) (events : List SessionEvent) → IsOpened opening → (session_run k opening events).is_awake ≡ is_awake_told (tellings k opening events)
 run_awake k opening events opened = (run_so k opening events opened).same
+
+-- ---- how it comes to sleep
+-- it sleeps, and is not about to wake
+abbrev pub Sleeps : SessionState → Type 0
+Sleeps s = (s.is_awake ≡ false) × (s.step ≢ CatchesUp Wakes)
+
+-- it asks nothing, or what is durable
+pub data AsksNone (k : Seat) (ask : Ask Told) : Type 0 where
+  Rests : (its : Told) → ask ≡ Done its → AsksNone k ask
+  Loads : ask ≡ Load (session_place k.number own.Durable) → AsksNone k ask
+
+-- from where a reply leads to sleep
+pub data SleepsFrom (k : Seat) (s : SessionState) : Type 0 where
+  SleepsOn : Sleeps s → AsksNone k (session_ask k s) → SleepsFrom k s
+  FallsAsleep : session_ask k s ≡ Store (epoch_place k) 0 → SleepsFrom k s
+
+clash : {A : Type 0} (b : Bool) → b ≡ true → b ≡ false → A
+clash true yes_so no_so = cc
+clash false yes_so no_so = cc
+
+asleep_asks : (k : Seat) (s : SessionState) (step : Sitting) → IsStepAsleep step → step ≢ CatchesUp Wakes → AsksNone k (sitting_ask k s step)
+unfolding sitting_ask
+asleep_asks k s (Idle its) rests other = Rests its refl
+asleep_asks k s LoadsDurable rests other = Loads refl
+asleep_asks k s (CatchesUp Wakes) rests other = absurd (other refl)
+asleep_asks k s (CatchesUp Refreshes) rests other = absurd rests
+asleep_asks k s (CatchesUp Shifts) rests other = absurd rests
+asleep_asks k s step rests other = absurd rests
+
+-- where it was awake
+fell_by : (k : Seat) (ask : Ask Told) (s : SessionState) (step : Sitting) → AwakeAt k ask true s step → s.is_awake ≡ false → ask ≡ Store (epoch_place k) 0
+fell_by k ask s (Idle told.Slept) at asleep = at.1
+fell_by k ask s (Idle (told.Woken phase version)) at asleep = clash s.is_awake at asleep
+fell_by k ask s (Idle (told.Done serial reply)) at asleep = clash s.is_awake at asleep
+fell_by k ask s (Idle (told.Pending serial why)) at asleep = clash s.is_awake at asleep
+fell_by k ask s (Idle (told.Found value)) at asleep = clash s.is_awake at asleep
+fell_by k ask s (Idle told.Absent) at asleep = clash s.is_awake at asleep
+fell_by k ask s (Idle (told.PendingRead ticket)) at asleep = clash s.is_awake at asleep
+fell_by k ask s (Idle (told.Refreshed phase version)) at asleep = clash s.is_awake at asleep
+fell_by k ask s (Idle (told.Polled left)) at asleep = clash s.is_awake at asleep
+fell_by k ask s (Idle (told.Durable serial)) at asleep = clash s.is_awake at asleep
+fell_by k ask s (Idle (told.Refused why)) at asleep = clash s.is_awake at asleep
+fell_by k ask s (Turns its) at asleep = clash s.is_awake at.0 asleep
+fell_by k ask s Leaves at asleep = clash s.is_awake at.0 asleep
+fell_by k ask s step at asleep = clash s.is_awake at asleep
+
+-- where it was about to wake
+wakes_so : (k : Seat) (s : SessionState) (its : Ask (Unit {0})) → s.step ≡ CatchesUp Wakes → Sleeps (catch_ledto k s Wakes its) → ⊥
+unfolding catch_ledto
+wakes_so k s (Done its) e sleeps = clash true refl sleeps.0
+wakes_so k s its e sleeps = sleeps.1 e
+
+idle_same : (k : Seat) (s : SessionState) (asks : ℕ) (step : Sitting) (reply : ℕ) → is_busy step ≡ false → (sitting_next k (record s { asks = asks; effect = None }) step reply).is_awake ≡ s.is_awake
+unfolding sitting_next
+idle_same k s asks (Idle its) reply idle = refl
+idle_same k s asks step reply idle = cc
+
+falls_so : (k : Seat) (s : SessionState) (asks reply : ℕ) → SleepRow s s.step → s.is_awake ≡ true → (sitting_next k (record s { asks = asks; effect = None }) s.step reply).is_awake ≡ false → session_ask k s ≡ Store (epoch_place k) 0
+falls_so k s asks reply row awake asleep = tested (is_busy s.step) refl
+  where
+    after : SessionState
+    after = sitting_next k (record s { asks = asks; effect = None }) s.step reply
+
+    tested : (b : Bool) → is_busy s.step ≡ b → session_ask k s ≡ Store (epoch_place k) 0
+    tested true busy = fell_by k (session_ask k s) after after.step (next_awake k (session_ask k s) true s asks s.step reply refl busy refl awake row) asleep
+    tested false idle = clash s.is_awake awake (sym (idle_same k s asks s.step reply idle) ∙ asleep)
+
+next_sleeps : (k : Seat) (s : SessionState) (asks : ℕ) (step : Sitting) (reply : ℕ) → s.step ≡ step → SleepRow s s.step → (s.is_awake ≡ false → IsStepAsleep step) → Sleeps (sitting_next k (record s { asks = asks; effect = None }) step reply) → SleepsFrom k s
+unfolding sitting_next
+next_sleeps k s asks step reply e row rests sleeps = tested s.is_awake refl
+  where
+    by_step : (step : Sitting) → s.step ≡ step → IsStepAsleep step → s.is_awake ≡ false → step ≢ CatchesUp Wakes → SleepsFrom k s
+    by_step step e rests asleep other =
+        SleepsOn (asleep, subst (λ (x : Sitting). x ≢ CatchesUp Wakes) (sym e) other) (subst (λ (x : Sitting). AsksNone k (sitting_ask k s x)) (sym e) (asleep_asks k s step rests other))
+
+    -- of one that slept
+    slept : (step : Sitting) → s.step ≡ step → IsStepAsleep step → s.is_awake ≡ false → Sleeps (sitting_next k (record s { asks = asks; effect = None }) step reply) → SleepsFrom k s
+    slept (CatchesUp Wakes) e rests asleep sleeps = absurd (wakes_so k (caught k (record s { asks = asks; effect = None }) reply) _ e sleeps)
+    slept (CatchesUp Refreshes) e rests asleep sleeps = absurd rests
+    slept (CatchesUp Shifts) e rests asleep sleeps = absurd rests
+    slept (Idle its) e rests asleep sleeps = by_step (Idle its) e rests asleep (λ same. cc)
+    slept LoadsDurable e rests asleep sleeps = by_step LoadsDurable e rests asleep (λ same. cc)
+    slept step e rests asleep sleeps = absurd rests
+
+    tested : (b : Bool) → s.is_awake ≡ b → SleepsFrom k s
+    tested true awake = FallsAsleep (falls_so k s asks reply row awake (subst (λ (x : Sitting). (sitting_next k (record s { asks = asks; effect = None }) x reply).is_awake ≡ false) (sym e) sleeps.0))
+    tested false asleep = slept step e (rests asleep) asleep sleeps
+
+-- by an action
+given_same : (k : Seat) (s : SessionState) (step : Sitting) (action : Action) → IsStepAsleep step → sitting_given k s step action ≡ s
+unfolding sitting_given
+given_same k s (Turns its) action rests = absurd rests
+given_same k s step action rests = refl
+
+idle_kept : (k : Seat) (s : SessionState) (step : Sitting) (action : Action) → is_busy step ≡ false → sitting_given k s step action ≡ s
+unfolding sitting_given
+idle_kept k s (Idle its) action idle = refl
+idle_kept k s step action idle = cc
+
+given_sleeps : (k : Seat) (s : SessionState) (action : Action) → SleepRow s s.step → (s.is_awake ≡ false → IsStepAsleep s.step) → Sleeps (sitting_given k s s.step action) → Sleeps s
+given_sleeps k s action row rests sleeps = tested s.is_awake refl
+  where
+    after : SessionState
+    after = sitting_given k s s.step action
+
+    busy_so : (b : Bool) → is_busy s.step ≡ b → s.is_awake ≡ true → Sleeps s
+    busy_so true busy awake = no_store k (fell_by k no_ask after after.step (given_awake k no_ask true s s.step action refl busy awake row) sleeps.0)
+    busy_so false idle awake = clash s.is_awake awake (sym (ap (λ (x : SessionState). x.is_awake) (idle_kept k s s.step action idle)) ∙ sleeps.0)
+
+    tested : (b : Bool) → s.is_awake ≡ b → Sleeps s
+    tested true awake = busy_so (is_busy s.step) refl awake
+    tested false asleep = subst Sleeps (given_same k s s.step action (rests asleep)) sleeps
+
+-- by a call
+begun_sleeps : (k : Seat) (s : SessionState) (its : Call) (busy : Bool) → is_busy s.step ≡ busy → Sleeps (begins k s busy its) → Sleeps s
+begun_sleeps k s its true e sleeps = sleeps
+begun_sleeps k s its false e sleeps = (tested s.is_awake refl, idle_no_wake s.step e)
+  where
+    t : SessionState
+    t = record s { asks = 0; effect = None; wants_turn = false }
+
+    tested : (b : Bool) → s.is_awake ≡ b → s.is_awake ≡ false
+    tested true awake = no_store k (fell_by k no_ask (call_begun k t its) (call_begun k t its).step (call_awake k no_ask true t its awake) sleeps.0)
+    tested false asleep = asleep
+
+    idle_no_wake : (step : Sitting) → is_busy step ≡ false → step ≢ CatchesUp Wakes
+    idle_no_wake (Idle it) idle = λ same. cc
+    idle_no_wake step idle = cc
+
+-- over a run
+pub run_falls : (k : Seat) (opening : SessionState) (before : List SessionEvent) (reply : ℕ) → IsOpened opening → Sleeps (session_run k opening (Replies reply ∷ before)) → SleepsFrom k (session_run k opening before)
+unfolding session_run session_happens
+run_falls k opening before reply opened sleeps =
+    let s : SessionState = session_run k opening before in
+    next_sleeps k s (asks_after s.asks (is_word_ask (session_ask k s))) s.step reply refl (run_so k opening before opened).row (λ asleep. (run_asleep k opening before opened asleep).accepts_none) sleeps
+
+pub run_given : (k : Seat) (opening : SessionState) (before : List SessionEvent) (action : Action) → IsOpened opening → Sleeps (session_run k opening (Gets action ∷ before)) → Sleeps (session_run k opening before)
+unfolding session_run session_happens
+run_given k opening before action opened sleeps =
+    given_sleeps k (session_run k opening before) action (run_so k opening before opened).row (λ asleep. (run_asleep k opening before opened asleep).accepts_none) sleeps
+
+pub run_begun : (k : Seat) (opening : SessionState) (before : List SessionEvent) (its : Call) → Sleeps (session_run k opening (Begins its ∷ before)) → Sleeps (session_run k opening before)
+unfolding session_run session_happens
+run_begun k opening before its sleeps = begun_sleeps k (session_run k opening before) its (is_busy (session_run k opening before).step) refl sleeps

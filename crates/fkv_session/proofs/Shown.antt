@@ -5,7 +5,7 @@ pub use Rattle.fkv_session.proofs.SessionLeft.{session_left, session_begun_left,
 pub use Rattle.fkv_session.proofs.Bounded.{run_within}
 pub use Rattle.fkv_session.proofs.RoomKept.{HasRoomNow, run_room}
 pub use Rattle.fkv_session.proofs.AnswersTrue.{run_durable, run_refreshed, run_true, run_woken}
-pub use Rattle.fkv_session.proofs.AwakeTold.{run_awake}
+pub use Rattle.fkv_session.proofs.AwakeTold.{Sleeps, AsksNone, Rests, Loads, SleepsFrom, SleepsOn, FallsAsleep, run_awake, run_begun, run_falls, run_given}
 pub use Rattle.fkv_session.proofs.FirstCauses.{begun_caused, begun_refused}
 pub use Rattle.fkv_session.proofs.AttemptKeeps.{attempt_keeps}
 pub use Rattle.fkv_session.proofs.AttemptMade.{made_in, made_of, KnowsUpdate, IsMadeSo, begun_so, begun_nothing, attempt_so, attempt_ends}

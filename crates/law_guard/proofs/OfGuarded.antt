@@ -16,6 +16,7 @@ pub mod Outer
 mod PastCalls
 mod SessionCalls
 mod SessionSteps
+pub mod Sleepers
 pub mod Slots
 mod SlotsApart
 mod SlotsHeld

@@ -2,7 +2,7 @@
 ghost use Rattle.std.specs.Prelude.{◌∷◌, ◌++◌, ◌≡◌, ◌≢◌, ◌<◌, ◌≤◌, ◌-◌, ◌^◌, ℕ, Bool, List, None, Some, false, length, slice_get};
 ghost use Rattle.fkv_base.specs.Limits.{drain_slots, max_sessions};
 ghost use Rattle.fkv_base.specs.declared.shapes.Shape.{Shape};
-ghost use Rattle.fkv_epoch.specs.EpochWorld.{Claimed, Ran, safe_of};
+ghost use Rattle.fkv_epoch.specs.EpochWorld.{Claimed, Ran, own_epoch, safe_of};
 ghost use Rattle.fkv_epoch.specs.Once.{Among, HasRunOnce};
 ghost use Rattle.fkv_plane.specs.Asked.{asked_place};
 ghost use Rattle.fkv_plane.specs.Places.{word_count};
@@ -16,6 +16,8 @@ ghost use Rattle.fkv_flush.specs.Guarded.{GoesBy, IsCovered, UndecidedIsFresh, s
 ghost use Rattle.fkv_keeper.specs.KeeperRun.{is_in_hand};
 ghost use Rattle.fkv_keeper.specs.Keeping.{keeper_ask};
 ghost use Rattle.fkv_session.specs.Sessions.{SessionState, is_busy, session_ask};
+ghost use Rattle.fkv_session.specs.declared.sessions.CatchCause.TheVariants.{Wakes};
+ghost use Rattle.fkv_session.specs.declared.sessions.Sitting.TheVariants.{CatchesUp};
 ghost use Rattle.fkv_world.specs.Actors.{slot_asked, slot_named};
 ghost use Rattle.law_world.specs.Runs.Ends.{KeeperStandsAtNoSlot, StandsAtNoSlot, asks_left_of, asks_left_of_keeper, moves_alone};
 ghost use Rattle.fkv_world.specs.World.{Event, KeeperMoves, Moves, seat_at};
@@ -82,6 +84,13 @@ pub fn law_world_once()
         → Among action (seen_by_guard opening start (event ∷ events)).past.runs → HaveLoadedSince (seen_by_guard opening start events) action.epoch }
     ensures safe { (opening : World) (start : ℕ) (events : List Event) (epoch : ℕ) → IsOpened opening.now start
         → epoch ≤ safe_of (run opening events).now.words → HaveLoadedSince (seen_by_guard opening start events) epoch }
+{}
+
+/// In such a life a session that sleeps holds nobody up: until it wakes its epoch word is 0.
+pub fn law_world_sleepers()
+    ensures { (opening : World) (start : ℕ) (events : List Event) (session : ℕ) (first its : SessionState) → IsOpened opening.now start
+        → slice_get opening.now.sessions session ≡ Some first → slice_get (run opening events).now.sessions session ≡ Some its
+        → its.is_awake ≡ false → its.step ≢ CatchesUp Wakes → own_epoch (run opening events).now.words session ≡ 0 }
 {}
 
 /// In such a life, whatever its events: a step of a session or of the keeper that turns to a drain slot finds the slot empty where it
