@@ -19,15 +19,24 @@ fn faults_and_phases_have_their_names(rt: HostRuntime) -> Result<(), Fail> {
 
 #[test]
 fn a_shape_within_its_limits_is_kept(rt: HostRuntime) {
-    for (sizes, fits) in [
-        ([4, 16, 4, 2, 1, 0, 64], true),
-        ([10, 1024, 64, 63, 32, 1024, 65536], true),
-        ([4, 16, 4, 2, 33, 0, 64], false),
-        ([4, 6, 4, 2, 1, 0, 64], false),
-        ([0, 4, 2, 2, 1, 0, 1], false),
+    for (sizes, small, large) in [
+        ([4, 16, 4, 2, 1, 0, 64], true, false),
+        ([10, 1024, 64, 63, 32, 1024, 65536], true, false),
+        ([11, 16, 4, 2, 1, 0, 64], false, true),
+        (
+            [24, 65536, 4096, 4095, 32, 16777216, 1073741824],
+            false,
+            true,
+        ),
+        ([25, 16, 4, 2, 1, 0, 64], false, false),
+        ([4, 16, 4, 2, 33, 0, 64], false, false),
+        ([4, 6, 4, 2, 1, 0, 64], false, false),
+        ([0, 4, 2, 2, 1, 0, 1], false, false),
     ] {
         let [bits, page, frames, mutable, sessions, overflow, pages] = sizes;
         let shape = Shape::new(bits, page, frames, mutable, sessions, overflow, pages);
-        assert!(rt; shape.is_ok() == fits);
+        assert!(rt; shape.is_ok() == small);
+        let shape = Shape::large(bits, page, frames, mutable, sessions, overflow, pages);
+        assert!(rt; shape.is_ok() == large);
     }
 }
