@@ -1,9 +1,7 @@
-mod Below
 mod Bytes
 pub mod Device
 pub mod Later
 mod LinesFit
-mod Lists
 mod LogFits
 pub mod Served
 pub mod Words

@@ -2,6 +2,7 @@ pub mod Apart
 mod AppendSteps
 mod AttemptEffects
 mod AttemptSteps
+pub mod Below
 mod Between
 pub mod EventEffects
 pub mod Fixed

@@ -8,6 +8,7 @@ mod FrameWords
 pub mod Frames
 mod GhostFits
 pub mod Life
+pub mod LogHeaders
 mod LogShows
 pub mod Meets
 pub mod Numbers

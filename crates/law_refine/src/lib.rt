@@ -15,7 +15,8 @@ pub use events::{
 };
 pub use heads::{law_heads, law_heads_found};
 pub use records::{
-    law_device_shows_log, law_frames_show_log, law_records_published, law_stands_show_log,
+    law_device_shows_log, law_frames_show_log, law_headers_show_log, law_records_published,
+    law_stands_show_log,
 };
 pub use results::law_world_results;
 pub use seen::{law_calls_in_hand, law_world_seen_rises};

@@ -2,6 +2,7 @@
 ghost use Rattle.std.specs.Prelude.{◌≡◌, ◌≤◌, ℕ, List, Some, slice_get};
 ghost use Rattle.fkv_flush.specs.GuardFlushed.{IsSynced, stands};
 ghost use Rattle.fkv_flush.specs.GuardLevels.{levels_of};
+ghost use Rattle.law_log.specs.Enabled.{AreEnabled};
 ghost use Rattle.law_log.specs.Ghosts.{Ghosts};
 ghost use Rattle.fkv_session.specs.Sessions.{SessionState};
 ghost use Rattle.fkv_world.specs.Runs.{World, run};
@@ -15,6 +16,7 @@ ghost use Rattle.law_refine.specs.Events.Reserved.{IsUnbornFrom, ReservesNothing
 ghost use Rattle.law_refine.specs.Events.Published.{AllMeetPublished};
 ghost use Rattle.law_refine.specs.Records.Cells.{StandsShowLog};
 ghost use Rattle.law_refine.specs.Records.Changes.{AreChangesPublished, ChangesPublished};
+ghost use Rattle.law_refine.specs.Records.Headers.{HeadersShowLog};
 ghost use Rattle.law_refine.specs.Records.Frames.{DeviceShowsLog, FindsFramed, FramesShow, FramesShowLog, IsAttempting};
 
 use law_guard::law_world_flushed_is_synced;
@@ -39,6 +41,15 @@ pub fn law_records_published()
 pub fn law_stands_show_log()
     ensures { (opening : World) (start : ℕ) (ghosts : Ghosts) (events : List Event) → guard.IsOpened opening.now start → IsUnbornFrom (tail_at opening.now) ghosts → ReservesNothing ghosts
         → AreChangesPublished opening ghosts events → StandsShowLog start (stands (guard_opening opening.now start) (guarded.mapped opening events)) (life_ghosts opening ghosts events).log }
+{}
+
+/// So where each event of the log is enabled too, the header of each record that is decided says what became of it, from where the log began on: that of
+/// a published record is valid, and that of one that was given up invalid. Each says the version of its record and where that leads; what was given up leads
+/// below itself, so recovery passes over it.
+pub fn law_headers_show_log()
+    ensures { (opening : World) (start : ℕ) (ghosts : Ghosts) (events : List Event) → guard.IsOpened opening.now start → IsUnbornFrom (tail_at opening.now) ghosts → ReservesNothing ghosts
+        → AreChangesPublished opening ghosts events → AreEnabled (home_in opening.now.shape.bucket_bits) ghosts (mapped opening events)
+        → HeadersShowLog start (stands (guard_opening opening.now start) (guarded.mapped opening events)) (life_ghosts opening ghosts events).log }
 {}
 
 /// At every moment of such a life an address below the tail that is no further than the ring below the limit has in its frame the words that stand

@@ -24,7 +24,7 @@ use Rattle.law_refine.specs.Records.Changes.{AreChangesPublished}
 use Rattle.law_refine.proofs.OfRecords.Life.{life_holds}
 use Rattle.law_refine.proofs.OfRecords.Below.{published_permitted}
 use Rattle.law_refine.proofs.OfRecords.Standing.{stands_in}
-use Rattle.law_order.proofs.OfServed.Below.{life_below}
+use Rattle.law_refine.proofs.OfEvents.Below.{life_below}
 use Rattle.law_order.proofs.OfServed.Bytes.{further, range_same, reads_same, same_further}
 
 -- the calls of the guard's run are those of the life

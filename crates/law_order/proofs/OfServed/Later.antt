@@ -10,7 +10,7 @@ use Rattle.fkv_world.specs.Runs.{World, run}
 use Rattle.fkv_world.specs.World.{Event}
 use Rattle.law_order.specs.Known.Begins.{home_of_world}
 use Rattle.law_refine.specs.Events.GhostEvents.{serials_in, ghost_events, mapped, life_ghosts}
-use Rattle.law_order.proofs.OfServed.Lists.{one_step}
+use Rattle.law_refine.proofs.OfEvents.Below.{one_step}
 
 -- it is there, and changes no more
 pub record IsFixedAs (log : Log) (a : ℕ) (cell : Cell) : Type 0 where

@@ -1,5 +1,6 @@
 -- What stands of a record as far as its append has stored it, and how a reply to the append leaves it so.
-use Rattle.std.proofs.Common.{◌≡◌, ℕ, ◌∙◌, refl, sym, ap, subst, Bool, true, false}
+use Rattle.std.proofs.Common.{◌≡◌, ℕ, ◌<◌, ◌∙◌, arith, refl, sym, ap, subst, Bool, true, false}
+use Rattle.std.proofs.lemmas.Bool.Decides.{nat_tests}
 use Rattle.std.specs.Prelude.{◌==◌, ◌&&◌, nat_lt, ◌^◌, if◌then◌else◌, ⊤}
 use Rattle.fkv_base.specs.declared.numbers.Addr.{Addr}
 use Rattle.fkv_words.specs.Layout.{header_word}
@@ -10,12 +11,14 @@ use Rattle.fkv_plane.specs.declared.places.RecordWord.{RecordWord}
 use Rattle.fkv_plane.specs.declared.places.RecordWord.TheVariants as rec
 use Rattle.fkv_log.specs.declared.filling.Filling.{Filling}
 use Rattle.fkv_log.specs.declared.filling.Filling.TheVariants as fill
+use Rattle.fkv_log.specs.declared.invalidating.Invalidating.{Invalidating}
+use Rattle.fkv_log.specs.declared.invalidating.Invalidating.TheVariants as invalidate
 use Rattle.fkv_log.specs.declared.record_words.RecordWords.{RecordWords}
 use Rattle.fkv_log.specs.declared.reserving.ReserveAnswer.{ReserveAnswer}
 use Rattle.fkv_log.specs.declared.reserving.ReserveAnswer.TheVariants as reserve
 use Rattle.fkv_log.specs.Reserving.{reserve_next, reserve_next_ask}
 use Rattle.fkv_log.specs.Filling.{fill_begun, fill_ask, fill_next}
-use Rattle.fkv_log.specs.Invalidating.{invalidate_ask, invalidate_next}
+use Rattle.fkv_log.specs.Invalidating.{invalidate_ask, invalidate_next, invalidated}
 use Rattle.fkv_index.specs.declared.publishing.PublishAnswer.TheVariants as publish
 use Rattle.fkv_index.specs.declared.publishing.Publishing.{Publishing}
 use Rattle.fkv_index.specs.declared.publishing.Publishing.TheVariants.{AtRest, SwapsEntry}
@@ -41,9 +44,21 @@ pub record IsFilled (words : RecordWord → ℕ) (its : RecordWords) : Type 0 wh
   pub key : words rec.Key ≡ its.key.0
   pub value : words rec.Value ≡ its.value
 
+-- they are those of a valid record, which leads below this address
+pub record Falls (its : RecordWords) (addr : ℕ) : Type 0 where
+  pub valid : its.header.invalid ≡ false
+  pub below : its.header.previous.0 < addr
+
+-- the record that is given up is the one of these words, which leads below its address
+abbrev pub GivesUp : RecordWords → Invalidating → Type 0
+GivesUp its invalidate.AtRest = ⊤
+GivesUp its (invalidate.StoresHeader addr header) = (header ≡ its.header) × (its.header.previous.0 < addr.0)
+
 abbrev pub AppendStands : Standing → AppendState → Appending → Type 0
-AppendStands stands a (appending.Fills addr) = FillStands stands addr a.its_words a.filling
-AppendStands stands a (appending.Publishes addr) = IsFilled (stands addr.0) a.its_words
+AppendStands stands a appending.Reserves = a.its_words.header.invalid ≡ false
+AppendStands stands a (appending.Fills addr) = FillStands stands addr a.its_words a.filling × Falls a.its_words addr.0
+AppendStands stands a (appending.Publishes addr) = IsFilled (stands addr.0) a.its_words × Falls a.its_words addr.0
+AppendStands stands a appending.Invalidates = GivesUp a.its_words a.invalidating
 AppendStands stands a step = ⊤
 
 -- ---- what a store of one of the words leaves standing
@@ -53,8 +68,13 @@ FillWrites stands after (fill.StoresValue at its) = after at.0 rec.Value ≡ its
 FillWrites stands after (fill.StoresKey at its) = (after at.0 rec.Key ≡ its.key.0) × (after at.0 rec.Value ≡ stands at.0 rec.Value)
 FillWrites stands after (fill.StoresHeader at its) = (after at.0 rec.Header ≡ header_word its.header) × (after at.0 rec.Key ≡ stands at.0 rec.Key) × (after at.0 rec.Value ≡ stands at.0 rec.Value)
 
+abbrev pub InvalidateWrites : Standing → Invalidating → Type 0
+InvalidateWrites after invalidate.AtRest = ⊤
+InvalidateWrites after (invalidate.StoresHeader at header) = after at.0 rec.Header ≡ header_word (invalidated header)
+
 abbrev pub AppendWrites : Standing → Standing → AppendState → Appending → Type 0
 AppendWrites stands after a (appending.Fills addr) = FillWrites stands after a.filling
+AppendWrites stands after a appending.Invalidates = InvalidateWrites after a.invalidating
 AppendWrites stands after a step = ⊤
 
 -- ---- each reply to an append
@@ -64,57 +84,64 @@ StandsNow stands a = AppendStands stands a a.step
 still : (stands : Standing) (a : AppendState) (step : Appending) → a.step ≡ step → AppendStands stands a step → StandsNow stands a
 still stands a step at its = subst (AppendStands stands a) (sym at) its
 
-reserved_so : (after : Standing) (a : AppendState) (ask : Ask ReserveAnswer) → a.step ≡ appending.Reserves → StandsNow after (reserve_ledto a ask)
+reserved_so : (after : Standing) (a : AppendState) (ask : Ask ReserveAnswer) → a.step ≡ appending.Reserves → a.its_words.header.invalid ≡ false → StandsNow after (reserve_ledto a ask)
 unfolding reserve_ledto
-reserved_so after a (Done (reserve.Reserved addr)) at = by_test (nat_lt a.its_words.header.previous.0 addr.0 && nat_lt addr.0 (2 ^ 48))
+reserved_so after a (Done (reserve.Reserved addr)) at valid = by_tests (nat_lt a.its_words.header.previous.0 addr.0) (nat_lt addr.0 (2 ^ 48)) refl
   where
-    by_test : (c : Bool) → StandsNow after (if c then record a { filling = fill_begun addr a.its_words; step = appending.Fills addr } else append_ended a append.Contended)
-    by_test true = (refl, refl)
-    by_test false = tt
-reserved_so after a (Done reserve.Full) at = tt
-reserved_so after a (Done reserve.NoRoom) at = tt
-reserved_so after a (Done reserve.Contended) at = tt
-reserved_so after a ask at = still after a appending.Reserves at tt
+    by_tests : (c d : Bool) → nat_lt a.its_words.header.previous.0 addr.0 ≡ c → StandsNow after (if c && d then record a { filling = fill_begun addr a.its_words; step = appending.Fills addr } else append_ended a append.Contended)
+    by_tests true true low = ((refl, refl), record { valid = valid; below = grind (arith, nat_tests, low) })
+    by_tests true false low = tt
+    by_tests false d low = tt
+reserved_so after a (Done reserve.Full) at valid = tt
+reserved_so after a (Done reserve.NoRoom) at valid = tt
+reserved_so after a (Done reserve.Contended) at valid = tt
+reserved_so after a ask at valid = still after a appending.Reserves at valid
 
-filled_so : (stands after : Standing) (p : Places) (a : AppendState) (addr : Addr) (filling : Filling) → a.step ≡ appending.Fills addr → FillStands stands addr a.its_words filling → FillWrites stands after filling
+filled_so : (stands after : Standing) (p : Places) (a : AppendState) (addr : Addr) (filling : Filling) → a.step ≡ appending.Fills addr → FillStands stands addr a.its_words filling → Falls a.its_words addr.0 → FillWrites stands after filling
     → StandsNow after (fill_ledto (record a { filling = fill_next filling }) addr (fill_ask p (fill_next filling)))
 unfolding fill_ledto fill_ask fill_next
-filled_so stands after p a addr fill.AtRest at so writes = absurd so
-filled_so stands after p a addr (fill.StoresValue where_to its) at so writes =
+filled_so stands after p a addr fill.AtRest at so falls writes = absurd so
+filled_so stands after p a addr (fill.StoresValue where_to its) at so falls writes =
     still after (record a { filling = fill.StoresKey where_to its }) (appending.Fills addr) at
-    (so.0, so.1, subst (λ (x : Addr). after x.0 rec.Value ≡ a.its_words.value) so.0 (writes ∙ ap (λ (x : RecordWords). x.value) so.1))
-filled_so stands after p a addr (fill.StoresKey where_to its) at so writes =
+    ((so.0, so.1, subst (λ (x : Addr). after x.0 rec.Value ≡ a.its_words.value) so.0 (writes ∙ ap (λ (x : RecordWords). x.value) so.1)), falls)
+filled_so stands after p a addr (fill.StoresKey where_to its) at so falls writes =
     still after (record a { filling = fill.StoresHeader where_to its }) (appending.Fills addr) at (
-      so.0,
-      so.1,
-      subst (λ (x : Addr). after x.0 rec.Value ≡ stands x.0 rec.Value) so.0 writes.1 ∙ so.2,
-      subst (λ (x : Addr). after x.0 rec.Key ≡ a.its_words.key.0) so.0 (writes.0 ∙ ap (λ (x : RecordWords). x.key.0) so.1),
+      (
+        so.0,
+        so.1,
+        subst (λ (x : Addr). after x.0 rec.Value ≡ stands x.0 rec.Value) so.0 writes.1 ∙ so.2,
+        subst (λ (x : Addr). after x.0 rec.Key ≡ a.its_words.key.0) so.0 (writes.0 ∙ ap (λ (x : RecordWords). x.key.0) so.1),
+      ),
+      falls,
     )
-filled_so stands after p a addr (fill.StoresHeader where_to its) at so writes = record {
-  header = subst (λ (x : Addr). after x.0 rec.Header ≡ header_word a.its_words.header) so.0 (writes.0 ∙ ap (λ (x : RecordWords). header_word x.header) so.1);
-  key = subst (λ (x : Addr). after x.0 rec.Key ≡ stands x.0 rec.Key) so.0 writes.1 ∙ so.3;
-  value = subst (λ (x : Addr). after x.0 rec.Value ≡ stands x.0 rec.Value) so.0 writes.2 ∙ so.2;
-}
+filled_so stands after p a addr (fill.StoresHeader where_to its) at so falls writes = (
+  record {
+    header = subst (λ (x : Addr). after x.0 rec.Header ≡ header_word a.its_words.header) so.0 (writes.0 ∙ ap (λ (x : RecordWords). header_word x.header) so.1);
+    key = subst (λ (x : Addr). after x.0 rec.Key ≡ stands x.0 rec.Key) so.0 writes.1 ∙ so.3;
+    value = subst (λ (x : Addr). after x.0 rec.Value ≡ stands x.0 rec.Value) so.0 writes.2 ∙ so.2;
+  },
+  falls,
+)
 
-published_so : (after : Standing) (a : AppendState) (addr : Addr) (its : Publishing) (reply : ℕ) → StandsNow after (publish_ledto (record a { publishing = publish_next its reply }) addr (publish_next_ask its reply))
+published_so : (after : Standing) (a : AppendState) (addr : Addr) (its : Publishing) (reply : ℕ) → Falls a.its_words addr.0 → StandsNow after (publish_ledto (record a { publishing = publish_next its reply }) addr (publish_next_ask its reply))
 unfolding publish_ledto publish_next publish_next_ask
-published_so after a addr AtRest reply = tt
-published_so after a addr (SwapsEntry place word entry) reply = by_test (reply == word)
+published_so after a addr AtRest reply falls = (refl, falls.below)
+published_so after a addr (SwapsEntry place word entry) reply falls = by_test (reply == word)
   where
     by_test : (c : Bool) → StandsNow after (publish_ledto (record a { publishing = AtRest }) addr (Done (if c then publish.Won else publish.Lost)))
     by_test true = tt
-    by_test false = tt
+    by_test false = (refl, falls.below)
 
-invalidated_so : (after : Standing) (a : AppendState) (ask : Ask (Unit {0})) → a.step ≡ appending.Invalidates → StandsNow after (invalidate_ledto a ask)
-unfolding invalidate_ledto
-invalidated_so after a (Done told) at = tt
-invalidated_so after a ask at = still after a appending.Invalidates at tt
+invalidated_so : (after : Standing) (p : Places) (a : AppendState) (its : Invalidating) → StandsNow after (invalidate_ledto (record a { invalidating = invalidate_next its }) (invalidate_ask p (invalidate_next its)))
+unfolding invalidate_ledto invalidate_ask invalidate_next
+invalidated_so after p a invalidate.AtRest = tt
+invalidated_so after p a (invalidate.StoresHeader addr header) = tt
 
 pub append_so : (stands after : Standing) (p : Places) (room : ℕ) (a : AppendState) (step : Appending) (reply : ℕ) → a.step ≡ step → AppendStands stands a step → AppendWrites stands after a step
     → AppendStands after (appending_next p room a step reply) (appending_next p room a step reply).step
 unfolding appending_next
 append_so stands after p room a (appending.Ended told) reply at so writes = still after a (appending.Ended told) at tt
-append_so stands after p room a appending.Reserves reply at so writes = reserved_so after (record a { reserving = reserve_next a.reserving reply }) (reserve_next_ask room a.reserving reply) at
-append_so stands after p room a (appending.Fills addr) reply at so writes = filled_so stands after p a addr a.filling at so writes
-append_so stands after p room a (appending.Publishes addr) reply at so writes = published_so after a addr a.publishing reply
-append_so stands after p room a appending.Invalidates reply at so writes = invalidated_so after (record a { invalidating = invalidate_next a.invalidating }) (invalidate_ask p (invalidate_next a.invalidating)) at
+append_so stands after p room a appending.Reserves reply at so writes = reserved_so after (record a { reserving = reserve_next a.reserving reply }) (reserve_next_ask room a.reserving reply) at so
+append_so stands after p room a (appending.Fills addr) reply at so writes = filled_so stands after p a addr a.filling at so.0 so.1 writes
+append_so stands after p room a (appending.Publishes addr) reply at so writes = published_so after a addr a.publishing reply so.1
+append_so stands after p room a appending.Invalidates reply at so writes = invalidated_so after p a a.invalidating

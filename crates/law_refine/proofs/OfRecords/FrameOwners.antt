@@ -81,7 +81,7 @@ invalidate_owner a entry invalidate.AtRest f e = cc
 invalidate_owner a entry (invalidate.StoresHeader addr header) f e = record { its = reservation a entry addr.0; reserved_so = refl; addr_so = its_addr (record { addr = addr.0; word = rec.Header }) f e }
 
 append_owner : (stands : Standing) (a : AppendState) (entry : HistoryEntry) (step : Appending) (f : FrameWord) → AppendStands stands a step → append_word a step ≡ Some f → HasReservation (append_reserves a entry step) f
-append_owner stands a entry (appending.Fills addr) f so e = record { its = reservation a entry addr.0; reserved_so = refl; addr_so = fill_owner stands addr a.its_words a.filling f so e }
+append_owner stands a entry (appending.Fills addr) f so e = record { its = reservation a entry addr.0; reserved_so = refl; addr_so = fill_owner stands addr a.its_words a.filling f so.0 e }
 append_owner stands a entry appending.Invalidates f so e = invalidate_owner a entry a.invalidating f e
 append_owner stands a entry step f so e = cc
 

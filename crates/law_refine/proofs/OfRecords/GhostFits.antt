@@ -1,19 +1,25 @@
 -- What the log's events of a session's step have to do with the session: what it changes in place, and that the record which it publishes stands.
-use Rattle.std.proofs.Common.{◌≡◌, ℕ, ◌∙◌, refl, ap, subst, Bool, true, false, List, [], ◌∷◌, ◌++◌}
-use Rattle.std.specs.Prelude.{◌==◌, if◌then◌else◌, ⊤, Option, Some, None}
+use Rattle.std.proofs.Common.{◌≡◌, ℕ, ◌<◌, ◌^◌, ◌∙◌, arith, refl, sym, ap, subst, Bool, true, false, List, [], ◌∷◌, ◌++◌}
+use Rattle.std.specs.Prelude.{◌==◌, ◌&&◌, nat_lt, if◌then◌else◌, ⊤, Option, Some, None}
+use Rattle.std.proofs.lemmas.Bool.Decides.{nat_tests}
 use Rattle.fkv_epoch.proofs.Shown.{some_same}
 use Rattle.fkv_map.specs.declared.history.HistoryEntry.{HistoryEntry}
 use Rattle.fkv_map.specs.declared.operations.Op.{Op}
 use Rattle.fkv_map.specs.declared.operations.Op.TheVariants.{Read}
 use Rattle.fkv_map.specs.Keys.{reply_from}
+use Rattle.fkv_words.specs.declared.headers.Header.{Header}
+use Rattle.fkv_words.specs.Layout.{header_word}
 use Rattle.law_log.specs.Ghosts.{GhostEvent, Publishes, Changes, Drops, Reserves as TakesAddr}
 use Rattle.fkv_plane.specs.declared.asks.Ask.{Ask}
 use Rattle.fkv_plane.specs.declared.asks.Ask.TheVariants.{Done}
 use Rattle.fkv_plane.specs.declared.places.Places.{Places}
+use Rattle.fkv_plane.specs.declared.places.RecordWord.{RecordWord}
 use Rattle.fkv_plane.specs.declared.places.RecordWord.TheVariants as rec
 use Rattle.fkv_plane.specs.Asked.{asked}
 use Rattle.fkv_log.specs.declared.invalidating.Invalidating.{Invalidating}
 use Rattle.fkv_log.specs.declared.invalidating.Invalidating.TheVariants as invalidating
+use Rattle.fkv_log.specs.Invalidating.{invalidated}
+use Rattle.fkv_log.specs.declared.record_words.RecordWords.{RecordWords}
 use Rattle.fkv_log.specs.declared.reserving.ReserveAnswer.{ReserveAnswer}
 use Rattle.fkv_log.specs.declared.reserving.ReserveAnswer.TheVariants as reserve
 use Rattle.fkv_log.specs.Reserving.{reserve_next_ask}
@@ -50,118 +56,160 @@ use Rattle.law_guard.specs.Sessions.Tries.{is_for_entry}
 use Rattle.law_local.specs.Tries.TryRows.{cell_of}
 use Rattle.law_refine.specs.Events.Effects.{AreQuiet}
 use Rattle.law_refine.specs.Events.Lines.{read_in_hand, read_waiting}
-use Rattle.law_refine.specs.Events.Reservations.{Reservation, reservation, append_reserves, try_reserves, attempt_reserves}
+use Rattle.law_refine.specs.Events.Reservations.{Reservation, reservation, append_reserves, invalidate_reserves, try_reserves, attempt_reserves}
 use Rattle.law_refine.specs.Events.Reserved.{sitting_reserves}
 use Rattle.law_refine.specs.Events.Sessions.{value_ghosts, tried_ghosts, attempt_ghosts, ticket_of, sitting_ghosts}
 use Rattle.law_refine.specs.Events.Tries.{found_ghosts, find_ghosts, walk_ghosts, search_ghosts, try_ghosts}
+use Rattle.law_log.specs.Chains.{Cell}
 use Rattle.law_refine.specs.Records.Cells.{ShowsCell}
-use Rattle.law_refine.proofs.OfRecords.AppendRows.{Standing, AppendStands, IsFilled}
-use Rattle.law_refine.proofs.OfRecords.AttemptRows.{IsAllowed, IsAttemptSo, TriesAt}
+use Rattle.law_refine.specs.Records.Headers.{IsGivenUp, IsHeaderOf}
+use Rattle.law_refine.proofs.OfRecords.AppendRows.{Standing, AppendStands, AppendWrites, GivesUp, InvalidateWrites, IsFilled}
+use Rattle.law_refine.proofs.OfRecords.AttemptRows.{AttemptWrites, IsAllowed, IsAttemptSo, TriesAt}
 use Rattle.law_refine.proofs.OfRecords.FrameWords.{FrameWord, append_word, asked_passed, attempt_word, sitting_word, try_word}
 use Rattle.law_refine.proofs.OfRecords.Numbers.{filled_shows}
-use Rattle.law_refine.proofs.OfRecords.SessionRows.{StepIsSo}
-use Rattle.law_refine.proofs.OfRecords.TryRows.{TryStands}
+use Rattle.law_refine.proofs.OfRecords.SessionRows.{SittingWrites, StepIsSo}
+use Rattle.law_refine.proofs.OfRecords.TryRows.{TryStands, TryWrites}
 
--- what stands for what is reserved shows it
+-- what stands for what is reserved shows it, as a valid record
+pub record ShowsValid (words : RecordWord → ℕ) (cell : Cell) : Type 0 where
+  pub shows : ShowsCell words cell
+  pub header : IsHeaderOf cell false (words rec.Header)
+
 abbrev pub ReservedShows : Standing → Option Reservation → Type 0
-ReservedShows stands reserved = (its : Reservation) → reserved ≡ Some its → ShowsCell (stands its.addr) its.cell
+ReservedShows stands reserved = (its : Reservation) → reserved ≡ Some its → ShowsValid (stands its.addr) its.cell
+
+-- What is given up is what was reserved, and its header is stored so, if the step leaves what it writes. Or it was just taken, at an address that no entry can
+-- have.
+abbrev pub DropsIt : Standing → Type 0 → Option Reservation → List GhostEvent → Type 0
+DropsIt after writes reserved (TakesAddr a entry cell ∷ before) = cell.previous < a → a < 2 ^ 48 → ⊥
+DropsIt after writes reserved before = writes → (its : Reservation) → reserved ≡ Some its → IsGivenUp its.addr its.cell (after its.addr rec.Header)
 
 -- By an event a record changes that the session changes in place, by an update that brings no word for none; or the one is published that it has reserved,
--- which stands whole, while it writes no word of a frame.
-abbrev pub fits : Standing → Option ℕ → Option Reservation → Option FrameWord → GhostEvent → Type 0
-fits stands changed reserved word (Changes a entry) = (changed ≡ Some a) × IsAllowed entry.op
-fits stands changed reserved word (Publishes a) = ReservedShows stands reserved × (word ≡ None)
-fits stands changed reserved word event = ⊤
+-- which stands whole, while it writes no word of a frame. Or one is given up.
+abbrev pub fits : Standing → Standing → Type 0 → Option ℕ → Option Reservation → Option FrameWord → GhostEvent → List GhostEvent → Type 0
+fits stands after Writes changed reserved word (Changes a entry) before = (changed ≡ Some a) × IsAllowed entry.op
+fits stands after Writes changed reserved word (Publishes a) before = ReservedShows stands reserved × (word ≡ None)
+fits stands after Writes changed reserved word (Drops a) before = DropsIt after Writes reserved before
+fits stands after Writes changed reserved word event before = ⊤
 
-abbrev pub Fit : Standing → Option ℕ → Option Reservation → Option FrameWord → List GhostEvent → Type 0
-Fit stands changed reserved word [] = ⊤
-Fit stands changed reserved word (event ∷ before) = fits stands changed reserved word event × Fit stands changed reserved word before
+abbrev pub Fit : Standing → Standing → Type 0 → Option ℕ → Option Reservation → Option FrameWord → List GhostEvent → Type 0
+Fit stands after Writes changed reserved word [] = ⊤
+Fit stands after Writes changed reserved word (event ∷ before) = fits stands after Writes changed reserved word event before × Fit stands after Writes changed reserved word before
 
-either_fit : (stands : Standing) (changed : Option ℕ) (reserved : Option Reservation) (word : Option FrameWord) (c : Bool) (a b : List GhostEvent) → Fit stands changed reserved word a → Fit stands changed reserved word b → Fit stands changed reserved word (if c then a else b)
-either_fit stands changed reserved word true a b one other = one
-either_fit stands changed reserved word false a b one other = other
-
-both_fit : (stands : Standing) (changed : Option ℕ) (reserved : Option Reservation) (word : Option FrameWord) (later before : List GhostEvent) → Fit stands changed reserved word later → Fit stands changed reserved word before → Fit stands changed reserved word (later ++ before)
-both_fit stands changed reserved word [] before one other = other
-both_fit stands changed reserved word (event ∷ later) before one other = (one.0, both_fit stands changed reserved word later before one.1 other)
+either_fit : (stands after : Standing) (Writes : Type 0) (changed : Option ℕ) (reserved : Option Reservation) (word : Option FrameWord) (c : Bool) (a b : List GhostEvent) → Fit stands after Writes changed reserved word a → Fit stands after Writes changed reserved word b → Fit stands after Writes changed reserved word (if c then a else b)
+either_fit stands after Writes changed reserved word true a b one other = one
+either_fit stands after Writes changed reserved word false a b one other = other
 
 -- ---- an append
-reserved_fit : (stands : Standing) (changed : Option ℕ) (reserved : Option Reservation) (word : Option FrameWord) (a : AppendState) (entry : HistoryEntry) (ask : Ask ReserveAnswer) → Fit stands changed reserved word (reserved_ghosts a entry ask)
-reserved_fit stands changed reserved word a entry (Done (reserve.Reserved addr)) =
-    either_fit stands changed reserved word (is_for_entry a addr) (TakesAddr addr.0 entry (cell_of a.its_words) ∷ []) (Drops addr.0 ∷ TakesAddr addr.0 entry (cell_of a.its_words) ∷ []) (tt, tt) (tt, (tt, tt))
-reserved_fit stands changed reserved word a entry (Done other) = tt
-reserved_fit stands changed reserved word a entry ask = tt
+not_both : (one other : ℕ) (a : ℕ) → (nat_lt one a && nat_lt a other) ≡ false → one < a → a < other → ⊥
+not_both one other a e low high =
+    let p : nat_lt one a ≡ true = grind (arith, nat_tests) in
+    let q : nat_lt a other ≡ true = grind (arith, nat_tests) in
+    let both : (nat_lt one a && nat_lt a other) ≡ true = ap (λ (c : Bool). c && nat_lt a other) p ∙ q in
+    let clash : false ≡ true = sym e ∙ both in
+    cc
 
-publish_fit : (stands : Standing) (changed : Option ℕ) (reserved : Option Reservation) (word : Option FrameWord) (addr : ℕ) (ask : Ask PublishAnswer) → ReservedShows stands reserved × (word ≡ None) → Fit stands changed reserved word (publish_ghosts addr ask)
-publish_fit stands changed reserved word addr (Done Won) so = (so, tt)
-publish_fit stands changed reserved word addr (Done other) so = tt
-publish_fit stands changed reserved word addr ask so = tt
+reserved_fit : (stands after : Standing) (Writes : Type 0) (changed : Option ℕ) (a : AppendState) (entry : HistoryEntry) (ask : Ask ReserveAnswer) → Fit stands after Writes changed None None (reserved_ghosts a entry ask)
+reserved_fit stands after Writes changed a entry (Done (reserve.Reserved addr)) = by_test (is_for_entry a addr) refl
+  where
+    by_test : (c : Bool) → is_for_entry a addr ≡ c → Fit stands after Writes changed None None (if c then TakesAddr addr.0 entry (cell_of a.its_words) ∷ [] else Drops addr.0 ∷ TakesAddr addr.0 entry (cell_of a.its_words) ∷ [])
+    by_test true e = (tt, tt)
+    by_test false e = (not_both a.its_words.header.previous.0 (2 ^ 48) addr.0 e, (tt, tt))
+reserved_fit stands after Writes changed a entry (Done other) = tt
+reserved_fit stands after Writes changed a entry ask = tt
 
-invalidate_fit : (stands : Standing) (changed : Option ℕ) (reserved : Option Reservation) (word : Option FrameWord) (step : Invalidating) → Fit stands changed reserved word (invalidate_ghosts step)
-invalidate_fit stands changed reserved word invalidating.AtRest = tt
-invalidate_fit stands changed reserved word (invalidating.StoresHeader addr header) = (tt, tt)
+publish_fit : (stands after : Standing) (Writes : Type 0) (changed : Option ℕ) (reserved : Option Reservation) (word : Option FrameWord) (addr : ℕ) (ask : Ask PublishAnswer) → ReservedShows stands reserved × (word ≡ None) → Fit stands after Writes changed reserved word (publish_ghosts addr ask)
+publish_fit stands after Writes changed reserved word addr (Done Won) so = (so, tt)
+publish_fit stands after Writes changed reserved word addr (Done other) so = tt
+publish_fit stands after Writes changed reserved word addr ask so = tt
 
-filled_reserved : (stands : Standing) (a : AppendState) (entry : HistoryEntry) (addr : ℕ) → IsFilled (stands addr) a.its_words → ReservedShows stands (Some (reservation a entry addr))
-filled_reserved stands a entry addr filled = λ its e. subst (λ (x : Reservation). ShowsCell (stands x.addr) x.cell) (some_same (reservation a entry addr) its e) (filled_shows (stands addr) a.its_words filled)
+dropped_fit : (stands after : Standing) (Writes : Type 0) (changed : Option ℕ) (word : Option FrameWord) (a : AppendState) (entry : HistoryEntry) (step : Invalidating) → GivesUp a.its_words step → (Writes → InvalidateWrites after step)
+    → Fit stands after Writes changed (invalidate_reserves a entry step) word (invalidate_ghosts step)
+dropped_fit stands after Writes changed word a entry invalidating.AtRest gives writes = tt
+dropped_fit stands after Writes changed word a entry (invalidating.StoresHeader addr header) gives writes = (λ written one e. subst (λ (x : Reservation). IsGivenUp x.addr x.cell (after x.addr rec.Header)) (some_same (reservation a entry addr.0) one e) (its written), tt)
+  where
+    its : Writes → IsGivenUp addr.0 (cell_of a.its_words) (after addr.0 rec.Header)
+    its written = record {
+      header = record {
+        header = invalidated a.its_words.header;
+        spells = writes written ∙ ap (λ (x : Header). header_word (invalidated x)) gives.0;
+        leads = refl;
+        version = refl;
+        bit = refl;
+      };
+      falls = gives.1;
+    }
 
-append_fit : (stands : Standing) (changed : Option ℕ) (room : ℕ) (a : AppendState) (entry : HistoryEntry) (step : Appending) (reply : ℕ) → AppendStands stands a step → Fit stands changed (append_reserves a entry step) (append_word a step) (append_ghosts room a entry step reply)
-append_fit stands changed room a entry (appending.Ended told) reply so = tt
-append_fit stands changed room a entry appending.Reserves reply so = reserved_fit stands changed None None a entry (reserve_next_ask room a.reserving reply)
-append_fit stands changed room a entry (appending.Fills addr) reply so = tt
-append_fit stands changed room a entry (appending.Publishes addr) reply so =
-    publish_fit stands changed (Some (reservation a entry addr.0)) None addr.0 (publish_next_ask a.publishing reply) (filled_reserved stands a entry addr.0 so, refl)
-append_fit stands changed room a entry appending.Invalidates reply so = invalidate_fit stands changed _ _ a.invalidating
+valid_shows : (words : RecordWord → ℕ) (its : RecordWords) → IsFilled words its → its.header.invalid ≡ false → ShowsValid words (cell_of its)
+valid_shows words its filled valid = record {
+  shows = filled_shows words its filled;
+  header = record { header = its.header; spells = filled.header; leads = refl; version = refl; bit = valid };
+}
+
+filled_reserved : (stands : Standing) (a : AppendState) (entry : HistoryEntry) (addr : ℕ) → IsFilled (stands addr) a.its_words → a.its_words.header.invalid ≡ false → ReservedShows stands (Some (reservation a entry addr))
+filled_reserved stands a entry addr filled valid = λ its e. subst (λ (x : Reservation). ShowsValid (stands x.addr) x.cell) (some_same (reservation a entry addr) its e) (valid_shows (stands addr) a.its_words filled valid)
+
+append_fit : (stands after : Standing) (Writes : Type 0) (changed : Option ℕ) (room : ℕ) (a : AppendState) (entry : HistoryEntry) (step : Appending) (reply : ℕ) → AppendStands stands a step → (Writes → AppendWrites stands after a step)
+    → Fit stands after Writes changed (append_reserves a entry step) (append_word a step) (append_ghosts room a entry step reply)
+append_fit stands after Writes changed room a entry (appending.Ended told) reply so writes = tt
+append_fit stands after Writes changed room a entry appending.Reserves reply so writes = reserved_fit stands after Writes changed a entry (reserve_next_ask room a.reserving reply)
+append_fit stands after Writes changed room a entry (appending.Fills addr) reply so writes = tt
+append_fit stands after Writes changed room a entry (appending.Publishes addr) reply so writes =
+    let falls = so.1 in
+    publish_fit stands after Writes changed (Some (reservation a entry addr.0)) None addr.0 (publish_next_ask a.publishing reply) (filled_reserved stands a entry addr.0 so.0 falls.valid, refl)
+append_fit stands after Writes changed room a entry appending.Invalidates reply so writes = dropped_fit stands after Writes changed _ a entry a.invalidating so writes
 
 -- ---- a try: a search is none of these
-found_fit : (stands : Standing) (changed : Option ℕ) (reserved : Option Reservation) (word : Option FrameWord) (reader : ℕ) (its : Found) → Fit stands changed reserved word (found_ghosts reader its)
-found_fit stands changed reserved word reader (Slot place its) = (tt, tt)
-found_fit stands changed reserved word reader NoSlot = (tt, tt)
-found_fit stands changed reserved word reader its = tt
+found_fit : (stands after : Standing) (Writes : Type 0) (changed : Option ℕ) (reserved : Option Reservation) (word : Option FrameWord) (reader : ℕ) (its : Found) → Fit stands after Writes changed reserved word (found_ghosts reader its)
+found_fit stands after Writes changed reserved word reader (Slot place its) = (tt, tt)
+found_fit stands after Writes changed reserved word reader NoSlot = (tt, tt)
+found_fit stands after Writes changed reserved word reader its = tt
 
-find_fit : (stands : Standing) (changed : Option ℕ) (reserved : Option Reservation) (word : Option FrameWord) (reader : ℕ) (ask : Ask FindAnswer) → Fit stands changed reserved word (find_ghosts reader ask)
-find_fit stands changed reserved word reader (Done its) = found_fit stands changed reserved word reader its.found
-find_fit stands changed reserved word reader ask = tt
+find_fit : (stands after : Standing) (Writes : Type 0) (changed : Option ℕ) (reserved : Option Reservation) (word : Option FrameWord) (reader : ℕ) (ask : Ask FindAnswer) → Fit stands after Writes changed reserved word (find_ghosts reader ask)
+find_fit stands after Writes changed reserved word reader (Done its) = found_fit stands after Writes changed reserved word reader its.found
+find_fit stands after Writes changed reserved word reader ask = tt
 
-walk_fit : (stands : Standing) (changed : Option ℕ) (reserved : Option Reservation) (word : Option FrameWord) (p : Places) (reader : ℕ) (w : WalkState) (step : Walking) (reply : ℕ) → Fit stands changed reserved word (walk_ghosts p reader w step reply)
-walk_fit stands changed reserved word p reader w Finds reply = find_fit stands changed reserved word reader (find_next_ask p w.finding reply)
-walk_fit stands changed reserved word p reader w step reply = tt
+walk_fit : (stands after : Standing) (Writes : Type 0) (changed : Option ℕ) (reserved : Option Reservation) (word : Option FrameWord) (p : Places) (reader : ℕ) (w : WalkState) (step : Walking) (reply : ℕ) → Fit stands after Writes changed reserved word (walk_ghosts p reader w step reply)
+walk_fit stands after Writes changed reserved word p reader w Finds reply = find_fit stands after Writes changed reserved word reader (find_next_ask p w.finding reply)
+walk_fit stands after Writes changed reserved word p reader w step reply = tt
 
-search_fit : (stands : Standing) (changed : Option ℕ) (reserved : Option Reservation) (word : Option FrameWord) (p : Places) (op : Op) (reader : ℕ) (w : WalkState) (reply : ℕ) → Fit stands changed reserved word (search_ghosts p op reader w reply)
-search_fit stands changed reserved word p (Read key) reader w reply = walk_fit stands changed reserved word p reader w w.step reply
-search_fit stands changed reserved word p op reader w reply = tt
+search_fit : (stands after : Standing) (Writes : Type 0) (changed : Option ℕ) (reserved : Option Reservation) (word : Option FrameWord) (p : Places) (op : Op) (reader : ℕ) (w : WalkState) (reply : ℕ) → Fit stands after Writes changed reserved word (search_ghosts p op reader w reply)
+search_fit stands after Writes changed reserved word p (Read key) reader w reply = walk_fit stands after Writes changed reserved word p reader w w.step reply
+search_fit stands after Writes changed reserved word p op reader w reply = tt
 
-try_fit : (stands : Standing) (p : Places) (room session reader : ℕ) (pending : PendingRequest) (t : TryState) (step : Trying) (reply : ℕ) → IsAllowed pending.request.op → TryStands stands t step
-    → Fit stands (try_changes step) (try_reserves session pending t step) (try_word t step) (try_ghosts p room session reader pending t step reply)
-try_fit stands p room session reader pending t Walks reply allowed so = search_fit stands None None None p pending.request.op reader t.walk reply
-try_fit stands p room session reader pending t (SwapsValue addr) reply allowed so = ((refl, allowed), tt)
-try_fit stands p room session reader pending t (ChangesValue addr old) reply allowed so = either_fit stands (Some addr.0) None _ (reply == old) _ [] ((refl, allowed), tt) tt
-try_fit stands p room session reader pending t (Appends made) reply allowed so = append_fit stands None room t.append (entry_made session pending made) t.append.step reply so
-try_fit stands p room session reader pending t step reply allowed so = tt
+try_fit : (stands after : Standing) (Writes : Type 0) (p : Places) (room session reader : ℕ) (pending : PendingRequest) (t : TryState) (step : Trying) (reply : ℕ) → IsAllowed pending.request.op → TryStands stands t step → (Writes → TryWrites stands after t step)
+    → Fit stands after Writes (try_changes step) (try_reserves session pending t step) (try_word t step) (try_ghosts p room session reader pending t step reply)
+try_fit stands after Writes p room session reader pending t Walks reply allowed so writes = search_fit stands after Writes None None None p pending.request.op reader t.walk reply
+try_fit stands after Writes p room session reader pending t (SwapsValue addr) reply allowed so writes = ((refl, allowed), tt)
+try_fit stands after Writes p room session reader pending t (ChangesValue addr old) reply allowed so writes = either_fit stands after Writes (Some addr.0) None _ (reply == old) _ [] ((refl, allowed), tt) tt
+try_fit stands after Writes p room session reader pending t (Appends made) reply allowed so writes = append_fit stands after Writes None room t.append (entry_made session pending made) t.append.step reply so writes
+try_fit stands after Writes p room session reader pending t step reply allowed so writes = tt
 
 -- ---- an attempt and a session
-value_fit : (stands : Standing) (changed : Option ℕ) (reserved : Option Reservation) (word : Option FrameWord) (op : Op) (reader : ℕ) (ask : Ask TryAnswer) → Fit stands changed reserved word (value_ghosts op reader ask)
-value_fit stands changed reserved word (Read key) reader (Done (answer.Found value)) = (tt, tt)
-value_fit stands changed reserved word (Read key) reader (Done answer.Absent) = (tt, tt)
-value_fit stands changed reserved word (Read key) reader (Done other) = tt
-value_fit stands changed reserved word (Read key) reader ask = tt
-value_fit stands changed reserved word op reader ask = tt
+value_fit : (stands after : Standing) (Writes : Type 0) (changed : Option ℕ) (reserved : Option Reservation) (word : Option FrameWord) (op : Op) (reader : ℕ) (ask : Ask TryAnswer) (before : List GhostEvent)
+    → Fit stands after Writes changed reserved word before → Fit stands after Writes changed reserved word (value_ghosts op reader ask ++ before)
+value_fit stands after Writes changed reserved word (Read key) reader (Done (answer.Found value)) before was = (tt, was)
+value_fit stands after Writes changed reserved word (Read key) reader (Done answer.Absent) before was = (tt, was)
+value_fit stands after Writes changed reserved word (Read key) reader (Done other) before was = was
+value_fit stands after Writes changed reserved word (Read key) reader ask before was = was
+value_fit stands after Writes changed reserved word op reader ask before was = was
 
-tried_fit : (stands : Standing) (k : Seat) (reader : ℕ) (a : AttemptState) (step : Attempting) (reply : ℕ) → IsAllowed a.pending.request.op → TriesAt stands a.trial step
-    → Fit stands (attempt_changes a step) (attempt_reserves k.number a step) (attempt_word a step) (tried_ghosts k reader a step reply)
-tried_fit stands k reader a Tries reply allowed so = try_fit stands k.places (room_of k) k.number reader a.pending a.trial a.trial.step reply allowed so
-tried_fit stands k reader a step reply allowed so = tt
+tried_fit : (stands after : Standing) (Writes : Type 0) (k : Seat) (reader : ℕ) (a : AttemptState) (step : Attempting) (reply : ℕ) → IsAllowed a.pending.request.op → TriesAt stands a.trial step → (Writes → AttemptWrites stands after a step)
+    → Fit stands after Writes (attempt_changes a step) (attempt_reserves k.number a step) (attempt_word a step) (tried_ghosts k reader a step reply)
+tried_fit stands after Writes k reader a Tries reply allowed so writes = try_fit stands after Writes k.places (room_of k) k.number reader a.pending a.trial a.trial.step reply allowed so writes
+tried_fit stands after Writes k reader a step reply allowed so writes = tt
 
-attempt_fit : (stands : Standing) (k : Seat) (reader : ℕ) (a : AttemptState) (reply : ℕ) → IsAttemptSo stands a
-    → Fit stands (attempt_changes a a.step) (attempt_reserves k.number a a.step) (attempt_word a a.step) (attempt_ghosts k reader a reply)
-attempt_fit stands k reader a reply so =
-    both_fit stands _ _ _ (value_ghosts a.pending.request.op reader (attempt_ask k.places k.number (attempt_next k.places (bits_of k) (room_of k) k.number a reply))) (tried_ghosts k reader a a.step reply)
-    (value_fit stands _ _ _ a.pending.request.op reader (attempt_ask k.places k.number (attempt_next k.places (bits_of k) (room_of k) k.number a reply))) (tried_fit stands k reader a a.step reply so.allowed so.tries_so)
+attempt_fit : (stands after : Standing) (Writes : Type 0) (k : Seat) (reader : ℕ) (a : AttemptState) (reply : ℕ) → IsAttemptSo stands a → (Writes → AttemptWrites stands after a a.step)
+    → Fit stands after Writes (attempt_changes a a.step) (attempt_reserves k.number a a.step) (attempt_word a a.step) (attempt_ghosts k reader a reply)
+attempt_fit stands after Writes k reader a reply so writes =
+    value_fit stands after Writes _ _ _ a.pending.request.op reader (attempt_ask k.places k.number (attempt_next k.places (bits_of k) (room_of k) k.number a reply)) (tried_ghosts k reader a a.step reply)
+    (tried_fit stands after Writes k reader a a.step reply so.allowed so.tries_so writes)
 
-pub sitting_fit : (stands : Standing) (k : Seat) (trace : List Traced) (s : SessionState) (step : Sitting) (reply : ℕ) → StepIsSo stands s step
-    → Fit stands (sitting_changes s step) (sitting_reserves k.number s step) (sitting_word s step) (sitting_ghosts k trace s step reply)
-sitting_fit stands k trace s (Attempts has_shifted) reply so = attempt_fit stands k (read_in_hand k.number trace) s.attempt reply so.0
-sitting_fit stands k trace s (Polls index) reply so = attempt_fit stands k (read_waiting k.number (ticket_of s.attempt.pending.name) trace) s.attempt reply so
-sitting_fit stands k trace s step reply so = tt
+pub sitting_fit : (stands after : Standing) (Writes : Type 0) (k : Seat) (trace : List Traced) (s : SessionState) (step : Sitting) (reply : ℕ) → StepIsSo stands s step → (Writes → SittingWrites stands after s step)
+    → Fit stands after Writes (sitting_changes s step) (sitting_reserves k.number s step) (sitting_word s step) (sitting_ghosts k trace s step reply)
+sitting_fit stands after Writes k trace s (Attempts has_shifted) reply so writes = attempt_fit stands after Writes k (read_in_hand k.number trace) s.attempt reply so.0 writes
+sitting_fit stands after Writes k trace s (Polls index) reply so writes = attempt_fit stands after Writes k (read_waiting k.number (ticket_of s.attempt.pending.name) trace) s.attempt reply so writes
+sitting_fit stands after Writes k trace s step reply so writes = tt
 
 -- ---- what it changes in place is a value's word
 try_value : (t : TryState) (step : Trying) (a : ℕ) → try_changes step ≡ Some a → try_word t step ≡ Some (record { addr = a; word = rec.Value })

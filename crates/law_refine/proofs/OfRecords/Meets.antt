@@ -56,7 +56,7 @@ one_meets home g event before quiet meets = (quiet_meet (ghost_run home g before
 
 -- a step of a session
 takes_meets : (home : ℕ → ℕ) (g : Ghosts) (stands : Standing) (changed : Option ℕ) (reserved : Option Reservation) (word : Option FrameWord) (its_step : Stepped) (events : List GhostEvent) (made : Option HistoryEntry)
-    → TakesEffect its_step events made → Fit stands changed reserved word events → ((a : ℕ) → changed ≡ Some a → IsPublished (g.log.cells a)) → AllMeetPublished home g events
+    → TakesEffect its_step events made → Fit stands stands ⊥ changed reserved word events → ((a : ℕ) → changed ≡ Some a → IsPublished (g.log.cells a)) → AllMeetPublished home g events
 unfolding AllMeetPublished ghost_run
 takes_meets home g stands changed reserved word its_step events made (Quietly its quiet) fit its_published = quiet_meets home g its quiet
 takes_meets home g stands changed reserved word its_step events made (Behind first quiet rest) fit its_published = one_meets home g first _ quiet (takes_meets home g stands changed reserved word its_step _ made rest fit.1 its_published)
@@ -80,7 +80,7 @@ module _ (opening : World) (start : ℕ) (ghosts : Ghosts) (opened : IsOpened op
       let reply : ℕ = reply_to (run opening before).now.words ask in
       takes_meets H (life_ghosts opening ghosts before) stands (changed_in_place s) (reserved_by number s) (sitting_word s s.step) _ (sitting_ghosts k (run opening before).past.trace s s.step reply) _
       (life_takes opening start before number s reply opened found)
-      (sitting_fit stands k (run opening before).past.trace s s.step reply ((life_holds opening start ghosts before opened none free published).rows number s found).sits) its
+      (sitting_fit stands stands ⊥ k (run opening before).past.trace s s.step reply ((life_holds opening start ghosts before opened none free published).rows number s found).sits (λ never. absurd never)) its
 
   moved_meets : (before : List Event) (number : ℕ) (found : Option SessionState) → slice_get (run opening before).now.sessions number ≡ found → AreChangesPublished opening ghosts before → SessionChangesPublished (life_ghosts opening ghosts before).log found
       → AllMeetPublished H (life_ghosts opening ghosts before) (moved_ghosts (run opening before) number found)

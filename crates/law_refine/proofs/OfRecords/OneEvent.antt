@@ -8,7 +8,7 @@ use Rattle.fkv_map.specs.declared.operations.Call.{Call}
 use Rattle.fkv_map.specs.declared.operations.Call.TheVariants.{Refresh}
 use Rattle.fkv_map.specs.Keys.{value_applied}
 use Rattle.fkv_epoch.proofs.Shown.{none_some, same_or, some_same}
-use Rattle.law_log.specs.Chains.{Cell, Logged, Unborn, Reserved, Published}
+use Rattle.law_log.specs.Chains.{Cell, Logged, Unborn, Reserved, Published, Dropped}
 use Rattle.law_log.specs.Ghosts.{Ghosts, GhostEvent, Tells, changed_by, ghosts_after, ghost_run}
 use Rattle.law_log.specs.Trace.{TraceLine}
 use Rattle.law_log.proofs.Shown.{run_on}
@@ -49,10 +49,13 @@ use Rattle.law_refine.proofs.OfRecords.FrameOwners.{IsOwner, ByChange, ByReserva
 use Rattle.law_refine.proofs.OfRecords.FrameSteps.{FrameWriter}
 use Rattle.law_refine.proofs.OfRecords.FrameWords.{FrameWord, sitting_asks, sitting_word}
 use Rattle.law_refine.proofs.OfRecords.GhostFits.{Fit, sitting_fit, sitting_quiet, sitting_value}
+use Rattle.law_refine.specs.Records.Headers.{IsHeaderOf}
+use Rattle.law_refine.proofs.OfEvents.SessionSteps.{life_on}
+use Rattle.law_refine.proofs.OfRecords.LogHeaders.{AllFall, HeaderFits, HeadersFit, fall_before, fixed_still, moves_fit, still_behind, told_still}
 use Rattle.law_refine.proofs.OfRecords.LogShows.{OthersShow, change_shows, publish_shows, quiet_behind, quiet_run, quiet_shows}
 use Rattle.law_refine.proofs.OfRecords.Numbers.{value_back}
 use Rattle.law_refine.proofs.OfRecords.RowsStay.{ReservedStays, Stores, asks_so, sitting_writes, so_stays}
-use Rattle.law_refine.proofs.OfRecords.SessionRows.{IsSo, called_now_so}
+use Rattle.law_refine.proofs.OfRecords.SessionRows.{IsSo, SittingWrites, called_now_so}
 use Rattle.law_refine.proofs.OfRecords.Standing.{stands_in}
 use Rattle.law_refine.proofs.OfRecords.Wrote.{AreSo, IsWritten, crashed_stays, stays_or, wrote}
 use Rattle.law_refine.proofs.OfEvents.EventEffects.{fixed_quiet}
@@ -372,7 +375,7 @@ module _ (opening : World) (start : ℕ) (ghosts : Ghosts) (opened : IsOpened op
           let its : SessionChangesPublished G.log (slice_get N.sessions number) = subst (λ (x : Event). ChangesPublished N G.log x) moves published in
           subst (λ (x : Option SessionState). SessionChangesPublished G.log x) found its a changes
 
-      takes_now : (events : List GhostEvent) (made : Option HistoryEntry) → TakesEffect (step_of K s R) events made → Fit S (changed_in_place s) (reserved_by number s) (sitting_word s s.step) events
+      takes_now : (events : List GhostEvent) (made : Option HistoryEntry) → TakesEffect (step_of K s R) events made → Fit S T (SittingWrites S T s s.step) (changed_in_place s) (reserved_by number s) (sitting_word s s.step) events
           → (AreQuiet events → (a : ℕ) → changed_in_place s ≡ Some a → asked A R ≡ R) → StandsShowLog start T (ghost_run H G events).log
       unfolding ghost_run ghosts_after
       takes_now events made (Quietly its quiet) fit left = quiet_now its quiet (left quiet)
@@ -386,7 +389,7 @@ module _ (opening : World) (start : ℕ) (ghosts : Ghosts) (opened : IsOpened op
           let reserved : reserved_by number s ≡ Some its = at.reserved in
           publish_shows H start T G.log its.addr its.entry its.cell (G.log.cells its.addr) (reserved_cell number s its found reserved)
           (λ b cell other high e. none_changed (λ a changes. none_some _ (sym nowhere ∙ sitting_value s s.step a changes)) b cell high e)
-          (published_now its reserved nowhere (fit.0.0 its reserved))
+          (published_now its reserved nowhere (let valid = fit.0.0 its reserved in valid.shows))
 
       -- where it asks for no word
       nowhere_shows : asked_place A ≡ None → StandsShowLog start T G.log
@@ -398,7 +401,7 @@ module _ (opening : World) (start : ℕ) (ghosts : Ghosts) (opened : IsOpened op
 
       word_shows : StandsShowLog start T (ghost_run H G (sitting_ghosts K W.past.trace s s.step R)).log
       word_shows =
-          takes_now (sitting_ghosts K W.past.trace s s.step R) _ (life_takes opening start before number s R opened found) (sitting_fit S K W.past.trace s s.step R (so number s found).sits)
+          takes_now (sitting_ghosts K W.past.trace s s.step R) _ (life_takes opening start before number s R opened found) (sitting_fit S T (SittingWrites S T s s.step) K W.past.trace s s.step R (so number s found).sits (λ writes. writes))
           (λ quiet a changes. sitting_quiet K W.past.trace s s.step R a changes quiet)
 
       step_shows : (ask : Ask Told) → A ≡ ask → StandsShowLog start T (ghost_run H G (step_ghosts K W.past.trace s N.words ask)).log
@@ -442,3 +445,95 @@ module _ (opening : World) (start : ℕ) (ghosts : Ghosts) (opened : IsOpened op
     pub shows_then : StandsShowLog start T (life_ghosts opening ghosts (event ∷ before)).log
     unfolding mapped
     shows_then = subst (λ (g : Ghosts). StandsShowLog start T g.log) (sym (run_on H ghosts (ghost_events (serials_in opening.now) W event) (mapped opening before))) event_shows
+
+  -- ---- headers, where they said what became of their records
+  -- what is not reserved keeps its header
+  header_stays : (a : ℕ) → a < tail_at N → ((entry : HistoryEntry) (cell : Cell) → G.log.cells a ≡ Reserved entry cell → ⊥) → T a rec.Header ≡ S a rec.Header
+  header_stays a low other = elim (stays_or opening start before event opened a rec.Header permitted so low) [
+    | inl same ↦ same
+    | inr w ↦ absurd (by_owner w w.owner)
+  ]
+    where
+      by_owner : (w : IsWritten N event S T a rec.Header) → IsOwner (changed_in_place w.writer.state) (reserved_by w.writer.number w.writer.state) w.writer.word → ⊥
+      by_owner w (ByChange changes word) = let clash : ◌≡◌ {A = RecordWord} rec.Value rec.Header = sym word ∙ w.its_part in cc
+      by_owner w (ByReservation its reserved same) = other its.entry its.cell (ap G.log.cells (sym (same ∙ w.addr)) ∙ reserved_cell w.writer.number w.writer.state its w.writer.found reserved)
+
+  fits_still : (a : ℕ) (logged : Logged) → G.log.cells a ≡ logged → HeaderFits S a logged → HeaderFits T a logged
+  fits_still a (Published cell) e was = subst (IsHeaderOf cell false) (sym (header_stays a (published_below a cell e) (λ entry other is. published_free (G.log.cells a) entry other (is_published (G.log.cells a) cell e) is))) was
+  fits_still a (Dropped cell) e was =
+      let low : a < tail_at N = elim (cases_lt a (tail_at N)) [
+        | inl low ↦ low
+        | inr high ↦ absurd (dropped_born (G.log.cells a) cell e (ghost_unborn opening start ghosts before opened none a high))
+      ] in
+      let same = header_stays a low (λ entry other is. dropped_free (G.log.cells a) entry other cell e is) in
+      record { header = subst (IsHeaderOf cell true) (sym same) was.header; falls = was.falls }
+    where
+      dropped_born : (logged : Logged) (cell : Cell) → logged ≡ Dropped cell → logged ≡ Unborn → ⊥
+      dropped_born logged cell e none = cc
+
+      dropped_free : (logged : Logged) (entry : HistoryEntry) (other cell : Cell) → logged ≡ Dropped cell → logged ≡ Reserved entry other → ⊥
+      dropped_free logged entry other cell e is = cc
+  fits_still a Unborn e was = tt
+  fits_still a (Reserved entry cell) e was = tt
+
+  module _ (was_fit : HeadersFit start S G.log) where
+    still_fit : HeadersFit start T G.log
+    still_fit = λ a from low. fits_still a (G.log.cells a) refl (was_fit a from low)
+
+    -- a session moves
+    module _ (number : ℕ) (s : SessionState) (moves : event ≡ Moves number) (found : slice_get N.sessions number ≡ Some s) (alive : N.crashed ≡ false) where
+      reserved_stays : (its : Reservation) → reserved_by number s ≡ Some its → sitting_word s s.step ≡ None → T its.addr rec.Header ≡ S its.addr rec.Header
+      reserved_stays its reserved nowhere = elim (stays_or opening start before event opened its.addr rec.Header permitted so (reserved_below number s its found reserved)) [
+        | inl same ↦ same
+        | inr w ↦
+            let same = same_state number s w.writer moves found in
+            absurd (none_some w.writer.word (sym nowhere ∙ (ap (λ (x : SessionState). sitting_word x x.step) (sym same.1) ∙ w.writer.its_word)))
+      ]
+
+      word_fit : (reply : ℕ) → AllFall (sitting_ghosts (seat_at N number) W.past.trace s s.step reply) → HeadersFit start T (ghost_run H G (sitting_ghosts (seat_at N number) W.past.trace s s.step reply)).log
+      word_fit reply falls =
+          moves_fit H start S T (SittingWrites S T s s.step) (sitting_writes S T (seat_at N number) s s.step (own_stores number s moves found alive)) G _ _ reply (changed_in_place s) (sitting_word s s.step) (sitting_ghosts (seat_at N number) W.past.trace s s.step reply) (reserved_by number s) _ (life_on opening start before number s reply opened found)
+          (sitting_fit S T (SittingWrites S T s s.step) (seat_at N number) W.past.trace s s.step reply (so number s found).sits (λ writes. writes)) falls
+          (λ its reserved. reserved_cell number s its found reserved) reserved_stays still_fit
+
+      step_fit : (ask : Ask Told) → AllFall (step_ghosts (seat_at N number) W.past.trace s N.words ask) → HeadersFit start T (ghost_run H G (step_ghosts (seat_at N number) W.past.trace s N.words ask)).log
+      unfolding step_ghosts ghost_run
+      step_fit (Done its) falls = still_fit
+      step_fit (Put slot action) falls = still_fit
+      step_fit (Take slot) falls = still_fit
+      step_fit ask falls = word_fit (reply_to N.words ask) falls
+
+    moved_fit : (number : ℕ) (found : Option SessionState) → event ≡ Moves number → slice_get N.sessions number ≡ found → N.crashed ≡ false → AllFall (moved_ghosts W number found) → HeadersFit start T (ghost_run H G (moved_ghosts W number found)).log
+    unfolding ghost_run
+    moved_fit number None moves e alive falls = still_fit
+    moved_fit number (Some s) moves e alive falls = step_fit number s moves e alive (session_ask (seat_at N number) s) falls
+
+    own_fit : (x : Event) → event ≡ x → N.crashed ≡ false → AllFall (own_ghosts W x) → HeadersFit start T (ghost_run H G (own_ghosts W x)).log
+    unfolding ghost_run
+    own_fit (Moves number) same alive falls = moved_fit number (slice_get N.sessions number) same refl alive falls
+    own_fit (Calls number call) same alive falls = still_fit
+    own_fit (Commits kind) same alive falls = still_fit
+    own_fit Turns same alive falls = still_fit
+    own_fit (KeeperMoves granted done) same alive falls = still_fit
+    own_fit Crashes same alive falls = still_fit
+
+    event_fit : AllFall (ghost_events (serials_in opening.now) W event) → HeadersFit start T (ghost_run H G (ghost_events (serials_in opening.now) W event)).log
+    unfolding ghost_events ghost_run
+    event_fit falls = by_test N.crashed refl falls
+      where
+        lines : List TraceLine
+        lines = lines_added (serials_in opening.now) W.past.trace (traced_by W event)
+
+        fresh : List GhostEvent
+        fresh = fixed_ghosts (safe_at N) (safe_at (happens W event).now)
+
+        by_test : (c : Bool) → N.crashed ≡ c → AllFall (if c then [] else map Tells lines ++ (fresh ++ own_ghosts W event)) → HeadersFit start T (ghost_run H G (if c then [] else map Tells lines ++ (fresh ++ own_ghosts W event))).log
+        by_test true e falls = still_fit
+        by_test false e falls =
+            still_behind H start T G (map Tells lines) (fresh ++ own_ghosts W event) (told_still lines)
+            (still_behind H start T G fresh (own_ghosts W event) (fixed_still (safe_at N) (safe_at (happens W event).now))
+            (own_fit event refl e (fall_before fresh (own_ghosts W event) (fall_before (map Tells lines) (fresh ++ own_ghosts W event) falls))))
+
+    pub headers_then : AllFall (ghost_events (serials_in opening.now) W event) → HeadersFit start T (life_ghosts opening ghosts (event ∷ before)).log
+    unfolding mapped
+    headers_then falls = subst (λ (g : Ghosts). HeadersFit start T g.log) (sym (run_on H ghosts (ghost_events (serials_in opening.now) W event) (mapped opening before))) (event_fit falls)

@@ -14,8 +14,11 @@ use Rattle.fkv_plane.specs.Passing.{passed}
 use Rattle.fkv_plane.specs.Plane.{action_at}
 use Rattle.fkv_log.specs.declared.filling.Filling.{Filling}
 use Rattle.fkv_log.specs.declared.filling.Filling.TheVariants as fill
+use Rattle.fkv_log.specs.declared.invalidating.Invalidating.{Invalidating}
+use Rattle.fkv_log.specs.declared.invalidating.Invalidating.TheVariants as invalidate
 use Rattle.fkv_log.specs.declared.record_words.RecordWords.{RecordWords}
 use Rattle.fkv_log.specs.Filling.{fill_ask}
+use Rattle.fkv_log.specs.Invalidating.{invalidate_ask}
 use Rattle.fkv_ops.specs.declared.appending.Appending.{Appending}
 use Rattle.fkv_ops.specs.declared.appending.Appending.TheVariants as appending
 use Rattle.fkv_ops.specs.declared.trying.Trying.{Trying}
@@ -33,9 +36,9 @@ use Rattle.fkv_session.specs.Sessions.{SessionState, Seat, session_ask, sitting_
 use Rattle.fkv_world.specs.Moves.{Near, session_asks, session_gets, session_replied, session_settled}
 use Rattle.law_refine.specs.Events.Reservations.{Reservation, reservation, append_reserves, try_reserves, attempt_reserves}
 use Rattle.law_refine.specs.Events.Reserved.{sitting_reserves, reserved_by}
-use Rattle.law_refine.proofs.OfRecords.AppendRows.{Standing, FillStands, FillWrites, AppendStands, AppendWrites}
+use Rattle.law_refine.proofs.OfRecords.AppendRows.{Standing, FillStands, FillWrites, InvalidateWrites, AppendStands, AppendWrites}
 use Rattle.law_refine.proofs.OfRecords.AttemptRows.{AttemptWrites, TriesAt}
-use Rattle.law_refine.proofs.OfRecords.FrameWords.{FrameWord, append_word, asked_passed, attempt_word, fill_word, sitting_word, try_word}
+use Rattle.law_refine.proofs.OfRecords.FrameWords.{FrameWord, append_word, asked_passed, attempt_word, fill_word, invalidate_word, sitting_word, try_word}
 use Rattle.law_refine.proofs.OfRecords.SessionRows.{IsSo, SittingWrites, StepIsSo, gets_so, reply_so}
 use Rattle.law_refine.proofs.OfRecords.TryRows.{TryStands, TryWrites}
 
@@ -53,10 +56,13 @@ fill_stays stands after addr its_words (fill.StoresKey at its) stays so = (so.0,
 fill_stays stands after addr its_words (fill.StoresHeader at its) stays so = (so.0, so.1, stays rec.Value ∙ so.2, stays rec.Key ∙ so.3)
 
 append_stays : (stands after : Standing) (a : AppendState) (entry : HistoryEntry) (step : Appending) → ReservedStays stands after (append_reserves a entry step) → AppendStands stands a step → AppendStands after a step
-append_stays stands after a entry (appending.Fills addr) stays so = fill_stays stands after addr a.its_words a.filling (stays (reservation a entry addr.0) refl) so
+append_stays stands after a entry appending.Reserves stays so = so
+append_stays stands after a entry (appending.Fills addr) stays so = (fill_stays stands after addr a.its_words a.filling (stays (reservation a entry addr.0) refl) so.0, so.1)
 append_stays stands after a entry (appending.Publishes addr) stays so =
     let here = stays (reservation a entry addr.0) refl in
-    record { header = here rec.Header ∙ so.header; key = here rec.Key ∙ so.key; value = here rec.Value ∙ so.value }
+    let its = so.0 in
+    (record { header = here rec.Header ∙ its.header; key = here rec.Key ∙ its.key; value = here rec.Value ∙ its.value }, so.1)
+append_stays stands after a entry appending.Invalidates stays so = so
 append_stays stands after a entry step stays so = tt
 
 try_stays : (stands after : Standing) (session : ℕ) (pending : PendingRequest) (t : TryState) (step : Trying) → ReservedStays stands after (try_reserves session pending t step) → TryStands stands t step → TryStands after t step
@@ -100,8 +106,14 @@ fill_puts after p (fill.StoresValue at its) e = cc
 fill_puts after p (fill.StoresKey at its) e = cc
 fill_puts after p (fill.StoresHeader at its) e = cc
 
+invalidate_puts : (after : Standing) (p : Places) (step : Invalidating) → is_put (invalidate_ask p step) ≡ true → InvalidateWrites after step
+unfolding invalidate_ask
+invalidate_puts after p invalidate.AtRest e = tt
+invalidate_puts after p (invalidate.StoresHeader at header) e = cc
+
 append_puts : (after : Standing) (p : Places) (a : AppendState) (step : Appending) → is_put (appending_ask p a step) ≡ true → AppendWrites after after a step
 unfolding appending_ask
+append_puts after p a appending.Invalidates e = invalidate_puts after p a.invalidating (sym (put_passed (invalidate_ask p a.invalidating) _) ∙ e)
 append_puts after p a (appending.Fills addr) e = fill_puts after p a.filling (sym (put_passed (fill_ask p a.filling) _) ∙ e)
 append_puts after p a step e = tt
 
@@ -149,9 +161,15 @@ fill_writes stands after p (fill.StoresKey at its) stores = let one = stores (re
 fill_writes stands after p (fill.StoresHeader at its) stores =
     let one = stores (record { addr = at.0; word = rec.Header }) refl in (one.its, one.others rec.Key key_no_header, one.others rec.Value value_no_header)
 
+invalidate_writes : (stands after : Standing) (p : Places) (step : Invalidating) → Stores stands after (invalidate_word step) (asked (invalidate_ask p step)) → InvalidateWrites after step
+unfolding invalidate_ask
+invalidate_writes stands after p invalidate.AtRest stores = tt
+invalidate_writes stands after p (invalidate.StoresHeader at header) stores = (stores (record { addr = at.0; word = rec.Header }) refl).its
+
 append_writes : (stands after : Standing) (p : Places) (a : AppendState) (step : Appending) → Stores stands after (append_word a step) (asked (appending_ask p a step)) → AppendWrites stands after a step
 unfolding appending_ask
 append_writes stands after p a (appending.Fills addr) stores = fill_writes stands after p a.filling (passed_stores stands after (fill_word a.filling) (fill_ask p a.filling) _ stores)
+append_writes stands after p a appending.Invalidates stores = invalidate_writes stands after p a.invalidating (passed_stores stands after (invalidate_word a.invalidating) (invalidate_ask p a.invalidating) _ stores)
 append_writes stands after p a step stores = tt
 
 try_writes : (stands after : Standing) (p : Places) (t : TryState) (step : Trying) → Stores stands after (try_word t step) (asked (trying_ask p t step)) → TryWrites stands after t step

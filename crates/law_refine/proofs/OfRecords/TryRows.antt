@@ -64,7 +64,7 @@ ends_so after p t its = either_so after t.has_exclusive (with_latch p (record t 
 
 appends_so : (after : Standing) (t : TryState) (old : ℕ) → TryStandsNow after (appends t old)
 unfolding appends
-appends_so after t old = tt
+appends_so after t old = refl
 
 from_so : (after : Standing) (t : TryState) (old : OldValue) → TryStandsNow after (copies_from t old)
 unfolding copies_from

@@ -7,7 +7,7 @@ use Rattle.law_log.specs.Chains.{Cell, Logged, Reserved, Published, Dropped}
 use Rattle.law_log.specs.Ghosts.{Log, Ghosts, GhostEvent, Tells, FindsEntry, TakesValue, Reserves, Publishes, Drops, Changes, Fixes, published, dropped, changed, log_after, ghosts_after, ghost_run}
 use Rattle.law_log.specs.Enabled.{AreEnabled, IsOpened, IsEnabled, IsChangeEnabled}
 use Rattle.law_log.specs.Trace.{TraceLine}
-use Rattle.law_log.proofs.Shown.{enabled_before, set_else}
+use Rattle.law_log.proofs.Shown.{Steps, enabled_before, log_steps, run_held, set_else}
 use Rattle.fkv_plane.specs.declared.asks.Ask.{Ask}
 use Rattle.fkv_plane.specs.declared.asks.Ask.TheVariants.{Put, Take, Done}
 use Rattle.fkv_plane.specs.Asked.{asked, asked_place, reply_to, word_found}
@@ -17,15 +17,13 @@ use Rattle.fkv_world.specs.Past.{Traced}
 use Rattle.fkv_world.specs.Runs.{World, happens, run}
 use Rattle.fkv_world.specs.World.{Event, Moves, seat_at}
 use Rattle.law_guard.specs.Guarded.Shows as guard
-use Rattle.law_order.specs.Known.Begins.{home_of_world}
-use Rattle.law_refine.specs.Events.GhostEvents.{moved_ghosts, own_ghosts, safe_at, fixed_ghosts, traced_by, serials_in, ghost_events, mapped, life_ghosts}
+use Rattle.law_refine.specs.Events.GhostEvents.{home_in, moved_ghosts, own_ghosts, safe_at, fixed_ghosts, traced_by, serials_in, ghost_events, mapped, life_ghosts}
 use Rattle.law_refine.specs.Events.Lines.{lines_added}
 use Rattle.law_refine.specs.Events.Reservations.{AreStill, Reservation, TakesTail, MovesOn, Keeps, Behind, TakesOne, LosesOne, PublishesOne, DropsOne}
 use Rattle.law_refine.specs.Events.Reserved.{tail_at}
 use Rattle.law_refine.specs.Events.Sessions.{sitting_ghosts, step_ghosts}
 use Rattle.law_refine.proofs.OfEvents.SessionSteps.{life_on}
 use Rattle.law_refine.proofs.OfEvents.Fixed.{life_rises}
-use Rattle.law_order.proofs.OfServed.Lists.{one_step}
 
 -- what an event takes lies at or above this address
 abbrev is_above : ℕ → GhostEvent → Type 0
@@ -67,6 +65,12 @@ one_low home g bound a (Tells line) above enabled fixed low free = refl
 one_low home g bound a (FindsEntry reader) above enabled fixed low free = refl
 one_low home g bound a (TakesValue reader) above enabled fixed low free = refl
 one_low home g bound a (Fixes b) above enabled fixed low free = refl
+
+-- a log on which all events are enabled steps from what it was to what it is
+pub one_step : (home : ℕ → ℕ) (m : Map) (number : ℕ) (first : Ghosts) (event : GhostEvent) (before : List GhostEvent) → IsOpened home m number first → AreEnabled home first (event ∷ before)
+    → Steps home m (ghost_run home first before).log (log_after home (ghost_run home first before).log event)
+unfolding AreEnabled
+one_step home m number first event before opened enabled = log_steps home m (ghost_run home first before) event (run_held home m number first before opened enabled.0) enabled.1
 
 -- ---- and so do many
 pub record StaysBelow (bound : ℕ) (first g : Ghosts) : Type 0 where
@@ -176,11 +180,11 @@ event_above opening start before event opened = by_test w.now.crashed
         (both_above start (fixed_ghosts (safe_at w.now) (safe_at (happens w event).now)) (own_ghosts w event) (fixed_above start (safe_at w.now) (safe_at (happens w event).now)) (own_above opening start before event opened))
 
 -- ---- and of a life
-pub life_below : (opening : World) (start : ℕ) (m : Map) (number : ℕ) (ghosts : Ghosts) (events : List Event) → guard.IsOpened opening.now start → IsOpened (home_of_world opening) m number ghosts → start ≤ ghosts.log.fixed
-    → AreEnabled (home_of_world opening) ghosts (mapped opening events) → StaysBelow start ghosts (life_ghosts opening ghosts events)
+pub life_below : (opening : World) (start : ℕ) (m : Map) (number : ℕ) (ghosts : Ghosts) (events : List Event) → guard.IsOpened opening.now start → IsOpened (home_in opening.now.shape.bucket_bits) m number ghosts → start ≤ ghosts.log.fixed
+    → AreEnabled (home_in opening.now.shape.bucket_bits) ghosts (mapped opening events) → StaysBelow start ghosts (life_ghosts opening ghosts events)
 unfolding mapped ghost_run
 life_below opening start m number ghosts [] opened log fixed enabled = record { same = λ a low. refl; fixed = fixed }
 life_below opening start m number ghosts (event ∷ before) opened log fixed enabled =
     let its : List GhostEvent = ghost_events (serials_in opening.now) (run opening before) event in
-    behind_below (home_of_world opening) m number ghosts start its (mapped opening before) log enabled (event_above opening start before event opened)
-    (life_below opening start m number ghosts before opened log fixed (enabled_before (home_of_world opening) ghosts its (mapped opening before) enabled))
+    behind_below (home_in opening.now.shape.bucket_bits) m number ghosts start its (mapped opening before) log enabled (event_above opening start before event opened)
+    (life_below opening start m number ghosts before opened log fixed (enabled_before (home_in opening.now.shape.bucket_bits) ghosts its (mapped opening before) enabled))
