@@ -1,12 +1,14 @@
-//! What every crate of the store speaks of: wrapped numbers, the shape of a store, phases and faults.
+//! What every crate of the store speaks of: wrapped numbers, the shape of a store, phases, kinds of commits and faults.
 #![tactic(auto)]
 
+mod commits;
 mod faults;
 mod limits;
 mod numbers;
 mod phases;
 mod shapes;
 
+pub use commits::CommitKind;
 pub use faults::{Damage, Fault, ScriptFault};
 pub use limits::{
     DRAIN_SLOTS, LAST_EPOCH, MAX_BUCKET_BITS, MAX_DISK_PAGES, MAX_FRAMES, MAX_OVERFLOW, MAX_PAGE,

@@ -15,7 +15,7 @@ use Rattle.fkv_plane.specs.declared.places.SharedWord.TheVariants as one
 use Rattle.fkv_plane.specs.declared.places.SessionWord.TheVariants as own
 use Rattle.fkv_plane.specs.Places.{shared_place, session_place, drain_place}
 use Rattle.fkv_epoch.specs.Claiming.{phase_stored}
-use Rattle.fkv_commit.specs.declared.commits.CommitKind.{CommitKind}
+use Rattle.fkv_base.specs.declared.commits.CommitKind.{CommitKind}
 use Rattle.fkv_commit.specs.Commits.{version_after}
 use Rattle.fkv_commit.specs.Finishing.{point_of}
 use Rattle.fkv_commit.specs.Exchanges.{Exchange, ChangesNothing, AreIdle, HoldsSlot, IsDeferred}

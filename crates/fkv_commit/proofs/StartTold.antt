@@ -17,8 +17,8 @@ use Rattle.fkv_plane.specs.Places.{shared_place}
 use Rattle.fkv_plane.specs.Passing.{is_done, passed}
 use Rattle.fkv_epoch.specs.Claiming.{phase_stored}
 use Rattle.fkv_epoch.specs.Once.{Among}
-use Rattle.fkv_commit.specs.declared.commits.CommitKind.{CommitKind}
-use Rattle.fkv_commit.specs.declared.commits.CommitKind.TheVariants.{Full, Log}
+use Rattle.fkv_base.specs.declared.commits.CommitKind.{CommitKind}
+use Rattle.fkv_base.specs.declared.commits.CommitKind.TheVariants.{Full, Log}
 use Rattle.fkv_commit.specs.declared.deferring.Deferred.TheVariants.{EntersPhase}
 use Rattle.fkv_commit.specs.declared.deferring.DeferAnswer.{DeferAnswer}
 use Rattle.fkv_commit.specs.declared.starting.Starting.{Starting}

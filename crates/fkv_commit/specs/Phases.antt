@@ -17,8 +17,8 @@ use Rattle.fkv_plane.specs.declared.places.SessionWord.TheVariants as own
 use Rattle.fkv_plane.specs.Places.{shared_place, session_place}
 use Rattle.fkv_epoch.specs.Claiming.{phase_stored}
 use Rattle.fkv_epoch.specs.Once.{Among}
-use Rattle.fkv_commit.specs.declared.commits.CommitKind.{CommitKind}
-use Rattle.fkv_commit.specs.declared.commits.CommitKind.TheVariants.{Log}
+use Rattle.fkv_base.specs.declared.commits.CommitKind.{CommitKind}
+use Rattle.fkv_base.specs.declared.commits.CommitKind.TheVariants.{Log}
 use Rattle.fkv_commit.specs.declared.starting.Starting.TheVariants as start
 use Rattle.fkv_commit.specs.declared.starting.StartAnswer.{StartAnswer}
 use Rattle.fkv_commit.specs.declared.starting.StartAnswer.TheVariants as start_answer

@@ -16,7 +16,7 @@ use Rattle.fkv_plane.specs.declared.places.SharedWord.TheVariants as one
 use Rattle.fkv_plane.specs.Places.{shared_place}
 use Rattle.fkv_plane.specs.Passing.{passed}
 use Rattle.fkv_epoch.specs.Claiming.{phase_stored}
-use Rattle.fkv_commit.specs.declared.commits.CommitKind.{CommitKind}
+use Rattle.fkv_base.specs.declared.commits.CommitKind.{CommitKind}
 use Rattle.fkv_commit.specs.declared.deferring.Deferred.TheVariants.{EntersPhase}
 use Rattle.fkv_commit.specs.declared.deferring.DeferAnswer.{DeferAnswer}
 use Rattle.fkv_commit.specs.declared.deferring.DeferAnswer.TheVariants.{Held, Spent, Armed}

@@ -2,16 +2,7 @@
 ghost use Rattle.std.specs.Prelude.{◌≡◌};
 ghost use Rattle.fkv_commit.specs.Commits.{commit_begun};
 
-use fkv_base::{Addr, Version};
-
-/// What a commit writes of the index.
-#[derive(Clone, Copy, Debug, PartialEq, Eq)]
-pub enum CommitKind {
-    /// A copy of the whole index.
-    Full,
-    /// Nothing: recovery begins with the copy of an earlier commit.
-    Log,
-}
+use fkv_base::{Addr, CommitKind, Version};
 
 /// What is known of the commit in hand, but for its points, which the machine that seeks them keeps.
 #[derive(Clone, Copy)]

@@ -13,7 +13,7 @@ mod seeking;
 mod starting;
 mod waiting;
 
-pub use commits::{Commit, CommitKind};
+pub use commits::Commit;
 pub use entering::{EnterAnswer, EnterWaitPending};
 pub use finishing::{FinishAnswer, FinishCommit};
 pub use laws::{law_of_phases, law_of_points};

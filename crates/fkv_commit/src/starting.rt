@@ -7,10 +7,9 @@ ghost use Rattle.fkv_commit.specs.Starting.{is_lost_full, start_begun, start_ask
 ghost use Rattle.fkv_commit.specs.declared.starting.Starting.TheVariants.{Ended};
 ghost use Rattle.fkv_commit.specs.declared.starting.StartAnswer.TheVariants.{Idle, Refused};
 
-use crate::commits::CommitKind;
 use crate::deferring::{Defer, DeferAnswer, Deferred};
 use crate::phase_steps::{phase_stored, version_after};
-use fkv_base::{Addr, Fault, Phase, Version};
+use fkv_base::{Addr, CommitKind, Fault, Phase, Version};
 use fkv_plane::{Ask, SharedWord, passed};
 use fkv_words::{PhaseSaid, phase_said};
 use std::marker::Model;

@@ -1,7 +1,7 @@
 -- Each kind of event leads where the rules of the world lead.
 use Rattle.std.proofs.Common.{◌≡◌, ◌∙◌, sym, ap, subst, ℕ, Bool, true, false, List, [], if◌then◌else◌, not, ◌&&◌, refl}
 use Rattle.std.specs.Prelude.{Option, None}
-use Rattle.fkv_commit.specs.declared.commits.CommitKind.{CommitKind}
+use Rattle.fkv_base.specs.declared.commits.CommitKind.{CommitKind}
 use Rattle.fkv_disk.specs.Calls.{Call as DeviceCall}
 use Rattle.fkv_flush.specs.Devices.{Adds}
 use Rattle.fkv_keeper.specs.KeeperRun.{is_in_hand}

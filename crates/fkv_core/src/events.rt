@@ -1,6 +1,5 @@
 //! What may happen in the engine, and what a step tells.
-use fkv_base::{Fault, Version};
-use fkv_commit::CommitKind;
+use fkv_base::{CommitKind, Fault, Version};
 use fkv_keeper::Turn;
 use fkv_map::Call;
 use fkv_session::Answer;

@@ -10,7 +10,7 @@ ghost use Rattle.fkv_core.specs.Told.{IsKeeperEndTold};
 ghost use Rattle.fkv_core.specs.Worlds.{beside, IsKeeperMove};
 
 use crate::events::Told;
-use fkv_commit::CommitKind;
+use fkv_base::CommitKind;
 use fkv_disk::Device;
 use fkv_keeper::{Keeper, KeeperAsk, KeeperTold};
 use fkv_plane::{Ask, PlainWords};

@@ -1,7 +1,6 @@
 //! Lines of a script, and what each is to be answered.
 use arrayvec::ArrayVec;
-use fkv_base::{Key, MAX_PENDING, Phase, Serial, Value, Version};
-use fkv_commit::CommitKind;
+use fkv_base::{CommitKind, Key, MAX_PENDING, Phase, Serial, Value, Version};
 use fkv_core::{Actor, Event, Told};
 use fkv_keeper::{MAX_POINTS, Turn};
 use fkv_map::{Call, Op, Reply};

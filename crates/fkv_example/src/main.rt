@@ -2,8 +2,7 @@
 #![tactic(auto)]
 
 use anyhow::Error;
-use fkv_base::{Key, Shape, Value};
-use fkv_commit::CommitKind;
+use fkv_base::{CommitKind, Key, Shape, Value};
 use fkv_core::{Actor, Event, Told, World};
 use fkv_creating::create_opened;
 use fkv_disk::{Device, Fuse, MemDisk};

@@ -10,7 +10,7 @@ use Rattle.fkv_plane.specs.declared.asks.Ask.TheVariants.{Load, Store, Swap, Cas
 use Rattle.fkv_plane.specs.declared.places.Places.{Places}
 use Rattle.fkv_plane.specs.Passing.{is_done, passed}
 use Rattle.fkv_commit.specs.declared.commits.Commit.{Commit}
-use Rattle.fkv_commit.specs.declared.commits.CommitKind.{CommitKind}
+use Rattle.fkv_base.specs.declared.commits.CommitKind.{CommitKind}
 use Rattle.fkv_commit.specs.declared.starting.StartAnswer.{StartAnswer}
 use Rattle.fkv_commit.specs.declared.starting.StartAnswer.TheVariants as start
 use Rattle.fkv_commit.specs.Starting.{start_ask, start_next}

@@ -9,8 +9,8 @@ use Rattle.fkv_plane.specs.declared.places.Places.{Places}
 use Rattle.fkv_checkpoint.specs.Copied.{copied_after}
 use Rattle.fkv_checkpoint.specs.Copying.{Copier}
 use Rattle.fkv_commit.specs.declared.commits.Commit.{Commit}
-use Rattle.fkv_commit.specs.declared.commits.CommitKind.{CommitKind}
-use Rattle.fkv_commit.specs.declared.commits.CommitKind.TheVariants.{Full, Log}
+use Rattle.fkv_base.specs.declared.commits.CommitKind.{CommitKind}
+use Rattle.fkv_base.specs.declared.commits.CommitKind.TheVariants.{Full, Log}
 use Rattle.fkv_commit.specs.declared.waiting.WaitAnswer.{WaitAnswer}
 use Rattle.fkv_commit.specs.declared.waiting.WaitAnswer.TheVariants as wait
 use Rattle.fkv_commit.specs.Waiting.{WaitState, wait_ask, wait_next}

@@ -18,8 +18,8 @@ use Rattle.fkv_plane.specs.declared.asks.Ask.TheVariants.{Load, Store, Swap, Cas
 use Rattle.fkv_plane.specs.declared.places.Places.{Places}
 use Rattle.fkv_plane.specs.Passing.{passed}
 use Rattle.fkv_commit.specs.declared.commits.Commit.{Commit}
-use Rattle.fkv_commit.specs.declared.commits.CommitKind.{CommitKind}
-use Rattle.fkv_commit.specs.declared.commits.CommitKind.TheVariants.{Full, Log}
+use Rattle.fkv_base.specs.declared.commits.CommitKind.{CommitKind}
+use Rattle.fkv_base.specs.declared.commits.CommitKind.TheVariants.{Full, Log}
 use Rattle.fkv_commit.specs.declared.deferring.DeferAnswer.{DeferAnswer}
 use Rattle.fkv_commit.specs.declared.deferring.DeferAnswer.TheVariants.{Held, Spent, Armed}
 use Rattle.fkv_commit.specs.declared.starting.Starting.{Starting}

@@ -24,8 +24,8 @@ use Rattle.fkv_checkpoint.specs.Copied.{copying_after, copied_after}
 use Rattle.fkv_checkpoint.specs.Copying.{Copier, copy_begun, copy_ask}
 use Rattle.fkv_checkpoint.specs.Triples.{all_bytes}
 use Rattle.fkv_commit.specs.declared.commits.Commit.{Commit}
-use Rattle.fkv_commit.specs.declared.commits.CommitKind.{CommitKind}
-use Rattle.fkv_commit.specs.declared.commits.CommitKind.TheVariants.{Full, Log}
+use Rattle.fkv_base.specs.declared.commits.CommitKind.{CommitKind}
+use Rattle.fkv_base.specs.declared.commits.CommitKind.TheVariants.{Full, Log}
 use Rattle.fkv_commit.specs.declared.starting.StartAnswer.{StartAnswer}
 use Rattle.fkv_commit.specs.declared.starting.StartAnswer.TheVariants as start
 use Rattle.fkv_commit.specs.Commits.{is_log}

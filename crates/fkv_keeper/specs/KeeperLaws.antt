@@ -10,7 +10,7 @@ use Rattle.fkv_words.specs.declared.phase_words.PhaseSaid.TheVariants.{Says}
 use Rattle.fkv_words.specs.PhaseWords.{phase_said}
 use Rattle.fkv_checkpoint.specs.Copying.{copy_begun}
 use Rattle.fkv_commit.specs.declared.commits.Commit.{Commit}
-use Rattle.fkv_commit.specs.declared.commits.CommitKind.{CommitKind}
+use Rattle.fkv_base.specs.declared.commits.CommitKind.{CommitKind}
 use Rattle.fkv_manifest.specs.declared.answers.WriteAnswer.TheVariants as write
 use Rattle.fkv_manifest.specs.Committing.{CommitWriter, commit_start, commit_answer}
 use Rattle.fkv_manifest.specs.Made.{commit_run}

@@ -22,8 +22,8 @@ use Rattle.fkv_plane.specs.Places.{shared_place}
 use Rattle.fkv_checkpoint.specs.Copying.{Copier, copy_begun, copy_ask, copy_after}
 use Rattle.fkv_checkpoint.specs.Triples.{all_bytes}
 use Rattle.fkv_commit.specs.declared.commits.Commit.{Commit}
-use Rattle.fkv_commit.specs.declared.commits.CommitKind.{CommitKind}
-use Rattle.fkv_commit.specs.declared.commits.CommitKind.TheVariants.{Full, Log}
+use Rattle.fkv_base.specs.declared.commits.CommitKind.{CommitKind}
+use Rattle.fkv_base.specs.declared.commits.CommitKind.TheVariants.{Full, Log}
 use Rattle.fkv_commit.specs.declared.entering.EnterAnswer.{EnterAnswer}
 use Rattle.fkv_commit.specs.declared.entering.EnterAnswer.TheVariants as enter
 use Rattle.fkv_commit.specs.declared.finishing.FinishAnswer.{FinishAnswer}

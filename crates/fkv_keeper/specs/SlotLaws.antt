@@ -4,7 +4,7 @@ use Rattle.fkv_base.specs.Limits.{max_sessions, last_version}
 use Rattle.fkv_base.specs.declared.shapes.Shape.{Shape}
 use Rattle.fkv_record.specs.Manifest.{SlotSaid, newest_bytes}
 use Rattle.fkv_commit.specs.declared.commits.Commit.{Commit}
-use Rattle.fkv_commit.specs.declared.commits.CommitKind.TheVariants.{Log}
+use Rattle.fkv_base.specs.declared.commits.CommitKind.TheVariants.{Log}
 use Rattle.fkv_commit.specs.Starting.{max_lost}
 use Rattle.fkv_manifest.specs.Kept.{IsSlotOf}
 use Rattle.fkv_keeper.specs.Keeping.{KeeperState, lost_left}

@@ -13,7 +13,7 @@ ghost use Rattle.fkv_keeper.specs.Keeping.{commit_asked, turn_asked, keeper_ask,
 use crate::answers::{Finished, KeeperAsk, KeeperTold, Turn};
 use crate::keepers::{Keeper, Keeping};
 use arrayvec::ArrayVec;
-use fkv_commit::CommitKind;
+use fkv_base::CommitKind;
 use fkv_disk::Device;
 use fkv_plane::{Action, Ask, passed};
 

@@ -23,11 +23,9 @@ use crate::answers::KeeperTold;
 use crate::last_commits::{Checkpoint, LastCommit};
 use crate::leading::{copy_driven, device_passed, end_told, no_writes, write_asked, write_due};
 use arrayvec::ArrayVec;
-use fkv_base::{Fault, Shape};
+use fkv_base::{CommitKind, Fault, Shape};
 use fkv_checkpoint::{CopyRoom, IndexCopy};
-use fkv_commit::{
-    Commit, CommitKind, EnterWaitPending, FinishCommit, SeekPoints, StartCommit, WaitFlush,
-};
+use fkv_commit::{Commit, EnterWaitPending, FinishCommit, SeekPoints, StartCommit, WaitFlush};
 use fkv_disk::{Device, DeviceAsk};
 use fkv_maintain::Maintain;
 use fkv_manifest::CommitWrites;

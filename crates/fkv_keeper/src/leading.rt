@@ -13,11 +13,9 @@ use crate::answers::KeeperTold;
 use crate::keepers::{Keeper, Keeping};
 use crate::last_commits::Checkpoint;
 use crate::manifests::{slot_place, slot_written};
-use fkv_base::{Addr, Fault, Phase};
+use fkv_base::{Addr, CommitKind, Fault, Phase};
 use fkv_checkpoint::{CopyRoom, IndexCopy};
-use fkv_commit::{
-    Commit, CommitKind, EnterAnswer, FinishAnswer, SeekAnswer, StartAnswer, WaitAnswer,
-};
+use fkv_commit::{Commit, EnterAnswer, FinishAnswer, SeekAnswer, StartAnswer, WaitAnswer};
 use fkv_disk::DeviceAsk;
 use fkv_maintain::MaintainAnswer;
 use fkv_manifest::{CommitWrites, GateWrites, NextCall, WriteAnswer};

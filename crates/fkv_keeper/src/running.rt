@@ -9,8 +9,7 @@ ghost use Rattle.fkv_keeper.specs.WholeCalls.{HasStopped, IsCallSoFar, IsHonestT
 
 use crate::answers::{KeeperAsk, KeeperTold, Turn};
 use crate::keepers::Keeper;
-use fkv_base::{Fault, Version};
-use fkv_commit::CommitKind;
+use fkv_base::{CommitKind, Fault, Version};
 use fkv_disk::Device;
 use fkv_plane::{Ask, PlainWords};
 

@@ -1,8 +1,7 @@
 //! Commits by hand over plain words and a device in memory, whose bytes are compared with images written by hand. The log is a ring
 //! of two frames of four records each, on a device of eight pages; there is one bucket and one session.
 use arrayvec::ArrayVec;
-use fkv_base::{Addr, DRAIN_SLOTS, Fault, LAST_EPOCH, Serial, Shape, Version};
-use fkv_commit::CommitKind;
+use fkv_base::{Addr, CommitKind, DRAIN_SLOTS, Fault, LAST_EPOCH, Serial, Shape, Version};
 use fkv_disk::{Device, MemDisk};
 use fkv_keeper::{
     Area, Checkpoint, Finished, Keeper, KeeperAsk, LastCommit, MAX_LOST_IN_HAND, Turn,

@@ -4,8 +4,7 @@ use crate::commits::{
     FIRST_ENTRY, FIRST_HEADER, SmallStore, WAIT_PENDING, append, begun, commit, created_disk,
     new_store, phase, sees, store_own, turn, turned,
 };
-use fkv_base::Fault;
-use fkv_commit::CommitKind;
+use fkv_base::{CommitKind, Fault};
 use fkv_disk::{Device, DeviceAsk, MemDisk};
 use fkv_keeper::KeeperTold;
 use fkv_plane::{Ask, SessionWord, SharedWord};

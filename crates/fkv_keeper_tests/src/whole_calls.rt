@@ -3,8 +3,7 @@ use crate::commits::{
     FIRST_ENTRY, FIRST_HEADER, SECOND_CUT, SECOND_HEADER, SmallStore, append, created_disk,
     durable, finished, new_store, sees, store_own,
 };
-use fkv_base::{Addr, Fault, Serial, Version};
-use fkv_commit::CommitKind;
+use fkv_base::{Addr, CommitKind, Fault, Serial, Version};
 use fkv_disk::{Fuse, FuseState, MemDisk};
 use fkv_keeper::{Finished, Turn};
 use fkv_plane::SessionWord;

@@ -1,7 +1,6 @@
 //! 2^20 keys.
 use crate::stores::{Store, commit, is_done, new_store, turn};
-use fkv_base::{Fault, Key, Value};
-use fkv_commit::CommitKind;
+use fkv_base::{CommitKind, Fault, Key, Value};
 use fkv_core::{Event, World};
 use fkv_disk::Fuse;
 use fkv_map::{Op, PlainMap};

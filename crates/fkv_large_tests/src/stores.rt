@@ -1,6 +1,5 @@
 //! A large store in memory, and its calls.
-use fkv_base::{Fault, Shape};
-use fkv_commit::CommitKind;
+use fkv_base::{CommitKind, Fault, Shape};
 use fkv_core::{Actor, Event, Told, World};
 use fkv_creating::create_opened;
 use fkv_disk::{Fuse, MemDisk};

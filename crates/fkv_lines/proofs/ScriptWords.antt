@@ -9,7 +9,7 @@ use Rattle.std.proofs.lemmas.Bool.Decides.{nat_tests}
 use Rattle.std.proofs.lemmas.List.Elements.{All-nil, All-cons}
 use Rattle.fkv_base.specs.declared.faults.ScriptFault.{ScriptFault}
 use Rattle.fkv_base.specs.declared.faults.ScriptFault.TheVariants as fault
-use Rattle.fkv_commit.specs.declared.commits.CommitKind.TheVariants.{Full, Log}
+use Rattle.fkv_base.specs.declared.commits.CommitKind.TheVariants.{Full, Log}
 use Rattle.fkv_map.specs.declared.operations.Call.{Call}
 use Rattle.fkv_map.specs.declared.operations.Call.TheVariants as call
 use Rattle.fkv_map.specs.declared.operations.Op.{Op}

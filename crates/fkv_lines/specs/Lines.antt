@@ -4,7 +4,7 @@ use Rattle.std.specs.Str.{bytes_eq}
 use Rattle.std.specs.Char.{is_ascii_digit}
 use Rattle.fkv_base.specs.declared.faults.ScriptFault.{ScriptFault}
 use Rattle.fkv_base.specs.declared.faults.ScriptFault.TheVariants as fault
-use Rattle.fkv_commit.specs.declared.commits.CommitKind.TheVariants.{Full, Log}
+use Rattle.fkv_base.specs.declared.commits.CommitKind.TheVariants.{Full, Log}
 use Rattle.fkv_lines.specs.declared.scripts.Class.{Class}
 use Rattle.fkv_lines.specs.declared.scripts.Class.TheVariants.{Small, Large}
 use Rattle.fkv_lines.specs.declared.scripts.Line.{Line}

@@ -1,5 +1,5 @@
 //! Scripts as they are read: the line that opens the store, and the lines after it.
-use fkv_commit::CommitKind;
+use fkv_base::CommitKind;
 use fkv_map::Call;
 
 /// Where the store of a run lies. A store in memory is crashed by its script, and one in a file is opened again.

@@ -1,3 +1,4 @@
+pub mod Fits
 pub mod History
 pub mod Keys
 pub mod Laws

@@ -3,7 +3,7 @@ ghost use Rattle.std.specs.Prelude.{◌≡◌, nat_lt};
 ghost use Rattle.fkv_playing.specs.Beats.{asked_of, event_of};
 ghost use Rattle.fkv_playing.specs.Queues.{rank_of};
 
-use fkv_commit::CommitKind;
+use fkv_base::CommitKind;
 use fkv_core::Event;
 use fkv_map::Call;
 

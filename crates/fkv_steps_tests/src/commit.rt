@@ -1,9 +1,9 @@
 //! Commits moved by hand over plain words, of stores with up to two sessions, whose blocks begin at places 24 and 40.
 use crate::words::{make, store};
-use fkv_base::{Addr, Fault, LAST_EPOCH, Phase, Serial, Version};
+use fkv_base::{Addr, CommitKind, Fault, LAST_EPOCH, Phase, Serial, Version};
 use fkv_commit::{
-    Commit, CommitKind, EnterAnswer, EnterWaitPending, FinishAnswer, FinishCommit, SeekAnswer,
-    SeekPoints, StartAnswer, StartCommit, WaitAnswer, WaitFlush, law_of_phases, law_of_points,
+    Commit, EnterAnswer, EnterWaitPending, FinishAnswer, FinishCommit, SeekAnswer, SeekPoints,
+    StartAnswer, StartCommit, WaitAnswer, WaitFlush, law_of_phases, law_of_points,
 };
 use fkv_plane::{Action, Ask, PlainWords};
 use std::alloc::Global;

@@ -1,6 +1,5 @@
 //! Runs that are played whole, and what they print.
-use fkv_base::{Fault, Key, Shape, Value};
-use fkv_commit::CommitKind;
+use fkv_base::{CommitKind, Fault, Key, Shape, Value};
 use fkv_creating::create_opened;
 use fkv_disk::{Fuse, MemDisk};
 use fkv_lines::Line;

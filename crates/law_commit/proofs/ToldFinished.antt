@@ -9,7 +9,7 @@ use Rattle.fkv_plane.specs.declared.places.Places.{Places}
 use Rattle.fkv_plane.specs.Asked.{reply_to}
 use Rattle.fkv_plane.specs.Plane.{action_at}
 use Rattle.fkv_commit.specs.declared.commits.Commit.{Commit}
-use Rattle.fkv_commit.specs.declared.commits.CommitKind.{CommitKind}
+use Rattle.fkv_base.specs.declared.commits.CommitKind.{CommitKind}
 use Rattle.fkv_manifest.specs.declared.commits.Committing.{Committing}
 use Rattle.fkv_manifest.specs.declared.commits.Committing.TheVariants as committing
 use Rattle.fkv_manifest.specs.declared.gates.Gating.{Gating}

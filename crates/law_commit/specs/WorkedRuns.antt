@@ -10,7 +10,7 @@ use Rattle.fkv_plane.specs.Asked.{word_at}
 use Rattle.fkv_plane.specs.Places.{shared_place}
 use Rattle.fkv_epoch.specs.declared.arming.Arming.TheVariants as arm
 use Rattle.fkv_epoch.specs.declared.raising.Raising.TheVariants as raise
-use Rattle.fkv_commit.specs.declared.commits.CommitKind.TheVariants.{Full}
+use Rattle.fkv_base.specs.declared.commits.CommitKind.TheVariants.{Full}
 use Rattle.fkv_commit.specs.declared.deferring.Deferred.{Deferred}
 use Rattle.fkv_commit.specs.declared.deferring.Deferred.TheVariants.{EntersPhase, ShowsReadOnly}
 use Rattle.fkv_commit.specs.declared.deferring.Deferring.TheVariants.{Raises as RaisesFor}

@@ -1,8 +1,8 @@
 -- What was written for the newest commit that has begun.
 use Rattle.std.specs.Prelude.{◌≡◌, List, [], ◌∷◌, Option, Some}
 use Rattle.fkv_base.specs.declared.shapes.Shape.{Shape}
-use Rattle.fkv_commit.specs.declared.commits.CommitKind.{CommitKind}
-use Rattle.fkv_commit.specs.declared.commits.CommitKind.TheVariants.{Full, Log}
+use Rattle.fkv_base.specs.declared.commits.CommitKind.{CommitKind}
+use Rattle.fkv_base.specs.declared.commits.CommitKind.TheVariants.{Full, Log}
 use Rattle.fkv_keeper.specs.CheckpointLaws.{BegunWith, begun_with}
 use Rattle.fkv_keeper.specs.Keeping.{Finality}
 use Rattle.fkv_keeper.specs.KeeperRun.{Writing}

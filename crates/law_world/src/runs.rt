@@ -1,6 +1,6 @@
 //! What holds of every life of the engine, whatever its machines do.
 ghost use Rattle.std.specs.Prelude.{◌≡◌, ◌≢◌, ◌++◌, ◌<◌, ◌≤◌, ◌-◌, ℕ, Bool, List, length, None, Some, false, slice_get, slice_set, true};
-ghost use Rattle.fkv_commit.specs.declared.commits.CommitKind.{CommitKind};
+ghost use Rattle.fkv_base.specs.declared.commits.CommitKind.{CommitKind};
 ghost use Rattle.fkv_disk.specs.Calls.{AllDone};
 ghost use Rattle.fkv_keeper.specs.declared.answers.KeeperTold.TheVariants.{Device};
 ghost use Rattle.fkv_keeper.specs.KeeperLaws.{IsBrokenForGood};

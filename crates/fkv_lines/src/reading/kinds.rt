@@ -6,8 +6,7 @@ ghost use Rattle.fkv_lines.specs.Lines.{is_opening, opening_line, shape_line, op
 use crate::reading::calls::{alone, call_of};
 use crate::reading::numbers::{arguments_of, number_of};
 use crate::scripts::{Class, Line, Mode, Opening, Sizes};
-use fkv_base::ScriptFault;
-use fkv_commit::CommitKind;
+use fkv_base::{CommitKind, ScriptFault};
 
 /// The first line that says something: `shape` or `large` and seven numbers, or `open`.
 #[tactic(auto, unfolding(crate::specs::Lines::opening_line))]

@@ -1,7 +1,7 @@
 -- A call that begins is answered at once, or in hand.
 use Rattle.std.proofs.Common.{◌≡◌, ℕ, zero, suc, ◌∙◌, refl, sym, ap, subst, inl, inr, ◌⊎◌, ◌<◌, arith, List, [], ◌∷◌, length, Bool, true, false}
 use Rattle.std.specs.Prelude.{Option, Some, None, not, ◌&&◌, slice_get}
-use Rattle.fkv_commit.specs.declared.commits.CommitKind.{CommitKind}
+use Rattle.fkv_base.specs.declared.commits.CommitKind.{CommitKind}
 use Rattle.fkv_epoch.proofs.Shown.{item_written}
 use Rattle.fkv_keeper.specs.Answers.{IsKeeperTold}
 use Rattle.fkv_keeper.specs.declared.answers.KeeperAsk.{KeeperAsk}

@@ -3,7 +3,7 @@ use Rattle.std.proofs.Common.{◌≡◌, ℕ, suc, ◌∙◌, refl, sym, ap, sub
 use Rattle.std.specs.Prelude.{Option, Some, None, ◌==◌, not, slice_get}
 use Rattle.std.proofs.lemmas.Bool.{and_parts}
 use Rattle.std.proofs.lemmas.Bool.Decides.{nat_tests}
-use Rattle.fkv_commit.specs.declared.commits.CommitKind.TheVariants.{Full}
+use Rattle.fkv_base.specs.declared.commits.CommitKind.TheVariants.{Full}
 use Rattle.fkv_keeper.specs.declared.keepers.Keeping.{Keeping}
 use Rattle.fkv_keeper.specs.declared.keepers.Keeping.TheVariants.{Ended}
 use Rattle.fkv_keeper.specs.KeeperRun.{is_in_hand}

@@ -12,8 +12,8 @@ use Rattle.fkv_checkpoint.specs.Copying.{copy_step_ask, copy_ask}
 use Rattle.fkv_checkpoint.specs.CopyWorld.{CopyWorld, IndexMoves, copy_happens, copy_run}
 use Rattle.fkv_checkpoint.specs.Triples.{CopiedEntry, all_bytes}
 use Rattle.fkv_commit.specs.declared.commits.Commit.{Commit}
-use Rattle.fkv_commit.specs.declared.commits.CommitKind.{CommitKind}
-use Rattle.fkv_commit.specs.declared.commits.CommitKind.TheVariants.{Full}
+use Rattle.fkv_base.specs.declared.commits.CommitKind.{CommitKind}
+use Rattle.fkv_base.specs.declared.commits.CommitKind.TheVariants.{Full}
 use Rattle.fkv_index.specs.IndexWorld.{IndexEvent, IndexWorld, index_happens, index_run}
 use Rattle.fkv_keeper.specs.declared.last_commits.Checkpoint.{Checkpoint}
 use Rattle.fkv_keeper.specs.CheckpointLaws.{HasCopied, HoldsCopy, IsBehindWait, IsBeingWritten, UsesAs, UsesItsCopy, copy_replies}

@@ -9,7 +9,7 @@ use Rattle.fkv_checkpoint.specs.CopyWorld.{CopyEvent, CopyBegins}
 use Rattle.fkv_checkpoint.specs.Fuzzy.{HasCopy, IsEntryThen}
 use Rattle.fkv_checkpoint.specs.Triples.{CopiedEntry}
 use Rattle.fkv_commit.specs.declared.commits.Commit.{Commit}
-use Rattle.fkv_commit.specs.declared.commits.CommitKind.TheVariants.{Full}
+use Rattle.fkv_base.specs.declared.commits.CommitKind.TheVariants.{Full}
 use Rattle.fkv_keeper.specs.declared.keepers.Keeping.TheVariants.{LoadsPhase}
 use Rattle.fkv_keeper.specs.CheckpointLaws.{IsCopyPhase}
 use Rattle.fkv_world.specs.OwnEvents.{keeper_part_of}

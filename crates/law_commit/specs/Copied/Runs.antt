@@ -7,7 +7,7 @@ use Rattle.fkv_checkpoint.specs.Copied.{copying_after, copied_after}
 use Rattle.fkv_checkpoint.specs.CopyWorld.{CopyWorld, CopyEvent, CopyBegins, CopyMoves, IndexMoves, copy_run, copy_opening}
 use Rattle.fkv_checkpoint.specs.Triples.{all_bytes}
 use Rattle.fkv_commit.specs.declared.commits.Commit.{Commit}
-use Rattle.fkv_commit.specs.declared.commits.CommitKind.TheVariants.{Full}
+use Rattle.fkv_base.specs.declared.commits.CommitKind.TheVariants.{Full}
 use Rattle.fkv_keeper.specs.declared.keepers.Keeping.{Keeping}
 use Rattle.fkv_keeper.specs.declared.keepers.Keeping.TheVariants.{LoadsPhase, Copies}
 use Rattle.fkv_keeper.specs.CheckpointLaws.{IsBeforeWrites, IsBehindWait}

@@ -5,7 +5,7 @@ use Rattle.fkv_plane.specs.declared.actions.Action.{Action}
 use Rattle.fkv_plane.specs.declared.actions.Action.TheVariants as act
 use Rattle.fkv_plane.specs.declared.places.Places.{Places}
 use Rattle.fkv_epoch.specs.EpochWorld.{ToScan}
-use Rattle.fkv_commit.specs.declared.commits.CommitKind.{CommitKind}
+use Rattle.fkv_base.specs.declared.commits.CommitKind.{CommitKind}
 use Rattle.fkv_commit.specs.declared.entering.Entering.{Entering}
 use Rattle.fkv_commit.specs.declared.entering.Entering.TheVariants as enter
 use Rattle.fkv_commit.specs.declared.seeking.Seeking.{Seeking}

@@ -1,7 +1,7 @@
 -- A turn or a commit that begins.
 use Rattle.std.proofs.Common.{◌≡◌, ℕ, [], ◌∷◌, refl, Bool, true, false}
 use Rattle.std.specs.Prelude.{Some, None, slice_get}
-use Rattle.fkv_commit.specs.declared.commits.CommitKind.{CommitKind}
+use Rattle.fkv_base.specs.declared.commits.CommitKind.{CommitKind}
 use Rattle.fkv_epoch.specs.declared.scanning.Scanning.TheVariants as scan
 use Rattle.fkv_epoch.specs.EpochWorld.{Scans, ToScan}
 use Rattle.fkv_flush.specs.GuardSeen.{LastSeen}

@@ -17,8 +17,8 @@ use Rattle.fkv_checkpoint.specs.Copied.{copied_after}
 use Rattle.fkv_checkpoint.specs.Triples.{CopiedEntry, copied_bytes, all_bytes}
 use Rattle.fkv_checkpoint.proofs.Shown.{copy_fits}
 use Rattle.fkv_commit.specs.declared.commits.Commit.{Commit}
-use Rattle.fkv_commit.specs.declared.commits.CommitKind.{CommitKind}
-use Rattle.fkv_commit.specs.declared.commits.CommitKind.TheVariants.{Full, Log}
+use Rattle.fkv_base.specs.declared.commits.CommitKind.{CommitKind}
+use Rattle.fkv_base.specs.declared.commits.CommitKind.TheVariants.{Full, Log}
 use Rattle.fkv_manifest.specs.declared.commits.Committing.{Committing}
 use Rattle.fkv_manifest.specs.declared.commits.Committing.TheVariants as writing_step
 use Rattle.fkv_manifest.specs.declared.gates.Gating.{Gating}

@@ -26,7 +26,8 @@ use Rattle.law_world.proofs.OfRuns.Added.{trace_so}
 use Rattle.law_refine.specs.Events.GhostEvents.{serials_in, life_ghosts}
 use Rattle.law_refine.specs.Events.Lines.{CallMade, op_line, call_lines, finished_line, finished_lines, refused_op, refused_call, refused_lines, answer_lines, event_lines, lines_of, last_call, next_serial}
 use Rattle.law_refine.proofs.OfEvents.Trace.{ghost_trace}
-use Rattle.law_order.specs.Served.Fits.{CallFits, CallsFit, EventFits, OpFits}
+use Rattle.fkv_map.specs.Fits.{OpFits}
+use Rattle.law_order.specs.Served.Fits.{CallFits, CallsFit, EventFits}
 use Rattle.law_order.proofs.OfServed.LogFits.{LineFits, LinesFit}
 
 -- the calls that a trace has

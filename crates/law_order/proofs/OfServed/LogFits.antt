@@ -11,7 +11,8 @@ use Rattle.law_log.specs.Ghosts.{Log, Ghosts, GhostEvent, Tells, FindsEntry, Tak
 use Rattle.law_log.specs.Enabled.{AreEnabled, IsOpened, IsInHand, IsEnabled, IsPublishEnabled, IsChangeEnabled}
 use Rattle.law_log.specs.Trace.{TraceLine, CallsUpdate, RefusesUpdate, GivesResult, CallsRead, AnswersRead, called_as}
 use Rattle.law_log.proofs.Shown.{Held, at_one, run_held}
-use Rattle.law_order.specs.Served.Fits.{NumberFits, OpFits, ValueFits, CellFits, CellsFit}
+use Rattle.fkv_map.specs.Fits.{NumberFits, OpFits}
+use Rattle.law_order.specs.Served.Fits.{ValueFits, CellFits, CellsFit}
 
 -- ---- what was called
 -- each update that these lines call is of numbers that fit

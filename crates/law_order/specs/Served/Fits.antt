@@ -1,23 +1,11 @@
 -- Numbers that fit in a word: the device has eight bytes for each, so it gives back no others.
-use Rattle.std.specs.Prelude.{◌≡◌, ⊤, ℕ, ◌<◌, ◌^◌, List, [], ◌∷◌, Option, Some, None}
+use Rattle.std.specs.Prelude.{◌≡◌, ⊤, ℕ, List, [], ◌∷◌, Option, Some, None}
+use Rattle.fkv_map.specs.Fits.{NumberFits, OpFits}
 use Rattle.fkv_map.specs.declared.operations.Call.{Call}
 use Rattle.fkv_map.specs.declared.operations.Call.TheVariants as call
-use Rattle.fkv_map.specs.declared.operations.Op.{Op}
-use Rattle.fkv_map.specs.declared.operations.Op.TheVariants.{Upsert, Delete, Add, Max, Read}
 use Rattle.law_log.specs.Chains.{Cell, Published}
 use Rattle.law_log.specs.Ghosts.{Log}
 use Rattle.fkv_world.specs.World.{Event, Calls}
-
-abbrev pub NumberFits : ℕ → Type 0
-NumberFits n = n < 2 ^ 64
-
--- an operation's key does, and so does its number
-abbrev pub OpFits : Op → Type 0
-OpFits (Upsert key value) = NumberFits key.0 × NumberFits value.0
-OpFits (Delete key) = NumberFits key.0
-OpFits (Add key n) = NumberFits key.0 × NumberFits n
-OpFits (Max key n) = NumberFits key.0 × NumberFits n
-OpFits (Read key) = NumberFits key.0
 
 abbrev pub CallFits : Call → Type 0
 CallFits (call.Op op) = OpFits op

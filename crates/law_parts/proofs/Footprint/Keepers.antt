@@ -16,7 +16,7 @@ use Rattle.fkv_checkpoint.specs.declared.copying.CopyStep.{CopyStep}
 use Rattle.fkv_checkpoint.specs.declared.copying.CopyStep.TheVariants as copy
 use Rattle.fkv_checkpoint.specs.Copying.{Copier, copy_step_ask, copy_begun}
 use Rattle.fkv_commit.specs.declared.commits.Commit.{Commit}
-use Rattle.fkv_commit.specs.declared.commits.CommitKind.{CommitKind}
+use Rattle.fkv_base.specs.declared.commits.CommitKind.{CommitKind}
 use Rattle.fkv_commit.specs.declared.entering.EnterAnswer.{EnterAnswer}
 use Rattle.fkv_commit.specs.declared.entering.EnterAnswer.TheVariants as enter
 use Rattle.fkv_commit.specs.declared.finishing.FinishAnswer.{FinishAnswer}

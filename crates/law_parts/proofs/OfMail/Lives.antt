@@ -2,7 +2,7 @@
 use Rattle.std.proofs.Common.{◌≡◌, ℕ, ◌<◌, ◌∙◌, refl, sym, subst, List, [], ◌∷◌, length, Bool, true, false}
 use Rattle.std.specs.Prelude.{if◌then◌else◌, slice_get}
 use Rattle.fkv_base.specs.declared.faults.Fault.TheVariants as fault
-use Rattle.fkv_commit.specs.declared.commits.CommitKind.{CommitKind}
+use Rattle.fkv_base.specs.declared.commits.CommitKind.{CommitKind}
 use Rattle.fkv_commit.specs.Starting.{start_begun}
 use Rattle.fkv_maintain.specs.Maintaining.{maintain_begun}
 use Rattle.fkv_flush.specs.declared.serving.Serving.{Serving}

@@ -36,7 +36,8 @@ use Rattle.fkv_world.specs.Runs.{World, run}
 use Rattle.fkv_world.specs.World.{Calls, Event, Now}
 use Rattle.law_refine.specs.Results.Results.{IsResult, NobodyCalls, history_at, in_call}
 use Rattle.law_refine.proofs.OfResults.InCall.{result_told}
-use Rattle.law_order.specs.Served.Fits.{CallFits, OpFits}
+use Rattle.fkv_map.specs.Fits.{OpFits}
+use Rattle.law_order.specs.Served.Fits.{CallFits}
 use Rattle.law_order.specs.Tickets.Few.{HasFewCalls}
 use Rattle.law_program.specs.PlayedCalls.PlayedCalls.{IsAnsweredAlone, IsLineOfSession, IsQuietLife, IsRefusedSession, IsReplyOfMap, IsToldTo, LinesGoOn, LinesReplyAsMap, RepliesAsMap, called_alone}
 use Rattle.law_program.proofs.OfPlayedCalls.Beats.{EndsCall, beats_end}

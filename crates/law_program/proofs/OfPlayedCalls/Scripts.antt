@@ -30,7 +30,7 @@ use Rattle.law_program.specs.WholeCalls.WholeCalls.{map_after}
 use Rattle.fkv_world.specs.Runs.{run}
 use Rattle.fkv_world.specs.World.{Calls, Event, Now}
 use Rattle.law_refine.specs.Results.Results.{NobodyCalls, in_call}
-use Rattle.law_order.specs.Served.Fits.{OpFits}
+use Rattle.fkv_map.specs.Fits.{OpFits}
 use Rattle.law_order.specs.Tickets.Few.{HasFewCalls, calls_in}
 use Rattle.law_program.specs.PlayedCalls.PlayedCalls.{IsLineOfSession, IsQuietLife, IsRefusedSession, LinesReplyAsMap}
 use Rattle.law_program.specs.PlayedCalls.Scripts.{EachFits, FilesPlayMap, IsLineOfMap, IsPlayOfMap, LivesPlayMap, NewStoresPlayMap, SessionOp}

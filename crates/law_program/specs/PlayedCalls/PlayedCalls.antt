@@ -33,7 +33,8 @@ use Rattle.fkv_world.specs.Runs.{run}
 use Rattle.fkv_world.specs.World.{Calls, Event, Moves, Now}
 use Rattle.law_order.specs.Rest.Resting.{HasNoCommit}
 use Rattle.law_refine.specs.Results.Results.{NobodyCalls, in_call}
-use Rattle.law_order.specs.Served.Fits.{CallFits, CallsFit, OpFits}
+use Rattle.fkv_map.specs.Fits.{OpFits}
+use Rattle.law_order.specs.Served.Fits.{CallFits, CallsFit}
 use Rattle.law_order.specs.Tickets.Few.{HasFewCalls}
 
 -- A life without commits of a store that these bytes hold, which began with its first world: one of which the order law speaks. It shows this world.

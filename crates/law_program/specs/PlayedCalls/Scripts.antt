@@ -31,7 +31,7 @@ use Rattle.fkv_texts.specs.Refusals.{session_refusal}
 use Rattle.fkv_texts.specs.Sessions.{session_text}
 use Rattle.fkv_texts.specs.declared.polls.WaitingRead.{WaitingRead}
 use Rattle.law_program.specs.WholeCalls.WholeCalls.{IsMapsReply, LeavesMap}
-use Rattle.law_order.specs.Served.Fits.{OpFits}
+use Rattle.fkv_map.specs.Fits.{OpFits}
 use Rattle.law_program.specs.PlayedCalls.PlayedCalls.{IsToldTo}
 
 -- ---- by the plain map

@@ -4,7 +4,7 @@ use Rattle.std.specs.Prelude.{⊤, Some, None, slice_get, slice_set}
 use Rattle.std.proofs.lemmas.Bool.Decides.{nat_tests}
 use Rattle.fkv_map.specs.declared.operations.Call.{Call}
 use Rattle.fkv_map.specs.declared.operations.Call.TheVariants.{Refresh}
-use Rattle.fkv_commit.specs.declared.commits.CommitKind.{CommitKind}
+use Rattle.fkv_base.specs.declared.commits.CommitKind.{CommitKind}
 use Rattle.fkv_plane.specs.declared.asks.Ask.TheVariants.{Done}
 use Rattle.fkv_session.specs.declared.answers.Told.{Told}
 use Rattle.fkv_session.specs.declared.sessions.Sitting.{Sitting}

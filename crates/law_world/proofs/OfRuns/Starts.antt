@@ -2,7 +2,7 @@
 use Rattle.std.proofs.Common.{◌≡◌, ℕ, ◌∙◌, refl, Bool, false}
 use Rattle.std.specs.Prelude.{Some, slice_get, slice_set}
 use Rattle.fkv_map.specs.declared.operations.Call.{Call}
-use Rattle.fkv_commit.specs.declared.commits.CommitKind.{CommitKind}
+use Rattle.fkv_base.specs.declared.commits.CommitKind.{CommitKind}
 use Rattle.fkv_plane.specs.declared.asks.Ask.TheVariants.{Done}
 use Rattle.fkv_session.specs.Sessions.{SessionState}
 use Rattle.fkv_keeper.specs.declared.answers.KeeperTold.TheVariants.{Device}

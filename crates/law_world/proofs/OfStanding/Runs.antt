@@ -10,7 +10,7 @@ use Rattle.fkv_plane.specs.declared.actions.Action.{Action}
 use Rattle.fkv_plane.specs.declared.places.Places.{Places}
 use Rattle.fkv_checkpoint.specs.Copying.{Copier}
 use Rattle.fkv_commit.specs.declared.commits.Commit.{Commit}
-use Rattle.fkv_commit.specs.declared.commits.CommitKind.{CommitKind}
+use Rattle.fkv_base.specs.declared.commits.CommitKind.{CommitKind}
 use Rattle.fkv_commit.specs.Entering.{enter_ask, enter_next}
 use Rattle.fkv_commit.specs.Finishing.{finish_ask, finish_next}
 use Rattle.fkv_commit.specs.Seeking.{seek_ask, seek_next}

@@ -14,8 +14,8 @@ use Rattle.fkv_checkpoint.specs.Copying.{Copier}
 use Rattle.fkv_checkpoint.specs.Copied.{copied_after}
 use Rattle.fkv_checkpoint.proofs.Shown.{copy_fits}
 use Rattle.fkv_commit.specs.declared.commits.Commit.{Commit}
-use Rattle.fkv_commit.specs.declared.commits.CommitKind.{CommitKind}
-use Rattle.fkv_commit.specs.declared.commits.CommitKind.TheVariants.{Full, Log}
+use Rattle.fkv_base.specs.declared.commits.CommitKind.{CommitKind}
+use Rattle.fkv_base.specs.declared.commits.CommitKind.TheVariants.{Full, Log}
 use Rattle.fkv_commit.specs.declared.finishing.FinishAnswer.{FinishAnswer}
 use Rattle.fkv_commit.specs.declared.waiting.WaitAnswer.{WaitAnswer}
 use Rattle.fkv_commit.specs.declared.waiting.WaitAnswer.TheVariants as wait

@@ -12,8 +12,8 @@ use Rattle.fkv_record.specs.Places.{number_at, most_triples, area_place}
 use Rattle.fkv_disk.specs.Bytes.{byte_at, bytes_at}
 use Rattle.fkv_disk.specs.Calls.{Call, MayLeave, reads_as}
 use Rattle.fkv_commit.specs.declared.commits.Commit.{Commit}
-use Rattle.fkv_commit.specs.declared.commits.CommitKind.{CommitKind}
-use Rattle.fkv_commit.specs.declared.commits.CommitKind.TheVariants.{Full, Log}
+use Rattle.fkv_base.specs.declared.commits.CommitKind.{CommitKind}
+use Rattle.fkv_base.specs.declared.commits.CommitKind.TheVariants.{Full, Log}
 use Rattle.fkv_manifest.specs.declared.answers.WriteAnswer.TheVariants as answer
 use Rattle.fkv_manifest.specs.Gating.{gate_start, open_gate}
 use Rattle.fkv_manifest.specs.Committing.{commit_answer}

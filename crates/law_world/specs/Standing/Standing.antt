@@ -5,8 +5,8 @@ use Rattle.fkv_record.specs.Places.{most_triples, area_place}
 use Rattle.fkv_disk.specs.Bytes.{bytes_at}
 use Rattle.fkv_plane.specs.declared.places.Places.{Places}
 use Rattle.fkv_commit.specs.declared.commits.Commit.{Commit}
-use Rattle.fkv_commit.specs.declared.commits.CommitKind.{CommitKind}
-use Rattle.fkv_commit.specs.declared.commits.CommitKind.TheVariants.{Full, Log}
+use Rattle.fkv_base.specs.declared.commits.CommitKind.{CommitKind}
+use Rattle.fkv_base.specs.declared.commits.CommitKind.TheVariants.{Full, Log}
 use Rattle.fkv_manifest.specs.Committing.{CommitWriter}
 use Rattle.fkv_manifest.specs.Kept.{NewStands}
 use Rattle.fkv_manifest.specs.Newest.{slot_in, newest}
