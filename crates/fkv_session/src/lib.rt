@@ -3,17 +3,21 @@
 #![tactic(auto)]
 
 mod answers;
+mod asks;
 mod bounds;
 mod calls;
 mod catching_up;
+mod contexts;
 mod laws;
 mod leading;
 mod own_turns;
 mod polling;
 mod request_laws;
 mod sessions;
+mod showing;
 
-pub use answers::{Answer, Finished, Told};
+pub use answers::{Answer, Finished, Told, answer_of};
+pub use asks::is_word_ask;
 pub use bounds::law_of_asks;
 pub use catching_up::CatchUp;
 pub use laws::{
