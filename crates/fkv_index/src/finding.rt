@@ -106,19 +106,18 @@ impl Find {
         requires buckets { places.buckets ≡ 2 ^ bits }
         ensures { result ≡ record { places = places; bits = bits; finding = rested 0 } }
     {
-        let finding = Finding {
-            home: Home { bucket: 0, tag: 0 },
-            base: 0,
-            links: 0,
-            linking: Linking::Never,
-            spare: 0,
-            step: FindStep::AtRest,
-        };
         Find {
             places,
             bits,
-            finding,
+            finding: at_rest(),
         }
+    }
+
+    /// Forgets its search, and rests.
+    pub fn rest(&mut self)
+        ensures { self.new ≡ record self.old { finding = rested 0 } }
+    {
+        self.finding = at_rest();
     }
 
     /// The first ask, for the home of this key. The spare bucket is one that the session took and has not linked, 0 where
@@ -187,6 +186,20 @@ impl Find {
             }
             FindStep::LinksBucket(word) => Ask::Cas(f.base + BUCKET_SLOTS, word, word + f.spare),
         }
+    }
+}
+
+/// What a machine at rest has in place of a search.
+fn at_rest() -> Finding
+    ensures { result ≡ rested 0 }
+{
+    Finding {
+        home: Home { bucket: 0, tag: 0 },
+        base: 0,
+        links: 0,
+        linking: Linking::Never,
+        spare: 0,
+        step: FindStep::AtRest,
     }
 }
 

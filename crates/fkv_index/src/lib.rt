@@ -14,3 +14,4 @@ pub use laws::{
     law_entries, law_homes, law_of_the_eighth_entry, law_one_entry, law_orders, law_searches,
 };
 pub use publishing::{Publish, PublishAnswer};
+pub use slot_words::{SlotWord, slot_word};

@@ -6,7 +6,7 @@ use fkv_words::Entry;
 
 /// What a slot has.
 #[derive(Clone, Copy)]
-pub(crate) enum SlotWord {
+pub enum SlotWord {
     Empty,
     /// An entry of this tag.
     Tagged(u16),
@@ -15,7 +15,7 @@ pub(crate) enum SlotWord {
 }
 
 /// What a slot with this word has.
-pub(crate) fn slot_word(word: u64) -> SlotWord
+pub fn slot_word(word: u64) -> SlotWord
     ensures { result ≡ slot_word word }
 {
     if word == 0 {

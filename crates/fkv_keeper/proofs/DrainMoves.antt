@@ -126,11 +126,11 @@ shift_moved tail m ask told its = record {
 }
 
 shift_either : (b : Bool) (tail to : ℕ) (m : Mover) (told : List Exchange)
-    → ShiftOutcome (if b then shift_at (shifts.Moves tail) (move_begun m ReadOnly to) else shift_at shifts.AtRest m) (if b then shift_ask (shift_at (shifts.Moves tail) (move_begun m ReadOnly to)) else Done (shift.Through (record { 0 = tail }))) told
+    → ShiftOutcome (if b then shift_at (shifts.Moves tail) (move_begun ReadOnly to) else shift_at shifts.AtRest m) (if b then shift_ask (shift_at (shifts.Moves tail) (move_begun ReadOnly to)) else Done (shift.Through (record { 0 = tail }))) told
 unfolding shifting_ask
 shift_either true tail to m told = record {
   knows = λ on. inl tt;
-  none = λ at e. let clash : shift.Through (record { 0 = tail }) ≡ shift.NoSlot at = passed_alone (move_ask (move_begun m ReadOnly to)) (shift.Through (record { 0 = tail })) (shift.NoSlot at) e in cc;
+  none = λ at e. let clash : shift.Through (record { 0 = tail }) ≡ shift.NoSlot at = passed_alone (move_ask (move_begun ReadOnly to)) (shift.Through (record { 0 = tail })) (shift.NoSlot at) e in cc;
 }
 shift_either false tail to m told = record { knows = λ on. tt; none = λ at e. cc }
 
@@ -188,8 +188,8 @@ frame_knows Whole end m told = tt
 frame_knows OpensOnly end m told = tt
 
 turn_moves : (shape : Shape) (b : Bool) (end : ℕ) (m : Mover) (told : List Exchange)
-    → TurnOutcome (if b then turn_at turns.Moves (move_begun m Head end) else turn_at turns.AtRest m) (turn_ask shape (if b then turn_at turns.Moves (move_begun m Head end) else turn_at turns.AtRest m)) told
-turn_moves shape true end m told = turn_still shape turns.Moves (move_begun m Head end) told (inl tt)
+    → TurnOutcome (if b then turn_at turns.Moves (move_begun Head end) else turn_at turns.AtRest m) (turn_ask shape (if b then turn_at turns.Moves (move_begun Head end) else turn_at turns.AtRest m)) told
+turn_moves shape true end m told = turn_still shape turns.Moves (move_begun Head end) told (inl tt)
 turn_moves shape false end m told = turn_still shape turns.AtRest m told tt
 
 turn_at_step : (shape : Shape) (step : Turning) (m : Mover) (told : List Exchange) (reply : ℕ) → TurnKnows step m told

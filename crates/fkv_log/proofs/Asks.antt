@@ -115,9 +115,9 @@ pub move_asks : (m : Mover) (reply : ℕ) → ((move_next m reply).step ≡ move
 move_asks m reply = moving_asks m.step m.raising m.arming reply
 
 -- as it begins it asks
-pub move_begun_asks : (m : Mover) (offset : Offset) (to : ℕ) → is_done (move_ask (move_begun m offset to)) ≡ false
+pub move_begun_asks : (offset : Offset) (to : ℕ) → is_done (move_ask (move_begun offset to)) ≡ false
 unfolding moving_ask passed raise_ask
-move_begun_asks m offset to = refl
+move_begun_asks offset to = refl
 
 told_goes_on : (ask : Ask RaiseAnswer) (m : Mover) → is_done (raise_told ask m) ≡ false → raise_told ask m ≡ move_ask m
 unfolding raise_told

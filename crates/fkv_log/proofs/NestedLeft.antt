@@ -124,9 +124,9 @@ move_left m reply =
     (elim (move_asks m reply) [ inl rests ↦ inl (moving_rests next.step next.raising next.arming rests) | inr asks ↦ inr asks ])
     (λ asks. (moving_some next.step next.raising next.arming asks).1)
 
-pub move_begun_left : (m : Mover) (offset : Offset) (to : ℕ) → move_asks_left (move_begun m offset to) ≡ move_asks_most
+pub move_begun_left : (offset : Offset) (to : ℕ) → move_asks_left (move_begun offset to) ≡ move_asks_most
 unfolding moving_asks_left raise_asks_left raise_asks_later
-move_begun_left m offset to = omega arith
+move_begun_left offset to = omega arith
 
 shift_led_left : (tail : ℕ) (m : Mover) (ask : Ask MoveAnswer) → shift_asks_left (shift_led tail m ask) ≤ move_asks_left m
 unfolding shift_led shifting_asks_left
@@ -138,7 +138,7 @@ unfolding shifting_ask shifting_next shifting_asks_left
 shifting_fewer shape shift.AtRest m reply asks = never asks
 shifting_fewer shape shift.LoadsTail m reply asks = omega arith
 shifting_fewer shape (shift.LoadsReadOnly tail) m reply asks = elim (truth (nat_lt reply (mutable_start shape.page shape.mutable tail))) [
-  | inl e ↦ rw e (let begun = move_begun_left m offset.ReadOnly (mutable_start shape.page shape.mutable tail) in omega (arith, begun))
+  | inl e ↦ rw e (let begun = move_begun_left offset.ReadOnly (mutable_start shape.page shape.mutable tail) in omega (arith, begun))
   | inr e ↦ rw e (omega arith)
 ]
 shifting_fewer shape (shift.Moves tail) m reply asks =
@@ -202,7 +202,7 @@ turning_fewer shape (turn.LoadsHead end) m reply asks = elim (truth (nat_lt repl
   | inr e ↦ rw e (omega arith)
 ]
 turning_fewer shape (turn.LoadsFlushed end) m reply asks = elim (truth (nat_le end reply)) [
-  | inl e ↦ rw e (let begun = move_begun_left m offset.Head end in omega (arith, begun))
+  | inl e ↦ rw e (let begun = move_begun_left offset.Head end in omega (arith, begun))
   | inr e ↦ rw e (omega arith)
 ]
 turning_fewer shape turn.Moves m reply asks =

@@ -37,9 +37,9 @@ mover step raising arming = record { step = step; raising = raising; arming = ar
 abbrev pub move_at_rest : Mover
 move_at_rest = mover AtRest raise.AtRest arm.AtRest
 
--- it has begun to seek a slot
-abbrev pub move_begun : Mover → Offset → ℕ → Mover
-move_begun m offset to = mover (Raises (record { offset = offset; to = to })) raise.LoadsEpoch m.arming
+-- It has begun to seek a slot. Nothing is left of an earlier move.
+abbrev pub move_begun : Offset → ℕ → Mover
+move_begun offset to = mover (Raises (record { offset = offset; to = to })) raise.LoadsEpoch arm.AtRest
 
 abbrev pub offset_place : Offset → ℕ
 offset_place ReadOnly = shared_place one.ReadOnly

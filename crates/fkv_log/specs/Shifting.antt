@@ -60,7 +60,7 @@ unfoldable pub shifting_next : Shape → Shifting → Mover → ℕ → ShiftSta
 shifting_next shape AtRest m reply = shift_at AtRest m
 shifting_next shape LoadsTail m reply = shift_at (LoadsReadOnly reply) m
 shifting_next shape (LoadsReadOnly tail) m reply =
-    if nat_lt reply (mutable_start shape.page shape.mutable tail) then shift_at (Moves tail) (move_begun m ReadOnly (mutable_start shape.page shape.mutable tail)) else shift_at AtRest m
+    if nat_lt reply (mutable_start shape.page shape.mutable tail) then shift_at (Moves tail) (move_begun ReadOnly (mutable_start shape.page shape.mutable tail)) else shift_at AtRest m
 shifting_next shape (Moves tail) m reply = shift_led tail (move_next m reply) (move_next_ask m reply)
 
 abbrev pub shift_next : Shape → ShiftState → ℕ → ShiftState
@@ -74,7 +74,7 @@ move_told tail ask next = shift_ask next
 -- what is asked next: at an end its answer, and else what the next state asks
 unfoldable pub shifting_next_ask : Shape → Shifting → Mover → ℕ → Ask ShiftAnswer
 shifting_next_ask shape (LoadsReadOnly tail) m reply =
-    if nat_lt reply (mutable_start shape.page shape.mutable tail) then shift_ask (shift_at (Moves tail) (move_begun m ReadOnly (mutable_start shape.page shape.mutable tail))) else Done (answer.Through (record { 0 = tail }))
+    if nat_lt reply (mutable_start shape.page shape.mutable tail) then shift_ask (shift_at (Moves tail) (move_begun ReadOnly (mutable_start shape.page shape.mutable tail))) else Done (answer.Through (record { 0 = tail }))
 shifting_next_ask shape (Moves tail) m reply = move_told tail (move_next_ask m reply) (shifting_next shape (Moves tail) m reply)
 shifting_next_ask shape step m reply = shift_ask (shifting_next shape step m reply)
 

@@ -80,7 +80,7 @@ turning_next shape (LoadsLimit form tail) m reply = turn_at (if nat_lt (reply / 
 turning_next shape (LoadsClosed form limit) m reply = turn_at (if nat_le (frame_end shape limit) reply then RaisesLimit limit else frame_taken form (frame_end shape limit)) m
 turning_next shape (RaisesLimit limit) m reply = turn_at AtRest m
 turning_next shape (LoadsHead end) m reply = turn_at (if nat_lt reply end then LoadsFlushed end else AtRest) m
-turning_next shape (LoadsFlushed end) m reply = if nat_le end reply then turn_at Moves (move_begun m Head end) else turn_at AtRest m
+turning_next shape (LoadsFlushed end) m reply = if nat_le end reply then turn_at Moves (move_begun Head end) else turn_at AtRest m
 turning_next shape Moves m reply = turn_led (move_next m reply) (move_next_ask m reply)
 
 abbrev pub turn_next : Shape → TurnState → ℕ → TurnState

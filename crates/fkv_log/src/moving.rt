@@ -84,11 +84,12 @@ impl MoveOffset {
     /// The first ask: the epoch is loaded.
     #[tactic(auto, unfolding(crate::specs::Moving::moving_ask))]
     pub fn start(&mut self, offset: Offset, to: Addr) -> Ask<MoveAnswer>
-        ensures next { self.new ≡ move_begun self.old offset to.0 }
-        ensures ask { result ≡ move_ask (move_begun self.old offset to.0) }
+        ensures next { self.new ≡ move_begun offset to.0 }
+        ensures ask { result ≡ move_ask (move_begun offset to.0) }
         ensures bounded { move_asks_left self.new ≤ move_asks_most }
     {
         self.step = Moving::Raises(Target { offset, to: to.0 });
+        self.arm = Arm::new();
         passed(self.raise.start(), MoveAnswer::Through)
     }
 

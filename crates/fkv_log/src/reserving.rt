@@ -60,6 +60,13 @@ impl Reserve {
         }
     }
 
+    /// Forgets its tail, and rests.
+    pub fn rest(&mut self)
+        ensures { self.new ≡ record self.old { step = AtRest } }
+    {
+        self.step = Reserving::AtRest;
+    }
+
     /// The first ask.
     #[tactic(auto, unfolding(crate::specs::Reserving::reserve_ask, crate::specs::Reserving::reserve_asks_left))]
     pub fn start(&mut self) -> Ask<ReserveAnswer>

@@ -39,9 +39,9 @@ appending_left p a Invalidates = passed_alone (invalidate_asks_left a.invalidati
 pub append_left : (p : Places) (a : AppendState) → AsksWhereLeft (append_asks_left a) (append_ask p a)
 append_left p a = appending_left p a a.step
 
-pub append_begun_left : (a : AppendState) (slot : FoundSlot) (its_words : RecordWords) → append_asks_left (append_begun a slot its_words) ≡ 8
+pub append_begun_left : (slot : FoundSlot) (its_words : RecordWords) → append_asks_left (append_begun slot its_words) ≡ 8
 unfolding appending_asks_left sum_left reserve_asks_left
-append_begun_left a slot its_words = refl
+append_begun_left slot its_words = refl
 
 addr_reserved_left : (a : AppendState) (addr : Addr) → append_asks_left (addr_reserved a addr) ≤ 3 + 1 + 1
 unfolding appending_asks_left sum_left fill_asks_left

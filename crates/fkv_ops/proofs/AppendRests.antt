@@ -62,12 +62,12 @@ pub append_done : (p : Places) (a : AppendState) → AppendRestsOrAsks a → is_
 append_done p a at = appending_done p a a.step at
 
 -- as it begins it asks
-pub append_begun_under_way : (a : AppendState) (slot : FoundSlot) (its_words : RecordWords) → IsAppendUnderWay (append_begun a slot its_words)
+pub append_begun_under_way : (slot : FoundSlot) (its_words : RecordWords) → IsAppendUnderWay (append_begun slot its_words)
 unfolding reserve_asks_left
-append_begun_under_way a slot its_words = record { asks = omega arith; goes_on = refl }
+append_begun_under_way slot its_words = record { asks = omega arith; goes_on = refl }
 
-pub append_begun_asks : (p : Places) (a : AppendState) (slot : FoundSlot) (its_words : RecordWords) → is_done (append_ask p (append_begun a slot its_words)) ≡ false
-append_begun_asks p a slot its_words = append_done p (append_begun a slot its_words) (append_begun_under_way a slot its_words).asks
+pub append_begun_asks : (p : Places) (slot : FoundSlot) (its_words : RecordWords) → is_done (append_ask p (append_begun slot its_words)) ≡ false
+append_begun_asks p slot its_words = append_done p (append_begun slot its_words) (append_begun_under_way slot its_words).asks
 
 addr_reserved_rests : (a : AppendState) (addr : Addr) → AppendRestsOrAsks (addr_reserved a addr)
 unfolding fill_asks_left

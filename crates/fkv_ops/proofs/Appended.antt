@@ -283,13 +283,13 @@ append_true c told slot words last a reply knows asks was =
     append_row_true c told slot words last a a.step reply refl (record { its_slot = knows.its_slot; its_words = knows.its_words; has_slot = knows.has_slot; previous = knows.previous; made_for = knows.made_for }) knows.its_row asks was
 
 -- as it begins, it asks
-pub append_begun_true : (c : Trial) (told : Told) (last : Appending) (a : AppendState) (slot : FoundSlot) (words : RecordWords) → HasEntry c told slot.place slot.entry → words.header.previous.0 ≡ entry_addr slot.entry → IsMadeFor c slot words
-    → AppendKnows c told slot words last (append_begun a slot words)
-append_begun_true c told last a slot words has_slot previous made_for = record { its_slot = refl; its_words = refl; has_slot = has_slot; previous = previous; made_for = made_for; its_row = tt }
+pub append_begun_true : (c : Trial) (told : Told) (last : Appending) (slot : FoundSlot) (words : RecordWords) → HasEntry c told slot.place slot.entry → words.header.previous.0 ≡ entry_addr slot.entry → IsMadeFor c slot words
+    → AppendKnows c told slot words last (append_begun slot words)
+append_begun_true c told last slot words has_slot previous made_for = record { its_slot = refl; its_words = refl; has_slot = has_slot; previous = previous; made_for = made_for; its_row = tt }
 
-pub append_begun_asks : (p : Places) (a : AppendState) (slot : FoundSlot) (words : RecordWords) → is_done (append_ask p (append_begun a slot words)) ≡ false
+pub append_begun_asks : (p : Places) (slot : FoundSlot) (words : RecordWords) → is_done (append_ask p (append_begun slot words)) ≡ false
 unfolding appending_ask reserve_ask passed
-append_begun_asks p a slot words = refl
+append_begun_asks p slot words = refl
 
 not_passed : {A B : Type 0} (ask : Ask A) (a b : B) → is_done ask ≡ false → passed ask a ≡ Done b → ⊥
 unfolding passed

@@ -36,8 +36,8 @@ appends_true c told t old is_current quiet updates slot made_of alone = record {
     made_of = made_of;
     alone = alone;
     last = Reserves;
-    appends = append_begun_true c told Reserves t.append (slot_of (norm c t)) (words_of c.request t.walk.entry (value_of old)) slot refl (refl, refl);
-    asks = append_begun_asks c.places t.append (slot_of (norm c t)) (words_of c.request t.walk.entry (value_of old));
+    appends = append_begun_true c told Reserves (slot_of (norm c t)) (words_of c.request t.walk.entry (value_of old)) slot refl (refl, refl);
+    asks = append_begun_asks c.places (slot_of (norm c t)) (words_of c.request t.walk.entry (value_of old));
   };
 }
 

@@ -205,9 +205,9 @@ row_so c told t (DropsShared its) reply row =
     subst (λ x. AskIsSo c told (passed (latch_ask x) its) reply (trying_next c.places c.room (quieted c t) (DropsShared its) reply).effect) (sym row.its_latching) (unshare_so c told its reply (trying_next c.places c.room (quieted c t) (DropsShared its) reply).effect)
 
 pub each_ask : EachAskIsSo
-each_ask c before spare replies reply =
-    let told : Told = told_by c (trial_begun c before spare) replies in
-    let t : TryState = try_run c (trial_begun c before spare) replies in
-    let known = run_known c before spare replies in
+each_ask c spare replies reply =
+    let told : Told = told_by c (trial_begun c spare) replies in
+    let t : TryState = try_run c (trial_begun c spare) replies in
+    let known = run_known c spare replies in
     subst (λ ask. AskIsSo c told ask reply (try_next c.places c.room t reply).effect) (sym (quieted_ask c t known.same))
     (subst (λ s. AskIsSo c told (trying_ask c.places (quieted c t) t.step) reply s.effect) (quieted_next c t reply known.same) (row_so c told t t.step reply known.row))

@@ -35,7 +35,7 @@ use Rattle.fkv_ops.specs.declared.trying.Trying.TheVariants.{Ended, TakesShared,
 use Rattle.fkv_ops.specs.Values.{value_of, word_of}
 use Rattle.fkv_ops.specs.Requests.{is_read, is_blind}
 use Rattle.fkv_ops.specs.Appending.{AppendState, appending_ask, append_ask, publish_ledto, appending_next, append_next}
-use Rattle.fkv_ops.specs.Trying.{TryState, trying_ask, try_ask, trying_next, is_wait, with_latch, walks, ends, ended_without, takes_effect, full_at, value_changed, append_ledto, words_of}
+use Rattle.fkv_ops.specs.Trying.{TryState, new_try, trying_ask, try_ask, trying_next, is_wait, with_latch, walks, ends, ended_without, takes_effect, full_at, value_changed, append_ledto, words_of}
 use Rattle.fkv_ops.specs.TryRun.{Trial, home_at, trial_begun, try_run, Told, told_by, effects_of}
 use Rattle.fkv_ops.specs.Reasons.{latch_place, Loaded, IsStored, HasEntry, needs_exclusive}
 use Rattle.fkv_ops.specs.Effects.{MayChange, IsMadeOf, IsPublished, IsEffect, BySwap, ByChange, ByRecord, EffectsAreTrue, AreKindsSo, shares_latch, SharesFirst, EachMayStay, HasSetBit}
@@ -205,22 +205,22 @@ makes : (c : Trial) (step : Trying) (owed : Owed) (t : TryState) (its : Reply) �
 makes c step owed t its (Quietly comes) e = none_told its (sym comes.its_effect ∙ e)
 makes c step owed t its (Effectively it made none comes) e = made
 
-pub any_known : (c : Trial) (before : TryState) (spare : ℕ) (replies : List ℕ) → Known c anything (effects_of c (trial_begun c before spare) replies) (try_run c (trial_begun c before spare) replies)
-any_known c before spare replies = run_true c anything before spare replies (λ ask reply among. tt)
+pub any_known : (c : Trial) (spare : ℕ) (replies : List ℕ) → Known c anything (effects_of c (trial_begun c spare) replies) (try_run c (trial_begun c spare) replies)
+any_known c spare replies = run_true c anything spare replies (λ ask reply among. tt)
 
-pub run_makes : (c : Trial) (before : TryState) (spare : ℕ) (replies : List ℕ) (reply : ℕ) (its : Reply) → (try_run c (trial_begun c before spare) (reply ∷ replies)).effect ≡ Some its
-    → makes_effect (try_run c (trial_begun c before spare) replies).step ≡ true
-run_makes c before spare replies reply its e =
-    makes c (try_run c (trial_begun c before spare) replies).step (owed_then (try_run c (trial_begun c before spare) replies) (try_run c (trial_begun c before spare) replies).step reply) (try_run c (trial_begun c before spare) (reply ∷ replies)) its
-    (step_true c anything (effects_of c (trial_begun c before spare) replies) (try_run c (trial_begun c before spare) replies) reply (any_known c before spare replies) tt) e
+pub run_makes : (c : Trial) (spare : ℕ) (replies : List ℕ) (reply : ℕ) (its : Reply) → (try_run c (trial_begun c spare) (reply ∷ replies)).effect ≡ Some its
+    → makes_effect (try_run c (trial_begun c spare) replies).step ≡ true
+run_makes c spare replies reply its e =
+    makes c (try_run c (trial_begun c spare) replies).step (owed_then (try_run c (trial_begun c spare) replies) (try_run c (trial_begun c spare) replies).step reply) (try_run c (trial_begun c spare) (reply ∷ replies)) its
+    (step_true c anything (effects_of c (trial_begun c spare) replies) (try_run c (trial_begun c spare) replies) reply (any_known c spare replies) tt) e
 
 pub effects_true : EffectsAreTrue
-effects_true c before spare replies reply its e =
-    let known = run_known c before spare replies in
-    let any = any_known c before spare replies in
-    let t : TryState = try_run c (trial_begun c before spare) replies in
-    subst (λ ask. IsEffect c (told_by c (trial_begun c before spare) replies) ask reply its) (sym (quieted_ask c t known.same))
-    (effect_row c (told_by c (trial_begun c before spare) replies) t t.step reply its known.row any.row (run_makes c before spare replies reply its e) (ap (λ x. x.effect) (quieted_next c t reply known.same) ∙ e))
+effects_true c spare replies reply its e =
+    let known = run_known c spare replies in
+    let any = any_known c spare replies in
+    let t : TryState = try_run c (trial_begun c spare) replies in
+    subst (λ ask. IsEffect c (told_by c (trial_begun c spare) replies) ask reply its) (sym (quieted_ask c t known.same))
+    (effect_row c (told_by c (trial_begun c spare) replies) t t.step reply its known.row any.row (run_makes c spare replies reply its e) (ap (λ x. x.effect) (quieted_next c t reply known.same) ∙ e))
 
 -- an update that may make its effect has shared the latch where it has to
 added : (c : Trial) (told : Told) (t : TryState) (step : Trying) → TryRow c told t step → makes_effect step ≡ true → Under c told t.has_shared
@@ -255,17 +255,17 @@ stayed c told t (DropsExclusive it) row e = cc
 stayed c told t (DropsShared it) row e = cc
 
 pub each_may_stay : EachMayStay
-each_may_stay c before spare replies reply its wants e =
-    let known = run_known c before spare replies in
-    let t : TryState = try_run c (trial_begun c before spare) replies in
-    stayed c (told_by c (trial_begun c before spare) replies) t t.step known.row (run_makes c before spare replies reply its e) wants
+each_may_stay c spare replies reply its wants e =
+    let known = run_known c spare replies in
+    let t : TryState = try_run c (trial_begun c spare) replies in
+    stayed c (told_by c (trial_begun c spare) replies) t t.step known.row (run_makes c spare replies reply its e) wants
 
-share_first : (c : Trial) (before : TryState) (spare : ℕ) (b : Bool) → b ≡ true
-    → try_ask c.places (if b then with_latch c.places (norm c (record before { has_shared = c.request.has_latch; has_exclusive = false; effect = None; spare = spare })) TakeShared TakesShared
-    else walks c.places (norm c (record before { has_shared = c.request.has_latch; has_exclusive = false; effect = None; spare = spare }))) ≡ Add (latch_place c) one_share
+share_first : (c : Trial) (spare : ℕ) (b : Bool) → b ≡ true
+    → try_ask c.places (if b then with_latch c.places (norm c (new_try c.bits c.request c.seen c.occasion spare)) TakeShared TakesShared
+    else walks c.places (norm c (new_try c.bits c.request c.seen c.occasion spare))) ≡ Add (latch_place c) one_share
 unfolding trying_ask latch_ask passed
-share_first c before spare true e = refl
-share_first c before spare false e = cc
+share_first c spare true e = refl
+share_first c spare false e = cc
 
 wants_so : (a b : Bool) → a ≡ true → b ≡ false → (a && not b) ≡ true
 wants_so true false e f = refl
@@ -273,12 +273,12 @@ wants_so true true e f = cc
 wants_so false b e f = cc
 
 pub shares_first : SharesFirst
-shares_first c before spare wants none = record {
-  first = share_first c before spare (shares_latch c && not c.request.has_latch) (wants_so (shares_latch c) c.request.has_latch wants none);
+shares_first c spare wants none = record {
+  first = share_first c spare (shares_latch c && not c.request.has_latch) (wants_so (shares_latch c) c.request.has_latch wants none);
   does = λ replies reply its e.
-      let known = run_known c before spare replies in
-      let t : TryState = try_run c (trial_begun c before spare) replies in
-      let under = added c (told_by c (trial_begun c before spare) replies) t t.step known.row (run_makes c before spare replies reply its e) in
+      let known = run_known c spare replies in
+      let t : TryState = try_run c (trial_begun c spare) replies in
+      let under = added c (told_by c (trial_begun c spare) replies) t t.step known.row (run_makes c spare replies reply its e) in
       under.has_added wants none;
 }
 

@@ -138,17 +138,17 @@ counted_next c t t' reply its same next row counted owes = record {
     balance : Balances c (owed_at t t.step) (try_ask c.places t) reply (owed_then t t.step reply)
     balance = subst (λ a. Balances c (owed_at t t.step) a reply (owed_then t t.step reply)) (sym (normal_ask c t same)) (row_balances c anything t t.step reply row)
 
-counted_run : (c : Trial) (before : TryState) (spare : ℕ) (replies : List ℕ) → Counted c (exchanges c (trial_begun c before spare) replies) (try_run c (trial_begun c before spare) replies)
-counted_run c before spare [] =
-    let begun = begun_true c anything before spare in
-    let owed : (owed_at (trial_begun c before spare) (trial_begun c before spare).step).shares ≡ bit_of c.request.has_latch = ap (λ o. o.shares) begun.owes in
-    let none : (owed_at (trial_begun c before spare) (trial_begun c before spare).step).bits ≡ 0 = ap (λ o. o.bits) begun.owes in
+counted_run : (c : Trial) (spare : ℕ) (replies : List ℕ) → Counted c (exchanges c (trial_begun c spare) replies) (try_run c (trial_begun c spare) replies)
+counted_run c spare [] =
+    let begun = begun_true c anything spare in
+    let owed : (owed_at (trial_begun c spare) (trial_begun c spare).step).shares ≡ bit_of c.request.has_latch = ap (λ o. o.shares) begun.owes in
+    let none : (owed_at (trial_begun c spare) (trial_begun c spare).step).bits ≡ 0 = ap (λ o. o.bits) begun.owes in
     record { shares = omega (arith, owed); bits = omega (arith, none); calm = λ early. (refl, refl) }
-counted_run c before spare (reply ∷ earlier) =
-    let t : TryState = try_run c (trial_begun c before spare) earlier in
-    let known = any_known c before spare earlier in
-    counted_next c t (try_run c (trial_begun c before spare) (reply ∷ earlier)) reply (exchanges c (trial_begun c before spare) earlier) known.same refl known.row (counted_run c before spare earlier)
-    (then_owed c anything t.step (owed_then t t.step reply) (try_run c (trial_begun c before spare) (reply ∷ earlier)) (step_true c anything (effects_of c (trial_begun c before spare) earlier) t reply known tt))
+counted_run c spare (reply ∷ earlier) =
+    let t : TryState = try_run c (trial_begun c spare) earlier in
+    let known = any_known c spare earlier in
+    counted_next c t (try_run c (trial_begun c spare) (reply ∷ earlier)) reply (exchanges c (trial_begun c spare) earlier) known.same refl known.row (counted_run c spare earlier)
+    (then_owed c anything t.step (owed_then t t.step reply) (try_run c (trial_begun c spare) (reply ∷ earlier)) (step_true c anything (effects_of c (trial_begun c spare) earlier) t reply known tt))
 
 early_makes : (step : Trying) → makes_effect step ≡ true → is_early step ≡ true
 early_makes (SwapsValue addr) e = refl
@@ -166,20 +166,20 @@ early_makes (DropsExclusive its) e = cc
 early_makes (DropsShared its) e = cc
 
 pub each_holds : EachHoldsLatch
-each_holds c before spare replies reply its e =
-    let calm = (counted_run c before spare replies).calm (early_makes (try_run c (trial_begun c before spare) replies).step (run_makes c before spare replies reply its e)) in
+each_holds c spare replies reply its e =
+    let calm = (counted_run c spare replies).calm (early_makes (try_run c (trial_begun c spare) replies).step (run_makes c spare replies reply its e)) in
     record { cleared = calm.1; dropped = calm.0 }
 
 pub each_leaves : EachLeavesLatch
-each_leaves c before spare replies its e =
-    let t : TryState = try_run c (trial_begun c before spare) replies in
-    let known = any_known c before spare replies in
-    let at = at_end c anything (effects_of c (trial_begun c before spare) replies) t its known e in
+each_leaves c spare replies its e =
+    let t : TryState = try_run c (trial_begun c spare) replies in
+    let known = any_known c spare replies in
+    let at = at_end c anything (effects_of c (trial_begun c spare) replies) t its known e in
     let ends = subst (TryRow c anything t) at known.row in
-    let counted = counted_run c before spare replies in
+    let counted = counted_run c spare replies in
     let owed : owed_at t t.step ≡ latch_held t = ap (owed_at t) at in
     let shares_left : (owed_at t t.step).shares ≡ bit_of (is_wait its && shares c) = ap (λ o. o.shares) owed ∙ ap bit_of ends.shared in
     let bits_left : (owed_at t t.step).bits ≡ 0 = ap (λ o. o.bits) owed ∙ ap bit_of ends.not_alone in
     let its_shares = counted.shares in
     let its_bits = counted.bits in
-    record { alone = omega (arith, its_bits, bits_left); shared = its_shares ∙ ap (λ n. shares_dropped c (exchanges c (trial_begun c before spare) replies) + n) shares_left }
+    record { alone = omega (arith, its_bits, bits_left); shared = its_shares ∙ ap (λ n. shares_dropped c (exchanges c (trial_begun c spare) replies) + n) shares_left }

@@ -29,11 +29,11 @@ pub record IsTrying (c : Trial) (t : TryState) : Type 0 where
 abbrev pub shares_owed : TryState → ℕ
 shares_owed t = (owed_at t t.step).shares
 
-pub begun_trying : (c : Trial) (before : TryState) (spare : ℕ) → IsTrying c (trial_begun c before spare)
-begun_trying c before spare = let its = begun_true c anything before spare in record { same = its.same; row = its.row }
+pub begun_trying : (c : Trial) (spare : ℕ) → IsTrying c (trial_begun c spare)
+begun_trying c spare = let its = begun_true c anything spare in record { same = its.same; row = its.row }
 
-pub begun_owes : (c : Trial) (before : TryState) (spare : ℕ) → shares_owed (trial_begun c before spare) ≡ bit_of c.request.has_latch
-begun_owes c before spare = ap (λ (o : Owed). o.shares) (begun_true c anything before spare).owes
+pub begun_owes : (c : Trial) (spare : ℕ) → shares_owed (trial_begun c spare) ≡ bit_of c.request.has_latch
+begun_owes c spare = ap (λ (o : Owed). o.shares) (begun_true c anything spare).owes
 
 -- what a step leads to, and owes
 record Leads (c : Trial) (owed : Owed) (t : TryState) : Type 0 where

@@ -54,8 +54,8 @@ use Rattle.fkv_ops.specs.Values.{value_of, word_of}
 use Rattle.fkv_ops.specs.Requests.{is_read, is_blind}
 use Rattle.fkv_ops.specs.Walking.{WalkState, walking_ask, walk_ask, walk_ended, reached, slot_found, find_ledto, first_met, record_met, load_ledto, walking_next, walk_next, walk_on}
 use Rattle.fkv_ops.specs.Appending.{append_ask, append_next}
-use Rattle.fkv_ops.specs.Trying.{TryState, trying_ask, try_ask, trying_next, try_next, with_latch, is_wait, ended_without, ends, takes_effect, full_at, walks, wants_shared, shared_ledto, must_shift, wants_exclusive, appends, copies_from, copies, awaits, held_used, met_nowhere, met_disk, changes, is_own_version, region_met, walked, has_walked, walk_ledto, safe_loaded, current_ledto, value_changed, told_value, answer_ledto, exclusive_ledto, old_ledto, append_ledto, exclusive_dropped, shared_dropped, words_of}
-use Rattle.fkv_ops.specs.TryRun.{Trial, home_at, trial_begun, try_run, Told, exchanges, effects_of}
+use Rattle.fkv_ops.specs.Trying.{TryState, new_try, trying_ask, try_ask, trying_next, try_next, with_latch, is_wait, ended_without, ends, takes_effect, full_at, walks, wants_shared, shared_ledto, must_shift, wants_exclusive, appends, copies_from, copies, awaits, held_used, met_nowhere, met_disk, changes, is_own_version, region_met, walked, has_walked, walk_ledto, safe_loaded, current_ledto, value_changed, told_value, answer_ledto, exclusive_ledto, old_ledto, append_ledto, exclusive_dropped, shared_dropped, words_of}
+use Rattle.fkv_ops.specs.TryRun.{Trial, trial_begun, try_run, Told, exchanges, effects_of}
 use Rattle.fkv_ops.specs.Spares.{is_count, is_linking, spare_after, spare_told, UsesSpare, EachUsesSpare, EachTellsSpare}
 use Rattle.fkv_ops.proofs.Searched.{StandsAt, SearchStep, search_asks, spare_few}
 use Rattle.fkv_ops.proofs.Walked.{WalkRow, WalkKnows, walk_true}
@@ -263,11 +263,11 @@ shared_spared c spare n t (Done latch.Taken) now few same = walks_spared c spare
 shared_spared c spare n t (Done its) now few same = kept c spare n t.spare (ends c.places t answer.Shift) (ends_keeps c.places t answer.Shift) now few
 shared_spared c spare n t ask now few same = kept c spare n t.spare t same now few
 
-begun_spared : (c : Trial) (before : TryState) (spare : ℕ) → Spared c spare (spare_of c.places spare) (trial_begun c before spare)
-begun_spared c before spare = by_share (wants_shared its)
+begun_spared : (c : Trial) (spare : ℕ) → Spared c spare (spare_of c.places spare) (trial_begun c spare)
+begun_spared c spare = by_share (wants_shared its)
   where
     its : TryState
-    its = record before { request = c.request; seen = c.seen; occasion = c.occasion; home = home_at c; has_shared = c.request.has_latch; has_exclusive = false; effect = None; spare = spare }
+    its = new_try c.bits c.request c.seen c.occasion spare
 
     by_share : (b : Bool) → Spared c spare (spare_of c.places spare) (if b then with_latch c.places its TakeShared TakesShared else walks c.places its)
     by_share true = record { now = refl; few = λ low. low; walk = tt }
@@ -582,35 +582,35 @@ row_uses c t (DropsShared its) n row now = aside_uses c n (passed (latch_ask t.l
 normal_ask : (c : Trial) (t : TryState) → t ≡ norm c t → try_ask c.places t ≡ trying_ask c.places (norm c t) t.step
 normal_ask c t same = ap (λ x. trying_ask c.places x t.step) same
 
-run_spared : (c : Trial) (before : TryState) (spare : ℕ) (replies : List ℕ) → Spared c spare (spare_told c.places (spare_of c.places spare) (exchanges c (trial_begun c before spare) replies)) (try_run c (trial_begun c before spare) replies)
-run_spared c before spare [] = begun_spared c before spare
-run_spared c before spare (reply ∷ earlier) =
-    let t : TryState = try_run c (trial_begun c before spare) earlier in
-    let n : ℕ = spare_told c.places (spare_of c.places spare) (exchanges c (trial_begun c before spare) earlier) in
-    let known = any_known c before spare earlier in
-    let so = run_spared c before spare earlier in
+run_spared : (c : Trial) (spare : ℕ) (replies : List ℕ) → Spared c spare (spare_told c.places (spare_of c.places spare) (exchanges c (trial_begun c spare) replies)) (try_run c (trial_begun c spare) replies)
+run_spared c spare [] = begun_spared c spare
+run_spared c spare (reply ∷ earlier) =
+    let t : TryState = try_run c (trial_begun c spare) earlier in
+    let n : ℕ = spare_told c.places (spare_of c.places spare) (exchanges c (trial_begun c spare) earlier) in
+    let known = any_known c spare earlier in
+    let so = run_spared c spare earlier in
     subst (λ ask. Spared c spare (spare_after c.places ask reply n) (try_next c.places c.room t reply)) (sym (normal_ask c t known.same))
     (subst (λ s. Spared c spare (spare_after c.places (trying_ask c.places (norm c t) t.step) reply n) s) (quieted_next c t reply known.same) (row_spared c t t.step reply spare n refl known.row so.now so.few so.walk))
 
 pub each_uses_spare : EachUsesSpare
-each_uses_spare c before spare replies =
-    let t : TryState = try_run c (trial_begun c before spare) replies in
-    let n : ℕ = spare_told c.places (spare_of c.places spare) (exchanges c (trial_begun c before spare) replies) in
-    let known = any_known c before spare replies in
-    subst (UsesSpare c.places n) (sym (normal_ask c t known.same)) (row_uses c t t.step n known.row (run_spared c before spare replies).now)
+each_uses_spare c spare replies =
+    let t : TryState = try_run c (trial_begun c spare) replies in
+    let n : ℕ = spare_told c.places (spare_of c.places spare) (exchanges c (trial_begun c spare) replies) in
+    let known = any_known c spare replies in
+    subst (UsesSpare c.places n) (sym (normal_ask c t known.same)) (row_uses c t t.step n known.row (run_spared c spare replies).now)
 
 pub each_tells_spare : EachTellsSpare
-each_tells_spare c before spare replies its e = record {
-  told = λ low. sym (spare_there c t.spare (subst (λ x. x ≤ c.places.overflow) at (so.few low))) ∙ sym (ap (spare_of c.places) at) ∙ so.now ∙ ap (λ n. spare_told c.places n (exchanges c (trial_begun c before spare) replies)) (spare_there c spare low);
+each_tells_spare c spare replies its e = record {
+  told = λ low. sym (spare_there c t.spare (subst (λ x. x ≤ c.places.overflow) at (so.few low))) ∙ sym (ap (spare_of c.places) at) ∙ so.now ∙ ap (λ n. spare_told c.places n (exchanges c (trial_begun c spare) replies)) (spare_there c spare low);
   few = λ low. subst (λ x. x ≤ c.places.overflow) at (so.few low);
   any = sym (ap (spare_of c.places) at) ∙ so.now;
 }
   where
     t : TryState
-    t = try_run c (trial_begun c before spare) replies
+    t = try_run c (trial_begun c spare) replies
 
-    so : Spared c spare (spare_told c.places (spare_of c.places spare) (exchanges c (trial_begun c before spare) replies)) t
-    so = run_spared c before spare replies
+    so : Spared c spare (spare_told c.places (spare_of c.places spare) (exchanges c (trial_begun c spare) replies)) t
+    so = run_spared c spare replies
 
     at : spare_at t t.step ≡ t.spare
-    at = ap (spare_at t) (at_end c anything (effects_of c (trial_begun c before spare) replies) t its (any_known c before spare replies) e)
+    at = ap (spare_at t) (at_end c anything (effects_of c (trial_begun c spare) replies) t its (any_known c spare replies) e)

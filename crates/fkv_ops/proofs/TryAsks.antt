@@ -17,7 +17,6 @@ use Rattle.fkv_latch.specs.declared.latching.LatchAnswer.TheVariants as latch
 use Rattle.fkv_latch.specs.declared.latching.LatchTask.TheVariants.{TakeShared, DropShared, TakeExclusive, DropExclusive}
 use Rattle.fkv_latch.specs.Latching.{latch_ask, latch_next, latch_next_ask, asks_left}
 use Rattle.fkv_latch.proofs.Shown.{latch_ask_left, latch_fewer}
-use Rattle.fkv_index.specs.Slots.{home_of}
 use Rattle.fkv_ops.specs.declared.answers.Reason.TheVariants as reason
 use Rattle.fkv_ops.specs.declared.answers.TryAnswer.{TryAnswer}
 use Rattle.fkv_ops.specs.declared.answers.TryAnswer.TheVariants as answer
@@ -37,7 +36,7 @@ use Rattle.fkv_ops.specs.Values.{value_of}
 use Rattle.fkv_ops.specs.Requests.{purpose_of, is_read, is_blind}
 use Rattle.fkv_ops.specs.Walking.{walk_ask, walk_next, walk_on}
 use Rattle.fkv_ops.specs.Appending.{append_ask, append_next}
-use Rattle.fkv_ops.specs.Trying.{TryState, trying_ask, try_ask, with_latch, is_wait, ended_without, ends, takes_effect, full_at, walks, wants_shared, try_begun, shared_ledto, must_shift, wants_exclusive, words_of, slot_of, appends, copies_from, copies, awaits, held_used, met_nowhere, met_disk, changes, is_own_version, region_met, met_record, walked, has_walked, walk_ledto, safe_loaded, current_ledto, value_changed, told_value, answer_ledto, exclusive_ledto, old_ledto, append_ledto, exclusive_dropped, shared_dropped, latch_moved, walk_moved, trying_next, try_next}
+use Rattle.fkv_ops.specs.Trying.{TryState, new_try, trying_ask, try_ask, with_latch, is_wait, ended_without, ends, takes_effect, full_at, walks, wants_shared, try_begun, shared_ledto, must_shift, wants_exclusive, words_of, slot_of, appends, copies_from, copies, awaits, held_used, met_nowhere, met_disk, changes, is_own_version, region_met, met_record, walked, has_walked, walk_ledto, safe_loaded, current_ledto, value_changed, told_value, answer_ledto, exclusive_ledto, old_ledto, append_ledto, exclusive_dropped, shared_dropped, latch_moved, walk_moved, trying_next, try_next}
 use Rattle.fkv_plane.specs.AsksLeft.{AsksWhereLeft, sum_left}
 use Rattle.fkv_ops.specs.AsksLeft.{walk_asks_left, most_walk_asks, append_asks_left, most_drop_asks, most_append_asks, most_copy_asks, most_asks_behind_walk, trying_asks_left, try_asks_left}
 use Rattle.fkv_plane.proofs.Shown.{none, done_left, none_left, some_inside, passed_left, passed_alone, sum_most, inside_fewer, behind_fewer}
@@ -67,16 +66,16 @@ try_left p t = trying_left p t t.step
 walks_left : (p : Places) (t : TryState) → try_asks_left p (walks p t) ≤ most_walk_asks p + most_asks_behind_walk
 unfolding trying_asks_left
 walks_left p t =
-    let begun = walk_begun_left p t.home t.walk (key_of t.request.op) (purpose_of t.request.op) t.seen.offsets.head t.spare in
+    let begun = walk_begun_left p t.home (key_of t.request.op) (purpose_of t.request.op) t.seen.offsets.head t.spare in
     let both = sum_most (walk_asks_left p (walks p t).walk) most_asks_behind_walk in
     omega (arith, begun, both)
 
-pub try_begun_left : (p : Places) (bits : ℕ) (t : TryState) (request : Request) (seen : Seen) (occasion : Occasion) (spare : ℕ) → try_asks_left p (try_begun p bits t request seen occasion spare) ≤ 8 * (p.overflow + 1) + 2 * p.ring + 20
+pub try_begun_left : (p : Places) (bits : ℕ) (request : Request) (seen : Seen) (occasion : Occasion) (spare : ℕ) → try_asks_left p (try_begun p bits request seen occasion spare) ≤ 8 * (p.overflow + 1) + 2 * p.ring + 20
 unfolding trying_asks_left sum_left asks_left
-try_begun_left p bits t request seen occasion spare = tested (wants_shared its)
+try_begun_left p bits request seen occasion spare = tested (wants_shared its)
   where
     its : TryState
-    its = record t { request = request; seen = seen; occasion = occasion; home = home_of bits (key_of request.op); has_shared = request.has_latch; has_exclusive = false; effect = None; spare = spare }
+    its = new_try bits request seen occasion spare
 
     tested : (b : Bool) → try_asks_left p (if b then with_latch p its TakeShared TakesShared else walks p its) ≤ 8 * (p.overflow + 1) + 2 * p.ring + 20
     tested true = omega arith
@@ -101,7 +100,7 @@ ends_left p t its = tested t.has_exclusive
 appends_left : (p : Places) (t : TryState) (old : ℕ) → try_asks_left p (appends t old) ≤ most_append_asks
 unfolding appends trying_asks_left
 appends_left p t old =
-    let begun = append_begun_left t.append (slot_of t) (words_of t.request t.walk.entry (value_of old)) in
+    let begun = append_begun_left (slot_of t) (words_of t.request t.walk.entry (value_of old)) in
     let both = sum_most (append_asks_left (appends t old).append) most_drop_asks in
     omega (arith, begun, both)
 

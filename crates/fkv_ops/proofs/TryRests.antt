@@ -18,7 +18,6 @@ use Rattle.fkv_latch.specs.declared.latching.LatchAnswer.TheVariants as latch
 use Rattle.fkv_latch.specs.declared.latching.LatchTask.TheVariants.{TakeShared, DropShared, TakeExclusive, DropExclusive}
 use Rattle.fkv_latch.specs.Latching.{latch_ask, latch_next_ask, asks_left}
 use Rattle.fkv_latch.proofs.Shown.{latch_ask_left, latch_next_left}
-use Rattle.fkv_index.specs.Slots.{home_of}
 use Rattle.fkv_ops.specs.declared.answers.Reason.TheVariants as reason
 use Rattle.fkv_ops.specs.declared.answers.TryAnswer.{TryAnswer}
 use Rattle.fkv_ops.specs.declared.answers.TryAnswer.TheVariants as answer
@@ -38,7 +37,7 @@ use Rattle.fkv_ops.specs.Values.{value_of}
 use Rattle.fkv_ops.specs.Requests.{purpose_of, is_read, is_blind}
 use Rattle.fkv_ops.specs.Walking.{walk_ask, walk_next, walk_on}
 use Rattle.fkv_ops.specs.Appending.{append_ask, append_next}
-use Rattle.fkv_ops.specs.Trying.{TryState, trying_ask, try_ask, with_latch, is_wait, ended_without, ends, takes_effect, full_at, walks, wants_shared, try_begun, shared_ledto, must_shift, wants_exclusive, words_of, slot_of, appends, copies_from, copies, awaits, held_used, met_nowhere, met_disk, changes, is_own_version, region_met, met_record, walked, has_walked, walk_ledto, safe_loaded, current_ledto, value_changed, told_value, answer_ledto, exclusive_ledto, old_ledto, append_ledto, exclusive_dropped, shared_dropped, latch_moved, walk_moved, trying_next, try_next}
+use Rattle.fkv_ops.specs.Trying.{TryState, new_try, trying_ask, try_ask, with_latch, is_wait, ended_without, ends, takes_effect, full_at, walks, wants_shared, try_begun, shared_ledto, must_shift, wants_exclusive, words_of, slot_of, appends, copies_from, copies, awaits, held_used, met_nowhere, met_disk, changes, is_own_version, region_met, met_record, walked, has_walked, walk_ledto, safe_loaded, current_ledto, value_changed, told_value, answer_ledto, exclusive_ledto, old_ledto, append_ledto, exclusive_dropped, shared_dropped, latch_moved, walk_moved, trying_next, try_next}
 use Rattle.fkv_plane.specs.AsksLeft.{AsksWhereLeft}
 use Rattle.fkv_ops.proofs.WalkRests.{IsWalkUnderWay, walk_done, walk_begun_under_way, walk_rests, walk_found, walk_goes_on}
 use Rattle.fkv_ops.proofs.AppendRests.{IsAppendUnderWay, append_done, append_begun_under_way, append_rests, append_goes_on}
@@ -101,28 +100,28 @@ pub try_done : (p : Places) (t : TryState) → TryRestsOrAsks t → is_done (try
 try_done p t at = trying_done p t t.step at
 
 walks_rest : (p : Places) (t : TryState) → TryRestsOrAsks (walks p t)
-walks_rest p t = walk_begun_under_way p t.home t.walk (key_of t.request.op) (purpose_of t.request.op) t.seen.offsets.head t.spare
+walks_rest p t = walk_begun_under_way p t.home (key_of t.request.op) (purpose_of t.request.op) t.seen.offsets.head t.spare
 
 -- as it begins it asks
-pub try_begun_rests : (p : Places) (bits : ℕ) (t : TryState) (request : Request) (seen : Seen) (occasion : Occasion) (spare : ℕ) → TryRestsOrAsks (try_begun p bits t request seen occasion spare)
+pub try_begun_rests : (p : Places) (bits : ℕ) (request : Request) (seen : Seen) (occasion : Occasion) (spare : ℕ) → TryRestsOrAsks (try_begun p bits request seen occasion spare)
 unfolding asks_left
-try_begun_rests p bits t request seen occasion spare = tested (wants_shared its)
+try_begun_rests p bits request seen occasion spare = tested (wants_shared its)
   where
     its : TryState
-    its = record t { request = request; seen = seen; occasion = occasion; home = home_of bits (key_of request.op); has_shared = request.has_latch; has_exclusive = false; effect = None; spare = spare }
+    its = new_try bits request seen occasion spare
 
     tested : (b : Bool) → TryRestsOrAsks (if b then with_latch p its TakeShared TakesShared else walks p its)
     tested true = omega arith
     tested false = walks_rest p its
 
-pub try_begun_asks : (p : Places) (bits : ℕ) (t : TryState) (request : Request) (seen : Seen) (occasion : Occasion) (spare : ℕ) → is_done (try_ask p (try_begun p bits t request seen occasion spare)) ≡ false
-try_begun_asks p bits t request seen occasion spare = try_done p begun (try_begun_rests p bits t request seen occasion spare) ∙ tested (wants_shared its)
+pub try_begun_asks : (p : Places) (bits : ℕ) (request : Request) (seen : Seen) (occasion : Occasion) (spare : ℕ) → is_done (try_ask p (try_begun p bits request seen occasion spare)) ≡ false
+try_begun_asks p bits request seen occasion spare = try_done p begun (try_begun_rests p bits request seen occasion spare) ∙ tested (wants_shared its)
   where
     begun : TryState
-    begun = try_begun p bits t request seen occasion spare
+    begun = try_begun p bits request seen occasion spare
 
     its : TryState
-    its = record t { request = request; seen = seen; occasion = occasion; home = home_of bits (key_of request.op); has_shared = request.has_latch; has_exclusive = false; effect = None; spare = spare }
+    its = new_try bits request seen occasion spare
 
     tested : (b : Bool) → is_try_end (if b then with_latch p its TakeShared TakesShared else walks p its).step ≡ false
     tested true = refl
@@ -149,7 +148,7 @@ takes_effect_rests p t told = ends_rest p (record t { effect = Some told }) (ans
 
 appends_rest : (t : TryState) (old : ℕ) → TryRestsOrAsks (appends t old)
 unfolding appends
-appends_rest t old = append_begun_under_way t.append (slot_of t) (words_of t.request t.walk.entry (value_of old))
+appends_rest t old = append_begun_under_way (slot_of t) (words_of t.request t.walk.entry (value_of old))
 
 copies_from_rest : (t : TryState) (old : OldValue) → CanLoadOld t old → TryRestsOrAsks (copies_from t old)
 unfolding copies_from

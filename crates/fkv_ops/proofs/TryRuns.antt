@@ -17,7 +17,7 @@ use Rattle.fkv_ops.specs.declared.trying.Trying.{Trying}
 use Rattle.fkv_ops.specs.declared.trying.Trying.TheVariants.{Ended, TakesShared, Walks, LoadsSafe, SwapsValue, LoadsCurrent, ChangesValue, LoadsAnswer, TakesExclusive, LoadsOld, Appends, DropsExclusive, DropsShared}
 use Rattle.fkv_ops.specs.Walking.{walk_ask}
 use Rattle.fkv_ops.specs.Appending.{append_ask}
-use Rattle.fkv_ops.specs.Trying.{TryState, trying_ask, try_ask, trying_next, try_next, with_latch, walks}
+use Rattle.fkv_ops.specs.Trying.{TryState, new_try, trying_ask, try_ask, trying_next, try_next, with_latch, walks}
 use Rattle.fkv_ops.specs.TryRun.{Trial, trial_begun, try_run, Told, told_by, with_effect, effects_of}
 use Rattle.fkv_ops.specs.Reasons.{latch_place, EachIsTrue}
 use Rattle.fkv_ops.specs.Effects.{EffectsAreOnce, LatchesAreKept, shares_latch}
@@ -36,11 +36,11 @@ no : {X : Type 0} → false ≡ true → X
 no e = cc
 
 -- as it begins
-pub begun_true : (c : Trial) (told : Told) (before : TryState) (spare : ℕ) → Comes c told None [] (record { shares = bit_of c.request.has_latch; bits = 0 }) (trial_begun c before spare)
-begun_true c told before spare = by_share (shares_latch c && not c.request.has_latch) refl
+pub begun_true : (c : Trial) (told : Told) (spare : ℕ) → Comes c told None [] (record { shares = bit_of c.request.has_latch; bits = 0 }) (trial_begun c spare)
+begun_true c told spare = by_share (shares_latch c && not c.request.has_latch) refl
   where
     first : TryState
-    first = record before { has_shared = c.request.has_latch; has_exclusive = false; effect = None; spare = spare }
+    first = new_try c.bits c.request c.seen c.occasion spare
 
     negated : (b : Bool) → not b ≡ true → b ≡ false
     negated true e = cc
@@ -103,13 +103,13 @@ stepped c told effects step owed t before (Effectively its makes none comes) =
     record { same = comes.same; its_told = comes.its_told ∙ ap (λ l. its ∷ l) (sym none ∙ before) ∙ sym (ap (λ e. with_effect e effects) comes.its_effect); row = comes.row }
 
 -- over a whole run
-pub run_true : (c : Trial) (told : Told) (before : TryState) (spare : ℕ) (replies : List ℕ) → ((ask : Ask TryAnswer) (reply : ℕ) → told_by c (trial_begun c before spare) replies ask reply → told ask reply)
-    → Known c told (effects_of c (trial_begun c before spare) replies) (try_run c (trial_begun c before spare) replies)
-run_true c told before spare [] all = let its = begun_true c told before spare in record { same = its.same; its_told = its.its_told; row = its.row }
-run_true c told before spare (reply ∷ earlier) all =
-    let known : Known c told (effects_of c (trial_begun c before spare) earlier) (try_run c (trial_begun c before spare) earlier) = run_true c told before spare earlier (λ ask it among. all ask it (inr among)) in
-    stepped c told (effects_of c (trial_begun c before spare) earlier) (try_run c (trial_begun c before spare) earlier).step (owed_then (try_run c (trial_begun c before spare) earlier) (try_run c (trial_begun c before spare) earlier).step reply) (try_run c (trial_begun c before spare) (reply ∷ earlier)) known.its_told
-    (step_true c told (effects_of c (trial_begun c before spare) earlier) (try_run c (trial_begun c before spare) earlier) reply known (all (try_ask c.places (try_run c (trial_begun c before spare) earlier)) reply (inl (refl, refl))))
+pub run_true : (c : Trial) (told : Told) (spare : ℕ) (replies : List ℕ) → ((ask : Ask TryAnswer) (reply : ℕ) → told_by c (trial_begun c spare) replies ask reply → told ask reply)
+    → Known c told (effects_of c (trial_begun c spare) replies) (try_run c (trial_begun c spare) replies)
+run_true c told spare [] all = let its = begun_true c told spare in record { same = its.same; its_told = its.its_told; row = its.row }
+run_true c told spare (reply ∷ earlier) all =
+    let known : Known c told (effects_of c (trial_begun c spare) earlier) (try_run c (trial_begun c spare) earlier) = run_true c told spare earlier (λ ask it among. all ask it (inr among)) in
+    stepped c told (effects_of c (trial_begun c spare) earlier) (try_run c (trial_begun c spare) earlier).step (owed_then (try_run c (trial_begun c spare) earlier) (try_run c (trial_begun c spare) earlier).step reply) (try_run c (trial_begun c spare) (reply ∷ earlier)) known.its_told
+    (step_true c told (effects_of c (trial_begun c spare) earlier) (try_run c (trial_begun c spare) earlier) reply known (all (try_ask c.places (try_run c (trial_begun c spare) earlier)) reply (inl (refl, refl))))
 
 not_passed : {A B : Type 0} (ask : Ask A) (a b : B) → is_done ask ≡ false → passed ask a ≡ Done b → ⊥
 unfolding passed
@@ -154,30 +154,30 @@ row_ended c told t (DropsExclusive it) its row e = absurd (not_passed (latch_ask
 row_ended c told t (DropsShared it) its row e = absurd (not_passed (latch_ask t.latching) it its (subst (λ x. is_done (latch_ask x) ≡ false) (sym row.its_latching) (unshare_asks (latch_place c))) e)
 
 -- what is known of a run by what was asked in it
-abbrev pub RunKnown : Trial → TryState → ℕ → List ℕ → Type 0
-RunKnown c before spare replies = Known c (told_by c (trial_begun c before spare) replies) (effects_of c (trial_begun c before spare) replies) (try_run c (trial_begun c before spare) replies)
+abbrev pub RunKnown : Trial → ℕ → List ℕ → Type 0
+RunKnown c spare replies = Known c (told_by c (trial_begun c spare) replies) (effects_of c (trial_begun c spare) replies) (try_run c (trial_begun c spare) replies)
 
-pub run_known : (c : Trial) (before : TryState) (spare : ℕ) (replies : List ℕ) → RunKnown c before spare replies
-run_known c before spare replies = run_true c (told_by c (trial_begun c before spare) replies) before spare replies (λ ask reply among. among)
+pub run_known : (c : Trial) (spare : ℕ) (replies : List ℕ) → RunKnown c spare replies
+run_known c spare replies = run_true c (told_by c (trial_begun c spare) replies) spare replies (λ ask reply among. among)
 
 pub at_end : (c : Trial) (told : Told) (effects : List Reply) (t : TryState) (its : TryAnswer) → Known c told effects t → try_ask c.places t ≡ Done its → t.step ≡ Ended its
 at_end c told effects t its known e = row_ended c told t t.step its known.row e
 
 pub each_is_true : EachIsTrue
-each_is_true c before spare replies its e =
-    let known = run_known c before spare replies in
-    let told : Told = told_by c (trial_begun c before spare) replies in
-    let ends = subst (TryRow c told (try_run c (trial_begun c before spare) replies)) (at_end c told (effects_of c (trial_begun c before spare) replies) (try_run c (trial_begun c before spare) replies) its known e) known.row in
+each_is_true c spare replies its e =
+    let known = run_known c spare replies in
+    let told : Told = told_by c (trial_begun c spare) replies in
+    let ends = subst (TryRow c told (try_run c (trial_begun c spare) replies)) (at_end c told (effects_of c (trial_begun c spare) replies) (try_run c (trial_begun c spare) replies) its known e) known.row in
     ends.truth
 
 pub effects_once : EffectsAreOnce
-effects_once c before spare replies its e =
-    let known = run_known c before spare replies in
-    sym known.its_told ∙ ap told_at (at_end c (told_by c (trial_begun c before spare) replies) (effects_of c (trial_begun c before spare) replies) (try_run c (trial_begun c before spare) replies) its known e)
+effects_once c spare replies its e =
+    let known = run_known c spare replies in
+    sym known.its_told ∙ ap told_at (at_end c (told_by c (trial_begun c spare) replies) (effects_of c (trial_begun c spare) replies) (try_run c (trial_begun c spare) replies) its known e)
 
 pub latches_kept : LatchesAreKept
-latches_kept c before spare replies its e =
-    let known = run_known c before spare replies in
-    let told : Told = told_by c (trial_begun c before spare) replies in
-    let ends = subst (TryRow c told (try_run c (trial_begun c before spare) replies)) (at_end c told (effects_of c (trial_begun c before spare) replies) (try_run c (trial_begun c before spare) replies) its known e) known.row in
+latches_kept c spare replies its e =
+    let known = run_known c spare replies in
+    let told : Told = told_by c (trial_begun c spare) replies in
+    let ends = subst (TryRow c told (try_run c (trial_begun c spare) replies)) (at_end c told (effects_of c (trial_begun c spare) replies) (try_run c (trial_begun c spare) replies) its known e) known.row in
     record { not_alone = ends.not_alone; shares = ends.shared }

@@ -77,7 +77,7 @@ walks_true c told t quiet not_alone under = record {
   owes = refl;
   its_effect = quiet;
   its_told = refl;
-  row = record { not_alone = not_alone; under = under; walks = walk_begun_true c told t.walk t.spare; asks = walk_begun_asks c t.walk t.spare };
+  row = record { not_alone = not_alone; under = under; walks = walk_begun_true c told t.spare; asks = walk_begun_asks c t.spare };
 }
 
 or_right : (a b : Bool) → b ≡ true → true ≡ (a || b)

@@ -53,9 +53,9 @@ unfolding step_asks_left
 find_begun_left p home purpose.Read spare = omega arith
 find_begun_left p home purpose.Update spare = omega arith
 
-pub walk_begun_left : (p : Places) (home : Home) (w : WalkState) (key : Key) (purpose : Purpose) (head : Addr) (spare : ℕ) → walk_asks_left p (walk_begun p home w key purpose head spare) ≤ most_walk_asks p
+pub walk_begun_left : (p : Places) (home : Home) (key : Key) (purpose : Purpose) (head : Addr) (spare : ℕ) → walk_asks_left p (walk_begun p home key purpose head spare) ≤ most_walk_asks p
 unfolding walking_asks_left
-walk_begun_left p home w key purpose head spare =
+walk_begun_left p home key purpose head spare =
     let few = find_begun_left p home purpose spare in
     let both = sum_most (asks_left (first_finding p home purpose spare)) (2 * p.ring) in
     omega (arith, few, both)

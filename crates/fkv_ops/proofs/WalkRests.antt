@@ -72,12 +72,12 @@ pub walk_done : (p : Places) (w : WalkState) → WalkRestsOrAsks w → is_done (
 walk_done p w at = walking_done p w w.step at
 
 -- as it begins it asks
-pub walk_begun_under_way : (p : Places) (home : Home) (w : WalkState) (key : Key) (purpose : Purpose) (head : Addr) (spare : ℕ) → IsWalkUnderWay (walk_begun p home w key purpose head spare)
+pub walk_begun_under_way : (p : Places) (home : Home) (key : Key) (purpose : Purpose) (head : Addr) (spare : ℕ) → IsWalkUnderWay (walk_begun p home key purpose head spare)
 unfolding step_asks_left
-walk_begun_under_way p home w key purpose head spare = record { asks = omega arith; goes_on = refl }
+walk_begun_under_way p home key purpose head spare = record { asks = omega arith; goes_on = refl }
 
-pub walk_begun_asks : (p : Places) (home : Home) (w : WalkState) (key : Key) (purpose : Purpose) (head : Addr) (spare : ℕ) → is_done (walk_ask p (walk_begun p home w key purpose head spare)) ≡ false
-walk_begun_asks p home w key purpose head spare = walk_done p (walk_begun p home w key purpose head spare) (walk_begun_under_way p home w key purpose head spare).asks
+pub walk_begun_asks : (p : Places) (home : Home) (key : Key) (purpose : Purpose) (head : Addr) (spare : ℕ) → is_done (walk_ask p (walk_begun p home key purpose head spare)) ≡ false
+walk_begun_asks p home key purpose head spare = walk_done p (walk_begun p home key purpose head spare) (walk_begun_under_way p home key purpose head spare).asks
 
 reached_rests : (p : Places) (w : WalkState) (addr : ℕ) → WalkRestsOrAsks (reached p w addr)
 unfolding load_asks_left

@@ -207,12 +207,12 @@ pub walk_true : (c : Trial) (told : Told) (w : WalkState) (reply : ℕ) → Walk
 walk_true c told w reply knows was = walk_row_true c told w w.step reply refl knows.its_key knows.its_head knows.its_row was
 
 -- as it begins, it asks
-pub walk_begun_true : (c : Trial) (told : Told) (w : WalkState) (spare : ℕ) → WalkKnows c told (walk_begun c.places (home_at c) w (key_of c.request.op) (purpose_of c.request.op) c.seen.offsets.head spare)
-walk_begun_true c told w spare = record { its_key = refl; its_head = refl; its_row = (search_begun c told spare, refl) }
+pub walk_begun_true : (c : Trial) (told : Told) (spare : ℕ) → WalkKnows c told (walk_begun c.places (home_at c) (key_of c.request.op) (purpose_of c.request.op) c.seen.offsets.head spare)
+walk_begun_true c told spare = record { its_key = refl; its_head = refl; its_row = (search_begun c told spare, refl) }
 
-pub walk_begun_asks : (c : Trial) (w : WalkState) (spare : ℕ) → is_done (walk_ask c.places (walk_begun c.places (home_at c) w (key_of c.request.op) (purpose_of c.request.op) c.seen.offsets.head spare)) ≡ false
+pub walk_begun_asks : (c : Trial) (spare : ℕ) → is_done (walk_ask c.places (walk_begun c.places (home_at c) (key_of c.request.op) (purpose_of c.request.op) c.seen.offsets.head spare)) ≡ false
 unfolding walking_ask find_step_ask passed
-walk_begun_asks c w spare = refl
+walk_begun_asks c spare = refl
 
 -- where a walk has come to
 abbrev pub WalkTrue : Trial → Told → WalkState → WalkAnswer → Type 0

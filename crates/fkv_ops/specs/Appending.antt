@@ -1,7 +1,9 @@
 -- How a record is appended and published: its address is reserved, its words are written, and its entry takes the place of the one that
 -- was found. A record whose entry was not won is invalidated.
-use Rattle.std.specs.Prelude.{◌≡◌, ℕ, ◌^◌, ◌<◌, ◌&&◌, nat_lt, if◌then◌else◌, ⊤}
+use Rattle.std.specs.Prelude.{ℕ, ◌^◌, ◌<◌, ◌&&◌, nat_lt, if◌then◌else◌, false, ⊤}
+use Rattle.std.proofs.Common.{arith}
 use Rattle.fkv_base.specs.declared.numbers.Addr.{Addr}
+use Rattle.fkv_words.specs.declared.headers.Header.{Header}
 use Rattle.fkv_plane.specs.declared.asks.Ask.{Ask}
 use Rattle.fkv_plane.specs.declared.asks.Ask.TheVariants.{Done}
 use Rattle.fkv_plane.specs.declared.places.Places.{Places}
@@ -10,16 +12,18 @@ use Rattle.fkv_log.specs.declared.record_words.RecordWords.{RecordWords}
 use Rattle.fkv_log.specs.declared.reserving.ReserveAnswer.{ReserveAnswer}
 use Rattle.fkv_log.specs.declared.reserving.ReserveAnswer.TheVariants as reserve
 use Rattle.fkv_log.specs.declared.reserving.Reserving.{Reserving}
-use Rattle.fkv_log.specs.declared.reserving.Reserving.TheVariants.{LoadsLimit}
+use Rattle.fkv_log.specs.declared.reserving.Reserving.TheVariants as reserving
 use Rattle.fkv_log.specs.declared.filling.Filling.{Filling}
+use Rattle.fkv_log.specs.declared.filling.Filling.TheVariants as filling
 use Rattle.fkv_log.specs.declared.invalidating.Invalidating.{Invalidating}
+use Rattle.fkv_log.specs.declared.invalidating.Invalidating.TheVariants as invalidating
 use Rattle.fkv_log.specs.Reserving.{reserve_ask, reserve_next, reserve_next_ask}
 use Rattle.fkv_log.specs.Filling.{fill_begun, fill_ask, fill_next}
 use Rattle.fkv_log.specs.Invalidating.{invalidate_begun, invalidate_ask, invalidate_next}
 use Rattle.fkv_index.specs.declared.publishing.PublishAnswer.{PublishAnswer}
 use Rattle.fkv_index.specs.declared.publishing.PublishAnswer.TheVariants as publish
 use Rattle.fkv_index.specs.declared.publishing.Publishing.{Publishing}
-use Rattle.fkv_index.specs.declared.publishing.Publishing.TheVariants.{SwapsEntry}
+use Rattle.fkv_index.specs.declared.publishing.Publishing.TheVariants as publishing
 use Rattle.fkv_index.specs.Publishing.{publish_ask, publish_next, publish_next_ask}
 use Rattle.fkv_index.specs.IndexWorld.{new_entry}
 use Rattle.fkv_ops.specs.declared.appending.FoundSlot.{FoundSlot}
@@ -44,12 +48,23 @@ pub record Appender : Type 0 where
   pub room : ℕ
   pub state : AppendState
 
--- before it first starts it is at its end
-abbrev pub IsAppendRested : AppendState → Type 0
-IsAppendRested a = a.step ≡ Ended answer.Contended
+-- what a machine at rest has in place of a slot and a record
+abbrev pub no_slot : FoundSlot
+no_slot = record { place = 0; entry = 0; tag = 0 }
 
-abbrev pub append_begun : AppendState → FoundSlot → RecordWords → AppendState
-append_begun a slot its_words = record a { slot = slot; its_words = its_words; reserving = LoadsLimit; step = Reserves }
+abbrev pub no_header : Header
+no_header = record { previous = record { 0 = 0 }; version = record { 0 = 1 }; invalid = false; previous_fits = omega arith; some_version = omega arith; version_fits = omega arith }
+
+abbrev pub no_words : RecordWords
+no_words = record { header = no_header; key = record { 0 = 0 }; value = 0 }
+
+-- before it first starts it is at its end
+unfoldable pub append_rested : AppendState
+append_rested = record { slot = no_slot; its_words = no_words; reserving = reserving.AtRest; filling = filling.AtRest; publishing = publishing.AtRest; invalidating = invalidating.AtRest; step = Ended answer.Contended }
+
+-- As it begins it is made of what it is given alone: nothing is left of an earlier append.
+abbrev pub append_begun : FoundSlot → RecordWords → AppendState
+append_begun slot its_words = record { slot = slot; its_words = its_words; reserving = reserving.LoadsLimit; filling = filling.AtRest; publishing = publishing.AtRest; invalidating = invalidating.AtRest; step = Reserves }
 
 -- what each state asks
 unfoldable pub appending_ask : Places → AppendState → Appending → Ask AppendAnswer
@@ -81,7 +96,7 @@ reserve_ledto a ask = a
 
 -- once the record is written its entry is published
 unfoldable pub fill_ledto : AppendState → Addr → Ask (Unit {0}) → AppendState
-fill_ledto a addr (Done its) = record a { publishing = SwapsEntry a.slot.place a.slot.entry (new_entry addr.0 a.slot.tag); step = Publishes addr }
+fill_ledto a addr (Done its) = record a { publishing = publishing.SwapsEntry a.slot.place a.slot.entry (new_entry addr.0 a.slot.tag); step = Publishes addr }
 fill_ledto a addr ask = a
 
 -- and where that was lost the record is invalidated

@@ -13,7 +13,7 @@ use Rattle.fkv_index.specs.Slots.{bucket_slots, entry_addr, link_of}
 use Rattle.fkv_index.specs.IndexWorld.{new_entry}
 use Rattle.fkv_ops.specs.declared.answers.TryAnswer.{TryAnswer}
 use Rattle.fkv_ops.specs.Values.{word_of}
-use Rattle.fkv_ops.specs.Trying.{TryState, try_ask}
+use Rattle.fkv_ops.specs.Trying.{try_ask}
 use Rattle.fkv_ops.specs.TryRun.{Trial, home_at, try_run, trial_begun, Told, told_by}
 use Rattle.fkv_ops.specs.Reasons.{latch_place, Loaded, Won, IsLost, ComesTo, HasEntry}
 use Rattle.fkv_ops.specs.Effects.{IsMadeOf}
@@ -66,5 +66,5 @@ AskIsSo c told ask reply effect = ⊥
 
 -- over every list of replies
 abbrev pub EachAskIsSo : Type 0
-EachAskIsSo = (c : Trial) (before : TryState) (spare : ℕ) (replies : List ℕ) (reply : ℕ)
-    → AskIsSo c (told_by c (trial_begun c before spare) replies) (try_ask c.places (try_run c (trial_begun c before spare) replies)) reply (try_run c (trial_begun c before spare) (reply ∷ replies)).effect
+EachAskIsSo = (c : Trial) (spare : ℕ) (replies : List ℕ) (reply : ℕ)
+    → AskIsSo c (told_by c (trial_begun c spare) replies) (try_ask c.places (try_run c (trial_begun c spare) replies)) reply (try_run c (trial_begun c spare) (reply ∷ replies)).effect

@@ -97,13 +97,13 @@ pub data IsEffect (c : Trial) (told : Told) (ask : Ask TryAnswer) (reply : ℕ) 
 
 -- over every list of replies: a step that makes an effect is one of these three, and what it tells is true
 abbrev pub EffectsAreTrue : Type 0
-EffectsAreTrue = (c : Trial) (before : TryState) (spare : ℕ) (replies : List ℕ) (reply : ℕ) (its : Reply) → (try_run c (trial_begun c before spare) (reply ∷ replies)).effect ≡ Some its
-    → IsEffect c (told_by c (trial_begun c before spare) replies) (try_ask c.places (try_run c (trial_begun c before spare) replies)) reply its
+EffectsAreTrue = (c : Trial) (spare : ℕ) (replies : List ℕ) (reply : ℕ) (its : Reply) → (try_run c (trial_begun c spare) (reply ∷ replies)).effect ≡ Some its
+    → IsEffect c (told_by c (trial_begun c spare) replies) (try_ask c.places (try_run c (trial_begun c spare) replies)) reply its
 
 -- a try that ends as done has made its effect at just one step, and tells what was told there; one that ends otherwise at none
 abbrev pub EffectsAreOnce : Type 0
-EffectsAreOnce = (c : Trial) (before : TryState) (spare : ℕ) (replies : List ℕ) (answer : TryAnswer) → try_ask c.places (try_run c (trial_begun c before spare) replies) ≡ Done answer
-    → effects_of c (trial_begun c before spare) replies ≡ reply_told answer
+EffectsAreOnce = (c : Trial) (spare : ℕ) (replies : List ℕ) (answer : TryAnswer) → try_ask c.places (try_run c (trial_begun c spare) replies) ≡ Done answer
+    → effects_of c (trial_begun c spare) replies ≡ reply_told answer
 
 -- an update of a session in prepare shares the latch
 abbrev pub shares_latch : Trial → Bool
@@ -115,8 +115,8 @@ pub record IsLatchKept (c : Trial) (answer : TryAnswer) (t : TryState) : Type 0 
   pub shares : t.has_shared ≡ (is_wait answer && (c.request.has_latch || shares_latch c))
 
 abbrev pub LatchesAreKept : Type 0
-LatchesAreKept = (c : Trial) (before : TryState) (spare : ℕ) (replies : List ℕ) (answer : TryAnswer) → try_ask c.places (try_run c (trial_begun c before spare) replies) ≡ Done answer
-    → IsLatchKept c answer (try_run c (trial_begun c before spare) replies)
+LatchesAreKept = (c : Trial) (spare : ℕ) (replies : List ℕ) (answer : TryAnswer) → try_ask c.places (try_run c (trial_begun c spare) replies) ≡ Done answer
+    → IsLatchKept c answer (try_run c (trial_begun c spare) replies)
 
 -- a share was added to a word without bit 63
 pub record HasShared (c : Trial) (told : Told) : Type 0 where
@@ -125,12 +125,12 @@ pub record HasShared (c : Trial) (told : Told) : Type 0 where
   pub not_alone : word < exclusive_bit
 
 -- where an update in prepare doesn't share the latch yet, to share it is the first that the try asks, and it makes its effect only once it does
-pub record SharesBefore (c : Trial) (before : TryState) (spare : ℕ) : Type 0 where
-  pub first : try_ask c.places (trial_begun c before spare) ≡ Add (latch_place c) one_share
-  pub does : (replies : List ℕ) (reply : ℕ) (its : Reply) → (try_run c (trial_begun c before spare) (reply ∷ replies)).effect ≡ Some its → HasShared c (told_by c (trial_begun c before spare) replies)
+pub record SharesBefore (c : Trial) (spare : ℕ) : Type 0 where
+  pub first : try_ask c.places (trial_begun c spare) ≡ Add (latch_place c) one_share
+  pub does : (replies : List ℕ) (reply : ℕ) (its : Reply) → (try_run c (trial_begun c spare) (reply ∷ replies)).effect ≡ Some its → HasShared c (told_by c (trial_begun c spare) replies)
 
 abbrev pub SharesFirst : Type 0
-SharesFirst = (c : Trial) (before : TryState) (spare : ℕ) → shares_latch c ≡ true → c.request.has_latch ≡ false → SharesBefore c before spare
+SharesFirst = (c : Trial) (spare : ℕ) → shares_latch c ≡ true → c.request.has_latch ≡ false → SharesBefore c spare
 
 -- the first record of the chain is of no version above the request's, by its header, or it isn't in memory
 pub data FirstIsNotAbove (c : Trial) (told : Told) (entry : ℕ) : Type 0 where
@@ -146,8 +146,8 @@ pub record MayStay (c : Trial) (told : Told) : Type 0 where
 
 -- an update in prepare makes its effect only where it has seen that its session may stay at its version
 abbrev pub EachMayStay : Type 0
-EachMayStay = (c : Trial) (before : TryState) (spare : ℕ) (replies : List ℕ) (reply : ℕ) (its : Reply) → shares_latch c ≡ true → (try_run c (trial_begun c before spare) (reply ∷ replies)).effect ≡ Some its
-    → MayStay c (told_by c (trial_begun c before spare) replies)
+EachMayStay = (c : Trial) (spare : ℕ) (replies : List ℕ) (reply : ℕ) (its : Reply) → shares_latch c ≡ true → (try_run c (trial_begun c spare) (reply ∷ replies)).effect ≡ Some its
+    → MayStay c (told_by c (trial_begun c spare) replies)
 
 -- what the kinds of operations mean: a read is one, and no update is; and one whose old value doesn't count makes the same of every old value,
 -- and is told the same

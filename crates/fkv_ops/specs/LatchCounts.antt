@@ -6,7 +6,7 @@ use Rattle.fkv_plane.specs.declared.asks.Ask.{Ask}
 use Rattle.fkv_plane.specs.declared.asks.Ask.TheVariants.{Cas, Add, Done}
 use Rattle.fkv_latch.specs.Latching.{one_share, exclusive_bit}
 use Rattle.fkv_ops.specs.declared.answers.TryAnswer.{TryAnswer}
-use Rattle.fkv_ops.specs.Trying.{is_wait, TryState, try_ask}
+use Rattle.fkv_ops.specs.Trying.{is_wait, try_ask}
 use Rattle.fkv_ops.specs.TryRun.{Trial, trial_begun, try_run, Exchange, exchanges}
 use Rattle.fkv_ops.specs.Reasons.{latch_place}
 use Rattle.fkv_ops.specs.Effects.{shares_latch}
@@ -48,8 +48,8 @@ pub record LeavesLatch (c : Trial) (its : List Exchange) (answer : TryAnswer) : 
   pub shared : bit_of c.request.has_latch + shares_added c its ≡ shares_dropped c its + bit_of (is_wait answer && (c.request.has_latch || shares_latch c))
 
 abbrev pub EachLeavesLatch : Type 0
-EachLeavesLatch = (c : Trial) (before : TryState) (spare : ℕ) (replies : List ℕ) (answer : TryAnswer) → try_ask c.places (try_run c (trial_begun c before spare) replies) ≡ Done answer
-    → LeavesLatch c (exchanges c (trial_begun c before spare) replies) answer
+EachLeavesLatch = (c : Trial) (spare : ℕ) (replies : List ℕ) (answer : TryAnswer) → try_ask c.places (try_run c (trial_begun c spare) replies) ≡ Done answer
+    → LeavesLatch c (exchanges c (trial_begun c spare) replies) answer
 
 -- up to its effect it has cleared no bit and taken off no share: what it holds of the latch it has held since it took it
 pub record HoldsLatch (c : Trial) (its : List Exchange) : Type 0 where
@@ -57,5 +57,5 @@ pub record HoldsLatch (c : Trial) (its : List Exchange) : Type 0 where
   pub dropped : shares_dropped c its ≡ 0
 
 abbrev pub EachHoldsLatch : Type 0
-EachHoldsLatch = (c : Trial) (before : TryState) (spare : ℕ) (replies : List ℕ) (reply : ℕ) (its : Reply) → (try_run c (trial_begun c before spare) (reply ∷ replies)).effect ≡ Some its
-    → HoldsLatch c (exchanges c (trial_begun c before spare) replies)
+EachHoldsLatch = (c : Trial) (spare : ℕ) (replies : List ℕ) (reply : ℕ) (its : Reply) → (try_run c (trial_begun c spare) (reply ∷ replies)).effect ≡ Some its
+    → HoldsLatch c (exchanges c (trial_begun c spare) replies)

@@ -6,6 +6,7 @@ pub mod HeaderWords
 pub mod LatchCounts
 pub mod Reasons
 pub mod Requests
+pub mod Resting
 pub mod Spares
 pub mod Trying
 pub mod TryRun

@@ -19,7 +19,7 @@ use Rattle.fkv_ops.specs.declared.requests.Occasion.TheVariants.{Call, Poll}
 use Rattle.fkv_ops.specs.Values.{value_of, word_of}
 use Rattle.fkv_ops.specs.Requests.{is_read, is_blind}
 use Rattle.fkv_ops.specs.HeaderWords.{previous_in, version_in, is_header}
-use Rattle.fkv_ops.specs.Trying.{is_prepare, is_moving_on, TryState, try_ask}
+use Rattle.fkv_ops.specs.Trying.{is_prepare, is_moving_on, try_ask}
 use Rattle.fkv_ops.specs.TryRun.{Trial, home_at, try_run, trial_begun, Told, told_by}
 
 -- the eighth word of the key's bucket, which has its latch
@@ -272,5 +272,5 @@ IsTrue c told answer.LogFull = (c.occasion ≡ Call) × HasNoRoom told c.room
 
 -- over every list of replies, each answer was found by the try that gives it
 abbrev pub EachIsTrue : Type 0
-EachIsTrue = (c : Trial) (before : TryState) (spare : ℕ) (replies : List ℕ) (answer : TryAnswer) → try_ask c.places (try_run c (trial_begun c before spare) replies) ≡ Done answer
-    → IsTrue c (told_by c (trial_begun c before spare) replies) answer
+EachIsTrue = (c : Trial) (spare : ℕ) (replies : List ℕ) (answer : TryAnswer) → try_ask c.places (try_run c (trial_begun c spare) replies) ≡ Done answer
+    → IsTrue c (told_by c (trial_begun c spare) replies) answer

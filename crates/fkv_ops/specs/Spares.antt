@@ -43,8 +43,8 @@ UsesSpare p spare ask = ⊤
 
 -- over every list of replies, at each ask. A spare that is given with a number past the overflow buckets is none (spare_of)
 abbrev pub EachUsesSpare : Type 0
-EachUsesSpare = (c : Trial) (before : TryState) (spare : ℕ) (replies : List ℕ)
-    → UsesSpare c.places (spare_told c.places (spare_of c.places spare) (exchanges c (trial_begun c before spare) replies)) (try_ask c.places (try_run c (trial_begun c before spare) replies))
+EachUsesSpare = (c : Trial) (spare : ℕ) (replies : List ℕ)
+    → UsesSpare c.places (spare_told c.places (spare_of c.places spare) (exchanges c (trial_begun c spare) replies)) (try_ask c.places (try_run c (trial_begun c spare) replies))
 
 -- what the try tells its session to have to spare
 pub record TellsSpare (c : Trial) (spare : ℕ) (its : List Exchange) (t : TryState) : Type 0 where
@@ -54,5 +54,5 @@ pub record TellsSpare (c : Trial) (spare : ℕ) (its : List Exchange) (t : TrySt
 
 -- over every list of replies, at the end of the try
 abbrev pub EachTellsSpare : Type 0
-EachTellsSpare = (c : Trial) (before : TryState) (spare : ℕ) (replies : List ℕ) (answer : TryAnswer) → try_ask c.places (try_run c (trial_begun c before spare) replies) ≡ Done answer
-    → TellsSpare c spare (exchanges c (trial_begun c before spare) replies) (try_run c (trial_begun c before spare) replies)
+EachTellsSpare = (c : Trial) (spare : ℕ) (replies : List ℕ) (answer : TryAnswer) → try_ask c.places (try_run c (trial_begun c spare) replies) ≡ Done answer
+    → TellsSpare c spare (exchanges c (trial_begun c spare) replies) (try_run c (trial_begun c spare) replies)

@@ -29,9 +29,9 @@ pub record Trial : Type 0 where
 abbrev pub home_at : Trial → Home
 home_at c = home_of c.bits (key_of c.request.op)
 
--- the try begins, whatever the machine did before
-abbrev pub trial_begun : Trial → TryState → ℕ → TryState
-trial_begun c before spare = try_begun c.places c.bits before c.request c.seen c.occasion spare
+-- the try begins
+abbrev pub trial_begun : Trial → ℕ → TryState
+trial_begun c spare = try_begun c.places c.bits c.request c.seen c.occasion spare
 
 -- where it stands after these replies, the newest of which is first
 abbrev pub try_run : Trial → TryState → List ℕ → TryState

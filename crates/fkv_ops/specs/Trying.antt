@@ -1,5 +1,5 @@
 -- One try of a request: its latch, the walk to the record of its key, and then the change in place or the new record.
-use Rattle.std.specs.Prelude.{◌≡◌, ℕ, ◌==◌, ◌&&◌, not, nat_lt, nat_le, if◌then◌else◌, Bool, true, false, Option, Some, None}
+use Rattle.std.specs.Prelude.{ℕ, ◌==◌, ◌&&◌, not, nat_lt, nat_le, if◌then◌else◌, Bool, true, false, Option, Some, None}
 use Rattle.std.proofs.Common.{arith}
 use Rattle.fkv_base.specs.declared.numbers.Addr.{Addr}
 use Rattle.fkv_base.specs.declared.numbers.Version.{Version}
@@ -24,6 +24,7 @@ use Rattle.fkv_latch.specs.declared.latching.LatchAnswer.TheVariants as latch
 use Rattle.fkv_latch.specs.declared.latching.LatchTask.{LatchTask}
 use Rattle.fkv_latch.specs.declared.latching.LatchTask.TheVariants.{TakeShared, DropShared, TakeExclusive, DropExclusive}
 use Rattle.fkv_latch.specs.declared.latching.Latching.{Latching}
+use Rattle.fkv_latch.specs.declared.latching.Latching.TheVariants.{AtRest}
 use Rattle.fkv_latch.specs.Latching.{latch_first, latch_ask, latch_next, latch_next_ask}
 use Rattle.fkv_index.specs.declared.homes.Home.{Home}
 use Rattle.fkv_index.specs.Slots.{entry_addr, home_of}
@@ -45,9 +46,10 @@ use Rattle.fkv_ops.specs.declared.trying.Trying.TheVariants.{Ended, TakesShared,
 use Rattle.fkv_ops.specs.declared.walking.WalkAnswer.{WalkAnswer}
 use Rattle.fkv_ops.specs.declared.walking.WalkAnswer.TheVariants as walk
 use Rattle.fkv_ops.specs.Values.{value_of, word_of}
+use Rattle.fkv_ops.specs.Resting.{no_request, nothing_seen}
 use Rattle.fkv_ops.specs.Requests.{purpose_of, is_read, is_blind}
-use Rattle.fkv_ops.specs.Walking.{WalkState, walk_begun, walk_ask, walk_next, walk_on}
-use Rattle.fkv_ops.specs.Appending.{AppendState, append_begun, append_ask, append_next}
+use Rattle.fkv_ops.specs.Walking.{WalkState, walk_rested, walk_begun, walk_ask, walk_next, walk_on}
+use Rattle.fkv_ops.specs.Appending.{AppendState, append_rested, append_begun, append_ask, append_next}
 
 pub record TryState : Type 0 where
   pub request : Request
@@ -74,9 +76,13 @@ pub record Trier : Type 0 where
   pub room : ℕ
   pub state : TryState
 
+-- A try that is given this and hasn't begun. It is made of that alone: nothing is left of an earlier one.
+abbrev pub new_try : ℕ → Request → Seen → Occasion → ℕ → TryState
+new_try bits request seen occasion spare = record { request = request; seen = seen; occasion = occasion; home = home_of bits (key_of request.op); has_shared = request.has_latch; has_exclusive = false; effect = None; spare = spare; walk = walk_rested; latching = AtRest; append = append_rested; step = Ended answer.Shift }
+
 -- before it first starts it is at its end, and has nothing
-abbrev pub IsTryRested : TryState → Type 0
-IsTryRested t = (t.step ≡ Ended answer.Shift) × (t.effect ≡ None) × (t.has_shared ≡ false) × (t.spare ≡ 0)
+unfoldable pub try_rested : ℕ → TryState
+try_rested bits = new_try bits no_request nothing_seen Call 0
 
 -- what each state asks
 unfoldable pub trying_ask : Places → TryState → Trying → Ask TryAnswer
@@ -124,7 +130,7 @@ full_at Call refused = refused
 full_at Poll refused = answer.Wait reason.Full
 
 abbrev pub walks : Places → TryState → TryState
-walks p t = record t { walk = walk_begun p t.home t.walk (key_of t.request.op) (purpose_of t.request.op) t.seen.offsets.head t.spare; step = Walks }
+walks p t = record t { walk = walk_begun p t.home (key_of t.request.op) (purpose_of t.request.op) t.seen.offsets.head t.spare; step = Walks }
 
 abbrev pub is_prepare : Phase → Bool
 is_prepare phase.Prepare = true
@@ -140,9 +146,9 @@ is_moving_on its = false
 abbrev pub wants_shared : TryState → Bool
 wants_shared t = is_prepare t.seen.phase && not (is_read t.request.op) && not t.has_shared
 
-abbrev pub try_begun : Places → ℕ → TryState → Request → Seen → Occasion → ℕ → TryState
-try_begun p bits t request seen occasion spare =
-    let its : TryState = record t { request = request; seen = seen; occasion = occasion; home = home_of bits (key_of request.op); has_shared = request.has_latch; has_exclusive = false; effect = None; spare = spare } in
+abbrev pub try_begun : Places → ℕ → Request → Seen → Occasion → ℕ → TryState
+try_begun p bits request seen occasion spare =
+    let its : TryState = new_try bits request seen occasion spare in
     if wants_shared its then with_latch p its TakeShared TakesShared else walks p its
 
 -- one that holds the latch alone is of the next version already
@@ -176,7 +182,7 @@ slot_of t = record { place = t.walk.place; entry = t.walk.entry; tag = t.home.ta
 
 -- a new record is made of the old value
 unfoldable pub appends : TryState → ℕ → TryState
-appends t old = record t { append = append_begun t.append (slot_of t) (words_of t.request t.walk.entry (value_of old)); step = Appends (reply_from (value_of old) t.request.op) }
+appends t old = record t { append = append_begun (slot_of t) (words_of t.request t.walk.entry (value_of old)); step = Appends (reply_from (value_of old) t.request.op) }
 
 -- the old value is loaded first, where it is in memory and counts
 unfoldable pub copies_from : TryState → OldValue → TryState

@@ -52,11 +52,12 @@ pub record Walker : Type 0 where
   pub state : WalkState
 
 -- before it first starts
-abbrev pub walk_rested : WalkState
+unfoldable pub walk_rested : WalkState
 walk_rested = record { key = record { 0 = 0 }; head = record { 0 = 0 }; place = 0; entry = 0; first = None; spare = 0; finding = rested 0; loading = AtRest; step = Ended answer.Contended }
 
-abbrev pub walk_begun : Places → Home → WalkState → Key → Purpose → Addr → ℕ → WalkState
-walk_begun p home w key purpose head spare = record w { key = key; head = head; place = 0; entry = 0; first = None; spare = spare; finding = first_finding p home purpose spare; step = Finds }
+-- As it begins it is made of what it is given alone: nothing is left of an earlier walk.
+abbrev pub walk_begun : Places → Home → Key → Purpose → Addr → ℕ → WalkState
+walk_begun p home key purpose head spare = record { key = key; head = head; place = 0; entry = 0; first = None; spare = spare; finding = first_finding p home purpose spare; loading = AtRest; step = Finds }
 
 -- what each state asks
 unfoldable pub walking_ask : Places → WalkState → Walking → Ask WalkAnswer

@@ -1,6 +1,6 @@
 //! How a record is appended to the log and published.
 ghost use Rattle.std.specs.Prelude.{◌≡◌, ◌<◌, ◌≤◌, ◌*◌, ◌^◌};
-ghost use Rattle.fkv_ops.specs.Appending.{append_begun, append_ask, append_next, addr_reserved, reserve_ledto, fill_ledto, publish_ledto, invalidate_ledto};
+ghost use Rattle.fkv_ops.specs.Appending.{no_slot, no_header, no_words, append_begun, append_ask, append_next, addr_reserved, reserve_ledto, fill_ledto, publish_ledto, invalidate_ledto};
 ghost use Rattle.fkv_plane.specs.AsksLeft.{AsksWhereLeft};
 ghost use Rattle.fkv_ops.specs.AsksLeft.{append_asks_left};
 
@@ -71,48 +71,51 @@ impl Model for Append {
 }
 
 impl Append {
-    ghost use Rattle.fkv_ops.specs.Appending.{IsAppendRested};
+    ghost use Rattle.fkv_ops.specs.Appending.{append_rested};
 
     /// The machine of a store of this shape, with these places, at rest.
+    #[tactic(auto, unfolding(crate::specs::Appending::append_rested))]
     pub fn new(places: Places, shape: &Shape) -> Append
         ensures places { result.places ≡ places }
         ensures room { result.room ≡ shape.now.disk_pages * shape.now.page }
-        ensures rest { IsAppendRested result.state }
+        ensures rest { result.state ≡ append_rested }
     {
-        let header = Header {
-            previous: Addr(0),
-            version: Version(1),
-            invalid: false,
-        };
         Append {
             places,
             reserve: Reserve::new(shape),
             fill: Fill::new(places),
             publish: Publish::new(),
             invalidate: Invalidate::new(places),
-            slot: FoundSlot {
-                place: 0,
-                entry: 0,
-                tag: 0,
-            },
-            its_words: RecordWords {
-                header,
-                key: Key(0),
-                value: 0,
-            },
+            slot: no_slot(),
+            its_words: no_words(),
             step: Appending::Ended(AppendAnswer::Contended),
         }
     }
 
+    /// Forgets its record, and rests.
+    #[tactic(auto, unfolding(crate::specs::Appending::append_rested))]
+    pub(crate) fn rest(&mut self)
+        ensures { self.new ≡ record self.old { state = append_rested } }
+    {
+        self.reserve.rest();
+        self.fill = Fill::new(self.places);
+        self.publish = Publish::new();
+        self.invalidate = Invalidate::new(self.places);
+        self.slot = no_slot();
+        self.its_words = no_words();
+        self.step = Appending::Ended(AppendAnswer::Contended);
+    }
+
     /// The first ask, to append this record and to publish its entry in the slot.
-    #[tactic(auto, unfolding(crate::specs::Appending::appending_ask))]
+    #[tactic(auto, unfolding(crate::specs::Appending::append_rested, crate::specs::Appending::appending_ask))]
     pub fn start(&mut self, slot: FoundSlot, its_words: RecordWords) -> Ask<AppendAnswer>
         requires tag { slot.tag < 2 ^ 15 }
-        ensures next { self.new ≡ record self.old { state = append_begun self.old.state slot its_words } }
+        ensures next { self.new ≡ record self.old { state = append_begun slot its_words } }
         ensures ask { result ≡ append_ask self.old.places self.new.state }
         ensures asks { AsksWhereLeft (append_asks_left self.new.state) result }
         ensures bounded { append_asks_left self.new.state ≤ 8 }
     {
+        self.rest();
         self.slot = slot;
         self.its_words = its_words;
         self.step = Appending::Reserves;
@@ -235,5 +238,37 @@ impl Append {
         if let Ask::Done(()) = ask {
             self.step = Appending::Ended(AppendAnswer::Contended);
         }
+    }
+}
+
+/// What a machine at rest has in place of a slot.
+fn no_slot() -> FoundSlot
+    ensures { result ≡ no_slot }
+{
+    FoundSlot {
+        place: 0,
+        entry: 0,
+        tag: 0,
+    }
+}
+
+/// What a machine at rest has in place of a record.
+fn no_words() -> RecordWords
+    ensures { result ≡ no_words }
+{
+    RecordWords {
+        header: no_header(),
+        key: Key(0),
+        value: 0,
+    }
+}
+
+fn no_header() -> Header
+    ensures { result ≡ no_header }
+{
+    Header {
+        previous: Addr(0),
+        version: Version(1),
+        invalid: false,
     }
 }

@@ -33,6 +33,20 @@ pub struct Request {
 }
 
 impl Request {
+    ghost use Rattle.fkv_ops.specs.Resting.{no_request};
+
+    /// What a machine at rest has in place of a request: a read of key 0.
+    pub fn none() -> Request
+        ensures { result ≡ no_request }
+    {
+        Request {
+            op: Op::Read(Key(0)),
+            version: Version(1),
+            has_latch: false,
+            held: None,
+        }
+    }
+
     /// Whether it is a read.
     pub fn is_read(&self) -> bool
         ensures { result ≡ is_read self.now.op }
@@ -47,6 +61,24 @@ pub struct Seen {
     pub phase: Phase,
     pub version: Version,
     pub offsets: SeenOffsets,
+}
+
+impl Seen {
+    ghost use Rattle.fkv_ops.specs.Resting.{nothing_seen};
+
+    /// What a machine at rest has in place of what a session has seen: the first version at rest.
+    pub fn nothing() -> Seen
+        ensures { result ≡ nothing_seen }
+    {
+        Seen {
+            phase: Phase::Rest,
+            version: Version(1),
+            offsets: SeenOffsets {
+                head: Addr(0),
+                read_only: Addr(0),
+            },
+        }
+    }
 }
 
 /// When a request is tried. Where the index or the log is full a new request is refused, and one that is pending waits.

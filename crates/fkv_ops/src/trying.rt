@@ -9,11 +9,10 @@ use crate::appending::Append;
 use crate::requests::{Occasion, Request, Seen};
 use crate::values::{value_of_word, word_of_value};
 use crate::walking::Walk;
-use fkv_base::{Addr, Key, Phase, Shape, Version};
+use fkv_base::{Addr, Key, Shape, Version};
 use fkv_index::{Home, home_of};
 use fkv_latch::{Latch, LatchTask};
-use fkv_log::SeenOffsets;
-use fkv_map::{Op, Reply};
+use fkv_map::Reply;
 use fkv_plane::{Ask, Places, RecordWord, SharedWord, passed};
 use std::marker::Model;
 
@@ -83,9 +82,10 @@ impl Model for Try {
 }
 
 impl Try {
-    ghost use Rattle.fkv_ops.specs.Trying.{IsTryRested};
+    ghost use Rattle.fkv_ops.specs.Trying.{try_rested};
 
     /// The machine of a store of this shape, at rest.
+    #[tactic(auto, unfolding(crate::specs::Trying::try_rested))]
     pub fn new(shape: &Shape) -> Try
         ensures sessions { result.places.sessions ≡ shape.now.sessions }
         ensures buckets { result.places.buckets ≡ 2 ^ shape.now.bucket_bits }
@@ -93,26 +93,14 @@ impl Try {
         ensures ring { result.places.ring ≡ shape.now.frames * shape.now.page }
         ensures bits { result.bits ≡ shape.now.bucket_bits }
         ensures room { result.room ≡ shape.now.disk_pages * shape.now.page }
-        ensures rest { IsTryRested result.state }
+        ensures rest { result.state ≡ try_rested shape.now.bucket_bits }
     {
         let places = Places::of(shape);
         Try {
             places,
             bits: shape.bucket_bits,
-            request: Request {
-                op: Op::Read(Key(0)),
-                version: Version(1),
-                has_latch: false,
-                held: None,
-            },
-            seen: Seen {
-                phase: Phase::Rest,
-                version: Version(1),
-                offsets: SeenOffsets {
-                    head: Addr(0),
-                    read_only: Addr(0),
-                },
-            },
+            request: Request::none(),
+            seen: Seen::nothing(),
             occasion: Occasion::Call,
             home: home_of(Key(0), shape.bucket_bits),
             has_shared: false,
@@ -126,6 +114,25 @@ impl Try {
         }
     }
 
+    /// Forgets its request, and rests.
+    #[tactic(auto, unfolding(crate::specs::Trying::try_rested))]
+    pub fn rest(&mut self)
+        ensures { self.new ≡ record self.old { state = try_rested self.old.bits } }
+    {
+        self.request = Request::none();
+        self.seen = Seen::nothing();
+        self.occasion = Occasion::Call;
+        self.home = home_of(Key(0), self.bits);
+        self.has_shared = false;
+        self.has_exclusive = false;
+        self.effect = None;
+        self.spare = 0;
+        self.walk.rest();
+        self.latch = Latch::new();
+        self.append.rest();
+        self.step = Trying::Ended(TryAnswer::Shift);
+    }
+
     /// The first ask, to try this request by what the session has seen. The spare bucket is one that the session took and has
     /// not linked, 0 where it has none.
     pub fn start(
@@ -135,7 +142,7 @@ impl Try {
         occasion: Occasion,
         spare: u64,
     ) -> Ask<TryAnswer>
-        ensures next { self.new ≡ record self.old { state = try_begun self.old.places self.old.bits self.old.state request seen occasion spare } }
+        ensures next { self.new ≡ record self.old { state = try_begun self.old.places self.old.bits request seen occasion spare } }
         ensures ask { result ≡ try_ask self.old.places self.new.state }
         ensures asks { AsksWhereLeft (try_asks_left self.old.places self.new.state) result }
         ensures bounded { try_asks_left self.old.places self.new.state ≤ 8 * (self.old.places.overflow + 1) + 2 * self.old.places.ring + 20 }
@@ -148,9 +155,12 @@ impl Try {
         self.has_exclusive = false;
         self.effect = None;
         self.spare = spare;
+        self.append.rest();
         if self.wants_shared() {
+            self.walk.rest();
             self.with_latch(LatchTask::TakeShared, Trying::TakesShared);
         } else {
+            self.latch = Latch::new();
             self.walks();
         }
         self.ask()

@@ -74,6 +74,7 @@ impl Walk {
     ghost use Rattle.fkv_ops.specs.Walking.{walk_rested};
 
     /// The machine of a store with these places, whose index has 2^bits buckets, at rest.
+    #[tactic(auto, unfolding(crate::specs::Walking::walk_rested))]
     pub fn new(places: Places, bits: u64) -> Walk
         requires few { bits < 64 }
         requires buckets { places.buckets ≡ 2 ^ bits }
@@ -95,20 +96,34 @@ impl Walk {
         }
     }
 
+    /// Forgets its walk, and rests.
+    #[tactic(auto, unfolding(crate::specs::Walking::walk_rested))]
+    pub(crate) fn rest(&mut self)
+        ensures { self.new ≡ record self.old { state = walk_rested } }
+    {
+        self.find.rest();
+        self.load = LoadRecord::new(self.places);
+        self.key = Key(0);
+        self.head = Addr(0);
+        self.place = 0;
+        self.entry = 0;
+        self.first = None;
+        self.spare = 0;
+        self.step = Walking::Ended(WalkAnswer::Contended);
+    }
+
     /// The first ask, to walk to the record of this key. `head` is the head that the session has seen, and the spare bucket
     /// one that it has taken and not linked, 0 where it has none.
-    #[tactic(auto, unfolding(crate::specs::Walking::walking_ask))]
+    #[tactic(auto, unfolding(crate::specs::Walking::walk_rested, crate::specs::Walking::walking_ask))]
     pub fn start(&mut self, key: Key, purpose: Purpose, head: Addr, spare: u64) -> Ask<WalkAnswer>
-        ensures next { self.new ≡ record self.old { state = walk_begun self.old.places (home_of self.old.bits key) self.old.state key purpose head spare } }
+        ensures next { self.new ≡ record self.old { state = walk_begun self.old.places (home_of self.old.bits key) key purpose head spare } }
         ensures ask { result ≡ walk_ask self.old.places self.new.state }
         ensures asks { AsksWhereLeft (walk_asks_left self.old.places self.new.state) result }
         ensures bounded { walk_asks_left self.old.places self.new.state ≤ 8 * (self.old.places.overflow + 1) + 3 + 2 * self.old.places.ring }
     {
+        self.rest();
         self.key = key;
         self.head = head;
-        self.place = 0;
-        self.entry = 0;
-        self.first = None;
         self.spare = spare;
         self.step = Walking::Finds;
         passed(self.find.start(key, purpose, spare), WalkAnswer::Contended)

@@ -1,6 +1,6 @@
 -- What an attempt is answered, and what its request seeks then.
 use Rattle.std.proofs.Common.{◌≡◌, ◌⊎◌, inl, inr, ℕ, List, [], ◌∷◌, refl, sym, ap, subst, ◌∙◌, Bool, true, false}
-use Rattle.std.specs.Prelude.{◌≢◌, ◌==◌, ◌&&◌, if◌then◌else◌, Option, Some, None}
+use Rattle.std.specs.Prelude.{◌≢◌, ◌==◌, if◌then◌else◌, Option, Some, None}
 use Rattle.std.proofs.Common.{arith}
 use Rattle.std.proofs.lemmas.Bool.Decides.{nat_tests}
 use Rattle.fkv_base.specs.declared.numbers.Addr.{Addr}
@@ -16,9 +16,7 @@ use Rattle.fkv_ops.specs.declared.answers.TryAnswer.{TryAnswer}
 use Rattle.fkv_ops.specs.declared.answers.TryAnswer.TheVariants as answer
 use Rattle.fkv_ops.specs.declared.header_words.HeaderSaid.{HeaderSaid}
 use Rattle.fkv_ops.specs.declared.header_words.HeaderSaid.TheVariants.{Says, Spoiled}
-use Rattle.fkv_ops.specs.declared.requests.Occasion.TheVariants.{Poll}
 use Rattle.fkv_ops.specs.HeaderWords.{header_said}
-use Rattle.fkv_ops.specs.Requests.{is_read}
 use Rattle.fkv_ops.specs.Values.{value_of}
 use Rattle.fkv_ops.specs.Trying.{told_value, try_ask, try_next}
 use Rattle.fkv_pending.specs.declared.attempting.Attempting.{Attempting}
@@ -31,8 +29,8 @@ use Rattle.fkv_pending.specs.declared.mailing.Mailing.TheVariants.{LoadsState}
 use Rattle.fkv_pending.specs.declared.pending_requests.PendingRequest.{PendingRequest}
 use Rattle.fkv_pending.specs.Mailing.{mail_ask, mail_next}
 use Rattle.fkv_pending.specs.Pending.{with_sought, with_held, with_latch, with_asked}
-use Rattle.fkv_pending.specs.Attempting.{AttemptState, attempting_ask, attempt_ask, attempt_ended, waits_for_disk, puts_addr, puts, tries, is_poll, is_seeking_read, goes_on, held_of, moved_on, read_on, record_taken, not_ready, look_ledto, held_kept, awaits_record, tried, try_ledto, put_ledto, mail_moved, try_moved, attempting_next, attempt_next}
-use Rattle.fkv_pending.specs.Attempts.{AttemptPast, look_told, try_told, address_told, put_told, attempt_told, attempt_run, attempt_past, is_under_way, AttemptGiven, begun_by, run_by, past_by, IsReadBy, IsReadEnd, IsTryEnd, IsBefore, ReadSeeksBy, ReadSeeks, TrySeeks, IsToBeTried, IsAnswered}
+use Rattle.fkv_pending.specs.Attempting.{AttemptState, attempting_ask, attempt_ask, attempt_ended, waits_for_disk, puts_addr, puts, tries, is_seeking_read, goes_on, held_of, moved_on, read_on, record_taken, not_ready, look_ledto, held_kept, awaits_record, tried, try_ledto, put_ledto, mail_moved, try_moved, attempting_next, attempt_next, new_attempt}
+use Rattle.fkv_pending.specs.Attempts.{AttemptPast, look_told, try_told, address_told, put_told, attempt_told, attempt_run, attempt_past, is_under_way, AttemptGiven, begun_by, run_by, past_by, IsReadBy, IsReadEnd, IsTryEnd, IsBefore, ReadSeeksBy, ReadSeeks, TrySeeks, IsAnswered}
 use Rattle.fkv_pending.proofs.AttemptRests.{AttemptRestsOrAsks, is_attempt_end, attempt_done, attempt_begun_rests, attempt_rests}
 use Rattle.fkv_pending.proofs.AttemptTries.{is_read_on, is_tried, is_read_then, put_same, address_same, same_told}
 
@@ -71,11 +69,11 @@ puts_answered : (first : PendingRequest) (is_on : Bool) (a : AttemptState) (take
     → Answered first is_on (puts a) taken met
 puts_answered first is_on a taken met its = puts_addr_answered first is_on a taken met a.pending.sought its
 
-begun_answered : (c : AttemptGiven) (before : AttemptState) → Answered c.pending (is_read_on c) (begun_by c before) None None
-begun_answered c before = tested c.pending.has_asked refl
+begun_answered : (c : AttemptGiven) → Answered c.pending (is_read_on c) (begun_by c) None None
+begun_answered c = tested c.pending.has_asked refl
   where
     its : AttemptState
-    its = record before { pending = c.pending; seen = c.seen; occasion = c.occasion; spare = c.spare; is_orphaned = c.is_orphaned; is_emptied = false; effect = None }
+    its = new_attempt c.bits c.pending c.seen c.occasion c.spare c.is_orphaned
 
     goes : (b : Bool) → is_read_on c ≡ b → Answered c.pending (is_read_on c) (if b then puts its else tries c.places c.bits its) None None
     goes true e = puts_answered c.pending (is_read_on c) its None None (OfRead e refl refl)
@@ -260,19 +258,19 @@ effect_answered first is_on a taken met Looks told = record { request = told.req
 effect_answered first is_on a taken met Tries told = told
 effect_answered first is_on a taken met Puts told = told
 
-run_answered : (c : AttemptGiven) (before : AttemptState) (replies : List ℕ) → Answered c.pending (is_read_on c) (run_by c before replies) (past_by c before replies).taken (past_by c before replies).tried
+run_answered : (c : AttemptGiven) (replies : List ℕ) → Answered c.pending (is_read_on c) (run_by c replies) (past_by c replies).taken (past_by c replies).tried
 unfolding attempt_run attempt_past
-run_answered c before [] = begun_answered c before
-run_answered c before (reply ∷ others) =
-    let a = run_by c before others in
-    let past = past_by c before others in
+run_answered c [] = begun_answered c
+run_answered c (reply ∷ others) =
+    let a = run_by c others in
+    let past = past_by c others in
     subst (λ (then_past : AttemptPast). Answered c.pending (is_read_on c) (attempt_next c.places c.bits c.room c.session a reply) then_past.taken then_past.tried) (same_told c a a.step reply past)
-    (next_answered c c.pending (is_read_on c) (record a { effect = None }) past a.step reply refl (effect_answered c.pending (is_read_on c) a past.taken past.tried a.step (run_answered c before others)))
+    (next_answered c c.pending (is_read_on c) (record a { effect = None }) past a.step reply refl (effect_answered c.pending (is_read_on c) a past.taken past.tried a.step (run_answered c others)))
 
-run_rests : (c : AttemptGiven) (before : AttemptState) (replies : List ℕ) → AttemptRestsOrAsks (run_by c before replies)
+run_rests : (c : AttemptGiven) (replies : List ℕ) → AttemptRestsOrAsks (run_by c replies)
 unfolding attempt_run
-run_rests c before [] = attempt_begun_rests c.places c.bits before c.pending c.seen c.occasion c.spare c.is_orphaned
-run_rests c before (reply ∷ others) = attempt_rests c.places c.bits c.room c.session (run_by c before others) reply (run_rests c before others)
+run_rests c [] = attempt_begun_rests c.places c.bits c.pending c.seen c.occasion c.spare c.is_orphaned
+run_rests c (reply ∷ others) = attempt_rests c.places c.bits c.room c.session (run_by c others) reply (run_rests c others)
 
 -- what is said of it
 never : true ≡ false → ⊥
@@ -313,14 +311,14 @@ step_try c a taken met Looks other told = rw told.none_met (ap (λ (pending : Pe
 step_try c a taken met Tries other told = rw told.none_met told.sought
 step_try c a taken met Puts other told = (behind_try c a.pending.sought taken met (answer.Wait reason.Disk) other told).0
 
-pub answers_so : (c : AttemptGiven) (before : AttemptState) (replies : List ℕ)
-    → IsAnswered c (run_by c before replies) (past_by c before replies) (attempt_ask c.places c.session (run_by c before replies))
-answers_so c before replies =
-    let a = run_by c before replies in
-    let past = past_by c before replies in
-    let told = run_answered c before replies in
+pub answers_so : (c : AttemptGiven) (replies : List ℕ)
+    → IsAnswered c (run_by c replies) (past_by c replies) (attempt_ask c.places c.session (run_by c replies))
+answers_so c replies =
+    let a = run_by c replies in
+    let past = past_by c replies in
+    let told = run_answered c replies in
     let at = (its : TryAnswer) → attempt_ask c.places c.session a ≡ Done its → IsBehind c.pending (is_read_on c) a.pending.sought past.taken past.tried its in
-    let ended : at = λ its e. subst (λ (step : Attempting). AnsweredAt c.pending (is_read_on c) a past.taken past.tried step) (ended_is c.places c.session a its (run_rests c before replies) e) told in
+    let ended : at = λ its e. subst (λ (step : Attempting). AnsweredAt c.pending (is_read_on c) a past.taken past.tried step) (ended_is c.places c.session a its (run_rests c replies) e) told in
     record {
       read_end = λ poll read seeks its e. (behind_read c a.pending.sought past.taken past.tried its (is_read_then c poll read seeks) (ended its e)).1;
       read_seeks = λ poll read seeks. step_read c a past.taken past.tried a.step (is_read_then c poll read seeks) told;

@@ -30,7 +30,7 @@ use Rattle.fkv_pending.specs.declared.mailing.Mailing.TheVariants.{LoadsState, S
 use Rattle.fkv_pending.specs.declared.pending_requests.PendingRequest.{PendingRequest}
 use Rattle.fkv_pending.specs.Mailing.{mail_ask, mail_next, mail_asks_left}
 use Rattle.fkv_pending.specs.Pending.{with_sought, with_held, with_latch, with_asked}
-use Rattle.fkv_pending.specs.Attempting.{AttemptState, attempting_ask, attempt_ask, attempt_ended, waits_for_disk, puts_addr, puts, tries, is_seeking_read, goes_on, attempt_begun, held_of, moved_on, read_on, record_taken, not_ready, look_ledto, held_kept, awaits_record, tried, try_ledto, put_ledto, mail_moved, try_moved, attempting_next, attempt_next}
+use Rattle.fkv_pending.specs.Attempting.{AttemptState, attempting_ask, attempt_ask, attempt_ended, waits_for_disk, puts_addr, puts, tries, is_seeking_read, goes_on, attempt_begun, held_of, moved_on, read_on, record_taken, not_ready, look_ledto, held_kept, awaits_record, tried, try_ledto, put_ledto, mail_moved, try_moved, attempting_next, attempt_next, new_attempt}
 use Rattle.fkv_pending.specs.AsksLeft.{most_look_asks, most_try_asks, most_put_asks, attempting_asks_left, attempt_asks_left}
 use Rattle.fkv_pending.proofs.MailAsks.{mail_left, mail_fewer}
 
@@ -71,7 +71,7 @@ ended_left p a its = refl
 tries_left : (p : Places) (bits : ℕ) (a : AttemptState) → attempt_asks_left p (tries p bits a) ≤ most_try_asks p + most_put_asks
 unfolding attempting_asks_left
 tries_left p bits a =
-    let begun = try_begun_left p bits a.trial a.pending.request a.seen a.occasion a.spare in
+    let begun = try_begun_left p bits a.pending.request a.seen a.occasion a.spare in
     let both = sum_most (try_asks_left p (tries p bits a).trial) most_put_asks in
     omega (arith, begun, both)
 
@@ -123,13 +123,13 @@ tried_left p a (answer.Wait its) = omega arith
 tried_left p a its = omega arith
 
 -- all of it
-pub attempt_begun_left : (p : Places) (bits : ℕ) (a : AttemptState) (pending : PendingRequest) (seen : Seen) (occasion : Occasion) (spare : ℕ) (is_orphaned : Bool)
-    → attempt_asks_left p (attempt_begun p bits a pending seen occasion spare is_orphaned) ≤ 8 * (p.overflow + 1) + 2 * p.ring + 28
+pub attempt_begun_left : (p : Places) (bits : ℕ) (pending : PendingRequest) (seen : Seen) (occasion : Occasion) (spare : ℕ) (is_orphaned : Bool)
+    → attempt_asks_left p (attempt_begun p bits pending seen occasion spare is_orphaned) ≤ 8 * (p.overflow + 1) + 2 * p.ring + 28
 unfolding attempting_asks_left mail_asks_left
-attempt_begun_left p bits a pending seen occasion spare is_orphaned = tested pending.has_asked
+attempt_begun_left p bits pending seen occasion spare is_orphaned = tested pending.has_asked
   where
     its : AttemptState
-    its = record a { pending = pending; seen = seen; occasion = occasion; spare = spare; is_orphaned = is_orphaned; is_emptied = false; effect = None }
+    its = new_attempt bits pending seen occasion spare is_orphaned
 
     tested : (b : Bool) → attempt_asks_left p (if b then record its { mailing = LoadsState Take; step = Looks } else goes_on p bits its) ≤ 8 * (p.overflow + 1) + 2 * p.ring + 28
     tested true = let both = sum_most most_look_asks (most_try_asks p + most_put_asks) in omega (arith, both)

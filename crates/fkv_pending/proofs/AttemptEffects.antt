@@ -22,7 +22,7 @@ use Rattle.fkv_pending.specs.declared.mailing.MailTask.TheVariants.{Take}
 use Rattle.fkv_pending.specs.declared.mailing.Mailing.TheVariants.{LoadsState}
 use Rattle.fkv_pending.specs.Mailing.{mail_ask, mail_next}
 use Rattle.fkv_pending.specs.Pending.{with_sought, with_held, with_latch, with_asked}
-use Rattle.fkv_pending.specs.Attempting.{AttemptState, attempt_ended, waits_for_disk, puts_addr, puts, tries, is_seeking_read, goes_on, held_of, moved_on, read_on, record_taken, not_ready, look_ledto, held_kept, awaits_record, tried, try_ledto, put_ledto, mail_moved, try_moved, attempting_next}
+use Rattle.fkv_pending.specs.Attempting.{AttemptState, attempt_ended, waits_for_disk, puts_addr, puts, tries, is_seeking_read, goes_on, held_of, moved_on, read_on, record_taken, not_ready, look_ledto, held_kept, awaits_record, tried, try_ledto, put_ledto, mail_moved, try_moved, attempting_next, new_attempt}
 use Rattle.fkv_pending.specs.Attempts.{AttemptGiven, begun_by, run_by, attempt_run, effect_of_try, told_effect}
 
 puts_addr_effect : (a : AttemptState) (sought : Option DiskRecord) → (puts_addr a sought).effect ≡ a.effect
@@ -39,11 +39,11 @@ goes_effect p bits a = tested (is_seeking_read a)
     tested true = puts_effect a
     tested false = refl
 
-begun_effect : (c : AttemptGiven) (before : AttemptState) → (begun_by c before).effect ≡ None
-begun_effect c before = tested c.pending.has_asked
+begun_effect : (c : AttemptGiven) → (begun_by c).effect ≡ None
+begun_effect c = tested c.pending.has_asked
   where
     its : AttemptState
-    its = record before { pending = c.pending; seen = c.seen; occasion = c.occasion; spare = c.spare; is_orphaned = c.is_orphaned; is_emptied = false; effect = None }
+    its = new_attempt c.bits c.pending c.seen c.occasion c.spare c.is_orphaned
 
     tested : (b : Bool) → (if b then record its { mailing = LoadsState Take; step = Looks } else goes_on c.places c.bits its).effect ≡ None
     tested true = refl
@@ -120,9 +120,9 @@ same_try c a Looks reply = refl
 same_try c a Tries reply = refl
 same_try c a Puts reply = refl
 
-pub effects_told : (c : AttemptGiven) (before : AttemptState) (replies : List ℕ) → (run_by c before replies).effect ≡ told_effect c before replies
+pub effects_told : (c : AttemptGiven) (replies : List ℕ) → (run_by c replies).effect ≡ told_effect c replies
 unfolding attempt_run
-effects_told c before [] = begun_effect c before
-effects_told c before (reply ∷ others) =
-    let a = run_by c before others in
+effects_told c [] = begun_effect c
+effects_told c (reply ∷ others) =
+    let a = run_by c others in
     next_effect c (record a { effect = None }) a.step reply refl ∙ same_try c a a.step reply

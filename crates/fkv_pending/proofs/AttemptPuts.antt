@@ -26,7 +26,7 @@ use Rattle.fkv_pending.specs.declared.mailing.Mailing.{Mailing}
 use Rattle.fkv_pending.specs.declared.mailing.Mailing.TheVariants as mailing
 use Rattle.fkv_pending.specs.Mailing.{mail_empty, mail_ask, mail_next}
 use Rattle.fkv_pending.specs.Pending.{with_sought, with_held, with_latch, with_asked}
-use Rattle.fkv_pending.specs.Attempting.{AttemptState, attempt_ended, waits_for_disk, puts_addr, puts, tries, is_seeking_read, goes_on, held_of, moved_on, read_on, record_taken, not_ready, look_ledto, held_kept, awaits_record, tried, try_ledto, put_ledto, mail_moved, try_moved, attempting_next, attempt_next}
+use Rattle.fkv_pending.specs.Attempting.{AttemptState, attempt_ended, waits_for_disk, puts_addr, puts, tries, is_seeking_read, goes_on, held_of, moved_on, read_on, record_taken, not_ready, look_ledto, held_kept, awaits_record, tried, try_ledto, put_ledto, mail_moved, try_moved, attempting_next, attempt_next, new_attempt}
 use Rattle.fkv_pending.specs.Attempts.{AttemptPast, look_told, try_told, address_told, put_told, attempt_told, attempt_run, attempt_past, AttemptGiven, begun_by, run_by, past_by, state_met, state_of_put, met_state, IsFree, WasEmpty, WasTaken}
 use Rattle.fkv_pending.proofs.AttemptRuns.{same_place, state_apart}
 use Rattle.fkv_pending.proofs.AttemptTries.{nothing, same_told}
@@ -75,11 +75,11 @@ none_emptied is_emptied past met none stored = record { none_stored = stored; fr
     never : true ≡ false → ⊥
     never e = cc
 
-begun_free : (c : AttemptGiven) (before : AttemptState) → Free (begun_by c before) nothing None
-begun_free c before = tested c.pending.has_asked
+begun_free : (c : AttemptGiven) → Free (begun_by c) nothing None
+begun_free c = tested c.pending.has_asked
   where
     its : AttemptState
-    its = record before { pending = c.pending; seen = c.seen; occasion = c.occasion; spare = c.spare; is_orphaned = c.is_orphaned; is_emptied = false; effect = None }
+    its = new_attempt c.bits c.pending c.seen c.occasion c.spare c.is_orphaned
 
     goes : (b : Bool) → Free (if b then puts its else tries c.places c.bits its) nothing None
     goes true = puts_free its nothing None (none_emptied false nothing None refl refl)
@@ -198,16 +198,16 @@ same_state c a Looks reply met = refl
 same_state c a Tries reply met = refl
 same_state c a Puts reply met = refl
 
-run_free : (c : AttemptGiven) (before : AttemptState) (replies : List ℕ) → Free (run_by c before replies) (past_by c before replies) (met_state c before replies)
+run_free : (c : AttemptGiven) (replies : List ℕ) → Free (run_by c replies) (past_by c replies) (met_state c replies)
 unfolding attempt_run attempt_past
-run_free c before [] = begun_free c before
-run_free c before (reply ∷ others) =
-    let a = run_by c before others in
-    let past = past_by c before others in
-    let met = met_state c before others in
+run_free c [] = begun_free c
+run_free c (reply ∷ others) =
+    let a = run_by c others in
+    let past = past_by c others in
+    let met = met_state c others in
     subst (λ (then_past : AttemptPast). Free (attempt_next c.places c.bits c.room c.session a reply) then_past (state_of_put c a a.step reply met)) (same_told c a a.step reply past)
     (subst (λ (then_met : Option ℕ). Free (attempt_next c.places c.bits c.room c.session a reply) (attempt_told c.places c.room c.session (record a { effect = None }) a.step reply past) then_met) (same_state c a a.step reply met)
-    (next_free c (record a { effect = None }) past met a.step reply refl (effect_free a past met a.step (run_free c before others))))
+    (next_free c (record a { effect = None }) past met a.step reply refl (effect_free a past met a.step (run_free c others))))
 
 put_over : (a : AttemptState) (past : AttemptPast) (met : Option ℕ) (step : Mailing) → FreeAtPut past met step → IsOver past met
 put_over a past met (mailing.Ended its) free = absurd free
@@ -227,5 +227,5 @@ step_over a past met Looks free = open_over a.is_emptied past met (none_emptied 
 step_over a past met Tries free = open_over a.is_emptied past met free
 step_over a past met Puts free = put_over a past met a.mailing free
 
-pub puts_where_free : (c : AttemptGiven) (before : AttemptState) (replies : List ℕ) (word : ℕ) → (past_by c before replies).address ≡ Some word → IsFree (met_state c before replies) (past_by c before replies).taken
-puts_where_free c before replies = step_over (run_by c before replies) (past_by c before replies) (met_state c before replies) (run_by c before replies).step (run_free c before replies)
+pub puts_where_free : (c : AttemptGiven) (replies : List ℕ) (word : ℕ) → (past_by c replies).address ≡ Some word → IsFree (met_state c replies) (past_by c replies).taken
+puts_where_free c replies = step_over (run_by c replies) (past_by c replies) (met_state c replies) (run_by c replies).step (run_free c replies)

@@ -31,7 +31,7 @@ use Rattle.fkv_pending.specs.declared.pending_requests.PendingRequest.{PendingRe
 use Rattle.fkv_pending.specs.Mailing.{mail_ask, mail_next}
 use Rattle.fkv_pending.specs.MailWorld.{is_at_end}
 use Rattle.fkv_pending.specs.Pending.{with_sought, with_held, with_latch, with_asked}
-use Rattle.fkv_pending.specs.Attempting.{AttemptState, attempting_ask, attempt_ask, attempt_ended, waits_for_disk, puts_addr, puts, tries, is_poll, is_seeking_read, goes_on, attempt_begun, held_of, moved_on, read_on, record_taken, not_ready, look_ledto, held_kept, awaits_record, tried, try_ledto, put_ledto, mail_moved, try_moved, attempting_next, attempt_next}
+use Rattle.fkv_pending.specs.Attempting.{AttemptState, attempting_ask, attempt_ask, attempt_ended, waits_for_disk, puts_addr, puts, tries, is_poll, is_seeking_read, goes_on, attempt_begun, held_of, moved_on, read_on, record_taken, not_ready, look_ledto, held_kept, awaits_record, tried, try_ledto, put_ledto, mail_moved, try_moved, attempting_next, attempt_next, new_attempt}
 use Rattle.fkv_pending.proofs.MailAsks.{mail_done}
 
 abbrev pub is_attempt_end : Attempting → Bool
@@ -72,8 +72,8 @@ puts_rests a = puts_addr_rests a a.pending.sought
 
 tries_rests : (p : Places) (bits : ℕ) (a : AttemptState) → AttemptRestsOrAsks (tries p bits a)
 tries_rests p bits a =
-    let rests = try_begun_rests p bits a.trial a.pending.request a.seen a.occasion a.spare in
-    (rests, sym (try_done p (tries p bits a).trial rests) ∙ try_begun_asks p bits a.trial a.pending.request a.seen a.occasion a.spare)
+    let rests = try_begun_rests p bits a.pending.request a.seen a.occasion a.spare in
+    (rests, sym (try_done p (tries p bits a).trial rests) ∙ try_begun_asks p bits a.pending.request a.seen a.occasion a.spare)
 
 goes_on_rests : (p : Places) (bits : ℕ) (a : AttemptState) → AttemptRestsOrAsks (goes_on p bits a)
 goes_on_rests p bits a = tested (is_seeking_read a)
@@ -82,12 +82,12 @@ goes_on_rests p bits a = tested (is_seeking_read a)
     tested true = puts_rests a
     tested false = tries_rests p bits a
 
-pub attempt_begun_rests : (p : Places) (bits : ℕ) (a : AttemptState) (pending : PendingRequest) (seen : Seen) (occasion : Occasion) (spare : ℕ) (is_orphaned : Bool)
-    → AttemptRestsOrAsks (attempt_begun p bits a pending seen occasion spare is_orphaned)
-attempt_begun_rests p bits a pending seen occasion spare is_orphaned = tested pending.has_asked
+pub attempt_begun_rests : (p : Places) (bits : ℕ) (pending : PendingRequest) (seen : Seen) (occasion : Occasion) (spare : ℕ) (is_orphaned : Bool)
+    → AttemptRestsOrAsks (attempt_begun p bits pending seen occasion spare is_orphaned)
+attempt_begun_rests p bits pending seen occasion spare is_orphaned = tested pending.has_asked
   where
     its : AttemptState
-    its = record a { pending = pending; seen = seen; occasion = occasion; spare = spare; is_orphaned = is_orphaned; is_emptied = false; effect = None }
+    its = new_attempt bits pending seen occasion spare is_orphaned
 
     tested : (b : Bool) → AttemptRestsOrAsks (if b then record its { mailing = LoadsState Take; step = Looks } else goes_on p bits its)
     tested true = refl
@@ -103,14 +103,14 @@ goes_on_asks p bits a = tested a.pending.sought (is_poll a.occasion) (is_read a.
     tested None true true = refl
     tested (Some sought) true true = refl
 
-pub attempt_begun_asks : (p : Places) (bits session : ℕ) (a : AttemptState) (pending : PendingRequest) (seen : Seen) (occasion : Occasion) (spare : ℕ) (is_orphaned : Bool)
-    → is_done (attempt_ask p session (attempt_begun p bits a pending seen occasion spare is_orphaned)) ≡ false
-attempt_begun_asks p bits session a pending seen occasion spare is_orphaned =
-    let begun = attempt_begun p bits a pending seen occasion spare is_orphaned in
-    attempt_done p session begun (attempt_begun_rests p bits a pending seen occasion spare is_orphaned) ∙ tested pending.has_asked
+pub attempt_begun_asks : (p : Places) (bits session : ℕ) (pending : PendingRequest) (seen : Seen) (occasion : Occasion) (spare : ℕ) (is_orphaned : Bool)
+    → is_done (attempt_ask p session (attempt_begun p bits pending seen occasion spare is_orphaned)) ≡ false
+attempt_begun_asks p bits session pending seen occasion spare is_orphaned =
+    let begun = attempt_begun p bits pending seen occasion spare is_orphaned in
+    attempt_done p session begun (attempt_begun_rests p bits pending seen occasion spare is_orphaned) ∙ tested pending.has_asked
   where
     its : AttemptState
-    its = record a { pending = pending; seen = seen; occasion = occasion; spare = spare; is_orphaned = is_orphaned; is_emptied = false; effect = None }
+    its = new_attempt bits pending seen occasion spare is_orphaned
 
     tested : (b : Bool) → is_attempt_end (if b then record its { mailing = LoadsState Take; step = Looks } else goes_on p bits its).step ≡ false
     tested true = refl

@@ -34,7 +34,7 @@ use Rattle.fkv_pending.specs.declared.mailing.Mailing.TheVariants as mailing
 use Rattle.fkv_pending.specs.declared.pending_requests.PendingRequest.{PendingRequest}
 use Rattle.fkv_pending.specs.Mailing.{mail_empty, mail_ask, mail_next}
 use Rattle.fkv_pending.specs.Pending.{with_sought, with_held, with_latch, with_asked}
-use Rattle.fkv_pending.specs.Attempting.{AttemptState, attempting_ask, attempt_ask, attempt_ended, waits_for_disk, puts_addr, puts, tries, is_seeking_read, goes_on, attempt_begun, held_of, moved_on, read_on, record_taken, not_ready, look_ledto, held_kept, awaits_record, tried, try_ledto, put_ledto, mail_moved, try_moved, attempting_next, attempt_next}
+use Rattle.fkv_pending.specs.Attempting.{AttemptState, attempting_ask, attempt_ask, attempt_ended, waits_for_disk, puts_addr, puts, tries, is_seeking_read, goes_on, attempt_begun, held_of, moved_on, read_on, record_taken, not_ready, look_ledto, held_kept, awaits_record, tried, try_ledto, put_ledto, mail_moved, try_moved, attempting_next, attempt_next, new_attempt}
 use Rattle.fkv_pending.specs.Attempts.{AttemptPast, look_told, try_told, address_told, put_told, attempt_told, attempt_run, attempt_past, is_finished, has_finished, is_under_way, HasAskedForSought, IsAwaiting, HasCome, IsAttemptTrue}
 use Rattle.fkv_pending.proofs.AttemptRests.{AttemptAsksAt, AttemptRestsOrAsks, attempt_done, attempt_begun_rests, attempt_rests}
 
@@ -100,6 +100,16 @@ waits_over first was pending is_orphaned past why base awaits = record {
   held = base.held;
 }
 
+-- nor where it has to shift
+shift_over : (first : PendingRequest) (was : Bool) (pending : PendingRequest) (is_orphaned : Bool) (past : AttemptPast) → IsBefore first was pending is_orphaned past → IsOver first was pending is_orphaned past answer.Shift
+shift_over first was pending is_orphaned past base = record {
+  under_way = rw base.none_put base.under_way;
+  orphaned = base.same_orphan ∙ sym (or_none was);
+  asked = λ e. let none = base.none_put in cc;
+  awaits = λ e. cc;
+  held = base.held;
+}
+
 -- it has finished without mail under way
 read_over : (first : PendingRequest) (was : Bool) (pending : PendingRequest) (is_orphaned : Bool) (past : AttemptPast) (its : TryAnswer) → is_finished its ≡ true → IsBefore first was pending is_orphaned past
     → pending.has_asked ≡ false → IsOver first was pending is_orphaned past its
@@ -143,12 +153,12 @@ puts_addr_told first was a past (Some sought) e base none = (base, none, tested 
 puts_told : (first : PendingRequest) (was : Bool) (a : AttemptState) (past : AttemptPast) → IsBefore first was a.pending a.is_orphaned past → a.pending.has_asked ≡ false → Told first was (puts a) past
 puts_told first was a past base none = puts_addr_told first was a past a.pending.sought refl base none
 
-begun_told : (p : Places) (bits : ℕ) (a : AttemptState) (pending : PendingRequest) (seen : Seen) (occasion : Occasion) (spare : ℕ) (is_orphaned : Bool)
-    → Told pending is_orphaned (attempt_begun p bits a pending seen occasion spare is_orphaned) nothing
-begun_told p bits a pending seen occasion spare is_orphaned = tested pending.has_asked refl
+begun_told : (p : Places) (bits : ℕ) (pending : PendingRequest) (seen : Seen) (occasion : Occasion) (spare : ℕ) (is_orphaned : Bool)
+    → Told pending is_orphaned (attempt_begun p bits pending seen occasion spare is_orphaned) nothing
+begun_told p bits pending seen occasion spare is_orphaned = tested pending.has_asked refl
   where
     its : AttemptState
-    its = record a { pending = pending; seen = seen; occasion = occasion; spare = spare; is_orphaned = is_orphaned; is_emptied = false; effect = None }
+    its = new_attempt bits pending seen occasion spare is_orphaned
 
     base : IsBefore pending is_orphaned pending is_orphaned nothing
     base = record { under_way = refl; same_orphan = refl; none_put = refl; held = λ held e. inl e }
@@ -254,7 +264,7 @@ tried_told first was a past (answer.Wait why) e base = waits_over first was a.pe
 tried_told first was a past (answer.Done its) e base = left_over first was a.pending a.is_orphaned past (answer.Done its) refl base
 tried_told first was a past (answer.Found its) e base = left_over first was a.pending a.is_orphaned past (answer.Found its) refl base
 tried_told first was a past answer.Absent e base = left_over first was a.pending a.is_orphaned past answer.Absent refl base
-tried_told first was a past answer.Shift e base = left_over first was a.pending a.is_orphaned past answer.Shift refl base
+tried_told first was a past answer.Shift e base = shift_over first was a.pending a.is_orphaned past base
 tried_told first was a past answer.IndexFull e base = left_over first was a.pending a.is_orphaned past answer.IndexFull refl base
 tried_told first was a past answer.LogFull e base = left_over first was a.pending a.is_orphaned past answer.LogFull refl base
 
@@ -406,15 +416,15 @@ told_true p session first was a past Looks at rests same told = step_true p sess
 told_true p session first was a past Tries at rests same told = step_true p session first was a past Tries (same ∙ attempt_done p session a (rw at rests) ∙ rw at refl) told
 told_true p session first was a past Puts at rests same told = step_true p session first was a past Puts (same ∙ attempt_done p session a (rw at rests) ∙ rw at refl) told
 
-pub run_true : (p : Places) (bits room session : ℕ) (a : AttemptState) (pending : PendingRequest) (seen : Seen) (occasion : Occasion) (spare : ℕ) (is_orphaned : Bool) (replies : List ℕ)
-    → let begun = attempt_begun p bits a pending seen occasion spare is_orphaned in
+pub run_true : (p : Places) (bits room session : ℕ) (pending : PendingRequest) (seen : Seen) (occasion : Occasion) (spare : ℕ) (is_orphaned : Bool) (replies : List ℕ)
+    → let begun = attempt_begun p bits pending seen occasion spare is_orphaned in
     let its = attempt_run p bits room session begun replies in
     IsAttemptTrue pending is_orphaned its (attempt_past p bits room session begun replies) (attempt_ask p session its)
-run_true p bits room session a pending seen occasion spare is_orphaned replies =
-    let begun = attempt_begun p bits a pending seen occasion spare is_orphaned in
+run_true p bits room session pending seen occasion spare is_orphaned replies =
+    let begun = attempt_begun p bits pending seen occasion spare is_orphaned in
     let its = attempt_run p bits room session begun replies in
     let run = run_told p bits room session pending is_orphaned begun replies (record {
-      told = begun_told p bits a pending seen occasion spare is_orphaned;
-      rests = attempt_begun_rests p bits a pending seen occasion spare is_orphaned;
+      told = begun_told p bits pending seen occasion spare is_orphaned;
+      rests = attempt_begun_rests p bits pending seen occasion spare is_orphaned;
     }) in
     told_true p session pending is_orphaned its (attempt_past p bits room session begun replies) its.step refl run.rests refl run.told

@@ -28,7 +28,7 @@ use Rattle.fkv_pending.specs.declared.mailing.Mailing.{Mailing}
 use Rattle.fkv_pending.specs.declared.mailing.Mailing.TheVariants as step
 use Rattle.fkv_pending.specs.Mailing.{mail_ask, mail_next}
 use Rattle.fkv_pending.specs.Pending.{with_sought, with_held, with_latch, with_asked}
-use Rattle.fkv_pending.specs.Attempting.{AttemptState, attempting_ask, attempt_ended, waits_for_disk, puts_addr, puts, tries, is_seeking_read, goes_on, held_of, moved_on, read_on, record_taken, not_ready, look_ledto, held_kept, awaits_record, tried, try_ledto, put_ledto, mail_moved, try_moved, attempting_next}
+use Rattle.fkv_pending.specs.Attempting.{AttemptState, attempting_ask, attempt_ended, waits_for_disk, puts_addr, puts, tries, is_seeking_read, goes_on, held_of, moved_on, read_on, record_taken, not_ready, look_ledto, held_kept, awaits_record, tried, try_ledto, put_ledto, mail_moved, try_moved, attempting_next, new_attempt}
 use Rattle.fkv_pending.specs.Attempts.{AttemptPast, look_told, try_told, address_told, put_told, attempt_told, attempt_run, attempt_past, AttemptGiven, begun_by, run_by, past_by, trial_of, attempt_exchanges, IsSpareKept, SpareKept}
 use Rattle.fkv_pending.proofs.AttemptTries.{nothing, put_same, address_same}
 
@@ -47,10 +47,9 @@ record IsTrying (c : AttemptGiven) (a : AttemptState) (past : AttemptPast) (told
   none_tried : past.tried ≡ None
   few : c.spare ≤ c.places.overflow
   request : Request
-  before : TryState
   replies : List ℕ
-  its_run : a.trial ≡ try_run (trial_of c request) (trial_begun (trial_of c request) before c.spare) replies
-  its_told : told ≡ spare_told c.places c.spare (exchanges (trial_of c request) (trial_begun (trial_of c request) before c.spare) replies)
+  its_run : a.trial ≡ try_run (trial_of c request) (trial_begun (trial_of c request) c.spare) replies
+  its_told : told ≡ spare_told c.places c.spare (exchanges (trial_of c request) (trial_begun (trial_of c request) c.spare) replies)
 
 abbrev SpareAt : AttemptGiven → AttemptState → AttemptPast → ℕ → Attempting → Type 0
 SpareAt c a past told (Ended its) = IsSpareKept c past a.spare told
@@ -80,17 +79,16 @@ tries_spare c a past told its = record {
   none_tried = its.none_tried;
   few = its.few;
   request = a.pending.request;
-  before = a.trial;
   replies = [];
   its_run = rw (its.seen, its.occasion, its.spare) refl;
   its_told = its.its_told;
 }
 
-begun_spare : (c : AttemptGiven) (before : AttemptState) → c.spare ≤ c.places.overflow → Spare c (begun_by c before) nothing c.spare
-begun_spare c before low = tested c.pending.has_asked
+begun_spare : (c : AttemptGiven) → c.spare ≤ c.places.overflow → Spare c (begun_by c) nothing c.spare
+begun_spare c low = tested c.pending.has_asked
   where
     its : AttemptState
-    its = record before { pending = c.pending; seen = c.seen; occasion = c.occasion; spare = c.spare; is_orphaned = c.is_orphaned; is_emptied = false; effect = None }
+    its = new_attempt c.bits c.pending c.seen c.occasion c.spare c.is_orphaned
 
     untried : IsUntried c its nothing c.spare
     untried = record { seen = refl; occasion = refl; spare = refl; none_tried = refl; few = low; its_told = refl }
@@ -167,11 +165,11 @@ try_spare c a past told (Done its) low at e trying =
     trial : Trial
     trial = trial_of c trying.request
 
-    ended : try_ask c.places (try_run trial (trial_begun trial trying.before c.spare) trying.replies) ≡ Done its
+    ended : try_ask c.places (try_run trial (trial_begun trial c.spare) trying.replies) ≡ Done its
     ended = sym (ap (try_ask c.places) trying.its_run) ∙ e
 
-    tells : TellsSpare trial c.spare (exchanges trial (trial_begun trial trying.before c.spare) trying.replies) (try_run trial (trial_begun trial trying.before c.spare) trying.replies)
-    tells = each_tells_spare trial trying.before c.spare trying.replies its ended
+    tells : TellsSpare trial c.spare (exchanges trial (trial_begun trial c.spare) trying.replies) (try_run trial (trial_begun trial c.spare) trying.replies)
+    tells = each_tells_spare trial c.spare trying.replies its ended
 
     fits : a.trial.spare ≤ c.places.overflow
     fits = subst (λ (t : TryState). t.spare ≤ c.places.overflow) (sym trying.its_run) (tells.few low)
@@ -199,12 +197,11 @@ moved_spare c a past told reply its = record {
   none_tried = its.none_tried;
   few = its.few;
   request = its.request;
-  before = its.before;
   replies = reply ∷ its.replies;
   its_run = ap (λ (t : TryState). try_next c.places c.room t reply) its.its_run;
   its_told = passed_after c.places (try_ask c.places a.trial) reply told
       ∙ ap (λ (t : TryState). spare_after c.places (try_ask c.places t) reply told) its.its_run
-      ∙ ap (spare_after c.places (try_ask c.places (try_run (trial_of c its.request) (trial_begun (trial_of c its.request) its.before c.spare) its.replies)) reply) its.its_told;
+      ∙ ap (spare_after c.places (try_ask c.places (try_run (trial_of c its.request) (trial_begun (trial_of c its.request) c.spare) its.replies)) reply) its.its_told;
 }
 
 -- the mailbox has nothing to do with it
@@ -241,7 +238,7 @@ next_spare c a past told Looks reply low at kept =
     (look_spare c s past told ask at (record { seen = kept.seen; occasion = kept.occasion; spare = kept.spare; none_tried = kept.none_tried; few = kept.few; its_told = kept.its_told }))
 next_spare c a past told Tries reply low at kept =
     let s : AttemptState = record a { effect = None } in
-    let quiet : IsTrying c s past told = record { spare = kept.spare; none_tried = kept.none_tried; few = kept.few; request = kept.request; before = kept.before; replies = kept.replies; its_run = kept.its_run; its_told = kept.its_told } in
+    let quiet : IsTrying c s past told = record { spare = kept.spare; none_tried = kept.none_tried; few = kept.few; request = kept.request; replies = kept.replies; its_run = kept.its_run; its_told = kept.its_told } in
     try_spare c (try_moved c.places c.room s reply) past (spare_after c.places (passed (try_ask c.places a.trial) answer.Shift) reply told) (try_ask c.places (try_next c.places c.room a.trial reply)) low at refl (moved_spare c s past told reply quiet)
 next_spare c a past told Puts reply low at kept =
     let s : AttemptState = mail_moved (record a { effect = None }) reply in
@@ -252,12 +249,12 @@ next_spare c a past told Puts reply low at kept =
     subst (Spare c (put_ledto s then_asks) (put_told then_asks (address_told c.session asked past))) (sym (mail_after c.places c.session a.mailing reply told))
     (put_spare c s (put_told then_asks (address_told c.session asked past)) told then_asks at (other_past c past (put_told then_asks (address_told c.session asked past)) a.spare told (then_same.1 ∙ first.1) kept))
 
-run_spare : (c : AttemptGiven) (before : AttemptState) (replies : List ℕ) → c.spare ≤ c.places.overflow → Spare c (run_by c before replies) (past_by c before replies) (spare_told c.places c.spare (attempt_exchanges c before replies))
+run_spare : (c : AttemptGiven) (replies : List ℕ) → c.spare ≤ c.places.overflow → Spare c (run_by c replies) (past_by c replies) (spare_told c.places c.spare (attempt_exchanges c replies))
 unfolding attempt_run attempt_past
-run_spare c before [] low = begun_spare c before low
-run_spare c before (reply ∷ others) low =
-    let a = run_by c before others in
-    next_spare c a (past_by c before others) (spare_told c.places c.spare (attempt_exchanges c before others)) a.step reply low refl (run_spare c before others low)
+run_spare c [] low = begun_spare c low
+run_spare c (reply ∷ others) low =
+    let a = run_by c others in
+    next_spare c a (past_by c others) (spare_told c.places c.spare (attempt_exchanges c others)) a.step reply low refl (run_spare c others low)
 
 spare_so : (c : AttemptGiven) (a : AttemptState) (past : AttemptPast) (told : ℕ) (step : Attempting) → SpareAt c a past told step → IsSpareKept c past a.spare told
 spare_so c a past told (Ended its) kept = kept
@@ -266,5 +263,5 @@ spare_so c a past told Tries kept = record { given = λ none. kept.spare; its_as
 spare_so c a past told Puts kept = kept
 
 pub spare_is_kept : SpareKept
-spare_is_kept c before replies low =
-    spare_so c (run_by c before replies) (past_by c before replies) (spare_told c.places c.spare (attempt_exchanges c before replies)) (run_by c before replies).step (run_spare c before replies low)
+spare_is_kept c replies low =
+    spare_so c (run_by c replies) (past_by c replies) (spare_told c.places c.spare (attempt_exchanges c replies)) (run_by c replies).step (run_spare c replies low)

@@ -29,7 +29,7 @@ use Rattle.fkv_pending.specs.declared.mailing.Mailing.TheVariants.{LoadsState}
 use Rattle.fkv_pending.specs.declared.pending_requests.PendingRequest.{PendingRequest}
 use Rattle.fkv_pending.specs.Mailing.{mail_ask, mail_next}
 use Rattle.fkv_pending.specs.Pending.{with_sought, with_held, with_latch, with_asked}
-use Rattle.fkv_pending.specs.Attempting.{AttemptState, attempt_ended, waits_for_disk, puts_addr, puts, tries, is_poll, is_seeking_read, goes_on, held_of, moved_on, read_on, record_taken, not_ready, look_ledto, held_kept, awaits_record, tried, try_ledto, put_ledto, mail_moved, try_moved, attempting_next, attempt_next}
+use Rattle.fkv_pending.specs.Attempting.{AttemptState, attempt_ended, waits_for_disk, puts_addr, puts, tries, is_poll, is_seeking_read, goes_on, held_of, moved_on, read_on, record_taken, not_ready, look_ledto, held_kept, awaits_record, tried, try_ledto, put_ledto, mail_moved, try_moved, attempting_next, attempt_next, new_attempt}
 use Rattle.fkv_pending.specs.Attempts.{AttemptPast, look_told, try_told, address_told, put_told, attempt_told, attempt_run, attempt_past, AttemptGiven, begun_by, run_by, past_by, try_reply, try_replies, HoldsMail, HoldsSo, IsItsTry, TryStands, NotTried, UnderWay, HasEnded, IsSameRequest, HoldsFromEntry, IsTryKept, IsToBeTried, HoldsBehind, IsHeldKept, HeldKept}
 
 -- a read at a poll that seeks a record
@@ -117,7 +117,6 @@ tries_kept c a past its other held = record {
     its_version = its.same.version;
     its_latch = its.latch;
     its_held = held;
-    before = a.trial;
     its_run = rw (its.seen, its.occasion, its.spare) refl;
   };
   none_tried = its.none_tried;
@@ -143,11 +142,11 @@ untried_behind c a past its read had = record {
 abbrev pub nothing : AttemptPast
 nothing = record { taken = None; tried = None; address = None; put = None }
 
-begun_kept : (c : AttemptGiven) (before : AttemptState) → Kept c (begun_by c before) nothing []
-begun_kept c before = tested c.pending.has_asked
+begun_kept : (c : AttemptGiven) → Kept c (begun_by c) nothing []
+begun_kept c = tested c.pending.has_asked
   where
     its : AttemptState
-    its = record before { pending = c.pending; seen = c.seen; occasion = c.occasion; spare = c.spare; is_orphaned = c.is_orphaned; is_emptied = false; effect = None }
+    its = new_attempt c.bits c.pending c.seen c.occasion c.spare c.is_orphaned
 
     untried : IsUntried c its nothing
     untried = record { same = record { name = refl; op = refl; version = refl }; sought = refl; seen = refl; occasion = refl; latch = refl; spare = refl; none_tried = refl }
@@ -332,7 +331,6 @@ moved_try c a past replies reply its = record {
     its_version = its.its_try.its_version;
     its_latch = its.its_try.its_latch;
     its_held = its.its_try.its_held;
-    before = its.its_try.before;
     its_run = ap (λ (t : TryState). try_next c.places c.room t reply) its.its_try.its_run;
   };
   none_tried = its.none_tried;
@@ -398,15 +396,15 @@ same_told c a Looks reply past = refl
 same_told c a Tries reply past = refl
 same_told c a Puts reply past = refl
 
-run_kept : (c : AttemptGiven) (before : AttemptState) (replies : List ℕ) → Kept c (run_by c before replies) (past_by c before replies) (try_replies c before replies)
+run_kept : (c : AttemptGiven) (replies : List ℕ) → Kept c (run_by c replies) (past_by c replies) (try_replies c replies)
 unfolding attempt_run attempt_past
-run_kept c before [] = begun_kept c before
-run_kept c before (reply ∷ others) =
-    let a = run_by c before others in
-    let past = past_by c before others in
-    let met = try_replies c before others in
+run_kept c [] = begun_kept c
+run_kept c (reply ∷ others) =
+    let a = run_by c others in
+    let past = past_by c others in
+    let met = try_replies c others in
     subst (λ (then_past : AttemptPast). Kept c (attempt_next c.places c.bits c.room c.session a reply) then_past (try_reply a.step reply met)) (same_told c a a.step reply past)
-    (next_kept c (record a { effect = None }) past met a.step reply refl (effect_kept c a past met a.step (run_kept c before others)))
+    (next_kept c (record a { effect = None }) past met a.step reply refl (effect_kept c a past met a.step (run_kept c others)))
 
 kept_so : (c : AttemptGiven) (a : AttemptState) (past : AttemptPast) (replies : List ℕ) (step : Attempting) → KeptAt c a past replies step → IsTryKept c a past replies
 kept_so c a past replies (Ended its) kept = record { same = kept.same; stands = kept.stands; reads = kept.reads; held = kept.held }
@@ -428,8 +426,8 @@ kept_so c a past replies Tries kept = record {
 }
 kept_so c a past replies Puts kept = record { same = kept.same; stands = kept.stands; reads = kept.reads; held = kept.held }
 
-pub tries_are_kept : (c : AttemptGiven) (before : AttemptState) (replies : List ℕ) → IsTryKept c (run_by c before replies) (past_by c before replies) (try_replies c before replies)
-tries_are_kept c before replies = kept_so c (run_by c before replies) (past_by c before replies) (try_replies c before replies) (run_by c before replies).step (run_kept c before replies)
+pub tries_are_kept : (c : AttemptGiven) (replies : List ℕ) → IsTryKept c (run_by c replies) (past_by c replies) (try_replies c replies)
+tries_are_kept c replies = kept_so c (run_by c replies) (past_by c replies) (try_replies c replies) (run_by c replies).step (run_kept c replies)
 
 none_both : (b : Bool) → (b && false) ≡ false
 none_both true = refl
@@ -462,4 +460,4 @@ held_so c a past replies Tries kept = record {
 held_so c a past replies Puts kept = at_held c past a.pending.request.held kept.came
 
 pub held_is_kept : HeldKept
-held_is_kept c before replies = held_so c (run_by c before replies) (past_by c before replies) (try_replies c before replies) (run_by c before replies).step (run_kept c before replies)
+held_is_kept c replies = held_so c (run_by c replies) (past_by c replies) (try_replies c replies) (run_by c replies).step (run_kept c replies)

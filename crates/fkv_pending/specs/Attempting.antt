@@ -20,9 +20,10 @@ use Rattle.fkv_ops.specs.declared.requests.Occasion.{Occasion}
 use Rattle.fkv_ops.specs.declared.requests.Occasion.TheVariants.{Call, Poll}
 use Rattle.fkv_ops.specs.declared.requests.Seen.{Seen}
 use Rattle.fkv_ops.specs.HeaderWords.{header_said}
+use Rattle.fkv_ops.specs.Resting.{nothing_seen}
 use Rattle.fkv_ops.specs.Requests.{is_read}
 use Rattle.fkv_ops.specs.Values.{value_of}
-use Rattle.fkv_ops.specs.Trying.{TryState, try_begun, try_ask, try_next, told_value}
+use Rattle.fkv_ops.specs.Trying.{TryState, try_rested, try_begun, try_ask, try_next, told_value}
 use Rattle.fkv_pending.specs.declared.attempting.Attempting.{Attempting}
 use Rattle.fkv_pending.specs.declared.attempting.Attempting.TheVariants.{Ended, Looks, Tries, Puts}
 use Rattle.fkv_pending.specs.declared.mailing.MailAnswer.{MailAnswer}
@@ -31,9 +32,10 @@ use Rattle.fkv_pending.specs.declared.mailing.MailRecord.{MailRecord}
 use Rattle.fkv_pending.specs.declared.mailing.MailTask.TheVariants.{Take, Put}
 use Rattle.fkv_pending.specs.declared.mailing.Mailing.{Mailing}
 use Rattle.fkv_pending.specs.declared.mailing.Mailing.TheVariants.{LoadsState, StoresAddress}
+use Rattle.fkv_pending.specs.declared.mailing.Mailing.TheVariants as mailing
 use Rattle.fkv_pending.specs.declared.pending_requests.PendingRequest.{PendingRequest}
 use Rattle.fkv_pending.specs.Mailing.{mail_ask, mail_next}
-use Rattle.fkv_pending.specs.Pending.{with_sought, with_held, with_latch, with_asked}
+use Rattle.fkv_pending.specs.Pending.{no_pending, with_sought, with_held, with_latch, with_asked}
 
 pub record AttemptState : Type 0 where
   -- the request, and what it waits for by now
@@ -88,7 +90,7 @@ abbrev pub puts : AttemptState → AttemptState
 puts a = puts_addr a a.pending.sought
 
 abbrev pub tries : Places → ℕ → AttemptState → AttemptState
-tries p bits a = record a { trial = try_begun p bits a.trial a.pending.request a.seen a.occasion a.spare; step = Tries }
+tries p bits a = record a { trial = try_begun p bits a.pending.request a.seen a.occasion a.spare; step = Tries }
 
 abbrev pub is_poll : Occasion → Bool
 is_poll Call = false
@@ -102,9 +104,17 @@ is_seeking_read a = is_poll a.occasion && (is_read a.pending.request.op && is_so
 abbrev pub goes_on : Places → ℕ → AttemptState → AttemptState
 goes_on p bits a = if is_seeking_read a then puts a else tries p bits a
 
-abbrev pub attempt_begun : Places → ℕ → AttemptState → PendingRequest → Seen → Occasion → ℕ → Bool → AttemptState
-attempt_begun p bits a pending seen occasion spare is_orphaned =
-    let its : AttemptState = record a { pending = pending; seen = seen; occasion = occasion; spare = spare; is_orphaned = is_orphaned; is_emptied = false; effect = None } in
+-- An attempt that is given this and hasn't begun. It is made of that alone: nothing is left of an earlier one.
+abbrev pub new_attempt : ℕ → PendingRequest → Seen → Occasion → ℕ → Bool → AttemptState
+new_attempt bits pending seen occasion spare is_orphaned = record { pending = pending; seen = seen; occasion = occasion; spare = spare; is_orphaned = is_orphaned; is_emptied = false; effect = None; mailing = mailing.Ended mail.NotReady; trial = try_rested bits; step = Ended answer.Shift }
+
+-- before it first starts it is at its end
+abbrev pub attempt_rested : ℕ → AttemptState
+attempt_rested bits = new_attempt bits no_pending nothing_seen Call 0 false
+
+abbrev pub attempt_begun : Places → ℕ → PendingRequest → Seen → Occasion → ℕ → Bool → AttemptState
+attempt_begun p bits pending seen occasion spare is_orphaned =
+    let its : AttemptState = new_attempt bits pending seen occasion spare is_orphaned in
     if pending.has_asked then record its { mailing = LoadsState Take; step = Looks } else goes_on p bits its
 
 -- a record that came goes with the entry from which the walk to it began
@@ -154,9 +164,12 @@ awaits_record a sought =
 abbrev pub leaves : AttemptState → TryAnswer → AttemptState
 leaves a its = attempt_ended (record a { is_orphaned = a.is_orphaned || a.pending.has_asked }) its
 
+-- A request that ends with Shift is not finished: it is tried anew once its session has seen the next phase. So what it has asked for is
+-- still for it, as where it has to wait.
 abbrev pub tried : AttemptState → TryAnswer → AttemptState
 tried a (answer.AwaitsDisk sought) = awaits_record a sought
 tried a (answer.Wait its) = attempt_ended a (answer.Wait its)
+tried a answer.Shift = attempt_ended a answer.Shift
 tried a its = leaves a its
 
 unfoldable pub try_ledto : AttemptState → Ask TryAnswer → AttemptState

@@ -80,9 +80,10 @@ attempt_past p bits room session begun (reply ∷ before) =
     let a = attempt_run p bits room session begun before in
     attempt_told p room session a a.step reply (attempt_past p bits room session begun before)
 
--- a request has finished that is answered anything but that it has to wait
+-- a request has finished that is answered anything but that it has to wait, or that its session has to shift
 abbrev pub is_finished : TryAnswer → Bool
 is_finished (answer.Wait its) = false
+is_finished answer.Shift = false
 is_finished its = true
 
 abbrev pub has_finished : Ask TryAnswer → Bool
@@ -133,8 +134,8 @@ pub record IsAttemptTrue (pending : PendingRequest) (is_orphaned : Bool) (a : At
 
 abbrev pub AttemptsTrue : Type 0
 AttemptsTrue =
-    (p : Places) (bits room session : ℕ) (a : AttemptState) (pending : PendingRequest) (seen : Seen) (occasion : Occasion) (spare : ℕ) (is_orphaned : Bool) (replies : List ℕ)
-    → let begun = attempt_begun p bits a pending seen occasion spare is_orphaned in
+    (p : Places) (bits room session : ℕ) (pending : PendingRequest) (seen : Seen) (occasion : Occasion) (spare : ℕ) (is_orphaned : Bool) (replies : List ℕ)
+    → let begun = attempt_begun p bits pending seen occasion spare is_orphaned in
     let its = attempt_run p bits room session begun replies in
     IsAttemptTrue pending is_orphaned its (attempt_past p bits room session begun replies) (attempt_ask p session its)
 
@@ -156,36 +157,36 @@ pub record AttemptGiven : Type 0 where
   pub spare : ℕ
   pub is_orphaned : Bool
 
--- it begins, whatever the machine did before
-abbrev pub begun_by : AttemptGiven → AttemptState → AttemptState
-begun_by c before = attempt_begun c.places c.bits before c.pending c.seen c.occasion c.spare c.is_orphaned
+-- it begins
+abbrev pub begun_by : AttemptGiven → AttemptState
+begun_by c = attempt_begun c.places c.bits c.pending c.seen c.occasion c.spare c.is_orphaned
 
-abbrev pub run_by : AttemptGiven → AttemptState → List ℕ → AttemptState
-run_by c before replies = attempt_run c.places c.bits c.room c.session (begun_by c before) replies
+abbrev pub run_by : AttemptGiven → List ℕ → AttemptState
+run_by c replies = attempt_run c.places c.bits c.room c.session (begun_by c) replies
 
 -- The effect that an attempt tells is the one that its try told at that step; the mailbox makes none.
 abbrev pub effect_of_try : AttemptGiven → AttemptState → Attempting → ℕ → Option Reply
 effect_of_try c a Tries reply = (try_next c.places c.room a.trial reply).effect
 effect_of_try c a step reply = None
 
-abbrev pub told_effect : AttemptGiven → AttemptState → List ℕ → Option Reply
-told_effect c before [] = None
-told_effect c before (reply ∷ others) = effect_of_try c (run_by c before others) (run_by c before others).step reply
+abbrev pub told_effect : AttemptGiven → List ℕ → Option Reply
+told_effect c [] = None
+told_effect c (reply ∷ others) = effect_of_try c (run_by c others) (run_by c others).step reply
 
 abbrev pub EffectsTold : Type 0
-EffectsTold = (c : AttemptGiven) (before : AttemptState) (replies : List ℕ) → (run_by c before replies).effect ≡ told_effect c before replies
+EffectsTold = (c : AttemptGiven) (replies : List ℕ) → (run_by c replies).effect ≡ told_effect c replies
 
-abbrev pub past_by : AttemptGiven → AttemptState → List ℕ → AttemptPast
-past_by c before replies = attempt_past c.places c.bits c.room c.session (begun_by c before) replies
+abbrev pub past_by : AttemptGiven → List ℕ → AttemptPast
+past_by c replies = attempt_past c.places c.bits c.room c.session (begun_by c) replies
 
 -- the replies that the try has met, the newest first
 abbrev pub try_reply : Attempting → ℕ → List ℕ → List ℕ
 try_reply Tries reply its = reply ∷ its
 try_reply step reply its = its
 
-abbrev pub try_replies : AttemptGiven → AttemptState → List ℕ → List ℕ
-try_replies c before [] = []
-try_replies c before (reply ∷ others) = try_reply (run_by c before others).step reply (try_replies c before others)
+abbrev pub try_replies : AttemptGiven → List ℕ → List ℕ
+try_replies c [] = []
+try_replies c (reply ∷ others) = try_reply (run_by c others).step reply (try_replies c others)
 
 -- what its try is given: this request, what the session has seen, and the attempt's own occasion
 abbrev pub trial_of : AttemptGiven → Request → Trial
@@ -208,8 +209,7 @@ pub record IsItsTry (c : AttemptGiven) (taken : Option MailRecord) (trial : TryS
   pub its_version : request.version ≡ c.pending.request.version
   pub its_latch : request.has_latch ≡ c.pending.request.has_latch
   pub its_held : HoldsSo c.pending taken request.held
-  pub before : TryState
-  pub its_run : trial ≡ try_run (trial_of c request) (trial_begun (trial_of c request) before c.spare) replies
+  pub its_run : trial ≡ try_run (trial_of c request) (trial_begun (trial_of c request) c.spare) replies
 
 -- How far the try has come, and whether the request shares its latch then, and what the session's spare bucket is: as they were given, up to
 -- the try's end, and from there on as the try has left them.
@@ -238,7 +238,7 @@ pub record IsTryKept (c : AttemptGiven) (a : AttemptState) (past : AttemptPast) 
   pub held : HoldsFromEntry past.tried a.pending.request.held
 
 abbrev pub TriesKept : Type 0
-TriesKept = (c : AttemptGiven) (before : AttemptState) (replies : List ℕ) → IsTryKept c (run_by c before replies) (past_by c before replies) (try_replies c before replies)
+TriesKept = (c : AttemptGiven) (replies : List ℕ) → IsTryKept c (run_by c replies) (past_by c replies) (try_replies c replies)
 
 -- What a read at a poll is answered by the record that was taken: that record's value, where it has the read's key; that the key is absent,
 -- where it has that key without a value, or is another's and the last of its chain; and else, or where it is spoiled, that it has to wait.
@@ -297,7 +297,7 @@ pub record IsAnswered (c : AttemptGiven) (a : AttemptState) (past : AttemptPast)
   pub try_seeks : IsToBeTried c → TrySeeks c.pending past.taken past.tried a.pending.sought
 
 abbrev pub AnswersSo : Type 0
-AnswersSo = (c : AttemptGiven) (before : AttemptState) (replies : List ℕ) → IsAnswered c (run_by c before replies) (past_by c before replies) (attempt_ask c.places c.session (run_by c before replies))
+AnswersSo = (c : AttemptGiven) (replies : List ℕ) → IsAnswered c (run_by c replies) (past_by c replies) (attempt_ask c.places c.session (run_by c replies))
 
 -- the state of the mailbox that was loaded last to put an address there
 abbrev pub state_met : AttemptGiven → Ask MailAnswer → ℕ → Option ℕ → Option ℕ
@@ -308,9 +308,9 @@ abbrev pub state_of_put : AttemptGiven → AttemptState → Attempting → ℕ �
 state_of_put c a Puts reply met = state_met c (mail_ask c.session a.mailing) reply met
 state_of_put c a step reply met = met
 
-abbrev pub met_state : AttemptGiven → AttemptState → List ℕ → Option ℕ
-met_state c before [] = None
-met_state c before (reply ∷ others) = state_of_put c (run_by c before others) (run_by c before others).step reply (met_state c before others)
+abbrev pub met_state : AttemptGiven → List ℕ → Option ℕ
+met_state c [] = None
+met_state c (reply ∷ others) = state_of_put c (run_by c others) (run_by c others).step reply (met_state c others)
 
 -- An address is stored only where the mailbox was found empty, or where this attempt has emptied it by taking a record.
 pub data IsFree (met : Option ℕ) (taken : Option MailRecord) : Type 0 where
@@ -318,7 +318,7 @@ pub data IsFree (met : Option ℕ) (taken : Option MailRecord) : Type 0 where
   WasTaken : (its : MailRecord) → taken ≡ Some its → IsFree met taken
 
 abbrev pub PutsWhereFree : Type 0
-PutsWhereFree = (c : AttemptGiven) (before : AttemptState) (replies : List ℕ) (word : ℕ) → (past_by c before replies).address ≡ Some word → IsFree (met_state c before replies) (past_by c before replies).taken
+PutsWhereFree = (c : AttemptGiven) (replies : List ℕ) (word : ℕ) → (past_by c replies).address ≡ Some word → IsFree (met_state c replies) (past_by c replies).taken
 
 -- What is left of a record that the request had when its try came to await one: it stays where it was read from the entry of that one, and
 -- goes where it was read from another.
@@ -338,12 +338,12 @@ pub record IsHeldKept (c : AttemptGiven) (past : AttemptPast) (held : Option Hel
   pub other : IsToBeTried c → HoldsBehind c.pending past.taken past.tried held
 
 abbrev pub HeldKept : Type 0
-HeldKept = (c : AttemptGiven) (before : AttemptState) (replies : List ℕ) → IsHeldKept c (past_by c before replies) (run_by c before replies).pending.request.held
+HeldKept = (c : AttemptGiven) (replies : List ℕ) → IsHeldKept c (past_by c replies) (run_by c replies).pending.request.held
 
 -- what an attempt has asked, each with its reply, the newest first
-abbrev pub attempt_exchanges : AttemptGiven → AttemptState → List ℕ → List Exchange
-attempt_exchanges c before [] = []
-attempt_exchanges c before (reply ∷ others) = record { ask = attempt_ask c.places c.session (run_by c before others); reply = reply } ∷ attempt_exchanges c before others
+abbrev pub attempt_exchanges : AttemptGiven → List ℕ → List Exchange
+attempt_exchanges c [] = []
+attempt_exchanges c (reply ∷ others) = record { ask = attempt_ask c.places c.session (run_by c others); reply = reply } ∷ attempt_exchanges c others
 
 -- The session's spare bucket: as it was given up to the end of the try, and from there on the one that all asks of the attempt tell. It is
 -- an overflow bucket that there is, or 0.
@@ -353,5 +353,5 @@ pub record IsSpareKept (c : AttemptGiven) (past : AttemptPast) (spare told : ℕ
   pub few : spare ≤ c.places.overflow
 
 abbrev pub SpareKept : Type 0
-SpareKept = (c : AttemptGiven) (before : AttemptState) (replies : List ℕ) → c.spare ≤ c.places.overflow
-    → IsSpareKept c (past_by c before replies) (run_by c before replies).spare (spare_told c.places c.spare (attempt_exchanges c before replies))
+SpareKept = (c : AttemptGiven) (replies : List ℕ) → c.spare ≤ c.places.overflow
+    → IsSpareKept c (past_by c replies) (run_by c replies).spare (spare_told c.places c.spare (attempt_exchanges c replies))

@@ -1,10 +1,16 @@
--- What changes of a request that waits.
-use Rattle.std.specs.Prelude.{Bool, Option, ◌==◌, ◌&&◌, not}
+-- What changes of a request that waits, and what stands for one where there is none.
+use Rattle.std.specs.Prelude.{Bool, false, Option, None, ◌==◌, ◌&&◌, not}
 use Rattle.fkv_base.specs.declared.numbers.Version.{Version}
 use Rattle.fkv_ops.specs.declared.answers.DiskRecord.{DiskRecord}
 use Rattle.fkv_ops.specs.declared.requests.HeldRecord.{HeldRecord}
+use Rattle.fkv_ops.specs.Resting.{no_request}
 use Rattle.fkv_ops.specs.Requests.{is_read}
 use Rattle.fkv_pending.specs.declared.pending_requests.PendingRequest.{PendingRequest}
+use Rattle.fkv_pending.specs.declared.pending_requests.RequestName.TheVariants.{Read}
+
+-- what a machine at rest has in place of a request that waits
+abbrev pub no_pending : PendingRequest
+no_pending = record { name = Read (record { 0 = 1 }); request = no_request; sought = None; has_asked = false }
 
 -- it awaits another record of the device
 unfoldable pub with_sought : PendingRequest → Option DiskRecord → PendingRequest

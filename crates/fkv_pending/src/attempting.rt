@@ -4,12 +4,11 @@ ghost use Rattle.fkv_base.specs.Limits.{max_sessions};
 ghost use Rattle.fkv_map.specs.Keys.{as_number};
 ghost use Rattle.fkv_plane.specs.AsksLeft.{AsksWhereLeft};
 ghost use Rattle.fkv_pending.specs.AsksLeft.{attempt_asks_left};
-ghost use Rattle.fkv_pending.specs.Attempting.{attempt_begun, attempt_ask, attempt_next, puts, tries, waits_for_disk, is_seeking_read, goes_on, held_of, held_kept, moved_on, read_on, record_taken, not_ready, look_ledto, awaits_record, tried, try_ledto, put_ledto};
+ghost use Rattle.fkv_pending.specs.Attempting.{attempt_rested, attempt_begun, attempt_ask, attempt_next, puts, tries, waits_for_disk, is_seeking_read, held_of, held_kept, moved_on, read_on, record_taken, not_ready, look_ledto, awaits_record, tried, try_ledto, put_ledto};
 
 use crate::mailing::{Mail, MailAnswer, MailRecord, MailTask};
 use crate::pending_requests::PendingRequest;
-use fkv_base::{Addr, Phase, Shape, Version};
-use fkv_log::SeenOffsets;
+use fkv_base::{Addr, Shape};
 use fkv_map::Reply;
 use fkv_ops::{
     DiskRecord, HeaderSaid, HeldRecord, Occasion, Reason, Seen, Try, TryAnswer, header_said,
@@ -65,18 +64,11 @@ impl Attempt {
         ensures bits { result.bits ≡ shape.now.bucket_bits }
         ensures room { result.room ≡ shape.now.disk_pages * shape.now.page }
         ensures session { result.session ≡ session }
+        ensures rest { result.state ≡ attempt_rested shape.now.bucket_bits }
     {
-        let nothing = Addr(0);
         Attempt {
             pending: PendingRequest::default(),
-            seen: Seen {
-                phase: Phase::Rest,
-                version: Version(1),
-                offsets: SeenOffsets {
-                    head: nothing,
-                    read_only: nothing,
-                },
-            },
+            seen: Seen::nothing(),
             occasion: Occasion::Call,
             spare: 0,
             is_orphaned: false,
@@ -93,29 +85,34 @@ impl Attempt {
     #[tactic(auto, unfolding(crate::specs::Attempting::attempting_ask))]
     pub fn start(
         &mut self,
-        pending: PendingRequest,
+        pending: &PendingRequest,
         seen: Seen,
         occasion: Occasion,
         spare: u64,
         is_orphaned: bool,
     ) -> Ask<TryAnswer>
-        ensures next { self.new ≡ record self.old { state = attempt_begun self.old.places self.old.bits self.old.state pending seen occasion spare is_orphaned } }
+        ensures next { self.new ≡ record self.old { state = attempt_begun self.old.places self.old.bits pending.now seen occasion spare is_orphaned } }
         ensures ask { result ≡ attempt_ask self.old.places self.old.session self.new.state }
         ensures asks { AsksWhereLeft (attempt_asks_left self.old.places self.new.state) result }
         ensures bounded { attempt_asks_left self.old.places self.new.state ≤ 8 * (self.old.places.overflow + 1) + 2 * self.old.places.ring + 28 }
     {
-        self.pending = pending;
+        self.pending = *pending;
         self.seen = seen;
         self.occasion = occasion;
         self.spare = spare;
         self.is_orphaned = is_orphaned;
         self.is_emptied = false;
         self.effect = None;
-        if pending.has_asked {
+        self.mail.rest();
+        if self.pending.has_asked {
+            self.trial.rest();
             self.mail.start(MailTask::Take);
             self.step = Attempting::Looks;
+        } else if self.is_seeking_read() {
+            self.trial.rest();
+            self.puts();
         } else {
-            self.goes_on();
+            self.tries();
         }
         self.ask()
     }
@@ -169,10 +166,10 @@ impl Attempt {
     }
 
     /// The request, and what it waits for by now.
-    pub fn pending(&self) -> PendingRequest
-        ensures { result ≡ self.now.state.pending }
+    pub fn pending(&self) -> &PendingRequest
+        ensures { result.now ≡ self.now.state.pending }
     {
-        self.pending
+        &self.pending
     }
 
     /// What the update was told whose effect the last reply made, if it made one.
@@ -202,17 +199,6 @@ impl Attempt {
         self.occasion == Occasion::Poll
             && self.pending.request.is_read()
             && self.pending.sought.is_some()
-    }
-
-    /// Without a look into the mailbox, or behind one.
-    fn goes_on(&mut self)
-        ensures { self.new ≡ record self.old { state = goes_on self.old.places self.old.bits self.old.state } }
-    {
-        if self.is_seeking_read() {
-            self.puts();
-        } else {
-            self.tries();
-        }
     }
 
     fn tries(&mut self)
@@ -255,7 +241,7 @@ impl Attempt {
         match ask {
             Ask::Done(MailAnswer::Taken(record)) => {
                 self.is_emptied = true;
-                self.pending = self.pending.with_asked(false);
+                self.pending.set_asked(false);
                 self.record_taken(record, header_said(record.header));
             }
             Ask::Done(_) => self.not_ready(),
@@ -271,7 +257,7 @@ impl Attempt {
             self.read_on(its, said);
         } else {
             let held = held_of(self.pending.sought, its, said);
-            self.pending = self.pending.with_held(held);
+            self.pending.hold(held);
             self.tries();
         }
     }
@@ -289,7 +275,7 @@ impl Attempt {
                     self.step = Attempting::Ended(TryAnswer::Absent);
                 } else {
                     let sought = moved_on(self.pending.sought, previous);
-                    self.pending = self.pending.with_sought(sought);
+                    self.pending.seek(sought);
                     self.puts();
                 }
             }
@@ -314,7 +300,7 @@ impl Attempt {
     {
         if let Ask::Done(answer) = ask {
             self.spare = self.trial.spare();
-            self.pending = self.pending.with_latch(self.trial.has_shared());
+            self.pending.set_latch(self.trial.has_shared());
             self.tried(answer);
         }
     }
@@ -325,7 +311,7 @@ impl Attempt {
     {
         match answer {
             TryAnswer::AwaitsDisk(sought) => self.awaits_record(sought),
-            TryAnswer::Wait(_) => self.step = Attempting::Ended(answer),
+            TryAnswer::Wait(_) | TryAnswer::Shift => self.step = Attempting::Ended(answer),
             _ => {
                 self.is_orphaned = self.is_orphaned || self.pending.has_asked;
                 self.step = Attempting::Ended(answer);
@@ -339,11 +325,11 @@ impl Attempt {
     {
         let held = held_kept(self.pending.request.held, sought.entry);
         let has_asked = self.pending.has_asked;
-        self.pending = self.pending.with_held(held);
+        self.pending.hold(held);
         if has_asked {
             self.waits_for_disk();
         } else {
-            self.pending = self.pending.with_sought(Some(sought));
+            self.pending.seek(Some(sought));
             self.puts();
         }
     }
@@ -355,7 +341,7 @@ impl Attempt {
     {
         if let Ask::Done(answer) = ask {
             if answer == MailAnswer::Asked {
-                self.pending = self.pending.with_asked(true);
+                self.pending.set_asked(true);
             }
             self.waits_for_disk();
         }

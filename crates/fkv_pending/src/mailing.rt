@@ -97,6 +97,13 @@ impl Mail {
         }
     }
 
+    /// Forgets its task, and rests.
+    pub(crate) fn rest(&mut self)
+        ensures { self.new ≡ record self.old { step = Ended NotReady } }
+    {
+        self.step = Mailing::Ended(MailAnswer::NotReady);
+    }
+
     /// The first ask of this task: the state of the mailbox is loaded.
     #[tactic(auto, unfolding(crate::specs::Mailing::mail_asks_left))]
     pub fn start(&mut self, task: MailTask) -> Ask<MailAnswer>

@@ -1,9 +1,8 @@
 //! A request that waits.
 ghost use Rattle.std.specs.Prelude.{◌≡◌};
-ghost use Rattle.fkv_pending.specs.Pending.{with_sought, with_held, with_latch, with_asked, is_unlatched, is_update_of};
+ghost use Rattle.fkv_pending.specs.Pending.{no_pending, with_sought, with_held, with_latch, with_asked, is_unlatched, is_update_of};
 
-use fkv_base::{Key, Serial, Version};
-use fkv_map::Op;
+use fkv_base::{Serial, Version};
 use fkv_ops::{DiskRecord, HeldRecord, Request};
 
 /// The number of a read that went pending. Tickets of a session count from 1; after 2^64 - 1 comes 1.
@@ -30,15 +29,12 @@ pub struct PendingRequest {
 
 impl Default for PendingRequest {
     /// A read of key 0 that awaits nothing.
-    fn default() -> PendingRequest {
+    fn default() -> PendingRequest
+        ensures { result ≡ no_pending }
+    {
         PendingRequest {
             name: RequestName::Read(Ticket(1)),
-            request: Request {
-                op: Op::Read(Key(0)),
-                version: Version(1),
-                has_latch: false,
-                held: None,
-            },
+            request: Request::none(),
             sought: None,
             has_asked: false,
         }
@@ -46,22 +42,36 @@ impl Default for PendingRequest {
 }
 
 impl PendingRequest {
-    /// The same request, which awaits this record.
+    /// It awaits this record from now on.
     #[tactic(auto, unfolding(crate::specs::Pending::with_sought))]
-    pub(crate) fn with_sought(self, sought: Option<DiskRecord>) -> PendingRequest
-        ensures { result ≡ with_sought self sought }
+    pub(crate) fn seek(&mut self, sought: Option<DiskRecord>)
+        ensures { self.new ≡ with_sought self.old sought }
     {
-        PendingRequest { sought, ..self }
+        self.sought = sought;
     }
 
-    /// The same request, which holds this record.
+    /// It holds this record from now on.
     #[tactic(auto, unfolding(crate::specs::Pending::with_held))]
-    pub(crate) fn with_held(self, held: Option<HeldRecord>) -> PendingRequest
-        ensures { result ≡ with_held self held }
+    pub(crate) fn hold(&mut self, held: Option<HeldRecord>)
+        ensures { self.new ≡ with_held self.old held }
     {
-        let mut changed = self;
-        changed.request.held = held;
-        changed
+        self.request.held = held;
+    }
+
+    /// It shares the latch of its bucket from now on, or doesn't.
+    #[tactic(auto, unfolding(crate::specs::Pending::with_latch))]
+    pub(crate) fn set_latch(&mut self, has_latch: bool)
+        ensures { self.new ≡ with_latch self.old has_latch }
+    {
+        self.request.has_latch = has_latch;
+    }
+
+    /// It has asked for its record from now on, or hasn't.
+    #[tactic(auto, unfolding(crate::specs::Pending::with_asked))]
+    pub(crate) fn set_asked(&mut self, has_asked: bool)
+        ensures { self.new ≡ with_asked self.old has_asked }
+    {
+        self.has_asked = has_asked;
     }
 
     /// The same request, which shares the latch of its bucket, or does not.
@@ -72,14 +82,6 @@ impl PendingRequest {
         let mut changed = self;
         changed.request.has_latch = has_latch;
         changed
-    }
-
-    /// The same request, which has asked for its record, or has not.
-    #[tactic(auto, unfolding(crate::specs::Pending::with_asked))]
-    pub(crate) fn with_asked(self, has_asked: bool) -> PendingRequest
-        ensures { result ≡ with_asked self has_asked }
-    {
-        PendingRequest { has_asked, ..self }
     }
 
     /// Whether it is an update that doesn't share the latch of its bucket.

@@ -21,7 +21,7 @@ use Rattle.fkv_pending.specs.declared.mailing.MailRecord.{MailRecord}
 use Rattle.fkv_pending.specs.declared.pending_requests.PendingRequest.{PendingRequest}
 use Rattle.fkv_pending.specs.Mailing.{mail_ask, mail_next}
 use Rattle.fkv_pending.specs.Pending.{with_sought, with_held, with_latch, with_asked}
-use Rattle.fkv_pending.specs.Attempting.{AttemptState, is_seeking_read, puts_addr, puts, goes_on, attempt_begun, record_taken, read_on, moved_on, held_of, held_kept, not_ready, look_ledto, awaits_record, tried, try_ledto, put_ledto, mail_moved, try_moved, attempting_next, attempt_next}
+use Rattle.fkv_pending.specs.Attempting.{AttemptState, is_seeking_read, puts_addr, puts, goes_on, attempt_begun, record_taken, read_on, moved_on, held_of, held_kept, not_ready, look_ledto, awaits_record, tried, try_ledto, put_ledto, mail_moved, try_moved, attempting_next, attempt_next, new_attempt}
 use Rattle.fkv_ops.specs.declared.requests.Occasion.{Occasion}
 use Rattle.fkv_ops.specs.declared.requests.Seen.{Seen}
 use Rattle.fkv_session.proofs.Requests.{IsSameRequest}
@@ -143,9 +143,9 @@ pub attempt_keeps : (p : Places) (bits room session : ℕ) (a : AttemptState) (r
 attempt_keeps p bits room session a reply = step_same p bits room session (record a { effect = None }) a.step reply a.pending (record { name = refl; op = refl; version = refl })
 
 -- an attempt begins with its request
-pub begun_same : (p : Places) (bits : ℕ) (a : AttemptState) (pending : PendingRequest) (seen : Seen) (occasion : Occasion) (spare : ℕ) (is_orphaned : Bool)
-    → IsSameRequest (attempt_begun p bits a pending seen occasion spare is_orphaned).pending pending
-begun_same p bits a pending seen occasion spare is_orphaned =
-    let its : AttemptState = record a { pending = pending; seen = seen; occasion = occasion; spare = spare; is_orphaned = is_orphaned; is_emptied = false; effect = None } in
+pub begun_same : (p : Places) (bits : ℕ) (pending : PendingRequest) (seen : Seen) (occasion : Occasion) (spare : ℕ) (is_orphaned : Bool)
+    → IsSameRequest (attempt_begun p bits pending seen occasion spare is_orphaned).pending pending
+begun_same p bits pending seen occasion spare is_orphaned =
+    let its : AttemptState = new_attempt bits pending seen occasion spare is_orphaned in
     let same : IsSameRequest its.pending pending = record { name = refl; op = refl; version = refl } in
     either_same pending.has_asked _ _ pending same (goes_same p bits its pending same)

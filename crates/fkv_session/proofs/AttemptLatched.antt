@@ -25,7 +25,7 @@ use Rattle.fkv_pending.specs.declared.mailing.MailAnswer.TheVariants as mail
 use Rattle.fkv_pending.specs.declared.mailing.MailRecord.{MailRecord}
 use Rattle.fkv_pending.specs.declared.pending_requests.PendingRequest.{PendingRequest}
 use Rattle.fkv_pending.specs.Pending.{with_sought, with_held, with_latch, with_asked}
-use Rattle.fkv_pending.specs.Attempting.{AttemptState, is_seeking_read, attempt_ended, waits_for_disk, puts_addr, puts, tries, goes_on, attempt_begun, read_on, moved_on, held_of, held_kept, look_ledto, tried, try_ledto, put_ledto, mail_moved, try_moved, attempting_next, attempt_next}
+use Rattle.fkv_pending.specs.Attempting.{AttemptState, is_seeking_read, attempt_ended, waits_for_disk, puts_addr, puts, tries, goes_on, attempt_begun, read_on, moved_on, held_of, held_kept, look_ledto, tried, try_ledto, put_ledto, mail_moved, try_moved, attempting_next, attempt_next, new_attempt}
 use Rattle.fkv_session.specs.Sessions.{Seat, bits_of, room_of}
 use Rattle.fkv_session.specs.Shares.{HasItsBuckets}
 use Rattle.fkv_session.proofs.AttemptShares.{trial_at}
@@ -67,16 +67,16 @@ of_read seen p read = λ prepare update. cc
 
 tries_in : (k : Seat) (its : HasItsBuckets k) (seen : Seen) (a : AttemptState) → a.seen ≡ seen → InLatch k its seen (tries k.places (bits_of k) a)
 tries_in k its seen a same = subst (λ (x : Seen). IsTryIn k its x a.pending.request.op (tries k.places (bits_of k) a).trial) same
-    (record { request = a.pending.request; occasion = a.occasion; its_op = refl; trying = begun_trying (trial_at k its a.pending.request a.seen a.occasion) a.trial a.spare })
+    (record { request = a.pending.request; occasion = a.occasion; its_op = refl; trying = begun_trying (trial_at k its a.pending.request a.seen a.occasion) a.spare })
 
 goes_in : (k : Seat) (its : HasItsBuckets k) (seen : Seen) (a : AttemptState) → a.seen ≡ seen → InLatch k its seen (goes_on k.places (bits_of k) a)
 goes_in k its seen a same =
     either_in (is_seeking_read a) k its seen (puts a) (tries k.places (bits_of k) a) (λ read. puts_in k its seen a a.pending.sought (of_read seen a.pending (read_of a read))) (tries_in k its seen a same)
 
-pub begun_in : (k : Seat) (its : HasItsBuckets k) (a : AttemptState) (pending : PendingRequest) (seen : Seen) (occasion : Occasion) (spare : ℕ) (is_orphaned : Bool)
-    → InLatch k its seen (attempt_begun k.places (bits_of k) a pending seen occasion spare is_orphaned)
-begun_in k its a pending seen occasion spare is_orphaned =
-    let first : AttemptState = record a { pending = pending; seen = seen; occasion = occasion; spare = spare; is_orphaned = is_orphaned; is_emptied = false; effect = None } in
+pub begun_in : (k : Seat) (its : HasItsBuckets k) (pending : PendingRequest) (seen : Seen) (occasion : Occasion) (spare : ℕ) (is_orphaned : Bool)
+    → InLatch k its seen (attempt_begun k.places (bits_of k) pending seen occasion spare is_orphaned)
+begun_in k its pending seen occasion spare is_orphaned =
+    let first : AttemptState = new_attempt (bits_of k) pending seen occasion spare is_orphaned in
     either_in pending.has_asked k its seen _ (goes_on k.places (bits_of k) first) (λ asked. refl) (goes_in k its seen first refl)
 
 -- what changes of a request besides its latch

@@ -24,7 +24,7 @@ use Rattle.fkv_ops.specs.declared.requests.Request.{Request}
 use Rattle.fkv_ops.specs.Requests.{is_read}
 use Rattle.fkv_ops.specs.Trying as trying
 use Rattle.fkv_ops.specs.Values.{value_of}
-use Rattle.fkv_ops.specs.Trying.{TryState, try_begun, wants_shared, walks, told_value, trying_ask, try_ask}
+use Rattle.fkv_ops.specs.Trying.{TryState, try_begun, wants_shared, walks, told_value, trying_ask, try_ask, new_try}
 use Rattle.fkv_pending.specs.declared.attempting.Attempting.{Attempting}
 use Rattle.fkv_pending.specs.declared.attempting.Attempting.TheVariants.{Ended, Looks, Tries, Puts}
 use Rattle.fkv_pending.specs.declared.mailing.MailAnswer.{MailAnswer}
@@ -32,7 +32,7 @@ use Rattle.fkv_pending.specs.declared.mailing.MailAnswer.TheVariants as mail
 use Rattle.fkv_pending.specs.declared.mailing.MailRecord.{MailRecord}
 use Rattle.fkv_pending.specs.declared.pending_requests.PendingRequest.{PendingRequest}
 use Rattle.fkv_pending.specs.Pending.{with_sought, with_held, with_latch, with_asked}
-use Rattle.fkv_pending.specs.Attempting.{AttemptState, is_poll, is_seeking_read, attempt_ended, waits_for_disk, puts_addr, puts, tries, goes_on, attempt_begun, read_on, moved_on, held_of, held_kept, look_ledto, awaits_record, tried, try_ledto, put_ledto, mail_moved, try_moved, attempting_ask, attempt_ask, attempting_next, attempt_next}
+use Rattle.fkv_pending.specs.Attempting.{AttemptState, is_poll, is_seeking_read, attempt_ended, waits_for_disk, puts_addr, puts, tries, goes_on, attempt_begun, read_on, moved_on, held_of, held_kept, look_ledto, awaits_record, tried, try_ledto, put_ledto, mail_moved, try_moved, attempting_ask, attempt_ask, attempting_next, attempt_next, new_attempt}
 use Rattle.fkv_pending.proofs.Shown.{is_attempt_end, AttemptRestsOrAsks, attempt_done}
 use Rattle.fkv_session.proofs.Made.{reply_of, made_by, MadeFrom, try_made, try_ended}
 use Rattle.fkv_session.proofs.UpdateEnds.{IsUpdateEnd, IsUpdateStep, IsUpdateTry, try_update, begun_update}
@@ -76,22 +76,22 @@ either_none true a b one other = one
 either_none false a b one other = other
 
 -- a try begins with nothing made
-trial_none : (p : Places) (bits : ℕ) (t : TryState) (request : Request) (seen : Seen) (occasion : Occasion) (spare : ℕ) → made_by (try_begun p bits t request seen occasion spare).step ≡ None
-trial_none p bits t request seen occasion spare =
-    let its : TryState = record t { request = request; seen = seen; occasion = occasion; home = home_of bits (key_of request.op); has_shared = request.has_latch; has_exclusive = false; effect = None; spare = spare } in
+trial_none : (p : Places) (bits : ℕ) (request : Request) (seen : Seen) (occasion : Occasion) (spare : ℕ) → made_by (try_begun p bits request seen occasion spare).step ≡ None
+trial_none p bits request seen occasion spare =
+    let its : TryState = new_try bits request seen occasion spare in
     either_none (wants_shared its) (trying.with_latch p its TakeShared try.TakesShared) (walks p its) refl refl
 
 tries_so : (p : Places) (bits : ℕ) (a : AttemptState) → a.effect ≡ None → IsMadeSo None (tries p bits a)
-tries_so p bits a e = quiet _ None e (trial_none p bits a.trial a.pending.request a.seen a.occasion a.spare) (λ update. begun_update p bits a.trial a.pending.request a.seen a.occasion a.spare update)
+tries_so p bits a e = quiet _ None e (trial_none p bits a.pending.request a.seen a.occasion a.spare) (λ update. begun_update p bits a.pending.request a.seen a.occasion a.spare update)
 
 goes_so : (p : Places) (bits : ℕ) (a : AttemptState) → a.effect ≡ None → IsMadeSo None (goes_on p bits a)
 goes_so p bits a e = either_so (is_seeking_read a) (puts a) (tries p bits a) None (puts_so a a.pending.sought None (from_none a.effect e)) (tries_so p bits a e)
 
 -- an attempt begins with nothing made
-pub begun_so : (p : Places) (bits : ℕ) (a : AttemptState) (pending : PendingRequest) (seen : Seen) (occasion : Occasion) (spare : ℕ) (is_orphaned : Bool)
-    → IsMadeSo None (attempt_begun p bits a pending seen occasion spare is_orphaned)
-begun_so p bits a pending seen occasion spare is_orphaned =
-    let its : AttemptState = record a { pending = pending; seen = seen; occasion = occasion; spare = spare; is_orphaned = is_orphaned; is_emptied = false; effect = None } in
+pub begun_so : (p : Places) (bits : ℕ) (pending : PendingRequest) (seen : Seen) (occasion : Occasion) (spare : ℕ) (is_orphaned : Bool)
+    → IsMadeSo None (attempt_begun p bits pending seen occasion spare is_orphaned)
+begun_so p bits pending seen occasion spare is_orphaned =
+    let its : AttemptState = new_attempt bits pending seen occasion spare is_orphaned in
     either_so pending.has_asked _ (goes_on p bits its) None (record { made = refl; knows = λ update. tt }) (goes_so p bits its refl)
 
 either_nothing : (c : Bool) (a b : AttemptState) → made_of a ≡ None → made_of b ≡ None → made_of (if c then a else b) ≡ None
@@ -102,12 +102,12 @@ puts_nothing : (a : AttemptState) (sought : Option DiskRecord) → made_of (puts
 puts_nothing a None = refl
 puts_nothing a (Some sought) = refl
 
-pub begun_nothing : (p : Places) (bits : ℕ) (a : AttemptState) (pending : PendingRequest) (seen : Seen) (occasion : Occasion) (spare : ℕ) (is_orphaned : Bool)
-    → made_of (attempt_begun p bits a pending seen occasion spare is_orphaned) ≡ None
-begun_nothing p bits a pending seen occasion spare is_orphaned =
-    let its : AttemptState = record a { pending = pending; seen = seen; occasion = occasion; spare = spare; is_orphaned = is_orphaned; is_emptied = false; effect = None } in
+pub begun_nothing : (p : Places) (bits : ℕ) (pending : PendingRequest) (seen : Seen) (occasion : Occasion) (spare : ℕ) (is_orphaned : Bool)
+    → made_of (attempt_begun p bits pending seen occasion spare is_orphaned) ≡ None
+begun_nothing p bits pending seen occasion spare is_orphaned =
+    let its : AttemptState = new_attempt bits pending seen occasion spare is_orphaned in
     either_nothing pending.has_asked _ (goes_on p bits its) refl
-    (either_nothing (is_seeking_read its) (puts its) (tries p bits its) (puts_nothing its its.pending.sought) (trial_none p bits its.trial its.pending.request its.seen its.occasion its.spare))
+    (either_nothing (is_seeking_read its) (puts its) (tries p bits its) (puts_nothing its its.pending.sought) (trial_none p bits its.pending.request its.seen its.occasion its.spare))
 
 -- a read that seeks a record is a read
 both_read : (b c d : Bool) → (b && (c && d)) ≡ true → c ≡ true

@@ -32,7 +32,7 @@ use Rattle.fkv_pending.specs.declared.mailing.MailAnswer.TheVariants as mail
 use Rattle.fkv_pending.specs.declared.mailing.MailRecord.{MailRecord}
 use Rattle.fkv_pending.specs.declared.pending_requests.PendingRequest.{PendingRequest}
 use Rattle.fkv_pending.specs.Pending.{with_sought, with_held, with_latch, with_asked}
-use Rattle.fkv_pending.specs.Attempting.{AttemptState, is_seeking_read, attempt_ended, waits_for_disk, puts_addr, puts, tries, goes_on, attempt_begun, read_on, moved_on, held_of, held_kept, look_ledto, awaits_record, tried, try_ledto, put_ledto, mail_moved, try_moved, attempting_ask, attempt_ask, attempting_next, attempt_next}
+use Rattle.fkv_pending.specs.Attempting.{AttemptState, is_seeking_read, attempt_ended, waits_for_disk, puts_addr, puts, tries, goes_on, attempt_begun, read_on, moved_on, held_of, held_kept, look_ledto, awaits_record, tried, try_ledto, put_ledto, mail_moved, try_moved, attempting_ask, attempt_ask, attempting_next, attempt_next, new_attempt}
 use Rattle.fkv_session.specs.Sessions.{Seat, bits_of, room_of}
 use Rattle.fkv_session.specs.Shares.{added_by, latch_of, HasItsBuckets}
 use Rattle.fkv_session.proofs.SharesSpared.{SharesNone, none_added, none_dropped, passed_added, passed_none, mail_none}
@@ -101,19 +101,19 @@ tries_so : (k : Seat) (its : HasItsBuckets k) (owed : ℕ) (a : AttemptState) �
 tries_so k its owed a owes reads =
     let c : Trial = trial_at k its a.pending.request a.seen a.occasion in
     record {
-      owes = begun_owes c a.trial a.spare ∙ owes;
+      owes = begun_owes c a.spare ∙ owes;
       reads = reads;
-      knows = record { request = a.pending.request; seen = a.seen; occasion = a.occasion; its_op = refl; reads = reads; trying = begun_trying c a.trial a.spare };
+      knows = record { request = a.pending.request; seen = a.seen; occasion = a.occasion; its_op = refl; reads = reads; trying = begun_trying c a.spare };
     }
 
 goes_so : (k : Seat) (its : HasItsBuckets k) (owed : ℕ) (a : AttemptState) → OwesSo owed a → ReadsNone a.pending → IsShareSo k its owed (goes_on k.places (bits_of k) a)
 goes_so k its owed a owes reads = either_so (is_seeking_read a) k its owed (puts a) (tries k.places (bits_of k) a) (puts_so k its owed a a.pending.sought owes reads) (tries_so k its owed a owes reads)
 
 -- it begins with what its request shares
-pub begun_shares : (k : Seat) (its : HasItsBuckets k) (a : AttemptState) (pending : PendingRequest) (seen : Seen) (occasion : Occasion) (spare : ℕ) (is_orphaned : Bool) → ReadsNone pending
-    → IsShareSo k its (bit_of pending.request.has_latch) (attempt_begun k.places (bits_of k) a pending seen occasion spare is_orphaned)
-begun_shares k its a pending seen occasion spare is_orphaned reads =
-    let first : AttemptState = record a { pending = pending; seen = seen; occasion = occasion; spare = spare; is_orphaned = is_orphaned; is_emptied = false; effect = None } in
+pub begun_shares : (k : Seat) (its : HasItsBuckets k) (pending : PendingRequest) (seen : Seen) (occasion : Occasion) (spare : ℕ) (is_orphaned : Bool) → ReadsNone pending
+    → IsShareSo k its (bit_of pending.request.has_latch) (attempt_begun k.places (bits_of k) pending seen occasion spare is_orphaned)
+begun_shares k its pending seen occasion spare is_orphaned reads =
+    let first : AttemptState = new_attempt (bits_of k) pending seen occasion spare is_orphaned in
     either_so pending.has_asked k its (bit_of pending.request.has_latch) _ (goes_on k.places (bits_of k) first) (record { owes = refl; reads = reads; knows = tt })
     (goes_so k its (bit_of pending.request.has_latch) first refl reads)
 

@@ -65,13 +65,13 @@ turn_asks k s its = either_asks s.wants_turn k (record s { own_turn = own_turn_b
 attempts_asks : (k : Seat) (s : SessionState) (has_shifted : Bool) → AsksInHand k (attempts k s has_shifted)
 unfolding attempts sitting_ask
 attempts_asks k s has_shifted busy =
-    passed_done (attempt_ask k.places k.number (attempts k s has_shifted).attempt) told.Slept ∙ attempt_begun_asks k.places (bits_of k) k.number s.attempt (request_in_hand s) s.seen AtCall s.spare s.is_orphaned
+    passed_done (attempt_ask k.places k.number (attempts k s has_shifted).attempt) told.Slept ∙ attempt_begun_asks k.places (bits_of k) k.number (request_in_hand s) s.seen AtCall s.spare s.is_orphaned
 
 found_asks : (k : Seat) (s : SessionState) (index : ℕ) (found : Option PendingRequest) → AsksInHand k (polls_request k s index found)
 unfolding sitting_ask
 found_asks k s index None = turn_asks k s (told.Polled (length s.requests))
 found_asks k s index (Some pending) = λ busy.
-    passed_done (attempt_ask k.places k.number (polls_request k s index (Some pending)).attempt) told.Slept ∙ attempt_begun_asks k.places (bits_of k) k.number s.attempt pending s.seen AtPoll s.spare s.is_orphaned
+    passed_done (attempt_ask k.places k.number (polls_request k s index (Some pending)).attempt) told.Slept ∙ attempt_begun_asks k.places (bits_of k) k.number pending s.seen AtPoll s.spare s.is_orphaned
 
 polls_asks : (k : Seat) (s : SessionState) (index : ℕ) → AsksInHand k (polls_at k s index)
 unfolding polls_at

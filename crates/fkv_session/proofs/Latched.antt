@@ -77,14 +77,14 @@ attempts_latched : (k : Seat) (its : HasItsBuckets k) (s : SessionState) (has_sh
 unfolding attempts
 attempts_latched k its s has_shifted all = record {
   all = all;
-  rests = attempt_begun_rests k.places (bits_of k) s.attempt (request_in_hand s) s.seen AtCall s.spare s.is_orphaned;
-  knows = begun_in k its s.attempt (request_in_hand s) s.seen AtCall s.spare s.is_orphaned;
+  rests = attempt_begun_rests k.places (bits_of k) (request_in_hand s) s.seen AtCall s.spare s.is_orphaned;
+  knows = begun_in k its (request_in_hand s) s.seen AtCall s.spare s.is_orphaned;
 }
 
 found_latched : (k : Seat) (its : HasItsBuckets k) (s : SessionState) (i : ℕ) (found : Option PendingRequest) → All s → LatchedAfter k its (polls_request k s i found)
 found_latched k its s i None all = turn_latched k its s (told.Polled (length s.requests)) all
 found_latched k its s i (Some pending) all =
-    record { all = all; rests = attempt_begun_rests k.places (bits_of k) s.attempt pending s.seen AtPoll s.spare s.is_orphaned; knows = begun_in k its s.attempt pending s.seen AtPoll s.spare s.is_orphaned }
+    record { all = all; rests = attempt_begun_rests k.places (bits_of k) pending s.seen AtPoll s.spare s.is_orphaned; knows = begun_in k its pending s.seen AtPoll s.spare s.is_orphaned }
 
 polls_latched : (k : Seat) (its : HasItsBuckets k) (s : SessionState) (i : ℕ) → All s → LatchedAfter k its (polls_at k s i)
 unfolding polls_at

@@ -269,15 +269,15 @@ turn_marks m s its left so marked =
 pub attempts_marks : (m : Moment) (s : SessionState) (has_shifted : Bool) (left : Option ℕ) → LeavesSo m s left → MarkedBy m s left → MarksAfter m (attempts m.seat s has_shifted)
 unfolding attempts
 attempts_marks m s has_shifted left so marked =
-    let same = begun_same m.seat.places (bits_of m.seat) s.attempt (request_in_hand s) s.seen AtCall s.spare s.is_orphaned in
-    let begun : SessionState = record s { attempt = attempt_begun m.seat.places (bits_of m.seat) s.attempt (request_in_hand s) s.seen AtCall s.spare s.is_orphaned; step = Attempts has_shifted } in
+    let same = begun_same m.seat.places (bits_of m.seat) (request_in_hand s) s.seen AtCall s.spare s.is_orphaned in
+    let begun : SessionState = record s { attempt = attempt_begun m.seat.places (bits_of m.seat) (request_in_hand s) s.seen AtCall s.spare s.is_orphaned; step = Attempts has_shifted } in
     still m begun left (Attempts has_shifted) so refl (marked, ap (λ (v : Version). v.0) same.version)
 
 found_marks : (m : Moment) (s : SessionState) (i : ℕ) (found : Option PendingRequest) (left : Option ℕ) → slice_get s.requests i ≡ found → LeavesSo m s left → MarkedBy m s left → MarksAfter m (polls_request m.seat s i found)
 found_marks m s i None left got so marked = turn_marks m s (told.Polled (length s.requests)) left so marked
 found_marks m s i (Some pending) left got so marked =
-    let begun : SessionState = record s { attempt = attempt_begun m.seat.places (bits_of m.seat) s.attempt pending s.seen AtPoll s.spare s.is_orphaned; step = Polls i } in
-    still m begun left (Polls i) so refl (marked, record { its = pending; at = got; same = begun_same m.seat.places (bits_of m.seat) s.attempt pending s.seen AtPoll s.spare s.is_orphaned })
+    let begun : SessionState = record s { attempt = attempt_begun m.seat.places (bits_of m.seat) pending s.seen AtPoll s.spare s.is_orphaned; step = Polls i } in
+    still m begun left (Polls i) so refl (marked, record { its = pending; at = got; same = begun_same m.seat.places (bits_of m.seat) pending s.seen AtPoll s.spare s.is_orphaned })
 
 pub polls_marks : (m : Moment) (s : SessionState) (i : ℕ) (left : Option ℕ) → LeavesSo m s left → MarkedBy m s left → MarksAfter m (polls_at m.seat s i)
 unfolding polls_at

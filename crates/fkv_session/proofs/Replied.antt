@@ -261,11 +261,11 @@ attempts_told : (k : Seat) (effects : List HistoryEntry) (taken : List Taken) (c
     → IsSettled k.number (with_effect s.effect effects) taken before s.requests [] → IsToldAfter k effects taken called s.serial before (attempts k s has_shifted)
 unfolding attempts
 attempts_told k effects taken called before s has_shifted op books =
-    let same = begun_same k.places (bits_of k) s.attempt (request_in_hand s) s.seen AtCall s.spare s.is_orphaned in
-    let begun = begun_so k.places (bits_of k) s.attempt (request_in_hand s) s.seen AtCall s.spare s.is_orphaned in
-    let none = begun_nothing k.places (bits_of k) s.attempt (request_in_hand s) s.seen AtCall s.spare s.is_orphaned in
-    let rests = attempt_begun_rests k.places (bits_of k) s.attempt (request_in_hand s) s.seen AtCall s.spare s.is_orphaned in
-    let begins : AttemptState = attempt_begun k.places (bits_of k) s.attempt (request_in_hand s) s.seen AtCall s.spare s.is_orphaned in
+    let same = begun_same k.places (bits_of k) (request_in_hand s) s.seen AtCall s.spare s.is_orphaned in
+    let begun = begun_so k.places (bits_of k) (request_in_hand s) s.seen AtCall s.spare s.is_orphaned in
+    let none = begun_nothing k.places (bits_of k) (request_in_hand s) s.seen AtCall s.spare s.is_orphaned in
+    let rests = attempt_begun_rests k.places (bits_of k) (request_in_hand s) s.seen AtCall s.spare s.is_orphaned in
+    let begins : AttemptState = attempt_begun k.places (bits_of k) (request_in_hand s) s.seen AtCall s.spare s.is_orphaned in
     calm k effects taken called before _ (Attempts has_shifted) refl (none_coming k.number begins none)
     (record { called_so = op; name = same.name; op = same.op; under_way = record { rests = rests; knows = begun.knows } }) books
 
@@ -275,12 +275,12 @@ polls_found k effects taken called before s i None got books =
     turn_told k effects taken called s.serial before s (told.Polled (length s.requests)) taken (same_taken s.serial called taken)
     (polled_books k.number (with_effect s.effect effects) taken before s.requests (length s.requests) s.finished books)
 polls_found k effects taken called before s i (Some pending) got books =
-    let same = begun_same k.places (bits_of k) s.attempt pending s.seen AtPoll s.spare s.is_orphaned in
-    let begun = begun_so k.places (bits_of k) s.attempt pending s.seen AtPoll s.spare s.is_orphaned in
-    let none = begun_nothing k.places (bits_of k) s.attempt pending s.seen AtPoll s.spare s.is_orphaned in
-    let rests = attempt_begun_rests k.places (bits_of k) s.attempt pending s.seen AtPoll s.spare s.is_orphaned in
+    let same = begun_same k.places (bits_of k) pending s.seen AtPoll s.spare s.is_orphaned in
+    let begun = begun_so k.places (bits_of k) pending s.seen AtPoll s.spare s.is_orphaned in
+    let none = begun_nothing k.places (bits_of k) pending s.seen AtPoll s.spare s.is_orphaned in
+    let rests = attempt_begun_rests k.places (bits_of k) pending s.seen AtPoll s.spare s.is_orphaned in
     let name = name_at taken s.requests i pending got books.waiting in
-    let begins : AttemptState = attempt_begun k.places (bits_of k) s.attempt pending s.seen AtPoll s.spare s.is_orphaned in
+    let begins : AttemptState = attempt_begun k.places (bits_of k) pending s.seen AtPoll s.spare s.is_orphaned in
     calm k effects taken called before _ (Polls i) refl (none_coming k.number begins none)
     (record { name = same_name taken begins.pending pending same name; under_way = record { rests = rests; knows = begun.knows } }) books
 

@@ -95,14 +95,14 @@ answers_left k s its = refl
 first_left : (k : Seat) (s : SessionState) → session_asks_left k (attempts k s false) ≤ most_attempt_asks k.places + (most_catch_asks s.requests + (most_attempt_asks k.places + most_own_turn_asks k.shape))
 unfolding attempts sitting_asks_left
 first_left k s =
-    let begun = attempt_begun_left k.places (bits_of k) s.attempt (request_in_hand s) s.seen AtCall s.spare s.is_orphaned in
+    let begun = attempt_begun_left k.places (bits_of k) (request_in_hand s) s.seen AtCall s.spare s.is_orphaned in
     let most = sum_most (attempt_asks_left k.places (attempts k s false).attempt) (most_catch_asks s.requests + (most_attempt_asks k.places + most_own_turn_asks k.shape)) in
     omega (arith, begun, most)
 
 second_left : (k : Seat) (s : SessionState) → session_asks_left k (attempts k s true) ≤ most_attempt_asks k.places + most_own_turn_asks k.shape
 unfolding attempts sitting_asks_left
 second_left k s =
-    let begun = attempt_begun_left k.places (bits_of k) s.attempt (request_in_hand s) s.seen AtCall s.spare s.is_orphaned in
+    let begun = attempt_begun_left k.places (bits_of k) (request_in_hand s) s.seen AtCall s.spare s.is_orphaned in
     let most = sum_most (attempt_asks_left k.places (attempts k s true).attempt) (most_own_turn_asks k.shape) in
     omega (arith, begun, most)
 
@@ -122,7 +122,7 @@ polls_left k s index = begun (slice_get s.requests index) refl
     begun : (got : Option PendingRequest) → slice_get s.requests index ≡ got → session_asks_left k (polls_request k s index got) ≤ most_poll_asks k s.requests index
     begun None e = let few = turn_begun_left k s (told.Polled (length s.requests)) in omega (arith, few)
     begun (Some pending) e =
-        let begun = attempt_begun_left k.places (bits_of k) s.attempt pending s.seen AtPoll s.spare s.is_orphaned in
+        let begun = attempt_begun_left k.places (bits_of k) pending s.seen AtPoll s.spare s.is_orphaned in
         let most = sum_most (attempt_asks_left k.places (polls_request k s index (Some pending)).attempt) (most_poll_asks k s.requests (index + 1) + 1) in
         let one = one_polled (most_attempt_asks k.places + 1) index (length s.requests) (slice_get_within s.requests index pending e) in
         omega (arith, begun, most, one)

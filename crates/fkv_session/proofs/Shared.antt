@@ -126,22 +126,22 @@ share_there false false = refl
 attempts_shares : (m : Book) (s : SessionState) (has_shifted : Bool) → IsPlain m s.requests → SharesAfter m (attempts m.seat s has_shifted)
 unfolding attempts
 attempts_shares m s has_shifted plain =
-    let begun = begun_shares m.seat m.its s.attempt (request_in_hand s) s.seen AtCall s.spare s.is_orphaned (λ e. refl) in
-    let a : AttemptState = attempt_begun m.seat.places (bits_of m.seat) s.attempt (request_in_hand s) s.seen AtCall s.spare s.is_orphaned in
+    let begun = begun_shares m.seat m.its (request_in_hand s) s.seen AtCall s.spare s.is_orphaned (λ e. refl) in
+    let a : AttemptState = attempt_begun m.seat.places (bits_of m.seat) (request_in_hand s) s.seen AtCall s.spare s.is_orphaned in
     let none : owed_by m a ≡ 0 = there_none (latch_of m.seat.places (bits_of m.seat) a.pending.request.op == m.at) (owed_in a a.step) begun.owes in
     let counted = plain.counted in
     record {
       counted = omega (arith, counted, none);
       only = plain.only;
-      known = record { rests = attempt_begun_rests m.seat.places (bits_of m.seat) s.attempt (request_in_hand s) s.seen AtCall s.spare s.is_orphaned; reads = begun.reads; knows = begun.knows };
+      known = record { rests = attempt_begun_rests m.seat.places (bits_of m.seat) (request_in_hand s) s.seen AtCall s.spare s.is_orphaned; reads = begun.reads; knows = begun.knows };
     }
 
 found_shares : (m : Book) (s : SessionState) (i : ℕ) (found : Option PendingRequest) → slice_get s.requests i ≡ found → IsPlain m s.requests → SharesAfter m (polls_request m.seat s i found)
 found_shares m s i None got plain = turn_shares m s (told.Polled (length s.requests)) plain
 found_shares m s i (Some pending) got plain =
-    let begun = begun_shares m.seat m.its s.attempt pending s.seen AtPoll s.spare s.is_orphaned (only_at s.requests i pending got plain.only) in
-    let same = begun_same m.seat.places (bits_of m.seat) s.attempt pending s.seen AtPoll s.spare s.is_orphaned in
-    let a : AttemptState = attempt_begun m.seat.places (bits_of m.seat) s.attempt pending s.seen AtPoll s.spare s.is_orphaned in
+    let begun = begun_shares m.seat m.its pending s.seen AtPoll s.spare s.is_orphaned (only_at s.requests i pending got plain.only) in
+    let same = begun_same m.seat.places (bits_of m.seat) pending s.seen AtPoll s.spare s.is_orphaned in
+    let a : AttemptState = attempt_begun m.seat.places (bits_of m.seat) pending s.seen AtPoll s.spare s.is_orphaned in
     let its : ◌≡◌ {A = ℕ} (owed_by m a) (there (latch_of m.seat.places (bits_of m.seat) pending.request.op == m.at) (bit_of pending.request.has_latch)) =
     ap (λ (n : ℕ). there (latch_of m.seat.places (bits_of m.seat) a.pending.request.op == m.at) n) begun.owes ∙ ap (λ (o : Op). there (latch_of m.seat.places (bits_of m.seat) o == m.at) (bit_of pending.request.has_latch)) same.op in
     let shared = share_there pending.request.has_latch (latch_of m.seat.places (bits_of m.seat) pending.request.op == m.at) in
@@ -151,7 +151,7 @@ found_shares m s i (Some pending) got plain =
       got = got;
       counted = omega (arith, counted, its, shared);
       only = plain.only;
-      known = record { rests = attempt_begun_rests m.seat.places (bits_of m.seat) s.attempt pending s.seen AtPoll s.spare s.is_orphaned; reads = begun.reads; knows = begun.knows };
+      known = record { rests = attempt_begun_rests m.seat.places (bits_of m.seat) pending s.seen AtPoll s.spare s.is_orphaned; reads = begun.reads; knows = begun.knows };
     }
 
 polls_shares : (m : Book) (s : SessionState) (i : ℕ) → IsPlain m s.requests → SharesAfter m (polls_at m.seat s i)

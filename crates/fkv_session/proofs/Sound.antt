@@ -122,7 +122,7 @@ attempts_held : (first : ℕ) (before : List Telling) (k : Seat) (s : SessionSta
 unfolding attempts
 attempts_held first before k s has_shifted books = record {
   books = books;
-  knows = (begun_same k.places (bits_of k) s.attempt (request_in_hand s) s.seen AtCall s.spare s.is_orphaned).name;
+  knows = (begun_same k.places (bits_of k) (request_in_hand s) s.seen AtCall s.spare s.is_orphaned).name;
 }
 
 polls_found : (first : ℕ) (before : List Telling) (k : Seat) (s : SessionState) (i : ℕ) (found : Option PendingRequest) → slice_get s.requests i ≡ found → AreBooksKept first s.serial before (names_of s.requests) s.finished
@@ -130,7 +130,7 @@ polls_found : (first : ℕ) (before : List Telling) (k : Seat) (s : SessionState
 polls_found first before k s i None got books = turn_held first before s (told.Polled (length s.requests)) (polled_kept first s.serial before (names_of s.requests) (length s.requests) s.finished books)
 polls_found first before k s i (Some pending) got books = record {
   books = books;
-  knows = name_at s.requests i pending got ∙ ap Some (sym (begun_same k.places (bits_of k) s.attempt pending s.seen AtPoll s.spare s.is_orphaned).name);
+  knows = name_at s.requests i pending got ∙ ap Some (sym (begun_same k.places (bits_of k) pending s.seen AtPoll s.spare s.is_orphaned).name);
 }
 
 polls_held : (first : ℕ) (before : List Telling) (k : Seat) (s : SessionState) (i : ℕ) → AreBooksKept first s.serial before (names_of s.requests) s.finished → IsHeldAfter first before (polls_at k s i)

@@ -178,7 +178,7 @@ shift_range shape shift.AtRest m reply range = tt
 shift_range shape shift.LoadsTail m reply range = tt
 shift_range shape (shift.LoadsReadOnly tail) m reply range =
     let start : ℕ = mutable_start shape.page shape.mutable tail in
-    shift_either (nat_lt reply start) (shift_at (shift.Moves tail) (move_begun m ReadOnly start)) (shift_at shift.AtRest m) tt tt
+    shift_either (nat_lt reply start) (shift_at (shift.Moves tail) (move_begun ReadOnly start)) (shift_at shift.AtRest m) tt tt
 shift_range shape (shift.Moves tail) m reply range = shift_led_range tail (move_next m reply) (move_next_ask m reply) (move_range m.step m.raising m.arming reply range)
 
 -- a turn that opens only

@@ -30,7 +30,7 @@ use Rattle.fkv_ops.specs.declared.trying.Trying.TheVariants as try
 use Rattle.fkv_ops.specs.declared.walking.WalkAnswer.{WalkAnswer}
 use Rattle.fkv_ops.specs.declared.walking.WalkAnswer.TheVariants as walk
 use Rattle.fkv_ops.specs.Requests.{is_read, is_blind}
-use Rattle.fkv_ops.specs.Trying.{TryState, try_begun, wants_shared, with_latch, walks, ends, ended_without, is_wait, takes_effect, full_at, shared_ledto, wants_exclusive, copies_from, copies, appends, awaits, held_used, changes, is_own_version, region_met, walked, has_walked, must_shift, walk_ledto, safe_loaded, current_ledto, value_changed, exclusive_ledto, old_ledto, append_ledto, exclusive_dropped, shared_dropped, trying_next, try_next}
+use Rattle.fkv_ops.specs.Trying.{TryState, try_begun, wants_shared, with_latch, walks, ends, ended_without, is_wait, takes_effect, full_at, shared_ledto, wants_exclusive, copies_from, copies, appends, awaits, held_used, changes, is_own_version, region_met, walked, has_walked, must_shift, walk_ledto, safe_loaded, current_ledto, value_changed, exclusive_ledto, old_ledto, append_ledto, exclusive_dropped, shared_dropped, trying_next, try_next, new_try}
 
 -- no answer of a read
 abbrev pub IsUpdateEnd : TryAnswer → Type 0
@@ -186,7 +186,7 @@ pub try_update : (p : Places) (room : ℕ) (t : TryState) (reply : ℕ) → IsUp
 try_update p room t reply its_try = step_update p room (record t { effect = None }) t.step reply its_try.step (record { update = its_try.update; step = its_try.step })
 
 -- it begins with its latch, or with its walk
-pub begun_update : (p : Places) (bits : ℕ) (t : TryState) (request : Request) (seen : Seen) (occasion : Occasion) (spare : ℕ) → is_read request.op ≡ false → IsUpdateTry (try_begun p bits t request seen occasion spare)
-begun_update p bits t request seen occasion spare e =
-    let its : TryState = record t { request = request; seen = seen; occasion = occasion; home = home_of bits (key_of request.op); has_shared = request.has_latch; has_exclusive = false; effect = None; spare = spare } in
+pub begun_update : (p : Places) (bits : ℕ) (request : Request) (seen : Seen) (occasion : Occasion) (spare : ℕ) → is_read request.op ≡ false → IsUpdateTry (try_begun p bits request seen occasion spare)
+begun_update p bits request seen occasion spare e =
+    let its : TryState = new_try bits request seen occasion spare in
     either_update (wants_shared its) (with_latch p its TakeShared try.TakesShared) (walks p its) (record { update = e; step = tt }) (record { update = e; step = tt })

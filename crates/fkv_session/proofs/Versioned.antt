@@ -144,14 +144,14 @@ turn_kept taken called s its n waiting = either_kept s.wants_turn taken called n
 attempts_kept : (taken : List TakenAt) (called : Option Op) (k : Seat) (s : SessionState) (has_shifted : Bool) → called ≡ Some s.op → AreAsTaken taken s.requests → IsKeptAfter taken called s.serial (attempts k s has_shifted)
 unfolding attempts
 attempts_kept taken called k s has_shifted op waiting =
-    let same = begun_same k.places (bits_of k) s.attempt (request_in_hand s) s.seen AtCall s.spare s.is_orphaned in
+    let same = begun_same k.places (bits_of k) (request_in_hand s) s.seen AtCall s.spare s.is_orphaned in
     calm taken called _ (Attempts has_shifted) refl waiting
     (record { called_so = op; name = same.name; op = same.op; version = subst (λ (its : Version). IsVersionOf s.seen.version.0 its.0) (sym same.version) (within s.seen.version.0) })
 
 polls_found : (taken : List TakenAt) (called : Option Op) (k : Seat) (s : SessionState) (i : ℕ) (found : Option PendingRequest) → slice_get s.requests i ≡ found → AreAsTaken taken s.requests → IsKeptAfter taken called s.serial (polls_request k s i found)
 polls_found taken called k s i None got waiting = turn_kept taken called s (told.Polled (length s.requests)) s.serial (rw (same_taken s called taken) waiting)
 polls_found taken called k s i (Some pending) got waiting =
-    let same = begun_same k.places (bits_of k) s.attempt pending s.seen AtPoll s.spare s.is_orphaned in
+    let same = begun_same k.places (bits_of k) pending s.seen AtPoll s.spare s.is_orphaned in
     calm taken called _ (Polls i) refl waiting (record { request = pending; waits = got; name = same.name; op = same.op; version = same.version })
 
 polls_kept : (taken : List TakenAt) (called : Option Op) (k : Seat) (s : SessionState) (i : ℕ) → AreAsTaken taken s.requests → IsKeptAfter taken called s.serial (polls_at k s i)

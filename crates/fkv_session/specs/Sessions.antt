@@ -152,12 +152,12 @@ abbrev pub request_in_hand : SessionState → PendingRequest
 request_in_hand s = record { name = name_of s; request = request_of s.op s.seen.version; sought = None; has_asked = false }
 
 unfoldable pub attempts : Seat → SessionState → Bool → SessionState
-attempts k s has_shifted = record s { attempt = attempt_begun k.places (bits_of k) s.attempt (request_in_hand s) s.seen AtCall s.spare s.is_orphaned; step = Attempts has_shifted }
+attempts k s has_shifted = record s { attempt = attempt_begun k.places (bits_of k) (request_in_hand s) s.seen AtCall s.spare s.is_orphaned; step = Attempts has_shifted }
 
 -- the request at an index is attempted, and past the last the poll is answered
 abbrev pub polls_request : Seat → SessionState → ℕ → Option PendingRequest → SessionState
 polls_request k s index None = answers_after_turn s (told.Polled (length s.requests))
-polls_request k s index (Some pending) = record s { attempt = attempt_begun k.places (bits_of k) s.attempt pending s.seen AtPoll s.spare s.is_orphaned; step = Polls index }
+polls_request k s index (Some pending) = record s { attempt = attempt_begun k.places (bits_of k) pending s.seen AtPoll s.spare s.is_orphaned; step = Polls index }
 
 unfoldable pub polls_at : Seat → SessionState → ℕ → SessionState
 polls_at k s index = polls_request k s index (slice_get s.requests index)

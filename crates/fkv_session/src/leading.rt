@@ -64,7 +64,7 @@ impl Context {
         self.step = Sitting::Attempts(has_shifted);
         let ask = self
             .attempt
-            .start(pending, seen, Occasion::Call, spare, is_orphaned);
+            .start(&pending, seen, Occasion::Call, spare, is_orphaned);
         passed(ask, Told::Slept)
     }
 
@@ -167,7 +167,7 @@ impl Context {
         ensures next { self.new ≡ record self.old { state = accepts self.old.state why } }
         ensures ask { result ≡ session_ask self.old.seat self.new.state }
     {
-        let pending = self.attempt.pending();
+        let pending = *self.attempt.pending();
         if is_read(self.op) {
             self.ticket = ticket_after(self.ticket);
             let told = Told::PendingRead(Ticket(self.ticket));
@@ -324,8 +324,8 @@ fn ticket_after(ticket: u64) -> u64
 }
 
 /// The entry of the history that this effect makes. A read has none.
-fn entry_of(number: usize, pending: PendingRequest, its: Reply) -> Option<HistoryEntry>
-    ensures { result ≡ entry_of number pending pending.name (Some its) }
+fn entry_of(number: usize, pending: &PendingRequest, its: Reply) -> Option<HistoryEntry>
+    ensures { result ≡ entry_of number pending.now pending.now.name (Some its) }
 {
     match pending.name {
         RequestName::Update(serial) => Some(HistoryEntry {

@@ -50,7 +50,7 @@ impl Context {
                 self.step = Sitting::Polls(index);
                 let ask = self
                     .attempt
-                    .start(pending, seen, Occasion::Poll, spare, is_orphaned);
+                    .start(&pending, seen, Occasion::Poll, spare, is_orphaned);
                 passed(ask, Told::Slept)
             }
         }
@@ -107,7 +107,7 @@ impl Context {
         ensures next { self.new ≡ record self.old { state = finishes_request self.old.seat self.old.state index answer } }
         ensures ask { result ≡ session_ask self.old.seat self.new.state }
     {
-        let pending = self.attempt.pending();
+        let pending = *self.attempt.pending();
         self.finished.push(finished_of(pending.name, answer));
         self.requests.remove(index);
         self.step = Sitting::StoresOwing(index);
@@ -136,7 +136,7 @@ impl Context {
         ensures next { self.new ≡ record self.old { state = keeps_request self.old.seat self.old.state index answer } }
         ensures ask { result ≡ session_ask self.old.seat self.new.state }
     {
-        self.requests.set(index, self.attempt.pending());
+        self.requests.set(index, *self.attempt.pending());
         self.wants_turn = self.wants_turn || lacks_room(answer);
         self.poll_at(index + 1)
     }

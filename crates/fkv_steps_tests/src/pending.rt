@@ -179,7 +179,7 @@ fn attempts(
             read_only: Addr(5),
         },
     };
-    let mut ask = machine.start(pending, seen, step.occasion, 0, false);
+    let mut ask = machine.start(&pending, seen, step.occasion, 0, false);
     for (number, wanted) in step.asks.iter().enumerate() {
         assert_eq!(rt; ask, *wanted, "at ask {number}");
         let makes_effect = matches!(ask, Ask::Cas(place, _, _) if place != 3);
@@ -210,7 +210,7 @@ fn goes_on(
     for step in steps {
         store(&mut plane, step.words);
         attempts(rt, &mut plane, &mut machine, pending, step);
-        pending = machine.pending();
+        pending = *machine.pending();
         if step.left.is_some() {
             assert_eq!(rt; pending, request(op, step.left));
         }

@@ -113,5 +113,5 @@ pub append_next_outer : (p : Places) (room : ℕ) (a : AppendState) (reply : ℕ
 append_next_outer p room a reply its = next_outer p room a a.step reply refl its.place
 
 -- as it begins
-pub append_begun_outer : (p : Places) (a : AppendState) (slot : FoundSlot) (its : RecordWords) → is_guarded p slot.place ≡ false → IsAppendOuter p (append_begun a slot its)
-append_begun_outer p a slot its outer = record { place = outer; publishes = tt }
+pub append_begun_outer : (p : Places) (slot : FoundSlot) (its : RecordWords) → is_guarded p slot.place ≡ false → IsAppendOuter p (append_begun slot its)
+append_begun_outer p slot its outer = record { place = outer; publishes = tt }

@@ -29,7 +29,7 @@ use Rattle.fkv_pending.specs.declared.mailing.Mailing.TheVariants.{LoadsState}
 use Rattle.fkv_pending.specs.declared.pending_requests.PendingRequest.{PendingRequest}
 use Rattle.fkv_pending.specs.Mailing.{mail_ask, mail_next}
 use Rattle.fkv_pending.specs.Pending.{with_sought, with_held, with_latch, with_asked}
-use Rattle.fkv_pending.specs.Attempting.{AttemptState, attempt_ended, waits_for_disk, puts_addr, puts, tries, is_seeking_read, goes_on, attempt_begun, held_of, moved_on, read_on, record_taken, look_ledto, held_kept, tried, try_ledto, put_ledto, mail_moved, attempting_next}
+use Rattle.fkv_pending.specs.Attempting.{AttemptState, attempt_ended, waits_for_disk, puts_addr, puts, tries, is_seeking_read, goes_on, attempt_begun, held_of, moved_on, read_on, record_taken, look_ledto, held_kept, tried, try_ledto, put_ledto, mail_moved, attempting_next, new_attempt}
 use Rattle.fkv_flush.specs.GuardSeen.{LastSeen}
 use Rattle.fkv_flush.proofs.Shown.{Likeness}
 use Rattle.law_guard.specs.Sessions.Likenesses.{through}
@@ -55,14 +55,14 @@ module _ (protected : Bool) where
   puts_led seen a (Some sought) = Keeps refl refl
 
   tries_led : (p : Places) (bits : ℕ) (seen : LastSeen) (a : AttemptState) → Free seen (tries p bits a)
-  tries_led p bits seen a = begun_free protected p bits seen a.trial a.pending.request a.seen a.occasion a.spare
+  tries_led p bits seen a = begun_free protected p bits seen a.pending.request a.seen a.occasion a.spare
 
   goes_led : (p : Places) (bits : ℕ) (seen : LastSeen) (a : AttemptState) → Free seen (goes_on p bits a)
   goes_led p bits seen a = either_led (is_seeking_read a) seen (puts a) (tries p bits a) (puts_led seen a a.pending.sought) (tries_led p bits seen a)
 
-  pub attempt_begun_led : (p : Places) (bits : ℕ) (seen : LastSeen) (a : AttemptState) (pending : PendingRequest) (its_seen : Seen) (occasion : Occasion) (spare : ℕ) (is_orphaned : Bool) → Free seen (attempt_begun p bits a pending its_seen occasion spare is_orphaned)
-  attempt_begun_led p bits seen a pending its_seen occasion spare is_orphaned =
-      let first : AttemptState = record a { pending = pending; seen = its_seen; occasion = occasion; spare = spare; is_orphaned = is_orphaned; is_emptied = false; effect = None } in
+  pub attempt_begun_led : (p : Places) (bits : ℕ) (seen : LastSeen) (pending : PendingRequest) (its_seen : Seen) (occasion : Occasion) (spare : ℕ) (is_orphaned : Bool) → Free seen (attempt_begun p bits pending its_seen occasion spare is_orphaned)
+  attempt_begun_led p bits seen pending its_seen occasion spare is_orphaned =
+      let first : AttemptState = new_attempt bits pending its_seen occasion spare is_orphaned in
       either_led pending.has_asked seen (record first { mailing = LoadsState Take; step = Looks }) (goes_on p bits first) (Keeps refl refl) (goes_led p bits seen first)
 
   read_led : (seen : LastSeen) (a : AttemptState) (its : MailRecord) (said : HeaderSaid) → Free seen (read_on a its said)

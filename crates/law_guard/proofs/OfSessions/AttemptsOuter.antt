@@ -28,7 +28,7 @@ use Rattle.fkv_pending.specs.declared.mailing.Mailing.TheVariants as mailing
 use Rattle.fkv_pending.specs.declared.pending_requests.PendingRequest.{PendingRequest}
 use Rattle.fkv_pending.specs.Mailing.{mail_ask, mail_next}
 use Rattle.fkv_pending.specs.Pending.{with_sought, with_held, with_latch, with_asked}
-use Rattle.fkv_pending.specs.Attempting.{AttemptState, attempting_ask, attempt_ended, waits_for_disk, puts_addr, puts, tries, is_seeking_read, goes_on, attempt_begun, held_of, moved_on, read_on, record_taken, look_ledto, held_kept, tried, try_ledto, put_ledto, mail_moved, try_moved, attempting_next, attempt_next}
+use Rattle.fkv_pending.specs.Attempting.{AttemptState, attempting_ask, attempt_ended, waits_for_disk, puts_addr, puts, tries, is_seeking_read, goes_on, attempt_begun, held_of, moved_on, read_on, record_taken, look_ledto, held_kept, tried, try_ledto, put_ledto, mail_moved, try_moved, attempting_next, attempt_next, new_attempt}
 use Rattle.law_guard.specs.Sessions.Attempts.{AttemptWritesOuter}
 use Rattle.law_guard.proofs.OfSessions.TriesOuter.{IsTryOuter, try_owes, try_next_outer, try_begun_outer}
 
@@ -64,15 +64,15 @@ puts_outer p a None = tt
 puts_outer p a (Some sought) = tt
 
 tries_outer : (p : Places) (bits : ℕ) (a : AttemptState) → HomesAreLow p bits → IsAttemptOuter p (tries p bits a)
-tries_outer p bits a homes = try_begun_outer p bits a.trial a.pending.request a.seen a.occasion a.spare (homes (key_of a.pending.request.op))
+tries_outer p bits a homes = try_begun_outer p bits a.pending.request a.seen a.occasion a.spare (homes (key_of a.pending.request.op))
 
 goes_outer : (p : Places) (bits : ℕ) (a : AttemptState) → HomesAreLow p bits → IsAttemptOuter p (goes_on p bits a)
 goes_outer p bits a homes = either_outer (is_seeking_read a) p (puts a) (tries p bits a) (puts_outer p a a.pending.sought) (tries_outer p bits a homes)
 
-pub attempt_begun_outer : (p : Places) (bits : ℕ) (a : AttemptState) (pending : PendingRequest) (seen : Seen) (occasion : Occasion) (spare : ℕ) (is_orphaned : Bool) → HomesAreLow p bits
-    → IsAttemptOuter p (attempt_begun p bits a pending seen occasion spare is_orphaned)
-attempt_begun_outer p bits a pending seen occasion spare is_orphaned homes =
-    let first : AttemptState = record a { pending = pending; seen = seen; occasion = occasion; spare = spare; is_orphaned = is_orphaned; is_emptied = false; effect = None } in
+pub attempt_begun_outer : (p : Places) (bits : ℕ) (pending : PendingRequest) (seen : Seen) (occasion : Occasion) (spare : ℕ) (is_orphaned : Bool) → HomesAreLow p bits
+    → IsAttemptOuter p (attempt_begun p bits pending seen occasion spare is_orphaned)
+attempt_begun_outer p bits pending seen occasion spare is_orphaned homes =
+    let first : AttemptState = new_attempt bits pending seen occasion spare is_orphaned in
     either_outer pending.has_asked p (record first { mailing = mailing.LoadsState Take; step = Looks }) (goes_on p bits first) tt (goes_outer p bits first homes)
 
 read_outer : (p : Places) (a : AttemptState) (its : MailRecord) (said : HeaderSaid) → IsAttemptOuter p (read_on a its said)

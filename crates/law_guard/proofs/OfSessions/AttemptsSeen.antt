@@ -25,7 +25,7 @@ use Rattle.fkv_pending.specs.declared.mailing.Mailing.TheVariants as mailing
 use Rattle.fkv_pending.specs.declared.pending_requests.PendingRequest.{PendingRequest}
 use Rattle.fkv_pending.specs.Mailing.{mail_ask, mail_next}
 use Rattle.fkv_pending.specs.Pending.{with_sought, with_held, with_latch, with_asked}
-use Rattle.fkv_pending.specs.Attempting.{AttemptState, attempt_ended, waits_for_disk, puts_addr, puts, tries, is_seeking_read, goes_on, attempt_begun, held_of, moved_on, read_on, record_taken, look_ledto, held_kept, tried, try_ledto, put_ledto, mail_moved, try_moved, attempting_next, attempt_next}
+use Rattle.fkv_pending.specs.Attempting.{AttemptState, attempt_ended, waits_for_disk, puts_addr, puts, tries, is_seeking_read, goes_on, attempt_begun, held_of, moved_on, read_on, record_taken, look_ledto, held_kept, tried, try_ledto, put_ledto, mail_moved, try_moved, attempting_next, attempt_next, new_attempt}
 use Rattle.law_guard.proofs.OfSessions.TriesSeen.{IsTryAbove, try_next_above, try_begun_above}
 
 abbrev pub AttemptAbove : Seen → AttemptState → Attempting → Type 0
@@ -49,14 +49,14 @@ puts_above seen a None same = record { same = same; above = tt }
 puts_above seen a (Some sought) same = record { same = same; above = tt }
 
 tries_above : (p : Places) (bits : ℕ) (seen : Seen) (a : AttemptState) → a.seen ≡ seen → IsAttemptAbove seen (tries p bits a)
-tries_above p bits seen a same = record { same = same; above = subst (λ s. IsTryAbove s (tries p bits a).trial) same (try_begun_above p bits a.trial a.pending.request a.seen a.occasion a.spare) }
+tries_above p bits seen a same = record { same = same; above = subst (λ s. IsTryAbove s (tries p bits a).trial) same (try_begun_above p bits a.pending.request a.seen a.occasion a.spare) }
 
 goes_above : (p : Places) (bits : ℕ) (seen : Seen) (a : AttemptState) → a.seen ≡ seen → IsAttemptAbove seen (goes_on p bits a)
 goes_above p bits seen a same = either_above (is_seeking_read a) seen (puts a) (tries p bits a) (puts_above seen a a.pending.sought same) (tries_above p bits seen a same)
 
-pub attempt_begun_above : (p : Places) (bits : ℕ) (a : AttemptState) (pending : PendingRequest) (seen : Seen) (occasion : Occasion) (spare : ℕ) (is_orphaned : Bool) → IsAttemptAbove seen (attempt_begun p bits a pending seen occasion spare is_orphaned)
-attempt_begun_above p bits a pending seen occasion spare is_orphaned =
-    let first : AttemptState = record a { pending = pending; seen = seen; occasion = occasion; spare = spare; is_orphaned = is_orphaned; is_emptied = false; effect = None } in
+pub attempt_begun_above : (p : Places) (bits : ℕ) (pending : PendingRequest) (seen : Seen) (occasion : Occasion) (spare : ℕ) (is_orphaned : Bool) → IsAttemptAbove seen (attempt_begun p bits pending seen occasion spare is_orphaned)
+attempt_begun_above p bits pending seen occasion spare is_orphaned =
+    let first : AttemptState = new_attempt bits pending seen occasion spare is_orphaned in
     either_above pending.has_asked seen (record first { mailing = mailing.LoadsState Take; step = Looks }) (goes_on p bits first) (record { same = refl; above = tt }) (goes_above p bits seen first refl)
 
 read_above : (seen : Seen) (a : AttemptState) (its : MailRecord) (said : HeaderSaid) → a.seen ≡ seen → IsAttemptAbove seen (read_on a its said)

@@ -70,15 +70,15 @@ module _ (protected : Bool) (k : Seat) where
   attempts_led : (s : SessionState) (has_shifted : Bool) → Free (last_seen s.seen) (attempts k s has_shifted)
   unfolding attempts
   attempts_led s has_shifted = record {
-    leads = attempt_begun_led protected k.places (bits_of k) (last_seen s.seen) s.attempt (request_in_hand s) s.seen AtCall s.spare s.is_orphaned;
-    knows = attempt_begun_rests k.places (bits_of k) s.attempt (request_in_hand s) s.seen AtCall s.spare s.is_orphaned;
+    leads = attempt_begun_led protected k.places (bits_of k) (last_seen s.seen) (request_in_hand s) s.seen AtCall s.spare s.is_orphaned;
+    knows = attempt_begun_rests k.places (bits_of k) (request_in_hand s) s.seen AtCall s.spare s.is_orphaned;
   }
 
   polls_request_led : (s : SessionState) (index : ℕ) (found : Option PendingRequest) → Free (last_seen s.seen) (polls_request k s index found)
   polls_request_led s index None = turn_after_led s (told.Polled (length s.requests))
   polls_request_led s index (Some pending) = record {
-    leads = attempt_begun_led protected k.places (bits_of k) (last_seen s.seen) s.attempt pending s.seen AtPoll s.spare s.is_orphaned;
-    knows = attempt_begun_rests k.places (bits_of k) s.attempt pending s.seen AtPoll s.spare s.is_orphaned;
+    leads = attempt_begun_led protected k.places (bits_of k) (last_seen s.seen) pending s.seen AtPoll s.spare s.is_orphaned;
+    knows = attempt_begun_rests k.places (bits_of k) pending s.seen AtPoll s.spare s.is_orphaned;
   }
 
   pub polls_led : (s : SessionState) (index : ℕ) → Free (last_seen s.seen) (polls_at k s index)

@@ -85,11 +85,11 @@ turn_after_outer p s its = either_outer s.wants_turn p (record s { own_turn = ow
 
 attempts_outer : (k : Seat) (homes : Homes k) (s : SessionState) (has_shifted : Bool) → IsSessionOuter k.places (attempts k s has_shifted)
 unfolding attempts
-attempts_outer k homes s has_shifted = attempt_begun_outer k.places (bits_of k) s.attempt (request_in_hand s) s.seen AtCall s.spare s.is_orphaned homes
+attempts_outer k homes s has_shifted = attempt_begun_outer k.places (bits_of k) (request_in_hand s) s.seen AtCall s.spare s.is_orphaned homes
 
 polls_request_outer : (k : Seat) (homes : Homes k) (s : SessionState) (index : ℕ) (found : Option PendingRequest) → IsSessionOuter k.places (polls_request k s index found)
 polls_request_outer k homes s index None = turn_after_outer k.places s (told.Polled (length s.requests))
-polls_request_outer k homes s index (Some pending) = attempt_begun_outer k.places (bits_of k) s.attempt pending s.seen AtPoll s.spare s.is_orphaned homes
+polls_request_outer k homes s index (Some pending) = attempt_begun_outer k.places (bits_of k) pending s.seen AtPoll s.spare s.is_orphaned homes
 
 polls_outer : (k : Seat) (homes : Homes k) (s : SessionState) (index : ℕ) → IsSessionOuter k.places (polls_at k s index)
 unfolding polls_at

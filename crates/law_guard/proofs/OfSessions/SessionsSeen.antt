@@ -56,11 +56,11 @@ turn_after_above s its = either_above s.wants_turn (record s { own_turn = own_tu
 
 attempts_above : (k : Seat) (s : SessionState) (has_shifted : Bool) → IsSessionAbove (attempts k s has_shifted)
 unfolding attempts
-attempts_above k s has_shifted = attempt_begun_above k.places (bits_of k) s.attempt (request_in_hand s) s.seen AtCall s.spare s.is_orphaned
+attempts_above k s has_shifted = attempt_begun_above k.places (bits_of k) (request_in_hand s) s.seen AtCall s.spare s.is_orphaned
 
 polls_request_above : (k : Seat) (s : SessionState) (index : ℕ) (found : Option PendingRequest) → IsSessionAbove (polls_request k s index found)
 polls_request_above k s index None = turn_after_above s (told.Polled (length s.requests))
-polls_request_above k s index (Some pending) = attempt_begun_above k.places (bits_of k) s.attempt pending s.seen AtPoll s.spare s.is_orphaned
+polls_request_above k s index (Some pending) = attempt_begun_above k.places (bits_of k) pending s.seen AtPoll s.spare s.is_orphaned
 
 polls_above : (k : Seat) (s : SessionState) (index : ℕ) → IsSessionAbove (polls_at k s index)
 unfolding polls_at

@@ -37,7 +37,7 @@ use Rattle.fkv_ops.specs.Values.{value_of}
 use Rattle.fkv_ops.specs.Requests.{is_read, is_blind}
 use Rattle.fkv_ops.specs.Walking.{walk_ask, walk_next, walk_on}
 use Rattle.fkv_ops.specs.Appending.{AppendState, append_ask}
-use Rattle.fkv_ops.specs.Trying.{TryState, with_latch, is_wait, ended_without, ends, takes_effect, full_at, walks, wants_shared, try_begun, shared_ledto, must_shift, wants_exclusive, appends, copies_from, copies, awaits, held_used, met_nowhere, met_disk, changes, is_own_version, region_met, met_record, walked, has_walked, walk_ledto, current_ledto, told_value, answer_ledto, exclusive_ledto, old_ledto, append_ledto, exclusive_dropped, shared_dropped, latch_moved, walk_moved, trying_next}
+use Rattle.fkv_ops.specs.Trying.{TryState, with_latch, is_wait, ended_without, ends, takes_effect, full_at, walks, wants_shared, try_begun, shared_ledto, must_shift, wants_exclusive, appends, copies_from, copies, awaits, held_used, met_nowhere, met_disk, changes, is_own_version, region_met, met_record, walked, has_walked, walk_ledto, current_ledto, told_value, answer_ledto, exclusive_ledto, old_ledto, append_ledto, exclusive_dropped, shared_dropped, latch_moved, walk_moved, trying_next, new_try}
 use Rattle.fkv_ops.proofs.Shown.{is_append_end, AppendRestsOrAsks, append_done}
 use Rattle.fkv_index.specs.Slots.{home_of}
 use Rattle.fkv_flush.specs.GuardSeen.{LastSeen}
@@ -208,12 +208,12 @@ try_free p room seen t (DropsExclusive its) reply at other = dropped_led p seen 
 try_free p room seen t (DropsShared its) reply at other = unshared_led seen (latch_moved t reply) its (latch_next_ask t.latching reply) at
 
 -- how a try begins, whoever does
-pub begun_free : (protected : Bool) (p : Places) (bits : ℕ) (seen : LastSeen) (t : TryState) (request : Request) (its_seen : Seen) (occasion : Occasion) (spare : ℕ)
-    → (let after : TryState = try_begun p bits t request its_seen occasion spare in Leads protected (through seen) (try_onward after after.step) (try_likeness seen after))
-begun_free protected p bits seen t request its_seen occasion spare = by_test (wants_shared its)
+pub begun_free : (protected : Bool) (p : Places) (bits : ℕ) (seen : LastSeen) (request : Request) (its_seen : Seen) (occasion : Occasion) (spare : ℕ)
+    → (let after : TryState = try_begun p bits request its_seen occasion spare in Leads protected (through seen) (try_onward after after.step) (try_likeness seen after))
+begun_free protected p bits seen request its_seen occasion spare = by_test (wants_shared its)
   where
     its : TryState
-    its = record t { request = request; seen = its_seen; occasion = occasion; home = home_of bits (key_of request.op); has_shared = request.has_latch; has_exclusive = false; effect = None; spare = spare }
+    its = new_try bits request its_seen occasion spare
 
     by_test : (b : Bool) → (let after : TryState = if b then with_latch p its TakeShared TakesShared else walks p its in Leads protected (through seen) (try_onward after after.step) (try_likeness seen after))
     by_test true = Keeps refl refl

@@ -41,7 +41,7 @@ use Rattle.fkv_ops.specs.Values.{value_of}
 use Rattle.fkv_ops.specs.Requests.{purpose_of, is_read, is_blind}
 use Rattle.fkv_ops.specs.Walking.{WalkState, walk_ask, walk_next, walk_on}
 use Rattle.fkv_ops.specs.Appending.{append_ask, append_next}
-use Rattle.fkv_ops.specs.Trying.{TryState, trying_ask, with_latch, is_wait, ended_without, ends, takes_effect, walks, wants_shared, try_begun, shared_ledto, must_shift, wants_exclusive, slot_of, words_of, appends, copies_from, copies, awaits, held_used, met_nowhere, met_disk, changes, is_own_version, region_met, met_record, walked, has_walked, walk_ledto, safe_loaded, current_ledto, value_changed, told_value, answer_ledto, exclusive_ledto, old_ledto, append_ledto, exclusive_dropped, shared_dropped, latch_moved, trying_next, try_next}
+use Rattle.fkv_ops.specs.Trying.{TryState, trying_ask, with_latch, is_wait, ended_without, ends, takes_effect, walks, wants_shared, try_begun, shared_ledto, must_shift, wants_exclusive, slot_of, words_of, appends, copies_from, copies, awaits, held_used, met_nowhere, met_disk, changes, is_own_version, region_met, met_record, walked, has_walked, walk_ledto, safe_loaded, current_ledto, value_changed, told_value, answer_ledto, exclusive_ledto, old_ledto, append_ledto, exclusive_dropped, shared_dropped, latch_moved, trying_next, try_next, new_try}
 use Rattle.law_guard.specs.Sessions.Steps.{IsOuter}
 use Rattle.law_guard.specs.Sessions.Tries.{TryWritesOuter}
 use Rattle.law_guard.proofs.OfSessions.OuterAsks.{passed_is_outer, IsLatchOuter, latch_outer, latch_next_outer, latch_first_outer}
@@ -119,11 +119,11 @@ may_link (op.Read key) e never = cc
 may_link its e never = cc
 
 walks_outer : (p : Places) (t : TryState) → t.home.bucket < p.buckets → IsTryOuter p (walks p t)
-walks_outer p t low = record { low = low; row = walk_begun_outer p (is_read t.request.op) t.home t.walk (key_of t.request.op) (purpose_of t.request.op) t.seen.offsets.head t.spare low (may_link t.request.op) }
+walks_outer p t low = record { low = low; row = walk_begun_outer p (is_read t.request.op) t.home (key_of t.request.op) (purpose_of t.request.op) t.seen.offsets.head t.spare low (may_link t.request.op) }
 
 appends_outer : (p : Places) (t : TryState) (old : ℕ) → t.home.bucket < p.buckets → is_guarded p t.walk.place ≡ false → IsTryOuter p (appends t old)
 unfolding appends
-appends_outer p t old low place = record { low = low; row = append_begun_outer p t.append (slot_of t) (words_of t.request t.walk.entry (value_of old)) place }
+appends_outer p t old low place = record { low = low; row = append_begun_outer p (slot_of t) (words_of t.request t.walk.entry (value_of old)) place }
 
 copies_from_outer : (p : Places) (t : TryState) (old : OldValue) → t.home.bucket < p.buckets → HasWalked p t.walk → IsTryOuter p (copies_from t old)
 unfolding copies_from
@@ -296,7 +296,7 @@ pub try_next_outer : (p : Places) (room : ℕ) (t : TryState) (reply : ℕ) → 
 try_next_outer p room t reply its = next_outer p room (record t { effect = None }) t.step reply refl its.low (effect_outer p t t.step its.row)
 
 -- as it begins
-pub try_begun_outer : (p : Places) (bits : ℕ) (t : TryState) (request : Request) (seen : Seen) (occasion : Occasion) (spare : ℕ) → (home_of bits (key_of request.op)).bucket < p.buckets → IsTryOuter p (try_begun p bits t request seen occasion spare)
-try_begun_outer p bits t request seen occasion spare low =
-    let its : TryState = record t { request = request; seen = seen; occasion = occasion; home = home_of bits (key_of request.op); has_shared = request.has_latch; has_exclusive = false; effect = None; spare = spare } in
+pub try_begun_outer : (p : Places) (bits : ℕ) (request : Request) (seen : Seen) (occasion : Occasion) (spare : ℕ) → (home_of bits (key_of request.op)).bucket < p.buckets → IsTryOuter p (try_begun p bits request seen occasion spare)
+try_begun_outer p bits request seen occasion spare low =
+    let its : TryState = new_try bits request seen occasion spare in
     either_outer (wants_shared its) p (with_latch p its TakeShared TakesShared) (walks p its) (record { low = low; row = latch_first_outer p TakeShared (home_of bits (key_of request.op)).bucket low }) (walks_outer p its low)

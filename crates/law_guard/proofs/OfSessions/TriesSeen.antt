@@ -36,7 +36,7 @@ use Rattle.fkv_ops.specs.Values.{value_of}
 use Rattle.fkv_ops.specs.Requests.{is_read, is_blind}
 use Rattle.fkv_ops.specs.Walking.{walk_ask, walk_next, walk_on}
 use Rattle.fkv_ops.specs.Appending.{append_ask, append_next}
-use Rattle.fkv_ops.specs.Trying.{TryState, with_latch, is_wait, ended_without, ends, takes_effect, walks, wants_shared, try_begun, shared_ledto, must_shift, wants_exclusive, appends, copies_from, copies, awaits, held_used, met_nowhere, met_disk, changes, is_own_version, region_met, met_record, walked, has_walked, walk_ledto, safe_loaded, current_ledto, value_changed, told_value, answer_ledto, exclusive_ledto, old_ledto, append_ledto, exclusive_dropped, shared_dropped, latch_moved, trying_next, try_next}
+use Rattle.fkv_ops.specs.Trying.{TryState, with_latch, is_wait, ended_without, ends, takes_effect, walks, wants_shared, try_begun, shared_ledto, must_shift, wants_exclusive, appends, copies_from, copies, awaits, held_used, met_nowhere, met_disk, changes, is_own_version, region_met, met_record, walked, has_walked, walk_ledto, safe_loaded, current_ledto, value_changed, told_value, answer_ledto, exclusive_ledto, old_ledto, append_ledto, exclusive_dropped, shared_dropped, latch_moved, trying_next, try_next, new_try}
 use Rattle.law_guard.proofs.OfSessions.WalksSeen.{IsWalkAbove, TellsAbove, AsksAbove, walk_tells_above, walk_next_above}
 
 -- by its step: its walk goes by the head that was seen, and what it has come to change lies at or above the read-only offset
@@ -232,7 +232,7 @@ pub try_next_above : (p : Places) (room : ℕ) (seen : Seen) (t : TryState) (rep
 try_next_above p room seen t reply its = next_above p room seen (record t { effect = None }) t.step reply refl its.same (effect_above t t.step its.above)
 
 -- as it begins
-pub try_begun_above : (p : Places) (bits : ℕ) (t : TryState) (request : Request) (seen : Seen) (occasion : Occasion) (spare : ℕ) → IsTryAbove seen (try_begun p bits t request seen occasion spare)
-try_begun_above p bits t request seen occasion spare =
-    let its : TryState = record t { request = request; seen = seen; occasion = occasion; home = home_of bits (key_of request.op); has_shared = request.has_latch; has_exclusive = false; effect = None; spare = spare } in
+pub try_begun_above : (p : Places) (bits : ℕ) (request : Request) (seen : Seen) (occasion : Occasion) (spare : ℕ) → IsTryAbove seen (try_begun p bits request seen occasion spare)
+try_begun_above p bits request seen occasion spare =
+    let its : TryState = new_try bits request seen occasion spare in
     either_above (wants_shared its) seen (with_latch p its TakeShared TakesShared) (walks p its) (record { same = refl; above = tt }) (walks_above p seen its refl)

@@ -198,6 +198,6 @@ pub walk_on_outer : (p : Places) (reads : Bool) (w : WalkState) → IsWalkOuter 
 walk_on_outer p reads w row = on_outer p reads w w.step refl row
 
 -- as it begins
-pub walk_begun_outer : (p : Places) (reads : Bool) (home : Home) (w : WalkState) (key : Key) (purpose : Purpose) (head : Addr) (spare : ℕ) → home.bucket < p.buckets → (reads ≡ false → linking_for purpose ≡ Never → ⊥)
-    → IsWalkOuter p reads (walk_begun p home w key purpose head spare)
+pub walk_begun_outer : (p : Places) (reads : Bool) (home : Home) (key : Key) (purpose : Purpose) (head : Addr) (spare : ℕ) → home.bucket < p.buckets → (reads ≡ false → linking_for purpose ≡ Never → ⊥)
+    → IsWalkOuter p reads (walk_begun p home key purpose head spare)
 walk_begun_outer p reads home w key purpose head spare low links = (first_outer p home purpose spare low, links)

@@ -25,7 +25,7 @@ use Rattle.fkv_pending.specs.declared.mailing.Mailing.TheVariants.{LoadsState, S
 use Rattle.fkv_pending.specs.declared.pending_requests.PendingRequest.{PendingRequest}
 use Rattle.fkv_pending.specs.Mailing.{mail_ask, mail_next}
 use Rattle.fkv_pending.specs.Pending.{with_sought, with_held, with_latch, with_asked}
-use Rattle.fkv_pending.specs.Attempting.{AttemptState, attempt_begun, attempt_ended, waits_for_disk, puts_addr, puts, tries, is_seeking_read, goes_on, held_of, moved_on, read_on, record_taken, not_ready, look_ledto, held_kept, awaits_record, leaves, tried, try_ledto, put_ledto, mail_moved, try_moved, attempting_next, attempt_next}
+use Rattle.fkv_pending.specs.Attempting.{AttemptState, attempt_begun, attempt_ended, waits_for_disk, puts_addr, puts, tries, is_seeking_read, goes_on, held_of, moved_on, read_on, record_taken, not_ready, look_ledto, held_kept, awaits_record, leaves, tried, try_ledto, put_ledto, mail_moved, try_moved, attempting_next, attempt_next, new_attempt}
 use Rattle.law_local.specs.Sessions.Inputs.{IsTryFor, TriesFor, GoesBy}
 use Rattle.law_local.proofs.OfSessions.TryInputs.{try_so, begun_so}
 
@@ -126,9 +126,9 @@ module _ (bits : ℕ) (seen : Seen) (occasion : Occasion) where
   attempt_goes p room session a reply its = step_goes p room session a a.step reply refl (its.its_seen, its.its_occasion) its.its_try
 
   -- and how it begins
-  pub begun_goes : (p : Places) (a : AttemptState) (pending : PendingRequest) (spare : ℕ) (is_orphaned : Bool) → GoesBy bits seen occasion (attempt_begun p bits a pending seen occasion spare is_orphaned)
-  begun_goes p a pending spare is_orphaned =
-      let its : AttemptState = record a { pending = pending; seen = seen; occasion = occasion; spare = spare; is_orphaned = is_orphaned; is_emptied = false; effect = None } in
+  pub begun_goes : (p : Places) (pending : PendingRequest) (spare : ℕ) (is_orphaned : Bool) → GoesBy bits seen occasion (attempt_begun p bits pending seen occasion spare is_orphaned)
+  begun_goes p pending spare is_orphaned =
+      let its : AttemptState = new_attempt bits pending seen occasion spare is_orphaned in
       let looks : AttemptState = record its { mailing = LoadsState Take; step = Looks } in
       either_goes pending.has_asked looks (goes_on p bits its) (made looks Looks refl (refl, refl) tt)
       (either_goes (is_seeking_read its) (puts its) (tries p bits its) (puts_goes its (refl, refl)) (tries_goes p its (refl, refl)))
@@ -142,8 +142,8 @@ puts_pending : (a : AttemptState) (sought : Option DiskRecord) → (puts_addr a 
 puts_pending a None = refl
 puts_pending a (Some sought) = refl
 
-pub begun_pending : (p : Places) (bits : ℕ) (a : AttemptState) (pending : PendingRequest) (seen : Seen) (occasion : Occasion) (spare : ℕ) (is_orphaned : Bool) → (attempt_begun p bits a pending seen occasion spare is_orphaned).pending ≡ pending
-begun_pending p bits a pending seen occasion spare is_orphaned =
-    let its : AttemptState = record a { pending = pending; seen = seen; occasion = occasion; spare = spare; is_orphaned = is_orphaned; is_emptied = false; effect = None } in
+pub begun_pending : (p : Places) (bits : ℕ) (pending : PendingRequest) (seen : Seen) (occasion : Occasion) (spare : ℕ) (is_orphaned : Bool) → (attempt_begun p bits pending seen occasion spare is_orphaned).pending ≡ pending
+begun_pending p bits pending seen occasion spare is_orphaned =
+    let its : AttemptState = new_attempt bits pending seen occasion spare is_orphaned in
     either_pending pending.has_asked (record its { mailing = LoadsState Take; step = Looks }) (goes_on p bits its) pending refl
     (either_pending (is_seeking_read its) (puts its) (tries p bits its) pending (puts_pending its pending.sought) refl)

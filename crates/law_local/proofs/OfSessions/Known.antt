@@ -96,11 +96,11 @@ module _ (P : PendingRequest → Type 0) (Q : AttemptState → Type 0) where
   -- an attempt begins
   attempts_known : (k : Seat) (s : SessionState) (has_shifted : Bool) → AllKnown P s.requests → IsKnownAnew k (request_in_hand s) s.seen Q → KnowsRequests P Q (attempts k s has_shifted)
   unfolding attempts
-  attempts_known k s has_shifted all anew = record { waiting = λ index pending got other. all index pending got; attempted = λ e. anew s.attempt s.spare s.is_orphaned }
+  attempts_known k s has_shifted all anew = record { waiting = λ index pending got other. all index pending got; attempted = λ e. anew s.spare s.is_orphaned }
 
   polls_found : (k : Seat) (s : SessionState) (i : ℕ) (found : Option PendingRequest) → slice_get s.requests i ≡ found → AllKnown P s.requests → IsHandedOver k s.seen P Q → KnowsRequests P Q (polls_request k s i found)
   polls_found k s i None got all hands = turn_known s (told.Polled (length s.requests)) all
-  polls_found k s i (Some its) got all hands = record { waiting = λ index pending at other. all index pending at; attempted = λ e. hands s.attempt its s.spare s.is_orphaned (all i its got) }
+  polls_found k s i (Some its) got all hands = record { waiting = λ index pending at other. all index pending at; attempted = λ e. hands its s.spare s.is_orphaned (all i its got) }
 
   polls_known : (k : Seat) (s : SessionState) (i : ℕ) → AllKnown P s.requests → IsHandedOver k s.seen P Q → KnowsRequests P Q (polls_at k s i)
   unfolding polls_at

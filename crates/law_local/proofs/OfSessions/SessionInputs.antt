@@ -52,9 +52,9 @@ turn_by k s its = either_by s.wants_turn k (record s { own_turn = own_turn_begun
 attempts_by : (k : Seat) (s : SessionState) (has_shifted : Bool) → AttemptsSo k (attempts k s has_shifted)
 unfolding attempts
 attempts_by k s has_shifted =
-    let same = begun_pending k.places (bits_of k) s.attempt (request_in_hand s) s.seen AtCall s.spare s.is_orphaned in
+    let same = begun_pending k.places (bits_of k) (request_in_hand s) s.seen AtCall s.spare s.is_orphaned in
     record {
-      goes = begun_goes (bits_of k) s.seen AtCall k.places s.attempt (request_in_hand s) s.spare s.is_orphaned;
+      goes = begun_goes (bits_of k) s.seen AtCall k.places (request_in_hand s) s.spare s.is_orphaned;
       same = record {
         name = ap (λ (pending : PendingRequest). pending.name) same;
         op = ap (λ (pending : PendingRequest). pending.request.op) same;
@@ -65,9 +65,9 @@ attempts_by k s has_shifted =
 polls_found : (k : Seat) (s : SessionState) (i : ℕ) (found : Option PendingRequest) → slice_get s.requests i ≡ found → AttemptsSo k (polls_request k s i found)
 polls_found k s i None got = turn_by k s (told.Polled (length s.requests))
 polls_found k s i (Some its) got =
-    let same = begun_pending k.places (bits_of k) s.attempt its s.seen AtPoll s.spare s.is_orphaned in
+    let same = begun_pending k.places (bits_of k) its s.seen AtPoll s.spare s.is_orphaned in
     record {
-      goes = begun_goes (bits_of k) s.seen AtPoll k.places s.attempt its s.spare s.is_orphaned;
+      goes = begun_goes (bits_of k) s.seen AtPoll k.places its s.spare s.is_orphaned;
       same = record {
         request = its;
         waits = got;

@@ -35,7 +35,7 @@ use Rattle.fkv_ops.specs.Requests.{is_read, is_blind}
 use Rattle.fkv_ops.specs.Values.{value_of}
 use Rattle.fkv_ops.specs.Walking.{walk_ask, walk_next, walk_on}
 use Rattle.fkv_ops.specs.Appending.{append_ask, append_next}
-use Rattle.fkv_ops.specs.Trying.{TryState, with_latch, is_wait, ended_without, ends, takes_effect, full_at, wants_shared, walks, try_begun, shared_ledto, must_shift, wants_exclusive, appends, copies_from, copies, awaits, held_used, changes, is_own_version, region_met, walked, has_walked, walk_ledto, safe_loaded, current_ledto, value_changed, told_value, answer_ledto, exclusive_ledto, old_ledto, append_ledto, exclusive_dropped, shared_dropped, latch_moved, walk_moved, trying_next, try_next}
+use Rattle.fkv_ops.specs.Trying.{TryState, with_latch, is_wait, ended_without, ends, takes_effect, full_at, wants_shared, walks, try_begun, shared_ledto, must_shift, wants_exclusive, appends, copies_from, copies, awaits, held_used, changes, is_own_version, region_met, walked, has_walked, walk_ledto, safe_loaded, current_ledto, value_changed, told_value, answer_ledto, exclusive_ledto, old_ledto, append_ledto, exclusive_dropped, shared_dropped, latch_moved, walk_moved, trying_next, try_next, new_try}
 use Rattle.law_local.specs.Sessions.Inputs.{WalksFor, IsTryFor}
 use Rattle.law_local.specs.Tries.TryRows.{IsWalkFor}
 use Rattle.law_local.proofs.OfSessions.WalkInputs.{walk_for, walk_on_for}
@@ -224,8 +224,8 @@ module _ (bits : ℕ) (request : Request) (seen : Seen) (occasion : Occasion) wh
   try_so p room t reply its = step_so p room (record t { effect = None }) t.step reply refl (its.its_request, its.its_seen, its.its_occasion, its.its_home) its.its_walk
 
   -- and how it begins
-  pub begun_so : (p : Places) (t : TryState) (spare : ℕ) → IsTryFor bits request seen occasion (try_begun p bits t request seen occasion spare)
+  pub begun_so : (p : Places) (t : TryState) (spare : ℕ) → IsTryFor bits request seen occasion (try_begun p bits request seen occasion spare)
   begun_so p t spare =
-      let its : TryState = record t { request = request; seen = seen; occasion = occasion; home = home_of bits (key_of request.op); has_shared = request.has_latch; has_exclusive = false; effect = None; spare = spare } in
+      let its : TryState = new_try bits request seen occasion spare in
       let takes : TryState = with_latch p its TakeShared TakesShared in
       either_so (wants_shared its) takes (walks p its) (made takes TakesShared refl (refl, refl, refl, refl) tt) (walks_so p its (refl, refl, refl, refl))

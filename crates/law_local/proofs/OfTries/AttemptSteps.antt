@@ -31,7 +31,7 @@ use Rattle.fkv_pending.specs.declared.mailing.Mailing.TheVariants.{LoadsState, S
 use Rattle.fkv_pending.specs.declared.pending_requests.PendingRequest.{PendingRequest}
 use Rattle.fkv_pending.specs.Mailing.{mail_ask, mail_next}
 use Rattle.fkv_pending.specs.Pending.{with_sought, with_held, with_latch, with_asked}
-use Rattle.fkv_pending.specs.Attempting.{AttemptState, attempt_ended, waits_for_disk, puts_addr, puts, tries, is_poll, is_seeking_read, goes_on, attempt_begun, held_of, moved_on, read_on, record_taken, not_ready, look_ledto, held_kept, awaits_record, tried, try_ledto, put_ledto, attempting_next, attempt_next}
+use Rattle.fkv_pending.specs.Attempting.{AttemptState, attempt_ended, waits_for_disk, puts_addr, puts, tries, is_poll, is_seeking_read, goes_on, attempt_begun, held_of, moved_on, read_on, record_taken, not_ready, look_ledto, held_kept, awaits_record, tried, try_ledto, put_ledto, attempting_next, attempt_next, new_attempt}
 use Rattle.law_local.specs.Tries.OnWay.{IsOrderly}
 use Rattle.law_local.specs.Tries.HeldRows.{HeldKnows, IsSoughtFrom, SoughtKnows}
 use Rattle.law_local.specs.Tries.MailRows.{MailKnows, PutsThere, PutsSought}
@@ -83,11 +83,11 @@ sought_now pending sought = refl
 -- ---- a try and an ask begin
 tries_knows : (home : ℕ → ℕ) (log : Log) (p : Places) (bits : ℕ) (a : AttemptState) → PendingKnows home log a.pending a.seen → (is_read a.pending.request.op ≡ true → a.pending.has_asked ≡ false) → AttemptKnows home log (tries p bits a)
 tries_knows home log p bits a pending none =
-    let its = begun_for p bits a.trial a.pending.request a.seen a.occasion a.spare in
+    let its = begun_for p bits a.pending.request a.seen a.occasion a.spare in
     record {
       pending = pending;
       row = record {
-        knows = try_begins home log p bits a.trial a.pending.request a.seen a.occasion a.spare pending.request pending.unlatched;
+        knows = try_begins home log p bits a.pending.request a.seen a.occasion a.spare pending.request pending.unlatched;
         its_request = its.its_request;
         its_seen = its.its_seen;
         not_asked = none;
@@ -118,10 +118,10 @@ begun_at : (home : ℕ → ℕ) (log : Log) (p : Places) (bits : ℕ) (a : Attem
 begun_at home log p bits a true pending asks e = record { pending = pending; row = (e, asks, mail_begun log a.pending.sought) }
 begun_at home log p bits a false pending asks e = goes_on_knows home log p bits a pending e
 
-pub attempt_begins : (home : ℕ → ℕ) (log : Log) (p : Places) (bits : ℕ) (a : AttemptState) (pending : PendingRequest) (seen : Seen) (occasion : Occasion) (spare : ℕ) (is_orphaned : Bool) → PendingKnows home log pending seen → AsksAtPoll pending occasion
-    → AttemptKnows home log (attempt_begun p bits a pending seen occasion spare is_orphaned)
-attempt_begins home log p bits a pending seen occasion spare is_orphaned knows asks =
-    begun_at home log p bits (record a { pending = pending; seen = seen; occasion = occasion; spare = spare; is_orphaned = is_orphaned; is_emptied = false; effect = None }) pending.has_asked knows asks refl
+pub attempt_begins : (home : ℕ → ℕ) (log : Log) (p : Places) (bits : ℕ) (pending : PendingRequest) (seen : Seen) (occasion : Occasion) (spare : ℕ) (is_orphaned : Bool) → PendingKnows home log pending seen → AsksAtPoll pending occasion
+    → AttemptKnows home log (attempt_begun p bits pending seen occasion spare is_orphaned)
+attempt_begins home log p bits pending seen occasion spare is_orphaned knows asks =
+    begun_at home log p bits (new_attempt bits pending seen occasion spare is_orphaned) pending.has_asked knows asks refl
 
 -- ---- behind a look into the mailbox
 read_on_knows : (home : ℕ → ℕ) (log : Log) (a : AttemptState) (its : MailRecord) (said : HeaderSaid) → AreChains home log → PendingKnows home log a.pending a.seen → TakenOf log a.pending.sought its → header_said its.header ≡ said

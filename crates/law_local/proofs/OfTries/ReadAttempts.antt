@@ -23,7 +23,7 @@ use Rattle.fkv_ops.specs.declared.trying.Trying.TheVariants as try
 use Rattle.fkv_ops.specs.HeaderWords.{header_said}
 use Rattle.fkv_ops.specs.Requests.{is_read}
 use Rattle.fkv_ops.specs.Values.{value_of}
-use Rattle.fkv_ops.specs.Trying.{TryState, with_latch as with_task, walks, wants_shared, try_begun, told_value, try_ask, try_next}
+use Rattle.fkv_ops.specs.Trying.{TryState, with_latch as with_task, walks, wants_shared, try_begun, told_value, try_ask, try_next, new_try}
 use Rattle.fkv_pending.specs.declared.attempting.Attempting.{Attempting}
 use Rattle.fkv_pending.specs.declared.attempting.Attempting.TheVariants.{Ended, Looks, Tries, Puts}
 use Rattle.fkv_pending.specs.declared.mailing.MailAnswer.{MailAnswer}
@@ -34,7 +34,7 @@ use Rattle.fkv_pending.specs.declared.mailing.Mailing.TheVariants.{LoadsState}
 use Rattle.fkv_pending.specs.declared.pending_requests.PendingRequest.{PendingRequest}
 use Rattle.fkv_pending.specs.Mailing.{mail_ask, mail_next}
 use Rattle.fkv_pending.specs.Pending.{with_sought, with_held, with_latch, with_asked}
-use Rattle.fkv_pending.specs.Attempting.{AttemptState, attempting_ask, attempt_ask, attempt_ended, waits_for_disk, puts_addr, puts, tries, is_poll, is_seeking_read, goes_on, attempt_begun, held_of, moved_on, read_on, record_taken, not_ready, look_ledto, held_kept, tried, try_ledto, put_ledto, attempting_next, attempt_next}
+use Rattle.fkv_pending.specs.Attempting.{AttemptState, attempting_ask, attempt_ask, attempt_ended, waits_for_disk, puts_addr, puts, tries, is_poll, is_seeking_read, goes_on, attempt_begun, held_of, moved_on, read_on, record_taken, not_ready, look_ledto, held_kept, tried, try_ledto, put_ledto, attempting_next, attempt_next, new_attempt}
 use Rattle.law_local.specs.Tries.OnWay.{IsOrderly}
 use Rattle.law_local.specs.Tries.HeldRows.{IsSoughtFrom, SoughtKnows}
 use Rattle.law_local.specs.Tries.MailRows.{IsRecordOf, MailKnows}
@@ -263,10 +263,10 @@ trial_reads : (key : ℕ) (reading : Reading) (p : Places) (t : TryState) (b : B
 trial_reads key reading p t true called = tt
 trial_reads key reading p t false called = called
 
-begun_reads : (key : ℕ) (reading : Reading) (p : Places) (bits : ℕ) (t : TryState) (request : Request) (seen : Seen) (occasion : Occasion) (spare : ℕ) → IsCalledFor reading key
-    → TryReads key reading (try_begun p bits t request seen occasion spare) (try_begun p bits t request seen occasion spare).step
-begun_reads key reading p bits t request seen occasion spare called =
-    let its : TryState = record t { request = request; seen = seen; occasion = occasion; home = home_of bits (key_of request.op); has_shared = request.has_latch; has_exclusive = false; effect = None; spare = spare } in
+begun_reads : (key : ℕ) (reading : Reading) (p : Places) (bits : ℕ) (request : Request) (seen : Seen) (occasion : Occasion) (spare : ℕ) → IsCalledFor reading key
+    → TryReads key reading (try_begun p bits request seen occasion spare) (try_begun p bits request seen occasion spare).step
+begun_reads key reading p bits request seen occasion spare called =
+    let its : TryState = new_try bits request seen occasion spare in
     trial_reads key reading p its (wants_shared its) called
 
 none_sought : (poll read : Bool) (sought : Option DiskRecord) → (poll ≡ false → sought ≡ None) → read ≡ true → (poll && (read && is_some sought)) ≡ false → sought ≡ None
@@ -287,7 +287,7 @@ goes_on_reads key reading p bits a reads fresh goes = by_test (is_seeking_read a
     by_test true e = puts_begin key reading a a.pending.sought goes
     by_test false e = (
       none_sought (is_poll a.occasion) (is_read a.pending.request.op) a.pending.sought fresh reads e,
-      begun_reads key reading p bits a.trial a.pending.request a.seen a.occasion a.spare (called_sought key reading a.pending.sought goes),
+      begun_reads key reading p bits a.pending.request a.seen a.occasion a.spare (called_sought key reading a.pending.sought goes),
     )
 
 begun_at : (key : ℕ) (reading : Reading) (p : Places) (bits : ℕ) (a : AttemptState) (b : Bool) → is_read a.pending.request.op ≡ true → (is_poll a.occasion ≡ false → a.pending.sought ≡ None) → SoughtReads key reading a.pending.sought
@@ -296,8 +296,8 @@ begun_at key reading p bits a true reads fresh goes = goes
 begun_at key reading p bits a false reads fresh goes = goes_on_reads key reading p bits a reads fresh goes
 
 -- a call's read seeks no record yet
-pub reads_begin : (key : ℕ) (reading : Reading) (p : Places) (bits : ℕ) (a : AttemptState) (pending : PendingRequest) (seen : Seen) (occasion : Occasion) (spare : ℕ) (is_orphaned : Bool) → is_read pending.request.op ≡ true
+pub reads_begin : (key : ℕ) (reading : Reading) (p : Places) (bits : ℕ) (pending : PendingRequest) (seen : Seen) (occasion : Occasion) (spare : ℕ) (is_orphaned : Bool) → is_read pending.request.op ≡ true
     → (is_poll occasion ≡ false → pending.sought ≡ None) → SoughtReads key reading pending.sought
-    → AttemptReads key reading (attempt_begun p bits a pending seen occasion spare is_orphaned) (attempt_begun p bits a pending seen occasion spare is_orphaned).step
-reads_begin key reading p bits a pending seen occasion spare is_orphaned reads fresh goes =
-    begun_at key reading p bits (record a { pending = pending; seen = seen; occasion = occasion; spare = spare; is_orphaned = is_orphaned; is_emptied = false; effect = None }) pending.has_asked reads fresh goes
+    → AttemptReads key reading (attempt_begun p bits pending seen occasion spare is_orphaned) (attempt_begun p bits pending seen occasion spare is_orphaned).step
+reads_begin key reading p bits pending seen occasion spare is_orphaned reads fresh goes =
+    begun_at key reading p bits (new_attempt bits pending seen occasion spare is_orphaned) pending.has_asked reads fresh goes

@@ -35,7 +35,7 @@ use Rattle.fkv_ops.specs.Requests.{is_read, is_blind}
 use Rattle.fkv_ops.specs.Values.{value_of}
 use Rattle.fkv_ops.specs.Walking.{walk_ask, walk_next, walk_on}
 use Rattle.fkv_ops.specs.Appending.{append_ask, append_next}
-use Rattle.fkv_ops.specs.Trying.{TryState, is_wait, with_latch, ended_without, ends, takes_effect, full_at, walks, wants_shared, try_begun, shared_ledto, must_shift, wants_exclusive, appends, copies_from, copies, awaits, held_used, met_nowhere, met_disk, changes, is_own_version, region_met, met_record, walked, has_walked, walk_ledto, current_ledto, told_value, answer_ledto, exclusive_ledto, old_ledto, append_ledto, exclusive_dropped, shared_dropped, trying_next, try_next}
+use Rattle.fkv_ops.specs.Trying.{TryState, is_wait, with_latch, ended_without, ends, takes_effect, full_at, walks, wants_shared, try_begun, shared_ledto, must_shift, wants_exclusive, appends, copies_from, copies, awaits, held_used, met_nowhere, met_disk, changes, is_own_version, region_met, met_record, walked, has_walked, walk_ledto, current_ledto, told_value, answer_ledto, exclusive_ledto, old_ledto, append_ledto, exclusive_dropped, shared_dropped, trying_next, try_next, new_try}
 use Rattle.law_local.specs.Tries.Tells.{TryGoesFrom}
 use Rattle.law_local.proofs.OfTries.WalkRows.{same_on}
 
@@ -229,9 +229,9 @@ begun_test : (p : Places) (t : TryState) (b : Bool) → IsBegunFor t.request t.s
 begun_test p t true = record { its_request = refl; its_seen = refl }
 begun_test p t false = record { its_request = refl; its_seen = refl }
 
-pub begun_for : (p : Places) (bits : ℕ) (t : TryState) (request : Request) (seen : Seen) (occasion : Occasion) (spare : ℕ) → IsBegunFor request seen (try_begun p bits t request seen occasion spare)
-begun_for p bits t request seen occasion spare =
-    let its : TryState = record t { request = request; seen = seen; occasion = occasion; home = home_of bits (key_of request.op); has_shared = request.has_latch; has_exclusive = false; effect = None; spare = spare } in
+pub begun_for : (p : Places) (bits : ℕ) (request : Request) (seen : Seen) (occasion : Occasion) (spare : ℕ) → IsBegunFor request seen (try_begun p bits request seen occasion spare)
+begun_for p bits request seen occasion spare =
+    let its : TryState = new_try bits request seen occasion spare in
     begun_test p its (wants_shared its)
 
 -- ---- where a try's walk goes down from

@@ -11,7 +11,7 @@ use Rattle.fkv_ops.specs.declared.requests.Request.{Request}
 use Rattle.fkv_ops.specs.declared.requests.Seen.{Seen}
 use Rattle.fkv_ops.specs.declared.trying.Trying.TheVariants.{TakesShared}
 use Rattle.fkv_ops.specs.Requests.{is_read}
-use Rattle.fkv_ops.specs.Trying.{TryState, with_latch, walks, is_prepare, wants_shared, try_begun}
+use Rattle.fkv_ops.specs.Trying.{TryState, with_latch, walks, is_prepare, wants_shared, try_begun, new_try}
 use Rattle.law_local.specs.Tries.TryRows.{RequestKnows, IsFree, TryKnows}
 use Rattle.law_local.proofs.OfTries.TryEnds.{walks_knows}
 
@@ -28,7 +28,7 @@ begun_knows home log p t request free = by_test (wants_shared t) refl
     by_test false e = walks_knows home log p t request free
 
 -- a request of a read has no latch
-pub try_begins : (home : ℕ → ℕ) (log : Log) (p : Places) (bits : ℕ) (t : TryState) (request : Request) (seen : Seen) (occasion : Occasion) (spare : ℕ) → RequestKnows home log request seen → (is_read request.op ≡ true → request.has_latch ≡ false)
-    → TryKnows home log (try_begun p bits t request seen occasion spare)
-try_begins home log p bits t request seen occasion spare knows unlatched =
-    begun_knows home log p (record t { request = request; seen = seen; occasion = occasion; home = home_of bits (key_of request.op); has_shared = request.has_latch; has_exclusive = false; effect = None; spare = spare }) knows (λ read. (unlatched read, refl))
+pub try_begins : (home : ℕ → ℕ) (log : Log) (p : Places) (bits : ℕ) (request : Request) (seen : Seen) (occasion : Occasion) (spare : ℕ) → RequestKnows home log request seen → (is_read request.op ≡ true → request.has_latch ≡ false)
+    → TryKnows home log (try_begun p bits request seen occasion spare)
+try_begins home log p bits request seen occasion spare knows unlatched =
+    begun_knows home log p (new_try bits request seen occasion spare) knows (λ read. (unlatched read, refl))

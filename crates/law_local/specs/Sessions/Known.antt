@@ -40,11 +40,11 @@ pub record KnowsRequests (P : PendingRequest → Type 0) (Q : AttemptState → T
 
 -- what is known of a request that waits is known of the attempt that a poll begins for it
 abbrev pub IsHandedOver : Seat → Seen → (PendingRequest → Type 0) → (AttemptState → Type 0) → Type 0
-IsHandedOver k seen P Q = (base : AttemptState) (pending : PendingRequest) (spare : ℕ) (is_orphaned : Bool) → P pending → Q (attempt_begun k.places (bits_of k) base pending seen AtPoll spare is_orphaned)
+IsHandedOver k seen P Q = (pending : PendingRequest) (spare : ℕ) (is_orphaned : Bool) → P pending → Q (attempt_begun k.places (bits_of k) pending seen AtPoll spare is_orphaned)
 
 -- and of an attempt that a call begins it is known as well
 abbrev pub IsKnownAnew : Seat → PendingRequest → Seen → (AttemptState → Type 0) → Type 0
-IsKnownAnew k pending seen Q = (base : AttemptState) (spare : ℕ) (is_orphaned : Bool) → Q (attempt_begun k.places (bits_of k) base pending seen AtCall spare is_orphaned)
+IsKnownAnew k pending seen Q = (spare : ℕ) (is_orphaned : Bool) → Q (attempt_begun k.places (bits_of k) pending seen AtCall spare is_orphaned)
 
 -- the answers with which a call's request is accepted and waits: a second shift is one of them
 abbrev pub is_accepted : Bool → TryAnswer → Bool

@@ -30,8 +30,8 @@ PendingsKnowLater = (home : ℕ → ℕ) (log : Log) (pending : PendingRequest) 
 
 -- ---- attempts
 abbrev pub AttemptsBegin : Type 0
-AttemptsBegin = (home : ℕ → ℕ) (log : Log) (p : Places) (bits : ℕ) (a : AttemptState) (pending : PendingRequest) (seen : Seen) (occasion : Occasion) (spare : ℕ) (is_orphaned : Bool) → PendingKnows home log pending seen → AsksAtPoll pending occasion
-    → AttemptKnows home log (attempt_begun p bits a pending seen occasion spare is_orphaned)
+AttemptsBegin = (home : ℕ → ℕ) (log : Log) (p : Places) (bits : ℕ) (pending : PendingRequest) (seen : Seen) (occasion : Occasion) (spare : ℕ) (is_orphaned : Bool) → PendingKnows home log pending seen → AsksAtPoll pending occasion
+    → AttemptKnows home log (attempt_begun p bits pending seen occasion spare is_orphaned)
 
 abbrev pub AttemptRowsStay : Type 0
 AttemptRowsStay = (a : AttemptState) → StaysWhere (λ home log after. KeepsForAttempt home log after a a.step) (λ home log. AttemptKnows home log a)
@@ -67,9 +67,9 @@ AttemptsAreToldTruly = (home : ℕ → ℕ) (log : Log) (p : Places) (session : 
 -- ---- how far a read has come in the log
 -- a read begins with what it has come to, and a call's read seeks no record yet
 abbrev pub ReadsBegin : Type 0
-ReadsBegin = (key : ℕ) (reading : Reading) (p : Places) (bits : ℕ) (a : AttemptState) (pending : PendingRequest) (seen : Seen) (occasion : Occasion) (spare : ℕ) (is_orphaned : Bool) → is_read pending.request.op ≡ true
+ReadsBegin = (key : ℕ) (reading : Reading) (p : Places) (bits : ℕ) (pending : PendingRequest) (seen : Seen) (occasion : Occasion) (spare : ℕ) (is_orphaned : Bool) → is_read pending.request.op ≡ true
     → (is_poll occasion ≡ false → pending.sought ≡ None) → SoughtReads key reading pending.sought
-    → AttemptReads key reading (attempt_begun p bits a pending seen occasion spare is_orphaned) (attempt_begun p bits a pending seen occasion spare is_orphaned).step
+    → AttemptReads key reading (attempt_begun p bits pending seen occasion spare is_orphaned) (attempt_begun p bits pending seen occasion spare is_orphaned).step
 
 -- each step of its attempt goes along with the log's reading
 abbrev pub ReadsGoAlong : Type 0

@@ -71,7 +71,7 @@ HasNoLatch request = is_read request.op ≡ true → request.has_latch ≡ false
 
 -- a try of what a request knows begins with what it has to know
 abbrev pub TriesBegin : Type 0
-TriesBegin = (home : ℕ → ℕ) (log : Log) (p : Places) (bits : ℕ) (t : TryState) (request : Request) (seen : Seen) (occasion : Occasion) (spare : ℕ) → RequestKnows home log request seen → HasNoLatch request → TryKnows home log (try_begun p bits t request seen occasion spare)
+TriesBegin = (home : ℕ → ℕ) (log : Log) (p : Places) (bits : ℕ) (request : Request) (seen : Seen) (occasion : Occasion) (spare : ℕ) → RequestKnows home log request seen → HasNoLatch request → TryKnows home log (try_begun p bits request seen occasion spare)
 
 abbrev pub TryRowsStay : Type 0
 TryRowsStay = (t : TryState) → StaysWhere (λ home log after. KeepsForTry home log after t t.step) (λ home log. TryKnows home log t)

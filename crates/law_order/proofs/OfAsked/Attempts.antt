@@ -29,7 +29,7 @@ use Rattle.fkv_pending.specs.declared.pending_requests.PendingRequest.{PendingRe
 use Rattle.fkv_pending.specs.Mailing.{mail_ask, mail_next}
 use Rattle.fkv_pending.specs.MailWorld.{is_at_end}
 use Rattle.fkv_pending.specs.Pending.{with_sought, with_held, with_latch, with_asked}
-use Rattle.fkv_pending.specs.Attempting.{AttemptState, attempt_begun, attempt_ended, waits_for_disk, puts_addr, puts, tries, is_seeking_read, goes_on, held_of, moved_on, read_on, record_taken, not_ready, look_ledto, held_kept, awaits_record, leaves, tried, try_ledto, put_ledto, mail_moved, try_moved, attempting_next, attempt_next}
+use Rattle.fkv_pending.specs.Attempting.{AttemptState, attempt_begun, attempt_ended, waits_for_disk, puts_addr, puts, tries, is_seeking_read, goes_on, held_of, moved_on, read_on, record_taken, not_ready, look_ledto, held_kept, awaits_record, leaves, tried, try_ledto, put_ledto, mail_moved, try_moved, attempting_next, attempt_next, new_attempt}
 use Rattle.law_order.specs.Asked.Asked.{HasAskedSought}
 use Rattle.law_order.proofs.OfAsked.Askers.{asker, asker_or, asked_count, asked_most}
 use Rattle.law_order.proofs.OfAsked.Told.{IsAt, MailTold, Tells}
@@ -157,14 +157,14 @@ module _ (p : Places) (bits room : ℕ) (buckets : p.buckets ≡ 2 ^ bits) where
     puts_on a base = puts_found a a.pending.sought refl base
 
     tries_on : (a : AttemptState) → Base a → Goes (tries p bits a)
-    tries_on a base = record { same = base.same; sought = base.sought; few = base.few; at = record { request = a.pending.request; before = a.trial; spare = a.spare; replies = []; run = refl } }
+    tries_on a base = record { same = base.same; sought = base.sought; few = base.few; at = record { request = a.pending.request; spare = a.spare; replies = []; run = refl } }
 
-    pub begun_asks : (base : AttemptState) (pending : PendingRequest) (seen : Seen) (spare : ℕ) (is_orphaned : Bool) → HasAskedSought asked pending → others + (asker pending.has_asked + asker is_orphaned) ≤ asked_count asked
-        → Goes (attempt_begun p bits base pending seen occasion spare is_orphaned)
-    begun_asks base pending seen spare is_orphaned sought few = by_asked pending.has_asked refl
+    pub begun_asks : (pending : PendingRequest) (seen : Seen) (spare : ℕ) (is_orphaned : Bool) → HasAskedSought asked pending → others + (asker pending.has_asked + asker is_orphaned) ≤ asked_count asked
+        → Goes (attempt_begun p bits pending seen occasion spare is_orphaned)
+    begun_asks pending seen spare is_orphaned sought few = by_asked pending.has_asked refl
       where
         its : AttemptState
-        its = record base { pending = pending; seen = seen; occasion = occasion; spare = spare; is_orphaned = is_orphaned; is_emptied = false; effect = None }
+        its = new_attempt bits pending seen occasion spare is_orphaned
 
         from : Base its
         from = record { same = refl; sought = sought; few = few }

@@ -113,8 +113,8 @@ module _ (k : Seat) (buckets : HasItsBuckets k) where
         let few : askers s.requests + asker s.is_orphaned ≤ asked_count asked = waits.few in
         record {
           all = waits.all;
-          asks = begun_asks k.places (bits_of k) (room_of k) buckets asked task (askers s.requests) AtCall s.attempt (request_in_hand s) s.seen s.spare s.is_orphaned (none_asked asked (request_in_hand s) refl) (omega (arith, few));
-          rests = attempt_begun_rests k.places (bits_of k) s.attempt (request_in_hand s) s.seen AtCall s.spare s.is_orphaned;
+          asks = begun_asks k.places (bits_of k) (room_of k) buckets asked task (askers s.requests) AtCall (request_in_hand s) s.seen s.spare s.is_orphaned (none_asked asked (request_in_hand s) refl) (omega (arith, few));
+          rests = attempt_begun_rests k.places (bits_of k) (request_in_hand s) s.seen AtCall s.spare s.is_orphaned;
         }
 
     polls_found : (s : SessionState) (index : ℕ) (found : Option PendingRequest) → slice_get s.requests index ≡ found → Waits s → Asks (polls_request k s index found)
@@ -124,8 +124,8 @@ module _ (k : Seat) (buckets : HasItsBuckets k) where
         let left : askers s.requests ≡ askers (remove s.requests index) + asker pending.has_asked = askers_left s.requests index pending got in
         record {
           all = all_left asked s.requests index waits.all;
-          asks = begun_asks k.places (bits_of k) (room_of k) buckets asked task (askers (remove s.requests index)) AtPoll s.attempt pending s.seen s.spare s.is_orphaned (one_of asked s.requests index pending got waits.all) (omega (arith, few, left));
-          rests = attempt_begun_rests k.places (bits_of k) s.attempt pending s.seen AtPoll s.spare s.is_orphaned;
+          asks = begun_asks k.places (bits_of k) (room_of k) buckets asked task (askers (remove s.requests index)) AtPoll pending s.seen s.spare s.is_orphaned (one_of asked s.requests index pending got waits.all) (omega (arith, few, left));
+          rests = attempt_begun_rests k.places (bits_of k) pending s.seen AtPoll s.spare s.is_orphaned;
         }
 
     polls_asks : (s : SessionState) (index : ℕ) → Waits s → Asks (polls_at k s index)

@@ -64,20 +64,19 @@ module _ (p : Places) (bits room : ℕ) (buckets : p.buckets ≡ 2 ^ bits) where
   -- some request's, by what was seen and at this occasion, behind some replies
   pub record IsTryRun (seen : Seen) (occasion : Occasion) (t : TryState) : Type 0 where
     pub request : Request
-    pub before : TryState
     pub spare : ℕ
     pub replies : List ℕ
-    pub run : t ≡ try_run (trial_of request seen occasion) (trial_begun (trial_of request seen occasion) before spare) replies
+    pub run : t ≡ try_run (trial_of request seen occasion) (trial_begun (trial_of request seen occasion) spare) replies
 
   pub next_run : (seen : Seen) (occasion : Occasion) (t : TryState) (reply : ℕ) → IsTryRun seen occasion t → IsTryRun seen occasion (try_next p room t reply)
-  next_run seen occasion t reply its = record { request = its.request; before = its.before; spare = its.spare; replies = reply ∷ its.replies; run = ap (λ (x : TryState). try_next p room x reply) its.run }
+  next_run seen occasion t reply its = record { request = its.request; spare = its.spare; replies = reply ∷ its.replies; run = ap (λ (x : TryState). try_next p room x reply) its.run }
 
   pub run_ends : (seen : Seen) (occasion : Occasion) (t : TryState) (its : TryAnswer) → IsTryRun seen occasion t → is_prepare seen.phase ≡ false → try_ask p t ≡ Done its → TryEndsSo occasion its
   run_ends seen occasion t its is none ends =
       let c : Trial = trial_of is.request seen occasion in
-      true_ends c (told_by c (trial_begun c is.before is.spare) is.replies) its none (each_is_true c is.before is.spare is.replies its (ap (try_ask p) (sym is.run) ∙ ends))
+      true_ends c (told_by c (trial_begun c is.spare) is.replies) its none (each_is_true c is.spare is.replies its (ap (try_ask p) (sym is.run) ∙ ends))
 
   pub run_slot : (seen : Seen) (occasion : Occasion) (t : TryState) → IsTryRun seen occasion t → is_slot (try_ask p t) ≡ false
   run_slot seen occasion t is =
       let c : Trial = trial_of is.request seen occasion in
-      ap (λ (x : TryState). is_slot (try_ask p x)) is.run ∙ ask_slot c (told_by c (trial_begun c is.before is.spare) is.replies) _ 0 _ (each_ask c is.before is.spare is.replies 0)
+      ap (λ (x : TryState). is_slot (try_ask p x)) is.run ∙ ask_slot c (told_by c (trial_begun c is.spare) is.replies) _ 0 _ (each_ask c is.spare is.replies 0)

@@ -24,7 +24,7 @@ use Rattle.fkv_pending.specs.declared.mailing.MailTask.TheVariants.{Clear, Put, 
 use Rattle.fkv_pending.specs.declared.mailing.Mailing.{Mailing}
 use Rattle.fkv_pending.specs.declared.mailing.Mailing.TheVariants.{Ended, LoadsState, LoadsHeader, LoadsKey, LoadsValue, StoresEmpty, StoresAddress, StoresAsked}
 use Rattle.fkv_pending.specs.declared.pending_requests.PendingRequest.{PendingRequest}
-use Rattle.fkv_pending.specs.Attempting.{AttemptState, attempt_begun, attempt_ended, attempt_next, attempting_next, goes_on, held_kept, held_of, is_seeking_read, look_ledto, mail_moved, moved_on, not_ready, put_ledto, puts, puts_addr, read_on, record_taken, tried, tries, try_ledto, try_moved, waits_for_disk}
+use Rattle.fkv_pending.specs.Attempting.{AttemptState, attempt_begun, attempt_ended, attempt_next, attempting_next, goes_on, held_kept, held_of, is_seeking_read, look_ledto, mail_moved, moved_on, not_ready, put_ledto, puts, puts_addr, read_on, record_taken, tried, tries, try_ledto, try_moved, waits_for_disk, new_attempt}
 use Rattle.fkv_pending.specs.Mailing.{mail_ask, mail_next, mail_ready}
 use Rattle.fkv_pending.specs.Pending.{with_asked, with_held, with_latch, with_sought}
 
@@ -74,10 +74,10 @@ puts_look a (Some sought) = tt
 goes_look : (p : Places) (bits : ℕ) (a : AttemptState) → AttemptLooks (goes_on p bits a)
 goes_look p bits a = either_looks (is_seeking_read a) (puts a) (tries p bits a) (puts_look a a.pending.sought) tt
 
-pub begun_looks : (p : Places) (bits : ℕ) (a : AttemptState) (pending : PendingRequest) (seen : Seen) (occasion : Occasion) (spare : ℕ) (is_orphaned : Bool)
-    → AttemptLooks (attempt_begun p bits a pending seen occasion spare is_orphaned)
-begun_looks p bits a pending seen occasion spare is_orphaned =
-    let first : AttemptState = record a { pending = pending; seen = seen; occasion = occasion; spare = spare; is_orphaned = is_orphaned; is_emptied = false; effect = None } in
+pub begun_looks : (p : Places) (bits : ℕ) (pending : PendingRequest) (seen : Seen) (occasion : Occasion) (spare : ℕ) (is_orphaned : Bool)
+    → AttemptLooks (attempt_begun p bits pending seen occasion spare is_orphaned)
+begun_looks p bits pending seen occasion spare is_orphaned =
+    let first : AttemptState = new_attempt bits pending seen occasion spare is_orphaned in
     either_looks pending.has_asked (record first { mailing = LoadsState Take; step = attempting.Looks }) (goes_on p bits first) refl (goes_look p bits first)
 
 -- what a look comes to

@@ -64,11 +64,11 @@ turn_by s its = either_by s.wants_turn (record s { own_turn = own_turn_begun s.o
 -- an attempt begins
 attempts_by : (k : Seat) (s : SessionState) (has_shifted : Bool) → MailsSo (attempts k s has_shifted)
 unfolding attempts
-attempts_by k s has_shifted = begun_looks k.places (bits_of k) s.attempt (request_in_hand s) s.seen AtCall s.spare s.is_orphaned
+attempts_by k s has_shifted = begun_looks k.places (bits_of k) (request_in_hand s) s.seen AtCall s.spare s.is_orphaned
 
 polls_found : (k : Seat) (s : SessionState) (i : ℕ) (found : Option PendingRequest) → MailsSo (polls_request k s i found)
 polls_found k s i None = turn_by s (told.Polled (length s.requests))
-polls_found k s i (Some its) = begun_looks k.places (bits_of k) s.attempt its s.seen AtPoll s.spare s.is_orphaned
+polls_found k s i (Some its) = begun_looks k.places (bits_of k) its s.seen AtPoll s.spare s.is_orphaned
 
 polls_by : (k : Seat) (s : SessionState) (i : ℕ) → MailsSo (polls_at k s i)
 unfolding polls_at

@@ -95,21 +95,21 @@ either_comes r true a b one other = one refl
 either_comes r false a b one other = other refl
 
 -- ---- an attempt begins
-begun_tried : (r : SessionReadings) (k : Seat) (a : AttemptState) (pending : PendingRequest) (seen : Seen) (occasion : Occasion) (spare : ℕ) (is_orphaned : Bool)
+begun_tried : (r : SessionReadings) (k : Seat) (pending : PendingRequest) (seen : Seen) (occasion : Occasion) (spare : ℕ) (is_orphaned : Bool)
     → (is_read pending.request.op ≡ true → (is_poll occasion ≡ true → r.given (ticket_of pending.name) ≡ true) × (is_poll occasion ≡ false → pending.sought ≡ None) × SoughtReads (key_in pending.request) (reading_tried r (is_poll occasion) (ticket_of pending.name)) pending.sought)
-    → TriedSo r (attempt_begun k.places (bits_of k) a pending seen occasion spare is_orphaned)
-begun_tried r k a pending seen occasion spare is_orphaned its =
-    let begun : AttemptState = attempt_begun k.places (bits_of k) a pending seen occasion spare is_orphaned in
+    → TriedSo r (attempt_begun k.places (bits_of k) pending seen occasion spare is_orphaned)
+begun_tried r k pending seen occasion spare is_orphaned its =
+    let begun : AttemptState = attempt_begun k.places (bits_of k) pending seen occasion spare is_orphaned in
     let tried_as : TriedAs r pending (is_poll occasion) begun = λ read.
     let facts = its read in
-    (facts.0, reads_begin (key_in pending.request) (reading_tried r (is_poll occasion) (ticket_of pending.name)) k.places (bits_of k) a pending seen occasion spare is_orphaned read facts.1 facts.2) in
-    let same : begun.pending ≡ pending = begun_pending k.places (bits_of k) a pending seen occasion spare is_orphaned in
-    let at : begun.occasion ≡ occasion = (begun_goes (bits_of k) seen occasion k.places a pending spare is_orphaned).its_occasion in
+    (facts.0, reads_begin (key_in pending.request) (reading_tried r (is_poll occasion) (ticket_of pending.name)) k.places (bits_of k) pending seen occasion spare is_orphaned read facts.1 facts.2) in
+    let same : begun.pending ≡ pending = begun_pending k.places (bits_of k) pending seen occasion spare is_orphaned in
+    let at : begun.occasion ≡ occasion = (begun_goes (bits_of k) seen occasion k.places pending spare is_orphaned).its_occasion in
     subst (λ (o : Occasion). TriedAs r begun.pending (is_poll o) begun) (sym at) (subst (λ (p : PendingRequest). TriedAs r p (is_poll occasion) begun) (sym same) tried_as)
 
 attempts_come : (r : SessionReadings) (k : Seat) (s : SessionState) (has_shifted : Bool) → AllWait r s.requests → (is_read s.op ≡ true → IsCalledFor r.in_hand (key_of s.op).0) → Comes r (attempts k s has_shifted)
 unfolding attempts
-attempts_come r k s has_shifted all called = (all, begun_tried r k s.attempt (request_in_hand s) s.seen AtCall s.spare s.is_orphaned (λ read. (λ e. never e, λ e. refl, called read)))
+attempts_come r k s has_shifted all called = (all, begun_tried r k (request_in_hand s) s.seen AtCall s.spare s.is_orphaned (λ read. (λ e. never e, λ e. refl, called read)))
   where
     never : {X : Type 0} → false ≡ true → X
     never e = cc
@@ -122,7 +122,7 @@ polls_found : (r : SessionReadings) (k : Seat) (s : SessionState) (i : ℕ) (fou
 polls_found r k s i None got all its = polled_turn r s (length s.requests) all its
 polls_found r k s i (Some pending) got all its = (
   but_one (WaitsSo r) s.requests i all,
-  begun_tried r k s.attempt pending s.seen AtPoll s.spare s.is_orphaned (λ read. let waits = all i pending got read in (λ e. waits.0, λ e. never e, waits.1)),
+  begun_tried r k pending s.seen AtPoll s.spare s.is_orphaned (λ read. let waits = all i pending got read in (λ e. waits.0, λ e. never e, waits.1)),
   its,
 )
   where

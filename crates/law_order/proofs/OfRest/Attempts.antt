@@ -26,7 +26,7 @@ use Rattle.fkv_pending.specs.declared.mailing.Mailing.TheVariants as mailing
 use Rattle.fkv_pending.specs.declared.pending_requests.PendingRequest.{PendingRequest}
 use Rattle.fkv_pending.specs.Mailing.{mail_ask, mail_next}
 use Rattle.fkv_pending.specs.Pending.{with_sought, with_held, with_latch, with_asked}
-use Rattle.fkv_pending.specs.Attempting.{AttemptState, attempt_begun, attempt_ask, attempt_ended, waits_for_disk, puts_addr, puts, tries, is_seeking_read, goes_on, held_of, moved_on, read_on, record_taken, look_ledto, held_kept, awaits_record, tried, try_ledto, put_ledto, mail_moved, try_moved, attempting_ask, attempting_next, attempt_next}
+use Rattle.fkv_pending.specs.Attempting.{AttemptState, attempt_begun, attempt_ask, attempt_ended, waits_for_disk, puts_addr, puts, tries, is_seeking_read, goes_on, held_of, moved_on, read_on, record_taken, look_ledto, held_kept, awaits_record, tried, try_ledto, put_ledto, mail_moved, try_moved, attempting_ask, attempting_next, attempt_next, new_attempt}
 use Rattle.law_order.specs.Rest.Machines.{AttemptGoesByRest, AttemptRests, AttemptsAtRest, IsOfVersion, TryRests}
 use Rattle.law_order.specs.Rest.Resting.{HasSeenRest}
 use Rattle.law_order.proofs.OfRest.Asks.{AskRests, passed_rests}
@@ -67,7 +67,7 @@ puts_rest version a None goes = record { goes = goes; step = tt }
 puts_rest version a (Some sought) goes = record { goes = goes; step = tt }
 
 tries_rest : (version : Version) (p : Places) (bits : ℕ) (a : AttemptState) → AttemptGoesByRest version a → AttemptRests version (tries p bits a)
-tries_rest version p bits a goes = record { goes = goes; step = begun_rests p bits version a.trial a.pending.request a.seen a.occasion a.spare goes.0 goes.1.0 goes.1.1 }
+tries_rest version p bits a goes = record { goes = goes; step = begun_rests p bits version a.pending.request a.seen a.occasion a.spare goes.0 goes.1.0 goes.1.1 }
 
 sought_goes : (version : Version) (a : AttemptState) (sought : Option DiskRecord) → AttemptGoesByRest version a → AttemptGoesByRest version (record a { pending = with_sought a.pending sought })
 unfolding with_sought
@@ -133,9 +133,9 @@ pub attempt_rest : (version : Version) (p : Places) (bits room session : ℕ) (a
 attempt_rest version p bits room session a reply its = attempting_rest version p bits room session a a.step reply refl its.goes its.step
 
 -- and how it begins
-pub attempt_begins : (version : Version) (p : Places) (bits : ℕ) (a : AttemptState) (pending : PendingRequest) (seen : Seen) (occasion : Occasion) (spare : ℕ) (is_orphaned : Bool) → HasSeenRest version seen → IsOfVersion version pending
-    → AttemptRests version (attempt_begun p bits a pending seen occasion spare is_orphaned)
-attempt_begins version p bits a pending seen occasion spare is_orphaned saw same =
-    let its : AttemptState = record a { pending = pending; seen = seen; occasion = occasion; spare = spare; is_orphaned = is_orphaned; is_emptied = false; effect = None } in
+pub attempt_begins : (version : Version) (p : Places) (bits : ℕ) (pending : PendingRequest) (seen : Seen) (occasion : Occasion) (spare : ℕ) (is_orphaned : Bool) → HasSeenRest version seen → IsOfVersion version pending
+    → AttemptRests version (attempt_begun p bits pending seen occasion spare is_orphaned)
+attempt_begins version p bits pending seen occasion spare is_orphaned saw same =
+    let its : AttemptState = new_attempt bits pending seen occasion spare is_orphaned in
     either_attempt pending.has_asked version _ (goes_on p bits its) (record { goes = (saw, same); step = tt })
     (either_attempt (is_seeking_read its) version (puts its) (tries p bits its) (puts_rest version its its.pending.sought (saw, same)) (tries_rest version p bits its (saw, same)))

@@ -227,5 +227,5 @@ pub walk_on_elsewhere : (w : WalkState) → SearchesElsewhere w → SearchesElse
 walk_on_elsewhere w its = on_elsewhere w w.step its
 
 -- as it begins
-pub begun_elsewhere : (p : Places) (home : Home) (w : WalkState) (key : Key) (purpose : Purpose) (head : Addr) (spare : ℕ) → SearchesElsewhere (walk_begun p home w key purpose head spare)
-begun_elsewhere p home w key purpose head spare = ((λ e. cc), omega arith)
+pub begun_elsewhere : (p : Places) (home : Home) (key : Key) (purpose : Purpose) (head : Addr) (spare : ℕ) → SearchesElsewhere (walk_begun p home key purpose head spare)
+begun_elsewhere p home key purpose head spare = ((λ e. cc), omega arith)

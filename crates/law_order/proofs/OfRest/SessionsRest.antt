@@ -127,7 +127,7 @@ module _ (version : Version) (fits : HasRequests version) where
 
   attempts_rest : (k : Seat) (s : SessionState) (has_shifted : Bool) → HasSeenRest version s.seen → AreOfVersion version s.requests → SessionRests version (attempts k s has_shifted)
   unfolding attempts
-  attempts_rest k s has_shifted saw all = record { saw = saw; waiting = all; sits = attempt_begins version k.places (bits_of k) s.attempt (request_in_hand s) s.seen AtCall s.spare s.is_orphaned saw (in_hand s saw) }
+  attempts_rest k s has_shifted saw all = record { saw = saw; waiting = all; sits = attempt_begins version k.places (bits_of k) (request_in_hand s) s.seen AtCall s.spare s.is_orphaned saw (in_hand s saw) }
 
   turns_rest : (s : SessionState) (its : Told) → HasSeenRest version s.seen → AreOfVersion version s.requests → SessionRests version (answers_after_turn s its)
   turns_rest s its saw all =
@@ -136,7 +136,7 @@ module _ (version : Version) (fits : HasRequests version) where
   request_rests : (k : Seat) (s : SessionState) (index : ℕ) (found : Option PendingRequest) → slice_get s.requests index ≡ found → HasSeenRest version s.seen → AreOfVersion version s.requests → SessionRests version (polls_request k s index found)
   request_rests k s index None got saw all = turns_rest s _ saw all
   request_rests k s index (Some pending) got saw all =
-      record { saw = saw; waiting = all; sits = attempt_begins version k.places (bits_of k) s.attempt pending s.seen AtPoll s.spare s.is_orphaned saw (one_at version s.requests index pending got all) }
+      record { saw = saw; waiting = all; sits = attempt_begins version k.places (bits_of k) pending s.seen AtPoll s.spare s.is_orphaned saw (one_at version s.requests index pending got all) }
 
   polls_rest : (k : Seat) (s : SessionState) (index : ℕ) → HasSeenRest version s.seen → AreOfVersion version s.requests → SessionRests version (polls_at k s index)
   unfolding polls_at

@@ -34,7 +34,7 @@ use Rattle.fkv_ops.specs.Requests.{is_read, is_blind, purpose_of}
 use Rattle.fkv_ops.specs.Values.{value_of}
 use Rattle.fkv_ops.specs.Walking.{walk_on, walk_ask, walk_next}
 use Rattle.fkv_ops.specs.Appending.{append_ask, append_next}
-use Rattle.fkv_ops.specs.Trying.{TryState, with_latch, is_wait, ended_without, ends, takes_effect, full_at, is_prepare, is_moving_on, wants_shared, walks, try_begun, must_shift, wants_exclusive, appends, copies_from, copies, awaits, held_used, changes, is_own_version, region_met, walked, has_walked, walk_ledto, safe_loaded, current_ledto, value_changed, told_value, answer_ledto, old_ledto, append_ledto, trying_ask, trying_next, try_ask, try_next}
+use Rattle.fkv_ops.specs.Trying.{TryState, with_latch, is_wait, ended_without, ends, takes_effect, full_at, is_prepare, is_moving_on, wants_shared, walks, try_begun, must_shift, wants_exclusive, appends, copies_from, copies, awaits, held_used, changes, is_own_version, region_met, walked, has_walked, walk_ledto, safe_loaded, current_ledto, value_changed, told_value, answer_ledto, old_ledto, append_ledto, trying_ask, trying_next, try_ask, try_next, new_try}
 use Rattle.law_order.specs.Rest.Machines.{AppendRests, TriesAtRest, TryGoesByRest, TryRests}
 use Rattle.law_order.specs.Rest.Resting.{HasSeenRest}
 use Rattle.law_order.proofs.OfRest.Appends.{append_rest, append_rests}
@@ -220,10 +220,10 @@ try_rest p room version t reply its = step_rests p room version (record t { effe
     quietened (DropsShared end) at = absurd at
     quietened step at = tt
 
-pub begun_rests : (p : Places) (bits : ℕ) (version : Version) (t : TryState) (request : Request) (seen : Seen) (occasion : Occasion) (spare : ℕ) → HasSeenRest version seen → request.version ≡ version → request.has_latch ≡ false
-    → TryRests version (try_begun p bits t request seen occasion spare)
-begun_rests p bits version t request seen occasion spare saw same none =
-    let its : TryState = record t { request = request; seen = seen; occasion = occasion; home = home_of bits (key_of request.op); has_shared = request.has_latch; has_exclusive = false; effect = None; spare = spare } in
+pub begun_rests : (p : Places) (bits : ℕ) (version : Version) (request : Request) (seen : Seen) (occasion : Occasion) (spare : ℕ) → HasSeenRest version seen → request.version ≡ version → request.has_latch ≡ false
+    → TryRests version (try_begun p bits request seen occasion spare)
+begun_rests p bits version request seen occasion spare saw same none =
+    let its : TryState = new_try bits request seen occasion spare in
     other_rests (wants_shared its) version (with_latch p its TakeShared TakesShared) (walks p its)
     (both_none (is_prepare seen.phase && not (is_read request.op)) (not request.has_latch) (both_none (is_prepare seen.phase) (not (is_read request.op)) (prepare_not seen.phase saw.phase)))
     (record { goes = record { saw = saw; same = same; no_shared = none; no_exclusive = refl; searches = begun_elsewhere p its.home t.walk (key_of request.op) (purpose_of request.op) seen.offsets.head spare }; step = tt })

@@ -16,10 +16,10 @@ pub anew_seeks : (s : SessionState) → SeeksWhereAsked (request_in_hand s)
 anew_seeks s = λ read asked. cc
 
 hands_seeks : (k : Seat) (seen : Seen) → IsHandedOver k seen SeeksWhereAsked AttemptSeeks
-hands_seeks k seen base pending spare is_orphaned seeks = attempt_begun_seeks k.places (bits_of k) base pending seen AtPoll spare is_orphaned seeks
+hands_seeks k seen pending spare is_orphaned seeks = attempt_begun_seeks k.places (bits_of k) pending seen AtPoll spare is_orphaned seeks
 
 begins_seeks : (k : Seat) (s : SessionState) (seen : Seen) → IsKnownAnew k (request_in_hand s) seen AttemptSeeks
-begins_seeks k s seen base spare is_orphaned = attempt_begun_seeks k.places (bits_of k) base (request_in_hand s) seen AtCall spare is_orphaned (anew_seeks s)
+begins_seeks k s seen spare is_orphaned = attempt_begun_seeks k.places (bits_of k) (request_in_hand s) seen AtCall spare is_orphaned (anew_seeks s)
 
 pub next_seeks : (k : Seat) (s : SessionState) (reply : ℕ) → AllSeek s → AllSeek (session_next k s reply)
 next_seeks k s reply all =

@@ -80,15 +80,15 @@ module _ (home : ℕ → ℕ) where
 
   -- ---- an attempt begins
   hands_over : (log : Log) (k : Seat) (seen : Seen) → IsHandedOver k seen (WaitsSo log seen) (TriesSo log)
-  hands_over log k seen base pending spare is_orphaned knows = (
-    attempt_begins home log k.places (bits_of k) base pending seen AtPoll spare is_orphaned knows.0 (λ read asked. (refl, knows.1 read asked)),
-    attempt_begun_seeks k.places (bits_of k) base pending seen AtPoll spare is_orphaned knows.1,
+  hands_over log k seen pending spare is_orphaned knows = (
+    attempt_begins home log k.places (bits_of k) pending seen AtPoll spare is_orphaned knows.0 (λ read asked. (refl, knows.1 read asked)),
+    attempt_begun_seeks k.places (bits_of k) pending seen AtPoll spare is_orphaned knows.1,
   )
 
   begins_anew : (log : Log) (k : Seat) (s : SessionState) (seen : Seen) → (IsReserved s.op → ⊥) → head_in seen ≤ log.fixed → IsKnownAnew k (request_in_hand s) seen (TriesSo log)
-  begins_anew log k s seen plain low base spare is_orphaned = (
-    attempt_begins home log k.places (bits_of k) base (request_in_hand s) seen AtCall spare is_orphaned (record { request = record { plain = plain; low = low; held = tt }; sought = tt; unlatched = λ read. refl }) (λ read asked. never asked),
-    attempt_begun_seeks k.places (bits_of k) base (request_in_hand s) seen AtCall spare is_orphaned (λ read asked. never asked),
+  begins_anew log k s seen plain low spare is_orphaned = (
+    attempt_begins home log k.places (bits_of k) (request_in_hand s) seen AtCall spare is_orphaned (record { request = record { plain = plain; low = low; held = tt }; sought = tt; unlatched = λ read. refl }) (λ read asked. never asked),
+    attempt_begun_seeks k.places (bits_of k) (request_in_hand s) seen AtCall spare is_orphaned (λ read asked. never asked),
   )
 
   -- ---- a call begins

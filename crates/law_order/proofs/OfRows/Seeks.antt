@@ -27,7 +27,7 @@ use Rattle.fkv_pending.specs.declared.mailing.Mailing.TheVariants.{LoadsState}
 use Rattle.fkv_pending.specs.declared.pending_requests.PendingRequest.{PendingRequest}
 use Rattle.fkv_pending.specs.Mailing.{mail_ask, mail_next}
 use Rattle.fkv_pending.specs.Pending.{with_sought, with_held, with_latch, with_asked}
-use Rattle.fkv_pending.specs.Attempting.{AttemptState, attempt_begun, attempt_ended, waits_for_disk, puts_addr, puts, tries, is_seeking_read, goes_on, held_of, moved_on, read_on, record_taken, not_ready, look_ledto, held_kept, awaits_record, tried, try_ledto, put_ledto, mail_moved, try_moved, attempting_next, attempt_next}
+use Rattle.fkv_pending.specs.Attempting.{AttemptState, attempt_begun, attempt_ended, waits_for_disk, puts_addr, puts, tries, is_seeking_read, goes_on, held_of, moved_on, read_on, record_taken, not_ready, look_ledto, held_kept, awaits_record, tried, try_ledto, put_ledto, mail_moved, try_moved, attempting_next, attempt_next, new_attempt}
 use Rattle.law_order.specs.Rows.Asked.{SeeksWhereAsked, SeeksAt, AttemptSeeks}
 
 -- ---- a request as it changes
@@ -139,8 +139,8 @@ pub attempt_seeks : (p : Places) (bits room session : ℕ) (a : AttemptState) (r
 attempt_seeks p bits room session a reply its = step_seeks p bits room session a a.step reply refl its.pending its.step
 
 -- and how it begins
-pub attempt_begun_seeks : (p : Places) (bits : ℕ) (a : AttemptState) (pending : PendingRequest) (seen : Seen) (occasion : Occasion) (spare : ℕ) (is_orphaned : Bool) → SeeksWhereAsked pending → AttemptSeeks (attempt_begun p bits a pending seen occasion spare is_orphaned)
-attempt_begun_seeks p bits a pending seen occasion spare is_orphaned seeks =
-    let its : AttemptState = record a { pending = pending; seen = seen; occasion = occasion; spare = spare; is_orphaned = is_orphaned; is_emptied = false; effect = None } in
+pub attempt_begun_seeks : (p : Places) (bits : ℕ) (pending : PendingRequest) (seen : Seen) (occasion : Occasion) (spare : ℕ) (is_orphaned : Bool) → SeeksWhereAsked pending → AttemptSeeks (attempt_begun p bits pending seen occasion spare is_orphaned)
+attempt_begun_seeks p bits pending seen occasion spare is_orphaned seeks =
+    let its : AttemptState = new_attempt bits pending seen occasion spare is_orphaned in
     let looks : AttemptState = record its { mailing = LoadsState Take; step = Looks } in
     either_seeks pending.has_asked looks (goes_on p bits its) (record { pending = seeks; step = tt }) (either_seeks (is_seeking_read its) (puts its) (tries p bits its) (puts_seeks its seeks) (tries_seeks p bits its seeks))

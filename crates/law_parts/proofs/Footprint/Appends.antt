@@ -147,5 +147,5 @@ pub append_next_spares : (p : Places) (room : ℕ) (a : AppendState) (reply : �
 append_next_spares p room a reply its = next_spares p room a a.step reply refl its.place
 
 -- as it begins
-pub append_begun_spares : (p : Places) (a : AppendState) (slot : FoundSlot) (its : RecordWords) → IsIndexAlone p slot.place → IsAppendSparing p (append_begun a slot its)
-append_begun_spares p a slot its none = record { place = none; publishes = tt }
+pub append_begun_spares : (p : Places) (slot : FoundSlot) (its : RecordWords) → IsIndexAlone p slot.place → IsAppendSparing p (append_begun slot its)
+append_begun_spares p slot its none = record { place = none; publishes = tt }

@@ -25,7 +25,7 @@ use Rattle.fkv_pending.specs.declared.mailing.Mailing.TheVariants as mailing
 use Rattle.fkv_pending.specs.declared.pending_requests.PendingRequest.{PendingRequest}
 use Rattle.fkv_pending.specs.Mailing.{mail_ask, mail_next}
 use Rattle.fkv_pending.specs.Pending.{with_sought, with_held, with_latch, with_asked}
-use Rattle.fkv_pending.specs.Attempting.{AttemptState, attempting_ask, attempt_ask, attempt_ended, waits_for_disk, puts_addr, puts, tries, is_seeking_read, goes_on, attempt_begun, held_of, moved_on, read_on, record_taken, look_ledto, held_kept, tried, try_ledto, put_ledto, mail_moved, try_moved, attempting_next, attempt_next}
+use Rattle.fkv_pending.specs.Attempting.{AttemptState, attempting_ask, attempt_ask, attempt_ended, waits_for_disk, puts_addr, puts, tries, is_seeking_read, goes_on, attempt_begun, held_of, moved_on, read_on, record_taken, look_ledto, held_kept, tried, try_ledto, put_ledto, mail_moved, try_moved, attempting_next, attempt_next, new_attempt}
 use Rattle.law_parts.specs.Mail.Mailers.{attempt_mailing}
 use Rattle.fkv_plane.specs.declared.places.SessionWord.TheVariants as own
 use Rattle.fkv_latch.specs.declared.latching.Latching.TheVariants as latching
@@ -91,14 +91,14 @@ puts_spares p a None = tt
 puts_spares p a (Some sought) = tt
 
 tries_spares : (p : Places) (bits : ℕ) (a : AttemptState) → IsAttemptSparing p (tries p bits a)
-tries_spares p bits a = try_begun_spares p bits a.trial a.pending.request a.seen a.occasion a.spare
+tries_spares p bits a = try_begun_spares p bits a.pending.request a.seen a.occasion a.spare
 
 goes_spares : (p : Places) (bits : ℕ) (a : AttemptState) → IsAttemptSparing p (goes_on p bits a)
 goes_spares p bits a = either_spares (is_seeking_read a) p (puts a) (tries p bits a) (puts_spares p a a.pending.sought) (tries_spares p bits a)
 
-pub attempt_begun_spares : (p : Places) (bits : ℕ) (a : AttemptState) (pending : PendingRequest) (seen : Seen) (occasion : Occasion) (spare : ℕ) (is_orphaned : Bool) → IsAttemptSparing p (attempt_begun p bits a pending seen occasion spare is_orphaned)
-attempt_begun_spares p bits a pending seen occasion spare is_orphaned =
-    let first : AttemptState = record a { pending = pending; seen = seen; occasion = occasion; spare = spare; is_orphaned = is_orphaned; is_emptied = false; effect = None } in
+pub attempt_begun_spares : (p : Places) (bits : ℕ) (pending : PendingRequest) (seen : Seen) (occasion : Occasion) (spare : ℕ) (is_orphaned : Bool) → IsAttemptSparing p (attempt_begun p bits pending seen occasion spare is_orphaned)
+attempt_begun_spares p bits pending seen occasion spare is_orphaned =
+    let first : AttemptState = new_attempt bits pending seen occasion spare is_orphaned in
     either_spares pending.has_asked p (record first { mailing = mailing.LoadsState Take; step = Looks }) (goes_on p bits first) tt (goes_spares p bits first)
 
 read_spares : (p : Places) (a : AttemptState) (its : MailRecord) (said : HeaderSaid) → IsAttemptSparing p (read_on a its said)

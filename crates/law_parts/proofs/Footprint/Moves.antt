@@ -107,7 +107,7 @@ shifts_range shape shift.AtRest m reply range = tt
 shifts_range shape shift.LoadsTail m reply range = tt
 shifts_range shape (shift.LoadsReadOnly tail) m reply range =
     let start : ℕ = mutable_start shape.page shape.mutable tail in
-    shift_either (nat_lt reply start) (shift_at (shift.Moves tail) (move_begun m ReadOnly start)) (shift_at shift.AtRest m) tt tt
+    shift_either (nat_lt reply start) (shift_at (shift.Moves tail) (move_begun ReadOnly start)) (shift_at shift.AtRest m) tt tt
 shifts_range shape (shift.Moves tail) m reply range = shift_led_range tail (move_next m reply) (move_next_ask m reply) (move_range m.step m.raising m.arming reply range)
 
 pub shift_range : (shape : Shape) (s : ShiftState) (reply : ℕ) → IsShiftInRange s → IsShiftInRange (shift_next shape s reply)
@@ -163,7 +163,7 @@ turns_range shape (turn.LoadsLimit form tail) m reply range = not_range _ m (mov
 turns_range shape (turn.LoadsClosed form limit) m reply range = not_range _ m (moves_either _ (turn.RaisesLimit limit) (frame_taken form (frame_end shape limit)) tt (taken_not form (frame_end shape limit)))
 turns_range shape (turn.RaisesLimit limit) m reply range = tt
 turns_range shape (turn.LoadsHead end) m reply range = not_range _ m (moves_either (nat_lt reply end) (turn.LoadsFlushed end) turn.AtRest tt tt)
-turns_range shape (turn.LoadsFlushed end) m reply range = turn_either (nat_le end reply) (turn_at turn.Moves (move_begun m Head end)) (turn_at turn.AtRest m) tt tt
+turns_range shape (turn.LoadsFlushed end) m reply range = turn_either (nat_le end reply) (turn_at turn.Moves (move_begun Head end)) (turn_at turn.AtRest m) tt tt
 turns_range shape turn.Moves m reply range = turn_led_range (move_next m reply) (move_next_ask m reply) (move_range m.step m.raising m.arming reply range)
 
 pub turn_range : (shape : Shape) (s : TurnState) (reply : ℕ) → IsTurnInRange s → IsTurnInRange (turn_next shape s reply)

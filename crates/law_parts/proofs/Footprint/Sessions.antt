@@ -109,11 +109,11 @@ turn_after_spares p s its = either_spares s.wants_turn p (record s { own_turn = 
 
 attempts_spares : (k : Seat) (s : SessionState) (has_shifted : Bool) → IsSessionSparing k.places (attempts k s has_shifted)
 unfolding attempts
-attempts_spares k s has_shifted = attempt_begun_spares k.places (bits_of k) s.attempt (request_in_hand s) s.seen AtCall s.spare s.is_orphaned
+attempts_spares k s has_shifted = attempt_begun_spares k.places (bits_of k) (request_in_hand s) s.seen AtCall s.spare s.is_orphaned
 
 polls_request_spares : (k : Seat) (s : SessionState) (index : ℕ) (found : Option PendingRequest) → IsSessionSparing k.places (polls_request k s index found)
 polls_request_spares k s index None = turn_after_spares k.places s (told.Polled (length s.requests))
-polls_request_spares k s index (Some pending) = attempt_begun_spares k.places (bits_of k) s.attempt pending s.seen AtPoll s.spare s.is_orphaned
+polls_request_spares k s index (Some pending) = attempt_begun_spares k.places (bits_of k) pending s.seen AtPoll s.spare s.is_orphaned
 
 polling_spares : (k : Seat) (s : SessionState) (index : ℕ) → IsSessionSparing k.places (polls_at k s index)
 unfolding polls_at

@@ -36,7 +36,7 @@ use Rattle.fkv_ops.specs.Values.{value_of}
 use Rattle.fkv_ops.specs.Requests.{purpose_of, is_read, is_blind}
 use Rattle.fkv_ops.specs.Walking.{walk_ask, walk_next, walk_on}
 use Rattle.fkv_ops.specs.Appending.{append_ask, append_next}
-use Rattle.fkv_ops.specs.Trying.{TryState, trying_ask, try_ask, with_latch, is_wait, ended_without, ends, takes_effect, walks, wants_shared, try_begun, shared_ledto, must_shift, wants_exclusive, slot_of, words_of, appends, copies_from, copies, awaits, held_used, met_nowhere, met_disk, changes, is_own_version, region_met, met_record, walked, has_walked, walk_ledto, safe_loaded, current_ledto, value_changed, told_value, answer_ledto, exclusive_ledto, old_ledto, append_ledto, exclusive_dropped, shared_dropped, latch_moved, trying_next, try_next}
+use Rattle.fkv_ops.specs.Trying.{TryState, trying_ask, try_ask, with_latch, is_wait, ended_without, ends, takes_effect, walks, wants_shared, try_begun, shared_ledto, must_shift, wants_exclusive, slot_of, words_of, appends, copies_from, copies, awaits, held_used, met_nowhere, met_disk, changes, is_own_version, region_met, met_record, walked, has_walked, walk_ledto, safe_loaded, current_ledto, value_changed, told_value, answer_ledto, exclusive_ledto, old_ledto, append_ledto, exclusive_dropped, shared_dropped, latch_moved, trying_next, try_next, new_try}
 use Rattle.fkv_latch.specs.declared.latching.Latching.TheVariants as latching
 use Rattle.fkv_ops.specs.declared.walking.Walking.{Walking}
 use Rattle.fkv_ops.specs.declared.walking.Walking.TheVariants as walking
@@ -118,11 +118,11 @@ unfolding ends
 ends_spares p t its = either_spares t.has_exclusive p (with_latch p (record t { has_exclusive = false }) DropExclusive (DropsExclusive its)) (ended_without p t its) (latch_begins p DropExclusive t.home.bucket) (without_spares p t its)
 
 walks_spares : (p : Places) (t : TryState) → IsTrySparing p (walks p t)
-walks_spares p t = walk_begun_spares p t.home t.walk (key_of t.request.op) (purpose_of t.request.op) t.seen.offsets.head t.spare
+walks_spares p t = walk_begun_spares p t.home (key_of t.request.op) (purpose_of t.request.op) t.seen.offsets.head t.spare
 
 appends_spares : (p : Places) (t : TryState) (old : ℕ) → IsWalkSparing p t.walk → IsTrySparing p (appends t old)
 unfolding appends
-appends_spares p t old bounds = append_begun_spares p t.append (slot_of t) (words_of t.request t.walk.entry (value_of old)) bounds.place
+appends_spares p t old bounds = append_begun_spares p (slot_of t) (words_of t.request t.walk.entry (value_of old)) bounds.place
 
 copies_from_spares : (p : Places) (t : TryState) (old : OldValue) → IsWalkSparing p t.walk → IsTrySparing p (copies_from t old)
 unfolding copies_from
@@ -260,7 +260,7 @@ pub try_next_spares : (p : Places) (room : ℕ) (t : TryState) (reply : ℕ) →
 try_next_spares p room t reply bounds = next_spares p room (record t { effect = None }) t.step reply refl (effect_spares p t t.step bounds)
 
 -- as it begins
-pub try_begun_spares : (p : Places) (bits : ℕ) (t : TryState) (request : Request) (seen : Seen) (occasion : Occasion) (spare : ℕ) → IsTrySparing p (try_begun p bits t request seen occasion spare)
-try_begun_spares p bits t request seen occasion spare =
-    let its : TryState = record t { request = request; seen = seen; occasion = occasion; home = home_of bits (key_of request.op); has_shared = request.has_latch; has_exclusive = false; effect = None; spare = spare } in
+pub try_begun_spares : (p : Places) (bits : ℕ) (request : Request) (seen : Seen) (occasion : Occasion) (spare : ℕ) → IsTrySparing p (try_begun p bits request seen occasion spare)
+try_begun_spares p bits request seen occasion spare =
+    let its : TryState = new_try bits request seen occasion spare in
     either_spares (wants_shared its) p (with_latch p its TakeShared TakesShared) (walks p its) (latch_begins p TakeShared its.home.bucket) (walks_spares p its)

@@ -30,7 +30,7 @@ use Rattle.fkv_pending.specs.declared.mailing.Mailing.TheVariants.{LoadsState}
 use Rattle.fkv_pending.specs.declared.pending_requests.PendingRequest.{PendingRequest}
 use Rattle.fkv_pending.specs.Mailing.{mail_ask, mail_next}
 use Rattle.fkv_pending.specs.Pending.{with_sought, with_held, with_latch, with_asked}
-use Rattle.fkv_pending.specs.Attempting.{AttemptState, attempt_ended, waits_for_disk, puts_addr, puts, tries, is_seeking_read, goes_on, attempt_begun, held_of, moved_on, read_on, record_taken, look_ledto, held_kept, tried, try_ledto, put_ledto, mail_moved, try_moved, attempting_next, attempt_next}
+use Rattle.fkv_pending.specs.Attempting.{AttemptState, attempt_ended, waits_for_disk, puts_addr, puts, tries, is_seeking_read, goes_on, attempt_begun, held_of, moved_on, read_on, record_taken, look_ledto, held_kept, tried, try_ledto, put_ledto, mail_moved, try_moved, attempting_next, attempt_next, new_attempt}
 use Rattle.fkv_pending.proofs.Shown.{is_attempt_end, AttemptAsksAt, AttemptRestsOrAsks}
 use Rattle.law_parts.specs.Index.Finders.{NoWork, IndexPart, try_part, attempt_part}
 use Rattle.law_parts.proofs.OfIndex.Goes.{Drops, Goes, part, leads_on}
@@ -65,16 +65,16 @@ puts_free p reply a (Some sought) = record { knows = tt; goes = rests p reply a.
 
 tries_free : (p : Places) (bits reply : ℕ) (a : AttemptState) → HaveHomes p bits → Free p reply (tries p bits a) a.spare
 tries_free p bits reply a homes =
-    let its = begun_goes p bits reply a.trial a.pending.request a.seen a.occasion a.spare (homes (key_of a.pending.request.op)) in
+    let its = begun_goes p bits reply a.pending.request a.seen a.occasion a.spare (homes (key_of a.pending.request.op)) in
     record { knows = its.knows; goes = its.goes }
 
 goes_free : (p : Places) (bits reply : ℕ) (a : AttemptState) → HaveHomes p bits → Free p reply (goes_on p bits a) a.spare
 goes_free p bits reply a homes = either_free (is_seeking_read a) (puts a) (tries p bits a) (puts_free p reply a a.pending.sought) (tries_free p bits reply a homes)
 
-pub attempt_begun_goes : (p : Places) (bits reply : ℕ) (a : AttemptState) (pending : PendingRequest) (seen : Seen) (occasion : Occasion) (spare : ℕ) (is_orphaned : Bool) → HaveHomes p bits
-    → AttemptGoes p reply (part NoWork spare) (attempt_begun p bits a pending seen occasion spare is_orphaned)
-attempt_begun_goes p bits reply a pending seen occasion spare is_orphaned homes =
-    let first : AttemptState = record a { pending = pending; seen = seen; occasion = occasion; spare = spare; is_orphaned = is_orphaned; is_emptied = false; effect = None } in
+pub attempt_begun_goes : (p : Places) (bits reply : ℕ) (pending : PendingRequest) (seen : Seen) (occasion : Occasion) (spare : ℕ) (is_orphaned : Bool) → HaveHomes p bits
+    → AttemptGoes p reply (part NoWork spare) (attempt_begun p bits pending seen occasion spare is_orphaned)
+attempt_begun_goes p bits reply pending seen occasion spare is_orphaned homes =
+    let first : AttemptState = new_attempt bits pending seen occasion spare is_orphaned in
     either_free pending.has_asked (record first { mailing = LoadsState Take; step = Looks }) (goes_on p bits first) (record { knows = tt; goes = rests p reply spare }) (goes_free p bits reply first homes)
 
 ended_free : (p : Places) (reply : ℕ) (a : AttemptState) (its : TryAnswer) → Free p reply (attempt_ended a its) a.spare

@@ -90,14 +90,14 @@ turn_after_led k s its = either_led s.wants_turn k (record s { own_turn = own_tu
 attempts_led : (k : Seat) (s : SessionState) (has_shifted : Bool) → Homes k → Free k s.spare (attempts k s has_shifted)
 unfolding attempts
 attempts_led k s has_shifted homes =
-    let its = attempt_begun_goes k.places (bits_of k) 0 s.attempt (request_in_hand s) s.seen AtCall s.spare s.is_orphaned homes in
-    record { knows = record { rests = attempt_begun_rests k.places (bits_of k) s.attempt (request_in_hand s) s.seen AtCall s.spare s.is_orphaned; knows = its.knows }; goes = its.goes }
+    let its = attempt_begun_goes k.places (bits_of k) 0 (request_in_hand s) s.seen AtCall s.spare s.is_orphaned homes in
+    record { knows = record { rests = attempt_begun_rests k.places (bits_of k) (request_in_hand s) s.seen AtCall s.spare s.is_orphaned; knows = its.knows }; goes = its.goes }
 
 polls_request_led : (k : Seat) (s : SessionState) (index : ℕ) (found : Option PendingRequest) → Homes k → Free k s.spare (polls_request k s index found)
 polls_request_led k s index None homes = turn_after_led k s (told.Polled (length s.requests))
 polls_request_led k s index (Some pending) homes =
-    let its = attempt_begun_goes k.places (bits_of k) 0 s.attempt pending s.seen AtPoll s.spare s.is_orphaned homes in
-    record { knows = record { rests = attempt_begun_rests k.places (bits_of k) s.attempt pending s.seen AtPoll s.spare s.is_orphaned; knows = its.knows }; goes = its.goes }
+    let its = attempt_begun_goes k.places (bits_of k) 0 pending s.seen AtPoll s.spare s.is_orphaned homes in
+    record { knows = record { rests = attempt_begun_rests k.places (bits_of k) pending s.seen AtPoll s.spare s.is_orphaned; knows = its.knows }; goes = its.goes }
 
 polls_led : (k : Seat) (s : SessionState) (index : ℕ) → Homes k → Free k s.spare (polls_at k s index)
 unfolding polls_at

@@ -43,7 +43,7 @@ use Rattle.fkv_ops.specs.Values.{value_of}
 use Rattle.fkv_ops.specs.Requests.{is_read, is_blind, purpose_of}
 use Rattle.fkv_ops.specs.Walking.{walk_ask, walk_next, walk_on}
 use Rattle.fkv_ops.specs.Appending.{append_ask, append_next}
-use Rattle.fkv_ops.specs.Trying.{TryState, with_latch, is_wait, ended_without, ends, takes_effect, walks, wants_shared, try_begun, shared_ledto, must_shift, wants_exclusive, appends, copies_from, copies, awaits, held_used, met_nowhere, met_disk, changes, is_own_version, region_met, met_record, walked, has_walked, walk_ledto, safe_loaded, current_ledto, value_changed, told_value, answer_ledto, exclusive_ledto, old_ledto, append_ledto, exclusive_dropped, shared_dropped, latch_moved, walk_moved, trying_next, try_next}
+use Rattle.fkv_ops.specs.Trying.{TryState, with_latch, is_wait, ended_without, ends, takes_effect, walks, wants_shared, try_begun, shared_ledto, must_shift, wants_exclusive, appends, copies_from, copies, awaits, held_used, met_nowhere, met_disk, changes, is_own_version, region_met, met_record, walked, has_walked, walk_ledto, safe_loaded, current_ledto, value_changed, told_value, answer_ledto, exclusive_ledto, old_ledto, append_ledto, exclusive_dropped, shared_dropped, latch_moved, walk_moved, trying_next, try_next, new_try}
 use Rattle.fkv_ops.proofs.Shown.{is_try_end, is_walk_end, WalkRestsOrAsks, walk_done, walk_rests, TryRestsOrAsks, AppendRestsOrAsks, append_done, append_rests}
 use Rattle.law_parts.specs.Index.Finders.{SessionWork, NoWork, KeepsSlot, IndexPart, slot_kept, kept_work, append_work, try_work, try_spare, try_part}
 use Rattle.law_parts.proofs.OfIndex.Goes.{spare_by, WorkGoes, Drops, Seeks, Goes, part, stays, drops, IsLeft, Gone, Kept, left}
@@ -375,9 +375,9 @@ pub try_goes : (p : Places) (room : ℕ) (t : TryState) (reply : ℕ) → TryKno
 try_goes p room t reply knows asks = step_goes p room t t.step reply refl knows.home knows.at (parts_ask t t.step asks)
 
 -- how a try begins
-pub begun_goes : (p : Places) (bits reply : ℕ) (t : TryState) (request : Request) (seen : Seen) (occasion : Occasion) (spare : ℕ) → IsHome p (home_of bits (key_of request.op)) → TryGoes p reply (part NoWork spare) (try_begun p bits t request seen occasion spare)
-begun_goes p bits reply t request seen occasion spare home =
-    let its : TryState = record t { request = request; seen = seen; occasion = occasion; home = home_of bits (key_of request.op); has_shared = request.has_latch; has_exclusive = false; effect = None; spare = spare } in
+pub begun_goes : (p : Places) (bits reply : ℕ) (request : Request) (seen : Seen) (occasion : Occasion) (spare : ℕ) → IsHome p (home_of bits (key_of request.op)) → TryGoes p reply (part NoWork spare) (try_begun p bits request seen occasion spare)
+begun_goes p bits reply request seen occasion spare home =
+    let its : TryState = new_try bits request seen occasion spare in
     either_goes (wants_shared its) (with_latch p its TakeShared TakesShared) (walks p its) (record { knows = record { home = home; at = tt }; goes = record { work = Drops tt refl; spare = refl } }) (walks_begin p reply its home)
   where
     either_goes : (c : Bool) (a b : TryState) → TryGoes p reply (part NoWork spare) a → TryGoes p reply (part NoWork spare) b → TryGoes p reply (part NoWork spare) (if c then a else b)

@@ -37,7 +37,7 @@ use Rattle.fkv_pending.specs.declared.mailing.Mailing.TheVariants.{LoadsState}
 use Rattle.fkv_pending.specs.declared.pending_requests.PendingRequest.{PendingRequest}
 use Rattle.fkv_pending.specs.Mailing.{mail_ask, mail_next}
 use Rattle.fkv_pending.specs.Pending.{with_sought, with_held, with_latch, with_asked}
-use Rattle.fkv_pending.specs.Attempting.{AttemptState, attempt_ended, waits_for_disk, puts_addr, puts, tries, is_seeking_read, goes_on, attempt_begun, held_of, moved_on, read_on, record_taken, look_ledto, held_kept, tried, try_ledto, put_ledto, mail_moved, try_moved, attempting_next, attempt_next}
+use Rattle.fkv_pending.specs.Attempting.{AttemptState, attempt_ended, waits_for_disk, puts_addr, puts, tries, is_seeking_read, goes_on, attempt_begun, held_of, moved_on, read_on, record_taken, look_ledto, held_kept, tried, try_ledto, put_ledto, mail_moved, try_moved, attempting_next, attempt_next, new_attempt}
 use Rattle.fkv_pending.proofs.Shown.{AttemptAsksAt, AttemptRestsOrAsks}
 use Rattle.law_parts.specs.Latches.Latchers.{try_latching, try_alone, attempt_latching, attempt_alone}
 use Rattle.law_parts.proofs.OfLatches.TryLatches.{alone_left, alone_given, is_first, HasHeld, Fits, Keeps, Starts, IsTry, TryLed, try_led, begun_led}
@@ -89,16 +89,16 @@ puts_led p a (Some sought) = record { knows = tt; fits = KeepsAt refl refl refl 
 tries_led : (p : Places) (bits : ℕ) (a : AttemptState) → HomesAreLow p bits → AttemptLed p latching.AtRest [] (tries p bits a)
 tries_led p bits a homes =
     let low = homes (key_of a.pending.request.op) in
-    let its = begun_led p bits a.trial a.pending.request a.seen a.occasion a.spare low in
+    let its = begun_led p bits a.pending.request a.seen a.occasion a.spare low in
     record { knows = its.its; fits = at_bucket p (tries p bits a).trial.home.bucket latching.AtRest [] _ _ its.its.low its.fits }
 
 goes_led : (p : Places) (bits : ℕ) (a : AttemptState) → HomesAreLow p bits → AttemptLed p latching.AtRest [] (goes_on p bits a)
 goes_led p bits a homes = either_led (is_seeking_read a) p (puts a) (tries p bits a) (puts_led p a a.pending.sought) (tries_led p bits a homes)
 
-pub attempt_begun_led : (p : Places) (bits : ℕ) (a : AttemptState) (pending : PendingRequest) (seen : Seen) (occasion : Occasion) (spare : ℕ) (is_orphaned : Bool) → HomesAreLow p bits
-    → AttemptLed p latching.AtRest [] (attempt_begun p bits a pending seen occasion spare is_orphaned)
-attempt_begun_led p bits a pending seen occasion spare is_orphaned homes =
-    let first : AttemptState = record a { pending = pending; seen = seen; occasion = occasion; spare = spare; is_orphaned = is_orphaned; is_emptied = false; effect = None } in
+pub attempt_begun_led : (p : Places) (bits : ℕ) (pending : PendingRequest) (seen : Seen) (occasion : Occasion) (spare : ℕ) (is_orphaned : Bool) → HomesAreLow p bits
+    → AttemptLed p latching.AtRest [] (attempt_begun p bits pending seen occasion spare is_orphaned)
+attempt_begun_led p bits pending seen occasion spare is_orphaned homes =
+    let first : AttemptState = new_attempt bits pending seen occasion spare is_orphaned in
     either_led pending.has_asked p (record first { mailing = LoadsState Take; step = Looks }) (goes_on p bits first) (record { knows = tt; fits = KeepsAt refl refl refl }) (goes_led p bits first homes)
 
 ended_led : (p : Places) (a : AttemptState) (its : TryAnswer) → AttemptLed p latching.AtRest [] (attempt_ended a its)

@@ -97,14 +97,14 @@ turn_after_led k s its = either_led s.wants_turn k (record s { own_turn = own_tu
 attempts_led : (k : Seat) (s : SessionState) (has_shifted : Bool) → Homes k → Free k (attempts k s has_shifted)
 unfolding attempts
 attempts_led k s has_shifted homes =
-    let its = attempt_begun_led k.places (bits_of k) s.attempt (request_in_hand s) s.seen AtCall s.spare s.is_orphaned homes in
-    record { knows = record { rests = attempt_begun_rests k.places (bits_of k) s.attempt (request_in_hand s) s.seen AtCall s.spare s.is_orphaned; knows = its.knows }; fits = its.fits }
+    let its = attempt_begun_led k.places (bits_of k) (request_in_hand s) s.seen AtCall s.spare s.is_orphaned homes in
+    record { knows = record { rests = attempt_begun_rests k.places (bits_of k) (request_in_hand s) s.seen AtCall s.spare s.is_orphaned; knows = its.knows }; fits = its.fits }
 
 polls_request_led : (k : Seat) (s : SessionState) (index : ℕ) (found : Option PendingRequest) → Homes k → Free k (polls_request k s index found)
 polls_request_led k s index None homes = turn_after_led k s (told.Polled (length s.requests))
 polls_request_led k s index (Some pending) homes =
-    let its = attempt_begun_led k.places (bits_of k) s.attempt pending s.seen AtPoll s.spare s.is_orphaned homes in
-    record { knows = record { rests = attempt_begun_rests k.places (bits_of k) s.attempt pending s.seen AtPoll s.spare s.is_orphaned; knows = its.knows }; fits = its.fits }
+    let its = attempt_begun_led k.places (bits_of k) pending s.seen AtPoll s.spare s.is_orphaned homes in
+    record { knows = record { rests = attempt_begun_rests k.places (bits_of k) pending s.seen AtPoll s.spare s.is_orphaned; knows = its.knows }; fits = its.fits }
 
 polls_led : (k : Seat) (s : SessionState) (index : ℕ) → Homes k → Free k (polls_at k s index)
 unfolding polls_at

@@ -39,7 +39,7 @@ use Rattle.fkv_ops.specs.Values.{value_of}
 use Rattle.fkv_ops.specs.Requests.{is_read, is_blind}
 use Rattle.fkv_ops.specs.Walking.{walk_ask, walk_next, walk_on}
 use Rattle.fkv_ops.specs.Appending.{append_ask, append_next}
-use Rattle.fkv_ops.specs.Trying.{TryState, with_latch, is_wait, is_prepare, ended_without, ends, takes_effect, walks, wants_shared, try_begun, shared_ledto, must_shift, wants_exclusive, appends, copies_from, copies, awaits, held_used, met_nowhere, met_disk, changes, is_own_version, region_met, met_record, walked, has_walked, walk_ledto, safe_loaded, current_ledto, value_changed, told_value, answer_ledto, exclusive_ledto, old_ledto, append_ledto, exclusive_dropped, shared_dropped, latch_moved, trying_next, try_next}
+use Rattle.fkv_ops.specs.Trying.{TryState, with_latch, is_wait, is_prepare, ended_without, ends, takes_effect, walks, wants_shared, try_begun, shared_ledto, must_shift, wants_exclusive, appends, copies_from, copies, awaits, held_used, met_nowhere, met_disk, changes, is_own_version, region_met, met_record, walked, has_walked, walk_ledto, safe_loaded, current_ledto, value_changed, told_value, answer_ledto, exclusive_ledto, old_ledto, append_ledto, exclusive_dropped, shared_dropped, latch_moved, trying_next, try_next, new_try}
 use Rattle.fkv_index.specs.Slots.{home_of}
 use Rattle.law_parts.specs.Latches.Latchers.{its_latch, try_latching, held_if, try_alone}
 
@@ -329,12 +329,12 @@ pub try_led : (p : Places) (room : ℕ) (t : TryState) (reply : ℕ) → IsTry p
 try_led p room t reply its = step_led p room t t.step reply refl its.low its.knows
 
 -- how a try begins
-pub begun_led : (p : Places) (bits : ℕ) (t : TryState) (request : Request) (seen : Seen) (occasion : Occasion) (spare : ℕ) → (home_of bits (key_of request.op)).bucket < p.buckets → TryLed p latching.AtRest [] (try_begun p bits t request seen occasion spare)
-begun_led p bits t request seen occasion spare low =
+pub begun_led : (p : Places) (bits : ℕ) (request : Request) (seen : Seen) (occasion : Occasion) (spare : ℕ) → (home_of bits (key_of request.op)).bucket < p.buckets → TryLed p latching.AtRest [] (try_begun p bits request seen occasion spare)
+begun_led p bits request seen occasion spare low =
     by_test (wants_shared its) refl
   where
     its : TryState
-    its = record t { request = request; seen = seen; occasion = occasion; home = home_of bits (key_of request.op); has_shared = request.has_latch; has_exclusive = false; effect = None; spare = spare }
+    its = new_try bits request seen occasion spare
 
     last_not : (a b c : Bool) → (a && b && not c) ≡ true → c ≡ false
     last_not true true true e = cc

@@ -27,7 +27,7 @@ use Rattle.fkv_pending.specs.declared.pending_requests.PendingRequest.{PendingRe
 use Rattle.fkv_pending.specs.Mailing.{mail_ask, mail_next}
 use Rattle.fkv_pending.specs.MailWorld.{is_at_end, has_emptied}
 use Rattle.fkv_pending.specs.Pending.{with_sought, with_held, with_latch, with_asked}
-use Rattle.fkv_pending.specs.Attempting.{AttemptState, attempting_ask, attempt_ask, attempt_ended, waits_for_disk, puts_addr, puts, tries, is_seeking_read, goes_on, attempt_begun, held_of, moved_on, read_on, record_taken, look_ledto, held_kept, tried, try_ledto, put_ledto, mail_moved, try_moved, attempting_next, attempt_next}
+use Rattle.fkv_pending.specs.Attempting.{AttemptState, attempting_ask, attempt_ask, attempt_ended, waits_for_disk, puts_addr, puts, tries, is_seeking_read, goes_on, attempt_begun, held_of, moved_on, read_on, record_taken, look_ledto, held_kept, tried, try_ledto, put_ledto, mail_moved, try_moved, attempting_next, attempt_next, new_attempt}
 use Rattle.law_parts.specs.Mail.Mailers.{attempt_mailing}
 
 -- what a machine has become where it may have begun a task
@@ -110,10 +110,10 @@ goes_leads p bits a m free = either_leads (is_seeking_read a) (puts a) (tries p 
 never : {A : Type 0} → false ≡ true → A
 never e = cc
 
-pub attempt_begun_leads : (p : Places) (bits : ℕ) (a : AttemptState) (pending : PendingRequest) (seen : Seen) (occasion : Occasion) (spare : ℕ) (is_orphaned : Bool) (m : Mailing) → is_at_end m ≡ true
-    → AttemptLeads (attempt_begun p bits a pending seen occasion spare is_orphaned) m
-attempt_begun_leads p bits a pending seen occasion spare is_orphaned m ended =
-    let first : AttemptState = record a { pending = pending; seen = seen; occasion = occasion; spare = spare; is_orphaned = is_orphaned; is_emptied = false; effect = None } in
+pub attempt_begun_leads : (p : Places) (bits : ℕ) (pending : PendingRequest) (seen : Seen) (occasion : Occasion) (spare : ℕ) (is_orphaned : Bool) (m : Mailing) → is_at_end m ≡ true
+    → AttemptLeads (attempt_begun p bits pending seen occasion spare is_orphaned) m
+attempt_begun_leads p bits pending seen occasion spare is_orphaned m ended =
+    let first : AttemptState = new_attempt bits pending seen occasion spare is_orphaned in
     either_leads pending.has_asked (record first { mailing = mailing.LoadsState Take; step = Looks }) (goes_on p bits first) m
     ((ap (λ (c : Bool). if c then mailing.LoadsState Take else m) ended, refl), refl) (goes_leads p bits first m (ended, λ e. never e))
 

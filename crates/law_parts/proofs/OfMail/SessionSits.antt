@@ -95,11 +95,11 @@ turn_after_leads s its m ended = either_leads s.wants_turn (record s { own_turn 
 
 attempts_leads : (k : Seat) (s : SessionState) (has_shifted : Bool) (m : Mailing) → is_at_end m ≡ true → SessionLeads (attempts k s has_shifted) m
 unfolding attempts
-attempts_leads k s has_shifted m ended = attempt_begun_leads k.places (bits_of k) s.attempt (request_in_hand s) s.seen AtCall s.spare s.is_orphaned m ended
+attempts_leads k s has_shifted m ended = attempt_begun_leads k.places (bits_of k) (request_in_hand s) s.seen AtCall s.spare s.is_orphaned m ended
 
 polls_request_leads : (k : Seat) (s : SessionState) (index : ℕ) (found : Option PendingRequest) (m : Mailing) → is_at_end m ≡ true → SessionLeads (polls_request k s index found) m
 polls_request_leads k s index None m ended = turn_after_leads s (told.Polled (length s.requests)) m ended
-polls_request_leads k s index (Some pending) m ended = attempt_begun_leads k.places (bits_of k) s.attempt pending s.seen AtPoll s.spare s.is_orphaned m ended
+polls_request_leads k s index (Some pending) m ended = attempt_begun_leads k.places (bits_of k) pending s.seen AtPoll s.spare s.is_orphaned m ended
 
 polls_leads : (k : Seat) (s : SessionState) (index : ℕ) (m : Mailing) → is_at_end m ≡ true → SessionLeads (polls_at k s index) m
 unfolding polls_at

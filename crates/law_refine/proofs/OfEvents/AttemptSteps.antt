@@ -33,7 +33,7 @@ use Rattle.fkv_pending.specs.declared.mailing.Mailing.TheVariants.{LoadsState}
 use Rattle.fkv_pending.specs.declared.pending_requests.PendingRequest.{PendingRequest}
 use Rattle.fkv_pending.specs.Mailing.{mail_ask, mail_next}
 use Rattle.fkv_pending.specs.Pending.{with_sought, with_held, with_latch, with_asked}
-use Rattle.fkv_pending.specs.Attempting.{AttemptState, attempting_ask, attempt_ask, attempt_ended, waits_for_disk, puts_addr, puts, tries, is_seeking_read, goes_on, attempt_begun, held_of, moved_on, read_on, record_taken, look_ledto, held_kept, awaits_record, tried, try_ledto, put_ledto, mail_moved, try_moved, attempting_next, attempt_next}
+use Rattle.fkv_pending.specs.Attempting.{AttemptState, attempting_ask, attempt_ask, attempt_ended, waits_for_disk, puts_addr, puts, tries, is_seeking_read, goes_on, attempt_begun, held_of, moved_on, read_on, record_taken, look_ledto, held_kept, awaits_record, tried, try_ledto, put_ledto, mail_moved, try_moved, attempting_next, attempt_next, new_attempt}
 use Rattle.fkv_pending.proofs.Shown.{AttemptRestsOrAsks}
 use Rattle.fkv_session.specs.Sessions.{Seat, bits_of, room_of}
 use Rattle.law_refine.specs.Events.Reservations.{MovesOn, Keeps, Behind, Reservation, try_reserves, attempt_reserves}
@@ -55,15 +55,15 @@ puts_addr_free session a None = refl
 puts_addr_free session a (Some sought) = refl
 
 tries_free : (session : ℕ) (p : Places) (bits : ℕ) (a : AttemptState) → IsFreeOf session (tries p bits a)
-tries_free session p bits a = begun_free p bits a.trial a.pending.request a.seen a.occasion a.spare session a.pending
+tries_free session p bits a = begun_free p bits a.pending.request a.seen a.occasion a.spare session a.pending
 
 goes_free : (session : ℕ) (p : Places) (bits : ℕ) (a : AttemptState) → IsFreeOf session (goes_on p bits a)
 goes_free session p bits a = either_free session (is_seeking_read a) (puts a) (tries p bits a) (puts_addr_free session a a.pending.sought) (tries_free session p bits a)
 
-pub attempt_begun_free : (session : ℕ) (p : Places) (bits : ℕ) (a : AttemptState) (pending : PendingRequest) (seen : Seen) (occasion : Occasion) (spare : ℕ) (is_orphaned : Bool)
-    → IsFreeOf session (attempt_begun p bits a pending seen occasion spare is_orphaned)
-attempt_begun_free session p bits a pending seen occasion spare is_orphaned =
-    let its : AttemptState = record a { pending = pending; seen = seen; occasion = occasion; spare = spare; is_orphaned = is_orphaned; is_emptied = false; effect = None } in
+pub attempt_begun_free : (session : ℕ) (p : Places) (bits : ℕ) (pending : PendingRequest) (seen : Seen) (occasion : Occasion) (spare : ℕ) (is_orphaned : Bool)
+    → IsFreeOf session (attempt_begun p bits pending seen occasion spare is_orphaned)
+attempt_begun_free session p bits pending seen occasion spare is_orphaned =
+    let its : AttemptState = new_attempt bits pending seen occasion spare is_orphaned in
     either_free session pending.has_asked (record its { mailing = LoadsState Take; step = Looks }) (goes_on p bits its) refl (goes_free session p bits its)
 
 -- ---- a look into the mailbox

@@ -22,7 +22,7 @@ use Rattle.fkv_ops.specs.declared.walking.WalkAnswer.TheVariants as walk
 use Rattle.fkv_ops.specs.Requests.{is_read}
 use Rattle.fkv_ops.specs.Values.{value_of}
 use Rattle.fkv_ops.specs.Walking.{walk_on}
-use Rattle.fkv_ops.specs.Trying.{TryState, with_latch, is_wait, ended_without, ends, full_at, wants_shared, walks, try_begun, shared_ledto, must_shift, region_met, walked, has_walked, walk_ledto, told_value, answer_ledto, exclusive_dropped, shared_dropped, trying_next, try_next}
+use Rattle.fkv_ops.specs.Trying.{TryState, with_latch, is_wait, ended_without, ends, full_at, wants_shared, walks, try_begun, shared_ledto, must_shift, region_met, walked, has_walked, walk_ledto, told_value, answer_ledto, exclusive_dropped, shared_dropped, trying_next, try_next, new_try}
 use Rattle.fkv_pending.specs.declared.pending_requests.PendingRequest.{PendingRequest}
 use Rattle.law_refine.specs.Events.Effects.{AreQuiet}
 use Rattle.law_refine.specs.Events.Tries.{try_ghosts}
@@ -119,9 +119,9 @@ pub try_read : (p : Places) (room : ℕ) (t : TryState) (reply : ℕ) → IsRead
 try_read p room t reply its = step_read p room (record t { effect = None }) t.step reply its.step (record { reads = its.reads; step = its.step })
 
 -- it begins with its walk
-pub begun_read : (p : Places) (bits : ℕ) (t : TryState) (request : Request) (seen : Seen) (occasion : Occasion) (spare : ℕ) → is_read request.op ≡ true → IsReadTry (try_begun p bits t request seen occasion spare)
-begun_read p bits t request seen occasion spare e =
-    let its : TryState = record t { request = request; seen = seen; occasion = occasion; home = home_of bits (key_of request.op); has_shared = request.has_latch; has_exclusive = false; effect = None; spare = spare } in
+pub begun_read : (p : Places) (bits : ℕ) (request : Request) (seen : Seen) (occasion : Occasion) (spare : ℕ) → is_read request.op ≡ true → IsReadTry (try_begun p bits request seen occasion spare)
+begun_read p bits request seen occasion spare e =
+    let its : TryState = new_try bits request seen occasion spare in
     either_read (wants_shared its) (with_latch p its TakeShared TakesShared) (walks p its) (record { reads = e; step = tt }) (record { reads = e; step = tt })
 
 -- no update takes effect by a step of it

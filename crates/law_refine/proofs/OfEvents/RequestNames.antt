@@ -41,7 +41,7 @@ use Rattle.fkv_pending.specs.declared.pending_requests.PendingRequest.{PendingRe
 use Rattle.fkv_pending.specs.declared.pending_requests.RequestName.{RequestName}
 use Rattle.fkv_pending.specs.Mailing.{mail_ask, mail_next}
 use Rattle.fkv_pending.specs.Pending.{with_sought, with_held, with_latch, with_asked}
-use Rattle.fkv_pending.specs.Attempting.{AttemptState, attempt_begun, attempt_ask, attempt_ended, waits_for_disk, puts_addr, puts, tries, is_seeking_read, goes_on, held_of, moved_on, read_on, record_taken, look_ledto, held_kept, awaits_record, tried, try_ledto, put_ledto, mail_moved, try_moved, attempting_next, attempt_next}
+use Rattle.fkv_pending.specs.Attempting.{AttemptState, attempt_begun, attempt_ask, attempt_ended, waits_for_disk, puts_addr, puts, tries, is_seeking_read, goes_on, held_of, moved_on, read_on, record_taken, look_ledto, held_kept, awaits_record, tried, try_ledto, put_ledto, mail_moved, try_moved, attempting_next, attempt_next, new_attempt}
 use Rattle.fkv_session.specs.declared.answers.Told.{Told}
 use Rattle.fkv_session.specs.declared.answers.Told.TheVariants as told
 use Rattle.fkv_session.specs.declared.catching_up.Catching.{Catching}
@@ -98,8 +98,8 @@ puts_tries a (Some sought) = tt
 
 tries_anew : (p : Places) (bits : ℕ) (a : AttemptState) → TriesIts (tries p bits a)
 tries_anew p bits a = record {
-  reads = λ e. begun_read p bits a.trial a.pending.request a.seen a.occasion a.spare e;
-  of_request = begun_at p bits a.trial a.pending.request a.seen a.occasion a.spare;
+  reads = λ e. begun_read p bits a.pending.request a.seen a.occasion a.spare e;
+  of_request = begun_at p bits a.pending.request a.seen a.occasion a.spare;
 }
 
 read_on_tries : (a : AttemptState) (its : MailRecord) (said : HeaderSaid) → TriesIts (read_on a its said)
@@ -170,10 +170,10 @@ puts_so : (a : AttemptState) (sought : Option DiskRecord) → IsNamedSo a.pendin
 puts_so a None named = record { named = named; tries_so = tt }
 puts_so a (Some sought) named = record { named = named; tries_so = tt }
 
-begun_so : (p : Places) (bits : ℕ) (a : AttemptState) (pending : PendingRequest) (seen : Seen) (occasion : Occasion) (spare : ℕ) (is_orphaned : Bool) → IsNamedSo pending
-    → IsAttemptSo (attempt_begun p bits a pending seen occasion spare is_orphaned)
-begun_so p bits a pending seen occasion spare is_orphaned named =
-    let its : AttemptState = record a { pending = pending; seen = seen; occasion = occasion; spare = spare; is_orphaned = is_orphaned; is_emptied = false; effect = None } in
+begun_so : (p : Places) (bits : ℕ) (pending : PendingRequest) (seen : Seen) (occasion : Occasion) (spare : ℕ) (is_orphaned : Bool) → IsNamedSo pending
+    → IsAttemptSo (attempt_begun p bits pending seen occasion spare is_orphaned)
+begun_so p bits pending seen occasion spare is_orphaned named =
+    let its : AttemptState = new_attempt bits pending seen occasion spare is_orphaned in
     either_attempt pending.has_asked _ (goes_on p bits its) (record { named = named; tries_so = tt })
     (either_attempt (is_seeking_read its) (puts its) (tries p bits its) (puts_so its its.pending.sought named) (record { named = named; tries_so = tries_anew p bits its }))
 
@@ -239,14 +239,14 @@ hand_named false ticket serial one other = other
 
 attempts_so : (k : Seat) (s : SessionState) (has_shifted : Bool) → AreNamedSo s.requests → IsSo (attempts k s has_shifted)
 unfolding attempts
-attempts_so k s has_shifted all = record { waiting = all; sits = begun_so k.places (bits_of k) s.attempt (request_in_hand s) s.seen AtCall s.spare s.is_orphaned (hand_named (is_read s.op) _ _ refl refl) }
+attempts_so k s has_shifted all = record { waiting = all; sits = begun_so k.places (bits_of k) (request_in_hand s) s.seen AtCall s.spare s.is_orphaned (hand_named (is_read s.op) _ _ refl refl) }
 
 turns_so : (s : SessionState) (its : Told) → AreNamedSo s.requests → IsSo (answers_after_turn s its)
 turns_so s its all = either_so s.wants_turn (record s { own_turn = own_turn_begun s.own_turn; step = Turns its }) (answers s its) (record { waiting = all; sits = tt }) (plain s its all)
 
 request_so : (k : Seat) (s : SessionState) (index : ℕ) (found : Option PendingRequest) → slice_get s.requests index ≡ found → AreNamedSo s.requests → IsSo (polls_request k s index found)
 request_so k s index None got all = turns_so s _ all
-request_so k s index (Some pending) got all = record { waiting = all; sits = begun_so k.places (bits_of k) s.attempt pending s.seen AtPoll s.spare s.is_orphaned (one_at s.requests index pending got all) }
+request_so k s index (Some pending) got all = record { waiting = all; sits = begun_so k.places (bits_of k) pending s.seen AtPoll s.spare s.is_orphaned (one_at s.requests index pending got all) }
 
 polls_so : (k : Seat) (s : SessionState) (index : ℕ) → AreNamedSo s.requests → IsSo (polls_at k s index)
 unfolding polls_at

@@ -52,14 +52,14 @@ either_free number false a b one other = other
 
 pub attempts_free : (number : ℕ) (k : Seat) (s : SessionState) (has_shifted : Bool) → IsFreeOf number (attempts k s has_shifted)
 unfolding attempts
-attempts_free number k s has_shifted = attempt_begun_free number k.places (bits_of k) s.attempt (request_in_hand s) s.seen AtCall s.spare s.is_orphaned
+attempts_free number k s has_shifted = attempt_begun_free number k.places (bits_of k) (request_in_hand s) s.seen AtCall s.spare s.is_orphaned
 
 after_turn_free : (number : ℕ) (s : SessionState) (its : Told) → IsFreeOf number (answers_after_turn s its)
 after_turn_free number s its = either_free number s.wants_turn (record s { own_turn = own_turn_begun s.own_turn; step = Turns its }) (answers s its) refl refl
 
 request_free : (number : ℕ) (k : Seat) (s : SessionState) (index : ℕ) (found : Option PendingRequest) → IsFreeOf number (polls_request k s index found)
 request_free number k s index None = after_turn_free number s _
-request_free number k s index (Some pending) = attempt_begun_free number k.places (bits_of k) s.attempt pending s.seen AtPoll s.spare s.is_orphaned
+request_free number k s index (Some pending) = attempt_begun_free number k.places (bits_of k) pending s.seen AtPoll s.spare s.is_orphaned
 
 pub polls_free : (number : ℕ) (k : Seat) (s : SessionState) (index : ℕ) → IsFreeOf number (polls_at k s index)
 unfolding polls_at

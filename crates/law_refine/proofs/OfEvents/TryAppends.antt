@@ -48,7 +48,7 @@ use Rattle.fkv_ops.specs.Requests.{is_read, is_blind}
 use Rattle.fkv_ops.specs.Values.{value_of}
 use Rattle.fkv_ops.specs.Walking.{walk_on}
 use Rattle.fkv_ops.specs.Appending.{AppendState, append_ended, append_ask, append_next, reserve_ledto, fill_ledto, publish_ledto, invalidate_ledto, appending_next}
-use Rattle.fkv_ops.specs.Trying.{TryState, with_latch, is_wait, ended_without, ends, takes_effect, full_at, wants_shared, walks, try_begun, shared_ledto, must_shift, wants_exclusive, appends, copies_from, copies, awaits, held_used, changes, is_own_version, region_met, walked, has_walked, walk_ledto, safe_loaded, current_ledto, value_changed, told_value, answer_ledto, exclusive_ledto, old_ledto, append_ledto, exclusive_dropped, shared_dropped, trying_next, try_next}
+use Rattle.fkv_ops.specs.Trying.{TryState, with_latch, is_wait, ended_without, ends, takes_effect, full_at, wants_shared, walks, try_begun, shared_ledto, must_shift, wants_exclusive, appends, copies_from, copies, awaits, held_used, changes, is_own_version, region_met, walked, has_walked, walk_ledto, safe_loaded, current_ledto, value_changed, told_value, answer_ledto, exclusive_ledto, old_ledto, append_ledto, exclusive_dropped, shared_dropped, trying_next, try_next, new_try}
 
 -- ---- an append
 -- by its control state: the address fits an entry, and the publish swaps in a word with it
@@ -284,7 +284,7 @@ try_at p room request t reply its = step_at p room request (record t { effect = 
     quietened (SwapsValue addr) so = so
     quietened step so = tt
 
-pub begun_at : (p : Places) (bits : ℕ) (t : TryState) (request : Request) (seen : Seen) (occasion : Occasion) (spare : ℕ) → IsTryAt request (try_begun p bits t request seen occasion spare)
-begun_at p bits t request seen occasion spare =
-    let its : TryState = record t { request = request; seen = seen; occasion = occasion; home = home_of bits (key_of request.op); has_shared = request.has_latch; has_exclusive = false; effect = None; spare = spare } in
+pub begun_at : (p : Places) (bits : ℕ) (request : Request) (seen : Seen) (occasion : Occasion) (spare : ℕ) → IsTryAt request (try_begun p bits request seen occasion spare)
+begun_at p bits request seen occasion spare =
+    let its : TryState = new_try bits request seen occasion spare in
     either_at (wants_shared its) request (with_latch p its TakeShared TakesShared) (walks p its) (record { same = refl; knows = tt }) (record { same = refl; knows = tt })

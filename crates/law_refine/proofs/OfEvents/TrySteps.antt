@@ -49,7 +49,7 @@ use Rattle.fkv_ops.specs.Requests.{is_read, is_blind}
 use Rattle.fkv_ops.specs.Values.{value_of}
 use Rattle.fkv_ops.specs.Walking.{WalkState, walk_ask, walk_next, walk_on}
 use Rattle.fkv_ops.specs.Appending.{AppendState, append_ask, append_next}
-use Rattle.fkv_ops.specs.Trying.{TryState, with_latch, is_wait, ended_without, ends, takes_effect, full_at, walks, wants_shared, try_begun, shared_ledto, must_shift, wants_exclusive, appends, copies_from, copies, awaits, held_used, met_nowhere, met_disk, changes, is_own_version, region_met, met_record, walked, has_walked, walk_ledto, safe_loaded, current_ledto, value_changed, told_value, answer_ledto, exclusive_ledto, old_ledto, append_ledto, exclusive_dropped, shared_dropped, latch_moved, walk_moved, trying_ask, trying_next, try_ask, try_next}
+use Rattle.fkv_ops.specs.Trying.{TryState, with_latch, is_wait, ended_without, ends, takes_effect, full_at, walks, wants_shared, try_begun, shared_ledto, must_shift, wants_exclusive, appends, copies_from, copies, awaits, held_used, met_nowhere, met_disk, changes, is_own_version, region_met, met_record, walked, has_walked, walk_ledto, safe_loaded, current_ledto, value_changed, told_value, answer_ledto, exclusive_ledto, old_ledto, append_ledto, exclusive_dropped, shared_dropped, latch_moved, walk_moved, trying_ask, trying_next, try_ask, try_next, new_try}
 use Rattle.fkv_ops.proofs.Shown.{is_append_end, append_done, append_rests, TryRestsOrAsks, IsAppendUnderWay}
 use Rattle.fkv_pending.specs.declared.pending_requests.PendingRequest.{PendingRequest}
 use Rattle.law_refine.specs.Events.Appends.{entry_made, append_ghosts}
@@ -127,9 +127,9 @@ walked_free p t walk.Full = ends_free p t (full_at t.occasion answer.IndexFull)
 walked_free p t walk.Contended = ends_free p t (answer.Wait reason.Contended)
 
 -- a try that begins
-pub begun_free : (p : Places) (bits : ℕ) (t : TryState) (request : Request) (seen : Seen) (occasion : Occasion) (spare : ℕ) → IsFree (try_begun p bits t request seen occasion spare)
-begun_free p bits t request seen occasion spare =
-    let its : TryState = record t { request = request; seen = seen; occasion = occasion; home = home_of bits (key_of request.op); has_shared = request.has_latch; has_exclusive = false; effect = None; spare = spare } in
+pub begun_free : (p : Places) (bits : ℕ) (request : Request) (seen : Seen) (occasion : Occasion) (spare : ℕ) → IsFree (try_begun p bits request seen occasion spare)
+begun_free p bits request seen occasion spare =
+    let its : TryState = new_try bits request seen occasion spare in
     either_free (wants_shared its) (with_latch p its TakeShared TakesShared) (walks p its) (λ session pending. refl) (λ session pending. refl)
 
 -- ---- each state but an append

@@ -25,7 +25,7 @@ use Rattle.fkv_pending.specs.declared.mailing.MailRecord.{MailRecord}
 use Rattle.fkv_pending.specs.declared.pending_requests.PendingRequest.{PendingRequest}
 use Rattle.fkv_pending.specs.Mailing.{mail_ask, mail_next}
 use Rattle.fkv_pending.specs.Pending.{with_sought, with_held, with_latch, with_asked}
-use Rattle.fkv_pending.specs.Attempting.{AttemptState, attempt_begun, attempt_ended, waits_for_disk, puts_addr, puts, tries, is_seeking_read, goes_on, held_of, moved_on, read_on, record_taken, look_ledto, held_kept, awaits_record, tried, try_ledto, put_ledto, mail_moved, try_moved, attempting_next, attempt_next}
+use Rattle.fkv_pending.specs.Attempting.{AttemptState, attempt_begun, attempt_ended, waits_for_disk, puts_addr, puts, tries, is_seeking_read, goes_on, held_of, moved_on, read_on, record_taken, look_ledto, held_kept, awaits_record, tried, try_ledto, put_ledto, mail_moved, try_moved, attempting_next, attempt_next, new_attempt}
 use Rattle.fkv_session.specs.Sessions.{Seat, bits_of, room_of}
 use Rattle.fkv_session.proofs.Shown.{attempt_keeps}
 use Rattle.law_refine.proofs.OfRecords.AppendRows.{Standing}
@@ -63,7 +63,7 @@ puts_tries after a None = tt
 puts_tries after a (Some sought) = tt
 
 tries_anew : (after : Standing) (p : Places) (bits : ℕ) (a : AttemptState) → TriesNow after (tries p bits a)
-tries_anew after p bits a = begun_so after p bits a.trial a.pending.request a.seen a.occasion a.spare
+tries_anew after p bits a = begun_so after p bits a.pending.request a.seen a.occasion a.spare
 
 read_on_tries : (after : Standing) (a : AttemptState) (its : MailRecord) (said : HeaderSaid) → TriesNow after (read_on a its said)
 read_on_tries after a its Spoiled = puts_tries after a a.pending.sought
@@ -134,9 +134,9 @@ puts_so : (after : Standing) (a : AttemptState) (sought : Option DiskRecord) →
 puts_so after a None allowed = record { allowed = allowed; tries_so = tt }
 puts_so after a (Some sought) allowed = record { allowed = allowed; tries_so = tt }
 
-pub attempt_so : (after : Standing) (p : Places) (bits : ℕ) (a : AttemptState) (pending : PendingRequest) (seen : Seen) (occasion : Occasion) (spare : ℕ) (is_orphaned : Bool) → IsAllowed pending.request.op
-    → IsAttemptSo after (attempt_begun p bits a pending seen occasion spare is_orphaned)
-attempt_so after p bits a pending seen occasion spare is_orphaned allowed =
-    let its : AttemptState = record a { pending = pending; seen = seen; occasion = occasion; spare = spare; is_orphaned = is_orphaned; is_emptied = false; effect = None } in
+pub attempt_so : (after : Standing) (p : Places) (bits : ℕ) (pending : PendingRequest) (seen : Seen) (occasion : Occasion) (spare : ℕ) (is_orphaned : Bool) → IsAllowed pending.request.op
+    → IsAttemptSo after (attempt_begun p bits pending seen occasion spare is_orphaned)
+attempt_so after p bits pending seen occasion spare is_orphaned allowed =
+    let its : AttemptState = new_attempt bits pending seen occasion spare is_orphaned in
     either_attempt after pending.has_asked _ (goes_on p bits its) (record { allowed = allowed; tries_so = tt })
     (either_attempt after (is_seeking_read its) (puts its) (tries p bits its) (puts_so after its its.pending.sought allowed) (record { allowed = allowed; tries_so = tries_anew after p bits its }))

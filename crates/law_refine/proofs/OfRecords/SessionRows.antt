@@ -116,14 +116,14 @@ plain after s its all = record { waiting = all; sits = tt }
 
 attempts_so : (after : Standing) (k : Seat) (s : SessionState) (has_shifted : Bool) → AreAllowed s.requests → IsAllowed s.op → IsSo after (attempts k s has_shifted)
 unfolding attempts
-attempts_so after k s has_shifted all allowed = record { waiting = all; sits = (attempt_so after k.places (bits_of k) s.attempt (request_in_hand s) s.seen AtCall s.spare s.is_orphaned allowed, allowed) }
+attempts_so after k s has_shifted all allowed = record { waiting = all; sits = (attempt_so after k.places (bits_of k) (request_in_hand s) s.seen AtCall s.spare s.is_orphaned allowed, allowed) }
 
 turns_so : (after : Standing) (s : SessionState) (its : Told) → AreAllowed s.requests → IsSo after (answers_after_turn s its)
 turns_so after s its all = either_so after s.wants_turn (record s { own_turn = own_turn_begun s.own_turn; step = Turns its }) (answers s its) (record { waiting = all; sits = tt }) (plain after s its all)
 
 request_so : (after : Standing) (k : Seat) (s : SessionState) (index : ℕ) (found : Option PendingRequest) → slice_get s.requests index ≡ found → AreAllowed s.requests → IsSo after (polls_request k s index found)
 request_so after k s index None got all = turns_so after s _ all
-request_so after k s index (Some pending) got all = record { waiting = all; sits = attempt_so after k.places (bits_of k) s.attempt pending s.seen AtPoll s.spare s.is_orphaned (one_at s.requests index pending got all) }
+request_so after k s index (Some pending) got all = record { waiting = all; sits = attempt_so after k.places (bits_of k) pending s.seen AtPoll s.spare s.is_orphaned (one_at s.requests index pending got all) }
 
 polls_so : (after : Standing) (k : Seat) (s : SessionState) (index : ℕ) → AreAllowed s.requests → IsSo after (polls_at k s index)
 unfolding polls_at

@@ -34,7 +34,7 @@ use Rattle.fkv_ops.specs.Requests.{is_read, is_blind}
 use Rattle.fkv_ops.specs.Values.{value_of}
 use Rattle.fkv_ops.specs.Walking.{walk_on}
 use Rattle.fkv_ops.specs.Appending.{append_ask, append_next}
-use Rattle.fkv_ops.specs.Trying.{TryState, with_latch, is_wait, ended_without, ends, takes_effect, full_at, wants_shared, walks, try_begun, shared_ledto, must_shift, wants_exclusive, appends, copies_from, copies, awaits, held_used, changes, is_own_version, region_met, walked, has_walked, walk_ledto, safe_loaded, current_ledto, value_changed, told_value, answer_ledto, exclusive_ledto, old_ledto, append_ledto, exclusive_dropped, shared_dropped, trying_next, try_next}
+use Rattle.fkv_ops.specs.Trying.{TryState, with_latch, is_wait, ended_without, ends, takes_effect, full_at, wants_shared, walks, try_begun, shared_ledto, must_shift, wants_exclusive, appends, copies_from, copies, awaits, held_used, changes, is_own_version, region_met, walked, has_walked, walk_ledto, safe_loaded, current_ledto, value_changed, told_value, answer_ledto, exclusive_ledto, old_ledto, append_ledto, exclusive_dropped, shared_dropped, trying_next, try_next, new_try}
 use Rattle.law_refine.proofs.OfRecords.AppendRows.{Standing, AppendStands, AppendWrites, append_so}
 
 abbrev pub TryStands : Standing → TryState → Trying → Type 0
@@ -194,7 +194,7 @@ try_so stands after p room t reply so writes = step_so stands after p room (reco
     quiet_writes (Appends made) so = so
     quiet_writes step so = tt
 
-pub begun_so : (after : Standing) (p : Places) (bits : ℕ) (t : TryState) (request : Request) (seen : Seen) (occasion : Occasion) (spare : ℕ) → TryStandsNow after (try_begun p bits t request seen occasion spare)
-begun_so after p bits t request seen occasion spare =
-    let its : TryState = record t { request = request; seen = seen; occasion = occasion; home = home_of bits (key_of request.op); has_shared = request.has_latch; has_exclusive = false; effect = None; spare = spare } in
+pub begun_so : (after : Standing) (p : Places) (bits : ℕ) (request : Request) (seen : Seen) (occasion : Occasion) (spare : ℕ) → TryStandsNow after (try_begun p bits request seen occasion spare)
+begun_so after p bits request seen occasion spare =
+    let its : TryState = new_try bits request seen occasion spare in
     either_so after (wants_shared its) (with_latch p its TakeShared TakesShared) (walks p its) tt tt

@@ -8,5 +8,5 @@ pub returns-clause-bounded : goal.returns-clause-bounded
 returns-clause-bounded c =
     let now = c.args.self.now in
     let a = c.args in
-    let next : c.if-wants_shared.self.state ≡ try_begun now.places now.bits now.state a.request a.seen a.occasion a.spare = search rules in
-    rw next (try_begun_left now.places now.bits now.state a.request a.seen a.occasion a.spare)
+    let next : c.if-wants_shared.self.state ≡ try_begun now.places now.bits a.request a.seen a.occasion a.spare = search rules in
+    rw next (try_begun_left now.places now.bits a.request a.seen a.occasion a.spare)

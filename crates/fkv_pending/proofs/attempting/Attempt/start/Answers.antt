@@ -8,5 +8,5 @@ pub returns-clause-bounded : goal.returns-clause-bounded
 returns-clause-bounded c =
     let now = c.args.self.now in
     let a = c.args in
-    let next : c.if-pending.self.state ≡ attempt_begun now.places now.bits now.state a.pending a.seen a.occasion a.spare a.is_orphaned = search rules in
-    rw next (attempt_begun_left now.places now.bits now.state a.pending a.seen a.occasion a.spare a.is_orphaned)
+    let next : c.if-self.self.state ≡ attempt_begun now.places now.bits a.pending.now a.seen a.occasion a.spare a.is_orphaned = search rules in
+    rw next (attempt_begun_left now.places now.bits a.pending.now a.seen a.occasion a.spare a.is_orphaned)
