@@ -1,3 +1,4 @@
+mod AnswerAlike
 mod Answered
 mod AsksCounted
 mod AsleepKept
@@ -44,6 +45,7 @@ mod SharesBack
 mod SharesSpared
 mod Sound
 mod Spared
+mod StandAlike
 mod ToldInOrder
 mod TurnSpared
 mod UpdateEnds

@@ -15,6 +15,7 @@ mod polling;
 mod request_laws;
 mod sessions;
 mod showing;
+mod standing_laws;
 
 pub use answers::{Answer, Finished, Told, answer_of};
 pub use asks::is_word_ask;
@@ -26,3 +27,4 @@ pub use laws::{
 pub use own_turns::OwnTurn;
 pub use request_laws::law_of_requests;
 pub use sessions::Session;
+pub use standing_laws::law_of_standing;
