@@ -2,7 +2,6 @@
 #![tactic(auto)]
 
 mod alone;
-mod answers;
 mod events;
 mod keeper_moves;
 mod laws;

@@ -6,10 +6,9 @@ ghost use Rattle.fkv_world.specs.World.{session_called};
 ghost use Rattle.fkv_core.specs.Told.{IsSessionTold};
 ghost use Rattle.fkv_core.specs.Worlds.{beside};
 
-use crate::answers::answer_of;
 use fkv_map::Call;
 use fkv_plane::{Ask, PlainWords};
-use fkv_session::{Answer, Session, Told};
+use fkv_session::{Answer, Session, Told, answer_of};
 
 /// Begins a call where none is in hand. Whether it has ended at once.
 pub(crate) fn session_call(session: &mut Session, call: Call) -> bool

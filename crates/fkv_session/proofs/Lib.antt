@@ -1,3 +1,4 @@
+mod AnswerAlike
 mod Answered
 mod AnswersKnown
 mod AnswersTrue
@@ -50,6 +51,7 @@ mod SharesBack
 mod SharesSpared
 mod Sound
 mod Spared
+mod StandAlike
 mod ToldInOrder
 mod TurnSpared
 mod UpdateEnds

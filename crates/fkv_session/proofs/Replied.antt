@@ -193,10 +193,6 @@ either_told : (c : Bool) (k : Seat) (effects : List HistoryEntry) (taken : List 
 either_told true k effects taken called n before a b one other = one
 either_told false k effects taken called n before a b one other = other
 
-entry_none : (number : ℕ) (pending : PendingRequest) (name : RequestName) → entry_of number pending name None ≡ None
-entry_none number pending (Update serial) = refl
-entry_none number pending (Read ticket) = refl
-
 same_name : (taken : List Taken) (p q : PendingRequest) → IsSameRequest p q → IsNameOf taken q.name q.request.op → IsNameOf taken p.name p.request.op
 same_name taken p q same name = rw same.name (rw same.op name)
 
@@ -204,7 +200,7 @@ none_made : (k : Seat) (effects : List HistoryEntry) (taken : List Taken) (befor
     → with_effect s.effect effects ≡ with_effect (entry_of k.number s.attempt.pending s.attempt.pending.name None) ones → IsSettled k.number ones taken before s.requests []
     → IsSettled k.number (with_effect s.effect effects) taken before s.requests []
 none_made k effects taken before s ones parts books =
-    subst (λ (x : List HistoryEntry). IsSettled k.number x taken before s.requests []) (sym (parts ∙ ap (λ (o : Option HistoryEntry). with_effect o ones) (entry_none k.number s.attempt.pending s.attempt.pending.name))) books
+    subst (λ (x : List HistoryEntry). IsSettled k.number x taken before s.requests []) (sym parts) books
 
 -- an answer that tells no update as done
 abbrev pub TellsNone : Told → Type 0
@@ -259,7 +255,7 @@ turn_told k effects taken called n before s its now e books =
     (rw e (record { settled_ones = with_effect s.effect effects; its_effects = refl; books = books; knows = tt }))
 
 none_coming : (number : ℕ) (a : AttemptState) → made_of a ≡ None → entry_made number a (made_of a) ≡ None
-none_coming number a e = ap (entry_made number a) e ∙ entry_none number a.pending a.pending.name
+none_coming number a e = ap (entry_made number a) e
 
 attempts_told : (k : Seat) (effects : List HistoryEntry) (taken : List Taken) (called : Option Op) (before : List Telling) (s : SessionState) (has_shifted : Bool) → called ≡ Some s.op
     → IsSettled k.number (with_effect s.effect effects) taken before s.requests [] → IsToldAfter k effects taken called s.serial before (attempts k s has_shifted)
@@ -442,6 +438,7 @@ finished_tells number pending (Update serial) (tried.Found value) f taken name e
 finished_tells number pending (Update serial) tried.Absent f taken name ends = absurd (ends name.0)
 finished_tells number pending (Update serial) its f taken name ends = cc
 finished_tells number pending (Read ticket) (tried.Found value) f taken name ends = (λ such. refl, tt)
+finished_tells number pending (Read ticket) (tried.Done reply) f taken name ends = (λ such. refl, tt)
 finished_tells number pending (Read ticket) its f taken name ends = (λ such. refl, tt)
 
 finishes_told : (k : Seat) (effects : List HistoryEntry) (taken : List Taken) (called : Option Op) (before : List Telling) (s : SessionState) (i : ℕ) (its : TryAnswer) (ones : List HistoryEntry) → is_finished its ≡ true
@@ -473,7 +470,7 @@ ended_poll : (k : Seat) (effects : List HistoryEntry) (taken : List Taken) (call
     → (is_read s.attempt.pending.request.op ≡ false → IsUpdateEnd its) → IsToldAfter k effects taken called s.serial before (if c then finishes_request k s i its else keeps_request k s i its)
 ended_poll k effects taken called before s i its ones true f parts books name ends = finishes_told k effects taken called before s i its ones f parts books name ends
 ended_poll k effects taken called before s i its ones false f parts books name ends =
-    let none : entry_made k.number s.attempt (reply_of its) ≡ None = ap (entry_made k.number s.attempt) (no_reply its f) ∙ entry_none k.number s.attempt.pending s.attempt.pending.name in
+    let none : entry_made k.number s.attempt (reply_of its) ≡ None = ap (entry_made k.number s.attempt) (no_reply its f) in
     let all : with_effect s.effect effects ≡ ones = parts ∙ ap (λ (o : Option HistoryEntry). with_effect o ones) none in
     keeps_told k effects taken called before s i its (subst (λ (x : List HistoryEntry). IsSettled k.number x taken before s.requests s.finished) (sym all) books) name
 
@@ -503,9 +500,9 @@ left_told k effects taken called before s ask e books = calm k effects taken cal
 
 -- a reply to the attempt in hand
 entry_op : (number : ℕ) (p q : PendingRequest) (name : RequestName) (its : Option Reply) → p.request.op ≡ q.request.op → entry_of number p name its ≡ entry_of number q name its
+entry_op number p q name None same = refl
 entry_op number p q (Update serial) (Some its) same = ap (λ (op : Op). Some (record { session = number; serial = serial; op = op; reply = its })) same
-entry_op number p q (Update serial) None same = refl
-entry_op number p q (Read ticket) its same = refl
+entry_op number p q (Read ticket) (Some its) same = refl
 
 entry_same : (number : ℕ) (p q : PendingRequest) (its : Option Reply) → IsSameRequest p q → entry_of number p p.name its ≡ entry_of number q q.name its
 entry_same number p q its same = ap (λ (name : RequestName). entry_of number p name its) same.name ∙ entry_op number p q q.name its same.op
@@ -513,9 +510,9 @@ entry_same number p q its same = ap (λ (name : RequestName). entry_of number p 
 moved_effects : (number : ℕ) (p q : PendingRequest) (step made before : Option Reply) (effects ones : List HistoryEntry) → IsSameRequest p q → MadeFrom step made before
     → effects ≡ with_effect (entry_of number q q.name before) ones → with_effect (entry_of number p p.name step) effects ≡ with_effect (entry_of number p p.name made) ones
 moved_effects number p q None made before effects ones same its parts =
-    ap (λ o. with_effect o effects) (entry_none number p p.name) ∙ parts ∙ ap (λ o. with_effect o ones) (sym (entry_same number p q before same) ∙ ap (entry_of number p p.name) (sym its))
+    parts ∙ ap (λ o. with_effect o ones) (sym (entry_same number p q before same) ∙ ap (entry_of number p p.name) (sym its))
 moved_effects number p q (Some reply) made before effects ones same its parts =
-    let none : entry_of number q q.name before ≡ None = ap (entry_of number q q.name) its.1 ∙ entry_none number q q.name in
+    let none : entry_of number q q.name before ≡ None = ap (entry_of number q q.name) its.1 in
     let all : effects ≡ ones = parts ∙ ap (λ o. with_effect o ones) none in
     ap (with_effect (entry_of number p p.name (Some reply))) all ∙ ap (λ o. with_effect (entry_of number p p.name o) ones) (sym its.0)
 

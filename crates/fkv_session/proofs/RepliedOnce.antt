@@ -152,9 +152,9 @@ with_own number s called taken (Some it) effects its own = (its.0, own)
 entry_own : (number : ℕ) (s : SessionState) (called : Option Op) (taken : List Taken) (pending : PendingRequest) (name : RequestName) (its : Option Reply)
     → ((serial : Serial) → name ≡ Update serial → (is_read pending.request.op ≡ false) × (WasTaken taken serial.0 pending.request.op ⊎ IsTakenNext s called serial.0 pending.request.op))
     → AreOfTheirCalls number s called taken (with_effect (entry_of number pending name its) [])
+entry_own number s called taken pending name None known = tt
 entry_own number s called taken pending (Update serial) (Some its) known = (record { session = refl; update = (known serial refl).0; op = (known serial refl).1 }, tt)
-entry_own number s called taken pending (Update serial) None known = tt
-entry_own number s called taken pending (Read ticket) its known = tt
+entry_own number s called taken pending (Read ticket) (Some its) known = tt
 
 busy_step : (s : SessionState) (step : Sitting) → s.step ≡ step → is_busy step ≡ true → is_busy s.step ≡ true
 busy_step s step e busy = ap is_busy e ∙ busy

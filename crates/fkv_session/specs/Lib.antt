@@ -1,4 +1,5 @@
 pub mod Accounts
+pub mod Alike
 pub mod Answers
 pub mod AsksLeft
 pub mod Asleep

@@ -306,10 +306,11 @@ unfoldable pub leave_ledto : SessionState → Ask (Unit {0}) → SessionState
 leave_ledto s (Done its) = answers (record s { is_awake = false }) told.Slept
 leave_ledto s ask = s
 
--- the entry of the history that an effect makes
+-- the entry of the history that an effect makes: where there is none, the request isn't looked at
 abbrev pub entry_of : ℕ → PendingRequest → RequestName → Option Reply → Option HistoryEntry
+entry_of number pending name None = None
 entry_of number pending (Update serial) (Some its) = Some (record { session = number; serial = serial; op = pending.request.op; reply = its })
-entry_of number pending name its = None
+entry_of number pending (Read ticket) (Some its) = None
 
 abbrev pub attempt_moved : Seat → SessionState → ℕ → SessionState
 attempt_moved k s reply =

@@ -71,8 +71,9 @@ pub enum Answer {
     Refused(Fault),
 }
 
-/// The answer that was told, with what a poll has finished.
-pub(crate) fn answer_of(told: Told, finished: &[Finished]) -> Answer
+/// The answer that was told, with what a poll has finished, as `Session::finished` shows it at the call's end. It has a list in it,
+/// so it is made once a call.
+pub fn answer_of(told: Told, finished: &[Finished]) -> Answer
     requires { length finished.now ≤ max_pending }
     ensures { IsAnswerTold told finished.now result }
 {

@@ -96,6 +96,14 @@ impl CatchUp {
         }
     }
 
+    /// Where the shared words of the store stand.
+    pub fn places(&self) -> Places
+        ensures value { result ≡ self.now.places }
+        ensures buckets { result.buckets ≡ 2 ^ self.now.bits }
+    {
+        self.places
+    }
+
     /// The first ask of a refresh. The session has seen these values, and taken serials up to this one.
     #[tactic(auto, unfolding(crate::specs::CatchingUp::catching_ask))]
     pub fn refresh(&mut self, seen: Seen, serial: Serial) -> Ask<()>

@@ -4,18 +4,23 @@
 
 mod answer_laws;
 mod answers;
+mod asks;
 mod bounds;
 mod calls;
 mod catching_up;
+mod contexts;
 mod laws;
 mod leading;
 mod own_turns;
 mod polling;
 mod request_laws;
 mod sessions;
+mod showing;
+mod standing_laws;
 
 pub use answer_laws::law_of_answers;
-pub use answers::{Answer, Finished, Told};
+pub use answers::{Answer, Finished, Told, answer_of};
+pub use asks::is_word_ask;
 pub use bounds::law_of_asks;
 pub use catching_up::CatchUp;
 pub use laws::{
@@ -24,3 +29,4 @@ pub use laws::{
 pub use own_turns::OwnTurn;
 pub use request_laws::law_of_requests;
 pub use sessions::Session;
+pub use standing_laws::law_of_standing;

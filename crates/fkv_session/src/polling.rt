@@ -1,95 +1,123 @@
 //! How a session goes over its requests at a poll.
 ghost use Rattle.std.specs.Prelude.{◌≡◌, ◌<◌, ◌≤◌, ◌+◌, length, slice_get, Option};
 ghost use Rattle.fkv_base.specs.Limits.{max_pending};
+ghost use Rattle.fkv_pending.specs.Attempting.{attempt_ask};
+ghost use Rattle.fkv_pending.specs.Mailing.{mail_ask};
 ghost use Rattle.fkv_pending.specs.declared.pending_requests.PendingRequest.{PendingRequest};
-ghost use Rattle.fkv_session.specs.Sessions.{poll_begun, polls_at, polls_request, clear_ledto, finished_of, is_finished, is_owed, request_finished, finishes_request, keeps_request, lacks_room, poll_ledto};
+ghost use Rattle.fkv_session.specs.declared.sessions.Sitting.TheVariants.{ClearsMail, Polls};
+ghost use Rattle.fkv_session.specs.Sessions.{session_ask, poll_begun, polls_at, polls_request, clear_ledto, finished_of, is_finished, is_owed, request_finished, finishes_request, keeps_request, lacks_room, poll_ledto};
 
 use crate::answers::{Finished, Told};
-use crate::sessions::{Session, Sitting};
+use crate::catching_up::owing;
+use crate::contexts::Context;
+use crate::sessions::Sitting;
 use fkv_base::Value;
 use fkv_map::Reply;
 use fkv_ops::{Occasion, Reason, TryAnswer};
 use fkv_pending::{MailAnswer, MailTask, PendingRequest, RequestName};
-use fkv_plane::Ask;
+use fkv_plane::{Ask, SessionWord, passed};
 
-impl Session {
+impl Context {
     /// A record that nobody waits for any more is let go before the tries.
-    pub(crate) fn poll_begun(&mut self)
+    #[tactic(auto, unfolding(crate::specs::Sessions::sitting_ask))]
+    pub(crate) fn poll(&mut self) -> Ask<Told>
         requires { length self.old.state.finished + length self.old.state.requests ≤ max_pending }
-        ensures { self.new ≡ record self.old { state = poll_begun self.old.seat self.old.state } }
+        ensures next { self.new ≡ record self.old { state = poll_begun self.old.seat self.old.state } }
+        ensures ask { result ≡ session_ask self.old.seat self.new.state }
     {
         if self.is_orphaned {
-            self.mail.start(MailTask::Clear);
             self.step = Sitting::ClearsMail;
+            passed(self.mail.start(MailTask::Clear), Told::Slept)
         } else {
-            self.polls_at(0);
+            self.poll_at(0)
         }
     }
 
     /// The request at an index is attempted, and past the last the poll is answered.
-    #[tactic(auto, unfolding(crate::specs::Sessions::polls_at))]
-    pub(crate) fn polls_at(&mut self, index: usize)
+    #[tactic(auto, unfolding(crate::specs::Sessions::polls_at, crate::specs::Sessions::sitting_ask))]
+    pub(crate) fn poll_at(&mut self, index: usize) -> Ask<Told>
         requires { length self.old.state.finished + length self.old.state.requests ≤ max_pending }
-        ensures { self.new ≡ record self.old { state = polls_at self.old.seat self.old.state index } }
+        ensures next { self.new ≡ record self.old { state = polls_at self.old.seat self.old.state index } }
+        ensures ask { result ≡ session_ask self.old.seat self.new.state }
     {
         match self.requests.get(index) {
             None => {
                 let left = self.requests.len();
-                self.answers_after_turn(Told::Polled(left));
+                self.answer_after_turn(Told::Polled(left))
             }
             Some(pending) => {
                 let (seen, spare, is_orphaned) = (self.seen, self.spare, self.is_orphaned);
-                self.attempt
-                    .start(&pending, seen, Occasion::Poll, spare, is_orphaned);
                 self.step = Sitting::Polls(index);
+                let ask = self
+                    .attempt
+                    .start(&pending, seen, Occasion::Poll, spare, is_orphaned);
+                passed(ask, Told::Slept)
             }
         }
     }
 
     /// Goes on by what the letting go asks.
-    #[tactic(auto, unfolding(crate::specs::Sessions::clear_ledto))]
-    pub(crate) fn after_clear(&mut self, ask: Ask<MailAnswer>)
-        requires { length self.old.state.finished + length self.old.state.requests ≤ max_pending }
-        ensures { self.new ≡ record self.old { state = clear_ledto self.old.seat self.old.state ask } }
+    #[tactic(auto, unfolding(crate::specs::Sessions::clear_ledto, crate::specs::Sessions::sitting_ask))]
+    pub(crate) fn after_clear(&mut self, ask: Ask<MailAnswer>) -> Ask<Told>
+        requires few { length self.old.state.finished + length self.old.state.requests ≤ max_pending }
+        requires step { self.old.state.step ≡ ClearsMail }
+        requires ask { ask ≡ mail_ask self.old.seat.number self.old.state.mailing }
+        ensures next { self.new ≡ record self.old { state = clear_ledto self.old.seat self.old.state ask } }
+        ensures ask { result ≡ session_ask self.old.seat self.new.state }
     {
-        if let Ask::Done(answer) = ask {
-            if answer == MailAnswer::Cleared {
-                self.is_orphaned = false;
+        match ask {
+            Ask::Done(answer) => {
+                if answer == MailAnswer::Cleared {
+                    self.is_orphaned = false;
+                }
+                self.poll_at(0)
             }
-            self.polls_at(0);
+            other => passed(other, Told::Slept),
         }
     }
 
     /// Goes on by what the attempt of the request at an index asks.
-    #[tactic(auto, unfolding(crate::specs::Sessions::poll_ledto))]
-    pub(crate) fn after_poll(&mut self, index: usize, ask: Ask<TryAnswer>)
+    #[tactic(auto, unfolding(crate::specs::Sessions::poll_ledto, crate::specs::Sessions::sitting_ask))]
+    pub(crate) fn after_poll(&mut self, index: usize, ask: Ask<TryAnswer>) -> Ask<Told>
         requires few { length self.old.state.finished + length self.old.state.requests ≤ max_pending }
         requires index { index < length self.old.state.requests }
-        ensures { self.new ≡ record self.old { state = poll_ledto self.old.seat self.old.state index ask } }
+        requires step { self.old.state.step ≡ Polls index }
+        requires ask { ask ≡ attempt_ask self.old.seat.places self.old.seat.number self.old.state.attempt }
+        ensures next { self.new ≡ record self.old { state = poll_ledto self.old.seat self.old.state index ask } }
+        ensures ask { result ≡ session_ask self.old.seat self.new.state }
     {
-        if let Ask::Done(answer) = ask {
-            self.attempt_left();
-            if is_finished(answer) {
-                self.finishes_request(index, answer);
-            } else {
-                self.keeps_request(index, answer);
+        match ask {
+            Ask::Done(answer) => {
+                self.take_back();
+                if is_finished(answer) {
+                    self.finish_request(index, answer)
+                } else {
+                    self.keep_request(index, answer)
+                }
             }
+            other => passed(other, Told::Slept),
         }
     }
 
     /// The request leaves the list. What is owed of the version before the session's is stored anew.
-    #[tactic(auto, unfolding(crate::specs::Sessions::finishes_request))]
-    fn finishes_request(&mut self, index: usize, answer: TryAnswer)
+    #[tactic(auto, unfolding(crate::specs::Sessions::finishes_request, crate::specs::Sessions::sitting_ask))]
+    fn finish_request(&mut self, index: usize, answer: TryAnswer) -> Ask<Told>
         requires few { length self.old.state.finished + length self.old.state.requests ≤ max_pending }
         requires index { index < length self.old.state.requests }
-        ensures { self.new ≡ record self.old { state = finishes_request self.old.seat self.old.state index answer } }
+        ensures next { self.new ≡ record self.old { state = finishes_request self.old.seat self.old.state index answer } }
+        ensures ask { result ≡ session_ask self.old.seat self.new.state }
     {
         let pending = *self.attempt.pending();
         self.finished.push(finished_of(pending.name, answer));
         self.requests.remove(index);
         self.step = Sitting::StoresOwing(index);
-        if !self.is_owed(pending) {
-            self.polls_at(index);
+        if self.is_owed(pending) {
+            Ask::Store(
+                SessionWord::Owing.place(self.number),
+                owing(self.seen, &self.requests),
+            )
+        } else {
+            self.poll_at(index)
         }
     }
 
@@ -102,14 +130,15 @@ impl Session {
 
     /// The request goes on waiting.
     #[tactic(auto, unfolding(crate::specs::Sessions::keeps_request))]
-    fn keeps_request(&mut self, index: usize, answer: TryAnswer)
+    fn keep_request(&mut self, index: usize, answer: TryAnswer) -> Ask<Told>
         requires few { length self.old.state.finished + length self.old.state.requests ≤ max_pending }
         requires index { index < length self.old.state.requests }
-        ensures { self.new ≡ record self.old { state = keeps_request self.old.seat self.old.state index answer } }
+        ensures next { self.new ≡ record self.old { state = keeps_request self.old.seat self.old.state index answer } }
+        ensures ask { result ≡ session_ask self.old.seat self.new.state }
     {
         self.requests.set(index, *self.attempt.pending());
         self.wants_turn = self.wants_turn || lacks_room(answer);
-        self.polls_at(index + 1);
+        self.poll_at(index + 1)
     }
 }
 

@@ -99,11 +99,11 @@ IsMadeAt number pending its (Polls index) = IsMadeBy number pending its
 IsMadeAt number pending its step = ⊥
 
 entry_made : (number : ℕ) (pending : PendingRequest) (name : RequestName) (reply : Option Reply) (its : HistoryEntry) → pending.name ≡ name → entry_of number pending name reply ≡ Some its → IsMadeBy number pending its
+entry_made number pending name None its named e = cc
 entry_made number pending (Update serial) (Some reply) its named e =
     let same : record { session = number; serial = serial; op = pending.request.op; reply = reply } ≡ its = cc in
     record { session = sym (ap (λ (x : HistoryEntry). x.session) same); name = named ∙ ap (λ (x : HistoryEntry). Update x.serial) same; op = sym (ap (λ (x : HistoryEntry). x.op) same) }
-entry_made number pending (Update serial) None its named e = cc
-entry_made number pending (Read ticket) reply its named e = cc
+entry_made number pending (Read ticket) (Some reply) its named e = cc
 
 moved_made : (k : Seat) (s : SessionState) (reply : ℕ) (its : HistoryEntry) → (attempt_moved k s reply).effect ≡ Some its → IsMadeBy k.number s.attempt.pending its
 moved_made k s reply its e =

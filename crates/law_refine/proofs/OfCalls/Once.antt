@@ -96,9 +96,9 @@ one_coming n (Some its) ones most fresh = tested (its.serial.0 == n) refl
     tested false e = omega (arith, most)
 
 entry_named : (number : ℕ) (pending : PendingRequest) (name : RequestName) (reply : Option Reply) (its : HistoryEntry) → entry_of number pending name reply ≡ Some its → name ≡ Update its.serial
+entry_named number pending name None its e = cc
 entry_named number pending (Update serial) (Some reply) its e = let same : record { session = number; serial = serial; op = pending.request.op; reply = reply } ≡ its = cc in ap (λ (x : HistoryEntry). Update x.serial) same
-entry_named number pending (Update serial) None its e = cc
-entry_named number pending (Read ticket) reply its e = cc
+entry_named number pending (Read ticket) (Some reply) its e = cc
 
 next_serial_named : (s : SessionState) (c : Bool) (serial : Serial) → (if c then Read (record { 0 = ticket_after s.ticket }) else Update (record { 0 = s.serial + 1 })) ≡ Update serial → serial.0 ≡ s.serial + 1
 next_serial_named s true serial e = cc

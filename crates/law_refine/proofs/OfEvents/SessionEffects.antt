@@ -38,6 +38,7 @@ use Rattle.fkv_map.specs.declared.operations.Op.{Op}
 use Rattle.fkv_map.specs.declared.operations.Reply.{Reply}
 use Rattle.fkv_pending.specs.declared.pending_requests.RequestName.{RequestName}
 use Rattle.fkv_pending.specs.declared.pending_requests.RequestName.TheVariants.{Update, Read}
+use Rattle.fkv_pending.specs.declared.pending_requests.Ticket.{Ticket}
 use Rattle.fkv_session.proofs.Shown.{IsSameRequest, attempt_keeps}
 use Rattle.law_world.proofs.OfRuns.EffectStays.{turn_keeps, leave_keeps}
 use Rattle.law_refine.specs.Events.Appends.{serial_of}
@@ -135,6 +136,10 @@ update_entry number p q serial None e op = refl
 update_entry number p q serial (Some its) e op =
     ap (λ (o : Op). entry_with number serial o its) op ∙ ap (λ (n : RequestName). entry_with number (serial_of n) q.request.op its) (sym e)
 
+read_entry : (number : ℕ) (p : PendingRequest) (ticket : Ticket) (made : Option Reply) → entry_of number p (Read ticket) made ≡ None
+read_entry number p ticket None = refl
+read_entry number p ticket (Some its) = refl
+
 -- ---- each reply to a session
 rests_called : (s : SessionState) (has_shifted : Bool) → s.step ≡ Attempts has_shifted → SittingKnows s s.step → AttemptRestsOrAsks s.attempt
 rests_called s has_shifted at knows = subst (SittingKnows s) at knows
@@ -160,7 +165,7 @@ attempt_makes k reader s reply made rests so e = by_name s.attempt.pending.name 
         subst (λ (x : Option HistoryEntry). TakesEffect (stepped k.places s.attempt.pending.request.version (attempt_reserves k.number s.attempt s.attempt.step) (passed (attempt_ask k.places k.number s.attempt) told.Slept) reply) (attempt_ghosts k reader s.attempt reply) x)
         (sym (named (Update serial) at ∙ update_entry k.number after.pending s.attempt.pending serial after.effect at same.op)) (passes_on k.places s.attempt.pending.request.version _ (attempt_ask k.places k.number s.attempt) told.Slept reply _ _ (attempt_takes k reader s.attempt reply rests so.tries_so))
     by_name (Read ticket) at =
-        subst (λ (x : Option HistoryEntry). TakesEffect (stepped k.places s.attempt.pending.request.version (attempt_reserves k.number s.attempt s.attempt.step) (passed (attempt_ask k.places k.number s.attempt) told.Slept) reply) (attempt_ghosts k reader s.attempt reply) x) (sym (named (Read ticket) at))
+        subst (λ (x : Option HistoryEntry). TakesEffect (stepped k.places s.attempt.pending.request.version (attempt_reserves k.number s.attempt s.attempt.step) (passed (attempt_ask k.places k.number s.attempt) told.Slept) reply) (attempt_ghosts k reader s.attempt reply) x) (sym (named (Read ticket) at ∙ read_entry k.number after.pending ticket after.effect))
         (Quietly (attempt_ghosts k reader s.attempt reply) (attempt_quiet k reader s.attempt reply (sym so.named ∙ ap is_read_name at) so.tries_so))
 
 -- a read makes none
@@ -175,7 +180,7 @@ read_none k s reply reads so = by_name after.pending.name (ap is_read_name same.
 
     by_name : (name : RequestName) → is_read_name name ≡ true → entry_of k.number after.pending name after.effect ≡ None
     by_name (Update serial) e = cc
-    by_name (Read ticket) e = refl
+    by_name (Read ticket) e = read_entry k.number after.pending ticket after.effect
 
 nothing_made : (its_step : Stepped) (made : Option HistoryEntry) → made ≡ None → TakesEffect its_step [] made
 nothing_made its_step made none = rw none (Quietly [] tt)

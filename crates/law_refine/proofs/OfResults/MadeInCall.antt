@@ -74,11 +74,11 @@ next_named s false serial r e = let same : record { 0 = s.serial + 1 } ≡ seria
 -- an entry is of its request
 entry_made : (number : ℕ) (pending : PendingRequest) (name : RequestName) (reply : Option Reply) (its : HistoryEntry) → entry_of number pending name reply ≡ Some its
     → (its.session ≡ number) × (name ≡ Update its.serial) × (its.op ≡ pending.request.op)
+entry_made number pending name None its e = cc
 entry_made number pending (Update serial) (Some reply) its e =
     let same : record { session = number; serial = serial; op = pending.request.op; reply = reply } ≡ its = cc in
     (sym (ap (λ (x : HistoryEntry). x.session) same), ap (λ (x : HistoryEntry). Update x.serial) same, sym (ap (λ (x : HistoryEntry). x.op) same))
-entry_made number pending (Update serial) None its e = cc
-entry_made number pending (Read ticket) reply its e = cc
+entry_made number pending (Read ticket) (Some reply) its e = cc
 
 moved_made : (op : Op) (n : ℕ) (k : Seat) (s : SessionState) (reply : ℕ) (its : HistoryEntry) → s.op ≡ op → s.serial ≡ n → s.attempt.pending.name ≡ name_of s → s.attempt.pending.request.op ≡ s.op
     → (attempt_moved k s reply).effect ≡ Some its → IsMadeInCall k.number op (n + 1) its

@@ -3,7 +3,7 @@ use Rattle.std.proofs.Common.{◌≡◌, ◌≤◌, ◌*◌, length, rules}
 use Rattle.fkv_base.specs.Limits.{max_pending}
 use Rattle.fkv_session.specs.AsksLeft.{IsOfShape}
 use Rattle.fkv_session.proofs.SessionLeft.{session_begun_most}
-use Rattle.fkv_session.proofs.sessions.Session.begin.Goals as goal
+use Rattle.fkv_session.proofs.contexts.Context.begin.Goals as goal
 
 pub returns-clause-bounded : goal.returns-clause-bounded
 returns-clause-bounded c =
@@ -12,4 +12,4 @@ returns-clause-bounded c =
     let ring : now.seat.places.ring ≡ now.seat.shape.frames * now.seat.shape.page = search rules in
     let few : length now.state.requests ≤ max_pending = search rules in
     let of : IsOfShape now.seat = record { overflow = overflow; ring = ring } in
-    session_begun_most now.seat now.state c.args.call c.call_begun.new.self.state (search rules) of few
+    session_begun_most now.seat now.state c.args.call c.begin_call.new.self.state (search rules) of few
