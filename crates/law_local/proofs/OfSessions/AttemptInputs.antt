@@ -99,6 +99,7 @@ module _ (bits : ℕ) (seen : Seen) (occasion : Occasion) where
   tried_goes : (a : AttemptState) (its : TryAnswer) → IsGiven a → Goes (tried a its)
   tried_goes a (answer.AwaitsDisk sought) given = awaits_goes a sought given
   tried_goes a (answer.Wait why) given = ended_goes a _ given
+  tried_goes a answer.Shift given = ended_goes a _ given
   tried_goes a its given = leaves_goes a _ given
 
   led_goes : (a : AttemptState) (ask : Ask TryAnswer) → a.step ≡ Tries → IsGiven a → Tried a → Goes (try_ledto a ask)
