@@ -4,6 +4,7 @@ mod ClaimSteps
 mod Epochs
 mod Facts
 mod Happens
+mod Held
 mod Items
 mod Outer
 mod Protected

@@ -4,6 +4,7 @@ pub use Rattle.fkv_epoch.proofs.Sound.{IsSound}
 pub use Rattle.fkv_epoch.proofs.Happens.{no_load, begun_sound, resumed_sound, moved_sound}
 pub use Rattle.fkv_epoch.proofs.Outer.{put_sound, seen_sound, changes_sound}
 pub use Rattle.fkv_epoch.proofs.Runs.{happens_sound, run_sound, opening_sound, safe_is_seen, safe_is_in_force, claim_is_safe}
+pub use Rattle.fkv_epoch.proofs.Held.{held_alone, TakesAction, IsMoved, machine_takes}
 pub use Rattle.fkv_epoch.proofs.Facts.{no_load_ahead, in_force_is_no_later, own_epoch_is_no_later, safe_is_below, epoch_is_small, armed_is_raised, bearer_finds_none, claimer_finds_action, no_claim_waits, phase_is_stored}
 pub use Rattle.fkv_epoch.proofs.Protected.{holds_no_zero, is_protected, stays_protected}
 pub use Rattle.fkv_epoch.proofs.Asking.{protect_asks, refresh_asks, leave_asks, scan_asks, claim_asks, raise_asks, arm_asks}

@@ -1,5 +1,6 @@
 pub mod Arming
 pub mod Claiming
+pub mod Held
 pub mod Leaving
 pub mod Once
 pub mod Protected

@@ -1,6 +1,7 @@
 //! What the machines keep together, over every list of their events.
 ghost use Rattle.std.specs.Prelude.{ℕ, List};
 ghost use Rattle.fkv_epoch.specs.EpochWorld.{EpochWorld, EpochEvent, epoch_run, Claimed, safe_of};
+ghost use Rattle.fkv_epoch.specs.Held.{AreHeldAlone};
 ghost use Rattle.fkv_epoch.specs.Protected.{HoldsNoZero, IsProtected, StaysProtected};
 ghost use Rattle.fkv_epoch.specs.Stall.{stall_words, stall, HasStalled};
 ghost use Rattle.fkv_epoch.specs.Told.{LoadsItsSight, RefreshIsTold, ProtectIsTold, HasSeen, RaiseIsTold, StoresPhase};
@@ -39,12 +40,16 @@ pub fn law_protected()
         → StaysProtected (epoch_run (opening sessions actors words) events) event }
 {}
 
-/// An action has one owner: a slot that gets one is empty, and a slot that is claimed has the one that was armed there.
+/// An action has one owner: a slot that gets one is empty, and a slot that is claimed has the one that was armed there. So has a
+/// slot: from the Cas that takes it up to the store that arms it or frees it its word is 1, no other actor holds it, and no other's
+/// Cas takes it.
 pub fn law_owned()
     ensures put { (sessions actors : ℕ) (words : List ℕ) (events : List EpochEvent) → IsOpened sessions actors words
         → PutsIntoEmpty (epoch_run (opening sessions actors words) events) }
     ensures claim { (sessions actors : ℕ) (words : List ℕ) (events : List EpochEvent) → IsOpened sessions actors words
         → ClaimsFromFull (epoch_run (opening sessions actors words) events) }
+    ensures held { (sessions actors : ℕ) (words : List ℕ) (events : List EpochEvent) → IsOpened sessions actors words
+        → AreHeldAlone (epoch_run (opening sessions actors words) events).now }
 {}
 
 /// The stall is one of the runs of which `law_once` speaks: a session stores an epoch that is safe already, and an action

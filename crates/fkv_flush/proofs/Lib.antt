@@ -43,6 +43,8 @@ mod PhaseTails
 mod SafeRaise
 pub mod Shown
 mod Slots
+mod SlotsHeld
+mod SlotsPut
 mod SoFar
 mod Still
 mod Undecided

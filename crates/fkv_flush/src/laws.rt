@@ -93,7 +93,8 @@ pub fn law_nothing_falls()
 {}
 
 /// Whatever the order of the steps: a slot that an event gives an action to is empty, and one that an event takes has the
-/// action that was armed there; so no actor ever waits for one.
+/// action that was armed there; so no actor ever waits for one. An actor whose event moves the action of a slot holds the slot then,
+/// and nobody else has held it.
 pub fn law_finds_slots()
     ensures { (shape : Shape) (places : Places) (actors : ℕ) (words : List ℕ) (start : ℕ) (events : List GuardEvent) (event : GuardEvent)
         → IsOpened shape places actors words start → FindsSlots (guard_run (opening shape places actors words start) events) event }
