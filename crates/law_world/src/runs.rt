@@ -165,10 +165,12 @@ pub fn law_of_the_device()
 
 /// What an event adds to what is past. The history gets an entry at no event but a session's move, at most one, and it is what the
 /// session tells as its effect then. The trace gets the call that the event begins, and then the answer of the call that it ends, each told
-/// with the number of updates that have taken effect. The calls of the device get at most one, the write or sync of the keeper's step.
+/// with the number of updates that have taken effect. The calls of the device get at most one, the write or sync of the keeper's step. What
+/// the device held as the life began stays what it is.
 pub fn law_of_the_past()
     ensures history { (w : World) (event : Event) → IsHistoryAfter w event (happens w event).past.history }
     ensures trace { (w : World) (event : Event)
         → (happens w event).past.trace ≡ told_at (length (happens w event).past.history) (told_by w.now (happens w event).now event) ++ w.past.trace }
     ensures calls { (w : World) (event : Event) → IsCallsAfter w event (happens w event).past.calls }
+    ensures opened { (opening : World) (events : List Event) → (run opening events).past.opened ≡ opening.past.opened }
 {}

@@ -1,4 +1,5 @@
 -- What an event adds to each of the three lists.
+use Rattle.law_world.proofs.OfKeeper.OwnCalls.{opened_stays}
 use Rattle.law_world.proofs.OfRuns.Added.{calls_so, history_so, trace_so}
 use Rattle.law_world.proofs.runs.law_of_the_past.Goals as goal
 
@@ -10,3 +11,6 @@ returns-clause-trace c = λ w event. trace_so w event
 
 pub returns-clause-calls : goal.returns-clause-calls
 returns-clause-calls c = λ w event. calls_so w event
+
+pub returns-clause-opened : goal.returns-clause-opened
+returns-clause-opened c = λ opening events. opened_stays opening events
