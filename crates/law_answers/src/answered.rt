@@ -66,7 +66,8 @@ pub fn law_life_goes_on<D: Device>(world: &World<D>)
 {}
 
 /// The keeper of a store that was opened seeks the points of no more sessions than a store may have, so that `law_finish_tells` speaks of the
-/// keeper in each of its lives.
+/// keeper in each of its lives; nor of more than this store has, so that `law_world_places` does.
 pub fn law_keeper_seeks()
-    ensures { (o : Opened) (n : Now) → IsOpeningWorld o n → n.keeper.seek.sessions ≤ max_sessions }
+    ensures few { (o : Opened) (n : Now) → IsOpeningWorld o n → n.keeper.seek.sessions ≤ max_sessions }
+    ensures there { (o : Opened) (n : Now) → IsOpeningWorld o n → n.keeper.seek.sessions ≤ n.places.sessions }
 {}

@@ -4,6 +4,7 @@ pub mod Permitted
 pub mod FewAsks
 pub mod FewKeeperAsks
 pub mod Flushed
+pub mod KeeperPlaces
 mod KeeperSeeks
 pub mod KeeperSteps
 pub mod Kept
@@ -16,4 +17,7 @@ mod PastCalls
 mod SessionCalls
 mod SessionSteps
 pub mod Slots
+pub mod SlotsApart
+mod SlotsHeld
+pub mod WordsWithin
 pub mod Worlds

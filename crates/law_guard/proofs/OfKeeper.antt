@@ -34,4 +34,5 @@ pub mod StepCalls
 mod TurnKept
 mod TurnLed
 mod Turned
+pub mod WordsWithin
 pub mod WorldKept

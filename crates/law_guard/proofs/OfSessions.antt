@@ -34,4 +34,5 @@ mod TriesSeen
 pub mod TurnFollowed
 mod WalksOuter
 mod WalksSeen
+pub mod WordsWithin
 pub mod WorldSteps

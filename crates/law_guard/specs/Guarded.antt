@@ -4,4 +4,5 @@ pub mod KeptGuarded
 pub mod LoadedSince
 pub mod OpenedStore
 pub mod Shows
+pub mod SlotsApart
 pub mod SlotsFound

@@ -1,9 +1,11 @@
 //! What the guard keeps holds of every life of the engine.
-ghost use Rattle.std.specs.Prelude.{◌∷◌, ◌≡◌, ◌<◌, ◌≤◌, ◌-◌, ◌^◌, ℕ, Bool, List, None, Some, false, length, slice_get};
-ghost use Rattle.fkv_base.specs.Limits.{max_sessions};
+ghost use Rattle.std.specs.Prelude.{◌∷◌, ◌++◌, ◌≡◌, ◌≢◌, ◌<◌, ◌≤◌, ◌-◌, ◌^◌, ℕ, Bool, List, None, Some, false, length, slice_get};
+ghost use Rattle.fkv_base.specs.Limits.{drain_slots, max_sessions};
 ghost use Rattle.fkv_base.specs.declared.shapes.Shape.{Shape};
 ghost use Rattle.fkv_epoch.specs.EpochWorld.{Claimed, Ran, safe_of};
 ghost use Rattle.fkv_epoch.specs.Once.{Among, HasRunOnce};
+ghost use Rattle.fkv_plane.specs.Asked.{asked_place};
+ghost use Rattle.fkv_plane.specs.Places.{word_count};
 ghost use Rattle.fkv_plane.specs.declared.places.RecordWord.{RecordWord};
 ghost use Rattle.fkv_flush.specs.GuardFlushed.{IsSynced, calls_made, stands};
 ghost use Rattle.fkv_flush.specs.GuardLevels.{AreInOrder, Rises, levels_of};
@@ -14,7 +16,7 @@ ghost use Rattle.fkv_flush.specs.Guarded.{GoesBy, IsCovered, UndecidedIsFresh, s
 ghost use Rattle.fkv_keeper.specs.KeeperRun.{is_in_hand};
 ghost use Rattle.fkv_keeper.specs.Keeping.{keeper_ask};
 ghost use Rattle.fkv_session.specs.Sessions.{SessionState, is_busy, session_ask};
-ghost use Rattle.fkv_world.specs.Actors.{slot_asked};
+ghost use Rattle.fkv_world.specs.Actors.{slot_asked, slot_named};
 ghost use Rattle.law_world.specs.Runs.Ends.{KeeperStandsAtNoSlot, StandsAtNoSlot, asks_left_of, asks_left_of_keeper, moves_alone};
 ghost use Rattle.fkv_world.specs.World.{Event, KeeperMoves, Moves, seat_at};
 ghost use Rattle.fkv_world.specs.Runs.{World, read_by_keeper, run};
@@ -24,6 +26,7 @@ ghost use Rattle.law_guard.specs.Guarded.KeptGuarded.{ChangesOpenPlaces, FindThe
 ghost use Rattle.law_guard.specs.Guarded.LoadedSince.{HaveLoadedSince};
 ghost use Rattle.law_guard.specs.Guarded.OpenedStore.{IsOpenedStore};
 ghost use Rattle.law_guard.specs.Guarded.Shows.{AreBelowTail, ArePermitted, IsPermitted, IsOpened, Shows, guard_opening, seen_by_guard};
+ghost use Rattle.law_guard.specs.Guarded.SlotsApart.{AreOfOthers};
 ghost use Rattle.law_guard.specs.Guarded.SlotsFound.{FindsItsSlot};
 
 use law_world::law_of_ends;
@@ -83,15 +86,34 @@ pub fn law_world_once()
 
 /// In such a life, whatever its events: a step of a session or of the keeper that turns to a drain slot finds the slot empty where it
 /// gives it an action, and finds an action in it where it takes one, whether its ask turns there or the ask that goes with the reply to
-/// a word in the same step. And between two events no session and not the keeper stands at a slot: it comes to one only in the step that
-/// moves the action too.
+/// a word in the same step. There are eight slots in every life, and the slot is one of them. From an event before a crash that turns to
+/// a slot up to its actor's next event no other actor turns to that slot. And between two events no session and not the keeper stands at
+/// a slot: it comes to one only in the step that moves the action too.
 pub fn law_world_slots()
     ensures finds { (opening : World) (start : ℕ) (events : List Event) (event : Event) → IsOpened opening.now start
         → FindsItsSlot (run opening events).now event }
+    ensures within { (opening : World) (start : ℕ) (events : List Event) (event : Event) (slot : ℕ) → IsOpened opening.now start
+        → slot_named (run opening events).now event ≡ Some slot → slot < drain_slots }
+    ensures count { (opening : World) (start : ℕ) (events : List Event) → IsOpened opening.now start → length (run opening events).now.actions ≡ drain_slots }
+    ensures apart { (opening : World) (start : ℕ) (later before : List Event) (event its : Event) (slot : ℕ) → IsOpened opening.now start
+        → (run opening before).now.crashed ≡ false → slot_named (run opening before).now event ≡ Some slot → AreOfOthers event (its ∷ later)
+        → slot_named (run opening (later ++ (event ∷ before))).now its ≢ Some slot }
     ensures session { (opening : World) (start : ℕ) (events : List Event) (session : ℕ) (its : SessionState) → IsOpened opening.now start
         → slice_get (run opening events).now.sessions session ≡ Some its → slot_asked (session_ask (seat_at (run opening events).now session) its) ≡ None }
     ensures keeper { (opening : World) (start : ℕ) (events : List Event) → IsOpened opening.now start
         → slot_asked (keeper_ask (run opening events).now.shape (run opening events).now.places (run opening events).now.keeper) ≡ None }
+{}
+
+/// In such a life each ask of a session and of the keeper names a word that the store has, if it names one. Of the keeper it is supposed that it
+/// seeks the points of no more sessions than there are: in every life of a store that was opened it does.
+pub fn law_world_places()
+    ensures session { (opening : World) (start : ℕ) (events : List Event) (session place : ℕ) (its : SessionState) → IsOpened opening.now start
+        → slice_get (run opening events).now.sessions session ≡ Some its
+        → asked_place (session_ask (seat_at (run opening events).now session) its) ≡ Some place → place < word_count opening.now.places }
+    ensures keeper { (opening : World) (start : ℕ) (events : List Event) (place : ℕ) → IsOpened opening.now start
+        → opening.now.keeper.seek.sessions ≤ opening.now.places.sessions
+        → asked_place (keeper_ask (run opening events).now.shape (run opening events).now.places (run opening events).now.keeper) ≡ Some place
+        → place < word_count opening.now.places }
 {}
 
 /// In such a life a call comes to its end by the asks that it has left, if its machine alone moves: no session and not the keeper ever

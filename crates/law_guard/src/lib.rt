@@ -7,7 +7,7 @@ mod sessions;
 
 pub use guarded::{
     law_world_ends, law_world_flushed, law_world_flushed_is_synced, law_world_is_guarded,
-    law_world_once, law_world_permitted, law_world_seen, law_world_slots,
+    law_world_once, law_world_permitted, law_world_places, law_world_seen, law_world_slots,
 };
 pub use keeper::{law_keeper_calls, law_keeper_followed};
 pub use sessions::{law_sessions_followed, law_sessions_permitted};

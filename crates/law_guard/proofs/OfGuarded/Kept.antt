@@ -62,11 +62,11 @@ pub record IsSteps (keeper : ℕ) (events : List GuardEvent) : Type 0 where
   pub actor : ℕ
   pub step : IsStep keeper actor events
 
-called_is : (n : Now) (i : ℕ) (call : Call) (found : Option SessionState) → IsStep (keeper_number n) i (called_events n i call found)
+pub called_is : (n : Now) (i : ℕ) (call : Call) (found : Option SessionState) → IsStep (keeper_number n) i (called_events n i call found)
 called_is n i call None = tt
 called_is n i call (Some s) = by_test (keeper_number n) i (is_busy s.step) [] _ tt (called_steps (keeper_number n) (seat_at n i) (session_begun (seat_at n i) s call))
 
-moved_is : (n : Now) (i : ℕ) (found : Option SessionState) → IsStep (keeper_number n) i (moved_events n i found)
+pub moved_is : (n : Now) (i : ℕ) (found : Option SessionState) → IsStep (keeper_number n) i (moved_events n i found)
 moved_is n i None = tt
 moved_is n i (Some s) = session_steps (keeper_number n) (seat_at n i) n.words s (session_moved (seat_at n i) (near n s)).machine
 

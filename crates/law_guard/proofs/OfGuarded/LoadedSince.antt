@@ -71,7 +71,7 @@ step_claims keeper a w (event ∷ before) claim sound step among = elim step.0.p
 ]
 
 -- and of an event of the engine
-life_on : (first : World) (start : ℕ) (events : List Event) (event : Event)
+pub life_on : (first : World) (start : ℕ) (events : List Event) (event : Event)
     → seen_by_guard first start (event ∷ events) ≡ guard_run (seen_by_guard first start events) (guard_events (run first events).now (read_by_keeper (run first events)) event)
 unfolding mapped
 life_on first start events event = runs_on (guard_opening first.now start) (guard_events (run first events).now (read_by_keeper (run first events)) event) (mapped first events)

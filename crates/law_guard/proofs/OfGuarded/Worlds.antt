@@ -222,7 +222,7 @@ module _ (n : Now) (actors : List Actor) (past : EpochPast) (shows : Shows n (wo
           session_put n W i s (world.near n (session_begun (seat_at n i) s call)) _ shows there (called_steps (keeper_number n) (seat_at n i) (session_begun (seat_at n i) s call))
           (call_follows W.now i seat.actor s call sits.got sits.below e sits.protected sits.fits)
 
-  moves : (i : ℕ) (found : Option SessionState) → slice_get n.sessions i ≡ found → WriteOuter n → Leads (session_moves n i found) (moved_events n i found)
+  pub moves : (i : ℕ) (found : Option SessionState) → slice_get n.sessions i ≡ found → WriteOuter n → Leads (session_moves n i found) (moved_events n i found)
   unfolding guard_run
   moves i None there outer = shows
   moves i (Some s) there outer =
@@ -230,7 +230,7 @@ module _ (n : Now) (actors : List Actor) (past : EpochPast) (shows : Shows n (wo
       let after : Near SessionState = session_moved (seat_at n i) (world.near n s) in
       session_put n W i s after _ shows there (session_steps (keeper_number n) (seat_at n i) n.words s after.machine) (move_follows W i seat.actor s seat.sits (outer i s there))
 
-  keeps : (granted done : Bool) (read : List ℕ)
+  pub keeps : (granted done : Bool) (read : List ℕ)
       → Leads (with_keeper n (keeper_moved n.shape n.places granted done read (world.near n n.keeper))) (keeper_move_events (keeper_number n) n.shape n.places granted done read n.keeper n.words)
   keeps granted done read =
       let there = shows.keeper in

@@ -1,6 +1,6 @@
 -- Where a part of a commit gives an action to a slot, this is empty: the epoch was raised for it.
 use Rattle.std.proofs.Common.{◌≡◌, ℕ, ◌∙◌, inl, inr, refl, ap, subst, false, List, [], ◌∷◌, ◌++◌, max}
-use Rattle.std.specs.Prelude.{Option, Some, None, slice_get, length, nat_lt, nat_le, ◌==◌, ◌+◌}
+use Rattle.std.specs.Prelude.{Option, Some, slice_get, length, nat_lt, nat_le, ◌==◌, ◌+◌}
 use Rattle.fkv_base.specs.Limits.{last_version}
 use Rattle.fkv_base.specs.declared.phases.Phase.TheVariants.{Rest, InProgress, WaitPending}
 use Rattle.fkv_base.specs.declared.numbers.Addr.{Addr}
@@ -12,7 +12,6 @@ use Rattle.fkv_plane.specs.declared.actions.Action.{Action}
 use Rattle.fkv_plane.specs.declared.asks.Ask.{Ask}
 use Rattle.fkv_plane.specs.declared.asks.Ask.TheVariants.{Put, Take, Done}
 use Rattle.fkv_plane.specs.Passing.{passed}
-use Rattle.fkv_plane.specs.Plane.{action_at}
 use Rattle.fkv_epoch.specs.declared.raising.Raising.TheVariants as raise
 use Rattle.fkv_epoch.specs.Raising.{raise_ask, raise_next, raise_next_ask, raise_on}
 use Rattle.fkv_epoch.specs.Arming.{arm_ask, arm_next}
@@ -46,15 +45,16 @@ use Rattle.fkv_flush.proofs.Shown.{IsSound, FitsMachine, machine_at}
 use Rattle.law_guard.specs.Keeper.CommitShown.{starting_machine, entering_machine, seeking_machine, defer_machine, StartKnows, EnterKnows, SeekKnows, IsSlotHeld, IsActionDeferred}
 use Rattle.law_guard.specs.Keeper.Settled.{is_of_slot}
 use Rattle.law_guard.proofs.OfKeeper.Deferred.{SeekGoes, sought, by_held, by_deferred}
-use Rattle.law_guard.proofs.OfKeeper.Puts.{PutsIntoEmpty, puts_none, passed_puts}
+use Rattle.law_guard.proofs.OfKeeper.Puts.{IsEmptySlot, PutsIntoEmpty, puts_none, passed_puts}
 use Rattle.law_guard.proofs.OfKeeper.Slots.{truth, passed_slot}
 use Rattle.law_guard.proofs.OfKeeper.Sought.{owing_slot}
 
 -- who is about to raise the epoch for a slot has found it empty
 raised_empty : (w : GuardWorld) (a : ℕ) (x : Actor) (slot : ℕ) → IsSound w → slice_get w.now.actors a ≡ Some x → x.machine ≡ Raises (raise.RaisesEpoch slot)
-    → (other : ℕ) → ◌≡◌ {A = Option ℕ} (Some slot) (Some other) → action_at w.now.actions other ≡ None
+    → (other : ℕ) → ◌≡◌ {A = Option ℕ} (Some slot) (Some other) → IsEmptySlot w.now.actions other
 raised_empty w a x slot sound got its other e =
-    subst (λ (k : ℕ). action_at w.now.actions k ≡ None) (some_same slot other e) (sound.epochs.slots.holds a (Raises (raise.RaisesEpoch slot)) (machine_at w.now.actors a x got ∙ ap Some its)).2
+    let holds = sound.epochs.slots.holds a (Raises (raise.RaisesEpoch slot)) (machine_at w.now.actors a x got ∙ ap Some its) in
+    subst (λ (k : ℕ). IsEmptySlot w.now.actions k) (some_same slot other e) (holds.0, holds.2)
 
 -- a deferral gives its action to the slot that it has raised the epoch for
 defer_puts : (w : GuardWorld) (a : ℕ) (x : Actor) (d : DeferState) (reply : ℕ) → IsSound w → slice_get w.now.actors a ≡ Some x → FitsMachine (defer_machine d) x.machine → IsActionDeferred (levels_of w.now.words) d

@@ -1,6 +1,7 @@
 -- Where a turn gives an action to a slot, this is empty.
-use Rattle.std.proofs.Common.{◌≡◌, ℕ, ◌∙◌, List, sym, ap, subst, Bool, true, false}
+use Rattle.std.proofs.Common.{◌≡◌, ℕ, ◌<◌, ◌∙◌, List, sym, ap, subst, Bool, true, false}
 use Rattle.std.specs.Prelude.{Option, Some, None, slice_get, if◌then◌else◌}
+use Rattle.fkv_base.specs.Limits.{drain_slots}
 use Rattle.fkv_base.specs.declared.shapes.Shape.{Shape}
 use Rattle.fkv_plane.specs.declared.actions.Action.{Action}
 use Rattle.fkv_plane.specs.declared.actions.Action.TheVariants as act
@@ -26,7 +27,7 @@ use Rattle.fkv_flush.specs.Flushing.{flush_ask, flush_next, bytes_next}
 use Rattle.fkv_flush.specs.Serving.{mailbox_from, serve_ask, serve_next}
 use Rattle.fkv_flush.specs.declared.flushing.Flushing.{Flushing}
 use Rattle.fkv_flush.specs.declared.serving.Serving.{Serving}
-use Rattle.fkv_flush.specs.GuardSlots.{slot_put, work_puts, actor_puts}
+use Rattle.fkv_flush.specs.GuardSlots.{slot_put, work_puts, actor_puts, event_puts, FindsSlots}
 use Rattle.fkv_flush.specs.GuardWorld.{Actor, Work, Shifts, Turns, GuardWorld, Moves, is_idle}
 use Rattle.fkv_flush.proofs.Shown.{IsSound, FitsWork, finds_slots}
 use Rattle.fkv_maintain.specs.declared.maintaining.MaintainAnswer.TheVariants as answer
@@ -39,9 +40,13 @@ use Rattle.law_guard.proofs.OfKeeper.Flushed.{flush_behind}
 use Rattle.law_guard.proofs.OfKeeper.Scanned.{scan_behind}
 use Rattle.law_guard.proofs.OfKeeper.Served.{serve_behind}
 
+-- the slot is one that there is, and has no action
+abbrev pub IsEmptySlot : List (Option Action) → ℕ → Type 0
+IsEmptySlot actions slot = (slot < drain_slots) × (action_at actions slot ≡ None)
+
 -- where an ask gives an action to a slot, this is empty
 abbrev pub PutsIntoEmpty : {A : Type 0} → List (Option Action) → Ask A → Type 0
-PutsIntoEmpty actions ask = (slot : ℕ) → slot_put ask ≡ Some slot → action_at actions slot ≡ None
+PutsIntoEmpty actions ask = (slot : ℕ) → slot_put ask ≡ Some slot → IsEmptySlot actions slot
 
 pub puts_none : {A : Type 0} (actions : List (Option Action)) (ask : Ask A) → is_of_slot ask ≡ false → PutsIntoEmpty actions ask
 puts_none actions (Put slot action) off other e = cc
@@ -63,11 +68,13 @@ claim_puts actions c slot e = cc
 
 -- what a shift or a page's turn gives to a slot
 pub work_puts_empty : (w : GuardWorld) (a : ℕ) (x : Actor) (work : Work) → IsSound w → slice_get w.now.actors a ≡ Some x → x.work ≡ work → is_idle work ≡ false
-    → (slot : ℕ) → work_puts w.now work ≡ Some slot → action_at w.now.actions slot ≡ None
+    → (slot : ℕ) → work_puts w.now work ≡ Some slot → IsEmptySlot w.now.actions slot
 work_puts_empty w a x work sound got its busy slot e =
-    (finds_slots w (Moves a) sound).puts slot
-    (ap (λ (found : Option Actor). actor_puts w.now found) got ∙ ap (λ (k : Work). if is_idle k then None else work_puts w.now k) its
-    ∙ ap (λ (b : Bool). if b then None else work_puts w.now work) busy ∙ e)
+    let finds : FindsSlots w (Moves a) = finds_slots w (Moves a) sound in
+    let puts : event_puts w.now (Moves a) ≡ Some slot =
+    ap (λ (found : Option Actor). actor_puts w.now found) got ∙ ap (λ (k : Work). if is_idle k then None else work_puts w.now k) its
+    ∙ ap (λ (b : Bool). if b then None else work_puts w.now work) busy ∙ e in
+    (finds.within slot puts, finds.puts slot puts)
 
 -- by what the machine inside a turn asks next
 claims_put : (actions : List (Option Action)) (shape : Shape) (p : Places) (s : MaintainState) (next : Claiming) (ask : Ask (Unit {0})) → PutsIntoEmpty actions (maintain_ask shape p (claim_ledto (record s { claiming = next; step = maintain.Claims }) ask))
