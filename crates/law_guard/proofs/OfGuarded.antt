@@ -18,7 +18,7 @@ mod SessionCalls
 mod SessionSteps
 pub mod Sleepers
 pub mod Slots
-mod SlotsApart
+pub mod SlotsApart
 mod SlotsHeld
-mod WordsWithin
+pub mod WordsWithin
 pub mod Worlds

@@ -1,25 +1,23 @@
 -- Over every run of a keeper the buckets that its copy of the index is at are there, and so are the sessions whose points it seeks.
-use Rattle.std.proofs.Common.{◌≡◌, ℕ, ◌+◌, ◌-◌, ◌<◌, ◌≤◌, ◌∙◌, refl, sym, subst, arith, List, [], ◌∷◌, length, Bool, true, false}
+use Rattle.std.proofs.Common.{◌≡◌, ℕ, ◌+◌, ◌-◌, ◌<◌, ◌≤◌, refl, sym, subst, arith, List, [], ◌∷◌, length, Bool, true, false}
 use Rattle.std.specs.Prelude.{◌&&◌, ◌==◌, ◌++◌, nat_lt, nat_le, max, ⊤, if◌then◌else◌, Option, Some, None}
 use Rattle.std.proofs.lemmas.Bool.Decides.{nat_tests}
 use Rattle.fkv_base.specs.declared.numbers.Addr.{Addr}
-use Rattle.fkv_base.specs.declared.numbers.Serial.{Serial}
-use Rattle.fkv_base.specs.declared.numbers.Version.{Version}
-use Rattle.fkv_plane.specs.Places.{bucket_place, overflow_place}
+use Rattle.fkv_plane.specs.Places.{bucket_place}
 use Rattle.fkv_index.specs.Slots.{bucket_slots, link_of}
 use Rattle.fkv_checkpoint.specs.declared.copying.CopyStep.{CopyStep}
 use Rattle.fkv_checkpoint.specs.declared.copying.CopyStep.TheVariants as copy
 use Rattle.fkv_checkpoint.specs.declared.copying.Copying.{Copying}
-use Rattle.fkv_checkpoint.specs.Copying.{Copier, bucket_entered, copy_after, copy_begun, copy_next, copy_step_next, link_led, slot_after}
+use Rattle.fkv_checkpoint.specs.Copying.{Copier, bucket_entered, copy_next, copy_step_next, link_led, slot_after}
 use Rattle.fkv_commit.specs.declared.deferring.DeferAnswer.{DeferAnswer}
 use Rattle.fkv_commit.specs.declared.deferring.DeferAnswer.TheVariants as defer
 use Rattle.fkv_commit.specs.declared.seeking.Seeking.{Seeking}
 use Rattle.fkv_commit.specs.declared.seeking.Seeking.TheVariants as seeking
 use Rattle.fkv_commit.specs.Cuts.{serial_said, version_said}
-use Rattle.fkv_commit.specs.Deferring.{defer_ask, defer_next}
-use Rattle.fkv_commit.specs.Seeking.{SeekState, cut_met, defer_led, other_met, owing_from, point_taken, points_from, seek_ask, seek_begun, seek_next, seeking_next, slot_led}
+use Rattle.fkv_commit.specs.Deferring.{defer_next}
+use Rattle.fkv_commit.specs.Seeking.{SeekState, cut_met, defer_led, other_met, owing_from, point_taken, points_from, seek_next, seeking_next, slot_led}
 use Rattle.fkv_keeper.specs.KeeperRun.{BeginsCommit, BeginsTurn, Calls, Gets, IsOpened, KeeperEvent, Replies, begins, is_in_hand, keeper_happens, keeper_run}
-use Rattle.fkv_keeper.specs.Keeping.{KeeperState, commit_asked, copies, copies_next, copy_asked, copy_driven, copy_ledto, enter_ledto, finish_ledto, finished, keeping_called, keeping_given, keeping_next, maintain_ledto, part_begun, phase_ledto, seek_ledto, start_ledto, turn_asked, wait_ledto, write_ledto, writes_begun, writes_called}
+use Rattle.fkv_keeper.specs.Keeping.{KeeperState, commit_asked, copies, copies_next, copy_driven, copy_ledto, enter_ledto, finish_ledto, finished, keeping_called, keeping_given, keeping_next, maintain_ledto, part_begun, phase_ledto, seek_ledto, start_ledto, turn_asked, wait_ledto, write_ledto, writes_begun, writes_called}
 use Rattle.fkv_base.specs.declared.phases.Phase.TheVariants as phase
 use Rattle.fkv_base.specs.declared.shapes.Shape.{Shape}
 use Rattle.fkv_words.specs.declared.phase_words.PhaseSaid.{PhaseSaid}
@@ -39,16 +37,16 @@ use Rattle.fkv_commit.specs.declared.starting.StartAnswer.{StartAnswer}
 use Rattle.fkv_commit.specs.declared.starting.StartAnswer.TheVariants as start
 use Rattle.fkv_commit.specs.declared.waiting.WaitAnswer.{WaitAnswer}
 use Rattle.fkv_commit.specs.declared.waiting.WaitAnswer.TheVariants as wait
-use Rattle.fkv_commit.specs.Entering.{enter_ask, enter_next}
-use Rattle.fkv_commit.specs.Finishing.{finish_ask, finish_next}
-use Rattle.fkv_commit.specs.Starting.{start_ask, start_next}
-use Rattle.fkv_commit.specs.Waiting.{wait_ask, wait_next}
+use Rattle.fkv_commit.specs.Entering.{enter_next}
+use Rattle.fkv_commit.specs.Finishing.{finish_next}
+use Rattle.fkv_commit.specs.Starting.{start_next}
+use Rattle.fkv_commit.specs.Waiting.{wait_next}
 use Rattle.fkv_manifest.specs.declared.answers.WriteAnswer.{WriteAnswer}
 use Rattle.fkv_manifest.specs.declared.answers.WriteAnswer.TheVariants as write
 use Rattle.fkv_manifest.specs.Committing.{commit_answer, commit_next}
 use Rattle.fkv_maintain.specs.declared.maintaining.MaintainAnswer.{MaintainAnswer}
 use Rattle.fkv_maintain.specs.declared.maintaining.MaintainAnswer.TheVariants as maintain
-use Rattle.fkv_maintain.specs.Maintaining.{MaintainState, maintain_ask, maintain_called, maintain_given, maintain_next}
+use Rattle.fkv_maintain.specs.Maintaining.{maintain_called, maintain_given, maintain_next}
 use Rattle.fkv_keeper.specs.declared.keepers.Keeping.{Keeping}
 use Rattle.fkv_keeper.specs.declared.keepers.Keeping.TheVariants.{Ended, Starts, Maintains, LoadsPhase, Enters, Copies, Seeks, Waits, Writes, Finishes}
 
@@ -73,6 +71,9 @@ owing_row s session = either_seek (nat_lt session s.sessions) _ _ (λ e. grind (
 points_row : (s : SeekState) → IsSeekRow (points_from s)
 points_row s = either_seek (nat_lt (length s.points) s.sessions) _ _ (λ e. grind (arith, nat_tests, e)) (λ e. tt)
 
+taken_row : (s : SeekState) (serial : ℕ) → IsSeekRow (point_taken s serial)
+taken_row s serial = points_row (record s { points = s.points ++ record { 0 = serial } ∷ [] })
+
 slot_row : (s : SeekState) (ask : Ask DeferAnswer) → s.step ≡ seeking.SeeksSlot → IsSeekRow (slot_led s ask)
 unfolding slot_led
 slot_row s (Done defer.Held) at = points_row s
@@ -87,19 +88,19 @@ defer_row end s (Done its) at = tt
 defer_row end s ask at = subst (λ (step : Seeking). SeekRow s step) (sym at) tt
 
 cut_row : (s : SeekState) (word : ℕ) → length s.points < s.sessions → IsSeekRow (cut_met s word)
-cut_row s word few = either_seek (version_said word == s.number.0) _ _ (λ e. points_row _) (λ e. few)
+cut_row s word few = either_seek (version_said word == s.number.0) _ _ (λ e. taken_row s (serial_said word)) (λ e. few)
 
 other_row : (s : SeekState) (first word : ℕ) → length s.points < s.sessions → IsSeekRow (other_met s first word)
-other_row s first word few = either_seek (nat_le (version_said word) s.number.0) _ _ (λ e. points_row _) (λ e. few)
+other_row s first word few = either_seek (nat_le (version_said word) s.number.0) _ _ (λ e. taken_row s (max (serial_said first) (serial_said word))) (λ e. few)
 
 seeks_row : (s : SeekState) (step : Seeking) (reply : ℕ) → s.step ≡ step → SeekRow s step → IsSeekRow (seeking_next s step reply)
 unfolding seeking_next
 seeks_row s (seeking.Ended its) reply at row = subst (λ (step : Seeking). SeekRow s step) (sym at) tt
-seeks_row s (seeking.LoadsOwing session) reply at row = either_seek (reply == 0) _ _ (λ e. owing_row s _) (λ e. tt)
+seeks_row s (seeking.LoadsOwing session) reply at row = either_seek (reply == 0) _ _ (λ e. owing_row s (session + 1)) (λ e. tt)
 seeks_row s seeking.SeeksSlot reply at row = slot_row (record s { defer = defer_next s.defer reply }) _ at
 seeks_row s seeking.LoadsCut reply at row = cut_row s reply row
 seeks_row s (seeking.LoadsOther first) reply at row = other_row s first reply row
-seeks_row s seeking.LoadsAgain reply at row = points_row _
+seeks_row s seeking.LoadsAgain reply at row = taken_row s (serial_said reply)
 seeks_row s seeking.StoresWaitFlush reply at row = tt
 seeks_row s seeking.LoadsTail reply at row = tt
 seeks_row s (seeking.RaisesReadOnly end) reply at row = tt
@@ -144,7 +145,7 @@ link_row p c number = either_copy (nat_lt 0 number && nat_le number p.overflow &
     let some : 0 < number = grind (arith, nat_tests, both.0) in
     let low : number ≤ p.overflow = grind (arith, nat_tests, both.1) in
     (record { bucket = p.buckets + (number - 1); few = omega (arith, some, low); its_base = refl }, omega arith))
-    (λ e. entered_row p c _)
+    (λ e. entered_row p c (c.bucket + 1))
 
 after_row : (p : Places) (c : Copying) (slot : ℕ) → IsAtBucket p c → IsCopyRow p (record c { step = slot_after slot })
 after_row p c slot its = by (nat_lt (slot + 1) bucket_slots) refl
@@ -160,7 +161,7 @@ copy_row : (p : Places) (c : Copying) (step : CopyStep) (reply : ℕ) → c.step
 unfolding copy_step_next
 copy_row p c copy.Ended reply at row = subst (λ (step : CopyStep). CopyRow p c step) (sym at) tt
 copy_row p c (copy.LoadsSlot slot) reply at row = after_row p c slot row.0
-copy_row p c copy.LoadsLink reply at row = link_row p c _
+copy_row p c copy.LoadsLink reply at row = link_row p c (link_of reply)
 
 -- the copy in hand is one of the store's index
 abbrev pub CopierRow : Places → Option Copier → Type 0
@@ -203,7 +204,7 @@ maintain_led p s (Done maintain.Broken) at = tt
 maintain_led p s ask at = stays p s Maintains at tt
 
 copies_led : (p : Places) (s : KeeperState) (granted : Bool) → IsKeeperRow p (copies p s granted)
-copies_led p s granted = either granted p _ _ (refl, entered_row p _ 0) tt
+copies_led p s granted = either granted p _ _ (refl, entered_row p (record { bucket = 0; base = 0; links = p.overflow; step = copy.Ended }) 0) tt
 
 next_led : (p : Places) (s : KeeperState) (c : Commit) (granted : Bool) (else_next : KeeperState) → IsKeeperRow p else_next → IsKeeperRow p (copies_next p s c granted else_next)
 next_led p s c granted else_next row = either c.is_copied p else_next (copies p s granted) row (copies_led p s granted)

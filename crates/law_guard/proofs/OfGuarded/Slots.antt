@@ -120,12 +120,12 @@ module _ (n : Now) (actors : List Actor) (past : EpochPast) (shows : Shows n (wo
       by (Some s) there its =
           let k : Seat = seat_at n number in
           (session_found number s there (outer number s there)).1 slot (sym (same_slot (session_ask k s) (session_ask k (session_next k s (reply_to n.words (session_ask k s))))) ∙ its)
-  names_within (KeeperMoves granted done) slot outer named = 
+  names_within (KeeperMoves granted done) slot outer named =
       (keeper_found granted).1 slot (sym (same_slot (keeper_ask n.shape n.places n.keeper) (keeper_ask n.shape n.places (keeper_after_reply W granted n.keeper))) ∙ named)
   names_within event slot outer named = cc
 
 -- at every moment of a life
-shown_so : (n : Now) (w : GuardWorld) → Shows n w → Shows n (world_of n w.now.actors w.past)
+pub shown_so : (n : Now) (w : GuardWorld) → Shows n w → Shows n (world_of n w.now.actors w.past)
 shown_so n w shows = subst (λ (v : GuardWorld). Shows n v) (is_world_of n w shows) shows
 
 pub life_finds_slots : (first : World) (start : ℕ) (events : List Event) (event : Event) → IsOpened first.now start → FindsItsSlot (run first events).now event

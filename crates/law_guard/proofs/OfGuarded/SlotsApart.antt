@@ -1,13 +1,13 @@
 -- Up to its actor's next event a slot to which an event has turned is nobody else's.
 use Rattle.std.proofs.Common.{◌≡◌, ◌≢◌, ℕ, ◌<◌, ◌∙◌, refl, sym, ap, subst, arith, List, [], ◌∷◌, ◌++◌, length, Bool, true, false}
-use Rattle.std.specs.Prelude.{◌==◌, ⊤, if◌then◌else◌, Option, Some, None, slice_get, slice_set}
+use Rattle.std.specs.Prelude.{◌==◌, if◌then◌else◌, Option, Some, None, slice_get, slice_set}
 use Rattle.std.proofs.lemmas.Bool.Decides.{nat_tests}
 use Rattle.fkv_base.specs.Limits.{drain_slots}
 use Rattle.fkv_base.specs.declared.shapes.Shape.{Shape}
 use Rattle.fkv_map.specs.declared.operations.Call.{Call}
 use Rattle.fkv_plane.specs.declared.actions.Action.{Action}
 use Rattle.fkv_plane.specs.declared.asks.Ask.{Ask}
-use Rattle.fkv_plane.specs.declared.asks.Ask.TheVariants.{Load, Store, Swap, Cas, Add, Max, Put, Take, Done}
+use Rattle.fkv_plane.specs.declared.asks.Ask.TheVariants.{Put, Take, Done}
 use Rattle.fkv_plane.specs.declared.places.Places.{Places}
 use Rattle.fkv_plane.specs.Asked.{reply_to}
 use Rattle.fkv_plane.specs.Plane.{action_at, found_action}
@@ -22,17 +22,16 @@ use Rattle.fkv_keeper.specs.Keeping.{KeeperState, keeper_ask, keeper_next}
 use Rattle.fkv_session.specs.declared.answers.Told.{Told}
 use Rattle.fkv_session.specs.Sessions.{SessionState, Seat, session_ask, session_next}
 use Rattle.fkv_world.specs.Actors.{NoneOfKeeper, NoneOfSession, is_of_keeper, is_of_session, session_slot_named, slot_asked, slot_named}
-use Rattle.fkv_world.specs.Moves.{Near, keeper_asks, keeper_moved, keeper_settled, session_asks, session_moved, session_settled}
+use Rattle.fkv_world.specs.Moves.{Near, keeper_asks, keeper_settled, session_asks, session_settled}
 use Rattle.fkv_world.specs.Runs.{World, read_by_keeper, run}
 use Rattle.fkv_world.proofs.Shown.{places_stay}
-use Rattle.fkv_world.specs.World.{Event, Calls, Moves, Commits, Turns, KeeperMoves, Crashes, Now, near, seat_at, session_moves, with_keeper}
+use Rattle.fkv_world.specs.World.{Event, Calls, Moves, Commits, Turns, KeeperMoves, Crashes, Now, near, seat_at}
 use Rattle.law_guard.specs.Guarded.GuardEvents.{called_events, guard_events, keeper_number, life_events, moved_events}
 use Rattle.law_guard.specs.Guarded.Shows.{IsOpened, Shows, seen_by_guard}
 use Rattle.law_guard.specs.Guarded.SlotsApart.{AreOfOthers}
-use Rattle.law_guard.specs.Guarded.SlotsFound.{FindsSlot, slot_ask}
+use Rattle.law_guard.specs.Guarded.SlotsFound.{slot_ask}
 use Rattle.law_guard.specs.Keeper.KeeperEvents.{keeper_move_events}
 use Rattle.law_guard.specs.Keeper.Settled.{actions_settled}
-use Rattle.law_guard.specs.Sessions.Sessions.{SessionWritesOuter}
 use Rattle.law_guard.proofs.OfGuarded.Kept.{called_is, moved_is}
 use Rattle.law_guard.proofs.OfGuarded.KeeperSteps.{keeper_steps, turn_asked_steps}
 use Rattle.law_guard.proofs.OfGuarded.LoadedSince.{life_on}
@@ -194,6 +193,11 @@ shown : (first : World) (start : ℕ) (events : List Event) → IsOpened first.n
     → (let w : GuardWorld = seen_by_guard first start events in Shows (run first events).now (world_of (run first events).now w.now.actors w.past))
 shown first start events opened = shown_so (run first events).now (seen_by_guard first start events) (life_shows first start events opened)
 
+holder_shown : (first : World) (start : ℕ) (events : List Event) (a slot : ℕ) → IsOpened first.now start → IsHolder (seen_by_guard first start events).now a slot
+    → (let n : Now = (run first events).now in let w : GuardWorld = seen_by_guard first start events in let v : GuardWorld = world_of n w.now.actors w.past in IsHolder v.now a slot)
+holder_shown first start events a slot opened holder =
+    subst (λ (v : GuardWorld). IsHolder v.now a slot) (is_world_of (run first events).now (seen_by_guard first start events) (life_shows first start events opened)) holder
+
 -- who sits or keeps there stays so
 same_keeper : (first : World) (events : List Event) → keeper_number (run first events).now ≡ keeper_number first.now
 same_keeper first events = ap (λ (p : Places). p.sessions) (places_stay first events)
@@ -267,7 +271,7 @@ session_apart first start later before i its slot opened going named other other
         let b : World = run first events in
         let v : GuardWorld = seen_by_guard first start events in
         session_turns_not b.now v.now.actors v.past (shown first start events opened) (read_by_keeper b) i slot its (write_outer first start events opened)
-        (session_holds_on first start later (Moves i ∷ before) i slot opened low others holder)
+        (holder_shown first start events i slot opened (session_holds_on first start later (Moves i ∷ before) i slot opened low others holder))
         (subst (λ (count : ℕ). i < count) (sym (same_keeper first events)) low) other
 
 keeper_apart : (first : World) (start : ℕ) (later before : List Event) (granted done : Bool) (its : Event) (slot : ℕ) → IsOpened first.now start → (run first before).now.crashed ≡ false
@@ -284,7 +288,8 @@ keeper_apart first start later before granted done its slot opened going named o
     let events : List Event = later ++ (KeeperMoves granted done ∷ before) in
     let b : World = run first events in
     let v : GuardWorld = seen_by_guard first start events in
-    let there = subst (λ (a : ℕ). IsHolder v.now a slot) (sym (same_keeper first events)) (keeper_holds_on first start later (KeeperMoves granted done ∷ before) slot opened others holder) in
+    let last = subst (λ (a : ℕ). IsHolder v.now a slot) (sym (same_keeper first events)) (keeper_holds_on first start later (KeeperMoves granted done ∷ before) slot opened others holder) in
+    let there = holder_shown first start events (keeper_number b.now) slot opened last in
     keeper_turns_not b.now v.now.actors v.past (shown first start events opened) slot its (write_outer first start events opened) there other
 
 pub life_apart : (first : World) (start : ℕ) (later before : List Event) (event its : Event) (slot : ℕ) → IsOpened first.now start → (run first before).now.crashed ≡ false

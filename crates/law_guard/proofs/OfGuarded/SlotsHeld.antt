@@ -1,17 +1,17 @@
 -- Which actor of the guard holds a slot, over the events of a step: who moves its action holds it then, and others' events leave it to him.
 use Rattle.std.proofs.Common.{◌≡◌, ◌≢◌, ℕ, ◌∙◌, refl, sym, ap, subst, inl, inr, List, [], ◌∷◌, Bool, true, false}
-use Rattle.std.specs.Prelude.{◌&&◌, if◌then◌else◌, Option, Some, None, slice_get}
+use Rattle.std.specs.Prelude.{◌&&◌, if◌then◌else◌, Some, None, slice_get}
 use Rattle.fkv_plane.specs.Plane.{action_at}
 use Rattle.fkv_epoch.specs.declared.arming.Arming.TheVariants as arm
 use Rattle.fkv_epoch.specs.declared.claiming.Claiming.TheVariants as claim
 use Rattle.fkv_epoch.specs.declared.raising.Raising.TheVariants as raise
-use Rattle.fkv_epoch.specs.EpochWorld.{EpochMachine, Protects, Refreshes, Leaves, Scans, Claims, Raises, HasRaised, Arms, is_at_rest, resumed_machine}
+use Rattle.fkv_epoch.specs.EpochWorld.{EpochMachine, Claims, Raises, HasRaised, Arms, is_at_rest, resumed_machine}
 use Rattle.fkv_epoch.specs.Held.{slot_held}
 use Rattle.fkv_epoch.specs.Raising.{raise_on}
 use Rattle.fkv_epoch.proofs.Shown.{item_spared, item_written, same_or, some_same}
-use Rattle.fkv_flush.specs.GuardCalm.{AreOther, IsOther, actor_of}
+use Rattle.fkv_flush.specs.GuardCalm.{AreOther, IsOther}
 use Rattle.fkv_flush.specs.GuardSlots.{IsHolder, MovesAction, NoOtherHolds}
-use Rattle.fkv_flush.specs.GuardWorld.{Actor, GuardNow, GuardWorld, GuardEvent, Begins, Resumes, Publishes, put_near, guard_happens, guard_happens_now, guard_run, is_idle, may_work, started}
+use Rattle.fkv_flush.specs.GuardWorld.{Actor, GuardNow, GuardWorld, GuardEvent, Begins, Resumes, Publishes, put_near, guard_happens, guard_run, is_idle, may_work, started}
 use Rattle.fkv_flush.proofs.Shown.{IsSound, each_event, event_near, finds_slots}
 use Rattle.law_guard.proofs.OfGuarded.OneStep.{IsStep, IsQuiet}
 

@@ -1,6 +1,6 @@
 -- Where a part of a commit gives an action to a slot, this is empty: the epoch was raised for it.
 use Rattle.std.proofs.Common.{◌≡◌, ℕ, ◌∙◌, inl, inr, refl, ap, subst, false, List, [], ◌∷◌, ◌++◌, max}
-use Rattle.std.specs.Prelude.{Option, Some, None, slice_get, length, nat_lt, nat_le, ◌==◌, ◌+◌}
+use Rattle.std.specs.Prelude.{Option, Some, slice_get, length, nat_lt, nat_le, ◌==◌, ◌+◌}
 use Rattle.fkv_base.specs.Limits.{last_version}
 use Rattle.fkv_base.specs.declared.phases.Phase.TheVariants.{Rest, InProgress, WaitPending}
 use Rattle.fkv_base.specs.declared.numbers.Addr.{Addr}
@@ -12,7 +12,6 @@ use Rattle.fkv_plane.specs.declared.actions.Action.{Action}
 use Rattle.fkv_plane.specs.declared.asks.Ask.{Ask}
 use Rattle.fkv_plane.specs.declared.asks.Ask.TheVariants.{Put, Take, Done}
 use Rattle.fkv_plane.specs.Passing.{passed}
-use Rattle.fkv_plane.specs.Plane.{action_at}
 use Rattle.fkv_epoch.specs.declared.raising.Raising.TheVariants as raise
 use Rattle.fkv_epoch.specs.Raising.{raise_ask, raise_next, raise_next_ask, raise_on}
 use Rattle.fkv_epoch.specs.Arming.{arm_ask, arm_next}

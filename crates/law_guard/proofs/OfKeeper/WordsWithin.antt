@@ -1,13 +1,13 @@
 -- The word that the keeper's ask names is one that there is: by what it is at, and by what its machine of the epochs asks.
-use Rattle.std.proofs.Common.{◌≡◌, ℕ, ◌+◌, ◌<◌, ◌≤◌, refl, sym, subst, arith, List}
-use Rattle.std.specs.Prelude.{⊤, Option, Some, None, slice_get, length}
+use Rattle.std.proofs.Common.{◌≡◌, ℕ, ◌+◌, ◌<◌, ◌≤◌, refl, subst, arith, List}
+use Rattle.std.specs.Prelude.{Option, Some, None, length}
 use Rattle.fkv_base.specs.declared.numbers.Serial.{Serial}
 use Rattle.fkv_plane.specs.declared.places.SessionWord.TheVariants as own
 use Rattle.fkv_index.specs.Slots.{bucket_slots}
 use Rattle.fkv_checkpoint.specs.declared.copying.CopyStep.{CopyStep}
 use Rattle.fkv_checkpoint.specs.declared.copying.CopyStep.TheVariants as copy
 use Rattle.fkv_checkpoint.specs.declared.copying.Copying.{Copying}
-use Rattle.fkv_checkpoint.specs.Copying.{Copier, copy_ask, copy_step_ask}
+use Rattle.fkv_checkpoint.specs.Copying.{Copier, copy_step_ask}
 use Rattle.fkv_commit.specs.declared.deferring.Deferring.{Deferring}
 use Rattle.fkv_commit.specs.declared.deferring.Deferring.TheVariants as defer
 use Rattle.fkv_commit.specs.declared.finishing.Finishing.{Finishing}
@@ -17,7 +17,6 @@ use Rattle.fkv_commit.specs.declared.waiting.Waiting.TheVariants as wait
 use Rattle.fkv_commit.specs.Finishing.{FinishState, finishing_ask}
 use Rattle.fkv_commit.specs.Waiting.{wait_ask, waiting_ask}
 use Rattle.fkv_plane.specs.Places.{word_count}
-use Rattle.fkv_plane.specs.declared.places.RecordWord.TheVariants as rec
 use Rattle.fkv_flush.specs.declared.flushing.Flushing.{Flushing}
 use Rattle.fkv_flush.specs.declared.flushing.Flushing.TheVariants as flush
 use Rattle.fkv_flush.specs.declared.serving.Serving.{Serving}
@@ -28,14 +27,14 @@ use Rattle.fkv_flush.specs.GuardLevels.{levels_of}
 use Rattle.fkv_flush.specs.GuardSeen.{LastSeen}
 use Rattle.fkv_flush.specs.GuardWorld as guard
 use Rattle.fkv_flush.specs.GuardWorld.{Actor, GuardWorld, Work, epoch_world}
-use Rattle.fkv_flush.proofs.Shown.{Awake, Fits, FitsMachine, FitsWork, Knows, machine_at}
+use Rattle.fkv_flush.proofs.Shown.{Awake, FitsMachine, FitsWork, Knows, machine_at}
 use Rattle.fkv_manifest.specs.declared.answers.WriteAnswer.{WriteAnswer}
 use Rattle.fkv_manifest.specs.declared.answers.WriteAnswer.TheVariants as write
 use Rattle.fkv_manifest.specs.Committing.{commit_answer}
 use Rattle.fkv_maintain.specs.Maintaining.{device_asked}
 use Rattle.fkv_keeper.specs.Keeping.{copy_asked, keeper_ask, write_asked}
 use Rattle.law_guard.specs.Keeper.CommitShown.{FinishKnows, deferring_machine, entering_machine, seeking_machine, starting_machine}
-use Rattle.law_guard.specs.Keeper.Followed.{IsKeepers, likeness}
+use Rattle.law_guard.specs.Keeper.Followed.{IsKeepers}
 use Rattle.law_guard.specs.Keeper.KeeperShown.{KeepingKnows, keeping_machine, keeping_work}
 use Rattle.law_guard.specs.Keeper.MaintainShown.{maintaining_machine, maintaining_work}
 use Rattle.law_guard.proofs.OfGuarded.KeeperPlaces.{CopierRow, CopyRow, IsAtBucket, IsKeeperRow, KeeperRow, SeekRow}
@@ -45,20 +44,13 @@ use Rattle.fkv_plane.specs.declared.asks.Ask.{Ask}
 use Rattle.fkv_plane.specs.declared.asks.Ask.TheVariants.{Put, Take, Done}
 use Rattle.fkv_plane.specs.declared.places.Places.{Places}
 use Rattle.fkv_plane.specs.Passing.{passed}
-use Rattle.fkv_epoch.specs.declared.arming.Arming.{Arming}
-use Rattle.fkv_epoch.specs.declared.arming.Arming.TheVariants as arm
-use Rattle.fkv_epoch.specs.declared.raising.Raising.{Raising}
-use Rattle.fkv_epoch.specs.declared.raising.Raising.TheVariants as raise
 use Rattle.fkv_epoch.specs.Arming.{arm_ask}
 use Rattle.fkv_epoch.specs.Claiming.{claim_ask}
 use Rattle.fkv_epoch.specs.Raising.{raise_ask}
 use Rattle.fkv_epoch.specs.Scanning.{scan_ask}
 use Rattle.fkv_epoch.specs.EpochWorld.{EpochMachine, Arms, Claims, Raises, Scans}
-use Rattle.fkv_log.specs.declared.moving.MoveAnswer.TheVariants as moved
-use Rattle.fkv_log.specs.Moving.{Mover, move_ask, moving_ask}
-use Rattle.fkv_log.specs.Shifting.{shift_ask, shifting_ask}
-use Rattle.fkv_log.specs.Turning.{turn_ask, turning_ask}
-use Rattle.fkv_commit.specs.declared.deferring.DeferAnswer.TheVariants as deferred
+use Rattle.fkv_log.specs.Shifting.{shift_ask}
+use Rattle.fkv_log.specs.Turning.{turn_ask}
 use Rattle.fkv_commit.specs.declared.entering.Entering.{Entering}
 use Rattle.fkv_commit.specs.declared.entering.Entering.TheVariants as enter
 use Rattle.fkv_commit.specs.declared.seeking.Seeking.{Seeking}
@@ -81,7 +73,7 @@ use Rattle.fkv_maintain.specs.Maintaining.{MaintainState, maintaining_ask, maint
 use Rattle.fkv_keeper.specs.declared.answers.KeeperTold.{KeeperTold}
 use Rattle.fkv_keeper.specs.declared.keepers.Keeping.{Keeping}
 use Rattle.fkv_keeper.specs.declared.keepers.Keeping.TheVariants as keeping
-use Rattle.fkv_keeper.specs.Keeping.{KeeperState, device_passed, keeping_ask, turn_over}
+use Rattle.fkv_keeper.specs.Keeping.{KeeperState, device_passed, keeping_ask}
 
 -- a machine of the epochs that is driven
 driven : (p : Places) (its machine : EpochMachine) → MachineWithin p machine → machine ≡ its → MachineWithin p its

@@ -1,6 +1,6 @@
 -- The word that a session's ask names is one that there is: by its control state, and by what the machine of the epochs in its turn asks.
-use Rattle.std.proofs.Common.{◌≡◌, ℕ, ◌+◌, ◌%◌, ◌<◌, ◌∙◌, refl, sym, ap, subst, arith, List, Bool, true, false}
-use Rattle.std.specs.Prelude.{◌||◌, nat_le, ⊤, Option, Some, None, slice_get}
+use Rattle.std.proofs.Common.{◌≡◌, ℕ, ◌+◌, ◌%◌, ◌<◌, refl, subst, arith, List, Bool, true, false}
+use Rattle.std.specs.Prelude.{◌||◌, ◌&&◌, nat_le, nat_lt, ⊤, Option, Some, None, slice_get}
 use Rattle.std.proofs.lemmas.Bool.Decides.{nat_tests}
 use Rattle.std.proofs.lemmas.Nat.{mod_below}
 use Rattle.fkv_plane.specs.declared.actions.Action.TheVariants as act
@@ -13,7 +13,7 @@ use Rattle.fkv_plane.specs.declared.places.SessionWord.{SessionWord}
 use Rattle.fkv_plane.specs.declared.places.SessionWord.TheVariants as own
 use Rattle.fkv_plane.specs.Asked.{asked_place}
 use Rattle.fkv_plane.specs.Passing.{passed}
-use Rattle.fkv_plane.specs.Places.{bucket_place, frames_start, record_number, record_place, session_number, session_place, word_count}
+use Rattle.fkv_plane.specs.Places.{frames_start, record_number, record_place, session_number, session_place, word_count}
 use Rattle.fkv_epoch.specs.declared.arming.Arming.TheVariants as arm
 use Rattle.fkv_epoch.specs.declared.claiming.Claiming.TheVariants as claim
 use Rattle.fkv_epoch.specs.declared.leaving.Leaving.TheVariants as leave
@@ -33,7 +33,7 @@ use Rattle.fkv_epoch.specs.Protecting.{protect_ask}
 use Rattle.fkv_epoch.specs.Raising.{raise_ask}
 use Rattle.fkv_epoch.specs.Refreshing.{refresh_ask}
 use Rattle.fkv_epoch.specs.Scanning.{scan_ask}
-use Rattle.fkv_epoch.specs.EpochWorld.{EpochMachine, EpochWorld, Protects, Refreshes, Leaves, Scans, Claims, Raises, HasRaised, Arms}
+use Rattle.fkv_epoch.specs.EpochWorld.{EpochMachine, EpochWorld, is_own, Protects, Refreshes, Leaves, Scans, Claims, Raises, HasRaised, Arms}
 use Rattle.fkv_epoch.proofs.Shown as epochs
 use Rattle.fkv_log.specs.declared.filling.Filling.TheVariants as filling
 use Rattle.fkv_log.specs.declared.filling.Filling.{Filling}
@@ -119,7 +119,7 @@ use Rattle.law_guard.proofs.OfSessions.AttemptsOuter.{AttemptRow}
 use Rattle.law_guard.proofs.OfSessions.FindsOuter.{IsAtBucket, StepLinks}
 use Rattle.law_guard.proofs.OfSessions.OuterAsks.{IsLatchOuter}
 use Rattle.law_guard.proofs.OfSessions.TriesOuter.{TryRow}
-use Rattle.law_guard.proofs.OfSessions.WalksOuter.{IsWalkOuter, WalkRow}
+use Rattle.law_guard.proofs.OfSessions.WalksOuter.{WalkRow}
 
 -- the place is one of those that there are
 abbrev pub IsWithinPlace : Places → Option ℕ → Type 0
@@ -184,7 +184,7 @@ neither false false e = (refl, refl)
 
 outer_within : (p : Places) (place : ℕ) → is_guarded p place ≡ false → place < word_count p
 outer_within p place outer =
-    let below : nat_le (frames_start p) place ≡ false = (neither _ _ outer).1 in
+    let below : nat_le (frames_start p) place ≡ false = (neither (is_own p.sessions place || nat_le 3 place && nat_lt place 10) (nat_le (frames_start p) place) outer).1 in
     let low : place < frames_start p = grind (arith, nat_tests, below) in
     omega (arith, low)
 
