@@ -60,6 +60,9 @@ none_asked k words ask (Loads e) = rw e (word_spared words (session_place k.numb
 abbrev IsZero : ℕ → List ℕ → SessionState → Type 0
 IsZero number words s = Sleeps s → own_epoch words number ≡ 0
 
+put_no_store : (ask : Ask Told) (slot : ℕ) (action : Action) (place : ℕ) → ask ≡ Put slot action → ask ≡ Store place 0 → ⊥
+put_no_store ask slot action place puts stores = cc
+
 module _ (k : Seat) (first : SessionState) (opened : IsOpenedSession first) (own_events : List SessionEvent) where
   -- by the turn to a slot behind a reply
   replied_back : (reply : ℕ) (actions : List (Option Action)) (ask : Ask Told) → session_ask k (session_run k first (Replies reply ∷ own_events)) ≡ ask
@@ -69,10 +72,7 @@ module _ (k : Seat) (first : SessionState) (opened : IsOpenedSession first) (own
     where
       by_put : SleepsFrom k (session_run k first (Replies reply ∷ own_events)) → SleepsFrom k (session_run k first own_events)
       by_put (SleepsOn was none) = run_falls k first own_events reply opened was
-      by_put (FallsAsleep stores) = absurd (never (sym e ∙ stores))
-        where
-          never : Put slot action ≡ Store (epoch_place k) 0 → ⊥
-          never same = cc
+      by_put (FallsAsleep stores) = absurd (put_no_store (session_ask k (session_run k first (Replies reply ∷ own_events))) slot action (epoch_place k) e stores)
   replied_back reply actions (Take slot) e sleeps = by_action (action_at actions slot) sleeps
     where
       by_action : (found : Option Action) → Sleeps (session_run k first ((session_got found ++ Replies reply ∷ []) ++ own_events)) → SleepsFrom k (session_run k first own_events)
