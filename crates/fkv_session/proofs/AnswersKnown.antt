@@ -262,9 +262,12 @@ module _ (k : Seat) (buckets : HasItsBuckets k) (was : Seen) (called : Option Op
   next_known asked s asks (Idle its) reply e busy known = cc
   next_known asked s asks (Attempts has_shifted) reply e busy known =
       let t : SessionState = record s { asks = asks; effect = None } in
-      attempt_known (with_ask s (Attempts has_shifted) reply asked) (attempt_moved k t reply) has_shifted _ e
-      (known.0, attempt_rests k.places (bits_of k) (room_of k) k.number s.attempt reply known.1, attempt_goes k buckets s.seen s.op asked s.attempt s.attempt.step reply refl known.2,
-      λ shifted. more_refreshed asked _ (known.3 shifted)) refl
+      attempt_known (with_ask s (Attempts has_shifted) reply asked) (attempt_moved k t reply) has_shifted _ e (
+        known.0,
+        attempt_rests k.places (bits_of k) (room_of k) k.number s.attempt reply known.1,
+        attempt_goes k buckets s.seen s.op asked s.attempt s.attempt.step reply refl known.2,
+        λ shifted. more_refreshed asked _ (known.3 shifted),
+      ) refl
   next_known asked s asks (CatchesUp cause) reply e busy known =
       let t : SessionState = record s { asks = asks; effect = None } in
       catch_known (with_ask s (CatchesUp cause) reply asked) (caught k t reply) cause _ e (caught_known asked s asks cause reply known) refl
