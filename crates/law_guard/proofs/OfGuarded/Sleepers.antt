@@ -14,17 +14,17 @@ use Rattle.fkv_plane.specs.Plane.{action_at}
 use Rattle.fkv_epoch.specs.EpochWorld.{own_epoch}
 use Rattle.fkv_epoch.proofs.Shown.{some_same, word_spared}
 use Rattle.fkv_flush.specs.GuardCalm.{AreOther}
-use Rattle.fkv_flush.specs.GuardWorld.{GuardEvent, GuardWorld, guard_run}
+use Rattle.fkv_flush.specs.GuardWorld.{GuardEvent, GuardWorld}
 use Rattle.fkv_flush.proofs.Shown.{events_calm}
 use Rattle.fkv_session.specs.declared.answers.Told.{Told}
 use Rattle.fkv_session.specs.declared.sessions.CatchCause.TheVariants.{Wakes}
 use Rattle.fkv_session.specs.declared.sessions.Sitting.TheVariants.{CatchesUp}
 use Rattle.fkv_session.specs.InOrder.{epoch_place}
 use Rattle.fkv_session.specs.Sessions.{SessionState, Seat, IsOpened as IsOpenedSession, is_busy, session_ask, session_begun, session_next}
-use Rattle.fkv_session.specs.SessionRun.{SessionEvent, Begins, Replies, Gets, session_happens, session_run}
+use Rattle.fkv_session.specs.SessionRun.{SessionEvent, Begins, Replies, session_happens, session_run}
 use Rattle.fkv_session.proofs.Shown.{Sleeps, AsksNone, Rests, Loads, SleepsFrom, SleepsOn, FallsAsleep, run_begun, run_falls, run_given}
 use Rattle.fkv_world.specs.Actors.{is_of_session}
-use Rattle.fkv_world.specs.Moves.{Near, session_moved}
+use Rattle.fkv_world.specs.Moves.{session_moved}
 use Rattle.fkv_world.specs.OwnEvents.{session_events, session_got, session_part, session_part_found, session_part_of, session_slots, session_steps}
 use Rattle.fkv_world.specs.Runs.{World, happens, read_by_keeper, run}
 use Rattle.fkv_world.specs.World.{Event, Calls, Moves, Commits, Turns, KeeperMoves, Crashes, Now, near, seat_at, session_calls, life_goes}
