@@ -46,7 +46,7 @@ use Rattle.fkv_session.specs.OwnTurns.{own_turn_given}
 use Rattle.fkv_session.specs.Sessions.{SessionState, Seat, bits_of, room_of, is_busy, answers, refuses, answers_after_turn, ticket_after, request_in_hand, attempts, polls_request, polls_at, refusal_of, op_begun, refresh_call, poll_begun, poll_call, sleep_call, wake_call, call_begun, attempt_left, serial_taken, update_done, is_no_room, with_request, accepts, shifts, attempted, attempt_ledto, catch_ledto, clear_ledto, is_finished, is_owed, request_finished, lacks_room, finishes_request, keeps_request, poll_ledto, turn_ledto, leave_ledto, attempt_moved, caught, own_turn_moved, sitting_ask, sitting_next, sitting_given}
 use Rattle.fkv_session.specs.Shares.{HasItsBuckets}
 use Rattle.fkv_session.specs.TrueAnswers.{trial_of, IsPhaseSeen}
-use Rattle.fkv_session.proofs.CallTries.{LastTry, HasAwaited, HasShifted, SomeTry, TryEnded, AttemptAt, AttemptNow, AttemptEnd, begun_ran, ended_true, more_last, attempt_goes}
+use Rattle.fkv_session.proofs.CallTries.{LastTry, HasAwaited, HasShifted, SomeTry, TryEnded, AttemptAt, AttemptNow, AttemptEnd, begun_ran, ended_true, more_last, attempt_goes, HasRefreshed, has_refreshed, more_refreshed}
 use Rattle.fkv_session.proofs.PhaseTold.{PhaseNow, phase_step, phase_taken, refresh_now, wake_now}
 
 -- what an operation is answered, by its last try
@@ -89,8 +89,8 @@ module _ (k : Seat) (buckets : HasItsBuckets k) (was : Seen) (called : Option Op
   -- a turn keeps what its call is answered behind it
   abbrev pub StepKnown : List Exchange → SessionState → Sitting → Type 0
   StepKnown asked s (Idle its) = ⊤
-  StepKnown asked s (Attempts has_shifted) = (called ≡ Some s.op) × AttemptRestsOrAsks s.attempt × AttemptNow (trial_of k buckets s.seen s.op) asked s.attempt
-  StepKnown asked s (CatchesUp Shifts) = called ≡ Some s.op
+  StepKnown asked s (Attempts has_shifted) = (called ≡ Some s.op) × AttemptRestsOrAsks s.attempt × AttemptNow (trial_of k buckets s.seen s.op) asked s.attempt × (has_shifted ≡ true → HasRefreshed asked)
+  StepKnown asked s (CatchesUp Shifts) = (called ≡ Some s.op) × PhaseNow s.seen asked s.catching
   StepKnown asked s (CatchesUp cause) = (called ≡ None) × (s.seen ≡ was) × PhaseNow s.seen asked s.catching
   StepKnown asked s (Turns (told.Pending serial why)) = (called ≡ Some s.op) × (is_read s.op ≡ false) × LastTry (trial_of k buckets s.seen s.op) asked why
   StepKnown asked s (Turns (told.Polled left)) = called ≡ None
@@ -128,10 +128,10 @@ module _ (k : Seat) (buckets : HasItsBuckets k) (was : Seen) (called : Option Op
   turn_polled : (asked : List Exchange) (s : SessionState) (left : ℕ) → called ≡ None → KnownAfter asked (answers_after_turn s (told.Polled left))
   turn_polled asked s left none = either s.wants_turn asked _ (answers s (told.Polled left)) none (ByOther none tt)
 
-  attempts_known : (asked : List Exchange) (s : SessionState) (has_shifted : Bool) → called ≡ Some s.op → KnownAfter asked (attempts k s has_shifted)
+  attempts_known : (asked : List Exchange) (s : SessionState) (has_shifted : Bool) → called ≡ Some s.op → (has_shifted ≡ true → HasRefreshed asked) → KnownAfter asked (attempts k s has_shifted)
   unfolding attempts
-  attempts_known asked s has_shifted op =
-      (op, attempt_begun_rests k.places (bits_of k) s.attempt (request_in_hand s) s.seen AtCall s.spare s.is_orphaned, begun_ran (trial_of k buckets s.seen s.op) asked s.attempt.trial s.spare)
+  attempts_known asked s has_shifted op has =
+      (op, attempt_begun_rests k.places (bits_of k) s.attempt (request_in_hand s) s.seen AtCall s.spare s.is_orphaned, begun_ran (trial_of k buckets s.seen s.op) asked s.attempt.trial s.spare, has)
 
   found_known : (asked : List Exchange) (s : SessionState) (i : ℕ) (found : Option PendingRequest) → called ≡ None → KnownAfter asked (polls_request k s i found)
   found_known asked s i None none = turn_polled asked s (length s.requests) none
@@ -152,10 +152,10 @@ module _ (k : Seat) (buckets : HasItsBuckets k) (was : Seen) (called : Option Op
       tested true e = ByOp op (e, record { why = why; last = last })
       tested false e = turn_waits asked (with_request (serial_taken (record s { wants_turn = is_no_room why }))) (record { 0 = s.serial + 1 }) why op e last
 
-  shifts_known : (asked : List Exchange) (s : SessionState) (has_shifted : Bool) → called ≡ Some s.op → TryEnded (trial_of k buckets s.seen s.op) asked tried.Shift → KnownAfter asked (shifts s has_shifted)
+  shifts_known : (asked : List Exchange) (s : SessionState) (has_shifted : Bool) → called ≡ Some s.op → (has_shifted ≡ true → HasRefreshed asked) → TryEnded (trial_of k buckets s.seen s.op) asked tried.Shift → KnownAfter asked (shifts s has_shifted)
   unfolding shifts
-  shifts_known asked s false op ended = op
-  shifts_known asked s true op ended = accepts_known asked s reason.Contended op (HasShifted refl ended)
+  shifts_known asked s false op has ended = (op, refresh_now s.seen asked s.catching s.serial)
+  shifts_known asked s true op has ended = accepts_known asked s reason.Contended op (HasShifted refl ended (has refl))
 
   done_known : (asked : List Exchange) (s : SessionState) (its : Reply) → called ≡ Some s.op → is_read s.op ≡ false → KnownAfter asked (if is_read s.op then answers s told.Absent else update_done s its)
   done_known asked s its op update = tested (is_read s.op) refl
@@ -167,21 +167,21 @@ module _ (k : Seat) (buckets : HasItsBuckets k) (was : Seen) (called : Option Op
           never e = cc
       tested false e = ByOp op update
 
-  attempted_known : (asked : List Exchange) (s : SessionState) (has_shifted : Bool) (its : TryAnswer) → called ≡ Some s.op → AttemptEnd (trial_of k buckets s.seen s.op) asked its → KnownAfter asked (attempted s has_shifted its)
-  attempted_known asked s has_shifted (tried.Done its) op end = done_known asked s its op (ended_true (trial_of k buckets s.seen s.op) asked (tried.Done its) end)
-  attempted_known asked s has_shifted (tried.Found value) op end = ByOp op end
-  attempted_known asked s has_shifted tried.Absent op end = ByOp op end
-  attempted_known asked s has_shifted (tried.Wait why) op end = accepts_known asked s why op end
-  attempted_known asked s has_shifted (tried.AwaitsDisk sought) op end = accepts_known asked s reason.Disk op (HasAwaited refl (record { it = sought; ended = end }))
-  attempted_known asked s has_shifted tried.Shift op end = shifts_known asked s has_shifted op end
-  attempted_known asked s has_shifted tried.IndexFull op end = ByOp op end
-  attempted_known asked s has_shifted tried.LogFull op end = ByOp op end
+  attempted_known : (asked : List Exchange) (s : SessionState) (has_shifted : Bool) (its : TryAnswer) → called ≡ Some s.op → (has_shifted ≡ true → HasRefreshed asked) → AttemptEnd (trial_of k buckets s.seen s.op) asked its → KnownAfter asked (attempted s has_shifted its)
+  attempted_known asked s has_shifted (tried.Done its) op has end = done_known asked s its op (ended_true (trial_of k buckets s.seen s.op) asked (tried.Done its) end)
+  attempted_known asked s has_shifted (tried.Found value) op has end = ByOp op end
+  attempted_known asked s has_shifted tried.Absent op has end = ByOp op end
+  attempted_known asked s has_shifted (tried.Wait why) op has end = accepts_known asked s why op end
+  attempted_known asked s has_shifted (tried.AwaitsDisk sought) op has end = accepts_known asked s reason.Disk op (HasAwaited refl (record { it = sought; ended = end }))
+  attempted_known asked s has_shifted tried.Shift op has end = shifts_known asked s has_shifted op has end
+  attempted_known asked s has_shifted tried.IndexFull op has end = ByOp op end
+  attempted_known asked s has_shifted tried.LogFull op has end = ByOp op end
 
   attempt_known : (asked : List Exchange) (s : SessionState) (has_shifted : Bool) (ask : Ask TryAnswer) → s.step ≡ Attempts has_shifted → StepKnown asked s (Attempts has_shifted) → attempt_ask k.places k.number s.attempt ≡ ask
       → KnownAfter asked (attempt_ledto s has_shifted ask)
   unfolding attempt_ledto
   attempt_known asked s has_shifted (Done its) e known asks =
-      attempted_known asked (attempt_left s) has_shifted its known.0
+      attempted_known asked (attempt_left s) has_shifted its known.0 known.3
       (end_at (trial_of k buckets s.seen s.op) asked k.places k.number s.attempt s.attempt.step its known.2 (attempt_done k.places k.number s.attempt known.1) asks)
   attempt_known asked s has_shifted ask e known asks = still asked s (Attempts has_shifted) e refl known
 
@@ -199,7 +199,9 @@ module _ (k : Seat) (buckets : HasItsBuckets k) (was : Seen) (called : Option Op
   unfolding catch_ledto
   catch_known asked s Refreshes (Done its) e known asks = ByOther known.0 (phase_so asked s its known.1 known.2 asks)
   catch_known asked s Wakes (Done its) e known asks = ByOther known.0 (phase_so asked s its known.1 known.2 asks, refl)
-  catch_known asked s Shifts (Done its) e known asks = attempts_known asked (record s { seen = s.catching.seen }) true known
+  catch_known asked s Shifts (Done its) e known asks =
+      attempts_known asked (record s { seen = s.catching.seen }) true known.0
+      (λ _. has_refreshed asked s.seen s.catching.seen (phase_taken k.places k.number s.seen asked s.catching s.requests s.catching.step its known.1 asks))
   catch_known asked s cause ask e known asks = still asked s (CatchesUp cause) e refl known
 
   -- polls
@@ -251,7 +253,8 @@ module _ (k : Seat) (buckets : HasItsBuckets k) (was : Seen) (called : Option Op
       (known.0, known.1, phase_step k.places (bits_of k) k.number s.seen asked s.catching s.requests (catch_requests s.catching s.requests reply) s.catching.step reply refl known.2)
   caught_known asked s asks Wakes reply known =
       (known.0, known.1, phase_step k.places (bits_of k) k.number s.seen asked s.catching s.requests (catch_requests s.catching s.requests reply) s.catching.step reply refl known.2)
-  caught_known asked s asks Shifts reply known = known
+  caught_known asked s asks Shifts reply known =
+      (known.0, phase_step k.places (bits_of k) k.number s.seen asked s.catching s.requests (catch_requests s.catching s.requests reply) s.catching.step reply refl known.1)
 
   next_known : (asked : List Exchange) (s : SessionState) (asks : ℕ) (step : Sitting) (reply : ℕ) → s.step ≡ step → is_busy step ≡ true → StepKnown asked s step
       → KnownAfter (with_ask s step reply asked) (sitting_next k (record s { asks = asks; effect = None }) step reply)
@@ -259,8 +262,12 @@ module _ (k : Seat) (buckets : HasItsBuckets k) (was : Seen) (called : Option Op
   next_known asked s asks (Idle its) reply e busy known = cc
   next_known asked s asks (Attempts has_shifted) reply e busy known =
       let t : SessionState = record s { asks = asks; effect = None } in
-      attempt_known (with_ask s (Attempts has_shifted) reply asked) (attempt_moved k t reply) has_shifted _ e
-      (known.0, attempt_rests k.places (bits_of k) (room_of k) k.number s.attempt reply known.1, attempt_goes k buckets s.seen s.op asked s.attempt s.attempt.step reply refl known.2) refl
+      attempt_known (with_ask s (Attempts has_shifted) reply asked) (attempt_moved k t reply) has_shifted _ e (
+        known.0,
+        attempt_rests k.places (bits_of k) (room_of k) k.number s.attempt reply known.1,
+        attempt_goes k buckets s.seen s.op asked s.attempt s.attempt.step reply refl known.2,
+        λ shifted. more_refreshed asked _ (known.3 shifted),
+      ) refl
   next_known asked s asks (CatchesUp cause) reply e busy known =
       let t : SessionState = record s { asks = asks; effect = None } in
       catch_known (with_ask s (CatchesUp cause) reply asked) (caught k t reply) cause _ e (caught_known asked s asks cause reply known) refl
@@ -345,7 +352,7 @@ module _ (k : Seat) (buckets : HasItsBuckets k) where
   op_known was s op None =
       let its : SessionState = record s { op = op } in
       let after : SessionState = attempts k its false in
-      after_step k buckets was (Some op) [] after after.step (attempts_known k buckets was (Some op) [] its false refl)
+      after_step k buckets was (Some op) [] after after.step (attempts_known k buckets was (Some op) [] its false refl (λ e. cc))
 
   abbrev op_of : Call → Option Op
   op_of (call.Op op) = Some op

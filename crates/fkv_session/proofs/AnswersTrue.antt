@@ -92,7 +92,7 @@ waits_so c asked why (HasWaited ended) = by_reason why ended
     by_reason reason.NoRoom ended = ended_true c asked (tried.Wait reason.NoRoom) ended
     by_reason reason.Full ended = ended_true c asked (tried.Wait reason.Full) ended
 waits_so c asked why (HasAwaited e awaits) = subst (λ (x : Reason). WaitsFor c (told_in asked) x) (sym e) (awaits.it, ended_true c asked (tried.AwaitsDisk awaits.it) awaits.ended)
-waits_so c asked why (HasShifted e ended) = subst (λ (x : Reason). WaitsFor c (told_in asked) x) (sym e) (inr (ended_true c asked tried.Shift ended))
+waits_so c asked why (HasShifted e ended has) = subst (λ (x : Reason). WaitsFor c (told_in asked) x) (sym e) (inr (record { must = ended_true c asked tried.Shift ended; word = has.word; has_refreshed = has.loaded }))
 
 known_true : (c : Trial) (asked : List Exchange) (its : Told) → OpKnown c asked its → IsTrueOf c (told_in asked) its
 known_true c asked (told.Done serial reply) known = known

@@ -1,9 +1,12 @@
 -- The try of a call at each of its steps: all that it has asked the call has asked, and what it has come to.
-use Rattle.std.proofs.Common.{◌≡◌, inl, inr, ℕ, List, [], ◌∷◌, refl, sym, ap, subst, ◌∙◌, Bool, true, false}
-use Rattle.std.specs.Prelude.{Option, Some, None, if◌then◌else◌}
+use Rattle.std.proofs.Common.{◌≡◌, inl, inr, ℕ, List, [], ◌∷◌, refl, sym, ap, subst, ◌∙◌, arith, Bool, true, false}
+use Rattle.std.proofs.lemmas.Bool.Decides.{nat_tests}
+use Rattle.std.specs.Prelude.{Option, Some, None, if◌then◌else◌, ◌==◌}
 use Rattle.fkv_map.specs.declared.operations.Op.{Op}
 use Rattle.fkv_plane.specs.declared.asks.Ask.{Ask}
-use Rattle.fkv_plane.specs.declared.asks.Ask.TheVariants.{Done}
+use Rattle.fkv_plane.specs.declared.asks.Ask.TheVariants.{Load, Done}
+use Rattle.fkv_plane.specs.declared.places.SharedWord.TheVariants as one
+use Rattle.fkv_plane.specs.Places.{shared_place}
 use Rattle.fkv_plane.specs.Passing.{passed}
 use Rattle.fkv_ops.specs.declared.answers.DiskRecord.{DiskRecord}
 use Rattle.fkv_ops.specs.declared.answers.Reason.{Reason}
@@ -22,9 +25,10 @@ use Rattle.fkv_pending.specs.declared.mailing.MailAnswer.TheVariants as mail
 use Rattle.fkv_pending.specs.Mailing.{mail_ask, mail_next}
 use Rattle.fkv_pending.specs.Pending.{with_sought, with_held, with_latch}
 use Rattle.fkv_pending.specs.Attempting.{AttemptState, puts_addr, puts, held_kept, awaits_record, waits_for_disk, tried, try_ledto, put_ledto, mail_moved, try_moved, attempting_ask, attempting_next}
+use Rattle.fkv_session.specs.declared.answers.Told.{Told}
 use Rattle.fkv_session.specs.declared.answers.Told.TheVariants as told
-use Rattle.fkv_session.specs.CallAsks.{told_in}
-use Rattle.fkv_session.specs.InOrder.{Exchange}
+use Rattle.fkv_session.specs.CallAsks.{IsAsked, told_in}
+use Rattle.fkv_session.specs.InOrder.{Exchange, IsTakenUp, loaded_by, loaded_last}
 use Rattle.fkv_session.specs.Sessions.{Seat, bits_of, room_of}
 use Rattle.fkv_session.specs.Shares.{HasItsBuckets}
 use Rattle.fkv_session.specs.TrueAnswers.{trial_of}
@@ -68,11 +72,43 @@ pub record AwaitsOne (c : Trial) (asked : List Exchange) : Type 0 where
 more_awaits : (c : Trial) (asked : List Exchange) (it : Exchange) → AwaitsOne c asked → AwaitsOne c (it ∷ asked)
 more_awaits c asked it awaits = record { it = awaits.it; ended = more_ended c asked it (answer.AwaitsDisk awaits.it) awaits.ended }
 
+-- the session has refreshed in this call
+pub record HasRefreshed (asked : List Exchange) : Type 0 where
+  pub word : ℕ
+  pub loaded : told_in asked (Load (shared_place one.Phase)) word
+
+pub more_refreshed : (asked : List Exchange) (it : Exchange) → HasRefreshed asked → HasRefreshed (it ∷ asked)
+more_refreshed asked it has = record { word = has.word; loaded = inr has.loaded }
+
+newest_asked : (it : Exchange) (before : List Exchange) (place word : ℕ) (ask : Ask Told) → it.ask ≡ ask → loaded_by ask it.reply place (loaded_last before place) ≡ Some word → (loaded_last before place ≡ Some word → IsAsked before (Load place) word)
+    → IsAsked (it ∷ before) (Load place) word
+newest_asked it before place word (Load at) asks loads earlier = by_test (at == place) refl loads
+  where
+    by_test : (same : Bool) → (at == place) ≡ same → (if same then Some it.reply else loaded_last before place) ≡ Some word → IsAsked (it ∷ before) (Load place) word
+    by_test true same loads =
+        let there : at ≡ place = grind (arith, nat_tests, same) in
+        let reply : it.reply ≡ word = cc in
+        inl (asks ∙ ap (λ (n : ℕ). Load n) there, reply)
+    by_test false same loads = inr (earlier loads)
+newest_asked it before place word ask asks loads earlier = inr (earlier loads)
+
+loaded_asked : (asked : List Exchange) (place word : ℕ) → loaded_last asked place ≡ Some word → IsAsked asked (Load place) word
+loaded_asked [] place word e = cc
+loaded_asked (it ∷ before) place word e = newest_asked it before place word it.ask refl e (λ loads. loaded_asked before place word loads)
+
+pub has_refreshed : (asked : List Exchange) (before after : Seen) → IsTakenUp before after (loaded_last asked (shared_place one.Phase)) → HasRefreshed asked
+unfolding passed
+has_refreshed asked before after taken = by_word (loaded_last asked (shared_place one.Phase)) refl taken
+  where
+    by_word : (its : Option ℕ) → loaded_last asked (shared_place one.Phase) ≡ its → IsTakenUp before after its → HasRefreshed asked
+    by_word None e taken = absurd taken
+    by_word (Some word) e taken = record { word = word; loaded = loaded_asked asked (shared_place one.Phase) word e }
+
 -- Why the request waits. The second shift is the session's own.
 pub data LastTry (c : Trial) (asked : List Exchange) (why : Reason) : Type 0 where
   HasWaited : TryEnded c asked (answer.Wait why) → LastTry c asked why
   HasAwaited : why ≡ reason.Disk → AwaitsOne c asked → LastTry c asked why
-  HasShifted : why ≡ reason.Contended → TryEnded c asked answer.Shift → LastTry c asked why
+  HasShifted : why ≡ reason.Contended → TryEnded c asked answer.Shift → HasRefreshed asked → LastTry c asked why
 
 -- the request waits for one of them
 pub record SomeTry (c : Trial) (asked : List Exchange) : Type 0 where
@@ -82,7 +118,7 @@ pub record SomeTry (c : Trial) (asked : List Exchange) : Type 0 where
 pub more_last : (c : Trial) (asked : List Exchange) (it : Exchange) (why : Reason) → LastTry c asked why → LastTry c (it ∷ asked) why
 more_last c asked it why (HasWaited ended) = HasWaited (more_ended c asked it (answer.Wait why) ended)
 more_last c asked it why (HasAwaited e awaits) = HasAwaited e (more_awaits c asked it awaits)
-more_last c asked it why (HasShifted e ended) = HasShifted e (more_ended c asked it answer.Shift ended)
+more_last c asked it why (HasShifted e ended has) = HasShifted e (more_ended c asked it answer.Shift ended) (more_refreshed asked it has)
 
 -- what an attempt has come to
 abbrev pub AttemptEnd : Trial → List Exchange → TryAnswer → Type 0

@@ -7,13 +7,13 @@ use Rattle.fkv_plane.specs.declared.asks.Ask.TheVariants.{Store, Done}
 use Rattle.fkv_plane.specs.declared.places.Places.{Places}
 use Rattle.fkv_plane.specs.Places.{session_place}
 use Rattle.fkv_plane.specs.Passing.{passed}
+use Rattle.fkv_epoch.specs.declared.values.Seen as loaded
 use Rattle.fkv_epoch.specs.declared.refreshing.Refreshing.{Refreshing}
 use Rattle.fkv_epoch.specs.declared.refreshing.Refreshing.TheVariants as refresh
 use Rattle.fkv_epoch.specs.declared.protecting.Protecting.{Protecting}
 use Rattle.fkv_epoch.specs.declared.protecting.Protecting.TheVariants as protect
 use Rattle.fkv_epoch.specs.Refreshing.{refresh_ask, refresh_next, refresh_finish}
 use Rattle.fkv_epoch.specs.Protecting.{protect_ask, protect_next, protect_next_ask}
-use Rattle.fkv_epoch.specs.Values.{seen as values_of}
 use Rattle.fkv_latch.specs.declared.latching.LatchAnswer.{LatchAnswer}
 use Rattle.fkv_latch.specs.declared.latching.LatchAnswer.TheVariants.{Taken}
 use Rattle.fkv_latch.specs.Latching.{latch_next}
@@ -28,6 +28,9 @@ use Rattle.fkv_session.specs.declared.catching_up.Catching.TheVariants as catchi
 use Rattle.fkv_session.specs.CatchingUp.{CatchState, cut_at, cut_of, refresh_begun, wake_begun, catching_ask, seen_after, finishes, latch_begun, latch_wanted, latches, cuts, is_same_version, enters_prepare, takes_up, refresh_ledto, protect_ledto, latch_ledto, finish_ledto, catching_next}
 use Rattle.fkv_session.specs.InOrder.{Exchange, IsTakenUp}
 use Rattle.fkv_session.proofs.PhaseTaken.{phase_loaded, exchange, IsPastLoads, IsShared, finish_past, taken_so, asks_refresh, shared_next, AsksAside, aside_loads, latch_aside, cut_aside, owing_aside}
+
+abbrev values_of : ℕ → ℕ → ℕ → loaded.Seen
+values_of phase read_only head = record { phase = phase; read_only = record { 0 = read_only }; head = record { 0 = head } }
 
 -- while it loads
 abbrev pub RefreshLoads : Refreshing → List Exchange → Type 0

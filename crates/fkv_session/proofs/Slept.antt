@@ -179,7 +179,7 @@ next_slept k words s asks (Turns its) reply e slept = let t : SessionState = rec
 next_slept k words s asks StoresCut reply e slept = (same_place (session_place k.number (cut_of s.seen.version.0)) (cut_at s.serial s.seen.version.0) _, refl)
 next_slept k words s asks Leaves reply e slept =
     let cut = off_word k.number (passed (leave_ask k.number s.leaving) told.Slept) (session_place k.number (cut_of s.seen.version.0)) (words (session_place k.number (cut_of s.seen.version.0))) (passed_off k.number _ told.Slept (leave_off k.number s.leaving))
-        (cut_mark k.number (s.seen.version.0 % 2 == 0)) in
+    (cut_mark k.number (s.seen.version.0 % 2 == 0)) in
     left_slept k (λ place. stored_by (sitting_ask k s Leaves) place (words place)) (record s { asks = asks; effect = None }) s.leaving slept.1
     (cut ∙ slept.0, zero_stored k.number s.leaving (words (session_place k.number own.Epoch)) slept.1)
 next_slept k words s asks LoadsDurable reply e slept = λ asleep. slept asleep

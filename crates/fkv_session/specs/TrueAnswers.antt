@@ -5,12 +5,14 @@ use Rattle.fkv_base.specs.declared.faults.Fault.TheVariants as fault
 use Rattle.fkv_base.specs.declared.numbers.Version.{Version}
 use Rattle.fkv_base.specs.declared.phases.Phase.{Phase}
 use Rattle.fkv_map.specs.declared.operations.Op.{Op}
+use Rattle.fkv_plane.specs.declared.places.SharedWord.TheVariants as one
+use Rattle.fkv_plane.specs.Places.{shared_place}
 use Rattle.fkv_ops.specs.declared.answers.DiskRecord.{DiskRecord}
 use Rattle.fkv_ops.specs.declared.answers.Reason.{Reason}
 use Rattle.fkv_ops.specs.declared.answers.Reason.TheVariants as reason
 use Rattle.fkv_ops.specs.declared.requests.Occasion.TheVariants.{Call}
 use Rattle.fkv_ops.specs.declared.requests.Seen.{Seen}
-use Rattle.fkv_ops.specs.Reasons.{IsReason, IsContended, IsOnDisk, IsIndexFull, HasNoRoom, MustShift, ReadFinds, ReadMisses}
+use Rattle.fkv_ops.specs.Reasons.{Loaded, IsReason, IsContended, IsOnDisk, IsIndexFull, HasNoRoom, MustShift, ReadFinds, ReadMisses}
 use Rattle.fkv_ops.specs.Requests.{is_read}
 use Rattle.fkv_ops.specs.TryRun as try
 use Rattle.fkv_session.specs.declared.answers.Told.{Told}
@@ -23,11 +25,17 @@ use Rattle.fkv_session.specs.Shares.{HasItsBuckets}
 abbrev pub trial_of : (k : Seat) → HasItsBuckets k → Seen → Op → try.Trial
 trial_of k buckets seen op = record { places = k.places; bits = bits_of k; its_buckets = buckets; room = room_of k; request = request_of op seen.version; seen = seen; occasion = Call }
 
--- Why a request waits: the reason that its try has found. Where its record is on the device the try has told which one it is. A second try
--- that is to go on with the session once more waits as contended, and no store leads there.
+-- The call has refreshed since it met another session that has gone on, and has met one again.
+pub record MustShiftAgain (c : try.Trial) (asked : try.Told) : Type 0 where
+  pub must : MustShift c asked
+  pub word : ℕ
+  pub has_refreshed : Loaded asked (shared_place one.Phase) word
+
+-- Why a request waits: the reason that its try has found. If its record is on the device, the try has told which one it is. A second try that
+-- has to go on with the session once more waits as contended; no store is meant to lead there.
 abbrev pub WaitsFor : try.Trial → try.Told → Reason → Type 0
 WaitsFor c asked reason.Disk = (it : DiskRecord) × IsOnDisk c asked it
-WaitsFor c asked reason.Contended = IsContended c asked ⊎ MustShift c asked
+WaitsFor c asked reason.Contended = IsContended c asked ⊎ MustShiftAgain c asked
 WaitsFor c asked why = IsReason c asked why
 
 pub record WaitsForSome (c : try.Trial) (asked : try.Told) : Type 0 where

@@ -14,17 +14,17 @@ use Rattle.fkv_plane.specs.Plane.{action_at}
 use Rattle.fkv_epoch.specs.EpochWorld.{own_epoch}
 use Rattle.fkv_epoch.proofs.Shown.{some_same, word_spared}
 use Rattle.fkv_flush.specs.GuardCalm.{AreOther}
-use Rattle.fkv_flush.specs.GuardWorld.{GuardEvent, GuardWorld, guard_run}
+use Rattle.fkv_flush.specs.GuardWorld.{GuardEvent, GuardWorld}
 use Rattle.fkv_flush.proofs.Shown.{events_calm}
 use Rattle.fkv_session.specs.declared.answers.Told.{Told}
 use Rattle.fkv_session.specs.declared.sessions.CatchCause.TheVariants.{Wakes}
 use Rattle.fkv_session.specs.declared.sessions.Sitting.TheVariants.{CatchesUp}
 use Rattle.fkv_session.specs.InOrder.{epoch_place}
 use Rattle.fkv_session.specs.Sessions.{SessionState, Seat, IsOpened as IsOpenedSession, is_busy, session_ask, session_begun, session_next}
-use Rattle.fkv_session.specs.SessionRun.{SessionEvent, Begins, Replies, Gets, session_happens, session_run}
+use Rattle.fkv_session.specs.SessionRun.{SessionEvent, Begins, Replies, session_happens, session_run}
 use Rattle.fkv_session.proofs.Shown.{Sleeps, AsksNone, Rests, Loads, SleepsFrom, SleepsOn, FallsAsleep, run_begun, run_falls, run_given}
 use Rattle.fkv_world.specs.Actors.{is_of_session}
-use Rattle.fkv_world.specs.Moves.{Near, session_moved}
+use Rattle.fkv_world.specs.Moves.{session_moved}
 use Rattle.fkv_world.specs.OwnEvents.{session_events, session_got, session_part, session_part_found, session_part_of, session_slots, session_steps}
 use Rattle.fkv_world.specs.Runs.{World, happens, read_by_keeper, run}
 use Rattle.fkv_world.specs.World.{Event, Calls, Moves, Commits, Turns, KeeperMoves, Crashes, Now, near, seat_at, session_calls, life_goes}
@@ -60,6 +60,9 @@ none_asked k words ask (Loads e) = rw e (word_spared words (session_place k.numb
 abbrev IsZero : ℕ → List ℕ → SessionState → Type 0
 IsZero number words s = Sleeps s → own_epoch words number ≡ 0
 
+put_no_store : (ask : Ask Told) (slot : ℕ) (action : Action) (place : ℕ) → ask ≡ Put slot action → ask ≡ Store place 0 → ⊥
+put_no_store ask slot action place puts stores = cc
+
 module _ (k : Seat) (first : SessionState) (opened : IsOpenedSession first) (own_events : List SessionEvent) where
   -- by the turn to a slot behind a reply
   replied_back : (reply : ℕ) (actions : List (Option Action)) (ask : Ask Told) → session_ask k (session_run k first (Replies reply ∷ own_events)) ≡ ask
@@ -69,10 +72,7 @@ module _ (k : Seat) (first : SessionState) (opened : IsOpenedSession first) (own
     where
       by_put : SleepsFrom k (session_run k first (Replies reply ∷ own_events)) → SleepsFrom k (session_run k first own_events)
       by_put (SleepsOn was none) = run_falls k first own_events reply opened was
-      by_put (FallsAsleep stores) = absurd (never (sym e ∙ stores))
-        where
-          never : Put slot action ≡ Store (epoch_place k) 0 → ⊥
-          never same = cc
+      by_put (FallsAsleep stores) = absurd (put_no_store (session_ask k (session_run k first (Replies reply ∷ own_events))) slot action (epoch_place k) e stores)
   replied_back reply actions (Take slot) e sleeps = by_action (action_at actions slot) sleeps
     where
       by_action : (found : Option Action) → Sleeps (session_run k first ((session_got found ++ Replies reply ∷ []) ++ own_events)) → SleepsFrom k (session_run k first own_events)
