@@ -35,12 +35,12 @@ unfoldable pub entries_in : ℕ → List ℕ → List CopiedEntry
 entries_in zero bytes = []
 entries_in (suc count) bytes = entry_read (take 16 bytes) ∷ entries_in count (drop 16 bytes)
 
--- a buffer: how many bytes it has, and the entries whose triples it holds
+-- a buffer: how many bytes it has room for, and the entries whose triples it holds
 pub record HeldTriples : Type 0 where
   pub space : ℕ
   pub entries : List CopiedEntry
 
--- the first bytes spell so many entries
+-- the bytes spell so many entries
 pub record IsSpelled (count : ℕ) (bytes : List ℕ) : Type 0 where
-  pub in_space : 16 * count ≤ length bytes
-  pub spelled : take (16 * count) bytes ≡ all_bytes (entries_in count bytes)
+  pub long : length bytes ≡ 16 * count
+  pub spelled : bytes ≡ all_bytes (entries_in count bytes)

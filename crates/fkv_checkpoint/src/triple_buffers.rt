@@ -1,5 +1,6 @@
 //! Memory for triples, in their spelling.
-ghost use Rattle.std.specs.Prelude.{◌≡◌, ◌+◌, ◌*◌, ◌<◌, ◌≤◌, ◌^◌, ◌++◌, [], length, take, drop, IfOk, OnErr, Err};
+ghost use Rattle.std.specs.Prelude.{◌≡◌, ◌+◌, ◌*◌, ◌<◌, ◌≤◌, ◌^◌, ◌++◌, [], length, vec_len, IfOk, OnErr, Err};
+ghost use Rattle.std.specs.Vec.{vec_capacity};
 ghost use Rattle.fkv_base.specs.declared.faults.Fault.TheVariants.{Memory};
 ghost use Rattle.fkv_checkpoint.specs.Triples.{copied_list, all_bytes};
 
@@ -8,22 +9,25 @@ use fkv_record::{Triple, write_triple};
 use std::alloc::Global;
 use std::marker::Model;
 
-/// Triples one after another, in memory that was asked for at once.
+/// Triples one after another, in memory that was asked for at once. Of a large one only what holds triples is touched.
 #[derive(Drop)]
 pub(crate) struct TripleBuffer {
     bytes: Vec<u8>,
     count: usize,
+    /// How many triples it has room for.
+    most: usize,
 }
 
 impl Model for TripleBuffer {
-    ghost use Rattle.std.specs.Prelude.{length};
+    ghost use Rattle.std.specs.Prelude.{◌≡◌, ◌*◌, ◌≤◌, vec_len};
+    ghost use Rattle.std.specs.Vec.{vec_capacity};
     ghost use Rattle.fkv_checkpoint.specs.Triples.{HeldTriples, IsSpelled, entries_in};
 
     ghost Value = { HeldTriples };
 
-    ghost view = { λ m. record { space = length m.bytes.items; entries = entries_in m.count m.bytes.items } };
+    ghost view = { λ m. record { space = 16 * m.most; entries = entries_in m.count m.bytes.items } };
 
-    ghost invariant = { λ m. IsSpelled m.count m.bytes.items };
+    ghost invariant = { λ m. (16 * m.most ≤ vec_capacity m.bytes) × (vec_len m.bytes ≡ 16 * m.count) × IsSpelled m.count m.bytes.items };
 }
 
 /// The bytes of a triple.
@@ -36,8 +40,12 @@ impl TripleBuffer {
         ensures made { IfOk result (λ buffer. buffer ≡ record { space = 16 * most; entries = [] }) }
         ensures err { OnErr result (result ≡ Err Memory) }
     {
-        let bytes = vec![in alloc; 0u8; TRIPLE_BYTES * most]?;
-        Ok(TripleBuffer { bytes, count: 0 })
+        let bytes = Vec::with_capacity(alloc, TRIPLE_BYTES * most)?;
+        Ok(TripleBuffer {
+            bytes,
+            count: 0,
+            most,
+        })
     }
 
     /// Puts a triple behind the others, if there is one.
@@ -46,11 +54,7 @@ impl TripleBuffer {
         ensures { self.new ≡ record self.old { entries = self.old.entries ++ copied_list triple } }
     {
         if let Some(triple) = triple {
-            overwrite(
-                &mut self.bytes,
-                TRIPLE_BYTES * self.count,
-                &write_triple(triple),
-            );
+            append(&mut self.bytes, &write_triple(triple));
             self.count += 1;
         }
     }
@@ -66,23 +70,23 @@ impl TripleBuffer {
     pub(crate) fn into_bytes(self) -> Vec<u8>
         ensures { result.items ≡ all_bytes self.entries }
     {
-        let mut bytes = self.bytes;
-        bytes.truncate(TRIPLE_BYTES * self.count);
-        bytes
+        self.bytes
     }
 
     /// Their bytes.
     pub(crate) fn bytes(&self) -> &[u8]
         ensures { result.now ≡ all_bytes self.now.entries }
     {
-        &self.bytes[..TRIPLE_BYTES * self.count]
+        self.bytes.as_slice()
     }
 }
 
-/// Writes bytes over those from a place on.
-fn overwrite(bytes: &mut [u8], at: usize, new: &[u8])
-    requires { at + length new.now ≤ length bytes.old }
-    ensures { bytes.new ≡ take at bytes.old ++ new.now ++ drop (at + length new.now) bytes.old }
+/// Puts bytes behind others, in room that is there.
+fn append(bytes: &mut Vec<u8>, more: &[u8])
+    requires { vec_len bytes.old + length more.now ≤ vec_capacity bytes.old }
+    ensures items { bytes.new.items ≡ bytes.old.items ++ more.now }
+    ensures len { vec_len bytes.new ≡ vec_len bytes.old + length more.now }
+    ensures capacity { vec_capacity bytes.old ≤ vec_capacity bytes.new }
 {
-    bytes[at..at + new.len()].copy_from_slice(new);
+    let _ = bytes.extend_from_slice(more);
 }
