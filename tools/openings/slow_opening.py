@@ -4,6 +4,7 @@ LAST_VERSION = 8191
 LAST_SERIAL = 2**48 - 1
 MAX_LOST = 8
 TEXT = int.from_bytes(b"FKVSTOR1", "little")
+LARGE_TEXT = int.from_bytes(b"FKVSTOR2", "little")
 OPEN = 0xA5
 INVALID = 62
 ABSENT = 2**64 - 1
@@ -53,21 +54,29 @@ def most_triples(shape):
     return 7 * (2 ** shape[0] + shape[5])
 
 
-def shape_of(image):
-    if number_at(image, 0) != TEXT or not (is_open(image, 0) or is_open(image, 1)):
-        return None
-    shape = tuple(number_at(image, 8 + 8 * size) for size in range(7))
+def fits(shape, most):
+    """Whether bucket bits, page, frames, overflow buckets and disk pages are at most these, and each size is one that a store has."""
     bits, page, frames, mutable, sessions, overflow, disk_pages = shape
-    fits = (
-        bits <= 10
-        and is_ring(page, 4, 1024)
-        and is_ring(frames, 2, 64)
+    most_bits, most_page, most_frames, most_overflow, most_disk = most
+    return (
+        bits <= most_bits
+        and is_ring(page, 4, most_page)
+        and is_ring(frames, 2, most_frames)
         and 1 <= mutable < frames
         and 1 <= sessions <= MAX_SESSIONS
-        and overflow <= 1024
-        and 1 <= disk_pages <= 65536
+        and overflow <= most_overflow
+        and 1 <= disk_pages <= most_disk
     )
-    return shape if fits else None
+
+
+def shape_of(image):
+    if not (is_open(image, 0) or is_open(image, 1)):
+        return None
+    shape = tuple(number_at(image, 8 + 8 * size) for size in range(7))
+    small = fits(shape, (10, 1024, 64, 1024, 65536))
+    large = fits(shape, (24, 65536, 4096, 2**24, 2**30)) and not small
+    text = number_at(image, 0)
+    return shape if (text == TEXT and small) or (text == LARGE_TEXT and large) else None
 
 
 def newest(image):

@@ -166,6 +166,19 @@ LAST_CHANGED = """
 # the block: a size outside its limits is no store's; with the most buckets, or overflow buckets, the areas lie elsewhere
 BLOCK_CHANGED = """
     7=50: NotAStore
+    7=51: NotAStore
+    7=51 8=11: NotAStore
+    7=50 8=10: NotAStore
+    7=50 8=11: Triple 0
+    7=50 8=25: NotAStore
+    7=50 16=0 17=8: commit 1 tail 2 points 1, checkpoint 1 from 2 triples 1 area 1, lost, entries 1.0:1, pairs 1=10
+    7=50 16=0 18=2: NotAStore
+    7=50 24=128: commit 1 tail 2 points 1, checkpoint 1 from 2 triples 1 area 1, lost, entries 1.0:1, pairs 1=10
+    7=50 24=0 25=32: NotAStore
+    7=50 48=1 49=4: Triple 0
+    7=50 56=1 58=1: commit 1 tail 2 points 1, checkpoint 1 from 2 triples 1 area 1, lost, entries 1.0:1, pairs 1=10
+    7=50 56=0 58=1: NotAStore
+    7=50 56=1 59=64: NotAStore
     8=11: NotAStore
     8=10: Triple 0
     15=1: NotAStore

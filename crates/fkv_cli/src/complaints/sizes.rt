@@ -39,6 +39,7 @@ impl SizeFault {
 }
 
 /// What five of the sizes are at most.
+#[derive(Clone, Copy)]
 struct Most {
     bucket_bits: u64,
     page: u64,
