@@ -1,0 +1,8 @@
+mod Block
+mod Kept
+mod OpenedLong
+mod Ranges
+mod Reaching
+mod Shows
+mod Untouched
+mod Words

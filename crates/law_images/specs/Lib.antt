@@ -1,0 +1,4 @@
+pub mod First
+pub mod Left
+pub mod Opened
+pub mod Records
