@@ -1,4 +1,5 @@
 mod Block
+mod EndsFlushed
 mod Kept
 mod OpenedLong
 mod Ranges

@@ -1,3 +1,4 @@
+pub mod Ends
 pub mod First
 pub mod Left
 pub mod Opened
