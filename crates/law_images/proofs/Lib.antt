@@ -1,0 +1,9 @@
+mod Block
+mod EndsFlushed
+mod Kept
+mod OpenedLong
+mod Ranges
+mod Reaching
+mod Shows
+mod Untouched
+mod Words

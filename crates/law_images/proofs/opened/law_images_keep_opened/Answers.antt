@@ -1,0 +1,88 @@
+-- The law, by what stands of the commit and by the block of the shape.
+use Rattle.std.proofs.Common.{◌≡◌, ◌⊎◌, ℕ, zero, suc, ◌*◌, ◌<◌, ◌∙◌, inl, inr, refl, sym, subst, arith, Bool, true, false, List}
+use Rattle.fkv_base.specs.declared.shapes.Shape.{Shape}
+use Rattle.fkv_core.specs.Openings.{IsOpeningWorld, area_numbered, beginning}
+use Rattle.fkv_disk.specs.Bytes.{bytes_at}
+use Rattle.fkv_keeper.specs.Keeping.{Finality, KeeperState}
+use Rattle.fkv_keeper.specs.LastCommits.{area_number, slot_place}
+use Rattle.fkv_manifest.specs.Committing.{CommitWriter}
+use Rattle.fkv_manifest.specs.Kept.{NewStands}
+use Rattle.fkv_newest.specs.Newest.{HasShape}
+use Rattle.fkv_newest.specs.declared.newest_slots.Newest.{Newest}
+use Rattle.fkv_opening.specs.Opened.{IsStoreOf}
+use Rattle.fkv_opening.specs.declared.opened_store.Opened.{Opened}
+use Rattle.fkv_record.specs.Places.{area_place}
+use Rattle.fkv_world.specs.Opened.{IsOpenedWorld}
+use Rattle.fkv_world.specs.OwnEvents.{keeper_events}
+use Rattle.fkv_world.specs.Runs.{World, run}
+use Rattle.fkv_world.specs.World.{Now}
+use Rattle.law_guard.specs.Guarded.OpenedStore.{IsOpenedStore}
+use Rattle.law_images.proofs.Block.{slots_above}
+use Rattle.law_images.proofs.Untouched.{left_below, life_above}
+use Rattle.law_images.proofs.Kept.{checkpoint_kept, last_same, standing_same}
+use Rattle.law_images.proofs.OpenedLong.{long_for}
+use Rattle.law_opening.specs.Lives.OpenedFrom.{IsOpenedFrom}
+use Rattle.law_world.specs.Keeper.Lives.{IsLifeTold, is_life_writing, life_standing}
+use Rattle.law_world.specs.Standing.Standing.{IsInForce, IsOneInForce, Standing, TriplesStand, standing_opened, triples_in}
+use Rattle.law_world.proofs.OfKeeper.OwnRun.{of_keeper}
+use Rattle.law_images.proofs.opened.law_images_keep_opened.Goals as goal
+
+-- one of the two is in force
+in_force_or : (writes : Bool) (last : Finality) (its : Standing) (new : CommitWriter) (image : List ℕ) → IsOneInForce writes last its new image → IsInForce last its image ⊎ NewStands new image
+in_force_or false last its new image is = inl is
+in_force_or true last its new image is = is
+
+same_area : (area : ℕ) → area < 2 → area_number (area_numbered area) ≡ area
+same_area zero small = refl
+same_area (suc zero) small = refl
+same_area (suc (suc area)) small = absurd (omega (arith, small))
+
+-- the range of so many triples in an area
+abbrev AreaSame : List ℕ → List ℕ → Shape → ℕ → ℕ → Type 0
+AreaSame image bytes shape area triples = bytes_at image (area_place shape area) (16 * triples) ≡ bytes_at bytes (area_place shape area) (16 * triples)
+
+-- that of the opened checkpoint, as the newest slot names it
+area_same : (o : Opened) (n : Now) (bytes image : List ℕ) (store : IsStoreOf bytes o) → IsOpeningWorld o n → triples_in n.shape image n.keeper.last.checkpoint ≡ triples_in n.shape bytes n.keeper.last.checkpoint
+    → AreaSame image bytes store.newest.shape (let its = store.newest in its.slot.area) (let its = store.newest in its.slot.triples)
+area_same o n bytes image store begins same =
+    let of_commit : AreaSame image bytes n.shape (area_number (area_numbered o.checkpoint.area)) o.checkpoint.triples =
+    subst (λ (f : Finality). triples_in n.shape image f.checkpoint ≡ triples_in n.shape bytes f.checkpoint) begins.its_keeper.newest same in
+    let of_area : AreaSame image bytes n.shape (let its = store.newest in its.slot.area) o.checkpoint.triples =
+    subst (λ (a : ℕ). AreaSame image bytes n.shape a o.checkpoint.triples) (same_area o.checkpoint.area o.two_areas ∙ store.tells.area) of_commit in
+    let of_triples : AreaSame image bytes n.shape (let its = store.newest in its.slot.area) (let its = store.newest in its.slot.triples) =
+    subst (λ (t : ℕ). AreaSame image bytes n.shape (let its = store.newest in its.slot.area) t) store.tells.triples of_area in
+    subst (λ (s : Shape). AreaSame image bytes s (let its = store.newest in its.slot.area) (let its = store.newest in its.slot.triples)) (begins.its_shape ∙ store.tells.shape) of_triples
+
+pub returns : goal.returns
+returns c = λ o n bytes events image store begins long in_turn none left.
+    let opening : World = beginning n bytes in
+    let store_opened : IsOpenedStore opening o.tail.0 = c.law_guard_opens.ensures o n bytes begins in
+    let from : IsOpenedFrom bytes o n = record { store = store; world = begins; long = c.law_long_opens.ensures bytes long.newest o long.its long.long store } in
+    let world : IsOpenedWorld opening = record {
+      goes_on = begins.goes_on;
+      no_history = refl;
+      no_trace = refl;
+      no_calls = refl;
+      seats = begins.seats ∙ sym begins.its_places.sessions;
+      keeper = store_opened.now.keeper;
+      sessions = λ number s found. (begins.its_sessions number s found).opened;
+    } in
+    let told = c.law_told_opens.ensures bytes o n from in
+    let life : IsLifeTold opening events = record { opened = world; told = told; in_turn = in_turn } in
+    let last : (run opening events).now.keeper.last ≡ n.keeper.last = of_keeper (λ (s : KeeperState). s.last ≡ n.keeper.last) opening events (last_same n.shape n.places n.keeper (keeper_events opening events) none) in
+    let was : life_standing opening events ≡ standing_opened n.shape bytes n.keeper.last = standing_same n.shape n.places bytes n.keeper (keeper_events opening events) none in
+    let its : Newest = store.newest in
+    let reach = (long_for c.law_spellings_apart.ensures.shapes bytes its long store.checkpoint.newest).slots in
+    let above = life_above opening 512 events refl (slots_above opening events store_opened.now.keeper) in
+    let block : HasShape image its.shape = store.checkpoint.newest.block ∙ left_below bytes 512 (run opening events).past.calls image 0 64 above left (omega arith) (omega (arith, reach)) in
+    let stands = c.law_world_one_commit_stands.ensures.stands opening events image life left in
+    let triples = c.law_world_one_commit_stands.ensures.triples opening events image life left in
+    let here : TriplesStand n.shape n.keeper.last.checkpoint (standing_opened n.shape bytes n.keeper.last) image =
+    subst (λ (x : Finality). TriplesStand n.shape x.checkpoint (standing_opened n.shape bytes n.keeper.last) image) last (subst (λ (x : Standing). TriplesStand n.shape (run opening events).now.keeper.last.checkpoint x image) was triples) in
+    elim (in_force_or (is_life_writing opening events) (run opening events).now.keeper.last (life_standing opening events) _ image stands) [
+      | inl old ↦
+          let force : IsInForce n.keeper.last (standing_opened n.shape bytes n.keeper.last) image =
+          subst (λ (x : Finality). IsInForce x (standing_opened n.shape bytes n.keeper.last) image) last (subst (λ (x : Standing). IsInForce (run opening events).now.keeper.last x image) was old) in
+          inl (checkpoint_kept bytes image its store.triples store.checkpoint block (slot_place n.keeper.last.number) told.in_force force.in_force force.slot (area_same o n bytes image store begins here.same))
+      | inr new ↦ inr new
+    ]

@@ -1,0 +1,44 @@
+-- The images that a crash may leave of a life, and what is supposed of the log beside it.
+use Rattle.std.specs.Prelude.{◌≡◌, ℕ, ◌<◌, ◌^◌, List, Option, Some}
+use Rattle.fkv_core.specs.Openings.{beginning}
+use Rattle.fkv_creating.specs.Long.{IsLong}
+use Rattle.fkv_disk.specs.Calls.{MayLeave}
+use Rattle.fkv_flush.specs.GuardLevels.{levels_of}
+use Rattle.fkv_newest.specs.Newest.{IsNewestOf}
+use Rattle.fkv_newest.specs.declared.newest_slots.Newest.{Newest}
+use Rattle.fkv_opening.specs.declared.opened_store.Opened.{Opened}
+use Rattle.fkv_world.specs.Runs.{run}
+use Rattle.fkv_world.specs.World.{Event, Now}
+use Rattle.law_log.specs.Chains.{Cell, Published}
+use Rattle.law_opening.specs.Log.Lives.{KeepsRules, ghosts_beside}
+use Rattle.law_opening.specs.Log.OpeningLog.{opening_ghosts}
+use Rattle.law_refine.specs.Records.Changes.{AreChangesPublished}
+
+-- a crash may leave this image behind these events
+abbrev pub IsLeft : Now → List ℕ → List Event → List ℕ → Type 0
+IsLeft n bytes events image = MayLeave bytes (run (beginning n bytes) events).past.calls image
+
+-- the records below this address are flushed
+abbrev pub flushed_so_far : Now → List ℕ → List Event → ℕ
+flushed_so_far n bytes events = (levels_of (run (beginning n bytes) events).now.words).flushed
+
+-- The opened bytes end at or above the end of all that their newest slot names.
+pub record OpensLong (bytes : List ℕ) : Type 0 where
+  pub newest : Newest
+  pub its : IsNewestOf bytes newest
+  pub long : IsLong bytes newest.shape newest.slot
+
+-- a value is below 2^64, where there is one
+abbrev pub IsWord : Option ℕ → Type 0
+IsWord value = (n : ℕ) → value ≡ Some n → n < 2 ^ 64
+
+-- a published record is of numbers that a word holds
+pub record FitsWords (cell : Cell) : Type 0 where
+  pub its_key : cell.key < 2 ^ 64
+  pub its_value : IsWord cell.value
+
+-- The log beside a life is as the order law has it: each of its events is enabled, and what sessions change in place is published before. Its numbers fit.
+pub record KeepsLog (o : Opened) (n : Now) (bytes : List ℕ) (events : List Event) : Type 0 where
+  pub rules : KeepsRules o n bytes events
+  pub changes : AreChangesPublished (beginning n bytes) (opening_ghosts bytes o) events
+  pub fits : (a : ℕ) (cell : Cell) → (let beside = ghosts_beside o n bytes events in beside.log.cells a ≡ Published cell) → FitsWords cell

@@ -1,0 +1,31 @@
+-- What an image has of the commit with which the store was opened.
+use Rattle.std.specs.Prelude.{◌≡◌, ⊤, Bool, true, false, List, [], ◌∷◌, ℕ}
+use Rattle.fkv_base.specs.declared.shapes.Shape.{Shape}
+use Rattle.fkv_keeper.specs.declared.keepers.Keeping.{Keeping}
+use Rattle.fkv_keeper.specs.declared.keepers.Keeping.TheVariants.{Finishes}
+use Rattle.fkv_keeper.specs.Keeping.{KeeperState}
+use Rattle.fkv_keeper.specs.KeeperRun.{KeeperEvent, keeper_run}
+use Rattle.fkv_manifest.specs.Newest.{slot_in}
+use Rattle.fkv_newest.specs.declared.newest_slots.Newest.{Newest}
+use Rattle.fkv_opening.specs.Faults.{HasCheckpoint}
+use Rattle.fkv_opening.specs.Opened.{IsStoreOf}
+use Rattle.fkv_opening.specs.declared.opened_store.Opened.{Opened}
+use Rattle.fkv_plane.specs.declared.places.Places.{Places}
+use Rattle.fkv_record.specs.Places.{open_number}
+
+abbrev pub is_at_finish : Keeping → Bool
+is_at_finish Finishes = true
+is_at_finish step = false
+
+-- no event has met the keeper at the finish of a commit
+unfoldable pub FinishesNoCommit : Shape → Places → KeeperState → List KeeperEvent → Type 0
+FinishesNoCommit shape p opening [] = ⊤
+FinishesNoCommit shape p opening (event ∷ before) = (is_at_finish (keeper_run shape p opening before).step ≡ false) × FinishesNoCommit shape p opening before
+
+-- the newest slot of an image that names the same, beside what its open slots name
+abbrev pub newest_in : List ℕ → Newest → Newest
+newest_in image n = record n { open_numbers = (open_number (slot_in image 512), open_number (slot_in image 1024)) }
+
+-- The commit is in force in the image as it was: its slot is the newest one, and it has the triples of its checkpoint. The other slot may be another.
+abbrev pub KeepsCommit : (bytes : List ℕ) (o : Opened) → IsStoreOf bytes o → List ℕ → Type 0
+KeepsCommit bytes o store image = HasCheckpoint image (newest_in image store.newest) store.triples

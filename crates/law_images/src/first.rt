@@ -1,0 +1,26 @@
+//! Images before the first commit is written.
+ghost use Rattle.std.specs.Prelude.{ℕ, List};
+ghost use Rattle.fkv_core.specs.Openings.{IsOpeningWorld, beginning};
+ghost use Rattle.fkv_opening.specs.Alike.{Agree};
+ghost use Rattle.fkv_opening.specs.Opened.{IsStoreOf};
+ghost use Rattle.fkv_opening.specs.declared.opened_store.Opened.{Opened};
+ghost use Rattle.fkv_world.specs.World.{Event, Now};
+ghost use Rattle.law_images.specs.First.{WritesNoCommit};
+ghost use Rattle.law_images.specs.Left.{IsLeft, KeepsLog, OpensLong};
+
+use fkv_record::law_spellings_apart;
+use law_opening::{law_guard_opens, law_log_begins};
+use law_refine::law_device_shows_log;
+
+/// Until the writes of the first commit of a life begin, each image that a crash may leave agrees with the opened bytes on what recovery reads: the block of
+/// the shape, both slots, the triples of the checkpoint, and the records below the commit's end. So the commit with which the store was opened is in force
+/// in it, as it was.
+pub fn law_images_agree_at_first()
+    ensures { (o : Opened) (n : Now) (bytes : List ℕ) (events : List Event) (image : List ℕ) → IsStoreOf bytes o → IsOpeningWorld o n → OpensLong bytes → KeepsLog o n bytes events → WritesNoCommit (beginning n bytes) events
+        → IsLeft n bytes events image → Agree bytes image }
+{
+    law_spellings_apart();
+    law_guard_opens();
+    law_log_begins();
+    law_device_shows_log();
+}

@@ -1,0 +1,15 @@
+//! What a crash's image holds of a run: the records that were flushed, how far it reaches, its shape, the opened commit until
+//! another is finished, and where commits end.
+#![tactic(auto)]
+
+mod ends;
+mod first;
+mod lengths;
+mod opened;
+mod records;
+
+pub use ends::law_commits_end_flushed;
+pub use first::law_images_agree_at_first;
+pub use lengths::law_images_are_long;
+pub use opened::{law_images_keep_opened, law_images_keep_their_shape};
+pub use records::law_images_show_log;
