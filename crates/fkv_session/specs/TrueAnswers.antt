@@ -25,14 +25,14 @@ use Rattle.fkv_session.specs.Shares.{HasItsBuckets}
 abbrev pub trial_of : (k : Seat) → HasItsBuckets k → Seen → Op → try.Trial
 trial_of k buckets seen op = record { places = k.places; bits = bits_of k; its_buckets = buckets; room = room_of k; request = request_of op seen.version; seen = seen; occasion = Call }
 
--- The call has refreshed since it met another session that has gone on, and has met one again.
+-- The session has refreshed in this call, and its try meets another session that has gone on.
 pub record MustShiftAgain (c : try.Trial) (asked : try.Told) : Type 0 where
   pub must : MustShift c asked
   pub word : ℕ
   pub has_refreshed : Loaded asked (shared_place one.Phase) word
 
--- Why a request waits: the reason that its try has found. If its record is on the device, the try has told which one it is. A second try that
--- has to go on with the session once more waits as contended; no store is meant to lead there.
+-- Why a request waits: the reason that its try has found. If its record is on the device, the try has told which one it is. If the session is to
+-- refresh once more, the request waits as contended; no store is meant to lead there.
 abbrev pub WaitsFor : try.Trial → try.Told → Reason → Type 0
 WaitsFor c asked reason.Disk = (it : DiskRecord) × IsOnDisk c asked it
 WaitsFor c asked reason.Contended = IsContended c asked ⊎ MustShiftAgain c asked
@@ -58,8 +58,8 @@ IsTrueOf c asked (told.PendingRead ticket) = (is_read c.request.op ≡ true) × 
 IsTrueOf c asked (told.Refused why) = IsFullFor c asked why
 IsTrueOf c asked its = ⊥
 
--- A phase and a version are those that the session goes by from then on. They are what the phase word says that was loaded last, and where it
--- says none, what the session went by.
+-- This phase and this version are those that the session goes by from then on. They are what the phase word says that was loaded last. If that
+-- says none, they are those that the session went by.
 pub record IsPhaseSeen (before after : Seen) (loaded : Option ℕ) (phase : Phase) (version : Version) : Type 0 where
   pub its_phase : after.phase ≡ phase
   pub its_version : after.version ≡ version

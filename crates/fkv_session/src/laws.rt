@@ -37,11 +37,11 @@ pub fn law_sessions()
         → RiseWithin opening.serial (session_run seat opening events).serial (names_of (session_run seat opening events).requests) }
 {}
 
-/// A call is refused before its first ask just where a fault has a cause, and by the first that has one: the session sleeps; the operation
-/// brings 2^64 - 1, which is no value; 64 requests wait; an update comes and the last serial is taken; a sleep comes and requests are left;
-/// a wake comes and the session is awake. Such a call leaves all but its answer as it was. One that is refused later has taken no serial and
-/// no ticket, no request has come or gone by it, and what a poll has finished stays. What the session goes by and the latches that its
-/// requests share stay too, but where the call caught up with the store on its way.
+/// A call is refused before its first ask just where a fault has a cause, and by the first that has one. The causes are, in this order: the
+/// session sleeps; the operation brings 2^64 - 1, which is no value; 64 requests wait; an update comes and the last serial is taken; a sleep
+/// comes and requests are left; a wake comes and the session is awake. Such a call leaves all but its answer as it was. One that is refused
+/// later has taken no serial and no ticket, no request has come or gone by it, and what a poll has finished stays. What the session goes by
+/// and the latches that its requests share stay too, but where the call caught up with the store on its way.
 pub fn law_of_refusals()
     ensures cause { (seat : Seat) (session : SessionState) (its : Call) (why : Fault) → (session_begun seat session its).step ≡ Idle (Refused why)
         → IsFirstCause session its why }
@@ -58,8 +58,7 @@ pub fn law_of_refusals()
 /// owing word where a poll has finished an update of the version before; and no other ask of it stores one of these words. Once it has
 /// changed its version, and where no call is in hand, what it has stored last as the cut word of the version before tells the serial
 /// that it had as it left that, and its owing word how many updates of that version wait. While it sleeps, but in a wake, and before it
-/// leaves for that, the cut word of its own version tells its serial. While it sleeps, but in a wake, what it has stored last as its epoch
-/// word is 0.
+/// leaves for that, the cut word of its own version tells its serial. Until it wakes, what it has stored last as its epoch word is 0.
 /// In the middle of a call too all is told of the version that it leaves, or has left last, but what it is about to store: first the cut
 /// word, and behind that the owing word, which a poll finds one too high at most. So before it takes latches, or stores its epoch word,
 /// both are told. Where a session that refreshes stores its epoch word, it has taken up the phase word that it has loaded, and it stores
