@@ -15,8 +15,8 @@ mod pages;
 mod refusals;
 mod single;
 
-pub use asks::DeviceAsk;
 pub use ahead::{PageSize, Pages, ReadAhead};
+pub use asks::DeviceAsk;
 pub use devices::Device;
 pub use files::{FileDisk, make_file, open_file};
 pub use fuses::{Fuse, FuseState};
