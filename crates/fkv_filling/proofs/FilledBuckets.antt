@@ -158,4 +158,3 @@ filling_done buckets overflow entries words behind words' taken done all = recor
   filled = all ∙ (ap (λ ws. ws ++ up_to (8 * overflow) behind) done.filled ∙ ap (λ bs. filled_by first_link 0 done.chains ++ up_to (8 * overflow) bs) done.overflowed);
   all_taken = done.all_taken;
 }
-
