@@ -9,7 +9,7 @@ mod NextNumbers
 pub mod OfCopied
 pub mod OfCuts
 pub mod OfLinked
-mod OfPhases
+pub mod OfPhases
 mod OwnTurnStores
 mod PhaseStores
 mod Pieces

@@ -5,7 +5,6 @@ ghost use Rattle.fkv_plane.specs.declared.places.SessionWord.TheVariants.{Durabl
 ghost use Rattle.fkv_plane.specs.Places.{session_place};
 ghost use Rattle.fkv_session.specs.InOrder.{AreToldInOrder, IsOwedOrOneMore, owing_place, owing_told, serial_leaving};
 ghost use Rattle.fkv_session.specs.Sessions.{SessionState, is_busy};
-ghost use Rattle.fkv_session.specs.Versions.{IsVersion};
 ghost use Rattle.fkv_session.specs.Words.{AreMarksTold, IsCutAsleep, IsMark, serial_left};
 ghost use Rattle.fkv_session.specs.declared.sessions.CatchCause.TheVariants.{Wakes};
 ghost use Rattle.fkv_session.specs.declared.sessions.Sitting.TheVariants.{CatchesUp, Leaves, StoresOwing};
@@ -13,7 +12,9 @@ ghost use Rattle.fkv_world.specs.Opened.{HasBecome, IsOpenedWorld};
 ghost use Rattle.fkv_world.specs.OwnEvents.{session_events};
 ghost use Rattle.fkv_world.specs.Runs.{World, run};
 ghost use Rattle.fkv_world.specs.World.{Event, seat_at};
-ghost use Rattle.law_commit.specs.Accepted.{HasRisingVersion, point};
+ghost use Rattle.law_guard.specs.Guarded.Shows.{IsOpened};
+ghost use Rattle.law_commit.specs.Accepted.{point};
+ghost use Rattle.law_commit.specs.Phases.Staged.{OpensAtRest};
 ghost use Rattle.law_commit.specs.Cuts.{HasItsWords, IsCutPlace, ShowCuts, ShowsDurable, durable_at, life_leaving, serial_before, stored_by_keeper, stored_by_session, word_now};
 
 use law_world::law_world_cuts;
@@ -33,9 +34,9 @@ pub fn law_marks_stand()
 /// the cut word of the version before shows the serial at which it has left that one, and its owing word how many updates of that version wait. If it
 /// sleeps, but in a wake, and before it leaves for that, the cut word of its own version shows its serial. In the middle of a call all is shown but what
 /// the session is about to store: first the cut word, and behind that the owing word, which a poll finds one too high at most. So it is from the first moment
-/// on, if it was so as the life began: a session that has left no version yet counts as if it had left the version before its own then. As long as the
-/// version that the session goes by has never fallen, the serial at which it has left the version before is its point of that version. Neither cut word
-/// shows a serial above the session's.
+/// on, if it was so as the life began: a session that has left no version yet counts as if it had left the version before its own then. If the
+/// store opened at rest, as each does, the serial at which a session has left the version before is its point of that version. Neither cut word shows a
+/// serial above the session's.
 pub fn law_cuts_stand()
     ensures told { (opening : World) (events : List Event) (session : ℕ) (first its : SessionState) (serial : ℕ) → HasBecome opening events session first its
         → HasItsWords opening.now
@@ -66,9 +67,8 @@ pub fn law_cuts_stand()
     ensures serials { (opening : World) (events : List Event) (session : ℕ) (first its : SessionState) (place : ℕ) → HasBecome opening events session first its
         → HasItsWords opening.now → ShowCuts opening.now → IsCutPlace session place
         → serial_said (word_now opening events place) ≤ its.serial }
-    ensures left { (opening : World) (events : List Event) (session : ℕ) (first its : SessionState) → HasBecome opening events session first its
-        → IsVersion first.seen.version.0
-        → HasRisingVersion (seat_at opening.now session) first (session_events opening session events)
+    ensures left { (opening : World) (start : ℕ) (events : List Event) (session : ℕ) (first its : SessionState) → HasBecome opening events session first its
+        → IsOpened opening.now start → OpensAtRest opening.now
         → serial_before (seat_at opening.now session) first (session_events opening session events) ≡ point opening events session (its.seen.version.0 - 1) }
 {
     law_world_cuts();

@@ -10,11 +10,13 @@ ghost use Rattle.fkv_world.specs.Opened.{HasBecome, IsOpenedWorld};
 ghost use Rattle.fkv_world.specs.OwnEvents.{keeper_events, session_events};
 ghost use Rattle.fkv_world.specs.Runs.{World, run};
 ghost use Rattle.fkv_world.specs.World.{Event, KeeperMoves, seat_at};
+ghost use Rattle.law_guard.specs.Guarded.Shows.{IsOpened};
 ghost use Rattle.law_commit.specs.Accepted.{HasRisingVersion, NeverFall, point, serial_at};
 ghost use Rattle.law_commit.specs.BegunCommits.{AreInTurn, AtKeeping};
 ghost use Rattle.law_commit.specs.FinishedCommits.{commits_finished, commits_told, told_of};
 ghost use Rattle.law_commit.specs.PhaseStores.{SparesPhase, StoresClaimed, StoresItsPhase, phase_at};
-ghost use Rattle.law_commit.specs.PhaseVersions.{HasRisingPhase, NoneIsAhead, RestsAreNext, phase_version};
+ghost use Rattle.law_commit.specs.PhaseVersions.{phase_version};
+ghost use Rattle.law_commit.specs.Phases.Staged.{OpensAtRest};
 ghost use Rattle.law_commit.specs.PrefixPast.{prefix_past};
 ghost use Rattle.law_commit.specs.Views.{IsComing, IsSeenAs, IsSightAfter};
 ghost use Rattle.law_commit.specs.Worked.{AskedChanges, BegunChange, CountsUpto, OpenedWith, RaisesChange, RanksInTurn, ToldChanges, ViewsChange};
@@ -23,24 +25,24 @@ ghost use Rattle.law_commit.specs.WrittenCommits.{NewestIsWritten, life_told};
 ghost use Rattle.law_world.specs.Keeper.Lives.{life_writing};
 
 /// In every life of a store that was opened, whatever the other actors do, a session's serial is the one with which the life began, and one more for
-/// each update whose version is counted. As long as the version that the session goes by has never fallen, these versions never fall from an
-/// update to the next and none is above the session's; so its serial is its point of each version from its own on. It never falls as long as the version
-/// of the phase word never has, where no session was ahead of that as the life began; and then it is never above that of the phase word.
+/// each update whose version is counted. If the store opened at rest, as each does, the version that the session goes by never falls, and is never above
+/// that of the phase word. So the versions of its updates never fall from an update to the next, and none is above the session's; and its serial is its
+/// point of each version from its own on.
 pub fn law_versions_counted()
     ensures counted { (opening : World) (events : List Event) (session : ℕ) (first its : SessionState) → HasBecome opening events session first its
         → its.serial ≡ serial_at opening.now session + length ((prefix_past opening events).versions session) }
-    ensures risen { (opening : World) (events : List Event) (session : ℕ) (first its : SessionState) → HasBecome opening events session first its
-        → HasRisingVersion (seat_at opening.now session) first (session_events opening session events)
+    ensures risen { (opening : World) (start : ℕ) (events : List Event) (session : ℕ) (first its : SessionState) → HasBecome opening events session first its
+        → IsOpened opening.now start → OpensAtRest opening.now
         → NeverFall its.seen.version.0 ((prefix_past opening events).versions session) }
-    ensures point { (opening : World) (events : List Event) (session : ℕ) (first its : SessionState) (version : ℕ) → HasBecome opening events session first its
-        → HasRisingVersion (seat_at opening.now session) first (session_events opening session events)
+    ensures point { (opening : World) (start : ℕ) (events : List Event) (session : ℕ) (first its : SessionState) (version : ℕ) → HasBecome opening events session first its
+        → IsOpened opening.now start → OpensAtRest opening.now
         → its.seen.version.0 ≤ version
         → point opening events session version ≡ its.serial }
-    ensures rises { (opening : World) (events : List Event) (session : ℕ) (first its : SessionState) → HasBecome opening events session first its
-        → NoneIsAhead opening.now → HasRisingPhase opening events
+    ensures rises { (opening : World) (start : ℕ) (events : List Event) (session : ℕ) (first its : SessionState) → HasBecome opening events session first its
+        → IsOpened opening.now start → OpensAtRest opening.now
         → HasRisingVersion (seat_at opening.now session) first (session_events opening session events) }
-    ensures below { (opening : World) (events : List Event) (session : ℕ) (first its : SessionState) → HasBecome opening events session first its
-        → NoneIsAhead opening.now → HasRisingPhase opening events
+    ensures below { (opening : World) (start : ℕ) (events : List Event) (session : ℕ) (first its : SessionState) → HasBecome opening events session first its
+        → IsOpened opening.now start → OpensAtRest opening.now
         → its.seen.version.0 ≤ phase_version (run opening events).now.words }
 {}
 
@@ -60,19 +62,17 @@ pub fn law_view_is_seen()
 /// newest that is finished says the number, the points and the checkpoint that the keeper has as the newest finished commit's. The newest may be open
 /// only while a commit is written or its words are stored, and for good where a call of the device has failed. Where a commit's words are stored it is the
 /// commit in hand, and sealed: it is of the kind that was asked for, with the number and the first address that its start has told; its triples were
-/// written, and its slot, which names its number, end, points, checkpoint and lost ranges. As long as each commit that begins has the number behind the newest finished one's, their numbers come one behind the
-/// other, from the opening's on; and each has that number as long as the phase word says rest only of the version behind the newest finished one's
-/// number. Those that are finished are the opening's and those that callers were told as finished, in their order, each with its number and points.
+/// written, and its slot, which names its number, end, points, checkpoint and lost ranges. If the store opened at rest, as each does, each commit that begins has the number behind the newest
+/// finished one's. So their numbers come one behind the other, from the opening's on. Those that are finished are the opening's and those that callers were told as finished, in their order, each with its number and points.
 pub fn law_begun()
     ensures begun { (opening : World) (events : List Event) → IsOpenedWorld opening
         → AtKeeping (prefix_past opening events).begun (run opening events).now.keeper (run opening events).now.keeper.step }
     ensures written { (opening : World) (events : List Event) → IsOpenedWorld opening
         → (run opening events).now.keeper.step ≡ Finishes
         → NewestIsWritten opening.now.shape (life_told opening events) (life_writing opening events) (run opening events).now.keeper.last (prefix_past opening events).begun }
-    ensures in_turn { (opening : World) (events : List Event) → IsOpenedWorld opening
-        → AreNumbersInTurn opening.now.shape opening.now.places opening.now.keeper (keeper_events opening events)
+    ensures in_turn { (opening : World) (start : ℕ) (events : List Event) → IsOpenedWorld opening → IsOpened opening.now start → OpensAtRest opening.now
         → AreInTurn (prefix_past opening events).begun }
-    ensures numbers { (opening : World) (events : List Event) → IsOpenedWorld opening → RestsAreNext opening events
+    ensures numbers { (opening : World) (start : ℕ) (events : List Event) → IsOpenedWorld opening → IsOpened opening.now start → OpensAtRest opening.now
         → AreNumbersInTurn opening.now.shape opening.now.places opening.now.keeper (keeper_events opening events) }
     ensures finished { (opening : World) (events : List Event) → IsOpenedWorld opening
         → commits_finished (prefix_past opening events).begun ≡ commits_told (run opening events).past.trace (told_of opening.now.keeper.last ∷ []) }

@@ -2,11 +2,13 @@
 ghost use Rattle.std.specs.Prelude.{◌≡◌, ◌<◌, ◌≤◌, ℕ, List, [], Some, true};
 ghost use Rattle.fkv_epoch.specs.EpochWorld.{safe_of};
 ghost use Rattle.fkv_session.specs.Sessions.{SessionState};
-ghost use Rattle.fkv_world.specs.Opened.{HasBecome};
+ghost use Rattle.fkv_world.specs.Opened.{HasBecome, IsOpenedWorld};
 ghost use Rattle.fkv_world.specs.Runs.{World, run};
 ghost use Rattle.fkv_world.specs.World.{Event};
 ghost use Rattle.law_guard.specs.Guarded.Shows.{IsOpened, seen_by_guard};
 ghost use Rattle.law_commit.specs.Phases.Projected.{EventsAreShown, OpeningsAreSound, QuietEventsAreShown, RepliesAreShown, SafeIsEnabled, ShowsSessions, sessions_opened};
+ghost use Rattle.law_commit.specs.PhaseVersions.{HasRisingPhase, RestsAreNext};
+ghost use Rattle.law_commit.specs.Phases.Staged.{HasStage, OpensAtRest};
 ghost use Rattle.law_commit.specs.Phases.Stamped.{RepliesKeepStamps, SessionStamped, is_live};
 ghost use Rattle.law_commit.specs.Views.{View, sight_of};
 
@@ -46,4 +48,14 @@ pub fn law_sessions_are_phases()
 /// is safe, the tail, the rank of the phase word, and each session.
 pub fn law_quiet_events_are_phases()
     ensures { QuietEventsAreShown }
+{}
+
+/// In each life of a store that opened at rest, as each does, whatever its calls, commits and the order of its steps, commits go through their stages one
+/// behind the other. The phase word says the phase of the stage, in the version of the commit that is next or the one behind it. At most one action that
+/// stores a phase is in a slot or in hand, and it stores the next phase. What the keeper is at fits the stage, and a commit in hand has the number that is
+/// next. So the version of the phase word never falls, and the word says rest only of the version behind the newest finished commit's number.
+pub fn law_phases_in_turn()
+    ensures stages { (opening : World) (start : ℕ) (events : List Event) → IsOpened opening.now start → IsOpenedWorld opening → OpensAtRest opening.now → HasStage (run opening events).now }
+    ensures rises { (opening : World) (start : ℕ) (events : List Event) → IsOpened opening.now start → IsOpenedWorld opening → OpensAtRest opening.now → HasRisingPhase opening events }
+    ensures rests { (opening : World) (start : ℕ) (events : List Event) → IsOpened opening.now start → IsOpenedWorld opening → OpensAtRest opening.now → RestsAreNext opening events }
 {}

@@ -4,5 +4,6 @@ pub mod Image
 pub mod InTime
 pub mod Kept
 mod ReadRuns
+pub mod Rests
 pub mod SameEntries
 pub mod Words

@@ -4,6 +4,7 @@
 mod asked;
 mod enabled;
 mod fits;
+mod in_turn;
 mod known;
 mod looks;
 mod one_history;
@@ -21,6 +22,7 @@ mod truth;
 pub use asked::law_world_asked;
 pub use enabled::law_world_enabled;
 pub use fits::law_opening_fits;
+pub use in_turn::{law_commit_always_stands, law_phases_open};
 pub use known::law_sessions_begin;
 pub use looks::law_looks_true;
 pub use one_history::law_order;

@@ -1,17 +1,17 @@
 mod Appends
 mod Attempts
 pub mod Catches
-mod Commits
+pub mod Commits
 mod Deferred
 mod Epochs
 mod Finds
 pub mod Keepers
 mod Latching
 pub mod Lives
-mod Maintains
+pub mod Maintains
 mod Moves
 mod Outside
-mod OwnTurns
+pub mod OwnTurns
 mod Serves
 pub mod Sessions
 mod Tries

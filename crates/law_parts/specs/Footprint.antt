@@ -1,5 +1,6 @@
 -- The parts of the words that a law follows by itself, and the frame condition: which asks leave a part as it is, whatever its words are.
-use Rattle.std.specs.Prelude.{◌≡◌, ◌≢◌, ◌⊎◌, ◌<◌, ◌≤◌, ◌%◌, ◌^◌, ℕ, ⊤, false}
+use Rattle.std.specs.Prelude.{◌≡◌, ◌≢◌, ◌⊎◌, ◌<◌, ◌≤◌, ◌%◌, ◌^◌, ℕ, ⊤, Bool, true, false}
+use Rattle.fkv_plane.specs.declared.actions.Action.TheVariants as act
 use Rattle.fkv_plane.specs.declared.asks.Ask.{Ask}
 use Rattle.fkv_plane.specs.declared.asks.Ask.TheVariants.{Load, Store, Swap, Cas, Add, Max, Put, Take, Done}
 use Rattle.fkv_plane.specs.declared.places.Places.{Places}
@@ -7,6 +8,8 @@ use Rattle.fkv_plane.specs.declared.places.SessionWord.{SessionWord}
 use Rattle.fkv_plane.specs.declared.places.SessionWord.TheVariants as own
 use Rattle.fkv_plane.specs.declared.places.SharedWord.TheVariants as one
 use Rattle.fkv_plane.specs.Places.{shared_place, session_place, bucket_place}
+use Rattle.fkv_epoch.specs.declared.claiming.Claiming.{Claiming}
+use Rattle.fkv_epoch.specs.declared.claiming.Claiming.TheVariants as claim
 use Rattle.fkv_index.specs.IndexWorld.{is_bucket_place}
 use Rattle.fkv_index.specs.Slots.{link_of}
 use Rattle.fkv_latch.specs.LatchWorld.{has_latch, latch_of}
@@ -28,10 +31,11 @@ last_word Marks = own.Owing
 last_word Durable = own.Durable
 last_word Mail = own.MailValue
 
--- the index, the latches of its buckets, and such words of one session
+-- the index, the latches of its buckets, the phase word, and such words of one session
 pub data Part : Type 0 where
   TheIndex : Part
   TheLatches : Part
+  ThePhase : Part
   OfSession : ℕ → OwnWords → Part
 
 abbrev pub TheMarks : ℕ → Part
@@ -57,6 +61,7 @@ pub record IsAmong (session : ℕ) (its : OwnWords) (place : ℕ) : Type 0 where
 abbrev pub IsOutside : Part → Places → ℕ → Type 0
 IsOutside TheIndex p place = IsElsewhere p place
 IsOutside TheLatches p place = has_latch p place ≡ false
+IsOutside ThePhase p place = place ≢ shared_place one.Phase
 IsOutside (OfSession session its) p place = session < p.sessions → IsAmong session its place → ⊥
 
 -- the eighth word of some bucket
@@ -68,6 +73,7 @@ pub record IsEighth (p : Places) (place : ℕ) : Type 0 where
 abbrev pub MaySet : Part → Places → ℕ → ℕ → ℕ → Type 0
 MaySet TheIndex p place old new = IsEighth p place × (link_of new ≡ link_of old)
 MaySet TheLatches p place old new = latch_of new ≡ latch_of old
+MaySet ThePhase p place old new = ⊥
 MaySet (OfSession session its) p place old new = ⊥
 
 abbrev pub MayAdd : Part → Places → ℕ → ℕ → Type 0
@@ -85,6 +91,11 @@ Spares part p (Max place k) = IsOutside part p place
 Spares part p (Put slot action) = ⊤
 Spares part p (Take slot) = ⊤
 Spares part p (Done its) = ⊤
+
+-- a claimer is about to run an action that stores a phase
+abbrev pub stores_phase : Claiming → Bool
+stores_phase (claim.Runs slot epoch safe (act.Phase phase version)) = true
+stores_phase step = false
 
 -- A session is one of the store's, or its number is no matter: no word of a session is one of another's.
 abbrev pub HasSeat : Part → Places → ℕ → Type 0

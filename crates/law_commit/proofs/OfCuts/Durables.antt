@@ -130,7 +130,7 @@ finishes_not s number other finishes session same = λ stores. other finishes (s
 
 session_spares : (k : Seat) (s : SessionState) (number : ℕ) → IsSessionSparing k.places s → Spares (TheDurable number) k.places (session_ask k s)
 session_spares k s number sparing =
-    let rests : SessionRests (TheDurable number) k s = record { knows = λ same. cc; search = λ same. cc; entry = λ same. cc; latch = λ same. cc; mail = λ same. cc; marks = λ same. cc } in
+    let rests : SessionRests (TheDurable number) k s = record { knows = λ same. cc; search = λ same. cc; entry = λ same. cc; latch = λ same. cc; mail = λ same. cc; marks = λ same. cc; phase = λ e. cc } in
     session_asks_spares (TheDurable number) k s tt sparing rests
 
 -- it finishes a commit, and stores this durable word
@@ -169,7 +169,7 @@ keeper_own : (opening : World) (events : List Event) (number : ℕ) → IsOpened
     ⊎ Spares (TheDurable number) (run opening events).now.places (keeper_ask (run opening events).now.shape (run opening events).now.places (run opening events).now.keeper)
 keeper_own opening events number opened (Storing finishes stores) = inl (finish_store (run opening events).now.shape (run opening events).now.places (run opening events).now.keeper number finishes stores)
 keeper_own opening events number opened (StoringNone other) =
-    inr (keeper_spares (TheDurable number) opening events opened.keeper tt tt (λ session e. cc) (finishes_not (run opening events).now.keeper number other))
+    inr (keeper_spares (TheDurable number) opening events (λ e. cc) opened.keeper tt tt (λ session e. cc) (finishes_not (run opening events).now.keeper number other))
 
 -- ---- one event
 record Follows (w : World) (place : ℕ) : Type 0 where

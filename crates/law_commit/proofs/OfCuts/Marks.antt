@@ -128,12 +128,12 @@ own_ask k s sparing = by_marks (sitting_marks s s.step) refl
     by_marks : (marks : Bool) → sitting_marks s s.step ≡ marks → IsStore (session_ask k s) ⊎ Spares (TheMarks k.number) k.places (session_ask k s)
     by_marks true e = inl (mark_store k s s.step e)
     by_marks false e =
-        let rests : SessionRests (TheMarks k.number) k s = record { knows = λ same. cc; search = λ same. cc; entry = λ same. cc; latch = λ same. cc; mail = λ same. cc; marks = λ same. e } in
+        let rests : SessionRests (TheMarks k.number) k s = record { knows = λ same. cc; search = λ same. cc; entry = λ same. cc; latch = λ same. cc; mail = λ same. cc; marks = λ same. e; phase = λ e. cc } in
         inr (session_asks_spares (TheMarks k.number) k s tt sparing rests)
 
 other_ask : (k : Seat) (s : SessionState) (number : ℕ) → k.number ≢ number → IsSessionSparing k.places s → Spares (TheMarks number) k.places (session_ask k s)
 other_ask k s number other sparing =
-    let rests : SessionRests (TheMarks number) k s = record { knows = λ same. cc; search = λ same. cc; entry = λ same. cc; latch = λ same. cc; mail = λ same. cc; marks = λ same. absurd (other (same_number k.number number same)) } in
+    let rests : SessionRests (TheMarks number) k s = record { knows = λ same. cc; search = λ same. cc; entry = λ same. cc; latch = λ same. cc; mail = λ same. cc; marks = λ same. absurd (other (same_number k.number number same)); phase = λ e. cc } in
     session_asks_spares (TheMarks number) k s tt sparing rests
   where
     same_number : (one other : ℕ) → TheMarks other ≡ TheMarks one → one ≡ other
@@ -228,7 +228,7 @@ follows_now opening events number first s place opened words was found mark =
     record {
       own = followed_word n.places number Marks n.words (session_ask (seat_at n number) s) place there few (own_ask (seat_at n number) s (sparing_now opening events number s opened found));
       other = λ at t other got. spared_word n.places number Marks n.words (session_ask (seat_at n at) t) place there few (other_ask (seat_at n at) t number other (sparing_now opening events at t opened got));
-      keeper = spared_word n.places number Marks n.words (keeper_ask n.shape n.places n.keeper) place there few (keeper_spares (TheMarks number) opening events opened.keeper tt tt (λ session e. cc) (λ finishes session e. cc));
+      keeper = spared_word n.places number Marks n.words (keeper_ask n.shape n.places n.keeper) place there few (keeper_spares (TheMarks number) opening events (λ e. cc) opened.keeper tt tt (λ session e. cc) (λ finishes session e. cc));
     }
 
 pub life_marks : (opening : World) (events : List Event) (number : ℕ) (first : SessionState) (place : ℕ) → IsOpenedWorld opening → HasItsWords opening.now → slice_get opening.now.sessions number ≡ Some first → IsMark number place

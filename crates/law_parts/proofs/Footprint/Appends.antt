@@ -54,7 +54,7 @@ pub record IsAppendSparing (p : Places) (a : AppendState) : Type 0 where
 -- what its machines ask for
 reserve_spares : (part : Part) (p : Places) (step : Reserving) → Spares part p (reserve_ask step)
 unfolding reserve_ask
-reserve_spares part p (reserving.TakesTail tail) = inl (shared_outside part p one.Tail (λ e. cc))
+reserve_spares part p (reserving.TakesTail tail) = inl (shared_outside part p one.Tail (λ e. cc) (λ e. cc))
 reserve_spares part p step = tt
 
 fill_spares : (part : Part) (p : Places) (step : Filling) → Spares part p (fill_ask p step)

@@ -40,9 +40,10 @@ use Rattle.fkv_commit.specs.Seeking.{SeekState, owing_from, seek_begun, seeking_
 use Rattle.fkv_commit.specs.Starting as starts
 use Rattle.fkv_commit.specs.Starting.{StartState, start_begun, is_lost_full, starting_ask, start_ask, refused, phase_found, starting_next, start_next}
 use Rattle.fkv_commit.specs.Waiting.{WaitState, waiting_ask, wait_ask}
-use Rattle.law_parts.specs.Footprint.{Part, TheDurable, HasSeats, Spares}
+use Rattle.law_parts.specs.Footprint.{Part, ThePhase, TheDurable, HasSeats, Spares}
 use Rattle.law_parts.proofs.Footprint.Latching.{passed_spares}
-use Rattle.law_parts.proofs.Footprint.Outside.{shared_outside, durable_outside, seat_of}
+use Rattle.law_parts.proofs.Footprint.Outside.{shared_outside, phase_outside, durable_outside, seat_of}
+use Rattle.law_parts.proofs.Footprint.Epochs.{stores_not}
 use Rattle.law_parts.proofs.Footprint.Deferred.{IsDeferSparing, defer_spares, defer_next_spares, defer_on_spares, defer_begun_spares}
 
 -- how a commit starts
@@ -54,15 +55,20 @@ StartBounds s step = IsDeferSparing s.defer
 abbrev pub IsStartSparing : StartState → Type 0
 IsStartSparing s = StartBounds s s.step
 
-starting_spares : (part : Part) (p : Places) (s : StartState) (step : Starting) → StartBounds s step → Spares part p (starting_ask s step)
-unfolding starting_ask
-starting_spares part p s (starting.Seeks number) bounds = passed_spares part p _ _ (defer_spares part p s.defer bounds)
-starting_spares part p s (starting.StoresPrepare number) bounds = shared_outside part p one.Phase (λ e. cc)
-starting_spares part p s (starting.Defers number first) bounds = passed_spares part p _ _ (defer_spares part p s.defer bounds)
-starting_spares part p s step bounds = tt
+-- it is about to store prepare
+abbrev pub start_stores : Starting → Bool
+start_stores (starting.StoresPrepare number) = true
+start_stores step = false
 
-pub start_spares : (part : Part) (p : Places) (s : StartState) → IsStartSparing s → Spares part p (start_ask s)
-start_spares part p s bounds = starting_spares part p s s.step bounds
+starting_spares : (part : Part) (p : Places) (s : StartState) (step : Starting) → (part ≡ ThePhase → start_stores step ≡ false) → StartBounds s step → Spares part p (starting_ask s step)
+unfolding starting_ask
+starting_spares part p s (starting.Seeks number) apart bounds = passed_spares part p _ _ (defer_spares part p s.defer bounds)
+starting_spares part p s (starting.StoresPrepare number) apart bounds = phase_outside part p (stores_not part apart)
+starting_spares part p s (starting.Defers number first) apart bounds = passed_spares part p _ _ (defer_spares part p s.defer bounds)
+starting_spares part p s step apart bounds = tt
+
+pub start_spares : (part : Part) (p : Places) (s : StartState) → (part ≡ ThePhase → start_stores s.step ≡ false) → IsStartSparing s → Spares part p (start_ask s)
+start_spares part p s apart bounds = starting_spares part p s s.step apart bounds
 
 start_stays : (s : StartState) (step : Starting) → s.step ≡ step → StartBounds s step → IsStartSparing s
 start_stays s step at bounds = subst (λ x. StartBounds s x) (sym at) bounds
@@ -163,16 +169,21 @@ SeekBounds s step = IsDeferSparing s.defer
 abbrev pub IsSeekSparing : SeekState → Type 0
 IsSeekSparing s = SeekBounds s s.step
 
-seeking_spares : (part : Part) (p : Places) (s : SeekState) (step : Seeking) → SeekBounds s step → Spares part p (seeking_ask s step)
-unfolding seeking_ask
-seeking_spares part p s seeking.SeeksSlot bounds = passed_spares part p _ _ (defer_spares part p s.defer bounds)
-seeking_spares part p s seeking.StoresWaitFlush bounds = shared_outside part p one.Phase (λ e. cc)
-seeking_spares part p s (seeking.RaisesReadOnly end) bounds = shared_outside part p one.ReadOnly (λ e. cc)
-seeking_spares part p s (seeking.Defers end) bounds = passed_spares part p _ _ (defer_spares part p s.defer bounds)
-seeking_spares part p s step bounds = tt
+-- it is about to store wait-flush
+abbrev pub seek_stores : Seeking → Bool
+seek_stores seeking.StoresWaitFlush = true
+seek_stores step = false
 
-pub seek_spares : (part : Part) (p : Places) (s : SeekState) → IsSeekSparing s → Spares part p (seek_ask s)
-seek_spares part p s bounds = seeking_spares part p s s.step bounds
+seeking_spares : (part : Part) (p : Places) (s : SeekState) (step : Seeking) → (part ≡ ThePhase → seek_stores step ≡ false) → SeekBounds s step → Spares part p (seeking_ask s step)
+unfolding seeking_ask
+seeking_spares part p s seeking.SeeksSlot apart bounds = passed_spares part p _ _ (defer_spares part p s.defer bounds)
+seeking_spares part p s seeking.StoresWaitFlush apart bounds = phase_outside part p (stores_not part apart)
+seeking_spares part p s (seeking.RaisesReadOnly end) apart bounds = shared_outside part p one.ReadOnly (λ e. cc) (λ e. cc)
+seeking_spares part p s (seeking.Defers end) apart bounds = passed_spares part p _ _ (defer_spares part p s.defer bounds)
+seeking_spares part p s step apart bounds = tt
+
+pub seek_spares : (part : Part) (p : Places) (s : SeekState) → (part ≡ ThePhase → seek_stores s.step ≡ false) → IsSeekSparing s → Spares part p (seek_ask s)
+seek_spares part p s apart bounds = seeking_spares part p s s.step apart bounds
 
 seek_stays : (s : SeekState) (step : Seeking) → s.step ≡ step → SeekBounds s step → IsSeekSparing s
 seek_stays s step at bounds = subst (λ x. SeekBounds s x) (sym at) bounds
@@ -253,14 +264,19 @@ FinishBounds n finishing.StoresRest = ⊤
 abbrev pub IsStoredNot : Part → Finishing → Type 0
 IsStoredNot part step = (session : ℕ) → part ≡ TheDurable session → step ≢ finishing.StoresDurable session
 
-finishing_spares : (part : Part) (p : Places) (n : ℕ) (points : List Serial) (s : FinishState) (step : Finishing) → HasSeats part p n → FinishBounds n step → IsStoredNot part step → Spares part p (finishing_ask points s step)
-unfolding finishing_ask
-finishing_spares part p n points s (finishing.Ended its) few low none = tt
-finishing_spares part p n points s (finishing.StoresDurable session) few low none = durable_outside part p session (seat_of part p n session few low) (λ same. none session same refl)
-finishing_spares part p n points s finishing.StoresRest few low none = shared_outside part p one.Phase (λ e. cc)
+-- it is about to store rest
+abbrev pub finish_stores : Finishing → Bool
+finish_stores finishing.StoresRest = true
+finish_stores step = false
 
-pub finish_spares : (part : Part) (p : Places) (points : List Serial) (s : FinishState) → HasSeats part p s.sessions → FinishBounds s.sessions s.step → IsStoredNot part s.step → Spares part p (finish_ask points s)
-finish_spares part p points s few low none = finishing_spares part p s.sessions points s s.step few low none
+finishing_spares : (part : Part) (p : Places) (n : ℕ) (points : List Serial) (s : FinishState) (step : Finishing) → (part ≡ ThePhase → finish_stores step ≡ false) → HasSeats part p n → FinishBounds n step → IsStoredNot part step → Spares part p (finishing_ask points s step)
+unfolding finishing_ask
+finishing_spares part p n points s (finishing.Ended its) apart few low none = tt
+finishing_spares part p n points s (finishing.StoresDurable session) apart few low none = durable_outside part p session (seat_of part p n session few low) (λ same. none session same refl)
+finishing_spares part p n points s finishing.StoresRest apart few low none = phase_outside part p (stores_not part apart)
+
+pub finish_spares : (part : Part) (p : Places) (points : List Serial) (s : FinishState) → (part ≡ ThePhase → finish_stores s.step ≡ false) → HasSeats part p s.sessions → FinishBounds s.sessions s.step → IsStoredNot part s.step → Spares part p (finish_ask points s)
+finish_spares part p points s apart few low none = finishing_spares part p s.sessions points s s.step apart few low none
 
 durable_spares : (n session : ℕ) → FinishBounds n (durable_from n session)
 unfolding durable_from

@@ -1,5 +1,5 @@
 -- The asks of the machines of the epochs spare each part, where their drain slots are those that there are and their session has its seat.
-use Rattle.std.proofs.Common.{◌≡◌, ℕ, ◌+◌, ◌<◌, refl, arith, inl, Bool, true, false}
+use Rattle.std.proofs.Common.{◌≡◌, ◌≢◌, ℕ, ◌+◌, ◌<◌, refl, arith, inl, Bool, true, false}
 use Rattle.std.specs.Prelude.{if◌then◌else◌, nat_lt, ◌==◌, ⊤, Option, Some, None}
 use Rattle.std.proofs.lemmas.Bool.Decides.{nat_tests}
 use Rattle.fkv_base.specs.Limits.{drain_slots}
@@ -28,8 +28,8 @@ use Rattle.fkv_epoch.specs.Protecting.{protect_ask}
 use Rattle.fkv_epoch.specs.Raising.{IsRaiseInRange, raise_ask, HasSlotInRange}
 use Rattle.fkv_epoch.specs.Refreshing.{refresh_ask}
 use Rattle.fkv_epoch.specs.Scanning.{scan_ask}
-use Rattle.law_parts.specs.Footprint.{Part, HasSeat, Spares}
-use Rattle.law_parts.proofs.Footprint.Outside.{shared_outside, drain_outside, epoch_outside}
+use Rattle.law_parts.specs.Footprint.{Part, ThePhase, HasSeat, Spares, stores_phase}
+use Rattle.law_parts.proofs.Footprint.Outside.{shared_outside, phase_outside, drain_outside, epoch_outside}
 
 -- a session's own words
 pub refresh_spares : (part : Part) (p : Places) (n : ℕ) (step : Refreshing) → HasSeat part p n → Spares part p (refresh_ask n step)
@@ -50,21 +50,24 @@ leave_spares part p n leave.AtRest there = tt
 -- a scan
 pub scan_spares : (part : Part) (p : Places) (step : Scanning) → Spares part p (scan_ask step)
 unfolding scan_ask
-scan_spares part p (scan.RaisesSafe least) = shared_outside part p one.SafeEpoch (λ e. cc)
+scan_spares part p (scan.RaisesSafe least) = shared_outside part p one.SafeEpoch (λ e. cc) (λ e. cc)
 scan_spares part p step = tt
 
--- a claim
-run_spares : (part : Part) (p : Places) (action : Action) → Spares part p (run_of action)
-run_spares part p (act.SafeReadOnly addr) = shared_outside part p one.SafeReadOnly (λ e. cc)
-run_spares part p (act.Close addr) = shared_outside part p one.Closed (λ e. cc)
-run_spares part p (act.Phase phase version) = shared_outside part p one.Phase (λ e. cc)
+-- a claim, where it stores no phase
+pub stores_not : (part : Part) → (part ≡ ThePhase → true ≡ false) → part ≢ ThePhase
+stores_not part none = λ same. let clash : true ≡ false = none same in cc
 
-pub claim_spares : (part : Part) (p : Places) (step : Claiming) → IsClaimInRange step → Spares part p (claim_ask step)
+run_spares : (part : Part) (p : Places) (slot epoch safe : ℕ) (action : Action) → (part ≡ ThePhase → stores_phase (claim.Runs slot epoch safe action) ≡ false) → Spares part p (run_of action)
+run_spares part p slot epoch safe (act.SafeReadOnly addr) none = shared_outside part p one.SafeReadOnly (λ e. cc) (λ e. cc)
+run_spares part p slot epoch safe (act.Close addr) none = shared_outside part p one.Closed (λ e. cc) (λ e. cc)
+run_spares part p slot epoch safe (act.Phase phase version) none = phase_outside part p (stores_not part none)
+
+pub claim_spares : (part : Part) (p : Places) (step : Claiming) → IsClaimInRange step → (part ≡ ThePhase → stores_phase step ≡ false) → Spares part p (claim_ask step)
 unfolding claim_ask
-claim_spares part p (claim.TakesSlot slot word safe) range = inl (drain_outside part p slot range)
-claim_spares part p (claim.Runs slot epoch safe action) range = run_spares part p action
-claim_spares part p (claim.FreesSlot slot safe) range = drain_outside part p slot range
-claim_spares part p step range = tt
+claim_spares part p (claim.TakesSlot slot word safe) range none = inl (drain_outside part p slot range)
+claim_spares part p (claim.Runs slot epoch safe action) range none = run_spares part p slot epoch safe action none
+claim_spares part p (claim.FreesSlot slot safe) range none = drain_outside part p slot range
+claim_spares part p step range none = tt
 
 claims_either : (c : Bool) (a b : Claiming) → (c ≡ true → IsClaimInRange a) → (c ≡ false → IsClaimInRange b) → IsClaimInRange (if c then a else b)
 claims_either true a b one other = one refl
@@ -96,7 +99,7 @@ claim_given_range step action range = range
 pub raise_spares : (part : Part) (p : Places) (step : Raising) → IsRaiseInRange step → Spares part p (raise_ask step)
 unfolding raise_ask
 raise_spares part p (raise.HoldsSlot slot) range = inl (drain_outside part p slot range)
-raise_spares part p (raise.RaisesEpoch slot) range = inl (shared_outside part p one.Epoch (λ e. cc))
+raise_spares part p (raise.RaisesEpoch slot) range = inl (shared_outside part p one.Epoch (λ e. cc) (λ e. cc))
 raise_spares part p step range = tt
 
 -- what it asks tells one of the slots

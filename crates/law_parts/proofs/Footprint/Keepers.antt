@@ -44,11 +44,11 @@ use Rattle.fkv_keeper.specs.declared.keepers.Keeping.TheVariants.{Ended, Starts,
 use Rattle.fkv_keeper.specs.Keeping.{KeeperState, copy_asked, device_passed, write_asked, keeping_ask, keeper_ask, ended, turned, commit_asked, turn_asked, start_ledto, maintain_ledto, copies, copies_next, part_begun, phase_ledto, enter_ledto, copy_ledto, seek_ledto, writes_begun, wait_ledto, finished, finish_ledto, copy_driven, keeping_next, keeping_given, write_ledto, writes_called, keeping_called}
 use Rattle.fkv_keeper.specs.KeeperRun.{KeeperEvent, BeginsTurn, BeginsCommit, Replies, Gets, Calls, IsOpened, is_in_hand, begins, keeper_happens, keeper_run}
 use Rattle.law_parts.specs.Mail.Servers.{keeper_serving}
-use Rattle.law_parts.specs.Footprint.{Part, HasSeats, Spares}
+use Rattle.law_parts.specs.Footprint.{Part, ThePhase, HasSeats, Spares}
 use Rattle.law_parts.proofs.Footprint.Latching.{passed_spares}
 use Rattle.law_parts.proofs.Footprint.Serves.{IsServedNot}
-use Rattle.law_parts.proofs.Footprint.Commits.{IsStartSparing, start_spares, start_next_spares, start_begun_spares, IsEnterSparing, enter_spares, enter_next_spares, enter_begun_spares, IsSeekSparing, seek_spares, seek_next_spares, seek_begun_spares, wait_spares, FinishBounds, IsStoredNot, finish_spares, finish_next_spares, finish_begun_spares}
-use Rattle.law_parts.proofs.Footprint.Maintains.{IsMaintainSparing, maintain_spares, maintain_next_spares, maintain_given_spares, maintain_called_spares, maintain_begun_spares}
+use Rattle.law_parts.proofs.Footprint.Commits.{IsStartSparing, start_stores, start_spares, start_next_spares, start_begun_spares, IsEnterSparing, enter_spares, enter_next_spares, enter_begun_spares, IsSeekSparing, seek_stores, seek_spares, seek_next_spares, seek_begun_spares, wait_spares, FinishBounds, IsStoredNot, finish_stores, finish_spares, finish_next_spares, finish_begun_spares}
+use Rattle.law_parts.proofs.Footprint.Maintains.{IsMaintainSparing, maintain_stores, maintain_spares, maintain_next_spares, maintain_given_spares, maintain_called_spares, maintain_begun_spares}
 
 -- the machine of its step keeps to its bounds
 abbrev pub KeeperBounds : ℕ → KeeperState → Keeping → Type 0
@@ -88,25 +88,33 @@ write_spares part p write.Device told = tt
 write_spares part p write.Written told = tt
 write_spares part p (write.Broken why) told = tt
 
+-- it is about to store a phase
+abbrev pub keeper_stores : KeeperState → Keeping → Bool
+keeper_stores s Starts = start_stores s.start.step
+keeper_stores s Maintains = maintain_stores s.maintain s.maintain.step
+keeper_stores s Seeks = seek_stores s.seek.step
+keeper_stores s Finishes = finish_stores s.finish.step
+keeper_stores s step = false
+
 -- what it asks for
-keeping_spares : (part : Part) (shape : Shape) (p : Places) (n : ℕ) (s : KeeperState) (step : Keeping) → HasSeats part p n → HasSeats part p s.finish.sessions → KeeperBounds n s step → IsServedNot part (keeper_serving s step)
+keeping_spares : (part : Part) (shape : Shape) (p : Places) (n : ℕ) (s : KeeperState) (step : Keeping) → (part ≡ ThePhase → keeper_stores s step ≡ false) → HasSeats part p n → HasSeats part p s.finish.sessions → KeeperBounds n s step → IsServedNot part (keeper_serving s step)
     → (step ≡ Finishes → IsStoredNot part s.finish.step) → Spares part p (keeping_ask shape p s step)
 unfolding keeping_ask
-keeping_spares part shape p n s (Ended its) few its_few bounds none other = tt
-keeping_spares part shape p n s Starts few its_few bounds none other = passed_spares part p _ _ (start_spares part p s.start bounds)
-keeping_spares part shape p n s Maintains few its_few bounds none other = device_spares part p (maintain_ask shape p s.maintain) _ (maintain_spares part shape p n s.maintain few bounds none)
-keeping_spares part shape p n s LoadsPhase few its_few bounds none other = tt
-keeping_spares part shape p n s Enters few its_few bounds none other = passed_spares part p _ _ (enter_spares part p s.enter bounds)
-keeping_spares part shape p n s Copies few its_few bounds none other = passed_spares part p _ _ (copy_spares part p s.copy)
-keeping_spares part shape p n s Seeks few its_few bounds none other = passed_spares part p _ _ (seek_spares part p s.seek bounds)
-keeping_spares part shape p n s Waits few its_few bounds none other = passed_spares part p _ _ (wait_spares part p s.wait)
-keeping_spares part shape p n s Writes few its_few bounds none other = write_spares part p (commit_answer s.writes) _
-keeping_spares part shape p n s Finishes few its_few bounds none other = passed_spares part p _ _ (finish_spares part p s.seek.points s.finish its_few bounds (other refl))
+keeping_spares part shape p n s (Ended its) apart few its_few bounds none other = tt
+keeping_spares part shape p n s Starts apart few its_few bounds none other = passed_spares part p _ _ (start_spares part p s.start apart bounds)
+keeping_spares part shape p n s Maintains apart few its_few bounds none other = device_spares part p (maintain_ask shape p s.maintain) _ (maintain_spares part shape p n s.maintain apart few bounds none)
+keeping_spares part shape p n s LoadsPhase apart few its_few bounds none other = tt
+keeping_spares part shape p n s Enters apart few its_few bounds none other = passed_spares part p _ _ (enter_spares part p s.enter bounds)
+keeping_spares part shape p n s Copies apart few its_few bounds none other = passed_spares part p _ _ (copy_spares part p s.copy)
+keeping_spares part shape p n s Seeks apart few its_few bounds none other = passed_spares part p _ _ (seek_spares part p s.seek apart bounds)
+keeping_spares part shape p n s Waits apart few its_few bounds none other = passed_spares part p _ _ (wait_spares part p s.wait)
+keeping_spares part shape p n s Writes apart few its_few bounds none other = write_spares part p (commit_answer s.writes) _
+keeping_spares part shape p n s Finishes apart few its_few bounds none other = passed_spares part p _ _ (finish_spares part p s.seek.points s.finish apart its_few bounds (other refl))
 
 -- where each session that it serves and finishes commits for has its seat
-pub keeper_asks_spares : (part : Part) (shape : Shape) (p : Places) (count : ℕ) (s : KeeperState) → HasSeats part p shape.sessions → HasSeats part p count → IsKeeperSparing shape.sessions count s → IsServedNot part (keeper_serving s s.step)
+pub keeper_asks_spares : (part : Part) (shape : Shape) (p : Places) (count : ℕ) (s : KeeperState) → (part ≡ ThePhase → keeper_stores s s.step ≡ false) → HasSeats part p shape.sessions → HasSeats part p count → IsKeeperSparing shape.sessions count s → IsServedNot part (keeper_serving s s.step)
     → (s.step ≡ Finishes → IsStoredNot part s.finish.step) → Spares part p (keeper_ask shape p s)
-keeper_asks_spares part shape p count s few all its none other = keeping_spares part shape p shape.sessions s s.step few (subst (λ (x : ℕ). HasSeats part p x) (sym its.counts) all) its.bounds none other
+keeper_asks_spares part shape p count s apart few all its none other = keeping_spares part shape p shape.sessions s s.step apart few (subst (λ (x : ℕ). HasSeats part p x) (sym its.counts) all) its.bounds none other
 
 -- where a reply leads, for commits of so many sessions
 module _ (count : ℕ) where

@@ -12,7 +12,7 @@ use Rattle.fkv_latch.specs.declared.latching.Latching.TheVariants as latch
 use Rattle.fkv_latch.specs.declared.latching.LatchTask.{LatchTask}
 use Rattle.fkv_latch.specs.declared.latching.LatchTask.TheVariants.{TakeShared, DropShared, TakeExclusive, DropExclusive}
 use Rattle.fkv_latch.specs.Latching.{latch_first, latch_ask, latch_next, is_exclusive, is_free}
-use Rattle.law_parts.specs.Footprint.{OwnWords, Part, TheIndex, TheLatches, OfSession, IsOutside, IsEighth, Spares}
+use Rattle.law_parts.specs.Footprint.{OwnWords, Part, TheIndex, TheLatches, ThePhase, OfSession, IsOutside, IsEighth, Spares}
 use Rattle.law_parts.proofs.Footprint.Outside.{bucket_outside}
 
 -- one that is passed on
@@ -49,16 +49,20 @@ above_link p (latch.LoadsWord place) at = tt
 above_link p (latch.SetsExclusive place word) at = inr (at, omega arith)
 above_link p (latch.DropsExclusive place) at = inr (at, omega arith)
 
--- which no session has
-of_no_session : (session : ℕ) (own : OwnWords) (p : Places) (step : Latching) → IsAtLatch p step → Spares (OfSession session own) p (latch_ask step)
+-- the phase word is none
+eighth_no_phase : (p : Places) (place : ℕ) → IsEighth p place → IsOutside ThePhase p place
+eighth_no_phase p place its = λ e. let at = its.at in omega (arith, e, at)
+
+-- a part that has no such word is spared
+of_no_word : (part : Part) (p : Places) → ((place : ℕ) → IsEighth p place → IsOutside part p place) → (step : Latching) → IsAtLatch p step → Spares part p (latch_ask step)
 unfolding latch_ask
-of_no_session session own p latch.AtRest at = tt
-of_no_session session own p (latch.AddsShare place) at = inl (eighth_outside session own p place at)
-of_no_session session own p (latch.GivesBack place) at = inl (eighth_outside session own p place at)
-of_no_session session own p (latch.DropsShare place) at = inl (eighth_outside session own p place at)
-of_no_session session own p (latch.LoadsWord place) at = tt
-of_no_session session own p (latch.SetsExclusive place word) at = inl (eighth_outside session own p place at)
-of_no_session session own p (latch.DropsExclusive place) at = inl (eighth_outside session own p place at)
+of_no_word part p outside latch.AtRest at = tt
+of_no_word part p outside (latch.AddsShare place) at = inl (outside place at)
+of_no_word part p outside (latch.GivesBack place) at = inl (outside place at)
+of_no_word part p outside (latch.DropsShare place) at = inl (outside place at)
+of_no_word part p outside (latch.LoadsWord place) at = tt
+of_no_word part p outside (latch.SetsExclusive place word) at = inl (outside place at)
+of_no_word part p outside (latch.DropsExclusive place) at = inl (outside place at)
 
 -- at rest it asks for nothing
 at_rest : (p : Places) (step : Latching) → step ≡ latch.AtRest → Spares TheLatches p (latch_ask step)
@@ -69,7 +73,8 @@ at_rest p step e = rw e tt
 pub latch_spares : (part : Part) (p : Places) (step : Latching) → IsAtLatch p step → (part ≡ TheLatches → step ≡ latch.AtRest) → Spares part p (latch_ask step)
 latch_spares TheIndex p step at rests = above_link p step at
 latch_spares TheLatches p step at rests = at_rest p step (rests refl)
-latch_spares (OfSession session own) p step at rests = of_no_session session own p step at
+latch_spares ThePhase p step at rests = of_no_word ThePhase p (eighth_no_phase p) step at
+latch_spares (OfSession session own) p step at rests = of_no_word (OfSession session own) p (eighth_outside session own p) step at
 
 either_at : (c : Bool) (p : Places) (a b : Latching) → IsAtLatch p a → IsAtLatch p b → IsAtLatch p (if c then a else b)
 either_at true p a b one other = one

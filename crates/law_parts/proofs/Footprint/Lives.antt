@@ -1,6 +1,6 @@
 -- What holds at each moment of a session's own run holds of it at each moment of a life, and so for the keeper. So each ask of the keeper's
 -- spares each part, but the mailbox that it is at and the durable word that it stores.
-use Rattle.std.proofs.Common.{◌≡◌, ℕ, ◌∙◌, refl, sym, subst, List}
+use Rattle.std.proofs.Common.{◌≡◌, ℕ, ◌∙◌, refl, sym, subst, List, false}
 use Rattle.std.specs.Prelude.{Option, Some, None, slice_get}
 use Rattle.fkv_base.specs.declared.shapes.Shape.{Shape}
 use Rattle.fkv_plane.specs.declared.places.Places.{Places}
@@ -14,10 +14,10 @@ use Rattle.fkv_world.specs.Runs.{World, run}
 use Rattle.fkv_world.specs.World.{Event, seat_at}
 use Rattle.fkv_world.proofs.Shown.{keeper_runs, session_runs, same_seat, places_stay, shape_stays}
 use Rattle.law_world.proofs.OfRuns.Nothing.{none_ever}
-use Rattle.law_parts.specs.Footprint.{Part, HasSeats, Spares}
+use Rattle.law_parts.specs.Footprint.{Part, ThePhase, HasSeats, Spares}
 use Rattle.law_parts.specs.Mail.Servers.{serving_of}
 use Rattle.law_parts.proofs.Footprint.Commits.{IsStoredNot}
-use Rattle.law_parts.proofs.Footprint.Keepers.{IsKeeperSparing, keeper_asks_spares, keeper_run_spares}
+use Rattle.law_parts.proofs.Footprint.Keepers.{IsKeeperSparing, keeper_stores, keeper_asks_spares, keeper_run_spares}
 use Rattle.law_parts.proofs.Footprint.Serves.{IsServedNot}
 
 -- an item of a list is one
@@ -47,11 +47,11 @@ keeper_spared opening events opened =
     let ran = keeper_run_spares count opening.now.shape opening.now.places opening.now.keeper (keeper_events opening events) opened refl in
     subst (λ (s : KeeperState). IsKeeperSparing opening.now.shape.sessions count s) (sym (keeper_runs opening events)) ran
 
-pub keeper_spares : (part : Part) (opening : World) (events : List Event) → keeper.IsOpened opening.now.keeper → HasSeats part opening.now.places opening.now.shape.sessions → HasSeats part opening.now.places opening.now.keeper.finish.sessions
+pub keeper_spares : (part : Part) (opening : World) (events : List Event) → (part ≡ ThePhase → keeper_stores (run opening events).now.keeper (run opening events).now.keeper.step ≡ false) → keeper.IsOpened opening.now.keeper → HasSeats part opening.now.places opening.now.shape.sessions → HasSeats part opening.now.places opening.now.keeper.finish.sessions
     → IsServedNot part (serving_of (run opening events).now.keeper) → ((run opening events).now.keeper.step ≡ Finishes → IsStoredNot part (run opening events).now.keeper.finish.step)
     → Spares part (run opening events).now.places (keeper_ask (run opening events).now.shape (run opening events).now.places (run opening events).now.keeper)
-keeper_spares part opening events opened served finished none other =
+keeper_spares part opening events apart opened served finished none other =
     let s : KeeperState = (run opening events).now.keeper in
-    let its : Spares part opening.now.places (keeper_ask opening.now.shape opening.now.places s) = keeper_asks_spares part opening.now.shape opening.now.places opening.now.keeper.finish.sessions s served finished (keeper_spared opening events opened) none other in
+    let its : Spares part opening.now.places (keeper_ask opening.now.shape opening.now.places s) = keeper_asks_spares part opening.now.shape opening.now.places opening.now.keeper.finish.sessions s apart served finished (keeper_spared opening events opened) none other in
     subst (λ (shape : Shape). Spares part (run opening events).now.places (keeper_ask shape (run opening events).now.places s)) (sym (shape_stays opening events))
     (subst (λ (p : Places). Spares part p (keeper_ask opening.now.shape p s)) (sym (places_stay opening events)) its)

@@ -23,7 +23,7 @@ use Rattle.fkv_maintain.specs.declared.maintaining.Maintaining.{Maintaining}
 use Rattle.fkv_maintain.specs.declared.maintaining.Maintaining.TheVariants.{Through, Spent, Broken, Scans, Claims, Flushes, Shifts, Turns, Serves}
 use Rattle.fkv_maintain.specs.Maintaining.{MaintainState, maintain_begun, device_asked, maintaining_ask, maintain_ask, scan_ledto, claim_ledto, flush_ledto, shift_ledto, serve_ledto, serve_begun, turn_ledto, maintaining_next, maintain_next, maintaining_given, maintain_given, maintaining_called, maintain_called}
 use Rattle.law_parts.specs.Mail.Servers.{maintain_serving}
-use Rattle.law_parts.specs.Footprint.{Part, HasSeats, Spares}
+use Rattle.law_parts.specs.Footprint.{Part, ThePhase, HasSeats, Spares, stores_phase}
 use Rattle.law_parts.proofs.Footprint.Latching.{passed_spares}
 use Rattle.law_parts.proofs.Footprint.Epochs.{scan_spares, claim_spares, claim_range, claim_given_range}
 use Rattle.law_parts.proofs.Footprint.Moves.{IsShiftInRange, shift_spares, shift_range, IsTurnInRange, turn_spares, turn_range}
@@ -40,6 +40,11 @@ MaintainBounds n s step = ⊤
 abbrev pub IsMaintainSparing : ℕ → MaintainState → Type 0
 IsMaintainSparing n s = MaintainBounds n s s.step
 
+-- it is about to store a phase
+abbrev pub maintain_stores : MaintainState → Maintaining → Bool
+maintain_stores s Claims = stores_phase s.claiming
+maintain_stores s step = false
+
 -- what it asks for
 device_spares : (part : Part) (p : Places) (ask : Ask DeviceAnswer) → Spares part p ask → Spares part p (device_asked ask)
 unfolding device_asked passed
@@ -47,18 +52,18 @@ device_spares part p (Done device.Device) spares = tt
 device_spares part p (Done device.Through) spares = tt
 device_spares part p ask spares = spares
 
-maintaining_spares : (part : Part) (shape : Shape) (p : Places) (n : ℕ) (s : MaintainState) (step : Maintaining) → HasSeats part p n → MaintainBounds n s step → IsServedNot part (maintain_serving s step) → Spares part p (maintaining_ask shape p s step)
+maintaining_spares : (part : Part) (shape : Shape) (p : Places) (n : ℕ) (s : MaintainState) (step : Maintaining) → (part ≡ ThePhase → maintain_stores s step ≡ false) → HasSeats part p n → MaintainBounds n s step → IsServedNot part (maintain_serving s step) → Spares part p (maintaining_ask shape p s step)
 unfolding maintaining_ask
-maintaining_spares part shape p n s Scans few bounds none = passed_spares part p _ _ (scan_spares part p s.scanning)
-maintaining_spares part shape p n s Claims few bounds none = passed_spares part p _ _ (claim_spares part p s.claiming bounds)
-maintaining_spares part shape p n s Flushes few bounds none = device_spares part p (flush_ask p s.flushing) (flush_spares part p s.flushing)
-maintaining_spares part shape p n s Shifts few bounds none = passed_spares part p _ _ (shift_spares part p s.shift bounds)
-maintaining_spares part shape p n s Turns few bounds none = passed_spares part p _ _ (turn_spares part p shape s.turn bounds)
-maintaining_spares part shape p n s Serves few bounds none = device_spares part p (serve_ask s.serving) (serve_spares part p n s.serving few bounds none)
-maintaining_spares part shape p n s step few bounds none = tt
+maintaining_spares part shape p n s Scans apart few bounds none = passed_spares part p _ _ (scan_spares part p s.scanning)
+maintaining_spares part shape p n s Claims apart few bounds none = passed_spares part p _ _ (claim_spares part p s.claiming bounds apart)
+maintaining_spares part shape p n s Flushes apart few bounds none = device_spares part p (flush_ask p s.flushing) (flush_spares part p s.flushing)
+maintaining_spares part shape p n s Shifts apart few bounds none = passed_spares part p _ _ (shift_spares part p s.shift bounds)
+maintaining_spares part shape p n s Turns apart few bounds none = passed_spares part p _ _ (turn_spares part p shape s.turn bounds)
+maintaining_spares part shape p n s Serves apart few bounds none = device_spares part p (serve_ask s.serving) (serve_spares part p n s.serving few bounds none)
+maintaining_spares part shape p n s step apart few bounds none = tt
 
-pub maintain_spares : (part : Part) (shape : Shape) (p : Places) (n : ℕ) (s : MaintainState) → HasSeats part p n → IsMaintainSparing n s → IsServedNot part (maintain_serving s s.step) → Spares part p (maintain_ask shape p s)
-maintain_spares part shape p n s few bounds none = maintaining_spares part shape p n s s.step few bounds none
+pub maintain_spares : (part : Part) (shape : Shape) (p : Places) (n : ℕ) (s : MaintainState) → (part ≡ ThePhase → maintain_stores s s.step ≡ false) → HasSeats part p n → IsMaintainSparing n s → IsServedNot part (maintain_serving s s.step) → Spares part p (maintain_ask shape p s)
+maintain_spares part shape p n s apart few bounds none = maintaining_spares part shape p n s s.step apart few bounds none
 
 -- where a reply leads
 stays_spares : (n : ℕ) (s : MaintainState) (step : Maintaining) → s.step ≡ step → MaintainBounds n s step → IsMaintainSparing n s

@@ -45,8 +45,8 @@ abbrev pub IsMoveInRange : Mover → Type 0
 IsMoveInRange m = MovesInRange m.step m.raising m.arming
 
 offset_spares : (part : Part) (p : Places) (offset : Offset) → IsOutside part p (offset_place offset)
-offset_spares part p ReadOnly = shared_outside part p one.ReadOnly (λ e. cc)
-offset_spares part p Head = shared_outside part p one.Head (λ e. cc)
+offset_spares part p ReadOnly = shared_outside part p one.ReadOnly (λ e. cc) (λ e. cc)
+offset_spares part p Head = shared_outside part p one.Head (λ e. cc) (λ e. cc)
 
 move_spares : (part : Part) (p : Places) (step : Moving) (raising : Raising) (arming : Arming) → MovesInRange step raising arming → Spares part p (moving_ask step raising arming)
 unfolding moving_ask
@@ -123,7 +123,7 @@ IsTurnInRange s = TurnsInRange s.step s.mover
 
 turning_spares : (part : Part) (p : Places) (shape : Shape) (step : Turning) (m : Mover) → TurnsInRange step m → Spares part p (turning_ask shape step m)
 unfolding turning_ask
-turning_spares part p shape (turn.RaisesLimit limit) m range = inl (shared_outside part p one.Limit (λ e. cc))
+turning_spares part p shape (turn.RaisesLimit limit) m range = inl (shared_outside part p one.Limit (λ e. cc) (λ e. cc))
 turning_spares part p shape turn.Moves m range = passed_spares part p _ _ (move_spares part p m.step m.raising m.arming range)
 turning_spares part p shape step m range = tt
 

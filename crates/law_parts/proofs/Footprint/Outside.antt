@@ -12,7 +12,7 @@ use Rattle.fkv_plane.specs.declared.places.SharedWord.TheVariants as one
 use Rattle.fkv_plane.specs.Places.{shared_place, drain_place, session_number, session_place, bucket_place, record_place, frames_start}
 use Rattle.fkv_latch.specs.LatchWorld.{has_latch, latch_of}
 use Rattle.fkv_session.specs.CatchingUp.{cut_of}
-use Rattle.law_parts.specs.Footprint.{OwnWords, Marks, Durable, Mail, first_word, last_word, Part, TheIndex, TheLatches, OfSession, TheMarks, TheDurable, TheMailbox, IsElsewhere, IsOutside, MaySet, HasSeat, HasSeats}
+use Rattle.law_parts.specs.Footprint.{OwnWords, Marks, Durable, Mail, first_word, last_word, Part, TheIndex, TheLatches, ThePhase, OfSession, TheMarks, TheDurable, TheMailbox, IsElsewhere, IsOutside, MaySet, HasSeat, HasSeats}
 
 -- of a session's sixteen words
 within : (its : OwnWords) → session_number (last_word its) < 16
@@ -28,30 +28,34 @@ before_index : (p : Places) (place : ℕ) → place < bucket_place p 0 0 → pla
 before_index p place low other = record { no_count = other; no_bucket = grind (arith, nat_tests, low) }
 
 -- the words before those of the sessions
-low_outside : (part : Part) (p : Places) (place : ℕ) → place < 24 → (part ≡ TheIndex → place ≢ shared_place one.Taken) → IsOutside part p place
-low_outside TheIndex p place low other = before_index p place (omega (arith, low)) (other refl)
-low_outside TheLatches p place low other = before_latches p place (omega (arith, low))
-low_outside (OfSession session its) p place low other = λ there among. let from = among.from in omega (arith, low, from)
+low_outside : (part : Part) (p : Places) (place : ℕ) → place < 24 → (part ≡ TheIndex → place ≢ shared_place one.Taken) → (part ≡ ThePhase → place ≢ shared_place one.Phase) → IsOutside part p place
+low_outside TheIndex p place low other apart = before_index p place (omega (arith, low)) (other refl)
+low_outside TheLatches p place low other apart = before_latches p place (omega (arith, low))
+low_outside ThePhase p place low other apart = apart refl
+low_outside (OfSession session its) p place low other apart = λ there among. let from = among.from in omega (arith, low, from)
 
--- the words that the store has once: the count of taken overflow buckets is the index's
-pub shared_outside : (part : Part) (p : Places) (word : SharedWord) → word ≢ one.Taken → IsOutside part p (shared_place word)
-shared_outside part p one.Epoch other = low_outside part p 0 (omega arith) (λ index e. cc)
-shared_outside part p one.SafeEpoch other = low_outside part p 1 (omega arith) (λ index e. cc)
-shared_outside part p one.Phase other = low_outside part p 2 (omega arith) (λ index e. cc)
-shared_outside part p one.Tail other = low_outside part p 3 (omega arith) (λ index e. cc)
-shared_outside part p one.Limit other = low_outside part p 4 (omega arith) (λ index e. cc)
-shared_outside part p one.ReadOnly other = low_outside part p 5 (omega arith) (λ index e. cc)
-shared_outside part p one.SafeReadOnly other = low_outside part p 6 (omega arith) (λ index e. cc)
-shared_outside part p one.Flushed other = low_outside part p 7 (omega arith) (λ index e. cc)
-shared_outside part p one.Head other = low_outside part p 8 (omega arith) (λ index e. cc)
-shared_outside part p one.Closed other = low_outside part p 9 (omega arith) (λ index e. cc)
-shared_outside part p one.Taken other = absurd (other refl)
+-- the words that the store has once: the count of taken overflow buckets is the index's, and the phase word is a part by itself
+pub shared_outside : (part : Part) (p : Places) (word : SharedWord) → word ≢ one.Taken → word ≢ one.Phase → IsOutside part p (shared_place word)
+shared_outside part p one.Epoch other apart = low_outside part p 0 (omega arith) (λ index e. cc) (λ phase e. cc)
+shared_outside part p one.SafeEpoch other apart = low_outside part p 1 (omega arith) (λ index e. cc) (λ phase e. cc)
+shared_outside part p one.Phase other apart = absurd (apart refl)
+shared_outside part p one.Tail other apart = low_outside part p 3 (omega arith) (λ index e. cc) (λ phase e. cc)
+shared_outside part p one.Limit other apart = low_outside part p 4 (omega arith) (λ index e. cc) (λ phase e. cc)
+shared_outside part p one.ReadOnly other apart = low_outside part p 5 (omega arith) (λ index e. cc) (λ phase e. cc)
+shared_outside part p one.SafeReadOnly other apart = low_outside part p 6 (omega arith) (λ index e. cc) (λ phase e. cc)
+shared_outside part p one.Flushed other apart = low_outside part p 7 (omega arith) (λ index e. cc) (λ phase e. cc)
+shared_outside part p one.Head other apart = low_outside part p 8 (omega arith) (λ index e. cc) (λ phase e. cc)
+shared_outside part p one.Closed other apart = low_outside part p 9 (omega arith) (λ index e. cc) (λ phase e. cc)
+shared_outside part p one.Taken other apart = absurd (other refl)
+
+pub phase_outside : (part : Part) (p : Places) → part ≢ ThePhase → IsOutside part p (shared_place one.Phase)
+phase_outside part p other = low_outside part p 2 (omega arith) (λ index e. cc) (λ phase e. other phase)
 
 pub taken_outside : (part : Part) (p : Places) → part ≢ TheIndex → IsOutside part p (shared_place one.Taken)
-taken_outside part p other = low_outside part p 10 (omega arith) (λ index e. other index)
+taken_outside part p other = low_outside part p 10 (omega arith) (λ index e. other index) (λ phase e. cc)
 
 pub drain_outside : (part : Part) (p : Places) (slot : ℕ) → slot < drain_slots → IsOutside part p (drain_place slot)
-drain_outside part p slot low = low_outside part p (drain_place slot) (omega (arith, low)) (λ index e. omega (arith, e))
+drain_outside part p slot low = low_outside part p (drain_place slot) (omega (arith, low)) (λ index e. omega (arith, e)) (λ phase e. omega (arith, e))
 
 number_below : (word : SessionWord) → session_number word < 16
 number_below own.Epoch = omega arith
@@ -74,6 +78,7 @@ HasWord part number word = ⊥
 own_outside : (part : Part) (p : Places) (number : ℕ) (word : SessionWord) → HasSeat part p number → (HasWord part number word → ⊥) → IsOutside part p (session_place number word)
 own_outside TheIndex p number word there lacks = let few = number_below word in before_index p (session_place number word) (omega (arith, few, there)) (λ e. omega (arith, e))
 own_outside TheLatches p number word there lacks = let few = number_below word in before_latches p (session_place number word) (omega (arith, few, there))
+own_outside ThePhase p number word there lacks = λ e. omega (arith, e)
 own_outside (OfSession session its) p number word there lacks = λ inside among.
     let few = number_below word in
     let its_few = within its in
@@ -135,6 +140,7 @@ record_outside TheIndex p addr word =
     let high : frames_start p ≤ record_place p addr word = omega arith in
     record { no_count = λ e. omega (arith, e); no_bucket = grind (arith, nat_tests, high) }
 record_outside TheLatches p addr word = let high : bucket_place p p.buckets 0 ≤ record_place p addr word = omega arith in grind (arith, nat_tests, high)
+record_outside ThePhase p addr word = λ e. omega (arith, e)
 record_outside (OfSession session its) p addr word = λ there among. let few = within its in let to = among.to in omega (arith, there, few, to)
 
 -- the words of buckets are no session's, and a bucket's slots have no latch
@@ -146,6 +152,7 @@ slot_outside TheIndex p bucket slot low other = absurd (other refl)
 slot_outside TheLatches p bucket slot low other =
     let within : (bucket_place p bucket slot - bucket_place p 0 0) % 8 ≡ slot = omega (arith, low) in
     grind (arith, nat_tests, low, within)
+slot_outside ThePhase p bucket slot low other = λ e. omega (arith, e)
 slot_outside (OfSession session its) p bucket slot low other = bucket_outside session its p bucket slot
 
 -- a link that is set where there was none keeps the bits above it
@@ -156,10 +163,12 @@ link_outside TheLatches p bucket word spare none few other = inr (keeps word spa
   where
     keeps : (word spare : ℕ) → word % 2 ^ 48 ≡ 0 → spare ≤ max_overflow → latch_of (word + spare) ≡ latch_of word
     keeps word spare none few = omega (arith, none, few)
+link_outside ThePhase p bucket word spare none few other = inl (λ e. omega (arith, e))
 link_outside (OfSession session its) p bucket word spare none few other = inl (bucket_outside session its p bucket 7)
 
 -- one of so many sessions
 pub seat_of : (part : Part) (p : Places) (count number : ℕ) → HasSeats part p count → number < count → HasSeat part p number
 seat_of TheIndex p count number few low = omega (arith, few, low)
 seat_of TheLatches p count number few low = omega (arith, few, low)
+seat_of ThePhase p count number few low = omega (arith, few, low)
 seat_of (OfSession session its) p count number few low = tt

@@ -1,5 +1,5 @@
 -- A session's own turn spares each part.
-use Rattle.std.proofs.Common.{◌≡◌, ℕ, refl, sym, subst, arith}
+use Rattle.std.proofs.Common.{◌≡◌, ℕ, refl, sym, subst, arith, Bool, false}
 use Rattle.std.specs.Prelude.{⊤}
 use Rattle.fkv_base.specs.declared.shapes.Shape.{Shape}
 use Rattle.fkv_plane.specs.declared.actions.Action.{Action}
@@ -15,7 +15,7 @@ use Rattle.fkv_log.specs.Turning.{turn_next}
 use Rattle.fkv_session.specs.declared.own_turns.OwnTurning.{OwnTurning}
 use Rattle.fkv_session.specs.declared.own_turns.OwnTurning.TheVariants.{Ended, Scans, Claims, Shifts, Opens}
 use Rattle.fkv_session.specs.OwnTurns.{OwnTurnState, own_turn_begun, own_turning_ask, own_turn_ask, scan_ledto, claim_ledto, shift_ledto, open_ledto, own_turning_next, own_turn_next, own_turning_given, own_turn_given}
-use Rattle.law_parts.specs.Footprint.{Part, Spares}
+use Rattle.law_parts.specs.Footprint.{Part, ThePhase, Spares, stores_phase}
 use Rattle.law_parts.proofs.Footprint.Latching.{passed_spares}
 use Rattle.law_parts.proofs.Footprint.Epochs.{scan_spares, claim_spares, claim_range, claim_given_range}
 use Rattle.law_parts.proofs.Footprint.Moves.{IsShiftInRange, shift_spares, shift_range, IsTurnInRange, turn_spares, turn_range}
@@ -30,17 +30,22 @@ TurnBounds o step = ⊤
 abbrev pub IsOwnTurnSparing : OwnTurnState → Type 0
 IsOwnTurnSparing o = TurnBounds o o.step
 
--- what it asks for
-turning_spares : (part : Part) (p : Places) (shape : Shape) (o : OwnTurnState) (step : OwnTurning) → TurnBounds o step → Spares part p (own_turning_ask shape o step)
-unfolding own_turning_ask
-turning_spares part p shape o Ended bounds = tt
-turning_spares part p shape o Scans bounds = passed_spares part p _ _ (scan_spares part p o.scanning)
-turning_spares part p shape o Claims bounds = passed_spares part p _ _ (claim_spares part p o.claiming bounds)
-turning_spares part p shape o Shifts bounds = passed_spares part p _ _ (shift_spares part p o.shift bounds)
-turning_spares part p shape o Opens bounds = passed_spares part p _ _ (turn_spares part p shape o.turn bounds)
+-- it is about to store a phase
+abbrev pub turn_stores : OwnTurnState → OwnTurning → Bool
+turn_stores o Claims = stores_phase o.claiming
+turn_stores o step = false
 
-pub own_turn_spares : (part : Part) (p : Places) (shape : Shape) (o : OwnTurnState) → IsOwnTurnSparing o → Spares part p (own_turn_ask shape o)
-own_turn_spares part p shape o bounds = turning_spares part p shape o o.step bounds
+-- what it asks for
+turning_spares : (part : Part) (p : Places) (shape : Shape) (o : OwnTurnState) (step : OwnTurning) → TurnBounds o step → (part ≡ ThePhase → turn_stores o step ≡ false) → Spares part p (own_turning_ask shape o step)
+unfolding own_turning_ask
+turning_spares part p shape o Ended bounds none = tt
+turning_spares part p shape o Scans bounds none = passed_spares part p _ _ (scan_spares part p o.scanning)
+turning_spares part p shape o Claims bounds none = passed_spares part p _ _ (claim_spares part p o.claiming bounds none)
+turning_spares part p shape o Shifts bounds none = passed_spares part p _ _ (shift_spares part p o.shift bounds)
+turning_spares part p shape o Opens bounds none = passed_spares part p _ _ (turn_spares part p shape o.turn bounds)
+
+pub own_turn_spares : (part : Part) (p : Places) (shape : Shape) (o : OwnTurnState) → IsOwnTurnSparing o → (part ≡ ThePhase → turn_stores o o.step ≡ false) → Spares part p (own_turn_ask shape o)
+own_turn_spares part p shape o bounds none = turning_spares part p shape o o.step bounds none
 
 stays_spares : (o : OwnTurnState) (step : OwnTurning) → o.step ≡ step → TurnBounds o step → IsOwnTurnSparing o
 stays_spares o step at bounds = subst (λ x. TurnBounds o x) (sym at) bounds

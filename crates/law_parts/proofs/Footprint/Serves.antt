@@ -18,7 +18,7 @@ use Rattle.law_parts.proofs.Footprint.Outside.{shared_outside, mail_outside, sea
 -- what a flush asks for
 pub flush_spares : (part : Part) (p : Places) (step : Flushing) → Spares part p (flush_ask p step)
 unfolding flush_ask
-flush_spares part p (flush.RaisesFlushed end) = shared_outside part p one.Flushed (λ e. cc)
+flush_spares part p (flush.RaisesFlushed end) = shared_outside part p one.Flushed (λ e. cc) (λ e. cc)
 flush_spares part p step = tt
 
 -- it is at one of so many mailboxes

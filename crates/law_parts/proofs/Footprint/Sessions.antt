@@ -35,7 +35,7 @@ use Rattle.fkv_session.specs.CatchingUp.{refresh_begun, wake_begun}
 use Rattle.fkv_session.specs.OwnTurns.{own_turn_begun, own_turn_given}
 use Rattle.fkv_session.specs.Sessions.{SessionState, Seat, IsOpened, bits_of, room_of, answers, refuses, answers_after_turn, request_in_hand, attempts, polls_request, polls_at, refusal_of, op_begun, refresh_call, poll_begun, poll_call, sleep_call, wake_call, call_begun, ticket_after, attempt_left, serial_taken, update_done, is_no_room, lacks_room, with_request, accepts, shifts, attempted, attempt_ledto, caught_up, catch_ledto, clear_ledto, is_finished, is_owed, request_finished, finishes_request, keeps_request, poll_ledto, turn_ledto, leave_ledto, attempt_moved, caught, own_turn_moved, sitting_ask, session_ask, sitting_next, session_next, sitting_given, session_given, asks_after, is_word_ask, is_busy}
 use Rattle.fkv_session.specs.SessionRun.{SessionEvent, Begins, Replies, Gets, begins, session_happens, session_run}
-use Rattle.law_parts.specs.Footprint.{Part, TheIndex, TheLatches, TheMarks, TheMailbox, HasSeat, Spares}
+use Rattle.law_parts.specs.Footprint.{Part, TheIndex, TheLatches, ThePhase, TheMarks, TheMailbox, HasSeat, Spares}
 use Rattle.law_parts.specs.Index.Finders.{sitting_part, search_in, entry_in}
 use Rattle.law_parts.specs.Latches.Latchers.{sitting_latching}
 use Rattle.law_parts.specs.Mail.Mailers.{sitting_mailing}
@@ -43,7 +43,7 @@ use Rattle.law_parts.proofs.Footprint.Attempts.{mail_spares, is_other, IsAttempt
 use Rattle.law_parts.proofs.Footprint.Catches.{IsCatchSparing, is_marking, not_marks, catch_spares, catch_next_spares}
 use Rattle.law_parts.proofs.Footprint.Epochs.{leave_spares}
 use Rattle.law_parts.proofs.Footprint.Latching.{passed_spares}
-use Rattle.law_parts.proofs.Footprint.OwnTurns.{IsOwnTurnSparing, own_turn_spares, own_turn_next_spares, own_turn_given_spares, own_turn_begun_spares}
+use Rattle.law_parts.proofs.Footprint.OwnTurns.{IsOwnTurnSparing, turn_stores, own_turn_spares, own_turn_next_spares, own_turn_given_spares, own_turn_begun_spares}
 use Rattle.law_parts.proofs.OfIndex.SessionParts.{SittingKnows}
 use Rattle.law_parts.proofs.Footprint.Outside.{owing_outside, cut_outside}
 
@@ -65,6 +65,11 @@ sitting_marks s (StoresOwing index) = true
 sitting_marks s StoresCut = true
 sitting_marks s step = false
 
+-- in its own turn it is about to store a phase
+abbrev pub sitting_stores : SessionState → Sitting → Bool
+sitting_stores s (Turns its) = turn_stores s.own_turn s.own_turn.step
+sitting_stores s step = false
+
 -- no machine that works on the part is under way
 pub record SittingRests (part : Part) (k : Seat) (s : SessionState) (step : Sitting) : Type 0 where
   pub knows : part ≡ TheIndex → SittingKnows k.places s step
@@ -73,6 +78,7 @@ pub record SittingRests (part : Part) (k : Seat) (s : SessionState) (step : Sitt
   pub latch : part ≡ TheLatches → sitting_latching s step ≡ latching.AtRest
   pub mail : part ≡ TheMailbox k.number → sitting_mailing s step ≡ None
   pub marks : part ≡ TheMarks k.number → sitting_marks s step ≡ false
+  pub phase : part ≡ ThePhase → sitting_stores s step ≡ false
 
 abbrev pub SessionRests : Part → Seat → SessionState → Type 0
 SessionRests part k s = SittingRests part k s s.step
@@ -88,7 +94,7 @@ sitting_spares part k s ClearsMail there at rests = passed_spares part k.places 
 sitting_spares part k s (Polls index) there at rests =
     passed_spares part k.places _ _ (attempt_spares part k.places k.number s.attempt there at (record { knows = λ same. (rests.knows same).knows; search = rests.search; entry = rests.entry; latch = rests.latch; mail = rests.mail }))
 sitting_spares part k s (StoresOwing index) there at rests = owing_outside part k.places k.number there (not_marks part k.number rests.marks)
-sitting_spares part k s (Turns its) there at rests = passed_spares part k.places _ _ (own_turn_spares part k.places k.shape s.own_turn at)
+sitting_spares part k s (Turns its) there at rests = passed_spares part k.places _ _ (own_turn_spares part k.places k.shape s.own_turn at rests.phase)
 sitting_spares part k s StoresCut there at rests = cut_outside part k.places k.number s.seen.version.0 there (not_marks part k.number rests.marks)
 sitting_spares part k s Leaves there at rests = passed_spares part k.places _ _ (leave_spares part k.places k.number s.leaving there)
 sitting_spares part k s LoadsDurable there at rests = tt

@@ -145,4 +145,4 @@ walk_on_spares p w its = on_spares p w w.step refl its
 
 -- as it begins
 pub walk_begun_spares : (p : Places) (home : Home) (key : Key) (purpose : Purpose) (head : Addr) (spare : ℕ) → IsWalkSparing p (walk_begun p home key purpose head spare)
-walk_begun_spares p home key purpose head spare = record { place = λ part other. shared_outside part p one.Epoch (λ e. cc); finds = first_spares p home purpose spare }
+walk_begun_spares p home key purpose head spare = record { place = λ part other. shared_outside part p one.Epoch (λ e. cc) (λ e. cc); finds = first_spares p home purpose spare }

@@ -40,7 +40,7 @@ session_spares opening lists events i None opened is = tt
 session_spares opening lists events i (Some s) opened is = λ search entry.
     let n : Now = (run opening events).now in
     let its : Ran (seat_at n i) s = at_each_moment Ran opening events i s (λ first was. has_run opening lists events i first opened was) is in
-    let rests : SessionRests TheIndex (seat_at n i) s = record { knows = λ e. its.knows; search = λ e. search; entry = λ e. entry; latch = λ e. cc; mail = λ e. cc; marks = λ e. cc } in
+    let rests : SessionRests TheIndex (seat_at n i) s = record { knows = λ e. its.knows; search = λ e. search; entry = λ e. entry; latch = λ e. cc; mail = λ e. cc; marks = λ e. cc; phase = λ e. cc } in
     leaves_spares n.places n.words (session_ask (seat_at n i) s) (session_asks_spares TheIndex (seat_at n i) s its.there its.spared rests)
 
 -- so is the keeper
@@ -50,7 +50,7 @@ keeper_spared opening lists events opened =
     let n : Now = (run opening events).now in
     let served = opened.served in
     let finished = opened.finished in
-    leaves_spares n.places n.words (keeper_ask n.shape n.places n.keeper) (keeper_spares TheIndex opening events opened.keeper (omega (arith, served)) (omega (arith, served, finished)) (λ session e. cc) (λ finishes session e. cc))
+    leaves_spares n.places n.words (keeper_ask n.shape n.places n.keeper) (keeper_spares TheIndex opening events (λ e. cc) opened.keeper (omega (arith, served)) (omega (arith, served, finished)) (λ session e. cc) (λ finishes session e. cc))
 
 is_permitted : (opening : World) (lists : ℕ → List ℕ) (before : List Event) (event : Event) → IsOpened opening lists → IsPermitted (run opening before).now event
 is_permitted opening lists before (Moves i) opened = session_spares opening lists before i (slice_get (run opening before).now.sessions i) opened refl

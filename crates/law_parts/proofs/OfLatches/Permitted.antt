@@ -49,7 +49,7 @@ session_spares n w i (Some s) there holds = λ rests.
     let k : Seat = seat_at n i in
     let came = (holds.seats i s there).sits.came in
     let spared : IsSessionSparing n.places s = subst (λ (x : SessionState). IsSessionSparing n.places x) (sym came.same) (session_run_spares k came.opening came.events came.opened) in
-    let others : SessionRests TheLatches k s = record { knows = λ e. cc; search = λ e. cc; entry = λ e. cc; latch = λ e. rests; mail = λ e. cc; marks = λ e. cc } in
+    let others : SessionRests TheLatches k s = record { knows = λ e. cc; search = λ e. cc; entry = λ e. cc; latch = λ e. rests; mail = λ e. cc; marks = λ e. cc; phase = λ e. cc } in
     leaves_latches n.places n.words (session_ask k s) (session_asks_spares TheLatches k s (seat_there n w i s holds there) spared others)
 
 -- so is the keeper
@@ -59,7 +59,7 @@ keeper_spared first events opened =
     let n : Now = (run first events).now in
     let served = opened.served in
     let finished = opened.finished in
-    leaves_latches n.places n.words (keeper_ask n.shape n.places n.keeper) (keeper_spares TheLatches first events opened.keeper (omega (arith, served)) (omega (arith, served, finished)) (λ session e. cc) (λ finishes session e. cc))
+    leaves_latches n.places n.words (keeper_ask n.shape n.places n.keeper) (keeper_spares TheLatches first events (λ e. cc) opened.keeper (omega (arith, served)) (omega (arith, served, finished)) (λ session e. cc) (λ finishes session e. cc))
 
 is_permitted : (first : World) (before : List Event) (event : Event) (w : LatchWorld) → IsOpened first.now → Holds (run first before).now w → IsPermitted (run first before).now event
 is_permitted first before (Moves i) w opened holds = session_spares (run first before).now w i (slice_get (run first before).now.sessions i) refl holds

@@ -34,7 +34,7 @@ session_spares opening session events i (Some s) opened is = λ none.
     let n : Now = (run opening events).now in
     let k : Seat = seat_at n i in
     let its : IsSessionSparing k.places s = at_each_moment (λ seat x. IsSessionSparing seat.places x) opening events i s (λ first was. session_run_spares (seat_at opening.now i) first (session_events opening i events) (opened.sessions i first was)) is in
-    let rests : SessionRests (TheMailbox session) k s = record { knows = λ e. cc; search = λ e. cc; entry = λ e. cc; latch = λ e. cc; mail = λ e. none (same_number session i e); marks = λ e. cc } in
+    let rests : SessionRests (TheMailbox session) k s = record { knows = λ e. cc; search = λ e. cc; entry = λ e. cc; latch = λ e. cc; mail = λ e. none (same_number session i e); marks = λ e. cc; phase = λ e. cc } in
     session_asks_spares (TheMailbox session) k s tt its rests
 
 -- so does the keeper
@@ -43,7 +43,7 @@ keeper_spared : (opening : World) (session : ℕ) (events : List Event) → IsOp
 keeper_spared opening session events opened none =
     let n : Now = (run opening events).now in
     let other : (number : ℕ) → TheMailbox session ≡ TheMailbox number → is_serving number (serving_of n.keeper) ≡ false = λ number e. subst (λ (x : ℕ). is_serving x (serving_of n.keeper) ≡ false) (sym (same_number session number e)) none in
-    keeper_spares (TheMailbox session) opening events opened.keeper tt tt other (λ finishes number e. cc)
+    keeper_spares (TheMailbox session) opening events (λ e. cc) opened.keeper tt tt other (λ finishes number e. cc)
 
 pub is_permitted : (opening : World) (session : ℕ) (before : List Event) (event : Event) → IsOpened opening.now session → IsPermitted (run opening before).now session event
 is_permitted opening session before (Moves i) opened = session_spares opening session before i (slice_get (run opening before).now.sessions i) opened refl

@@ -8,6 +8,7 @@ use Rattle.law_commit.proofs.OfCuts.Left.{life_left}
 use Rattle.law_commit.proofs.OfCuts.Marks.{life_marks}
 use Rattle.law_commit.proofs.OfCuts.Serials.{life_most}
 use Rattle.law_commit.proofs.OfCuts.Told.{cut_asleep, marks_told, owed_near, told_in_order}
+use Rattle.law_commit.proofs.OfPhases.LifeStages.{first_version, rising_version}
 use Rattle.law_commit.proofs.cuts.law_cuts_stand.Goals as goal
 
 pub returns-clause-told : goal.returns-clause-told
@@ -44,7 +45,8 @@ pub returns-clause-always : goal.returns-clause-always
 returns-clause-always c = λ opening events session first its became words shows. always_told opening events session first its became words shows
 
 pub returns-clause-left : goal.returns-clause-left
-returns-clause-left c = λ opening events session first its became fits rises. life_left opening events session first its became fits rises
+returns-clause-left c = λ opening start events session first its became guarded rests.
+    life_left opening events session first its became (first_version opening session first its events became rests) (rising_version opening start events session first its became guarded rests)
 
 pub returns-clause-serials : goal.returns-clause-serials
 returns-clause-serials c = λ opening events session first its place became words shows cut. life_most opening events session first its place became words shows cut

@@ -3,6 +3,7 @@ use Rattle.law_commit.proofs.LifeBegun.{life_stands, life_turn}
 use Rattle.law_commit.proofs.NewestWritten.{life_written}
 use Rattle.law_commit.proofs.ToldFinished.{life_finished}
 use Rattle.law_commit.proofs.NextNumbers.{numbers_in_turn}
+use Rattle.law_commit.proofs.OfPhases.LifeStages.{life_staged}
 use Rattle.law_commit.proofs.laws.law_begun.Goals as goal
 
 pub returns-clause-begun : goal.returns-clause-begun
@@ -12,10 +13,10 @@ pub returns-clause-written : goal.returns-clause-written
 returns-clause-written c = λ opening events opened stores. life_written opening events opened stores
 
 pub returns-clause-in_turn : goal.returns-clause-in_turn
-returns-clause-in_turn c = λ opening events opened turn. life_turn opening events opened turn
+returns-clause-in_turn c = λ opening start events opened guarded rests. life_turn opening events opened (numbers_in_turn opening events opened (life_staged opening start events guarded opened rests).rests)
 
 pub returns-clause-finished : goal.returns-clause-finished
 returns-clause-finished c = λ opening events opened. life_finished opening events opened
 
 pub returns-clause-numbers : goal.returns-clause-numbers
-returns-clause-numbers c = λ opening events opened next. numbers_in_turn opening events opened next
+returns-clause-numbers c = λ opening start events opened guarded rests. numbers_in_turn opening events opened (life_staged opening start events guarded opened rests).rests

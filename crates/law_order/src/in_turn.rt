@@ -1,0 +1,45 @@
+//! Of each life of a store that was opened: its commits' phases and numbers are in turn, so one commit always stands.
+ghost use Rattle.std.specs.Prelude.{ℕ, List};
+ghost use Rattle.fkv_core.specs.Openings.{IsOpeningWorld, beginning};
+ghost use Rattle.fkv_disk.specs.Device.{LeavesOnly};
+ghost use Rattle.fkv_opening.specs.Opened.{IsStoreOf};
+ghost use Rattle.fkv_opening.specs.declared.opened_store.Opened.{Opened};
+ghost use Rattle.fkv_world.specs.OwnEvents.{keeper_events};
+ghost use Rattle.fkv_world.specs.World.{Event, Now};
+ghost use Rattle.law_world.specs.Keeper.Lives.{IsLifeTold};
+ghost use Rattle.law_world.specs.Standing.Opening.{AreNumbersInTurn};
+ghost use Rattle.law_opening.specs.Lives.OpenedFrom.{IsOpenedFrom};
+ghost use Rattle.law_opening.specs.Lives.Steps.{AllLeadOn, OneCommitStands, Step, device_behind, events_of, now_behind};
+ghost use Rattle.law_commit.specs.Phases.Staged.{OpensAtRest};
+
+use crate::rest::law_rest_said;
+use crate::rules::law_life_begins;
+use fkv_disk::Device;
+use law_commit::law_begun;
+use law_opening::{law_opened_commit_stands, law_told_opens};
+
+/// An opened store opens at rest: its phase word says rest of the version behind its newest commit's number, and each session has seen that. So the laws of
+/// `law_commit` hold of each of its lives: versions never fall, and each commit that begins has the number behind the newest finished one's. So
+/// `law_world_one_commit_stands` speaks of each of its lives, with commits, crashes and failing calls of the device, whatever their order.
+pub fn law_phases_open()
+    ensures rests { (o : Opened) (n : Now) → IsOpeningWorld o n → OpensAtRest n }
+    ensures in_turn { (bytes : List ℕ) (o : Opened) (n : Now) (events : List Event) → IsStoreOf bytes o → IsOpeningWorld o n
+        → AreNumbersInTurn n.shape n.places n.keeper (keeper_events (beginning n bytes) events) }
+    ensures told { (bytes : List ℕ) (o : Opened) (n : Now) (events : List Event) → IsOpenedFrom bytes o n → IsLifeTold (beginning n bytes) events }
+{
+    law_rest_said();
+    law_life_begins();
+    law_begun();
+    law_told_opens();
+}
+
+/// And behind any steps of an opened store's world one commit stands in each image that a crash leaves of the device: the newest finished one, or, while
+/// the next one is written, that one; with the triples of the checkpoint that the newest finished commit uses.
+pub fn law_commit_always_stands<D: Device>(device: &D)
+    ensures { (o : Opened) (n : Now) (steps : List (Step D)) (image : List ℕ) → IsOpenedFrom (D.seen device.now) o n → LeavesOnly (D.seen device.now) (D.may_leave device.now)
+        → AllLeadOn D.seen D.may_leave n device.now steps → D.may_leave (device_behind device.now steps) image
+        → OneCommitStands (beginning n (D.seen device.now)) (events_of steps) (now_behind n steps) image }
+{
+    law_phases_open();
+    law_opened_commit_stands(device);
+}
