@@ -85,9 +85,13 @@ module _ (bytes image : List ℕ) (n : Newest) (triples : List Triple) (was : Ha
   }
 
   module _ (area : bytes_at image (area_place n.shape (let s = n.slot in s.area)) (16 * (let s = n.slot in s.triples)) ≡ bytes_at bytes (area_place n.shape (let s = n.slot in s.area)) (16 * (let s = n.slot in s.triples))) where
+    -- each triple reads as it was
+    pub triples_kept : (i : ℕ) → i < (let s = n.slot in s.triples) → bytes_at bytes (area_place n.shape (let s = n.slot in s.area) + 16 * i) 16 ≡ bytes_at image (area_place n.shape (let s = n.slot in s.area) + 16 * i) 16
+    triples_kept i low = sym (part_same image bytes (area_place n.shape (let s = n.slot in s.area)) (16 * (let s = n.slot in s.triples)) (16 * i) 16 area (omega (arith, low)))
+
     triple_kept : (i : ℕ) (x : Triple) → i < (let s = n.slot in s.triples) → IsTripleAt (checkpoint_in bytes n.shape n.slot) i x → IsTripleAt (checkpoint_in image n.shape n.slot) i x
     triple_kept i x low its = record {
-      stands = its.stands ∙ sym (part_same image bytes (area_place n.shape (let s = n.slot in s.area)) (16 * (let s = n.slot in s.triples)) (16 * i) 16 area (omega (arith, low)));
+      stands = its.stands ∙ triples_kept i low;
       in_index = its.in_index;
       in_log = its.in_log;
     }

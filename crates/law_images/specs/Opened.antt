@@ -7,11 +7,14 @@ use Rattle.fkv_keeper.specs.Keeping.{KeeperState}
 use Rattle.fkv_keeper.specs.KeeperRun.{KeeperEvent, keeper_run}
 use Rattle.fkv_manifest.specs.Newest.{slot_in}
 use Rattle.fkv_newest.specs.declared.newest_slots.Newest.{Newest}
+use Rattle.fkv_opening.specs.Alike.{ShareLog}
 use Rattle.fkv_opening.specs.Faults.{HasCheckpoint}
 use Rattle.fkv_opening.specs.Opened.{IsStoreOf}
 use Rattle.fkv_opening.specs.declared.opened_store.Opened.{Opened}
 use Rattle.fkv_plane.specs.declared.places.Places.{Places}
 use Rattle.fkv_record.specs.Places.{open_number}
+use Rattle.law_images.specs.Left.{OpensLong}
+use Rattle.law_paper.specs.Paper.Opened.{with_numbers}
 
 abbrev pub is_at_finish : Keeping → Bool
 is_at_finish Finishes = true
@@ -22,10 +25,13 @@ unfoldable pub FinishesNoCommit : Shape → Places → KeeperState → List Keep
 FinishesNoCommit shape p opening [] = ⊤
 FinishesNoCommit shape p opening (event ∷ before) = (is_at_finish (keeper_run shape p opening before).step ≡ false) × FinishesNoCommit shape p opening before
 
--- the newest slot of an image that names the same, beside what its open slots name
+-- the newest slot of the opened bytes, as it stands in an image: beside what the image's open slots name
 abbrev pub newest_in : List ℕ → Newest → Newest
-newest_in image n = record n { open_numbers = (open_number (slot_in image 512), open_number (slot_in image 1024)) }
+newest_in image n = with_numbers n (open_number (slot_in image 512), open_number (slot_in image 1024))
 
--- The commit is in force in the image as it was: its slot is the newest one, and it has the triples of its checkpoint. The other slot may be another.
-abbrev pub KeepsCommit : (bytes : List ℕ) (o : Opened) → IsStoreOf bytes o → List ℕ → Type 0
-KeepsCommit bytes o store image = HasCheckpoint image (newest_in image store.newest) store.triples
+-- The commit is in force in the image as it was: its slot is the newest one, and it has the triples of its checkpoint and its records. The image ends behind
+-- all of these. The other slot may be another.
+pub record KeepsCommit (bytes : List ℕ) (o : Opened) (store : IsStoreOf bytes o) (image : List ℕ) : Type 0 where
+  pub checkpoint : HasCheckpoint image (newest_in image store.newest) store.triples
+  pub log : ShareLog store.newest bytes image
+  pub long : OpensLong image

@@ -6,5 +6,7 @@ pub mod Old
 pub mod Opened
 mod Reach
 pub mod Room
+mod Shared
+mod SharedChains
 pub mod Sound
 mod Values

@@ -1,10 +1,10 @@
 //! What an image with a commit in force holds.
-ghost use Rattle.std.specs.Prelude.{◌↔◌, ◌≤◌, ℕ, List};
+ghost use Rattle.std.specs.Prelude.{◌↔◌, ◌≤◌, ℕ, List, Option};
 ghost use Rattle.fkv_chains.specs.Chains.{HasChains};
 ghost use Rattle.fkv_chains.specs.Entries.{Counts};
 ghost use Rattle.fkv_newest.specs.declared.newest_slots.Newest.{Newest};
 ghost use Rattle.fkv_opening.specs.Faults.{HasCheckpoint, log_of};
-ghost use Rattle.fkv_opening.specs.Alike.{Agree};
+ghost use Rattle.fkv_opening.specs.Alike.{Agree, ShareLog};
 ghost use Rattle.fkv_opening.specs.Opened.{IsStoreOf};
 ghost use Rattle.fkv_opening.specs.declared.opened_store.Opened.{Opened};
 ghost use Rattle.law_log.specs.Chains.{version_at};
@@ -17,12 +17,11 @@ ghost use Rattle.fkv_scan.specs.Log as scan;
 ghost use Rattle.fkv_scan.specs.Scan.{Has, HasScan};
 ghost use Rattle.law_paper.specs.Paper.Named.{HoldsCommit};
 ghost use Rattle.law_paper.specs.Paper.Old.{StandsOnOld};
-ghost use Rattle.law_paper.specs.Paper.Opened.{StandsAsOpened};
+ghost use Rattle.law_paper.specs.Paper.Opened.{StandsAsOpened, with_numbers};
 ghost use Rattle.law_paper.specs.Paper.Slots.{HasSlots};
 ghost use Rattle.law_paper.specs.Paper.Stands.{StandsOnPaper};
 ghost use Rattle.law_paper.specs.Paper.Values.{ShowsUpto};
 
-use fkv_opening::law_opens_alike;
 use fkv_record::{law_formats_apart, law_spellings_apart};
 
 /// A commit is in force that uses a checkpoint of the same life. Then recovery finds no fault in the scan and in the chains. What counts is what the log has
@@ -61,5 +60,13 @@ pub fn law_opened_paper_is_sound()
 {
     law_spellings_apart();
     law_formats_apart();
-    law_opens_alike();
+}
+
+/// The same holds of each image that has that commit's slot as its newest one, the triples of its checkpoint, and its records, whatever the open slots name:
+/// so it does while the first commit of a life is being written.
+pub fn law_kept_paper_is_sound()
+    ensures { (home : ℕ → ℕ) (bytes image : List ℕ) (o : Opened) (store : IsStoreOf bytes o) (numbers : Option ℕ × Option ℕ) (g : Log) → HasCheckpoint image (with_numbers store.newest numbers) store.triples → ShareLog store.newest bytes image → StandsAsOpened home (log_of_store bytes o store) g → HoldsCommit home image (with_numbers store.newest numbers) g }
+{
+    law_spellings_apart();
+    law_formats_apart();
 }

@@ -36,7 +36,7 @@ use Rattle.fkv_checkpoint.specs.declared.copying.CopyStep.{CopyStep}
 use Rattle.fkv_checkpoint.specs.declared.copying.CopyStep.TheVariants as copy
 use Rattle.fkv_checkpoint.specs.Copying.{Copier, copy_begun, copy_step_ask}
 use Rattle.fkv_commit.specs.declared.commits.Commit.{Commit}
-use Rattle.fkv_commit.specs.declared.commits.CommitKind.{CommitKind}
+use Rattle.fkv_base.specs.declared.commits.CommitKind.{CommitKind}
 use Rattle.fkv_commit.specs.declared.deferring.Deferred.{Deferred}
 use Rattle.fkv_commit.specs.declared.deferring.Deferred.TheVariants.{EntersPhase, ShowsReadOnly}
 use Rattle.fkv_commit.specs.declared.deferring.DeferAnswer.TheVariants.{NoSlot, Armed}

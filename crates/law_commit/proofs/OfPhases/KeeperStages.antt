@@ -17,7 +17,7 @@ use Rattle.fkv_plane.specs.declared.asks.Ask.TheVariants.{Done}
 use Rattle.fkv_plane.specs.declared.places.Places.{Places}
 use Rattle.fkv_checkpoint.specs.Copying.{copy_begun}
 use Rattle.fkv_commit.specs.declared.commits.Commit.{Commit}
-use Rattle.fkv_commit.specs.declared.commits.CommitKind.{CommitKind}
+use Rattle.fkv_base.specs.declared.commits.CommitKind.{CommitKind}
 use Rattle.fkv_commit.specs.declared.entering.EnterAnswer.{EnterAnswer}
 use Rattle.fkv_commit.specs.declared.entering.EnterAnswer.TheVariants as enter
 use Rattle.fkv_commit.specs.declared.entering.Entering.{Entering}

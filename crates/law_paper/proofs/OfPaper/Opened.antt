@@ -1,5 +1,6 @@
 -- While the opening's commit is in force, an image that recovery answers as the opened one holds that commit's store alone.
-use Rattle.std.proofs.Common.{⊎_elim, ℕ, ◌<◌, List, refl, sym, ap, subst, ◌∙◌, arith}
+use Rattle.std.proofs.Common.{⊎_elim, ℕ, ◌<◌, ◌≤◌, List, refl, sym, ap, subst, ◌∙◌, arith}
+use Rattle.std.specs.Prelude.{Option}
 use Rattle.std.proofs.lemmas.Bool.{cases_lt}
 use Rattle.std.proofs.lemmas.Option.{slice_get_within}
 use Rattle.fkv_chains.specs.Entries.{Counts}
@@ -18,10 +19,16 @@ use Rattle.fkv_scan.specs.Checkpoint.{AreTriples, checkpoint_in}
 use Rattle.fkv_scan.specs.Log as scan
 use Rattle.law_paper.specs.Paper.Named.{HoldsCommit}
 use Rattle.law_paper.specs.Paper.Old.{GoesOnFrom, WasSound}
-use Rattle.law_paper.specs.Paper.Opened.{StandsAsOpened}
+use Rattle.law_paper.specs.Paper.Opened.{StandsAsOpened, with_numbers}
 use Rattle.law_paper.specs.Paper.Values.{CountsAsLog}
+<<<<<<< HEAD
 use Rattle.fkv_opening.proofs.Shown.{Apart, one_log}
 use Rattle.law_paper.proofs.OfPaper.Named.{holds_with}
+=======
+use Rattle.law_paper.proofs.OfPaper.Named.{Spellings, holds_with}
+use Rattle.law_paper.proofs.OfPaper.Shared.{scan_on}
+use Rattle.law_paper.proofs.OfPaper.SharedChains.{chains_on, room_on}
+>>>>>>> images/images
 use Rattle.law_paper.proofs.OfPaper.Reach.{again, valid_now, was_low, was_some}
 
 -- ---- two images that share a log
@@ -68,8 +75,13 @@ module _ (n : Newest) (xs : List Triple) where
     pub counts_below : (h a : ℕ) (x : Record) → Counts (log bytes) h a x → a < n.slot.end.0
     counts_below h a x counts = was_low spellings.records was a counts.reached
 
+<<<<<<< HEAD
 -- ---- the image of which the opening's commit is told
 module _ (spellings : Apart) (bytes image : List ℕ) (o : Opened) (store : IsStoreOf bytes o) (agree : Agree bytes image) (turned : Agree image bytes) (again_store : IsStoreOf image o) where
+=======
+-- ---- an image in which the opening's commit is in force
+module _ (spellings : Spellings) (bytes image : List ℕ) (o : Opened) (store : IsStoreOf bytes o) (numbers : Option ℕ × Option ℕ) (kept : HasCheckpoint image (with_numbers store.newest numbers) store.triples) (shared : ShareLog store.newest bytes image) where
+>>>>>>> images/images
   abbrev n : Newest
   n = store.newest
 
@@ -79,32 +91,33 @@ module _ (spellings : Apart) (bytes image : List ℕ) (o : Opened) (store : IsSt
   abbrev was_checkpoint : HasCheckpoint bytes n xs
   was_checkpoint = store.checkpoint
 
-  its_newest : IsNewestOf image n
-  its_newest = told_alike bytes image agree.front n (let has = was_checkpoint in has.newest)
+  its_was : WasSound (log_of bytes n xs)
+  its_was = was_sound n xs bytes was_checkpoint store.sound
 
-  shared : ShareLog n bytes image
-  shared = agree.behind n (let has = was_checkpoint in has.newest)
+  upwards : n.slot.first.0 ≤ n.slot.end.0
+  upwards = (let newest = (let has = was_checkpoint in has.newest) in newest.manifest.suits.log.upwards)
 
-  its_triples : AreTriples (checkpoint_in image n.shape n.slot) xs
-  its_triples =
-      let stored = (let has = was_checkpoint in has.stored) in
-      record {
-        many = stored.many;
-        each = λ i x is.
-            let at = stored.each i x is in
-            let low : i < n.slot.triples = (let within = slice_get_within xs i x is in let many = stored.many in omega (arith, within, many)) in
-            record { stands = at.stands ∙ shared.triples i low; in_index = at.in_index; in_log = at.in_log };
-      }
+  sound_kept : IsSound (log_of image n xs)
+  sound_kept = record {
+    scan = scan_on n.shape n.slot xs its_was.some_start its_was.below bytes image shared.records store.sound.scan;
+    chains = chains_on spellings.records n.shape n.slot xs its_was.some_start upwards its_was.below bytes store.sound.scan image shared.records store.sound.chains;
+    room = room_on spellings.records n.shape n.slot xs its_was.some_start upwards its_was.below bytes image shared.records store.sound.scan store.sound.chains store.sound.room;
+  }
 
+<<<<<<< HEAD
   checkpoint_here : HasCheckpoint image n xs
   checkpoint_here = record { newest = its_newest; stored = its_triples; apart = (let has = was_checkpoint in has.apart) }
 
   sound_here : IsSound (log_of image n xs)
   sound_here = subst IsSound (one_log spellings image n again_store.newest xs again_store.triples checkpoint_here again_store.checkpoint) again_store.sound
+=======
+  share_back : ShareLog (with_numbers n numbers) image bytes
+  share_back = record { triples = λ i low. sym (shared.triples i low); records = λ a some low. sym (shared.records a some low) }
+>>>>>>> images/images
 
   module _ (home : ℕ → ℕ) (g : Log) (paper : StandsAsOpened home (log_of bytes n xs) g) where
     back : (h a : ℕ) (x : Record) → Counts (log_of image n xs) h a x → Counts (log_of bytes n xs) h a x
-    back = counts_on n xs spellings image bytes (turned.behind n its_newest) checkpoint_here sound_here
+    back = counts_on (with_numbers n numbers) xs spellings image bytes share_back kept sound_kept
 
     counts_as_opened : CountsAsLog home (log_of image n xs) g
     counts_as_opened = record {
@@ -127,5 +140,30 @@ module _ (spellings : Apart) (bytes image : List ℕ) (o : Opened) (store : IsSt
       tells = λ h a x counts. paper.tells h a x (back h a x counts);
     }
 
-    pub holds_opened : HoldsCommit home image n g
-    holds_opened = holds_with spellings image n xs checkpoint_here home g sound_here counts_as_opened
+    pub holds_kept : HoldsCommit home image (with_numbers n numbers) g
+    holds_kept = holds_with spellings image (with_numbers n numbers) xs kept home g sound_kept counts_as_opened
+
+-- ---- the image of which the opening's commit is told
+module _ (spellings : Spellings) (bytes image : List ℕ) (o : Opened) (store : IsStoreOf bytes o) (agree : Agree bytes image) where
+  its_newest : IsNewestOf image store.newest
+  its_newest = told_alike bytes image agree.front store.newest (let has = store.checkpoint in has.newest)
+
+  share_log : ShareLog store.newest bytes image
+  share_log = agree.behind store.newest (let has = store.checkpoint in has.newest)
+
+  its_triples : AreTriples (checkpoint_in image store.newest.shape store.newest.slot) store.triples
+  its_triples =
+      let stored = (let has = store.checkpoint in has.stored) in
+      record {
+        many = stored.many;
+        each = λ i x is.
+            let at = stored.each i x is in
+            let low : i < store.newest.slot.triples = (let within = slice_get_within store.triples i x is in let many = stored.many in omega (arith, within, many)) in
+            record { stands = at.stands ∙ share_log.triples i low; in_index = at.in_index; in_log = at.in_log };
+      }
+
+  checkpoint_here : HasCheckpoint image store.newest store.triples
+  checkpoint_here = record { newest = its_newest; stored = its_triples; apart = (let has = store.checkpoint in has.apart) }
+
+  pub holds_opened : (home : ℕ → ℕ) (g : Log) → StandsAsOpened home (log_of bytes store.newest store.triples) g → HoldsCommit home image store.newest g
+  holds_opened home g paper = holds_kept spellings bytes image o store store.newest.open_numbers checkpoint_here share_log home g paper

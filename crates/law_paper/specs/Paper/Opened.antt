@@ -1,6 +1,7 @@
 -- What stands of a log while the commit with which the store was opened is in force.
-use Rattle.std.specs.Prelude.{◌≡◌, ℕ, ◌<◌, ◌≤◌}
+use Rattle.std.specs.Prelude.{◌≡◌, ℕ, ◌<◌, ◌≤◌, Option}
 use Rattle.fkv_chains.specs.Entries.{Counts}
+use Rattle.fkv_newest.specs.declared.newest_slots.Newest.{Newest}
 use Rattle.law_log.specs.Chains.{Cell, Published}
 use Rattle.law_log.specs.Ghosts.{Log}
 use Rattle.fkv_record.specs.declared.records.Record.{Record}
@@ -18,3 +19,7 @@ pub record StandsAsOpened (home : ℕ → ℕ) (was : scan.Log) (g : Log) : Type
   pub before : HasWhatCounted was g
   pub tells : (h a : ℕ) (x : Record) → Counts was h a x → TellsCell (g.cells a) x
   pub later : (a : ℕ) (cell : Cell) → g.cells a ≡ Published cell → was.tail ≤ a → was.version < cell.version
+
+-- a newest slot, beside which the open slots name these numbers
+abbrev pub with_numbers : Newest → Option ℕ × Option ℕ → Newest
+with_numbers n numbers = record n { open_numbers = numbers }

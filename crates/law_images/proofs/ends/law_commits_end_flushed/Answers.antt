@@ -1,5 +1,5 @@
 -- The law: no commit is written before its log is flushed, and the flushed offset never falls.
-use Rattle.std.proofs.Common.{ℕ, [], ◌∷◌}
+use Rattle.std.proofs.Common.{[], ◌∷◌}
 use Rattle.fkv_core.specs.Openings.{beginning}
 use Rattle.fkv_world.specs.Runs.{World, run}
 use Rattle.law_guard.specs.Guarded.OpenedStore.{IsOpenedStore}

@@ -1,8 +1,11 @@
 -- The law, by what stands of the commit and by the block of the shape.
-use Rattle.std.proofs.Common.{◌≡◌, ◌⊎◌, ℕ, zero, suc, ◌*◌, ◌<◌, ◌∙◌, inl, inr, refl, sym, subst, arith, Bool, true, false, List}
+use Rattle.std.proofs.Common.{◌≡◌, ◌⊎◌, ℕ, zero, suc, ◌+◌, ◌*◌, ◌<◌, ◌≤◌, ◌∙◌, inl, inr, refl, sym, ap, subst, arith, Bool, true, false, List, length}
+use Rattle.fkv_base.specs.declared.numbers.Addr.{Addr}
 use Rattle.fkv_base.specs.declared.shapes.Shape.{Shape}
 use Rattle.fkv_core.specs.Openings.{IsOpeningWorld, area_numbered, beginning}
+use Rattle.fkv_creating.specs.Long.{IsLong}
 use Rattle.fkv_disk.specs.Bytes.{bytes_at}
+use Rattle.fkv_flush.specs.GuardFlushed.{IsSynced, stands as stands_of}
 use Rattle.fkv_keeper.specs.Keeping.{Finality, KeeperState}
 use Rattle.fkv_keeper.specs.LastCommits.{area_number, slot_place}
 use Rattle.fkv_manifest.specs.Committing.{CommitWriter}
@@ -11,21 +14,38 @@ use Rattle.fkv_newest.specs.Newest.{HasShape}
 use Rattle.fkv_newest.specs.declared.newest_slots.Newest.{Newest}
 use Rattle.fkv_opening.specs.Opened.{IsStoreOf}
 use Rattle.fkv_opening.specs.declared.opened_store.Opened.{Opened}
-use Rattle.fkv_record.specs.Places.{area_place}
+use Rattle.fkv_plane.specs.declared.places.RecordWord.{RecordWord}
+use Rattle.fkv_record.specs.declared.manifest_slots.ManifestSlot.{ManifestSlot}
+use Rattle.fkv_record.specs.Places.{area_place, record_place}
 use Rattle.fkv_world.specs.Opened.{IsOpenedWorld}
 use Rattle.fkv_world.specs.OwnEvents.{keeper_events}
 use Rattle.fkv_world.specs.Runs.{World, run}
 use Rattle.fkv_world.specs.World.{Now}
+use Rattle.law_guard.specs.Guarded.GuardEvents as guarded
 use Rattle.law_guard.specs.Guarded.OpenedStore.{IsOpenedStore}
+use Rattle.law_guard.specs.Guarded.Shows.{guard_opening}
 use Rattle.law_images.proofs.Block.{slots_above}
 use Rattle.law_images.proofs.Untouched.{left_below, life_above}
-use Rattle.law_images.proofs.Kept.{checkpoint_kept, last_same, standing_same}
-use Rattle.law_images.proofs.OpenedLong.{long_for}
+use Rattle.law_images.proofs.Kept.{checkpoint_kept, last_same, standing_same, triples_kept}
+use Rattle.law_images.proofs.OpenedLong.{holds_below, long_for}
+use Rattle.law_images.proofs.Reaching.{synced_longer}
+use Rattle.law_images.proofs.Shows.{old_bytes}
+use Rattle.law_images.specs.Left.{flushed_so_far}
+use Rattle.law_images.specs.Opened.{newest_in}
+use Rattle.law_opening.specs.Log.OpeningLog.{opening_ghosts}
 use Rattle.law_opening.specs.Lives.OpenedFrom.{IsOpenedFrom}
 use Rattle.law_world.specs.Keeper.Lives.{IsLifeTold, is_life_writing, life_standing}
 use Rattle.law_world.specs.Standing.Standing.{IsInForce, IsOneInForce, Standing, TriplesStand, standing_opened, triples_in}
 use Rattle.law_world.proofs.OfKeeper.OwnRun.{of_keeper}
 use Rattle.law_images.proofs.opened.law_images_keep_opened.Goals as goal
+
+-- an image that is no shorter is as long
+longer : (bytes image : List ℕ) (shape : Shape) (slot : ManifestSlot) → length bytes ≤ length image → IsLong bytes shape slot → IsLong image shape slot
+longer bytes image shape slot more long = record {
+  slots = (let its = long.slots in omega (arith, its, more));
+  records = λ some. (let its = long.records some in omega (arith, its, more));
+  triples = λ some. (let its = long.triples some in omega (arith, its, more));
+}
 
 -- one of the two is in force
 in_force_or : (writes : Bool) (last : Finality) (its : Standing) (new : CommitWriter) (image : List ℕ) → IsOneInForce writes last its new image → IsInForce last its image ⊎ NewStands new image
@@ -54,7 +74,7 @@ area_same o n bytes image store begins same =
     subst (λ (s : Shape). AreaSame image bytes s (let its = store.newest in its.slot.area) (let its = store.newest in its.slot.triples)) (begins.its_shape ∙ store.tells.shape) of_triples
 
 pub returns : goal.returns
-returns c = λ o n bytes events image store begins long in_turn none left.
+returns c = λ o n bytes events image store begins long keeps in_turn none left.
     let opening : World = beginning n bytes in
     let store_opened : IsOpenedStore opening o.tail.0 = c.law_guard_opens.ensures o n bytes begins in
     let from : IsOpenedFrom bytes o n = record { store = store; world = begins; long = c.law_long_opens.ensures bytes long.newest o long.its long.long store } in
@@ -72,7 +92,12 @@ returns c = λ o n bytes events image store begins long in_turn none left.
     let last : (run opening events).now.keeper.last ≡ n.keeper.last = of_keeper (λ (s : KeeperState). s.last ≡ n.keeper.last) opening events (last_same n.shape n.places n.keeper (keeper_events opening events) none) in
     let was : life_standing opening events ≡ standing_opened n.shape bytes n.keeper.last = standing_same n.shape n.places bytes n.keeper (keeper_events opening events) none in
     let its : Newest = store.newest in
-    let reach = (long_for c.law_spellings_apart.ensures.shapes bytes its long store.checkpoint.newest).slots in
+    let apart = c.law_spellings_apart.ensures.shapes in
+    let whole : IsLong bytes its.shape its.slot = long_for apart bytes its long store.checkpoint.newest in
+    let reach = whole.slots in
+    let first = c.law_log_begins.ensures bytes o n store begins in
+    let words : ℕ → RecordWord → ℕ = stands_of (guard_opening n o.tail.0) (guarded.mapped opening events) in
+    let synced : IsSynced n.shape bytes (run opening events).past.calls words o.tail.0 (flushed_so_far n bytes events) = c.law_device_shows_log.ensures.synced opening o.tail.0 (opening_ghosts bytes o) events store_opened first.unborn keeps.changes in
     let above = life_above opening 512 events refl (slots_above opening events store_opened.now.keeper) in
     let block : HasShape image its.shape = store.checkpoint.newest.block ∙ left_below bytes 512 (run opening events).past.calls image 0 64 above left (omega arith) (omega (arith, reach)) in
     let stands = c.law_world_one_commit_stands.ensures.stands opening events image life left in
@@ -83,6 +108,20 @@ returns c = λ o n bytes events image store begins long in_turn none left.
       | inl old ↦
           let force : IsInForce n.keeper.last (standing_opened n.shape bytes n.keeper.last) image =
           subst (λ (x : Finality). IsInForce x (standing_opened n.shape bytes n.keeper.last) image) last (subst (λ (x : Standing). IsInForce (run opening events).now.keeper.last x image) was old) in
-          inl (checkpoint_kept bytes image its store.triples store.checkpoint block (slot_place n.keeper.last.number) told.in_force force.in_force force.slot (area_same o n bytes image store begins here.same))
+          let area = area_same o n bytes image store begins here.same in
+          let kept = checkpoint_kept bytes image its store.triples store.checkpoint block (slot_place n.keeper.last.number) told.in_force force.in_force force.slot area in
+          inl (record {
+            checkpoint = kept;
+            log = record {
+              triples = triples_kept bytes image its store.triples store.checkpoint block (slot_place n.keeper.last.number) told.in_force force.in_force force.slot area;
+              records = λ a some low.
+                  let tail : o.tail.0 ≡ (let s = its.slot in s.end.0) = ap (λ (x : Addr). x.0) store.tells.tail in
+                  let under : a < o.tail.0 = omega (arith, tail, low) in
+                  let within : record_place n.shape a + 24 ≤ length bytes = subst (λ (s : Shape). record_place s a + 24 ≤ length bytes) (sym begins.its_shape) (holds_below apart bytes o store long a some under) in
+                  subst (λ (s : Shape). bytes_at bytes (record_place s a) 24 ≡ bytes_at image (record_place s a) 24) (begins.its_shape ∙ store.tells.shape)
+                  (sym (old_bytes n.shape bytes image (run opening events).past.calls words o.tail.0 (flushed_so_far n bytes events) a synced left under within));
+            };
+            long = record { newest = newest_in image its; its = kept.newest; long = longer bytes image its.shape its.slot (let least = synced_longer bytes (run opening events).past.calls in let most = left.no_shorter in omega (arith, least, most)) whole };
+          })
       | inr new ↦ inr new
     ]

@@ -1,0 +1,143 @@
+-- And the same chains and room.
+use Rattle.std.proofs.Common.{◌≡◌, ◌≢◌, ◌⊎◌, inl, inr, ⊎_elim, ℕ, ◌<◌, ◌≤◌, List, sym, subst, ◌∙◌, arith}
+use Rattle.std.proofs.lemmas.Bool.{cases_lt}
+use Rattle.fkv_base.specs.declared.faults.Fault.{Fault}
+use Rattle.fkv_base.specs.declared.faults.Fault.TheVariants as fault
+use Rattle.fkv_base.specs.declared.faults.Damage.TheVariants as damage
+use Rattle.fkv_base.specs.declared.shapes.Shape.{Shape}
+use Rattle.fkv_words.specs.Fields.{SpellsApart}
+use Rattle.fkv_record.specs.declared.manifest_slots.ManifestSlot.{ManifestSlot}
+use Rattle.fkv_record.specs.declared.records.Record.{Record}
+use Rattle.fkv_record.specs.declared.triples.Triple.{Triple}
+use Rattle.fkv_record.specs.Layout.{record_bytes}
+use Rattle.fkv_scan.specs.Log.{Log, log_in, AreBelow, HasTriple}
+use Rattle.fkv_scan.specs.Records.{Stands}
+use Rattle.fkv_scan.specs.Scan.{HasScan}
+use Rattle.fkv_chains.specs.Chains.{IsChained, HasChains, IsChainFault}
+use Rattle.fkv_chains.specs.Entries.{Counts, IsEntry}
+use Rattle.fkv_chains.specs.Reached.{Reached, in_scan, led_to, linked, LeadsTo, from_triple, from_record}
+use Rattle.fkv_chains.proofs.Shown.{no_fault as no_chain_fault}
+use Rattle.fkv_room.specs.Room.{AreHomes, HasRoom}
+use Rattle.law_paper.proofs.OfPaper.Shared.{Share, flip, stands_on, valid_on, triple_on, scan_on}
+
+-- a log has a fault of the chains
+abbrev pub HasChainFault : Log → Type 0
+HasChainFault log = (why : Fault) × IsChainFault log why
+
+module _ (apart : SpellsApart record_bytes) (s : Shape) (slot : ManifestSlot) (ts : List Triple) (some : 1 ≤ slot.first.0) (upwards : slot.first.0 ≤ slot.end.0)
+    (in_log : AreBelow slot.end.0 ts) where
+  abbrev log : List ℕ → Log
+  log i = log_in i s slot ts
+
+  -- an address of the log is reached
+  abbrev IsWithin : List ℕ → ℕ → Type 0
+  IsWithin i a = (1 ≤ a) × (a < slot.end.0) × Reached (log i) a
+
+  module _ (i : List ℕ) (scan : HasScan (log i)) where
+    off_below : (a : ℕ) (x : Record) → Reached (log i) a → Stands (log i) a x → a ≤ x.header.previous.0 → a < slot.first.0 → HasChainFault (log i)
+    off_below a x reached there up below = (
+      fault.Damaged damage.Record a,
+      record {
+        reached = reached;
+        below_start = below;
+        here = λ y old.
+            let same : y ≡ x = apart y x (old.stands ∙ sym there) in
+            let falls : x.header.previous.0 < a = subst (λ (z : Record). z.header.previous.0 < a) same old.falls in
+            omega (arith, up, falls);
+      },
+    )
+
+    falls_above : (a : ℕ) (x : Record) → a < slot.end.0 → Stands (log i) a x → slot.first.0 ≤ a → x.header.previous.0 < a
+    falls_above a x high there from =
+        let scanned = scan.records a from high in
+        let same : scanned.held ≡ x = apart scanned.held x (scanned.fits.stands ∙ sym there) in
+        subst (λ (y : Record). y.header.previous.0 < a) same scanned.fits.falls
+
+    -- a record that is reached leads below itself, or the chains have a fault
+    leads_down : (a : ℕ) (x : Record) → IsWithin i a → Stands (log i) a x → (x.header.previous.0 < a) ⊎ HasChainFault (log i)
+    leads_down a x is there = ⊎_elim inl
+        (λ up. ⊎_elim (λ below. inr (off_below a x is.2 there up below)) (λ from. inl (falls_above a x is.1 there from)) (cases_lt a slot.first.0))
+        (cases_lt x.header.previous.0 a)
+
+    led_within : (h q : ℕ) → HasTriple (log i) h q → IsWithin i q
+    led_within h q has =
+        let t = has.triple in
+        let is : t.addr.0 ≡ q = has.address in
+        let low : 0 < t.addr.0 = t.some_addr in
+        let high : t.addr.0 < slot.end.0 = in_log has.place t has.stands in
+        (omega (arith, is, low), omega (arith, is, high), led_to h q has)
+
+    module _ (j : List ℕ) (same : Share s slot i j) where
+      back : Share s slot j i
+      back = flip s slot i j same
+
+      goes_within : (a b : ℕ) (x : Record) → IsWithin i a → Stands (log j) a x → x.header.previous.0 ≡ b → b ≢ 0 → IsWithin i b ⊎ HasChainFault (log i)
+      goes_within a b x is there leads off =
+          let here : Stands (log i) a x = stands_on s slot ts j i back a x is.0 is.1 there in
+          let high = is.1 in
+          ⊎_elim (λ falls. inl (omega (arith, off), omega (arith, leads, falls, high), linked a b x is.2 here leads off)) inr (leads_down a x is here)
+
+      -- what the other image reaches is of the log and reached here, or the chains have a fault
+      pub reached_or : (a : ℕ) → Reached (log j) a → IsWithin i a ⊎ HasChainFault (log i)
+      reached_or a (in_scan _ x from below there valid) =
+          let low : 1 ≤ a = omega (arith, some, from) in
+          inl (low, below, in_scan a x from below (stands_on s slot ts j i back a x low below there) valid)
+      reached_or a (led_to h _ has) = inl (led_within h a (triple_on s slot ts j i h a has))
+      reached_or b (linked a _ x reached there leads off) = ⊎_elim (λ is. goes_within a b x is there leads off) inr (reached_or a reached)
+
+      pub leads_or : (h a : ℕ) → LeadsTo (log j) h a → LeadsTo (log i) h a ⊎ HasChainFault (log i)
+      leads_or h a (from_triple has) = inl (from_triple (triple_on s slot ts j i h a has))
+      leads_or h a (from_record b x reached there its leads off) =
+          ⊎_elim (λ is. inl (from_record b x is.2 (stands_on s slot ts j i back b x is.0 is.1 there) its leads off)) inr (reached_or b reached)
+
+      module _ (chains : HasChains (log i)) where
+        none_here : HasChainFault (log i) → ⊥
+        none_here found = no_chain_fault apart (log i) found.0 chains found.1
+
+        pub reached_on : (a : ℕ) → Reached (log j) a → IsWithin i a
+        reached_on a reached = ⊎_elim (λ is. is) (λ found. absurd (none_here found)) (reached_or a reached)
+
+        leads_on : (h a : ℕ) → LeadsTo (log j) h a → LeadsTo (log i) h a
+        leads_on h a leads = ⊎_elim (λ is. is) (λ found. absurd (none_here found)) (leads_or h a leads)
+
+        chained_on : (a : ℕ) → IsWithin i a → IsChained (log i) a → IsChained (log j) a
+        chained_on a is chained = record {
+          held = chained.held;
+          old = record { stands = stands_on s slot ts i j same a chained.held is.0 is.1 chained.old.stands; old_enough = chained.old.old_enough; falls = chained.old.falls };
+          valid = chained.valid;
+          same = λ h leads. chained.same h (leads_on h a leads);
+        }
+
+        pub chains_on : HasChains (log j)
+        chains_on a reached below = (let is = reached_on a reached in chained_on a is (chains a is.2 below))
+
+        pub counts_on : (h a : ℕ) (x : Record) → Counts (log j) h a x → Counts (log i) h a x
+        counts_on h a x is =
+            let within = reached_on a is.reached in
+            record { reached = within.2; valid = valid_on s slot ts h j i back a x within.0 within.1 is.valid; old_enough = is.old_enough; not_lost = is.not_lost }
+
+  module _ (i j : List ℕ) (same : Share s slot i j) (scan : HasScan (log i)) (chains : HasChains (log i)) where
+    there : HasScan (log j)
+    there = scan_on s slot ts some in_log i j same scan
+
+    chains_there : HasChains (log j)
+    chains_there = chains_on i scan j same chains
+
+    pub entry_on : (h a : ℕ) → IsEntry (log i) h a → IsEntry (log j) h a
+    entry_on h a is = record {
+      counts = (is.counts.0, counts_on j there i (flip s slot i j same) chains_there h a is.counts.0 is.counts.1);
+      greatest = λ b y other. is.greatest b y (counts_on i scan j same chains h b y other);
+    }
+
+  module _ (i j : List ℕ) (same : Share s slot i j) (scan : HasScan (log i)) (chains : HasChains (log i)) where
+    entry_back : (h a : ℕ) → IsEntry (log j) h a → IsEntry (log i) h a
+    entry_back = entry_on j i (flip s slot i j same) (scan_on s slot ts some in_log i j same scan) (chains_on i scan j same chains)
+
+    homes_on : (hs : List ℕ) → AreHomes (log i) hs → AreHomes (log j) hs
+    homes_on hs are = record {
+      once = are.once;
+      all = λ h. (λ has. let is = (are.all h).0 has in (is.0, entry_on i j same scan chains h is.0 is.1), λ is. (are.all h).1 (is.0, entry_back h is.0 is.1));
+    }
+
+    pub room_on : HasRoom (log i) → HasRoom (log j)
+    room_on room = record { homes = room.homes; are_homes = homes_on room.homes room.are_homes; enough = room.enough }
