@@ -21,14 +21,10 @@ use Rattle.law_paper.specs.Paper.Named.{HoldsCommit}
 use Rattle.law_paper.specs.Paper.Old.{GoesOnFrom, WasSound}
 use Rattle.law_paper.specs.Paper.Opened.{StandsAsOpened, with_numbers}
 use Rattle.law_paper.specs.Paper.Values.{CountsAsLog}
-<<<<<<< HEAD
-use Rattle.fkv_opening.proofs.Shown.{Apart, one_log}
+use Rattle.fkv_opening.proofs.Shown.{Apart}
 use Rattle.law_paper.proofs.OfPaper.Named.{holds_with}
-=======
-use Rattle.law_paper.proofs.OfPaper.Named.{Spellings, holds_with}
 use Rattle.law_paper.proofs.OfPaper.Shared.{scan_on}
 use Rattle.law_paper.proofs.OfPaper.SharedChains.{chains_on, room_on}
->>>>>>> images/images
 use Rattle.law_paper.proofs.OfPaper.Reach.{again, valid_now, was_low, was_some}
 
 -- ---- two images that share a log
@@ -75,13 +71,8 @@ module _ (n : Newest) (xs : List Triple) where
     pub counts_below : (h a : ℕ) (x : Record) → Counts (log bytes) h a x → a < n.slot.end.0
     counts_below h a x counts = was_low spellings.records was a counts.reached
 
-<<<<<<< HEAD
--- ---- the image of which the opening's commit is told
-module _ (spellings : Apart) (bytes image : List ℕ) (o : Opened) (store : IsStoreOf bytes o) (agree : Agree bytes image) (turned : Agree image bytes) (again_store : IsStoreOf image o) where
-=======
 -- ---- an image in which the opening's commit is in force
-module _ (spellings : Spellings) (bytes image : List ℕ) (o : Opened) (store : IsStoreOf bytes o) (numbers : Option ℕ × Option ℕ) (kept : HasCheckpoint image (with_numbers store.newest numbers) store.triples) (shared : ShareLog store.newest bytes image) where
->>>>>>> images/images
+module _ (spellings : Apart) (bytes image : List ℕ) (o : Opened) (store : IsStoreOf bytes o) (numbers : Option ℕ × Option ℕ) (kept : HasCheckpoint image (with_numbers store.newest numbers) store.triples) (shared : ShareLog store.newest bytes image) where
   abbrev n : Newest
   n = store.newest
 
@@ -104,16 +95,8 @@ module _ (spellings : Spellings) (bytes image : List ℕ) (o : Opened) (store : 
     room = room_on spellings.records n.shape n.slot xs its_was.some_start upwards its_was.below bytes image shared.records store.sound.scan store.sound.chains store.sound.room;
   }
 
-<<<<<<< HEAD
-  checkpoint_here : HasCheckpoint image n xs
-  checkpoint_here = record { newest = its_newest; stored = its_triples; apart = (let has = was_checkpoint in has.apart) }
-
-  sound_here : IsSound (log_of image n xs)
-  sound_here = subst IsSound (one_log spellings image n again_store.newest xs again_store.triples checkpoint_here again_store.checkpoint) again_store.sound
-=======
   share_back : ShareLog (with_numbers n numbers) image bytes
   share_back = record { triples = λ i low. sym (shared.triples i low); records = λ a some low. sym (shared.records a some low) }
->>>>>>> images/images
 
   module _ (home : ℕ → ℕ) (g : Log) (paper : StandsAsOpened home (log_of bytes n xs) g) where
     back : (h a : ℕ) (x : Record) → Counts (log_of image n xs) h a x → Counts (log_of bytes n xs) h a x
@@ -144,7 +127,7 @@ module _ (spellings : Spellings) (bytes image : List ℕ) (o : Opened) (store : 
     holds_kept = holds_with spellings image (with_numbers n numbers) xs kept home g sound_kept counts_as_opened
 
 -- ---- the image of which the opening's commit is told
-module _ (spellings : Spellings) (bytes image : List ℕ) (o : Opened) (store : IsStoreOf bytes o) (agree : Agree bytes image) where
+module _ (spellings : Apart) (bytes image : List ℕ) (o : Opened) (store : IsStoreOf bytes o) (agree : Agree bytes image) where
   its_newest : IsNewestOf image store.newest
   its_newest = told_alike bytes image agree.front store.newest (let has = store.checkpoint in has.newest)
 
