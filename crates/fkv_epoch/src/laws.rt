@@ -40,9 +40,9 @@ pub fn law_protected()
         → StaysProtected (epoch_run (opening sessions actors words) events) event }
 {}
 
-/// An action has one owner: a slot that gets one is empty, and a slot that is claimed has the one that was armed there. So has a
-/// slot: from the Cas that takes it up to the store that arms it or frees it its word is 1, no other actor holds it, and no other's
-/// Cas takes it.
+/// An action has one owner: a slot that gets one is empty, and a slot that is claimed has the one that was armed there. So has a slot,
+/// from the Cas that takes it up to the store that arms it or frees it: its word is 1 then. No other actor holds it, and no other's Cas
+/// takes it.
 pub fn law_owned()
     ensures put { (sessions actors : ℕ) (words : List ℕ) (events : List EpochEvent) → IsOpened sessions actors words
         → PutsIntoEmpty (epoch_run (opening sessions actors words) events) }

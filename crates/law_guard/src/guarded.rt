@@ -114,7 +114,7 @@ pub fn law_world_slots()
 {}
 
 /// In such a life each ask of a session and of the keeper names a word that the store has, if it names one. Of the keeper it is supposed that it
-/// seeks the points of no more sessions than there are: in every life of a store that was opened it does.
+/// seeks the points of no more sessions than there are. The keeper of a store that was opened seeks no more.
 pub fn law_world_places()
     ensures session { (opening : World) (start : ℕ) (events : List Event) (session place : ℕ) (its : SessionState) → IsOpened opening.now start
         → slice_get (run opening events).now.sessions session ≡ Some its
