@@ -16,4 +16,6 @@ mod lives;
 #[cfg(test)]
 mod recovered;
 #[cfg(test)]
+mod stopped_calls;
+#[cfg(test)]
 mod stores;
