@@ -131,7 +131,7 @@ module _ (k : Seat) (buckets : HasItsBuckets k) (was : Seen) (called : Option Op
   attempts_known : (asked : List Exchange) (s : SessionState) (has_shifted : Bool) → called ≡ Some s.op → (has_shifted ≡ true → HasRefreshed asked) → KnownAfter asked (attempts k s has_shifted)
   unfolding attempts
   attempts_known asked s has_shifted op has =
-      (op, attempt_begun_rests k.places (bits_of k) s.attempt (request_in_hand s) s.seen AtCall s.spare s.is_orphaned, begun_ran (trial_of k buckets s.seen s.op) asked s.attempt.trial s.spare, has)
+      (op, attempt_begun_rests k.places (bits_of k) (request_in_hand s) s.seen AtCall s.spare s.is_orphaned, begun_ran (trial_of k buckets s.seen s.op) asked s.spare, has)
 
   found_known : (asked : List Exchange) (s : SessionState) (i : ℕ) (found : Option PendingRequest) → called ≡ None → KnownAfter asked (polls_request k s i found)
   found_known asked s i None none = turn_polled asked s (length s.requests) none

@@ -34,35 +34,33 @@ use Rattle.fkv_session.specs.Shares.{HasItsBuckets}
 use Rattle.fkv_session.specs.TrueAnswers.{trial_of}
 
 -- all that a run of a try has asked is among these asks
-abbrev AllAsked : Trial → List Exchange → TryState → ℕ → List ℕ → Type 0
-AllAsked c asked before spare replies = (ask : Ask TryAnswer) (reply : ℕ) → told_by c (trial_begun c before spare) replies ask reply → told_in asked ask reply
+abbrev AllAsked : Trial → List Exchange → ℕ → List ℕ → Type 0
+AllAsked c asked spare replies = (ask : Ask TryAnswer) (reply : ℕ) → told_by c (trial_begun c spare) replies ask reply → told_in asked ask reply
 
 -- the try has come so far
 pub record TryRan (c : Trial) (asked : List Exchange) (t : TryState) : Type 0 where
-  pub before : TryState
   pub spare : ℕ
   pub replies : List ℕ
-  pub its_run : t ≡ try_run c (trial_begun c before spare) replies
-  pub all : AllAsked c asked before spare replies
+  pub its_run : t ≡ try_run c (trial_begun c spare) replies
+  pub all : AllAsked c asked spare replies
 
 -- it has ended so
 pub record TryEnded (c : Trial) (asked : List Exchange) (its : TryAnswer) : Type 0 where
-  pub before : TryState
   pub spare : ℕ
   pub replies : List ℕ
-  pub its_end : try_ask c.places (try_run c (trial_begun c before spare) replies) ≡ Done its
-  pub all : AllAsked c asked before spare replies
+  pub its_end : try_ask c.places (try_run c (trial_begun c spare) replies) ≡ Done its
+  pub all : AllAsked c asked spare replies
 
 -- so its answer is true by these asks
 pub ended_true : (c : Trial) (asked : List Exchange) (its : TryAnswer) → TryEnded c asked its → IsTrue c (told_in asked) its
-ended_true c asked its ended = found_true c (told_in asked) ended.before ended.spare ended.replies its ended.all ended.its_end
+ended_true c asked its ended = found_true c (told_in asked) ended.spare ended.replies its ended.all ended.its_end
 
 -- and stays so as more is asked
 pub more_ended : (c : Trial) (asked : List Exchange) (it : Exchange) (its : TryAnswer) → TryEnded c asked its → TryEnded c (it ∷ asked) its
-more_ended c asked it its ended = record { before = ended.before; spare = ended.spare; replies = ended.replies; its_end = ended.its_end; all = λ ask reply among. inr (ended.all ask reply among) }
+more_ended c asked it its ended = record { spare = ended.spare; replies = ended.replies; its_end = ended.its_end; all = λ ask reply among. inr (ended.all ask reply among) }
 
-pub begun_ran : (c : Trial) (asked : List Exchange) (before : TryState) (spare : ℕ) → TryRan c asked (trial_begun c before spare)
-begun_ran c asked before spare = record { before = before; spare = spare; replies = []; its_run = refl; all = λ ask reply among. absurd among }
+pub begun_ran : (c : Trial) (asked : List Exchange) (spare : ℕ) → TryRan c asked (trial_begun c spare)
+begun_ran c asked spare = record { spare = spare; replies = []; its_run = refl; all = λ ask reply among. absurd among }
 
 -- a record of the device is awaited
 pub record AwaitsOne (c : Trial) (asked : List Exchange) : Type 0 where
@@ -181,19 +179,18 @@ module _ (k : Seat) (buckets : HasItsBuckets k) (seen : Seen) (op : Op) where
 
   next_ran : (asked : List Exchange) (t : TryState) (reply : ℕ) → TryRan (trial_of k buckets seen op) asked t → TryRan (trial_of k buckets seen op) (of_try t reply ∷ asked) (try_next k.places (room_of k) t reply)
   next_ran asked t reply ran = record {
-    before = ran.before;
     spare = ran.spare;
     replies = reply ∷ ran.replies;
     its_run = ap (λ (x : TryState). try_next k.places (room_of k) x reply) ran.its_run;
     all = all;
   }
     where
-      all : AllAsked (trial_of k buckets seen op) (of_try t reply ∷ asked) ran.before ran.spare (reply ∷ ran.replies)
+      all : AllAsked (trial_of k buckets seen op) (of_try t reply ∷ asked) ran.spare (reply ∷ ran.replies)
       all ask its (inl same) = inl (passed_twice (try_ask k.places t) ∙ ap (λ (x : Ask TryAnswer). passed x told.Slept) (ap (λ (x : TryState). try_ask k.places x) ran.its_run ∙ same.0), same.1)
       all ask its (inr earlier) = inr (ran.all ask its earlier)
 
   ran_ended : (asked : List Exchange) (t : TryState) (its : TryAnswer) → TryRan (trial_of k buckets seen op) asked t → try_ask k.places t ≡ Done its → TryEnded (trial_of k buckets seen op) asked its
-  ran_ended asked t its ran e = record { before = ran.before; spare = ran.spare; replies = ran.replies; its_end = ap (λ (x : TryState). try_ask k.places x) (sym ran.its_run) ∙ e; all = ran.all }
+  ran_ended asked t its ran e = record { spare = ran.spare; replies = ran.replies; its_end = ap (λ (x : TryState). try_ask k.places x) (sym ran.its_run) ∙ e; all = ran.all }
 
   try_led : (asked : List Exchange) (a : AttemptState) (ask : Ask TryAnswer) → a.step ≡ Tries → TryRan (trial_of k buckets seen op) asked a.trial → try_ask k.places a.trial ≡ ask → AttemptNow (trial_of k buckets seen op) asked (try_ledto a ask)
   unfolding try_ledto
