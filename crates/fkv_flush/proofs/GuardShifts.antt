@@ -16,7 +16,7 @@ use Rattle.fkv_log.specs.declared.shifting.Shifting.{Shifting}
 use Rattle.fkv_log.specs.declared.shifting.Shifting.TheVariants as shift
 use Rattle.fkv_plane.specs.Passing.{passed, is_done}
 use Rattle.fkv_plane.proofs.Shown.{passed_words, passed_reply}
-use Rattle.fkv_log.specs.Moving.{Mover, mover, move_ask, move_next, move_next_ask, moving_ask}
+use Rattle.fkv_log.specs.Moving.{Mover, mover, move_ask, move_next, move_next_ask, moving_ask, move_begun}
 use Rattle.fkv_log.specs.Shifting.{shift_at, shifting_ask, shifting_next, shift_led, mutable_start}
 use Rattle.fkv_log.proofs.Shown.{move_goes_on}
 use Rattle.fkv_flush.specs.GuardLevels.{levels_of}
@@ -63,6 +63,6 @@ shift_loads w a x tail m sound got k low =
     let below = start_below w.now.shape.page w.now.shape.mutable tail w.now.shape.limits.some_mutable in
     rw (set-get_or w.now.words 5 0)
     (elim (truth (nat_lt (word_at w.now.words 5) to)) [
-      | inl e ↦ rw e (begins_raise w a x (record x { machine = Raises raise.LoadsEpoch; work = Shifts (shift_at (shift.Moves tail) (mover (move.Raises (record { offset = ReadOnly; to = to })) raise.LoadsEpoch m.arming)) }) sound got k.1 refl refl refl (λ A. (refl, omega (arith, below, low))))
+      | inl e ↦ rw e (begins_raise w a x (record x { machine = Raises raise.LoadsEpoch; work = Shifts (shift_at (shift.Moves tail) (move_begun ReadOnly to)) }) sound got k.1 refl refl refl (λ A. (refl, omega (arith, below, low))))
       | inr e ↦ rw e (rw same (looks w a x (record x { work = Shifts (shift_at shift.AtRest m) }) sound got refl refl (λ addr u. u) tt))
     ])

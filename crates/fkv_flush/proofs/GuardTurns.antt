@@ -18,7 +18,7 @@ use Rattle.fkv_log.specs.declared.turning.Turning.{Turning}
 use Rattle.fkv_log.specs.declared.turning.Turning.TheVariants as turn
 use Rattle.fkv_plane.specs.Passing.{passed, is_done}
 use Rattle.fkv_plane.proofs.Shown.{passed_words, passed_reply}
-use Rattle.fkv_log.specs.Moving.{Mover, mover, move_ask, move_next, move_next_ask, moving_ask}
+use Rattle.fkv_log.specs.Moving.{Mover, mover, move_ask, move_next, move_next_ask, moving_ask, move_begun}
 use Rattle.fkv_log.specs.Turning.{turn_at, turning_ask, turning_next, turn_led, frame_end, limit_after, pages_wanted}
 use Rattle.fkv_log.proofs.Shown.{move_goes_on}
 use Rattle.fkv_flush.specs.GuardLevels.{Levels, levels_of}
@@ -99,7 +99,7 @@ turn_waits w a x (turn.LoadsFlushed end) m sound got before k =
     let found : ℕ = word_at w.now.words 7 in
     rw (set-get_or w.now.words 7 0)
     (elim (truth (nat_le end found)) [
-      | inl e ↦ rw e (begins_raise w a x (record x { machine = Raises raise.LoadsEpoch; work = Turns (turn_at turn.Moves (mover (move.Raises (record { offset = Head; to = end })) raise.LoadsEpoch m.arming)) }) sound got k.1 refl refl refl (λ A. (refl, grind (arith, nat_tests, e))))
+      | inl e ↦ rw e (begins_raise w a x (record x { machine = Raises raise.LoadsEpoch; work = Turns (turn_at turn.Moves (move_begun Head end)) }) sound got k.1 refl refl refl (λ A. (refl, grind (arith, nat_tests, e))))
       | inr e ↦ rw e (rw same (looks w a x (record x { work = Turns (turn_at turn.AtRest m) }) sound got refl refl (λ addr u. u) tt))
     ])
 turn_waits w a x (turn.RaisesLimit limit) m sound got before k =

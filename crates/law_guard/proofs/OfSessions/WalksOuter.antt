@@ -200,4 +200,4 @@ walk_on_outer p reads w row = on_outer p reads w w.step refl row
 -- as it begins
 pub walk_begun_outer : (p : Places) (reads : Bool) (home : Home) (key : Key) (purpose : Purpose) (head : Addr) (spare : ℕ) → home.bucket < p.buckets → (reads ≡ false → linking_for purpose ≡ Never → ⊥)
     → IsWalkOuter p reads (walk_begun p home key purpose head spare)
-walk_begun_outer p reads home w key purpose head spare low links = (first_outer p home purpose spare low, links)
+walk_begun_outer p reads home key purpose head spare low links = (first_outer p home purpose spare low, links)

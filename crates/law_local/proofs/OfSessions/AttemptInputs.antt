@@ -58,7 +58,7 @@ module _ (bits : ℕ) (seen : Seen) (occasion : Occasion) where
   puts_goes a given = puts_found a a.pending.sought given
 
   tries_goes : (p : Places) (a : AttemptState) → IsGiven a → Goes (tries p bits a)
-  tries_goes p a given = made (tries p bits a) Tries refl given (begun_so bits a.pending.request a.seen a.occasion p a.trial a.spare)
+  tries_goes p a given = made (tries p bits a) Tries refl given (begun_so bits a.pending.request a.seen a.occasion p a.spare)
 
   -- the look
   read_goes : (a : AttemptState) (its : MailRecord) (said : HeaderSaid) → IsGiven a → Goes (read_on a its said)
@@ -99,6 +99,7 @@ module _ (bits : ℕ) (seen : Seen) (occasion : Occasion) where
   tried_goes : (a : AttemptState) (its : TryAnswer) → IsGiven a → Goes (tried a its)
   tried_goes a (answer.AwaitsDisk sought) given = awaits_goes a sought given
   tried_goes a (answer.Wait why) given = ended_goes a _ given
+  tried_goes a answer.Shift given = ended_goes a _ given
   tried_goes a its given = leaves_goes a _ given
 
   led_goes : (a : AttemptState) (ask : Ask TryAnswer) → a.step ≡ Tries → IsGiven a → Tried a → Goes (try_ledto a ask)

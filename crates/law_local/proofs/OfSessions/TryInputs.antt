@@ -224,8 +224,8 @@ module _ (bits : ℕ) (request : Request) (seen : Seen) (occasion : Occasion) wh
   try_so p room t reply its = step_so p room (record t { effect = None }) t.step reply refl (its.its_request, its.its_seen, its.its_occasion, its.its_home) its.its_walk
 
   -- and how it begins
-  pub begun_so : (p : Places) (t : TryState) (spare : ℕ) → IsTryFor bits request seen occasion (try_begun p bits request seen occasion spare)
-  begun_so p t spare =
+  pub begun_so : (p : Places) (spare : ℕ) → IsTryFor bits request seen occasion (try_begun p bits request seen occasion spare)
+  begun_so p spare =
       let its : TryState = new_try bits request seen occasion spare in
       let takes : TryState = with_latch p its TakeShared TakesShared in
       either_so (wants_shared its) takes (walks p its) (made takes TakesShared refl (refl, refl, refl, refl) tt) (walks_so p its (refl, refl, refl, refl))

@@ -226,4 +226,4 @@ begun_rests p bits version request seen occasion spare saw same none =
     let its : TryState = new_try bits request seen occasion spare in
     other_rests (wants_shared its) version (with_latch p its TakeShared TakesShared) (walks p its)
     (both_none (is_prepare seen.phase && not (is_read request.op)) (not request.has_latch) (both_none (is_prepare seen.phase) (not (is_read request.op)) (prepare_not seen.phase saw.phase)))
-    (record { goes = record { saw = saw; same = same; no_shared = none; no_exclusive = refl; searches = begun_elsewhere p its.home t.walk (key_of request.op) (purpose_of request.op) seen.offsets.head spare }; step = tt })
+    (record { goes = record { saw = saw; same = same; no_shared = none; no_exclusive = refl; searches = begun_elsewhere p its.home (key_of request.op) (purpose_of request.op) seen.offsets.head spare }; step = tt })
