@@ -100,6 +100,7 @@ impl Context {
         }
     }
 
+    /// Begins a call. What the one before has counted and made is forgotten.
     pub(crate) fn begin(&mut self, call: Call) -> Ask<Told>
         ensures next { self.new ≡ record self.old { state = session_begun self.old.seat self.old.state call } }
         ensures ask { result ≡ session_ask self.old.seat self.new.state }

@@ -1,5 +1,5 @@
 //! Where a session goes on by what the machines inside it ask.
-ghost use Rattle.std.specs.Prelude.{◌≡◌, ◌<◌, ◌+◌, ◌≤◌, length, Option};
+ghost use Rattle.std.specs.Prelude.{◌≡◌, ◌<◌, ◌+◌, Option};
 ghost use Rattle.fkv_base.specs.Limits.{last_serial};
 ghost use Rattle.fkv_ops.specs.Requests.{is_read};
 ghost use Rattle.fkv_epoch.specs.Leaving.{leave_ask};

@@ -1,13 +1,13 @@
 //! A session: the calls that it begins, and what it asks for them.
-ghost use Rattle.std.specs.Prelude.{◌≡◌, ◌<◌, ◌≤◌, ◌*◌, ◌^◌, true, false, length};
-ghost use Rattle.fkv_base.specs.Limits.{max_sessions, max_pending, last_serial};
+ghost use Rattle.std.specs.Prelude.{◌≡◌, ◌<◌, ◌≤◌, ◌*◌, ◌^◌, true, false};
+ghost use Rattle.fkv_base.specs.Limits.{max_sessions, last_serial};
 ghost use Rattle.fkv_epoch.specs.Claiming.{takes_action};
 ghost use Rattle.fkv_plane.specs.AsksLeft.{AsksWhereLeft};
 ghost use Rattle.fkv_session.specs.declared.answers.Told.{Told};
 ghost use Rattle.fkv_session.specs.declared.sessions.Sitting.TheVariants.{Turns};
 ghost use Rattle.fkv_session.specs.Answers.{IsAnswered};
 ghost use Rattle.fkv_session.specs.AsksLeft.{session_asks_left, call_bound};
-ghost use Rattle.fkv_session.specs.Sessions.{session_begun, session_ask, session_next, session_given, is_busy, IsOpened};
+ghost use Rattle.fkv_session.specs.Sessions.{session_begun, session_ask, session_next, session_given, IsOpened};
 
 use crate::answers::{Answer, Finished, Told, answered};
 use crate::asks::{is_word_ask, same_ask};
