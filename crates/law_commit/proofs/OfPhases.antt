@@ -12,6 +12,7 @@ pub mod OpeningSound
 pub mod QuietShown
 pub mod RepliesShown
 pub mod SafeEnabled
+pub mod SafeRuns
 pub mod SafeSeen
 pub mod SessionHands
 pub mod SessionLoads

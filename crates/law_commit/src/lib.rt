@@ -15,6 +15,6 @@ pub use laws::{
 };
 pub use linked::law_links_meet_empty;
 pub use phases::{
-    law_phases_in_turn, law_quiet_events_are_phases, law_replies_keep_stamps,
+    law_phases_in_turn, law_quiet_events_are_phases, law_replies_keep_stamps, law_runs_are_safe,
     law_sessions_are_phases, law_stamps_are_loads,
 };

@@ -8,6 +8,7 @@ ghost use Rattle.fkv_world.specs.World.{Event};
 ghost use Rattle.law_guard.specs.Guarded.Shows.{IsOpened, seen_by_guard};
 ghost use Rattle.law_commit.specs.Phases.Projected.{EventsAreShown, OpeningsAreSound, QuietEventsAreShown, RepliesAreShown, SafeIsEnabled, ShowsSessions, sessions_opened};
 ghost use Rattle.law_commit.specs.PhaseVersions.{HasRisingPhase, RestsAreNext};
+ghost use Rattle.law_commit.specs.Phases.Running.{KeeperRunsSafely, SessionsRunSafely};
 ghost use Rattle.law_commit.specs.Phases.Staged.{HasStage, OpensAtRest};
 ghost use Rattle.law_commit.specs.Phases.Stamped.{RepliesKeepStamps, SessionStamped, is_live};
 ghost use Rattle.law_commit.specs.Views.{View, sight_of};
@@ -58,4 +59,11 @@ pub fn law_phases_in_turn()
     ensures stages { (opening : World) (start : ℕ) (events : List Event) → IsOpened opening.now start → IsOpenedWorld opening → OpensAtRest opening.now → HasStage (run opening events).now }
     ensures rises { (opening : World) (start : ℕ) (events : List Event) → IsOpened opening.now start → IsOpenedWorld opening → OpensAtRest opening.now → HasRisingPhase opening events }
     ensures rests { (opening : World) (start : ℕ) (events : List Event) → IsOpened opening.now start → IsOpenedWorld opening → OpensAtRest opening.now → RestsAreNext opening events }
+{}
+
+/// In each life of a store that was opened, where a session in its turn or the keeper is about to run the action of a slot that it has claimed, the action
+/// was armed there, and the epoch of its arming is safe.
+pub fn law_runs_are_safe()
+    ensures session { SessionsRunSafely }
+    ensures keeper { KeeperRunsSafely }
 {}

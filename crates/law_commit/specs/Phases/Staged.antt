@@ -87,7 +87,7 @@ stage_out number DefersProgress = Some (act.Phase InProgress (version_after numb
 stage_out number DefersPending = Some (act.Phase WaitPending (version_after number))
 stage_out number stage = None
 
--- nothing is out in these
+-- no phase is stored for the commit yet
 abbrev pub is_resting : Stage → Bool
 is_resting Rests = true
 is_resting stage = false
@@ -236,6 +236,7 @@ pub record HasInHand (number : Version) (stage : Stage) (s : KeeperState) : Type
   pub next : number.0 ≡ s.last.number.0 + 1
   pub hand : (c : Commit) → s.commit ≡ Some c → (c.number ≡ number) × (is_resting stage ≡ false)
 
+-- So far has the keeper come.
 pub record KeeperAt (number : Version) (stage : Stage) (s : KeeperState) : Type 0 where
   pub has : HasInHand number stage s
   pub early : EarlyAt stage s s.step
@@ -280,11 +281,13 @@ keeping_number number s Finishes = finish_number number s.finish.step
 keeping_number number s step = number
 
 -- ---- of a life
+-- The number that is next is a version that there is, and not the last where a phase is stored for it.
 pub record FitsVersion (number : Version) (stage : Stage) : Type 0 where
   pub some : 0 < number.0
   pub low : number.0 ≤ last_version
   pub lower : is_resting stage ≡ false → number.0 < last_version
 
+-- The world is at this stage of the commit of this number: so the phase word says, and so are the action that is out and the keeper.
 pub record IsStaged (n : Now) (number : Version) (stage : Stage) : Type 0 where
   pub fits : FitsVersion number stage
   pub word : phase_said (phase_at n) ≡ Says (stage_phase stage) (stage_version number stage)
@@ -304,7 +307,7 @@ pub record StageAfter (number : Version) (stage : Stage) (after : Now) : Type 0 
   pub staged : IsStaged after its_number its_stage
   pub rises : (stage_version number stage).0 ≤ (stage_version its_number its_stage).0
 
--- As a life begins the phase word says rest of the version behind the newest finished commit's number, and no action is in hand or in a slot.
+-- As a life begins the phase word says rest of the version behind the newest finished commit's number, and each session has seen that version.
 pub record OpensAtRest (n : Now) : Type 0 where
   pub says : phase_said (phase_at n) ≡ Says Rest (record { 0 = n.keeper.last.number.0 + 1 })
   pub seen : (session : ℕ) (first : SessionState) → slice_get n.sessions session ≡ Some first → first.seen.version.0 ≡ n.keeper.last.number.0 + 1

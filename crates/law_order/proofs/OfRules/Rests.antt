@@ -1,6 +1,5 @@
 -- An opened store opens at rest.
 use Rattle.std.proofs.Common.{◌≡◌, ℕ, ◌+◌, ◌∙◌, sym, ap, subst}
-use Rattle.std.specs.Prelude.{Some, slice_get}
 use Rattle.fkv_base.specs.declared.numbers.Version.{Version}
 use Rattle.fkv_core.specs.Openings.{IsOpeningWorld}
 use Rattle.fkv_keeper.specs.Keeping.{Finality}

@@ -1,5 +1,5 @@
 -- By the words that an opened store tells, and the stages of its lives.
-use Rattle.std.proofs.Common.{ℕ, arith}
+use Rattle.std.proofs.Common.{arith}
 use Rattle.fkv_core.specs.Openings.{beginning}
 use Rattle.law_order.specs.Rules.Ordered.{opening_version}
 use Rattle.law_order.proofs.OfRules.Rests.{opens_at_rest}

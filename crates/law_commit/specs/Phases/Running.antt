@@ -1,0 +1,55 @@
+-- What a session or the keeper is about to run: the action of a slot that it has claimed, with the epoch at which the slot was armed.
+use Rattle.std.specs.Prelude.{◌≡◌, ◌≤◌, ℕ, List, Option, Some, None, slice_get}
+use Rattle.fkv_epoch.specs.declared.claiming.Claiming.{Claiming}
+use Rattle.fkv_epoch.specs.declared.claiming.Claiming.TheVariants as claim
+use Rattle.fkv_epoch.specs.EpochWorld.{Armed, safe_of}
+use Rattle.fkv_epoch.specs.Once.{Among}
+use Rattle.fkv_maintain.specs.declared.maintaining.Maintaining.{Maintaining}
+use Rattle.fkv_maintain.specs.declared.maintaining.Maintaining.TheVariants as maintain
+use Rattle.fkv_maintain.specs.Maintaining.{MaintainState}
+use Rattle.fkv_keeper.specs.declared.keepers.Keeping.{Keeping}
+use Rattle.fkv_keeper.specs.declared.keepers.Keeping.TheVariants.{Maintains}
+use Rattle.fkv_keeper.specs.Keeping.{KeeperState}
+use Rattle.fkv_session.specs.declared.own_turns.OwnTurning.{OwnTurning}
+use Rattle.fkv_session.specs.declared.own_turns.OwnTurning.TheVariants as turning
+use Rattle.fkv_session.specs.declared.sessions.Sitting.{Sitting}
+use Rattle.fkv_session.specs.declared.sessions.Sitting.TheVariants.{Turns}
+use Rattle.fkv_session.specs.OwnTurns.{OwnTurnState}
+use Rattle.fkv_session.specs.Sessions.{SessionState}
+use Rattle.fkv_world.specs.Runs.{World, run}
+use Rattle.fkv_world.specs.World.{Event}
+use Rattle.law_guard.specs.Guarded.Shows as guard
+use Rattle.law_guard.specs.Guarded.Shows.{seen_by_guard}
+
+abbrev pub claim_runs : Claiming → Option Armed
+claim_runs (claim.Runs slot epoch safe action) = Some (record { slot = slot; epoch = epoch; action = action })
+claim_runs step = None
+
+abbrev pub turn_runs : OwnTurnState → OwnTurning → Option Armed
+turn_runs o turning.Claims = claim_runs o.claiming
+turn_runs o step = None
+
+abbrev pub sitting_runs : SessionState → Sitting → Option Armed
+sitting_runs s (Turns its) = turn_runs s.own_turn s.own_turn.step
+sitting_runs s step = None
+
+abbrev pub maintain_runs : MaintainState → Maintaining → Option Armed
+maintain_runs m maintain.Claims = claim_runs m.claiming
+maintain_runs m step = None
+
+abbrev pub keeping_runs : KeeperState → Keeping → Option Armed
+keeping_runs s Maintains = maintain_runs s.maintain s.maintain.step
+keeping_runs s step = None
+
+-- it was armed there at that epoch, which is safe
+pub record IsSafeRun (opening : World) (start : ℕ) (events : List Event) (its : Armed) : Type 0 where
+  pub safe : its.epoch ≤ safe_of (run opening events).now.words
+  pub armed : Among its (seen_by_guard opening start events).past.armed
+
+abbrev pub SessionsRunSafely : Type 0
+SessionsRunSafely =
+    (opening : World) (start : ℕ) (events : List Event) (session : ℕ) (s : SessionState) (its : Armed) → guard.IsOpened opening.now start → slice_get (run opening events).now.sessions session ≡ Some s
+    → sitting_runs s s.step ≡ Some its → IsSafeRun opening start events its
+
+abbrev pub KeeperRunsSafely : Type 0
+KeeperRunsSafely = (opening : World) (start : ℕ) (events : List Event) (its : Armed) → guard.IsOpened opening.now start → keeping_runs (run opening events).now.keeper (run opening events).now.keeper.step ≡ Some its → IsSafeRun opening start events its
