@@ -21,7 +21,7 @@ use Rattle.fkv_commit.specs.Entering.{enter_ask, enter_next}
 use Rattle.fkv_commit.specs.Finishing.{finish_ask, finish_next}
 use Rattle.fkv_commit.specs.Seeking.{seek_ask, seek_next}
 use Rattle.fkv_commit.specs.Starting.{start_ask, start_next}
-use Rattle.fkv_commit.specs.Waiting.{wait_ask, waiting_ask, waiting_next}
+use Rattle.fkv_commit.specs.Waiting.{waiting_ask, waiting_next}
 use Rattle.fkv_flush.specs.GuardLevels.{levels_of}
 use Rattle.fkv_keeper.specs.declared.answers.KeeperTold.{KeeperTold}
 use Rattle.fkv_keeper.specs.declared.answers.KeeperTold.TheVariants.{Device}
