@@ -21,7 +21,7 @@ use Rattle.fkv_commit.specs.Entering.{enter_ask, enter_next}
 use Rattle.fkv_commit.specs.Finishing.{finish_ask, finish_next}
 use Rattle.fkv_commit.specs.Seeking.{seek_ask, seek_next}
 use Rattle.fkv_commit.specs.Starting.{start_ask, start_next}
-use Rattle.fkv_commit.specs.Waiting.{wait_ask, waiting_ask, waiting_next}
+use Rattle.fkv_commit.specs.Waiting.{waiting_ask, waiting_next}
 use Rattle.fkv_flush.specs.GuardLevels.{levels_of}
 use Rattle.fkv_keeper.specs.declared.answers.KeeperTold.{KeeperTold}
 use Rattle.fkv_keeper.specs.declared.answers.KeeperTold.TheVariants.{Device}
@@ -327,3 +327,16 @@ life_ends opening (event ∷ before) opened rises =
 pub written : (most : ℕ) (s : KeeperState) (step : Keeping) → EndsAt most s step → WrittenEndsBy most s step
 written most s Waits ends = tt
 written most s step ends = ends
+
+-- and so by any greater address
+pub ends_higher : (low most : ℕ) (s : KeeperState) (step : Keeping) → low ≤ most → WrittenEndsBy low s step → WrittenEndsBy most s step
+ends_higher low most s Writes up ends = λ c here. let its = ends c here in omega (arith, up, its)
+ends_higher low most s Finishes up ends = λ c here. let its = ends c here in omega (arith, up, its)
+ends_higher low most s (Ended its) up ends = tt
+ends_higher low most s Starts up ends = tt
+ends_higher low most s Maintains up ends = tt
+ends_higher low most s LoadsPhase up ends = tt
+ends_higher low most s Enters up ends = tt
+ends_higher low most s Copies up ends = tt
+ends_higher low most s Seeks up ends = tt
+ends_higher low most s Waits up ends = tt

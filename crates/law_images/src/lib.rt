@@ -11,5 +11,7 @@ mod records;
 pub use ends::law_commits_end_flushed;
 pub use first::law_images_agree_at_first;
 pub use lengths::law_images_are_long;
-pub use opened::{law_images_keep_opened, law_images_keep_their_shape};
+pub use opened::{
+    law_images_keep_opened, law_images_keep_their_shape, law_images_name_their_commit,
+};
 pub use records::law_images_show_log;
