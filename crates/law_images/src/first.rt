@@ -1,12 +1,5 @@
 //! Images before the first commit is written.
-ghost use Rattle.std.specs.Prelude.{ℕ, List};
-ghost use Rattle.fkv_core.specs.Openings.{IsOpeningWorld, beginning};
-ghost use Rattle.fkv_opening.specs.Alike.{Agree};
-ghost use Rattle.fkv_opening.specs.Opened.{IsStoreOf};
-ghost use Rattle.fkv_opening.specs.declared.opened_store.Opened.{Opened};
-ghost use Rattle.fkv_world.specs.World.{Event, Now};
-ghost use Rattle.law_images.specs.First.{WritesNoCommit};
-ghost use Rattle.law_images.specs.Left.{IsLeft, KeepsLog, OpensLong};
+ghost use Rattle.law_images.specs.Laws.First.{ImagesAgreeAtFirst};
 
 use fkv_record::law_spellings_apart;
 use law_opening::{law_guard_opens, law_log_begins};
@@ -16,8 +9,7 @@ use law_refine::law_device_shows_log;
 /// the shape, both slots, the triples of the checkpoint, and the records below the commit's end. So the commit with which the store was opened is in force
 /// in it, as it was.
 pub fn law_images_agree_at_first()
-    ensures { (o : Opened) (n : Now) (bytes : List ℕ) (events : List Event) (image : List ℕ) → IsStoreOf bytes o → IsOpeningWorld o n → OpensLong bytes → KeepsLog o n bytes events → WritesNoCommit (beginning n bytes) events
-        → IsLeft n bytes events image → Agree bytes image }
+    ensures { ImagesAgreeAtFirst }
 {
     law_spellings_apart();
     law_guard_opens();

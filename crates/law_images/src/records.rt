@@ -1,12 +1,5 @@
 //! Records in images.
-ghost use Rattle.std.specs.Prelude.{◌≡◌, ℕ, List};
-ghost use Rattle.fkv_core.specs.Openings.{IsOpeningWorld};
-ghost use Rattle.fkv_opening.specs.Opened.{IsStoreOf};
-ghost use Rattle.fkv_opening.specs.declared.opened_store.Opened.{Opened};
-ghost use Rattle.fkv_scan.specs.Log as scan;
-ghost use Rattle.fkv_world.specs.World.{Event, Now};
-ghost use Rattle.law_images.specs.Left.{IsLeft, KeepsLog, OpensLong};
-ghost use Rattle.law_images.specs.Records.{ShowsFlushed};
+ghost use Rattle.law_images.specs.Laws.Records.{ImagesShowTheLog};
 
 use fkv_record::law_spellings_apart;
 use law_opening::{law_guard_opens, law_log_begins, law_log_counted, law_log_opened};
@@ -17,8 +10,7 @@ use law_refine::{law_device_shows_log, law_headers_show_log, law_stands_show_log
 /// and has its version, so recovery passes over it. What the store was opened with stands as it was. The events of that log are enabled, and changes in place
 /// meet published records: the order law's induction shows both.
 pub fn law_images_show_log()
-    ensures { (o : Opened) (n : Now) (bytes : List ℕ) (events : List Event) (image : scan.Log) → IsStoreOf bytes o → IsOpeningWorld o n → OpensLong bytes → KeepsLog o n bytes events
-        → IsLeft n bytes events image.image → image.shape ≡ o.shape → ShowsFlushed o n bytes events image }
+    ensures { ImagesShowTheLog }
 {
     law_spellings_apart();
     law_guard_opens();

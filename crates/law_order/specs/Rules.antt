@@ -1,2 +1,3 @@
 pub mod InTime
+pub mod Openings
 pub mod Ordered

@@ -1,16 +1,12 @@
 //! Of each life of a store that was opened: its commits' phases and numbers are in turn, so one commit always stands.
 ghost use Rattle.std.specs.Prelude.{ℕ, List};
-ghost use Rattle.fkv_core.specs.Openings.{IsOpeningWorld, beginning};
+ghost use Rattle.fkv_core.specs.Openings.{beginning};
 ghost use Rattle.fkv_disk.specs.Device.{LeavesOnly};
-ghost use Rattle.fkv_opening.specs.Opened.{IsStoreOf};
 ghost use Rattle.fkv_opening.specs.declared.opened_store.Opened.{Opened};
-ghost use Rattle.fkv_world.specs.OwnEvents.{keeper_events};
-ghost use Rattle.fkv_world.specs.World.{Event, Now};
-ghost use Rattle.law_world.specs.Keeper.Lives.{IsLifeTold};
-ghost use Rattle.law_world.specs.Standing.Opening.{AreNumbersInTurn};
+ghost use Rattle.fkv_world.specs.World.{Now};
 ghost use Rattle.law_opening.specs.Lives.OpenedFrom.{IsOpenedFrom};
 ghost use Rattle.law_opening.specs.Lives.Steps.{AllLeadOn, OneCommitStands, Step, device_behind, events_of, now_behind};
-ghost use Rattle.law_commit.specs.Phases.Staged.{OpensAtRest};
+ghost use Rattle.law_order.specs.InTurn.Laws.{NumbersItsCommitsInTurn, OpensItsStoreAtRest, TellsOfItsLife};
 
 use crate::rest::law_rest_said;
 use crate::rules::law_life_begins;
@@ -22,10 +18,9 @@ use law_opening::{law_opened_commit_stands, law_told_opens};
 /// `law_commit` hold of each of its lives: versions never fall, and each commit that begins has the number behind the newest finished one's. So
 /// `law_world_one_commit_stands` speaks of each of its lives, with commits, crashes and failing calls of the device, whatever their order.
 pub fn law_phases_open()
-    ensures rests { (o : Opened) (n : Now) → IsOpeningWorld o n → OpensAtRest n }
-    ensures in_turn { (bytes : List ℕ) (o : Opened) (n : Now) (events : List Event) → IsStoreOf bytes o → IsOpeningWorld o n
-        → AreNumbersInTurn n.shape n.places n.keeper (keeper_events (beginning n bytes) events) }
-    ensures told { (bytes : List ℕ) (o : Opened) (n : Now) (events : List Event) → IsOpenedFrom bytes o n → IsLifeTold (beginning n bytes) events }
+    ensures rests { OpensItsStoreAtRest }
+    ensures in_turn { NumbersItsCommitsInTurn }
+    ensures told { TellsOfItsLife }
 {
     law_rest_said();
     law_life_begins();

@@ -1,17 +1,8 @@
 //! Of each life of a store that was opened: what it begins with, and that it has one history, where the events of the log beside it keep to their rules.
-ghost use Rattle.std.specs.Prelude.{ℕ, List};
-ghost use Rattle.fkv_core.specs.Openings.{IsOpeningWorld, beginning};
-ghost use Rattle.fkv_filling.specs.OpeningIndex.{opening_lists};
-ghost use Rattle.fkv_opening.specs.Opened.{IsStoreOf};
-ghost use Rattle.fkv_opening.specs.declared.opened_store.Opened.{Opened};
-ghost use Rattle.law_opening.specs.Log.Maps.{opening_map};
-ghost use Rattle.law_opening.specs.Log.OpeningLog.{opening_ghosts};
-ghost use Rattle.fkv_world.specs.World.{Now};
-ghost use Rattle.law_commit.specs.Cuts.{HasItsWords, ShowCuts, ShowsDurable};
-ghost use Rattle.law_order.specs.Known.Begins.{BeginsLife};
 ghost use Rattle.law_order.specs.OneHistory.EachLife.{InEachLife};
 ghost use Rattle.law_order.specs.Rules.InTime.{ReadsInTime};
-ghost use Rattle.law_order.specs.Rules.Ordered.{HasLegalHistory, IsGuarded, OfEachKept, OrdersItsCalls, ReadsFreshly, RunsActionsOnce, opening_version};
+ghost use Rattle.law_order.specs.Rules.Ordered.{HasLegalHistory, IsGuarded, OfEachKept, OrdersItsCalls, ReadsFreshly, RunsActionsOnce};
+ghost use Rattle.law_order.specs.Rules.Openings.{BeginsItsLife, OpensItsCuts, OpensItsDurables, OpensWithItsWords};
 
 use crate::rest::law_rest_said;
 use fkv_core::law_words_open;
@@ -25,8 +16,7 @@ use law_opening::{
 /// that: the engine, the guard, the index and each mailbox are as such a store has them, the chains begin where the entries of the index lead, and the
 /// image has each record of the log.
 pub fn law_life_begins()
-    ensures { (bytes : List ℕ) (o : Opened) (n : Now) → IsStoreOf bytes o → IsOpeningWorld o n
-        → BeginsLife (beginning n bytes) o.tail.0 (opening_lists o.entries.items) (opening_version o) (opening_map bytes o) o.number.0 (opening_ghosts bytes o) }
+    ensures { BeginsItsLife }
 {
     law_guard_opens();
     law_index_opens();
@@ -41,9 +31,9 @@ pub fn law_life_begins()
 /// The world of an opened store has all its words. The cut word of its commit's version shows each session's serial, no session owes an update, and the
 /// durable words show the commit's points. So the laws of cuts and of durable words hold of each life of an opened store.
 pub fn law_cuts_open()
-    ensures words { (o : Opened) (n : Now) → IsOpeningWorld o n → HasItsWords n }
-    ensures cuts { (o : Opened) (n : Now) → IsOpeningWorld o n → ShowCuts n }
-    ensures durable { (o : Opened) (n : Now) → IsOpeningWorld o n → ShowsDurable n }
+    ensures words { OpensWithItsWords }
+    ensures cuts { OpensItsCuts }
+    ensures durable { OpensItsDurables }
 {
     law_guard_opens();
     law_words_open();

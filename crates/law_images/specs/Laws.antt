@@ -1,0 +1,5 @@
+pub mod Ends
+pub mod First
+pub mod Lengths
+pub mod Opened
+pub mod Records

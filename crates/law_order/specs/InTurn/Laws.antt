@@ -1,0 +1,29 @@
+-- What the laws of `in_turn` say.
+use Rattle.std.specs.Prelude.{ℕ, List}
+use Rattle.fkv_core.specs.Openings.{IsOpeningWorld, beginning}
+use Rattle.fkv_disk.specs.Device.{LeavesOnly}
+use Rattle.fkv_opening.specs.Opened.{IsStoreOf}
+use Rattle.fkv_opening.specs.declared.opened_store.Opened.{Opened}
+use Rattle.fkv_world.specs.OwnEvents.{keeper_events}
+use Rattle.fkv_world.specs.World.{Event, Now}
+use Rattle.law_world.specs.Keeper.Lives.{IsLifeTold}
+use Rattle.law_world.specs.Standing.Opening.{AreNumbersInTurn}
+use Rattle.law_opening.specs.Lives.OpenedFrom.{IsOpenedFrom}
+use Rattle.law_opening.specs.Lives.Steps.{AllLeadOn, OneCommitStands, Step, device_behind, events_of, now_behind}
+use Rattle.law_commit.specs.Phases.Staged.{OpensAtRest}
+
+-- an opened store opens at rest
+abbrev pub OpensItsStoreAtRest : Type 0
+OpensItsStoreAtRest =
+    (o : Opened) (n : Now) → IsOpeningWorld o n → OpensAtRest n
+
+-- the commits of its lives have numbers in turn
+abbrev pub NumbersItsCommitsInTurn : Type 0
+NumbersItsCommitsInTurn =
+    (bytes : List ℕ) (o : Opened) (n : Now) (events : List Event) → IsStoreOf bytes o → IsOpeningWorld o n
+    → AreNumbersInTurn n.shape n.places n.keeper (keeper_events (beginning n bytes) events)
+
+-- so what law_world tells of one commit is of its lives
+abbrev pub TellsOfItsLife : Type 0
+TellsOfItsLife =
+    (bytes : List ℕ) (o : Opened) (n : Now) (events : List Event) → IsOpenedFrom bytes o n → IsLifeTold (beginning n bytes) events

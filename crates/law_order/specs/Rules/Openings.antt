@@ -1,0 +1,35 @@
+-- What the laws of `rules` say.
+use Rattle.std.specs.Prelude.{ℕ, List}
+use Rattle.fkv_core.specs.Openings.{IsOpeningWorld, beginning}
+use Rattle.fkv_filling.specs.OpeningIndex.{opening_lists}
+use Rattle.fkv_opening.specs.Opened.{IsStoreOf}
+use Rattle.fkv_opening.specs.declared.opened_store.Opened.{Opened}
+use Rattle.law_opening.specs.Log.Maps.{opening_map}
+use Rattle.law_opening.specs.Log.OpeningLog.{opening_ghosts}
+use Rattle.fkv_world.specs.World.{Now}
+use Rattle.law_commit.specs.Cuts.{HasItsWords, ShowCuts, ShowsDurable}
+use Rattle.law_order.specs.Known.Begins.{BeginsLife}
+use Rattle.law_order.specs.OneHistory.EachLife.{InEachLife}
+use Rattle.law_order.specs.Rules.InTime.{ReadsInTime}
+use Rattle.law_order.specs.Rules.Ordered.{HasLegalHistory, IsGuarded, OfEachKept, OrdersItsCalls, ReadsFreshly, RunsActionsOnce, opening_version}
+
+-- the life of an opened store begins with the log of its image
+abbrev pub BeginsItsLife : Type 0
+BeginsItsLife =
+    (bytes : List ℕ) (o : Opened) (n : Now) → IsStoreOf bytes o → IsOpeningWorld o n
+    → BeginsLife (beginning n bytes) o.tail.0 (opening_lists o.entries.items) (opening_version o) (opening_map bytes o) o.number.0 (opening_ghosts bytes o)
+
+-- the world of an opened store has all its words
+abbrev pub OpensWithItsWords : Type 0
+OpensWithItsWords =
+    (o : Opened) (n : Now) → IsOpeningWorld o n → HasItsWords n
+
+-- its cut words show serials
+abbrev pub OpensItsCuts : Type 0
+OpensItsCuts =
+    (o : Opened) (n : Now) → IsOpeningWorld o n → ShowCuts n
+
+-- its durable words show the points
+abbrev pub OpensItsDurables : Type 0
+OpensItsDurables =
+    (o : Opened) (n : Now) → IsOpeningWorld o n → ShowsDurable n

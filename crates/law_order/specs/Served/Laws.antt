@@ -1,0 +1,22 @@
+-- What the laws of `served` say.
+use Rattle.std.specs.Prelude.{List}
+use Rattle.law_log.specs.Enabled.{AreEnabled}
+use Rattle.fkv_world.specs.World.{Event}
+use Rattle.law_order.specs.Known.Begins.{BegunLife, home_of_world}
+use Rattle.law_refine.specs.Events.GhostEvents.{life_ghosts, mapped}
+use Rattle.law_refine.specs.Records.Changes.{AreChangesPublished}
+use Rattle.law_order.specs.Served.Fits.{CallsFit, CellsFit}
+use Rattle.law_order.specs.Served.Served.{ServedShow}
+
+-- what the device gives for a flushed record shows the log
+abbrev pub ServesTheLog : Type 0
+ServesTheLog =
+    (life : BegunLife) (events : List Event)
+    → CellsFit life.ghosts.log → CallsFit events → AreEnabled (home_of_world life.opening) life.ghosts (mapped life.opening events)
+    → AreChangesPublished life.opening life.ghosts events → ServedShow life.opening life.ghosts events
+
+-- the log keeps numbers that fit in a word
+abbrev pub KeepsFitting : Type 0
+KeepsFitting =
+    (life : BegunLife) (events : List Event)
+    → CellsFit life.ghosts.log → CallsFit events → AreEnabled (home_of_world life.opening) life.ghosts (mapped life.opening events) → CellsFit (life_ghosts life.opening life.ghosts events).log
