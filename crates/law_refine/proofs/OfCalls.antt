@@ -2,7 +2,7 @@ mod Called
 pub mod InHand
 mod Life
 pub mod LifeHistory
-mod MadeBy
+pub mod MadeBy
 mod Named
 mod Once
 pub mod SameHistory

@@ -23,24 +23,8 @@ use Rattle.fkv_world.specs.Runs.{World, run}
 use Rattle.fkv_world.specs.World.{Event}
 use Rattle.law_guard.specs.Guarded.Shows.{IsOpened, seen_by_guard}
 use Rattle.law_guard.proofs.OfGuarded.Worlds.{life_shows}
+use Rattle.law_refine.proofs.OfRecords.FrameOwners.{seen_so}
 use Rattle.law_refine.specs.Records.Frames.{IsAttempting}
-
--- ---- the guard's actor has seen what its session has
-try_seen : (seen : LastSeen) (t : TryState) (step : Trying) → (try_likeness_at seen t step).seen ≡ seen
-try_seen seen t (Appends made) = refl
-try_seen seen t step = refl
-
-attempt_seen : (seen : LastSeen) (a : AttemptState) (step : Attempting) → (attempt_likeness_at seen a step).seen ≡ seen
-attempt_seen seen a Tries = try_seen seen a.trial a.trial.step
-attempt_seen seen a step = refl
-
-sitting_seen : (s : SessionState) (step : Sitting) → IsAttempting step → (sitting_likeness s step).seen ≡ last_seen s.seen
-sitting_seen s (Attempts has_shifted) attempts = attempt_seen (last_seen s.seen) s.attempt s.attempt.step
-sitting_seen s (Polls index) attempts = attempt_seen (last_seen s.seen) s.attempt s.attempt.step
-sitting_seen s step attempts = absurd attempts
-
-seen_so : (w : GuardWorld) (number : ℕ) (x : Actor) (s : SessionState) → IsAttempting s.step → Sits w number x s → seen_of w.now.actors number ≡ last_seen s.seen
-seen_so w number x s attempts sits = ap seen_at sits.got ∙ (sits.fits.seen ∙ sitting_seen s s.step attempts)
 
 -- ---- the head has come as far, and no further than what is flushed
 pub head_flushed : (opening : World) (start : ℕ) (events : List Event) (session : ℕ) (s : SessionState) → IsOpened opening.now start → slice_get (run opening events).now.sessions session ≡ Some s → IsAttempting s.step

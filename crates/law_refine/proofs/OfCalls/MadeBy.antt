@@ -54,7 +54,7 @@ attempted_keeps s again tried.Shift = shifts_keep s again
 attempted_keeps s again tried.IndexFull = refl
 attempted_keeps s again tried.LogFull = refl
 
-call_keeps : (s : SessionState) (again : Bool) (ask : Ask TryAnswer) → (attempt_ledto s again ask).effect ≡ s.effect
+pub call_keeps : (s : SessionState) (again : Bool) (ask : Ask TryAnswer) → (attempt_ledto s again ask).effect ≡ s.effect
 unfolding attempt_ledto
 call_keeps s again (Done its) = attempted_keeps (attempt_left s) again its
 call_keeps s again ask = refl

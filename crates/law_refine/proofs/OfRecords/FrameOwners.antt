@@ -149,7 +149,7 @@ sitting_seen s (Attempts has_shifted) attempts = attempt_seen (last_seen s.seen)
 sitting_seen s (Polls index) attempts = attempt_seen (last_seen s.seen) s.attempt s.attempt.step
 sitting_seen s step attempts = absurd attempts
 
-seen_so : (w : GuardWorld) (number : ℕ) (x : Actor) (s : SessionState) → IsAttempting s.step → Sits w number x s → seen_of w.now.actors number ≡ last_seen s.seen
+pub seen_so : (w : GuardWorld) (number : ℕ) (x : Actor) (s : SessionState) → IsAttempting s.step → Sits w number x s → seen_of w.now.actors number ≡ last_seen s.seen
 seen_so w number x s attempts sits = ap seen_at sits.got ∙ (sits.fits.seen ∙ sitting_seen s s.step attempts)
 
 -- so nothing at or above the read-only offset that it has seen is flushed, and no frame at or above its head is used again

@@ -6,10 +6,6 @@ use Rattle.fkv_epoch.proofs.Shown.{none_some}
 use Rattle.fkv_map.specs.declared.history.HistoryEntry.{HistoryEntry}
 use Rattle.fkv_map.specs.declared.operations.Op.{Op}
 use Rattle.fkv_map.specs.declared.operations.Reply.{Reply}
-use Rattle.fkv_ops.specs.declared.answers.Reason.{Reason}
-use Rattle.fkv_ops.specs.declared.answers.Reason.TheVariants as reason
-use Rattle.fkv_ops.specs.declared.answers.TryAnswer.{TryAnswer}
-use Rattle.fkv_ops.specs.declared.answers.TryAnswer.TheVariants as tried
 use Rattle.fkv_ops.specs.Requests.{is_read}
 use Rattle.fkv_pending.specs.declared.pending_requests.PendingRequest.{PendingRequest}
 use Rattle.fkv_pending.specs.declared.pending_requests.RequestName.{RequestName}
@@ -17,44 +13,16 @@ use Rattle.fkv_pending.specs.declared.pending_requests.RequestName.TheVariants.{
 use Rattle.fkv_pending.specs.Attempting.{attempt_ask}
 use Rattle.fkv_plane.specs.declared.asks.Ask.{Ask}
 use Rattle.fkv_plane.specs.declared.asks.Ask.TheVariants.{Done}
-use Rattle.fkv_session.specs.declared.answers.Told.{Told}
 use Rattle.fkv_session.specs.declared.sessions.CatchCause.TheVariants.{Refreshes, Wakes, Shifts}
 use Rattle.fkv_session.specs.declared.sessions.Sitting.{Sitting}
 use Rattle.fkv_session.specs.declared.sessions.Sitting.TheVariants.{Idle, Attempts, CatchesUp, Turns}
-use Rattle.fkv_session.specs.Sessions.{SessionState, Seat, bits_of, room_of, entry_of, answers_after_turn, ticket_after, name_of, attempts, is_no_room, with_request, serial_taken, accepts, shifts, attempted, attempt_left, attempt_ledto, catch_ledto, attempt_moved, caught, own_turn_moved, session_next, sitting_next}
+use Rattle.fkv_session.specs.Sessions.{SessionState, Seat, bits_of, room_of, entry_of, ticket_after, name_of, attempts, catch_ledto, attempt_moved, caught, own_turn_moved, session_next, sitting_next}
 use Rattle.fkv_session.proofs.Shown.{attempt_keeps}
 use Rattle.law_world.proofs.OfRuns.EffectStays.{turn_keeps as turned_keeps}
+use Rattle.law_refine.proofs.OfCalls.MadeBy.{call_keeps}
 use Rattle.law_refine.proofs.OfResults.OwnCall.{KnowsOp, Stands, StandsAt, asked, asked_knows, asked_stands}
 
 -- ---- what ends an attempt makes no effect of its own
-either_keeps : (b : Bool) (s other : SessionState) (its : Option HistoryEntry) → s.effect ≡ its → other.effect ≡ its → (if b then s else other).effect ≡ its
-either_keeps true s other its one two = one
-either_keeps false s other its one two = two
-
-turn_keeps : (s : SessionState) (its : Told) → (answers_after_turn s its).effect ≡ s.effect
-turn_keeps s its = either_keeps s.wants_turn _ _ s.effect refl refl
-
-accepts_keep : (s : SessionState) (why : Reason) → (accepts s why).effect ≡ s.effect
-unfolding accepts
-accepts_keep s why = either_keeps (is_read s.op) _ _ s.effect refl (turn_keeps (with_request (serial_taken (record s { wants_turn = is_no_room why }))) _)
-
-shifts_keep : (s : SessionState) (again : Bool) → (shifts s again).effect ≡ s.effect
-unfolding shifts
-shifts_keep s false = refl
-shifts_keep s true = accepts_keep s reason.Contended
-
-attempted_keeps : (s : SessionState) (again : Bool) (its : TryAnswer) → (attempted s again its).effect ≡ s.effect
-attempted_keeps s again (tried.Done its) = either_keeps (is_read s.op) _ _ s.effect refl refl
-attempted_keeps s again (tried.Wait why) = accepts_keep s why
-attempted_keeps s again (tried.AwaitsDisk sought) = accepts_keep s reason.Disk
-attempted_keeps s again tried.Shift = shifts_keep s again
-attempted_keeps s again its = refl
-
-call_keeps : (s : SessionState) (again : Bool) (ask : Ask TryAnswer) → (attempt_ledto s again ask).effect ≡ s.effect
-unfolding attempt_ledto
-call_keeps s again (Done its) = attempted_keeps (attempt_left s) again its
-call_keeps s again ask = refl
-
 catch_keeps : (k : Seat) (s : SessionState) (ask : Ask (Unit {0})) → (catch_ledto k s Shifts ask).effect ≡ s.effect
 unfolding catch_ledto attempts
 catch_keeps k s (Done through) = refl
