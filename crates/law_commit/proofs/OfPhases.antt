@@ -19,5 +19,6 @@ pub mod SessionLoads
 pub mod SessionStamps
 pub mod SessionStages
 pub mod SessionsShown
+pub mod StageMoves
 pub mod StageWords
 pub mod StagesRun

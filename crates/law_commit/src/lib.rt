@@ -3,12 +3,14 @@
 
 mod copied;
 mod cuts;
+mod floor;
 mod laws;
 mod linked;
 mod phases;
 
 pub use copied::{law_copies_cover, law_world_copied};
 pub use cuts::{law_cuts_stand, law_durable_stands, law_marks_stand};
+pub use floor::law_floor_stands;
 pub use laws::{
     law_begun, law_of_worked_pasts, law_of_worked_pieces, law_phase_stored, law_versions_counted,
     law_view_is_seen,

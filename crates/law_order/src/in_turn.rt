@@ -6,12 +6,12 @@ ghost use Rattle.fkv_opening.specs.declared.opened_store.Opened.{Opened};
 ghost use Rattle.fkv_world.specs.World.{Now};
 ghost use Rattle.law_opening.specs.Lives.OpenedFrom.{IsOpenedFrom};
 ghost use Rattle.law_opening.specs.Lives.Steps.{AllLeadOn, OneCommitStands, Step, device_behind, events_of, now_behind};
-ghost use Rattle.law_order.specs.InTurn.Laws.{NumbersItsCommitsInTurn, OpensItsStoreAtRest, TellsOfItsLife};
+ghost use Rattle.law_order.specs.InTurn.Laws.{HasFloorInItsLife, NumbersItsCommitsInTurn, OpensItsStoreAtRest, TellsOfItsLife};
 
 use crate::rest::law_rest_said;
 use crate::rules::law_life_begins;
 use fkv_disk::Device;
-use law_commit::law_begun;
+use law_commit::{law_begun, law_floor_stands};
 use law_opening::{law_opened_commit_stands, law_told_opens};
 
 /// An opened store opens at rest: its phase word says rest of the version behind its newest commit's number, and each session has seen that. So the laws of
@@ -26,6 +26,16 @@ pub fn law_phases_open()
     law_life_begins();
     law_begun();
     law_told_opens();
+}
+
+/// In each life of an opened store, with commits, crashes and failing calls of the device, whatever their order, the view of each live session has its floor:
+/// the phase that it has seen is no more than so far behind the phase word. It has seen a tail at or above the first address of the commit in hand from
+/// in-progress on, and as that is written at or above its end.
+pub fn law_floor_opens()
+    ensures { HasFloorInItsLife }
+{
+    law_life_begins();
+    law_floor_stands();
 }
 
 /// And behind any steps of an opened store's world one commit stands in each image that a crash leaves of the device: the newest finished one, or, while

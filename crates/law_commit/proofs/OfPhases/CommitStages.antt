@@ -107,7 +107,7 @@ module _ (its : Deferred) (before out after : Stage) where
   defer_tells stage d (defer.Arms epoch) is = arm_tells stage epoch (arm_ask d.arming) is
 
 -- a slot is sought: it is held, or there is none, or the search goes on
-abbrev SoughtAt : DeferState → Ask DeferAnswer → Type 0
+abbrev pub SoughtAt : DeferState → Ask DeferAnswer → Type 0
 SoughtAt d (Done Held) = d.step ≡ defer.Holds
 SoughtAt d (Done told) = ⊤
 SoughtAt d ask = d.step ≡ defer.Seeks
@@ -129,7 +129,7 @@ step_sought : (d : DeferState) (reply : ℕ) → d.step ≡ defer.Seeks → Soug
 unfolding deferring_next
 step_sought d reply at = led_sought (record d { raising = raise_next d.raising reply }) (raise_next_ask d.raising reply) at
 
-slot_sought : (d : DeferState) (reply : ℕ) → d.step ≡ defer.Seeks → SoughtAt (defer_next d reply) (defer_ask (defer_next d reply))
+pub slot_sought : (d : DeferState) (reply : ℕ) → d.step ≡ defer.Seeks → SoughtAt (defer_next d reply) (defer_ask (defer_next d reply))
 slot_sought d reply at = subst (λ (x : Deferring). SoughtAt (deferring_next d x reply) (deferring_ask (deferring_next d x reply) (deferring_next d x reply).step)) (sym at) (step_sought d reply at)
 
 -- one that holds its slot goes on
@@ -138,7 +138,7 @@ unfolding deferring_on
 held_goes_on d its defer.Holds e = refl
 held_goes_on d its step e = cc
 
-goes_on : (d : DeferState) (its : Deferred) → d.step ≡ defer.Holds → (defer_on d its).step ≡ defer.Raises its
+pub goes_on : (d : DeferState) (its : Deferred) → d.step ≡ defer.Holds → (defer_on d its).step ≡ defer.Raises its
 goes_on d its at = held_goes_on d its d.step at
 
 -- ---- a start

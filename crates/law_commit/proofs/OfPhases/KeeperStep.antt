@@ -60,6 +60,7 @@ use Rattle.law_commit.proofs.OfPhases.KeeperStages.{KeeperSays, keeper_called_at
 use Rattle.law_commit.proofs.OfPhases.CommitStages.{StartSays}
 use Rattle.law_commit.proofs.OfPhases.OneOut.{dropped, fewer, keeper_calls, keeper_empties, keeper_put, keeper_takes, put, taken}
 use Rattle.law_commit.proofs.OfPhases.SessionStages.{IsRun, claim_runs, passed_runs, phase_spared, phase_written, stage_runs}
+use Rattle.law_commit.proofs.OfPhases.StageMoves.{KeeperOn, OwnStore, Plain, Putting, Replied}
 use Rattle.law_commit.proofs.OfPhases.StageWords.{word_says}
 use Rattle.law_commit.proofs.OfPhases.StagesRun.{runs_on}
 
@@ -195,8 +196,8 @@ record RunsIts (number next : Version) (stage after : Stage) (ask : Ask KeeperTo
   run : IsRun ask hand
   same : IsSame number next stage after
 
-abbrev StoresSo : Version → Version → Stage → Stage → Ask KeeperTold → Option Action → Type 0
-StoresSo number next stage after ask hand = StoresIts number next stage after ask ⊎ RunsIts number next stage after ask hand
+abbrev StoresSo : KeeperState → Keeping → Version → Version → Stage → Stage → Ask KeeperTold → Option Action → Type 0
+StoresSo s step number next stage after ask hand = (OwnStore s step × StoresIts number next stage after ask) ⊎ RunsIts number next stage after ask hand
 
 start_stored : (number : Version) (stage : Stage) (s : StartState) (step : Starting) (told : KeeperTold) → StartAt number stage s step → FitsVersion number stage → start_stores step ≡ true
     → StoresIts number number stage (start_moves stage s step) (passed (starting_ask s step) told)
@@ -254,13 +255,13 @@ unfolding device_passed passed
 device_runs ask told hand run = record { its = run.its; version = run.version; has = run.has; asks = ap (λ (x : Ask MaintainAnswer). device_passed x told) run.asks }
 
 keeping_stored : (number : Version) (stage : Stage) (shape : Shape) (p : Places) (s : KeeperState) (step : Keeping) → StepAt number stage s step → FitsVersion number stage → keeper_stores s step ≡ true
-    → StoresSo number (keeping_number number s step) stage (keeping_moves stage s step) (keeping_ask shape p s step) (keeping_hand s step)
+    → StoresSo s step number (keeping_number number s step) stage (keeping_moves stage s step) (keeping_ask shape p s step) (keeping_hand s step)
 unfolding keeping_ask
-keeping_stored number stage shape p s Starts is fits stores = inl (start_stored number stage s.start s.start.step _ is fits stores)
+keeping_stored number stage shape p s Starts is fits stores = inl (stores, (start_stored number stage s.start s.start.step _ is fits stores))
 keeping_stored number stage shape p s Maintains is fits stores =
     inr (record { run = device_runs _ _ (maintain_hand s.maintain s.maintain.step) (maintain_runs shape p s.maintain s.maintain.step stores); same = record { version = refl; same = refl } })
-keeping_stored number stage shape p s Seeks is fits stores = inl (seek_stored number stage s.seek s.seek.step _ is.0 is.1 fits stores)
-keeping_stored number stage shape p s Finishes is fits stores = inl (finish_stored number stage s.seek.points s.finish s.finish.step _ is.0 is.1 fits stores)
+keeping_stored number stage shape p s Seeks is fits stores = inl (stores, (seek_stored number stage s.seek s.seek.step _ is.0 is.1 fits stores))
+keeping_stored number stage shape p s Finishes is fits stores = inl (stores, (finish_stored number stage s.seek.points s.finish s.finish.step _ is.0 is.1 fits stores))
 keeping_stored number stage shape p s (Ended told) is fits stores = cc
 keeping_stored number stage shape p s LoadsPhase is fits stores = cc
 keeping_stored number stage shape p s Enters is fits stores = cc
@@ -274,7 +275,7 @@ at_same number next stage after m is its = subst (λ (x : Stage). KeeperAt numbe
 
 module _ (n : Now) (number : Version) (stage : Stage) (granted : Bool) where
   -- behind the reply, with the keeper that it leads to
-  record Replied (words : List ℕ) (m : KeeperState) : Type 0 where
+  record Answered (words : List ℕ) (m : KeeperState) : Type 0 where
     next : Version
     at : Stage
     fits : FitsVersion next at
@@ -282,6 +283,7 @@ module _ (n : Now) (number : Version) (stage : Stage) (granted : Bool) where
     out : OnlyOut (held_at n.actions n.sessions m) (stage_out next at)
     keeper : KeeperAt next at m
     rises : (stage_version number stage).0 ≤ (stage_version next at).0
+    how : Replied n number next stage at
 
   abbrev asked_now : Ask KeeperTold
   asked_now = keeper_ask n.shape n.places n.keeper
@@ -289,7 +291,7 @@ module _ (n : Now) (number : Version) (stage : Stage) (granted : Bool) where
   abbrev replied_now : KeeperState
   replied_now = keeper_next n.shape n.places n.keeper (reply_to n.words asked_now) granted
 
-  replies : IsStaged n number stage → 2 < length n.words → (keeper_stores n.keeper n.keeper.step ≡ false → Spares ThePhase n.places asked_now) → slot_asked asked_now ≡ None → Replied (words_after n.words asked_now) replied_now
+  replies : IsStaged n number stage → 2 < length n.words → (keeper_stores n.keeper n.keeper.step ≡ false → Spares ThePhase n.places asked_now) → slot_asked asked_now ≡ None → Answered (words_after n.words asked_now) replied_now
   replies its low spares rests = by_stores (keeper_stores n.keeper n.keeper.step) refl
     where
       said : KeeperSays number stage n.keeper n.keeper.step (reply_to n.words asked_now)
@@ -301,7 +303,7 @@ module _ (n : Now) (number : Version) (stage : Stage) (granted : Bool) where
       empties : (holder : Holder) (a : Action) → held_at n.actions n.sessions replied_now holder ≡ Some a → (held n holder ≡ Some a) × (holder ≢ WithKeeper)
       empties holder a is = keeper_empties n.actions n.sessions n.keeper replied_now (keeper_next_none n.shape n.places n.keeper (reply_to n.words asked_now) granted) holder a is
 
-      by_stores : (b : Bool) → keeper_stores n.keeper n.keeper.step ≡ b → Replied (words_after n.words asked_now) replied_now
+      by_stores : (b : Bool) → keeper_stores n.keeper n.keeper.step ≡ b → Answered (words_after n.words asked_now) replied_now
       by_stores false e = record {
         next = number;
         at = stage;
@@ -310,9 +312,10 @@ module _ (n : Now) (number : Version) (stage : Stage) (granted : Bool) where
         out = fewer its.out (λ holder a is. (empties holder a is).0);
         keeper = at_same number _ stage _ replied_now (keeping_same number stage n.shape n.places n.keeper n.keeper.step e rests) led;
         rises = omega arith;
+        how = inl (record { version = refl; same = refl; stores = e });
       }
       by_stores true e = elim (keeping_stored number stage n.shape n.places n.keeper n.keeper.step its.keeper.step its.fits e) [
-        | inl stores ↦ record {
+        | inl its_own ↦ (let stores = its_own.1 in record {
           next = keeping_number number n.keeper n.keeper.step;
           at = keeping_moves stage n.keeper n.keeper.step;
           fits = stores.fits;
@@ -320,7 +323,8 @@ module _ (n : Now) (number : Version) (stage : Stage) (granted : Bool) where
           out = subst (λ (x : Option Action). OnlyOut (held_at n.actions n.sessions replied_now) x) (stores.was ∙ sym stores.is) (fewer its.out (λ holder a is. (empties holder a is).0));
           keeper = led;
           rises = stores.rises;
-        }
+          how = inr (inl (record { own = its_own.0; version = refl; moves = refl }));
+        })
         | inr runs ↦
             let run = runs.run in
             let action : Action = act.Phase run.its run.version in
@@ -334,6 +338,7 @@ module _ (n : Now) (number : Version) (stage : Stage) (granted : Bool) where
               out = subst (λ (x : Option Action). OnlyOut (held_at n.actions n.sessions replied_now) x) (sym on.none) (dropped WithKeeper action its.out has empties);
               keeper = runs_on number stage replied_now (at_same number _ stage _ replied_now runs.same led);
               rises = on.rises;
+              how = inr (inr (record { version = refl; runs = refl; its = run.its; its_version = run.version; has = run.has }));
             }
       ]
 
@@ -349,9 +354,14 @@ module _ (n : Now) (number : Version) (stage : Stage) (granted : Bool) where
   gets_at next at m None its = its
   gets_at next at m (Some action) its = keeper_given_at next at n.shape n.places m action its
 
+  record SettledOn (m : KeeperState) (words : List ℕ) (r : Answered words m) (after : Now) : Type 0 where
+    on : StageAfter number stage after
+    words_are : after.words ≡ words
+    settled : Plain n m after.keeper r.next on.its_number r.at on.its_stage ⊎ Putting n granted m after.keeper r.next on.its_number r.at on.its_stage
+
   -- it puts no phase, or the action that is out then
-  puts : (m : KeeperState) (words : List ℕ) (slot : ℕ) (action : Action) → Replied words m → keeper_hand m ≡ None → keeper_ask n.shape n.places m ≡ Put slot action
-      → StageAfter number stage (with_keeper n (record { machine = keeper_next n.shape n.places m 0 granted; words = words; actions = slice_set n.actions slot (Some action) }))
+  puts : (m : KeeperState) (words : List ℕ) (slot : ℕ) (action : Action) (r : Answered words m) → keeper_hand m ≡ None → keeper_ask n.shape n.places m ≡ Put slot action
+      → SettledOn m words r (with_keeper n (record { machine = keeper_next n.shape n.places m 0 granted; words = words; actions = slice_set n.actions slot (Some action) }))
   puts m words slot action r none e =
       let fits_now = r.fits in
       let led : KeeperAt (keeping_number r.next m m.step) (keeping_moves r.at m m.step) (keeper_next n.shape n.places m 0 granted) =
@@ -362,83 +372,119 @@ module _ (n : Now) (number : Version) (stage : Stage) (granted : Bool) where
       let after_none = keeper_next_none n.shape n.places m 0 granted in
       elim its [
         | inl same ↦ record {
-          its_number = r.next;
-          its_stage = r.at;
-          staged = record {
-            fits = fits_now;
-            word = r.word;
-            out = fewer r.out (λ holder a is. elim (keeper_put n.actions n.sessions m (keeper_next n.shape n.places m 0 granted) slot action after_none holder a is) [
-              | inl there ↦ (let clash : None ≡ Some a = sym same.0 ∙ there.1 in cc)
-              | inr was ↦ was
-            ]);
-            keeper = subst (λ (x : Stage). KeeperAt r.next x (keeper_next n.shape n.places m 0 granted)) same.1 here;
+          on = record {
+            its_number = r.next;
+            its_stage = r.at;
+            staged = record {
+              fits = fits_now;
+              word = r.word;
+              out = fewer r.out (λ holder a is. elim (keeper_put n.actions n.sessions m (keeper_next n.shape n.places m 0 granted) slot action after_none holder a is) [
+                | inl there ↦ (let clash : None ≡ Some a = sym same.0 ∙ there.1 in cc)
+                | inr was ↦ was
+              ]);
+              keeper = subst (λ (x : Stage). KeeperAt r.next x (keeper_next n.shape n.places m 0 granted)) same.1 here;
+            };
+            rises = r.rises;
           };
-          rises = r.rises;
+          words_are = refl;
+          settled = inr (record { slot = slot; action = action; asks = e; version = refl; moves = sym same.1; keeper = refl; puts = inl (same.0, refl) });
         }
         | inr phased ↦ record {
-          its_number = r.next;
-          its_stage = keeping_moves r.at m m.step;
-          staged = record {
-            fits = record { some = fits_now.some; low = fits_now.low; lower = λ stored. fits_now.lower phased.stored };
-            word = r.word ∙ word_same r.next r.at (keeping_moves r.at m m.step) phased.phase phased.version;
-            out = put (InSlot slot) (subst (λ (x : Option Action). OnlyOut (held_at n.actions n.sessions m) x) phased.none r.out) (λ holder a is.
-                elim (keeper_put n.actions n.sessions m (keeper_next n.shape n.places m 0 granted) slot action after_none holder a is) [
-                  | inl there ↦ inl (there.0, sym there.1 ∙ phased.out)
-                  | inr was ↦ inr was
-                ]);
-            keeper = here;
+          on = record {
+            its_number = r.next;
+            its_stage = keeping_moves r.at m m.step;
+            staged = record {
+              fits = record { some = fits_now.some; low = fits_now.low; lower = λ stored. fits_now.lower phased.stored };
+              word = r.word ∙ word_same r.next r.at (keeping_moves r.at m m.step) phased.phase phased.version;
+              out = put (InSlot slot) (subst (λ (x : Option Action). OnlyOut (held_at n.actions n.sessions m) x) phased.none r.out) (λ holder a is.
+                  elim (keeper_put n.actions n.sessions m (keeper_next n.shape n.places m 0 granted) slot action after_none holder a is) [
+                    | inl there ↦ inl (there.0, sym there.1 ∙ phased.out)
+                    | inr was ↦ inr was
+                  ]);
+              keeper = here;
+            };
+            rises = let up = r.rises in let same = ap (λ (v : Version). v.0) phased.version in omega (arith, up, same);
           };
-          rises = let up = r.rises in let same = ap (λ (v : Version). v.0) phased.version in omega (arith, up, same);
+          words_are = refl;
+          settled = inr (record { slot = slot; action = action; asks = e; version = refl; moves = refl; keeper = refl; puts = inr phased });
         }
       ]
     where
       word_same : (next : Version) (at after : Stage) → stage_phase after ≡ stage_phase at → stage_version next after ≡ stage_version next at → Says (stage_phase at) (stage_version next at) ≡ Says (stage_phase after) (stage_version next after)
       word_same next at after one other = ap (λ (x : Phase). Says x (stage_version next at)) (sym one) ∙ ap (λ (v : Version). Says (stage_phase after) v) (sym other)
 
-  settles : (m : KeeperState) (words : List ℕ) (ask : Ask KeeperTold) → Replied words m → keeper_hand m ≡ None → keeper_ask n.shape n.places m ≡ ask
-      → StageAfter number stage (with_keeper n (keeper_settled n.shape n.places granted (record { machine = m; words = words; actions = n.actions }) ask))
+  settles : (m : KeeperState) (words : List ℕ) (ask : Ask KeeperTold) (r : Answered words m) → keeper_hand m ≡ None → keeper_ask n.shape n.places m ≡ ask
+      → SettledOn m words r (with_keeper n (keeper_settled n.shape n.places granted (record { machine = m; words = words; actions = n.actions }) ask))
   unfolding keeper_settled
   settles m words (Put slot action) r none e = puts m words slot action r none e
   settles m words (Take slot) r none e = record {
-    its_number = r.next;
-    its_stage = r.at;
-    staged = record {
-      fits = r.fits;
-      word = r.word;
-      out = taken (InSlot slot) WithKeeper r.out (keeper_takes n.actions n.sessions m (keeper_gets n.shape n.places m (action_at n.actions slot)) slot (λ a is. gets_hand m (action_at n.actions slot) a none is));
-      keeper = gets_at r.next r.at m (action_at n.actions slot) r.keeper;
+    on = record {
+      its_number = r.next;
+      its_stage = r.at;
+      staged = record {
+        fits = r.fits;
+        word = r.word;
+        out = taken (InSlot slot) WithKeeper r.out (keeper_takes n.actions n.sessions m (keeper_gets n.shape n.places m (action_at n.actions slot)) slot (λ a is. gets_hand m (action_at n.actions slot) a none is));
+        keeper = gets_at r.next r.at m (action_at n.actions slot) r.keeper;
+      };
+      rises = r.rises;
     };
-    rises = r.rises;
+    words_are = refl;
+    settled = inl (record { version = refl; same = refl; keeper = inr (action_at n.actions slot, refl); unput = λ other action is. let clash : Take slot ≡ Put other action = sym e ∙ is in cc });
   }
-  settles m words ask r none e = record { its_number = r.next; its_stage = r.at; staged = record { fits = r.fits; word = r.word; out = r.out; keeper = r.keeper }; rises = r.rises }
+  settles m words ask r none e = record {
+    on = record { its_number = r.next; its_stage = r.at; staged = record { fits = r.fits; word = r.word; out = r.out; keeper = r.keeper }; rises = r.rises };
+    words_are = refl;
+    settled = inl (record { version = refl; same = refl; keeper = inl refl; unput = λ other action is. let clash : ask ≡ Put other action = sym e ∙ is in cc });
+  }
+
+  -- it asks nothing of a word
+  aside : (done : Bool) (read : List ℕ) → IsStaged n number stage → KeeperOn n number stage granted done read (with_keeper n (near n n.keeper))
+  aside done read its = record { on = record { its_number = number; its_stage = stage; staged = its; rises = omega arith }; how = inl (record { version = refl; same = refl; keeper = inl refl }) }
 
   asks : (done : Bool) (read : List ℕ) → IsStaged n number stage → 2 < length n.words → (keeper_stores n.keeper n.keeper.step ≡ false → Spares ThePhase n.places asked_now) → (ask : Ask KeeperTold) → asked_now ≡ ask → slot_asked ask ≡ None
-      → StageAfter number stage (with_keeper n (keeper_asks n.shape n.places granted done read (near n n.keeper) ask))
+      → KeeperOn n number stage granted done read (with_keeper n (keeper_asks n.shape n.places granted done read (near n n.keeper) ask))
   unfolding keeper_asks
   asks done read its low spares (Done Device) e rests = record {
-    its_number = number;
-    its_stage = stage;
-    staged = record {
-      fits = its.fits;
-      word = its.word;
-      out = fewer its.out (keeper_calls n.actions n.sessions n.keeper (keeper_called n.shape n.places n.keeper done read) (λ a is. keeper_called_hand n.shape n.places n.keeper done read a is));
-      keeper = keeper_called_at number stage n.shape n.places n.keeper done read its.keeper;
+    on = record {
+      its_number = number;
+      its_stage = stage;
+      staged = record {
+        fits = its.fits;
+        word = its.word;
+        out = fewer its.out (keeper_calls n.actions n.sessions n.keeper (keeper_called n.shape n.places n.keeper done read) (λ a is. keeper_called_hand n.shape n.places n.keeper done read a is));
+        keeper = keeper_called_at number stage n.shape n.places n.keeper done read its.keeper;
+      };
+      rises = omega arith;
     };
-    rises = omega arith;
+    how = inl (record { version = refl; same = refl; keeper = inr refl });
   }
-  asks done read its low spares (Done (Turned finished full)) e rests = record { its_number = number; its_stage = stage; staged = its; rises = omega arith }
-  asks done read its low spares (Done (TurnRefused why)) e rests = record { its_number = number; its_stage = stage; staged = its; rises = omega arith }
-  asks done read its low spares (Done (Begun version)) e rests = record { its_number = number; its_stage = stage; staged = its; rises = omega arith }
-  asks done read its low spares (Done (CommitRefused why)) e rests = record { its_number = number; its_stage = stage; staged = its; rises = omega arith }
+  asks done read its low spares (Done (Turned finished full)) e rests = aside done read its
+  asks done read its low spares (Done (TurnRefused why)) e rests = aside done read its
+  asks done read its low spares (Done (Begun version)) e rests = aside done read its
+  asks done read its low spares (Done (CommitRefused why)) e rests = aside done read its
   asks done read its low spares (Put slot action) e rests = cc
   asks done read its low spares (Take slot) e rests = cc
   asks done read its low spares ask e rests =
       let m : KeeperState = keeper_next n.shape n.places n.keeper (reply_to n.words ask) granted in
-      let here : Replied (words_after n.words ask) m =
-      subst (λ (x : Ask KeeperTold). Replied (words_after n.words x) (keeper_next n.shape n.places n.keeper (reply_to n.words x) granted)) e (replies its low spares (ap slot_asked e ∙ rests)) in
-      settles m (words_after n.words ask) (keeper_ask n.shape n.places m) here (keeper_next_none n.shape n.places n.keeper (reply_to n.words ask) granted) refl
+      let here : Answered (words_after n.words ask) m =
+      subst (λ (x : Ask KeeperTold). Answered (words_after n.words x) (keeper_next n.shape n.places n.keeper (reply_to n.words x) granted)) e (replies its low spares (ap slot_asked e ∙ rests)) in
+      let there = settles m (words_after n.words ask) (keeper_ask n.shape n.places m) here (keeper_next_none n.shape n.places n.keeper (reply_to n.words ask) granted) refl in
+      record {
+        on = there.on;
+        how = inr (record {
+          led = m;
+          is_led = ap (λ (x : Ask KeeperTold). keeper_next n.shape n.places n.keeper (reply_to n.words x) granted) (sym e);
+          words_are = there.words_are ∙ ap (λ (x : Ask KeeperTold). words_after n.words x) (sym e);
+          between = here.next;
+          at = here.at;
+          replied = here.how;
+          keeper = here.keeper;
+          settled = there.settled;
+        });
+      }
 
 pub keeper_on : (n : Now) (number : Version) (stage : Stage) (granted done : Bool) (read : List ℕ) → IsStaged n number stage → 2 < length n.words
     → (keeper_stores n.keeper n.keeper.step ≡ false → Spares ThePhase n.places (keeper_ask n.shape n.places n.keeper)) → slot_asked (keeper_ask n.shape n.places n.keeper) ≡ None
-    → StageAfter number stage (with_keeper n (keeper_moved n.shape n.places granted done read (near n n.keeper)))
+    → KeeperOn n number stage granted done read (with_keeper n (keeper_moved n.shape n.places granted done read (near n n.keeper)))
 keeper_on n number stage granted done read its low spares rests = asks n number stage granted done read its low spares (keeper_ask n.shape n.places n.keeper) refl rests

@@ -1,5 +1,5 @@
 -- In each life of a store that opens at rest the commits go through their stages.
-use Rattle.std.proofs.Common.{◌≡◌, ℕ, zero, suc, ◌+◌, ◌*◌, ◌<◌, ◌≤◌, ◌∙◌, List, [], ◌∷◌, length, refl, arith, sym, ap, subst, Bool, true, false}
+use Rattle.std.proofs.Common.{◌≡◌, inl, inr, ℕ, zero, suc, ◌+◌, ◌*◌, ◌<◌, ◌≤◌, ◌∙◌, List, [], ◌∷◌, length, refl, arith, sym, ap, subst, Bool, true, false}
 use Rattle.std.specs.Prelude.{if◌then◌else◌, replicate, Option, Some, None, slice_get}
 use Rattle.fkv_base.specs.Limits.{drain_slots}
 use Rattle.fkv_base.specs.declared.numbers.Version.{Version}
@@ -37,7 +37,8 @@ use Rattle.law_parts.proofs.Footprint.Lives.{keeper_spares}
 use Rattle.law_parts.proofs.Footprint.Sessions.{SessionRests, session_asks_spares, sitting_stores}
 use Rattle.law_commit.specs.Accepted.{HasRisingVersion}
 use Rattle.law_commit.specs.PhaseVersions.{HasRisingPhase, NoneIsAhead, RestIsNext, RestsAreNext, phase_version, version_said}
-use Rattle.law_commit.specs.Phases.Staged.{DefersPending, DefersProgress, EarlyAt, Flushes, Holder, InSlot, IsStaged, KeeperAt, OpensAtRest, Pends, Prepares, Progresses, Rests, Stage, StageAfter, StepAt, WithKeeper, WithSession, hand_found, held, keeper_hand, keeping_hand, phase_in, sitting_hand, stage_phase, stage_version}
+use Rattle.law_commit.specs.Phases.Staged.{DefersPending, DefersProgress, EarlyAt, FitsVersion, Flushes, Holder, InSlot, IsStaged, KeeperAt, OnlyOut, OpensAtRest, Pends, Prepares, Progresses, Rests, Stage, StageAfter, StepAt, WithKeeper, WithSession, hand_found, held, keeper_hand, keeping_hand, phase_in, sitting_hand, stage_out, stage_phase, stage_version}
+use Rattle.law_commit.specs.PhaseStores.{phase_at}
 use Rattle.law_commit.proofs.Rising.{version_rises}
 use Rattle.law_commit.proofs.OfCuts.Marks.{sparing_now}
 use Rattle.law_commit.proofs.OfPhases.KeeperHands.{commit_asked_none, turn_asked_none}
@@ -46,51 +47,44 @@ use Rattle.law_commit.proofs.OfPhases.KeeperStep.{keeper_on}
 use Rattle.law_commit.proofs.OfPhases.OneOut.{fewer, keeper_empties, session_empties, session_same}
 use Rattle.law_commit.proofs.OfPhases.SessionHands.{begun_none}
 use Rattle.law_commit.proofs.OfPhases.SessionStages.{session_on}
+use Rattle.law_commit.proofs.OfPhases.StageMoves.{EventOn, QuietKeeper}
 use Rattle.law_commit.proofs.OfPhases.StageWords.{said_low}
 
 -- ---- a call that begins
-stays : (n : Now) (number : Version) (stage : Stage) → IsStaged n number stage → StageAfter number stage n
-stays n number stage its = record { its_number = number; its_stage = stage; staged = its; rises = omega arith }
+stays : (n : Now) (number : Version) (stage : Stage) → IsStaged n number stage → EventOn n number stage n
+stays n number stage its = record { on = record { its_number = number; its_stage = stage; staged = its; rises = omega arith }; how = inl (record { same = record { version = refl; same = refl }; keeper = inl refl }) }
 
-call_on : (n : Now) (number : Version) (stage : Stage) (i : ℕ) (call : Call) (found : Option SessionState) → slice_get n.sessions i ≡ found → IsStaged n number stage → StageAfter number stage (session_calls n i call found)
+-- the keeper's part stays
+calm : (n after : Now) (number : Version) (stage : Stage) → FitsVersion number stage → phase_said (phase_at after) ≡ Says (stage_phase stage) (stage_version number stage) → OnlyOut (held after) (stage_out number stage) → KeeperAt number stage after.keeper → QuietKeeper n after.keeper
+    → EventOn n number stage after
+calm n after number stage fits word out keeper quiet = record {
+  on = record { its_number = number; its_stage = stage; staged = record { fits = fits; word = word; out = out; keeper = keeper }; rises = omega arith };
+  how = inl (record { same = record { version = refl; same = refl }; keeper = quiet });
+}
+
+call_on : (n : Now) (number : Version) (stage : Stage) (i : ℕ) (call : Call) (found : Option SessionState) → slice_get n.sessions i ≡ found → IsStaged n number stage → EventOn n number stage (session_calls n i call found)
 call_on n number stage i call None got its = stays n number stage its
 call_on n number stage i call (Some s) got its = by_busy (is_busy s.step)
   where
-    by_busy : (b : Bool) → StageAfter number stage (with_session n i (near n (if b then s else session_begun (seat_at n i) s call)))
-    by_busy true = record {
-      its_number = number;
-      its_stage = stage;
-      staged = record { fits = its.fits; word = its.word; out = fewer its.out (session_same n.actions n.sessions n.keeper i s got); keeper = its.keeper };
-      rises = omega arith;
-    }
-    by_busy false = record {
-      its_number = number;
-      its_stage = stage;
-      staged = record {
-        fits = its.fits;
-        word = its.word;
-        out = fewer its.out (λ holder a is. (session_empties n.actions n.sessions n.keeper i (session_begun (seat_at n i) s call) (begun_none (seat_at n i) s call) holder a is).0);
-        keeper = its.keeper;
-      };
-      rises = omega arith;
-    }
+    by_busy : (b : Bool) → EventOn n number stage (with_session n i (near n (if b then s else session_begun (seat_at n i) s call)))
+    by_busy true = calm n _ number stage its.fits its.word (fewer its.out (session_same n.actions n.sessions n.keeper i s got)) its.keeper (inl refl)
+    by_busy false =
+        calm n _ number stage its.fits its.word
+        (fewer its.out (λ holder a is. (session_empties n.actions n.sessions n.keeper i (session_begun (seat_at n i) s call) (begun_none (seat_at n i) s call) holder a is).0)) its.keeper (inl refl)
 
-asked_on : (n : Now) (number : Version) (stage : Stage) (begun : KeeperState) → IsStaged n number stage → keeper_hand begun ≡ None → (is_in_hand n.keeper.step ≡ false → KeeperAt number stage begun)
-    → StageAfter number stage (with_keeper n (near n (keeper_asked n.keeper begun)))
-asked_on n number stage begun its none at = by_hand (is_in_hand n.keeper.step) refl
+asked_on : (n : Now) (number : Version) (stage : Stage) (begun : KeeperState) → IsStaged n number stage → keeper_hand begun ≡ None → (is_in_hand n.keeper.step ≡ false → KeeperAt number stage begun) → QuietKeeper n (keeper_asked n.keeper begun)
+    → EventOn n number stage (with_keeper n (near n (keeper_asked n.keeper begun)))
+asked_on n number stage begun its none at quiet = by_hand (is_in_hand n.keeper.step) refl
   where
-    by_hand : (b : Bool) → is_in_hand n.keeper.step ≡ b → StageAfter number stage (with_keeper n (near n (if b then n.keeper else begun)))
+    by_hand : (b : Bool) → is_in_hand n.keeper.step ≡ b → EventOn n number stage (with_keeper n (near n (if b then n.keeper else begun)))
     by_hand true e = stays n number stage its
-    by_hand false e = record {
-      its_number = number;
-      its_stage = stage;
-      staged = record { fits = its.fits; word = its.word; out = fewer its.out (λ holder a is. (keeper_empties n.actions n.sessions n.keeper begun none holder a is).0); keeper = at e };
-      rises = omega arith;
-    }
+    by_hand false e =
+        calm n _ number stage its.fits its.word (fewer its.out (λ holder a is. (keeper_empties n.actions n.sessions n.keeper begun none holder a is).0)) (at e)
+        (subst (λ (b : Bool). QuietKeeper n (if b then n.keeper else begun)) e quiet)
 
 -- ---- an event
 module _ (opening : World) (start : ℕ) (guarded : guard.IsOpened opening.now start) (opened : IsOpenedWorld opening) where
-  low_now : (events : List Event) → 2 < length (run opening events).now.words
+  pub low_now : (events : List Event) → 2 < length (run opening events).now.words
   low_now events =
       let w : GuardWorld = seen_by_guard opening start events in
       let shows = life_shows opening start events guarded in
@@ -119,29 +113,38 @@ module _ (opening : World) (start : ℕ) (guarded : guard.IsOpened opening.now s
       let finishes = guarded.finishes in
       keeper_spares ThePhase opening events (λ e. stores) opened.keeper (omega (arith, sessions)) (omega (arith, finishes)) (λ session e. cc) (λ is session e. cc)
 
-  goes_on : (events : List Event) (event : Event) (number : Version) (stage : Stage) → IsStaged (run opening events).now number stage → StageAfter number stage (life_goes (run opening events).now (read_by_keeper (run opening events)) event)
+  goes_on : (events : List Event) (event : Event) (number : Version) (stage : Stage) → IsStaged (run opening events).now number stage → EventOn (run opening events).now number stage (life_goes (run opening events).now (read_by_keeper (run opening events)) event)
   unfolding life_goes
   goes_on events (Calls i call) number stage its = call_on (run opening events).now number stage i call (slice_get (run opening events).now.sessions i) refl its
   goes_on events (Moves i) number stage its = by_found (slice_get (run opening events).now.sessions i) refl
     where
-      by_found : (found : Option SessionState) → slice_get (run opening events).now.sessions i ≡ found → StageAfter number stage (session_moves (run opening events).now i found)
+      by_found : (found : Option SessionState) → slice_get (run opening events).now.sessions i ≡ found → EventOn (run opening events).now number stage (session_moves (run opening events).now i found)
       by_found None got = stays (run opening events).now number stage its
-      by_found (Some s) got = session_on (run opening events).now number stage i s its got (low_now events) (session_spared events i s got) (life_session_rests opening start events i s guarded got)
+      by_found (Some s) got =
+          let there = session_on (run opening events).now number stage i s its got (low_now events) (session_spared events i s got) (life_session_rests opening start events i s guarded got) in
+          record { on = there.on; how = elim there.how [ inl same ↦ inl (record { same = same; keeper = inl there.keeper }) | inr ran ↦ inr (inl (record { session = i; s = s; got = got; ran = ran; keeper = there.keeper })) ] }
   goes_on events (Commits kind) number stage its =
       let n : Now = (run opening events).now in
-      asked_on n number stage (commit_asked n.keeper kind) its (commit_asked_none n.keeper kind) (λ idle. commit_asked_at number stage n.keeper kind its.keeper idle)
+      asked_on n number stage (commit_asked n.keeper kind) its (commit_asked_none n.keeper kind) (λ idle. commit_asked_at number stage n.keeper kind its.keeper idle) (inr (inr (inl (kind, refl))))
   goes_on events Turns number stage its =
       let n : Now = (run opening events).now in
-      asked_on n number stage (turn_asked n.keeper) its (turn_asked_none n.keeper) (λ idle. turn_asked_at number stage n.keeper its.keeper idle)
+      asked_on n number stage (turn_asked n.keeper) its (turn_asked_none n.keeper) (λ idle. turn_asked_at number stage n.keeper its.keeper idle) (inr (inr (inr refl)))
   goes_on events (KeeperMoves granted done) number stage its =
-      keeper_on (run opening events).now number stage granted done (read_by_keeper (run opening events)) its (low_now events) (keeper_spared events) (life_keeper_rests opening start events guarded)
-  goes_on events Crashes number stage its = record { its_number = number; its_stage = stage; staged = record { fits = its.fits; word = its.word; out = its.out; keeper = its.keeper }; rises = omega arith }
+      let there = keeper_on (run opening events).now number stage granted done (read_by_keeper (run opening events)) its (low_now events) (keeper_spared events) (life_keeper_rests opening start events guarded) in
+      record {
+        on = there.on;
+        how = elim there.how [
+          | inl aside ↦ inl (record { same = record { version = aside.version; same = aside.same }; keeper = elim aside.keeper [ inl same ↦ inl same | inr called ↦ inr (inl (done, read_by_keeper (run opening events), called)) ] })
+          | inr onto ↦ inr (inr (record { granted = granted; onto = onto }))
+        ];
+      }
+  goes_on events Crashes number stage its = calm (run opening events).now _ number stage its.fits its.word its.out its.keeper (inl refl)
 
-  event_on : (events : List Event) (event : Event) (number : Version) (stage : Stage) → IsStaged (run opening events).now number stage → StageAfter number stage (run opening (event ∷ events)).now
+  pub event_on : (events : List Event) (event : Event) (number : Version) (stage : Stage) → IsStaged (run opening events).now number stage → EventOn (run opening events).now number stage (run opening (event ∷ events)).now
   unfolding run
   event_on events event number stage its = by_crash (run opening events).now.crashed
     where
-      by_crash : (b : Bool) → StageAfter number stage (if b then (run opening events).now else life_goes (run opening events).now (read_by_keeper (run opening events)) event)
+      by_crash : (b : Bool) → EventOn (run opening events).now number stage (if b then (run opening events).now else life_goes (run opening events).now (read_by_keeper (run opening events)) event)
       by_crash true = stays (run opening events).now number stage its
       by_crash false = goes_on events event number stage its
 
@@ -167,7 +170,7 @@ rest_at number s (Ended told) at idle none next = record {
 }
 rest_at number s step at idle none next = cc
 
-opens_staged : (n : Now) (start : ℕ) → guard.IsOpened n start → OpensAtRest n → IsStaged n (record { 0 = n.keeper.last.number.0 + 1 }) Rests
+pub opens_staged : (n : Now) (start : ℕ) → guard.IsOpened n start → OpensAtRest n → IsStaged n (record { 0 = n.keeper.last.number.0 + 1 }) Rests
 opens_staged n start guarded rests = record {
   fits = record { some = omega arith; low = said_low (word_at n.words 2) Rest (record { 0 = n.keeper.last.number.0 + 1 }) rests.says; lower = λ e. cc };
   word = rests.says;
@@ -213,7 +216,7 @@ life_staged opening start [] guarded opened rests = record { number = record { 0
 life_staged opening start (event ∷ before) guarded opened rests =
     let past = life_staged opening start before guarded opened rests in
     let n : Now = (run opening before).now in
-    let on = event_on opening start guarded opened before event past.number past.stage past.staged in
+    let on = (event_on opening start guarded opened before event past.number past.stage past.staged).on in
     let was = version_now n past.number past.stage past.staged in
     let is = version_now (run opening (event ∷ before)).now on.its_number on.its_stage on.staged in
     let up = on.rises in

@@ -39,6 +39,7 @@ use Rattle.law_parts.proofs.Footprint.Sessions.{sitting_stores}
 use Rattle.law_commit.specs.Phases.Staged.{DefersPending, DefersProgress, FitsVersion, Flushes, InSlot, IsStaged, KeeperAt, OnlyOut, Pends, Prepares, Progresses, Rests, Stage, StageAfter, WithSession, claim_hand, hand_found, held, held_at, phase_in, session_hand, sitting_hand, stage_out, stage_phase, stage_run, stage_version, stage_word, turn_hand}
 use Rattle.law_commit.proofs.OfPhases.OneOut.{dropped, fewer, session_empties, session_put, session_same, session_takes, taken}
 use Rattle.law_commit.proofs.OfPhases.SessionHands.{PutsNone, session_given_hand, session_next_none, session_puts}
+use Rattle.law_commit.proofs.OfPhases.StageMoves.{Ran, SameStage, SessionOn}
 use Rattle.law_commit.proofs.OfPhases.StageWords.{word_says}
 use Rattle.law_commit.proofs.OfPhases.StagesRun.{runs_on}
 
@@ -136,13 +137,14 @@ stage_runs number Flushes its version is fits = cc
 -- ---- a step
 module _ (n : Now) (number : Version) (stage : Stage) (i : ℕ) (s : SessionState) where
   -- behind the reply, with the session that it leads to
-  record Replied (words : List ℕ) (m : SessionState) : Type 0 where
+  record Answered (words : List ℕ) (m : SessionState) : Type 0 where
     at : Stage
     fits : FitsVersion number at
     word : phase_said (word_at words 2) ≡ Says (stage_phase at) (stage_version number at)
     out : OnlyOut (held_at n.actions (slice_set n.sessions i m) n.keeper) (stage_out number at)
     keeper : KeeperAt number at n.keeper
     rises : (stage_version number stage).0 ≤ (stage_version number at).0
+    how : SameStage number number stage at ⊎ Ran number number stage at (session_hand s)
 
   gets_hand : (k : Seat) (m : SessionState) (found : Option Action) (a : Action) → session_hand m ≡ None → phase_in (session_hand (session_gets k m found)) ≡ Some a → phase_in found ≡ Some a
   gets_hand k m None a none is = let clash : None ≡ Some a = ap phase_in (sym none) ∙ is in cc
@@ -152,33 +154,41 @@ module _ (n : Now) (number : Version) (stage : Stage) (i : ℕ) (s : SessionStat
       by_hand None e it = cc
       by_hand (Some its) e it = subst (λ (x : Action). phase_in (Some x) ≡ Some a) (session_given_hand k m action its none e) it
 
-  settles : (k : Seat) (m : SessionState) (words : List ℕ) (ask : Ask Told) → Replied words m → session_hand m ≡ None → PutsNone ask
-      → StageAfter number stage (with_session n i (session_settled k (record { machine = m; words = words; actions = n.actions }) ask))
+  settles : (k : Seat) (m : SessionState) (words : List ℕ) (ask : Ask Told) → Answered words m → session_hand m ≡ None → PutsNone ask
+      → SessionOn number stage s n (with_session n i (session_settled k (record { machine = m; words = words; actions = n.actions }) ask))
   unfolding session_settled
   settles k m words (Put slot action) r none puts = record {
-    its_number = number;
-    its_stage = r.at;
-    staged = record { fits = r.fits; word = r.word; out = fewer r.out (session_put n.actions n.sessions n.keeper i (session_next k m 0) m slot action (session_next_none k m 0) puts); keeper = r.keeper };
-    rises = r.rises;
+    on = record {
+      its_number = number;
+      its_stage = r.at;
+      staged = record { fits = r.fits; word = r.word; out = fewer r.out (session_put n.actions n.sessions n.keeper i (session_next k m 0) m slot action (session_next_none k m 0) puts); keeper = r.keeper };
+      rises = r.rises;
+    };
+    how = r.how;
+    keeper = refl;
   }
   settles k m words (Take slot) r none puts = record {
-    its_number = number;
-    its_stage = r.at;
-    staged = record {
-      fits = r.fits;
-      word = r.word;
-      out = taken (InSlot slot) (WithSession i) r.out (session_takes n.actions n.sessions n.keeper i (session_gets k m (action_at n.actions slot)) m slot (λ a is. gets_hand k m (action_at n.actions slot) a none is));
-      keeper = r.keeper;
+    on = record {
+      its_number = number;
+      its_stage = r.at;
+      staged = record {
+        fits = r.fits;
+        word = r.word;
+        out = taken (InSlot slot) (WithSession i) r.out (session_takes n.actions n.sessions n.keeper i (session_gets k m (action_at n.actions slot)) m slot (λ a is. gets_hand k m (action_at n.actions slot) a none is));
+        keeper = r.keeper;
+      };
+      rises = r.rises;
     };
-    rises = r.rises;
+    how = r.how;
+    keeper = refl;
   }
-  settles k m words ask r none puts = record { its_number = number; its_stage = r.at; staged = record { fits = r.fits; word = r.word; out = r.out; keeper = r.keeper }; rises = r.rises }
+  settles k m words ask r none puts = record { on = record { its_number = number; its_stage = r.at; staged = record { fits = r.fits; word = r.word; out = r.out; keeper = r.keeper }; rises = r.rises }; how = r.how; keeper = refl }
 
   replies : (its : IsStaged n number stage) → slice_get n.sessions i ≡ Some s → 2 < length n.words → (sitting_stores s s.step ≡ false → Spares ThePhase n.places (session_ask (seat_at n i) s)) → (m : SessionState) → session_hand m ≡ None
-      → Replied (words_after n.words (session_ask (seat_at n i) s)) m
+      → Answered (words_after n.words (session_ask (seat_at n i) s)) m
   replies its got low spares m none = by_stores (sitting_stores s s.step) refl
     where
-      by_stores : (b : Bool) → sitting_stores s s.step ≡ b → Replied (words_after n.words (session_ask (seat_at n i) s)) m
+      by_stores : (b : Bool) → sitting_stores s s.step ≡ b → Answered (words_after n.words (session_ask (seat_at n i) s)) m
       by_stores false e = record {
         at = stage;
         fits = its.fits;
@@ -186,6 +196,7 @@ module _ (n : Now) (number : Version) (stage : Stage) (i : ℕ) (s : SessionStat
         out = fewer its.out (λ holder a is. (session_empties n.actions n.sessions n.keeper i m none holder a is).0);
         keeper = its.keeper;
         rises = omega arith;
+        how = inl (record { version = refl; same = refl });
       }
       by_stores true e =
           let run = sitting_runs (seat_at n i) s s.step e in
@@ -200,16 +211,21 @@ module _ (n : Now) (number : Version) (stage : Stage) (i : ℕ) (s : SessionStat
                 (dropped (WithSession i) action its.out has (λ holder a is. session_empties n.actions n.sessions n.keeper i m none holder a is));
             keeper = runs_on number stage n.keeper its.keeper;
             rises = on.rises;
+            how = inr (record { version = refl; runs = refl; its = run.its; its_version = run.version; has = run.has });
           }
 
   asks : IsStaged n number stage → slice_get n.sessions i ≡ Some s → 2 < length n.words → (sitting_stores s s.step ≡ false → Spares ThePhase n.places (session_ask (seat_at n i) s)) → (ask : Ask Told) → session_ask (seat_at n i) s ≡ ask
-      → slot_asked ask ≡ None → StageAfter number stage (with_session n i (session_asks (seat_at n i) (near n s) ask))
+      → slot_asked ask ≡ None → SessionOn number stage s n (with_session n i (session_asks (seat_at n i) (near n s) ask))
   unfolding session_asks
   asks its got low spares (Done told) e rests = record {
-    its_number = number;
-    its_stage = stage;
-    staged = record { fits = its.fits; word = its.word; out = fewer its.out (session_same n.actions n.sessions n.keeper i s got); keeper = its.keeper };
-    rises = omega arith;
+    on = record {
+      its_number = number;
+      its_stage = stage;
+      staged = record { fits = its.fits; word = its.word; out = fewer its.out (session_same n.actions n.sessions n.keeper i s got); keeper = its.keeper };
+      rises = omega arith;
+    };
+    how = inl (record { version = refl; same = refl });
+    keeper = refl;
   }
   asks its got low spares (Put slot action) e rests = cc
   asks its got low spares (Take slot) e rests = cc
@@ -217,9 +233,9 @@ module _ (n : Now) (number : Version) (stage : Stage) (i : ℕ) (s : SessionStat
       let k : Seat = seat_at n i in
       let m : SessionState = session_next k s (reply_to n.words ask) in
       let none = session_next_none k s (reply_to n.words ask) in
-      let r : Replied (words_after n.words ask) m = subst (λ (x : Ask Told). Replied (words_after n.words x) m) e (replies its got low spares m none) in
+      let r : Answered (words_after n.words ask) m = subst (λ (x : Ask Told). Answered (words_after n.words x) m) e (replies its got low spares m none) in
       settles k m (words_after n.words ask) (session_ask k m) r none (session_puts k m)
 
 pub session_on : (n : Now) (number : Version) (stage : Stage) (i : ℕ) (s : SessionState) → IsStaged n number stage → slice_get n.sessions i ≡ Some s → 2 < length n.words
-    → (sitting_stores s s.step ≡ false → Spares ThePhase n.places (session_ask (seat_at n i) s)) → slot_asked (session_ask (seat_at n i) s) ≡ None → StageAfter number stage (with_session n i (session_moved (seat_at n i) (near n s)))
+    → (sitting_stores s s.step ≡ false → Spares ThePhase n.places (session_ask (seat_at n i) s)) → slot_asked (session_ask (seat_at n i) s) ≡ None → SessionOn number stage s n (with_session n i (session_moved (seat_at n i) (near n s)))
 session_on n number stage i s its got low spares rests = asks n number stage i s its got low spares (session_ask (seat_at n i) s) refl rests

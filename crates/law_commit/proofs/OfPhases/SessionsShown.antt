@@ -115,28 +115,31 @@ pub record SameWords (q p : Phasing) : Type 0 where
   pub tail : q.tail ≡ p.tail
   pub rank : paper.rank_of q ≡ paper.rank_of p
   pub safe : q.safe ≡ p.safe
+  pub base : q.base ≡ p.base
+  pub stage : q.stage ≡ p.stage
+  pub raises : q.raises ≡ p.raises
 
 words_on : (q p : Phasing) (words : List ℕ) → SameWords q p → ShowsWords p words → ShowsWords q words
 words_on q p words same holds = record { epoch = same.epoch ∙ holds.epoch; tail = same.tail ∙ holds.tail; phase = holds.phase; version = holds.version; says = holds.says; rank = same.rank ∙ holds.rank }
 
 left_words : (p : Phasing) (session : ℕ) (before after : Bool) (events : List PhaseEvent) → SameWords (phase_run p events) p → SameWords (phase_run p (left_events session before after ++ events)) p
 unfolding phase_run phase_after
-left_words p session true false events same = record { epoch = same.epoch; tail = same.tail; rank = same.rank; safe = same.safe }
+left_words p session true false events same = record { epoch = same.epoch; tail = same.tail; rank = same.rank; safe = same.safe; base = same.base; stage = same.stage; raises = same.raises }
 left_words p session true true events same = same
 left_words p session false true events same = same
 left_words p session false false events same = same
 
 loaded_words : (p : Phasing) (session : ℕ) (loads : Bool) → SameWords (phase_run p (loaded_events session loads)) p
 unfolding phase_run phase_after
-loaded_words p session true = record { epoch = refl; tail = refl; rank = refl; safe = refl }
-loaded_words p session false = record { epoch = refl; tail = refl; rank = refl; safe = refl }
+loaded_words p session true = record { epoch = refl; tail = refl; rank = refl; safe = refl; base = refl; stage = refl; raises = refl }
+loaded_words p session false = record { epoch = refl; tail = refl; rank = refl; safe = refl; base = refl; stage = refl; raises = refl }
 
 none_words : (p : Phasing) (events : List PhaseEvent) → SameWords (phase_run p events) p → SameWords (phase_run p ([] ++ events)) p
 none_words p events same = same
 
 one_words : (p : Phasing) (session : ℕ) (events : List PhaseEvent) → SameWords (phase_run p events) p → SameWords (phase_run p (paper.Completes session ∷ events)) p
 unfolding phase_run phase_after
-one_words p session events same = record { epoch = same.epoch; tail = same.tail; rank = same.rank; safe = same.safe }
+one_words p session events same = record { epoch = same.epoch; tail = same.tail; rank = same.rank; safe = same.safe; base = same.base; stage = same.stage; raises = same.raises }
 
 caught_words : (p : Phasing) (session : ℕ) (cause : _) (after : Sitting) (events : List PhaseEvent) → SameWords (phase_run p events) p → SameWords (phase_run p (completed_events session (CatchesUp cause) after ++ events)) p
 caught_words p session cause (CatchesUp other) events same = same
@@ -225,12 +228,12 @@ record Went (p : Phasing) (words : List ℕ) (its : Sight) (k : Seat) (s : Sessi
   sits : SitsSo (session_run k s own)
 
 same_words : (p q r : Phasing) → SameWords r q → SameWords q p → SameWords r p
-same_words p q r one other = record { epoch = one.epoch ∙ other.epoch; tail = one.tail ∙ other.tail; rank = one.rank ∙ other.rank; safe = one.safe ∙ other.safe }
+same_words p q r one other = record { epoch = one.epoch ∙ other.epoch; tail = one.tail ∙ other.tail; rank = one.rank ∙ other.rank; safe = one.safe ∙ other.safe; base = one.base ∙ other.base; stage = one.stage ∙ other.stage; raises = one.raises ∙ other.raises }
 
 module _ (p : Phasing) (words : List ℕ) (holds : ShowsWords p words) (its : Sight) (k : Seat) (s : SessionState) (so : Stampedly its s) (sits : SitsSo s) (shows : ShowsSession p.sessions k.number its s.is_awake) where
   none_went : Went p words its k s []
   unfolding sight_through session_run phase_events_through phase_run
-  none_went = record { shown = none_shown p k.number its s.is_awake shows; words_stay = record { epoch = refl; tail = refl; rank = refl; safe = refl }; sits = sits }
+  none_went = record { shown = none_shown p k.number its s.is_awake shows; words_stay = record { epoch = refl; tail = refl; rank = refl; safe = refl; base = refl; stage = refl; raises = refl }; sits = sits }
 
   one_went : (event : SessionEvent) (own : List SessionEvent) → Went p words its k s own → TellsBy words (session_run k s own) event → Went p words its k s (event ∷ own)
   unfolding sight_through session_run phase_events_through session_happens
@@ -507,7 +510,7 @@ opening_shown opening = record {
 -- ---- sessions' events change neither the words nor what is safe
 same_still : (p : Phasing) → SameWords (phase_run p []) p
 unfolding phase_run
-same_still p = record { epoch = refl; tail = refl; rank = refl; safe = refl }
+same_still p = record { epoch = refl; tail = refl; rank = refl; safe = refl; base = refl; stage = refl; raises = refl }
 
 through_same : (p : Phasing) (k : Seat) (s : SessionState) (own : List SessionEvent) → SameWords (phase_run p (phase_events_through k s own)) p
 unfolding phase_events_through

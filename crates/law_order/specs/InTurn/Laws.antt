@@ -10,6 +10,7 @@ use Rattle.law_world.specs.Keeper.Lives.{IsLifeTold}
 use Rattle.law_world.specs.Standing.Opening.{AreNumbersInTurn}
 use Rattle.law_opening.specs.Lives.OpenedFrom.{IsOpenedFrom}
 use Rattle.law_opening.specs.Lives.Steps.{AllLeadOn, OneCommitStands, Step, device_behind, events_of, now_behind}
+use Rattle.law_commit.specs.Floor.Stands.{FloorStands}
 use Rattle.law_commit.specs.Phases.Staged.{OpensAtRest}
 
 -- an opened store opens at rest
@@ -27,3 +28,8 @@ NumbersItsCommitsInTurn =
 abbrev pub TellsOfItsLife : Type 0
 TellsOfItsLife =
     (bytes : List ℕ) (o : Opened) (n : Now) (events : List Event) → IsOpenedFrom bytes o n → IsLifeTold (beginning n bytes) events
+
+-- in each of its lives the views of live sessions have their floor
+abbrev pub HasFloorInItsLife : Type 0
+HasFloorInItsLife =
+    (bytes : List ℕ) (o : Opened) (n : Now) (events : List Event) → IsStoreOf bytes o → IsOpeningWorld o n → FloorStands (beginning n bytes) events

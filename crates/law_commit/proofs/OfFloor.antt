@@ -1,0 +1,11 @@
+pub mod Armed
+pub mod ArmedSince
+pub mod KeeperFits
+pub mod KeeperGoes
+pub mod KeeperOver
+pub mod KeeperPuts
+pub mod LifeFloor
+pub mod Papers
+pub mod PartsFit
+pub mod Paths
+pub mod Stands

@@ -1,0 +1,103 @@
+-- What the keeper knows of the raises for its commit, of the addresses that go with them, and of what is safe.
+use Rattle.std.specs.Prelude.{◌≡◌, ◌<◌, ◌≤◌, ⊤, ℕ, Bool, true, Option, Some, None}
+use Rattle.fkv_base.specs.declared.numbers.Addr.{Addr}
+use Rattle.fkv_commit.specs.declared.commits.Commit.{Commit}
+use Rattle.fkv_commit.specs.declared.deferring.DeferAnswer.TheVariants.{Armed}
+use Rattle.fkv_commit.specs.declared.deferring.Deferring.{Deferring}
+use Rattle.fkv_commit.specs.declared.deferring.Deferring.TheVariants as defer
+use Rattle.fkv_commit.specs.declared.entering.Entering.{Entering}
+use Rattle.fkv_commit.specs.declared.entering.Entering.TheVariants as enter
+use Rattle.fkv_commit.specs.declared.seeking.SeekAnswer.TheVariants.{Taken}
+use Rattle.fkv_commit.specs.declared.seeking.Seeking.{Seeking}
+use Rattle.fkv_commit.specs.declared.seeking.Seeking.TheVariants as seek
+use Rattle.fkv_commit.specs.declared.starting.StartAnswer.TheVariants.{Begun}
+use Rattle.fkv_commit.specs.declared.starting.Starting.{Starting}
+use Rattle.fkv_commit.specs.declared.starting.Starting.TheVariants as start
+use Rattle.fkv_commit.specs.declared.waiting.WaitAnswer.TheVariants.{Flushed}
+use Rattle.fkv_commit.specs.declared.waiting.Waiting.{Waiting}
+use Rattle.fkv_commit.specs.declared.waiting.Waiting.TheVariants as waiting
+use Rattle.fkv_commit.specs.Entering.{EnterState}
+use Rattle.fkv_commit.specs.Seeking.{SeekState}
+use Rattle.fkv_commit.specs.Starting.{StartState}
+use Rattle.fkv_commit.specs.Waiting.{WaitState}
+use Rattle.fkv_keeper.specs.declared.keepers.Keeping.{Keeping}
+use Rattle.fkv_keeper.specs.declared.keepers.Keeping.TheVariants.{Starts, Enters, Seeks, Waits, Writes, Finishes}
+use Rattle.fkv_keeper.specs.Keeping.{KeeperState}
+use Rattle.law_paper.specs.Phases as paper
+
+-- the raises, the tail and what is safe; the epoch before a step, and behind its ask
+pub record Ground : Type 0 where
+  pub raises : paper.Raises
+  pub tail : ℕ
+  pub safe : ℕ
+  pub before : ℕ
+  pub epoch : ℕ
+
+-- the epoch was raised for the commit's end, from this one, with this end
+pub record IsEnding (r : paper.Raises) (end epoch : ℕ) : Type 0 where
+  pub some : 0 < r.ending
+  pub epoch_is : epoch ≡ r.ending
+  pub end_is : end ≡ r.end
+
+abbrev pub IsSafeEnding : Ground → Type 0
+IsSafeEnding g = (0 < g.raises.ending) × (g.raises.ending ≤ g.safe)
+
+-- of a deferral: before the raise, behind it, and once its action is put
+abbrev pub DeferFits : Type 0 → (ℕ → Type 0) → (ℕ → Type 0) → Deferring → Type 0
+DeferFits A B C (defer.Raises its) = A
+DeferFits A B C (defer.Puts its slot epoch) = B epoch
+DeferFits A B C (defer.Arms epoch) = C epoch
+DeferFits A B C (defer.Ended (Armed epoch)) = C epoch
+DeferFits A B C step = ⊤
+
+abbrev pub ProgressFits : Ground → ℕ → Deferring → Type 0
+ProgressFits g first step = DeferFits (first ≤ g.tail) (λ epoch. (first ≤ g.tail) × (g.before < g.epoch)) (λ epoch. first ≡ g.raises.first) step
+
+abbrev pub PendingFits : Ground → Deferring → Type 0
+PendingFits g step = DeferFits ⊤ (λ epoch. g.before < g.epoch) (λ epoch. ⊤) step
+
+abbrev pub EndingFits : Ground → ℕ → Deferring → Type 0
+EndingFits g end step =
+    DeferFits ((g.raises.ending ≡ 0) × (end ≤ g.tail)) (λ epoch. (g.raises.ending ≡ 0) × (end ≤ g.tail) × (g.before < g.epoch) × (epoch ≡ g.before)) (λ epoch. IsEnding g.raises end epoch) step
+
+-- as a commit starts none is in hand
+abbrev pub StartFits : Ground → Option Commit → StartState → Starting → Type 0
+StartFits g commit s (start.LoadsTail its) = commit ≡ None
+StartFits g commit s (start.Defers its first) = (commit ≡ None) × ProgressFits g first.0 s.defer.step
+StartFits g commit s (start.Ended (Begun its first)) = first.0 ≡ g.raises.first
+StartFits g commit s step = ⊤
+
+abbrev pub EnterFits : Ground → EnterState → Entering → Type 0
+EnterFits g s enter.Defers = PendingFits g s.defer.step
+EnterFits g s step = ⊤
+
+abbrev pub SeekFits : Ground → SeekState → Seeking → Type 0
+SeekFits g s seek.LoadsTail = g.raises.ending ≡ 0
+SeekFits g s (seek.RaisesReadOnly end) = (g.raises.ending ≡ 0) × (end.0 ≤ g.tail)
+SeekFits g s (seek.Defers end) = EndingFits g end.0 s.defer.step
+SeekFits g s (seek.Ended (Taken end epoch)) = IsEnding g.raises end.0 epoch
+SeekFits g s step = ⊤
+
+abbrev pub WaitFits : Ground → WaitState → Waiting → Type 0
+WaitFits g s waiting.LoadsSafe = IsEnding g.raises s.end.0 s.epoch
+WaitFits g s waiting.LoadsFlushed = IsSafeEnding g
+WaitFits g s (waiting.Ended Flushed) = IsSafeEnding g
+WaitFits g s step = ⊤
+
+abbrev pub KeepingFits : Ground → KeeperState → Keeping → Type 0
+KeepingFits g s Starts = StartFits g s.commit s.start s.start.step
+KeepingFits g s Enters = EnterFits g s.enter s.enter.step
+KeepingFits g s Seeks = SeekFits g s.seek s.seek.step
+KeepingFits g s Waits = (s.has_points ≡ true) × WaitFits g s.wait s.wait.step
+KeepingFits g s Writes = (s.has_points ≡ true) × IsSafeEnding g
+KeepingFits g s Finishes = (s.has_points ≡ true) × IsSafeEnding g
+KeepingFits g s step = ⊤
+
+-- the commit in hand has the first address of its raise, and, once its points are taken, the end and the epoch of the last one
+pub record HandFits (g : Ground) (commit : Option Commit) (has_points : Bool) : Type 0 where
+  pub first : (c : Commit) → commit ≡ Some c → c.first.0 ≡ g.raises.first
+  pub points : (c : Commit) → commit ≡ Some c → has_points ≡ true → IsEnding g.raises c.end.0 c.epoch
+
+pub record KeeperFits (g : Ground) (s : KeeperState) : Type 0 where
+  pub hand : HandFits g s.commit s.has_points
+  pub step : KeepingFits g s s.step

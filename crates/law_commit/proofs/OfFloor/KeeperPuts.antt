@@ -1,0 +1,187 @@
+-- Where the keeper puts an action it turns a page or moves an offset, or a part of a commit is about to put the action that it defers.
+use Rattle.std.proofs.Common.{◌≡◌, ◌⊎◌, inl, inr, ℕ, ◌∙◌, List, refl, sym, ap, subst, Bool, true, false}
+use Rattle.std.specs.Prelude.{⊤, Option, Some, None}
+use Rattle.fkv_base.specs.declared.numbers.Addr.{Addr}
+use Rattle.fkv_base.specs.declared.numbers.Serial.{Serial}
+use Rattle.fkv_base.specs.declared.numbers.Version.{Version}
+use Rattle.fkv_base.specs.declared.shapes.Shape.{Shape}
+use Rattle.fkv_plane.specs.declared.asks.Ask.{Ask}
+use Rattle.fkv_plane.specs.declared.asks.Ask.TheVariants.{Put, Done}
+use Rattle.fkv_plane.specs.declared.places.Places.{Places}
+use Rattle.fkv_plane.specs.Passing.{passed}
+use Rattle.fkv_epoch.specs.declared.arming.Arming.{Arming}
+use Rattle.fkv_epoch.specs.declared.arming.Arming.TheVariants as arm
+use Rattle.fkv_epoch.specs.declared.raising.Raising.{Raising}
+use Rattle.fkv_epoch.specs.declared.raising.Raising.TheVariants as raise
+use Rattle.fkv_epoch.specs.Arming.{arm_ask}
+use Rattle.fkv_epoch.specs.Raising.{raise_ask}
+use Rattle.fkv_checkpoint.specs.declared.copying.CopyStep.{CopyStep}
+use Rattle.fkv_checkpoint.specs.declared.copying.CopyStep.TheVariants as copy
+use Rattle.fkv_checkpoint.specs.Copying.{Copier, copy_step_ask}
+use Rattle.fkv_commit.specs.declared.deferring.Deferred.{Deferred}
+use Rattle.fkv_commit.specs.declared.deferring.Deferring.{Deferring}
+use Rattle.fkv_commit.specs.declared.deferring.Deferring.TheVariants as defer
+use Rattle.fkv_commit.specs.declared.entering.Entering.{Entering}
+use Rattle.fkv_commit.specs.declared.entering.Entering.TheVariants as enter
+use Rattle.fkv_commit.specs.declared.finishing.Finishing.{Finishing}
+use Rattle.fkv_commit.specs.declared.finishing.Finishing.TheVariants as finish
+use Rattle.fkv_commit.specs.declared.seeking.Seeking.{Seeking}
+use Rattle.fkv_commit.specs.declared.seeking.Seeking.TheVariants as seek
+use Rattle.fkv_commit.specs.declared.starting.Starting.{Starting}
+use Rattle.fkv_commit.specs.declared.starting.Starting.TheVariants as start
+use Rattle.fkv_commit.specs.declared.waiting.Waiting.{Waiting}
+use Rattle.fkv_commit.specs.declared.waiting.Waiting.TheVariants as waiting
+use Rattle.fkv_commit.specs.Deferring.{DeferState, deferring_ask}
+use Rattle.fkv_commit.specs.Entering.{EnterState, entering_ask}
+use Rattle.fkv_commit.specs.Finishing.{FinishState, finishing_ask}
+use Rattle.fkv_commit.specs.Seeking.{SeekState, seeking_ask}
+use Rattle.fkv_commit.specs.Starting.{StartState, starting_ask}
+use Rattle.fkv_commit.specs.Waiting.{waiting_ask}
+use Rattle.fkv_manifest.specs.declared.answers.WriteAnswer.{WriteAnswer}
+use Rattle.fkv_manifest.specs.declared.answers.WriteAnswer.TheVariants as write
+use Rattle.fkv_manifest.specs.Committing.{commit_answer}
+use Rattle.fkv_keeper.specs.declared.answers.KeeperTold.{KeeperTold}
+use Rattle.fkv_keeper.specs.declared.keepers.Keeping.{Keeping}
+use Rattle.fkv_keeper.specs.declared.keepers.Keeping.TheVariants.{Ended, Starts, Maintains, LoadsPhase, Enters, Copies, Seeks, Waits, Writes, Finishes}
+use Rattle.fkv_keeper.specs.Keeping.{KeeperState, copy_asked, keeping_ask, write_asked}
+use Rattle.law_commit.specs.Phases.Staged.{EnterAt, SeekAt, Stage, StartAt, StepAt}
+
+abbrev pub is_put : {A : Type 0} → Ask A → Bool
+is_put (Put slot action) = true
+is_put ask = false
+
+passed_put : {A B : Type 0} (ask : Ask A) (told : B) → is_put (passed ask told) ≡ is_put ask
+unfolding passed
+passed_put (Put slot action) told = refl
+passed_put ask told = refl
+
+raise_put : (step : Raising) → is_put (raise_ask step) ≡ false
+unfolding raise_ask
+raise_put raise.AtRest = refl
+raise_put raise.LoadsEpoch = refl
+raise_put (raise.MeetsSlot slot) = refl
+raise_put (raise.HoldsSlot slot) = refl
+raise_put (raise.HasSlot slot) = refl
+raise_put (raise.RaisesEpoch slot) = refl
+
+arm_put : (step : Arming) → is_put (arm_ask step) ≡ false
+unfolding arm_ask
+arm_put arm.AtRest = refl
+arm_put (arm.PutsAction slot epoch) = refl
+arm_put (arm.StoresEpoch slot epoch) = refl
+
+clash : {X : Type 0} (b : Bool) → b ≡ false → b ≡ true → X
+clash b no yes = let both : false ≡ true = sym no ∙ yes in cc
+
+-- a deferral is about to put its action
+pub record DeferPuts (step : Deferring) : Type 0 where
+  pub its : Deferred
+  pub slot : ℕ
+  pub epoch : ℕ
+  pub is : step ≡ defer.Puts its slot epoch
+
+defer_puts : (d : DeferState) (step : Deferring) → is_put (deferring_ask d step) ≡ true → DeferPuts step
+unfolding deferring_ask
+defer_puts d (defer.Puts its slot epoch) yes = record { its = its; slot = slot; epoch = epoch; is = refl }
+defer_puts d (defer.Ended told) yes = cc
+defer_puts d defer.Seeks yes = clash _ (passed_put (raise_ask d.raising) _ ∙ raise_put d.raising) yes
+defer_puts d defer.Holds yes = cc
+defer_puts d (defer.Raises its) yes = clash _ (passed_put (raise_ask d.raising) _ ∙ raise_put d.raising) yes
+defer_puts d (defer.Arms epoch) yes = clash _ (passed_put (arm_ask d.arming) _ ∙ arm_put d.arming) yes
+
+-- one that seeks a slot puts none
+seeks_none : {X : Type 0} (d : DeferState) (step : Deferring) → step ≡ defer.Seeks → is_put (deferring_ask d step) ≡ true → X
+seeks_none d step seeks yes = let puts = defer_puts d step yes in let both : defer.Seeks ≡ defer.Puts puts.its puts.slot puts.epoch = sym seeks ∙ puts.is in cc
+
+-- the parts of a commit
+pub record StartPuts (s : StartState) (step : Starting) : Type 0 where
+  pub its : Version
+  pub first : Addr
+  pub is : step ≡ start.Defers its first
+  pub puts : DeferPuts s.defer.step
+
+start_puts : (number : Version) (stage : Stage) (s : StartState) (step : Starting) → StartAt number stage s step → is_put (starting_ask s step) ≡ true → StartPuts s step
+unfolding starting_ask
+start_puts number stage s (start.Defers its first) is yes = record { its = its; first = first; is = refl; puts = defer_puts s.defer s.defer.step (sym (passed_put (deferring_ask s.defer s.defer.step) _) ∙ yes) }
+start_puts number stage s (start.Seeks its) is yes = seeks_none s.defer s.defer.step is.2 (sym (passed_put (deferring_ask s.defer s.defer.step) _) ∙ yes)
+start_puts number stage s (start.Ended told) is yes = cc
+start_puts number stage s start.LoadsPhase is yes = cc
+start_puts number stage s (start.StoresPrepare its) is yes = cc
+start_puts number stage s (start.LoadsTail its) is yes = cc
+
+pub record EnterPuts (s : EnterState) (step : Entering) : Type 0 where
+  pub is : step ≡ enter.Defers
+  pub puts : DeferPuts s.defer.step
+
+enter_puts : (number : Version) (stage : Stage) (s : EnterState) (step : Entering) → EnterAt number stage s step → is_put (entering_ask s step) ≡ true → EnterPuts s step
+unfolding entering_ask
+enter_puts number stage s enter.Defers is yes = record { is = refl; puts = defer_puts s.defer s.defer.step (sym (passed_put (deferring_ask s.defer s.defer.step) _) ∙ yes) }
+enter_puts number stage s enter.Seeks is yes = seeks_none s.defer s.defer.step is.1 (sym (passed_put (deferring_ask s.defer s.defer.step) _) ∙ yes)
+enter_puts number stage s (enter.Ended told) is yes = cc
+
+pub record SeekPuts (s : SeekState) (step : Seeking) : Type 0 where
+  pub end : Addr
+  pub is : step ≡ seek.Defers end
+  pub puts : DeferPuts s.defer.step
+
+seek_puts : (number : Version) (stage : Stage) (s : SeekState) (step : Seeking) → SeekAt number stage s step → is_put (seeking_ask s step) ≡ true → SeekPuts s step
+unfolding seeking_ask
+seek_puts number stage s (seek.Defers end) is yes = record { end = end; is = refl; puts = defer_puts s.defer s.defer.step (sym (passed_put (deferring_ask s.defer s.defer.step) _) ∙ yes) }
+seek_puts number stage s seek.SeeksSlot is yes = seeks_none s.defer s.defer.step is.1 (sym (passed_put (deferring_ask s.defer s.defer.step) _) ∙ yes)
+seek_puts number stage s (seek.Ended told) is yes = cc
+seek_puts number stage s (seek.LoadsOwing session) is yes = cc
+seek_puts number stage s seek.LoadsCut is yes = cc
+seek_puts number stage s (seek.LoadsOther first) is yes = cc
+seek_puts number stage s seek.LoadsAgain is yes = cc
+seek_puts number stage s seek.StoresWaitFlush is yes = cc
+seek_puts number stage s seek.LoadsTail is yes = cc
+seek_puts number stage s (seek.RaisesReadOnly end) is yes = cc
+
+-- what else the keeper asks
+copy_put : (its : Option Copier) → is_put (copy_asked its) ≡ false
+copy_put None = refl
+copy_put (Some m) = by m.copying.base m.copying.step
+  where
+    by : (base : ℕ) (step : CopyStep) → is_put (copy_step_ask base step) ≡ false
+    unfolding copy_step_ask
+    by base copy.Ended = refl
+    by base (copy.LoadsSlot slot) = refl
+    by base copy.LoadsLink = refl
+
+wait_put : (step : Waiting) → is_put (waiting_ask step) ≡ false
+unfolding waiting_ask
+wait_put (waiting.Ended told) = refl
+wait_put waiting.LoadsSafe = refl
+wait_put waiting.LoadsFlushed = refl
+
+write_put : (answer : WriteAnswer) (told : KeeperTold) → is_put (write_asked answer told) ≡ false
+write_put write.Device told = refl
+write_put write.Written told = refl
+write_put (write.Broken why) told = refl
+
+finish_put : (points : List Serial) (s : FinishState) (step : Finishing) → is_put (finishing_ask points s step) ≡ false
+unfolding finishing_ask
+finish_put points s (finish.Ended told) = refl
+finish_put points s (finish.StoresDurable session) = refl
+finish_put points s finish.StoresRest = refl
+
+-- so it is with the keeper
+abbrev pub KeeperPuts : KeeperState → Keeping → Type 0
+KeeperPuts s Starts = StartPuts s.start s.start.step
+KeeperPuts s Enters = EnterPuts s.enter s.enter.step
+KeeperPuts s Seeks = SeekPuts s.seek s.seek.step
+KeeperPuts s Maintains = ⊤
+KeeperPuts s step = ⊥
+
+pub keeper_puts : (number : Version) (stage : Stage) (shape : Shape) (p : Places) (s : KeeperState) (step : Keeping) → StepAt number stage s step → is_put (keeping_ask shape p s step) ≡ true → KeeperPuts s step
+unfolding keeping_ask
+keeper_puts number stage shape p s Starts is yes = start_puts number stage s.start s.start.step is (sym (passed_put (starting_ask s.start s.start.step) _) ∙ yes)
+keeper_puts number stage shape p s Enters is yes = enter_puts number stage s.enter s.enter.step is.1 (sym (passed_put (entering_ask s.enter s.enter.step) _) ∙ yes)
+keeper_puts number stage shape p s Seeks is yes = seek_puts number stage s.seek s.seek.step is.1 (sym (passed_put (seeking_ask s.seek s.seek.step) _) ∙ yes)
+keeper_puts number stage shape p s Maintains is yes = tt
+keeper_puts number stage shape p s (Ended told) is yes = cc
+keeper_puts number stage shape p s LoadsPhase is yes = cc
+keeper_puts number stage shape p s Copies is yes = clash _ (passed_put (copy_asked s.copy) _ ∙ copy_put s.copy) yes
+keeper_puts number stage shape p s Waits is yes = clash _ (passed_put (waiting_ask s.wait.step) _ ∙ wait_put s.wait.step) yes
+keeper_puts number stage shape p s Writes is yes = clash _ (write_put (commit_answer s.writes) _) yes
+keeper_puts number stage shape p s Finishes is yes = clash _ (passed_put (finishing_ask s.seek.points s.finish s.finish.step) _ ∙ finish_put s.seek.points s.finish s.finish.step) yes

@@ -1,0 +1,164 @@
+-- So in each life the view of each live session has its floor.
+use Rattle.std.proofs.Common.{◌≡◌, ℕ, ◌+◌, ◌*◌, ◌<◌, ◌≤◌, ◌∙◌, List, [], ◌∷◌, refl, arith, sym, ap, subst, Bool, true, false}
+use Rattle.std.specs.Prelude.{⊤, Option, Some, None, slice_get}
+use Rattle.fkv_base.specs.declared.numbers.Version.{Version}
+use Rattle.fkv_base.specs.declared.phases.Phase.TheVariants.{Rest}
+use Rattle.fkv_commit.specs.declared.commits.Commit.{Commit}
+use Rattle.fkv_epoch.specs.EpochWorld.{safe_of}
+use Rattle.fkv_flush.specs.GuardWorld.{guard_run}
+use Rattle.fkv_keeper.specs.declared.keepers.Keeping.{Keeping}
+use Rattle.fkv_keeper.specs.declared.keepers.Keeping.TheVariants.{Ended, Starts, Maintains, LoadsPhase, Enters, Copies, Seeks, Waits, Writes, Finishes}
+use Rattle.fkv_keeper.specs.KeeperRun.{is_in_hand}
+use Rattle.fkv_keeper.specs.Keeping.{KeeperState}
+use Rattle.fkv_session.specs.Sessions.{SessionState}
+use Rattle.fkv_world.specs.Opened.{HasBecome, IsOpenedWorld}
+use Rattle.fkv_world.specs.Runs.{World, run}
+use Rattle.fkv_world.specs.World.{Event, Now}
+use Rattle.law_guard.specs.Guarded.GuardEvents.{mapped}
+use Rattle.law_guard.specs.Guarded.Shows as guard
+use Rattle.law_guard.specs.Guarded.Shows.{seen_by_guard}
+use Rattle.law_paper.specs.Phases as paper
+use Rattle.law_paper.specs.Phases.{AreEnabled, Phasing, phase_run}
+use Rattle.law_commit.specs.Floor.Stands.{FloorAlwaysStands, FloorStands, HasFloor, HasSeenEnd, IsWritten, OpensSeen, PaperHasFloor, PaperIsSound, SeesCommit, stage_number}
+use Rattle.law_commit.specs.Phases.Projected.{BeginsAtRest, ShowsLife, paper_view, phasing_opened}
+use Rattle.law_commit.specs.Phases.Staged.{Rests, Stage}
+use Rattle.law_commit.specs.Views.{View, sight_of}
+use Rattle.law_commit.proofs.OfFloor.Armed.{ArmedSo}
+use Rattle.law_commit.proofs.OfFloor.KeeperFits.{Ground, IsSafeEnding, KeeperFits, KeepingFits}
+use Rattle.law_commit.proofs.OfFloor.LifeFloor.{Floored, LifeFloored, event_floored, ground_of}
+use Rattle.law_commit.proofs.OfPhases.LifeStages.{opens_staged}
+use Rattle.law_commit.proofs.OfPhases.OpeningSound.{opening_sound}
+use Rattle.law_commit.proofs.OfPhases.SessionsShown.{opening_shown}
+
+-- ---- as a life begins
+version_of : ℕ → Version
+version_of x = record { 0 = x }
+
+begins_at_rest : (n : Now) → OpensSeen n → BeginsAtRest n (record { 0 = n.keeper.last.number.0 + 1 })
+begins_at_rest n opens = record { says = opens.rests.says; phase = opens.seen; version_seen = λ session first found. ap version_of (opens.rests.seen session first found) }
+
+idle_fits : (g : Ground) (s : KeeperState) (step : Keeping) → is_in_hand step ≡ false → KeepingFits g s step
+idle_fits g s (Ended told) idle = tt
+idle_fits g s step idle = cc
+
+opened_fits : (g : Ground) (s : KeeperState) → is_in_hand s.step ≡ false → s.commit ≡ None → KeeperFits g s
+opened_fits g s idle none = record {
+  hand = record { first = λ c is. let clash : None ≡ Some c = sym none ∙ is in cc; points = λ c is yes. let clash : None ≡ Some c = sym none ∙ is in cc };
+  step = idle_fits g s s.step idle;
+}
+
+opened_armed : (opening : World) (start : ℕ) (number : Version) → ArmedSo (seen_by_guard opening start []) number Rests 0
+unfolding mapped guard_run
+opened_armed opening start number = record { low = λ y among. absurd among; since = λ y among is. absurd among; about = λ by slot epoch action about is. cc }
+
+opening_floored : (opening : World) (start : ℕ) → guard.IsOpened opening.now start → OpensSeen opening.now → LifeFloored opening start []
+unfolding run
+opening_floored opening start guarded opens =
+    let n : Now = opening.now in
+    let version : Version = record { 0 = n.keeper.last.number.0 + 1 } in
+    let begins = opening_sound n start version guarded (begins_at_rest n opens) in
+    record {
+      number = version;
+      stage = Rests;
+      p = phasing_opened n version;
+      its = record {
+        staged = opens_staged n start guarded opens.rests;
+        life = record { words = begins.words; safe = refl; sessions = opening_shown opening };
+        sound = begins.sound;
+        papers = record { base = refl; at = refl; raised = (refl, refl, refl) };
+        fits = opened_fits _ n.keeper guarded.keeper.none_in_hand guarded.keeper.no_commit;
+        due = omega arith;
+        armed = opened_armed opening start version;
+      };
+    }
+
+life_floored : (opening : World) (start : ℕ) (events : List Event) → guard.IsOpened opening.now start → IsOpenedWorld opening → OpensSeen opening.now → PaperIsSound → LifeFloored opening start events
+life_floored opening start [] guarded opened opens paper_sound = opening_floored opening start guarded opens
+life_floored opening start (event ∷ before) guarded opened opens paper_sound =
+    let past = life_floored opening start before guarded opened opens paper_sound in
+    event_floored opening start guarded opened paper_sound before event past.number past.stage past.p past.its
+
+-- ---- what a live session has seen
+none_enabled : (p : Phasing) → AreEnabled p []
+unfolding AreEnabled
+none_enabled p = tt
+
+run_none : (p : Phasing) → phase_run p [] ≡ p
+unfolding phase_run
+run_none p = refl
+
+module _ (opening : World) (start : ℕ) (events : List Event) (number : Version) (stage : Stage) (p : Phasing) (its : Floored opening start events number stage p) (paper_floor : PaperHasFloor) (session : ℕ) (first its_state : SessionState)
+    (became : HasBecome opening events session first its_state) (awake : its_state.is_awake ≡ true) where
+  abbrev seen : View
+  seen = (sight_of opening events session).view
+
+  on_paper : paper.HasFloor p (paper_view seen)
+  on_paper =
+      let shown = its.life.sessions.there session first its_state became in
+      let floor = subst (λ (q : Phasing). paper.HaveFloor q) (run_none p) (paper_floor p [] its.sound (none_enabled p)) in
+      subst (λ (v : paper.View). paper.HasFloor p v) (shown.view awake) (floor session (shown.live ∙ awake))
+
+  has_floor : HasFloor number stage seen
+  has_floor =
+      let floor = on_paper in
+      let base = its.papers.base in
+      let at = its.papers.at in
+      let low = floor.low in
+      let rest = floor.rest in
+      record {
+        low = omega (arith, low, base, at);
+        rest = omega (arith, rest, base);
+        in_progress = λ far. let it = (floor.in_progress (omega (arith, far, at))).0 in omega (arith, it, base);
+        wait_pending = λ far. let it = floor.wait_pending (omega (arith, far, at)) in omega (arith, it, base);
+      }
+
+  -- once the raise for the commit's end is safe
+  seen_end : (c : Commit) → 0 < p.raises.ending → p.raises.ending ≤ p.safe → c.end.0 ≡ p.raises.end → HasSeenEnd number c seen
+  seen_end c some safe end =
+      let it = on_paper.ending some safe in
+      let base = its.papers.base in
+      let rank = it.0 in
+      let tail = it.1 in
+      record { rank = omega (arith, rank, base); tail = omega (arith, tail, end) }
+
+  written_end : (s : KeeperState) (step : Keeping) (c : Commit) → s.step ≡ step → KeeperFits (ground_of p p.epoch) s → s.commit ≡ Some c → IsWritten step → HasSeenEnd number c seen
+  written_end s Writes c at fits is written =
+      let here : KeepingFits (ground_of p p.epoch) s Writes = subst (λ (x : Keeping). KeepingFits (ground_of p p.epoch) s x) at fits.step in
+      seen_end c here.1.0 here.1.1 (fits.hand.points c is here.0).end_is
+  written_end s Finishes c at fits is written =
+      let here : KeepingFits (ground_of p p.epoch) s Finishes = subst (λ (x : Keeping). KeepingFits (ground_of p p.epoch) s x) at fits.step in
+      seen_end c here.1.0 here.1.1 (fits.hand.points c is here.0).end_is
+  written_end s (Ended told) c at fits is written = absurd written
+  written_end s Starts c at fits is written = absurd written
+  written_end s Maintains c at fits is written = absurd written
+  written_end s LoadsPhase c at fits is written = absurd written
+  written_end s Enters c at fits is written = absurd written
+  written_end s Copies c at fits is written = absurd written
+  written_end s Seeks c at fits is written = absurd written
+  written_end s Waits c at fits is written = absurd written
+
+  sees_commit : (c : Commit) → (run opening events).now.keeper.commit ≡ Some c → SeesCommit (run opening events).now number stage c seen
+  sees_commit c is =
+      let hand = its.fits.hand in
+      let at = its.papers.at in
+      let same = hand.first c is in
+      let safe = its.life.safe in
+      record {
+        first = λ far. let it = (on_paper.in_progress (omega (arith, far, at))).1 in omega (arith, it, same);
+        ending = λ has low.
+            let ending = hand.points c is has in
+            let epoch = ending.epoch_is in
+            seen_end c ending.some (omega (arith, epoch, low, safe)) ending.end_is;
+        written = λ written. written_end (run opening events).now.keeper (run opening events).now.keeper.step c refl its.fits is written;
+      }
+
+pub floor_stands : PaperIsSound → PaperHasFloor → FloorAlwaysStands
+floor_stands paper_sound paper_floor opening start events guarded opened opens =
+    let lived = life_floored opening start events guarded opened opens paper_sound in
+    record {
+      number = lived.number;
+      stage = lived.stage;
+      staged = lived.its.staged;
+      floor = λ session first its became awake. has_floor opening start events lived.number lived.stage lived.p lived.its paper_floor session first its became awake;
+      commit = λ session first its c became awake is. sees_commit opening start events lived.number lived.stage lived.p lived.its paper_floor session first its became awake c is;
+    }
