@@ -136,6 +136,10 @@ module _ (g h : Ground) (over : IsOver g h) where
   over_fits l s knows its = record { hand = hand_over s.commit s.has_points its.hand; step = keeping_over l s s.step knows its.step }
 
 -- ---- what is replied
+raises_add : {A : Type 0} (raising : Raising) (slot : ℕ) (told : A) (its : KeeperTold) → raising ≡ raise.RaisesEpoch slot → passed (passed (passed (raise_ask raising) NoSlot) told) its ≡ Add (shared_place one.Epoch) 1
+unfolding raise_ask passed
+raises_add raising slot told its e = rw e refl
+
 module _ (g : Ground) (words : List ℕ) (tail : word_at words (shared_place one.Tail) ≤ g.tail) (safe : safe_of words ≤ g.safe) (before : epoch_of words ≡ g.before) (low : epoch_of words < 2 ^ 49) (some : 0 < length words) where
   -- behind the raise the epoch is one higher
   up_by_one : (after : List ℕ) → after ≡ slice_set words 0 ((word_at words 0 + 1) % 2 ^ 64) → epoch_of after ≡ g.epoch → g.before < g.epoch
@@ -145,17 +149,13 @@ module _ (g : Ground) (words : List ℕ) (tail : word_at words (shared_place one
       omega (arith, written, up, before, epoch)
 
   module _ (after : List ℕ) (epoch : epoch_of after ≡ g.epoch) (l : Levels) where
-    defer_reply : {A B : Type 0} (d : DeferState) (step : Deferring) (raising : Raising) (told : A) (its : B) → d.raising ≡ raising → IsDeferring l step raising d.arming → after ≡ words_after words (passed (passed (deferring_ask d step) told) its)
+    raised_reply : (asks : Ask KeeperTold) → asks ≡ Add (shared_place one.Epoch) 1 → after ≡ words_after words asks → Raised g (reply_to words asks)
+    raised_reply asks e is = rw e (record { before = before; low = low; up = up_by_one after (rw e at is) epoch })
+
+    defer_reply : {A : Type 0} (d : DeferState) (step : Deferring) (raising : Raising) (told : A) (its : KeeperTold) → d.raising ≡ raising → IsDeferring l step raising d.arming → after ≡ words_after words (passed (passed (deferring_ask d step) told) its)
         → DeferReply g step (reply_to words (passed (passed (deferring_ask d step) told) its))
     unfolding deferring_ask
-    defer_reply d (defer.Raises x) (raise.RaisesEpoch slot) told its at ready is = raises_reply (passed_raise d.raising at) is
-      where
-        passed_raise : (raising : Raising) → raising ≡ raise.RaisesEpoch slot → passed (passed (passed (raise_ask raising) NoSlot) told) its ≡ Add (shared_place one.Epoch) 1
-        unfolding raise_ask passed
-        passed_raise raising e = rw e refl
-
-        raises_reply : {asks : Ask _} → asks ≡ Add (shared_place one.Epoch) 1 → after ≡ words_after words asks → Raised g (reply_to words asks)
-        raises_reply e is = rw e (record { before = before; low = low; up = up_by_one after (rw e at is) epoch })
+    defer_reply d (defer.Raises x) (raise.RaisesEpoch slot) told its at ready is = raised_reply (passed (passed (passed (raise_ask d.raising) NoSlot) told) its) (raises_add d.raising slot told its at) is
     defer_reply d (defer.Raises x) raise.AtRest told its at ready is = absurd ready
     defer_reply d (defer.Raises x) raise.LoadsEpoch told its at ready is = absurd ready
     defer_reply d (defer.Raises x) (raise.MeetsSlot slot) told its at ready is = absurd ready

@@ -71,7 +71,7 @@ arm_put (arm.PutsAction slot epoch) = refl
 arm_put (arm.StoresEpoch slot epoch) = refl
 
 clash : {X : Type 0} (b : Bool) → b ≡ false → b ≡ true → X
-clash b no yes = let both : false ≡ true = sym no ∙ yes in cc
+clash b off on = let both : false ≡ true = sym off ∙ on in cc
 
 -- a deferral is about to put its action
 pub record DeferPuts (step : Deferring) : Type 0 where
@@ -82,16 +82,16 @@ pub record DeferPuts (step : Deferring) : Type 0 where
 
 defer_puts : (d : DeferState) (step : Deferring) → is_put (deferring_ask d step) ≡ true → DeferPuts step
 unfolding deferring_ask
-defer_puts d (defer.Puts its slot epoch) yes = record { its = its; slot = slot; epoch = epoch; is = refl }
-defer_puts d (defer.Ended told) yes = cc
-defer_puts d defer.Seeks yes = clash _ (passed_put (raise_ask d.raising) _ ∙ raise_put d.raising) yes
-defer_puts d defer.Holds yes = cc
-defer_puts d (defer.Raises its) yes = clash _ (passed_put (raise_ask d.raising) _ ∙ raise_put d.raising) yes
-defer_puts d (defer.Arms epoch) yes = clash _ (passed_put (arm_ask d.arming) _ ∙ arm_put d.arming) yes
+defer_puts d (defer.Puts its slot epoch) so = record { its = its; slot = slot; epoch = epoch; is = refl }
+defer_puts d (defer.Ended told) so = cc
+defer_puts d defer.Seeks so = clash _ (passed_put (raise_ask d.raising) _ ∙ raise_put d.raising) so
+defer_puts d defer.Holds so = cc
+defer_puts d (defer.Raises its) so = clash _ (passed_put (raise_ask d.raising) _ ∙ raise_put d.raising) so
+defer_puts d (defer.Arms epoch) so = clash _ (passed_put (arm_ask d.arming) _ ∙ arm_put d.arming) so
 
 -- one that seeks a slot puts none
 seeks_none : {X : Type 0} (d : DeferState) (step : Deferring) → step ≡ defer.Seeks → is_put (deferring_ask d step) ≡ true → X
-seeks_none d step seeks yes = let puts = defer_puts d step yes in let both : defer.Seeks ≡ defer.Puts puts.its puts.slot puts.epoch = sym seeks ∙ puts.is in cc
+seeks_none d step seeks so = let puts = defer_puts d step so in let both : defer.Seeks ≡ defer.Puts puts.its puts.slot puts.epoch = sym seeks ∙ puts.is in cc
 
 -- the parts of a commit
 pub record StartPuts (s : StartState) (step : Starting) : Type 0 where
@@ -102,12 +102,12 @@ pub record StartPuts (s : StartState) (step : Starting) : Type 0 where
 
 start_puts : (number : Version) (stage : Stage) (s : StartState) (step : Starting) → StartAt number stage s step → is_put (starting_ask s step) ≡ true → StartPuts s step
 unfolding starting_ask
-start_puts number stage s (start.Defers its first) is yes = record { its = its; first = first; is = refl; puts = defer_puts s.defer s.defer.step (sym (passed_put (deferring_ask s.defer s.defer.step) _) ∙ yes) }
-start_puts number stage s (start.Seeks its) is yes = seeks_none s.defer s.defer.step is.2 (sym (passed_put (deferring_ask s.defer s.defer.step) _) ∙ yes)
-start_puts number stage s (start.Ended told) is yes = cc
-start_puts number stage s start.LoadsPhase is yes = cc
-start_puts number stage s (start.StoresPrepare its) is yes = cc
-start_puts number stage s (start.LoadsTail its) is yes = cc
+start_puts number stage s (start.Defers its first) is so = record { its = its; first = first; is = refl; puts = defer_puts s.defer s.defer.step (sym (passed_put (deferring_ask s.defer s.defer.step) _) ∙ so) }
+start_puts number stage s (start.Seeks its) is so = seeks_none s.defer s.defer.step is.2 (sym (passed_put (deferring_ask s.defer s.defer.step) _) ∙ so)
+start_puts number stage s (start.Ended told) is so = cc
+start_puts number stage s start.LoadsPhase is so = cc
+start_puts number stage s (start.StoresPrepare its) is so = cc
+start_puts number stage s (start.LoadsTail its) is so = cc
 
 pub record EnterPuts (s : EnterState) (step : Entering) : Type 0 where
   pub is : step ≡ enter.Defers
@@ -115,9 +115,9 @@ pub record EnterPuts (s : EnterState) (step : Entering) : Type 0 where
 
 enter_puts : (number : Version) (stage : Stage) (s : EnterState) (step : Entering) → EnterAt number stage s step → is_put (entering_ask s step) ≡ true → EnterPuts s step
 unfolding entering_ask
-enter_puts number stage s enter.Defers is yes = record { is = refl; puts = defer_puts s.defer s.defer.step (sym (passed_put (deferring_ask s.defer s.defer.step) _) ∙ yes) }
-enter_puts number stage s enter.Seeks is yes = seeks_none s.defer s.defer.step is.1 (sym (passed_put (deferring_ask s.defer s.defer.step) _) ∙ yes)
-enter_puts number stage s (enter.Ended told) is yes = cc
+enter_puts number stage s enter.Defers is so = record { is = refl; puts = defer_puts s.defer s.defer.step (sym (passed_put (deferring_ask s.defer s.defer.step) _) ∙ so) }
+enter_puts number stage s enter.Seeks is so = seeks_none s.defer s.defer.step is.1 (sym (passed_put (deferring_ask s.defer s.defer.step) _) ∙ so)
+enter_puts number stage s (enter.Ended told) is so = cc
 
 pub record SeekPuts (s : SeekState) (step : Seeking) : Type 0 where
   pub end : Addr
@@ -126,27 +126,27 @@ pub record SeekPuts (s : SeekState) (step : Seeking) : Type 0 where
 
 seek_puts : (number : Version) (stage : Stage) (s : SeekState) (step : Seeking) → SeekAt number stage s step → is_put (seeking_ask s step) ≡ true → SeekPuts s step
 unfolding seeking_ask
-seek_puts number stage s (seek.Defers end) is yes = record { end = end; is = refl; puts = defer_puts s.defer s.defer.step (sym (passed_put (deferring_ask s.defer s.defer.step) _) ∙ yes) }
-seek_puts number stage s seek.SeeksSlot is yes = seeks_none s.defer s.defer.step is.1 (sym (passed_put (deferring_ask s.defer s.defer.step) _) ∙ yes)
-seek_puts number stage s (seek.Ended told) is yes = cc
-seek_puts number stage s (seek.LoadsOwing session) is yes = cc
-seek_puts number stage s seek.LoadsCut is yes = cc
-seek_puts number stage s (seek.LoadsOther first) is yes = cc
-seek_puts number stage s seek.LoadsAgain is yes = cc
-seek_puts number stage s seek.StoresWaitFlush is yes = cc
-seek_puts number stage s seek.LoadsTail is yes = cc
-seek_puts number stage s (seek.RaisesReadOnly end) is yes = cc
+seek_puts number stage s (seek.Defers end) is so = record { end = end; is = refl; puts = defer_puts s.defer s.defer.step (sym (passed_put (deferring_ask s.defer s.defer.step) _) ∙ so) }
+seek_puts number stage s seek.SeeksSlot is so = seeks_none s.defer s.defer.step is.1 (sym (passed_put (deferring_ask s.defer s.defer.step) _) ∙ so)
+seek_puts number stage s (seek.Ended told) is so = cc
+seek_puts number stage s (seek.LoadsOwing session) is so = cc
+seek_puts number stage s seek.LoadsCut is so = cc
+seek_puts number stage s (seek.LoadsOther first) is so = cc
+seek_puts number stage s seek.LoadsAgain is so = cc
+seek_puts number stage s seek.StoresWaitFlush is so = cc
+seek_puts number stage s seek.LoadsTail is so = cc
+seek_puts number stage s (seek.RaisesReadOnly end) is so = cc
 
 -- what else the keeper asks
+copy_step_put : (base : ℕ) (step : CopyStep) → is_put (copy_step_ask base step) ≡ false
+unfolding copy_step_ask
+copy_step_put base copy.Ended = refl
+copy_step_put base (copy.LoadsSlot slot) = refl
+copy_step_put base copy.LoadsLink = refl
+
 copy_put : (its : Option Copier) → is_put (copy_asked its) ≡ false
 copy_put None = refl
-copy_put (Some m) = by m.copying.base m.copying.step
-  where
-    by : (base : ℕ) (step : CopyStep) → is_put (copy_step_ask base step) ≡ false
-    unfolding copy_step_ask
-    by base copy.Ended = refl
-    by base (copy.LoadsSlot slot) = refl
-    by base copy.LoadsLink = refl
+copy_put (Some m) = copy_step_put m.copying.base m.copying.step
 
 wait_put : (step : Waiting) → is_put (waiting_ask step) ≡ false
 unfolding waiting_ask
@@ -175,13 +175,13 @@ KeeperPuts s step = ⊥
 
 pub keeper_puts : (number : Version) (stage : Stage) (shape : Shape) (p : Places) (s : KeeperState) (step : Keeping) → StepAt number stage s step → is_put (keeping_ask shape p s step) ≡ true → KeeperPuts s step
 unfolding keeping_ask
-keeper_puts number stage shape p s Starts is yes = start_puts number stage s.start s.start.step is (sym (passed_put (starting_ask s.start s.start.step) _) ∙ yes)
-keeper_puts number stage shape p s Enters is yes = enter_puts number stage s.enter s.enter.step is.1 (sym (passed_put (entering_ask s.enter s.enter.step) _) ∙ yes)
-keeper_puts number stage shape p s Seeks is yes = seek_puts number stage s.seek s.seek.step is.1 (sym (passed_put (seeking_ask s.seek s.seek.step) _) ∙ yes)
-keeper_puts number stage shape p s Maintains is yes = tt
-keeper_puts number stage shape p s (Ended told) is yes = cc
-keeper_puts number stage shape p s LoadsPhase is yes = cc
-keeper_puts number stage shape p s Copies is yes = clash _ (passed_put (copy_asked s.copy) _ ∙ copy_put s.copy) yes
-keeper_puts number stage shape p s Waits is yes = clash _ (passed_put (waiting_ask s.wait.step) _ ∙ wait_put s.wait.step) yes
-keeper_puts number stage shape p s Writes is yes = clash _ (write_put (commit_answer s.writes) _) yes
-keeper_puts number stage shape p s Finishes is yes = clash _ (passed_put (finishing_ask s.seek.points s.finish s.finish.step) _ ∙ finish_put s.seek.points s.finish s.finish.step) yes
+keeper_puts number stage shape p s Starts is so = start_puts number stage s.start s.start.step is (sym (passed_put (starting_ask s.start s.start.step) _) ∙ so)
+keeper_puts number stage shape p s Enters is so = enter_puts number stage s.enter s.enter.step is.1 (sym (passed_put (entering_ask s.enter s.enter.step) _) ∙ so)
+keeper_puts number stage shape p s Seeks is so = seek_puts number stage s.seek s.seek.step is.1 (sym (passed_put (seeking_ask s.seek s.seek.step) _) ∙ so)
+keeper_puts number stage shape p s Maintains is so = tt
+keeper_puts number stage shape p s (Ended told) is so = cc
+keeper_puts number stage shape p s LoadsPhase is so = cc
+keeper_puts number stage shape p s Copies is so = clash _ (passed_put (copy_asked s.copy) _ ∙ copy_put s.copy) so
+keeper_puts number stage shape p s Waits is so = clash _ (passed_put (waiting_ask s.wait.step) _ ∙ wait_put s.wait.step) so
+keeper_puts number stage shape p s Writes is so = clash _ (write_put (commit_answer s.writes) _) so
+keeper_puts number stage shape p s Finishes is so = clash _ (passed_put (finishing_ask s.seek.points s.finish s.finish.step) _ ∙ finish_put s.seek.points s.finish s.finish.step) so

@@ -109,8 +109,8 @@ hand_ready g s Maintains action is = tt
 hand_ready g s step action is = cc
 
 kept_ready : (g : Ground) (s : KeeperState) (step : Keeping) → keeper_stores s step ≡ false → StoresReady g s step
-kept_ready g s Starts none = λ yes. let clash : false ≡ true = sym none ∙ yes in cc
-kept_ready g s Seeks none = λ yes. let clash : false ≡ true = sym none ∙ yes in cc
+kept_ready g s Starts none = λ so. let clash : false ≡ true = sym none ∙ so in cc
+kept_ready g s Seeks none = λ so. let clash : false ≡ true = sym none ∙ so in cc
 kept_ready g s (Ended told) none = tt
 kept_ready g s Maintains none = tt
 kept_ready g s LoadsPhase none = tt
@@ -125,28 +125,28 @@ record StartStores (number : Version) (stage : Stage) (s : StartState) (step : S
   moves : start_moves stage s step ≡ Prepares
 
 start_stored : (number : Version) (stage : Stage) (s : StartState) (step : Starting) → start_stores step ≡ true → StartAt number stage s step → StartStores number stage s step
-start_stored number stage s (starting.StoresPrepare its) yes is = record { rests = is.1; moves = refl }
-start_stored number stage s (starting.Ended told) yes is = cc
-start_stored number stage s starting.LoadsPhase yes is = cc
-start_stored number stage s (starting.Seeks its) yes is = cc
-start_stored number stage s (starting.LoadsTail its) yes is = cc
-start_stored number stage s (starting.Defers its first) yes is = cc
+start_stored number stage s (starting.StoresPrepare its) so is = record { rests = is.1; moves = refl }
+start_stored number stage s (starting.Ended told) so is = cc
+start_stored number stage s starting.LoadsPhase so is = cc
+start_stored number stage s (starting.Seeks its) so is = cc
+start_stored number stage s (starting.LoadsTail its) so is = cc
+start_stored number stage s (starting.Defers its first) so is = cc
 
 record SeekStores (stage after : Stage) : Type 0 where
   pends : stage ≡ Pends
   moves : after ≡ Flushes
 
 seek_stored : (number : Version) (stage : Stage) (s : SeekState) (step : Seeking) → seek_stores step ≡ true → SeekAt number stage s step → SeekStores stage (seek_moves stage step)
-seek_stored number stage s seeking.StoresWaitFlush yes is = record { pends = is.0; moves = refl }
-seek_stored number stage s step yes is = cc
+seek_stored number stage s seeking.StoresWaitFlush so is = record { pends = is.0; moves = refl }
+seek_stored number stage s step so is = cc
 
 record FinishStores (number next : Version) (stage after : Stage) : Type 0 where
   version : next ≡ version_after number
   moves : after ≡ Rests
 
 finish_stored : (number : Version) (stage : Stage) (step : Finishing) → finish_stores step ≡ true → FinishStores number (finish_number number step) stage (finish_moves stage step)
-finish_stored number stage finishing.StoresRest yes = record { version = refl; moves = refl }
-finish_stored number stage step yes = cc
+finish_stored number stage finishing.StoresRest so = record { version = refl; moves = refl }
+finish_stored number stage step so = cc
 
 finish_at : (stage : Stage) (step : Finishing) → FinishAt stage step → stage ≡ Flushes
 finish_at stage (finishing.Ended told) is = absurd is
@@ -158,7 +158,7 @@ none_rests number stage s None is has rests = refl
 none_rests number stage s (Some c) is has rests = let stored = (has.hand c is).1 in let clash : true ≡ false = sym (ap is_resting rests) ∙ stored in cc
 
 -- ---- what is known at a moment
-pub ground_of : Phasing → ℕ → Ground
+abbrev pub ground_of : Phasing → ℕ → Ground
 ground_of p top = record { raises = p.raises; tail = p.tail; safe = p.safe; before = p.epoch; epoch = top }
 
 -- What is on paper shows the life, is sound, and is at its stage; the keeper and what is armed fit its raises.
@@ -336,7 +336,7 @@ module _ (opening : World) (start : ℕ) (guarded : guard.IsOpened opening.now s
       let b = was.life.safe in
       omega (arith, since, low, b)
 
-  run_event : PhaseEvent
+  abbrev run_event : PhaseEvent
   run_event = StoresNext (phase_run p own).raises.due
 
   run_way : (action : Action) → Some action ≡ stage_out number stage → p.raises.due ≤ p.safe → Way (run_event ∷ own) number (stage_run stage)
@@ -427,8 +427,8 @@ module _ (opening : World) (start : ℕ) (guarded : guard.IsOpened opening.now s
     due_low = own_way.onward.low
 
     prepared : (step : Keeping) → here.keeper.step ≡ step → step ≡ Starts → start_stores here.keeper.start.step ≡ true → StartAt number stage here.keeper.start here.keeper.start.step → between ≡ number → at ≡ start_moves stage here.keeper.start here.keeper.start.step → Behind led between at
-    prepared step is starts yes start_at version moves =
-        let stored = start_stored number stage here.keeper.start here.keeper.start.step yes start_at in
+    prepared step is starts so start_at version moves =
+        let stored = start_stored number stage here.keeper.start here.keeper.start.step so start_at in
         let q : Phasing = phase_run p own in
         let papers : Papers q number Rests = subst (λ (x : Stage). Papers q number x) stored.rests own_way.papers in
         let from : Way own number Rests = subst (λ (x : Stage). Way own number x) stored.rests own_way in
@@ -446,8 +446,8 @@ module _ (opening : World) (start : ℕ) (guarded : guard.IsOpened opening.now s
         }
 
     flushed : here.keeper.step ≡ Seeks → seek_stores here.keeper.seek.step ≡ true → SeekAt number stage here.keeper.seek here.keeper.seek.step → between ≡ number → at ≡ seek_moves stage here.keeper.seek.step → Behind led between at
-    flushed is yes seek_at version moves =
-        let stored = seek_stored number stage here.keeper.seek here.keeper.seek.step yes seek_at in
+    flushed is so seek_at version moves =
+        let stored = seek_stored number stage here.keeper.seek here.keeper.seek.step so seek_at in
         let q : Phasing = phase_run p own in
         let papers : Papers q number Pends = subst (λ (x : Stage). Papers q number x) stored.pends own_way.papers in
         let from : Way own number Pends = subst (λ (x : Stage). Way own number x) stored.pends own_way in
@@ -465,8 +465,8 @@ module _ (opening : World) (start : ℕ) (guarded : guard.IsOpened opening.now s
         }
 
     rested : here.keeper.step ≡ Finishes → finish_stores here.keeper.finish.step ≡ true → StepAt number stage here.keeper Finishes → between ≡ finish_number number here.keeper.finish.step → at ≡ finish_moves stage here.keeper.finish.step → Behind led between at
-    rested is yes finishes version moves =
-        let stored = finish_stored number stage here.keeper.finish.step yes in
+    rested is so finishes version moves =
+        let stored = finish_stored number stage here.keeper.finish.step so in
         let flushes = finish_at stage here.keeper.finish.step finishes.1 in
         let q : Phasing = phase_run p own in
         let papers : Papers q number Flushes = subst (λ (x : Stage). Papers q number x) flushes own_way.papers in
@@ -479,7 +479,7 @@ module _ (opening : World) (start : ℕ) (guarded : guard.IsOpened opening.now s
         let low = own_way.epoch in
         let path = one_on p number stage p.raises.due p.epoch top own own number (version_after number) Flushes Rests paper.Rests from step_on (omega (arith, epoch, low)) in
         let done : KeeperFits (ground (paper.Rests ∷ own)) (keeping_next here.shape here.places here.keeper Finishes (reply_to here.words (keeper_ask here.shape here.places here.keeper)) granted) =
-        rest_fits (ground (paper.Rests ∷ own)) here.shape here.places here.keeper finishes.2.0 (reply_to here.words (keeper_ask here.shape here.places here.keeper)) granted yes finishes.2.1 in
+        rest_fits (ground (paper.Rests ∷ own)) here.shape here.places here.keeper finishes.2.0 (reply_to here.words (keeper_ask here.shape here.places here.keeper)) granted so finishes.2.1 in
         record {
           list = paper.Rests ∷ own;
           path = way_to (paper.Rests ∷ own) (version_after number) between Rests at (version ∙ stored.version) (moves ∙ stored.moves) path;
@@ -620,7 +620,7 @@ module _ (opening : World) (start : ℕ) (guarded : guard.IsOpened opening.now s
         let ending : IsEnding (phase_run p (e ∷ behind.list)).raises end puts.puts.epoch = record { some = omega (arith, ending_is, some); epoch_is = ready.3 ∙ sym ending_is; end_is = sym end_same } in
         let hand : HandFits (ground (e ∷ behind.list)) led.commit led.has_points = record {
           first = λ c in_hand. behind.fits.hand.first c in_hand ∙ sym first_is;
-          points = λ c in_hand yes. let old = behind.fits.hand.points c in_hand yes in let had = old.some in let none = ready.0 in absurd (omega (arith, had, none));
+          points = λ c in_hand so. let old = behind.fits.hand.points c in_hand so in let had = old.some in let none = ready.0 in absurd (omega (arith, had, none));
         } in
         finish (e ∷ behind.list) next after (way_to (e ∷ behind.list) between next Flushes after version is_after path) staged
         (settled_so (e ∷ behind.list) Seeks is (seek_puts_fit (ground (e ∷ behind.list)) here.shape here.places led puts.end puts.puts.its puts.puts.slot puts.puts.epoch 0 granted is puts.is puts.puts.is hand ending))

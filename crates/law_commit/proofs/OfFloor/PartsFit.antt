@@ -71,6 +71,10 @@ module _ (A : Type 0) (B C : ℕ → Type 0) where
   armed_fits epoch d (Done told) its = its
   armed_fits epoch d ask its = its
 
+  pub arms_fits : (d : DeferState) (epoch reply : ℕ) → C epoch → Fits (deferring_next d (defer.Arms epoch) reply).step
+  unfolding deferring_next
+  arms_fits d epoch reply armed = armed_fits epoch (record d { arming = arm_next d.arming }) (arm_ask (arm_next d.arming)) armed
+
   -- the action is put
   pub put_fits : (d : DeferState) (its : Deferred) (slot epoch reply : ℕ) → C epoch → Fits (deferring_next d (defer.Puts its slot epoch) reply).step
   unfolding deferring_next
@@ -160,11 +164,7 @@ WaitReply g step reply = ⊤
 module _ (A : Type 0) (B C : ℕ → Type 0) (g : Ground) (l : Levels) (d : DeferState) (reply : ℕ) where
   pub deferred_fits : (step : Deferring) → IsDeferring l step d.raising d.arming → DeferReply g step reply → (Raised g reply → A → B (armed_epoch reply)) → DeferFits A B C step → DeferFits A B C (deferring_next d step reply).step
   deferred_fits (defer.Raises its) ready raised up fits = defer_goes_fits A B C l d (defer.Raises its) reply ready (up raised) fits
-  deferred_fits (defer.Arms epoch) ready raised up fits = defer_goes_fits_arms epoch ready fits
-    where
-      defer_goes_fits_arms : (epoch : ℕ) → IsDeferring l (defer.Arms epoch) d.raising d.arming → C epoch → DeferFits A B C (deferring_next d (defer.Arms epoch) reply).step
-      unfolding deferring_next
-      defer_goes_fits_arms epoch ready its = armed_fits A B C epoch (record d { arming = arm_next d.arming }) (arm_ask (arm_next d.arming)) its
+  deferred_fits (defer.Arms epoch) ready raised up fits = arms_fits A B C d epoch reply fits
   deferred_fits (defer.Ended told) ready raised up fits = absurd ready
   deferred_fits defer.Seeks ready raised up fits = absurd ready
   deferred_fits defer.Holds ready raised up fits = absurd ready

@@ -31,7 +31,7 @@ use Rattle.law_commit.proofs.OfPhases.OpeningSound.{opening_sound}
 use Rattle.law_commit.proofs.OfPhases.SessionsShown.{opening_shown}
 
 -- ---- as a life begins
-version_of : ℕ → Version
+abbrev version_of : ℕ → Version
 version_of x = record { 0 = x }
 
 begins_at_rest : (n : Now) → OpensSeen n → BeginsAtRest n (record { 0 = n.keeper.last.number.0 + 1 })

@@ -67,9 +67,9 @@ call_on n number stage i call None got its = stays n number stage its
 call_on n number stage i call (Some s) got its = by_busy (is_busy s.step)
   where
     by_busy : (b : Bool) → EventOn n number stage (with_session n i (near n (if b then s else session_begun (seat_at n i) s call)))
-    by_busy true = calm n _ number stage its.fits its.word (fewer its.out (session_same n.actions n.sessions n.keeper i s got)) its.keeper (inl refl)
+    by_busy true = calm n (with_session n i (near n s)) number stage its.fits its.word (fewer its.out (session_same n.actions n.sessions n.keeper i s got)) its.keeper (inl refl)
     by_busy false =
-        calm n _ number stage its.fits its.word
+        calm n (with_session n i (near n (session_begun (seat_at n i) s call))) number stage its.fits its.word
         (fewer its.out (λ holder a is. (session_empties n.actions n.sessions n.keeper i (session_begun (seat_at n i) s call) (begun_none (seat_at n i) s call) holder a is).0)) its.keeper (inl refl)
 
 asked_on : (n : Now) (number : Version) (stage : Stage) (begun : KeeperState) → IsStaged n number stage → keeper_hand begun ≡ None → (is_in_hand n.keeper.step ≡ false → KeeperAt number stage begun) → QuietKeeper n (keeper_asked n.keeper begun)
@@ -79,7 +79,7 @@ asked_on n number stage begun its none at quiet = by_hand (is_in_hand n.keeper.s
     by_hand : (b : Bool) → is_in_hand n.keeper.step ≡ b → EventOn n number stage (with_keeper n (near n (if b then n.keeper else begun)))
     by_hand true e = stays n number stage its
     by_hand false e =
-        calm n _ number stage its.fits its.word (fewer its.out (λ holder a is. (keeper_empties n.actions n.sessions n.keeper begun none holder a is).0)) (at e)
+        calm n (with_keeper n (near n begun)) number stage its.fits its.word (fewer its.out (λ holder a is. (keeper_empties n.actions n.sessions n.keeper begun none holder a is).0)) (at e)
         (subst (λ (b : Bool). QuietKeeper n (if b then n.keeper else begun)) e quiet)
 
 -- ---- an event
@@ -138,7 +138,7 @@ module _ (opening : World) (start : ℕ) (guarded : guard.IsOpened opening.now s
           | inr onto ↦ inr (inr (record { granted = granted; onto = onto }))
         ];
       }
-  goes_on events Crashes number stage its = calm (run opening events).now _ number stage its.fits its.word its.out its.keeper (inl refl)
+  goes_on events Crashes number stage its = calm (run opening events).now (record (run opening events).now { crashed = true }) number stage its.fits its.word its.out its.keeper (inl refl)
 
   pub event_on : (events : List Event) (event : Event) (number : Version) (stage : Stage) → IsStaged (run opening events).now number stage → EventOn (run opening events).now number stage (run opening (event ∷ events)).now
   unfolding run

@@ -11,6 +11,7 @@ use Rattle.fkv_plane.specs.Places.{shared_place}
 use Rattle.fkv_epoch.specs.EpochWorld.{epoch_of, safe_of}
 use Rattle.fkv_flush.specs.GuardWorld.{GuardEvent, GuardWorld, guard_run}
 use Rattle.fkv_flush.proofs.Shown.{events_calm}
+use Rattle.fkv_world.specs.Opened.{IsOpenedWorld}
 use Rattle.fkv_world.specs.Runs.{World, read_by_keeper, run}
 use Rattle.fkv_world.specs.World.{Event}
 use Rattle.law_guard.specs.Guarded.GuardEvents.{guard_events, mapped}
