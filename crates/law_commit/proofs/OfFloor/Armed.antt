@@ -1,5 +1,5 @@
 -- An action that stores a phase is armed no earlier than at the raise for it.
-use Rattle.std.proofs.Common.{◌≡◌, ◌⊎◌, inl, inr, ℕ, ◌+◌, ◌*◌, ◌<◌, ◌≤◌, ◌∙◌, List, refl, arith, sym, ap, subst, Bool, true, false}
+use Rattle.std.proofs.Common.{◌≡◌, ◌⊎◌, inl, inr, ℕ, ◌+◌, ◌*◌, ◌<◌, ◌≤◌, ◌∙◌, List, refl, arith, sym, ap, subst}
 use Rattle.std.specs.Prelude.{⊤, Option, Some, None}
 use Rattle.fkv_base.specs.Limits.{last_version}
 use Rattle.fkv_base.specs.declared.numbers.Version.{Version}
@@ -16,9 +16,9 @@ use Rattle.fkv_flush.proofs.Shown.{IsAboutToArm, IsSound}
 use Rattle.fkv_world.specs.World.{Now}
 use Rattle.law_guard.specs.Guarded.Shows.{Shows}
 use Rattle.law_guard.proofs.OfGuarded.OneStep.{IsStepOf}
-use Rattle.law_commit.specs.Phases.Staged.{DefersPending, DefersProgress, FitsVersion, Flushes, InSlot, OnlyOut, Pends, Prepares, Progresses, Rests, Stage, held, phase_in, stage_out}
+use Rattle.law_commit.specs.Phases.Staged.{DefersPending, DefersProgress, Flushes, InSlot, OnlyOut, Pends, Prepares, Progresses, Rests, Stage, held, phase_in, stage_out}
 use Rattle.law_commit.specs.Ranks.{rank}
-use Rattle.law_commit.proofs.OfFloor.ArmedSince.{ArmedNow, about_since, step_armed}
+use Rattle.law_commit.proofs.OfFloor.ArmedSince.{about_since, step_armed}
 
 -- the rank of the phase that is stored last at a stage, or is to be by the action that is out
 abbrev pub stage_reach : Version → Stage → ℕ

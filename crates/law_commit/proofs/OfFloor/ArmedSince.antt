@@ -1,5 +1,5 @@
 -- What is armed behind one step of an actor was armed before it, or was about to be.
-use Rattle.std.proofs.Common.{◌≡◌, ◌⊎◌, inl, inr, ℕ, ◌≤◌, ◌∙◌, List, [], ◌∷◌, ◌++◌, refl, arith, sym, ap, subst, Bool, true, false}
+use Rattle.std.proofs.Common.{◌≡◌, ◌⊎◌, inl, inr, ℕ, ◌≤◌, List, [], ◌∷◌, ◌++◌, refl, arith, sym, subst, Bool, true, false}
 use Rattle.std.specs.Prelude.{Option, Some, None, slice_get, if◌then◌else◌}
 use Rattle.fkv_plane.specs.declared.actions.Action.{Action}
 use Rattle.fkv_plane.specs.Plane.{action_at}
@@ -7,7 +7,7 @@ use Rattle.fkv_epoch.specs.declared.arming.Arming.TheVariants as arm
 use Rattle.fkv_epoch.specs.EpochWorld.{Armed, Arms, EpochMachine, armed_by, armed_with, epoch_of}
 use Rattle.fkv_epoch.specs.EpochWorld as epochs
 use Rattle.fkv_epoch.specs.Once.{Among}
-use Rattle.fkv_flush.specs.GuardWorld.{Actor, Begins, GuardEvent, GuardNow, GuardWorld, Moves, Publishes, Resumes, Sees, drives_epochs, epoch_now, guard_happens, guard_run, is_none, machine_moved, past_after, sight_moved}
+use Rattle.fkv_flush.specs.GuardWorld.{Actor, Begins, GuardEvent, GuardNow, GuardWorld, Moves, Publishes, Resumes, Sees, drives_epochs, epoch_now, guard_happens, guard_run, is_none, machine_moved, sight_moved}
 use Rattle.fkv_flush.proofs.Shown.{IsAboutToArm, IsSound, about_to_arm_on, events_calm, machine_at, run_sound}
 use Rattle.law_guard.proofs.OfGuarded.OneStep.{IsQuiet, IsStepOf}
 

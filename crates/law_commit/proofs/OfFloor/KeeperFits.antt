@@ -1,6 +1,5 @@
 -- What the keeper knows of the raises for its commit, of the addresses that go with them, and of what is safe.
 use Rattle.std.specs.Prelude.{◌≡◌, ◌<◌, ◌≤◌, ⊤, ℕ, Bool, true, Option, Some, None}
-use Rattle.fkv_base.specs.declared.numbers.Addr.{Addr}
 use Rattle.fkv_commit.specs.declared.commits.Commit.{Commit}
 use Rattle.fkv_commit.specs.declared.deferring.DeferAnswer.TheVariants.{Armed}
 use Rattle.fkv_commit.specs.declared.deferring.Deferring.{Deferring}

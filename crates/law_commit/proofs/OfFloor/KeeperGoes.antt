@@ -1,6 +1,6 @@
 -- Each step of the keeper keeps what it knows of the raises for its commit.
-use Rattle.std.proofs.Common.{◌≡◌, ◌⊎◌, inl, inr, ℕ, ◌<◌, ◌≤◌, ◌∙◌, List, [], length, refl, arith, sym, ap, subst, Bool, true, false}
-use Rattle.std.specs.Prelude.{⊤, if◌then◌else◌, nat_lt, Option, Some, None}
+use Rattle.std.proofs.Common.{◌≡◌, ℕ, ◌∙◌, List, [], length, refl, sym, ap, subst, Bool, true, false}
+use Rattle.std.specs.Prelude.{⊤, if◌then◌else◌, Option, Some, None}
 use Rattle.fkv_base.specs.declared.commits.CommitKind.{CommitKind}
 use Rattle.fkv_base.specs.declared.faults.Fault.TheVariants as fault
 use Rattle.fkv_base.specs.declared.numbers.Addr.{Addr}
@@ -16,7 +16,6 @@ use Rattle.fkv_plane.specs.declared.asks.Ask.TheVariants.{Done}
 use Rattle.fkv_plane.specs.declared.places.Places.{Places}
 use Rattle.fkv_checkpoint.specs.Copying.{copy_begun}
 use Rattle.fkv_commit.specs.declared.commits.Commit.{Commit}
-use Rattle.fkv_commit.specs.declared.deferring.Deferring.{Deferring}
 use Rattle.fkv_commit.specs.declared.deferring.Deferred.{Deferred}
 use Rattle.fkv_commit.specs.declared.deferring.Deferring.TheVariants as defer
 use Rattle.fkv_commit.specs.declared.entering.EnterAnswer.{EnterAnswer}
@@ -36,7 +35,7 @@ use Rattle.fkv_commit.specs.declared.waiting.WaitAnswer.TheVariants as wait
 use Rattle.fkv_commit.specs.declared.waiting.Waiting.{Waiting}
 use Rattle.fkv_commit.specs.declared.waiting.Waiting.TheVariants as waiting
 use Rattle.fkv_commit.specs.Entering.{enter_ask, enter_begun, enter_next, entering_next}
-use Rattle.fkv_commit.specs.Finishing.{FinishState, durable_from, finish_ask, finishing_ask, finishing_next}
+use Rattle.fkv_commit.specs.Finishing.{finish_ask, finishing_ask, finishing_next}
 use Rattle.fkv_commit.specs.Seeking.{seek_ask, seek_begun, seek_next, seeking_next}
 use Rattle.fkv_commit.specs.Starting.{start_ask, start_begun, start_next, starting_next}
 use Rattle.fkv_commit.specs.Waiting.{WaitState, wait_ask, wait_begun, wait_next, waiting_ask}

@@ -1,6 +1,6 @@
 -- What the keeper knows of its raises goes over other actors' steps; and what is replied to it.
-use Rattle.std.proofs.Common.{◌≡◌, ℕ, ◌+◌, ◌%◌, ◌^◌, ◌<◌, ◌≤◌, ◌∙◌, List, length, refl, arith, sym, ap, subst, Bool, true, false}
-use Rattle.std.specs.Prelude.{⊤, Option, Some, None, slice_set}
+use Rattle.std.proofs.Common.{◌≡◌, ℕ, ◌+◌, ◌%◌, ◌^◌, ◌<◌, ◌≤◌, ◌∙◌, List, length, refl, arith, sym, ap, Bool}
+use Rattle.std.specs.Prelude.{Option, slice_set}
 use Rattle.fkv_plane.specs.declared.asks.Ask.{Ask}
 use Rattle.fkv_plane.specs.declared.asks.Ask.TheVariants.{Add}
 use Rattle.fkv_plane.specs.declared.places.Places.{Places}
@@ -9,7 +9,6 @@ use Rattle.fkv_plane.specs.Asked.{reply_to, word_at, words_after}
 use Rattle.fkv_plane.specs.Passing.{passed}
 use Rattle.fkv_plane.specs.Places.{shared_place}
 use Rattle.fkv_base.specs.declared.shapes.Shape.{Shape}
-use Rattle.fkv_epoch.specs.declared.arming.Arming.{Arming}
 use Rattle.fkv_epoch.specs.declared.raising.Raising.{Raising}
 use Rattle.fkv_epoch.specs.declared.raising.Raising.TheVariants as raise
 use Rattle.fkv_epoch.specs.EpochWorld.{epoch_of, safe_of}
@@ -31,7 +30,7 @@ use Rattle.fkv_commit.specs.declared.starting.Starting.TheVariants as start
 use Rattle.fkv_commit.specs.declared.waiting.WaitAnswer.TheVariants.{Flushed, Idle, NotYet}
 use Rattle.fkv_commit.specs.declared.waiting.Waiting.{Waiting}
 use Rattle.fkv_commit.specs.declared.waiting.Waiting.TheVariants as waiting
-use Rattle.fkv_commit.specs.Deferring.{DeferState, defer_ask, deferring_ask}
+use Rattle.fkv_commit.specs.Deferring.{DeferState, deferring_ask}
 use Rattle.fkv_commit.specs.Entering.{EnterState, entering_ask}
 use Rattle.fkv_commit.specs.Seeking.{SeekState, seeking_ask}
 use Rattle.fkv_commit.specs.Starting.{StartState, starting_ask}
@@ -40,10 +39,9 @@ use Rattle.fkv_flush.specs.GuardLevels.{Levels}
 use Rattle.fkv_keeper.specs.declared.answers.KeeperTold.{KeeperTold}
 use Rattle.fkv_keeper.specs.declared.keepers.Keeping.{Keeping}
 use Rattle.fkv_keeper.specs.declared.keepers.Keeping.TheVariants.{Ended, Starts, Maintains, LoadsPhase, Enters, Copies, Seeks, Waits, Writes, Finishes}
-use Rattle.fkv_keeper.specs.Keeping.{KeeperState, keeper_ask, keeping_ask}
+use Rattle.fkv_keeper.specs.Keeping.{KeeperState, keeping_ask}
 use Rattle.law_guard.specs.Keeper.CommitShown.{EnterKnows, IsDeferring, SeekKnows, StartKnows}
 use Rattle.law_guard.specs.Keeper.KeeperShown.{KeepingKnows}
-use Rattle.law_paper.specs.Phases as paper
 use Rattle.law_commit.proofs.OfFloor.KeeperFits.{EnterFits, Ground, HandFits, IsEnding, IsSafeEnding, KeeperFits, KeepingFits, SeekFits, StartFits, WaitFits}
 use Rattle.law_commit.proofs.OfFloor.KeeperGoes.{KeeperReply}
 use Rattle.law_commit.proofs.OfFloor.PartsFit.{DeferReply, EnterReply, Raised, SeekReply, StartReply, WaitReply, defer_over}

@@ -1,14 +1,11 @@
 -- In each life what is on paper goes on with the stages of its commits.
-use Rattle.std.proofs.Common.{◌≡◌, ◌⊎◌, inl, inr, ℕ, ◌+◌, ◌*◌, ◌^◌, ◌<◌, ◌≤◌, ◌∙◌, List, [], ◌∷◌, length, refl, arith, sym, ap, subst, Bool, true, false}
-use Rattle.std.specs.Prelude.{⊤, Option, Some, None, slice_get}
+use Rattle.std.proofs.Common.{◌≡◌, inl, inr, ℕ, ◌^◌, ◌<◌, ◌≤◌, ◌∙◌, List, ◌∷◌, refl, arith, sym, ap, subst, Bool, true, false}
+use Rattle.std.specs.Prelude.{Option, Some, None}
 use Rattle.fkv_base.specs.Limits.{last_version}
 use Rattle.fkv_base.specs.declared.numbers.Version.{Version}
-use Rattle.fkv_base.specs.declared.phases.Phase.{Phase}
 use Rattle.fkv_base.specs.declared.phases.Phase.TheVariants as phases
 use Rattle.fkv_plane.specs.declared.actions.Action.{Action}
 use Rattle.fkv_plane.specs.declared.actions.Action.TheVariants as act
-use Rattle.fkv_plane.specs.declared.asks.Ask.{Ask}
-use Rattle.fkv_plane.specs.declared.asks.Ask.TheVariants.{Put}
 use Rattle.fkv_plane.specs.declared.places.SharedWord.TheVariants as one
 use Rattle.fkv_plane.specs.Asked.{reply_to, word_at, words_after}
 use Rattle.fkv_plane.specs.Places.{shared_place}
@@ -30,10 +27,10 @@ use Rattle.fkv_commit.specs.Commits.{version_after}
 use Rattle.fkv_commit.specs.Seeking.{SeekState}
 use Rattle.fkv_commit.specs.Starting.{StartState}
 use Rattle.fkv_flush.specs.GuardLevels.{levels_of}
-use Rattle.fkv_flush.specs.GuardWorld.{GuardEvent, GuardWorld, epoch_world, guard_run}
+use Rattle.fkv_flush.specs.GuardWorld.{GuardWorld, epoch_world, guard_run}
 use Rattle.fkv_keeper.specs.declared.keepers.Keeping.{Keeping}
 use Rattle.fkv_keeper.specs.declared.keepers.Keeping.TheVariants.{Ended, Starts, Maintains, LoadsPhase, Enters, Copies, Seeks, Waits, Writes, Finishes}
-use Rattle.fkv_keeper.specs.Keeping.{KeeperState, commit_asked, keeper_ask, keeper_called, keeper_next, keeping_next, turn_asked}
+use Rattle.fkv_keeper.specs.Keeping.{KeeperState, commit_asked, keeper_ask, keeper_next, keeping_next, turn_asked}
 use Rattle.fkv_maintain.specs.declared.maintaining.Maintaining.{Maintaining}
 use Rattle.fkv_maintain.specs.declared.maintaining.Maintaining.TheVariants as maintain
 use Rattle.fkv_maintain.specs.Maintaining.{MaintainState}
@@ -46,7 +43,7 @@ use Rattle.fkv_session.specs.Sessions.{SessionState}
 use Rattle.fkv_world.specs.Moves.{keeper_gets}
 use Rattle.fkv_world.specs.Opened.{IsOpenedWorld}
 use Rattle.fkv_world.specs.Runs.{World, read_by_keeper, run}
-use Rattle.fkv_world.specs.World.{Event, Now, keeper_asked}
+use Rattle.fkv_world.specs.World.{Event, Now}
 use Rattle.law_guard.specs.Guarded.GuardEvents.{guard_events}
 use Rattle.law_guard.specs.Guarded.Shows as guard
 use Rattle.law_guard.specs.Guarded.Shows.{seen_by_guard}
@@ -57,22 +54,22 @@ use Rattle.law_paper.specs.Phases as paper
 use Rattle.law_paper.specs.Phases.{PhaseEvent, Phasing, RaisesEnding, RaisesPending, RaisesProgress, StoresNext, WaitsFlush, phase_after, phase_run}
 use Rattle.law_parts.proofs.Footprint.Commits.{finish_stores, seek_stores, start_stores}
 use Rattle.law_parts.proofs.Footprint.Keepers.{keeper_stores}
-use Rattle.law_commit.specs.Floor.Stands.{OpensSeen, PaperIsSound, stage_number}
-use Rattle.law_commit.specs.Phases.Projected.{ShowsLife, ShowsSessions, phasing_opened, session_phase_events}
+use Rattle.law_commit.specs.Floor.Stands.{PaperIsSound}
+use Rattle.law_commit.specs.Phases.Projected.{ShowsLife, ShowsSessions, session_phase_events}
 use Rattle.law_commit.specs.Phases.Running.{IsSafeRun, claim_runs, keeping_runs, maintain_runs, sitting_runs, turn_runs}
-use Rattle.law_commit.specs.Phases.Staged.{DefersAt, DefersPending, DefersProgress, EnterAt, FinishAt, FitsVersion, Flushes, HasInHand, IsStaged, Pends, Prepares, Progresses, Rests, SeekAt, Stage, StartAt, StepAt, WithKeeper, WithSession, claim_hand, defer_moves, enter_moves, finish_moves, finish_number, hand_found, held, is_resting, keeper_hand, keeping_hand, keeping_moves, keeping_number, maintain_hand, phase_in, seek_moves, session_hand, sitting_hand, stage_out, stage_phase, stage_run, stage_version, start_moves, turn_hand}
+use Rattle.law_commit.specs.Phases.Staged.{DefersAt, DefersPending, DefersProgress, EnterAt, FinishAt, FitsVersion, Flushes, HasInHand, IsStaged, Pends, Prepares, Progresses, Rests, SeekAt, Stage, StartAt, StepAt, WithKeeper, WithSession, claim_hand, defer_moves, enter_moves, finish_moves, finish_number, hand_found, held, is_resting, keeper_hand, keeping_hand, keeping_moves, keeping_number, maintain_hand, phase_in, seek_moves, sitting_hand, stage_out, stage_phase, stage_run, stage_version, start_moves, turn_hand}
 use Rattle.law_commit.proofs.OfFloor.Armed.{ArmedSo, Onward, armed_on, stays_onward}
-use Rattle.law_commit.proofs.OfFloor.KeeperFits.{EndingFits, EnterFits, Ground, HandFits, IsEnding, IsSafeEnding, KeeperFits, KeepingFits, PendingFits, ProgressFits, SeekFits, StartFits}
+use Rattle.law_commit.proofs.OfFloor.KeeperFits.{EndingFits, EnterFits, Ground, HandFits, IsEnding, KeeperFits, KeepingFits, PendingFits, ProgressFits, SeekFits, StartFits}
 use Rattle.law_commit.proofs.OfFloor.KeeperGoes.{KeeperReply, StoresReady, asked_fits, called_fits, commit_asked_fits, enter_puts_fit, given_fits, keeper_goes_fits, rest_fits, seek_puts_fit, start_puts_fit, turn_asked_fits, turn_puts_fit}
 use Rattle.law_commit.proofs.OfFloor.KeeperOver.{IsOver, hand_over, keeper_reply, over_fits}
 use Rattle.law_commit.proofs.OfFloor.KeeperPuts.{KeeperPuts, is_put, keeper_puts}
 use Rattle.law_commit.proofs.OfFloor.Papers.{Papers, RaisedAt, one_more, staged_rank}
-use Rattle.law_commit.proofs.OfFloor.Paths.{Path, SameAddresses, ending_raises, ending_step, one_on, pending_raises, pending_step, prepares_step, progress_first, progress_step, raises_epoch, rests_step, run_raises, runs_step, stored_raises, stores_epoch, waited_raises, waits_step}
-use Rattle.law_commit.proofs.OfPhases.LifeStages.{event_on, low_now, opens_staged}
+use Rattle.law_commit.proofs.OfFloor.Paths.{Path, SameAddresses, ending_raises, ending_step, one_on, pending_raises, pending_step, prepares_step, progress_first, progress_step, raises_epoch, rests_step, runs_step, stores_epoch, waited_raises, waits_step}
+use Rattle.law_commit.proofs.OfPhases.LifeStages.{event_on, low_now}
 use Rattle.law_commit.proofs.OfPhases.QuietShown.{life_on, rest_events, rest_shown, risen}
 use Rattle.law_commit.proofs.OfPhases.SafeRuns.{keeper_runs, sessions_run}
 use Rattle.law_commit.proofs.OfPhases.SessionsShown.{events_same, events_shown}
-use Rattle.law_commit.proofs.OfPhases.StageMoves.{Kept, LedOn, OwnStore, Plain, Putting, Quietly, QuietKeeper, Ran, Replied, RunBySession, Stored}
+use Rattle.law_commit.proofs.OfPhases.StageMoves.{Kept, LedOn, OwnStore, Plain, QuietKeeper, Ran, Replied, RunBySession}
 
 -- ---- who has an action in hand runs it
 record HandRuns (runs : Option Armed) (action : Action) : Type 0 where

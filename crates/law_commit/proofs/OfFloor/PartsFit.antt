@@ -1,6 +1,6 @@
 -- Each reply to a part of a commit keeps what the keeper knows of its raises.
-use Rattle.std.proofs.Common.{◌≡◌, ◌⊎◌, ℕ, ◌+◌, ◌^◌, ◌<◌, ◌≤◌, ◌∙◌, ◌∷◌, [], ◌++◌, length, refl, arith, sym, ap, subst, Bool, true, false}
-use Rattle.std.specs.Prelude.{⊤, if◌then◌else◌, nat_le, nat_lt, ◌==◌, max, Option, Some, None}
+use Rattle.std.proofs.Common.{◌≡◌, ℕ, ◌+◌, ◌^◌, ◌<◌, ◌≤◌, ◌∷◌, [], ◌++◌, length, refl, arith, sym, subst, Bool, true, false}
+use Rattle.std.specs.Prelude.{⊤, if◌then◌else◌, nat_le, nat_lt, ◌==◌, max, Option, None}
 use Rattle.std.proofs.lemmas.Bool.Decides.{nat_tests}
 use Rattle.fkv_base.specs.Limits.{last_version}
 use Rattle.fkv_base.specs.declared.numbers.Addr.{Addr}
@@ -14,7 +14,6 @@ use Rattle.fkv_plane.specs.declared.asks.Ask.TheVariants.{Done}
 use Rattle.fkv_plane.specs.Passing.{passed}
 use Rattle.fkv_epoch.specs.declared.arming.Arming.{Arming}
 use Rattle.fkv_epoch.specs.declared.raising.RaiseAnswer.{RaiseAnswer}
-use Rattle.fkv_epoch.specs.declared.raising.RaiseAnswer.TheVariants as raised
 use Rattle.fkv_epoch.specs.declared.raising.Raising.{Raising}
 use Rattle.fkv_epoch.specs.declared.raising.Raising.TheVariants as raise
 use Rattle.fkv_epoch.specs.Arming.{arm_ask, arm_next}
@@ -41,7 +40,7 @@ use Rattle.fkv_commit.specs.declared.waiting.Waiting.{Waiting}
 use Rattle.fkv_commit.specs.declared.waiting.Waiting.TheVariants as waiting
 use Rattle.fkv_commit.specs.Commits.{version_after}
 use Rattle.fkv_commit.specs.Cuts.{version_said, serial_said}
-use Rattle.fkv_commit.specs.Deferring.{DeferState, arm_ledto, armed_epoch, defer_ask, defer_begun, defer_next, defer_on, deferring_ask, deferring_next, raise_ledto, seek_ledto}
+use Rattle.fkv_commit.specs.Deferring.{DeferState, arm_ledto, armed_epoch, defer_ask, defer_begun, defer_next, deferring_ask, deferring_next, raise_ledto}
 use Rattle.fkv_commit.specs.Entering as entering
 use Rattle.fkv_commit.specs.Entering.{EnterState, entering_next}
 use Rattle.fkv_commit.specs.Seeking as seeking
@@ -52,7 +51,7 @@ use Rattle.fkv_commit.specs.Waiting.{WaitState, waiting_next}
 use Rattle.fkv_flush.specs.GuardLevels.{Levels}
 use Rattle.law_guard.specs.Keeper.CommitShown.{EnterKnows, IsDeferring, SeekKnows, StartKnows}
 use Rattle.law_commit.specs.Phases.Staged.{Stage, SeekAt, StartAt, EnterAt}
-use Rattle.law_commit.proofs.OfFloor.KeeperFits.{DeferFits, EndingFits, EnterFits, Ground, IsEnding, IsSafeEnding, PendingFits, ProgressFits, SeekFits, StartFits, WaitFits}
+use Rattle.law_commit.proofs.OfFloor.KeeperFits.{DeferFits, EndingFits, EnterFits, Ground, IsEnding, PendingFits, ProgressFits, SeekFits, StartFits, WaitFits}
 use Rattle.law_commit.proofs.OfPhases.CommitStages.{SoughtAt, goes_on, slot_sought}
 use Rattle.law_parts.proofs.Footprint.Commits.{seek_stores, start_stores}
 

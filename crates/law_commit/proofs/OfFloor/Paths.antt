@@ -1,14 +1,14 @@
 -- The events on paper of one step of a life, one behind the other.
-use Rattle.std.proofs.Common.{◌≡◌, ◌⊎◌, inl, inr, ℕ, ◌+◌, ◌*◌, ◌<◌, ◌≤◌, ◌∙◌, List, ◌∷◌, refl, arith, sym, ap, subst, Bool, true, false}
-use Rattle.std.specs.Prelude.{⊤, Option, Some, None}
+use Rattle.std.proofs.Common.{◌≡◌, ℕ, ◌+◌, ◌<◌, ◌≤◌, ◌∙◌, List, ◌∷◌, refl, arith, sym, ap, subst}
+use Rattle.std.specs.Prelude.{Some}
 use Rattle.fkv_base.specs.Limits.{last_version}
 use Rattle.fkv_base.specs.declared.numbers.Version.{Version}
 use Rattle.fkv_plane.specs.declared.actions.Action.{Action}
 use Rattle.fkv_commit.specs.Commits.{version_after}
 use Rattle.law_paper.specs.Phases as paper
 use Rattle.law_paper.specs.Phases.{AreEnabled, PhaseEvent, Phasing, RaisesEnding, RaisesPending, RaisesProgress, StoresNext, WaitsFlush, phase_after, phase_run}
-use Rattle.law_commit.specs.Phases.Staged.{DefersPending, DefersProgress, FitsVersion, Flushes, Pends, Prepares, Progresses, Rests, Stage, stage_out, stage_run}
-use Rattle.law_commit.proofs.OfFloor.Armed.{Onward, none_onward, onward_on, pending_onward, progress_onward, stage_reach, stays_onward}
+use Rattle.law_commit.specs.Phases.Staged.{DefersPending, DefersProgress, Flushes, Pends, Prepares, Progresses, Rests, Stage, stage_out, stage_run}
+use Rattle.law_commit.proofs.OfFloor.Armed.{Onward, none_onward, onward_on, pending_onward, progress_onward}
 use Rattle.law_commit.proofs.OfFloor.Papers.{Leads, Papers, one_more, prepares, raises_ending, raises_pending, raises_progress, rests, runs_pending, runs_progress, then_event, waits}
 
 -- an event leaves the tail, what is safe, and the sessions

@@ -1,10 +1,8 @@
 -- So in each life the view of each live session has its floor.
-use Rattle.std.proofs.Common.{◌≡◌, ℕ, ◌+◌, ◌*◌, ◌<◌, ◌≤◌, ◌∙◌, List, [], ◌∷◌, refl, arith, sym, ap, subst, Bool, true, false}
-use Rattle.std.specs.Prelude.{⊤, Option, Some, None, slice_get}
+use Rattle.std.proofs.Common.{◌≡◌, ℕ, ◌+◌, ◌<◌, ◌≤◌, ◌∙◌, List, [], ◌∷◌, refl, arith, sym, ap, subst, true, false}
+use Rattle.std.specs.Prelude.{Some, None}
 use Rattle.fkv_base.specs.declared.numbers.Version.{Version}
-use Rattle.fkv_base.specs.declared.phases.Phase.TheVariants.{Rest}
 use Rattle.fkv_commit.specs.declared.commits.Commit.{Commit}
-use Rattle.fkv_epoch.specs.EpochWorld.{safe_of}
 use Rattle.fkv_flush.specs.GuardWorld.{guard_run}
 use Rattle.fkv_keeper.specs.declared.keepers.Keeping.{Keeping}
 use Rattle.fkv_keeper.specs.declared.keepers.Keeping.TheVariants.{Ended, Starts, Maintains, LoadsPhase, Enters, Copies, Seeks, Waits, Writes, Finishes}
@@ -19,12 +17,12 @@ use Rattle.law_guard.specs.Guarded.Shows as guard
 use Rattle.law_guard.specs.Guarded.Shows.{seen_by_guard}
 use Rattle.law_paper.specs.Phases as paper
 use Rattle.law_paper.specs.Phases.{AreEnabled, Phasing, phase_run}
-use Rattle.law_commit.specs.Floor.Stands.{FloorAlwaysStands, FloorStands, HasFloor, HasSeenEnd, IsWritten, OpensSeen, PaperHasFloor, PaperIsSound, SeesCommit, stage_number}
-use Rattle.law_commit.specs.Phases.Projected.{BeginsAtRest, ShowsLife, paper_view, phasing_opened}
+use Rattle.law_commit.specs.Floor.Stands.{FloorAlwaysStands, HasFloor, HasSeenEnd, IsWritten, OpensSeen, PaperHasFloor, PaperIsSound, SeesCommit}
+use Rattle.law_commit.specs.Phases.Projected.{BeginsAtRest, paper_view, phasing_opened}
 use Rattle.law_commit.specs.Phases.Staged.{Rests, Stage}
 use Rattle.law_commit.specs.Views.{View, sight_of}
 use Rattle.law_commit.proofs.OfFloor.Armed.{ArmedSo}
-use Rattle.law_commit.proofs.OfFloor.KeeperFits.{Ground, IsSafeEnding, KeeperFits, KeepingFits}
+use Rattle.law_commit.proofs.OfFloor.KeeperFits.{Ground, KeeperFits, KeepingFits}
 use Rattle.law_commit.proofs.OfFloor.LifeFloor.{Floored, LifeFloored, event_floored, ground_of}
 use Rattle.law_commit.proofs.OfPhases.LifeStages.{opens_staged}
 use Rattle.law_commit.proofs.OfPhases.OpeningSound.{opening_sound}

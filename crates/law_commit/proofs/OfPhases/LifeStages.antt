@@ -37,7 +37,7 @@ use Rattle.law_parts.proofs.Footprint.Lives.{keeper_spares}
 use Rattle.law_parts.proofs.Footprint.Sessions.{SessionRests, session_asks_spares, sitting_stores}
 use Rattle.law_commit.specs.Accepted.{HasRisingVersion}
 use Rattle.law_commit.specs.PhaseVersions.{HasRisingPhase, NoneIsAhead, RestIsNext, RestsAreNext, phase_version, version_said}
-use Rattle.law_commit.specs.Phases.Staged.{DefersPending, DefersProgress, EarlyAt, FitsVersion, Flushes, Holder, InSlot, IsStaged, KeeperAt, OnlyOut, OpensAtRest, Pends, Prepares, Progresses, Rests, Stage, StageAfter, StepAt, WithKeeper, WithSession, hand_found, held, keeper_hand, keeping_hand, phase_in, sitting_hand, stage_out, stage_phase, stage_version}
+use Rattle.law_commit.specs.Phases.Staged.{DefersPending, DefersProgress, EarlyAt, FitsVersion, Flushes, Holder, InSlot, IsStaged, KeeperAt, OnlyOut, OpensAtRest, Pends, Prepares, Progresses, Rests, Stage, StepAt, WithKeeper, WithSession, hand_found, held, keeper_hand, keeping_hand, phase_in, sitting_hand, stage_out, stage_phase, stage_version}
 use Rattle.law_commit.specs.PhaseStores.{phase_at}
 use Rattle.law_commit.proofs.Rising.{version_rises}
 use Rattle.law_commit.proofs.OfCuts.Marks.{sparing_now}
