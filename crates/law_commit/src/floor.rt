@@ -1,13 +1,16 @@
 //! The floor of each live session's view.
-ghost use Rattle.law_commit.specs.Floor.Stands.{FloorAlwaysStands};
+ghost use Rattle.law_commit.specs.Floor.Stands.{FloorAlwaysStands, ViewsAreNear};
 
 use law_paper::law_phases_are_seen;
 
-/// In each life of a store that opened at rest, whatever its calls, commits and the order of its steps, the view of each live session has its floor. It is no
-/// older than wait-flush of the commit before. From in-progress on all have seen prepare, and a tail at or above the first address of the commit in hand.
-/// From wait-pending on all have seen in-progress. As a commit is written all have seen its wait-flush, and a tail at or above its end.
+/// In each life of a store that opened at rest, as its sessions have seen, the view of each live session has its floor. The view is no older than wait-flush
+/// of the commit before. From in-progress on all have seen prepare, and a tail at or above the first address of the commit in hand. From wait-pending on
+/// all have seen in-progress. Once the epoch of a commit's last arming is safe all have seen its wait-flush, and a tail at or above its end. So it is as the
+/// commit is written. And if one live session goes by in-progress or wait-pending of a version, another has come as far as prepare before it, and no further
+/// than wait-flush of it.
 pub fn law_floor_stands()
-    ensures { FloorAlwaysStands }
+    ensures floor { FloorAlwaysStands }
+    ensures near { ViewsAreNear }
 {
     law_phases_are_seen();
 }

@@ -6,7 +6,7 @@ ghost use Rattle.fkv_opening.specs.declared.opened_store.Opened.{Opened};
 ghost use Rattle.fkv_world.specs.World.{Now};
 ghost use Rattle.law_opening.specs.Lives.OpenedFrom.{IsOpenedFrom};
 ghost use Rattle.law_opening.specs.Lives.Steps.{AllLeadOn, OneCommitStands, Step, device_behind, events_of, now_behind};
-ghost use Rattle.law_order.specs.InTurn.Laws.{HasFloorInItsLife, NumbersItsCommitsInTurn, OpensItsStoreAtRest, TellsOfItsLife};
+ghost use Rattle.law_order.specs.InTurn.Laws.{HasFloorInItsLife, KeepsItsViewsNear, NumbersItsCommitsInTurn, OpensItsStoreAtRest, TellsOfItsLife};
 
 use crate::rest::law_rest_said;
 use crate::rules::law_life_begins;
@@ -28,11 +28,12 @@ pub fn law_phases_open()
     law_told_opens();
 }
 
-/// In each life of an opened store, with commits, crashes and failing calls of the device, whatever their order, the view of each live session has its floor:
-/// the phase that it has seen is no more than so far behind the phase word. It has seen a tail at or above the first address of the commit in hand from
-/// in-progress on, and as that is written at or above its end.
+/// In each life of an opened store, with commits, crashes and failing calls of the device, the view of each live session has its floor. So what a live session
+/// has seen of the phases stays near the phase word. From in-progress on it has seen a tail at or above the first address of the commit in hand. As the
+/// commit is written it has seen one at or above its end. So no two live sessions go by phases that exclude each other.
 pub fn law_floor_opens()
-    ensures { HasFloorInItsLife }
+    ensures floor { HasFloorInItsLife }
+    ensures near { KeepsItsViewsNear }
 {
     law_life_begins();
     law_floor_stands();

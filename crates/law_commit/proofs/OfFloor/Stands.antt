@@ -1,5 +1,5 @@
 -- So in each life the view of each live session has its floor.
-use Rattle.std.proofs.Common.{◌≡◌, ℕ, ◌+◌, ◌<◌, ◌≤◌, ◌∙◌, List, [], ◌∷◌, refl, arith, sym, ap, subst, true, false}
+use Rattle.std.proofs.Common.{◌≡◌, ◌*◌, inr, inl, ℕ, ◌+◌, ◌<◌, ◌≤◌, ◌∙◌, List, [], ◌∷◌, refl, arith, sym, ap, subst, true, false}
 use Rattle.std.specs.Prelude.{Some, None}
 use Rattle.fkv_base.specs.declared.numbers.Version.{Version}
 use Rattle.fkv_commit.specs.declared.commits.Commit.{Commit}
@@ -17,9 +17,9 @@ use Rattle.law_guard.specs.Guarded.Shows as guard
 use Rattle.law_guard.specs.Guarded.Shows.{seen_by_guard}
 use Rattle.law_paper.specs.Phases as paper
 use Rattle.law_paper.specs.Phases.{AreEnabled, Phasing, phase_run}
-use Rattle.law_commit.specs.Floor.Stands.{FloorAlwaysStands, HasFloor, HasSeenEnd, IsWritten, OpensSeen, PaperHasFloor, PaperIsSound, SeesCommit}
+use Rattle.law_commit.specs.Floor.Stands.{AreNear, FloorAlwaysStands, HasFloor, HasSeenEnd, IsWritten, OpensSeen, PaperHasFloor, PaperIsSound, SeesCommit, ViewsAreNear, stage_number}
 use Rattle.law_commit.specs.Phases.Projected.{BeginsAtRest, paper_view, phasing_opened}
-use Rattle.law_commit.specs.Phases.Staged.{Rests, Stage}
+use Rattle.law_commit.specs.Phases.Staged.{DefersPending, DefersProgress, Flushes, Pends, Prepares, Progresses, Rests, Stage}
 use Rattle.law_commit.specs.Views.{View, sight_of}
 use Rattle.law_commit.proofs.OfFloor.Armed.{ArmedSo}
 use Rattle.law_commit.proofs.OfFloor.KeeperFits.{Ground, KeeperFits, KeepingFits}
@@ -160,3 +160,29 @@ floor_stands paper_sound paper_floor opening start events guarded opened opens =
       floor = λ session first its became awake. has_floor opening start events lived.number lived.stage lived.p lived.its paper_floor session first its became awake;
       commit = λ session first its c became awake is. sees_commit opening start events lived.number lived.stage lived.p lived.its paper_floor session first its became awake c is;
     }
+
+-- ---- two live sessions
+few_stages : (stage : Stage) → stage_number stage ≤ 4
+few_stages Rests = omega arith
+few_stages Prepares = omega arith
+few_stages DefersProgress = omega arith
+few_stages Progresses = omega arith
+few_stages DefersPending = omega arith
+few_stages Pends = omega arith
+few_stages Flushes = omega arith
+
+floors_near : (number : Version) (stage : Stage) (one other : View) → HasFloor number stage one → HasFloor number stage other → AreNear one other
+floors_near number stage one other its also version is =
+    let few = few_stages stage in
+    let low = its.low in
+    let rest = its.rest in
+    let high = also.low in
+    let far : (2 ≤ stage_number stage) × (5 * version ≡ 5 * number.0 + 5) = elim is [ inl e ↦ (omega (arith, e, few, low, rest), omega (arith, e, few, low, rest)) | inr e ↦ (omega (arith, e, few, low, rest), omega (arith, e, few, low, rest)) ] in
+    let some = also.in_progress far.0 in
+    let same = far.1 in
+    (omega (arith, some, same), omega (arith, high, few, same))
+
+pub views_near : PaperIsSound → PaperHasFloor → ViewsAreNear
+views_near paper_sound paper_floor opening start events guarded opened opens session other first its next also became awake too and =
+    let stands = floor_stands paper_sound paper_floor opening start events guarded opened opens in
+    floors_near stands.number stands.stage (sight_of opening events session).view (sight_of opening events other).view (stands.floor session first its became awake) (stands.floor other next also too and)

@@ -11,6 +11,7 @@ use Rattle.fkv_world.specs.Opened.{HasBecome, IsOpenedWorld}
 use Rattle.fkv_world.specs.Runs.{World, run}
 use Rattle.fkv_world.specs.World.{Event, Now}
 use Rattle.law_guard.specs.Guarded.Shows.{IsOpened}
+use Rattle.law_paper.specs.Apart.{IsBetween}
 use Rattle.law_paper.specs.Phases as paper
 use Rattle.law_commit.specs.Phases.Staged.{DefersPending, DefersProgress, Flushes, IsStaged, OpensAtRest, Pends, Prepares, Progresses, Rests, Stage}
 use Rattle.law_commit.specs.Views.{View, rank_of, sight_of}
@@ -68,6 +69,19 @@ pub record OpensSeen (n : Now) : Type 0 where
 -- so it is in each life of a store that opened so
 abbrev pub FloorAlwaysStands : Type 0
 FloorAlwaysStands = (opening : World) (start : ℕ) (events : List Event) → IsOpened opening.now start → IsOpenedWorld opening → OpensSeen opening.now → FloorStands opening events
+
+-- If a session goes by in-progress or wait-pending of a version, another has come as far as prepare before it, and no further than wait-flush of it.
+abbrev pub AreNear : View → View → Type 0
+AreNear one other = (version : ℕ) → IsBetween (rank_of one) version → (5 * version ≤ rank_of other + 4) × (rank_of other + 1 ≤ 5 * version)
+
+-- so it is with any two live sessions
+abbrev pub LiveViewsAreNear : World → List Event → Type 0
+LiveViewsAreNear opening events =
+    (session other : ℕ) (first its next also : SessionState) → HasBecome opening events session first its → its.is_awake ≡ true → HasBecome opening events other next also → also.is_awake ≡ true
+    → AreNear (sight_of opening events session).view (sight_of opening events other).view
+
+abbrev pub ViewsAreNear : Type 0
+ViewsAreNear = (opening : World) (start : ℕ) (events : List Event) → IsOpened opening.now start → IsOpenedWorld opening → OpensSeen opening.now → LiveViewsAreNear opening events
 
 -- what is shown on paper of phases: a run of enabled events is sound, and the views of live sessions have their floor
 abbrev pub PaperIsSound : Type 0

@@ -1,7 +1,6 @@
 -- What the laws of `in_turn` say.
 use Rattle.std.specs.Prelude.{ℕ, List}
 use Rattle.fkv_core.specs.Openings.{IsOpeningWorld, beginning}
-use Rattle.fkv_disk.specs.Device.{LeavesOnly}
 use Rattle.fkv_opening.specs.Opened.{IsStoreOf}
 use Rattle.fkv_opening.specs.declared.opened_store.Opened.{Opened}
 use Rattle.fkv_world.specs.OwnEvents.{keeper_events}
@@ -9,8 +8,7 @@ use Rattle.fkv_world.specs.World.{Event, Now}
 use Rattle.law_world.specs.Keeper.Lives.{IsLifeTold}
 use Rattle.law_world.specs.Standing.Opening.{AreNumbersInTurn}
 use Rattle.law_opening.specs.Lives.OpenedFrom.{IsOpenedFrom}
-use Rattle.law_opening.specs.Lives.Steps.{AllLeadOn, OneCommitStands, Step, device_behind, events_of, now_behind}
-use Rattle.law_commit.specs.Floor.Stands.{FloorStands}
+use Rattle.law_commit.specs.Floor.Stands.{FloorStands, LiveViewsAreNear}
 use Rattle.law_commit.specs.Phases.Staged.{OpensAtRest}
 
 -- an opened store opens at rest
@@ -29,7 +27,11 @@ abbrev pub TellsOfItsLife : Type 0
 TellsOfItsLife =
     (bytes : List ℕ) (o : Opened) (n : Now) (events : List Event) → IsOpenedFrom bytes o n → IsLifeTold (beginning n bytes) events
 
--- in each of its lives the views of live sessions have their floor
+-- In each of its lives the views of live sessions have their floor, and any two are near.
 abbrev pub HasFloorInItsLife : Type 0
 HasFloorInItsLife =
     (bytes : List ℕ) (o : Opened) (n : Now) (events : List Event) → IsStoreOf bytes o → IsOpeningWorld o n → FloorStands (beginning n bytes) events
+
+abbrev pub KeepsItsViewsNear : Type 0
+KeepsItsViewsNear =
+    (bytes : List ℕ) (o : Opened) (n : Now) (events : List Event) → IsStoreOf bytes o → IsOpeningWorld o n → LiveViewsAreNear (beginning n bytes) events

@@ -3,7 +3,12 @@ use Rattle.fkv_core.specs.Openings.{beginning}
 use Rattle.law_order.proofs.OfRules.Rests.{opens_at_rest}
 use Rattle.law_order.proofs.in_turn.law_floor_opens.Goals as goal
 
-pub returns : goal.returns
-returns c = λ bytes o n events store its.
+pub returns-clause-floor : goal.returns-clause-floor
+returns-clause-floor c = λ bytes o n events store its.
     let begins = c.law_life_begins.ensures bytes o n store its in
-    c.law_floor_stands.ensures (beginning n bytes) o.tail.0 events begins.store.now begins.world (record { rests = opens_at_rest o n its begins.rests; seen = λ session first found. (begins.rests.seen session first found).phase })
+    c.law_floor_stands.ensures.floor (beginning n bytes) o.tail.0 events begins.store.now begins.world (record { rests = opens_at_rest o n its begins.rests; seen = λ session first found. (begins.rests.seen session first found).phase })
+
+pub returns-clause-near : goal.returns-clause-near
+returns-clause-near c = λ bytes o n events store its.
+    let begins = c.law_life_begins.ensures bytes o n store its in
+    c.law_floor_stands.ensures.near (beginning n bytes) o.tail.0 events begins.store.now begins.world (record { rests = opens_at_rest o n its begins.rests; seen = λ session first found. (begins.rests.seen session first found).phase })
