@@ -6,8 +6,8 @@ use law_paper::law_phases_are_seen;
 /// In each life of a store that opened at rest, as its sessions have seen, the view of each live session has its floor. The view is no older than wait-flush
 /// of the commit before. From in-progress on all have seen prepare, and a tail at or above the first address of the commit in hand. From wait-pending on
 /// all have seen in-progress. Once the epoch of a commit's last arming is safe all have seen its wait-flush, and a tail at or above its end. So it is as the
-/// commit is written. And if one live session goes by in-progress or wait-pending of a version, another has come as far as prepare before it, and no further
-/// than wait-flush of it.
+/// commit is written. If one live session goes by in-progress or wait-pending of a version, each other has come to prepare before it. None has come further
+/// than its wait-flush.
 pub fn law_floor_stands()
     ensures floor { FloorAlwaysStands }
     ensures near { ViewsAreNear }

@@ -70,7 +70,7 @@ pub record OpensSeen (n : Now) : Type 0 where
 abbrev pub FloorAlwaysStands : Type 0
 FloorAlwaysStands = (opening : World) (start : ℕ) (events : List Event) → IsOpened opening.now start → IsOpenedWorld opening → OpensSeen opening.now → FloorStands opening events
 
--- If a session goes by in-progress or wait-pending of a version, another has come as far as prepare before it, and no further than wait-flush of it.
+-- If one goes by in-progress or wait-pending of a version, the other has come to prepare before it, and no further than its wait-flush.
 abbrev pub AreNear : View → View → Type 0
 AreNear one other = (version : ℕ) → IsBetween (rank_of one) version → (5 * version ≤ rank_of other + 4) × (rank_of other + 1 ≤ 5 * version)
 
