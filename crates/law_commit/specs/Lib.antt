@@ -3,6 +3,7 @@ pub mod BegunCommits
 pub mod Copied
 pub mod Cuts
 pub mod FinishedCommits
+pub mod Laws
 pub mod Linked
 pub mod PhaseStores
 pub mod PhaseVersions
