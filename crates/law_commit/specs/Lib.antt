@@ -4,6 +4,7 @@ pub mod Copied
 pub mod Cuts
 pub mod FinishedCommits
 pub mod Floor
+pub mod Laws
 pub mod Linked
 pub mod PhaseStores
 pub mod PhaseVersions

@@ -1,21 +1,5 @@
 //! What stands in the words by which a session tells where it has left a version, in every life of a store that was opened.
-ghost use Rattle.std.specs.Prelude.{◌≡◌, ◌≢◌, ◌<◌, ◌≤◌, ◌-◌, ℕ, List, Some, false};
-ghost use Rattle.fkv_commit.specs.Cuts.{serial_said};
-ghost use Rattle.fkv_plane.specs.declared.places.SessionWord.TheVariants.{Durable};
-ghost use Rattle.fkv_plane.specs.Places.{session_place};
-ghost use Rattle.fkv_session.specs.InOrder.{AreToldInOrder, IsOwedOrOneMore, owing_place, owing_told, serial_leaving};
-ghost use Rattle.fkv_session.specs.Sessions.{SessionState, is_busy};
-ghost use Rattle.fkv_session.specs.Words.{AreMarksTold, IsCutAsleep, IsMark, serial_left};
-ghost use Rattle.fkv_session.specs.declared.sessions.CatchCause.TheVariants.{Wakes};
-ghost use Rattle.fkv_session.specs.declared.sessions.Sitting.TheVariants.{CatchesUp, Leaves, StoresOwing};
-ghost use Rattle.fkv_world.specs.Opened.{HasBecome, IsOpenedWorld};
-ghost use Rattle.fkv_world.specs.OwnEvents.{session_events};
-ghost use Rattle.fkv_world.specs.Runs.{World, run};
-ghost use Rattle.fkv_world.specs.World.{Event, seat_at};
-ghost use Rattle.law_guard.specs.Guarded.Shows.{IsOpened};
-ghost use Rattle.law_commit.specs.Accepted.{point};
-ghost use Rattle.law_commit.specs.Phases.Staged.{OpensAtRest};
-ghost use Rattle.law_commit.specs.Cuts.{HasItsWords, IsCutPlace, ShowCuts, ShowsDurable, durable_at, life_leaving, serial_before, stored_by_keeper, stored_by_session, word_now};
+ghost use Rattle.law_commit.specs.Laws.Cuts as cuts;
 
 use law_world::law_world_cuts;
 
@@ -23,11 +7,8 @@ use law_world::law_world_cuts;
 /// has stored there last, by its own events; before its first store there, what stood there as the life began. So is its durable word what the keeper has
 /// stored there last.
 pub fn law_marks_stand()
-    ensures session { (opening : World) (events : List Event) (session : ℕ) (first its : SessionState) (place : ℕ) → HasBecome opening events session first its
-        → HasItsWords opening.now → IsMark session place
-        → word_now opening events place ≡ stored_by_session opening session first events place }
-    ensures durable { (opening : World) (events : List Event) (session : ℕ) → IsOpenedWorld opening → HasItsWords opening.now → session < opening.now.places.sessions
-        → word_now opening events (session_place session Durable) ≡ stored_by_keeper opening events (session_place session Durable) }
+    ensures session { cuts.MarksStand }
+    ensures durable { cuts.DurableWordsStand }
 {}
 
 /// So the words themselves show what the law of cuts says that a session tells in them. Once a session has changed its version, and where no call is in hand,
@@ -38,38 +19,14 @@ pub fn law_marks_stand()
 /// store opened at rest, as each does, the serial at which a session has left the version before is its point of that version. Neither cut word shows a
 /// serial above the session's.
 pub fn law_cuts_stand()
-    ensures told { (opening : World) (events : List Event) (session : ℕ) (first its : SessionState) (serial : ℕ) → HasBecome opening events session first its
-        → HasItsWords opening.now
-        → is_busy its.step ≡ false
-        → serial_left (seat_at opening.now session) first (session_events opening session events) ≡ Some serial
-        → AreMarksTold (seat_at opening.now session) its (λ place. word_now opening events place) serial }
-    ensures asleep { (opening : World) (events : List Event) (session : ℕ) (first its : SessionState) → HasBecome opening events session first its
-        → HasItsWords opening.now
-        → its.is_awake ≡ false
-        → its.step ≢ CatchesUp Wakes
-        → IsCutAsleep (seat_at opening.now session) its (λ place. word_now opening events place) }
-    ensures leaves { (opening : World) (events : List Event) (session : ℕ) (first its : SessionState) → HasBecome opening events session first its
-        → HasItsWords opening.now
-        → its.step ≡ Leaves
-        → IsCutAsleep (seat_at opening.now session) its (λ place. word_now opening events place) }
-    ensures in_order { (opening : World) (events : List Event) (session : ℕ) (first its : SessionState) (serial : ℕ) → HasBecome opening events session first its
-        → HasItsWords opening.now
-        → serial_leaving (seat_at opening.now session) first (session_events opening session events) ≡ Some serial
-        → AreToldInOrder (seat_at opening.now session) its (λ place. word_now opening events place) serial }
-    ensures polls_owing { (opening : World) (events : List Event) (session : ℕ) (first its : SessionState) (index serial : ℕ) → HasBecome opening events session first its
-        → HasItsWords opening.now
-        → its.step ≡ StoresOwing index
-        → serial_left (seat_at opening.now session) first (session_events opening session events) ≡ Some serial
-        → IsOwedOrOneMore (word_now opening events (owing_place (seat_at opening.now session))) (owing_told its) }
-    ensures always { (opening : World) (events : List Event) (session : ℕ) (first its : SessionState) → HasBecome opening events session first its
-        → HasItsWords opening.now → ShowCuts opening.now
-        → AreToldInOrder (seat_at opening.now session) its (λ place. word_now opening events place) (life_leaving opening session first events its) }
-    ensures serials { (opening : World) (events : List Event) (session : ℕ) (first its : SessionState) (place : ℕ) → HasBecome opening events session first its
-        → HasItsWords opening.now → ShowCuts opening.now → IsCutPlace session place
-        → serial_said (word_now opening events place) ≤ its.serial }
-    ensures left { (opening : World) (start : ℕ) (events : List Event) (session : ℕ) (first its : SessionState) → HasBecome opening events session first its
-        → IsOpened opening.now start → OpensAtRest opening.now
-        → serial_before (seat_at opening.now session) first (session_events opening session events) ≡ point opening events session (its.seen.version.0 - 1) }
+    ensures told { cuts.MarksAreTold }
+    ensures asleep { cuts.SleepersShowTheirCut }
+    ensures leaves { cuts.LeaversShowTheirCut }
+    ensures in_order { cuts.MarksAreToldInOrder }
+    ensures polls_owing { cuts.OwingIsOneTooHighAtMost }
+    ensures always { cuts.MarksAreAlwaysTold }
+    ensures serials { cuts.CutsSayNoLaterSerial }
+    ensures left { cuts.LeftAtItsPoint }
 {
     law_world_cuts();
 }
@@ -77,7 +34,5 @@ pub fn law_cuts_stand()
 /// In every life of a store that was opened, whatever the sessions do: if the durable words showed the points of the newest finished commit as the life began,
 /// they do so at each moment. While a commit's words are stored, those that are stored already are its points.
 pub fn law_durable_stands()
-    ensures { (opening : World) (events : List Event) (session : ℕ) → IsOpenedWorld opening → HasItsWords opening.now → ShowsDurable opening.now
-        → session < opening.now.places.sessions
-        → word_now opening events (session_place session Durable) ≡ durable_at (run opening events).now.keeper (run opening events).now.keeper.step session }
+    ensures { cuts.DurableWordsShowPoints }
 {}

@@ -1,17 +1,8 @@
 //! Phases, views and epochs of a life.
-ghost use Rattle.std.specs.Prelude.{◌≡◌, ◌<◌, ◌≤◌, ℕ, List, [], Some, true};
-ghost use Rattle.fkv_epoch.specs.EpochWorld.{safe_of};
-ghost use Rattle.fkv_session.specs.Sessions.{SessionState};
-ghost use Rattle.fkv_world.specs.Opened.{HasBecome, IsOpenedWorld};
-ghost use Rattle.fkv_world.specs.Runs.{World, run};
-ghost use Rattle.fkv_world.specs.World.{Event};
-ghost use Rattle.law_guard.specs.Guarded.Shows.{IsOpened, seen_by_guard};
-ghost use Rattle.law_commit.specs.Phases.Projected.{EventsAreShown, OpeningsAreSound, QuietEventsAreShown, RepliesAreShown, SafeIsEnabled, ShowsSessions, sessions_opened};
-ghost use Rattle.law_commit.specs.PhaseVersions.{HasRisingPhase, RestsAreNext};
+ghost use Rattle.law_commit.specs.Phases.Projected.{EventsAreShown, OpeningsAreSound, QuietEventsAreShown, RepliesAreShown, SafeIsEnabled};
 ghost use Rattle.law_commit.specs.Phases.Running.{KeeperRunsSafely, SessionsRunSafely};
-ghost use Rattle.law_commit.specs.Phases.Staged.{HasStage, OpensAtRest};
-ghost use Rattle.law_commit.specs.Phases.Stamped.{RepliesKeepStamps, SessionStamped, is_live};
-ghost use Rattle.law_commit.specs.Views.{View, sight_of};
+ghost use Rattle.law_commit.specs.Phases.Stamped.{RepliesKeepStamps};
+ghost use Rattle.law_commit.specs.Laws.Phases as phases;
 
 /// While a session catches up, by a refresh or a wake, its views' stamps are the epochs that the guard has for its loads of the phase. Each reply keeps it
 /// so: the view by which the session goes has the epoch of the load in force, and the one that is coming has that of the last load.
@@ -22,12 +13,9 @@ pub fn law_replies_keep_stamps()
 /// In each life of a store that was opened, whatever its calls, commits and the order of its steps, the stamps of each session's views are the guard's loads of
 /// the phase. So each view by which a live session goes, or that is coming, was loaded after each safe epoch was raised: its stamp is above.
 pub fn law_stamps_are_loads()
-    ensures stamped { (opening : World) (start : ℕ) (events : List Event) (session : ℕ) (first its : SessionState) → IsOpened opening.now start → HasBecome opening events session first its
-        → SessionStamped (sight_of opening events session) ((seen_by_guard opening start events).past.loads session) ((seen_by_guard opening start events).past.in_force session) its }
-    ensures view { (opening : World) (start : ℕ) (events : List Event) (session : ℕ) (first its : SessionState) (epoch : ℕ) → IsOpened opening.now start → HasBecome opening events session first its
-        → is_live its ≡ true → epoch ≤ safe_of (run opening events).now.words → epoch < (sight_of opening events session).view.stamp }
-    ensures coming { (opening : World) (start : ℕ) (events : List Event) (session : ℕ) (first its : SessionState) (epoch : ℕ) (view : View) → IsOpened opening.now start → HasBecome opening events session first its
-        → (sight_of opening events session).coming ≡ Some view → epoch ≤ safe_of (run opening events).now.words → epoch < view.stamp }
+    ensures stamped { phases.StampsAreLoads }
+    ensures view { phases.ViewsAreAboveSafe }
+    ensures coming { phases.ComingIsAboveSafe }
 {}
 
 /// In each life of a store that was opened a session is live where it is awake. Each of its replies is a list of enabled events of the phases on paper: it
@@ -36,12 +24,12 @@ pub fn law_stamps_are_loads()
 /// life begins, where each session is awake and its view is of the words as they stand. Then an epoch that is safe in the life may be safe on paper: each view
 /// that counts there was loaded after its raise. And what is on paper is sound as a life begins whose store rests, and shows its words.
 pub fn law_sessions_are_phases()
-    ensures live { (opening : World) (events : List Event) (session : ℕ) (first its : SessionState) → HasBecome opening events session first its → is_live its ≡ its.is_awake }
+    ensures live { phases.LiveIsAwake }
     ensures replies { RepliesAreShown }
     ensures events { EventsAreShown }
     ensures safe { SafeIsEnabled }
     ensures sound { OpeningsAreSound }
-    ensures opening { (opening : World) → ShowsSessions (sessions_opened opening.now) opening [] }
+    ensures opening { phases.OpeningShowsSessions }
 {}
 
 /// In each life of a store that was opened an event that leaves the phase word as it is, whoever makes it, is a list of enabled events of the phases on
@@ -56,9 +44,9 @@ pub fn law_quiet_events_are_phases()
 /// stores a phase is in a slot or in hand, and it stores the next phase. What the keeper is at fits the stage, and a commit in hand has the number that is
 /// next. So the version of the phase word never falls, and the word says rest only of the version behind the newest finished commit's number.
 pub fn law_phases_in_turn()
-    ensures stages { (opening : World) (start : ℕ) (events : List Event) → IsOpened opening.now start → IsOpenedWorld opening → OpensAtRest opening.now → HasStage (run opening events).now }
-    ensures rises { (opening : World) (start : ℕ) (events : List Event) → IsOpened opening.now start → IsOpenedWorld opening → OpensAtRest opening.now → HasRisingPhase opening events }
-    ensures rests { (opening : World) (start : ℕ) (events : List Event) → IsOpened opening.now start → IsOpenedWorld opening → OpensAtRest opening.now → RestsAreNext opening events }
+    ensures stages { phases.CommitsGoByStages }
+    ensures rises { phases.PhaseVersionNeverFalls }
+    ensures rests { phases.RestIsOfTheNextVersion }
 {}
 
 /// In each life of a store that was opened, where a session in its turn or the keeper is about to run the action of a slot that it has claimed, the action

@@ -1,3 +1,4 @@
+pub mod Laws
 pub mod Made
 pub mod OpenedFrom
 pub mod Steps

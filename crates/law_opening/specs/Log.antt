@@ -1,4 +1,5 @@
 pub mod Begins
+pub mod Laws
 pub mod Lives
 pub mod Maps
 pub mod OpeningLog

@@ -1,23 +1,5 @@
 //! What the log has with which the life of an opened store begins, and that the laws of the log may begin with it.
-ghost use Rattle.std.specs.Prelude.{◌≡◌, ◌↔◌, ℕ, List, Some};
-ghost use Rattle.fkv_base.specs.declared.numbers.Key.{Key};
-ghost use Rattle.fkv_base.specs.declared.numbers.Value.{Value};
-ghost use Rattle.fkv_core.specs.Openings.{IsOpeningWorld};
-ghost use Rattle.fkv_filling.specs.OpeningIndex.{opening_lists};
-ghost use Rattle.fkv_opening.specs.Opened.{IsStoreOf};
-ghost use Rattle.fkv_opening.specs.declared.opened_store.Opened.{Opened};
-ghost use Rattle.law_log.specs.Ghosts.{shown};
-ghost use Rattle.law_log.specs.Enabled.{IsOpened};
-ghost use Rattle.fkv_pairs.specs.Pairs.{ArePairs, HasValue, log_of_store};
-ghost use Rattle.fkv_world.specs.World.{Event, Now};
-ghost use Rattle.law_refine.specs.Events.GhostEvents.{home_in};
-ghost use Rattle.law_opening.specs.Log.Begins.{Begins};
-ghost use Rattle.law_refine.specs.Heads.Heads.{LeadToHeads};
-ghost use Rattle.law_paper.specs.Paper.Old.{LosesTheRest};
-ghost use Rattle.law_opening.specs.Log.Lives.{IsBeside, IsOrdered, KeepsRules};
-ghost use Rattle.law_opening.specs.Log.Maps.{opening_map};
-ghost use Rattle.law_opening.specs.Log.OpeningLog.{opening_ghosts, opening_log};
-ghost use Rattle.law_opening.specs.Log.Records.{HasWhatCounts, map_of};
+ghost use Rattle.law_opening.specs.Log.Laws as logs;
 
 use crate::lives::{law_guard_opens, law_index_opens};
 use fkv_pairs::law_chain_of_entry;
@@ -28,7 +10,7 @@ use law_refine::{law_ghost_fixed, law_ghost_reserved, law_ghost_trace, law_ghost
 /// The log of an opened store has the records of its image that count, each at its address, with its key, its value and the address that it leads
 /// to, and no others. They are in the version of the store's commit, and each stands in the chain of its key's home.
 pub fn law_log_counted()
-    ensures { (image : List ℕ) (o : Opened) (store : IsStoreOf image o) → HasWhatCounts (log_of_store image o store) (opening_log image o) }
+    ensures { logs.HasTheRecordsThatCount }
 {
     law_spellings_apart();
     law_chain_of_entry();
@@ -38,9 +20,9 @@ pub fn law_log_counted()
 /// fall; all are fixed and in the version of the store's commit, none is reserved, and each key shows the value that it has in the store. So the laws
 /// of such a log hold after all events that keep to their rules, from the map of these values, which is that of the store's pairs.
 pub fn law_log_opened()
-    ensures values { (image : List ℕ) (o : Opened) (store : IsStoreOf image o) (key : Key) (value : Value) → (shown (home_in o.shape.bucket_bits) (opening_log image o) key.0 ≡ Some value.0) ↔ HasValue (log_of_store image o store) key value }
-    ensures opened { (image : List ℕ) (o : Opened) → IsStoreOf image o → IsOpened (home_in o.shape.bucket_bits) (opening_map image o) o.number.0 (opening_ghosts image o) }
-    ensures pairs { (image : List ℕ) (o : Opened) (store : IsStoreOf image o) (pairs : List (Key × Value)) → ArePairs (log_of_store image o store) pairs → map_of pairs ≡ opening_map image o }
+    ensures values { logs.ShowsTheStoresValues }
+    ensures opened { logs.BeginsTheOrderLaw }
+    ensures pairs { logs.BeginsFromItsPairs }
 {
     law_spellings_apart();
     law_chain_of_entry();
@@ -49,7 +31,7 @@ pub fn law_log_opened()
 /// And it is one with which the life of the store's world begins: what is below the safe read-only offset is fixed, nothing is told, has taken effect or
 /// is reserved, and no address from the tail up has a record.
 pub fn law_log_begins()
-    ensures { (image : List ℕ) (o : Opened) (n : Now) → IsStoreOf image o → IsOpeningWorld o n → Begins n (opening_ghosts image o) }
+    ensures { logs.BeginsItsLife }
 {
     law_spellings_apart();
     law_chain_of_entry();
@@ -58,7 +40,7 @@ pub fn law_log_begins()
 /// The index of the store's world has the entries of its chains: that of each home leads to where its chain begins, and a home whose chain is empty has
 /// none.
 pub fn law_log_heads()
-    ensures { (image : List ℕ) (o : Opened) (n : Now) → IsStoreOf image o → IsOpeningWorld o n → LeadToHeads n (opening_lists o.entries.items) (opening_log image o) }
+    ensures { logs.IndexLeadsToItsHeads }
 {
     law_spellings_apart();
     law_chain_of_entry();
@@ -68,7 +50,7 @@ pub fn law_log_heads()
 /// Of the valid records that the scan met, the lost ranges in the store's hand lose just those that the log doesn't have: each of them is lost or in the
 /// log, and none is both. The slot of a log commit has to name these ranges.
 pub fn law_lost_is_the_rest()
-    ensures { (image : List ℕ) (o : Opened) (store : IsStoreOf image o) → LosesTheRest o.lost.items (log_of_store image o store) (opening_log image o) }
+    ensures { logs.LostIsTheRest }
 {
     law_spellings_apart();
     law_chain_of_entry();
@@ -77,8 +59,8 @@ pub fn law_lost_is_the_rest()
 /// So beside each life of a store's world there is such a log, from this one on: the laws of the log beside a life hold of it with no premise. And where
 /// each of its events keeps to its rule, the order law holds of it: its history is legal from the store's map, and so on.
 pub fn law_log_beside()
-    ensures beside { (bytes : List ℕ) (o : Opened) (n : Now) (events : List Event) → IsStoreOf bytes o → IsOpeningWorld o n → IsBeside o n bytes events }
-    ensures ordered { (bytes : List ℕ) (o : Opened) (n : Now) (events : List Event) → IsStoreOf bytes o → IsOpeningWorld o n → KeepsRules o n bytes events → IsOrdered o n bytes events }
+    ensures beside { logs.LivesHaveTheirLog }
+    ensures ordered { logs.KeptLogsAreOrdered }
 {
     law_log_begins();
     law_log_opened();

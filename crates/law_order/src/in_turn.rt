@@ -1,12 +1,5 @@
 //! Of each life of a store that was opened: its commits' phases and numbers are in turn, so one commit always stands.
-ghost use Rattle.std.specs.Prelude.{ℕ, List};
-ghost use Rattle.fkv_core.specs.Openings.{beginning};
-ghost use Rattle.fkv_disk.specs.Device.{LeavesOnly};
-ghost use Rattle.fkv_opening.specs.declared.opened_store.Opened.{Opened};
-ghost use Rattle.fkv_world.specs.World.{Now};
-ghost use Rattle.law_opening.specs.Lives.OpenedFrom.{IsOpenedFrom};
-ghost use Rattle.law_opening.specs.Lives.Steps.{AllLeadOn, OneCommitStands, Step, device_behind, events_of, now_behind};
-ghost use Rattle.law_order.specs.InTurn.Laws.{HasFloorInItsLife, KeepsItsViewsNear, NumbersItsCommitsInTurn, OpensItsStoreAtRest, TellsOfItsLife};
+ghost use Rattle.law_order.specs.InTurn.Laws as commits;
 
 use crate::rest::law_rest_said;
 use crate::rules::law_life_begins;
@@ -18,9 +11,9 @@ use law_opening::{law_opened_commit_stands, law_told_opens};
 /// `law_commit` hold of each of its lives: versions never fall, and each commit that begins has the number behind the newest finished one's. So
 /// `law_world_one_commit_stands` speaks of each of its lives, with commits, crashes and failing calls of the device, whatever their order.
 pub fn law_phases_open()
-    ensures rests { OpensItsStoreAtRest }
-    ensures in_turn { NumbersItsCommitsInTurn }
-    ensures told { TellsOfItsLife }
+    ensures rests { commits.OpensItsStoreAtRest }
+    ensures in_turn { commits.NumbersItsCommitsInTurn }
+    ensures told { commits.TellsOfItsLife }
 {
     law_rest_said();
     law_life_begins();
@@ -32,8 +25,8 @@ pub fn law_phases_open()
 /// has seen of the phases stays near the phase word. From in-progress on it has seen a tail at or above the first address of the commit in hand. As the
 /// commit is written it has seen one at or above its end. So no two live sessions go by phases that exclude each other.
 pub fn law_floor_opens()
-    ensures floor { HasFloorInItsLife }
-    ensures near { KeepsItsViewsNear }
+    ensures floor { commits.HasFloorInItsLife }
+    ensures near { commits.KeepsItsViewsNear }
 {
     law_life_begins();
     law_floor_stands();
@@ -42,9 +35,7 @@ pub fn law_floor_opens()
 /// And behind any steps of an opened store's world one commit stands in each image that a crash leaves of the device: the newest finished one, or, while
 /// the next one is written, that one; with the triples of the checkpoint that the newest finished commit uses.
 pub fn law_commit_always_stands<D: Device>(device: &D)
-    ensures { (o : Opened) (n : Now) (steps : List (Step D)) (image : List ℕ) → IsOpenedFrom (D.seen device.now) o n → LeavesOnly (D.seen device.now) (D.may_leave device.now)
-        → AllLeadOn D.seen D.may_leave n device.now steps → D.may_leave (device_behind device.now steps) image
-        → OneCommitStands (beginning n (D.seen device.now)) (events_of steps) (now_behind n steps) image }
+    ensures { commits.OneCommitAlwaysStands D.seen D.may_leave device.now }
 {
     law_phases_open();
     law_opened_commit_stands(device);

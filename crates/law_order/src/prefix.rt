@@ -1,18 +1,7 @@
 //! The law of prefixes: what follows of its parts. The law itself is `PrefixLaw`, of which not all is proved yet.
-ghost use Rattle.std.specs.Prelude.{◌≡◌, ℕ, List};
-ghost use Rattle.fkv_map.specs.History.{content, kept};
-ghost use Rattle.fkv_map.specs.Map.{Map};
-ghost use Rattle.fkv_newest.specs.declared.newest_slots.Newest.{Newest};
-ghost use Rattle.fkv_opening.specs.Opened.{IsStoreOf};
-ghost use Rattle.fkv_opening.specs.declared.opened_store.Opened.{Opened};
-ghost use Rattle.law_log.specs.Ghosts.{Ghosts};
-ghost use Rattle.law_log.specs.Trace.{history_of};
-ghost use Rattle.law_opening.specs.Log.Maps.{opening_map};
 ghost use Rattle.law_order.specs.OneHistory.EachLife.{InEachLife};
 ghost use Rattle.law_order.specs.Prefix.Law.{LivesFollow, RecoversPrefix, TellsFinished};
-ghost use Rattle.law_order.specs.Prefix.Stores.{KeepsLegally, OfEachCommit, ReplaysKept};
-ghost use Rattle.law_paper.specs.Kept.{KeepsPrefix};
-ghost use Rattle.law_paper.specs.Paper.Named.{IsOfCommit};
+ghost use Rattle.law_order.specs.Prefix.Stores.{JoinsValuesAndPoints, KeepsLegally, OfEachCommit, ReplaysKept};
 
 use law_commit::law_begun;
 use law_opening::{law_guard_opens, law_log_begins, law_log_beside, law_log_opened};
@@ -36,8 +25,7 @@ pub fn law_lives()
 /// commit's. Its points keep just what the log has of these. `law_paper` shows the one of each image with a commit in force, and the other of each commit's
 /// points.
 pub fn law_join()
-    ensures { (home : ℕ → ℕ) (image : List ℕ) (n : Newest) (r : Opened) (store : IsStoreOf image r) (m : Map) (g : Ghosts) → IsOfCommit home image n g.log r store
-        → KeepsPrefix home m r.points.items n.slot.number g → opening_map image r ≡ content m (kept (history_of g.log.history) r.points.items) }
+    ensures { JoinsValuesAndPoints }
 {
     law_log_opened();
 }

@@ -1,9 +1,9 @@
 //! What stays at rest in a life of an opened store in which no commit begins.
-ghost use Rattle.law_order.specs.Rest.Laws.{ChangesBelowNone, HasCellsOfOneSince, HasEffectsOfOne, HasNoLaterCell, HasNoLaterCellBehind, KeepsItsPhaseWord, NoneAboveAtRest, NoneCopiesAtRest, PublishesBelowNone, ReservesOfOne, SaysRestInIts, StaysAtRest};
+ghost use Rattle.law_order.specs.Rest.Laws as rest;
 
 /// The word that has the number of rest above a version says rest in that version.
 pub fn law_rest_said()
-    ensures { SaysRestInIts }
+    ensures { rest.SaysRestInIts }
 {}
 
 /// In every life that begins as the guard supposes, of a store whose phase word says rest in a version which each session has seen, and in which no
@@ -13,9 +13,9 @@ pub fn law_rest_said()
 /// shares no latch; no try takes or drops a latch; what it appends is of the version; and who refreshes or wakes takes up no other version, takes no
 /// latch, and stores no cut word. Each effect of the life's history is of the version.
 pub fn law_life_rests()
-    ensures word { KeepsItsPhaseWord }
-    ensures rests { StaysAtRest }
-    ensures effects { HasEffectsOfOne }
+    ensures word { rest.KeepsItsPhaseWord }
+    ensures rests { rest.StaysAtRest }
+    ensures effects { rest.HasEffectsOfOne }
 {}
 
 /// In such a life each address of the log beside it is taken for a record of the version. So at every moment, also between the events of the log that one
@@ -23,12 +23,12 @@ pub fn law_life_rests()
 /// is of it or an earlier one; those that came to stand there in the life are just of it. Nobody makes a record of a later version of another one, and no
 /// record of a later version stands in a chain: so it is for a record that is published, and for one of the version that is changed in place.
 pub fn law_log_rests()
-    ensures reserves { ReservesOfOne }
-    ensures cells { HasNoLaterCell }
-    ensures since { HasCellsOfOneSince }
-    ensures life { HasNoLaterCellBehind }
-    ensures no_copies { NoneCopiesAtRest }
-    ensures none_above { NoneAboveAtRest }
-    ensures publishes { PublishesBelowNone }
-    ensures changes { ChangesBelowNone }
+    ensures reserves { rest.ReservesOfOne }
+    ensures cells { rest.HasNoLaterCell }
+    ensures since { rest.HasCellsOfOneSince }
+    ensures life { rest.HasNoLaterCellBehind }
+    ensures no_copies { rest.NoneCopiesAtRest }
+    ensures none_above { rest.NoneAboveAtRest }
+    ensures publishes { rest.PublishesBelowNone }
+    ensures changes { rest.ChangesBelowNone }
 {}

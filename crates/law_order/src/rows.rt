@@ -1,23 +1,23 @@
 //! How what requests and attempts know goes on. These functions do nothing: what they promise holds of every life.
-ghost use Rattle.law_order.specs.Rows.Laws.{GoesOnToKnow, HasOlderFixed, KeepsWhatAttemptsKnow, KeepsWhatWaitsKnow, SeekWhatIsAsked};
+ghost use Rattle.law_order.specs.Rows.Laws as rows;
 
 /// Whatever calls a session begins and whatever its asks are replied: each of its reads that has put an address into the mailbox and waits there seeks a record of the
 /// device; and so it is with what it attempts. While an attempt puts an address there, its request seeks a record.
 pub fn law_requests_asked()
-    ensures { SeekWhatIsAsked }
+    ensures { rows.SeekWhatIsAsked }
 {}
 
 /// In every life without commits all records of versions older than the life's are fixed, at each moment, also between the events of the log that one event of the life is.
 /// So what a request that waits knows of the log stays along those of the next event, whatever happens by it, and so does what an attempt knows whose request is of the life's
 /// version, as long as each event of the log was enabled.
 pub fn law_rows_at_rest()
-    ensures older { HasOlderFixed }
-    ensures waits { KeepsWhatWaitsKnow }
-    ensures attempts { KeepsWhatAttemptsKnow }
+    ensures older { rows.HasOlderFixed }
+    ensures waits { rows.KeepsWhatWaitsKnow }
+    ensures attempts { rows.KeepsWhatAttemptsKnow }
 {}
 
 /// In every life without commits what sessions know of the log goes on by each event: where all events of the log until then, and those of the event too, were enabled, and each
 /// session knew what it has to at each moment and was told truly before the event, each knows it behind the event.
 pub fn law_rows_go_on()
-    ensures { GoesOnToKnow }
+    ensures { rows.GoesOnToKnow }
 {}

@@ -1,6 +1,7 @@
 pub mod Appends
 pub mod Effects
 pub mod GhostEvents
+pub mod Laws
 pub mod Lines
 pub mod Names
 pub mod Published

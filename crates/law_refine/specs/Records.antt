@@ -2,3 +2,4 @@ pub mod Cells
 pub mod Changes
 pub mod Frames
 pub mod Headers
+pub mod Laws

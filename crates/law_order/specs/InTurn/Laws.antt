@@ -35,3 +35,10 @@ HasFloorInItsLife =
 abbrev pub KeepsItsViewsNear : Type 0
 KeepsItsViewsNear =
     (bytes : List ℕ) (o : Opened) (n : Now) (events : List Event) → IsStoreOf bytes o → IsOpeningWorld o n → LiveViewsAreNear (beginning n bytes) events
+
+-- behind any steps of its world one commit stands in each image that a crash leaves of the device
+abbrev pub OneCommitAlwaysStands : {D : Type 0} → (D → List ℕ) → (D → List ℕ → Type 0) → D → Type 0
+OneCommitAlwaysStands {D} seen may_leave device =
+    (o : Opened) (n : Now) (steps : List (Step D)) (image : List ℕ) → IsOpenedFrom (seen device) o n → LeavesOnly (seen device) (may_leave device)
+    → AllLeadOn seen may_leave n device steps → may_leave (device_behind device steps) image
+    → OneCommitStands (beginning n (seen device)) (events_of steps) (now_behind n steps) image

@@ -7,7 +7,7 @@ use Rattle.law_local.specs.Tries.AttemptRows.{AttemptKnows, PendingKnows}
 use Rattle.fkv_world.specs.Runs.{World, run}
 use Rattle.fkv_world.specs.World.{Event, Now}
 use Rattle.law_refine.specs.Events.GhostEvents.{life_ghosts}
-use Rattle.law_order.specs.Known.Begins.{home_of_world}
+use Rattle.law_order.specs.Known.Begins.{BegunLife, home_of_world}
 
 -- what a session knows: each request that waits, by what the session has seen, and the attempt that is under way
 abbrev pub SessionKnows : (ℕ → ℕ) → Log → SessionState → Type 0
@@ -25,3 +25,8 @@ AllKnowBehind opening ghosts events = AllKnow (home_of_world opening) (life_ghos
 unfoldable pub AreKnown : World → Ghosts → List Event → Type 0
 AreKnown opening ghosts [] = AllKnowBehind opening ghosts []
 AreKnown opening ghosts (event ∷ before) = AreKnown opening ghosts before × AllKnowBehind opening ghosts (event ∷ before)
+
+-- as a life begins
+abbrev pub AreKnownAtFirst : Type 0
+AreKnownAtFirst =
+    (life : BegunLife) → AreKnown life.opening life.ghosts []

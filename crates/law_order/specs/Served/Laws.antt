@@ -1,7 +1,10 @@
--- What the laws of `served` say.
-use Rattle.std.specs.Prelude.{List}
+-- What the laws of `served` and `fits` say.
+use Rattle.std.specs.Prelude.{ℕ, List}
 use Rattle.law_log.specs.Enabled.{AreEnabled}
+use Rattle.fkv_opening.specs.Opened.{IsStoreOf}
+use Rattle.fkv_opening.specs.declared.opened_store.Opened.{Opened}
 use Rattle.fkv_world.specs.World.{Event}
+use Rattle.law_opening.specs.Log.OpeningLog.{opening_ghosts}
 use Rattle.law_order.specs.Known.Begins.{BegunLife, home_of_world}
 use Rattle.law_refine.specs.Events.GhostEvents.{life_ghosts, mapped}
 use Rattle.law_refine.specs.Records.Changes.{AreChangesPublished}
@@ -20,3 +23,8 @@ abbrev pub KeepsFitting : Type 0
 KeepsFitting =
     (life : BegunLife) (events : List Event)
     → CellsFit life.ghosts.log → CallsFit events → AreEnabled (home_of_world life.opening) life.ghosts (mapped life.opening events) → CellsFit (life_ghosts life.opening life.ghosts events).log
+
+-- and the log with which an opened store's life begins has such numbers
+abbrev pub OpensWithFittingCells : Type 0
+OpensWithFittingCells =
+    (bytes : List ℕ) (o : Opened) → IsStoreOf bytes o → CellsFit (opening_ghosts bytes o).log

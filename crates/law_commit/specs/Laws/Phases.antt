@@ -1,0 +1,56 @@
+-- What the laws of `phases` say.
+use Rattle.std.specs.Prelude.{◌≡◌, ◌<◌, ◌≤◌, ℕ, List, [], Some, true}
+use Rattle.fkv_epoch.specs.EpochWorld.{safe_of}
+use Rattle.fkv_session.specs.Sessions.{SessionState}
+use Rattle.fkv_world.specs.Opened.{HasBecome, IsOpenedWorld}
+use Rattle.fkv_world.specs.Runs.{World, run}
+use Rattle.fkv_world.specs.World.{Event}
+use Rattle.law_guard.specs.Guarded.Shows.{IsOpened, seen_by_guard}
+use Rattle.law_commit.specs.Phases.Projected.{ShowsSessions, sessions_opened}
+use Rattle.law_commit.specs.PhaseVersions.{HasRisingPhase, RestsAreNext}
+use Rattle.law_commit.specs.Phases.Staged.{HasStage, OpensAtRest}
+use Rattle.law_commit.specs.Phases.Stamped.{SessionStamped, is_live}
+use Rattle.law_commit.specs.Views.{View, sight_of}
+
+-- the stamps of a session's views are the guard's loads of the phase
+abbrev pub StampsAreLoads : Type 0
+StampsAreLoads =
+    (opening : World) (start : ℕ) (events : List Event) (session : ℕ) (first its : SessionState) → IsOpened opening.now start → HasBecome opening events session first its
+    → SessionStamped (sight_of opening events session) ((seen_by_guard opening start events).past.loads session) ((seen_by_guard opening start events).past.in_force session) its
+
+-- the view by which a live session goes was loaded after each safe epoch was raised
+abbrev pub ViewsAreAboveSafe : Type 0
+ViewsAreAboveSafe =
+    (opening : World) (start : ℕ) (events : List Event) (session : ℕ) (first its : SessionState) (epoch : ℕ) → IsOpened opening.now start → HasBecome opening events session first its
+    → is_live its ≡ true → epoch ≤ safe_of (run opening events).now.words → epoch < (sight_of opening events session).view.stamp
+
+-- and so was the one that is coming
+abbrev pub ComingIsAboveSafe : Type 0
+ComingIsAboveSafe =
+    (opening : World) (start : ℕ) (events : List Event) (session : ℕ) (first its : SessionState) (epoch : ℕ) (view : View) → IsOpened opening.now start → HasBecome opening events session first its
+    → (sight_of opening events session).coming ≡ Some view → epoch ≤ safe_of (run opening events).now.words → epoch < view.stamp
+
+-- a session is live where it is awake
+abbrev pub LiveIsAwake : Type 0
+LiveIsAwake =
+    (opening : World) (events : List Event) (session : ℕ) (first its : SessionState) → HasBecome opening events session first its → is_live its ≡ its.is_awake
+
+-- what is on paper shows each session as a life begins
+abbrev pub OpeningShowsSessions : Type 0
+OpeningShowsSessions =
+    (opening : World) → ShowsSessions (sessions_opened opening.now) opening []
+
+-- commits go through their stages one behind the other
+abbrev pub CommitsGoByStages : Type 0
+CommitsGoByStages =
+    (opening : World) (start : ℕ) (events : List Event) → IsOpened opening.now start → IsOpenedWorld opening → OpensAtRest opening.now → HasStage (run opening events).now
+
+-- the version of the phase word never falls
+abbrev pub PhaseVersionNeverFalls : Type 0
+PhaseVersionNeverFalls =
+    (opening : World) (start : ℕ) (events : List Event) → IsOpened opening.now start → IsOpenedWorld opening → OpensAtRest opening.now → HasRisingPhase opening events
+
+-- and the word says rest only of the version behind the newest finished commit's number
+abbrev pub RestIsOfTheNextVersion : Type 0
+RestIsOfTheNextVersion =
+    (opening : World) (start : ℕ) (events : List Event) → IsOpened opening.now start → IsOpenedWorld opening → OpensAtRest opening.now → RestsAreNext opening events

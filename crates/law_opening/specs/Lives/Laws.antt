@@ -1,0 +1,84 @@
+-- What the laws of `lives` say.
+use Rattle.std.specs.Prelude.{ℕ, List, [], length, Bool}
+use Rattle.fkv_creating.specs.Long.{IsLong}
+use Rattle.fkv_disk.specs.Device.{IsAfter, LeavesOnly}
+use Rattle.fkv_filling.specs.OpeningIndex.{IsOpeningIndex, opening_lists}
+use Rattle.fkv_newest.specs.Newest.{IsNewestOf}
+use Rattle.fkv_newest.specs.declared.newest_slots.Newest.{Newest}
+use Rattle.fkv_opening.specs.Opened.{IsStoreOf}
+use Rattle.fkv_opening.specs.declared.opened_store.Opened.{Opened}
+use Rattle.law_world.specs.Standing.Opening.{AreNumbersInTurn, IsBehind, IsToldBy}
+use Rattle.law_world.specs.Keeper.Lives.{IsLifeTold}
+use Rattle.fkv_world.specs.Opened.{IsOpenedWorld}
+use Rattle.fkv_world.specs.OwnEvents.{keeper_events}
+use Rattle.fkv_world.specs.World.{Event, Now}
+use Rattle.fkv_core.specs.Openings.{IsOpeningWorld, beginning, newest_commit}
+use Rattle.law_guard.specs.Guarded.OpenedStore.{IsOpenedStore}
+use Rattle.law_parts.specs.Index.Shows as index
+use Rattle.law_parts.specs.Latches.Shows as latch
+use Rattle.law_opening.specs.Lives.Made.{AllMade}
+use Rattle.law_opening.specs.Lives.OpenedFrom.{IsOpenedFrom}
+use Rattle.law_opening.specs.Lives.Steps.{AllLeadOn, AllLedOn, AreStepsOfOpened, OneCommitStands, Step, device_behind, events_of, now_behind}
+
+-- the world of an opened store is one with which the guard begins
+abbrev pub GuardOpens : Type 0
+GuardOpens =
+    (o : Opened) (n : Now) (bytes : List ℕ) → IsOpeningWorld o n → IsOpenedStore (beginning n bytes) o.tail.0
+
+-- and one with which the latches begin
+abbrev pub LatchesOpen : Type 0
+LatchesOpen =
+    (o : Opened) (n : Now) → IsOpeningWorld o n → latch.IsOpened n
+
+-- and one with which the index begins
+abbrev pub IndexOpens : Type 0
+IndexOpens =
+    (o : Opened) (n : Now) (bytes : List ℕ) → IsOpeningWorld o n → index.IsOpened (beginning n bytes) (opening_lists o.entries.items)
+
+-- whose words have the store's entries
+abbrev pub IndexHasItsEntries : Type 0
+IndexHasItsEntries =
+    (o : Opened) (n : Now) → IsOpeningWorld o n → IsOpeningIndex n.places o.entries.items n.words
+
+-- a life begins with the world of an opened store
+abbrev pub WorldBeginsALife : Type 0
+WorldBeginsALife =
+    (o : Opened) (n : Now) (bytes : List ℕ) → IsOpeningWorld o n → IsOpenedWorld (beginning n bytes)
+
+-- and with a device of which a crash leaves just what is read
+abbrev pub DeviceBeginsALife : {D : Type 0} → (D → List ℕ) → (D → List ℕ → Type 0) → D → Type 0
+DeviceBeginsALife {D} seen may_leave device =
+    LeavesOnly (seen device) (may_leave device) → IsAfter (seen device) [] (seen device) (may_leave device)
+
+-- the steps that calls make of an honest device lead each life on
+abbrev pub MadeStepsLeadOn : {D : Type 0} → (D → Type 0) → (D → List ℕ) → (D → List ℕ → Type 0) → (D → ℕ) → (D → ℕ → Bool) → D → Type 0
+MadeStepsLeadOn {D} honest seen may_leave failed refuses device =
+    (n : Now) (steps : List (Step D)) → honest device → AllMade honest seen may_leave failed refuses n device steps → AllLeadOn seen may_leave n device steps
+
+-- steps that lead each life on are events of the life that begins here
+abbrev pub StepsAreOfTheLife : {D : Type 0} → (D → List ℕ) → (D → List ℕ → Type 0) → D → Type 0
+StepsAreOfTheLife {D} seen may_leave device =
+    (n : Now) (steps : List (Step D)) → IsOpenedWorld (beginning n (seen device)) → LeavesOnly (seen device) (may_leave device)
+    → AllLeadOn seen may_leave n device steps → AllLedOn seen may_leave (beginning n (seen device)) steps
+
+-- the keeper of an opened store is told the truth of its bytes
+abbrev pub KeeperIsToldTheBytes : Type 0
+KeeperIsToldTheBytes =
+    (bytes : List ℕ) (o : Opened) (n : Now) → IsOpenedFrom bytes o n → IsToldBy n.shape n.places bytes n.keeper
+
+-- bytes as long as their newest slot asks end behind its checkpoint
+abbrev pub LongBytesEndBehind : Type 0
+LongBytesEndBehind =
+    (bytes : List ℕ) (n : Newest) (o : Opened) → IsNewestOf bytes n → IsLong bytes n.shape n.slot → IsStoreOf bytes o → IsBehind o.shape (newest_commit o).checkpoint (length bytes)
+
+-- the keeper is told the truth in each life whose commits have numbers in turn
+abbrev pub KeeperIsToldItsLife : Type 0
+KeeperIsToldItsLife =
+    (bytes : List ℕ) (o : Opened) (n : Now) (events : List Event) → IsOpenedFrom bytes o n
+    → AreNumbersInTurn n.shape n.places n.keeper (keeper_events (beginning n bytes) events) → IsLifeTold (beginning n bytes) events
+
+-- behind such steps one commit stands in each image that a crash leaves
+abbrev pub OneCommitStandsBehindSteps : {D : Type 0} → (D → List ℕ) → (D → List ℕ → Type 0) → D → Type 0
+OneCommitStandsBehindSteps {D} seen may_leave device =
+    (o : Opened) (n : Now) (steps : List (Step D)) (image : List ℕ) → AreStepsOfOpened seen may_leave o n device steps → may_leave (device_behind device steps) image
+    → OneCommitStands (beginning n (seen device)) (events_of steps) (now_behind n steps) image

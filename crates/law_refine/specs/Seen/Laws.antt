@@ -1,0 +1,38 @@
+-- What the laws of `seen` say.
+use Rattle.std.specs.Prelude.{◌≡◌, ◌≤◌, ◌∷◌, ℕ, List, Some, false, slice_get, true}
+use Rattle.law_guard.specs.Sessions.Followed.{is_turning}
+use Rattle.law_log.specs.Ghosts.{Ghosts}
+use Rattle.fkv_session.specs.Sessions.{SessionState, is_busy, session_ask}
+use Rattle.law_local.specs.Tries.TryRows.{head_in}
+use Rattle.fkv_world.specs.Moves.{session_moved, session_replied}
+use Rattle.fkv_world.specs.Runs.{World, run}
+use Rattle.fkv_world.specs.World.{Event, near, seat_at}
+use Rattle.law_guard.specs.Guarded.Shows.{IsOpened}
+use Rattle.law_refine.specs.Events.GhostEvents.{life_ghosts, safe_at}
+use Rattle.law_refine.specs.Seen.Ops.{HasPlainOp}
+
+-- what lies below the head that a session has seen is fixed
+abbrev pub BelowSeenIsFixed : Type 0
+BelowSeenIsFixed =
+    (opening : World) (start : ℕ) (ghosts : Ghosts) (events : List Event) (session : ℕ) (s : SessionState) → IsOpened opening.now start → ghosts.log.fixed ≡ safe_at opening.now
+    → slice_get (run opening events).now.sessions session ≡ Some s → head_in s.seen ≤ (life_ghosts opening ghosts events).log.fixed
+
+-- and that head never falls
+abbrev pub SeenNeverFalls : Type 0
+SeenNeverFalls =
+    (opening : World) (start : ℕ) (before : List Event) (event : Event) (session : ℕ) (s after : SessionState) → IsOpened opening.now start
+    → slice_get (run opening before).now.sessions session ≡ Some s → slice_get (run opening (event ∷ before)).now.sessions session ≡ Some after → head_in s.seen ≤ head_in after.seen
+
+-- the operation that a call has in hand brings a number that stands for a value
+abbrev pub CallsHavePlainOps : Type 0
+CallsHavePlainOps =
+    (opening : World) (start : ℕ) (events : List Event) (session : ℕ) (s : SessionState) → IsOpened opening.now start
+    → slice_get (run opening events).now.sessions session ≡ Some s → HasPlainOp s
+
+-- a session with a call in hand moves by one ask of a word alone
+abbrev pub CallsMoveByOneAsk : Type 0
+CallsMoveByOneAsk =
+    (opening : World) (start : ℕ) (events : List Event) (session : ℕ) (s : SessionState) → IsOpened opening.now start
+    → slice_get (run opening events).now.sessions session ≡ Some s → is_busy s.step ≡ true → is_turning s.step ≡ false
+    → session_moved (seat_at (run opening events).now session) (near (run opening events).now s)
+    ≡ session_replied (seat_at (run opening events).now session) (near (run opening events).now s) (session_ask (seat_at (run opening events).now session) s)
