@@ -10,6 +10,7 @@ pub mod OfCopied
 pub mod OfCuts
 pub mod OfLinked
 pub mod OfPhases
+pub mod OfVersions
 mod OwnTurnStores
 mod PhaseStores
 mod Pieces
