@@ -36,3 +36,4 @@ mod TurnLed
 mod Turned
 pub mod WordsWithin
 pub mod WorldKept
+pub mod WritesOpen

@@ -36,3 +36,4 @@ mod WalksOuter
 mod WalksSeen
 pub mod WordsWithin
 pub mod WorldSteps
+pub mod WritesOpen

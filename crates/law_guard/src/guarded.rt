@@ -24,7 +24,7 @@ ghost use Rattle.fkv_world.specs.World.{Event, KeeperMoves, Moves, seat_at};
 ghost use Rattle.fkv_world.specs.Runs.{World, read_by_keeper, run};
 ghost use Rattle.law_guard.specs.Guarded.EndsAlone.{AreKeeperMoves, most_keeper_asks, most_session_asks};
 ghost use Rattle.law_guard.specs.Guarded.GuardEvents.{guard_events, mapped};
-ghost use Rattle.law_guard.specs.Guarded.KeptGuarded.{ChangesOpenPlaces, FindTheirSlots, OpensNextPage};
+ghost use Rattle.law_guard.specs.Guarded.KeptGuarded.{ChangesOpenPlaces, FindTheirSlots, OpensNextPage, WritesOpenPlaces};
 ghost use Rattle.law_guard.specs.Guarded.LoadedSince.{HaveLoadedSince};
 ghost use Rattle.law_guard.specs.Guarded.OpenedStore.{IsOpenedStore};
 ghost use Rattle.law_guard.specs.Guarded.Shows.{AreBelowTail, ArePermitted, IsPermitted, IsOpened, Shows, guard_opening, seen_by_guard};
@@ -35,15 +35,18 @@ use law_world::law_of_ends;
 
 /// Over every life of the engine that begins as a store was opened, whatever its calls, commits, turns and the order of its steps:
 /// what the guard has of the life shows the engine's world, with an actor for each session and one for the keeper. So a word of a
-/// frame that an event changes, where the event is permitted, is one of an open address at or above the safe read-only offset and
-/// below the tail; an event that raises the limit opens the next page, and finds all flushed that its frame held, and each
-/// protected session that isn't in the middle of protecting itself with a head at or above that. At every moment the offsets are
-/// in order, the frames hold all that may still be needed, and the limit is the end of whole pages that the device has; and no
-/// offset ever falls.
+/// frame that an event's machine asks to write, where the event is permitted, is one of an open address at or above the safe
+/// read-only offset and below the tail. A store of the word that stands there counts, and so does a Cas that is lost. Each word of a
+/// frame that changes is such a word too. An event that raises the limit opens the next page, and finds all flushed that its frame
+/// held, and each protected session that isn't in the middle of protecting itself with a head at or above that. At every moment the
+/// offsets are in order, the frames hold all that may still be needed, and the limit is the end of whole pages that the device has;
+/// and no offset ever falls.
 pub fn law_world_is_guarded()
     ensures shows { (opening : World) (start : ℕ) (events : List Event) → IsOpened opening.now start
         → Shows (run opening events).now (seen_by_guard opening start events) }
     ensures writes { (opening : World) (start : ℕ) (events : List Event) (event : Event) → IsOpened opening.now start → IsPermitted (run opening events).now event
+        → WritesOpenPlaces (run opening events).now event (seen_by_guard opening start events) }
+    ensures changes { (opening : World) (start : ℕ) (events : List Event) (event : Event) → IsOpened opening.now start → IsPermitted (run opening events).now event
         → ChangesOpenPlaces (run opening events).now (run opening (event ∷ events)).now (seen_by_guard opening start events) }
     ensures limit { (opening : World) (start : ℕ) (events : List Event) (event : Event) → IsOpened opening.now start
         → OpensNextPage (run opening events).now (run opening (event ∷ events)).now (seen_by_guard opening start events) }

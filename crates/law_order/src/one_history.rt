@@ -11,7 +11,7 @@ use crate::rules::{law_life_begins, law_order_of_rules};
 /// wake, stall in the middle of calls, meet the disk and fill overflow buckets. Calls of the device fail, any actor moves at any step, and a crash comes
 /// anywhere. The history orders the calls. Each update whose result was given took effect once, with that reply, and none took effect but those that were
 /// called. One whose result was given before another was called took effect before it. Each read is answered by its key's value at some moment between its
-/// call and its answer. No step changes a flushed record or a frame that an epoch protects. The calls are of numbers below 2^64, and fewer than 2^64 - 1 calls
+/// call and its answer. No step asks to write a flushed record or a frame that an epoch protects. The calls are of numbers below 2^64, and fewer than 2^64 - 1 calls
 /// of sessions begin. With commits or without, each action is run once at most. Each protected session then goes by what it loaded since the action's epoch
 /// was raised.
 pub fn law_order()

@@ -1,4 +1,4 @@
--- The wrong lives, by computing them.
+-- The lives whose histories are wrong, by computing them.
 use Rattle.std.proofs.Common.{◌≡◌, inl, ℕ, ◌∙◌, zero, suc, Some, List, [], ◌∷◌, ◌++◌, ◌<◌, refl, sym, ap, subst, arith}
 use Rattle.std.specs.Prelude.{slice_get}
 use Rattle.std.proofs.lemmas.Nat.{and_mask}
@@ -25,7 +25,7 @@ use Rattle.law_refine.specs.Calls.Calls.{effects_in_log}
 use Rattle.law_refine.specs.Events.Lines.{lines_of}
 use Rattle.law_refine.specs.Events.Worked.{adds_5, first_session, first_words, gives_70, gives_8}
 use Rattle.law_wrong_runs.specs.Tables.{add_copies_in_fuzzy_region, in_place_below_seen_read_only, read_gives_opening_state, run_by}
-use Rattle.law_wrong_runs.specs.WrongLives.{AreWrongLives, LeavesFresh, LeavesLegal, fixed_begun, fixed_events, fuzzy_begun, fuzzy_events, gives_1, levels_after, opened_world, read_events}
+use Rattle.law_wrong_runs.specs.WrongLives.{LeavesFresh, LeavesLegal, fixed_begun, fixed_events, fuzzy_begun, fuzzy_events, gives_1, levels_after, opened_world, read_events}
 use Rattle.fkv_session.specs.Sessions as session_u
 use Rattle.fkv_session.specs.CatchingUp as catching_u
 use Rattle.fkv_pending.specs.Attempting as attempting_u
@@ -63,14 +63,14 @@ use Rattle.fkv_world.specs.Runs as runs_u
 use Rattle.fkv_words.specs.PhaseWords as phase_words_u
 use Rattle.fkv_world.specs.Runs.{World, run}
 
-shape : Shape
+unfoldable pub shape : Shape
 unfolding lib.Count.ones
 shape = record { bucket_bits = 0; page = 4; frames = 2; mutable = 1; sessions = 2; overflow = 0; disk_pages = 64; limits = record { few_buckets = omega arith; page_size = refl; ring_size = refl; some_mutable = omega arith; some_read_only = omega arith; some_session = omega arith; few_sessions = omega arith; few_overflow = omega arith; some_disk = omega arith; few_disk = omega arith } }
 
-places : Places
+unfoldable pub places : Places
 places = record { sessions = 2; buckets = 1; overflow = 0; ring = 8; ring_mask = 7; few_sessions = omega arith; few_buckets = omega arith; few_overflow = omega arith; some_ring = omega arith; masks = λ a. and_mask a 3; small_ring = omega arith }
 
-places_fit : ArePlacesOfStore shape places
+pub places_fit : ArePlacesOfStore shape places
 unfolding shape places
 places_fit = record { sessions = refl; buckets = refl; overflow = refl; ring = refl }
 
@@ -83,7 +83,7 @@ each_opened one other zero its found = let same : first_session one ≡ its = cc
 each_opened one other (suc zero) its found = let same : first_session other ≡ its = cc in subst IsOpened same (session_opened other)
 each_opened one other (suc (suc more)) its found = cc
 
-world_opened : (its : KeeperState) (one other : SessionState) → IsOpenedWorld (opened_world shape places its one other)
+pub world_opened : (its : KeeperState) (one other : SessionState) → IsOpenedWorld (opened_world shape places its one other)
 unfolding places shape
 world_opened its one other = record { goes_on = refl; no_history = refl; no_trace = refl; no_calls = refl; seats = refl; keeper = record { none_in_hand = refl; no_commit = refl; works = refl }; sessions = each_opened one other }
 
@@ -113,7 +113,7 @@ slots_free (suc (suc (suc (suc (suc (suc zero)))))) below = refl
 slots_free (suc (suc (suc (suc (suc (suc (suc zero))))))) below = refl
 slots_free (suc (suc (suc (suc (suc (suc (suc (suc more)))))))) below = omega (arith, below)
 
-guard_opened : (its : KeeperState) (one other : SessionState) → (let w : World = opened_world shape places its one other in guard.IsOpened w.now 1)
+pub guard_opened : (its : KeeperState) (one other : SessionState) → (let w : World = opened_world shape places its one other in guard.IsOpened w.now 1)
 unfolding places shape
 guard_opened its one other = record {
   words = record {
@@ -142,11 +142,11 @@ guard_opened its one other = record {
 abbrev levels : ℕ → ℕ → Levels
 levels low read_only = record { closed = 1; head = low; flushed = low; safe_read_only = low; read_only = read_only; tail = 4; limit = 8 }
 
-is_fixed : (its : KeeperState) (one other : SessionState) → levels_after (opened_world shape places its one other) fixed_begun ≡ levels 4 4
+pub is_fixed : (its : KeeperState) (one other : SessionState) → levels_after (opened_world shape places its one other) fixed_begun ≡ levels 4 4
 unfolding places shape session_u.sitting_ask session_u.attempts session_u.polls_at session_u.op_begun session_u.refresh_call session_u.poll_call session_u.sleep_call session_u.wake_call session_u.accepts session_u.shifts session_u.attempt_ledto session_u.catch_ledto session_u.clear_ledto session_u.finishes_request session_u.keeps_request session_u.poll_ledto session_u.turn_ledto session_u.leave_ledto session_u.sitting_next session_u.sitting_given catching_u.catching_ask catching_u.refresh_ledto catching_u.protect_ledto catching_u.latch_ledto catching_u.finish_ledto catching_u.latch_marked catching_u.catching_requests catching_u.catching_next attempting_u.attempting_ask attempting_u.look_ledto attempting_u.try_ledto attempting_u.put_ledto attempting_u.attempting_next pending_u.with_sought pending_u.with_held pending_u.with_latch pending_u.with_asked mailing_u.mail_ask mailing_u.mail_next trying_u.trying_ask trying_u.ends trying_u.shared_ledto trying_u.appends trying_u.copies_from trying_u.copies trying_u.held_used trying_u.walk_ledto trying_u.current_ledto trying_u.answer_ledto trying_u.exclusive_ledto trying_u.old_ledto trying_u.append_ledto trying_u.exclusive_dropped trying_u.shared_dropped trying_u.trying_next walking_u.walking_ask walking_u.find_ledto walking_u.load_ledto walking_u.value_ledto walking_u.walking_next walking_u.walking_on appending_u.appending_ask appending_u.reserve_ledto appending_u.fill_ledto appending_u.publish_ledto appending_u.invalidate_ledto appending_u.appending_next header_words_u.header_said finding_u.find_step_ask finding_u.find_led publishing_u.publish_ask publishing_u.publish_next publishing_u.publish_next_ask slots_u.slot_word reserving_u.reserve_ask reserving_u.reserve_next reserving_u.reserve_next_ask filling_u.fill_ask filling_u.fill_next loading_u.load_ask loading_u.load_next loading_u.load_next_ask loading_u.load_on invalidating_u.invalidate_ask invalidating_u.invalidate_next moving_u.moving_ask moving_u.raise_led moving_u.arm_led moving_u.moving_next moving_u.raise_told moving_u.moving_next_ask shifting_u.shifting_ask shifting_u.shift_led shifting_u.shifting_next shifting_u.move_told shifting_u.shifting_next_ask turning_u.turning_ask turning_u.turn_led turning_u.turning_next turning_u.turn_told turning_u.turning_next_ask refreshing_u.refresh_ask refreshing_u.refresh_next refreshing_u.refresh_finish scanning_u.scan_ask scanning_u.sessions_from scanning_u.least_of scanning_u.scan_next claiming_u.claim_ask claiming_u.slot_after claiming_u.slot_armed claiming_u.claim_next claiming_u.claim_given raising_u.raise_ask raising_u.free_after raising_u.raise_next raising_u.raise_next_ask raising_u.raise_on arming_u.arm_ask arming_u.arm_next passing_u.passed maintaining_u.device_asked maintaining_u.maintaining_ask maintaining_u.scan_ledto maintaining_u.claim_ledto maintaining_u.flush_ledto maintaining_u.shift_ledto maintaining_u.serve_ledto maintaining_u.turn_ledto maintaining_u.maintaining_next maintaining_u.maintaining_given maintaining_u.maintaining_called maintaining_u.maintaining_calls maintaining_u.maintaining_made keeping_u.device_passed keeping_u.keeping_ask keeping_u.start_ledto keeping_u.maintain_ledto keeping_u.phase_ledto keeping_u.keeping_next keeping_u.keeping_given keeping_u.keeping_called keeper_asks_u.keeping_made keeper_asks_u.keeping_calls flushing_u.flush_ask flushing_u.flush_next flushing_u.bytes_next flushing_u.flush_calls flushing_u.flush_done flushing_u.bytes_done flushing_u.count_next flushing_u.count_done serving_u.serve_ask serving_u.mailbox_from serving_u.serve_next serving_u.serve_read serving_u.mail_place world_u.life_goes moves_u.session_settled moves_u.session_asks moves_u.keeper_settled moves_u.keeper_asks past_u.history_after past_u.life_past runs_u.run phase_words_u.phase_said
 is_fixed its one other = refl
 
-is_fuzzy : (its : KeeperState) (one other : SessionState) → levels_after (opened_world shape places its one other) fuzzy_begun ≡ levels 1 4
+pub is_fuzzy : (its : KeeperState) (one other : SessionState) → levels_after (opened_world shape places its one other) fuzzy_begun ≡ levels 1 4
 unfolding places shape session_u.sitting_ask session_u.attempts session_u.polls_at session_u.op_begun session_u.refresh_call session_u.poll_call session_u.sleep_call session_u.wake_call session_u.accepts session_u.shifts session_u.attempt_ledto session_u.catch_ledto session_u.clear_ledto session_u.finishes_request session_u.keeps_request session_u.poll_ledto session_u.turn_ledto session_u.leave_ledto session_u.sitting_next session_u.sitting_given catching_u.catching_ask catching_u.refresh_ledto catching_u.protect_ledto catching_u.latch_ledto catching_u.finish_ledto catching_u.latch_marked catching_u.catching_requests catching_u.catching_next attempting_u.attempting_ask attempting_u.look_ledto attempting_u.try_ledto attempting_u.put_ledto attempting_u.attempting_next pending_u.with_sought pending_u.with_held pending_u.with_latch pending_u.with_asked mailing_u.mail_ask mailing_u.mail_next trying_u.trying_ask trying_u.ends trying_u.shared_ledto trying_u.appends trying_u.copies_from trying_u.copies trying_u.held_used trying_u.walk_ledto trying_u.current_ledto trying_u.answer_ledto trying_u.exclusive_ledto trying_u.old_ledto trying_u.append_ledto trying_u.exclusive_dropped trying_u.shared_dropped trying_u.trying_next walking_u.walking_ask walking_u.find_ledto walking_u.load_ledto walking_u.value_ledto walking_u.walking_next walking_u.walking_on appending_u.appending_ask appending_u.reserve_ledto appending_u.fill_ledto appending_u.publish_ledto appending_u.invalidate_ledto appending_u.appending_next header_words_u.header_said finding_u.find_step_ask finding_u.find_led publishing_u.publish_ask publishing_u.publish_next publishing_u.publish_next_ask slots_u.slot_word reserving_u.reserve_ask reserving_u.reserve_next reserving_u.reserve_next_ask filling_u.fill_ask filling_u.fill_next loading_u.load_ask loading_u.load_next loading_u.load_next_ask loading_u.load_on invalidating_u.invalidate_ask invalidating_u.invalidate_next moving_u.moving_ask moving_u.raise_led moving_u.arm_led moving_u.moving_next moving_u.raise_told moving_u.moving_next_ask shifting_u.shifting_ask shifting_u.shift_led shifting_u.shifting_next shifting_u.move_told shifting_u.shifting_next_ask turning_u.turning_ask turning_u.turn_led turning_u.turning_next turning_u.turn_told turning_u.turning_next_ask refreshing_u.refresh_ask refreshing_u.refresh_next refreshing_u.refresh_finish scanning_u.scan_ask scanning_u.sessions_from scanning_u.least_of scanning_u.scan_next claiming_u.claim_ask claiming_u.slot_after claiming_u.slot_armed claiming_u.claim_next claiming_u.claim_given raising_u.raise_ask raising_u.free_after raising_u.raise_next raising_u.raise_next_ask raising_u.raise_on arming_u.arm_ask arming_u.arm_next passing_u.passed maintaining_u.device_asked maintaining_u.maintaining_ask maintaining_u.scan_ledto maintaining_u.claim_ledto maintaining_u.flush_ledto maintaining_u.shift_ledto maintaining_u.serve_ledto maintaining_u.turn_ledto maintaining_u.maintaining_next maintaining_u.maintaining_given maintaining_u.maintaining_called maintaining_u.maintaining_calls maintaining_u.maintaining_made keeping_u.device_passed keeping_u.keeping_ask keeping_u.start_ledto keeping_u.maintain_ledto keeping_u.phase_ledto keeping_u.keeping_next keeping_u.keeping_given keeping_u.keeping_called keeper_asks_u.keeping_made keeper_asks_u.keeping_calls flushing_u.flush_ask flushing_u.flush_next flushing_u.bytes_next flushing_u.flush_calls flushing_u.flush_done flushing_u.bytes_done flushing_u.count_next flushing_u.count_done serving_u.serve_ask serving_u.mailbox_from serving_u.serve_next serving_u.serve_read serving_u.mail_place world_u.life_goes moves_u.session_settled moves_u.session_asks moves_u.keeper_settled moves_u.keeper_asks past_u.history_after past_u.life_past runs_u.run phase_words_u.phase_said
 is_fuzzy its one other = refl
 
@@ -164,7 +164,7 @@ not_80 : Number (record { 0 = 75 }) ≡ Number (record { 0 = 80 }) → ⊥
 unfolding number_in
 not_80 is = let same : 75 ≡ 80 = ap number_in is in omega (arith, same)
 
-wrong_in_place : (its : KeeperState) (one other : SessionState) → LeavesLegal (run_by in_place_below_seen_read_only (opened_world shape places its one other) fixed_events) → ⊥
+pub wrong_in_place : (its : KeeperState) (one other : SessionState) → LeavesLegal (run_by in_place_below_seen_read_only (opened_world shape places its one other) fixed_events) → ⊥
 unfolding places shape session_u.sitting_ask session_u.attempts session_u.polls_at session_u.op_begun session_u.refresh_call session_u.poll_call session_u.sleep_call session_u.wake_call session_u.accepts session_u.shifts session_u.attempt_ledto session_u.catch_ledto session_u.clear_ledto session_u.finishes_request session_u.keeps_request session_u.poll_ledto session_u.turn_ledto session_u.leave_ledto session_u.sitting_next session_u.sitting_given catching_u.catching_ask catching_u.refresh_ledto catching_u.protect_ledto catching_u.latch_ledto catching_u.finish_ledto catching_u.latch_marked catching_u.catching_requests catching_u.catching_next attempting_u.attempting_ask attempting_u.look_ledto attempting_u.try_ledto attempting_u.put_ledto attempting_u.attempting_next pending_u.with_sought pending_u.with_held pending_u.with_latch pending_u.with_asked mailing_u.mail_ask mailing_u.mail_next trying_u.trying_ask trying_u.ends trying_u.shared_ledto trying_u.appends trying_u.copies_from trying_u.copies trying_u.held_used trying_u.walk_ledto trying_u.current_ledto trying_u.answer_ledto trying_u.exclusive_ledto trying_u.old_ledto trying_u.append_ledto trying_u.exclusive_dropped trying_u.shared_dropped trying_u.trying_next walking_u.walking_ask walking_u.find_ledto walking_u.load_ledto walking_u.value_ledto walking_u.walking_next walking_u.walking_on appending_u.appending_ask appending_u.reserve_ledto appending_u.fill_ledto appending_u.publish_ledto appending_u.invalidate_ledto appending_u.appending_next header_words_u.header_said finding_u.find_step_ask finding_u.find_led publishing_u.publish_ask publishing_u.publish_next publishing_u.publish_next_ask slots_u.slot_word reserving_u.reserve_ask reserving_u.reserve_next reserving_u.reserve_next_ask filling_u.fill_ask filling_u.fill_next loading_u.load_ask loading_u.load_next loading_u.load_next_ask loading_u.load_on invalidating_u.invalidate_ask invalidating_u.invalidate_next moving_u.moving_ask moving_u.raise_led moving_u.arm_led moving_u.moving_next moving_u.raise_told moving_u.moving_next_ask shifting_u.shifting_ask shifting_u.shift_led shifting_u.shifting_next shifting_u.move_told shifting_u.shifting_next_ask turning_u.turning_ask turning_u.turn_led turning_u.turning_next turning_u.turn_told turning_u.turning_next_ask refreshing_u.refresh_ask refreshing_u.refresh_next refreshing_u.refresh_finish scanning_u.scan_ask scanning_u.sessions_from scanning_u.least_of scanning_u.scan_next claiming_u.claim_ask claiming_u.slot_after claiming_u.slot_armed claiming_u.claim_next claiming_u.claim_given raising_u.raise_ask raising_u.free_after raising_u.raise_next raising_u.raise_next_ask raising_u.raise_on arming_u.arm_ask arming_u.arm_next passing_u.passed maintaining_u.device_asked maintaining_u.maintaining_ask maintaining_u.scan_ledto maintaining_u.claim_ledto maintaining_u.flush_ledto maintaining_u.shift_ledto maintaining_u.serve_ledto maintaining_u.turn_ledto maintaining_u.maintaining_next maintaining_u.maintaining_given maintaining_u.maintaining_called maintaining_u.maintaining_calls maintaining_u.maintaining_made keeping_u.device_passed keeping_u.keeping_ask keeping_u.start_ledto keeping_u.maintain_ledto keeping_u.phase_ledto keeping_u.keeping_next keeping_u.keeping_given keeping_u.keeping_called keeper_asks_u.keeping_made keeper_asks_u.keeping_calls flushing_u.flush_ask flushing_u.flush_next flushing_u.bytes_next flushing_u.flush_calls flushing_u.flush_done flushing_u.bytes_done flushing_u.count_next flushing_u.count_done serving_u.serve_ask serving_u.mailbox_from serving_u.serve_next serving_u.serve_read serving_u.mail_place world_u.life_goes moves_u.session_settled moves_u.session_asks moves_u.keeper_settled moves_u.keeper_asks past_u.history_after past_u.life_past runs_u.run phase_words_u.phase_said run_by
 wrong_in_place its one other legal = not_13 (legal_each no_map (history_of (effects_in_log (run_by in_place_below_seen_read_only (opened_world shape places its one other) fixed_events).past.history)) legal 5).1.1.0
 
@@ -180,10 +180,10 @@ fixed_legal : IsLegal no_map fixed_history
 unfolding fixed_history
 fixed_legal = (refl, (refl, (refl, (refl, tt))))
 
-right_in_place : (its : KeeperState) (one other : SessionState) → LeavesLegal (run (opened_world shape places its one other) fixed_events)
+pub right_in_place : (its : KeeperState) (one other : SessionState) → LeavesLegal (run (opened_world shape places its one other) fixed_events)
 right_in_place its one other = subst (IsLegal no_map) (sym (is_fixed_history its one other)) fixed_legal
 
-wrong_copied : (its : KeeperState) (one other : SessionState) → LeavesLegal (run_by add_copies_in_fuzzy_region (opened_world shape places its one other) fuzzy_events) → ⊥
+pub wrong_copied : (its : KeeperState) (one other : SessionState) → LeavesLegal (run_by add_copies_in_fuzzy_region (opened_world shape places its one other) fuzzy_events) → ⊥
 unfolding places shape session_u.sitting_ask session_u.attempts session_u.polls_at session_u.op_begun session_u.refresh_call session_u.poll_call session_u.sleep_call session_u.wake_call session_u.accepts session_u.shifts session_u.attempt_ledto session_u.catch_ledto session_u.clear_ledto session_u.finishes_request session_u.keeps_request session_u.poll_ledto session_u.turn_ledto session_u.leave_ledto session_u.sitting_next session_u.sitting_given catching_u.catching_ask catching_u.refresh_ledto catching_u.protect_ledto catching_u.latch_ledto catching_u.finish_ledto catching_u.latch_marked catching_u.catching_requests catching_u.catching_next attempting_u.attempting_ask attempting_u.look_ledto attempting_u.try_ledto attempting_u.put_ledto attempting_u.attempting_next pending_u.with_sought pending_u.with_held pending_u.with_latch pending_u.with_asked mailing_u.mail_ask mailing_u.mail_next trying_u.trying_ask trying_u.ends trying_u.shared_ledto trying_u.appends trying_u.copies_from trying_u.copies trying_u.held_used trying_u.walk_ledto trying_u.current_ledto trying_u.answer_ledto trying_u.exclusive_ledto trying_u.old_ledto trying_u.append_ledto trying_u.exclusive_dropped trying_u.shared_dropped trying_u.trying_next walking_u.walking_ask walking_u.find_ledto walking_u.load_ledto walking_u.value_ledto walking_u.walking_next walking_u.walking_on appending_u.appending_ask appending_u.reserve_ledto appending_u.fill_ledto appending_u.publish_ledto appending_u.invalidate_ledto appending_u.appending_next header_words_u.header_said finding_u.find_step_ask finding_u.find_led publishing_u.publish_ask publishing_u.publish_next publishing_u.publish_next_ask slots_u.slot_word reserving_u.reserve_ask reserving_u.reserve_next reserving_u.reserve_next_ask filling_u.fill_ask filling_u.fill_next loading_u.load_ask loading_u.load_next loading_u.load_next_ask loading_u.load_on invalidating_u.invalidate_ask invalidating_u.invalidate_next moving_u.moving_ask moving_u.raise_led moving_u.arm_led moving_u.moving_next moving_u.raise_told moving_u.moving_next_ask shifting_u.shifting_ask shifting_u.shift_led shifting_u.shifting_next shifting_u.move_told shifting_u.shifting_next_ask turning_u.turning_ask turning_u.turn_led turning_u.turning_next turning_u.turn_told turning_u.turning_next_ask refreshing_u.refresh_ask refreshing_u.refresh_next refreshing_u.refresh_finish scanning_u.scan_ask scanning_u.sessions_from scanning_u.least_of scanning_u.scan_next claiming_u.claim_ask claiming_u.slot_after claiming_u.slot_armed claiming_u.claim_next claiming_u.claim_given raising_u.raise_ask raising_u.free_after raising_u.raise_next raising_u.raise_next_ask raising_u.raise_on arming_u.arm_ask arming_u.arm_next passing_u.passed maintaining_u.device_asked maintaining_u.maintaining_ask maintaining_u.scan_ledto maintaining_u.claim_ledto maintaining_u.flush_ledto maintaining_u.shift_ledto maintaining_u.serve_ledto maintaining_u.turn_ledto maintaining_u.maintaining_next maintaining_u.maintaining_given maintaining_u.maintaining_called maintaining_u.maintaining_calls maintaining_u.maintaining_made keeping_u.device_passed keeping_u.keeping_ask keeping_u.start_ledto keeping_u.maintain_ledto keeping_u.phase_ledto keeping_u.keeping_next keeping_u.keeping_given keeping_u.keeping_called keeper_asks_u.keeping_made keeper_asks_u.keeping_calls flushing_u.flush_ask flushing_u.flush_next flushing_u.bytes_next flushing_u.flush_calls flushing_u.flush_done flushing_u.bytes_done flushing_u.count_next flushing_u.count_done serving_u.serve_ask serving_u.mailbox_from serving_u.serve_next serving_u.serve_read serving_u.mail_place world_u.life_goes moves_u.session_settled moves_u.session_asks moves_u.keeper_settled moves_u.keeper_asks past_u.history_after past_u.life_past runs_u.run phase_words_u.phase_said run_by
 wrong_copied its one other legal = not_80 (legal_each no_map (history_of (effects_in_log (run_by add_copies_in_fuzzy_region (opened_world shape places its one other) fuzzy_events).past.history)) legal 5).1.1.0
 
@@ -210,11 +210,11 @@ fuzzy_legal : IsLegal no_map fuzzy_history
 unfolding fuzzy_history
 fuzzy_legal = (refl, (refl, (refl, (the_sum, tt))))
 
-right_copied : (its : KeeperState) (one other : SessionState) → LeavesLegal (run (opened_world shape places its one other) fuzzy_events)
+pub right_copied : (its : KeeperState) (one other : SessionState) → LeavesLegal (run (opened_world shape places its one other) fuzzy_events)
 right_copied its one other = subst (IsLegal no_map) (sym (is_fuzzy_history its one other)) fuzzy_legal
 
 -- ---- the read
-effect_70 : Effect
+unfoldable pub effect_70 : Effect
 effect_70 = record { entry = entry_of 0 1 gives_70 Nothing; version = 1 }
 
 not_absent : Absent ≡ Found (record { 0 = 70 }) → ⊥
@@ -234,24 +234,8 @@ not_stale (x ∷ y ∷ newer) older all value has = let none : [] ≡ y ∷ (new
     no_place : (y : Effect) (rest : List Effect) → [] ≡ y ∷ rest → ⊥
     no_place y rest is = cc
 
-wrong_stale : (its : KeeperState) (one other : SessionState) → LeavesFresh (run_by read_gives_opening_state (opened_world shape places its one other) read_events) → ⊥
+pub wrong_stale : (its : KeeperState) (one other : SessionState) → LeavesFresh (run_by read_gives_opening_state (opened_world shape places its one other) read_events) → ⊥
 unfolding places shape session_u.sitting_ask session_u.attempts session_u.polls_at session_u.op_begun session_u.refresh_call session_u.poll_call session_u.sleep_call session_u.wake_call session_u.accepts session_u.shifts session_u.attempt_ledto session_u.catch_ledto session_u.clear_ledto session_u.finishes_request session_u.keeps_request session_u.poll_ledto session_u.turn_ledto session_u.leave_ledto session_u.sitting_next session_u.sitting_given catching_u.catching_ask catching_u.refresh_ledto catching_u.protect_ledto catching_u.latch_ledto catching_u.finish_ledto catching_u.latch_marked catching_u.catching_requests catching_u.catching_next attempting_u.attempting_ask attempting_u.look_ledto attempting_u.try_ledto attempting_u.put_ledto attempting_u.attempting_next pending_u.with_sought pending_u.with_held pending_u.with_latch pending_u.with_asked mailing_u.mail_ask mailing_u.mail_next trying_u.trying_ask trying_u.ends trying_u.shared_ledto trying_u.appends trying_u.copies_from trying_u.copies trying_u.held_used trying_u.walk_ledto trying_u.current_ledto trying_u.answer_ledto trying_u.exclusive_ledto trying_u.old_ledto trying_u.append_ledto trying_u.exclusive_dropped trying_u.shared_dropped trying_u.trying_next walking_u.walking_ask walking_u.find_ledto walking_u.load_ledto walking_u.value_ledto walking_u.walking_next walking_u.walking_on appending_u.appending_ask appending_u.reserve_ledto appending_u.fill_ledto appending_u.publish_ledto appending_u.invalidate_ledto appending_u.appending_next header_words_u.header_said finding_u.find_step_ask finding_u.find_led publishing_u.publish_ask publishing_u.publish_next publishing_u.publish_next_ask slots_u.slot_word reserving_u.reserve_ask reserving_u.reserve_next reserving_u.reserve_next_ask filling_u.fill_ask filling_u.fill_next loading_u.load_ask loading_u.load_next loading_u.load_next_ask loading_u.load_on invalidating_u.invalidate_ask invalidating_u.invalidate_next moving_u.moving_ask moving_u.raise_led moving_u.arm_led moving_u.moving_next moving_u.raise_told moving_u.moving_next_ask shifting_u.shifting_ask shifting_u.shift_led shifting_u.shifting_next shifting_u.move_told shifting_u.shifting_next_ask turning_u.turning_ask turning_u.turn_led turning_u.turning_next turning_u.turn_told turning_u.turning_next_ask refreshing_u.refresh_ask refreshing_u.refresh_next refreshing_u.refresh_finish scanning_u.scan_ask scanning_u.sessions_from scanning_u.least_of scanning_u.scan_next claiming_u.claim_ask claiming_u.slot_after claiming_u.slot_armed claiming_u.claim_next claiming_u.claim_given raising_u.raise_ask raising_u.free_after raising_u.raise_next raising_u.raise_next_ask raising_u.raise_on arming_u.arm_ask arming_u.arm_next passing_u.passed maintaining_u.device_asked maintaining_u.maintaining_ask maintaining_u.scan_ledto maintaining_u.claim_ledto maintaining_u.flush_ledto maintaining_u.shift_ledto maintaining_u.serve_ledto maintaining_u.turn_ledto maintaining_u.maintaining_next maintaining_u.maintaining_given maintaining_u.maintaining_called maintaining_u.maintaining_calls maintaining_u.maintaining_made keeping_u.device_passed keeping_u.keeping_ask keeping_u.start_ledto keeping_u.maintain_ledto keeping_u.phase_ledto keeping_u.keeping_next keeping_u.keeping_given keeping_u.keeping_called keeper_asks_u.keeping_made keeper_asks_u.keeping_calls flushing_u.flush_ask flushing_u.flush_next flushing_u.bytes_next flushing_u.flush_calls flushing_u.flush_done flushing_u.bytes_done flushing_u.count_next flushing_u.count_done serving_u.serve_ask serving_u.mailbox_from serving_u.serve_next serving_u.serve_read serving_u.mail_place world_u.life_goes moves_u.session_settled moves_u.session_asks moves_u.keeper_settled moves_u.keeper_asks past_u.history_after past_u.life_past runs_u.run phase_words_u.phase_said run_by lines_of effect_70
 wrong_stale its one other reads =
     let fresh = reads.fresh [] [] (GivesResult 0 1 Nothing ∷ CallsUpdate 0 1 gives_70 ∷ []) 2 5 Absent refl in
     not_stale fresh.newer fresh.older fresh.all fresh.value (fresh.given_before 0 1 Nothing (inl refl))
-
-pub wrong_lives : (its : KeeperState) (one other : SessionState) → AreWrongLives its one other
-wrong_lives its one other = record {
-  shape = shape;
-  places = places;
-  fits = places_fit;
-  opened = world_opened its one other;
-  guarded = guard_opened its one other;
-  fixed = is_fixed its one other;
-  fuzzy = is_fuzzy its one other;
-  in_place = wrong_in_place its one other;
-  in_place_right = right_in_place its one other;
-  copied = wrong_copied its one other;
-  copied_right = right_copied its one other;
-  stale = wrong_stale its one other;
-}

@@ -1,1 +1,3 @@
 mod Computed
+mod OfGuard
+mod Lives

@@ -1,63 +1,158 @@
--- Lives in which a row of a session's table is wrong.
-use Rattle.std.specs.Prelude.{ℕ, List, [], ◌∷◌, slice_get, slice_set, Option, Some, None}
+-- Lives in which a row of one machine's table is wrong.
+use Rattle.std.specs.Prelude.{ℕ, ◌+◌, ◌-◌, nat_le, if◌then◌else◌, List, [], ◌∷◌, ◌++◌, slice_get, slice_set, Option, Some}
+use Rattle.fkv_base.specs.declared.faults.Fault.TheVariants.{LogFull}
+use Rattle.fkv_epoch.specs.EpochWorld as epochs
+use Rattle.fkv_epoch.specs.EpochWorld.{EpochMachine}
+use Rattle.fkv_epoch.specs.declared.claiming.Claiming.{Claiming}
+use Rattle.fkv_epoch.specs.declared.claiming.Claiming.TheVariants.{LoadsSafe, MeetsSlot, TakesSlot}
+use Rattle.fkv_flush.specs.GuardWorld as guard
+use Rattle.fkv_flush.specs.GuardWorld.{Actor, GuardEvent, GuardNow, GuardWorld, guard_happens}
+use Rattle.fkv_keeper.specs.Keeping.{KeeperState}
+use Rattle.fkv_log.specs.declared.turning.Turning.{Turning}
+use Rattle.fkv_log.specs.declared.turning.Turning.TheVariants.{LoadsClosed, RaisesLimit}
+use Rattle.fkv_maintain.specs.declared.maintaining.Maintaining.{Maintaining}
+use Rattle.fkv_maintain.specs.declared.maintaining.Maintaining.TheVariants.{Claims, Turns}
+use Rattle.fkv_maintain.specs.Maintaining.{MaintainState}
+use Rattle.fkv_ops.specs.declared.requests.Seen.{Seen}
 use Rattle.fkv_ops.specs.declared.trying.Trying.{Trying}
-use Rattle.fkv_ops.specs.declared.trying.Trying.TheVariants.{LoadsSafe}
+use Rattle.fkv_ops.specs.declared.trying.Trying.TheVariants as trying
 use Rattle.fkv_ops.specs.declared.trying.OldValue.TheVariants.{InMemory}
 use Rattle.fkv_ops.specs.Trying.{TryState, changes, copies_from}
-use Rattle.fkv_session.specs.declared.answers.Told.TheVariants.{Found, Absent}
+use Rattle.fkv_session.specs.declared.answers.Told.TheVariants.{Absent, Done, Found, Refused}
+use Rattle.fkv_session.specs.declared.sessions.CatchCause.TheVariants.{Wakes}
 use Rattle.fkv_session.specs.declared.sessions.Sitting.{Sitting}
-use Rattle.fkv_session.specs.declared.sessions.Sitting.TheVariants.{Idle}
+use Rattle.fkv_session.specs.declared.sessions.Sitting.TheVariants.{CatchesUp, Idle}
 use Rattle.fkv_session.specs.Sessions.{SessionState}
 use Rattle.fkv_world.specs.Runs.{World, past_after, read_by_keeper}
-use Rattle.fkv_world.specs.World.{Event, Moves, Now, happens_now}
+use Rattle.fkv_world.specs.World.{Event, KeeperMoves, Moves, Now, happens_now}
+use Rattle.law_guard.specs.Guarded.GuardEvents.{guard_events}
 
--- ---- what a wrong table makes of a session behind its move, from where the right one has led it
-abbrev pub led_by : (SessionState → SessionState) → Now → ℕ → Option SessionState → Now
-led_by table n session None = n
-led_by table n session (Some s) = record n { sessions = slice_set n.sessions session (table s) }
+-- ---- what a wrong table makes of a machine behind its move: from what it was, and from where the right one has led it
+pub record Tables : Type 0 where
+  pub session : SessionState → SessionState → SessionState
+  pub keeper : KeeperState → KeeperState → KeeperState
 
-abbrev pub goes_by : (SessionState → SessionState) → Now → Event → Now
-goes_by table n (Moves session) = led_by table n session (slice_get n.sessions session)
-goes_by table n event = n
+-- one of sessions is wrong, or one of the keeper
+abbrev pub of_sessions : (SessionState → SessionState → SessionState) → Tables
+of_sessions table = record { session = table; keeper = λ was s. s }
 
--- an event by that table, and what is told of it
-abbrev pub happens_by : (SessionState → SessionState) → World → Event → World
-happens_by table w event =
-    let after : Now = goes_by table (happens_now w.now (read_by_keeper w) event) event in
+abbrev pub of_keeper : (KeeperState → KeeperState → KeeperState) → Tables
+of_keeper table = record { session = λ was s. s; keeper = table }
+
+abbrev pub session_led : Tables → ℕ → Option SessionState → Option SessionState → Now → Now
+session_led t session (Some was) (Some s) n = record n { sessions = slice_set n.sessions session (t.session was s) }
+session_led t session was there n = n
+
+abbrev pub goes_by : Tables → Now → Now → Event → Now
+goes_by t before n (Moves session) = session_led t session (slice_get before.sessions session) (slice_get n.sessions session) n
+goes_by t before n (KeeperMoves granted done) = record n { keeper = t.keeper before.keeper n.keeper }
+goes_by t before n event = n
+
+-- an event by these tables, and what is told of it
+abbrev pub happens_by : Tables → World → Event → World
+happens_by t w event =
+    let after : Now = goes_by t w.now (happens_now w.now (read_by_keeper w) event) event in
     record { now = after; past = past_after w after event }
 
--- the world after a list of events by that table, the newest first
-unfoldable pub run_by : (SessionState → SessionState) → World → List Event → World
-run_by table opening [] = opening
-run_by table opening (event ∷ before) = happens_by table (run_by table opening before) event
+-- the world after a list of events by these tables, the newest first
+unfoldable pub run_by : Tables → World → List Event → World
+run_by t opening [] = opening
+run_by t opening (event ∷ before) = happens_by t (run_by t opening before) event
 
--- ---- tables
-abbrev pub right : SessionState → SessionState
-right s = s
+-- ---- the guard's world beside such a life, whose machines of the epochs go by a wrong table too
+abbrev pub machine_led : (EpochMachine → EpochMachine → EpochMachine) → ℕ → Option Actor → Option Actor → GuardNow → GuardNow
+machine_led table actor (Some was) (Some x) n = record n { actors = slice_set n.actors actor (record x { machine = table was.machine x.machine }) }
+machine_led table actor was there n = n
 
+abbrev pub guard_goes_by : (EpochMachine → EpochMachine → EpochMachine) → GuardNow → GuardNow → GuardEvent → GuardNow
+guard_goes_by table before n (guard.Moves actor) = machine_led table actor (slice_get before.actors actor) (slice_get n.actors actor) n
+guard_goes_by table before n event = n
+
+abbrev pub guard_happens_by : (EpochMachine → EpochMachine → EpochMachine) → GuardWorld → GuardEvent → GuardWorld
+guard_happens_by table w event = let after : GuardWorld = guard_happens w event in record after { now = guard_goes_by table w.now after.now event }
+
+unfoldable pub guard_run_by : (EpochMachine → EpochMachine → EpochMachine) → GuardWorld → List GuardEvent → GuardWorld
+guard_run_by table opening [] = opening
+guard_run_by table opening (event ∷ before) = guard_happens_by table (guard_run_by table opening before) event
+
+-- what the events of the life are to the guard
+unfoldable pub mapped_by : Tables → World → List Event → List GuardEvent
+mapped_by t opening [] = []
+mapped_by t opening (event ∷ before) = guard_events (run_by t opening before).now (read_by_keeper (run_by t opening before)) event ++ mapped_by t opening before
+
+-- ---- tables of sessions
 abbrev pub with_trial : SessionState → TryState → SessionState
 with_trial s t = record s { attempt = record s.attempt { trial = t } }
 
 -- a record below the read-only offset that the session has seen is changed in place, where the safe one is to be loaded first
 abbrev pub changes_below : TryState → Trying → TryState
-changes_below t (LoadsSafe addr version) = changes t addr
+changes_below t (trying.LoadsSafe addr version) = changes t addr
 changes_below t step = t
 
-abbrev pub in_place_below_seen_read_only : SessionState → SessionState
-in_place_below_seen_read_only s = with_trial s (changes_below s.attempt.trial s.attempt.trial.step)
+abbrev pub in_place_below_seen_read_only : Tables
+in_place_below_seen_read_only = of_sessions (λ was s. with_trial s (changes_below s.attempt.trial s.attempt.trial.step))
 
 -- it is copied without a look at the safe read-only offset, so while others may still change it in place
 abbrev pub copies_at_once : TryState → Trying → TryState
-copies_at_once t (LoadsSafe addr version) = copies_from t InMemory
+copies_at_once t (trying.LoadsSafe addr version) = copies_from t InMemory
 copies_at_once t step = t
 
-abbrev pub add_copies_in_fuzzy_region : SessionState → SessionState
-add_copies_in_fuzzy_region s = with_trial s (copies_at_once s.attempt.trial s.attempt.trial.step)
+abbrev pub add_copies_in_fuzzy_region : Tables
+add_copies_in_fuzzy_region = of_sessions (λ was s. with_trial s (copies_at_once s.attempt.trial s.attempt.trial.step))
 
 -- a read is told what the store was opened with: nothing
 abbrev pub tells_opening : Sitting → Sitting
 tells_opening (Idle (Found value)) = Idle Absent
 tells_opening step = step
 
-abbrev pub read_gives_opening_state : SessionState → SessionState
-read_gives_opening_state s = record s { step = tells_opening s.step }
+abbrev pub read_gives_opening_state : Tables
+read_gives_opening_state = of_sessions (λ was s. record s { step = tells_opening s.step })
+
+-- an update that has taken effect is told as refused: its effect is told to nobody
+abbrev pub tells_refusal : Sitting → Sitting
+tells_refusal (Idle (Done serial its)) = Idle (Refused LogFull)
+tells_refusal step = step
+
+abbrev pub effect_is_told_to_nobody : Tables
+effect_is_told_to_nobody = of_sessions (λ was s. record s { step = tells_refusal s.step })
+
+-- who wakes goes by the offsets of before it slept
+abbrev pub with_offsets : Seen → Sitting → SessionState → SessionState
+with_offsets seen (CatchesUp Wakes) s = record s { seen = record s.seen { offsets = seen.offsets } }
+with_offsets seen step s = s
+
+abbrev pub wake_keeps_offsets : Tables
+wake_keeps_offsets = of_sessions (λ was s. with_offsets was.seen was.step s)
+
+-- ---- tables of the keeper
+abbrev pub with_maintain : KeeperState → MaintainState → KeeperState
+with_maintain s m = record s { maintain = m }
+
+-- a page is opened without a look at the closed offset
+abbrev pub raises_at_once : Turning → Turning
+raises_at_once (LoadsClosed form limit) = RaisesLimit limit
+raises_at_once step = step
+
+abbrev pub turned_at_once : MaintainState → Maintaining → MaintainState
+turned_at_once m Turns = record m { turn = record m.turn { step = raises_at_once m.turn.step } }
+turned_at_once m step = m
+
+abbrev pub page_opens_unclosed : Tables
+page_opens_unclosed = of_keeper (λ was s. with_maintain s (turned_at_once s.maintain s.maintain.step))
+
+-- an action is claimed where the epoch before its own is safe
+abbrev pub claims_early : Claiming → Claiming → Claiming
+claims_early (LoadsSafe slot word) (MeetsSlot next (Some safe)) = if nat_le (word - 2) (safe + 1) then TakesSlot slot word safe else MeetsSlot next (Some safe)
+claims_early was step = step
+
+abbrev pub claimed_early : MaintainState → Maintaining → MaintainState → MaintainState
+claimed_early was Claims m = record m { claiming = claims_early was.claiming m.claiming }
+claimed_early was step m = m
+
+abbrev pub action_is_claimed_early : Tables
+action_is_claimed_early = of_keeper (λ was s. with_maintain s (claimed_early was.maintain was.maintain.step s.maintain))
+
+-- so it is of the guard's actor
+abbrev pub machine_claims_early : EpochMachine → EpochMachine → EpochMachine
+machine_claims_early (epochs.Claims was) (epochs.Claims step) = epochs.Claims (claims_early was step)
+machine_claims_early was machine = machine

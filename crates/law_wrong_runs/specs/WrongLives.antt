@@ -1,7 +1,10 @@
--- Lives of two sessions that are legal and fresh by the right table, and aren't by a wrong one. They begin with a store that was just opened.
+-- Lives of two sessions by wrong tables, in which a clause fails that holds by the right ones. They begin with a store that was just opened.
 use Rattle.std.specs.Prelude.{◌≡◌, ℕ, true, false, None, replicate, List, [], ◌∷◌, ◌++◌}
 use Rattle.fkv_base.specs.declared.shapes.Shape.{Shape}
+use Rattle.fkv_epoch.specs.EpochWorld.{Claimed, drain_word}
+use Rattle.fkv_epoch.specs.Once.{Among}
 use Rattle.fkv_flush.specs.GuardLevels.{Levels, levels_of}
+use Rattle.fkv_flush.specs.GuardWorld.{GuardWorld}
 use Rattle.fkv_keeper.specs.declared.answers.KeeperTold.TheVariants.{Turned}
 use Rattle.fkv_keeper.specs.declared.keepers.Keeping.TheVariants as keeping
 use Rattle.fkv_keeper.specs.Keeping.{KeeperState}
@@ -10,18 +13,20 @@ use Rattle.fkv_map.specs.declared.operations.Call.TheVariants as call
 use Rattle.fkv_map.specs.declared.operations.Op.{Op}
 use Rattle.fkv_map.specs.declared.operations.Op.TheVariants.{Read, Upsert}
 use Rattle.fkv_map.specs.History.{IsLegal}
-use Rattle.law_log.specs.Trace.{ReadsAreFresh, history_of}
+use Rattle.law_log.specs.Trace.{OrdersCalls, ReadsAreFresh, history_of}
 use Rattle.law_log.specs.Worked.{no_map}
 use Rattle.fkv_plane.specs.declared.places.Places.{Places}
 use Rattle.fkv_session.specs.Sessions.{SessionState}
 use Rattle.fkv_world.specs.Opened.{IsOpenedWorld}
 use Rattle.fkv_world.specs.Runs.{World, run}
-use Rattle.fkv_world.specs.World.{Event, Calls, Moves, Turns, KeeperMoves}
+use Rattle.fkv_world.specs.World.{Event, Calls, Moves, Now, Turns, KeeperMoves}
 use Rattle.law_refine.specs.Calls.Calls.{effects_in_log}
+use Rattle.law_guard.specs.Guarded.KeptGuarded.{ChangesOpenPlaces, OpensNextPage, WritesOpenPlaces}
+use Rattle.law_guard.specs.Guarded.LoadedSince.{HaveLoadedSince}
 use Rattle.law_guard.specs.Guarded.Shows as guard
 use Rattle.law_refine.specs.Events.Lines.{lines_of}
 use Rattle.law_refine.specs.Events.Worked.{adds_5, first_world, gives_70, gives_8}
-use Rattle.law_wrong_runs.specs.Tables.{add_copies_in_fuzzy_region, in_place_below_seen_read_only, read_gives_opening_state, run_by}
+use Rattle.law_wrong_runs.specs.Tables.{Tables, action_is_claimed_early, add_copies_in_fuzzy_region, effect_is_told_to_nobody, guard_run_by, in_place_below_seen_read_only, machine_claims_early, mapped_by, page_opens_unclosed, read_gives_opening_state, run_by, wake_keeps_offsets}
 
 -- ---- what a life leaves
 -- its history is legal from an empty map
@@ -31,6 +36,10 @@ LeavesLegal w = IsLegal no_map (history_of (effects_in_log w.past.history))
 -- and its reads are fresh
 abbrev pub LeavesFresh : World → Type 0
 LeavesFresh w = ReadsAreFresh no_map (effects_in_log w.past.history) (lines_of (λ session. 0) w.past.trace)
+
+-- and it orders the calls
+abbrev pub LeavesOrdered : World → Type 0
+LeavesOrdered w = OrdersCalls (effects_in_log w.past.history) (lines_of (λ session. 0) w.past.trace)
 
 -- ---- the beginning: a store of two sessions that was just opened, whose keeper has no call and no commit in hand, and finishes commits for both
 abbrev pub idle : KeeperState → KeeperState
@@ -47,10 +56,11 @@ gives_events = replicate 8 (Moves 0) ++ Calls 0 (call.Op gives_70) ∷ []
 abbrev pub gives_1 : ℕ → Op
 gives_1 key = Upsert (record { 0 = key }) (record { 0 = 1 })
 
+abbrev pub filled_events : List Event
+filled_events = replicate 10 (Moves 0) ++ Calls 0 (call.Op (gives_1 7)) ∷ (replicate 9 (Moves 0) ++ Calls 0 (call.Op (gives_1 6)) ∷ gives_events)
+
 abbrev pub shifted_events : List Event
-shifted_events =
-    replicate 30 (KeeperMoves true true) ++ Turns
-    ∷ (replicate 10 (Moves 0) ++ Calls 0 (call.Op (gives_1 7)) ∷ (replicate 9 (Moves 0) ++ Calls 0 (call.Op (gives_1 6)) ∷ gives_events))
+shifted_events = replicate 30 (KeeperMoves true true) ++ Turns ∷ filled_events
 
 -- Session 1 sees that, and session 0 does not: the record is in the fuzzy region.
 abbrev pub fuzzy_begun : List Event
@@ -75,13 +85,49 @@ fuzzy_events = Moves 0 ∷ (replicate 11 (Moves 1) ++ Calls 1 (call.Op adds_5) �
 abbrev pub read_events : List Event
 read_events = replicate 4 (Moves 1) ++ Calls 1 (call.Op (Read (record { 0 = 5 }))) ∷ gives_events
 
+-- a turn of the keeper has come to where it opens the third page, for which it has no frame yet
+abbrev pub unclosed_begun : List Event
+unclosed_begun = replicate 23 (KeeperMoves true true) ++ Turns ∷ filled_events
+
+-- Session 1 sleeps, session 0 sees the shift, and another turn flushes the record. Then session 1 wakes, and has come to the record as it gives the key 8.
+abbrev pub slept_events : List Event
+slept_events = replicate 60 (KeeperMoves true true) ++ Turns ∷ (replicate 2 (Moves 1) ++ Calls 1 call.Sleep ∷ (replicate 5 (Moves 0) ++ Calls 0 call.Refresh ∷ shifted_events))
+
+abbrev pub woken_begun : List Event
+woken_begun = replicate 3 (Moves 1) ++ Calls 1 (call.Op gives_8) ∷ (replicate 5 (Moves 1) ++ Calls 1 call.Wake ∷ slept_events)
+
+-- nobody has seen the shift, and another turn has come to where it claims the action that waits for that
+abbrev pub early_begun : List Event
+early_begun = replicate 6 (KeeperMoves true true) ++ Turns ∷ shifted_events
+
+-- ---- the guard beside a life
+-- it has the life's words
+pub record IsBeside (n : Now) (w : GuardWorld) : Type 0 where
+  pub shape : w.now.shape ≡ n.shape
+  pub places : w.now.places ≡ n.places
+  pub words : w.now.words ≡ n.words
+
+-- whatever it has besides, it doesn't keep this of an event
+abbrev pub FailsAt : (Now → Now → GuardWorld → Type 0) → Tables → World → List Event → Event → Type 0
+FailsAt P t opening before event = (w : GuardWorld) → IsBeside (run_by t opening before).now w → P (run_by t opening before).now (run_by t opening (event ∷ before)).now w → ⊥
+
+-- what it has where actions are claimed early, and that they are claimed in time
+abbrev pub guard_of_early : World → List Event → GuardWorld
+guard_of_early opening events = guard_run_by machine_claims_early (guard.guard_opening opening.now 1) (mapped_by action_is_claimed_early opening events)
+
+abbrev pub ClaimsInTime : World → List Event → Event → Type 0
+ClaimsInTime opening before event = (claim : Claimed) → Among claim (guard_of_early opening (event ∷ before)).past.claims → HaveLoadedSince (guard_of_early opening before) claim.epoch
+
 -- where the offsets stand behind events
 abbrev pub levels_after : World → List Event → Levels
 levels_after opening events = levels_of (run opening events).now.words
 
 -- In a store of this shape, with its places: as the lives begin the record is fixed and below the head, and in the fuzzy region. Where the record that is fixed is
 -- changed in place, the sum that session 0 is told leaves out what session 1 gave; where the record is copied that session 0 may still change, both are told 75; and
--- where a read is told what the store was opened with, it isn't fresh. By the right table the first two leave legal histories.
+-- where a read is told what the store was opened with, it isn't fresh. By the right table the first two leave legal histories. Where an update that has taken
+-- effect is told as refused, the history doesn't order the calls. Where a page is opened without a look at the closed offset, what its frame held isn't flushed.
+-- Where a session that wakes keeps its old offsets, it writes a flushed record. Where an action is claimed one epoch early, its epoch was raised after sessions
+-- loaded what they go by.
 pub record AreWrongLives (keeper : KeeperState) (one other : SessionState) : Type 0 where
   pub shape : Shape
   pub places : Places
@@ -95,3 +141,11 @@ pub record AreWrongLives (keeper : KeeperState) (one other : SessionState) : Typ
   pub copied : LeavesLegal (run_by add_copies_in_fuzzy_region (opened_world shape places keeper one other) fuzzy_events) → ⊥
   pub copied_right : LeavesLegal (run (opened_world shape places keeper one other) fuzzy_events)
   pub stale : LeavesFresh (run_by read_gives_opening_state (opened_world shape places keeper one other) read_events) → ⊥
+  pub untold : LeavesOrdered (run_by effect_is_told_to_nobody (opened_world shape places keeper one other) gives_events) → ⊥
+  pub unclosed : FailsAt OpensNextPage page_opens_unclosed (opened_world shape places keeper one other) unclosed_begun (KeeperMoves true true)
+  pub woken : FailsAt (λ n after w. WritesOpenPlaces n (Moves 1) w) wake_keeps_offsets (opened_world shape places keeper one other) woken_begun (Moves 1)
+  pub woken_changes : FailsAt ChangesOpenPlaces wake_keeps_offsets (opened_world shape places keeper one other) woken_begun (Moves 1)
+  -- the slot's word is its epoch and 2, and 1 once its action is claimed
+  pub armed : drain_word (run_by action_is_claimed_early (opened_world shape places keeper one other) early_begun).now.words 0 ≡ 3
+  pub claimed : drain_word (run_by action_is_claimed_early (opened_world shape places keeper one other) (KeeperMoves true true ∷ early_begun)).now.words 0 ≡ 1
+  pub early : ClaimsInTime (opened_world shape places keeper one other) early_begun (KeeperMoves true true) → ⊥

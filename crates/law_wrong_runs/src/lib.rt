@@ -1,4 +1,4 @@
-//! Lives by wrong tables, whose histories aren't legal, or whose reads aren't fresh.
+//! Lives by wrong tables, in which a clause of the order law fails.
 #![tactic(auto)]
 
 mod laws;

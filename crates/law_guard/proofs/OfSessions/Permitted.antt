@@ -89,7 +89,7 @@ module _ (w : GuardWorld) (a : ℕ) (x : Actor) (seen : LastSeen) (got : slice_g
   n = w.now
 
   -- a change in place that the session may make
-  change_permitted : (addr word : ℕ) → IsSessions n.places.sessions a true n.words → Fits (through seen) x → MayChange seen n.words addr → ArePermittedEvents w (Updates a addr word ∷ [])
+  pub change_permitted : (addr word : ℕ) → IsSessions n.places.sessions a true n.words → Fits (through seen) x → MayChange seen n.words addr → ArePermittedEvents w (Updates a addr word ∷ [])
   change_permitted addr word session fits may = one_permitted w (Updates a addr word) (λ y its. subst (λ (z : Actor). may_update n a z addr ≡ true) (some_same x y (sym got ∙ its)) here)
     where
       is_below : (b c : ℕ) → b < c → nat_lt b c ≡ true

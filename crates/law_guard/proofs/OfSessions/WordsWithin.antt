@@ -158,7 +158,7 @@ record_within p addr word =
     let number = three_words word in
     omega (arith, place, number)
 
-sixteen_words : (word : SessionWord) → session_number word < 16
+pub sixteen_words : (word : SessionWord) → session_number word < 16
 sixteen_words own.Epoch = omega arith
 sixteen_words own.EvenCut = omega arith
 sixteen_words own.OddCut = omega arith
@@ -182,11 +182,13 @@ neither true false e = cc
 neither false true e = cc
 neither false false e = (refl, refl)
 
-outer_within : (p : Places) (place : ℕ) → is_guarded p place ≡ false → place < word_count p
-outer_within p place outer =
+pub outer_low : (p : Places) (place : ℕ) → is_guarded p place ≡ false → place < frames_start p
+outer_low p place outer =
     let below : nat_le (frames_start p) place ≡ false = (neither (is_own p.sessions place || nat_le 3 place && nat_lt place 10) (nat_le (frames_start p) place) outer).1 in
-    let low : place < frames_start p = grind (arith, nat_tests, below) in
-    omega (arith, low)
+    grind (arith, nat_tests, below)
+
+outer_within : (p : Places) (place : ℕ) → is_guarded p place ≡ false → place < word_count p
+outer_within p place outer = let low = outer_low p place outer in omega (arith, low)
 
 -- Machines of the epochs. A session's own go by its number alone.
 refresh_within : (p : Places) (number : ℕ) (step : Refreshing) → number < p.sessions → IsWithin p (refresh_ask number step)

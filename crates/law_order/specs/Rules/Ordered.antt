@@ -18,7 +18,7 @@ use Rattle.law_log.specs.Trace.{Effect, OrdersCalls, ReadsAreFresh, TraceLine, h
 use Rattle.fkv_world.specs.Runs.{run}
 use Rattle.fkv_world.specs.World.{Event, Now}
 use Rattle.law_refine.specs.Calls.Calls.{effects_of_life, lines_of_life}
-use Rattle.law_guard.specs.Guarded.KeptGuarded.{ChangesOpenPlaces, OpensNextPage}
+use Rattle.law_guard.specs.Guarded.KeptGuarded.{ChangesOpenPlaces, OpensNextPage, WritesOpenPlaces}
 use Rattle.law_guard.specs.Guarded.LoadedSince.{HaveLoadedSince}
 use Rattle.law_guard.specs.Guarded.Shows.{ArePermitted, Shows, seen_by_guard}
 use Rattle.law_refine.specs.Records.Changes.{AreChangesPublished}
@@ -61,17 +61,22 @@ abbrev pub AtEachEvent : (Now → Now → GuardWorld → Type 0) → Opened → 
 AtEachEvent P o n bytes events =
     (later before : List Event) (event : Event) → events ≡ later ++ event ∷ before → P (now_after n bytes before) (now_after n bytes (event ∷ before)) (guard_so_far o n bytes before)
 
+-- and of each event, before it
+abbrev pub BeforeEachEvent : (Now → Event → GuardWorld → Type 0) → Opened → Now → List ℕ → List Event → Type 0
+BeforeEachEvent P o n bytes events = (later before : List Event) (event : Event) → events ≡ later ++ event ∷ before → P (now_after n bytes before) event (guard_so_far o n bytes before)
+
 -- no offset falls
 abbrev pub KeepsOffsets : Now → Now → GuardWorld → Type 0
 KeepsOffsets n after w = Rises (levels_of n.words) (levels_of after.words)
 
--- What the guard has shows the world, and each step is permitted. A word of a frame that an event changes is one of an open address at or above the safe
--- read-only offset and below the tail; a raise of the limit opens the next page, all of whose frame is flushed and which no session goes by any more. The
+-- What the guard has shows the world, and each step is permitted. A word of a frame that an event's machine asks to write is one of an open address at or above
+-- the safe read-only offset and below the tail, and so is one that changes; a raise of the limit opens the next page, all of whose frame is flushed and which no session goes by any more. The
 -- offsets are in order and never fall, the frames hold all that may still be needed, and the limit ends whole pages.
 pub record IsGuarded (o : Opened) (n : Now) (bytes : List ℕ) (events : List Event) : Type 0 where
   pub shows : Shows (now_after n bytes events) (guard_so_far o n bytes events)
   pub permitted : ArePermitted (beginning n bytes) events
-  pub writes : AtEachEvent ChangesOpenPlaces o n bytes events
+  pub writes : BeforeEachEvent WritesOpenPlaces o n bytes events
+  pub changes : AtEachEvent ChangesOpenPlaces o n bytes events
   pub limit : AtEachEvent OpensNextPage o n bytes events
   pub order : AreInOrder (levels_of (now_after n bytes events).words)
   pub rises : AtEachEvent KeepsOffsets o n bytes events

@@ -2,7 +2,7 @@
 use Rattle.fkv_flush.proofs.Shown.{covered}
 use Rattle.fkv_world.specs.Runs.{run}
 use Rattle.law_guard.specs.Guarded.Shows.{seen_by_guard}
-use Rattle.law_guard.proofs.OfGuarded.OfLives.{event_opens_next, event_writes_open, life_in_order, life_paged, life_rises}
+use Rattle.law_guard.proofs.OfGuarded.OfLives.{event_changes_open, event_opens_next, event_writes_open, life_in_order, life_paged, life_rises}
 use Rattle.law_guard.proofs.OfGuarded.Outer.{write_outer}
 use Rattle.law_guard.proofs.OfGuarded.Worlds.{life_shows}
 use Rattle.law_guard.proofs.guarded.law_world_is_guarded.Goals as goal
@@ -11,7 +11,10 @@ pub returns-clause-shows : goal.returns-clause-shows
 returns-clause-shows c = λ first start events opened. life_shows first start events opened
 
 pub returns-clause-writes : goal.returns-clause-writes
-returns-clause-writes c = λ first start events event opened permitted. event_writes_open first events event (seen_by_guard first start events) (write_outer first start events opened) permitted (life_shows first start events opened)
+returns-clause-writes c = λ first start events event opened permitted. event_writes_open (run first events).now event (seen_by_guard first start events) (write_outer first start events opened) permitted (life_shows first start events opened)
+
+pub returns-clause-changes : goal.returns-clause-changes
+returns-clause-changes c = λ first start events event opened permitted. event_changes_open first events event (seen_by_guard first start events) (write_outer first start events opened) permitted (life_shows first start events opened)
 
 pub returns-clause-limit : goal.returns-clause-limit
 returns-clause-limit c = λ first start events event opened. event_opens_next first events event (seen_by_guard first start events) (write_outer first start events opened) (life_shows first start events opened)

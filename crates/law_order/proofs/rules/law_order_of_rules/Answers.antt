@@ -58,6 +58,8 @@ returns-clause-guarded c = λ bytes o n events store world rules published.
       permitted = permitted;
       writes = λ later before event whole. c.law_world_is_guarded.ensures.writes (beginning n bytes) o.tail.0 before event opened
           (permitted_at (beginning n bytes) later before event (subst (ArePermitted (beginning n bytes)) whole permitted));
+      changes = λ later before event whole. c.law_world_is_guarded.ensures.changes (beginning n bytes) o.tail.0 before event opened
+          (permitted_at (beginning n bytes) later before event (subst (ArePermitted (beginning n bytes)) whole permitted));
       limit = λ later before event whole. c.law_world_is_guarded.ensures.limit (beginning n bytes) o.tail.0 before event opened;
       order = c.law_world_is_guarded.ensures.order (beginning n bytes) o.tail.0 events opened;
       rises = λ later before event whole. c.law_world_is_guarded.ensures.rises (beginning n bytes) o.tail.0 before (event ∷ []) opened;

@@ -1,5 +1,5 @@
 -- The law, computed.
-use Rattle.law_wrong_runs.proofs.Computed.{wrong_lives}
+use Rattle.law_wrong_runs.proofs.Lives.{wrong_lives}
 use Rattle.law_wrong_runs.proofs.laws.law_of_wrong_lives.Goals as goal
 
 pub returns : goal.returns

@@ -1,0 +1,29 @@
+-- All wrong lives together.
+use Rattle.fkv_keeper.specs.Keeping.{KeeperState}
+use Rattle.fkv_session.specs.Sessions.{SessionState}
+use Rattle.law_wrong_runs.specs.WrongLives.{AreWrongLives}
+use Rattle.law_wrong_runs.proofs.Computed.{guard_opened, is_fixed, is_fuzzy, places, places_fit, right_copied, right_in_place, shape, world_opened, wrong_copied, wrong_in_place, wrong_stale}
+use Rattle.law_wrong_runs.proofs.OfGuard.{slot_armed, slot_claimed, wrong_change, wrong_early, wrong_unclosed, wrong_untold, wrong_woken}
+
+pub wrong_lives : (its : KeeperState) (one other : SessionState) → AreWrongLives its one other
+wrong_lives its one other = record {
+  shape = shape;
+  places = places;
+  fits = places_fit;
+  opened = world_opened its one other;
+  guarded = guard_opened its one other;
+  fixed = is_fixed its one other;
+  fuzzy = is_fuzzy its one other;
+  in_place = wrong_in_place its one other;
+  in_place_right = right_in_place its one other;
+  copied = wrong_copied its one other;
+  copied_right = right_copied its one other;
+  stale = wrong_stale its one other;
+  untold = wrong_untold its one other;
+  unclosed = wrong_unclosed its one other;
+  woken = wrong_woken its one other;
+  woken_changes = wrong_change its one other;
+  armed = slot_armed its one other;
+  claimed = slot_claimed its one other;
+  early = wrong_early its one other;
+}
