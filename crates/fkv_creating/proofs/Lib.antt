@@ -4,6 +4,8 @@ mod Filling
 mod Laying
 mod Moving
 mod Newly
+pub mod NewStores
+pub mod OnlyNew
 mod Outcome
 mod Sound
 mod Suiting

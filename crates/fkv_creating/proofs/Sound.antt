@@ -18,7 +18,7 @@ no_triple log its_home addr none has = none_at (subst (λ ts. ◌≡◌ (slice_g
     none_at e = cc
 
 -- where there are no triples and nothing to scan, nothing is reached
-none_reached : (log : Log) (a : ℕ) → log.triples ≡ [] → log.tail ≤ log.start → Reached log a → ⊥
+pub none_reached : (log : Log) (a : ℕ) → log.triples ≡ [] → log.tail ≤ log.start → Reached log a → ⊥
 none_reached log a none empty (in_scan _ x from below stands valid) = omega (arith, from, below, empty)
 none_reached log a none empty (led_to its_home _ has) = no_triple log its_home a none has
 none_reached log a none empty (linked b _ x reached stands same some) = none_reached log b none empty reached

@@ -24,7 +24,7 @@ points_fit (x ∷ xs) zero e k d below = absurd (cc)
 points_fit (x ∷ xs) (suc n) e zero d below = let none : x.0 ≡ 0 = cc in omega (arith, none)
 points_fit (x ∷ xs) (suc n) e (suc k) d below = points_fit xs n (let rest : serial_numbers xs ≡ replicate n 0 = cc in rest) k d (omega (arith, below))
 
-page_some : (page : ℕ) → IsTrue (is_ring_size page min_page max_page) → 1 ≤ page
+pub page_some : (page : ℕ) → IsTrue (is_ring_size page min_page max_page) → 1 ≤ page
 page_some page e = grind (arith, nat_tests)
 
 pub suits_new : (shape : Shape) (slot : ManifestSlot) → IsNewSlot shape.sessions slot → Suits shape 0 Third slot

@@ -8,6 +8,8 @@ use Rattle.fkv_newest.specs.Newest.{IsNewestOf}
 use Rattle.fkv_opening.specs.declared.opened_store.Opened.{Opened}
 use Rattle.fkv_record.specs.declared.formats.Format.TheVariants.{Third}
 use Rattle.fkv_record.specs.declared.manifest_slots.ManifestSlot.{ManifestSlot}
+use Rattle.fkv_record.specs.Layout.{shape_bytes}
+use Rattle.fkv_record.specs.Manifest.{SlotSaid, newest_bytes}
 use Rattle.fkv_record.specs.Points.{serial_numbers}
 use Rattle.fkv_creating.specs.Long.{IsLong}
 
@@ -66,3 +68,18 @@ pub record HoldsNew {D : Type 0} (seen : D → List ℕ) (may_leave : D → List
 -- the bytes after the four writes: zeros at the front, the block over them, the slot from its ninth byte on, and its gate
 unfoldable pub laid : List ℕ → List ℕ → List ℕ → List ℕ
 laid old block slot = written (written (written (written old 0 (replicate 1536 0)) 0 block) 520 (drop 8 slot)) 512 (165 ∷ [])
+
+-- An image is as `create` leaves one: its newest slot is that of a new store of this shape, and it is long.
+pub record IsCreated (shape : Shape) (image : List ℕ) : Type 0 where
+  pub newest : Newest
+  pub is_new : IsNew shape newest
+  pub told : IsNewestOf image newest
+  pub long : IsLong image newest.shape newest.slot
+
+-- what the slot of commit 0 says, where a store has so many sessions
+abbrev pub new_said : ℕ → SlotSaid
+new_said sessions = record { number = 0; first = record { 0 = 1 }; end = record { 0 = 1 }; triples = 0; area = 0; points = replicate sessions (record { 0 = 0 }); checkpoint = 0; lost = [] }
+
+-- the bytes of a new store of a shape, over a device that holds these
+abbrev pub created_bytes : List ℕ → Shape → List ℕ
+created_bytes old shape = laid old (shape_bytes shape) (newest_bytes (new_said shape.sessions))

@@ -3,7 +3,7 @@ ghost use Rattle.std.specs.Prelude.{◌≡◌, ◌+◌, ◌≤◌, ◌^◌, ◌<
 ghost use Rattle.fkv_disk.specs.Bytes.{written};
 ghost use Rattle.fkv_disk.specs.Device.{LeavesOnly, AtEachMoment, HasCause, MakesCalls};
 ghost use Rattle.fkv_newest.specs.Newest.{IsNewestOf};
-ghost use Rattle.fkv_creating.specs.Created.{IsNew, SparesRest};
+ghost use Rattle.fkv_creating.specs.Created.{IsNew, SparesRest, created_bytes};
 ghost use Rattle.fkv_creating.specs.Filled.{cleared, IsCleared, IsShutOrFilled, filled};
 ghost use Rattle.fkv_creating.specs.Long.{IsLong};
 ghost use Rattle.fkv_creating.specs.Moments.{IsTornOver, IsTornInFront, IsStoppedAt, IsLaidInOrder};
@@ -69,6 +69,7 @@ pub fn create<D: Device>(d: &mut D, shape: Shape) -> Result<Newest, Fault>
     ensures ok { D.honest d.old → IfOk result (IsNewestOf (D.seen d.new)) }
     ensures new { IfOk result (IsNew shape) }
     ensures long { D.honest d.old → IfOk result (λ n. IsLong (D.seen d.new) n.shape n.slot) }
+    ensures bytes { D.honest d.old → OnOk result (D.seen d.new ≡ created_bytes (D.seen d.old) shape) }
     ensures spared { D.honest d.old → OnOk result (SparesRest (D.seen d.old) (D.seen d.new)) }
     ensures synced { D.honest d.old → OnOk result (LeavesOnly (D.seen d.new) (D.may_leave d.new)) }
     ensures honest { D.honest d.old ↔ D.honest d.new }

@@ -7,5 +7,5 @@ mod new_slots;
 mod opening;
 
 pub use creating::create;
-pub use laws::law_new_is_sound;
+pub use laws::{law_new_is_sound, law_new_stores};
 pub use opening::create_opened;

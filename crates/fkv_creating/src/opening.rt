@@ -6,7 +6,7 @@ ghost use Rattle.fkv_disk.specs.Device.{LeavesOnly, MakesCalls};
 ghost use Rattle.fkv_newest.specs.Newest.{IsNewestOf};
 ghost use Rattle.fkv_disk.specs.Quiet.{IsHindrance};
 ghost use Rattle.fkv_opening.specs.Opened.{IsStoreOf};
-ghost use Rattle.fkv_creating.specs.Created.{IsNew, IsNewStore, HoldsNew, SparesRest};
+ghost use Rattle.fkv_creating.specs.Created.{IsNew, IsNewStore, HoldsNew, SparesRest, created_bytes};
 ghost use Rattle.fkv_creating.specs.Moments.{IsLaidInOrder};
 
 use crate::creating::create;
@@ -64,6 +64,7 @@ fn opened(alloc: Global, newest: &Newest) -> Result<Opened, Fault>
 pub fn create_opened<D: Device>(alloc: Global, d: &mut D, shape: Shape) -> Result<Opened, Fault>
     ensures ok { D.honest d.old → IfOk result (IsStoreOf (D.seen d.new)) }
     ensures new { IfOk result (IsNewStore shape) }
+    ensures bytes { D.honest d.old → OnOk result (D.seen d.new ≡ created_bytes (D.seen d.old) shape) }
     ensures spared { D.honest d.old → OnOk result (SparesRest (D.seen d.old) (D.seen d.new)) }
     ensures synced { D.honest d.old → OnOk result (LeavesOnly (D.seen d.new) (D.may_leave d.new)) }
     ensures honest { D.honest d.old ↔ D.honest d.new }

@@ -1,2 +1,3 @@
 mod OfLives
 mod OfLog
+mod OfWorlds

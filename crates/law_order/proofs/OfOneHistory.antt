@@ -1,1 +1,5 @@
 pub mod EachLife
+pub mod NewLives
+mod WorkedEffects
+pub mod WorkedLives
+mod WorkedWorld

@@ -1,1 +1,2 @@
 pub mod EachLife
+pub mod NewLives

@@ -1,6 +1,7 @@
 mod Beats
 mod Calm
 mod InLife
+pub mod NewFiles
 mod NewStores
 mod OneCall
 mod Pieces

@@ -1,2 +1,3 @@
+pub mod NewFiles
 pub mod PlayedCalls
 pub mod Scripts

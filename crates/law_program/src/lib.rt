@@ -1,8 +1,10 @@
 //! What scripts print.
 #![tactic(auto)]
 
+mod new_files;
 mod played_calls;
 mod whole_calls;
 
+pub use new_files::law_new_files;
 pub use played_calls::{law_played_calls, law_played_scripts};
 pub use whole_calls::{law_answered_alone, law_whole_calls};

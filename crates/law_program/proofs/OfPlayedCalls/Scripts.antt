@@ -123,11 +123,11 @@ module _ {D S : Type 0} (engine : events.Event → WorldModel D → WorldModel D
       record { goes_on = rest.goes_on; calm = rest.calm; prints = (map_after o first bytes line.later, played.1, played.2, line.line, rest.prints, played.5) }
 
 -- ---- as a life begins
-opening_quiet : (bytes : List ℕ) (o : Opened) (n : Now) → IsStoreOf bytes o → IsOpeningWorld o n → IsQuietLife bytes o n [] n
+pub opening_quiet : (bytes : List ℕ) (o : Opened) (n : Now) → IsStoreOf bytes o → IsOpeningWorld o n → IsQuietLife bytes o n [] n
 unfolding run
 opening_quiet bytes o n store opening = record { store = store; opening = opening; rests = tt; fits = tt; few = omega arith; shows = refl }
 
-opening_idle : (o : Opened) (n : Now) → IsOpeningWorld o n → NobodyCalls n
+pub opening_idle : (o : Opened) (n : Now) → IsOpeningWorld o n → NobodyCalls n
 opening_idle o n opening number s found = let its : IsOpeningSession o number s = opening.its_sessions number s found in its.opened.none_in_hand
 
 -- the store shows its own map then

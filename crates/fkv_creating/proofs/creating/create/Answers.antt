@@ -2,7 +2,7 @@ use Rattle.std.proofs.Common.{◌≡◌, inl, inr, List, ℕ, sym, ◌∙◌, ap
 use Rattle.std.specs.Prelude.{Some}
 use Rattle.fkv_newest.specs.Newest.{IsNewestOf}
 use Rattle.fkv_record.specs.Layout.{shape_bytes}
-use Rattle.fkv_record.specs.Manifest.{newest_bytes, said_in}
+use Rattle.fkv_record.specs.Manifest.{SlotSaid, newest_bytes, said_in}
 use Rattle.fkv_creating.specs.Created.{laid, SparesRest}
 use Rattle.fkv_creating.specs.Filled.{filled, IsCleared, IsShutOrFilled}
 use Rattle.fkv_creating.specs.Moments.{IsNoneOrNew}
@@ -12,6 +12,7 @@ use Rattle.fkv_creating.proofs.Filling.{laid_is_filled, cleared_by, cleared_by_z
 use Rattle.fkv_creating.specs.Long.{IsLong}
 use Rattle.fkv_creating.proofs.Counting.{passed_on}
 use Rattle.fkv_creating.proofs.Newly.{newest_told, spared, is_long}
+use Rattle.fkv_creating.proofs.NewStores.{said_new}
 use Rattle.fkv_creating.proofs.creating.create.Goals as goal
 
 pub returns-clause-ok : goal.returns-clause-ok
@@ -32,6 +33,15 @@ returns-clause-long g c = λ claim.
     c.in_ok-fill.ensures.seen (c.in_ok-clear.ensures.honest.0 claim) ∙ ap (λ s. filled s c.write_shape.result c.write_newest_slot.result) (c.in_ok-clear.ensures.seen claim) ∙ laid_is_filled old c.write_shape.result c.write_newest_slot.result
     ∙ ap (λ b. laid old b c.write_newest_slot.result) c.write_shape.ensures ∙ ap (λ s. laid old (shape_bytes c.args.shape) s) c.write_newest_slot.ensures.said in
     subst (λ image. IsLong image n.shape n.slot) (sym image_is) (is_long old n c.args.shape c.new_store-newest.ensures)
+
+pub returns-clause-bytes : goal.returns-clause-bytes
+returns-clause-bytes g c = λ claim.
+    let n = c.new_store-newest.result in
+    let old = g.D.Device.seen c.args.d.now in
+    let image_is : g.D.Device.seen c.fill.new.d ≡ laid old (shape_bytes c.args.shape) (newest_bytes (said_in n.slot)) =
+    c.in_ok-fill.ensures.seen (c.in_ok-clear.ensures.honest.0 claim) ∙ ap (λ s. filled s c.write_shape.result c.write_newest_slot.result) (c.in_ok-clear.ensures.seen claim) ∙ laid_is_filled old c.write_shape.result c.write_newest_slot.result
+    ∙ ap (λ b. laid old b c.write_newest_slot.result) c.write_shape.ensures ∙ ap (λ s. laid old (shape_bytes c.args.shape) s) c.write_newest_slot.ensures.said in
+    image_is ∙ ap (λ (said : SlotSaid). laid old (shape_bytes c.args.shape) (newest_bytes said)) (said_new c.args.shape.sessions n.slot c.new_store-newest.ensures.slot)
 
 pub returns-clause-spared : goal.returns-clause-spared
 returns-clause-spared g c = λ claim.

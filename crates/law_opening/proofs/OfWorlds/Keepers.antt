@@ -1,0 +1,97 @@
+-- The keeper of a store that opens: nothing is in hand, and its machines rest.
+use Rattle.std.proofs.Common.{[], None, true, false, refl}
+use Rattle.fkv_base.specs.declared.commits.CommitKind.TheVariants.{Full}
+use Rattle.fkv_commit.specs.Deferring.{DeferState}
+use Rattle.fkv_commit.specs.declared.deferring.DeferAnswer.TheVariants.{NoSlot}
+use Rattle.fkv_commit.specs.declared.deferring.Deferring.TheVariants as defer
+use Rattle.fkv_commit.specs.declared.entering.EnterAnswer.TheVariants as enter
+use Rattle.fkv_commit.specs.declared.entering.Entering.TheVariants as entering
+use Rattle.fkv_commit.specs.declared.finishing.FinishAnswer.TheVariants as finish
+use Rattle.fkv_commit.specs.declared.finishing.Finishing.TheVariants as finishing
+use Rattle.fkv_commit.specs.declared.seeking.SeekAnswer.TheVariants as seek
+use Rattle.fkv_commit.specs.declared.seeking.Seeking.TheVariants as seeking
+use Rattle.fkv_commit.specs.declared.starting.StartAnswer.TheVariants as start
+use Rattle.fkv_commit.specs.declared.starting.Starting.TheVariants as starting
+use Rattle.fkv_commit.specs.declared.waiting.WaitAnswer.TheVariants as wait
+use Rattle.fkv_commit.specs.declared.waiting.Waiting.TheVariants as waiting
+use Rattle.fkv_epoch.specs.declared.arming.Arming.TheVariants as arm
+use Rattle.fkv_epoch.specs.declared.claiming.Claiming.TheVariants as claim
+use Rattle.fkv_epoch.specs.declared.raising.Raising.TheVariants as raise
+use Rattle.fkv_epoch.specs.declared.scanning.Scanning.TheVariants as scan
+use Rattle.fkv_flush.specs.declared.flushing.Flushing.TheVariants as flush
+use Rattle.fkv_flush.specs.declared.serving.Serving.TheVariants as serve
+use Rattle.fkv_keeper.specs.Keeping.{KeeperState, no_writes}
+use Rattle.fkv_keeper.specs.NewKeepers.{IsNewKeeper}
+use Rattle.fkv_keeper.specs.declared.answers.KeeperTold.TheVariants.{Turned}
+use Rattle.fkv_keeper.specs.declared.keepers.Keeping.TheVariants.{Ended}
+use Rattle.fkv_log.specs.Moving.{move_at_rest}
+use Rattle.fkv_log.specs.Shifting.{shift_at}
+use Rattle.fkv_log.specs.Turning.{turn_at}
+use Rattle.fkv_log.specs.declared.shifting.Shifting.TheVariants as shift
+use Rattle.fkv_log.specs.declared.turning.Turning.TheVariants as turn
+use Rattle.fkv_maintain.specs.Maintaining.{MaintainState}
+use Rattle.fkv_maintain.specs.declared.maintaining.Maintaining.TheVariants.{Through}
+use Rattle.fkv_opening.specs.declared.opened_store.Opened.{Opened}
+use Rattle.fkv_core.specs.Openings.{newest_commit}
+use Rattle.law_opening.proofs.OfWorlds.Places.{places_fit, places_of}
+
+defer_rested : DeferState
+defer_rested = record { raising = raise.AtRest; arming = arm.AtRest; step = defer.Ended NoSlot }
+
+maintain_rested : MaintainState
+maintain_rested = record {
+  scanning = scan.AtRest;
+  claiming = claim.AtRest;
+  bytes = [];
+  flushing = flush.AtRest;
+  shift = shift_at shift.AtRest move_at_rest;
+  turn = turn_at turn.AtRest move_at_rest;
+  serving = serve.AtRest;
+  is_drain_full = false;
+  step = Through;
+}
+
+pub keeper_of : Opened → KeeperState
+keeper_of o = record {
+  maintain = maintain_rested;
+  start = record { kind = Full; lost = 0; defer = defer_rested; step = starting.Ended start.Idle };
+  enter = record { number = record { 0 = 1 }; defer = defer_rested; step = entering.Ended enter.Idle };
+  copy = None;
+  seek = record { sessions = o.shape.sessions; number = record { 0 = 1 }; points = []; defer = defer_rested; step = seeking.Ended seek.Idle };
+  wait = record { end = record { 0 = 0 }; epoch = 0; step = waiting.Ended wait.Idle };
+  writes = no_writes;
+  finish = record { sessions = o.shape.sessions; number = record { 0 = 1 }; step = finishing.Ended finish.Idle };
+  commit = None;
+  has_entered = false;
+  has_points = false;
+  is_granted = true;
+  is_broken = false;
+  is_drain_full = false;
+  has_finished = false;
+  used = (newest_commit o).checkpoint;
+  last = newest_commit o;
+  lost = o.lost.items;
+  step = Ended (Turned false false);
+}
+
+pub keeper_opens : (o : Opened) → IsNewKeeper o.shape (newest_commit o) o.lost.items (record { shape = o.shape; places = places_of o.shape; state = keeper_of o })
+unfolding keeper_of maintain_rested
+keeper_opens o = record {
+  its_shape = refl;
+  its_places = places_fit o.shape;
+  newest = refl;
+  used = refl;
+  in_hand = refl;
+  its_sessions = refl;
+  sought = refl;
+  no_call = refl;
+  turns_rest = refl;
+  no_commit = refl;
+  no_copy = refl;
+  not_entered = refl;
+  no_points = refl;
+  none_finished = refl;
+  none_left_out = refl;
+  works = refl;
+  granted = refl;
+}

@@ -1,0 +1,40 @@
+-- Each store has lives, and each shape, since there are worlds and new stores.
+use Rattle.std.proofs.Common.{ℕ, List, [], refl}
+use Rattle.std.specs.Prelude.{◌↔◌}
+use Rattle.fkv_base.specs.declared.shapes.Shape.{Shape}
+use Rattle.fkv_core.specs.Openings.{IsOpeningWorld}
+use Rattle.fkv_creating.specs.Created.{IsCreated, IsNewStore, created_bytes}
+use Rattle.fkv_opening.specs.Opened.{IsStoreOf}
+use Rattle.fkv_opening.specs.declared.opened_store.Opened.{Opened}
+use Rattle.fkv_world.specs.World.{Now}
+use Rattle.law_order.specs.OneHistory.EachLife.{Life}
+use Rattle.law_order.specs.OneHistory.NewLives.{ShapesHaveLives, StoresHaveLives}
+
+-- what the laws say of worlds and of new stores
+abbrev pub HaveWorlds : Type 0
+HaveWorlds = (o : Opened) → (n : Now) × IsOpeningWorld o n
+
+abbrev pub AreCreated : Type 0
+AreCreated = (old : List ℕ) (shape : Shape) → IsCreated shape (created_bytes old shape)
+
+abbrev pub AreNew : Type 0
+AreNew = (shape : Shape) → (o : Opened) × IsNewStore shape o
+
+abbrev pub HoldNew : Type 0
+HoldNew = (image : List ℕ) (shape : Shape) (o : Opened) → IsCreated shape image → IsStoreOf image o ↔ IsNewStore shape o
+
+pub stores_have_lives : HaveWorlds → StoresHaveLives
+stores_have_lives worlds = λ bytes o events store fits few. record { world = (worlds o).0; life = record { store = store; begins = (worlds o).1; fits = fits; few = few } }
+
+pub shapes_have_lives : HaveWorlds → AreCreated → AreNew → HoldNew → ShapesHaveLives
+shapes_have_lives worlds created opened holds = λ shape events fits few.
+    let bytes : List ℕ = created_bytes [] shape in
+    let made : IsCreated shape bytes = created [] shape in
+    let o : Opened = (opened shape).0 in
+    let new : IsNewStore shape o = (opened shape).1 in
+    let life : Life = record { bytes = bytes; opened = o; world = (worlds o).0; events = events } in
+    record {
+      its = life;
+      is_new = record { life = record { store = (holds bytes shape o made).1 new; begins = (worlds o).1; fits = fits; few = few }; created = made; store = new };
+      same = refl;
+    }

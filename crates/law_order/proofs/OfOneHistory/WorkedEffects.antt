@@ -1,0 +1,31 @@
+-- What has taken effect in the worked life, computed.
+use Rattle.std.proofs.Common.{◌≡◌, ℕ, List, refl}
+use Rattle.fkv_keeper.specs.Keeping.{KeeperState}
+use Rattle.fkv_session.specs.Sessions.{SessionState}
+use Rattle.fkv_world.specs.World.{life_goes}
+use Rattle.fkv_world.specs.Moves.{session_settled, session_asks}
+use Rattle.fkv_world.specs.Past.{history_after, life_past}
+use Rattle.fkv_world.specs.Runs.{run}
+use Rattle.fkv_session.specs.Sessions.{sitting_ask, attempts, polls_at, op_begun, refresh_call, poll_call, sleep_call, wake_call, accepts, shifts, attempt_ledto, catch_ledto, clear_ledto, finishes_request, keeps_request, poll_ledto, turn_ledto, leave_ledto, sitting_next, sitting_given}
+use Rattle.fkv_pending.specs.Attempting.{attempting_ask, look_ledto, try_ledto, put_ledto, attempting_next}
+use Rattle.fkv_pending.specs.Pending.{with_sought, with_held, with_latch, with_asked}
+use Rattle.fkv_pending.specs.Mailing.{mail_ask, mail_next}
+use Rattle.fkv_ops.specs.Trying.{trying_ask, ends, shared_ledto, appends, copies_from, copies, held_used, walk_ledto, current_ledto, answer_ledto, exclusive_ledto, old_ledto, append_ledto, exclusive_dropped, shared_dropped, trying_next}
+use Rattle.fkv_ops.specs.Walking.{walking_ask, find_ledto, load_ledto, value_ledto, walking_next, walking_on}
+use Rattle.fkv_ops.specs.Appending.{appending_ask, reserve_ledto, fill_ledto, publish_ledto, invalidate_ledto, appending_next}
+use Rattle.fkv_ops.specs.HeaderWords.{header_said}
+use Rattle.fkv_index.specs.Finding.{find_step_ask, find_led}
+use Rattle.fkv_index.specs.Publishing.{publish_ask, publish_next, publish_next_ask}
+use Rattle.fkv_index.specs.Slots.{slot_word}
+use Rattle.fkv_log.specs.Reserving.{reserve_ask, reserve_next, reserve_next_ask}
+use Rattle.fkv_log.specs.Filling.{fill_ask, fill_next}
+use Rattle.fkv_log.specs.Loading.{load_ask, load_next, load_next_ask, load_on}
+use Rattle.fkv_log.specs.Invalidating.{invalidate_ask, invalidate_next}
+use Rattle.fkv_plane.specs.Passing.{passed}
+use Rattle.law_refine.specs.Events.Worked.{worked_events, worked_history}
+use Rattle.law_order.specs.Rules.Ordered.{effects_so_far}
+use Rattle.law_order.proofs.OfOneHistory.WorkedWorld.{places, shape, worked_now}
+
+pub worked_effects : (keeper : KeeperState) (one other : SessionState) (bytes : List ℕ) → effects_so_far (worked_now keeper one other) bytes worked_events ≡ worked_history
+unfolding worked_now places shape life_goes session_settled session_asks history_after life_past run sitting_ask attempts polls_at op_begun refresh_call poll_call sleep_call wake_call accepts shifts attempt_ledto catch_ledto clear_ledto finishes_request keeps_request poll_ledto turn_ledto leave_ledto sitting_next sitting_given attempting_ask look_ledto try_ledto put_ledto attempting_next with_sought with_held with_latch with_asked mail_ask mail_next trying_ask ends shared_ledto appends copies_from copies held_used walk_ledto current_ledto answer_ledto exclusive_ledto old_ledto append_ledto exclusive_dropped shared_dropped trying_next walking_ask find_ledto load_ledto value_ledto walking_next walking_on appending_ask reserve_ledto fill_ledto publish_ledto invalidate_ledto appending_next header_said find_step_ask find_led publish_ask publish_next publish_next_ask slot_word reserve_ask reserve_next reserve_next_ask fill_ask fill_next load_ask load_next load_next_ask load_on invalidate_ask invalidate_next passed
+worked_effects keeper one other bytes = refl
