@@ -1,6 +1,7 @@
 -- What the laws of `in_turn` say.
 use Rattle.std.specs.Prelude.{ℕ, List}
 use Rattle.fkv_core.specs.Openings.{IsOpeningWorld, beginning}
+use Rattle.fkv_disk.specs.Device.{LeavesOnly}
 use Rattle.fkv_opening.specs.Opened.{IsStoreOf}
 use Rattle.fkv_opening.specs.declared.opened_store.Opened.{Opened}
 use Rattle.fkv_world.specs.OwnEvents.{keeper_events}
@@ -8,6 +9,7 @@ use Rattle.fkv_world.specs.World.{Event, Now}
 use Rattle.law_world.specs.Keeper.Lives.{IsLifeTold}
 use Rattle.law_world.specs.Standing.Opening.{AreNumbersInTurn}
 use Rattle.law_opening.specs.Lives.OpenedFrom.{IsOpenedFrom}
+use Rattle.law_opening.specs.Lives.Steps.{AllLeadOn, OneCommitStands, Step, device_behind, events_of, now_behind}
 use Rattle.law_commit.specs.Floor.Stands.{FloorStands, LiveViewsAreNear}
 use Rattle.law_commit.specs.Phases.Staged.{OpensAtRest}
 
