@@ -3,7 +3,7 @@ ghost use Rattle.std.specs.Prelude.{List};
 ghost use Rattle.fkv_latch.specs.Latched.{AreCounted, AreLatchesApart};
 ghost use Rattle.fkv_world.specs.World.{Event};
 ghost use Rattle.fkv_world.specs.Runs.{World, run};
-ghost use Rattle.law_parts.specs.Latches.InTries.{ShareInTries};
+ghost use Rattle.law_parts.specs.Latches.InTries.{ShareInTries, StandsBesideNone};
 ghost use Rattle.law_parts.specs.Latches.Shows.{AreApart, ArePermitted, IsOpened, Shows, seen_by_latches};
 
 /// Over every life of the engine that begins as a store was opened, whatever its calls, commits, turns and the order of its steps: each
@@ -26,7 +26,8 @@ pub fn law_world_latched()
 
 /// In each such life, also while a call is in hand, a session's actor has in the word of each latch what the session's requests share, and what the request of
 /// that call does: its share, or one that it is dropping, or one that has met bit 63 and isn't given back yet. So a latch counts just the requests that share it, but for
-/// those two.
+/// those two. And where a session holds a latch alone, no request shares it, of whatever session, in a try or waiting.
 pub fn law_latched_in_tries()
-    ensures { ShareInTries }
+    ensures shares { ShareInTries }
+    ensures beside_none { StandsBesideNone }
 {}

@@ -8,9 +8,8 @@ use Rattle.fkv_world.specs.World.{Now}
 use Rattle.law_commit.specs.PhaseVersions.{phase_version, version_said}
 use Rattle.law_commit.specs.Phases.Staged.{OpensAtRest}
 use Rattle.law_commit.specs.Versions.Cells.{CellsUpto, made_in}
-use Rattle.law_log.specs.Chains.{Cell, Logged, Published, Unborn}
-use Rattle.law_opening.specs.Log.OpeningLog.{cell_at, chain_of, is_in, logged_at, opening_log}
-use Rattle.law_refine.specs.Events.GhostEvents.{home_in}
+use Rattle.law_log.specs.Chains.{Cell, Published, Unborn}
+use Rattle.law_opening.specs.Log.OpeningLog.{cell_at, logged_at, opening_log}
 
 either_made : (stands : Bool) (cell : Cell) (version : ℕ) → made_in (cond stands (Published cell) Unborn) ≡ Some version → version ≡ cell.version
 either_made true cell version made = cc

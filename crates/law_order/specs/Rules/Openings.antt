@@ -10,9 +10,7 @@ use Rattle.fkv_world.specs.World.{Now}
 use Rattle.law_commit.specs.Cuts.{HasItsWords, ShowCuts, ShowsDurable}
 use Rattle.law_commit.specs.Versions.Laws.{OpensWithLog}
 use Rattle.law_order.specs.Known.Begins.{BeginsLife}
-use Rattle.law_order.specs.OneHistory.EachLife.{InEachLife}
-use Rattle.law_order.specs.Rules.InTime.{ReadsInTime}
-use Rattle.law_order.specs.Rules.Ordered.{HasLegalHistory, IsGuarded, OfEachKept, OrdersItsCalls, ReadsFreshly, RunsActionsOnce, opening_version}
+use Rattle.law_order.specs.Rules.Ordered.{opening_version}
 
 -- the life of an opened store begins with the log of its image
 abbrev pub BeginsItsLife : Type 0
