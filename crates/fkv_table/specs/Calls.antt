@@ -28,16 +28,16 @@ OnlyMoves number [] = ⊤
 OnlyMoves number (its ∷ before) = ((its ≡ Moves number) ⊎ (speaks (Sits number) (actor_of its) ≡ false)) × OnlyMoves number before
 
 -- none of this session
-abbrev pub NoneOf : ℕ → List Happening → Type 0
-NoneOf number [] = ⊤
-NoneOf number (its ∷ before) = (speaks (Sits number) (actor_of its) ≡ false) × NoneOf number before
+abbrev pub AreOthers : ℕ → List Happening → Type 0
+AreOthers number [] = ⊤
+AreOthers number (its ∷ before) = (speaks (Sits number) (actor_of its) ≡ false) × AreOthers number before
 
 -- Behind a call the list has its start, once, behind all that had been seen; and from there on of this session nothing but its steps.
 pub record HasCalled (number : ℕ) (call : Call) (seen seen' : List Happening) : Type 0 where
   pub steps : List Happening
   pub only : OnlyMoves number steps
   pub others : List Happening
-  pub quiet : NoneOf number others
+  pub quiet : AreOthers number others
   pub so : seen' ≡ steps ++ Calls number call ∷ (others ++ seen)
 
 pub record HasStepped (number : ℕ) (seen seen' : List Happening) : Type 0 where
