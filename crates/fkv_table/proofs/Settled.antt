@@ -323,3 +323,29 @@ module _ {K : Type 0} (at : K → World) where
               ap (left_at y.now n) now_there ∙ ap (λ (k : Seat). session_asks_left k m'.state) (chair_at at key me own m open sits (Moves n ∷ behind) ∙ sym seat_on) in
           let some : 0 < session_asks_left m.seat m.state = (session_left m.seat m.state).0 (not_done (session_ask m.seat m.state) place named) in
           omega (arith, down, before, after, some)
+
+  -- one step of a session, whole
+  pub record IsStepped (key : K) (me : Me Slot (Knows K)) (own : List Happening) (m : Sitter) (me' : Me Slot (Knows K)) (m' : Sitter) : Type 0 where
+    pub seated : IsSeated at key me' [] m'
+    pub seat : m'.seat ≡ m.seat
+    pub went : Went at me own m.seat.number me'
+    pub idle : IsIdleEmpty at m' me'
+    pub told : (its : Told) → session_ask m'.seat m'.state ≡ Done its → IsToldLast (led (plane at) (at key) me'.0.seen) m'.seat.number (telling its m'.state.finished)
+    pub fewer : session_asks_left m'.seat m'.state < session_asks_left m.seat m.state
+
+  pub asked_in_hand : (key : K) (me me1 : Me Slot (Knows K)) (own : List Happening) (m m1 : Sitter) (first ask : Ask Told) → IsGuardedOpening (at key) → IsSeated at key me own m → Replied at key me own m me1 m1
+      → first ≡ session_ask m.seat m.state → (place : ℕ) × (asked_place first ≡ Some place) → ask ≡ session_ask m1.seat m1.state → IsAsked at ask me1
+  asked_in_hand key me me1 own m m1 first ask open sits r was (place, e) is = hand_asked key me me1 own m m1 open sits r place (ap asked_place (sym was) ∙ e) ask is
+
+  pub stepped_on : (key : K) (me me1 me' : Me Slot (Knows K)) (own : List Happening) (m m1 m' : Sitter) (first ask : Ask Told) → IsGuardedOpening (at key) → IsSeated at key me own m → Replied at key me own m me1 m1
+      → first ≡ session_ask m.seat m.state → (place : ℕ) × (asked_place first ≡ Some place) → ask ≡ session_ask m1.seat m1.state → Settled at ask me1 m1 me' m' → IsStepped key me own m me' m'
+  stepped_on key me me1 me' own m m1 m' first ask open sits r was (place, e) is t =
+      let named : asked_place (session_ask m.seat m.state) ≡ Some place = ap asked_place (sym was) ∙ e in
+      record {
+        seated = seated_on key me me1 own m m1 open sits r place named me' m' ask is t;
+        seat = seat_on key me me1 own m m1 open sits r place named me' m' ask is t;
+        went = went_on key me me1 own m m1 open sits r place named me' m' ask is t;
+        idle = idle_on key me me1 own m m1 open sits r place named me' m' ask is t;
+        told = told_on key me me1 own m m1 open sits r place named me' m' ask is t;
+        fewer = fewer_on key me me1 own m m1 open sits r place named me' m' ask is t;
+      }
