@@ -9,5 +9,6 @@ mod rule;
 mod sessions;
 
 pub use happenings::Happening;
+pub use positions::law_positions;
 pub use rule::{Engine, Pass, Table};
 pub use sessions::Session;
