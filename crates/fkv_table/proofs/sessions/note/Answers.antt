@@ -1,5 +1,5 @@
 -- A start changes no word.
-use Rattle.std.proofs.Common.{◌<◌, arith, refl}
+use Rattle.std.proofs.Common.{arith, refl}
 use mathlib.Core.Option.{none}
 use Rattle.atomic_table.specs.Table.{step}
 use Rattle.fkv_table.specs.declared.happenings.Happening.TheVariants.{Calls}

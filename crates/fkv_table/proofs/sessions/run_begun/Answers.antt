@@ -1,5 +1,5 @@
 -- A call that is over at once is noted, and every other one goes its steps.
-use Rattle.std.proofs.Common.{◌≡◌, ℕ, [], refl, sym, ap, subst, ◌∙◌}
+use Rattle.std.proofs.Common.{refl, sym, subst, ◌∙◌}
 use Rattle.fkv_session.specs.Sessions.{Seat}
 use Rattle.fkv_table.specs.Calls.{HasStepped}
 use Rattle.fkv_table.specs.Desks.{noted}
@@ -21,7 +21,7 @@ pub returns-in-Done-clause-told : goal.returns-in-Done-clause-told
 returns-in-Done-clause-told g c =
     let t = c.note.ensures.told in
     noted_told (opening_of g.D.Device.seen) c.args.words.now.key c.args.seat.now.me c.args.machine.now c.args.call.now c.requires.table.1.opening c.requires.seated c.requires.note c.note.new.seat.me 0 t.0 t.1 c.in-Done.told c.requires.idle
-        (sym c.requires.ask ∙ c.in-Done.is)
+    (sym c.requires.ask ∙ c.in-Done.is)
 
 pub step-next-requires : goal.step-next-requires
 step-next-requires g c = record {
