@@ -1,0 +1,16 @@
+//! The threaded store: the engine's words lie in a table that threads share, and each session makes its calls there by a pass of its own.
+#![tactic(auto)]
+
+mod crossing;
+mod happenings;
+mod performing;
+mod plays;
+mod positions;
+mod rule;
+mod sessions;
+
+pub use crossing::crosses;
+pub use happenings::Happening;
+pub use positions::law_positions;
+pub use rule::{Engine, Pass, Table};
+pub use sessions::Session;
