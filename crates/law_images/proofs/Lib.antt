@@ -1,3 +1,4 @@
+mod AtRest
 mod Block
 mod EndsFlushed
 mod Kept
