@@ -1,7 +1,13 @@
+mod AreaFits
 mod AtRest
+mod Begun
+mod BegunRun
 mod Block
+mod CopiedLength
 mod EndsFlushed
 mod Kept
+mod LifeNamed
+mod NamedNow
 mod OpenedLong
 mod Ranges
 mod Reaching

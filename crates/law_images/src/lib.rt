@@ -1,16 +1,18 @@
 //! What a crash's image holds of a run: the records that were flushed, how far it reaches, its shape, the opened commit until
-//! another is finished, and where commits end.
+//! another is finished, which commit it names, and what that commit says.
 #![tactic(auto)]
 
 mod ends;
 mod first;
 mod lengths;
+mod named;
 mod opened;
 mod records;
 
 pub use ends::law_commits_end_flushed;
 pub use first::law_images_agree_at_first;
 pub use lengths::law_images_are_long;
+pub use named::law_images_name_a_begun;
 pub use opened::{
     law_images_keep_opened, law_images_keep_their_shape, law_images_name_their_commit,
 };
