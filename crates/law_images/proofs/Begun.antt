@@ -33,6 +33,7 @@ plain c = record c { is_sealed = false; is_finished = false }
 -- a full commit uses its own checkpoint, and a log commit the last one's
 pub record UsesOwn (c : BegunCommit) : Type 0 where
   pub number : c.checkpoint.number ≡ c.number
+  pub first : c.checkpoint.first ≡ c.first
   pub whole : length c.triples ≡ 16 * c.checkpoint.triples
 
 abbrev pub Uses : CommitKind → Finality → BegunCommit → Type 0

@@ -134,7 +134,7 @@ all_written its (committing.Broken why) e = cc
 pub more_made : (shape : Shape) (opened : List ℕ) (first c : BegunCommit) (begun : List BegunCommit) (its other : Checkpoint) (triples : List ℕ) → other ≡ its → AreTriplesOf shape opened first begun its triples → AreTriplesOf shape opened first (c ∷ begun) other triples
 more_made shape opened first c begun its other triples same (inl made) =
     let by = made.2 in
-    inl (made.0, inr made.1, record { full = by.full; own = by.own; checkpoint = by.checkpoint ∙ sym same; triples = by.triples })
+    inl (made.0, inr made.1, record { full = by.full; own = by.own; first = by.first; checkpoint = by.checkpoint ∙ sym same; triples = by.triples })
 more_made shape opened first c begun its other triples same (inr old) = subst (λ (x : Checkpoint). AreTriplesOf shape opened first (c ∷ begun) x triples) (sym same) (inr old)
 
 module _ (shape : Shape) (opened : List ℕ) (first : BegunCommit) (Good : BegunCommit → Type 0) where
@@ -223,12 +223,13 @@ module _ (shape : Shape) (opened : List ℕ) (first : BegunCommit) (Good : Begun
   ended_on p s was its w calls begun (Calls done bytes) told e is = still s was its w calls begun (Ended told) e (still_ended told s was its w calls begun is)
 
   -- ---- in the wait
-  uses_so : (s : KeeperState) (c : Commit) (b : BegunCommit) (kind : CommitKind) → b.checkpoint ≡ checkpoint_used c kind s.last s.copy → b.triples ≡ triples_written kind s.copy → b.number ≡ c.number → Uses kind s.last b
-  uses_so s c b Full used triples number = record {
+  uses_so : (s : KeeperState) (c : Commit) (b : BegunCommit) (kind : CommitKind) → b.checkpoint ≡ checkpoint_used c kind s.last s.copy → b.triples ≡ triples_written kind s.copy → b.number ≡ c.number → b.first ≡ c.first → Uses kind s.last b
+  uses_so s c b Full used triples number first_is = record {
     number = ap (λ (x : Checkpoint). x.number) used ∙ sym number;
+    first = ap (λ (x : Checkpoint). x.first) used ∙ sym first_is;
     whole = ap (λ (t : List ℕ). length t) triples ∙ (copied_length s.copy ∙ ap (λ (x : Checkpoint). 16 * x.triples) (sym used));
   }
-  uses_so s c b Log used triples number = used
+  uses_so s c b Log used triples number first_is = used
 
   begun_on : (s : KeeperState) (was : Bool) (its : Standing) (calls : List Call) (begun : List BegunCommit) (found : Option Commit) → s.commit ≡ found → was ≡ false → IsLast shape opened first Good s.last its begun
       → (let a = writes_begun shape s found in (a.step ≡ Writes → BeginsSo shape opened first Good a calls) → Holds (is_writing_after a.step was) a its (record { first = a.writes; answers = [] }) calls begun)
@@ -244,7 +245,7 @@ module _ (shape : Shape) (opened : List ℕ) (first : BegunCommit) (Good : Begun
             good = b.good c in_hand;
             unfinished = refl;
             way = record { before = calls; begins = b.begins; made = refl };
-            writes = record { place = refl; slot = refl; area = refl; triples = refl; uses = uses_so s c (commit_opening a c) c.kind refl refl refl };
+            writes = record { place = refl; slot = refl; area = refl; triples = refl; uses = uses_so s c (commit_opening a c) c.kind refl refl refl refl };
             rest = begun;
             before = last;
             list = refl;
@@ -328,6 +329,7 @@ module _ (shape : Shape) (opened : List ℕ) (first : BegunCommit) (Good : Begun
         record {
           full = ap (λ (x : BegunCommit). x.kind) same ∙ its_kind;
           own = ap (λ (x : BegunCommit). x.checkpoint.number) same ∙ (own.number ∙ ap (λ (x : BegunCommit). x.number) (sym same));
+          first = ap (λ (x : BegunCommit). x.checkpoint.first) same ∙ (own.first ∙ ap (λ (x : BegunCommit). x.first) (sym same));
           checkpoint = ap (λ (x : BegunCommit). x.checkpoint) there;
           triples = ap (λ (x : BegunCommit). x.triples) same ∙ sym writes.triples;
         },

@@ -134,6 +134,7 @@ module _ (shape : Shape) (opened : List ℕ) (first : BegunCommit) (Good : Begun
           record {
             full = ap (λ (x : BegunCommit). x.kind) same ∙ kind;
             own = ap (λ (x : BegunCommit). x.checkpoint.number) same ∙ (own.number ∙ ap (λ (x : BegunCommit). x.number) (sym same));
+            first = ap (λ (x : BegunCommit). x.checkpoint.first) same ∙ (own.first ∙ ap (λ (x : BegunCommit). x.first) (sym same));
             checkpoint = refl;
             triples = ap (λ (x : BegunCommit). x.triples) same ∙ (sym writes.triples ∙ sym there);
           },

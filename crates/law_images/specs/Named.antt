@@ -25,10 +25,11 @@ slot_of shape c = slot_written shape.sessions c.number c.end c.checkpoint c.poin
 abbrev pub AreSlotOf : Shape → List ℕ → BegunCommit → BegunCommit → List ℕ → Type 0
 AreSlotOf shape opened first c bytes = (bytes ≡ slot_of shape c) ⊎ ((c ≡ first) × (bytes ≡ slot_in opened (slot_place first.number)))
 
--- a full commit has made this checkpoint, and these are the triples that it wrote
+-- a full commit has made this checkpoint, with its own number and first address, and these are the triples that it wrote
 pub record IsMadeBy (c : BegunCommit) (its : Checkpoint) (stored : List ℕ) : Type 0 where
   pub full : c.kind ≡ Full
   pub own : c.checkpoint.number ≡ c.number
+  pub first : c.checkpoint.first ≡ c.first
   pub checkpoint : c.checkpoint ≡ its
   pub triples : c.triples ≡ stored
 

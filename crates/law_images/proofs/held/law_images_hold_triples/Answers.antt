@@ -117,7 +117,7 @@ returns-clause-held c = λ o n bytes events image store begins long left.
     record {
       read = r;
       held = elim named.triples [
-        | inl made ↦ inl (made.0, made.1, (let by = made.2 in record { full = by.full; own = by.own; checkpoint = by.checkpoint; triples = by.triples ∙ sym read }))
+        | inl made ↦ inl (made.0, made.1, (let by = made.2 in record { full = by.full; own = by.own; first = by.first; checkpoint = by.checkpoint; triples = by.triples ∙ sym read }))
         | inr old ↦ inr (opened_triples o n bytes image store it r.newest store.checkpoint begins area r.shape old.0 later
             (read ∙ old.1) r.its)
       ];
