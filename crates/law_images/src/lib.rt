@@ -2,6 +2,7 @@
 //! another is finished, which commit it names, and what that commit says.
 #![tactic(auto)]
 
+mod copied;
 mod ends;
 mod first;
 mod fits;
@@ -13,6 +14,7 @@ mod opened;
 mod read;
 mod records;
 
+pub use copied::law_commits_write_their_copy;
 pub use ends::law_commits_end_flushed;
 pub use first::law_images_agree_at_first;
 pub use fits::law_commits_fit;
