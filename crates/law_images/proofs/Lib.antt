@@ -12,6 +12,7 @@ mod LifeNamed
 mod LifeTails
 mod LostHeld
 mod LostOpened
+mod Moments
 mod NamedNow
 mod OpenedLong
 mod Ranges

@@ -4,7 +4,6 @@ use Rattle.fkv_checkpoint.specs.Copied.{copied_after, copying_after}
 use Rattle.fkv_checkpoint.specs.Copying.{copy_ask}
 use Rattle.fkv_checkpoint.specs.Triples.{all_bytes}
 use Rattle.fkv_keeper.specs.CheckpointLaws.{copy_by}
-use Rattle.fkv_keeper.specs.KeeperRun.{KeeperEvent}
 use Rattle.fkv_plane.specs.declared.asks.Ask.TheVariants.{Done}
 use Rattle.fkv_world.specs.OwnEvents.{keeper_events}
 use Rattle.fkv_world.specs.Runs.{World}
@@ -12,11 +11,11 @@ use Rattle.fkv_world.specs.World.{Event}
 use Rattle.law_commit.specs.BegunCommits.{BegunCommit}
 use Rattle.law_world.specs.Keeper.Lives.{keeper_after, replies_copied}
 
--- Its triples are those of the copy that the keeper had finished, by its own events before the writes of the commit began.
+-- Its triples are those of the copy that the keeper had finished at a moment of the life, as the writes of the commit were about to begin.
 pub record WritesItsCopy (opening : World) (events : List Event) (c : BegunCommit) : Type 0 where
-  pub later : List KeeperEvent
-  pub before : List KeeperEvent
-  pub split : keeper_events opening events ≡ later ++ before
-  pub in_hand : (let own = before in (keeper_after opening own).copy ≡ Some (copy_by opening.now.places (replies_copied opening own)))
-  pub finished : (let own = before in copy_ask (copying_after opening.now.places (replies_copied opening own)) ≡ Done tt)
-  pub triples : (let own = before in c.triples ≡ all_bytes (copied_after opening.now.places (replies_copied opening own)))
+  pub later : List Event
+  pub moment : List Event
+  pub split : events ≡ later ++ moment
+  pub in_hand : (let own = keeper_events opening moment in (keeper_after opening own).copy ≡ Some (copy_by opening.now.places (replies_copied opening own)))
+  pub finished : (let own = keeper_events opening moment in copy_ask (copying_after opening.now.places (replies_copied opening own)) ≡ Done tt)
+  pub triples : (let own = keeper_events opening moment in c.triples ≡ all_bytes (copied_after opening.now.places (replies_copied opening own)))
