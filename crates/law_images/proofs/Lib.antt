@@ -6,6 +6,7 @@ mod Block
 mod CopiedLength
 mod CopyWritten
 mod EndsFlushed
+mod HomesApart
 mod Kept
 mod LifeFits
 mod LifeNamed
