@@ -1,6 +1,7 @@
 -- The wait of a commit ends once the log is flushed up to its end; so it is at each moment of its writes.
-use Rattle.std.proofs.Common.{◌≡◌, ℕ, ◌≤◌, ◌∙◌, arith, refl, sym, ap, subst, Bool, true, false, List, [], ◌∷◌, ◌++◌}
+use Rattle.std.proofs.Common.{◌≡◌, ℕ, ◌*◌, ◌≤◌, ◌∙◌, arith, refl, sym, ap, subst, Bool, true, false, List, [], ◌∷◌, ◌++◌}
 use Rattle.std.specs.Prelude.{⊤, nat_le, if◌then◌else◌, Option, Some, None}
+use Rattle.std.proofs.Math.Nat.{mul-le-mul}
 use Rattle.std.proofs.lemmas.Bool.Decides.{nat_tests}
 use Rattle.fkv_base.specs.declared.numbers.Addr.{Addr}
 use Rattle.fkv_base.specs.declared.phases.Phase.TheVariants as phase
@@ -183,7 +184,7 @@ called_writes_end most s true at ends = written_ends most (record s { writes = c
 called_writes_end most s false at ends = tt
 
 -- ---- each event of the keeper; what it loads as flushed is no more than this
-abbrev LoadsUpTo : ℕ → KeeperState → ℕ → Type 0
+abbrev pub LoadsUpTo : ℕ → KeeperState → ℕ → Type 0
 LoadsUpTo most s reply = s.step ≡ Waits → s.wait.step ≡ waits.LoadsFlushed → reply ≤ most
 
 reply_ends : (most : ℕ) (shape : Shape) (p : Places) (s : KeeperState) (step : Keeping) (reply : ℕ) (granted : Bool) → s.step ≡ step → LoadsUpTo most s reply → EndsAt most s step → Ends most (keeping_next shape p s step reply granted)
@@ -210,11 +211,11 @@ called_ends most shape p s Maintains done bytes at ends = maintain_ends most _ (
 called_ends most shape p s Writes done bytes at ends = called_writes_end most s done at ends
 called_ends most shape p s step done bytes at ends = still most s step at ends
 
-abbrev EventLoads : ℕ → KeeperState → KeeperEvent → Type 0
+abbrev pub EventLoads : ℕ → KeeperState → KeeperEvent → Type 0
 EventLoads most s (Replies reply granted) = LoadsUpTo most s reply
 EventLoads most s event = ⊤
 
-happens_ends : (most : ℕ) (shape : Shape) (p : Places) (s : KeeperState) (event : KeeperEvent) → EventLoads most s event → Ends most s → Ends most (keeper_happens shape p s event)
+pub happens_ends : (most : ℕ) (shape : Shape) (p : Places) (s : KeeperState) (event : KeeperEvent) → EventLoads most s event → Ends most s → Ends most (keeper_happens shape p s event)
 unfolding keeper_happens
 happens_ends most shape p s BeginsTurn loads ends = begins_ends most s (turn_asked s) (is_in_hand s.step) ends (turn_ends most s)
 happens_ends most shape p s (BeginsCommit kind) loads ends = begins_ends most s (commit_asked s kind) (is_in_hand s.step) ends (commit_ends most s kind)
@@ -222,7 +223,7 @@ happens_ends most shape p s (Replies reply granted) loads ends = reply_ends most
 happens_ends most shape p s (Gets action) loads ends = given_ends most shape p s s.step action refl ends
 happens_ends most shape p s (Calls done bytes) loads ends = called_ends most shape p s s.step done bytes refl ends
 
-abbrev AllLoad : ℕ → Shape → Places → KeeperState → List KeeperEvent → Type 0
+abbrev pub AllLoad : ℕ → Shape → Places → KeeperState → List KeeperEvent → Type 0
 AllLoad most shape p s [] = ⊤
 AllLoad most shape p s (event ∷ before) = EventLoads most (keeper_run shape p s before) event × AllLoad most shape p s before
 
@@ -278,7 +279,7 @@ part_load most shape p read n (world.Calls session call) high = tt
 part_load most shape p read n (world.Moves session) high = tt
 part_load most shape p read n world.Crashes high = tt
 
-event_load : (most : ℕ) (w : World) (event : Event) → (levels_of w.now.words).flushed ≤ most → AllLoad most w.now.shape w.now.places w.now.keeper (keeper_part_of w event)
+pub event_load : (most : ℕ) (w : World) (event : Event) → (levels_of w.now.words).flushed ≤ most → AllLoad most w.now.shape w.now.places w.now.keeper (keeper_part_of w event)
 event_load most w event high = by_crash w.now.crashed
   where
     by_crash : (c : Bool) → AllLoad most w.now.shape w.now.places w.now.keeper (if c then [] else keeper_part w.now.shape w.now.places (read_by_keeper w) (near w.now w.now.keeper) event)
@@ -286,7 +287,7 @@ event_load most w event high = by_crash w.now.crashed
     by_crash false = part_load most w.now.shape w.now.places (read_by_keeper w) (near w.now w.now.keeper) event high
 
 -- ---- a life
-higher : (low most : ℕ) (s : KeeperState) (step : Keeping) → low ≤ most → EndsAt low s step → EndsAt most s step
+pub higher : (low most : ℕ) (s : KeeperState) (step : Keeping) → low ≤ most → EndsAt low s step → EndsAt most s step
 higher low most s Waits up ends = ends
 higher low most s Writes up ends = λ c here. let its = ends c here in omega (arith, up, its)
 higher low most s Finishes up ends = λ c here. let its = ends c here in omega (arith, up, its)
@@ -298,7 +299,7 @@ higher low most s Enters up ends = tt
 higher low most s Copies up ends = tt
 higher low most s Seeks up ends = tt
 
-opened_ends : (most : ℕ) (s : KeeperState) (step : Keeping) → s.step ≡ step → is_in_hand step ≡ false → Ends most s
+pub opened_ends : (most : ℕ) (s : KeeperState) (step : Keeping) → s.step ≡ step → is_in_hand step ≡ false → Ends most s
 opened_ends most s (Ended its) e free = still most s (Ended its) e tt
 opened_ends most s Starts e free = cc
 opened_ends most s Maintains e free = cc
@@ -340,3 +341,7 @@ ends_higher low most s Enters up ends = tt
 ends_higher low most s Copies up ends = tt
 ends_higher low most s Seeks up ends = tt
 ends_higher low most s Waits up ends = tt
+
+-- the flushed offset lies below the limit, which ends whole pages of the device
+pub on_device : (flushed safe read_only tail limit pages page disk : ℕ) → flushed ≤ safe → safe ≤ read_only → read_only ≤ tail → tail ≤ limit → limit ≡ pages * page → pages ≤ disk → flushed ≤ disk * page
+on_device flushed safe read_only tail limit pages page disk a b d e whole few = let most : pages * page ≤ disk * page = mul-le-mul few (omega arith) in omega (arith, a, b, d, e, whole, most)

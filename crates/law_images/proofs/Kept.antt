@@ -3,12 +3,14 @@ use Rattle.std.proofs.Common.{◌≡◌, ℕ, zero, suc, ◌+◌, ◌-◌, ◌*�
 use Rattle.std.specs.Prelude.{Option, Some, slice_get}
 use Rattle.fkv_base.specs.declared.shapes.Shape.{Shape}
 use Rattle.fkv_commit.specs.declared.commits.Commit.{Commit}
+use Rattle.fkv_core.specs.Openings.{area_numbered}
 use Rattle.fkv_disk.specs.Bytes.{byte_at, bytes_at}
 use Rattle.fkv_disk.proofs.Shown.{byte_at-bytes_at}
 use Rattle.fkv_keeper.specs.declared.keepers.Keeping.{Keeping}
 use Rattle.fkv_keeper.specs.declared.keepers.Keeping.TheVariants.{Ended, Starts, Maintains, LoadsPhase, Enters, Copies, Seeks, Waits, Writes, Finishes}
 use Rattle.fkv_keeper.specs.Keeping.{KeeperState}
 use Rattle.fkv_keeper.specs.KeeperRun.{KeeperEvent, keeper_run}
+use Rattle.fkv_keeper.specs.LastCommits.{area_number}
 use Rattle.fkv_keeper.proofs.Shown.{each_move}
 use Rattle.fkv_manifest.specs.Committing.{CommitWriter}
 use Rattle.fkv_manifest.specs.Newest.{newest, slot_in}
@@ -59,8 +61,14 @@ standing_same shape p opened opening (event ∷ before) none =
     ∙ standing_same shape p opened opening before none.1
 
 -- ---- its slot and its triples
+-- the area that is told by its number
+pub same_area : (area : ℕ) → area < 2 → area_number (area_numbered area) ≡ area
+same_area zero small = refl
+same_area (suc zero) small = refl
+same_area (suc (suc area)) small = absurd (omega (arith, small))
+
 -- a part of a range that reads alike does so too
-part_same : (xs ys : List ℕ) (at n from size : ℕ) → bytes_at xs at n ≡ bytes_at ys at n → from + size ≤ n → bytes_at xs (at + from) size ≡ bytes_at ys (at + from) size
+pub part_same : (xs ys : List ℕ) (at n from size : ℕ) → bytes_at xs at n ≡ bytes_at ys at n → from + size ≤ n → bytes_at xs (at + from) size ≡ bytes_at ys (at + from) size
 part_same xs ys at n from size same within = range_same xs ys (at + from) size (λ i low high.
     let k : ℕ = i - at in
     let there : at + k ≡ i = omega (arith, low) in

@@ -51,3 +51,11 @@ holds_below apart bytes o store long a some low =
     let slot_end : ℕ = (let slot = n.slot in slot.end.0) in
     let same : o.tail.0 ≡ slot_end = ap (λ (a : Addr). a.0) tail in
     below_end (area_place o.shape 2) slot_end a (length bytes) at.records some (omega (arith, low, same))
+
+-- an image that is no shorter is as long
+pub longer : (bytes image : List ℕ) (shape : Shape) (slot : ManifestSlot) → length bytes ≤ length image → IsLong bytes shape slot → IsLong image shape slot
+longer bytes image shape slot more long = record {
+  slots = (let its = long.slots in omega (arith, its, more));
+  records = λ some. (let its = long.records some in omega (arith, its, more));
+  triples = λ some. (let its = long.triples some in omega (arith, its, more));
+}

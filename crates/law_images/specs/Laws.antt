@@ -1,5 +1,11 @@
+pub mod Copied
 pub mod Ends
 pub mod First
+pub mod Fits
+pub mod Held
 pub mod Lengths
+pub mod Lost
+pub mod Named
 pub mod Opened
+pub mod Read
 pub mod Records

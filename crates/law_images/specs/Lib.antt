@@ -1,6 +1,12 @@
+pub mod Copied
 pub mod Ends
 pub mod First
+pub mod Fits
+pub mod Held
 pub mod Laws
 pub mod Left
+pub mod Lost
+pub mod Named
 pub mod Opened
+pub mod Read
 pub mod Records

@@ -2,6 +2,7 @@
 ghost use Rattle.law_images.specs.Laws.Opened.{ImagesKeepTheOpened, ImagesKeepTheirShape, ImagesNameTheirCommit};
 
 use fkv_record::law_spellings_apart;
+use law_commit::law_begun;
 use law_opening::{law_guard_opens, law_log_begins, law_long_opens, law_told_opens};
 use law_refine::law_device_shows_log;
 use law_world::law_world_one_commit_stands;
@@ -24,7 +25,7 @@ pub fn law_images_name_their_commit()
 
 /// Until the first commit of a life comes to its finish, each image that a crash may leave has the commit with which the store was opened in force, as it
 /// was: its slot is the newest one, it has the triples of its checkpoint and its records, and it ends behind all of these. So `law_kept_paper_is_sound` speaks
-/// of it. Or it has the new commit in force, whole. That commits' numbers are in turn is a premise, until the phases of lives show it.
+/// of it. Or it has the new commit in force, whole.
 pub fn law_images_keep_opened()
     ensures { ImagesKeepTheOpened }
 {
@@ -33,6 +34,7 @@ pub fn law_images_keep_opened()
     law_log_begins();
     law_long_opens();
     law_told_opens();
+    law_begun();
     law_device_shows_log();
     law_world_one_commit_stands();
 }

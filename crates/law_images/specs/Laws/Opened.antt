@@ -13,7 +13,6 @@ use Rattle.fkv_world.specs.World.{Event, Now}
 use Rattle.law_images.specs.Left.{IsLeft, KeepsLog, OpensLong}
 use Rattle.law_images.specs.Opened.{FinishesNoCommit, HasSlot, KeepsCommit, named_in}
 use Rattle.law_world.specs.Keeper.Lives.{life_writing}
-use Rattle.law_world.specs.Standing.Opening.{AreNumbersInTurn}
 
 -- an image begins with the block of the shape
 abbrev pub ImagesKeepTheirShape : Type 0
@@ -30,5 +29,5 @@ ImagesNameTheirCommit =
 abbrev pub ImagesKeepTheOpened : Type 0
 ImagesKeepTheOpened =
     (o : Opened) (n : Now) (bytes : List ℕ) (events : List Event) (image : List ℕ) (store : IsStoreOf bytes o) → IsOpeningWorld o n → OpensLong bytes → KeepsLog o n bytes events
-    → AreNumbersInTurn n.shape n.places n.keeper (keeper_events (beginning n bytes) events) → FinishesNoCommit n.shape n.places n.keeper (keeper_events (beginning n bytes) events) → IsLeft n bytes events image
+    → FinishesNoCommit n.shape n.places n.keeper (keeper_events (beginning n bytes) events) → IsLeft n bytes events image
     → KeepsCommit bytes o store image ⊎ NewStands (let its = life_writing (beginning n bytes) events in its.first) image

@@ -1,5 +1,5 @@
 -- The law, by what stands of the commit and by the block of the shape.
-use Rattle.std.proofs.Common.{◌≡◌, ◌⊎◌, ℕ, zero, suc, ◌+◌, ◌*◌, ◌<◌, ◌≤◌, ◌∙◌, inl, inr, refl, sym, ap, subst, arith, Bool, true, false, List, length}
+use Rattle.std.proofs.Common.{◌≡◌, ◌⊎◌, ℕ, ◌+◌, ◌*◌, ◌<◌, ◌≤◌, ◌∙◌, inl, inr, refl, sym, ap, subst, arith, Bool, true, false, List, length}
 use Rattle.fkv_base.specs.declared.numbers.Addr.{Addr}
 use Rattle.fkv_base.specs.declared.shapes.Shape.{Shape}
 use Rattle.fkv_core.specs.Openings.{IsOpeningWorld, area_numbered, beginning}
@@ -15,7 +15,6 @@ use Rattle.fkv_newest.specs.declared.newest_slots.Newest.{Newest}
 use Rattle.fkv_opening.specs.Opened.{IsStoreOf}
 use Rattle.fkv_opening.specs.declared.opened_store.Opened.{Opened}
 use Rattle.fkv_plane.specs.declared.places.RecordWord.{RecordWord}
-use Rattle.fkv_record.specs.declared.manifest_slots.ManifestSlot.{ManifestSlot}
 use Rattle.fkv_record.specs.Places.{area_place, record_place}
 use Rattle.fkv_world.specs.Opened.{IsOpenedWorld}
 use Rattle.fkv_world.specs.OwnEvents.{keeper_events}
@@ -24,10 +23,11 @@ use Rattle.fkv_world.specs.World.{Now}
 use Rattle.law_guard.specs.Guarded.GuardEvents as guarded
 use Rattle.law_guard.specs.Guarded.OpenedStore.{IsOpenedStore}
 use Rattle.law_guard.specs.Guarded.Shows.{guard_opening}
+use Rattle.law_images.proofs.AtRest.{opens_at_rest, world_opens}
 use Rattle.law_images.proofs.Block.{slots_above}
 use Rattle.law_images.proofs.Untouched.{left_below, life_above}
-use Rattle.law_images.proofs.Kept.{checkpoint_kept, last_same, standing_same, triples_kept}
-use Rattle.law_images.proofs.OpenedLong.{holds_below, long_for}
+use Rattle.law_images.proofs.Kept.{checkpoint_kept, last_same, same_area, standing_same, triples_kept}
+use Rattle.law_images.proofs.OpenedLong.{holds_below, long_for, longer}
 use Rattle.law_images.proofs.Reaching.{synced_longer}
 use Rattle.law_images.proofs.Shows.{old_bytes}
 use Rattle.law_images.specs.Left.{flushed_so_far}
@@ -39,23 +39,10 @@ use Rattle.law_world.specs.Standing.Standing.{IsInForce, IsOneInForce, Standing,
 use Rattle.law_world.proofs.OfKeeper.OwnRun.{of_keeper}
 use Rattle.law_images.proofs.opened.law_images_keep_opened.Goals as goal
 
--- an image that is no shorter is as long
-longer : (bytes image : List ℕ) (shape : Shape) (slot : ManifestSlot) → length bytes ≤ length image → IsLong bytes shape slot → IsLong image shape slot
-longer bytes image shape slot more long = record {
-  slots = (let its = long.slots in omega (arith, its, more));
-  records = λ some. (let its = long.records some in omega (arith, its, more));
-  triples = λ some. (let its = long.triples some in omega (arith, its, more));
-}
-
 -- one of the two is in force
 in_force_or : (writes : Bool) (last : Finality) (its : Standing) (new : CommitWriter) (image : List ℕ) → IsOneInForce writes last its new image → IsInForce last its image ⊎ NewStands new image
 in_force_or false last its new image is = inl is
 in_force_or true last its new image is = is
-
-same_area : (area : ℕ) → area < 2 → area_number (area_numbered area) ≡ area
-same_area zero small = refl
-same_area (suc zero) small = refl
-same_area (suc (suc area)) small = absurd (omega (arith, small))
 
 -- the range of so many triples in an area
 abbrev AreaSame : List ℕ → List ℕ → Shape → ℕ → ℕ → Type 0
@@ -74,21 +61,13 @@ area_same o n bytes image store begins same =
     subst (λ (s : Shape). AreaSame image bytes s (let its = store.newest in its.slot.area) (let its = store.newest in its.slot.triples)) (begins.its_shape ∙ store.tells.shape) of_triples
 
 pub returns : goal.returns
-returns c = λ o n bytes events image store begins long keeps in_turn none left.
+returns c = λ o n bytes events image store begins long keeps none left.
     let opening : World = beginning n bytes in
     let store_opened : IsOpenedStore opening o.tail.0 = c.law_guard_opens.ensures o n bytes begins in
     let from : IsOpenedFrom bytes o n = record { store = store; world = begins; long = c.law_long_opens.ensures bytes long.newest o long.its long.long store } in
-    let world : IsOpenedWorld opening = record {
-      goes_on = begins.goes_on;
-      no_history = refl;
-      no_trace = refl;
-      no_calls = refl;
-      seats = begins.seats ∙ sym begins.its_places.sessions;
-      keeper = store_opened.now.keeper;
-      sessions = λ number s found. (begins.its_sessions number s found).opened;
-    } in
+    let world : IsOpenedWorld opening = world_opens o n bytes begins store_opened in
     let told = c.law_told_opens.ensures bytes o n from in
-    let life : IsLifeTold opening events = record { opened = world; told = told; in_turn = in_turn } in
+    let life : IsLifeTold opening events = record { opened = world; told = told; in_turn = c.law_begun.ensures.numbers opening o.tail.0 events world store_opened.now (opens_at_rest o n begins) } in
     let last : (run opening events).now.keeper.last ≡ n.keeper.last = of_keeper (λ (s : KeeperState). s.last ≡ n.keeper.last) opening events (last_same n.shape n.places n.keeper (keeper_events opening events) none) in
     let was : life_standing opening events ≡ standing_opened n.shape bytes n.keeper.last = standing_same n.shape n.places bytes n.keeper (keeper_events opening events) none in
     let its : Newest = store.newest in

@@ -1,0 +1,22 @@
+//! What full commits write.
+ghost use Rattle.law_images.specs.Laws.Copied.{CommitsSpellTriples, CommitsWriteTheirCopy};
+
+use fkv_checkpoint::law_copied;
+use law_commit::{law_begun, law_world_copied};
+use law_opening::{law_guard_opens, law_index_opens, law_long_opens, law_told_opens};
+
+/// Each full commit that has begun in a life, finished or not, has written the triples of a copy of the index. It is the one that the keeper had finished at a
+/// moment of the life, as the writes of the commit were about to begin. What `law_world_copied` and `law_copies_cover` say of that moment is said of these.
+/// So its bytes are those of triples of which no two are of one home.
+pub fn law_commits_write_their_copy()
+    ensures copied { CommitsWriteTheirCopy }
+    ensures spelled { CommitsSpellTriples }
+{
+    law_copied();
+    law_guard_opens();
+    law_told_opens();
+    law_long_opens();
+    law_index_opens();
+    law_begun();
+    law_world_copied();
+}
