@@ -1,2 +1,3 @@
+mod FileReplies
 mod Replies
 mod ScriptFits

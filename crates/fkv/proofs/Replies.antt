@@ -17,22 +17,22 @@ use Rattle.fkv.specs.Replies.{IsScriptOf, NameNoFileOrSeed, PrintsMapOfScript}
 use Rattle.fkv.proofs.ScriptFits.{AreFitting, fitting}
 
 -- status 0 is none of a refusal's
-not_2 : ComesTo 2 0 → ⊥
+pub not_2 : ComesTo 2 0 → ⊥
 not_2 (inl e) = omega (arith, e)
 not_2 (inr e) = omega (arith, e)
 
-not_3 : ComesTo 3 0 → ⊥
+pub not_3 : ComesTo 3 0 → ⊥
 not_3 (inl e) = omega (arith, e)
 not_3 (inr e) = omega (arith, e)
 
-zero_is_4 : ◌≡◌ {A = ℕ} 0 4 → ⊥
+pub zero_is_4 : ◌≡◌ {A = ℕ} 0 4 → ⊥
 zero_is_4 e = omega (arith, e)
 
 none_kept : {A B : Type 0} (f : A → B) (its : Option A) → option_map f its ≡ None → its ≡ None
 none_kept f None e = refl
 none_kept f (Some x) e = cc
 
-module _ {M F : Type 0} (devices : Devices M F) (plays : NewStoresPlayMap devices.memory) (options : Options) (sizes : Sizes) (ops : List SessionOp) (bytes : List ℕ) (script : IsScriptOf bytes sizes ops) (text : List ℕ) where
+module _ {M F : Type 0} (devices : Devices M F) (plays : NewStoresPlayMap devices.memory) (options : Options) (sizes : Sizes) (ops : List SessionOp) (bytes : List ℕ) (script : IsScriptOf mode.Memory bytes sizes ops) (text : List ℕ) where
   in_memory : (shape : Shape) (pieces : List Piece) → ArePieces false (map op_line ops) pieces → IsRunInMemory devices.memory options shape pieces 0 text → IsPlayOfMap empty ops text
   in_memory shape pieces are its = by_end its.lives
     where
