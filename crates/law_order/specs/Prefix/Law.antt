@@ -196,7 +196,7 @@ pub record PrefixLaw : Type 0 where
   pub ordered : InEachLife OrdersItsCalls
   pub fresh : InEachLife ReadsFreshly
   pub in_time : InEachLife ReadsInTime
-  -- no step changes a flushed record or a frame that an epoch protects
+  -- no step asks to write a flushed record or a frame that an epoch protects
   pub guarded : InEachLife IsGuarded
   pub once : InEachLife RunsActionsOnce
   -- what is recovered of any image left is what the newest finished commit keeps, or the one that is being finished
