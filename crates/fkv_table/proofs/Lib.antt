@@ -1,0 +1,4 @@
+pub mod Laid
+pub mod Lives
+pub mod Moved
+pub mod Steps

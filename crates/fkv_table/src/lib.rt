@@ -1,0 +1,13 @@
+//! The threaded store: the engine's words lie in a table that threads share, and each session makes its calls there by a pass of its own.
+#![tactic(auto)]
+
+mod happenings;
+mod performing;
+mod plays;
+mod positions;
+mod rule;
+mod sessions;
+
+pub use happenings::Happening;
+pub use rule::{Engine, Pass, Table};
+pub use sessions::Session;

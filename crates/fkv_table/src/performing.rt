@@ -1,0 +1,39 @@
+//! An ask of a word is one step of the table.
+ghost use Rattle.std.specs.Prelude.{◌≡◌, ◌<◌, ◌^◌, ℕ, Some};
+ghost use Rattle.atomic_table.specs.Table.{Allows};
+ghost use Rattle.fkv_plane.specs.Asked.{asked, asked_place};
+ghost use Rattle.fkv_seats.specs.Rule.{Ruled};
+ghost use Rattle.fkv_table.specs.Asks.{step_of};
+ghost use Rattle.fkv_table.specs.Planes.{plane, opening_of};
+ghost use Rattle.fkv_table.specs.Positions.{position};
+
+use crate::positions::position;
+use crate::rule::{Knows, Place, Slot, Words};
+use atomic_table::Play;
+use fkv_disk::Device;
+use fkv_plane::Ask;
+
+/// Does what is asked of a word, and gives the word as it was.
+pub(crate) fn perform<D: Device, M: Play<Slot, Knows<D>>, A>(
+    words: &Words<D>,
+    seat: &mut Place<D>,
+    ask: &Ask<A>,
+) -> u64
+    requires table { seat.old.table_id ≡ words.now.table_id }
+    requires word { (place : ℕ) × (asked_place ask.now ≡ Some place) × (position place < words.now.table_id.words) × (place < 2 ^ 62) }
+    requires allows { (place : ℕ) → asked_place ask.now ≡ Some place → Allows (Ruled (plane (opening_of D.seen)) words.now.key) words.now.table_id.slots seat.old.id seat.old.me (position place) (asked ask.now) (M.then (step_of words.now.table_id.slots ask.now) seat.old.me) }
+    ensures seat { (seat.new.table_id ≡ seat.old.table_id) × (seat.new.id ≡ seat.old.id) }
+    ensures told { M.then (step_of words.now.table_id.slots ask.now) seat.old.me result seat.new.me }
+{
+    match ask {
+        Ask::Load(place) => words.load::<M>(seat, position(*place)),
+        Ask::Store(place, new) => words.swap::<M>(seat, position(*place), *new),
+        Ask::Swap(place, new) => words.swap::<M>(seat, position(*place), *new),
+        Ask::Cas(place, old, new) => {
+            words.compare_exchange::<M>(seat, position(*place), *old, *new)
+        }
+        Ask::Add(place, number) => words.fetch_add::<M>(seat, position(*place), *number),
+        Ask::Max(place, number) => words.fetch_max::<M>(seat, position(*place), *number),
+        Ask::Put(_, _) | Ask::Take(_) | Ask::Done(_) => unreachable!(),
+    }
+}

@@ -1,0 +1,46 @@
+//! The rule of the table, the table and its passes.
+use crate::happenings::Happening;
+use atomic_table::{Seat, Shared, TableRule};
+use fkv_core::World;
+use fkv_disk::Device;
+use fkv_plane::Action;
+use fkv_seats::{Held, View};
+use std::alloc::Global;
+use std::marker::PhantomData;
+use std::snapshot::Snapshot;
+
+/// What a slot of the table holds: an action of a drain slot, or what a seat notes on its desk.
+pub(crate) type Slot = Held<Action, Happening>;
+
+/// The world that the store was opened with.
+pub(crate) type Opening<D> = Snapshot<World<D>>;
+
+pub(crate) type Knows<D> = View<Happening, Opening<D>>;
+
+pub(crate) type Words<D> = Shared<Slot, Knows<D>, Opening<D>, Engine<D>>;
+
+pub(crate) type Place<D> = Seat<Slot, Knows<D>>;
+
+/// The words of the table are those of the engine's world after one list of events, over the device that the store was opened from.
+pub struct Engine<D> {
+    device: PhantomData<D>,
+}
+
+impl<D: Device> TableRule<Slot, Knows<D>, Opening<D>> for Engine<D> {
+    ghost use Rattle.fkv_seats.specs.Rule.{Ruled, first_view};
+    ghost use Rattle.fkv_table.specs.Planes.{plane, opening_of};
+
+    ghost holds = { Ruled (plane (opening_of D.seen)) };
+
+    ghost first = { first_view (plane (opening_of D.seen)) };
+}
+
+/// The shared words, with the drain slots and the desks. Threads share it by reference.
+pub struct Table<D: Device> {
+    pub(crate) table: atomic_table::Table<Slot, Knows<D>, Opening<D>, Engine<D>, Global>,
+}
+
+/// The right of one session to step at the table. It has no bytes.
+pub struct Pass<D: Device> {
+    pub(crate) seat: Place<D>,
+}

@@ -1,0 +1,128 @@
+//! A session's calls at the table.
+ghost use Rattle.std.specs.Prelude.{◌≡◌, ◌<◌, ℕ, Some, None, [], ◌∷◌, true, false};
+ghost use Rattle.fkv_plane.specs.Asked.{asked_place};
+ghost use Rattle.fkv_plane.specs.declared.asks.Ask.TheVariants.{Done};
+ghost use Rattle.fkv_seats.specs.Rule.{base, led};
+ghost use Rattle.fkv_session.specs.AsksLeft.{session_asks_left};
+ghost use Rattle.fkv_session.specs.Sessions.{is_busy, session_ask};
+ghost use Rattle.fkv_session.specs.SessionRun.{telling};
+ghost use Rattle.fkv_table.specs.Calls.{HasCalled, HasStepped, IsAnsweredLast, IsReady, IsToldLast};
+ghost use Rattle.fkv_table.specs.Openings.{IsTableOf};
+ghost use Rattle.fkv_table.specs.Planes.{plane, opening_of};
+ghost use Rattle.fkv_table.specs.Sits.{IsAsked, IsIdleEmpty, IsSeated, Replied, Settled, Went};
+
+use crate::happenings::Happening;
+use crate::performing::perform;
+use crate::plays::{Adds, First, Next, Notes, Turn};
+use crate::rule::{Pass, Place, Table, Words};
+use fkv_disk::Device;
+use fkv_map::Call;
+use fkv_plane::Ask;
+use fkv_seats::Held;
+use fkv_session::{Answer, Told, answer_of};
+
+/// A session of a store that threads share.
+#[derive(Drop)]
+pub struct Session {
+    pub(crate) machine: fkv_session::Session,
+    /// The slot that is its seat's desk.
+    pub(crate) desk: usize,
+}
+
+/// Makes the ask of a word that the machine stands at, and goes on with the reply.
+fn ask_word<D: Device, O: Adds>(
+    words: &Words<D>,
+    seat: &mut Place<D>,
+    machine: &mut fkv_session::Session,
+    ask: &Ask<Told>,
+) -> Ask<Told>
+    requires table { (seat.old.table_id ≡ words.now.table_id) × IsTableOf (opening_of D.seen words.now.key) words.now.table_id }
+    requires seated { IsSeated (opening_of D.seen) words.now.key seat.old.me (O.own seat.old.me.1) machine.old }
+    requires ask { ask.now ≡ session_ask machine.old.seat machine.old.state }
+    requires word { (place : ℕ) × (asked_place ask.now ≡ Some place) }
+    ensures seat { (seat.new.table_id ≡ seat.old.table_id) × (seat.new.id ≡ seat.old.id) }
+    ensures next { Replied (opening_of D.seen) words.now.key seat.old.me (O.own seat.old.me.1) machine.old seat.new.me machine.new }
+    ensures ask { result ≡ session_ask machine.new.seat machine.new.state }
+{
+    let reply = perform::<D, Turn<O>, Told>(words, seat, ask);
+    machine.go_on(reply)
+}
+
+/// Moves the action that goes with the reply, if one does.
+fn settle<D: Device>(
+    words: &Words<D>,
+    seat: &mut Place<D>,
+    machine: &mut fkv_session::Session,
+    next: Ask<Told>,
+) -> Ask<Told>
+    requires table { seat.old.table_id ≡ words.now.table_id }
+    requires ask { next ≡ session_ask machine.old.seat machine.old.state }
+    requires hand { IsAsked (opening_of D.seen) next seat.old.me }
+    ensures seat { (seat.new.table_id ≡ seat.old.table_id) × (seat.new.id ≡ seat.old.id) }
+    ensures settled { Settled (opening_of D.seen) next seat.old.me machine.old seat.new.me machine.new }
+    ensures ask { result ≡ session_ask machine.new.seat machine.new.state }
+{
+    match next {
+        Ask::Put(slot, action) => {
+            let _ = words.exchange(seat, slot, Held::Drain(Some(action)));
+            machine.go_on(0)
+        }
+        Ask::Take(slot) => match words.exchange(seat, slot, Held::Drain(None)) {
+            Held::Drain(Some(action)) => machine.take(action),
+            _ => Ask::Take(slot),
+        },
+        other => other,
+    }
+}
+
+/// Makes the ask of a word that the machine stands at, with the action that goes with it: one step of the session.
+fn step<D: Device, O: Adds>(
+    words: &Words<D>,
+    seat: &mut Place<D>,
+    machine: &mut fkv_session::Session,
+    ask: &Ask<Told>,
+) -> Ask<Told>
+    requires table { (seat.old.table_id ≡ words.now.table_id) × IsTableOf (opening_of D.seen words.now.key) words.now.table_id }
+    requires seated { IsSeated (opening_of D.seen) words.now.key seat.old.me (O.own seat.old.me.1) machine.old }
+    requires ask { ask.now ≡ session_ask machine.old.seat machine.old.state }
+    requires word { (place : ℕ) × (asked_place ask.now ≡ Some place) }
+    ensures seat { (seat.new.table_id ≡ seat.old.table_id) × (seat.new.id ≡ seat.old.id) }
+    ensures went { Went (opening_of D.seen) seat.old.me (O.own seat.old.me.1) machine.old.seat.number seat.new.me }
+    ensures seated { IsSeated (opening_of D.seen) words.now.key seat.new.me [] machine.new × (machine.new.seat ≡ machine.old.seat) }
+    ensures idle { IsIdleEmpty (opening_of D.seen) machine.new seat.new.me }
+    ensures told { (its : _) → session_ask machine.new.seat machine.new.state ≡ Done its → IsToldLast (led (plane (opening_of D.seen)) (opening_of D.seen words.now.key) seat.new.me.0.seen) machine.new.seat.number (telling its machine.new.state.finished) }
+    ensures fewer { session_asks_left machine.new.seat machine.new.state < session_asks_left machine.old.seat machine.old.state }
+    ensures ask { result ≡ session_ask machine.new.seat machine.new.state }
+{
+    let next = ask_word::<D, O>(words, seat, machine, ask);
+    settle(words, seat, machine, next)
+}
+
+/// Steps on until the call is answered.
+fn steps_on<D: Device>(
+    words: &Words<D>,
+    seat: &mut Place<D>,
+    machine: &mut fkv_session::Session,
+    first: Ask<Told>,
+) -> Told
+    requires table { (seat.old.table_id ≡ words.now.table_id) × IsTableOf (opening_of D.seen words.now.key) words.now.table_id }
+    requires seated { IsSeated (opening_of D.seen) words.now.key seat.old.me [] machine.old }
+    requires idle { IsIdleEmpty (opening_of D.seen) machine.old seat.old.me }
+    requires told { (its : _) → session_ask machine.old.seat machine.old.state ≡ Done its → IsToldLast (led (plane (opening_of D.seen)) (opening_of D.seen words.now.key) seat.old.me.0.seen) machine.old.seat.number (telling its machine.old.state.finished) }
+    requires ask { first ≡ session_ask machine.old.seat machine.old.state }
+    ensures seat { (seat.new.table_id ≡ seat.old.table_id) × (seat.new.id ≡ seat.old.id) }
+    ensures steps { HasStepped machine.old.seat.number seat.old.me.0.seen seat.new.me.0.seen }
+    ensures desk { (base (plane (opening_of D.seen)) seat.new.me.0.hand seat.new.me.1 ≡ base (plane (opening_of D.seen)) seat.old.me.0.hand seat.old.me.1) × (seat.new.me.0.desk ≡ seat.old.me.0.desk) }
+    ensures seated { IsSeated (opening_of D.seen) words.now.key seat.new.me [] machine.new × (machine.new.seat ≡ machine.old.seat) }
+    ensures idle { seat.new.me.0.hand ≡ None }
+    ensures told { IsToldLast (led (plane (opening_of D.seen)) (opening_of D.seen words.now.key) seat.new.me.0.seen) machine.new.seat.number (telling result machine.new.state.finished) }
+    ensures answer { session_ask machine.new.seat machine.new.state ≡ Done result }
+{
+    let mut ask = first;
+    loop {
+        if let Ask::Done(told) = ask {
+            return told;
+        }
+        ask = step::<D, Next>(words, seat, machine, &ask);
+    }
+}
