@@ -239,6 +239,20 @@ module _ {W E A K : Type 0} (p : Plane W E A K) where
       (λ (t : nat_le (length v.seen) (length u.seen) ≡ false). inr (rw t refl, rw t refl, grind (arith, nat_tests, t)))
       (truth (nat_le (length v.seen) (length u.seen)))
 
+  -- Where the one goes on to the longer list that had seen less, both do.
+  pub both_go_on : (v u : Vw) → HasMet p (Some (behind p v u)) (longer p v.seen u.seen) → GoesOn p v.role v.seen (longer p v.seen u.seen) × GoesOn p u.role u.seen (longer p v.seen u.seen)
+  both_go_on v u its = by (longer_so v u)
+    where
+      Goal : Type 0
+      Goal = GoesOn p v.role v.seen (longer p v.seen u.seen) × GoesOn p u.role u.seen (longer p v.seen u.seen)
+
+      stays : (role : Role) (seen more : List E) → more ≡ seen → GoesOn p role seen more
+      stays role seen more same = record { between = []; whole = same; quiet = tt }
+
+      by : AreLonger v u u v ⊎ AreLonger v u v u → Goal
+      by (inl t) = (subst (λ (x : Role × List E). GoesOn p x.0 x.1 (longer p v.seen u.seen)) t.1 its, stays u.role u.seen (longer p v.seen u.seen) t.0)
+      by (inr t) = (stays v.role v.seen (longer p v.seen u.seen) t.0, subst (λ (x : Role × List E). GoesOn p x.0 x.1 (longer p v.seen u.seen)) t.1 its)
+
   module _ (key : K) (s : State H Vw) (r : Ruled p key s) (id other a b : ℕ) (v u : Vw) (at : get_elem? s.views id ≡ some v) (at_other : get_elem? s.views other ≡ some u) (ne : other ≢ id)
       (is_v : v.role ≡ Sits a) (is_u : u.role ≡ Sits b) (empty_v : v.hand ≡ None) (empty_u : u.hand ≡ None) (no_desk_u : u.desk ≡ false) where
     abbrev both : Vw

@@ -7,7 +7,7 @@ use Rattle.fkv_seats.specs.declared.views.Role.TheVariants.{Sits}
 use Rattle.fkv_seats.specs.declared.views.View.{View}
 use Rattle.fkv_seats.specs.declared.held.Held.{Held}
 use Rattle.fkv_seats.specs.declared.held.Held.TheVariants.{Drain}
-use Rattle.fkv_seats.specs.Rule.{Plane, Ruled, SlotFacts, AreOwn, AreStarts, AreApart, KeepsDesk, HandFits, Changes, Stepped, SatDown, GotUp, IsSeenBy, action_in, desk_of, first_view, left_view, right_view, both_view, spent_view}
+use Rattle.fkv_seats.specs.Rule.{Plane, Ruled, SlotFacts, AreOwn, AreStarts, AreApart, KeepsDesk, HandFits, Changes, Stepped, SatDown, GotUp, IsSeenBy, GoesOn, HasMet, action_in, behind, desk_of, longer, first_view, left_view, right_view, both_view, spent_view}
 
 module _ {W E A K : Type 0} (p : Plane W E A K) where
   -- A table whose words are the opening world's, and whose slots hold its actions, meets the rule.
@@ -31,6 +31,11 @@ module _ {W E A K : Type 0} (p : Plane W E A K) where
   abbrev pub JoinsByRule : Type 0
   JoinsByRule = (key : K) (id other a b : ℕ) (v u : View E K) → v.role ≡ Sits a → u.role ≡ Sits b → v.hand ≡ None → u.hand ≡ None → u.desk ≡ false
       → Joins (Ruled p key) id v other u (both_view p v u) (spent_view p)
+
+  -- Where a seat that was made one of two has seen what the one had seen that was behind, it has seen what either had, and no event of theirs behind it.
+  abbrev pub MeetsByRule : Type 0
+  MeetsByRule = (v u : View E K) → HasMet p (Some (behind p v u)) (longer p v.seen u.seen)
+      → GoesOn p v.role v.seen (longer p v.seen u.seen) × GoesOn p u.role u.seen (longer p v.seen u.seen)
 
   -- A seat that isn't at its desk finds that at home, and may sit down at it in a step that changes nothing else.
   abbrev pub SitsByRule : Type 0

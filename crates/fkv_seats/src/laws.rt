@@ -1,5 +1,5 @@
 //! Laws of the rule, over any world of events. These functions do nothing: what they promise holds of every state that meets the rule.
-ghost use Rattle.fkv_seats.specs.Kept.{GetsUpByRule, JoinsByRule, OpensByRule, SeesInOrder, SitsByRule, SplitsByRule, StepsByRule};
+ghost use Rattle.fkv_seats.specs.Kept.{GetsUpByRule, JoinsByRule, MeetsByRule, OpensByRule, SeesInOrder, SitsByRule, SplitsByRule, StepsByRule};
 ghost use Rattle.fkv_seats.specs.Rule.{Plane};
 
 /// The rule holds as a table is made, and each thing that a seat may do keeps it. A step on a word adds an event of whom the seat speaks for, with starts of its
@@ -11,6 +11,7 @@ pub fn law_seats<W, E, A, K>()
     ensures steps { (plane : Plane W E A K) → StepsByRule plane }
     ensures splits { (plane : Plane W E A K) → SplitsByRule plane }
     ensures joins { (plane : Plane W E A K) → JoinsByRule plane }
+    ensures meets { (plane : Plane W E A K) → MeetsByRule plane }
     ensures sits { (plane : Plane W E A K) → SitsByRule plane }
     ensures gets_up { (plane : Plane W E A K) → GetsUpByRule plane }
 {}

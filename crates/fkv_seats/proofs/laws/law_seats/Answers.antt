@@ -1,6 +1,6 @@
 -- The law, by what each thing that a seat may do keeps.
 use Rattle.fkv_seats.proofs.Keeps.{allows}
-use Rattle.fkv_seats.proofs.Seats.{splits, joins, opens}
+use Rattle.fkv_seats.proofs.Seats.{splits, joins, both_go_on, opens}
 use Rattle.fkv_seats.proofs.Desks.{sits_down, gets_up}
 use Rattle.fkv_seats.proofs.laws.law_seats.Goals as goal
 
@@ -15,6 +15,9 @@ returns-clause-splits g c = λ plane. splits plane
 
 pub returns-clause-joins : goal.returns-clause-joins
 returns-clause-joins g c = λ plane. joins plane
+
+pub returns-clause-meets : goal.returns-clause-meets
+returns-clause-meets g c = λ plane. both_go_on plane
 
 pub returns-clause-sits : goal.returns-clause-sits
 returns-clause-sits g c = λ plane. sits_down plane
