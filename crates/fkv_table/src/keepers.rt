@@ -1,0 +1,142 @@
+//! The keeper's calls at the table.
+ghost use Rattle.std.specs.Prelude.{◌≡◌, ◌<◌, ◌≤◌, ◌↔◌, ℕ, Bool, Some, None, [], true, false, is_some, is_ok};
+ghost use Rattle.fkv_base.specs.declared.commits.CommitKind.TheVariants.{Full, Log};
+ghost use Rattle.fkv_checkpoint.specs.Copying.{IsRoomFor};
+ghost use Rattle.fkv_keeper.specs.Keeping.{keeper_ask};
+ghost use Rattle.fkv_keeper.specs.KeeperAsks.{keeper_asks_left};
+ghost use Rattle.fkv_keeper.specs.KeeperRun.{is_in_hand};
+ghost use Rattle.fkv_plane.specs.Asked.{asked_place};
+ghost use Rattle.fkv_seats.specs.Rule.{HandFits};
+ghost use Rattle.fkv_table.specs.declared.happenings.Happening.TheVariants.{Commits, KeeperMoves, Turns};
+ghost use Rattle.fkv_table.specs.Keeps.{IsKeeping, IsNoted, KeeperIsAsked, KeeperReplied, KeeperSettled, Spares};
+ghost use Rattle.fkv_table.specs.Openings.{IsTableOf};
+ghost use Rattle.fkv_table.specs.Planes.{plane, opening_of};
+
+use crate::performing::perform;
+use crate::rule::{Knows, Place, Slot, Words};
+use atomic_table::Play;
+use fkv_checkpoint::CopyRoom;
+use fkv_disk::Device;
+use fkv_keeper::KeeperTold;
+use fkv_plane::Ask;
+use fkv_seats::Held;
+use std::marker::PhantomData;
+
+/// The keeper of a store that threads share.
+#[derive(Drop)]
+pub struct Keeper {
+    pub(crate) machine: fkv_keeper::Keeper,
+}
+
+/// The right of the keeper to step at the table. It has no bytes.
+#[derive(Drop)]
+pub struct KeeperPass<D: Device> {
+    pub(crate) seat: Place<D>,
+}
+
+/// An event of the keeper's.
+pub(crate) trait OfKeeper {
+    ghost use Rattle.fkv_table.specs.declared.happenings.Happening.{Happening};
+
+    ghost its: { Happening };
+}
+
+/// A turn begins.
+pub(crate) struct Turning;
+
+impl OfKeeper for Turning {
+    ghost use Rattle.fkv_table.specs.declared.happenings.Happening.TheVariants.{Turns};
+
+    ghost its = { Turns };
+}
+
+/// A full commit begins.
+pub(crate) struct FullCommit;
+
+impl OfKeeper for FullCommit {
+    ghost use Rattle.fkv_base.specs.declared.commits.CommitKind.TheVariants.{Full};
+    ghost use Rattle.fkv_table.specs.declared.happenings.Happening.TheVariants.{Commits};
+
+    ghost its = { Commits Full };
+}
+
+/// A log commit begins.
+pub(crate) struct LogCommit;
+
+impl OfKeeper for LogCommit {
+    ghost use Rattle.fkv_base.specs.declared.commits.CommitKind.TheVariants.{Log};
+    ghost use Rattle.fkv_table.specs.declared.happenings.Happening.TheVariants.{Commits};
+
+    ghost its = { Commits Log };
+}
+
+/// A step of the keeper's, with memory for a copy. A call of the device that has succeeded is one too.
+pub(crate) struct Granted;
+
+impl OfKeeper for Granted {
+    ghost use Rattle.std.specs.Prelude.{true};
+    ghost use Rattle.fkv_table.specs.declared.happenings.Happening.TheVariants.{KeeperMoves};
+
+    ghost its = { KeeperMoves true true };
+}
+
+/// A step of the keeper's, without it.
+pub(crate) struct Ungranted;
+
+impl OfKeeper for Ungranted {
+    ghost use Rattle.std.specs.Prelude.{false, true};
+    ghost use Rattle.fkv_table.specs.declared.happenings.Happening.TheVariants.{KeeperMoves};
+
+    ghost its = { KeeperMoves false true };
+}
+
+/// A call of the device that has failed.
+pub(crate) struct Failed;
+
+impl OfKeeper for Failed {
+    ghost use Rattle.std.specs.Prelude.{false, true};
+    ghost use Rattle.fkv_table.specs.declared.happenings.Happening.TheVariants.{KeeperMoves};
+
+    ghost its = { KeeperMoves true false };
+}
+
+/// What a step of the keeper tells.
+pub(crate) struct Adding<E> {
+    kind: PhantomData<E>,
+}
+
+impl<D: Device, E: OfKeeper> Play<Slot, Knows<D>> for Adding<E> {
+    ghost use Rattle.fkv_table.specs.Keeps.{adding};
+    ghost use Rattle.fkv_table.specs.Planes.{opening_of};
+
+    ghost then = { adding (opening_of D.seen) E.its };
+}
+
+/// Adds an event of the keeper's that changes no word, by a load of the epoch's word.
+pub(crate) fn note<D: Device, E: OfKeeper>(words: &Words<D>, seat: &mut Place<D>)
+    requires table { (seat.old.table_id ≡ words.now.table_id) × IsTableOf (opening_of D.seen words.now.key) words.now.table_id }
+    requires about { seat.old.me.0.about ≡ Some words.now.key }
+    requires spares { Spares (opening_of D.seen) words.now.key seat.old.me E.its }
+    requires hand { HandFits (plane (opening_of D.seen)) (opening_of D.seen words.now.key) seat.old.me.0.seen seat.old.me.0.hand seat.old.me.1 }
+    ensures seat { (seat.new.table_id ≡ seat.old.table_id) × (seat.new.id ≡ seat.old.id) }
+    ensures noted { IsNoted (opening_of D.seen) words.now.key seat.old.me E.its seat.new.me }
+{
+    let _ = words.load::<Adding<E>>(seat, 0);
+}
+
+/// Begins a turn, and adds that to the list.
+pub(crate) fn begin_turn<D: Device>(
+    words: &Words<D>,
+    seat: &mut Place<D>,
+    machine: &mut fkv_keeper::Keeper,
+)
+    requires table { (seat.old.table_id ≡ words.now.table_id) × IsTableOf (opening_of D.seen words.now.key) words.now.table_id }
+    requires keeping { IsKeeping (opening_of D.seen) words.now.key seat.old.me machine.old }
+    requires idle { is_in_hand machine.old.state.step ≡ false }
+    ensures seat { (seat.new.table_id ≡ seat.old.table_id) × (seat.new.id ≡ seat.old.id) }
+    ensures noted { IsNoted (opening_of D.seen) words.now.key seat.old.me Turns seat.new.me }
+    ensures keeping { IsKeeping (opening_of D.seen) words.now.key seat.new.me machine.new }
+{
+    machine.begin_turn();
+    note::<D, Turning>(words, seat);
+}
