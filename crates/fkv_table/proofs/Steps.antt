@@ -61,7 +61,7 @@ pub few_words : (p : Places) (place : ℕ) → place < word_count p → place < 
 few_words p place low = omega (arith, low, p.few_sessions, p.few_buckets, p.few_overflow, p.small_ring)
 
 module _ {K : Type 0} (at : K → World) where
-  weaken : (key : K) (slots id : ℕ) (me : Me Slot (Knows K)) (i : ℕ) (f : ℕ → ℕ) (then other : ℕ → Me Slot (Knows K) → Type 0) → ((n : ℕ) (m : Me Slot (Knows K)) → then n m → other n m)
+  pub weaken : (key : K) (slots id : ℕ) (me : Me Slot (Knows K)) (i : ℕ) (f : ℕ → ℕ) (then other : ℕ → Me Slot (Knows K) → Type 0) → ((n : ℕ) (m : Me Slot (Knows K)) → then n m → other n m)
       → Allows (Ruled (plane at) key) slots id me i f then → Allows (Ruled (plane at) key) slots id me i f other
   weaken key slots id me i f then other on allowed s h l g b = let t = allowed s h l g b in (t.0, t.1, t.2, t.3, on _ _ t.4)
 
@@ -98,7 +98,7 @@ module _ {K : Type 0} (at : K → World) where
     pub chair_at : (es : List Happening) → seat_at (led (plane at) w es).now n ≡ m.seat
     chair_at es = same_chair at w es n ∙ sym sits.chair
 
-    names_so : (later : List Happening) → Quiet (plane at) me.0.role later → (place : ℕ) → asked_place (session_ask m.seat m.state) ≡ Some place
+    pub names_so : (later : List Happening) → Quiet (plane at) me.0.role later → (place : ℕ) → asked_place (session_ask m.seat m.state) ≡ Some place
         → slot_named (led (plane at) w (own ++ (later ++ me.0.seen))).now (event_of (Moves n))
           ≡ slot_asked (session_ask m.seat (session_next m.seat m.state (reply_to (led (plane at) w (own ++ (later ++ me.0.seen))).now.words (session_ask m.seat m.state))))
     names_so later q place e =

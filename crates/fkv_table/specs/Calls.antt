@@ -1,5 +1,5 @@
 -- A call of a session in the list of events, and its answer.
-use Rattle.std.specs.Prelude.{◌≡◌, ◌⊎◌, ◌+◌, ⊤, ℕ, false, List, [], ◌∷◌, ◌++◌, length, None}
+use Rattle.std.specs.Prelude.{◌≡◌, ◌⊎◌, ◌+◌, ⊤, ℕ, false, List, [], ◌∷◌, ◌++◌, length, Some, None, slice_get}
 use Rattle.atomic_table.specs.Seated.{TableId}
 use Rattle.atomic_table.specs.Table.{Me}
 use Rattle.fkv_base.specs.Limits.{drain_slots}
@@ -9,7 +9,7 @@ use Rattle.fkv_session.specs.declared.answers.Finished.{Finished}
 use Rattle.fkv_session.specs.declared.answers.Told.{Told}
 use Rattle.fkv_session.specs.Answers.{IsAnswerTold}
 use Rattle.fkv_session.specs.SessionRun.{Telling, telling}
-use Rattle.fkv_session.specs.Sessions.{Sitter, is_busy}
+use Rattle.fkv_session.specs.Sessions.{SessionState, Sitter, is_busy}
 use Rattle.fkv_world.specs.Past.{Traced, Answered}
 use Rattle.fkv_world.specs.Runs.{World}
 use Rattle.fkv_seats.specs.declared.views.Role.TheVariants.{Sits}
@@ -28,16 +28,16 @@ OnlyMoves number [] = ⊤
 OnlyMoves number (its ∷ before) = ((its ≡ Moves number) ⊎ (speaks (Sits number) (actor_of its) ≡ false)) × OnlyMoves number before
 
 -- none of this session
-abbrev pub NoneOf : ℕ → List Happening → Type 0
-NoneOf number [] = ⊤
-NoneOf number (its ∷ before) = (speaks (Sits number) (actor_of its) ≡ false) × NoneOf number before
+abbrev pub AreOthers : ℕ → List Happening → Type 0
+AreOthers number [] = ⊤
+AreOthers number (its ∷ before) = (speaks (Sits number) (actor_of its) ≡ false) × AreOthers number before
 
 -- Behind a call the list has its start, once, behind all that had been seen; and from there on of this session nothing but its steps.
 pub record HasCalled (number : ℕ) (call : Call) (seen seen' : List Happening) : Type 0 where
   pub steps : List Happening
   pub only : OnlyMoves number steps
   pub others : List Happening
-  pub quiet : NoneOf number others
+  pub quiet : AreOthers number others
   pub so : seen' ≡ steps ++ Calls number call ∷ (others ++ seen)
 
 pub record HasStepped (number : ℕ) (seen seen' : List Happening) : Type 0 where
@@ -58,6 +58,10 @@ pub record IsAnsweredLast (w : World) (number : ℕ) (answer : Answer) : Type 0 
   pub told : IsAnswerTold its finished answer
 
 module _ {K : Type 0} (at : K → World) where
+  -- behind what has been seen the session has no call in hand
+  abbrev pub WasIdle : K → List Happening → ℕ → Type 0
+  WasIdle key seen number = (s : SessionState) → slice_get (led (plane at) (at key) seen).now.sessions number ≡ Some s → is_busy s.step ≡ false
+
   -- A session with its pass, at a table, between two calls: the seat is the session's, it sits at its desk, and has nothing else in hand.
   pub record IsReady (key : K) (table seat : TableId) (me : Me Slot (Knows K)) (m : Sitter) (desk : ℕ) : Type 0 where
     pub opened : IsTableOf (at key) table

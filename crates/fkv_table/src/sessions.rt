@@ -2,11 +2,14 @@
 ghost use Rattle.std.specs.Prelude.{◌≡◌, ◌<◌, ℕ, Some, None, [], ◌∷◌, true, false};
 ghost use Rattle.fkv_plane.specs.Asked.{asked_place};
 ghost use Rattle.fkv_plane.specs.declared.asks.Ask.TheVariants.{Done};
-ghost use Rattle.fkv_seats.specs.Rule.{base, led};
+ghost use Rattle.fkv_seats.specs.Rule.{Stepped, base, led};
 ghost use Rattle.fkv_session.specs.AsksLeft.{session_asks_left};
+ghost use Rattle.fkv_session.specs.declared.answers.Told.{Told};
 ghost use Rattle.fkv_session.specs.Sessions.{is_busy, session_ask};
 ghost use Rattle.fkv_session.specs.SessionRun.{telling};
-ghost use Rattle.fkv_table.specs.Calls.{HasCalled, HasStepped, IsAnsweredLast, IsReady, IsToldLast};
+ghost use Rattle.fkv_table.specs.Calls.{HasCalled, HasStepped, IsAnsweredLast, IsReady, IsToldLast, WasIdle};
+ghost use Rattle.fkv_table.specs.Desks.{noted};
+ghost use Rattle.fkv_table.specs.declared.happenings.Happening.TheVariants.{Calls};
 ghost use Rattle.fkv_table.specs.Openings.{IsTableOf};
 ghost use Rattle.fkv_table.specs.Planes.{plane, opening_of};
 ghost use Rattle.fkv_table.specs.Sits.{IsAsked, IsIdleEmpty, IsSeated, Replied, Settled, Went};
@@ -90,7 +93,7 @@ fn step<D: Device, O: Adds>(
     ensures went { Went (opening_of D.seen) seat.old.me (O.own seat.old.me.1) machine.old.seat.number seat.new.me }
     ensures seated { IsSeated (opening_of D.seen) words.now.key seat.new.me [] machine.new × (machine.new.seat ≡ machine.old.seat) }
     ensures idle { IsIdleEmpty (opening_of D.seen) machine.new seat.new.me }
-    ensures told { (its : _) → session_ask machine.new.seat machine.new.state ≡ Done its → IsToldLast (led (plane (opening_of D.seen)) (opening_of D.seen words.now.key) seat.new.me.0.seen) machine.new.seat.number (telling its machine.new.state.finished) }
+    ensures told { (its : Told) → session_ask machine.new.seat machine.new.state ≡ Done its → IsToldLast (led (plane (opening_of D.seen)) (opening_of D.seen words.now.key) seat.new.me.0.seen) machine.new.seat.number (telling its machine.new.state.finished) }
     ensures fewer { session_asks_left machine.new.seat machine.new.state < session_asks_left machine.old.seat machine.old.state }
     ensures ask { result ≡ session_ask machine.new.seat machine.new.state }
 {
@@ -108,7 +111,7 @@ fn steps_on<D: Device>(
     requires table { (seat.old.table_id ≡ words.now.table_id) × IsTableOf (opening_of D.seen words.now.key) words.now.table_id }
     requires seated { IsSeated (opening_of D.seen) words.now.key seat.old.me [] machine.old }
     requires idle { IsIdleEmpty (opening_of D.seen) machine.old seat.old.me }
-    requires told { (its : _) → session_ask machine.old.seat machine.old.state ≡ Done its → IsToldLast (led (plane (opening_of D.seen)) (opening_of D.seen words.now.key) seat.old.me.0.seen) machine.old.seat.number (telling its machine.old.state.finished) }
+    requires told { (its : Told) → session_ask machine.old.seat machine.old.state ≡ Done its → IsToldLast (led (plane (opening_of D.seen)) (opening_of D.seen words.now.key) seat.old.me.0.seen) machine.old.seat.number (telling its machine.old.state.finished) }
     requires ask { first ≡ session_ask machine.old.seat machine.old.state }
     ensures seat { (seat.new.table_id ≡ seat.old.table_id) × (seat.new.id ≡ seat.old.id) }
     ensures steps { HasStepped machine.old.seat.number seat.old.me.0.seen seat.new.me.0.seen }
@@ -124,5 +127,70 @@ fn steps_on<D: Device>(
             return told;
         }
         ask = step::<D, Next>(words, seat, machine, &ask);
+    }
+}
+
+/// Adds the start that the desk tells: the call is over before its first ask.
+fn note<D: Device>(words: &Words<D>, seat: &mut Place<D>, machine: &fkv_session::Session, call: &Call)
+    requires table { (seat.old.table_id ≡ words.now.table_id) × IsTableOf (opening_of D.seen words.now.key) words.now.table_id }
+    requires seated { IsSeated (opening_of D.seen) words.now.key seat.old.me (noted seat.old.me.1) machine.now }
+    requires note { noted seat.old.me.1 ≡ Calls machine.now.seat.number call.now ∷ [] }
+    ensures seat { (seat.new.table_id ≡ seat.old.table_id) × (seat.new.id ≡ seat.old.id) }
+    ensures told { (word : ℕ) × Stepped (plane (opening_of D.seen)) (opening_of D.seen words.now.key) seat.old.me.0 seat.old.me.1 0 [] (Calls machine.now.seat.number call.now) word seat.new.me }
+{
+    let _ = (machine, call);
+    let _ = words.load::<Notes>(seat, 0);
+}
+
+/// Runs a call that has begun, whose start is on the desk.
+fn run_begun<D: Device>(
+    words: &Words<D>,
+    seat: &mut Place<D>,
+    machine: &mut fkv_session::Session,
+    call: &Call,
+    first: Ask<Told>,
+) -> Told
+    requires table { (seat.old.table_id ≡ words.now.table_id) × IsTableOf (opening_of D.seen words.now.key) words.now.table_id }
+    requires seated { IsSeated (opening_of D.seen) words.now.key seat.old.me (noted seat.old.me.1) machine.old }
+    requires note { noted seat.old.me.1 ≡ Calls machine.old.seat.number call.now ∷ [] }
+    requires idle { WasIdle (opening_of D.seen) words.now.key seat.old.me.0.seen machine.old.seat.number }
+    requires ask { first ≡ session_ask machine.old.seat machine.old.state }
+    ensures seat { (seat.new.table_id ≡ seat.old.table_id) × (seat.new.id ≡ seat.old.id) }
+    ensures called { HasCalled machine.old.seat.number call.now seat.old.me.0.seen seat.new.me.0.seen }
+    ensures desk { (base (plane (opening_of D.seen)) seat.new.me.0.hand seat.new.me.1 ≡ base (plane (opening_of D.seen)) seat.old.me.0.hand seat.old.me.1) × (seat.new.me.0.desk ≡ seat.old.me.0.desk) }
+    ensures seated { IsSeated (opening_of D.seen) words.now.key seat.new.me [] machine.new × (machine.new.seat ≡ machine.old.seat) }
+    ensures empty { seat.new.me.0.hand ≡ None }
+    ensures told { IsToldLast (led (plane (opening_of D.seen)) (opening_of D.seen words.now.key) seat.new.me.0.seen) machine.new.seat.number (telling result machine.new.state.finished) }
+    ensures answer { session_ask machine.new.seat machine.new.state ≡ Done result }
+{
+    if let Ask::Done(told) = first {
+        note(words, seat, machine, call);
+        return told;
+    }
+    let next = step::<D, First>(words, seat, machine, &first);
+    steps_on(words, seat, machine, next)
+}
+
+impl Session {
+    /// Runs a call to its end. It waits for no other thread.
+    pub fn run<D: Device>(
+        &mut self,
+        table: &Table<D>,
+        mut pass: Pass<D>,
+        call: Call,
+    ) -> (Pass<D>, Answer)
+        requires ready { IsReady (opening_of D.seen) table.now.table.shared.key table.now.table.shared.table_id pass.seat.table_id pass.seat.me self.old.machine self.old.desk }
+        ensures ready { IsReady (opening_of D.seen) table.now.table.shared.key table.now.table.shared.table_id result.0.seat.table_id result.0.seat.me self.new.machine self.new.desk }
+        ensures number { self.new.machine.seat.number ≡ self.old.machine.seat.number }
+        ensures called { HasCalled self.old.machine.seat.number call pass.seat.me.0.seen result.0.seat.me.0.seen }
+        ensures answer { IsAnsweredLast (led (plane (opening_of D.seen)) (opening_of D.seen table.now.table.shared.key) result.0.seat.me.0.seen) self.new.machine.seat.number result.1 }
+    {
+        let words = &table.table.shared;
+        let start = Happening::Calls(self.machine.number(), call);
+        let _ = words.exchange(&mut pass.seat, self.desk, Held::Desk(start));
+        let first = self.machine.begin(call);
+        let told = run_begun(words, &mut pass.seat, &mut self.machine, &call, first);
+        let answer = answer_of(told, self.machine.finished());
+        (pass, answer)
     }
 }

@@ -1,0 +1,198 @@
+-- A call: its start is on the desk, its steps follow, and so on to its answer.
+use Rattle.std.proofs.Common.{◌≡◌, ◌≢◌, ◌⊎◌, ℕ, refl, sym, ap, subst, ◌∙◌, inl, inr, append_assoc, Bool, true, false, List, [], ◌∷◌, ◌++◌, length, set, get_or}
+use Rattle.std.specs.Prelude.{Option, Some, None, slice_get}
+use mathlib.Core.Option.{none}
+use Rattle.atomic_table.specs.Seated.{TableId}
+use Rattle.atomic_table.specs.Table.{Me, Step, step, rest, Allows}
+use Rattle.fkv_map.specs.declared.operations.Call.{Call}
+use Rattle.fkv_plane.specs.declared.asks.Ask.{Ask}
+use Rattle.fkv_plane.specs.declared.asks.Ask.TheVariants.{Load, Store, Swap, Cas, Add, Max, Put, Take, Done}
+use Rattle.fkv_plane.specs.Asked.{asked_place}
+use Rattle.fkv_session.specs.declared.answers.Told.{Told}
+use Rattle.fkv_session.specs.declared.sessions.Sitting.TheVariants.{Idle}
+use Rattle.fkv_session.specs.Sessions.{Seat, SessionState, Sitter, is_busy, session_ask, session_begun}
+use Rattle.fkv_session.specs.SessionRun.{telling}
+use Rattle.fkv_world.specs.Actors.{slot_asked}
+use Rattle.fkv_world.specs.Past.{Answered, Called, Traced, TraceEvent}
+use Rattle.fkv_world.specs.Runs.{World}
+use Rattle.fkv_world.specs.World.{Calls as Starts, Now, seat_at, session_called}
+use Rattle.law_world.specs.Runs.Added.{begun_by, ended_by, told_at, told_by}
+use Rattle.law_world.proofs.OfRuns.Added.{trace_so}
+use Rattle.fkv_seats.specs.declared.held.Held.TheVariants.{Desk}
+use Rattle.fkv_seats.specs.declared.views.Role.{Role}
+use Rattle.fkv_seats.specs.declared.views.Role.TheVariants.{Sits}
+use Rattle.fkv_seats.specs.Rule.{AreOwn, AreStarts, Carries, Changes, HandFits, Quiet, Ruled, Stepped, base, led, speaks}
+use Rattle.fkv_seats.proofs.Keeps.{no_some, allows}
+use Rattle.fkv_table.specs.declared.happenings.Happening.{Happening}
+use Rattle.fkv_table.specs.declared.happenings.Happening.TheVariants.{Calls, Moves}
+use Rattle.fkv_table.specs.Calls.{AreOthers, HasCalled, HasStepped, IsReady, IsToldLast, OnlyMoves}
+use Rattle.fkv_table.specs.Desks.{IsAtDesk, Slot, Knows, noted, noting}
+use Rattle.fkv_table.specs.Events.{actor_of, event_of}
+use Rattle.fkv_table.specs.Openings.{IsGuardedOpening, IsTableOf}
+use Rattle.fkv_table.specs.Planes.{plane}
+use Rattle.fkv_table.specs.Positions.{laid, position}
+use Rattle.fkv_table.specs.Sits.{AreCalls, IsIdleEmpty, IsSeated, Went, called_after}
+use Rattle.fkv_table.proofs.Laid.{set_found}
+use Rattle.fkv_table.proofs.Lives.{alive, quiet_session, rests_so, same_number, slot_facts, start_words, stands}
+use Rattle.fkv_table.proofs.Settled.{ended_so, idle_is}
+use Rattle.fkv_table.proofs.Steps.{standing, weaken}
+
+same_some : {X : Type 0} (i j : X) → ◌≡◌ {A = Option X} (Some i) (Some j) → i ≡ j
+same_some i j e = cc
+
+only_both : (number : ℕ) (xs ys : List Happening) → OnlyMoves number xs → OnlyMoves number ys → OnlyMoves number (xs ++ ys)
+only_both number [] ys a b = b
+only_both number (x ∷ xs) ys a b = (a.0, only_both number xs ys a.1 b)
+
+-- a machine that isn't through asks for a word
+asks_word : {A : Type 0} (ask : Ask A) → slot_asked ask ≡ None → ((told : A) → ask ≢ Done told) → (place : ℕ) × (asked_place ask ≡ Some place)
+asks_word (Load i) free busy = (i, refl)
+asks_word (Store i new) free busy = (i, refl)
+asks_word (Swap i new) free busy = (i, refl)
+asks_word (Cas i old new) free busy = (i, refl)
+asks_word (Add i k) free busy = (i, refl)
+asks_word (Max i k) free busy = (i, refl)
+asks_word (Put slot action) free busy = no_some slot (sym free)
+asks_word (Take slot) free busy = no_some slot (sym free)
+asks_word (Done its) free busy = absurd (busy its refl)
+
+-- what the start of a call tells that is over at once
+told_at_once : (n after : Now) (number : ℕ) (call : Call) (s s' : SessionState) (its : Told) → n.crashed ≡ false → slice_get n.sessions number ≡ Some s → slice_get after.sessions number ≡ Some s' → is_busy s.step ≡ false → s'.step ≡ Idle its
+    → told_by n after (Starts number call) ≡ Answered number (telling its s'.finished) ∷ (Called number call ∷ [])
+unfolding ended_by begun_by
+told_at_once n after number call s s' its going was now idle ended = rw (going, was, now, idle, ended) refl
+
+module _ {K : Type 0} (at : K → World) where
+  quiet_only : (number : ℕ) (xs : List Happening) → Quiet (plane at) (Sits number) xs → OnlyMoves number xs
+  quiet_only number [] q = tt
+  quiet_only number (x ∷ xs) q = (inr q.0, quiet_only number xs q.1)
+
+  quiet_others : (number : ℕ) (xs : List Happening) → Quiet (plane at) (Sits number) xs → AreOthers number xs
+  quiet_others number [] q = tt
+  quiet_others number (x ∷ xs) q = (q.0, quiet_others number xs q.1)
+
+  pub one_more : (number : ℕ) (seen : List Happening) (me me' : Me Slot (Knows K)) → HasStepped number seen me.0.seen → me.0.role ≡ Sits number → Went at me [] number me' → HasStepped number seen me'.0.seen
+  one_more number seen me me' so role went = record {
+    steps = Moves number ∷ (went.others ++ so.steps);
+    only = (inl refl, only_both number went.others so.steps (quiet_only number went.others (subst (λ (r : Role). Quiet (plane at) r went.others) role went.quiet)) so.only);
+    so = went.seen ∙ ap (λ (es : List Happening). Moves number ∷ es) (ap (λ (es : List Happening). went.others ++ es) so.so ∙ sym (append_assoc went.others so.steps seen));
+  }
+
+  pub word_of : (key : K) (me : Me Slot (Knows K)) (own : List Happening) (m : Sitter) (ask : Ask Told) → IsGuardedOpening (at key) → IsSeated at key me own m → ask ≡ session_ask m.seat m.state → ((its : Told) → ask ≢ Done its)
+      → (place : ℕ) × (asked_place ask ≡ Some place)
+  word_of key me own m ask open sits is busy =
+      asks_word ask (ap slot_asked is ∙ (ap (λ (k : Seat). slot_asked (session_ask k m.state)) sits.chair ∙ rests_so at (at key) open (own ++ me.0.seen) m.seat.number m.state (standing at key me own m open sits [] tt))) busy
+
+  -- a call begins: its start stands on the desk
+  pub at_front : (desk : ℕ) (me : Me Slot (Knows K)) → IsAtDesk at desk me → me.0.hand ≡ None → (old : Slot) × (me.1 ≡ (desk, old) ∷ rest me.1)
+  at_front desk me sits empty =
+      let e : me.1 ≡ (desk, sits.note) ∷ [] = ap (λ (h : Option ℕ). base (plane at) h me.1) (sym empty) ∙ sits.alone in (sits.note, e ∙ ap (λ (cs : List (ℕ × Slot)). (desk, sits.note) ∷ rest cs) (sym e))
+
+  called_idle : (k : Seat) (s : SessionState) (call : Call) → is_busy s.step ≡ false → session_called k s call ≡ session_begun k s call
+  called_idle k s call idle = rw idle refl
+
+  pub seated_first : (key : K) (desk : ℕ) (me me1 : Me Slot (Knows K)) (m m1 : Sitter) (call : Call) → IsSeated at key me [] m → is_busy m.state.step ≡ false → me.0.hand ≡ None → me1 ≡ (me.0, (desk, Desk (Calls m.seat.number call)) ∷ rest me.1)
+      → m1 ≡ record m { state = session_begun m.seat m.state call } → IsSeated at key me1 (noted me1.1) m1
+  seated_first key desk me me1 m m1 call sits idle empty e is =
+      subst (λ (x : Me Slot (Knows K) × Sitter). IsSeated at key x.0 (noted x.0.1) x.1) (λ i. (sym e i, sym is i)) record {
+        about = sits.about;
+        role = sits.role;
+        chair = sits.chair;
+        first = sits.first;
+        was = sits.was;
+        calls = ((call, refl), tt);
+        state = sym (called_idle m.seat m.state call idle) ∙ ap (λ (s : SessionState). session_called m.seat s call) sits.state;
+        hand = subst (λ (h : Option ℕ). HandFits (plane at) (at key) me.0.seen h ((desk, Desk (Calls m.seat.number call)) ∷ rest me.1)) (sym empty) tt;
+      }
+
+  pub noted_so : (desk : ℕ) (me me1 : Me Slot (Knows K)) (start : Happening) → me1 ≡ (me.0, (desk, Desk start) ∷ rest me.1) → noted me1.1 ≡ start ∷ []
+  noted_so desk me me1 start e = ap (λ (x : Me Slot (Knows K)). noted x.1) e
+
+  -- the call with all its steps
+  pub called : (number : ℕ) (call : Call) (me1 me2 : Me Slot (Knows K)) (seen' : List Happening) → me1.0.role ≡ Sits number → noted me1.1 ≡ Calls number call ∷ [] → Went at me1 (noted me1.1) number me2
+      → HasStepped number me2.0.seen seen' → HasCalled number call me1.0.seen seen'
+  called number call me1 me2 seen' role note went so = record {
+    steps = so.steps ++ Moves number ∷ [];
+    only = only_both number so.steps (Moves number ∷ []) so.only (inl refl, tt);
+    others = went.others;
+    quiet = quiet_others number went.others (subst (λ (r : Role). Quiet (plane at) r went.others) role went.quiet);
+    so = so.so ∙ (ap (λ (es : List Happening). so.steps ++ es) (went.seen ∙ λ i. Moves number ∷ (note i ++ (went.others ++ me1.0.seen))) ∙ sym (append_assoc so.steps (Moves number ∷ []) (Calls number call ∷ (went.others ++ me1.0.seen))));
+  }
+
+  -- A call that is over before its first ask: a load adds its start alone.
+  same_head : (its other : Happening) → ◌≡◌ {A = List Happening} (its ∷ []) (other ∷ []) → its ≡ other
+  same_head its other e = cc
+
+  no_starts : (w : World) → AreStarts (plane at) w []
+  no_starts w = record { words = λ es. refl; actions = λ es. refl }
+
+  module _ (key : K) (me : Me Slot (Knows K)) (m : Sitter) (call : Call) (open : IsGuardedOpening (at key)) (sits : IsSeated at key me (noted me.1) m) (note : noted me.1 ≡ Calls m.seat.number call ∷ []) where
+    abbrev n : ℕ
+    n = m.seat.number
+
+    call_own : AreOwn (plane at) me.0.role (Calls n call ∷ [])
+    call_own = subst (λ (role : Role). AreOwn (plane at) role (Calls n call ∷ [])) (sym sits.role) (same_number n, tt)
+
+    unchanged : (i : ℕ) → Changes (plane at) key me.0 [] (Calls n call) i (λ (word : ℕ). word)
+    unchanged i later q = ap laid (start_words at (at key) n (Calls n call ∷ []) (later ++ me.0.seen) open.opened.goes_on ((call, refl), tt)) ∙ sym (set_found (laid (led (plane at) (at key) (later ++ me.0.seen)).now.words) i)
+
+    pub note_allowed : (slots id i : ℕ) (st : Step Slot) → st.word ≡ i → Allows (Ruled (plane at) key) slots id me i (λ (word : ℕ). word) (noting at st me)
+    note_allowed slots id i st word =
+        weaken at key slots id me i (λ (word : ℕ). word) (λ k m'. Stepped (plane at) (at key) me.0 me.1 i [] (Calls n call) k m') (noting at st me)
+            (λ k m' t other its about on.
+                let same : key ≡ other = same_some key other (sym sits.about ∙ about) in
+                let start : Calls n call ≡ its = same_head (Calls n call) its (sym note ∙ on) in
+                subst (λ (x : K × ℕ × Happening). Stepped (plane at) (at x.0) me.0 me.1 x.1 [] x.2 k m') (λ j. (same j, sym word j, start j)) t)
+            (allows (plane at) key slots id me.0 me.1 i (λ (word : ℕ). word) [] (Calls n call) (slot_facts at (at key) open) call_own (no_starts (at key)) sits.hand (unchanged i))
+
+    module _ (me' : Me Slot (Knows K)) (i word : ℕ) (t : Stepped (plane at) (at key) me.0 me.1 i [] (Calls n call) word me') where
+      abbrev seen' : List Happening
+      seen' = Calls n call ∷ (t.others ++ me.0.seen)
+
+      stood : slice_get (led (plane at) (at key) seen').now.sessions n ≡ Some m.state
+      stood = ap (λ (own : List Happening). slice_get (led (plane at) (at key) (own ++ (t.others ++ me.0.seen))).now.sessions n) (sym note) ∙ standing at key me (noted me.1) m open sits t.others t.quiet
+
+      pub noted_seated : IsSeated at key me' [] m
+      noted_seated = record {
+        about = t.about ∙ sits.about;
+        role = t.role ∙ sits.role;
+        chair = sits.chair;
+        first = m.state;
+        was = ap (λ (seen : List Happening). slice_get (led (plane at) (at key) seen).now.sessions n) t.seen ∙ stood;
+        calls = tt;
+        state = refl;
+        hand = subst (λ (h : Option ℕ). HandFits (plane at) (at key) me'.0.seen h me'.1) (sym t.hand) tt;
+      }
+
+      pub noted_called : HasCalled n call me.0.seen me'.0.seen
+      noted_called = record {
+        steps = [];
+        only = tt;
+        others = t.others;
+        quiet = quiet_others n t.others (subst (λ (r : Role). Quiet (plane at) r t.others) sits.role t.quiet);
+        so = t.seen;
+      }
+
+      pub noted_empty : me'.0.hand ≡ None
+      noted_empty = t.hand
+
+      carries_none : (hand : Option ℕ) (c c' : List (ℕ × Slot)) → hand ≡ None → Carries (plane at) (at key) (t.others ++ me.0.seen) hand c c' → c' ≡ c
+      carries_none None c c' e its = its
+      carries_none (Some k) c c' e its = no_some k (sym e)
+
+      pub noted_base : base (plane at) me'.0.hand me'.1 ≡ base (plane at) me.0.hand me.1
+      noted_base = ap (λ (h : Option ℕ). base (plane at) h me'.1) t.hand ∙ carries_none me'.0.hand (base (plane at) me.0.hand me.1) me'.1 t.hand t.carries
+
+      pub noted_told : (its : Told) → ((s : SessionState) → slice_get (led (plane at) (at key) me.0.seen).now.sessions n ≡ Some s → is_busy s.step ≡ false) → session_ask m.seat m.state ≡ Done its
+          → IsToldLast (led (plane at) (at key) me'.0.seen) n (telling its m.state.finished)
+      unfolding led
+      noted_told its idle done =
+          let x : World = led (plane at) (at key) (t.others ++ me.0.seen) in
+          let y : World = led (plane at) (at key) seen' in
+          let was : slice_get x.now.sessions n ≡ Some sits.first = quiet_session at (at key) n t.others me.0.seen (subst (λ (r : Role). Quiet (plane at) r t.others) sits.role t.quiet) ∙ sits.was in
+          let ended : is_busy m.state.step ≡ false = ended_so at (at key) open seen' n m.state its stood (ap (λ (k : Seat). session_ask k m.state) (sym sits.chair) ∙ done) in
+          let told = told_at_once x.now y.now n call sits.first m.state its (alive at (at key) (t.others ++ me.0.seen) open.opened.goes_on) was stood (idle sits.first sits.was) (idle_is m.seat m.state m.state.step its ended done) in
+          subst (λ (seen : List Happening). IsToldLast (led (plane at) (at key) seen) n (telling its m.state.finished)) (sym t.seen) record {
+            before = record { its = Called n call; effects = length y.past.history } ∷ x.past.trace;
+            newest = trace_so x (event_of (Calls n call)) ∙ ap (λ (es : List TraceEvent). told_at (length y.past.history) es ++ x.past.trace) told;
+          }
