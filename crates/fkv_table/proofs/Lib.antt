@@ -1,6 +1,12 @@
 pub mod Called
+pub mod KeeperNotes
 pub mod Laid
+pub mod LaidWords
 pub mod Lives
+pub mod Meets
 pub mod Moved
+pub mod Ready
+pub mod Seating
 pub mod Settled
+pub mod Starts
 pub mod Steps

@@ -15,6 +15,7 @@ ghost use Rattle.fkv_table.specs.Planes.{plane, opening_of};
 use crate::performing::perform;
 use crate::rule::{Knows, Place, Slot, Words};
 use atomic_table::Play;
+use fkv_base::CommitKind;
 use fkv_checkpoint::CopyRoom;
 use fkv_disk::Device;
 use fkv_keeper::KeeperTold;
@@ -139,4 +140,74 @@ pub(crate) fn begin_turn<D: Device>(
 {
     machine.begin_turn();
     note::<D, Turning>(words, seat);
+}
+
+/// Begins a commit, and adds that to the list.
+pub(crate) fn begin_commit<D: Device>(
+    words: &Words<D>,
+    seat: &mut Place<D>,
+    machine: &mut fkv_keeper::Keeper,
+    kind: CommitKind,
+)
+    requires table { (seat.old.table_id ≡ words.now.table_id) × IsTableOf (opening_of D.seen words.now.key) words.now.table_id }
+    requires keeping { IsKeeping (opening_of D.seen) words.now.key seat.old.me machine.old }
+    requires idle { is_in_hand machine.old.state.step ≡ false }
+    ensures seat { (seat.new.table_id ≡ seat.old.table_id) × (seat.new.id ≡ seat.old.id) }
+    ensures noted { IsNoted (opening_of D.seen) words.now.key seat.old.me (Commits kind) seat.new.me }
+    ensures keeping { IsKeeping (opening_of D.seen) words.now.key seat.new.me machine.new }
+{
+    machine.begin_commit(kind);
+    match kind {
+        CommitKind::Full => note::<D, FullCommit>(words, seat),
+        CommitKind::Log => note::<D, LogCommit>(words, seat),
+    }
+}
+
+/// Makes the ask of a word that the machine stands at, and goes on with the reply and with what memory was got.
+fn ask_word<D: Device, E: OfKeeper>(
+    words: &Words<D>,
+    seat: &mut Place<D>,
+    machine: &mut fkv_keeper::Keeper,
+    ask: &Ask<KeeperTold>,
+    room: Option<CopyRoom>,
+) -> Ask<KeeperTold>
+    requires table { (seat.old.table_id ≡ words.now.table_id) × IsTableOf (opening_of D.seen words.now.key) words.now.table_id }
+    requires event { E.its ≡ KeeperMoves (is_some room) true }
+    requires room { IsRoomFor machine.old.places room }
+    requires keeping { IsKeeping (opening_of D.seen) words.now.key seat.old.me machine.old }
+    requires ask { ask.now ≡ keeper_ask machine.old.shape machine.old.places machine.old.state }
+    requires word { (place : ℕ) × (asked_place ask.now ≡ Some place) }
+    ensures seat { (seat.new.table_id ≡ seat.old.table_id) × (seat.new.id ≡ seat.old.id) }
+    ensures replied { KeeperReplied (opening_of D.seen) words.now.key seat.old.me (is_some room) machine.old seat.new.me machine.new }
+    ensures ask { result ≡ keeper_ask machine.new.shape machine.new.places machine.new.state }
+{
+    let reply = perform::<D, Adding<E>, KeeperTold>(words, seat, ask);
+    machine.go_on_with(reply, room)
+}
+
+/// Moves the action that goes with the reply, if one does.
+fn settle<D: Device>(
+    words: &Words<D>,
+    seat: &mut Place<D>,
+    machine: &mut fkv_keeper::Keeper,
+    next: Ask<KeeperTold>,
+) -> Ask<KeeperTold>
+    requires table { seat.old.table_id ≡ words.now.table_id }
+    requires ask { next ≡ keeper_ask machine.old.shape machine.old.places machine.old.state }
+    requires hand { KeeperIsAsked (opening_of D.seen) next seat.old.me }
+    ensures seat { (seat.new.table_id ≡ seat.old.table_id) × (seat.new.id ≡ seat.old.id) }
+    ensures settled { KeeperSettled (opening_of D.seen) next seat.old.me machine.old seat.new.me machine.new }
+    ensures ask { result ≡ keeper_ask machine.new.shape machine.new.places machine.new.state }
+{
+    match next {
+        Ask::Put(slot, action) => {
+            let _ = words.exchange(seat, slot, Held::Drain(Some(action)));
+            machine.go_on_with(0, None)
+        }
+        Ask::Take(slot) => match words.exchange(seat, slot, Held::Drain(None)) {
+            Held::Drain(Some(action)) => machine.take(action),
+            _ => Ask::Take(slot),
+        },
+        other => other,
+    }
 }

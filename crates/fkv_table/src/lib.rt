@@ -1,7 +1,12 @@
 //! The threaded store: the engine's words lie in a table that threads share, and each session makes its calls there by a pass of its own.
 #![tactic(auto)]
 
+mod closing;
+mod desks;
 mod happenings;
+mod joining;
+mod keepers;
+mod opening;
 mod performing;
 mod plays;
 mod positions;
@@ -9,5 +14,8 @@ mod rule;
 mod sessions;
 
 pub use happenings::Happening;
+pub use joining::join;
+pub use keepers::{Keeper, KeeperPass};
+pub use opening::OpenTable;
 pub use rule::{Engine, Pass, Table};
 pub use sessions::Session;
