@@ -1,5 +1,6 @@
 pub mod Called
 pub mod KeeperNotes
+pub mod KeeperSettled
 pub mod KeeperSteps
 pub mod Laid
 pub mod LaidWords
