@@ -11,12 +11,16 @@ use Rattle.fkv_plane.specs.declared.places.Places.{Places}
 use Rattle.fkv_keeper.specs.declared.answers.KeeperTold.{KeeperTold}
 use Rattle.fkv_keeper.specs.declared.answers.KeeperTold.TheVariants.{Device}
 use Rattle.fkv_keeper.specs.Keeping.{KeeperModel, KeeperState, commit_asked, keeper_ask, keeper_next, turn_asked}
+use Rattle.fkv_keeper.specs.KeeperAsks.{keeper_calls}
 use Rattle.fkv_keeper.specs.KeeperRun.{is_in_hand}
 use Rattle.fkv_plane.specs.Asked.{reply_to}
 use Rattle.fkv_world.specs.Actors.{is_of_keeper, slot_named, slot_of_step}
-use Rattle.fkv_world.specs.Runs.{World, happens}
-use Rattle.fkv_world.specs.World.{Now, keeper_asked}
-use Rattle.fkv_world.proofs.Shown.{keeper_apart, places_stay, shape_stays}
+use Rattle.fkv_world.specs.Past.{calls_after}
+use Rattle.fkv_world.specs.Runs.{World, happens, read_by_keeper}
+use Rattle.fkv_world.specs.World.{Event, Now, keeper_asked, life_goes}
+use Rattle.fkv_world.proofs.Shown.{added_calls, calls_added, keeper_apart, lived, places_stay, shape_stays}
+use Rattle.law_world.proofs.OfKeeper.OwnCalls.{opened_stays}
+use Rattle.law_world.proofs.OfRuns.Added.{calls_stay}
 use Rattle.law_world.proofs.OfRuns.Starts.{commit_starts, device_called, turn_starts}
 use Rattle.fkv_seats.specs.declared.views.Role.{Role}
 use Rattle.fkv_seats.specs.declared.views.Role.TheVariants.{Rest}
@@ -43,6 +47,14 @@ not_keepers from (Commits kind) e = absurd (true≢false e)
 not_keepers from Turns e = absurd (true≢false e)
 not_keepers from (KeeperMoves granted done) e = absurd (true≢false e)
 
+-- what a step of the keeper adds to the calls of the device
+pub moves_calls : (x : World) (granted done : Bool) → x.now.crashed ≡ false
+    → (happens x (event_of (KeeperMoves granted done))).past.calls ≡ calls_after (keeper_ask x.now.shape x.now.places x.now.keeper) (keeper_calls x.now.shape x.now.keeper done) x.past.calls
+unfolding calls_added
+moves_calls x granted done going =
+    let e : Event = event_of (KeeperMoves granted done) in
+    ap (λ (y : World). y.past.calls) (lived x e going) ∙ added_calls x (life_goes x.now (read_by_keeper x) e) e
+
 -- a call begins where none is in hand
 begun_so : (s began : KeeperState) → is_in_hand s.step ≡ false → keeper_asked s began ≡ began
 begun_so s began idle = rw idle refl
@@ -53,6 +65,16 @@ module _ {K : Type 0} (at : K → World) where
   unfolding led
   quiet_keeper w from [] seen q = refl
   quiet_keeper w from (its ∷ later) seen q = keeper_apart (led (plane at) w (later ++ seen)) (event_of its) (not_keepers from its q.0) ∙ quiet_keeper w from later seen q.1
+
+  -- nor do they call the device
+  pub quiet_calls : (w : World) (from : ℕ) (later seen : List Happening) → Quiet (plane at) (Rest from) later
+      → (led (plane at) w (later ++ seen)).past.calls ≡ (led (plane at) w seen).past.calls
+  unfolding led
+  quiet_calls w from [] seen q = refl
+  quiet_calls w from (its ∷ later) seen q = calls_stay (led (plane at) w (later ++ seen)) (event_of its) (not_keepers from its q.0) ∙ quiet_calls w from later seen q.1
+
+  pub opened_so : (w : World) (es : List Happening) → (led (plane at) w es).past.opened ≡ w.past.opened
+  opened_so w es = ap (λ (x : World). x.past.opened) (led_run at w es) ∙ opened_stays w (map event_of es)
 
   pub shape_so : (w : World) (es : List Happening) → (led (plane at) w es).now.shape ≡ w.now.shape
   shape_so w es = ap (λ (x : World). x.now.shape) (led_run at w es) ∙ shape_stays w (map event_of es)

@@ -1,5 +1,5 @@
 -- How the keeper and its seat stand behind a step, with the action that goes with it.
-use Rattle.std.proofs.Common.{◌≡◌, ℕ, ◌<◌, refl, sym, ap, subst, ◌∙◌, Bool, true, false, List, [], ◌∷◌, ◌++◌, length}
+use Rattle.std.proofs.Common.{◌≡◌, ℕ, ◌<◌, refl, sym, ap, subst, ◌∙◌, Bool, true, false, List, [], ◌∷◌, ◌++◌, length, map, arith}
 use Rattle.std.specs.Prelude.{Option, Some, None}
 use Rattle.atomic_table.specs.Table.{Me, rest}
 use Rattle.fkv_base.specs.declared.shapes.Shape.{Shape}
@@ -10,15 +10,23 @@ use Rattle.fkv_plane.specs.declared.asks.Ask.TheVariants.{Load, Store, Swap, Cas
 use Rattle.fkv_plane.specs.declared.places.Places.{Places}
 use Rattle.fkv_plane.specs.Asked.{asked_place, reply_to, words_after}
 use Rattle.fkv_plane.specs.Plane.{action_at}
+use Rattle.fkv_disk.specs.Calls as device
+use Rattle.fkv_keeper.specs.Answers.{is_busy}
+use Rattle.fkv_keeper.specs.KeeperAsks.{keeper_asks_left, keeper_calls}
 use Rattle.fkv_keeper.specs.declared.answers.KeeperTold.{KeeperTold}
 use Rattle.fkv_keeper.specs.declared.keepers.Keeping.{Keeping}
 use Rattle.fkv_keeper.specs.declared.keepers.Keeping.TheVariants.{LoadsPhase}
 use Rattle.fkv_keeper.specs.Keeping.{KeeperModel, KeeperState, keeper_ask, keeper_next, keeping_ask, keeping_next}
+use Rattle.fkv_keeper.proofs.Shown.{keeper_left}
 use Rattle.fkv_world.specs.Actors.{keeper_goes, slot_asked, slot_named}
 use Rattle.fkv_world.specs.Moves.{Near, keeper_asks, keeper_gets, keeper_replied, keeper_settled}
-use Rattle.fkv_world.specs.Runs.{World, read_by_keeper}
+use Rattle.fkv_world.specs.Past.{calls_after}
+use Rattle.fkv_world.specs.Runs.{World, happens, read_by_keeper}
 use Rattle.fkv_world.specs.World.{Now, near, with_keeper}
 use Rattle.fkv_world.proofs.Shown.{keeper_own}
+use Rattle.law_world.specs.Runs.Ends.{KeeperStandsAtNoSlot, asks_left_of_keeper}
+use Rattle.law_world.proofs.OfRuns.Ends.{keeper_down}
+use Rattle.law_guard.proofs.OfGuarded.Ends.{life_keeper_stands}
 use Rattle.fkv_seats.specs.declared.held.Held.TheVariants.{Drain}
 use Rattle.fkv_seats.specs.Rule.{Carries, HandFits, action_in, base, flat, led}
 use Rattle.fkv_seats.proofs.Keeps.{no_some}
@@ -29,8 +37,8 @@ use Rattle.fkv_table.specs.Events.{event_of}
 use Rattle.fkv_table.specs.Keeps.{IsKeeping, KeeperIsAsked, KeeperReplied, KeeperSettled}
 use Rattle.fkv_table.specs.Openings.{IsGuardedOpening}
 use Rattle.fkv_table.specs.Planes.{plane}
-use Rattle.fkv_table.proofs.Lives.{alive, named_within, slots_count}
-use Rattle.fkv_table.proofs.KeeperNotes.{places_so, shape_so, there}
+use Rattle.fkv_table.proofs.Lives.{alive, led_run, named_within, slots_count}
+use Rattle.fkv_table.proofs.KeeperNotes.{moves_calls, places_so, quiet_calls, quiet_is, shape_so, there}
 use Rattle.fkv_table.proofs.KeeperSteps.{names_so}
 use Rattle.fkv_table.proofs.Moved.{same_drawer}
 use Rattle.fkv_table.proofs.Settled.{none_there, same_in_hand}
@@ -54,6 +62,29 @@ asks_settled shape p granted done read n (Max i more) place e = refl
 asks_settled shape p granted done read n (Put slot action) place e = no_some place e
 asks_settled shape p granted done read n (Take slot) place e = no_some place e
 asks_settled shape p granted done read n (Done its) place e = no_some place e
+
+-- an ask of a word makes no call of the device, and is no end
+word_adds_none : (ask : Ask KeeperTold) (place : ℕ) → asked_place ask ≡ Some place → (made calls : List device.Call) → calls_after ask made calls ≡ calls
+word_adds_none (Load i) place e made calls = refl
+word_adds_none (Store i new) place e made calls = refl
+word_adds_none (Swap i new) place e made calls = refl
+word_adds_none (Cas i old new) place e made calls = refl
+word_adds_none (Add i more) place e made calls = refl
+word_adds_none (Max i more) place e made calls = refl
+word_adds_none (Put slot action) place e made calls = refl
+word_adds_none (Take slot) place e made calls = refl
+word_adds_none (Done its) place e made calls = no_some place e
+
+word_busy : (ask : Ask KeeperTold) (place : ℕ) → asked_place ask ≡ Some place → is_busy ask ≡ true
+word_busy (Load i) place e = refl
+word_busy (Store i new) place e = refl
+word_busy (Swap i new) place e = refl
+word_busy (Cas i old new) place e = refl
+word_busy (Add i more) place e = refl
+word_busy (Max i more) place e = refl
+word_busy (Put slot action) place e = refl
+word_busy (Take slot) place e = refl
+word_busy (Done its) place e = no_some place e
 
 -- where the keeper's step leads from its machine in this store
 abbrev moved_by : Now → Bool → Shape → Places → KeeperState → Now
@@ -218,3 +249,27 @@ module _ {K : Type 0} (at : K → World) where
         hand = subst (λ (z : List Happening × Option ℕ). HandFits (plane at) (at key) z.0 z.1 me'.1) (λ i. (sym seen_is i, sym hand' i)) (hand_so me' k' ask (KeeperMoves granted true ∷ behind) y refl acts deep t);
         alone = ap (λ (h : Option ℕ). base (plane at) h me'.1) hand' ∙ (base_so me' k' ask hand_is r.carries t ∙ its.alone);
       }
+
+      -- no call of the device is made, and the call has fewer asks left
+      pub calls_on : (led (plane at) (at key) me'.0.seen).past.calls ≡ (led (plane at) (at key) me.0.seen).past.calls
+      unfolding led
+      calls_on =
+          let there_named : asked_place (keeper_ask x.now.shape x.now.places x.now.keeper) ≡ Some place = (λ i. asked_place (keeper_ask (shape_is i) (places_is i) (stood i))) ∙ named in
+          ap (λ (es : List Happening). (led (plane at) (at key) es).past.calls) seen_is
+          ∙ (moves_calls x granted true (alive at (at key) behind open.opened.goes_on)
+          ∙ (word_adds_none (keeper_ask x.now.shape x.now.places x.now.keeper) place there_named _ x.past.calls
+          ∙ quiet_calls at (at key) its.from r.others me.0.seen (quiet_is at key me k open its r.others r.quiet)))
+
+      pub fewer_on : keeper_asks_left k'.shape k'.places k'.state < keeper_asks_left k.shape k.places k.state
+      unfolding led
+      fewer_on =
+          let stands : KeeperStandsAtNoSlot x.now = subst (λ (z : World). KeeperStandsAtNoSlot z.now) (sym (led_run at (at key) behind)) (life_keeper_stands (at key) open.start (map event_of behind) open.guarded) in
+          let before : asks_left_of_keeper x.now ≡ keeper_asks_left k.shape k.places k.state = λ i. keeper_asks_left (shape_is i) (places_is i) (stood i) in
+          let some : 0 < keeper_asks_left k.shape k.places k.state = (keeper_left k.shape k.places k.state).0 (word_busy (keeper_ask k.shape k.places k.state) place named) in
+          let down : asks_left_of_keeper y.now < asks_left_of_keeper x.now =
+              keeper_down x granted true (alive at (at key) behind open.opened.goes_on) (subst (λ (n : ℕ). 0 < n) (sym before) some) stands in
+          let last : led (plane at) (at key) me'.0.seen ≡ y = ap (led (plane at) (at key)) seen_is in
+          let after : keeper_asks_left k'.shape k'.places k'.state ≡ asks_left_of_keeper y.now =
+              (λ i. keeper_asks_left ((kept_on.shape ∙ sym (shape_so at (at key) (KeeperMoves granted true ∷ behind))) i) ((kept_on.places ∙ sym (places_so at (at key) (KeeperMoves granted true ∷ behind))) i)
+              ((kept_on.state ∙ ap (λ (z : World). z.now.keeper) last) i)) in
+          omega (arith, down, before, after)
