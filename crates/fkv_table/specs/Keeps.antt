@@ -2,6 +2,7 @@
 use Rattle.std.specs.Prelude.{◌≡◌, ◌⊎◌, ⊤, ℕ, Bool, true, false, List, [], ◌∷◌, ◌++◌, Option, Some, None}
 use Rattle.atomic_table.specs.Seated.{TableId}
 use Rattle.atomic_table.specs.Table.{Me, Step, rest}
+use Rattle.fkv_disk.specs.Device.{IsAfter}
 use Rattle.fkv_plane.specs.declared.actions.Action.{Action}
 use Rattle.fkv_plane.specs.declared.asks.Ask.{Ask}
 use Rattle.fkv_plane.specs.declared.asks.Ask.TheVariants.{Put, Take, Done}
@@ -11,6 +12,7 @@ use Rattle.fkv_keeper.specs.Keeping.{KeeperModel, keeper_ask, keeper_next}
 use Rattle.fkv_keeper.specs.KeeperRun.{is_in_hand}
 use Rattle.fkv_world.specs.Actors.{slot_asked, slot_named}
 use Rattle.fkv_world.specs.Moves.{keeper_gets}
+use Rattle.fkv_world.specs.Past.{Past}
 use Rattle.fkv_world.specs.Runs.{World}
 use Rattle.fkv_seats.specs.declared.held.Held.TheVariants.{Drain}
 use Rattle.fkv_seats.specs.declared.views.Role.TheVariants.{Rest}
@@ -46,6 +48,10 @@ module _ {K : Type 0} (at : K → World) where
   pub record IsFreshKeeper (key : K) (table : TableId) (k : KeeperModel) (seat : TableId) (me : Me Slot (Knows K)) : Type 0 where
     pub ready : IsGuardedOpening (at key) → IsKeeperReady key table seat me k
     pub nothing_seen : me.0.seen ≡ []
+
+  -- A device reads as, and may leave, what the calls give that are past behind a list of events.
+  abbrev pub IsAfterSeen : K → List Happening → List ℕ → (List ℕ → Type 0) → Type 0
+  IsAfterSeen key events shown may_leave = let p : Past = (led (plane at) (at key) events).past in IsAfter p.opened p.calls shown may_leave
 
   -- what a step of the keeper tells that adds this event
   abbrev pub adding : Happening → Step Slot → Me Slot (Knows K) → ℕ → Me Slot (Knows K) → Type 0

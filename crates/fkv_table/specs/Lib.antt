@@ -2,6 +2,7 @@ pub mod Asks
 pub mod Calls
 pub mod Desks
 pub mod Events
+pub mod KeeperCalls
 pub mod Keeps
 pub mod Meets
 pub mod Openings

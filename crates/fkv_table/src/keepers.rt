@@ -5,10 +5,13 @@ ghost use Rattle.fkv_checkpoint.specs.Copying.{IsRoomFor};
 ghost use Rattle.fkv_keeper.specs.Keeping.{keeper_ask};
 ghost use Rattle.fkv_keeper.specs.KeeperAsks.{keeper_asks_left};
 ghost use Rattle.fkv_keeper.specs.KeeperRun.{is_in_hand};
+ghost use Rattle.fkv_keeper.specs.declared.answers.KeeperTold.TheVariants.{Device as AtDevice};
 ghost use Rattle.fkv_plane.specs.Asked.{asked_place};
-ghost use Rattle.fkv_seats.specs.Rule.{HandFits};
+ghost use Rattle.fkv_plane.specs.declared.asks.Ask.TheVariants.{Done};
+ghost use Rattle.fkv_seats.specs.Rule.{HandFits, led};
 ghost use Rattle.fkv_table.specs.declared.happenings.Happening.TheVariants.{Commits, KeeperMoves, Turns};
-ghost use Rattle.fkv_table.specs.Keeps.{IsKeeping, IsNoted, KeeperIsAsked, KeeperReplied, KeeperSettled, Spares};
+ghost use Rattle.fkv_table.specs.KeeperCalls.{HasGoneOn, HasKept};
+ghost use Rattle.fkv_table.specs.Keeps.{IsAfterSeen, IsKeeping, IsKeeperReady, IsNoted, KeeperIsAsked, KeeperReplied, KeeperSettled, Spares};
 ghost use Rattle.fkv_table.specs.Openings.{IsTableOf};
 ghost use Rattle.fkv_table.specs.Planes.{plane, opening_of};
 
@@ -209,5 +212,57 @@ fn settle<D: Device>(
             _ => Ask::Take(slot),
         },
         other => other,
+    }
+}
+
+/// Makes the ask of a word that the machine stands at, with the action that goes with it: one step of the keeper. Memory for a copy that
+/// the step may begin is asked for before.
+fn step<D: Device>(
+    words: &Words<D>,
+    seat: &mut Place<D>,
+    machine: &mut fkv_keeper::Keeper,
+    ask: &Ask<KeeperTold>,
+)
+    requires table { (seat.old.table_id ≡ words.now.table_id) × IsTableOf (opening_of D.seen words.now.key) words.now.table_id }
+    requires keeping { IsKeeping (opening_of D.seen) words.now.key seat.old.me machine.old }
+    requires ask { ask.now ≡ keeper_ask machine.old.shape machine.old.places machine.old.state }
+    requires word { (place : ℕ) × (asked_place ask.now ≡ Some place) }
+    ensures seat { (seat.new.table_id ≡ seat.old.table_id) × (seat.new.id ≡ seat.old.id) }
+    ensures keeping { IsKeeping (opening_of D.seen) words.now.key seat.new.me machine.new }
+    ensures went { HasGoneOn seat.old.me.0.seen seat.new.me.0.seen }
+    ensures calls { (led (plane (opening_of D.seen)) (opening_of D.seen words.now.key) seat.new.me.0.seen).past.calls ≡ (led (plane (opening_of D.seen)) (opening_of D.seen words.now.key) seat.old.me.0.seen).past.calls }
+    ensures fewer { keeper_asks_left machine.new.shape machine.new.places machine.new.state < keeper_asks_left machine.old.shape machine.old.places machine.old.state }
+{
+    let room = machine.room();
+    let next = if room.is_some() {
+        ask_word::<D, Granted>(words, seat, machine, ask, room)
+    } else {
+        ask_word::<D, Ungranted>(words, seat, machine, ask, room)
+    };
+    settle(words, seat, machine, next);
+}
+
+/// Makes the call of the device that the machine asks for, and adds that to the list.
+fn call_device<D: Device>(
+    words: &Words<D>,
+    seat: &mut Place<D>,
+    machine: &mut fkv_keeper::Keeper,
+    d: &mut D,
+)
+    requires table { (seat.old.table_id ≡ words.now.table_id) × IsTableOf (opening_of D.seen words.now.key) words.now.table_id }
+    requires keeping { IsKeeping (opening_of D.seen) words.now.key seat.old.me machine.old }
+    requires ask { keeper_ask machine.old.shape machine.old.places machine.old.state ≡ Done AtDevice }
+    requires honest { D.honest d.old }
+    requires after { IsAfterSeen (opening_of D.seen) words.now.key seat.old.me.0.seen (D.seen d.old) (D.may_leave d.old) }
+    ensures seat { (seat.new.table_id ≡ seat.old.table_id) × (seat.new.id ≡ seat.old.id) }
+    ensures keeping { IsKeeping (opening_of D.seen) words.now.key seat.new.me machine.new }
+    ensures went { HasGoneOn seat.old.me.0.seen seat.new.me.0.seen }
+    ensures honest { D.honest d.new }
+    ensures after { IsAfterSeen (opening_of D.seen) words.now.key seat.new.me.0.seen (D.seen d.new) (D.may_leave d.new) }
+    ensures fewer { keeper_asks_left machine.new.shape machine.new.places machine.new.state < keeper_asks_left machine.old.shape machine.old.places machine.old.state }
+{
+    match machine.call_device(d) {
+        Ok(_) => note::<D, Granted>(words, seat),
+        Err(_) => note::<D, Failed>(words, seat),
     }
 }
