@@ -1,4 +1,5 @@
 pub mod Called
+pub mod KeeperCalled
 pub mod KeeperNotes
 pub mod KeeperSettled
 pub mod KeeperSteps

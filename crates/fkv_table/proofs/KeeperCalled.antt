@@ -1,0 +1,122 @@
+-- A step of the keeper in the list of events, and a call of the device.
+use Rattle.std.proofs.Common.{◌≡◌, ℕ, refl, sym, ap, subst, ◌∙◌, Bool, true, false, true≢false, List, [], ◌∷◌, ◌++◌, map}
+use Rattle.std.specs.Prelude.{Option, Some, None}
+use Rattle.atomic_table.specs.Table.{Me}
+use Rattle.fkv_base.specs.declared.shapes.Shape.{Shape}
+use Rattle.fkv_disk.specs.Bytes.{bytes_at}
+use Rattle.fkv_disk.specs.Calls.{AllDone, reads_as}
+use Rattle.fkv_disk.specs.Calls as device
+use Rattle.fkv_disk.specs.Device.{IsAfter}
+use Rattle.fkv_disk.proofs.Shown.{reads_all}
+use Rattle.fkv_flush.specs.Devices.{Adds}
+use Rattle.fkv_flush.specs.Serving.{mail_place}
+use Rattle.fkv_plane.specs.declared.asks.Ask.{Ask}
+use Rattle.fkv_plane.specs.declared.asks.Ask.TheVariants.{Done}
+use Rattle.fkv_plane.specs.declared.places.Places.{Places}
+use Rattle.fkv_keeper.specs.declared.answers.KeeperTold.{KeeperTold}
+use Rattle.fkv_keeper.specs.declared.answers.KeeperTold.TheVariants.{Device}
+use Rattle.fkv_keeper.specs.KeeperAsks.{keeper_calls, keeper_read}
+use Rattle.fkv_keeper.specs.Keeping.{KeeperModel, KeeperState, keeper_ask, keeper_called}
+use Rattle.fkv_world.specs.Past.{Past, calls_after}
+use Rattle.fkv_world.specs.Runs.{World, happens, read_by_keeper, run}
+use Rattle.fkv_world.specs.World.{Now}
+use Rattle.fkv_world.proofs.Shown.{asks_while_done}
+use Rattle.law_world.proofs.OfRuns.Starts.{device_called}
+use Rattle.fkv_seats.specs.declared.views.Role.TheVariants.{Rest}
+use Rattle.fkv_seats.specs.Rule.{Quiet, led}
+use Rattle.fkv_table.specs.declared.happenings.Happening.{Happening}
+use Rattle.fkv_table.specs.declared.happenings.Happening.TheVariants.{Calls, Moves, Commits, Turns, KeeperMoves}
+use Rattle.fkv_table.specs.Desks.{Slot, Knows}
+use Rattle.fkv_table.specs.Events.{event_of}
+use Rattle.fkv_table.specs.KeeperCalls.{AreSessions, BeginsNone, HasGoneOn}
+use Rattle.fkv_table.specs.Keeps.{IsAfterSeen, IsKeeping, IsNoted}
+use Rattle.fkv_table.specs.Openings.{IsGuardedOpening}
+use Rattle.fkv_table.specs.Planes.{plane}
+use Rattle.fkv_table.proofs.Lives.{alive, led_run}
+use Rattle.fkv_table.proofs.KeeperNotes.{ask_there, keeping_on, moves_calls, opened_so, places_so, quiet_calls, quiet_is, shape_so, there}
+
+pub begins_none : (es : List Happening) → AreSessions es → BeginsNone es
+begins_none [] are = tt
+begins_none (Calls session call ∷ es) are = begins_none es are
+begins_none (Moves session ∷ es) are = begins_none es are
+begins_none (Commits kind ∷ es) are = absurd are
+begins_none (Turns ∷ es) are = absurd are
+begins_none (KeeperMoves granted done ∷ es) are = absurd are
+
+pub begins_both : (es others : List Happening) → BeginsNone es → BeginsNone others → BeginsNone (es ++ others)
+begins_both [] others a b = b
+begins_both (Calls session call ∷ es) others a b = begins_both es others a b
+begins_both (Moves session ∷ es) others a b = begins_both es others a b
+begins_both (Commits kind ∷ es) others a b = absurd a
+begins_both (Turns ∷ es) others a b = absurd a
+begins_both (KeeperMoves granted done ∷ es) others a b = begins_both es others a b
+
+module _ {K : Type 0} (at : K → World) where
+  -- what isn't the keeper's is a session's
+  pub are_sessions : (from : ℕ) (es : List Happening) → Quiet (plane at) (Rest from) es → AreSessions es
+  are_sessions from [] q = tt
+  are_sessions from (Calls session call ∷ es) q = are_sessions from es q.1
+  are_sessions from (Moves session ∷ es) q = are_sessions from es q.1
+  are_sessions from (Commits kind ∷ es) q = absurd (true≢false q.0)
+  are_sessions from (Turns ∷ es) q = absurd (true≢false q.0)
+  are_sessions from (KeeperMoves granted done ∷ es) q = absurd (true≢false q.0)
+
+  pub gone_on : (from : ℕ) (granted done : Bool) (others seen seen' : List Happening) → Quiet (plane at) (Rest from) others → seen' ≡ KeeperMoves granted done ∷ (others ++ seen) → HasGoneOn seen seen'
+  gone_on from granted done others seen seen' q is = record { steps = KeeperMoves granted done ∷ others; begins = begins_none others (are_sessions from others q); so = is }
+
+  module _ (key : K) (me : Me Slot (Knows K)) (k : KeeperModel) (open : IsGuardedOpening (at key)) (its : IsKeeping at key me k) (asks : keeper_ask k.shape k.places k.state ≡ Done Device)
+      (done : Bool) (me' : Me Slot (Knows K)) (noted : IsNoted at key me (KeeperMoves true done) me') (shown : List ℕ) (may_leave : List ℕ → Type 0) (after : IsAfterSeen at key me.0.seen shown may_leave) where
+    abbrev behind : List Happening
+    behind = noted.others ++ me.0.seen
+
+    abbrev x : World
+    x = led (plane at) (at key) behind
+
+    abbrev p : Past
+    p = (led (plane at) (at key) me.0.seen).past
+
+    opened_is : x.past.opened ≡ p.opened
+    opened_is = opened_so at (at key) behind ∙ sym (opened_so at (at key) me.0.seen)
+
+    calls_is : x.past.calls ≡ p.calls
+    calls_is = quiet_calls at (at key) its.from noted.others me.0.seen (quiet_is at key me k open its noted.others noted.quiet)
+
+    asks_x : keeper_ask x.now.shape x.now.places x.now.keeper ≡ Done Device
+    asks_x = ask_there at key me k open its noted.others noted.quiet ∙ asks
+
+    all : AllDone p.calls
+    all =
+        let w : World = run (at key) (map event_of me.0.seen) in
+        let asks_w : keeper_ask w.now.shape w.now.places w.now.keeper ≡ Done Device =
+            ap (λ (z : World). keeper_ask z.now.shape z.now.places z.now.keeper) (sym (led_run at (at key) me.0.seen)) ∙ (ask_there at key me k open its [] tt ∙ asks) in
+        subst (λ (z : World). AllDone z.past.calls) (sym (led_run at (at key) me.0.seen)) (asks_while_done (at key) (map event_of me.0.seen) open.opened asks_w)
+
+    read_is : keeper_read k shown ≡ read_by_keeper x
+    read_is =
+        let bytes : shown ≡ reads_as x.past.opened x.past.calls = reads_all p.opened p.calls shown all after.reads ∙ λ i. reads_as (sym opened_is i) (sym calls_is i) in
+        λ i. bytes_at (bytes i) (mail_place ((its.shape ∙ sym (shape_so at (at key) behind)) i) (sym (there at key me k open its noted.others noted.quiet) i).maintain.serving) 24
+
+    pub called_on : (k' : KeeperModel) → k' ≡ record k { state = keeper_called k.shape k.places k.state done (keeper_read k shown) } → IsKeeping at key me' k'
+    unfolding led
+    called_on k' goes =
+        let now : (happens x (event_of (KeeperMoves true done))).now.keeper ≡ keeper_called x.now.shape x.now.places x.now.keeper done (read_by_keeper x) =
+            ap (λ (n : Now). n.keeper) (device_called x true done (alive at (at key) behind open.opened.goes_on) asks_x) in
+        let same : keeper_called x.now.shape x.now.places x.now.keeper done (read_by_keeper x) ≡ keeper_called k.shape k.places k.state done (keeper_read k shown) =
+            λ i. keeper_called ((shape_so at (at key) behind ∙ sym its.shape) i) ((places_so at (at key) behind ∙ sym its.places) i) (there at key me k open its noted.others noted.quiet i) done (sym read_is i) in
+        keeping_on at key me k open its (KeeperMoves true done) me' k' noted (ap (λ (m : KeeperModel). m.shape) goes) (ap (λ (m : KeeperModel). m.places) goes) (ap (λ (m : KeeperModel). m.state) goes ∙ sym (now ∙ same))
+
+    made_is : (led (plane at) (at key) me'.0.seen).past.calls ≡ keeper_calls k.shape k.state done ++ p.calls
+    unfolding led
+    made_is =
+        ap (λ (es : List Happening). (led (plane at) (at key) es).past.calls) noted.seen
+        ∙ (moves_calls x true done (alive at (at key) behind open.opened.goes_on)
+        ∙ (ap (λ (ask : Ask KeeperTold). calls_after ask (keeper_calls x.now.shape x.now.keeper done) x.past.calls) asks_x
+        ∙ λ i. keeper_calls ((shape_so at (at key) behind ∙ sym its.shape) i) (there at key me k open its noted.others noted.quiet i) done ++ calls_is i))
+
+    pub after_on : (shown' : List ℕ) (may_leave' : List ℕ → Type 0) → Adds (keeper_calls k.shape k.state done) shown shown' may_leave may_leave' → IsAfterSeen at key me'.0.seen shown' may_leave'
+    after_on shown' may_leave' adds =
+        let opened : p.opened ≡ (led (plane at) (at key) me'.0.seen).past.opened = opened_so at (at key) me.0.seen ∙ sym (opened_so at (at key) me'.0.seen) in
+        subst (λ (z : List ℕ × List device.Call). IsAfter z.0 z.1 shown' may_leave') (λ i. (opened i, sym made_is i)) (adds p.opened p.calls after)
+
+    pub went_on : HasGoneOn me.0.seen me'.0.seen
+    went_on = gone_on its.from true done noted.others me.0.seen me'.0.seen (quiet_is at key me k open its noted.others noted.quiet) noted.seen
