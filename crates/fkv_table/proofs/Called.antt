@@ -1,9 +1,10 @@
 -- A call: its start is on the desk, its steps follow, and so on to its answer.
-use Rattle.std.proofs.Common.{◌≡◌, ◌≢◌, ◌⊎◌, ℕ, refl, sym, ap, subst, ◌∙◌, inl, inr, append_assoc, Bool, true, false, List, [], ◌∷◌, ◌++◌, length, set, get_or}
+use Rattle.std.proofs.Common.{◌≡◌, ◌≢◌, ◌⊎◌, ◌+◌, ℕ, refl, sym, ap, subst, ◌∙◌, inl, inr, append_assoc, Bool, true, false, List, [], ◌∷◌, ◌++◌, length, set, get_or}
 use Rattle.std.specs.Prelude.{Option, Some, None, slice_get}
 use mathlib.Core.Option.{none}
 use Rattle.atomic_table.specs.Seated.{TableId}
 use Rattle.atomic_table.specs.Table.{Me, Step, step, rest, Allows}
+use Rattle.fkv_base.specs.Limits.{drain_slots}
 use Rattle.fkv_map.specs.declared.operations.Call.{Call}
 use Rattle.fkv_plane.specs.declared.asks.Ask.{Ask}
 use Rattle.fkv_plane.specs.declared.asks.Ask.TheVariants.{Load, Store, Swap, Cas, Add, Max, Put, Take, Done}
@@ -25,7 +26,7 @@ use Rattle.fkv_seats.specs.Rule.{AreOwn, AreStarts, Carries, Changes, HandFits, 
 use Rattle.fkv_seats.proofs.Keeps.{no_some, allows}
 use Rattle.fkv_table.specs.declared.happenings.Happening.{Happening}
 use Rattle.fkv_table.specs.declared.happenings.Happening.TheVariants.{Calls, Moves}
-use Rattle.fkv_table.specs.Calls.{AreOthers, HasCalled, HasStepped, IsReady, IsToldLast, OnlyMoves}
+use Rattle.fkv_table.specs.Calls.{AreOthers, HasCalled, HasStepped, IsReady, IsToldLast, OnlyMoves, WasIdle}
 use Rattle.fkv_table.specs.Desks.{IsAtDesk, Slot, Knows, noted, noting}
 use Rattle.fkv_table.specs.Events.{actor_of, event_of}
 use Rattle.fkv_table.specs.Openings.{IsGuardedOpening, IsTableOf}
@@ -196,3 +197,27 @@ module _ {K : Type 0} (at : K → World) where
             before = record { its = Called n call; effects = length y.past.history } ∷ x.past.trace;
             newest = trace_so x (event_of (Calls n call)) ∙ ap (λ (es : List TraceEvent). told_at (length y.past.history) es ++ x.past.trace) told;
           }
+
+  -- between two calls none is in hand
+  pub was_idle : (key : K) (me me1 : Me Slot (Knows K)) (m m1 : Sitter) → IsSeated at key me [] m → is_busy m.state.step ≡ false → me1.0 ≡ me.0 → m1.seat ≡ m.seat → WasIdle at key me1.0.seen m1.seat.number
+  was_idle key me me1 m m1 sits idle view seat =
+      subst (λ (x : Knows K × Seat). WasIdle at key x.0.seen x.1.number) (λ i. (sym view i, sym seat i))
+          (λ s there. ap (λ (z : SessionState). is_busy z.step) (same_some s sits.first (sym there ∙ sits.was) ∙ sym sits.state) ∙ idle)
+
+  pub ready_again : (key : K) (table seat seat' : TableId) (me me1 me' : Me Slot (Knows K)) (m m' : Sitter) (desk : ℕ) (start : Happening) (its : Told) → IsReady at key table seat me m desk → seat' ≡ seat
+      → me1 ≡ (me.0, (desk, Desk start) ∷ rest me.1) → base (plane at) me'.0.hand me'.1 ≡ base (plane at) me1.0.hand me1.1 → me'.0.desk ≡ me1.0.desk → IsSeated at key me' [] m' → m'.seat ≡ m.seat → me'.0.hand ≡ None
+      → session_ask m'.seat m'.state ≡ Done its → IsReady at key table seat' me' m' desk
+  ready_again key table seat seat' me me1 me' m m' desk start its ready same at_desk alone flag sits seat_is empty done =
+      let there = at_front desk me ready.at_desk ready.empty in
+      let was : me.1 ≡ (desk, ready.at_desk.note) ∷ [] = ap (λ (h : Option ℕ). base (plane at) h me.1) (sym ready.empty) ∙ ready.at_desk.alone in
+      let now : base (plane at) me1.0.hand me1.1 ≡ (desk, Desk start) ∷ [] =
+          ap (λ (x : Me Slot (Knows K)). base (plane at) x.0.hand x.1) at_desk ∙ (ap (λ (h : Option ℕ). base (plane at) h ((desk, Desk start) ∷ rest me.1)) ready.empty ∙ ap (λ (cs : List (ℕ × Slot)). (desk, Desk start) ∷ rest cs) was) in
+      record {
+        opened = ready.opened;
+        same_table = same ∙ ready.same_table;
+        seated = sits;
+        idle = ended_so at (at key) ready.opened.opening me'.0.seen m'.seat.number m'.state its (sits.was ∙ ap (λ (s : SessionState). Some s) (sym sits.state)) (ap (λ (k : Seat). session_ask k m'.state) (sym sits.chair) ∙ done);
+        at_desk = record { note = Desk start; alone = alone ∙ now; sits = flag ∙ (ap (λ (x : Me Slot (Knows K)). x.0.desk) at_desk ∙ ready.at_desk.sits) };
+        empty = empty;
+        its_desk = ready.its_desk ∙ ap (λ (k : Seat). drain_slots + k.number) (sym seat_is);
+      }
