@@ -1,5 +1,5 @@
 -- A step of the keeper in the list of events, and a call of the device.
-use Rattle.std.proofs.Common.{◌≡◌, ℕ, refl, sym, ap, subst, ◌∙◌, Bool, true, false, true≢false, List, [], ◌∷◌, ◌++◌, map}
+use Rattle.std.proofs.Common.{◌≡◌, ℕ, refl, sym, ap, subst, ◌∙◌, Bool, true, false, true≢false, List, [], ◌∷◌, ◌++◌, append_assoc, eq-zero-or-pos, inl, inr, map}
 use Rattle.std.specs.Prelude.{Option, Some, None}
 use Rattle.atomic_table.specs.Table.{Me}
 use Rattle.fkv_base.specs.declared.shapes.Shape.{Shape}
@@ -15,20 +15,25 @@ use Rattle.fkv_plane.specs.declared.asks.Ask.TheVariants.{Done}
 use Rattle.fkv_plane.specs.declared.places.Places.{Places}
 use Rattle.fkv_keeper.specs.declared.answers.KeeperTold.{KeeperTold}
 use Rattle.fkv_keeper.specs.declared.answers.KeeperTold.TheVariants.{Device}
-use Rattle.fkv_keeper.specs.KeeperAsks.{keeper_calls, keeper_read}
+use Rattle.fkv_keeper.specs.Answers.{is_busy}
+use Rattle.fkv_keeper.specs.KeeperAsks.{keeper_asks_left, keeper_calls, keeper_read}
+use Rattle.fkv_keeper.specs.KeeperRun.{is_in_hand}
+use Rattle.fkv_keeper.proofs.Shown.{keeper_left}
 use Rattle.fkv_keeper.specs.Keeping.{KeeperModel, KeeperState, keeper_ask, keeper_called}
 use Rattle.fkv_world.specs.Past.{Past, calls_after}
 use Rattle.fkv_world.specs.Runs.{World, happens, read_by_keeper, run}
-use Rattle.fkv_world.specs.World.{Now}
-use Rattle.fkv_world.proofs.Shown.{asks_while_done}
+use Rattle.fkv_world.specs.World.{Now, life_goes}
+use Rattle.fkv_world.proofs.Shown.{added_calls, asks_while_done, calls_added, lived}
+use Rattle.law_guard.proofs.OfGuarded.Ends.{life_keeper_ended}
 use Rattle.law_world.proofs.OfRuns.Starts.{device_called}
+use Rattle.fkv_seats.specs.declared.views.Role.{Role}
 use Rattle.fkv_seats.specs.declared.views.Role.TheVariants.{Rest}
 use Rattle.fkv_seats.specs.Rule.{Quiet, led}
 use Rattle.fkv_table.specs.declared.happenings.Happening.{Happening}
 use Rattle.fkv_table.specs.declared.happenings.Happening.TheVariants.{Calls, Moves, Commits, Turns, KeeperMoves}
 use Rattle.fkv_table.specs.Desks.{Slot, Knows}
 use Rattle.fkv_table.specs.Events.{event_of}
-use Rattle.fkv_table.specs.KeeperCalls.{AreSessions, BeginsNone, HasGoneOn}
+use Rattle.fkv_table.specs.KeeperCalls.{AreSessions, BeginsNone, HasGoneOn, HasKept}
 use Rattle.fkv_table.specs.Keeps.{IsAfterSeen, IsKeeping, IsNoted}
 use Rattle.fkv_table.specs.Openings.{IsGuardedOpening}
 use Rattle.fkv_table.specs.Planes.{plane}
@@ -63,6 +68,59 @@ module _ {K : Type 0} (at : K → World) where
 
   pub gone_on : (from : ℕ) (granted done : Bool) (others seen seen' : List Happening) → Quiet (plane at) (Rest from) others → seen' ≡ KeeperMoves granted done ∷ (others ++ seen) → HasGoneOn seen seen'
   gone_on from granted done others seen seen' q is = record { steps = KeeperMoves granted done ∷ others; begins = begins_none others (are_sessions from others q); so = is }
+
+  pub gone_both : (seen mid seen' : List Happening) → HasGoneOn seen mid → HasGoneOn mid seen' → HasGoneOn seen seen'
+  gone_both seen mid seen' a b = record {
+    steps = b.steps ++ a.steps;
+    begins = begins_both b.steps a.steps b.begins a.begins;
+    so = b.so ∙ (ap (λ (es : List Happening). b.steps ++ es) a.so ∙ sym (append_assoc b.steps a.steps seen));
+  }
+
+  -- behind a start that is noted the call is one of the keeper's
+  pub kept_so : (key : K) (me me' : Me Slot (Knows K)) (k : KeeperModel) (start : Happening) (seen' : List Happening) → IsKeeping at key me k → IsNoted at key me start me' → HasGoneOn me'.0.seen seen' → HasKept start me.0.seen seen'
+  kept_so key me me' k start seen' its noted gone = record {
+    steps = gone.steps;
+    begins = gone.begins;
+    others = noted.others;
+    quiet = are_sessions its.from noted.others (subst (λ (role : Role). Quiet (plane at) role noted.others) its.role noted.quiet);
+    so = gone.so ∙ ap (λ (es : List Happening). gone.steps ++ es) noted.seen;
+  }
+
+  -- a start makes no call of the device
+  pub start_spares : (key : K) (me me' : Me Slot (Knows K)) (k : KeeperModel) (shown : List ℕ) (may_leave : List ℕ → Type 0) → IsGuardedOpening (at key) → IsKeeping at key me k → IsNoted at key me Turns me'
+      → IsAfterSeen at key me.0.seen shown may_leave → IsAfterSeen at key me'.0.seen shown may_leave
+  unfolding led calls_added
+  start_spares key me me' k shown may_leave open its noted after =
+      let x : World = led (plane at) (at key) (noted.others ++ me.0.seen) in
+      let opened : (led (plane at) (at key) me.0.seen).past.opened ≡ (led (plane at) (at key) me'.0.seen).past.opened = opened_so at (at key) me.0.seen ∙ sym (opened_so at (at key) me'.0.seen) in
+      let made : (happens x (event_of Turns)).past.calls ≡ x.past.calls =
+          ap (λ (y : World). y.past.calls) (lived x (event_of Turns) (alive at (at key) (noted.others ++ me.0.seen) open.opened.goes_on)) ∙ added_calls x (life_goes x.now (read_by_keeper x) (event_of Turns)) (event_of Turns) in
+      let calls : (led (plane at) (at key) me'.0.seen).past.calls ≡ (led (plane at) (at key) me.0.seen).past.calls =
+          ap (λ (es : List Happening). (led (plane at) (at key) es).past.calls) noted.seen
+          ∙ (made ∙ quiet_calls at (at key) its.from noted.others me.0.seen (quiet_is at key me k open its noted.others noted.quiet)) in
+      subst (λ (z : List ℕ × List device.Call). IsAfter z.0 z.1 shown may_leave) (λ i. (opened i, sym calls i)) after
+
+  -- a step of a word makes none either
+  pub step_spares : (key : K) (seen seen' : List Happening) (shown : List ℕ) (may_leave : List ℕ → Type 0) → (led (plane at) (at key) seen').past.calls ≡ (led (plane at) (at key) seen).past.calls
+      → IsAfterSeen at key seen shown may_leave → IsAfterSeen at key seen' shown may_leave
+  step_spares key seen seen' shown may_leave calls after =
+      let opened : (led (plane at) (at key) seen).past.opened ≡ (led (plane at) (at key) seen').past.opened = opened_so at (at key) seen ∙ sym (opened_so at (at key) seen') in
+      subst (λ (z : List ℕ × List device.Call). IsAfter z.0 z.1 shown may_leave) (λ i. (opened i, sym calls i)) after
+
+  -- a keeper that asks for nothing has no call in hand
+  pub over_idle : (key : K) (me : Me Slot (Knows K)) (k : KeeperModel) → IsGuardedOpening (at key) → IsKeeping at key me k → is_busy (keeper_ask k.shape k.places k.state) ≡ false → is_in_hand k.state.step ≡ false
+  over_idle key me k open its over =
+      let w : World = run (at key) (map event_of me.0.seen) in
+      let none_left : keeper_asks_left k.shape k.places k.state ≡ 0 =
+          elim (eq-zero-or-pos (keeper_asks_left k.shape k.places k.state)) [
+            | inl e ↦ e
+            | inr some ↦ (let busy : is_busy (keeper_ask k.shape k.places k.state) ≡ true = (keeper_left k.shape k.places k.state).1 some in let clash : true ≡ false = sym busy ∙ over in cc)
+          ] in
+      let same : w.now.keeper ≡ k.state = ap (λ (z : World). z.now.keeper) (sym (led_run at (at key) me.0.seen)) ∙ sym its.state in
+      let shape : w.now.shape ≡ k.shape = ap (λ (z : World). z.now.shape) (sym (led_run at (at key) me.0.seen)) ∙ (shape_so at (at key) me.0.seen ∙ sym its.shape) in
+      let places : w.now.places ≡ k.places = ap (λ (z : World). z.now.places) (sym (led_run at (at key) me.0.seen)) ∙ (places_so at (at key) me.0.seen ∙ sym its.places) in
+      ap (λ (s : KeeperState). is_in_hand s.step) (sym same)
+      ∙ life_keeper_ended (at key) open.start (map event_of me.0.seen) open.guarded ((λ i. keeper_asks_left (shape i) (places i) (same i)) ∙ none_left)
 
   module _ (key : K) (me : Me Slot (Knows K)) (k : KeeperModel) (open : IsGuardedOpening (at key)) (its : IsKeeping at key me k) (asks : keeper_ask k.shape k.places k.state ≡ Done Device)
       (done : Bool) (me' : Me Slot (Knows K)) (noted : IsNoted at key me (KeeperMoves true done) me') (shown : List ℕ) (may_leave : List ℕ → Type 0) (after : IsAfterSeen at key me.0.seen shown may_leave) where

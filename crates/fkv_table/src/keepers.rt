@@ -2,9 +2,11 @@
 ghost use Rattle.std.specs.Prelude.{◌≡◌, ◌<◌, ◌≤◌, ◌↔◌, ℕ, Bool, Some, None, [], true, false, is_some, is_ok};
 ghost use Rattle.fkv_base.specs.declared.commits.CommitKind.TheVariants.{Full, Log};
 ghost use Rattle.fkv_checkpoint.specs.Copying.{IsRoomFor};
+ghost use Rattle.fkv_keeper.specs.Answers.{is_busy};
 ghost use Rattle.fkv_keeper.specs.Keeping.{keeper_ask};
 ghost use Rattle.fkv_keeper.specs.KeeperAsks.{keeper_asks_left};
 ghost use Rattle.fkv_keeper.specs.KeeperRun.{is_in_hand};
+ghost use Rattle.fkv_keeper.specs.Running.{IsTurnTold};
 ghost use Rattle.fkv_keeper.specs.declared.answers.KeeperTold.TheVariants.{Device as AtDevice};
 ghost use Rattle.fkv_plane.specs.Asked.{asked_place};
 ghost use Rattle.fkv_plane.specs.declared.asks.Ask.TheVariants.{Done};
@@ -16,12 +18,12 @@ ghost use Rattle.fkv_table.specs.Openings.{IsTableOf};
 ghost use Rattle.fkv_table.specs.Planes.{plane, opening_of};
 
 use crate::performing::perform;
-use crate::rule::{Knows, Place, Slot, Words};
+use crate::rule::{Knows, Place, Slot, Table, Words};
 use atomic_table::Play;
-use fkv_base::CommitKind;
+use fkv_base::{CommitKind, Fault};
 use fkv_checkpoint::CopyRoom;
 use fkv_disk::Device;
-use fkv_keeper::KeeperTold;
+use fkv_keeper::{KeeperAsk, KeeperTold, Turn};
 use fkv_plane::Ask;
 use fkv_seats::Held;
 use std::marker::PhantomData;
@@ -264,5 +266,73 @@ fn call_device<D: Device>(
     match machine.call_device(d) {
         Ok(_) => note::<D, Granted>(words, seat),
         Err(_) => note::<D, Failed>(words, seat),
+    }
+}
+
+/// Goes on with the call in hand until it is over.
+fn steps_on<D: Device>(
+    words: &Words<D>,
+    seat: &mut Place<D>,
+    machine: &mut fkv_keeper::Keeper,
+    d: &mut D,
+)
+    requires table { (seat.old.table_id ≡ words.now.table_id) × IsTableOf (opening_of D.seen words.now.key) words.now.table_id }
+    requires keeping { IsKeeping (opening_of D.seen) words.now.key seat.old.me machine.old }
+    requires honest { D.honest d.old }
+    requires after { IsAfterSeen (opening_of D.seen) words.now.key seat.old.me.0.seen (D.seen d.old) (D.may_leave d.old) }
+    ensures seat { (seat.new.table_id ≡ seat.old.table_id) × (seat.new.id ≡ seat.old.id) }
+    ensures keeping { IsKeeping (opening_of D.seen) words.now.key seat.new.me machine.new }
+    ensures went { HasGoneOn seat.old.me.0.seen seat.new.me.0.seen }
+    ensures honest { D.honest d.new }
+    ensures after { IsAfterSeen (opening_of D.seen) words.now.key seat.new.me.0.seen (D.seen d.new) (D.may_leave d.new) }
+    ensures over { is_busy (keeper_ask machine.new.shape machine.new.places machine.new.state) ≡ false }
+{
+    'asks: loop {
+        match machine.ask() {
+            Ask::Done(told) => match told {
+                KeeperTold::Device => call_device(words, seat, machine, d),
+                _ => return,
+            },
+            ask => step(words, seat, machine, &ask),
+        }
+    }
+}
+
+impl Keeper {
+    /// Makes a turn to its end, with each call of the device that it needs. Its answers are those of the keeper's machine: it ends early
+    /// with `Broken`, `Device`, `EpochsSpent` or `Memory`. The device is the one that the store was opened from, and it is honest.
+    pub fn turn<D: Device>(
+        &mut self,
+        table: &Table<D>,
+        mut pass: KeeperPass<D>,
+        d: &mut D,
+    ) -> (KeeperPass<D>, Result<Turn, Fault>)
+        requires ready { IsKeeperReady (opening_of D.seen) table.now.table.shared.key table.now.table.shared.table_id pass.seat.table_id pass.seat.me self.old.machine }
+        requires honest { D.honest d.old }
+        requires after { IsAfterSeen (opening_of D.seen) table.now.table.shared.key pass.seat.me.0.seen (D.seen d.old) (D.may_leave d.old) }
+        ensures ready { IsKeeperReady (opening_of D.seen) table.now.table.shared.key table.now.table.shared.table_id result.0.seat.table_id result.0.seat.me self.new.machine }
+        ensures kept { HasKept Turns pass.seat.me.0.seen result.0.seat.me.0.seen }
+        ensures honest { D.honest d.new }
+        ensures after { IsAfterSeen (opening_of D.seen) table.now.table.shared.key result.0.seat.me.0.seen (D.seen d.new) (D.may_leave d.new) }
+        ensures told { IsTurnTold self.new.machine.state.last (keeper_ask self.new.machine.shape self.new.machine.places self.new.machine.state) result.1 }
+    {
+        let words = &table.table.shared;
+        begin_turn(words, &mut pass.seat, &mut self.machine);
+        steps_on(words, &mut pass.seat, &mut self.machine, d);
+        let answer = turn_told(&mut self.machine);
+        (pass, answer)
+    }
+}
+
+/// How a turn has ended. At rest a reply changes nothing, and the last answer is told again.
+fn turn_told(machine: &mut fkv_keeper::Keeper) -> Result<Turn, Fault>
+    requires over { is_busy (keeper_ask machine.old.shape machine.old.places machine.old.state) ≡ false }
+    requires idle { is_in_hand machine.old.state.step ≡ false }
+    ensures same { machine.new ≡ machine.old }
+    ensures told { IsTurnTold machine.old.state.last (keeper_ask machine.old.shape machine.old.places machine.old.state) result }
+{
+    match machine.drive(0) {
+        KeeperAsk::Turned(result) => result,
+        _ => Err(Fault::DrainFull),
     }
 }
