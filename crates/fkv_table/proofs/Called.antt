@@ -81,8 +81,8 @@ module _ {K : Type 0} (at : K → World) where
 
   pub word_of : (key : K) (me : Me Slot (Knows K)) (own : List Happening) (m : Sitter) (ask : Ask Told) → IsGuardedOpening (at key) → IsSeated at key me own m → ask ≡ session_ask m.seat m.state → ((its : Told) → ask ≢ Done its)
       → (place : ℕ) × (asked_place ask ≡ Some place)
-  word_of key me own m ask open sits is busy =
-      asks_word ask (ap slot_asked is ∙ (ap (λ (k : Seat). slot_asked (session_ask k m.state)) sits.chair ∙ rests_so at (at key) open (own ++ me.0.seen) m.seat.number m.state (standing at key me own m open sits [] tt))) busy
+  word_of key me own m ask opens sits is busy =
+      asks_word ask (ap slot_asked is ∙ (ap (λ (k : Seat). slot_asked (session_ask k m.state)) sits.chair ∙ rests_so at (at key) opens (own ++ me.0.seen) m.seat.number m.state (standing at key me own m opens sits [] tt))) busy
 
   -- a call begins: its start stands on the desk
   pub at_front : (desk : ℕ) (me : Me Slot (Knows K)) → IsAtDesk at desk me → me.0.hand ≡ None → (old : Slot) × (me.1 ≡ (desk, old) ∷ rest me.1)
@@ -127,7 +127,7 @@ module _ {K : Type 0} (at : K → World) where
   no_starts : (w : World) → AreStarts (plane at) w []
   no_starts w = record { words = λ es. refl; actions = λ es. refl }
 
-  module _ (key : K) (me : Me Slot (Knows K)) (m : Sitter) (call : Call) (open : IsGuardedOpening (at key)) (sits : IsSeated at key me (noted me.1) m) (note : noted me.1 ≡ Calls m.seat.number call ∷ []) where
+  module _ (key : K) (me : Me Slot (Knows K)) (m : Sitter) (call : Call) (opens : IsGuardedOpening (at key)) (sits : IsSeated at key me (noted me.1) m) (note : noted me.1 ≡ Calls m.seat.number call ∷ []) where
     abbrev n : ℕ
     n = m.seat.number
 
@@ -135,7 +135,7 @@ module _ {K : Type 0} (at : K → World) where
     call_own = subst (λ (role : Role). AreOwn (plane at) role (Calls n call ∷ [])) (sym sits.role) (same_number n, tt)
 
     unchanged : (i : ℕ) → Changes (plane at) key me.0 [] (Calls n call) i (λ (word : ℕ). word)
-    unchanged i later q = ap laid (start_words at (at key) n (Calls n call ∷ []) (later ++ me.0.seen) open.opened.goes_on ((call, refl), tt)) ∙ sym (set_found (laid (led (plane at) (at key) (later ++ me.0.seen)).now.words) i)
+    unchanged i later q = ap laid (start_words at (at key) n (Calls n call ∷ []) (later ++ me.0.seen) opens.opened.goes_on ((call, refl), tt)) ∙ sym (set_found (laid (led (plane at) (at key) (later ++ me.0.seen)).now.words) i)
 
     pub note_allowed : (slots id i : ℕ) (st : Step Slot) → st.word ≡ i → Allows (Ruled (plane at) key) slots id me i (λ (word : ℕ). word) (noting at st me)
     note_allowed slots id i st word =
@@ -144,14 +144,14 @@ module _ {K : Type 0} (at : K → World) where
                 let same : key ≡ other = same_some key other (sym sits.about ∙ about) in
                 let start : Calls n call ≡ its = same_head (Calls n call) its (sym note ∙ on) in
                 subst (λ (x : K × ℕ × Happening). Stepped (plane at) (at x.0) me.0 me.1 x.1 [] x.2 k m') (λ j. (same j, sym word j, start j)) t)
-            (allows (plane at) key slots id me.0 me.1 i (λ (word : ℕ). word) [] (Calls n call) (slot_facts at (at key) open) call_own (no_starts (at key)) sits.hand (unchanged i))
+            (allows (plane at) key slots id me.0 me.1 i (λ (word : ℕ). word) [] (Calls n call) (slot_facts at (at key) opens) call_own (no_starts (at key)) sits.hand (unchanged i))
 
     module _ (me' : Me Slot (Knows K)) (i word : ℕ) (t : Stepped (plane at) (at key) me.0 me.1 i [] (Calls n call) word me') where
       abbrev seen' : List Happening
       seen' = Calls n call ∷ (t.others ++ me.0.seen)
 
       stood : slice_get (led (plane at) (at key) seen').now.sessions n ≡ Some m.state
-      stood = ap (λ (own : List Happening). slice_get (led (plane at) (at key) (own ++ (t.others ++ me.0.seen))).now.sessions n) (sym note) ∙ standing at key me (noted me.1) m open sits t.others t.quiet
+      stood = ap (λ (own : List Happening). slice_get (led (plane at) (at key) (own ++ (t.others ++ me.0.seen))).now.sessions n) (sym note) ∙ standing at key me (noted me.1) m opens sits t.others t.quiet
 
       pub noted_seated : IsSeated at key me' [] m
       noted_seated = record {
@@ -191,8 +191,8 @@ module _ {K : Type 0} (at : K → World) where
           let x : World = led (plane at) (at key) (t.others ++ me.0.seen) in
           let y : World = led (plane at) (at key) seen' in
           let was : slice_get x.now.sessions n ≡ Some sits.first = quiet_session at (at key) n t.others me.0.seen (subst (λ (r : Role). Quiet (plane at) r t.others) sits.role t.quiet) ∙ sits.was in
-          let ended : is_busy m.state.step ≡ false = ended_so at (at key) open seen' n m.state its stood (ap (λ (k : Seat). session_ask k m.state) (sym sits.chair) ∙ done) in
-          let told = told_at_once x.now y.now n call sits.first m.state its (alive at (at key) (t.others ++ me.0.seen) open.opened.goes_on) was stood (idle sits.first sits.was) (idle_is m.seat m.state m.state.step its ended done) in
+          let ended : is_busy m.state.step ≡ false = ended_so at (at key) opens seen' n m.state its stood (ap (λ (k : Seat). session_ask k m.state) (sym sits.chair) ∙ done) in
+          let told = told_at_once x.now y.now n call sits.first m.state its (alive at (at key) (t.others ++ me.0.seen) opens.opened.goes_on) was stood (idle sits.first sits.was) (idle_is m.seat m.state m.state.step its ended done) in
           subst (λ (seen : List Happening). IsToldLast (led (plane at) (at key) seen) n (telling its m.state.finished)) (sym t.seen) record {
             before = record { its = Called n call; effects = length y.past.history } ∷ x.past.trace;
             newest = trace_so x (event_of (Calls n call)) ∙ ap (λ (es : List TraceEvent). told_at (length y.past.history) es ++ x.past.trace) told;

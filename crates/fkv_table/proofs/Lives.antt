@@ -166,19 +166,19 @@ module _ {K : Type 0} (at : K → World) where
   words_stay w [] e = refl
   words_stay w (its ∷ es) e = event_count (led (plane at) w es) its (alive w es e) ∙ words_stay w es e
 
-  module _ (w : World) (open : IsGuardedOpening w) where
+  module _ (w : World) (opens : IsGuardedOpening w) where
     abbrev going : w.now.crashed ≡ false
-    going = open.opened.goes_on
+    going = opens.opened.goes_on
 
     -- each of its asks is of a word that there is
     pub place_within : (es : List Happening) (number place : ℕ) (s : SessionState) → slice_get (led (plane at) w es).now.sessions number ≡ Some s
         → asked_place (session_ask (seat_at w.now number) s) ≡ Some place → place < word_count w.now.places
     place_within es number place s there named =
-        life_session_within w open.start (map event_of es) number place s open.guarded (ap (λ (x : World). slice_get x.now.sessions number) (sym (led_run w es)) ∙ there)
+        life_session_within w opens.start (map event_of es) number place s opens.guarded (ap (λ (x : World). slice_get x.now.sessions number) (sym (led_run w es)) ∙ there)
             (ap (λ (k : Seat). asked_place (session_ask k s)) (ap (λ (x : World). seat_at x.now number) (sym (led_run w es)) ∙ same_chair w es number) ∙ named)
 
     pub is_there : (es : List Happening) (place : ℕ) → place < word_count w.now.places → place < length (led (plane at) w es).now.words
-    is_there es place low = subst (λ (count : ℕ). place < count) (sym (words_stay w es going)) (lt_of_lt_of_le low open.guarded.words.enough_words)
+    is_there es place low = subst (λ (count : ℕ). place < count) (sym (words_stay w es going)) (lt_of_lt_of_le low opens.guarded.words.enough_words)
 
     -- its step changes the word of its ask, as the ask does
     pub writes : (number : ℕ) (own later seen : List Happening) (first : SessionState) (place : ℕ) → AreCalls number own → Quiet (plane at) (Sits number) later
@@ -230,24 +230,24 @@ module _ {K : Type 0} (at : K → World) where
 
     -- the slots that events name
     pub named_within : (es : List Happening) (e : Happening) (k : ℕ) → slot_named (led (plane at) w es).now (event_of e) ≡ Some k → k < drain_slots
-    named_within es e k named = life_names_within w open.start (map event_of es) (event_of e) k open.guarded (ap (λ (x : World). slot_named x.now (event_of e)) (sym (led_run w es)) ∙ named)
+    named_within es e k named = life_names_within w opens.start (map event_of es) (event_of e) k opens.guarded (ap (λ (x : World). slot_named x.now (event_of e)) (sym (led_run w es)) ∙ named)
 
     pub slots_count : (es : List Happening) → length (led (plane at) w es).now.actions ≡ drain_slots
-    slots_count es = ap (λ (x : World). length x.now.actions) (led_run w es) ∙ life_slots_count w open.start (map event_of es) open.guarded
+    slots_count es = ap (λ (x : World). length x.now.actions) (led_run w es) ∙ life_slots_count w opens.start (map event_of es) opens.guarded
 
     -- between two events no session stands at a slot
     pub rests_so : (es : List Happening) (number : ℕ) (s : SessionState) → slice_get (led (plane at) w es).now.sessions number ≡ Some s
         → slot_asked (session_ask (seat_at w.now number) s) ≡ None
     rests_so es number s there =
         ap (λ (k : Seat). slot_asked (session_ask k s)) (sym (ap (λ (x : World). seat_at x.now number) (sym (led_run w es)) ∙ same_chair w es number))
-        ∙ life_session_rests w open.start (map event_of es) number s open.guarded (ap (λ (x : World). slice_get x.now.sessions number) (sym (led_run w es)) ∙ there)
+        ∙ life_session_rests w opens.start (map event_of es) number s opens.guarded (ap (λ (x : World). slice_get x.now.sessions number) (sym (led_run w es)) ∙ there)
 
     slots_apart : (later before : List Happening) (e its : Happening) (k : ℕ) → slot_named (led (plane at) w before).now (event_of e) ≡ Some k → NoneOf (plane at) (actor_of e) later → actor_of its ≢ actor_of e
         → slot_named (led (plane at) w (later ++ e ∷ before)).now (event_of its) ≢ Some k
     slots_apart later before e its k named none other again =
         let here : slot_named (run w (map event_of before)).now (event_of e) ≡ Some k = ap (λ (x : World). slot_named x.now (event_of e)) (sym (led_run w before)) ∙ named in
         let whole : led (plane at) w (later ++ e ∷ before) ≡ run w (map event_of later ++ (event_of e ∷ map event_of before)) = led_run w (later ++ e ∷ before) ∙ ap (run w) (mapped_both later (e ∷ before)) in
-        life_apart w open.start (map event_of later) (map event_of before) (event_of e) (event_of its) k open.guarded (goes_on w (map event_of before) going (no_crash before)) here
+        life_apart w opens.start (map event_of later) (map event_of before) (event_of e) (event_of its) k opens.guarded (goes_on w (map event_of before) going (no_crash before)) here
             (of_others e (its ∷ later) (other, none)) (ap (λ (x : World). slot_named x.now (event_of its)) (sym whole) ∙ again)
 
     pub slot_facts : SlotFacts (plane at) w

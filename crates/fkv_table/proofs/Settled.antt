@@ -87,9 +87,9 @@ told_so n after number s s' its going was now busy idle = rw (going, was, now, b
 
 module _ {K : Type 0} (at : K → World) where
   -- a session whose machine asks for nothing has no call in hand
-  pub ended_so : (w : World) (open : IsGuardedOpening w) (es : List Happening) (number : ℕ) (s : SessionState) (its : Told) → slice_get (led (plane at) w es).now.sessions number ≡ Some s
+  pub ended_so : (w : World) (opens : IsGuardedOpening w) (es : List Happening) (number : ℕ) (s : SessionState) (its : Told) → slice_get (led (plane at) w es).now.sessions number ≡ Some s
       → session_ask (seat_at w.now number) s ≡ Done its → is_busy s.step ≡ false
-  ended_so w open es number s its there asks = by (slice_get w.now.sessions number) refl
+  ended_so w opens es number s its there asks = by (slice_get w.now.sessions number) refl
     where
       k : Seat
       k = seat_at w.now number
@@ -111,9 +111,9 @@ module _ {K : Type 0} (at : K → World) where
 
       by : (was : Option SessionState) → slice_get w.now.sessions number ≡ was → is_busy s.step ≡ false
       by None at_first = let clash : Some s ≡ None = sym now_there ∙ none_ever w (map event_of es) number at_first in cc
-      by (Some o) at_first = life_ended w open.start (map event_of es) number o s open.guarded at_first now_there none
+      by (Some o) at_first = life_ended w opens.start (map event_of es) number o s opens.guarded at_first now_there none
 
-  module _ (key : K) (me me1 : Me Slot (Knows K)) (own : List Happening) (m m1 : Sitter) (open : IsGuardedOpening (at key)) (sits : IsSeated at key me own m) (r : Replied at key me own m me1 m1)
+  module _ (key : K) (me me1 : Me Slot (Knows K)) (own : List Happening) (m m1 : Sitter) (opens : IsGuardedOpening (at key)) (sits : IsSeated at key me own m) (r : Replied at key me own m me1 m1)
       (place : ℕ) (named : asked_place (session_ask m.seat m.state) ≡ Some place) where
     abbrev n : ℕ
     n = m.seat.number
@@ -128,13 +128,13 @@ module _ {K : Type 0} (at : K → World) where
     y = led (plane at) (at key) (Moves n ∷ behind)
 
     stood : slice_get x.now.sessions n ≡ Some m.state
-    stood = standing at key me own m open sits r.others r.quiet
+    stood = standing at key me own m opens sits r.others r.quiet
 
     chair : seat_at x.now n ≡ m.seat
-    chair = chair_at at key me own m open sits behind
+    chair = chair_at at key me own m opens sits behind
 
     going : x.now.crashed ≡ false
-    going = alive at (at key) behind open.opened.goes_on
+    going = alive at (at key) behind opens.opened.goes_on
 
     -- the machine beside the words and the actions, once the reply has come
     abbrev replied_near : Near SessionState
@@ -154,7 +154,7 @@ module _ {K : Type 0} (at : K → World) where
 
     after_now : y.now ≡ with_session x.now n (session_settled m1.seat near1 asks1)
     after_now =
-        moved_so at (at key) behind n m.state place open.opened.goes_on stood (ap (λ (k : Seat). asked_place (session_ask k m.state)) chair ∙ named)
+        moved_so at (at key) behind n m.state place opens.opened.goes_on stood (ap (λ (k : Seat). asked_place (session_ask k m.state)) chair ∙ named)
         ∙ (ap (λ (k : Seat). with_session x.now n (session_settled k (replied_there x k m.state) (session_ask k (replied_there x k m.state).machine))) chair
         ∙ λ i. with_session x.now n (session_settled (sym r.seat i) (near_is i) (ask_is i)))
 
@@ -173,7 +173,7 @@ module _ {K : Type 0} (at : K → World) where
     hand_asked ask is = by_hand ask (r.hand ∙ ap slot_asked (sym is)) r.carries
 
     turned_to : (ask : Ask Told) → ask ≡ asks1 → (slot : ℕ) → slot_asked ask ≡ Some slot → slot_named x.now (event_of (Moves n)) ≡ Some slot
-    turned_to ask is slot e = names_so at key me own m open sits r.others r.quiet place named ∙ (ap slot_asked (ask_is ∙ sym is) ∙ e)
+    turned_to ask is slot e = names_so at key me own m opens sits r.others r.quiet place named ∙ (ap slot_asked (ask_is ∙ sym is) ∙ e)
 
     -- where the action that goes with the reply leads
     state_so : (me' : Me Slot (Knows K)) (m' : Sitter) (ask : Ask Told) → me1.0.hand ≡ slot_asked ask → Carries (plane at) (at key) behind me1.0.hand (base (plane at) me.0.hand me.1) me1.1
@@ -261,7 +261,7 @@ module _ {K : Type 0} (at : K → World) where
       acts = ap (λ (z : Now). z.actions) after_now ∙ ap (λ (z : Near SessionState). z.actions) settled_is
 
       deep : (slot : ℕ) → slot_asked ask ≡ Some slot → slot < length x.now.actions
-      deep slot e = subst (λ (count : ℕ). slot < count) (sym (slots_count at (at key) open behind)) (named_within at (at key) open behind (Moves n) slot (turned_to ask is slot e))
+      deep slot e = subst (λ (count : ℕ). slot < count) (sym (slots_count at (at key) opens behind)) (named_within at (at key) opens behind (Moves n) slot (turned_to ask is slot e))
 
       pub seated_on : IsSeated at key me' [] m'
       seated_on = record {
@@ -290,7 +290,7 @@ module _ {K : Type 0} (at : K → World) where
 
       idle_now : (its : Told) → session_ask m'.seat m'.state ≡ Done its → is_busy m'.state.step ≡ false
       idle_now its done =
-          ended_so (at key) open (Moves n ∷ behind) n m'.state its now_there (ap (λ (k : Seat). session_ask k m'.state) (sym sits.chair ∙ sym seat_on) ∙ done)
+          ended_so (at key) opens (Moves n ∷ behind) n m'.state its now_there (ap (λ (k : Seat). session_ask k m'.state) (sym sits.chair ∙ sym seat_on) ∙ done)
 
       pub idle_on : IsIdleEmpty at m' me'
       unfolding led
@@ -299,7 +299,7 @@ module _ {K : Type 0} (at : K → World) where
           by : (found : Option ℕ) → slot_asked ask ≡ found → me'.0.hand ≡ None
           by None e = hand' ∙ e
           by (Some slot) e =
-              let busy : is_busy m'.state.step ≡ true = session_in_hand x n slot m.state m'.state going stood (ap (λ (k : Seat). slot_asked (session_ask k m.state)) chair ∙ (ap (λ (k : Seat). slot_asked (session_ask k m.state)) sits.chair ∙ rests_so at (at key) open behind n m.state stood))
+              let busy : is_busy m'.state.step ≡ true = session_in_hand x n slot m.state m'.state going stood (ap (λ (k : Seat). slot_asked (session_ask k m.state)) chair ∙ (ap (λ (k : Seat). slot_asked (session_ask k m.state)) sits.chair ∙ rests_so at (at key) opens behind n m.state stood))
                   (turned_to ask is slot e) now_there in
               let clash : true ≡ false = sym busy ∙ idle_now its done in cc
 
@@ -316,11 +316,11 @@ module _ {K : Type 0} (at : K → World) where
       pub fewer_on : session_asks_left m'.seat m'.state < session_asks_left m.seat m.state
       unfolding led
       fewer_on =
-          let stands : StandsAtNoSlot x.now n = subst (λ (z : World). StandsAtNoSlot z.now n) (sym (led_run at (at key) behind)) (life_stands (at key) open.start (map event_of behind) n open.guarded) in
+          let stands : StandsAtNoSlot x.now n = subst (λ (z : World). StandsAtNoSlot z.now n) (sym (led_run at (at key) behind)) (life_stands (at key) opens.start (map event_of behind) n opens.guarded) in
           let down : asks_left_of y.now n ≤ asks_left_of x.now n - 1 = session_down x n going stands in
           let before : asks_left_of x.now n ≡ session_asks_left m.seat m.state = ap (left_at x.now n) stood ∙ ap (λ (k : Seat). session_asks_left k m.state) chair in
           let after : asks_left_of y.now n ≡ session_asks_left m'.seat m'.state =
-              ap (left_at y.now n) now_there ∙ ap (λ (k : Seat). session_asks_left k m'.state) (chair_at at key me own m open sits (Moves n ∷ behind) ∙ sym seat_on) in
+              ap (left_at y.now n) now_there ∙ ap (λ (k : Seat). session_asks_left k m'.state) (chair_at at key me own m opens sits (Moves n ∷ behind) ∙ sym seat_on) in
           let some : 0 < session_asks_left m.seat m.state = (session_left m.seat m.state).0 (not_done (session_ask m.seat m.state) place named) in
           omega (arith, down, before, after, some)
 
@@ -335,17 +335,17 @@ module _ {K : Type 0} (at : K → World) where
 
   pub asked_in_hand : (key : K) (me me1 : Me Slot (Knows K)) (own : List Happening) (m m1 : Sitter) (first ask : Ask Told) → IsGuardedOpening (at key) → IsSeated at key me own m → Replied at key me own m me1 m1
       → first ≡ session_ask m.seat m.state → (place : ℕ) × (asked_place first ≡ Some place) → ask ≡ session_ask m1.seat m1.state → IsAsked at ask me1
-  asked_in_hand key me me1 own m m1 first ask open sits r was (place, e) is = hand_asked key me me1 own m m1 open sits r place (ap asked_place (sym was) ∙ e) ask is
+  asked_in_hand key me me1 own m m1 first ask opens sits r was (place, e) is = hand_asked key me me1 own m m1 opens sits r place (ap asked_place (sym was) ∙ e) ask is
 
   pub stepped_on : (key : K) (me me1 me' : Me Slot (Knows K)) (own : List Happening) (m m1 m' : Sitter) (first ask : Ask Told) → IsGuardedOpening (at key) → IsSeated at key me own m → Replied at key me own m me1 m1
       → first ≡ session_ask m.seat m.state → (place : ℕ) × (asked_place first ≡ Some place) → ask ≡ session_ask m1.seat m1.state → Settled at ask me1 m1 me' m' → IsStepped key me own m me' m'
-  stepped_on key me me1 me' own m m1 m' first ask open sits r was (place, e) is t =
+  stepped_on key me me1 me' own m m1 m' first ask opens sits r was (place, e) is t =
       let named : asked_place (session_ask m.seat m.state) ≡ Some place = ap asked_place (sym was) ∙ e in
       record {
-        seated = seated_on key me me1 own m m1 open sits r place named me' m' ask is t;
-        seat = seat_on key me me1 own m m1 open sits r place named me' m' ask is t;
-        went = went_on key me me1 own m m1 open sits r place named me' m' ask is t;
-        idle = idle_on key me me1 own m m1 open sits r place named me' m' ask is t;
-        told = told_on key me me1 own m m1 open sits r place named me' m' ask is t;
-        fewer = fewer_on key me me1 own m m1 open sits r place named me' m' ask is t;
+        seated = seated_on key me me1 own m m1 opens sits r place named me' m' ask is t;
+        seat = seat_on key me me1 own m m1 opens sits r place named me' m' ask is t;
+        went = went_on key me me1 own m m1 opens sits r place named me' m' ask is t;
+        idle = idle_on key me me1 own m m1 opens sits r place named me' m' ask is t;
+        told = told_on key me me1 own m m1 opens sits r place named me' m' ask is t;
+        fewer = fewer_on key me me1 own m m1 opens sits r place named me' m' ask is t;
       }

@@ -65,7 +65,7 @@ module _ {K : Type 0} (at : K → World) where
       → Allows (Ruled (plane at) key) slots id me i f then → Allows (Ruled (plane at) key) slots id me i f other
   weaken key slots id me i f then other on allowed s h l g b = let t = allowed s h l g b in (t.0, t.1, t.2, t.3, on _ _ t.4)
 
-  module _ (key : K) (me : Me Slot (Knows K)) (own : List Happening) (m : Sitter) (open : IsGuardedOpening (at key)) (sits : IsSeated at key me own m) where
+  module _ (key : K) (me : Me Slot (Knows K)) (own : List Happening) (m : Sitter) (opens : IsGuardedOpening (at key)) (sits : IsSeated at key me own m) where
     abbrev w : World
     w = at key
 
@@ -82,17 +82,17 @@ module _ {K : Type 0} (at : K → World) where
     quiet_is later q = subst (λ (role : Role). Quiet (plane at) role later) sits.role q
 
     pub standing : (later : List Happening) → Quiet (plane at) me.0.role later → slice_get (led (plane at) w (own ++ (later ++ me.0.seen))).now.sessions n ≡ Some m.state
-    standing later q = stands at w n own later me.0.seen sits.first open.opened.goes_on sits.calls (quiet_is later q) sits.was ∙ ap (λ (s : SessionState). Some s) state_is
+    standing later q = stands at w n own later me.0.seen sits.first opens.opened.goes_on sits.calls (quiet_is later q) sits.was ∙ ap (λ (s : SessionState). Some s) state_is
 
     mine : AreOwn (plane at) me.0.role (Moves n ∷ own)
     mine = subst (λ (role : Role). AreOwn (plane at) role (Moves n ∷ own)) (sym sits.role) (own_step at n own sits.calls)
 
     pub low : (place : ℕ) → asked_place (session_ask m.seat m.state) ≡ Some place → place < word_count w.now.places
-    low place e = place_within at w open (own ++ me.0.seen) n place m.state (standing [] tt) (ap (λ (k : Seat). asked_place (session_ask k m.state)) (sym sits.chair) ∙ e)
+    low place e = place_within at w opens (own ++ me.0.seen) n place m.state (standing [] tt) (ap (λ (k : Seat). asked_place (session_ask k m.state)) (sym sits.chair) ∙ e)
 
     changes : (place : ℕ) → asked_place (session_ask m.seat m.state) ≡ Some place → Changes (plane at) key me.0 own (Moves n) (position place) (asked (session_ask m.seat m.state))
     changes place e later q =
-        writes_laid at w open n own later me.0.seen sits.first place sits.calls (quiet_is later q) sits.was (ap asked_place ask_is ∙ e) (low place e)
+        writes_laid at w opens n own later me.0.seen sits.first place sits.calls (quiet_is later q) sits.was (ap asked_place ask_is ∙ e) (low place e)
         ∙ ap (λ (a : Ask Told). set (laid (led (plane at) w (later ++ me.0.seen)).now.words) (position place) (asked a (get_or (laid (led (plane at) w (later ++ me.0.seen)).now.words) (position place) 0))) ask_is
 
     pub chair_at : (es : List Happening) → seat_at (led (plane at) w es).now n ≡ m.seat
@@ -109,12 +109,12 @@ module _ {K : Type 0} (at : K → World) where
 
   pub allowed : (key : K) (slots id : ℕ) (me : Me Slot (Knows K)) (own : List (ℕ × Slot) → List Happening) (m : Sitter) (ask : Ask Told) → IsGuardedOpening (at key) → IsSeated at key me (own me.1) m → ask ≡ session_ask m.seat m.state
       → (place : ℕ) → asked_place ask ≡ Some place → Allows (Ruled (plane at) key) slots id me (position place) (asked ask) (turned at own (step_of slots ask) me)
-  allowed key slots id me own m ask open sits is place e =
+  allowed key slots id me own m ask opens sits is place e =
       let named : asked_place (session_ask m.seat m.state) ≡ Some place = ap asked_place (sym is) ∙ e in
       let word_is = step_word slots ask place e in
       let number_is : m.seat.number ≡ number_of me.0.role = ap number_of (sym sits.role) in
-      let done = allows (plane at) key slots id me.0 me.1 (position place) (asked (session_ask m.seat m.state)) (own me.1) (Moves m.seat.number) (slot_facts at (at key) open) (mine key me (own me.1) m open sits)
-          (are_starts at (at key) m.seat.number (own me.1) open.opened.goes_on sits.calls) sits.hand (changes key me (own me.1) m open sits place named) in
+      let done = allows (plane at) key slots id me.0 me.1 (position place) (asked (session_ask m.seat m.state)) (own me.1) (Moves m.seat.number) (slot_facts at (at key) opens) (mine key me (own me.1) m opens sits)
+          (are_starts at (at key) m.seat.number (own me.1) opens.opened.goes_on sits.calls) sits.hand (changes key me (own me.1) m opens sits place named) in
       let same_ask : Allows (Ruled (plane at) key) slots id me (position place) (asked ask) (λ n m'. Stepped (plane at) (at key) me.0 me.1 (position place) (own me.1) (Moves m.seat.number) n m') =
           subst (λ (a : Ask Told). Allows (Ruled (plane at) key) slots id me (position place) (asked a) (λ n m'. Stepped (plane at) (at key) me.0 me.1 (position place) (own me.1) (Moves m.seat.number) n m')) (sym is) done in
       weaken key slots id me (position place) (asked ask) (λ n m'. Stepped (plane at) (at key) me.0 me.1 (position place) (own me.1) (Moves m.seat.number) n m') (turned at own (step_of slots ask) me)
@@ -132,18 +132,18 @@ module _ {K : Type 0} (at : K → World) where
 
   pub replies : (key : K) (slots : ℕ) (me me' : Me Slot (Knows K)) (own : List (ℕ × Slot) → List Happening) (m m' : Sitter) (ask : Ask Told) (reply : ℕ) → IsGuardedOpening (at key) → IsSeated at key me (own me.1) m
       → ask ≡ session_ask m.seat m.state → (place : ℕ) × (asked_place ask ≡ Some place) → turned at own (step_of slots ask) me reply me' → m' ≡ record m { state = session_next m.seat m.state reply } → Replied at key me (own me.1) m me' m'
-  replies key slots me me' own m m' ask reply open sits is (place, e) told went =
+  replies key slots me me' own m m' ask reply opens sits is (place, e) told went =
       let t = told key sits.about in
       let named : asked_place (session_ask m.seat m.state) ≡ Some place = ap asked_place (sym is) ∙ e in
       let before : List Happening = own me.1 ++ (t.others ++ me.0.seen) in
       let x : World = led (plane at) (at key) before in
       let y : World = led (plane at) (at key) (t.others ++ me.0.seen) in
       let number_is : number_of me.0.role ≡ m.seat.number = ap number_of sits.role in
-      let there = is_there at (at key) open (t.others ++ me.0.seen) place (low key me (own me.1) m open sits place named) in
+      let there = is_there at (at key) opens (t.others ++ me.0.seen) place (low key me (own me.1) m opens sits place named) in
       let reply_is : reply ≡ reply_to x.now.words (session_ask m.seat m.state) =
           t.found ∙ (ap (λ (i : ℕ). slice_index_or (laid y.now.words) i 0) (step_word slots ask place e)
           ∙ (laid_found y.now.words place there
-          ∙ (ap (λ (ws : List ℕ). slice_index_or ws place 0) (sym (start_words at (at key) m.seat.number (own me.1) (t.others ++ me.0.seen) open.opened.goes_on sits.calls)) ∙ ap (word_found x.now.words) (sym named)))) in
+          ∙ (ap (λ (ws : List ℕ). slice_index_or ws place 0) (sym (start_words at (at key) m.seat.number (own me.1) (t.others ++ me.0.seen) opens.opened.goes_on sits.calls)) ∙ ap (word_found x.now.words) (sym named)))) in
       let seat_is : m'.seat ≡ m.seat = ap (λ (z : Sitter). z.seat) went in
       let state_so : m'.state ≡ session_next m.seat m.state (reply_to x.now.words (session_ask m.seat m.state)) = ap (λ (z : Sitter). z.state) went ∙ ap (session_next m.seat m.state) reply_is in
       record {
@@ -155,6 +155,6 @@ module _ {K : Type 0} (at : K → World) where
         role = t.role;
         desk = t.desk;
         state = state_so;
-        hand = t.hand ∙ (ap (λ (n : ℕ). slot_named x.now (event_of (Moves n))) number_is ∙ (names_so key me (own me.1) m open sits t.others t.quiet place named ∙ λ i. slot_asked (session_ask (sym seat_is i) (sym state_so i))));
+        hand = t.hand ∙ (ap (λ (n : ℕ). slot_named x.now (event_of (Moves n))) number_is ∙ (names_so key me (own me.1) m opens sits t.others t.quiet place named ∙ λ i. slot_asked (session_ask (sym seat_is i) (sym state_so i))));
         carries = t.carries;
       }
