@@ -34,12 +34,14 @@ use Rattle.fkv_table.specs.declared.happenings.Happening.{Happening}
 use Rattle.fkv_table.specs.declared.happenings.Happening.TheVariants.{KeeperMoves}
 use Rattle.fkv_table.specs.Desks.{Slot, Knows}
 use Rattle.fkv_table.specs.Events.{event_of}
+use Rattle.fkv_table.specs.KeeperCalls.{HasGoneOn}
 use Rattle.fkv_table.specs.Keeps.{IsKeeping, KeeperIsAsked, KeeperReplied, KeeperSettled}
 use Rattle.fkv_table.specs.Openings.{IsGuardedOpening}
 use Rattle.fkv_table.specs.Planes.{plane}
 use Rattle.fkv_table.proofs.Lives.{alive, led_run, named_within, slots_count}
 use Rattle.fkv_table.proofs.KeeperNotes.{moves_calls, places_so, quiet_calls, quiet_is, shape_so, there}
 use Rattle.fkv_table.proofs.KeeperSteps.{names_so}
+use Rattle.fkv_table.proofs.KeeperCalled.{gone_on}
 use Rattle.fkv_table.proofs.Moved.{same_drawer}
 use Rattle.fkv_table.proofs.Settled.{none_there, same_in_hand}
 
@@ -273,3 +275,27 @@ module _ {K : Type 0} (at : K → World) where
               (λ i. keeper_asks_left ((kept_on.shape ∙ sym (shape_so at (at key) (KeeperMoves granted true ∷ behind))) i) ((kept_on.places ∙ sym (places_so at (at key) (KeeperMoves granted true ∷ behind))) i)
               ((kept_on.state ∙ ap (λ (z : World). z.now.keeper) last) i)) in
           omega (arith, down, before, after)
+
+  -- one step of the keeper, whole
+  pub record IsKeeperStep (key : K) (me : Me Slot (Knows K)) (k : KeeperModel) (me' : Me Slot (Knows K)) (k' : KeeperModel) : Type 0 where
+    pub keeping : IsKeeping at key me' k'
+    pub went : HasGoneOn me.0.seen me'.0.seen
+    pub calls : (led (plane at) (at key) me'.0.seen).past.calls ≡ (led (plane at) (at key) me.0.seen).past.calls
+    pub fewer : keeper_asks_left k'.shape k'.places k'.state < keeper_asks_left k.shape k.places k.state
+
+  pub keeper_in_hand : (key : K) (me me1 : Me Slot (Knows K)) (k k1 : KeeperModel) (granted : Bool) (first ask : Ask KeeperTold) → IsGuardedOpening (at key) → IsKeeping at key me k → KeeperReplied at key me granted k me1 k1
+      → first ≡ keeper_ask k.shape k.places k.state → (place : ℕ) × (asked_place first ≡ Some place) → ask ≡ keeper_ask k1.shape k1.places k1.state → KeeperIsAsked at ask me1
+  keeper_in_hand key me me1 k k1 granted first ask open its r was (place, e) is =
+      hand_asked key me me1 k k1 granted open its r place (ap asked_place (sym was) ∙ e) ask (is ∙ λ i. keeper_ask (r.store.0 i) (r.store.1 i) k1.state)
+
+  pub keeper_stepped : (key : K) (me me1 me' : Me Slot (Knows K)) (k k1 k' : KeeperModel) (granted : Bool) (first ask : Ask KeeperTold) → IsGuardedOpening (at key) → IsKeeping at key me k → KeeperReplied at key me granted k me1 k1
+      → first ≡ keeper_ask k.shape k.places k.state → (place : ℕ) × (asked_place first ≡ Some place) → ask ≡ keeper_ask k1.shape k1.places k1.state → KeeperSettled at ask me1 k1 me' k' → IsKeeperStep key me k me' k'
+  keeper_stepped key me me1 me' k k1 k' granted first ask open its r was (place, e) is t =
+      let named : asked_place (keeper_ask k.shape k.places k.state) ≡ Some place = ap asked_place (sym was) ∙ e in
+      let same : ask ≡ keeper_ask k.shape k.places k1.state = is ∙ λ i. keeper_ask (r.store.0 i) (r.store.1 i) k1.state in
+      record {
+        keeping = kept_on key me me1 k k1 granted open its r place named me' k' ask same t;
+        went = gone_on at its.from granted true r.others me.0.seen me'.0.seen (quiet_is at key me k open its r.others r.quiet) (seen_is key me me1 k k1 granted open its r place named me' k' ask same t);
+        calls = calls_on key me me1 k k1 granted open its r place named me' k' ask same t;
+        fewer = fewer_on key me me1 k k1 granted open its r place named me' k' ask same t;
+      }

@@ -190,6 +190,30 @@ fn ask_word<D: Device, E: OfKeeper>(
     machine.go_on_with(reply, room)
 }
 
+/// The same, where the event is by what memory was got.
+fn ask_by_room<D: Device>(
+    words: &Words<D>,
+    seat: &mut Place<D>,
+    machine: &mut fkv_keeper::Keeper,
+    ask: &Ask<KeeperTold>,
+    room: Option<CopyRoom>,
+) -> Ask<KeeperTold>
+    requires table { (seat.old.table_id ≡ words.now.table_id) × IsTableOf (opening_of D.seen words.now.key) words.now.table_id }
+    requires room { IsRoomFor machine.old.places room }
+    requires keeping { IsKeeping (opening_of D.seen) words.now.key seat.old.me machine.old }
+    requires ask { ask.now ≡ keeper_ask machine.old.shape machine.old.places machine.old.state }
+    requires word { (place : ℕ) × (asked_place ask.now ≡ Some place) }
+    ensures seat { (seat.new.table_id ≡ seat.old.table_id) × (seat.new.id ≡ seat.old.id) }
+    ensures replied { KeeperReplied (opening_of D.seen) words.now.key seat.old.me (is_some room) machine.old seat.new.me machine.new }
+    ensures ask { result ≡ keeper_ask machine.new.shape machine.new.places machine.new.state }
+{
+    if room.is_some() {
+        ask_word::<D, Granted>(words, seat, machine, ask, room)
+    } else {
+        ask_word::<D, Ungranted>(words, seat, machine, ask, room)
+    }
+}
+
 /// Moves the action that goes with the reply, if one does.
 fn settle<D: Device>(
     words: &Words<D>,
@@ -236,11 +260,7 @@ fn step<D: Device>(
     ensures fewer { keeper_asks_left machine.new.shape machine.new.places machine.new.state < keeper_asks_left machine.old.shape machine.old.places machine.old.state }
 {
     let room = machine.room();
-    let next = if room.is_some() {
-        ask_word::<D, Granted>(words, seat, machine, ask, room)
-    } else {
-        ask_word::<D, Ungranted>(words, seat, machine, ask, room)
-    };
+    let next = ask_by_room(words, seat, machine, ask, room);
     settle(words, seat, machine, next);
 }
 
