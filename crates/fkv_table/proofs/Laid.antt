@@ -27,11 +27,13 @@ below place count low = grind (arith, nat_tests)
 laid_at : (words : List ℕ) (at left k : ℕ) → k < left → get_or (laid_from words at left) k 0 ≡ word_found words (place_at (at + k))
 unfolding laid_from
 laid_at words at zero k low = absurd (omega arith)
-laid_at words at (suc left) zero low = ap (λ (n : ℕ). word_found words (place_at n)) (omega arith)
-laid_at words at (suc left) (suc k) low = laid_at words (suc at) left k (omega arith) ∙ ap (λ (n : ℕ). word_found words (place_at n)) (omega arith)
+laid_at words at (suc left) zero low = let e : at ≡ at + 0 = omega arith in ap (λ (n : ℕ). word_found words (place_at n)) e
+laid_at words at (suc left) (suc k) low = let e : suc at + k ≡ at + suc k = omega arith in laid_at words (suc at) left k (omega arith) ∙ ap (λ (n : ℕ). word_found words (place_at n)) e
 
 pub laid_found : (words : List ℕ) (place : ℕ) → place < length words → get_or (laid words) (position place) 0 ≡ word_at words place
-laid_found words place low = laid_at words 0 (length words + gaps) (position place) (below place (length words) low) ∙ (ap (λ (n : ℕ). word_found words (place_at n)) (omega arith) ∙ ap (word_found words) (place_back place))
+laid_found words place low =
+    let e : 0 + position place ≡ position place = omega arith in
+    laid_at words 0 (length words + gaps) (position place) (below place (length words) low) ∙ (ap (λ (n : ℕ). word_found words (place_at n)) e ∙ ap (word_found words) (place_back place))
 
 -- a word that changes
 found_spared : (words : List ℕ) (place word : ℕ) (its : Option ℕ) → its ≢ Some place → word_found (set words place word) its ≡ word_found words its

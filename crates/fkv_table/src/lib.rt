@@ -17,5 +17,6 @@ pub use happenings::Happening;
 pub use joining::join;
 pub use keepers::{Keeper, KeeperPass};
 pub use opening::OpenTable;
+pub use positions::law_positions;
 pub use rule::{Engine, Pass, Table};
 pub use sessions::Session;

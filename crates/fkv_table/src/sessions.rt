@@ -131,15 +131,19 @@ fn steps_on<D: Device>(
 }
 
 /// Adds the start that the desk tells: the call is over before its first ask.
-fn note<D: Device>(words: &Words<D>, seat: &mut Place<D>, machine: &fkv_session::Session, call: &Call)
+fn note<D: Device>(
+    words: &Words<D>,
+    seat: &mut Place<D>,
+    _machine: &fkv_session::Session,
+    _call: &Call,
+)
     requires table { (seat.old.table_id ≡ words.now.table_id) × IsTableOf (opening_of D.seen words.now.key) words.now.table_id }
-    requires seated { IsSeated (opening_of D.seen) words.now.key seat.old.me (noted seat.old.me.1) machine.now }
-    requires note { noted seat.old.me.1 ≡ Calls machine.now.seat.number call.now ∷ [] }
+    requires seated { IsSeated (opening_of D.seen) words.now.key seat.old.me (noted seat.old.me.1) _machine.now }
+    requires note { noted seat.old.me.1 ≡ Calls _machine.now.seat.number _call.now ∷ [] }
     ensures seat { (seat.new.table_id ≡ seat.old.table_id) × (seat.new.id ≡ seat.old.id) }
-    ensures told { (word : ℕ) × Stepped (plane (opening_of D.seen)) (opening_of D.seen words.now.key) seat.old.me.0 seat.old.me.1 0 [] (Calls machine.now.seat.number call.now) word seat.new.me }
+    ensures told { (word : ℕ) × Stepped (plane (opening_of D.seen)) (opening_of D.seen words.now.key) seat.old.me.0 seat.old.me.1 0 [] (Calls _machine.now.seat.number _call.now) word seat.new.me }
 {
-    let _ = (machine, call);
-    let _ = words.load::<Notes>(seat, 0);
+    let _word = words.load::<Notes>(seat, 0);
 }
 
 /// Runs a call that has begun, whose start is on the desk.
