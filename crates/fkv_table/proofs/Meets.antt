@@ -68,10 +68,13 @@ module _ {K : Type 0} (at : K → World) (key : K) (table seat seat' : TableId) 
   right_so both right both_is cut = cut ∙ λ i. (right_view (plane at) (both_is i).0, [])
 
   -- the second one may sit down again
+  pub whose_again : (right : Me Slot (Knows K)) → right ≡ (right_view (plane at) met_view, []) → desk_of right.0.role ≡ Some b
+  whose_again right is = ap (λ (x : Me Slot (Knows K)). desk_of x.0.role) is ∙ other_desk
+
   pub may_sit_again : (right : Me Slot (Knows K)) → right ≡ (right_view (plane at) met_view, []) → MaySit table right
   may_sit_again right is = (
     b,
-    ap (λ (x : Me Slot (Knows K)). desk_of x.0.role) is ∙ other_desk,
+    whose_again right is,
     ap (λ (x : Me Slot (Knows K)). x.0.desk) is,
     below at key table seat' second two.second two.desk' two.second_ready,
   )

@@ -2,7 +2,7 @@
 use Rattle.std.proofs.Common.{sym, ◌∙◌}
 use Rattle.fkv_table.specs.Planes.{opening_of}
 use Rattle.fkv_table.proofs.Ready.{in_hand, some_words}
-use Rattle.fkv_table.proofs.Meets.{both_so, first_stays, have_met, joins_so, may_sit_again, one_so, right_so, second_stays, splits_so}
+use Rattle.fkv_table.proofs.Meets.{both_so, first_stays, have_met, joins_so, may_sit_again, one_so, right_so, second_stays, splits_so, whose_again}
 use Rattle.fkv_table.proofs.joining.join.Goals as goal
 
 pub get_up-requires : goal.get_up-requires
@@ -45,7 +45,7 @@ returns g c =
     let both_is = both_so at _ _ _ _ _ _ two c.get_up.new.seat.me c.join_seat.new.seat.me c.get_up.ensures.up c.join_seat.ensures.2 in
     let one_is = one_so at _ _ _ _ _ _ two c.join_seat.new.seat.me one both_is c.split_seat-back.ensures.2 in
     let right_is = right_so at _ _ _ _ _ _ two c.join_seat.new.seat.me right both_is c.split_seat-back.ensures.4 in
-    let sat = c.sit_down.ensures.sat _ (may_sit_again at _ _ _ _ _ _ two right right_is).1 in
+    let sat = c.sit_down.ensures.sat two.second.seat.number (whose_again at _ _ _ _ _ _ two right right_is) in
     let first_table = c.split_seat-back.ensures.0 ∙ c.join_seat.ensures.0 in
     let back_table = c.sit_down.ensures.seat.0 ∙ (c.split_seat-back.ensures.3 ∙ (c.join_seat.ensures.0 ∙ (two.first_ready.same_table ∙ sym two.second_ready.same_table))) in
     record {
