@@ -90,14 +90,14 @@ module _ {K : Type 0} (at : K → World) where
   pub start_spares : (key : K) (me me' : Me Slot (Knows K)) (k : KeeperModel) (shown : List ℕ) (may_leave : List ℕ → Type 0) → IsGuardedOpening (at key) → IsKeeping at key me k → IsNoted at key me Turns me'
       → IsAfterSeen at key me.0.seen shown may_leave → IsAfterSeen at key me'.0.seen shown may_leave
   unfolding led calls_added
-  start_spares key me me' k shown may_leave open its noted after =
+  start_spares key me me' k shown may_leave guard its noted after =
       let x : World = led (plane at) (at key) (noted.others ++ me.0.seen) in
       let opened : (led (plane at) (at key) me.0.seen).past.opened ≡ (led (plane at) (at key) me'.0.seen).past.opened = opened_so at (at key) me.0.seen ∙ sym (opened_so at (at key) me'.0.seen) in
       let made : (happens x (event_of Turns)).past.calls ≡ x.past.calls =
-          ap (λ (y : World). y.past.calls) (lived x (event_of Turns) (alive at (at key) (noted.others ++ me.0.seen) open.opened.goes_on)) ∙ added_calls x (life_goes x.now (read_by_keeper x) (event_of Turns)) (event_of Turns) in
+          ap (λ (y : World). y.past.calls) (lived x (event_of Turns) (alive at (at key) (noted.others ++ me.0.seen) guard.opened.goes_on)) ∙ added_calls x (life_goes x.now (read_by_keeper x) (event_of Turns)) (event_of Turns) in
       let calls : (led (plane at) (at key) me'.0.seen).past.calls ≡ (led (plane at) (at key) me.0.seen).past.calls =
           ap (λ (es : List Happening). (led (plane at) (at key) es).past.calls) noted.seen
-          ∙ (made ∙ quiet_calls at (at key) its.from noted.others me.0.seen (quiet_is at key me k open its noted.others noted.quiet)) in
+          ∙ (made ∙ quiet_calls at (at key) its.from noted.others me.0.seen (quiet_is at key me k guard its noted.others noted.quiet)) in
       subst (λ (z : List ℕ × List device.Call). IsAfter z.0 z.1 shown may_leave) (λ i. (opened i, sym calls i)) after
 
   -- a step of a word makes none either
@@ -109,7 +109,7 @@ module _ {K : Type 0} (at : K → World) where
 
   -- a keeper that asks for nothing has no call in hand
   pub over_idle : (key : K) (me : Me Slot (Knows K)) (k : KeeperModel) → IsGuardedOpening (at key) → IsKeeping at key me k → is_busy (keeper_ask k.shape k.places k.state) ≡ false → is_in_hand k.state.step ≡ false
-  over_idle key me k open its over =
+  over_idle key me k guard its over =
       let w : World = run (at key) (map event_of me.0.seen) in
       let none_left : keeper_asks_left k.shape k.places k.state ≡ 0 =
           elim (eq-zero-or-pos (keeper_asks_left k.shape k.places k.state)) [
@@ -120,9 +120,9 @@ module _ {K : Type 0} (at : K → World) where
       let shape : w.now.shape ≡ k.shape = ap (λ (z : World). z.now.shape) (sym (led_run at (at key) me.0.seen)) ∙ (shape_so at (at key) me.0.seen ∙ sym its.shape) in
       let places : w.now.places ≡ k.places = ap (λ (z : World). z.now.places) (sym (led_run at (at key) me.0.seen)) ∙ (places_so at (at key) me.0.seen ∙ sym its.places) in
       ap (λ (s : KeeperState). is_in_hand s.step) (sym same)
-      ∙ life_keeper_ended (at key) open.start (map event_of me.0.seen) open.guarded ((λ i. keeper_asks_left (shape i) (places i) (same i)) ∙ none_left)
+      ∙ life_keeper_ended (at key) guard.start (map event_of me.0.seen) guard.guarded ((λ i. keeper_asks_left (shape i) (places i) (same i)) ∙ none_left)
 
-  module _ (key : K) (me : Me Slot (Knows K)) (k : KeeperModel) (open : IsGuardedOpening (at key)) (its : IsKeeping at key me k) (asks : keeper_ask k.shape k.places k.state ≡ Done Device)
+  module _ (key : K) (me : Me Slot (Knows K)) (k : KeeperModel) (guard : IsGuardedOpening (at key)) (its : IsKeeping at key me k) (asks : keeper_ask k.shape k.places k.state ≡ Done Device)
       (done : Bool) (me' : Me Slot (Knows K)) (noted : IsNoted at key me (KeeperMoves true done) me') (shown : List ℕ) (may_leave : List ℕ → Type 0) (after : IsAfterSeen at key me.0.seen shown may_leave) where
     abbrev behind : List Happening
     behind = noted.others ++ me.0.seen
@@ -137,39 +137,39 @@ module _ {K : Type 0} (at : K → World) where
     opened_is = opened_so at (at key) behind ∙ sym (opened_so at (at key) me.0.seen)
 
     calls_is : x.past.calls ≡ p.calls
-    calls_is = quiet_calls at (at key) its.from noted.others me.0.seen (quiet_is at key me k open its noted.others noted.quiet)
+    calls_is = quiet_calls at (at key) its.from noted.others me.0.seen (quiet_is at key me k guard its noted.others noted.quiet)
 
     asks_x : keeper_ask x.now.shape x.now.places x.now.keeper ≡ Done Device
-    asks_x = ask_there at key me k open its noted.others noted.quiet ∙ asks
+    asks_x = ask_there at key me k guard its noted.others noted.quiet ∙ asks
 
     all : AllDone p.calls
     all =
         let w : World = run (at key) (map event_of me.0.seen) in
         let asks_w : keeper_ask w.now.shape w.now.places w.now.keeper ≡ Done Device =
-            ap (λ (z : World). keeper_ask z.now.shape z.now.places z.now.keeper) (sym (led_run at (at key) me.0.seen)) ∙ (ask_there at key me k open its [] tt ∙ asks) in
-        subst (λ (z : World). AllDone z.past.calls) (sym (led_run at (at key) me.0.seen)) (asks_while_done (at key) (map event_of me.0.seen) open.opened asks_w)
+            ap (λ (z : World). keeper_ask z.now.shape z.now.places z.now.keeper) (sym (led_run at (at key) me.0.seen)) ∙ (ask_there at key me k guard its [] tt ∙ asks) in
+        subst (λ (z : World). AllDone z.past.calls) (sym (led_run at (at key) me.0.seen)) (asks_while_done (at key) (map event_of me.0.seen) guard.opened asks_w)
 
     read_is : keeper_read k shown ≡ read_by_keeper x
     read_is =
         let bytes : shown ≡ reads_as x.past.opened x.past.calls = reads_all p.opened p.calls shown all after.reads ∙ λ i. reads_as (sym opened_is i) (sym calls_is i) in
-        λ i. bytes_at (bytes i) (mail_place ((its.shape ∙ sym (shape_so at (at key) behind)) i) (sym (there at key me k open its noted.others noted.quiet) i).maintain.serving) 24
+        λ i. bytes_at (bytes i) (mail_place ((its.shape ∙ sym (shape_so at (at key) behind)) i) (sym (there at key me k guard its noted.others noted.quiet) i).maintain.serving) 24
 
     pub called_on : (k' : KeeperModel) → k' ≡ record k { state = keeper_called k.shape k.places k.state done (keeper_read k shown) } → IsKeeping at key me' k'
     unfolding led
     called_on k' goes =
         let now : (happens x (event_of (KeeperMoves true done))).now.keeper ≡ keeper_called x.now.shape x.now.places x.now.keeper done (read_by_keeper x) =
-            ap (λ (n : Now). n.keeper) (device_called x true done (alive at (at key) behind open.opened.goes_on) asks_x) in
+            ap (λ (n : Now). n.keeper) (device_called x true done (alive at (at key) behind guard.opened.goes_on) asks_x) in
         let same : keeper_called x.now.shape x.now.places x.now.keeper done (read_by_keeper x) ≡ keeper_called k.shape k.places k.state done (keeper_read k shown) =
-            λ i. keeper_called ((shape_so at (at key) behind ∙ sym its.shape) i) ((places_so at (at key) behind ∙ sym its.places) i) (there at key me k open its noted.others noted.quiet i) done (sym read_is i) in
-        keeping_on at key me k open its (KeeperMoves true done) me' k' noted (ap (λ (m : KeeperModel). m.shape) goes) (ap (λ (m : KeeperModel). m.places) goes) (ap (λ (m : KeeperModel). m.state) goes ∙ sym (now ∙ same))
+            λ i. keeper_called ((shape_so at (at key) behind ∙ sym its.shape) i) ((places_so at (at key) behind ∙ sym its.places) i) (there at key me k guard its noted.others noted.quiet i) done (sym read_is i) in
+        keeping_on at key me k guard its (KeeperMoves true done) me' k' noted (ap (λ (m : KeeperModel). m.shape) goes) (ap (λ (m : KeeperModel). m.places) goes) (ap (λ (m : KeeperModel). m.state) goes ∙ sym (now ∙ same))
 
     made_is : (led (plane at) (at key) me'.0.seen).past.calls ≡ keeper_calls k.shape k.state done ++ p.calls
     unfolding led
     made_is =
         ap (λ (es : List Happening). (led (plane at) (at key) es).past.calls) noted.seen
-        ∙ (moves_calls x true done (alive at (at key) behind open.opened.goes_on)
+        ∙ (moves_calls x true done (alive at (at key) behind guard.opened.goes_on)
         ∙ (ap (λ (ask : Ask KeeperTold). calls_after ask (keeper_calls x.now.shape x.now.keeper done) x.past.calls) asks_x
-        ∙ λ i. keeper_calls ((shape_so at (at key) behind ∙ sym its.shape) i) (there at key me k open its noted.others noted.quiet i) done ++ calls_is i))
+        ∙ λ i. keeper_calls ((shape_so at (at key) behind ∙ sym its.shape) i) (there at key me k guard its noted.others noted.quiet i) done ++ calls_is i))
 
     pub after_on : (shown' : List ℕ) (may_leave' : List ℕ → Type 0) → Adds (keeper_calls k.shape k.state done) shown shown' may_leave may_leave' → IsAfterSeen at key me'.0.seen shown' may_leave'
     after_on shown' may_leave' adds =
@@ -177,4 +177,4 @@ module _ {K : Type 0} (at : K → World) where
         subst (λ (z : List ℕ × List device.Call). IsAfter z.0 z.1 shown' may_leave') (λ i. (opened i, sym made_is i)) (adds p.opened p.calls after)
 
     pub went_on : HasGoneOn me.0.seen me'.0.seen
-    went_on = gone_on its.from true done noted.others me.0.seen me'.0.seen (quiet_is at key me k open its noted.others noted.quiet) noted.seen
+    went_on = gone_on its.from true done noted.others me.0.seen me'.0.seen (quiet_is at key me k guard its noted.others noted.quiet) noted.seen

@@ -84,9 +84,9 @@ module _ {K : Type 0} (at : K → World) where
 
   pub may_note : (key : K) (slots id : ℕ) (me : Me Slot (Knows K)) (its : Happening) → IsGuardedOpening (at key) → me.0.about ≡ Some key → Spares at key me its
       → HandFits (plane at) (at key) me.0.seen me.0.hand me.1 → Allows (Ruled (plane at) key) slots id me 0 (λ n. n) (adding at its (step slots 0 0 0 none) me)
-  may_note key slots id me its open about spares hand s h l g b =
+  may_note key slots id me its guard about spares hand s h l g b =
       let changes : Changes (plane at) key me.0 [] its 0 (λ n. n) = λ later q. ap laid (spares.words later q) ∙ sym (set_found (laid (led (plane at) (at key) (later ++ me.0.seen)).now.words) 0) in
-      let t = allows (plane at) key slots id me.0 me.1 0 (λ n. n) [] its (slot_facts at (at key) open) (spares.own, tt) (record { words = λ es. refl; actions = λ es. refl }) hand changes s h l g b in
+      let t = allows (plane at) key slots id me.0 me.1 0 (λ n. n) [] its (slot_facts at (at key) guard) (spares.own, tt) (record { words = λ es. refl; actions = λ es. refl }) hand changes s h l g b in
       (t.0, t.1, t.2, t.3, λ other is. subst (λ (x : K). Stepped (plane at) (at x) me.0 me.1 0 [] its (get_or s.words 0 0) (t.0, carried_after me.1 t.1)) (same_some key other (sym about ∙ is)) t.4)
 
   pub noted_so : (key : K) (slots : ℕ) (me me' : Me Slot (Knows K)) (its : Happening) (n : ℕ) → me.0.about ≡ Some key → Spares at key me its → adding at its (step slots 0 0 0 none) me n me' → IsNoted at key me its me'
@@ -103,7 +103,7 @@ module _ {K : Type 0} (at : K → World) where
         held = subst (λ (hand : Option ℕ). Carries (plane at) (at key) (t.others ++ me.0.seen) hand (base (plane at) me.0.hand me.1) me'.1) none_out t.carries;
       }
 
-  module _ (key : K) (me : Me Slot (Knows K)) (k : KeeperModel) (open : IsGuardedOpening (at key)) (its : IsKeeping at key me k) where
+  module _ (key : K) (me : Me Slot (Knows K)) (k : KeeperModel) (guard : IsGuardedOpening (at key)) (its : IsKeeping at key me k) where
     abbrev w : World
     w = at key
 
@@ -125,7 +125,7 @@ module _ {K : Type 0} (at : K → World) where
     unfolding led
     spares_turn = record {
       own = own Turns refl;
-      words = λ others q. ap (λ (n : Now). n.words) (turn_starts (led (plane at) w (others ++ me.0.seen)) (alive at w (others ++ me.0.seen) open.opened.goes_on));
+      words = λ others q. ap (λ (n : Now). n.words) (turn_starts (led (plane at) w (others ++ me.0.seen)) (alive at w (others ++ me.0.seen) guard.opened.goes_on));
       slot = λ others q. refl;
     }
 
@@ -133,7 +133,7 @@ module _ {K : Type 0} (at : K → World) where
     unfolding led
     spares_commit kind = record {
       own = own (Commits kind) refl;
-      words = λ others q. ap (λ (n : Now). n.words) (commit_starts (led (plane at) w (others ++ me.0.seen)) kind (alive at w (others ++ me.0.seen) open.opened.goes_on));
+      words = λ others q. ap (λ (n : Now). n.words) (commit_starts (led (plane at) w (others ++ me.0.seen)) kind (alive at w (others ++ me.0.seen) guard.opened.goes_on));
       slot = λ others q. refl;
     }
 
@@ -141,7 +141,7 @@ module _ {K : Type 0} (at : K → World) where
     unfolding led
     spares_call granted done asks = record {
       own = own (KeeperMoves granted done) refl;
-      words = λ others q. ap (λ (n : Now). n.words) (device_called (led (plane at) w (others ++ me.0.seen)) granted done (alive at w (others ++ me.0.seen) open.opened.goes_on) (ask_there others q ∙ asks));
+      words = λ others q. ap (λ (n : Now). n.words) (device_called (led (plane at) w (others ++ me.0.seen)) granted done (alive at w (others ++ me.0.seen) guard.opened.goes_on) (ask_there others q ∙ asks));
       slot = λ others q.
           let n : Now = (led (plane at) w (others ++ me.0.seen)).now in
           ap (λ (ask : Ask KeeperTold). slot_of_step ask (keeper_ask n.shape n.places (keeper_next n.shape n.places n.keeper (reply_to n.words (keeper_ask n.shape n.places n.keeper)) granted))) (ask_there others q ∙ asks);
@@ -165,7 +165,7 @@ module _ {K : Type 0} (at : K → World) where
     unfolding led
     turn_on me' k' idle noted goes =
         let x : World = led (plane at) w (noted.others ++ me.0.seen) in
-        let now : (happens x (event_of Turns)).now.keeper ≡ keeper_asked x.now.keeper (turn_asked x.now.keeper) = ap (λ (n : Now). n.keeper) (turn_starts x (alive at w (noted.others ++ me.0.seen) open.opened.goes_on)) in
+        let now : (happens x (event_of Turns)).now.keeper ≡ keeper_asked x.now.keeper (turn_asked x.now.keeper) = ap (λ (n : Now). n.keeper) (turn_starts x (alive at w (noted.others ++ me.0.seen) guard.opened.goes_on)) in
         let same : keeper_asked x.now.keeper (turn_asked x.now.keeper) ≡ turn_asked k.state = ap (λ (s : KeeperState). keeper_asked s (turn_asked s)) (there noted.others noted.quiet) ∙ begun_so k.state (turn_asked k.state) idle in
         keeping_on Turns me' k' noted (ap (λ (m : KeeperModel). m.shape) goes) (ap (λ (m : KeeperModel). m.places) goes) (ap (λ (m : KeeperModel). m.state) goes ∙ sym (now ∙ same))
 
@@ -173,6 +173,6 @@ module _ {K : Type 0} (at : K → World) where
     unfolding led
     commit_on kind me' k' idle noted goes =
         let x : World = led (plane at) w (noted.others ++ me.0.seen) in
-        let now : (happens x (event_of (Commits kind))).now.keeper ≡ keeper_asked x.now.keeper (commit_asked x.now.keeper kind) = ap (λ (n : Now). n.keeper) (commit_starts x kind (alive at w (noted.others ++ me.0.seen) open.opened.goes_on)) in
+        let now : (happens x (event_of (Commits kind))).now.keeper ≡ keeper_asked x.now.keeper (commit_asked x.now.keeper kind) = ap (λ (n : Now). n.keeper) (commit_starts x kind (alive at w (noted.others ++ me.0.seen) guard.opened.goes_on)) in
         let same : keeper_asked x.now.keeper (commit_asked x.now.keeper kind) ≡ commit_asked k.state kind = ap (λ (s : KeeperState). keeper_asked s (commit_asked s kind)) (there noted.others noted.quiet) ∙ begun_so k.state (commit_asked k.state kind) idle in
         keeping_on (Commits kind) me' k' noted (ap (λ (m : KeeperModel). m.shape) goes) (ap (λ (m : KeeperModel). m.places) goes) (ap (λ (m : KeeperModel). m.state) goes ∙ sym (now ∙ same))

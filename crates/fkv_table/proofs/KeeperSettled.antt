@@ -95,7 +95,7 @@ moved_by n granted shape p s =
     with_keeper n (keeper_settled shape p granted behind (keeper_ask shape p behind.machine))
 
 module _ {K : Type 0} (at : K → World) where
-  module _ (key : K) (me me1 : Me Slot (Knows K)) (k k1 : KeeperModel) (granted : Bool) (open : IsGuardedOpening (at key)) (its : IsKeeping at key me k) (r : KeeperReplied at key me granted k me1 k1)
+  module _ (key : K) (me me1 : Me Slot (Knows K)) (k k1 : KeeperModel) (granted : Bool) (guard : IsGuardedOpening (at key)) (its : IsKeeping at key me k) (r : KeeperReplied at key me granted k me1 k1)
       (place : ℕ) (named : asked_place (keeper_ask k.shape k.places k.state) ≡ Some place) where
     abbrev behind : List Happening
     behind = r.others ++ me.0.seen
@@ -113,7 +113,7 @@ module _ {K : Type 0} (at : K → World) where
     places_is = places_so at (at key) behind ∙ sym its.places
 
     stood : x.now.keeper ≡ k.state
-    stood = there at key me k open its r.others r.quiet
+    stood = there at key me k guard its r.others r.quiet
 
     abbrev near1 : Near KeeperState
     near1 = record { machine = k1.state; words = words_after x.now.words (keeper_ask k.shape k.places k.state); actions = x.now.actions }
@@ -125,7 +125,7 @@ module _ {K : Type 0} (at : K → World) where
     unfolding led keeper_goes
     after_now =
         let there_named : asked_place (keeper_ask x.now.shape x.now.places x.now.keeper) ≡ Some place = (λ i. asked_place (keeper_ask (shape_is i) (places_is i) (stood i))) ∙ named in
-        keeper_own x (event_of (KeeperMoves granted true)) refl (alive at (at key) behind open.opened.goes_on)
+        keeper_own x (event_of (KeeperMoves granted true)) refl (alive at (at key) behind guard.opened.goes_on)
         ∙ (ap (with_keeper x.now) (asks_settled x.now.shape x.now.places granted true (read_by_keeper x) (near x.now x.now.keeper) (keeper_ask x.now.shape x.now.places x.now.keeper) place there_named)
         ∙ ((λ i. moved_by x.now granted (shape_is i) (places_is i) (stood i))
         ∙ λ i. with_keeper x.now (keeper_settled k.shape k.places granted (record near1 { machine = sym r.state i }) (keeper_ask k.shape k.places (sym r.state i)))))
@@ -145,7 +145,7 @@ module _ {K : Type 0} (at : K → World) where
 
     turned_to : (ask : Ask KeeperTold) → ask ≡ asks1 → (slot : ℕ) → slot_asked ask ≡ Some slot → slot_named x.now (event_of (KeeperMoves granted true)) ≡ Some slot
     turned_to ask is slot e =
-        names_so at key me k open its granted r.others r.quiet place named ∙ (ap (λ (s : KeeperState). slot_asked (keeper_ask k.shape k.places s)) (sym r.state) ∙ (ap slot_asked (sym is) ∙ e))
+        names_so at key me k guard its granted r.others r.quiet place named ∙ (ap (λ (s : KeeperState). slot_asked (keeper_ask k.shape k.places s)) (sym r.state) ∙ (ap slot_asked (sym is) ∙ e))
 
     -- where the action that goes with the reply leads
     state_so : (me' : Me Slot (Knows K)) (k' : KeeperModel) (ask : Ask KeeperTold) → ask ≡ asks1 → me1.0.hand ≡ slot_asked ask → Carries (plane at) (at key) behind me1.0.hand (base (plane at) me.0.hand me.1) me1.1
@@ -236,7 +236,7 @@ module _ {K : Type 0} (at : K → World) where
       acts = ap (λ (z : Now). z.actions) after_now ∙ ap (λ (z : Near KeeperState). z.actions) settled_is
 
       deep : (slot : ℕ) → slot_asked ask ≡ Some slot → slot < length x.now.actions
-      deep slot e = subst (λ (count : ℕ). slot < count) (sym (slots_count at (at key) open behind)) (named_within at (at key) open behind (KeeperMoves granted true) slot (turned_to ask is slot e))
+      deep slot e = subst (λ (count : ℕ). slot < count) (sym (slots_count at (at key) guard behind)) (named_within at (at key) guard behind (KeeperMoves granted true) slot (turned_to ask is slot e))
 
       pub kept_on : IsKeeping at key me' k'
       kept_on = record {
@@ -258,18 +258,18 @@ module _ {K : Type 0} (at : K → World) where
       calls_on =
           let there_named : asked_place (keeper_ask x.now.shape x.now.places x.now.keeper) ≡ Some place = (λ i. asked_place (keeper_ask (shape_is i) (places_is i) (stood i))) ∙ named in
           ap (λ (es : List Happening). (led (plane at) (at key) es).past.calls) seen_is
-          ∙ (moves_calls x granted true (alive at (at key) behind open.opened.goes_on)
+          ∙ (moves_calls x granted true (alive at (at key) behind guard.opened.goes_on)
           ∙ (word_adds_none (keeper_ask x.now.shape x.now.places x.now.keeper) place there_named _ x.past.calls
-          ∙ quiet_calls at (at key) its.from r.others me.0.seen (quiet_is at key me k open its r.others r.quiet)))
+          ∙ quiet_calls at (at key) its.from r.others me.0.seen (quiet_is at key me k guard its r.others r.quiet)))
 
       pub fewer_on : keeper_asks_left k'.shape k'.places k'.state < keeper_asks_left k.shape k.places k.state
       unfolding led
       fewer_on =
-          let stands : KeeperStandsAtNoSlot x.now = subst (λ (z : World). KeeperStandsAtNoSlot z.now) (sym (led_run at (at key) behind)) (life_keeper_stands (at key) open.start (map event_of behind) open.guarded) in
+          let stands : KeeperStandsAtNoSlot x.now = subst (λ (z : World). KeeperStandsAtNoSlot z.now) (sym (led_run at (at key) behind)) (life_keeper_stands (at key) guard.start (map event_of behind) guard.guarded) in
           let before : asks_left_of_keeper x.now ≡ keeper_asks_left k.shape k.places k.state = λ i. keeper_asks_left (shape_is i) (places_is i) (stood i) in
           let some : 0 < keeper_asks_left k.shape k.places k.state = (keeper_left k.shape k.places k.state).0 (word_busy (keeper_ask k.shape k.places k.state) place named) in
           let down : asks_left_of_keeper y.now < asks_left_of_keeper x.now =
-              keeper_down x granted true (alive at (at key) behind open.opened.goes_on) (subst (λ (n : ℕ). 0 < n) (sym before) some) stands in
+              keeper_down x granted true (alive at (at key) behind guard.opened.goes_on) (subst (λ (n : ℕ). 0 < n) (sym before) some) stands in
           let last : led (plane at) (at key) me'.0.seen ≡ y = ap (led (plane at) (at key)) seen_is in
           let after : keeper_asks_left k'.shape k'.places k'.state ≡ asks_left_of_keeper y.now =
               (λ i. keeper_asks_left ((kept_on.shape ∙ sym (shape_so at (at key) (KeeperMoves granted true ∷ behind))) i) ((kept_on.places ∙ sym (places_so at (at key) (KeeperMoves granted true ∷ behind))) i)
@@ -285,17 +285,17 @@ module _ {K : Type 0} (at : K → World) where
 
   pub keeper_in_hand : (key : K) (me me1 : Me Slot (Knows K)) (k k1 : KeeperModel) (granted : Bool) (first ask : Ask KeeperTold) → IsGuardedOpening (at key) → IsKeeping at key me k → KeeperReplied at key me granted k me1 k1
       → first ≡ keeper_ask k.shape k.places k.state → (place : ℕ) × (asked_place first ≡ Some place) → ask ≡ keeper_ask k1.shape k1.places k1.state → KeeperIsAsked at ask me1
-  keeper_in_hand key me me1 k k1 granted first ask open its r was (place, e) is =
-      hand_asked key me me1 k k1 granted open its r place (ap asked_place (sym was) ∙ e) ask (is ∙ λ i. keeper_ask (r.store.0 i) (r.store.1 i) k1.state)
+  keeper_in_hand key me me1 k k1 granted first ask guard its r was (place, e) is =
+      hand_asked key me me1 k k1 granted guard its r place (ap asked_place (sym was) ∙ e) ask (is ∙ λ i. keeper_ask (r.store.0 i) (r.store.1 i) k1.state)
 
   pub keeper_stepped : (key : K) (me me1 me' : Me Slot (Knows K)) (k k1 k' : KeeperModel) (granted : Bool) (first ask : Ask KeeperTold) → IsGuardedOpening (at key) → IsKeeping at key me k → KeeperReplied at key me granted k me1 k1
       → first ≡ keeper_ask k.shape k.places k.state → (place : ℕ) × (asked_place first ≡ Some place) → ask ≡ keeper_ask k1.shape k1.places k1.state → KeeperSettled at ask me1 k1 me' k' → IsKeeperStep key me k me' k'
-  keeper_stepped key me me1 me' k k1 k' granted first ask open its r was (place, e) is t =
+  keeper_stepped key me me1 me' k k1 k' granted first ask guard its r was (place, e) is t =
       let named : asked_place (keeper_ask k.shape k.places k.state) ≡ Some place = ap asked_place (sym was) ∙ e in
       let same : ask ≡ keeper_ask k.shape k.places k1.state = is ∙ λ i. keeper_ask (r.store.0 i) (r.store.1 i) k1.state in
       record {
-        keeping = kept_on key me me1 k k1 granted open its r place named me' k' ask same t;
-        went = gone_on at its.from granted true r.others me.0.seen me'.0.seen (quiet_is at key me k open its r.others r.quiet) (seen_is key me me1 k k1 granted open its r place named me' k' ask same t);
-        calls = calls_on key me me1 k k1 granted open its r place named me' k' ask same t;
-        fewer = fewer_on key me me1 k k1 granted open its r place named me' k' ask same t;
+        keeping = kept_on key me me1 k k1 granted guard its r place named me' k' ask same t;
+        went = gone_on at its.from granted true r.others me.0.seen me'.0.seen (quiet_is at key me k guard its r.others r.quiet) (seen_is key me me1 k k1 granted guard its r place named me' k' ask same t);
+        calls = calls_on key me me1 k k1 granted guard its r place named me' k' ask same t;
+        fewer = fewer_on key me me1 k k1 granted guard its r place named me' k' ask same t;
       }

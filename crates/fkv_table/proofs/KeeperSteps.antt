@@ -36,7 +36,7 @@ abbrev turned_to : List ℕ → Bool → Shape → Places → KeeperState → Op
 turned_to words granted shape p s = slot_of_step (keeper_ask shape p s) (keeper_ask shape p (keeper_next shape p s (reply_to words (keeper_ask shape p s)) granted))
 
 module _ {K : Type 0} (at : K → World) where
-  module _ (key : K) (me : Me Slot (Knows K)) (k : KeeperModel) (open : IsGuardedOpening (at key)) (its : IsKeeping at key me k) where
+  module _ (key : K) (me : Me Slot (Knows K)) (k : KeeperModel) (guard : IsGuardedOpening (at key)) (its : IsKeeping at key me k) where
     abbrev w : World
     w = at key
 
@@ -45,8 +45,8 @@ module _ {K : Type 0} (at : K → World) where
 
     pub low : (place : ℕ) → asked_place ask ≡ Some place → place < word_count w.now.places
     low place e =
-        life_keeper_within w open.start (map event_of me.0.seen) place open.guarded open.seeks
-            (ap (λ (x : World). asked_place (keeper_ask x.now.shape x.now.places x.now.keeper)) (sym (led_run at w me.0.seen)) ∙ (ap asked_place (ask_there at key me k open its [] tt) ∙ e))
+        life_keeper_within w guard.start (map event_of me.0.seen) place guard.guarded guard.seeks
+            (ap (λ (x : World). asked_place (keeper_ask x.now.shape x.now.places x.now.keeper)) (sym (led_run at w me.0.seen)) ∙ (ap asked_place (ask_there at key me k guard its [] tt) ∙ e))
 
     -- its step changes the word of its ask, as the ask does
     changes : (granted : Bool) (place : ℕ) → asked_place ask ≡ Some place → Changes (plane at) key me.0 [] (KeeperMoves granted true) (position place) (asked ask)
@@ -54,9 +54,9 @@ module _ {K : Type 0} (at : K → World) where
     changes granted place e others q =
         let x : World = led (plane at) w (others ++ me.0.seen) in
         let words : List ℕ = x.now.words in
-        let inside : place < length words = is_there at w open (others ++ me.0.seen) place (low place e) in
+        let inside : place < length words = is_there at w guard (others ++ me.0.seen) place (low place e) in
         let moved : (happens x (event_of (KeeperMoves granted true))).now.words ≡ set words place (asked ask (get_or words place 0)) =
-            keeper_writes x granted true (alive at w (others ++ me.0.seen) open.opened.goes_on) ∙ (ap (words_after words) (ask_there at key me k open its others q) ∙ changed_there words ask place e) in
+            keeper_writes x granted true (alive at w (others ++ me.0.seen) guard.opened.goes_on) ∙ (ap (words_after words) (ask_there at key me k guard its others q) ∙ changed_there words ask place e) in
         ap laid moved ∙ (laid_set words place (asked ask (get_or words place 0)) inside ∙ ap (λ (n : ℕ). set (laid words) (position place) (asked ask n)) (sym (laid_found words place inside)))
 
     pub names_so : (granted : Bool) (others : List Happening) → Quiet (plane at) me.0.role others → (place : ℕ) → asked_place ask ≡ Some place
@@ -66,16 +66,16 @@ module _ {K : Type 0} (at : K → World) where
         let x : World = led (plane at) w (others ++ me.0.seen) in
         let shape : x.now.shape ≡ k.shape = shape_so at w (others ++ me.0.seen) ∙ sym its.shape in
         let places : x.now.places ≡ k.places = places_so at w (others ++ me.0.seen) ∙ sym its.places in
-        let stood : x.now.keeper ≡ k.state = there at key me k open its others q in
+        let stood : x.now.keeper ≡ k.state = there at key me k guard its others q in
         (λ i. turned_to x.now.words granted (shape i) (places i) (stood i)) ∙ slot_behind ask (keeper_ask k.shape k.places (keeper_next k.shape k.places k.state (reply_to x.now.words ask) granted)) place e
 
   pub may_keep : (key : K) (slots id : ℕ) (me : Me Slot (Knows K)) (k : KeeperModel) (event : Happening) (granted : Bool) (asks : Ask KeeperTold) → IsGuardedOpening (at key) → IsKeeping at key me k → event ≡ KeeperMoves granted true
       → asks ≡ keeper_ask k.shape k.places k.state → (place : ℕ) → asked_place asks ≡ Some place → Allows (Ruled (plane at) key) slots id me (position place) (asked asks) (adding at event (step_of slots asks) me)
-  may_keep key slots id me k event granted asks open its is same place e =
+  may_keep key slots id me k event granted asks guard its is same place e =
       let named : asked_place (keeper_ask k.shape k.places k.state) ≡ Some place = ap asked_place (sym same) ∙ e in
       let word_is = step_word slots asks place e in
-      let done = allows (plane at) key slots id me.0 me.1 (position place) (asked (keeper_ask k.shape k.places k.state)) [] (KeeperMoves granted true) (slot_facts at (at key) open) (own at key me k open its (KeeperMoves granted true) refl, tt)
-          (record { words = λ es. refl; actions = λ es. refl }) its.hand (changes key me k open its granted place named) in
+      let done = allows (plane at) key slots id me.0 me.1 (position place) (asked (keeper_ask k.shape k.places k.state)) [] (KeeperMoves granted true) (slot_facts at (at key) guard) (own at key me k guard its (KeeperMoves granted true) refl, tt)
+          (record { words = λ es. refl; actions = λ es. refl }) its.hand (changes key me k guard its granted place named) in
       let same_ask : Allows (Ruled (plane at) key) slots id me (position place) (asked asks) (λ n m'. Stepped (plane at) (at key) me.0 me.1 (position place) [] (KeeperMoves granted true) n m') =
           subst (λ (a : Ask KeeperTold). Allows (Ruled (plane at) key) slots id me (position place) (asked a) (λ n m'. Stepped (plane at) (at key) me.0 me.1 (position place) [] (KeeperMoves granted true) n m')) (sym same) done in
       weaken at key slots id me (position place) (asked asks) (λ n m'. Stepped (plane at) (at key) me.0 me.1 (position place) [] (KeeperMoves granted true) n m') (adding at event (step_of slots asks) me)
@@ -84,6 +84,7 @@ module _ {K : Type 0} (at : K → World) where
 
   pub keeper_within : (key : K) (id : TableId) (me : Me Slot (Knows K)) (k : KeeperModel) (asks : Ask KeeperTold) → IsTableOf (at key) id → IsKeeping at key me k → asks ≡ keeper_ask k.shape k.places k.state
       → (place : ℕ) × (asked_place asks ≡ Some place) → (place : ℕ) × (asked_place asks ≡ Some place) × (position place < id.words) × (place < 2 ^ 62)
+  unfolding led
   keeper_within key id me k asks table its same (place, e) =
       let few = low key me k table.opening its place (ap asked_place (sym same) ∙ e) in
       let inside : place < length (at key).now.words = is_there at (at key) table.opening [] place few in
@@ -92,11 +93,11 @@ module _ {K : Type 0} (at : K → World) where
   pub keeper_replies : (key : K) (slots : ℕ) (me me' : Me Slot (Knows K)) (k k' : KeeperModel) (event : Happening) (granted : Bool) (asks : Ask KeeperTold) (reply : ℕ) → IsGuardedOpening (at key) → IsKeeping at key me k → event ≡ KeeperMoves granted true
       → asks ≡ keeper_ask k.shape k.places k.state → (place : ℕ) × (asked_place asks ≡ Some place) → adding at event (step_of slots asks) me reply me' → k' ≡ record k { state = keeper_next k.shape k.places k.state reply granted }
       → KeeperReplied at key me granted k me' k'
-  keeper_replies key slots me me' k k' event granted asks reply open its is same (place, e) told went =
+  keeper_replies key slots me me' k k' event granted asks reply guard its is same (place, e) told went =
       let t = told key its.about in
       let named : asked_place (keeper_ask k.shape k.places k.state) ≡ Some place = ap asked_place (sym same) ∙ e in
       let x : World = led (plane at) (at key) (t.others ++ me.0.seen) in
-      let inside = is_there at (at key) open (t.others ++ me.0.seen) place (low key me k open its place named) in
+      let inside = is_there at (at key) guard (t.others ++ me.0.seen) place (low key me k guard its place named) in
       let reply_is : reply ≡ reply_to x.now.words (keeper_ask k.shape k.places k.state) =
           t.found ∙ (ap (λ (i : ℕ). slice_index_or (laid x.now.words) i 0) (step_word slots asks place e) ∙ (laid_found x.now.words place inside ∙ ap (word_found x.now.words) (sym named))) in
       let state_so : k'.state ≡ keeper_next k.shape k.places k.state (reply_to x.now.words (keeper_ask k.shape k.places k.state)) granted =
@@ -109,6 +110,6 @@ module _ {K : Type 0} (at : K → World) where
         about = t.about;
         role = t.role;
         state = state_so;
-        hand = t.hand ∙ (ap (λ (h : Happening). slot_named x.now (event_of h)) is ∙ (names_so key me k open its granted t.others t.quiet place named ∙ ap (λ (s : KeeperState). slot_asked (keeper_ask k.shape k.places s)) (sym state_so)));
+        hand = t.hand ∙ (ap (λ (h : Happening). slot_named x.now (event_of h)) is ∙ (names_so key me k guard its granted t.others t.quiet place named ∙ ap (λ (s : KeeperState). slot_asked (keeper_ask k.shape k.places s)) (sym state_so)));
         carries = t.carries;
       }

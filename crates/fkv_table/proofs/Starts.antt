@@ -78,8 +78,8 @@ module _ {K : Type 0} (at : K → World) (key : K) where
       let empty : me.0.hand ≡ None = ap (λ (v : Knows K). v.hand) view in
       let nothing : me.0.seen ≡ [] = ap (λ (v : Knows K). v.seen) view in
       record {
-        ready = λ open. record {
-          opened = record { opening = open; words = words; slots = slots };
+        ready = λ guard. record {
+          opened = record { opening = guard; words = words; slots = slots };
           same_table = has.same_table;
           seated = record {
             about = ap (λ (v : Knows K). v.about) view;

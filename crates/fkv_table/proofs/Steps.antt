@@ -125,6 +125,7 @@ module _ {K : Type 0} (at : K → World) where
 
   pub within : (key : K) (id : TableId) (me : Me Slot (Knows K)) (own : List Happening) (m : Sitter) (ask : Ask Told) → IsTableOf (at key) id → IsSeated at key me own m → ask ≡ session_ask m.seat m.state
       → (place : ℕ) × (asked_place ask ≡ Some place) → (place : ℕ) × (asked_place ask ≡ Some place) × (position place < id.words) × (place < 2 ^ 62)
+  unfolding led
   within key id me own m ask table sits is (place, e) =
       let its = low key me own m table.opening sits place (ap asked_place (sym is) ∙ e) in
       let inside : place < length (at key).now.words = is_there at (at key) table.opening [] place its in

@@ -345,6 +345,7 @@ impl Keeper {
 }
 
 /// How a turn has ended. At rest a reply changes nothing, and the last answer is told again.
+#[tactic(auto, unfolding(fkv_keeper::specs::Keeping::keeping_next))]
 fn turn_told(machine: &mut fkv_keeper::Keeper) -> Result<Turn, Fault>
     requires over { is_busy (keeper_ask machine.old.shape machine.old.places machine.old.state) ≡ false }
     requires idle { is_in_hand machine.old.state.step ≡ false }

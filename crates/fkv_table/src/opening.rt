@@ -74,7 +74,7 @@ impl<D: Device + Drop> Table<D> {
 }
 
 /// The words at their positions.
-#[tactic(auto, using(crate::proofs::LaidWords::laid_more))]
+#[tactic(auto, using(crate::proofs::LaidWords::laid_more), unfolding(crate::specs::Positions::laid_from))]
 fn laid_words(alloc: Global, plane: &PlainWords, count: usize) -> Result<Vec<u64>, Fault>
     requires count { count ≡ length plane.now.words }
     requires few { count < 2 ^ 62 }
