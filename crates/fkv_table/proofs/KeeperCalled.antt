@@ -1,5 +1,5 @@
 -- A step of the keeper in the list of events, and a call of the device.
-use Rattle.std.proofs.Common.{◌≡◌, ℕ, refl, sym, ap, subst, ◌∙◌, Bool, true, false, true≢false, List, [], ◌∷◌, ◌++◌, append_assoc, eq-zero-or-pos, inl, inr, map}
+use Rattle.std.proofs.Common.{◌≡◌, ◌≢◌, ℕ, refl, sym, ap, subst, ◌∙◌, Bool, true, false, true≢false, List, [], ◌∷◌, ◌++◌, append_assoc, eq-zero-or-pos, inl, inr, map}
 use Rattle.std.specs.Prelude.{Option, Some, None}
 use Rattle.atomic_table.specs.Table.{Me}
 use Rattle.fkv_base.specs.declared.shapes.Shape.{Shape}
@@ -11,7 +11,8 @@ use Rattle.fkv_disk.proofs.Shown.{reads_all}
 use Rattle.fkv_flush.specs.Devices.{Adds}
 use Rattle.fkv_flush.specs.Serving.{mail_place}
 use Rattle.fkv_plane.specs.declared.asks.Ask.{Ask}
-use Rattle.fkv_plane.specs.declared.asks.Ask.TheVariants.{Done}
+use Rattle.fkv_plane.specs.declared.asks.Ask.TheVariants.{Load, Store, Swap, Cas, Add, Max, Put, Take, Done}
+use Rattle.fkv_plane.specs.Asked.{asked_place}
 use Rattle.fkv_plane.specs.declared.places.Places.{Places}
 use Rattle.fkv_keeper.specs.declared.answers.KeeperTold.{KeeperTold}
 use Rattle.fkv_keeper.specs.declared.answers.KeeperTold.TheVariants.{Device}
@@ -20,11 +21,14 @@ use Rattle.fkv_keeper.specs.KeeperAsks.{keeper_asks_left, keeper_calls, keeper_r
 use Rattle.fkv_keeper.specs.KeeperRun.{is_in_hand}
 use Rattle.fkv_keeper.proofs.Shown.{keeper_left}
 use Rattle.fkv_keeper.specs.Keeping.{KeeperModel, KeeperState, keeper_ask, keeper_called}
+use Rattle.fkv_world.specs.Actors.{slot_asked}
 use Rattle.fkv_world.specs.Past.{Past, calls_after}
 use Rattle.fkv_world.specs.Runs.{World, happens, read_by_keeper, run}
 use Rattle.fkv_world.specs.World.{Now, life_goes}
 use Rattle.fkv_world.proofs.Shown.{added_calls, asks_while_done, calls_added, lived}
 use Rattle.law_guard.proofs.OfGuarded.Ends.{life_keeper_ended}
+use Rattle.law_guard.proofs.OfGuarded.Slots.{life_keeper_rests}
+use Rattle.fkv_seats.proofs.Keeps.{no_some}
 use Rattle.law_world.proofs.OfRuns.Starts.{device_called}
 use Rattle.fkv_seats.specs.declared.views.Role.{Role}
 use Rattle.fkv_seats.specs.declared.views.Role.TheVariants.{Rest}
@@ -39,6 +43,18 @@ use Rattle.fkv_table.specs.Openings.{IsGuardedOpening}
 use Rattle.fkv_table.specs.Planes.{plane}
 use Rattle.fkv_table.proofs.Lives.{alive, led_run}
 use Rattle.fkv_table.proofs.KeeperNotes.{ask_there, keeping_on, moves_calls, opened_so, places_so, quiet_calls, quiet_is, shape_so, there}
+
+-- where no slot is asked for, and it is no end, a word is
+asks_word : {A : Type 0} (ask : Ask A) → slot_asked ask ≡ None → ((its : A) → ask ≢ Done its) → (place : ℕ) × (asked_place ask ≡ Some place)
+asks_word (Load i) free busy = (i, refl)
+asks_word (Store i new) free busy = (i, refl)
+asks_word (Swap i new) free busy = (i, refl)
+asks_word (Cas i old new) free busy = (i, refl)
+asks_word (Add i more) free busy = (i, refl)
+asks_word (Max i more) free busy = (i, refl)
+asks_word (Put slot action) free busy = no_some slot (sym free)
+asks_word (Take slot) free busy = no_some slot (sym free)
+asks_word (Done its) free busy = absurd (busy its refl)
 
 pub begins_none : (es : List Happening) → AreSessions es → BeginsNone es
 begins_none [] are = tt
@@ -106,6 +122,15 @@ module _ {K : Type 0} (at : K → World) where
   step_spares key seen seen' shown may_leave calls after =
       let opened : (led (plane at) (at key) seen).past.opened ≡ (led (plane at) (at key) seen').past.opened = opened_so at (at key) seen ∙ sym (opened_so at (at key) seen') in
       subst (λ (z : List ℕ × List device.Call). IsAfter z.0 z.1 shown may_leave) (λ i. (opened i, sym calls i)) after
+
+  -- between two events the keeper stands at no slot
+  pub keeper_word : (key : K) (me : Me Slot (Knows K)) (k : KeeperModel) (ask : Ask KeeperTold) → IsGuardedOpening (at key) → IsKeeping at key me k → ask ≡ keeper_ask k.shape k.places k.state → ((told : KeeperTold) → ask ≢ Done told)
+      → (place : ℕ) × (asked_place ask ≡ Some place)
+  keeper_word key me k ask guard its is busy =
+      let same : slot_asked (keeper_ask k.shape k.places k.state) ≡ None =
+          ap slot_asked (sym (ask_there at key me k guard its [] tt))
+          ∙ (ap (λ (z : World). slot_asked (keeper_ask z.now.shape z.now.places z.now.keeper)) (led_run at (at key) me.0.seen) ∙ life_keeper_rests (at key) guard.start (map event_of me.0.seen) guard.guarded) in
+      asks_word ask (ap slot_asked is ∙ same) busy
 
   -- a keeper that asks for nothing has no call in hand
   pub over_idle : (key : K) (me : Me Slot (Knows K)) (k : KeeperModel) → IsGuardedOpening (at key) → IsKeeping at key me k → is_busy (keeper_ask k.shape k.places k.state) ≡ false → is_in_hand k.state.step ≡ false

@@ -42,7 +42,6 @@ module _ {K : Type 0} (at : K → World) where
     pub same_table : seat ≡ table
     pub keeping : IsKeeping key me k
     pub idle : is_in_hand k.state.step ≡ false
-    pub empty : me.0.hand ≡ None
 
   -- The keeper of a table that was just opened, with its pass. As soon as the guard begins with the table's world they are ready.
   pub record IsFreshKeeper (key : K) (table : TableId) (k : KeeperModel) (seat : TableId) (me : Me Slot (Knows K)) : Type 0 where
