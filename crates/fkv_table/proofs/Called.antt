@@ -1,9 +1,8 @@
 -- A call: its start is on the desk, its steps follow, and so on to its answer.
-use Rattle.std.proofs.Common.{◌≡◌, ◌≢◌, ◌⊎◌, ◌+◌, ℕ, refl, sym, ap, subst, ◌∙◌, inl, inr, append_assoc, Bool, true, false, List, [], ◌∷◌, ◌++◌, length, set, get_or}
+use Rattle.std.proofs.Common.{◌≡◌, ◌≢◌, ◌+◌, ℕ, refl, sym, ap, subst, ◌∙◌, inl, inr, append_assoc, false, List, [], ◌∷◌, ◌++◌, length}
 use Rattle.std.specs.Prelude.{Option, Some, None, slice_get}
-use mathlib.Core.Option.{none}
 use Rattle.atomic_table.specs.Seated.{TableId}
-use Rattle.atomic_table.specs.Table.{Me, Step, step, rest, Allows}
+use Rattle.atomic_table.specs.Table.{Me, Step, rest, Allows}
 use Rattle.fkv_base.specs.Limits.{drain_slots}
 use Rattle.fkv_map.specs.declared.operations.Call.{Call}
 use Rattle.fkv_plane.specs.declared.asks.Ask.{Ask}
@@ -14,27 +13,27 @@ use Rattle.fkv_session.specs.declared.sessions.Sitting.TheVariants.{Idle}
 use Rattle.fkv_session.specs.Sessions.{Seat, SessionState, Sitter, is_busy, session_ask, session_begun}
 use Rattle.fkv_session.specs.SessionRun.{telling}
 use Rattle.fkv_world.specs.Actors.{slot_asked}
-use Rattle.fkv_world.specs.Past.{Answered, Called, Traced, TraceEvent}
+use Rattle.fkv_world.specs.Past.{Answered, Called, TraceEvent}
 use Rattle.fkv_world.specs.Runs.{World}
-use Rattle.fkv_world.specs.World.{Calls as Starts, Now, seat_at, session_called}
+use Rattle.fkv_world.specs.World.{Calls as Starts, Now, session_called}
 use Rattle.law_world.specs.Runs.Added.{begun_by, ended_by, told_at, told_by}
 use Rattle.law_world.proofs.OfRuns.Added.{trace_so}
 use Rattle.fkv_seats.specs.declared.held.Held.TheVariants.{Desk}
 use Rattle.fkv_seats.specs.declared.views.Role.{Role}
 use Rattle.fkv_seats.specs.declared.views.Role.TheVariants.{Sits}
-use Rattle.fkv_seats.specs.Rule.{AreOwn, AreStarts, Carries, Changes, HandFits, Quiet, Ruled, Stepped, base, led, speaks}
+use Rattle.fkv_seats.specs.Rule.{AreOwn, AreStarts, Carries, Changes, HandFits, Quiet, Ruled, Stepped, base, led}
 use Rattle.fkv_seats.proofs.Keeps.{no_some, allows}
 use Rattle.fkv_table.specs.declared.happenings.Happening.{Happening}
 use Rattle.fkv_table.specs.declared.happenings.Happening.TheVariants.{Calls, Moves}
 use Rattle.fkv_table.specs.Calls.{AreOthers, HasCalled, HasStepped, IsReady, IsToldLast, OnlyMoves, WasIdle}
 use Rattle.fkv_table.specs.Desks.{IsAtDesk, Slot, Knows, noted, noting}
-use Rattle.fkv_table.specs.Events.{actor_of, event_of}
-use Rattle.fkv_table.specs.Openings.{IsGuardedOpening, IsTableOf}
+use Rattle.fkv_table.specs.Events.{event_of}
+use Rattle.fkv_table.specs.Openings.{IsGuardedOpening}
 use Rattle.fkv_table.specs.Planes.{plane}
-use Rattle.fkv_table.specs.Positions.{laid, position}
-use Rattle.fkv_table.specs.Sits.{AreCalls, IsIdleEmpty, IsSeated, Went, called_after}
+use Rattle.fkv_table.specs.Positions.{laid}
+use Rattle.fkv_table.specs.Sits.{IsSeated, Went}
 use Rattle.fkv_table.proofs.Laid.{set_found}
-use Rattle.fkv_table.proofs.Lives.{alive, quiet_session, rests_so, same_number, slot_facts, start_words, stands}
+use Rattle.fkv_table.proofs.Lives.{alive, quiet_session, rests_so, same_number, slot_facts, start_words}
 use Rattle.fkv_table.proofs.Settled.{ended_so, idle_is}
 use Rattle.fkv_table.proofs.Steps.{standing, weaken}
 
@@ -140,11 +139,11 @@ module _ {K : Type 0} (at : K → World) where
     pub note_allowed : (slots id i : ℕ) (st : Step Slot) → st.word ≡ i → Allows (Ruled (plane at) key) slots id me i (λ (word : ℕ). word) (noting at st me)
     note_allowed slots id i st word =
         weaken at key slots id me i (λ (word : ℕ). word) (λ k m'. Stepped (plane at) (at key) me.0 me.1 i [] (Calls n call) k m') (noting at st me)
-            (λ k m' t other its about on.
-                let same : key ≡ other = same_some key other (sym sits.about ∙ about) in
-                let start : Calls n call ≡ its = same_head (Calls n call) its (sym note ∙ on) in
-                subst (λ (x : K × ℕ × Happening). Stepped (plane at) (at x.0) me.0 me.1 x.1 [] x.2 k m') (λ j. (same j, sym word j, start j)) t)
-            (allows (plane at) key slots id me.0 me.1 i (λ (word : ℕ). word) [] (Calls n call) (slot_facts at (at key) opens) call_own (no_starts (at key)) sits.hand (unchanged i))
+        (λ k m' t other its about on.
+        let same : key ≡ other = same_some key other (sym sits.about ∙ about) in
+        let start : Calls n call ≡ its = same_head (Calls n call) its (sym note ∙ on) in
+        subst (λ (x : K × ℕ × Happening). Stepped (plane at) (at x.0) me.0 me.1 x.1 [] x.2 k m') (λ j. (same j, sym word j, start j)) t)
+        (allows (plane at) key slots id me.0 me.1 i (λ (word : ℕ). word) [] (Calls n call) (slot_facts at (at key) opens) call_own (no_starts (at key)) sits.hand (unchanged i))
 
     module _ (me' : Me Slot (Knows K)) (i word : ℕ) (t : Stepped (plane at) (at key) me.0 me.1 i [] (Calls n call) word me') where
       abbrev seen' : List Happening
@@ -202,7 +201,7 @@ module _ {K : Type 0} (at : K → World) where
   pub was_idle : (key : K) (me me1 : Me Slot (Knows K)) (m m1 : Sitter) → IsSeated at key me [] m → is_busy m.state.step ≡ false → me1.0 ≡ me.0 → m1.seat ≡ m.seat → WasIdle at key me1.0.seen m1.seat.number
   was_idle key me me1 m m1 sits idle view seat =
       subst (λ (x : Knows K × Seat). WasIdle at key x.0.seen x.1.number) (λ i. (sym view i, sym seat i))
-          (λ s there. ap (λ (z : SessionState). is_busy z.step) (same_some s sits.first (sym there ∙ sits.was) ∙ sym sits.state) ∙ idle)
+      (λ s there. ap (λ (z : SessionState). is_busy z.step) (same_some s sits.first (sym there ∙ sits.was) ∙ sym sits.state) ∙ idle)
 
   pub ready_again : (key : K) (table seat seat' : TableId) (me me1 me' : Me Slot (Knows K)) (m m' : Sitter) (desk : ℕ) (start : Happening) (its : Told) → IsReady at key table seat me m desk → seat' ≡ seat
       → me1 ≡ (me.0, (desk, Desk start) ∷ rest me.1) → base (plane at) me'.0.hand me'.1 ≡ base (plane at) me1.0.hand me1.1 → me'.0.desk ≡ me1.0.desk → IsSeated at key me' [] m' → m'.seat ≡ m.seat → me'.0.hand ≡ None
@@ -211,7 +210,7 @@ module _ {K : Type 0} (at : K → World) where
       let there = at_front desk me ready.at_desk ready.empty in
       let was : me.1 ≡ (desk, ready.at_desk.note) ∷ [] = ap (λ (h : Option ℕ). base (plane at) h me.1) (sym ready.empty) ∙ ready.at_desk.alone in
       let now : base (plane at) me1.0.hand me1.1 ≡ (desk, Desk start) ∷ [] =
-          ap (λ (x : Me Slot (Knows K)). base (plane at) x.0.hand x.1) at_desk ∙ (ap (λ (h : Option ℕ). base (plane at) h ((desk, Desk start) ∷ rest me.1)) ready.empty ∙ ap (λ (cs : List (ℕ × Slot)). (desk, Desk start) ∷ rest cs) was) in
+      ap (λ (x : Me Slot (Knows K)). base (plane at) x.0.hand x.1) at_desk ∙ (ap (λ (h : Option ℕ). base (plane at) h ((desk, Desk start) ∷ rest me.1)) ready.empty ∙ ap (λ (cs : List (ℕ × Slot)). (desk, Desk start) ∷ rest cs) was) in
       record {
         opened = ready.opened;
         same_table = same ∙ ready.same_table;

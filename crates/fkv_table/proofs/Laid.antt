@@ -1,5 +1,5 @@
 -- Each place has a position of its own, and a word that changes does so at its position and nowhere else.
-use Rattle.std.proofs.Common.{◌≡◌, ◌≢◌, ℕ, zero, suc, ◌+◌, ◌<◌, ◌≤◌, ◌∙◌, refl, sym, ap, arith, List, [], ◌∷◌, length, set, get_or, length-set, get_or-set_same, get_or-set_other}
+use Rattle.std.proofs.Common.{◌≡◌, ◌≢◌, ℕ, zero, suc, ◌+◌, ◌<◌, ◌∙◌, refl, sym, ap, arith, List, [], ◌∷◌, length, set, get_or, length-set, get_or-set_same, get_or-set_other}
 use Rattle.std.specs.Prelude.{Option, Some, None}
 use Rattle.std.proofs.lemmas.Bool.Decides.{nat_tests}
 use Rattle.fkv_plane.specs.Asked.{word_at, word_found}
@@ -57,7 +57,7 @@ laid_in words place word at zero d low e = refl
 laid_in words place word at (suc left) zero low e =
     let here : at ≡ position place = omega (arith, e) in
     let head : word_found (set words place word) (place_at at) ≡ word =
-        ap (word_found (set words place word)) (ap place_at here ∙ place_back place) ∙ get_or-set_same words place word 0 low in
+    ap (word_found (set words place word)) (ap place_at here ∙ place_back place) ∙ get_or-set_same words place word 0 low in
     let tail = laid_behind words place word (suc at) left (omega (arith, e)) in
     λ i. head i ∷ tail i
 laid_in words place word at (suc left) (suc d) low e =

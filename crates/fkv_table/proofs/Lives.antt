@@ -1,5 +1,5 @@
 -- What the engine's world has to say of a step of a session.
-use Rattle.std.proofs.Common.{◌≡◌, ◌≢◌, ℕ, ◌<◌, ◌≤◌, refl, sym, ap, subst, ◌∙◌, Bool, true, false, List, [], ◌∷◌, ◌++◌, length, map, set, get_or, length-set, lt_of_lt_of_le, arith}
+use Rattle.std.proofs.Common.{◌≡◌, ◌≢◌, ℕ, ◌<◌, refl, sym, ap, subst, ◌∙◌, true, false, List, [], ◌∷◌, ◌++◌, length, map, set, get_or, length-set, lt_of_lt_of_le, arith}
 use Rattle.std.specs.Prelude.{Option, Some, None, slice_get, ◌==◌}
 use Rattle.std.proofs.lemmas.Bool.Decides.{nat_tests}
 use Rattle.fkv_base.specs.Limits.{drain_slots}
@@ -139,7 +139,7 @@ module _ {K : Type 0} (at : K → World) where
       let now = ap (λ (n : Now). slice_get n.sessions number) (call_starts x number c s (alive w (own ++ es) e) before) ∙ item_written x.now.sessions number s (session_called (seat_at x.now number) s c) before in
       let same : happens x (event_of its) ≡ happens x (event_of (Calls number c)) = ap (λ (h : Happening). happens x (event_of h)) calls.0.1 in
       let last : session_called (seat_at x.now number) s c ≡ called_after k first (its ∷ own) =
-          ap (λ (y : Seat). session_called y s c) (same_chair w (own ++ es) number) ∙ ap (λ (h : Happening). called_after k first (h ∷ own)) (sym calls.0.1) in
+      ap (λ (y : Seat). session_called y s c) (same_chair w (own ++ es) number) ∙ ap (λ (h : Happening). called_after k first (h ∷ own)) (sym calls.0.1) in
       ap (λ (y : World). slice_get y.now.sessions number) same ∙ (now ∙ ap (λ (y : SessionState). Some y) last)
 
   -- what others do is nothing to it
@@ -175,7 +175,7 @@ module _ {K : Type 0} (at : K → World) where
         → asked_place (session_ask (seat_at w.now number) s) ≡ Some place → place < word_count w.now.places
     place_within es number place s there named =
         life_session_within w opens.start (map event_of es) number place s opens.guarded (ap (λ (x : World). slice_get x.now.sessions number) (sym (led_run w es)) ∙ there)
-            (ap (λ (k : Seat). asked_place (session_ask k s)) (ap (λ (x : World). seat_at x.now number) (sym (led_run w es)) ∙ same_chair w es number) ∙ named)
+        (ap (λ (k : Seat). asked_place (session_ask k s)) (ap (λ (x : World). seat_at x.now number) (sym (led_run w es)) ∙ same_chair w es number) ∙ named)
 
     pub is_there : (es : List Happening) (place : ℕ) → place < word_count w.now.places → place < length (led (plane at) w es).now.words
     is_there es place low = subst (λ (count : ℕ). place < count) (sym (words_stay w es going)) (lt_of_lt_of_le low opens.guarded.words.enough_words)
@@ -184,18 +184,18 @@ module _ {K : Type 0} (at : K → World) where
     pub writes : (number : ℕ) (own later seen : List Happening) (first : SessionState) (place : ℕ) → AreCalls number own → Quiet (plane at) (Sits number) later
         → slice_get (led (plane at) w seen).now.sessions number ≡ Some first → asked_place (session_ask (seat_at w.now number) (called_after (seat_at w.now number) first own)) ≡ Some place
         → (led (plane at) w (Moves number ∷ (own ++ (later ++ seen)))).now.words
-          ≡ set (led (plane at) w (later ++ seen)).now.words place (asked (session_ask (seat_at w.now number) (called_after (seat_at w.now number) first own)) (get_or (led (plane at) w (later ++ seen)).now.words place 0))
+        ≡ set (led (plane at) w (later ++ seen)).now.words place (asked (session_ask (seat_at w.now number) (called_after (seat_at w.now number) first own)) (get_or (led (plane at) w (later ++ seen)).now.words place 0))
     unfolding led
     writes number own later seen first place calls q was named =
         let s : SessionState = called_after (seat_at w.now number) first own in let ask : Ask Told = session_ask (seat_at w.now number) s in
         let before : List Happening = own ++ (later ++ seen) in
         let x : World = led (plane at) w before in
         let moved : (happens x (event_of (Moves number))).now.words ≡ words_after x.now.words (session_ask (seat_at x.now number) s) =
-            session_writes x number s (alive w before going) (stands w number own later seen first going calls q was) in
+        session_writes x number s (alive w before going) (stands w number own later seen first going calls q was) in
         let chair : words_after x.now.words (session_ask (seat_at x.now number) s) ≡ words_after x.now.words ask = ap (λ (k : Seat). words_after x.now.words (session_ask k s)) (same_chair w before number) in
         let there : words_after x.now.words ask ≡ set x.now.words place (asked ask (get_or x.now.words place 0)) = changed_there x.now.words ask place named in
         let words_so : set x.now.words place (asked ask (get_or x.now.words place 0)) ≡ set (led (plane at) w (later ++ seen)).now.words place (asked ask (get_or (led (plane at) w (later ++ seen)).now.words place 0)) =
-            ap (λ (ws : List ℕ). set ws place (asked ask (get_or ws place 0))) (start_words w number own (later ++ seen) going calls) in
+        ap (λ (ws : List ℕ). set ws place (asked ask (get_or ws place 0))) (start_words w number own (later ++ seen) going calls) in
         moved ∙ (chair ∙ (there ∙ words_so))
 
     -- so it is at their positions
@@ -203,8 +203,8 @@ module _ {K : Type 0} (at : K → World) where
         → slice_get (led (plane at) w seen).now.sessions number ≡ Some first → asked_place (session_ask (seat_at w.now number) (called_after (seat_at w.now number) first own)) ≡ Some place
         → place < word_count w.now.places
         → laid (led (plane at) w (Moves number ∷ (own ++ (later ++ seen)))).now.words
-          ≡ set (laid (led (plane at) w (later ++ seen)).now.words) (position place)
-              (asked (session_ask (seat_at w.now number) (called_after (seat_at w.now number) first own)) (get_or (laid (led (plane at) w (later ++ seen)).now.words) (position place) 0))
+        ≡ set (laid (led (plane at) w (later ++ seen)).now.words) (position place)
+        (asked (session_ask (seat_at w.now number) (called_after (seat_at w.now number) first own)) (get_or (laid (led (plane at) w (later ++ seen)).now.words) (position place) 0))
     writes_laid number own later seen first place calls q was named low =
         let s : SessionState = called_after (seat_at w.now number) first own in let ask : Ask Told = session_ask (seat_at w.now number) s in
         let words : List ℕ = (led (plane at) w (later ++ seen)).now.words in
@@ -248,7 +248,7 @@ module _ {K : Type 0} (at : K → World) where
         let here : slot_named (run w (map event_of before)).now (event_of e) ≡ Some k = ap (λ (x : World). slot_named x.now (event_of e)) (sym (led_run w before)) ∙ named in
         let whole : led (plane at) w (later ++ e ∷ before) ≡ run w (map event_of later ++ (event_of e ∷ map event_of before)) = led_run w (later ++ e ∷ before) ∙ ap (run w) (mapped_both later (e ∷ before)) in
         life_apart w opens.start (map event_of later) (map event_of before) (event_of e) (event_of its) k opens.guarded (goes_on w (map event_of before) going (no_crash before)) here
-            (of_others e (its ∷ later) (other, none)) (ap (λ (x : World). slot_named x.now (event_of its)) (sym whole) ∙ again)
+        (of_others e (its ∷ later) (other, none)) (ap (λ (x : World). slot_named x.now (event_of its)) (sym whole) ∙ again)
 
     pub slot_facts : SlotFacts (plane at) w
     unfolding led

@@ -1,13 +1,13 @@
 -- Where a session's step leads its machine and the action of its slot.
-use Rattle.std.proofs.Common.{◌≡◌, ℕ, refl, sym, ap, ◌∙◌, true, false, List, ◌∷◌}
+use Rattle.std.proofs.Common.{◌≡◌, ℕ, refl, ap, ◌∙◌, false, List, ◌∷◌}
 use Rattle.std.specs.Prelude.{Option, Some, None, slice_get}
 use Rattle.fkv_plane.specs.declared.actions.Action.{Action}
 use Rattle.fkv_plane.specs.declared.asks.Ask.{Ask}
 use Rattle.fkv_plane.specs.declared.asks.Ask.TheVariants.{Load, Store, Swap, Cas, Add, Max, Put, Take, Done}
-use Rattle.fkv_plane.specs.Asked.{asked_place, reply_to}
+use Rattle.fkv_plane.specs.Asked.{asked_place}
 use Rattle.fkv_plane.specs.Plane.{action_at, found_action}
 use Rattle.fkv_session.specs.declared.answers.Told.{Told}
-use Rattle.fkv_session.specs.Sessions.{Seat, SessionState, session_ask, session_next}
+use Rattle.fkv_session.specs.Sessions.{Seat, SessionState, session_ask}
 use Rattle.fkv_world.specs.Actors.{session_goes}
 use Rattle.fkv_world.specs.Moves.{Near, session_settled, session_replied, session_asks}
 use Rattle.fkv_world.specs.Runs.{World}

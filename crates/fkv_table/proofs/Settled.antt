@@ -1,27 +1,25 @@
 -- How a session and its seat stand behind a step, with the action that goes with it.
-use Rattle.std.proofs.Common.{◌≡◌, ◌≢◌, ℕ, zero, suc, ◌<◌, ◌≤◌, ◌-◌, refl, sym, ap, subst, ◌∙◌, Bool, true, false, List, [], ◌∷◌, ◌++◌, length, map, arith, inl, inr, eq-zero-or-pos}
+use Rattle.std.proofs.Common.{◌≡◌, ℕ, zero, suc, ◌<◌, ◌≤◌, ◌-◌, refl, sym, ap, subst, ◌∙◌, true, false, List, [], ◌∷◌, ◌++◌, length, map, arith, inl, inr, eq-zero-or-pos}
 use Rattle.std.specs.Prelude.{Option, Some, None, slice_get, slice_set}
 use Rattle.atomic_table.specs.Table.{Me, rest}
-use Rattle.fkv_base.specs.Limits.{drain_slots}
-use Rattle.fkv_epoch.specs.Claiming.{takes_action}
 use Rattle.fkv_epoch.proofs.Shown.{item_written, within_item}
 use Rattle.fkv_plane.specs.declared.actions.Action.{Action}
 use Rattle.fkv_plane.specs.declared.asks.Ask.{Ask}
 use Rattle.fkv_plane.specs.declared.asks.Ask.TheVariants.{Load, Store, Swap, Cas, Add, Max, Put, Take, Done}
-use Rattle.fkv_plane.specs.Asked.{asked_place, reply_to}
+use Rattle.fkv_plane.specs.Asked.{asked_place}
 use Rattle.fkv_plane.specs.Passing.{is_done}
 use Rattle.fkv_plane.specs.Plane.{action_at}
 use Rattle.fkv_session.specs.AsksLeft.{session_asks_left}
 use Rattle.fkv_session.specs.declared.answers.Told.{Told}
 use Rattle.fkv_session.specs.declared.sessions.Sitting.{Sitting}
 use Rattle.fkv_session.specs.declared.sessions.Sitting.TheVariants.{Idle}
-use Rattle.fkv_session.specs.Sessions.{Seat, SessionState, Sitter, is_busy, session_ask, session_next, sitting_ask}
+use Rattle.fkv_session.specs.Sessions.{Seat, SessionState, Sitter, is_busy, session_ask, sitting_ask}
 use Rattle.fkv_session.specs.SessionRun.{telling}
 use Rattle.fkv_session.proofs.Shown.{session_left}
 use Rattle.fkv_world.specs.Actors.{slot_asked, slot_named}
 use Rattle.fkv_world.specs.Moves.{Near, session_gets, session_settled}
 use Rattle.fkv_world.specs.Past.{Answered, TraceEvent}
-use Rattle.fkv_world.specs.Runs.{World, happens, run}
+use Rattle.fkv_world.specs.Runs.{World, run}
 use Rattle.fkv_world.specs.World.{Moves as Steps, Now, seat_at, with_session}
 use Rattle.law_world.specs.Runs.Added.{told_at, told_by, ended_by, begun_by}
 use Rattle.law_world.specs.Runs.Ends.{StandsAtNoSlot, asks_left_of, left_at}
@@ -30,10 +28,9 @@ use Rattle.law_world.proofs.OfRuns.Ends.{session_down}
 use Rattle.law_world.proofs.OfRuns.InHand.Lives.{session_in_hand}
 use Rattle.law_world.proofs.OfRuns.Nothing.{none_ever}
 use Rattle.law_guard.proofs.OfGuarded.Ends.{life_ended, life_stands}
-use Rattle.fkv_seats.specs.declared.held.Held.{Held}
-use Rattle.fkv_seats.specs.declared.held.Held.TheVariants.{Drain, Desk}
+use Rattle.fkv_seats.specs.declared.held.Held.TheVariants.{Drain}
 use Rattle.fkv_seats.specs.declared.views.Role.TheVariants.{Sits}
-use Rattle.fkv_seats.specs.Rule.{Carries, HandFits, Quiet, action_in, base, flat, led}
+use Rattle.fkv_seats.specs.Rule.{Carries, HandFits, action_in, base, flat, led}
 use Rattle.fkv_seats.proofs.Keeps.{no_some}
 use Rattle.fkv_table.specs.declared.happenings.Happening.{Happening}
 use Rattle.fkv_table.specs.declared.happenings.Happening.TheVariants.{Moves}
@@ -210,12 +207,12 @@ module _ {K : Type 0} (at : K → World) where
     hand_so now me' m' (Put slot action) seen is acts deep t =
         let e : me'.1 ≡ (slot, Drain (Some action)) ∷ rest me1.1 = ap (λ (z : Me Slot (Knows K)). z.1) t.0 in
         let its : action_in (led (plane at) (at key) seen).now.actions slot ≡ Some action =
-            ap (λ (z : World). action_in z.now.actions slot) is ∙ (ap (λ (actions : List (Option Action)). action_in actions slot) acts ∙ ap flat (within_item x.now.actions slot (Some action) (deep slot refl))) in
+        ap (λ (z : World). action_in z.now.actions slot) is ∙ (ap (λ (actions : List (Option Action)). action_in actions slot) acts ∙ ap flat (within_item x.now.actions slot (Some action) (deep slot refl))) in
         e ∙ λ i. (slot, Drain (sym its i)) ∷ rest (sym e i)
     hand_so now me' m' (Take slot) seen is acts deep t =
         let e : me'.1 ≡ (slot, Drain None) ∷ rest me1.1 = ap (λ (z : Me Slot (Knows K)). z.1) t.2 in
         let its : action_in (led (plane at) (at key) seen).now.actions slot ≡ None =
-            ap (λ (z : World). action_in z.now.actions slot) is ∙ (ap (λ (actions : List (Option Action)). action_in actions slot) acts ∙ none_there x.now.actions slot) in
+        ap (λ (z : World). action_in z.now.actions slot) is ∙ (ap (λ (actions : List (Option Action)). action_in actions slot) acts ∙ none_there x.now.actions slot) in
         e ∙ λ i. (slot, Drain (sym its i)) ∷ rest (sym e i)
     hand_so now me' m' ask seen is acts deep t = tt
 
@@ -300,7 +297,7 @@ module _ {K : Type 0} (at : K → World) where
           by None e = hand' ∙ e
           by (Some slot) e =
               let busy : is_busy m'.state.step ≡ true = session_in_hand x n slot m.state m'.state going stood (ap (λ (k : Seat). slot_asked (session_ask k m.state)) chair ∙ (ap (λ (k : Seat). slot_asked (session_ask k m.state)) sits.chair ∙ rests_so at (at key) opens behind n m.state stood))
-                  (turned_to ask is slot e) now_there in
+              (turned_to ask is slot e) now_there in
               let clash : true ≡ false = sym busy ∙ idle_now its done in cc
 
       pub told_on : (its : Told) → session_ask m'.seat m'.state ≡ Done its → IsToldLast (led (plane at) (at key) me'.0.seen) m'.seat.number (telling its m'.state.finished)
@@ -320,7 +317,7 @@ module _ {K : Type 0} (at : K → World) where
           let down : asks_left_of y.now n ≤ asks_left_of x.now n - 1 = session_down x n going stands in
           let before : asks_left_of x.now n ≡ session_asks_left m.seat m.state = ap (left_at x.now n) stood ∙ ap (λ (k : Seat). session_asks_left k m.state) chair in
           let after : asks_left_of y.now n ≡ session_asks_left m'.seat m'.state =
-              ap (left_at y.now n) now_there ∙ ap (λ (k : Seat). session_asks_left k m'.state) (chair_at at key me own m opens sits (Moves n ∷ behind) ∙ sym seat_on) in
+          ap (left_at y.now n) now_there ∙ ap (λ (k : Seat). session_asks_left k m'.state) (chair_at at key me own m opens sits (Moves n ∷ behind) ∙ sym seat_on) in
           let some : 0 < session_asks_left m.seat m.state = (session_left m.seat m.state).0 (not_done (session_ask m.seat m.state) place named) in
           omega (arith, down, before, after, some)
 

@@ -1,14 +1,13 @@
 -- A session's step keeps the rule of the table, and what it tells.
-use Rattle.std.proofs.Common.{◌≡◌, ◌≢◌, ℕ, ◌<◌, ◌≤◌, ◌+◌, refl, sym, ap, subst, ◌∙◌, Bool, true, false, List, [], ◌∷◌, ◌++◌, length, set, get_or, arith}
-use Rattle.std.specs.Prelude.{Option, Some, None, slice_get, slice_index_or, slice_set, ◌^◌}
+use Rattle.std.proofs.Common.{◌≡◌, ℕ, ◌<◌, refl, sym, ap, subst, ◌∙◌, List, [], ◌∷◌, ◌++◌, length, set, get_or, arith}
+use Rattle.std.specs.Prelude.{Option, Some, slice_get, slice_index_or, ◌^◌}
 use Rattle.atomic_table.specs.Seated.{TableId}
-use Rattle.atomic_table.specs.Table.{Me, Step, step, rest, Allows}
+use Rattle.atomic_table.specs.Table.{Me, Step, Allows}
 use Rattle.fkv_plane.specs.declared.asks.Ask.{Ask}
 use Rattle.fkv_plane.specs.declared.asks.Ask.TheVariants.{Load, Store, Swap, Cas, Add, Max, Put, Take, Done}
 use Rattle.fkv_plane.specs.declared.places.Places.{Places}
 use Rattle.fkv_plane.specs.Asked.{asked, asked_place, reply_to, word_found}
 use Rattle.fkv_plane.specs.Places.{word_count}
-use Rattle.fkv_base.specs.Limits.{max_sessions, max_buckets, max_overflow, max_ring}
 use Rattle.fkv_session.specs.declared.answers.Told.{Told}
 use Rattle.fkv_session.specs.Sessions.{Seat, SessionState, Sitter, session_ask, session_next}
 use Rattle.fkv_world.specs.Actors.{slot_asked, slot_of_step, slot_named, session_slot_named}
@@ -25,7 +24,7 @@ use Rattle.fkv_table.specs.Desks.{Slot, Knows, turned}
 use Rattle.fkv_table.specs.Events.{event_of}
 use Rattle.fkv_table.specs.Openings.{IsGuardedOpening, IsTableOf}
 use Rattle.fkv_table.specs.Planes.{plane}
-use Rattle.fkv_table.specs.Positions.{gaps, laid, position}
+use Rattle.fkv_table.specs.Positions.{laid, position}
 use Rattle.fkv_table.specs.Sits.{IsSeated, Replied, called_after}
 use Rattle.fkv_table.proofs.Laid.{below, laid_found}
 use Rattle.fkv_table.proofs.Lives.{are_starts, is_there, own_step, place_within, same_chair, slot_facts, stands, start_words, writes_laid}
@@ -100,7 +99,7 @@ module _ {K : Type 0} (at : K → World) where
 
     pub names_so : (later : List Happening) → Quiet (plane at) me.0.role later → (place : ℕ) → asked_place (session_ask m.seat m.state) ≡ Some place
         → slot_named (led (plane at) w (own ++ (later ++ me.0.seen))).now (event_of (Moves n))
-          ≡ slot_asked (session_ask m.seat (session_next m.seat m.state (reply_to (led (plane at) w (own ++ (later ++ me.0.seen))).now.words (session_ask m.seat m.state))))
+        ≡ slot_asked (session_ask m.seat (session_next m.seat m.state (reply_to (led (plane at) w (own ++ (later ++ me.0.seen))).now.words (session_ask m.seat m.state))))
     names_so later q place e =
         let x : World = led (plane at) w (own ++ (later ++ me.0.seen)) in
         ap (session_slot_named x.now (seat_at x.now n)) (standing later q)
@@ -114,14 +113,14 @@ module _ {K : Type 0} (at : K → World) where
       let word_is = step_word slots ask place e in
       let number_is : m.seat.number ≡ number_of me.0.role = ap number_of (sym sits.role) in
       let done = allows (plane at) key slots id me.0 me.1 (position place) (asked (session_ask m.seat m.state)) (own me.1) (Moves m.seat.number) (slot_facts at (at key) opens) (mine key me (own me.1) m opens sits)
-          (are_starts at (at key) m.seat.number (own me.1) opens.opened.goes_on sits.calls) sits.hand (changes key me (own me.1) m opens sits place named) in
+      (are_starts at (at key) m.seat.number (own me.1) opens.opened.goes_on sits.calls) sits.hand (changes key me (own me.1) m opens sits place named) in
       let same_ask : Allows (Ruled (plane at) key) slots id me (position place) (asked ask) (λ n m'. Stepped (plane at) (at key) me.0 me.1 (position place) (own me.1) (Moves m.seat.number) n m') =
-          subst (λ (a : Ask Told). Allows (Ruled (plane at) key) slots id me (position place) (asked a) (λ n m'. Stepped (plane at) (at key) me.0 me.1 (position place) (own me.1) (Moves m.seat.number) n m')) (sym is) done in
+      subst (λ (a : Ask Told). Allows (Ruled (plane at) key) slots id me (position place) (asked a) (λ n m'. Stepped (plane at) (at key) me.0 me.1 (position place) (own me.1) (Moves m.seat.number) n m')) (sym is) done in
       weaken key slots id me (position place) (asked ask) (λ n m'. Stepped (plane at) (at key) me.0 me.1 (position place) (own me.1) (Moves m.seat.number) n m') (turned at own (step_of slots ask) me)
-          (λ n m' t other about.
-              let same : key ≡ other = same_some key other (sym sits.about ∙ about) in
-              subst (λ (x : K × ℕ × ℕ). Stepped (plane at) (at x.0) me.0 me.1 x.1 (own me.1) (Moves x.2) n m') (λ i. (same i, sym word_is i, number_is i)) t)
-          same_ask
+      (λ n m' t other about.
+      let same : key ≡ other = same_some key other (sym sits.about ∙ about) in
+      subst (λ (x : K × ℕ × ℕ). Stepped (plane at) (at x.0) me.0 me.1 x.1 (own me.1) (Moves x.2) n m') (λ i. (same i, sym word_is i, number_is i)) t)
+      same_ask
 
   pub within : (key : K) (id : TableId) (me : Me Slot (Knows K)) (own : List Happening) (m : Sitter) (ask : Ask Told) → IsTableOf (at key) id → IsSeated at key me own m → ask ≡ session_ask m.seat m.state
       → (place : ℕ) × (asked_place ask ≡ Some place) → (place : ℕ) × (asked_place ask ≡ Some place) × (position place < id.words) × (place < 2 ^ 62)
@@ -142,9 +141,9 @@ module _ {K : Type 0} (at : K → World) where
       let number_is : number_of me.0.role ≡ m.seat.number = ap number_of sits.role in
       let there = is_there at (at key) opens (t.others ++ me.0.seen) place (low key me (own me.1) m opens sits place named) in
       let reply_is : reply ≡ reply_to x.now.words (session_ask m.seat m.state) =
-          t.found ∙ (ap (λ (i : ℕ). slice_index_or (laid y.now.words) i 0) (step_word slots ask place e)
-          ∙ (laid_found y.now.words place there
-          ∙ (ap (λ (ws : List ℕ). slice_index_or ws place 0) (sym (start_words at (at key) m.seat.number (own me.1) (t.others ++ me.0.seen) opens.opened.goes_on sits.calls)) ∙ ap (word_found x.now.words) (sym named)))) in
+      t.found ∙ (ap (λ (i : ℕ). slice_index_or (laid y.now.words) i 0) (step_word slots ask place e)
+      ∙ (laid_found y.now.words place there
+      ∙ (ap (λ (ws : List ℕ). slice_index_or ws place 0) (sym (start_words at (at key) m.seat.number (own me.1) (t.others ++ me.0.seen) opens.opened.goes_on sits.calls)) ∙ ap (word_found x.now.words) (sym named)))) in
       let seat_is : m'.seat ≡ m.seat = ap (λ (z : Sitter). z.seat) went in
       let state_so : m'.state ≡ session_next m.seat m.state (reply_to x.now.words (session_ask m.seat m.state)) = ap (λ (z : Sitter). z.state) went ∙ ap (session_next m.seat m.state) reply_is in
       record {

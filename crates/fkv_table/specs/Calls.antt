@@ -13,7 +13,7 @@ use Rattle.fkv_session.specs.Sessions.{SessionState, Sitter, is_busy}
 use Rattle.fkv_world.specs.Past.{Traced, Answered}
 use Rattle.fkv_world.specs.Runs.{World}
 use Rattle.fkv_seats.specs.declared.views.Role.TheVariants.{Sits}
-use Rattle.fkv_seats.specs.Rule.{Quiet, led, speaks}
+use Rattle.fkv_seats.specs.Rule.{led, speaks}
 use Rattle.fkv_table.specs.declared.happenings.Happening.{Happening}
 use Rattle.fkv_table.specs.declared.happenings.Happening.TheVariants.{Calls, Moves}
 use Rattle.fkv_table.specs.Desks.{Slot, Knows, IsAtDesk}

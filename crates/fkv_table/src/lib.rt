@@ -2,6 +2,7 @@
 #![tactic(auto)]
 
 mod closing;
+mod crossing;
 mod desks;
 mod happenings;
 mod joining;
@@ -13,6 +14,7 @@ mod positions;
 mod rule;
 mod sessions;
 
+pub use crossing::crosses;
 pub use happenings::Happening;
 pub use joining::join;
 pub use keepers::{Keeper, KeeperPass};

@@ -12,4 +12,4 @@ perform-reply-requires-clause-allows g c = allowed (opening_of g.D.Device.seen) 
 pub returns-clause-next : goal.returns-clause-next
 returns-clause-next g c =
     replies (opening_of g.D.Device.seen) c.args.words.now.key _ c.args.seat.now.me c.perform-reply.new.seat.me g.O.Adds.own c.args.machine.now c.go_on.new.self c.args.ask.now c.perform-reply.result c.requires.table.1.opening c.requires.seated
-        c.requires.ask c.requires.word c.perform-reply.ensures.told c.go_on.ensures.next
+    c.requires.ask c.requires.word c.perform-reply.ensures.told c.go_on.ensures.next

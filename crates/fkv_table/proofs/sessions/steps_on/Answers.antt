@@ -1,5 +1,5 @@
 -- Each step is one more, and the last is the call's end.
-use Rattle.std.proofs.Common.{◌≡◌, ℕ, [], sym, ap, subst, ◌∙◌}
+use Rattle.std.proofs.Common.{[], ap, subst, ◌∙◌}
 use Rattle.fkv_session.specs.Sessions.{Seat}
 use Rattle.fkv_seats.specs.declared.views.Role.TheVariants.{Sits}
 use Rattle.fkv_table.specs.Planes.{opening_of}
