@@ -110,10 +110,10 @@ module _ {K : Type 0} (at : K → World) where
       let x : World = led (plane at) (at key) (noted.others ++ me.0.seen) in
       let opened : (led (plane at) (at key) me.0.seen).past.opened ≡ (led (plane at) (at key) me'.0.seen).past.opened = opened_so at (at key) me.0.seen ∙ sym (opened_so at (at key) me'.0.seen) in
       let made : (happens x (event_of Turns)).past.calls ≡ x.past.calls =
-          ap (λ (y : World). y.past.calls) (lived x (event_of Turns) (alive at (at key) (noted.others ++ me.0.seen) guard.opened.goes_on)) ∙ added_calls x (life_goes x.now (read_by_keeper x) (event_of Turns)) (event_of Turns) in
+      ap (λ (y : World). y.past.calls) (lived x (event_of Turns) (alive at (at key) (noted.others ++ me.0.seen) guard.opened.goes_on)) ∙ added_calls x (life_goes x.now (read_by_keeper x) (event_of Turns)) (event_of Turns) in
       let calls : (led (plane at) (at key) me'.0.seen).past.calls ≡ (led (plane at) (at key) me.0.seen).past.calls =
-          ap (λ (es : List Happening). (led (plane at) (at key) es).past.calls) noted.seen
-          ∙ (made ∙ quiet_calls at (at key) its.from noted.others me.0.seen (quiet_is at key me k guard its noted.others noted.quiet)) in
+      ap (λ (es : List Happening). (led (plane at) (at key) es).past.calls) noted.seen
+      ∙ (made ∙ quiet_calls at (at key) its.from noted.others me.0.seen (quiet_is at key me k guard its noted.others noted.quiet)) in
       subst (λ (z : List ℕ × List device.Call). IsAfter z.0 z.1 shown may_leave) (λ i. (opened i, sym calls i)) after
 
   -- a step of a word makes none either
@@ -128,8 +128,8 @@ module _ {K : Type 0} (at : K → World) where
       → (place : ℕ) × (asked_place ask ≡ Some place)
   keeper_word key me k ask guard its is busy =
       let same : slot_asked (keeper_ask k.shape k.places k.state) ≡ None =
-          ap slot_asked (sym (ask_there at key me k guard its [] tt))
-          ∙ (ap (λ (z : World). slot_asked (keeper_ask z.now.shape z.now.places z.now.keeper)) (led_run at (at key) me.0.seen) ∙ life_keeper_rests (at key) guard.start (map event_of me.0.seen) guard.guarded) in
+      ap slot_asked (sym (ask_there at key me k guard its [] tt))
+      ∙ (ap (λ (z : World). slot_asked (keeper_ask z.now.shape z.now.places z.now.keeper)) (led_run at (at key) me.0.seen) ∙ life_keeper_rests (at key) guard.start (map event_of me.0.seen) guard.guarded) in
       asks_word ask (ap slot_asked is ∙ same) busy
 
   -- a keeper that asks for nothing has no call in hand
@@ -137,10 +137,10 @@ module _ {K : Type 0} (at : K → World) where
   over_idle key me k guard its over =
       let w : World = run (at key) (map event_of me.0.seen) in
       let none_left : keeper_asks_left k.shape k.places k.state ≡ 0 =
-          elim (eq-zero-or-pos (keeper_asks_left k.shape k.places k.state)) [
-            | inl e ↦ e
-            | inr some ↦ (let busy : is_busy (keeper_ask k.shape k.places k.state) ≡ true = (keeper_left k.shape k.places k.state).1 some in let clash : true ≡ false = sym busy ∙ over in cc)
-          ] in
+      elim (eq-zero-or-pos (keeper_asks_left k.shape k.places k.state)) [
+        | inl e ↦ e
+        | inr some ↦ (let busy : is_busy (keeper_ask k.shape k.places k.state) ≡ true = (keeper_left k.shape k.places k.state).1 some in let clash : true ≡ false = sym busy ∙ over in cc)
+      ] in
       let same : w.now.keeper ≡ k.state = ap (λ (z : World). z.now.keeper) (sym (led_run at (at key) me.0.seen)) ∙ sym its.state in
       let shape : w.now.shape ≡ k.shape = ap (λ (z : World). z.now.shape) (sym (led_run at (at key) me.0.seen)) ∙ (shape_so at (at key) me.0.seen ∙ sym its.shape) in
       let places : w.now.places ≡ k.places = ap (λ (z : World). z.now.places) (sym (led_run at (at key) me.0.seen)) ∙ (places_so at (at key) me.0.seen ∙ sym its.places) in
@@ -171,7 +171,7 @@ module _ {K : Type 0} (at : K → World) where
     all =
         let w : World = run (at key) (map event_of me.0.seen) in
         let asks_w : keeper_ask w.now.shape w.now.places w.now.keeper ≡ Done Device =
-            ap (λ (z : World). keeper_ask z.now.shape z.now.places z.now.keeper) (sym (led_run at (at key) me.0.seen)) ∙ (ask_there at key me k guard its [] tt ∙ asks) in
+        ap (λ (z : World). keeper_ask z.now.shape z.now.places z.now.keeper) (sym (led_run at (at key) me.0.seen)) ∙ (ask_there at key me k guard its [] tt ∙ asks) in
         subst (λ (z : World). AllDone z.past.calls) (sym (led_run at (at key) me.0.seen)) (asks_while_done (at key) (map event_of me.0.seen) guard.opened asks_w)
 
     read_is : keeper_read k shown ≡ read_by_keeper x
@@ -183,9 +183,9 @@ module _ {K : Type 0} (at : K → World) where
     unfolding led
     called_on k' goes =
         let now : (happens x (event_of (KeeperMoves true done))).now.keeper ≡ keeper_called x.now.shape x.now.places x.now.keeper done (read_by_keeper x) =
-            ap (λ (n : Now). n.keeper) (device_called x true done (alive at (at key) behind guard.opened.goes_on) asks_x) in
+        ap (λ (n : Now). n.keeper) (device_called x true done (alive at (at key) behind guard.opened.goes_on) asks_x) in
         let same : keeper_called x.now.shape x.now.places x.now.keeper done (read_by_keeper x) ≡ keeper_called k.shape k.places k.state done (keeper_read k shown) =
-            λ i. keeper_called ((shape_so at (at key) behind ∙ sym its.shape) i) ((places_so at (at key) behind ∙ sym its.places) i) (there at key me k guard its noted.others noted.quiet i) done (sym read_is i) in
+        λ i. keeper_called ((shape_so at (at key) behind ∙ sym its.shape) i) ((places_so at (at key) behind ∙ sym its.places) i) (there at key me k guard its noted.others noted.quiet i) done (sym read_is i) in
         keeping_on at key me k guard its (KeeperMoves true done) me' k' noted (ap (λ (m : KeeperModel). m.shape) goes) (ap (λ (m : KeeperModel). m.places) goes) (ap (λ (m : KeeperModel). m.state) goes ∙ sym (now ∙ same))
 
     made_is : (led (plane at) (at key) me'.0.seen).past.calls ≡ keeper_calls k.shape k.state done ++ p.calls

@@ -192,12 +192,12 @@ module _ {K : Type 0} (at : K → World) where
     hand_so me' k' (Put slot action) seen now is acts deep t =
         let e : me'.1 ≡ (slot, Drain (Some action)) ∷ rest me1.1 = ap (λ (z : Me Slot (Knows K)). z.1) t.0 in
         let there : action_in (led (plane at) (at key) seen).now.actions slot ≡ Some action =
-            ap (λ (z : World). action_in z.now.actions slot) is ∙ (ap (λ (actions : List (Option Action)). action_in actions slot) acts ∙ ap flat (within_item x.now.actions slot (Some action) (deep slot refl))) in
+        ap (λ (z : World). action_in z.now.actions slot) is ∙ (ap (λ (actions : List (Option Action)). action_in actions slot) acts ∙ ap flat (within_item x.now.actions slot (Some action) (deep slot refl))) in
         e ∙ λ i. (slot, Drain (sym there i)) ∷ rest (sym e i)
     hand_so me' k' (Take slot) seen now is acts deep t =
         let e : me'.1 ≡ (slot, Drain None) ∷ rest me1.1 = ap (λ (z : Me Slot (Knows K)). z.1) t.2 in
         let there : action_in (led (plane at) (at key) seen).now.actions slot ≡ None =
-            ap (λ (z : World). action_in z.now.actions slot) is ∙ (ap (λ (actions : List (Option Action)). action_in actions slot) acts ∙ none_there x.now.actions slot) in
+        ap (λ (z : World). action_in z.now.actions slot) is ∙ (ap (λ (actions : List (Option Action)). action_in actions slot) acts ∙ none_there x.now.actions slot) in
         e ∙ λ i. (slot, Drain (sym there i)) ∷ rest (sym e i)
     hand_so me' k' ask seen now is acts deep t = tt
 
@@ -269,11 +269,11 @@ module _ {K : Type 0} (at : K → World) where
           let before : asks_left_of_keeper x.now ≡ keeper_asks_left k.shape k.places k.state = λ i. keeper_asks_left (shape_is i) (places_is i) (stood i) in
           let some : 0 < keeper_asks_left k.shape k.places k.state = (keeper_left k.shape k.places k.state).0 (word_busy (keeper_ask k.shape k.places k.state) place named) in
           let down : asks_left_of_keeper y.now < asks_left_of_keeper x.now =
-              keeper_down x granted true (alive at (at key) behind guard.opened.goes_on) (subst (λ (n : ℕ). 0 < n) (sym before) some) stands in
+          keeper_down x granted true (alive at (at key) behind guard.opened.goes_on) (subst (λ (n : ℕ). 0 < n) (sym before) some) stands in
           let last : led (plane at) (at key) me'.0.seen ≡ y = ap (led (plane at) (at key)) seen_is in
           let after : keeper_asks_left k'.shape k'.places k'.state ≡ asks_left_of_keeper y.now =
-              (λ i. keeper_asks_left ((kept_on.shape ∙ sym (shape_so at (at key) (KeeperMoves granted true ∷ behind))) i) ((kept_on.places ∙ sym (places_so at (at key) (KeeperMoves granted true ∷ behind))) i)
-              ((kept_on.state ∙ ap (λ (z : World). z.now.keeper) last) i)) in
+          (λ i. keeper_asks_left ((kept_on.shape ∙ sym (shape_so at (at key) (KeeperMoves granted true ∷ behind))) i) ((kept_on.places ∙ sym (places_so at (at key) (KeeperMoves granted true ∷ behind))) i)
+          ((kept_on.state ∙ ap (λ (z : World). z.now.keeper) last) i)) in
           omega (arith, down, before, after)
 
   -- one step of the keeper, whole

@@ -46,7 +46,7 @@ module _ {K : Type 0} (at : K → World) where
     pub low : (place : ℕ) → asked_place ask ≡ Some place → place < word_count w.now.places
     low place e =
         life_keeper_within w guard.start (map event_of me.0.seen) place guard.guarded guard.seeks
-            (ap (λ (x : World). asked_place (keeper_ask x.now.shape x.now.places x.now.keeper)) (sym (led_run at w me.0.seen)) ∙ (ap asked_place (ask_there at key me k guard its [] tt) ∙ e))
+        (ap (λ (x : World). asked_place (keeper_ask x.now.shape x.now.places x.now.keeper)) (sym (led_run at w me.0.seen)) ∙ (ap asked_place (ask_there at key me k guard its [] tt) ∙ e))
 
     -- its step changes the word of its ask, as the ask does
     changes : (granted : Bool) (place : ℕ) → asked_place ask ≡ Some place → Changes (plane at) key me.0 [] (KeeperMoves granted true) (position place) (asked ask)
@@ -56,12 +56,12 @@ module _ {K : Type 0} (at : K → World) where
         let words : List ℕ = x.now.words in
         let inside : place < length words = is_there at w guard (others ++ me.0.seen) place (low place e) in
         let moved : (happens x (event_of (KeeperMoves granted true))).now.words ≡ set words place (asked ask (get_or words place 0)) =
-            keeper_writes x granted true (alive at w (others ++ me.0.seen) guard.opened.goes_on) ∙ (ap (words_after words) (ask_there at key me k guard its others q) ∙ changed_there words ask place e) in
+        keeper_writes x granted true (alive at w (others ++ me.0.seen) guard.opened.goes_on) ∙ (ap (words_after words) (ask_there at key me k guard its others q) ∙ changed_there words ask place e) in
         ap laid moved ∙ (laid_set words place (asked ask (get_or words place 0)) inside ∙ ap (λ (n : ℕ). set (laid words) (position place) (asked ask n)) (sym (laid_found words place inside)))
 
     pub names_so : (granted : Bool) (others : List Happening) → Quiet (plane at) me.0.role others → (place : ℕ) → asked_place ask ≡ Some place
         → slot_named (led (plane at) w (others ++ me.0.seen)).now (event_of (KeeperMoves granted true))
-          ≡ slot_asked (keeper_ask k.shape k.places (keeper_next k.shape k.places k.state (reply_to (led (plane at) w (others ++ me.0.seen)).now.words ask) granted))
+        ≡ slot_asked (keeper_ask k.shape k.places (keeper_next k.shape k.places k.state (reply_to (led (plane at) w (others ++ me.0.seen)).now.words ask) granted))
     names_so granted others q place e =
         let x : World = led (plane at) w (others ++ me.0.seen) in
         let shape : x.now.shape ≡ k.shape = shape_so at w (others ++ me.0.seen) ∙ sym its.shape in
@@ -75,12 +75,12 @@ module _ {K : Type 0} (at : K → World) where
       let named : asked_place (keeper_ask k.shape k.places k.state) ≡ Some place = ap asked_place (sym same) ∙ e in
       let word_is = step_word slots asks place e in
       let done = allows (plane at) key slots id me.0 me.1 (position place) (asked (keeper_ask k.shape k.places k.state)) [] (KeeperMoves granted true) (slot_facts at (at key) guard) (own at key me k guard its (KeeperMoves granted true) refl, tt)
-          (record { words = λ es. refl; actions = λ es. refl }) its.hand (changes key me k guard its granted place named) in
+      (record { words = λ es. refl; actions = λ es. refl }) its.hand (changes key me k guard its granted place named) in
       let same_ask : Allows (Ruled (plane at) key) slots id me (position place) (asked asks) (λ n m'. Stepped (plane at) (at key) me.0 me.1 (position place) [] (KeeperMoves granted true) n m') =
-          subst (λ (a : Ask KeeperTold). Allows (Ruled (plane at) key) slots id me (position place) (asked a) (λ n m'. Stepped (plane at) (at key) me.0 me.1 (position place) [] (KeeperMoves granted true) n m')) (sym same) done in
+      subst (λ (a : Ask KeeperTold). Allows (Ruled (plane at) key) slots id me (position place) (asked a) (λ n m'. Stepped (plane at) (at key) me.0 me.1 (position place) [] (KeeperMoves granted true) n m')) (sym same) done in
       weaken at key slots id me (position place) (asked asks) (λ n m'. Stepped (plane at) (at key) me.0 me.1 (position place) [] (KeeperMoves granted true) n m') (adding at event (step_of slots asks) me)
-          (λ n m' t other about. subst (λ (x : K × ℕ × Happening). Stepped (plane at) (at x.0) me.0 me.1 x.1 [] x.2 n m') (λ i. (same_some key other (sym its.about ∙ about) i, sym word_is i, sym is i)) t)
-          same_ask
+      (λ n m' t other about. subst (λ (x : K × ℕ × Happening). Stepped (plane at) (at x.0) me.0 me.1 x.1 [] x.2 n m') (λ i. (same_some key other (sym its.about ∙ about) i, sym word_is i, sym is i)) t)
+      same_ask
 
   pub keeper_within : (key : K) (id : TableId) (me : Me Slot (Knows K)) (k : KeeperModel) (asks : Ask KeeperTold) → IsTableOf (at key) id → IsKeeping at key me k → asks ≡ keeper_ask k.shape k.places k.state
       → (place : ℕ) × (asked_place asks ≡ Some place) → (place : ℕ) × (asked_place asks ≡ Some place) × (position place < id.words) × (place < 2 ^ 62)
@@ -99,9 +99,9 @@ module _ {K : Type 0} (at : K → World) where
       let x : World = led (plane at) (at key) (t.others ++ me.0.seen) in
       let inside = is_there at (at key) guard (t.others ++ me.0.seen) place (low key me k guard its place named) in
       let reply_is : reply ≡ reply_to x.now.words (keeper_ask k.shape k.places k.state) =
-          t.found ∙ (ap (λ (i : ℕ). slice_index_or (laid x.now.words) i 0) (step_word slots asks place e) ∙ (laid_found x.now.words place inside ∙ ap (word_found x.now.words) (sym named))) in
+      t.found ∙ (ap (λ (i : ℕ). slice_index_or (laid x.now.words) i 0) (step_word slots asks place e) ∙ (laid_found x.now.words place inside ∙ ap (word_found x.now.words) (sym named))) in
       let state_so : k'.state ≡ keeper_next k.shape k.places k.state (reply_to x.now.words (keeper_ask k.shape k.places k.state)) granted =
-          ap (λ (z : KeeperModel). z.state) went ∙ ap (λ (n : ℕ). keeper_next k.shape k.places k.state n granted) reply_is in
+      ap (λ (z : KeeperModel). z.state) went ∙ ap (λ (n : ℕ). keeper_next k.shape k.places k.state n granted) reply_is in
       record {
         store = (ap (λ (z : KeeperModel). z.shape) went, ap (λ (z : KeeperModel). z.places) went);
         others = t.others;

@@ -100,21 +100,21 @@ module _ {K : Type 0} (at : K → World) (key : K) (table seat seat' : TableId) 
     pub first_stays : (seat_one : TableId) → seat_one ≡ seat → StaysReady at key table seat seat_one first one
     first_stays seat_one same = λ m desk r.
         ready_on at key table seat first m desk r seat_one one r.at_desk.note same
-            (ap (λ (x : Me Slot (Knows K)). x.0.about) one_is ∙ r.seated.about)
-            (ap (λ (x : Me Slot (Knows K)). x.0.role) one_is ∙ own_role)
-            (ap (λ (x : Me Slot (Knows K)). x.0.hand) one_is)
-            (ap (λ (x : Me Slot (Knows K)). x.0.desk) one_is ∙ r.at_desk.sits)
-            (ap (λ (x : Me Slot (Knows K)). x.1) one_is ∙ held at key table seat first m desk r)
-            have_met.first_on
+        (ap (λ (x : Me Slot (Knows K)). x.0.about) one_is ∙ r.seated.about)
+        (ap (λ (x : Me Slot (Knows K)). x.0.role) one_is ∙ own_role)
+        (ap (λ (x : Me Slot (Knows K)). x.0.hand) one_is)
+        (ap (λ (x : Me Slot (Knows K)). x.0.desk) one_is ∙ r.at_desk.sits)
+        (ap (λ (x : Me Slot (Knows K)). x.1) one_is ∙ held at key table seat first m desk r)
+        have_met.first_on
 
     pub second_stays : (seat_back : TableId) → seat_back ≡ seat' → StaysReady at key table seat' seat_back second back
     second_stays seat_back same = λ m desk r.
         let number_is : b ≡ m.seat.number = ap number_of (sym two.second_ready.seated.role ∙ r.seated.role) in
         let desk_is : drain_slots + b ≡ desk = ap (λ (n : ℕ). drain_slots + n) number_is ∙ sym r.its_desk in
         ready_on at key table seat' second m desk r seat_back back sat.note same
-            (ap (λ (v : Knows K). v.about) back_is ∙ two.first_ready.seated.about)
-            (ap (λ (v : Knows K). v.role) back_is ∙ other_role)
-            (ap (λ (v : Knows K). v.hand) back_is)
-            (ap (λ (v : Knows K). v.desk) back_is)
-            (sat.desk ∙ λ i. (desk_is i, sat.note) ∷ (right_is i).1)
-            have_met.second_on
+        (ap (λ (v : Knows K). v.about) back_is ∙ two.first_ready.seated.about)
+        (ap (λ (v : Knows K). v.role) back_is ∙ other_role)
+        (ap (λ (v : Knows K). v.hand) back_is)
+        (ap (λ (v : Knows K). v.desk) back_is)
+        (sat.desk ∙ λ i. (desk_is i, sat.note) ∷ (right_is i).1)
+        have_met.second_on

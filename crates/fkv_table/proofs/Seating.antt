@@ -23,4 +23,4 @@ module _ {K : Type 0} (at : K → World) where
       → Allows (Ruled (plane at) key) slots id me 0 (λ n. n) (rising at (step slots 0 0 0 none) me)
   may_rise key slots id me number note whose is =
       subst (λ (c : List (ℕ × Slot)). Allows (Ruled (plane at) key) slots id (me.0, c) 0 (λ n. n) (λ n m'. GotUp (plane at) me.0 (rest me.1) m')) (sym is)
-          (gets_up (plane at) key slots id number 0 me.0 (rest me.1) note whose)
+      (gets_up (plane at) key slots id number 0 me.0 (rest me.1) note whose)

@@ -39,7 +39,7 @@ module _ {K : Type 0} (at : K → World) (key : K) where
       → Ruled (plane at) key (opening words (replicate count (Drain None)) (first_view (plane at) key))
   opens_so words count is none_there low =
       opens (plane at) key words (replicate count (Drain None)) is (subst (λ (n : ℕ). drain_slots ≤ n) (sym (length-replicate {A = Slot} count (Drain None))) low)
-          (λ k x l g. all_empty count k x g ∙ ap (λ (its : Option Action). Drain its) (sym (ap (λ (actions : List (Option Action)). action_in actions k) none_there ∙ none_in drain_slots k)))
+      (λ k x l g. all_empty count k x g ∙ ap (λ (its : Option Action). Drain its) (sym (ap (λ (actions : List (Option Action)). action_in actions k) none_there ∙ none_in drain_slots k)))
 
   -- a session's seat is cut off from the rest
   pub splits_rest : (id number : ℕ) (v : Knows K) → v ≡ rest_view key number → Splits (Ruled (plane at) key) id v (left_view (plane at) v) (right_view (plane at) v)

@@ -14,4 +14,4 @@ perform-reply-requires-clause-allows g c =
 pub returns-clause-replied : goal.returns-clause-replied
 returns-clause-replied g c =
     keeper_replies (opening_of g.D.Device.seen) c.args.words.now.key _ c.args.seat.now.me c.perform-reply.new.seat.me c.args.machine.now c.go_on_with.new.self g.E.OfKeeper.its _ c.args.ask.now c.perform-reply.result c.requires.table.1.opening
-        c.requires.keeping c.requires.event c.requires.ask c.requires.word c.perform-reply.ensures.told c.go_on_with.ensures.next
+    c.requires.keeping c.requires.event c.requires.ask c.requires.word c.perform-reply.ensures.told c.go_on_with.ensures.next

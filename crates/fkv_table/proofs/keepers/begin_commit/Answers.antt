@@ -17,10 +17,10 @@ pub returns-in-Full-clause-keeping : goal.returns-in-Full-clause-keeping
 returns-in-Full-clause-keeping g c =
     let k = c.args.machine.now in
     commit_on (opening_of g.D.Device.seen) _ _ k c.requires.table.1.opening c.requires.keeping Full c.note.new.seat.me c.begin_commit.new.self c.requires.idle c.note.ensures.noted
-        (c.begin_commit.ensures.next ∙ ap (λ (kind : CommitKind). record k { state = commit_asked k.state kind }) c.in-Full.is)
+    (c.begin_commit.ensures.next ∙ ap (λ (kind : CommitKind). record k { state = commit_asked k.state kind }) c.in-Full.is)
 
 pub returns-in-Log-clause-keeping : goal.returns-in-Log-clause-keeping
 returns-in-Log-clause-keeping g c =
     let k = c.args.machine.now in
     commit_on (opening_of g.D.Device.seen) _ _ k c.requires.table.1.opening c.requires.keeping Log c.note-in-Log.new.seat.me c.begin_commit.new.self c.requires.idle c.note-in-Log.ensures.noted
-        (c.begin_commit.ensures.next ∙ ap (λ (kind : CommitKind). record k { state = commit_asked k.state kind }) c.in-Log.is)
+    (c.begin_commit.ensures.next ∙ ap (λ (kind : CommitKind). record k { state = commit_asked k.state kind }) c.in-Log.is)
