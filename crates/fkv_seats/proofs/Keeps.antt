@@ -191,7 +191,7 @@ module _ {W E A K : Type 0} (p : Plane W E A K) where
     takes_valid (Some k) names = ap (λ (homes : Homes). get_elem? homes k) (gives_back w v.seen s.homes c v.hand hand) ∙ is_home v.hand k refl names
 
     abbrev new : Option ℕ → Vw
-    new found = record { about = v.about; role = v.role; seen = e ∷ before; hand = found; desk = v.desk }
+    new found = record { about = v.about; role = v.role; seen = e ∷ before; hand = found; desk = v.desk; met = None }
 
     not_named : (found : Option ℕ) (k : ℕ) → p.names (led p w before) e ≡ found → found ≢ Some k → action_in (p.actions (led p w (e ∷ before))) k ≡ action_in (p.actions (led p w r.events)) k
     not_named found k is other = facts.others before e k (λ h. other (sym is ∙ h)) ∙ ap (λ (actions : List (Option A)). action_in actions k) shown_actions
@@ -226,6 +226,7 @@ module _ {W E A K : Type 0} (p : Plane W E A K) where
           whole = refl;
           quiet = tt;
           hand = λ k h. record { event = e; before = before; seen = refl; own = mine.0; names = is ∙ h };
+          met = tt;
         })
         (λ (t : (j ≢ id) × (get_elem? s.views j ≡ some u)).
         let uf = r.each j u t.1 in let theirs = not_theirs j u t.1 t.0 in
@@ -234,6 +235,7 @@ module _ {W E A K : Type 0} (p : Plane W E A K) where
           whole = ap (λ (es : List E). e ∷ (own ++ es)) (sym whole ∙ uf.whole) ∙ ap (λ (es : List E). e ∷ es) (sym (append_assoc own uf.later u.seen));
           quiet = (theirs (p.actor e) mine.0, quiet_both u.role own uf.later (quiet_own v.role u.role own theirs mine.1) uf.quiet);
           hand = uf.hand;
+          met = uf.met;
         })
         (at_set s.views id j (new found) u g)
 

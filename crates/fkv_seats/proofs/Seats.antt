@@ -1,20 +1,18 @@
--- How a table begins, and what cutting a seat in two and making two one keep.
-use Rattle.std.proofs.Common.{◌≡◌, ◌≢◌, ◌⊎◌, ℕ, ◌+◌, ◌<◌, ◌≤◌, refl, sym, ap, subst, ◌∙◌, inl, inr, ⊎_elim, Bool, true, false, true≢false, List, [], ◌∷◌, ◌++◌, length, map, set, get_or, append-nil, length-append, length-set, zero, suc, arith, nat_le, ◌==◌, ◌||◌}
+-- How a table begins, and that cutting a seat in two and making two one keep the rule.
+use Rattle.std.proofs.Common.{◌≡◌, ◌≢◌, ◌⊎◌, ℕ, ◌+◌, ◌<◌, ◌≤◌, refl, sym, ap, subst, ◌∙◌, inl, inr, ⊎_elim, Bool, true, false, true≢false, List, [], ◌∷◌, ◌++◌, length, map, set, append-nil, length-append, length-set, zero, suc, arith, nat_le, ◌==◌, ◌||◌}
 use Rattle.std.specs.Prelude.{Option, Some, None}
 use Rattle.std.proofs.lemmas.Bool.Decides.{nat_tests}
 use mathlib.Core.Option.{none, some, some-injective, some-ne-none}
-use mathlib.Core.Option as maybe
 use lib.ListN.{get_elem?, length-map}
-use lib.Seq.{set-get_or}
-use Rattle.atomic_table.specs.Table.{State, Act, takes, Valid, carried_after, stepped, Allows, opening, Splits, Joins}
+use Rattle.atomic_table.specs.Table.{State, opening, Splits, Joins}
 use Rattle.atomic_table.proofs.Lists.{at_set, set_else}
 use Rattle.fkv_seats.specs.declared.views.Role.{Role}
 use Rattle.fkv_seats.specs.declared.views.Role.TheVariants.{Rest, Sits, Both, Spent}
 use Rattle.fkv_seats.specs.declared.views.View.{View}
 use Rattle.fkv_seats.specs.declared.held.Held.{Held}
 use Rattle.fkv_seats.specs.declared.held.Held.TheVariants.{Drain}
-use Rattle.fkv_seats.specs.Rule.{speaks, Plane, action_in, led, Quiet, Fits, IsOut, IsDeskOut, desk_of, Ruled, first_view, left_role, right_role, left_view, right_view, number_of, longer, both_view, spent_view, at_desk_view, AreApart, SatDown, IsSeenBy}
-use Rattle.fkv_seats.proofs.Keeps.{truth, same_some, no_some, at_here, same_or, within_some}
+use Rattle.fkv_seats.specs.Rule.{speaks, Plane, action_in, led, Quiet, Fits, IsOut, IsDeskOut, desk_of, KeepsDesk, Ruled, first_view, left_role, right_role, left_view, right_view, number_of, longer, behind, both_view, spent_view, AreApart, IsSeenBy, GoesOn, HasMet}
+use Rattle.fkv_seats.proofs.Keeps.{truth, no_some, at_here, same_or}
 
 -- one that stands in a list with one more is there already, or is that one
 at_end : {B : Type 0} (l : List B) (a b : B) (j : ℕ) → get_elem? (l ++ a ∷ []) j ≡ some b → (get_elem? l j ≡ some b) ⊎ ((j ≡ length l) × (a ≡ b))
@@ -40,7 +38,7 @@ rest_one : (from : ℕ) (actor : Option ℕ) → speaks (Sits from) actor ≡ tr
 rest_one from None a = refl
 rest_one from (Some n) a = grind (arith, nat_tests, a)
 
-both_first : (a b : ℕ) (actor : Option ℕ) → speaks (Sits a) actor ≡ true → speaks (Both a b) actor ≡ true
+pub both_first : (a b : ℕ) (actor : Option ℕ) → speaks (Sits a) actor ≡ true → speaks (Both a b) actor ≡ true
 both_first a b None e = e
 both_first a b (Some n) e = rw e refl
 
@@ -90,9 +88,11 @@ module _ {W E A K : Type 0} (p : Plane W E A K) where
   -- how a view may be cut
   pub record IsCut (v left right : Vw) : Type 0 where
     pub empty : v.hand ≡ None
-    pub no_desk : v.desk ≡ false
+    pub keeps_desk : v.desk ≡ true → (left.desk ≡ true) × (desk_of left.role ≡ desk_of v.role)
     pub left_seen : left.seen ≡ v.seen
     pub right_seen : right.seen ≡ v.seen
+    pub left_met : left.met ≡ v.met
+    pub right_met : right.met ≡ v.met
     pub left_empty : left.hand ≡ None
     pub right_empty : right.hand ≡ None
     pub of_left : (actor : Option ℕ) → speaks left.role actor ≡ true → speaks v.role actor ≡ true
@@ -100,12 +100,13 @@ module _ {W E A K : Type 0} (p : Plane W E A K) where
     pub one : (actor : Option ℕ) → speaks left.role actor ≡ true → speaks right.role actor ≡ true → ⊥
 
   -- a view of less, which has seen the same
-  fits_less : (w : W) (events : List E) (v less : Vw) → Fits p w events v → less.seen ≡ v.seen → less.hand ≡ None → ((actor : Option ℕ) → speaks less.role actor ≡ true → speaks v.role actor ≡ true) → Fits p w events less
-  fits_less w events v less fits seen empty of = record {
+  fits_less : (w : W) (events : List E) (v less : Vw) → Fits p w events v → less.seen ≡ v.seen → less.met ≡ v.met → less.hand ≡ None → ((actor : Option ℕ) → speaks less.role actor ≡ true → speaks v.role actor ≡ true) → Fits p w events less
+  fits_less w events v less fits seen met empty of = record {
     later = fits.later;
     whole = fits.whole ∙ ap (λ (es : List E). fits.later ++ es) (sym seen);
     quiet = quiet_less v.role less.role fits.later of fits.quiet;
     hand = λ k h. no_some k (sym empty ∙ h);
+    met = subst (λ (x : Option (Role × List E) × List E). HasMet p x.0 x.1) (λ i. (sym met i, sym seen i)) fits.met;
   }
 
   -- whose view stands there now: one that stood there, the left one, or the right one
@@ -126,8 +127,8 @@ module _ {W E A K : Type 0} (p : Plane W E A K) where
 
     each_cut : (j : ℕ) (u : Vw) → Stood s.views id left right j u → Fits p (p.opening key) r.events u
     each_cut j u (AsBefore other g) = r.each j u g
-    each_cut j u (AtLeft here is) = subst (Fits p (p.opening key) r.events) is (fits_less (p.opening key) r.events v left (r.each id v at) cut.left_seen cut.left_empty cut.of_left)
-    each_cut j u (AtRight here is) = subst (Fits p (p.opening key) r.events) is (fits_less (p.opening key) r.events v right (r.each id v at) cut.right_seen cut.right_empty cut.of_right)
+    each_cut j u (AtLeft here is) = subst (Fits p (p.opening key) r.events) is (fits_less (p.opening key) r.events v left (r.each id v at) cut.left_seen cut.left_met cut.left_empty cut.of_left)
+    each_cut j u (AtRight here is) = subst (Fits p (p.opening key) r.events) is (fits_less (p.opening key) r.events v right (r.each id v at) cut.right_seen cut.right_met cut.right_empty cut.of_right)
 
     says : (x y : Vw) (actor : Option ℕ) → x ≡ y → speaks y.role actor ≡ true → speaks x.role actor ≡ true
     says x y actor same e = ap (λ (z : Vw). speaks z.role actor) same ∙ e
@@ -149,6 +150,20 @@ module _ {W E A K : Type 0} (p : Plane W E A K) where
         let ne : o.id ≢ id = λ same. no_some k (sym cut.empty ∙ (ap (λ (u : Vw). u.hand) (some-injective _ _ (sym at ∙ (ap (get_elem? s.views) (sym same) ∙ o.seated))) ∙ o.hand)) in
         record { id = o.id; view = o.view; seated = in_longer (set s.views id left) (right ∷ []) o.id o.view (set_else s.views id o.id left ne ∙ o.seated); hand = o.hand }
 
+    desk_cut : (number : ℕ) (o : IsDeskOut p s.views number) → (o.id ≡ id) ⊎ (o.id ≢ id) → IsDeskOut p now number
+    desk_cut number o (inl same) =
+        let mine : o.view ≡ v = some-injective _ _ (sym o.seated ∙ (ap (get_elem? s.views) same ∙ at)) in
+        let kept = cut.keeps_desk (ap (λ (u : Vw). u.desk) (sym mine) ∙ o.desk) in
+        record {
+          id = id;
+          view = left;
+          seated = in_longer (set s.views id left) (right ∷ []) id left (at_here s.views id left v at);
+          whose = kept.1 ∙ (ap (λ (u : Vw). desk_of u.role) (sym mine) ∙ o.whose);
+          desk = kept.0;
+        }
+    desk_cut number o (inr ne) =
+        record { id = o.id; view = o.view; seated = in_longer (set s.views id left) (right ∷ []) o.id o.view (set_else s.views id o.id left ne ∙ o.seated); whose = o.whose; desk = o.desk }
+
     pub cuts : Ruled p key record { words = s.words; homes = s.homes; views = now }
     cuts = record {
       events = r.events;
@@ -158,10 +173,7 @@ module _ {W E A K : Type 0} (p : Plane W E A K) where
       each = λ j u g. each_cut j u (stood s.views id left right j u g);
       apart = λ j k u x actor g h su sx. apart_cut j k u x actor (stood s.views id left right j u g) (stood s.views id left right k x h) su sx;
       out = out_cut;
-      desks = λ number g.
-          let o = r.desks number g in
-          let ne : o.id ≢ id = λ same. true≢false (sym o.desk ∙ (ap (λ (u : Vw). u.desk) (some-injective _ _ (sym o.seated ∙ (ap (get_elem? s.views) same ∙ at))) ∙ cut.no_desk)) in
-          record { id = o.id; view = o.view; seated = in_longer (set s.views id left) (right ∷ []) o.id o.view (set_else s.views id o.id left ne ∙ o.seated); whose = o.whose; desk = o.desk };
+      desks = λ number g. let o = r.desks number g in desk_cut number o (same_or o.id id);
     }
 
   cut_role : (role : Role) (actor : Option ℕ) → (speaks (left_role role) actor ≡ true → speaks role actor ≡ true) × (speaks (right_role role) actor ≡ true → speaks role actor ≡ true)
@@ -177,12 +189,14 @@ module _ {W E A K : Type 0} (p : Plane W E A K) where
   cut_one (Both first second) apart (Some n) a b = let x : n ≡ first = grind (arith, nat_tests, a) in let y : n ≡ second = grind (arith, nat_tests, b) in apart (sym x ∙ y)
   cut_one Spent apart actor a b = true≢false (sym b)
 
-  pub splits : (key : K) (id : ℕ) (v : Vw) → v.hand ≡ None → v.desk ≡ false → AreApart v.role → Splits (Ruled p key) id v (left_view p v) (right_view p v)
-  splits key id v empty no_desk apart s r at = cuts key s r id v (left_view p v) (right_view p v) at record {
+  pub splits : (key : K) (id : ℕ) (v : Vw) → v.hand ≡ None → (v.desk ≡ true → KeepsDesk v.role) → AreApart v.role → Splits (Ruled p key) id v (left_view p v) (right_view p v)
+  splits key id v empty keeps apart s r at = cuts key s r id v (left_view p v) (right_view p v) at record {
     empty = empty;
-    no_desk = no_desk;
+    keeps_desk = λ is. (is, keeps is);
     left_seen = refl;
     right_seen = refl;
+    left_met = refl;
+    right_met = refl;
     left_empty = empty;
     right_empty = refl;
     of_left = λ actor. (cut_role v.role actor).0;
@@ -197,6 +211,15 @@ module _ {W E A K : Type 0} (p : Plane W E A K) where
   begins (d ∷ l) (e ∷ m) x y same few =
       let tails : l ++ x ≡ m ++ y = cc in let heads : d ≡ e = cc in let t = begins l m x y tails few in (t.0, λ i. heads i ∷ t.1 i)
 
+  -- of two beginnings of one list the longer one goes on from the shorter
+  pub goes_on : (role : Role) (l m x y : List E) → l ++ x ≡ m ++ y → length x ≤ length y → Quiet p role l → GoesOn p role x y
+  goes_on role l [] x y same few q = record { between = l; whole = sym same; quiet = q }
+  goes_on role [] (e ∷ m) x y same few q = absurd (let n : length x ≡ suc (length (m ++ y)) = ap length same in omega (arith, n, few, length-append m y))
+  goes_on role (d ∷ l) (e ∷ m) x y same few q = let tails : l ++ x ≡ m ++ y = cc in goes_on role l m x y tails few q.1
+
+  ends : (l m x y : List E) → l ++ x ≡ m ++ y → length x ≤ length y → IsSeenBy p x y
+  ends l m x y same few = let its = goes_on Spent l m x y same few (quiet_spent l) in (its.between, its.whole)
+
   quiet_first : (role : Role) (m between : List E) → Quiet p role (m ++ between) → Quiet p role m
   quiet_first role [] between q = tt
   quiet_first role (e ∷ m) between q = (q.0, quiet_first role m between q.1)
@@ -205,14 +228,32 @@ module _ {W E A K : Type 0} (p : Plane W E A K) where
   quiet_since : (role : Role) (events l m x y : List E) → events ≡ l ++ x → events ≡ m ++ y → length x ≤ length y → Quiet p role l → Quiet p role m
   quiet_since role events l m x y a b few q = let t = begins l m x y (sym a ∙ b) few in quiet_first role m t.0 (subst (Quiet p role) t.1 q)
 
-  longer_so : (x y : List E) → ((longer p x y ≡ y) × (length x ≤ length y)) ⊎ ((longer p x y ≡ x) × (length y ≤ length x))
-  longer_so x y = ⊎_elim
-      (λ (t : nat_le (length x) (length y) ≡ true). inl (rw t refl, grind (arith, nat_tests, t)))
-      (λ (t : nat_le (length x) (length y) ≡ false). inr (rw t refl, grind (arith, nat_tests, t)))
-      (truth (nat_le (length x) (length y)))
+  -- which of two views has seen more, and which less
+  abbrev pub AreLonger : Vw → Vw → Vw → Vw → Type 0
+  AreLonger v u more less = (longer p v.seen u.seen ≡ more.seen) × (behind p v u ≡ (less.role, less.seen)) × (length less.seen ≤ length more.seen)
+
+  longer_so : (v u : Vw) → AreLonger v u u v ⊎ AreLonger v u v u
+  longer_so v u = ⊎_elim
+      (λ (t : nat_le (length v.seen) (length u.seen) ≡ true). inl (rw t refl, rw t refl, grind (arith, nat_tests, t)))
+      (λ (t : nat_le (length v.seen) (length u.seen) ≡ false). inr (rw t refl, rw t refl, grind (arith, nat_tests, t)))
+      (truth (nat_le (length v.seen) (length u.seen)))
+
+  -- Where the one goes on to the longer list that had seen less, both do.
+  pub both_go_on : (v u : Vw) → HasMet p (Some (behind p v u)) (longer p v.seen u.seen) → GoesOn p v.role v.seen (longer p v.seen u.seen) × GoesOn p u.role u.seen (longer p v.seen u.seen)
+  both_go_on v u its = by (longer_so v u)
+    where
+      Goal : Type 0
+      Goal = GoesOn p v.role v.seen (longer p v.seen u.seen) × GoesOn p u.role u.seen (longer p v.seen u.seen)
+
+      stays : (role : Role) (seen more : List E) → more ≡ seen → GoesOn p role seen more
+      stays role seen more same = record { between = []; whole = same; quiet = tt }
+
+      by : AreLonger v u u v ⊎ AreLonger v u v u → Goal
+      by (inl t) = (subst (λ (x : Role × List E). GoesOn p x.0 x.1 (longer p v.seen u.seen)) t.1 its, stays u.role u.seen (longer p v.seen u.seen) t.0)
+      by (inr t) = (stays v.role v.seen (longer p v.seen u.seen) t.0, subst (λ (x : Role × List E). GoesOn p x.0 x.1 (longer p v.seen u.seen)) t.1 its)
 
   module _ (key : K) (s : State H Vw) (r : Ruled p key s) (id other a b : ℕ) (v u : Vw) (at : get_elem? s.views id ≡ some v) (at_other : get_elem? s.views other ≡ some u) (ne : other ≢ id)
-      (is_v : v.role ≡ Sits a) (is_u : u.role ≡ Sits b) (empty_v : v.hand ≡ None) (empty_u : u.hand ≡ None) (no_desk_v : v.desk ≡ false) (no_desk_u : u.desk ≡ false) where
+      (is_v : v.role ≡ Sits a) (is_u : u.role ≡ Sits b) (empty_v : v.hand ≡ None) (empty_u : u.hand ≡ None) (no_desk_u : u.desk ≡ false) where
     abbrev both : Vw
     both = both_view p v u
 
@@ -242,28 +283,34 @@ module _ {W E A K : Type 0} (p : Plane W E A K) where
     fits_u : Fits p (p.opening key) r.events u
     fits_u = r.each other u at_other
 
+    met_both : (more less : Vw) → AreLonger v u more less → Fits p (p.opening key) r.events more → Fits p (p.opening key) r.events less → HasMet p both.met both.seen
+    met_both more less t fits_more fits_less =
+        subst (λ (x : (Role × List E) × List E). GoesOn p x.0.0 x.0.1 x.1) (λ i. (sym t.1 i, sym t.0 i)) (goes_on less.role fits_less.later fits_more.later less.seen more.seen (sym fits_less.whole ∙ fits_more.whole) t.2 fits_less.quiet)
+
     fits_both : Fits p (p.opening key) r.events both
     fits_both = ⊎_elim
-        (λ (t : (longer p v.seen u.seen ≡ u.seen) × (length v.seen ≤ length u.seen)). record {
+        (λ (t : AreLonger v u u v). record {
           later = fits_u.later;
           whole = fits_u.whole ∙ ap (λ (es : List E). fits_u.later ++ es) (sym t.0);
           quiet = subst (λ (role : Role). Quiet p role fits_u.later) (sym both_is) (quiet_either (Both a b) (Sits a) (Sits b) fits_u.later (both_ways a b)
-              (quiet_since (Sits a) r.events fits_v.later fits_u.later v.seen u.seen fits_v.whole fits_u.whole t.1 (subst (λ (role : Role). Quiet p role fits_v.later) is_v fits_v.quiet))
+              (quiet_since (Sits a) r.events fits_v.later fits_u.later v.seen u.seen fits_v.whole fits_u.whole t.2 (subst (λ (role : Role). Quiet p role fits_v.later) is_v fits_v.quiet))
               (subst (λ (role : Role). Quiet p role fits_u.later) is_u fits_u.quiet));
           hand = λ k h. no_some k h;
+          met = met_both u v t fits_u fits_v;
         })
-        (λ (t : (longer p v.seen u.seen ≡ v.seen) × (length u.seen ≤ length v.seen)). record {
+        (λ (t : AreLonger v u v u). record {
           later = fits_v.later;
           whole = fits_v.whole ∙ ap (λ (es : List E). fits_v.later ++ es) (sym t.0);
           quiet = subst (λ (role : Role). Quiet p role fits_v.later) (sym both_is) (quiet_either (Both a b) (Sits a) (Sits b) fits_v.later (both_ways a b)
               (subst (λ (role : Role). Quiet p role fits_v.later) is_v fits_v.quiet)
-              (quiet_since (Sits b) r.events fits_u.later fits_v.later u.seen v.seen fits_u.whole fits_v.whole t.1 (subst (λ (role : Role). Quiet p role fits_u.later) is_u fits_u.quiet)));
+              (quiet_since (Sits b) r.events fits_u.later fits_v.later u.seen v.seen fits_u.whole fits_v.whole t.2 (subst (λ (role : Role). Quiet p role fits_u.later) is_u fits_u.quiet)));
           hand = λ k h. no_some k h;
+          met = met_both v u t fits_v fits_u;
         })
-        (longer_so v.seen u.seen)
+        (longer_so v u)
 
     fits_spent : Fits p (p.opening key) r.events (spent_view p)
-    fits_spent = record { later = r.events; whole = sym (append-nil r.events); quiet = quiet_spent r.events; hand = λ k h. no_some k h }
+    fits_spent = record { later = r.events; whole = sym (append-nil r.events); quiet = quiet_spent r.events; hand = λ k h. no_some k h; met = tt }
 
     each_joined : (j : ℕ) (x : Vw) → Joined j x → Fits p (p.opening key) r.events x
     each_joined j x (Others na nb g) = r.each j x g
@@ -301,6 +348,20 @@ module _ {W E A K : Type 0} (p : Plane W E A K) where
         let not_u : o.id ≢ other = λ same. no_some k (sym empty_u ∙ (ap (λ (x : Vw). x.hand) (some-injective _ _ (sym at_other ∙ (ap (get_elem? s.views) (sym same) ∙ o.seated))) ∙ o.hand)) in
         record { id = o.id; view = o.view; seated = set_else (set s.views id both) other o.id (spent_view p) not_u ∙ (set_else s.views id o.id both not_v ∙ o.seated); hand = o.hand }
 
+    desk_joined : (number : ℕ) (o : IsDeskOut p s.views number) → (o.id ≡ id) ⊎ (o.id ≢ id) → IsDeskOut p joined number
+    desk_joined number o (inl same) =
+        let mine : o.view ≡ v = some-injective _ _ (sym o.seated ∙ (ap (get_elem? s.views) same ∙ at)) in
+        record {
+          id = id;
+          view = both;
+          seated = set_else (set s.views id both) other id (spent_view p) (λ e. ne (sym e)) ∙ at_here s.views id both v at;
+          whose = ap desk_of both_is ∙ (sym (ap desk_of is_v) ∙ (ap (λ (x : Vw). desk_of x.role) (sym mine) ∙ o.whose));
+          desk = ap (λ (x : Vw). x.desk) (sym mine) ∙ o.desk;
+        }
+    desk_joined number o (inr not_v) =
+        let not_u : o.id ≢ other = λ same. true≢false (sym o.desk ∙ (ap (λ (x : Vw). x.desk) (some-injective _ _ (sym o.seated ∙ (ap (get_elem? s.views) same ∙ at_other))) ∙ no_desk_u)) in
+        record { id = o.id; view = o.view; seated = set_else (set s.views id both) other o.id (spent_view p) not_u ∙ (set_else s.views id o.id both not_v ∙ o.seated); whose = o.whose; desk = o.desk }
+
     pub joins_so : Ruled p key record { words = s.words; homes = s.homes; views = joined }
     joins_so = record {
       events = r.events;
@@ -310,16 +371,12 @@ module _ {W E A K : Type 0} (p : Plane W E A K) where
       each = λ j x g. each_joined j x (stands j x g);
       apart = λ j k x y actor g h sx sy. apart_joined j k x y actor (stands j x g) (stands k y h) sx sy;
       out = out_joined;
-      desks = λ number g.
-          let o = r.desks number g in
-          let not_v : o.id ≢ id = λ same. true≢false (sym o.desk ∙ (ap (λ (x : Vw). x.desk) (some-injective _ _ (sym o.seated ∙ (ap (get_elem? s.views) same ∙ at))) ∙ no_desk_v)) in
-          let not_u : o.id ≢ other = λ same. true≢false (sym o.desk ∙ (ap (λ (x : Vw). x.desk) (some-injective _ _ (sym o.seated ∙ (ap (get_elem? s.views) same ∙ at_other))) ∙ no_desk_u)) in
-          record { id = o.id; view = o.view; seated = set_else (set s.views id both) other o.id (spent_view p) not_u ∙ (set_else s.views id o.id both not_v ∙ o.seated); whose = o.whose; desk = o.desk };
+      desks = λ number g. let o = r.desks number g in desk_joined number o (same_or o.id id);
     }
 
-  pub joins : (key : K) (id other a b : ℕ) (v u : Vw) → v.role ≡ Sits a → u.role ≡ Sits b → v.hand ≡ None → u.hand ≡ None → v.desk ≡ false → u.desk ≡ false → Joins (Ruled p key) id v other u (both_view p v u) (spent_view p)
-  joins key id other a b v u is_v is_u empty_v empty_u no_desk_v no_desk_u s r at ne at_other =
-      joins_so key s r id other a b v u at (sym (set_else s.views id other (both_view p v u) ne) ∙ at_other) ne is_v is_u empty_v empty_u no_desk_v no_desk_u
+  pub joins : (key : K) (id other a b : ℕ) (v u : Vw) → v.role ≡ Sits a → u.role ≡ Sits b → v.hand ≡ None → u.hand ≡ None → u.desk ≡ false → Joins (Ruled p key) id v other u (both_view p v u) (spent_view p)
+  joins key id other a b v u is_v is_u empty_v empty_u no_desk_u s r at ne at_other =
+      joins_so key s r id other a b v u at (sym (set_else s.views id other (both_view p v u) ne) ∙ at_other) ne is_v is_u empty_v empty_u no_desk_u
 
   unmapped : (xs : List H) (k : ℕ) (x : H) → get_elem? (map some xs) k ≡ some (some x) → get_elem? xs k ≡ some x
   unmapped [] k x g = absurd (some-ne-none _ (sym g))
@@ -345,109 +402,17 @@ module _ {W E A K : Type 0} (p : Plane W E A K) where
     words = is;
     deep = subst (λ n. p.slots ≤ n) (sym (length-map xs (λ (x : H). some x))) deep;
     homes = λ k x l g. at_home k x l (unmapped xs k x g);
-    each = λ j u g. subst (Fits p (p.opening key) []) (alone (first_view p key) u j g).1 record { later = []; whole = refl; quiet = tt; hand = λ k h. no_some k h };
+    each = λ j u g. subst (Fits p (p.opening key) []) (alone (first_view p key) u j g).1 record { later = []; whole = refl; quiet = tt; hand = λ k h. no_some k h; met = tt };
     apart = λ j k u x actor g h su sx. (alone (first_view p key) u j g).0 ∙ sym (alone (first_view p key) x k h).0;
     out = λ k l g. never_none xs k g;
     desks = λ number g. never_none xs (p.slots + number) g;
   }
-
-  -- whose desk it is speaks for that session
-  at_desk : (role : Role) (number : ℕ) → desk_of role ≡ Some number → speaks role (Some number) ≡ true
-  at_desk (Rest from) number e = let same : from ≡ number = same_some from number e in grind (arith, nat_tests, same)
-  at_desk (Sits own) number e = let same : own ≡ number = same_some own number e in grind (arith, nat_tests, same)
-  at_desk (Both a b) number e = no_some number e
-  at_desk Spent number e = no_some number e
-
-  module _ (key : K) (s : State H Vw) (r : Ruled p key s) (id number : ℕ) (v : Vw) (at : get_elem? s.views id ≡ some v) (whose : desk_of v.role ≡ Some number) where
-    abbrev seats : List Vw
-    seats = set s.views id (at_desk_view p v)
-
-    abbrev shelf : List (maybe.Option H)
-    shelf = set s.homes (p.slots + number) none
-
-    each_sat : (j : ℕ) (u : Vw) → get_elem? seats j ≡ some u → Fits p (p.opening key) r.events u
-    each_sat j u g = ⊎_elim
-        (λ (t : (j ≡ id) × (at_desk_view p v ≡ u)). let f = r.each id v at in subst (Fits p (p.opening key) r.events) t.1 record {
-          later = f.later;
-          whole = f.whole;
-          quiet = f.quiet;
-          hand = λ k h. let taken = f.hand k h in record { event = taken.event; before = taken.before; seen = taken.seen; own = taken.own; names = taken.names };
-        })
-        (λ (t : (j ≢ id) × (get_elem? s.views j ≡ some u)). r.each j u t.1)
-        (at_set s.views id j (at_desk_view p v) u g)
-
-    sat_before : (j : ℕ) (u : Vw) → get_elem? seats j ≡ some u → (x : Vw) × (get_elem? s.views j ≡ some x) × (x.role ≡ u.role)
-    sat_before j u g = ⊎_elim
-        (λ (t : (j ≡ id) × (at_desk_view p v ≡ u)). (v, ap (get_elem? s.views) t.0 ∙ at, ap (λ (x : Vw). x.role) t.1))
-        (λ (t : (j ≢ id) × (get_elem? s.views j ≡ some u)). (u, t.1, refl))
-        (at_set s.views id j (at_desk_view p v) u g)
-
-    apart_sat : (j k : ℕ) (u x : Vw) (actor : Option ℕ) → get_elem? seats j ≡ some u → get_elem? seats k ≡ some x → speaks u.role actor ≡ true → speaks x.role actor ≡ true → j ≡ k
-    apart_sat j k u x actor g h su sx =
-        let a = sat_before j u g in let b = sat_before k x h in
-        r.apart j k a.0 b.0 actor a.1 b.1 (ap (λ (role : Role). speaks role actor) a.2 ∙ su) (ap (λ (role : Role). speaks role actor) b.2 ∙ sx)
-
-    is_mine : (j : ℕ) (u : Vw) → get_elem? s.views j ≡ some u → j ≡ id → u ≡ v
-    is_mine j u g same = some-injective _ _ (sym g ∙ (ap (get_elem? s.views) same ∙ at))
-
-    out_sat : (k : ℕ) (o : IsOut p s.views k) → (o.id ≡ id) ⊎ (o.id ≢ id) → IsOut p seats k
-    out_sat k o (inl same) = record { id = id; view = at_desk_view p v; seated = at_here s.views id (at_desk_view p v) v at; hand = ap (λ (x : Vw). x.hand) (sym (is_mine o.id o.view o.seated same)) ∙ o.hand }
-    out_sat k o (inr other) = record { id = o.id; view = o.view; seated = set_else s.views id o.id (at_desk_view p v) other ∙ o.seated; hand = o.hand }
-
-    desk_sat : (other : ℕ) (o : IsDeskOut p s.views other) → (o.id ≡ id) ⊎ (o.id ≢ id) → IsDeskOut p seats other
-    desk_sat other o (inl same) = record { id = id; view = at_desk_view p v; seated = at_here s.views id (at_desk_view p v) v at; whose = ap (λ (x : Vw). desk_of x.role) (sym (is_mine o.id o.view o.seated same)) ∙ o.whose; desk = refl }
-    desk_sat other o (inr ne) = record { id = o.id; view = o.view; seated = set_else s.views id o.id (at_desk_view p v) ne ∙ o.seated; whose = o.whose; desk = o.desk }
-
-    sits_so : (i : ℕ) → Ruled p key record { words = set s.words i (get_or s.words i 0); homes = shelf; views = seats }
-    sits_so i = record {
-      events = r.events;
-      words = set-get_or s.words i 0 ∙ r.words;
-      deep = subst (λ m. p.slots ≤ m) (sym (length-set s.homes (p.slots + number) none)) r.deep;
-      homes = λ k x l g. ⊎_elim
-          (λ (t : (k ≡ p.slots + number) × (none ≡ some x)). absurd (some-ne-none x (sym t.1)))
-          (λ (t : (k ≢ p.slots + number) × (get_elem? s.homes k ≡ some (some x))). r.homes k x l t.1)
-          (at_set s.homes (p.slots + number) k none (some x) g);
-      each = each_sat;
-      apart = apart_sat;
-      out = λ k l g. ⊎_elim
-          (λ (t : (k ≡ p.slots + number) × (none ≡ none)). absurd (let same = t.0 in omega (arith, l, same)))
-          (λ (t : (k ≢ p.slots + number) × (get_elem? s.homes k ≡ some none)). let o = r.out k l t.1 in out_sat k o (same_or o.id id))
-          (at_set s.homes (p.slots + number) k none none g);
-      desks = λ other g. ⊎_elim
-          (λ (t : (p.slots + other ≡ p.slots + number) × (none ≡ none)).
-          let same : other ≡ number = let e = t.0 in omega (arith, e) in
-          record { id = id; view = at_desk_view p v; seated = at_here s.views id (at_desk_view p v) v at; whose = whose ∙ ap (λ (n : ℕ). Some n) (sym same); desk = refl })
-          (λ (t : (p.slots + other ≢ p.slots + number) × (get_elem? s.homes (p.slots + other) ≡ some none)). let o = r.desks other t.1 in desk_sat other o (same_or o.id id))
-          (at_set s.homes (p.slots + number) (p.slots + other) none none g);
-    }
-
-  -- A seat that speaks for a session finds its desk at home, and sits down at it in a step that changes nothing else.
-  pub sits_down : (key : K) (slots id number i : ℕ) (v : Vw) (c : List (ℕ × H)) → desk_of v.role ≡ Some number → v.desk ≡ false → p.slots + number < slots
-      → Allows (Ruled p key) slots id (v, c) i (λ n. n) (SatDown p number v c)
-  sits_down key slots id number i v c whose no_desk few s r deep at bound = by_home (get_elem? s.homes (p.slots + number)) refl
-    where
-      Goal : Type 0
-      Goal = (w : Vw) × (a : Act H) × Valid s.homes c a × Ruled p key (stepped s i (get_or s.words i 0) id c w a) × SatDown p number v c (get_or s.words i 0) (w, carried_after c a)
-
-      by_home : (h : maybe.Option (maybe.Option H)) → get_elem? s.homes (p.slots + number) ≡ h → Goal
-      by_home none g = absurd (within_some s.homes (p.slots + number) (subst (λ n. p.slots + number < n) (sym deep) few) g)
-      by_home (some none) g =
-          let o = r.desks number g in
-          let same = r.apart o.id id o.view v (Some number) o.seated at (at_desk o.view.role number o.whose) (at_desk v.role number whose) in
-          absurd (true≢false (sym o.desk ∙ (ap (λ (u : Vw). u.desk) (some-injective _ _ (sym o.seated ∙ (ap (get_elem? s.views) same ∙ at))) ∙ no_desk)))
-      by_home (some (some x)) g = (at_desk_view p v, takes (p.slots + number) x, g, sits_so key s r id number v at whose i, (refl, (x, refl)))
-
-  -- of two lists with one whole, the one with the longer beginning ends in what the other has
-  pub ends : (l m x y : List E) → l ++ x ≡ m ++ y → length x ≤ length y → IsSeenBy p x y
-  ends l [] x y same few = (l, sym same)
-  ends [] (e ∷ m) x y same few = absurd (let n : length x ≡ suc (length (m ++ y)) = ap length same in omega (arith, n, few, length-append m y))
-  ends (d ∷ l) (e ∷ m) x y same few = let tails : l ++ x ≡ m ++ y = cc in ends l m x y tails few
 
   -- two seats of one state have seen beginnings of one list
   pub in_order : (key : K) (s : State H Vw) (id other : ℕ) (v u : Vw) → Ruled p key s → get_elem? s.views id ≡ some v → get_elem? s.views other ≡ some u
       → IsSeenBy p v.seen u.seen ⊎ IsSeenBy p u.seen v.seen
   in_order key s id other v u r at_v at_u =
       let a = r.each id v at_v in let b = r.each other u at_u in let same = sym a.whole ∙ b.whole in ⊎_elim
-      (λ (t : (longer p v.seen u.seen ≡ u.seen) × (length v.seen ≤ length u.seen)). inl (ends a.later b.later v.seen u.seen same t.1))
-      (λ (t : (longer p v.seen u.seen ≡ v.seen) × (length u.seen ≤ length v.seen)). inr (ends b.later a.later u.seen v.seen (sym same) t.1))
-      (longer_so v.seen u.seen)
+      (λ (t : AreLonger v u u v). inl (ends a.later b.later v.seen u.seen same t.2))
+      (λ (t : AreLonger v u v u). inr (ends b.later a.later u.seen v.seen (sym same) t.2))
+      (longer_so v u)

@@ -41,11 +41,16 @@ abbrev pub number_of : Role → ℕ
 number_of (Sits own) = own
 number_of role = 0
 
--- whose desk a seat sits at
+-- whose desk a seat sits at; a seat for two sits at the first one's
 abbrev pub desk_of : Role → Option ℕ
 desk_of (Rest from) = Some from
 desk_of (Sits own) = Some own
-desk_of role = None
+desk_of (Both first second) = Some first
+desk_of Spent = None
+
+-- what is left of a seat when the new one is cut off sits at its desk
+abbrev pub KeepsDesk : Role → Type 0
+KeepsDesk role = desk_of (left_role role) ≡ desk_of role
 
 -- a world of events, as a table shows it
 pub record Plane (W E A K : Type 0) : Type 0 where
@@ -87,6 +92,20 @@ module _ {W E A K : Type 0} (p : Plane W E A K) where
   NoneOf actor [] = ⊤
   NoneOf actor (e ∷ es) = ¬ (p.actor e ≡ actor) × NoneOf actor es
 
+  -- the one list of events is a beginning of the other; it is its end, since the newest stand first
+  abbrev pub IsSeenBy : List E → List E → Type 0
+  IsSeenBy less more = (later : List E) × (more ≡ later ++ less)
+
+  -- the one list goes on from the other with events of others alone
+  pub record GoesOn (role : Role) (less more : List E) : Type 0 where
+    pub between : List E
+    pub whole : more ≡ between ++ less
+    pub quiet : Quiet role between
+
+  abbrev pub HasMet : Option (Role × List E) → List E → Type 0
+  HasMet None seen = ⊤
+  HasMet (Some its) seen = GoesOn its.0 its.1 seen
+
   -- the newest event that the view has seen is its own, and has moved the action of this slot
   pub record HasTaken (w : W) (v : View E K) (k : ℕ) : Type 0 where
     pub event : E
@@ -95,12 +114,14 @@ module _ {W E A K : Type 0} (p : Plane W E A K) where
     pub own : speaks v.role (p.actor event) ≡ true
     pub names : p.names (led w before) event ≡ Some k
 
-  -- a view has seen a beginning of the events, behind which there is none of its own
+  -- A view has seen a beginning of the events, behind which there is none of its own. Who had seen less, and was made one with it, had seen a beginning of that,
+  -- behind which there is none of his.
   pub record Fits (w : W) (events : List E) (v : View E K) : Type 0 where
     pub later : List E
     pub whole : events ≡ later ++ v.seen
     pub quiet : Quiet v.role later
     pub hand : (k : ℕ) → v.hand ≡ Some k → HasTaken w v k
+    pub met : HasMet v.met v.seen
 
   pub record IsOut (views : List (View E K)) (k : ℕ) : Type 0 where
     pub id : ℕ
@@ -168,36 +189,43 @@ module _ {W E A K : Type 0} (p : Plane W E A K) where
 
   -- the view of the first seat, which speaks for all
   abbrev pub first_view : K → View E K
-  first_view key = record { about = Some key; role = Rest 0; seen = []; hand = None; desk = false }
+  first_view key = record { about = Some key; role = Rest 0; seen = []; hand = None; desk = false; met = None }
 
   abbrev pub left_view : View E K → View E K
-  left_view v = record { about = v.about; role = left_role v.role; seen = v.seen; hand = v.hand; desk = v.desk }
+  left_view v = record { about = v.about; role = left_role v.role; seen = v.seen; hand = v.hand; desk = v.desk; met = v.met }
 
   abbrev pub right_view : View E K → View E K
-  right_view v = record { about = v.about; role = right_role v.role; seen = v.seen; hand = None; desk = false }
+  right_view v = record { about = v.about; role = right_role v.role; seen = v.seen; hand = None; desk = false; met = v.met }
 
   abbrev pub longer : List E → List E → List E
   longer xs ys = if nat_le (length xs) (length ys) then ys else xs
 
+  -- which of two has seen less, and what
+  abbrev pub behind : View E K → View E K → Role × List E
+  behind v u = if nat_le (length v.seen) (length u.seen) then (v.role, v.seen) else (u.role, u.seen)
+
   abbrev pub both_view : View E K → View E K → View E K
-  both_view v u = record { about = v.about; role = Both (number_of v.role) (number_of u.role); seen = longer v.seen u.seen; hand = None; desk = false }
+  both_view v u = record { about = v.about; role = Both (number_of v.role) (number_of u.role); seen = longer v.seen u.seen; hand = None; desk = v.desk; met = Some (behind v u) }
 
   abbrev pub spent_view : View E K
-  spent_view = record { about = None; role = Spent; seen = []; hand = None; desk = false }
+  spent_view = record { about = None; role = Spent; seen = []; hand = None; desk = false; met = None }
 
-  -- a view whose seat has sat down at its desk
-  abbrev pub at_desk_view : View E K → View E K
-  at_desk_view v = record { about = v.about; role = v.role; seen = v.seen; hand = v.hand; desk = true }
+  -- a view whose seat sits at its desk, or doesn't
+  abbrev pub with_desk : View E K → Bool → View E K
+  with_desk v desk = record { about = v.about; role = v.role; seen = v.seen; hand = v.hand; desk = desk; met = v.met }
 
-  -- what sitting down tells: the desk's slot is the newest in hand
-  abbrev pub SatDown : ℕ → View E K → List (ℕ × Held A E) → ℕ → Me (Held A E) (View E K) → Type 0
-  SatDown number v c n m = (m.0 ≡ at_desk_view v) × ((x : Held A E) × (m.1 ≡ (p.slots + number, x) ∷ c))
+  -- What sitting down tells: the desk's slot is the newest in hand, and the seat has seen what who was made one with it had seen.
+  pub record SatDown (number : ℕ) (v : View E K) (c : List (ℕ × Held A E)) (m : Me (Held A E) (View E K)) : Type 0 where
+    pub view : m.0 ≡ with_desk v true
+    pub note : Held A E
+    pub desk : m.1 ≡ (p.slots + number, note) ∷ c
+    pub met : HasMet v.met v.seen
+
+  -- what getting up tells: the desk's slot, which was the newest in hand, has gone home
+  abbrev pub GotUp : View E K → List (ℕ × Held A E) → Me (Held A E) (View E K) → Type 0
+  GotUp v c m = m ≡ (with_desk v false, c)
 
   -- what a step's word goes through, whatever others have done before it
   abbrev pub Changes : K → View E K → List E → E → ℕ → (ℕ → ℕ) → Type 0
   Changes key v own e i f = (later : List E) → Quiet v.role later
       → p.words (led (p.opening key) (e ∷ (own ++ (later ++ v.seen)))) ≡ slice_set (p.words (led (p.opening key) (later ++ v.seen))) i (f (slice_index_or (p.words (led (p.opening key) (later ++ v.seen))) i 0))
-
-  -- the one list of events is a beginning of the other; it is its end, since the newest stand first
-  abbrev pub IsSeenBy : List E → List E → Type 0
-  IsSeenBy less more = (later : List E) × (more ≡ later ++ less)

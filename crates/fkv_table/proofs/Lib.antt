@@ -1,6 +1,15 @@
 pub mod Called
+pub mod KeeperCalled
+pub mod KeeperNotes
+pub mod KeeperSettled
+pub mod KeeperSteps
 pub mod Laid
+pub mod LaidWords
 pub mod Lives
+pub mod Meets
 pub mod Moved
+pub mod Ready
+pub mod Seating
 pub mod Settled
+pub mod Starts
 pub mod Steps

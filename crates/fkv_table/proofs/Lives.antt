@@ -76,7 +76,7 @@ other_keeper (Commits kind) other = absurd (other refl)
 other_keeper Turns other = absurd (other refl)
 other_keeper (KeeperMoves granted done) other = absurd (other refl)
 
-changed_there : {A : Type 0} (words : List ℕ) (ask : Ask A) (place : ℕ) → asked_place ask ≡ Some place → words_after words ask ≡ set words place (asked ask (get_or words place 0))
+pub changed_there : {A : Type 0} (words : List ℕ) (ask : Ask A) (place : ℕ) → asked_place ask ≡ Some place → words_after words ask ≡ set words place (asked ask (get_or words place 0))
 changed_there words ask place e = ap (λ (at : Option ℕ). words_changed words at (asked ask)) e
 
 changed_length : (words : List ℕ) (at : Option ℕ) (f : ℕ → ℕ) → length (words_changed words at f) ≡ length words

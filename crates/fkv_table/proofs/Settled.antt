@@ -55,11 +55,11 @@ unfolding sitting_ask
 idle_is k s (Idle it) its idle asks = cc
 idle_is k s step its idle asks = cc
 
-not_done : {A : Type 0} (ask : Ask A) (place : ℕ) → asked_place ask ≡ Some place → is_done ask ≡ false
+pub not_done : {A : Type 0} (ask : Ask A) (place : ℕ) → asked_place ask ≡ Some place → is_done ask ≡ false
 not_done (Done its) place e = no_some place e
 not_done ask place e = refl
 
-none_there : (actions : List (Option Action)) (k : ℕ) → action_in (slice_set actions k None) k ≡ None
+pub none_there : (actions : List (Option Action)) (k : ℕ) → action_in (slice_set actions k None) k ≡ None
 none_there [] k = refl
 none_there (x ∷ xs) zero = refl
 none_there (x ∷ xs) (suc k) = none_there xs k
@@ -72,7 +72,7 @@ in_drawer (x ∷ xs) = of x.1
     of (Drain its) = its
     of other = None
 
-same_in_hand : (slot other : ℕ) (its more : Option Action) (c d : List (ℕ × Slot)) → ◌≡◌ {A = List (ℕ × Slot)} ((slot, Drain its) ∷ c) ((other, Drain more) ∷ d) → its ≡ more
+pub same_in_hand : (slot other : ℕ) (its more : Option Action) (c d : List (ℕ × Slot)) → ◌≡◌ {A = List (ℕ × Slot)} ((slot, Drain its) ∷ c) ((other, Drain more) ∷ d) → its ≡ more
 unfolding in_drawer
 same_in_hand slot other its more c d e = ap in_drawer e
 

@@ -29,10 +29,10 @@ use Rattle.fkv_table.specs.Sits.{IsSeated, Replied, called_after}
 use Rattle.fkv_table.proofs.Laid.{below, laid_found}
 use Rattle.fkv_table.proofs.Lives.{are_starts, is_there, own_step, place_within, same_chair, slot_facts, stands, start_words, writes_laid}
 
-same_some : {X : Type 0} (i j : X) → ◌≡◌ {A = Option X} (Some i) (Some j) → i ≡ j
+pub same_some : {X : Type 0} (i j : X) → ◌≡◌ {A = Option X} (Some i) (Some j) → i ≡ j
 same_some i j e = cc
 
-step_word : {A : Type 0} (slots : ℕ) (ask : Ask A) (place : ℕ) → asked_place ask ≡ Some place → let st : Step Slot = step_of slots ask in st.word ≡ position place
+pub step_word : {A : Type 0} (slots : ℕ) (ask : Ask A) (place : ℕ) → asked_place ask ≡ Some place → let st : Step Slot = step_of slots ask in st.word ≡ position place
 step_word slots (Load i) place e = ap position (same_some i place e)
 step_word slots (Store i new) place e = ap position (same_some i place e)
 step_word slots (Swap i new) place e = ap position (same_some i place e)
@@ -44,7 +44,7 @@ step_word slots (Take slot) place e = no_some place e
 step_word slots (Done its) place e = no_some place e
 
 -- behind an ask of a word the slot is that of the ask that goes with it
-slot_behind : {A : Type 0} (ask behind : Ask A) (place : ℕ) → asked_place ask ≡ Some place → slot_of_step ask behind ≡ slot_asked behind
+pub slot_behind : {A : Type 0} (ask behind : Ask A) (place : ℕ) → asked_place ask ≡ Some place → slot_of_step ask behind ≡ slot_asked behind
 slot_behind (Put slot action) behind place e = no_some place e
 slot_behind (Take slot) behind place e = no_some place e
 slot_behind (Done its) behind place e = no_some place e

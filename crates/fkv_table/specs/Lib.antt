@@ -2,7 +2,12 @@ pub mod Asks
 pub mod Calls
 pub mod Desks
 pub mod Events
+pub mod KeeperCalls
+pub mod Keeps
+pub mod Meets
 pub mod Openings
 pub mod Planes
 pub mod Positions
+pub mod Seating
 pub mod Sits
+pub mod Starts

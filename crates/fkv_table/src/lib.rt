@@ -1,8 +1,13 @@
 //! The threaded store: the engine's words lie in a table that threads share, and each session makes its calls there by a pass of its own.
 #![tactic(auto)]
 
+mod closing;
 mod crossing;
+mod desks;
 mod happenings;
+mod joining;
+mod keepers;
+mod opening;
 mod performing;
 mod plays;
 mod positions;
@@ -11,6 +16,9 @@ mod sessions;
 
 pub use crossing::crosses;
 pub use happenings::Happening;
+pub use joining::join;
+pub use keepers::{Keeper, KeeperPass};
+pub use opening::OpenTable;
 pub use positions::law_positions;
 pub use rule::{Engine, Pass, Table};
 pub use sessions::Session;

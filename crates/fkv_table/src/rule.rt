@@ -36,11 +36,13 @@ impl<D: Device> TableRule<Slot, Knows<D>, Opening<D>> for Engine<D> {
 }
 
 /// The shared words, with the drain slots and the desks. Threads share it by reference.
+#[derive(Drop)]
 pub struct Table<D: Device> {
     pub(crate) table: atomic_table::Table<Slot, Knows<D>, Opening<D>, Engine<D>, Global>,
 }
 
 /// The right of one session to step at the table. It has no bytes.
+#[derive(Drop)]
 pub struct Pass<D: Device> {
     pub(crate) seat: Place<D>,
 }

@@ -1,6 +1,7 @@
 -- The law, by what each thing that a seat may do keeps.
 use Rattle.fkv_seats.proofs.Keeps.{allows}
-use Rattle.fkv_seats.proofs.Seats.{splits, joins, opens, sits_down}
+use Rattle.fkv_seats.proofs.Seats.{splits, joins, both_go_on, opens}
+use Rattle.fkv_seats.proofs.Desks.{sits_down, gets_up}
 use Rattle.fkv_seats.proofs.laws.law_seats.Goals as goal
 
 pub returns-clause-opens : goal.returns-clause-opens
@@ -15,5 +16,11 @@ returns-clause-splits g c = λ plane. splits plane
 pub returns-clause-joins : goal.returns-clause-joins
 returns-clause-joins g c = λ plane. joins plane
 
+pub returns-clause-meets : goal.returns-clause-meets
+returns-clause-meets g c = λ plane. both_go_on plane
+
 pub returns-clause-sits : goal.returns-clause-sits
 returns-clause-sits g c = λ plane. sits_down plane
+
+pub returns-clause-gets_up : goal.returns-clause-gets_up
+returns-clause-gets_up g c = λ plane. gets_up plane

@@ -1,0 +1,105 @@
+-- How the seats of a table begin, and that it begins by its rule.
+use Rattle.std.proofs.Common.{◌≡◌, ℕ, zero, suc, ◌+◌, ◌≤◌, refl, sym, ap, subst, ◌∙◌, true, false, true≢false, List, [], ◌∷◌, length}
+use Rattle.std.specs.Prelude.{Option, Some, None, replicate, slice_get}
+use Rattle.std.proofs.lemmas.List.{length-replicate}
+use mathlib.Core.Option.{none, some, some-injective, some-ne-none}
+use lib.ListN.{get_elem?}
+use Rattle.atomic_table.specs.Seated.{TableId}
+use Rattle.atomic_table.specs.Table.{Me, Splits, opening}
+use Rattle.fkv_base.specs.Limits.{drain_slots}
+use Rattle.fkv_plane.specs.declared.actions.Action.{Action}
+use Rattle.fkv_session.specs.Sessions.{Seat, Sitter}
+use Rattle.fkv_world.specs.Opened.{IsOpenedWorld}
+use Rattle.fkv_world.specs.Runs.{World}
+use Rattle.fkv_world.specs.World.{seat_at}
+use Rattle.fkv_seats.specs.declared.held.Held.TheVariants.{Drain}
+use Rattle.fkv_seats.specs.declared.views.Role.TheVariants.{Sits}
+use Rattle.fkv_seats.specs.Rule.{HandFits, Ruled, SatDown, action_in, base, desk_of, first_view, led, left_view, right_view, with_desk}
+use Rattle.fkv_seats.proofs.Seats.{opens, splits}
+use Rattle.fkv_table.specs.Desks.{Slot, Knows}
+use Rattle.fkv_table.specs.Openings.{IsGuardedOpening}
+use Rattle.fkv_table.specs.Planes.{plane}
+use Rattle.fkv_table.specs.Positions.{gaps, laid}
+use Rattle.fkv_table.specs.Seating.{MaySit}
+use Rattle.fkv_table.specs.Starts.{HasSeat, IsFresh, rest_view, seat_view}
+
+all_empty : (count k : ℕ) (x : Slot) → get_elem? (replicate count (Drain None)) k ≡ some x → x ≡ Drain None
+all_empty zero k x g = absurd (some-ne-none x (sym g))
+all_empty (suc count) zero x g = sym (some-injective _ _ g)
+all_empty (suc count) (suc k) x g = all_empty count k x g
+
+none_in : (count k : ℕ) → action_in {A = Action} (replicate count None) k ≡ None
+none_in zero k = refl
+none_in (suc count) zero = refl
+none_in (suc count) (suc k) = none_in count k
+
+module _ {K : Type 0} (at : K → World) (key : K) where
+  -- a table whose words are the opened world's, with empty slots
+  pub opens_so : (words : List ℕ) (count : ℕ) → words ≡ laid (at key).now.words → (at key).now.actions ≡ replicate drain_slots None → drain_slots ≤ count
+      → Ruled (plane at) key (opening words (replicate count (Drain None)) (first_view (plane at) key))
+  opens_so words count is none_there low =
+      opens (plane at) key words (replicate count (Drain None)) is (subst (λ (n : ℕ). drain_slots ≤ n) (sym (length-replicate {A = Slot} count (Drain None))) low)
+      (λ k x l g. all_empty count k x g ∙ ap (λ (its : Option Action). Drain its) (sym (ap (λ (actions : List (Option Action)). action_in actions k) none_there ∙ none_in drain_slots k)))
+
+  -- a session's seat is cut off from the rest
+  pub splits_rest : (id number : ℕ) (v : Knows K) → v ≡ rest_view key number → Splits (Ruled (plane at) key) id v (left_view (plane at) v) (right_view (plane at) v)
+  splits_rest id number v is =
+      subst (λ (x : Knows K). Splits (Ruled (plane at) key) id x (left_view (plane at) x) (right_view (plane at) x)) (sym is) (splits (plane at) key id (rest_view key number) refl (λ sits. absurd (true≢false (sym sits))) tt)
+
+  module _ (number : ℕ) (rest right : Me Slot (Knows K)) (rest_is : rest ≡ (rest_view key number, [])) (right_is : right ≡ (right_view (plane at) rest.0, [])) where
+    right_so : right ≡ (right_view (plane at) (rest_view key number), [])
+    right_so = right_is ∙ λ i. (right_view (plane at) (rest_is i).0, [])
+
+    pub whose : desk_of right.0.role ≡ Some number
+    whose = ap (λ (x : Me Slot (Knows K)). desk_of x.0.role) right_so
+
+    pub no_desk : right.0.desk ≡ false
+    no_desk = ap (λ (x : Me Slot (Knows K)). x.0.desk) right_so
+
+    pub seat_so : (table seat : TableId) (back : Me Slot (Knows K)) → seat ≡ table → SatDown (plane at) number right.0 right.1 back → HasSeat key table number seat back
+    seat_so table seat back same sat =
+        let view : back.0 ≡ seat_view key number = sat.view ∙ ap (λ (x : Me Slot (Knows K)). with_desk (plane at) x.0 true) right_so in
+        let held : back.1 ≡ (drain_slots + number, sat.note) ∷ [] = sat.desk ∙ ap (λ (x : Me Slot (Knows K)). (drain_slots + number, sat.note) ∷ x.1) right_so in
+        record { same_table = same; note = sat.note; its = λ i. (view i, held i) }
+
+  -- what is left of the rest
+  pub rest_so : (number : ℕ) (rest rest' : Me Slot (Knows K)) → rest ≡ (rest_view key number, []) → rest' ≡ (left_view (plane at) rest.0, rest.1) → rest' ≡ (rest_view key (number + 1), [])
+  rest_so number rest rest' is cut = cut ∙ λ i. (left_view (plane at) (is i).0, (is i).1)
+
+  -- a session with its seat
+  pub fresh_so : (table seat : TableId) (number : ℕ) (m : Sitter) (desk : ℕ) (me : Me Slot (Knows K)) → HasSeat key table number seat me → desk ≡ drain_slots + number
+      → m.seat ≡ seat_at (at key).now number → slice_get (at key).now.sessions number ≡ Some m.state → IsOpenedWorld (at key)
+      → table.words ≡ length (at key).now.words + gaps → table.slots ≡ drain_slots + ((at key).now.places.sessions + 1) → IsFresh at key table number m desk seat me
+  unfolding led
+  fresh_so table seat number m desk me has desk_is chair there opened words slots =
+      let number_is : m.seat.number ≡ number = ap (λ (k : Seat). k.number) chair in
+      let view : me.0 ≡ seat_view key number = ap (λ (x : Me Slot (Knows K)). x.0) has.its in
+      let held : me.1 ≡ (drain_slots + number, has.note) ∷ [] = ap (λ (x : Me Slot (Knows K)). x.1) has.its in
+      let empty : me.0.hand ≡ None = ap (λ (v : Knows K). v.hand) view in
+      let nothing : me.0.seen ≡ [] = ap (λ (v : Knows K). v.seen) view in
+      record {
+        ready = λ guard. record {
+          opened = record { opening = guard; words = words; slots = slots };
+          same_table = has.same_table;
+          seated = record {
+            about = ap (λ (v : Knows K). v.about) view;
+            role = ap (λ (v : Knows K). v.role) view ∙ ap (λ (n : ℕ). Sits n) (sym number_is);
+            chair = chair ∙ ap (seat_at (at key).now) (sym number_is);
+            first = m.state;
+            was = (λ i. slice_get (led (plane at) (at key) (nothing i)).now.sessions (number_is i)) ∙ there;
+            calls = tt;
+            state = refl;
+            hand = subst (λ (hand : Option ℕ). HandFits (plane at) (at key) me.0.seen hand me.1) (sym empty) tt;
+          };
+          idle = (opened.sessions number m.state there).none_in_hand;
+          at_desk = record {
+            note = has.note;
+            alone = subst (λ (hand : Option ℕ). base (plane at) hand me.1 ≡ (desk, has.note) ∷ []) (sym empty) (held ∙ λ i. (sym desk_is i, has.note) ∷ []);
+            sits = ap (λ (v : Knows K). v.desk) view;
+          };
+          empty = empty;
+          its_desk = desk_is ∙ ap (λ (n : ℕ). drain_slots + n) (sym number_is);
+        };
+        numbered = number_is;
+        nothing_seen = nothing;
+      }

@@ -1,0 +1,40 @@
+-- The call of the device stands in the list, as it has ended.
+use Rattle.std.proofs.Common.{true, false}
+use Rattle.fkv_table.specs.Planes.{opening_of}
+use Rattle.fkv_table.proofs.KeeperNotes.{spares_call}
+use Rattle.fkv_table.proofs.KeeperCalled.{after_on, called_on, went_on}
+use Rattle.fkv_table.proofs.keepers.call_device.Goals as goal
+
+pub note-requires-clause-spares : goal.note-requires-clause-spares
+note-requires-clause-spares g c = spares_call (opening_of g.D.Device.seen) _ _ c.args.machine.now c.requires.table.1.opening c.requires.keeping true true c.requires.ask
+
+pub note-requires-in-Err-clause-spares : goal.note-requires-in-Err-clause-spares
+note-requires-in-Err-clause-spares g c = spares_call (opening_of g.D.Device.seen) _ _ c.args.machine.now c.requires.table.1.opening c.requires.keeping true false c.requires.ask
+
+pub returns-in-Ok-clause-keeping : goal.returns-in-Ok-clause-keeping
+returns-in-Ok-clause-keeping g c =
+    called_on (opening_of g.D.Device.seen) _ _ c.args.machine.now c.requires.table.1.opening c.requires.keeping c.requires.ask true c.note.new.seat.me c.note.ensures.noted (g.D.Device.seen c.args.d.now) (g.D.Device.may_leave c.args.d.now) c.requires.after
+    c.call_device.new.self (c.in-Ok.ensures.read c.requires.honest)
+
+pub returns-in-Ok-clause-went : goal.returns-in-Ok-clause-went
+returns-in-Ok-clause-went g c =
+    went_on (opening_of g.D.Device.seen) _ _ c.args.machine.now c.requires.table.1.opening c.requires.keeping c.requires.ask true c.note.new.seat.me c.note.ensures.noted (g.D.Device.seen c.args.d.now) (g.D.Device.may_leave c.args.d.now) c.requires.after
+
+pub returns-in-Ok-clause-after : goal.returns-in-Ok-clause-after
+returns-in-Ok-clause-after g c =
+    after_on (opening_of g.D.Device.seen) _ _ c.args.machine.now c.requires.table.1.opening c.requires.keeping c.requires.ask true c.note.new.seat.me c.note.ensures.noted (g.D.Device.seen c.args.d.now) (g.D.Device.may_leave c.args.d.now) c.requires.after
+    (g.D.Device.seen c.call_device.new.d) (g.D.Device.may_leave c.call_device.new.d) (c.in-Ok.ensures.calls c.requires.honest)
+
+pub returns-in-Err-clause-keeping : goal.returns-in-Err-clause-keeping
+returns-in-Err-clause-keeping g c =
+    called_on (opening_of g.D.Device.seen) _ _ c.args.machine.now c.requires.table.1.opening c.requires.keeping c.requires.ask false c.note-in-Err.new.seat.me c.note-in-Err.ensures.noted (g.D.Device.seen c.args.d.now) (g.D.Device.may_leave c.args.d.now) c.requires.after
+    c.call_device.new.self (c.in-Err.ensures.read c.requires.honest)
+
+pub returns-in-Err-clause-went : goal.returns-in-Err-clause-went
+returns-in-Err-clause-went g c =
+    went_on (opening_of g.D.Device.seen) _ _ c.args.machine.now c.requires.table.1.opening c.requires.keeping c.requires.ask false c.note-in-Err.new.seat.me c.note-in-Err.ensures.noted (g.D.Device.seen c.args.d.now) (g.D.Device.may_leave c.args.d.now) c.requires.after
+
+pub returns-in-Err-clause-after : goal.returns-in-Err-clause-after
+returns-in-Err-clause-after g c =
+    after_on (opening_of g.D.Device.seen) _ _ c.args.machine.now c.requires.table.1.opening c.requires.keeping c.requires.ask false c.note-in-Err.new.seat.me c.note-in-Err.ensures.noted (g.D.Device.seen c.args.d.now) (g.D.Device.may_leave c.args.d.now) c.requires.after
+    (g.D.Device.seen c.call_device.new.d) (g.D.Device.may_leave c.call_device.new.d) (c.in-Err.ensures.calls c.requires.honest)

@@ -1,0 +1,359 @@
+//! The keeper's calls at the table.
+ghost use Rattle.std.specs.Prelude.{◌≡◌, ◌<◌, ◌≤◌, ◌↔◌, ℕ, Bool, Some, None, [], true, false, is_some, is_ok};
+ghost use Rattle.fkv_base.specs.declared.commits.CommitKind.TheVariants.{Full, Log};
+ghost use Rattle.fkv_checkpoint.specs.Copying.{IsRoomFor};
+ghost use Rattle.fkv_keeper.specs.Answers.{is_busy};
+ghost use Rattle.fkv_keeper.specs.Keeping.{keeper_ask};
+ghost use Rattle.fkv_keeper.specs.KeeperAsks.{keeper_asks_left};
+ghost use Rattle.fkv_keeper.specs.KeeperRun.{is_in_hand};
+ghost use Rattle.fkv_keeper.specs.Running.{IsTurnTold};
+ghost use Rattle.fkv_keeper.specs.declared.answers.KeeperTold.TheVariants.{Device as AtDevice};
+ghost use Rattle.fkv_plane.specs.Asked.{asked_place};
+ghost use Rattle.fkv_plane.specs.declared.asks.Ask.TheVariants.{Done};
+ghost use Rattle.fkv_seats.specs.Rule.{HandFits, led};
+ghost use Rattle.fkv_table.specs.declared.happenings.Happening.TheVariants.{Commits, KeeperMoves, Turns};
+ghost use Rattle.fkv_table.specs.KeeperCalls.{HasGoneOn, HasKept};
+ghost use Rattle.fkv_table.specs.Keeps.{IsAfterSeen, IsKeeping, IsKeeperReady, IsNoted, KeeperIsAsked, KeeperReplied, KeeperSettled, Spares};
+ghost use Rattle.fkv_table.specs.Openings.{IsTableOf};
+ghost use Rattle.fkv_table.specs.Planes.{plane, opening_of};
+
+use crate::performing::perform;
+use crate::rule::{Knows, Place, Slot, Table, Words};
+use atomic_table::Play;
+use fkv_base::{CommitKind, Fault};
+use fkv_checkpoint::CopyRoom;
+use fkv_disk::Device;
+use fkv_keeper::{KeeperAsk, KeeperTold, Turn};
+use fkv_plane::Ask;
+use fkv_seats::Held;
+use std::marker::PhantomData;
+
+/// The keeper of a store that threads share.
+#[derive(Drop)]
+pub struct Keeper {
+    pub(crate) machine: fkv_keeper::Keeper,
+}
+
+/// The right of the keeper to step at the table. It has no bytes.
+#[derive(Drop)]
+pub struct KeeperPass<D: Device> {
+    pub(crate) seat: Place<D>,
+}
+
+/// An event of the keeper's.
+pub(crate) trait OfKeeper {
+    ghost use Rattle.fkv_table.specs.declared.happenings.Happening.{Happening};
+
+    ghost its: { Happening };
+}
+
+/// A turn begins.
+pub(crate) struct Turning;
+
+impl OfKeeper for Turning {
+    ghost use Rattle.fkv_table.specs.declared.happenings.Happening.TheVariants.{Turns};
+
+    ghost its = { Turns };
+}
+
+/// A full commit begins.
+pub(crate) struct FullCommit;
+
+impl OfKeeper for FullCommit {
+    ghost use Rattle.fkv_base.specs.declared.commits.CommitKind.TheVariants.{Full};
+    ghost use Rattle.fkv_table.specs.declared.happenings.Happening.TheVariants.{Commits};
+
+    ghost its = { Commits Full };
+}
+
+/// A log commit begins.
+pub(crate) struct LogCommit;
+
+impl OfKeeper for LogCommit {
+    ghost use Rattle.fkv_base.specs.declared.commits.CommitKind.TheVariants.{Log};
+    ghost use Rattle.fkv_table.specs.declared.happenings.Happening.TheVariants.{Commits};
+
+    ghost its = { Commits Log };
+}
+
+/// A step of the keeper's, with memory for a copy. A call of the device that has succeeded is one too.
+pub(crate) struct Granted;
+
+impl OfKeeper for Granted {
+    ghost use Rattle.std.specs.Prelude.{true};
+    ghost use Rattle.fkv_table.specs.declared.happenings.Happening.TheVariants.{KeeperMoves};
+
+    ghost its = { KeeperMoves true true };
+}
+
+/// A step of the keeper's, without it.
+pub(crate) struct Ungranted;
+
+impl OfKeeper for Ungranted {
+    ghost use Rattle.std.specs.Prelude.{false, true};
+    ghost use Rattle.fkv_table.specs.declared.happenings.Happening.TheVariants.{KeeperMoves};
+
+    ghost its = { KeeperMoves false true };
+}
+
+/// A call of the device that has failed.
+pub(crate) struct Failed;
+
+impl OfKeeper for Failed {
+    ghost use Rattle.std.specs.Prelude.{false, true};
+    ghost use Rattle.fkv_table.specs.declared.happenings.Happening.TheVariants.{KeeperMoves};
+
+    ghost its = { KeeperMoves true false };
+}
+
+/// What a step of the keeper tells.
+pub(crate) struct Adding<E> {
+    kind: PhantomData<E>,
+}
+
+impl<D: Device, E: OfKeeper> Play<Slot, Knows<D>> for Adding<E> {
+    ghost use Rattle.fkv_table.specs.Keeps.{adding};
+    ghost use Rattle.fkv_table.specs.Planes.{opening_of};
+
+    ghost then = { adding (opening_of D.seen) E.its };
+}
+
+/// Adds an event of the keeper's that changes no word, by a load of the epoch's word.
+pub(crate) fn note<D: Device, E: OfKeeper>(words: &Words<D>, seat: &mut Place<D>)
+    requires table { (seat.old.table_id ≡ words.now.table_id) × IsTableOf (opening_of D.seen words.now.key) words.now.table_id }
+    requires about { seat.old.me.0.about ≡ Some words.now.key }
+    requires spares { Spares (opening_of D.seen) words.now.key seat.old.me E.its }
+    requires hand { HandFits (plane (opening_of D.seen)) (opening_of D.seen words.now.key) seat.old.me.0.seen seat.old.me.0.hand seat.old.me.1 }
+    ensures seat { (seat.new.table_id ≡ seat.old.table_id) × (seat.new.id ≡ seat.old.id) }
+    ensures noted { IsNoted (opening_of D.seen) words.now.key seat.old.me E.its seat.new.me }
+{
+    let _ = words.load::<Adding<E>>(seat, 0);
+}
+
+/// Begins a turn, and adds that to the list.
+pub(crate) fn begin_turn<D: Device>(
+    words: &Words<D>,
+    seat: &mut Place<D>,
+    machine: &mut fkv_keeper::Keeper,
+)
+    requires table { (seat.old.table_id ≡ words.now.table_id) × IsTableOf (opening_of D.seen words.now.key) words.now.table_id }
+    requires keeping { IsKeeping (opening_of D.seen) words.now.key seat.old.me machine.old }
+    requires idle { is_in_hand machine.old.state.step ≡ false }
+    ensures seat { (seat.new.table_id ≡ seat.old.table_id) × (seat.new.id ≡ seat.old.id) }
+    ensures noted { IsNoted (opening_of D.seen) words.now.key seat.old.me Turns seat.new.me }
+    ensures keeping { IsKeeping (opening_of D.seen) words.now.key seat.new.me machine.new }
+{
+    machine.begin_turn();
+    note::<D, Turning>(words, seat);
+}
+
+/// Begins a commit, and adds that to the list.
+pub(crate) fn begin_commit<D: Device>(
+    words: &Words<D>,
+    seat: &mut Place<D>,
+    machine: &mut fkv_keeper::Keeper,
+    kind: CommitKind,
+)
+    requires table { (seat.old.table_id ≡ words.now.table_id) × IsTableOf (opening_of D.seen words.now.key) words.now.table_id }
+    requires keeping { IsKeeping (opening_of D.seen) words.now.key seat.old.me machine.old }
+    requires idle { is_in_hand machine.old.state.step ≡ false }
+    ensures seat { (seat.new.table_id ≡ seat.old.table_id) × (seat.new.id ≡ seat.old.id) }
+    ensures noted { IsNoted (opening_of D.seen) words.now.key seat.old.me (Commits kind) seat.new.me }
+    ensures keeping { IsKeeping (opening_of D.seen) words.now.key seat.new.me machine.new }
+{
+    machine.begin_commit(kind);
+    match kind {
+        CommitKind::Full => note::<D, FullCommit>(words, seat),
+        CommitKind::Log => note::<D, LogCommit>(words, seat),
+    }
+}
+
+/// Makes the ask of a word that the machine stands at, and goes on with the reply and with what memory was got.
+fn ask_word<D: Device, E: OfKeeper>(
+    words: &Words<D>,
+    seat: &mut Place<D>,
+    machine: &mut fkv_keeper::Keeper,
+    ask: &Ask<KeeperTold>,
+    room: Option<CopyRoom>,
+) -> Ask<KeeperTold>
+    requires table { (seat.old.table_id ≡ words.now.table_id) × IsTableOf (opening_of D.seen words.now.key) words.now.table_id }
+    requires event { E.its ≡ KeeperMoves (is_some room) true }
+    requires room { IsRoomFor machine.old.places room }
+    requires keeping { IsKeeping (opening_of D.seen) words.now.key seat.old.me machine.old }
+    requires ask { ask.now ≡ keeper_ask machine.old.shape machine.old.places machine.old.state }
+    requires word { (place : ℕ) × (asked_place ask.now ≡ Some place) }
+    ensures seat { (seat.new.table_id ≡ seat.old.table_id) × (seat.new.id ≡ seat.old.id) }
+    ensures replied { KeeperReplied (opening_of D.seen) words.now.key seat.old.me (is_some room) machine.old seat.new.me machine.new }
+    ensures ask { result ≡ keeper_ask machine.new.shape machine.new.places machine.new.state }
+{
+    let reply = perform::<D, Adding<E>, KeeperTold>(words, seat, ask);
+    machine.go_on_with(reply, room)
+}
+
+/// The same, where the event is by what memory was got.
+fn ask_by_room<D: Device>(
+    words: &Words<D>,
+    seat: &mut Place<D>,
+    machine: &mut fkv_keeper::Keeper,
+    ask: &Ask<KeeperTold>,
+    room: Option<CopyRoom>,
+) -> Ask<KeeperTold>
+    requires table { (seat.old.table_id ≡ words.now.table_id) × IsTableOf (opening_of D.seen words.now.key) words.now.table_id }
+    requires room { IsRoomFor machine.old.places room }
+    requires keeping { IsKeeping (opening_of D.seen) words.now.key seat.old.me machine.old }
+    requires ask { ask.now ≡ keeper_ask machine.old.shape machine.old.places machine.old.state }
+    requires word { (place : ℕ) × (asked_place ask.now ≡ Some place) }
+    ensures seat { (seat.new.table_id ≡ seat.old.table_id) × (seat.new.id ≡ seat.old.id) }
+    ensures replied { KeeperReplied (opening_of D.seen) words.now.key seat.old.me (is_some room) machine.old seat.new.me machine.new }
+    ensures ask { result ≡ keeper_ask machine.new.shape machine.new.places machine.new.state }
+{
+    if room.is_some() {
+        ask_word::<D, Granted>(words, seat, machine, ask, room)
+    } else {
+        ask_word::<D, Ungranted>(words, seat, machine, ask, room)
+    }
+}
+
+/// Moves the action that goes with the reply, if one does.
+fn settle<D: Device>(
+    words: &Words<D>,
+    seat: &mut Place<D>,
+    machine: &mut fkv_keeper::Keeper,
+    next: Ask<KeeperTold>,
+) -> Ask<KeeperTold>
+    requires table { seat.old.table_id ≡ words.now.table_id }
+    requires ask { next ≡ keeper_ask machine.old.shape machine.old.places machine.old.state }
+    requires hand { KeeperIsAsked (opening_of D.seen) next seat.old.me }
+    ensures seat { (seat.new.table_id ≡ seat.old.table_id) × (seat.new.id ≡ seat.old.id) }
+    ensures settled { KeeperSettled (opening_of D.seen) next seat.old.me machine.old seat.new.me machine.new }
+    ensures ask { result ≡ keeper_ask machine.new.shape machine.new.places machine.new.state }
+{
+    match next {
+        Ask::Put(slot, action) => {
+            let _ = words.exchange(seat, slot, Held::Drain(Some(action)));
+            machine.go_on_with(0, None)
+        }
+        Ask::Take(slot) => match words.exchange(seat, slot, Held::Drain(None)) {
+            Held::Drain(Some(action)) => machine.take(action),
+            _ => Ask::Take(slot),
+        },
+        other => other,
+    }
+}
+
+/// Makes the ask of a word that the machine stands at, with the action that goes with it: one step of the keeper. Memory for a copy that
+/// the step may begin is asked for before.
+fn step<D: Device>(
+    words: &Words<D>,
+    seat: &mut Place<D>,
+    machine: &mut fkv_keeper::Keeper,
+    ask: &Ask<KeeperTold>,
+)
+    requires table { (seat.old.table_id ≡ words.now.table_id) × IsTableOf (opening_of D.seen words.now.key) words.now.table_id }
+    requires keeping { IsKeeping (opening_of D.seen) words.now.key seat.old.me machine.old }
+    requires ask { ask.now ≡ keeper_ask machine.old.shape machine.old.places machine.old.state }
+    requires word { (place : ℕ) × (asked_place ask.now ≡ Some place) }
+    ensures seat { (seat.new.table_id ≡ seat.old.table_id) × (seat.new.id ≡ seat.old.id) }
+    ensures keeping { IsKeeping (opening_of D.seen) words.now.key seat.new.me machine.new }
+    ensures went { HasGoneOn seat.old.me.0.seen seat.new.me.0.seen }
+    ensures calls { (led (plane (opening_of D.seen)) (opening_of D.seen words.now.key) seat.new.me.0.seen).past.calls ≡ (led (plane (opening_of D.seen)) (opening_of D.seen words.now.key) seat.old.me.0.seen).past.calls }
+    ensures fewer { keeper_asks_left machine.new.shape machine.new.places machine.new.state < keeper_asks_left machine.old.shape machine.old.places machine.old.state }
+{
+    let room = machine.room();
+    let next = ask_by_room(words, seat, machine, ask, room);
+    settle(words, seat, machine, next);
+}
+
+/// Makes the call of the device that the machine asks for, and adds that to the list.
+fn call_device<D: Device>(
+    words: &Words<D>,
+    seat: &mut Place<D>,
+    machine: &mut fkv_keeper::Keeper,
+    d: &mut D,
+)
+    requires table { (seat.old.table_id ≡ words.now.table_id) × IsTableOf (opening_of D.seen words.now.key) words.now.table_id }
+    requires keeping { IsKeeping (opening_of D.seen) words.now.key seat.old.me machine.old }
+    requires ask { keeper_ask machine.old.shape machine.old.places machine.old.state ≡ Done AtDevice }
+    requires honest { D.honest d.old }
+    requires after { IsAfterSeen (opening_of D.seen) words.now.key seat.old.me.0.seen (D.seen d.old) (D.may_leave d.old) }
+    ensures seat { (seat.new.table_id ≡ seat.old.table_id) × (seat.new.id ≡ seat.old.id) }
+    ensures keeping { IsKeeping (opening_of D.seen) words.now.key seat.new.me machine.new }
+    ensures went { HasGoneOn seat.old.me.0.seen seat.new.me.0.seen }
+    ensures honest { D.honest d.new }
+    ensures after { IsAfterSeen (opening_of D.seen) words.now.key seat.new.me.0.seen (D.seen d.new) (D.may_leave d.new) }
+    ensures fewer { keeper_asks_left machine.new.shape machine.new.places machine.new.state < keeper_asks_left machine.old.shape machine.old.places machine.old.state }
+{
+    match machine.call_device(d) {
+        Ok(_) => note::<D, Granted>(words, seat),
+        Err(_) => note::<D, Failed>(words, seat),
+    }
+}
+
+/// Goes on with the call in hand until it is over.
+fn steps_on<D: Device>(
+    words: &Words<D>,
+    seat: &mut Place<D>,
+    machine: &mut fkv_keeper::Keeper,
+    d: &mut D,
+)
+    requires table { (seat.old.table_id ≡ words.now.table_id) × IsTableOf (opening_of D.seen words.now.key) words.now.table_id }
+    requires keeping { IsKeeping (opening_of D.seen) words.now.key seat.old.me machine.old }
+    requires honest { D.honest d.old }
+    requires after { IsAfterSeen (opening_of D.seen) words.now.key seat.old.me.0.seen (D.seen d.old) (D.may_leave d.old) }
+    ensures seat { (seat.new.table_id ≡ seat.old.table_id) × (seat.new.id ≡ seat.old.id) }
+    ensures keeping { IsKeeping (opening_of D.seen) words.now.key seat.new.me machine.new }
+    ensures went { HasGoneOn seat.old.me.0.seen seat.new.me.0.seen }
+    ensures honest { D.honest d.new }
+    ensures after { IsAfterSeen (opening_of D.seen) words.now.key seat.new.me.0.seen (D.seen d.new) (D.may_leave d.new) }
+    ensures over { is_busy (keeper_ask machine.new.shape machine.new.places machine.new.state) ≡ false }
+{
+    'asks: loop {
+        match machine.ask() {
+            Ask::Done(told) => match told {
+                KeeperTold::Device => call_device(words, seat, machine, d),
+                _ => return,
+            },
+            ask => step(words, seat, machine, &ask),
+        }
+    }
+}
+
+impl Keeper {
+    /// Makes a turn to its end, with each call of the device that it needs. Its answers are those of the keeper's machine: it ends early
+    /// with `Broken`, `Device`, `EpochsSpent` or `Memory`. The device is the one that the store was opened from, and it is honest.
+    pub fn turn<D: Device>(
+        &mut self,
+        table: &Table<D>,
+        mut pass: KeeperPass<D>,
+        d: &mut D,
+    ) -> (KeeperPass<D>, Result<Turn, Fault>)
+        requires ready { IsKeeperReady (opening_of D.seen) table.now.table.shared.key table.now.table.shared.table_id pass.seat.table_id pass.seat.me self.old.machine }
+        requires honest { D.honest d.old }
+        requires after { IsAfterSeen (opening_of D.seen) table.now.table.shared.key pass.seat.me.0.seen (D.seen d.old) (D.may_leave d.old) }
+        ensures ready { IsKeeperReady (opening_of D.seen) table.now.table.shared.key table.now.table.shared.table_id result.0.seat.table_id result.0.seat.me self.new.machine }
+        ensures kept { HasKept Turns pass.seat.me.0.seen result.0.seat.me.0.seen }
+        ensures honest { D.honest d.new }
+        ensures after { IsAfterSeen (opening_of D.seen) table.now.table.shared.key result.0.seat.me.0.seen (D.seen d.new) (D.may_leave d.new) }
+        ensures told { IsTurnTold self.new.machine.state.last (keeper_ask self.new.machine.shape self.new.machine.places self.new.machine.state) result.1 }
+    {
+        let words = &table.table.shared;
+        begin_turn(words, &mut pass.seat, &mut self.machine);
+        steps_on(words, &mut pass.seat, &mut self.machine, d);
+        let answer = turn_told(&mut self.machine);
+        (pass, answer)
+    }
+}
+
+/// How a turn has ended. At rest a reply changes nothing, and the last answer is told again.
+#[tactic(auto, unfolding(fkv_keeper::specs::Keeping::keeping_next))]
+fn turn_told(machine: &mut fkv_keeper::Keeper) -> Result<Turn, Fault>
+    requires over { is_busy (keeper_ask machine.old.shape machine.old.places machine.old.state) ≡ false }
+    requires idle { is_in_hand machine.old.state.step ≡ false }
+    ensures same { machine.new ≡ machine.old }
+    ensures told { IsTurnTold machine.old.state.last (keeper_ask machine.old.shape machine.old.places machine.old.state) result }
+{
+    match machine.drive(0) {
+        KeeperAsk::Turned(result) => result,
+        _ => Err(Fault::DrainFull),
+    }
+}
