@@ -8,6 +8,7 @@ pub mod LaidWords
 pub mod Lives
 pub mod Meets
 pub mod Moved
+pub mod Opens
 pub mod Ready
 pub mod Seating
 pub mod Settled

@@ -1,14 +1,18 @@
 -- How the seats of a table begin, and that it begins by its rule.
-use Rattle.std.proofs.Common.{◌≡◌, ℕ, zero, suc, ◌+◌, ◌≤◌, refl, sym, ap, subst, ◌∙◌, true, false, true≢false, List, [], ◌∷◌, length}
-use Rattle.std.specs.Prelude.{Option, Some, None, replicate, slice_get}
-use Rattle.std.proofs.lemmas.List.{length-replicate}
+use Rattle.std.proofs.Common.{◌≡◌, ℕ, zero, suc, ◌+◌, ◌≤◌, refl, sym, ap, subst, ◌∙◌, true, false, true≢false, List, [], ◌∷◌, ◌++◌, length, map}
+use Rattle.std.specs.Prelude.{Option, Some, None, option_map, replicate, slice_get}
+use Rattle.std.proofs.lemmas.List.{length-map, length-replicate, map-append}
+use Rattle.std.proofs.lemmas.Option.{slice_get-map}
 use mathlib.Core.Option.{none, some, some-injective, some-ne-none}
 use lib.ListN.{get_elem?}
 use Rattle.atomic_table.specs.Seated.{TableId}
 use Rattle.atomic_table.specs.Table.{Me, Splits, opening}
 use Rattle.fkv_base.specs.Limits.{drain_slots}
 use Rattle.fkv_plane.specs.declared.actions.Action.{Action}
-use Rattle.fkv_session.specs.Sessions.{Seat, Sitter}
+use Rattle.fkv_core.specs.Worlds.{AreSeated, state_of, states_of}
+use Rattle.fkv_keeper.specs.Keeping.{KeeperModel}
+use Rattle.fkv_keeper.specs.KeeperRun.{is_in_hand}
+use Rattle.fkv_session.specs.Sessions.{Seat, SessionState, Sitter}
 use Rattle.fkv_world.specs.Opened.{IsOpenedWorld}
 use Rattle.fkv_world.specs.Runs.{World}
 use Rattle.fkv_world.specs.World.{seat_at}
@@ -16,12 +20,34 @@ use Rattle.fkv_seats.specs.declared.held.Held.TheVariants.{Drain}
 use Rattle.fkv_seats.specs.declared.views.Role.TheVariants.{Sits}
 use Rattle.fkv_seats.specs.Rule.{HandFits, Ruled, SatDown, action_in, base, desk_of, first_view, led, left_view, right_view, with_desk}
 use Rattle.fkv_seats.proofs.Seats.{opens, splits}
+use Rattle.fkv_table.specs.declared.happenings.Happening.{Happening}
 use Rattle.fkv_table.specs.Desks.{Slot, Knows}
+use Rattle.fkv_table.specs.Keeps.{IsFreshKeeper}
 use Rattle.fkv_table.specs.Openings.{IsGuardedOpening}
 use Rattle.fkv_table.specs.Planes.{plane}
 use Rattle.fkv_table.specs.Positions.{gaps, laid}
 use Rattle.fkv_table.specs.Seating.{MaySit}
-use Rattle.fkv_table.specs.Starts.{HasSeat, IsFresh, rest_view, seat_view}
+use Rattle.fkv_table.specs.Starts.{EachAt, HasSeat, IsFresh, rest_view, seat_view}
+
+-- what holds of each item at its place, and of one more behind them
+each_more : {X : Type 0} (holds : ℕ → X → Type 0) (xs : List X) (more : X) → EachAt xs holds → holds (length xs) more → EachAt (xs ++ more ∷ []) holds
+each_more holds [] more all its zero x here = let same : more ≡ x = cc in subst (holds 0) same its
+each_more holds [] more all its (suc i) x here = cc
+each_more holds (first ∷ rest) more all its zero x here = all 0 x here
+each_more holds (first ∷ rest) more all its (suc i) x here = each_more (λ n. holds (suc n)) rest more (λ n. all (suc n)) its i x here
+
+-- as many items as what they show
+pub shown_count : {X Y : Type 0} (shows : X → Y) (xs : List X) (ys : List Y) → map shows xs ≡ ys → length xs ≡ length ys
+shown_count shows xs ys shown = sym (length-map xs shows) ∙ ap length shown
+
+-- so it is where each shows one of a list
+pub one_more : {X Y : Type 0} (holds : ℕ → X → Type 0) (shows : X → Y) (xs all : List X) (more : X) (ys : List Y) → all ≡ xs ++ more ∷ [] → map shows xs ≡ ys → EachAt xs holds → holds (length ys) more
+    → (map shows all ≡ ys ++ shows more ∷ []) × EachAt all holds
+one_more {X = X} {Y = Y} holds shows xs all more ys pushed shown each its =
+    let count : length ys ≡ length xs = sym (shown_count shows xs ys shown) in (
+      ap (map shows) pushed ∙ (map-append shows xs (more ∷ []) ∙ ap (λ (l : List Y). l ++ shows more ∷ []) shown),
+      subst (λ (l : List X). EachAt l holds) (sym pushed) (each_more holds xs more each (subst (λ (n : ℕ). holds n more) count its)),
+    )
 
 all_empty : (count k : ℕ) (x : Slot) → get_elem? (replicate count (Drain None)) k ≡ some x → x ≡ Drain None
 all_empty zero k x g = absurd (some-ne-none x (sym g))
@@ -103,3 +129,44 @@ module _ {K : Type 0} (at : K → World) (key : K) where
         numbered = number_is;
         nothing_seen = nothing;
       }
+
+  -- the keeper, with what is left of the rest
+  pub fresh_keeper : (table seat : TableId) (k : KeeperModel) (from : ℕ) (me : Me Slot (Knows K)) → me ≡ (rest_view key from, []) → seat ≡ table
+      → k ≡ record { shape = (at key).now.shape; places = (at key).now.places; state = (at key).now.keeper } → IsOpenedWorld (at key)
+      → table.words ≡ length (at key).now.words + gaps → table.slots ≡ drain_slots + ((at key).now.places.sessions + 1) → IsFreshKeeper at key table k seat me
+  unfolding led
+  fresh_keeper table seat k from me me_is same its opened words slots =
+      let view : me.0 ≡ rest_view key from = ap (λ (x : Me Slot (Knows K)). x.0) me_is in
+      let held : me.1 ≡ [] = ap (λ (x : Me Slot (Knows K)). x.1) me_is in
+      let empty : me.0.hand ≡ None = ap (λ (v : Knows K). v.hand) view in
+      let nothing : me.0.seen ≡ [] = ap (λ (v : Knows K). v.seen) view in
+      record {
+        ready = λ guard. record {
+          opened = record { opening = guard; words = words; slots = slots };
+          same_table = same;
+          keeping = record {
+            about = ap (λ (v : Knows K). v.about) view;
+            from = from;
+            role = ap (λ (v : Knows K). v.role) view;
+            shape = ap (λ (x : KeeperModel). x.shape) its;
+            places = ap (λ (x : KeeperModel). x.places) its;
+            state = ap (λ (x : KeeperModel). x.state) its ∙ sym (ap (λ (es : List Happening). (led (plane at) (at key) es).now.keeper) nothing);
+            hand = subst (λ (hand : Option ℕ). HandFits (plane at) (at key) me.0.seen hand me.1) (sym empty) tt;
+            alone = subst (λ (hand : Option ℕ). base (plane at) hand me.1 ≡ []) (sym empty) held;
+          };
+          idle = ap (λ (x : KeeperModel). is_in_hand x.state.step) its ∙ opened.keeper.none_in_hand;
+        };
+        nothing_seen = nothing;
+      }
+
+  -- each session of the list
+  pub each_fresh : {X : Type 0} (machine_of : X → Sitter) (desk_of : X → ℕ) (seat_of : X → TableId) (me_of : X → Me Slot (Knows K)) (table : TableId) (xs : List X) (sitters : List Sitter) → map machine_of xs ≡ sitters
+      → EachAt xs (λ i x. HasSeat key table i (seat_of x) (me_of x) × (desk_of x ≡ drain_slots + i)) → states_of sitters ≡ (at key).now.sessions → AreSeated (at key).now.shape (at key).now.places sitters
+      → IsOpenedWorld (at key) → table.words ≡ length (at key).now.words + gaps → table.slots ≡ drain_slots + ((at key).now.places.sessions + 1)
+      → EachAt xs (λ i x. IsFresh at key table i (machine_of x) (desk_of x) (seat_of x) (me_of x))
+  each_fresh machine_of desk_of seat_of me_of table xs sitters shown each states seated opened words slots i x got =
+      let its = each i x got in
+      let there : slice_get sitters i ≡ Some (machine_of x) = ap (λ (l : List Sitter). slice_get l i) (sym shown) ∙ (slice_get-map machine_of xs i ∙ ap (λ o. option_map machine_of o) got) in
+      let state : slice_get (at key).now.sessions i ≡ Some (machine_of x).state =
+      ap (λ (l : List SessionState). slice_get l i) (sym states) ∙ (slice_get-map state_of sitters i ∙ ap (λ (o : Option Sitter). option_map state_of o) there) in
+      fresh_so table (seat_of x) i (machine_of x) (desk_of x) (me_of x) its.0 its.1 (seated i (machine_of x) there) state opened words slots
