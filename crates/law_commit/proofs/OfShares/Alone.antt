@@ -1,6 +1,6 @@
 -- No session that takes up prepare meets a latch that is held alone.
-use Rattle.std.proofs.Common.{◌≡◌, ℕ, ◌+◌, ◌*◌, ◌^◌, ◌<◌, ◌≤◌, ◌∙◌, refl, sym, ap, subst, arith, List, [], ◌∷◌, Bool, true, false}
-use Rattle.std.specs.Prelude.{Option, Some, None, if◌then◌else◌, ◌==◌, ◌&&◌, not, slice_get}
+use Rattle.std.proofs.Common.{◌≡◌, ℕ, ◌+◌, ◌*◌, ◌<◌, ◌≤◌, ◌∙◌, refl, sym, ap, subst, arith, List, [], Bool, true, false}
+use Rattle.std.specs.Prelude.{Option, Some, None, ◌==◌, ◌&&◌, not}
 use Rattle.std.proofs.lemmas.Bool.Decides.{nat_tests}
 use Rattle.fkv_base.specs.declared.numbers.Version.{Version}
 use Rattle.fkv_base.specs.declared.phases.Phase.{Phase}
@@ -27,7 +27,6 @@ use Rattle.fkv_pending.specs.declared.attempting.Attempting.{Attempting}
 use Rattle.fkv_pending.specs.declared.attempting.Attempting.TheVariants.{Tries}
 use Rattle.fkv_pending.specs.declared.pending_requests.PendingRequest.{PendingRequest}
 use Rattle.fkv_pending.specs.Attempting.{AttemptState}
-use Rattle.fkv_plane.specs.declared.asks.Ask.{Ask}
 use Rattle.fkv_plane.specs.declared.asks.Ask.TheVariants.{Add}
 use Rattle.fkv_plane.specs.declared.places.Places.{Places}
 use Rattle.fkv_plane.specs.Asked.{word_at}
@@ -41,11 +40,10 @@ use Rattle.fkv_session.specs.declared.sessions.Sitting.{Sitting}
 use Rattle.fkv_session.specs.declared.sessions.Sitting.TheVariants.{Attempts, CatchesUp, Polls}
 use Rattle.fkv_session.specs.Asleep.{IsAsleep, IsStepAsleep}
 use Rattle.fkv_session.specs.CatchingUp.{CatchState, catching_ask, enters_prepare}
-use Rattle.fkv_session.specs.SessionRun.{session_run}
 use Rattle.fkv_session.specs.Sessions.{Seat, SessionState, bits_of, session_ask, sitting_ask}
 use Rattle.fkv_session.specs.Shares.{HasItsBuckets}
 use Rattle.fkv_session.proofs.Shown.{run_asleep}
-use Rattle.fkv_world.specs.Opened.{HasBecome, IsOpenedWorld}
+use Rattle.fkv_world.specs.Opened.{HasBecome}
 use Rattle.fkv_world.specs.OwnEvents.{session_events}
 use Rattle.fkv_world.specs.Runs.{World, run}
 use Rattle.fkv_world.specs.World.{Event, seat_at}
@@ -53,7 +51,7 @@ use Rattle.fkv_world.proofs.Shown.{places_stay, same_seat}
 use Rattle.law_world.proofs.OfSessions.OwnRun.{of_run, opened_so}
 use Rattle.law_guard.specs.Guarded.Shows as guard
 use Rattle.law_paper.specs.Phases as paper
-use Rattle.law_parts.specs.Latches.Latchers.{attempt_alone, attempt_latching, catch_latching, held_if, its_latch, session_alone, session_latching, sitting_alone, sitting_latching, try_alone, try_latching}
+use Rattle.law_parts.specs.Latches.Latchers.{attempt_alone, attempt_latching, catch_latching, held_if, its_latch, session_latching, sitting_alone, sitting_latching, try_alone, try_latching}
 use Rattle.law_parts.specs.Latches.Shows as latches
 use Rattle.law_parts.specs.Latches.Shows.{Shows, seen_by_latches}
 use Rattle.law_commit.specs.Floor.Stands.{HasFloor, OpensSeen, PaperHasFloor, PaperIsSound, stage_number}
@@ -62,14 +60,14 @@ use Rattle.law_commit.specs.Phases.Projected.{is_coming, paper_view}
 use Rattle.law_commit.specs.Phases.Staged.{Stage}
 use Rattle.law_commit.specs.Ranks.{rank}
 use Rattle.law_commit.specs.Shares.Alone.{HoldsAloneBetween, MeetsNoneAlone}
-use Rattle.law_commit.specs.Views.{IsComing, IsSeenAs, IsTakenFrom, Sight, TakesUp, View, rank_of, sight_found, sight_in, sight_of}
+use Rattle.law_commit.specs.Views.{IsComing, IsTakenFrom, Sight, TakesUp, View, rank_of, sight_found, sight_in, sight_of}
 use Rattle.law_commit.proofs.Rising.{ComesBetween, life_rise}
 use Rattle.law_commit.proofs.Sights.{coming_seen, view_seen}
 use Rattle.law_commit.proofs.OfFloor.Stands.{few_stages, has_floor, life_floored}
 use Rattle.law_commit.proofs.OfPhases.LifeStages.{life_staged, none_ahead}
-use Rattle.law_commit.proofs.OfShares.AttemptsMove.{AttemptMoving, IsAttemptMoving}
-use Rattle.law_commit.proofs.OfShares.Enters.{CatchEnters, IsEnteringSo, IsSharing, SomeWait}
-use Rattle.law_commit.proofs.OfShares.Holders.{HoldsNone, no_bit}
+use Rattle.law_commit.proofs.OfShares.AttemptsMove.{AttemptMoving}
+use Rattle.law_commit.proofs.OfShares.Enters.{CatchEnters, IsSharing, SomeWait}
+use Rattle.law_commit.proofs.OfShares.Holders.{no_bit}
 use Rattle.law_commit.proofs.OfShares.SessionsMove.{IsSessionMoving, SittingMoving, session_run_moving}
 use Rattle.law_commit.proofs.OfShares.TriesMove.{IsTryMoving, MovesOn}
 

@@ -1,6 +1,6 @@
 -- A session that adds a share as it catches up enters prepare, of a version in which it wasn't in prepare, and has an update that waits.
-use Rattle.std.proofs.Common.{◌≡◌, ℕ, ◌-◌, ◌%◌, ◌<◌, ◌+◌, ◌^◌, refl, sym, subst, ap, arith, ◌∙◌, Bool, true, false, List, [], ◌∷◌}
-use Rattle.std.specs.Prelude.{Option, Some, None, if◌then◌else◌, not, ⊤, slice_get, ◌==◌, ◌&&◌, nat_le, nat_lt}
+use Rattle.std.proofs.Common.{◌≡◌, ℕ, ◌-◌, ◌%◌, ◌<◌, refl, sym, subst, arith, Bool, true, false, List, [], ◌∷◌}
+use Rattle.std.specs.Prelude.{Option, Some, None, if◌then◌else◌, not, ⊤, slice_get}
 use Rattle.std.specs.List.{position}
 use Rattle.std.proofs.lemmas.Bool.Decides.{nat_tests}
 use Rattle.fkv_plane.specs.declared.asks.Ask.{Ask}
@@ -10,9 +10,8 @@ use Rattle.fkv_plane.specs.Places.{bucket_place}
 use Rattle.fkv_epoch.specs.declared.values.Seen as loaded
 use Rattle.fkv_epoch.specs.declared.refreshing.RefreshAnswer.{RefreshAnswer}
 use Rattle.fkv_epoch.specs.declared.refreshing.RefreshAnswer.TheVariants.{Loaded, Stored}
-use Rattle.fkv_epoch.specs.Refreshing.{refresh_ask, refresh_next, refresh_finish}
-use Rattle.fkv_epoch.specs.Protecting.{protect_next, protect_next_ask}
-use Rattle.fkv_latch.specs.declared.latching.LatchAnswer.{LatchAnswer}
+use Rattle.fkv_epoch.specs.Refreshing.{refresh_next, refresh_finish}
+use Rattle.fkv_epoch.specs.Protecting.{protect_next}
 use Rattle.fkv_latch.specs.declared.latching.LatchAnswer.TheVariants.{Taken}
 use Rattle.fkv_latch.specs.declared.latching.Latching.{Latching}
 use Rattle.fkv_latch.specs.declared.latching.Latching.TheVariants as latching
@@ -28,7 +27,6 @@ use Rattle.fkv_session.specs.declared.catching_up.Catching.{Catching}
 use Rattle.fkv_session.specs.declared.catching_up.Catching.TheVariants.{Ended, Refreshes, Protects, StoresCut, StoresOwing, Latches, Finishes}
 use Rattle.fkv_session.specs.CatchingUp.{CatchState, catch_requests, catch_next, catching_next, catching_requests, cuts, enters_prepare, finish_ledto, finishes, is_same_version, latch_begun, latch_ledto, latch_marked, latch_wanted, latched, latches, protect_ledto, refresh_ledto, seen_after, takes_up}
 use Rattle.fkv_session.specs.Sessions.{Seat, bits_of}
-use Rattle.fkv_session.specs.Shares.{HasItsBuckets}
 
 -- it adds to the word of a latch
 abbrev pub IsSharing : Places → Latching → Type 0

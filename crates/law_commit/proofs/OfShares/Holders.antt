@@ -1,5 +1,5 @@
 -- If nobody holds a latch alone, or is dropping it, its word has no bit 63.
-use Rattle.std.proofs.Common.{◌≡◌, ℕ, zero, suc, ◌+◌, ◌<◌, ◌^◌, ◌∙◌, refl, sym, ap, subst, arith, List, [], ◌∷◌, length, Bool, true, false}
+use Rattle.std.proofs.Common.{◌≡◌, ℕ, zero, suc, ◌<◌, ◌^◌, ◌∙◌, refl, sym, ap, subst, arith, List, [], ◌∷◌, length, Bool, true, false}
 use Rattle.std.specs.Prelude.{Option, Some, None, if◌then◌else◌, ◌==◌, slice_get, slice_set, sum_by, replicate}
 use Rattle.std.proofs.lemmas.Bool.Decides.{nat_tests}
 use Rattle.std.proofs.lemmas.List.Sums.{sum_by-cons}
@@ -14,12 +14,12 @@ use Rattle.fkv_latch.specs.declared.latching.Latching.TheVariants as latching
 use Rattle.fkv_latch.specs.declared.latching.LatchTask.{LatchTask}
 use Rattle.fkv_latch.specs.Latched.{AreCounted, bits_of, opening, set_bits}
 use Rattle.fkv_latch.specs.Latching.{is_exclusive}
-use Rattle.fkv_latch.specs.LatchWorld.{Begins, Changes, LatchActor, LatchEvent, LatchWorld, Moves, begun, begun_by, has_latch, is_barred, latch_happens, latch_run, may_begin, moved, replied, times}
+use Rattle.fkv_latch.specs.LatchWorld.{Begins, Changes, LatchActor, LatchEvent, LatchWorld, Moves, begun, begun_by, has_latch, is_barred, latch_happens, latch_run, may_begin, moved, times}
 use Rattle.fkv_session.specs.Sessions.{SessionState}
 use Rattle.fkv_world.specs.Opened.{HasBecome, IsOpenedWorld}
 use Rattle.fkv_world.specs.Runs.{World, run}
-use Rattle.fkv_world.specs.World.{Event, seat_at}
-use Rattle.fkv_world.proofs.Shown.{places_stay, session_runs}
+use Rattle.fkv_world.specs.World.{Event}
+use Rattle.fkv_world.proofs.Shown.{session_runs}
 use Rattle.law_parts.specs.Latches.LatchEvents.{mapped}
 use Rattle.law_parts.specs.Latches.Latchers.{session_alone, session_latching}
 use Rattle.law_parts.specs.Latches.Shows.{Shows, seen_by_latches}
