@@ -42,13 +42,13 @@ use Rattle.law_commit.specs.Views.{View, Sight, completed, is_at_phase, loads_ph
 use Rattle.law_commit.proofs.Sights.{Sees, goes_by_view, life_sees, through}
 
 -- what is coming is no earlier than what it goes by, and no later than the phase word's
-abbrev ComesBetween : ℕ → ℕ → Option View → Type 0
+abbrev pub ComesBetween : ℕ → ℕ → Option View → Type 0
 ComesBetween low top None = ⊤
 ComesBetween low top (Some its) = (low ≤ its.version.0) × (its.version.0 ≤ top)
 
-record IsBelow (top : ℕ) (its : Sight) : Type 0 where
-  view : its.view.version.0 ≤ top
-  coming : ComesBetween its.view.version.0 top its.coming
+pub record IsBelow (top : ℕ) (its : Sight) : Type 0 where
+  pub view : its.view.version.0 ≤ top
+  pub coming : ComesBetween its.view.version.0 top its.coming
 
 -- the same behind an event, where the version of the view hasn't fallen
 record HasRisen (top : ℕ) (before after : Sight) : Type 0 where
@@ -132,9 +132,9 @@ TellAll words k s [] = ⊤
 TellAll words k s (event ∷ before) = TellsBy words (session_run k s before) event × TellAll words k s before
 
 -- over such events
-record Rise (top : ℕ) (k : Seat) (s : SessionState) (events : List SessionEvent) (after : Sight) : Type 0 where
-  below : IsBelow top after
-  rises : HasRisingVersion k s events
+pub record Rise (top : ℕ) (k : Seat) (s : SessionState) (events : List SessionEvent) (after : Sight) : Type 0 where
+  pub below : IsBelow top after
+  pub rises : HasRisingVersion k s events
 
 through_rise : (words : List ℕ) (its : Sight) (k : Seat) (s : SessionState) (events : List SessionEvent) → IsBelow (phase_version words) its → Sees its s → TellAll words k s events
     → Rise (phase_version words) k s events (sight_through words k s events its)
@@ -273,7 +273,7 @@ joined k first (event ∷ later) before rises past =
     (rw (session_runs_on k first later before, session_runs_on k first (event ∷ later) before) rises.0, joined k first later before rises.1 past)
 
 -- over a life
-life_rise : (opening : World) (session : ℕ) (first : SessionState) (events : List Event) → slice_get opening.now.sessions session ≡ Some first → IsOpened first → first.seen.version.0 ≤ phase_version opening.now.words
+pub life_rise : (opening : World) (session : ℕ) (first : SessionState) (events : List Event) → slice_get opening.now.sessions session ≡ Some first → IsOpened first → first.seen.version.0 ≤ phase_version opening.now.words
     → HasRisingPhase opening events → Rise (phase_version (run opening events).now.words) (seat_at opening.now session) first (session_events opening session events) (sight_in opening session first events)
 unfolding sight_in session_events HasRisingPhase run HasRisingVersion
 life_rise opening session first [] found opened below rises = record { below = record { view = below; coming = tt }; rises = tt }

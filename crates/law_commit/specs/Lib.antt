@@ -12,6 +12,7 @@ pub mod Phases
 pub mod PrefixPast
 pub mod Raises
 pub mod Ranks
+pub mod Shares
 pub mod ToldPoints
 pub mod Versions
 pub mod Views

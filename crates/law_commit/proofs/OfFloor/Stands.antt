@@ -70,7 +70,7 @@ opening_floored opening start guarded opens =
       };
     }
 
-life_floored : (opening : World) (start : ℕ) (events : List Event) → guard.IsOpened opening.now start → IsOpenedWorld opening → OpensSeen opening.now → PaperIsSound → LifeFloored opening start events
+pub life_floored : (opening : World) (start : ℕ) (events : List Event) → guard.IsOpened opening.now start → IsOpenedWorld opening → OpensSeen opening.now → PaperIsSound → LifeFloored opening start events
 life_floored opening start [] guarded opened opens paper_sound = opening_floored opening start guarded opens
 life_floored opening start (event ∷ before) guarded opened opens paper_sound =
     let past = life_floored opening start before guarded opened opens paper_sound in
@@ -96,7 +96,7 @@ module _ (opening : World) (start : ℕ) (events : List Event) (number : Version
       let floor = subst (λ (q : Phasing). paper.HaveFloor q) (run_none p) (paper_floor p [] its.sound (none_enabled p)) in
       subst (λ (v : paper.View). paper.HasFloor p v) (shown.view awake) (floor session (shown.live ∙ awake))
 
-  has_floor : HasFloor number stage seen
+  pub has_floor : HasFloor number stage seen
   has_floor =
       let floor = on_paper in
       let base = its.papers.base in
@@ -162,7 +162,7 @@ floor_stands paper_sound paper_floor opening start events guarded opened opens =
     }
 
 -- ---- two live sessions
-few_stages : (stage : Stage) → stage_number stage ≤ 4
+pub few_stages : (stage : Stage) → stage_number stage ≤ 4
 few_stages Rests = omega arith
 few_stages Prepares = omega arith
 few_stages DefersProgress = omega arith

@@ -1,0 +1,6 @@
+pub mod Alone
+mod AttemptsMove
+mod Enters
+mod Holders
+mod SessionsMove
+mod TriesMove

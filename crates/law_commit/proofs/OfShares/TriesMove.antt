@@ -1,0 +1,256 @@
+-- A try holds a latch alone only where its session is between two versions.
+use Rattle.std.proofs.Common.{◌≡◌, ℕ, refl, sym, subst, Bool, true, false, ◌∙◌}
+use Rattle.std.specs.Prelude.{if◌then◌else◌, ◌==◌, ◌&&◌, not, nat_le, ⊤, Option, Some, None}
+use Rattle.fkv_base.specs.declared.numbers.Addr.{Addr}
+use Rattle.fkv_base.specs.declared.numbers.Version.{Version}
+use Rattle.fkv_map.specs.declared.operations.Reply.{Reply}
+use Rattle.fkv_map.specs.Map.{absent_word}
+use Rattle.fkv_map.specs.Keys.{key_of, reply_from}
+use Rattle.fkv_plane.specs.declared.asks.Ask.{Ask}
+use Rattle.fkv_plane.specs.declared.asks.Ask.TheVariants.{Done}
+use Rattle.fkv_plane.specs.declared.places.Places.{Places}
+use Rattle.fkv_latch.specs.declared.latching.LatchAnswer.{LatchAnswer}
+use Rattle.fkv_latch.specs.declared.latching.LatchAnswer.TheVariants.{Taken}
+use Rattle.fkv_latch.specs.declared.latching.LatchTask.TheVariants.{TakeShared, DropShared, TakeExclusive, DropExclusive}
+use Rattle.fkv_latch.specs.declared.latching.Latching.{Latching}
+use Rattle.fkv_latch.specs.declared.latching.Latching.TheVariants as latching
+use Rattle.fkv_latch.specs.Latching.{is_exclusive, is_free, latch_next, latch_next_ask}
+use Rattle.fkv_log.specs.declared.regions.Region.{Region}
+use Rattle.fkv_log.specs.Regions.{seen_region_of}
+use Rattle.fkv_ops.specs.declared.answers.Reason.TheVariants as reason
+use Rattle.fkv_ops.specs.declared.answers.TryAnswer.{TryAnswer}
+use Rattle.fkv_ops.specs.declared.answers.TryAnswer.TheVariants as answer
+use Rattle.fkv_ops.specs.declared.appending.AppendAnswer.{AppendAnswer}
+use Rattle.fkv_ops.specs.declared.appending.AppendAnswer.TheVariants as append
+use Rattle.fkv_ops.specs.declared.requests.HeldRecord.{HeldRecord}
+use Rattle.fkv_ops.specs.declared.requests.Occasion.{Occasion}
+use Rattle.fkv_ops.specs.declared.requests.Request.{Request}
+use Rattle.fkv_ops.specs.declared.requests.Seen.{Seen}
+use Rattle.fkv_ops.specs.declared.trying.OldValue.{OldValue}
+use Rattle.fkv_ops.specs.declared.trying.OldValue.TheVariants.{InMemory, Known}
+use Rattle.fkv_ops.specs.declared.trying.Trying.{Trying}
+use Rattle.fkv_ops.specs.declared.trying.Trying.TheVariants.{Ended, TakesShared, Walks, LoadsSafe, SwapsValue, LoadsCurrent, ChangesValue, LoadsAnswer, TakesExclusive, LoadsOld, Appends, DropsExclusive, DropsShared}
+use Rattle.fkv_ops.specs.declared.walking.WalkAnswer.{WalkAnswer}
+use Rattle.fkv_ops.specs.declared.walking.WalkAnswer.TheVariants as walk
+use Rattle.fkv_ops.specs.Values.{value_of}
+use Rattle.fkv_ops.specs.Requests.{is_read, is_blind}
+use Rattle.fkv_ops.specs.Walking.{walk_ask, walk_next, walk_on}
+use Rattle.fkv_ops.specs.Appending.{append_ask, append_next}
+use Rattle.fkv_ops.specs.Trying.{TryState, with_latch, is_moving_on, is_wait, ended_without, ends, takes_effect, walks, wants_shared, try_begun, shared_ledto, must_shift, wants_exclusive, appends, copies_from, copies, awaits, held_used, met_nowhere, met_disk, changes, is_own_version, region_met, met_record, walked, has_walked, walk_ledto, safe_loaded, current_ledto, value_changed, told_value, answer_ledto, exclusive_ledto, old_ledto, append_ledto, exclusive_dropped, shared_dropped, latch_moved, trying_next, try_next, new_try}
+
+-- the session is between two versions
+abbrev pub MovesOn : Seen → Type 0
+MovesOn seen = is_moving_on seen.phase ≡ true
+
+abbrev pub is_dropping : Latching → Bool
+is_dropping (latching.DropsExclusive place) = true
+is_dropping step = false
+
+-- it keeps what it has seen; if it holds a latch alone, or is dropping one, the session is so
+abbrev pub KeepsMoving : Seen → TryState → Type 0
+KeepsMoving seen t = (t.seen ≡ seen) × (t.has_exclusive ≡ true → MovesOn seen) × (is_dropping t.latching ≡ true → MovesOn seen)
+
+-- and if it takes one alone
+abbrev pub TakesMoving : Seen → Trying → Type 0
+TakesMoving seen (TakesExclusive old) = MovesOn seen
+TakesMoving seen step = ⊤
+
+pub record IsTryMoving (seen : Seen) (t : TryState) : Type 0 where
+  pub keeps : KeepsMoving seen t
+  pub takes : TakesMoving seen t.step
+
+no_drop : {X : Type 0} → false ≡ true → X
+no_drop e = cc
+
+next_drops : (step : Latching) (reply : ℕ) → is_dropping (latch_next step reply) ≡ false
+unfolding latch_next
+next_drops (latching.AddsShare place) reply = by_word (is_exclusive reply)
+  where
+    by_word : (b : Bool) → is_dropping (if b then latching.GivesBack place else latching.AtRest) ≡ false
+    by_word true = refl
+    by_word false = refl
+next_drops (latching.LoadsWord place) reply = by_word (is_free reply)
+  where
+    by_word : (b : Bool) → is_dropping (if b then latching.SetsExclusive place reply else latching.AtRest) ≡ false
+    by_word true = refl
+    by_word false = refl
+next_drops step reply = refl
+
+-- where a reply leads
+either_moving : (c : Bool) (seen : Seen) (a b : TryState) → IsTryMoving seen a → IsTryMoving seen b → IsTryMoving seen (if c then a else b)
+either_moving true seen a b one other = one
+either_moving false seen a b one other = other
+
+stays_moving : (seen : Seen) (t : TryState) (step : Trying) → t.step ≡ step → KeepsMoving seen t → TakesMoving seen step → IsTryMoving seen t
+stays_moving seen t step at keeps takes = record { keeps = keeps; takes = subst (λ x. TakesMoving seen x) (sym at) takes }
+
+without_moving : (p : Places) (seen : Seen) (t : TryState) (its : TryAnswer) → KeepsMoving seen t → IsTryMoving seen (ended_without p t its)
+without_moving p seen t its keeps =
+    either_moving (t.has_shared && not (is_wait its)) seen (with_latch p (record t { has_shared = false }) DropShared (DropsShared its)) (record t { step = Ended its })
+    (record { keeps = (keeps.0, keeps.1, λ e. no_drop e); takes = tt }) (record { keeps = keeps; takes = tt })
+
+ends_moving : (p : Places) (seen : Seen) (t : TryState) (its : TryAnswer) → KeepsMoving seen t → IsTryMoving seen (ends p t its)
+unfolding ends
+ends_moving p seen t its keeps = by_alone t.has_exclusive refl
+  where
+    by_alone : (b : Bool) → t.has_exclusive ≡ b → IsTryMoving seen (if b then with_latch p (record t { has_exclusive = false }) DropExclusive (DropsExclusive its) else ended_without p t its)
+    by_alone true e = record { keeps = (keeps.0, λ x. no_drop x, λ x. keeps.1 e); takes = tt }
+    by_alone false e = without_moving p seen t its keeps
+
+walks_moving : (p : Places) (seen : Seen) (t : TryState) → KeepsMoving seen t → IsTryMoving seen (walks p t)
+walks_moving p seen t keeps = record { keeps = keeps; takes = tt }
+
+appends_moving : (seen : Seen) (t : TryState) (old : ℕ) → KeepsMoving seen t → IsTryMoving seen (appends t old)
+unfolding appends
+appends_moving seen t old keeps = record { keeps = keeps; takes = tt }
+
+copies_from_moving : (seen : Seen) (t : TryState) (old : OldValue) → KeepsMoving seen t → IsTryMoving seen (copies_from t old)
+unfolding copies_from
+copies_from_moving seen t (Known old) keeps = appends_moving seen t old keeps
+copies_from_moving seen t InMemory keeps = either_moving (is_blind t.request.op) seen (appends t absent_word) (record t { walk = walk_on t.walk; step = LoadsOld }) (appends_moving seen t absent_word keeps) (record { keeps = keeps; takes = tt })
+
+first_of_three : (a b c : Bool) → (a && b && c) ≡ true → a ≡ true
+first_of_three true b c e = refl
+first_of_three false b c e = cc
+
+copies_moving : (p : Places) (seen : Seen) (t : TryState) (old : OldValue) (is_current : Bool) → KeepsMoving seen t → IsTryMoving seen (copies p t old is_current)
+unfolding copies
+copies_moving p seen t old is_current keeps = by_need (wants_exclusive t is_current) refl
+  where
+    by_need : (b : Bool) → wants_exclusive t is_current ≡ b → IsTryMoving seen (if b then with_latch p t TakeExclusive (TakesExclusive old) else copies_from t old)
+    by_need true e =
+        let moves : is_moving_on t.seen.phase ≡ true = first_of_three (is_moving_on t.seen.phase) (t.request.version.0 == t.seen.version.0) (not is_current) e in
+        record { keeps = (keeps.0, keeps.1, λ x. no_drop x); takes = subst (λ (s : Seen). MovesOn s) keeps.0 moves }
+    by_need false e = copies_from_moving seen t old keeps
+
+
+held_moving : (p : Places) (seen : Seen) (t : TryState) (addr : Addr) (held : Option HeldRecord) → KeepsMoving seen t → IsTryMoving seen (held_used p t addr held)
+unfolding held_used
+held_moving p seen t addr None keeps = ends_moving p seen t _ keeps
+held_moving p seen t addr (Some held) keeps =
+    either_moving (held.entry == t.walk.entry) seen _ (awaits p t addr)
+    (either_moving (held.key.0 == (key_of t.request.op).0) seen (copies p t (Known held.value) false) _ (copies_moving p seen t (Known held.value) false keeps)
+    (either_moving (held.previous.0 == 0) seen (copies p t (Known absent_word) false) (awaits p t held.previous) (copies_moving p seen t (Known absent_word) false keeps) (ends_moving p seen t _ keeps)))
+    (ends_moving p seen t _ keeps)
+
+nowhere_moving : (p : Places) (seen : Seen) (t : TryState) → KeepsMoving seen t → IsTryMoving seen (met_nowhere p t)
+nowhere_moving p seen t keeps = either_moving (is_read t.request.op) seen (ends p t answer.Absent) (copies p t (Known absent_word) false) (ends_moving p seen t answer.Absent keeps) (copies_moving p seen t (Known absent_word) false keeps)
+
+disk_moving : (p : Places) (seen : Seen) (t : TryState) (addr : Addr) → KeepsMoving seen t → IsTryMoving seen (met_disk p t addr)
+disk_moving p seen t addr keeps =
+    either_moving (is_read t.request.op) seen (awaits p t addr) _ (ends_moving p seen t _ keeps)
+    (either_moving (is_blind t.request.op) seen (copies p t (Known absent_word) false) (held_used p t addr t.request.held) (copies_moving p seen t (Known absent_word) false keeps) (held_moving p seen t addr t.request.held keeps))
+
+changes_moving : (seen : Seen) (t : TryState) (addr : Addr) → KeepsMoving seen t → IsTryMoving seen (changes t addr)
+changes_moving seen t addr keeps = either_moving (is_blind t.request.op) seen (record t { step = SwapsValue addr }) (record t { walk = walk_on t.walk; step = LoadsCurrent addr }) (record { keeps = keeps; takes = tt }) (record { keeps = keeps; takes = tt })
+
+region_moving : (p : Places) (seen : Seen) (t : TryState) (addr : Addr) (version : Version) (found : Option Region) → KeepsMoving seen t → IsTryMoving seen (region_met p t addr version found)
+region_moving p seen t addr version None keeps = record { keeps = keeps; takes = tt }
+region_moving p seen t addr version (Some its) keeps = either_moving (is_own_version t version) seen (changes t addr) (copies p t InMemory false) (changes_moving seen t addr keeps) (copies_moving p seen t InMemory false keeps)
+
+met_moving : (p : Places) (seen : Seen) (t : TryState) (addr : Addr) (version : Version) → KeepsMoving seen t → IsTryMoving seen (met_record p t addr version)
+met_moving p seen t addr version keeps =
+    either_moving (is_read t.request.op) seen (record t { walk = walk_on t.walk; step = LoadsAnswer }) (region_met p t addr version (seen_region_of addr.0 t.seen.offsets)) (record { keeps = keeps; takes = tt })
+    (region_moving p seen t addr version (seen_region_of addr.0 t.seen.offsets) keeps)
+
+walked_moving : (p : Places) (seen : Seen) (t : TryState) (its : WalkAnswer) → KeepsMoving seen t → IsTryMoving seen (walked p t its)
+walked_moving p seen t (walk.Found addr version) keeps = met_moving p seen t addr version keeps
+walked_moving p seen t walk.Nowhere keeps = nowhere_moving p seen t keeps
+walked_moving p seen t (walk.OnDisk addr) keeps = disk_moving p seen t addr keeps
+walked_moving p seen t (walk.Value value) keeps = ends_moving p seen t _ keeps
+walked_moving p seen t walk.Full keeps = ends_moving p seen t _ keeps
+walked_moving p seen t walk.Contended keeps = ends_moving p seen t _ keeps
+
+walk_ledto_moving : (p : Places) (seen : Seen) (t : TryState) (ask : Ask WalkAnswer) → t.step ≡ Walks → KeepsMoving seen t → IsTryMoving seen (walk_ledto p t ask)
+unfolding walk_ledto
+walk_ledto_moving p seen t (Done its) at keeps =
+    let after : TryState = record t { spare = t.walk.spare } in
+    either_moving (has_walked its && must_shift after) seen (ends p after answer.Shift) (walked p after its) (ends_moving p seen after answer.Shift keeps) (walked_moving p seen after its keeps)
+walk_ledto_moving p seen t ask at keeps = stays_moving seen t Walks at keeps tt
+
+safe_moving : (p : Places) (seen : Seen) (t : TryState) (addr : Addr) (version : Version) (safe : ℕ) → KeepsMoving seen t → IsTryMoving seen (safe_loaded p t addr version safe)
+safe_moving p seen t addr version safe keeps = either_moving (nat_le safe addr.0) seen (ends p t (answer.Wait reason.Fuzzy)) (copies p t InMemory (is_own_version t version)) (ends_moving p seen t _ keeps) (copies_moving p seen t InMemory (is_own_version t version) keeps)
+
+current_moving : (p : Places) (seen : Seen) (t : TryState) (addr : Addr) (ask : Ask WalkAnswer) → t.step ≡ LoadsCurrent addr → KeepsMoving seen t → IsTryMoving seen (current_ledto p t addr ask)
+unfolding current_ledto
+current_moving p seen t addr (Done (walk.Value old)) at keeps = record { keeps = keeps; takes = tt }
+current_moving p seen t addr (Done its) at keeps = ends_moving p seen t _ keeps
+current_moving p seen t addr ask at keeps = stays_moving seen t (LoadsCurrent addr) at keeps tt
+
+value_moving : (p : Places) (seen : Seen) (t : TryState) (old found : ℕ) → KeepsMoving seen t → IsTryMoving seen (value_changed p t old found)
+value_moving p seen t old found keeps =
+    either_moving (found == old) seen (takes_effect p t (reply_from (value_of old) t.request.op)) (ends p t (answer.Wait reason.Contended))
+    (ends_moving p seen (record t { effect = Some (reply_from (value_of old) t.request.op) }) _ keeps) (ends_moving p seen t _ keeps)
+
+answer_moving : (p : Places) (seen : Seen) (t : TryState) (ask : Ask WalkAnswer) → t.step ≡ LoadsAnswer → KeepsMoving seen t → IsTryMoving seen (answer_ledto p t ask)
+unfolding answer_ledto
+answer_moving p seen t (Done (walk.Value value)) at keeps = ends_moving p seen t (told_value (value_of value)) keeps
+answer_moving p seen t (Done its) at keeps = ends_moving p seen t _ keeps
+answer_moving p seen t ask at keeps = stays_moving seen t LoadsAnswer at keeps tt
+
+shared_moving : (p : Places) (seen : Seen) (t : TryState) (ask : Ask LatchAnswer) → t.step ≡ TakesShared → KeepsMoving seen t → IsTryMoving seen (shared_ledto p t ask)
+unfolding shared_ledto
+shared_moving p seen t (Done Taken) at keeps = walks_moving p seen (record t { has_shared = true }) keeps
+shared_moving p seen t (Done its) at keeps = ends_moving p seen t answer.Shift keeps
+shared_moving p seen t ask at keeps = stays_moving seen t TakesShared at keeps tt
+
+exclusive_moving : (p : Places) (seen : Seen) (t : TryState) (old : OldValue) (ask : Ask LatchAnswer) → t.step ≡ TakesExclusive old → KeepsMoving seen t → MovesOn seen → IsTryMoving seen (exclusive_ledto p t old ask)
+unfolding exclusive_ledto
+exclusive_moving p seen t old (Done Taken) at keeps moves = copies_from_moving seen (record t { has_exclusive = true }) old (keeps.0, λ e. moves, keeps.2)
+exclusive_moving p seen t old (Done its) at keeps moves = ends_moving p seen t _ keeps
+exclusive_moving p seen t old ask at keeps moves = stays_moving seen t (TakesExclusive old) at keeps moves
+
+old_moving : (p : Places) (seen : Seen) (t : TryState) (ask : Ask WalkAnswer) → t.step ≡ LoadsOld → KeepsMoving seen t → IsTryMoving seen (old_ledto p t ask)
+unfolding old_ledto
+old_moving p seen t (Done (walk.Value value)) at keeps = appends_moving seen t value keeps
+old_moving p seen t (Done its) at keeps = ends_moving p seen t _ keeps
+old_moving p seen t ask at keeps = stays_moving seen t LoadsOld at keeps tt
+
+append_ledto_moving : (p : Places) (seen : Seen) (t : TryState) (its : Reply) (ask : Ask AppendAnswer) → t.step ≡ Appends its → KeepsMoving seen t → IsTryMoving seen (append_ledto p t its ask)
+unfolding append_ledto
+append_ledto_moving p seen t its (Done append.Published) at keeps = ends_moving p seen (record t { effect = Some its }) (answer.Done its) keeps
+append_ledto_moving p seen t its (Done append.Full) at keeps = ends_moving p seen t _ keeps
+append_ledto_moving p seen t its (Done append.NoRoom) at keeps = ends_moving p seen t _ keeps
+append_ledto_moving p seen t its (Done append.Contended) at keeps = ends_moving p seen t _ keeps
+append_ledto_moving p seen t its ask at keeps = stays_moving seen t (Appends its) at keeps tt
+
+dropped_moving : (p : Places) (seen : Seen) (t : TryState) (its : TryAnswer) (ask : Ask LatchAnswer) → t.step ≡ DropsExclusive its → KeepsMoving seen t → IsTryMoving seen (exclusive_dropped p t its ask)
+unfolding exclusive_dropped
+dropped_moving p seen t its (Done told) at keeps = without_moving p seen t its keeps
+dropped_moving p seen t its ask at keeps = stays_moving seen t (DropsExclusive its) at keeps tt
+
+unshared_moving : (seen : Seen) (t : TryState) (its : TryAnswer) (ask : Ask LatchAnswer) → t.step ≡ DropsShared its → KeepsMoving seen t → IsTryMoving seen (shared_dropped t its ask)
+unfolding shared_dropped
+unshared_moving seen t its (Done told) at keeps = record { keeps = keeps; takes = tt }
+unshared_moving seen t its ask at keeps = stays_moving seen t (DropsShared its) at keeps tt
+
+-- a machine for latches that goes on drops none
+latch_keeps : (seen : Seen) (t : TryState) (reply : ℕ) → KeepsMoving seen t → KeepsMoving seen (latch_moved t reply)
+latch_keeps seen t reply keeps = (keeps.0, keeps.1, λ e. no_drop (sym (next_drops t.latching reply) ∙ e))
+
+next_moving : (p : Places) (room : ℕ) (seen : Seen) (t : TryState) (step : Trying) (reply : ℕ) → t.step ≡ step → KeepsMoving seen t → TakesMoving seen step → IsTryMoving seen (trying_next p room t step reply)
+unfolding trying_next
+next_moving p room seen t (Ended its) reply at keeps takes = stays_moving seen t (Ended its) at keeps tt
+next_moving p room seen t TakesShared reply at keeps takes = shared_moving p seen (latch_moved t reply) (latch_next_ask t.latching reply) at (latch_keeps seen t reply keeps)
+next_moving p room seen t Walks reply at keeps takes = walk_ledto_moving p seen (record t { walk = walk_next p t.walk reply }) (walk_ask p (walk_next p t.walk reply)) at keeps
+next_moving p room seen t (LoadsSafe addr version) reply at keeps takes = safe_moving p seen t addr version reply keeps
+next_moving p room seen t (SwapsValue addr) reply at keeps takes = ends_moving p seen (record t { effect = Some (reply_from None t.request.op) }) _ keeps
+next_moving p room seen t (LoadsCurrent addr) reply at keeps takes = current_moving p seen (record t { walk = walk_next p t.walk reply }) addr (walk_ask p (walk_next p t.walk reply)) at keeps
+next_moving p room seen t (ChangesValue addr old) reply at keeps takes = value_moving p seen t old reply keeps
+next_moving p room seen t LoadsAnswer reply at keeps takes = answer_moving p seen (record t { walk = walk_next p t.walk reply }) (walk_ask p (walk_next p t.walk reply)) at keeps
+next_moving p room seen t (TakesExclusive old) reply at keeps takes = exclusive_moving p seen (latch_moved t reply) old (latch_next_ask t.latching reply) at (latch_keeps seen t reply keeps) takes
+next_moving p room seen t LoadsOld reply at keeps takes = old_moving p seen (record t { walk = walk_next p t.walk reply }) (walk_ask p (walk_next p t.walk reply)) at keeps
+next_moving p room seen t (Appends its) reply at keeps takes = append_ledto_moving p seen (record t { append = append_next p room t.append reply }) its (append_ask p (append_next p room t.append reply)) at keeps
+next_moving p room seen t (DropsExclusive its) reply at keeps takes = dropped_moving p seen (latch_moved t reply) its (latch_next_ask t.latching reply) at (latch_keeps seen t reply keeps)
+next_moving p room seen t (DropsShared its) reply at keeps takes = unshared_moving seen (latch_moved t reply) its (latch_next_ask t.latching reply) at (latch_keeps seen t reply keeps)
+
+-- each reply
+pub try_next_moving : (p : Places) (room : ℕ) (seen : Seen) (t : TryState) (reply : ℕ) → IsTryMoving seen t → IsTryMoving seen (try_next p room t reply)
+try_next_moving p room seen t reply its = next_moving p room seen (record t { effect = None }) t.step reply refl its.keeps its.takes
+
+-- as it begins
+pub try_begun_moving : (p : Places) (bits : ℕ) (request : Request) (seen : Seen) (occasion : Occasion) (spare : ℕ) → IsTryMoving seen (try_begun p bits request seen occasion spare)
+try_begun_moving p bits request seen occasion spare =
+    let its : TryState = new_try bits request seen occasion spare in
+    either_moving (wants_shared its) seen (with_latch p its TakeShared TakesShared) (walks p its)
+    (record { keeps = (refl, λ e. no_drop e, λ e. no_drop e); takes = tt }) (walks_moving p seen its (refl, λ e. no_drop e, λ e. no_drop e))

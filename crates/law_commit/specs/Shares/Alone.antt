@@ -1,0 +1,30 @@
+-- When a session may hold a latch alone, and what a session never meets that takes up prepare.
+use Rattle.std.specs.Prelude.{◌≡◌, ◌<◌, ℕ, true, false, List}
+use Rattle.fkv_latch.specs.Latching.{is_exclusive}
+use Rattle.fkv_latch.specs.LatchWorld.{times}
+use Rattle.fkv_ops.specs.Trying.{is_moving_on}
+use Rattle.fkv_plane.specs.declared.asks.Ask.TheVariants.{Add}
+use Rattle.fkv_plane.specs.Asked.{word_at}
+use Rattle.fkv_session.specs.declared.sessions.CatchCause.{CatchCause}
+use Rattle.fkv_session.specs.declared.sessions.Sitting.TheVariants.{CatchesUp}
+use Rattle.fkv_session.specs.Sessions.{SessionState, session_ask}
+use Rattle.fkv_world.specs.Opened.{HasBecome}
+use Rattle.fkv_world.specs.Runs.{World, run}
+use Rattle.fkv_world.specs.World.{Event, seat_at}
+use Rattle.law_guard.specs.Guarded.Shows as guard
+use Rattle.law_parts.specs.Latches.Latchers.{session_alone}
+use Rattle.law_parts.specs.Latches.Shows as latches
+use Rattle.law_commit.specs.Floor.Stands.{OpensSeen}
+
+-- A session that holds a latch alone is awake, and goes by in-progress or wait-pending.
+abbrev pub HoldsAloneBetween : Type 0
+HoldsAloneBetween =
+    (opening : World) (start : ℕ) (events : List Event) (session place : ℕ) (first its : SessionState) → guard.IsOpened opening.now start → HasBecome opening events session first its
+    → 0 < times place (session_alone (run opening events).now.places its) → (is_moving_on its.seen.phase ≡ true) × (its.is_awake ≡ true)
+
+-- Where a session that catches up adds to a word, the word has no bit 63. So each latch that it wants as it takes up prepare is shared by its one try.
+abbrev pub MeetsNoneAlone : Type 0
+MeetsNoneAlone =
+    (opening : World) (start : ℕ) (events : List Event) (session place number : ℕ) (first its : SessionState) (cause : CatchCause) → guard.IsOpened opening.now start → latches.IsOpened opening.now → OpensSeen opening.now
+    → HasBecome opening events session first its → its.step ≡ CatchesUp cause → session_ask (seat_at (run opening events).now session) its ≡ Add place number
+    → is_exclusive (word_at (run opening events).now.words place) ≡ false
