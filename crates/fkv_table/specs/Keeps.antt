@@ -52,6 +52,13 @@ module _ {K : Type 0} (at : K → World) where
   abbrev pub IsAfterSeen : K → List Happening → List ℕ → (List ℕ → Type 0) → Type 0
   IsAfterSeen key events shown may_leave = let p : Past = (led (plane at) (at key) events).past in IsAfter p.opened p.calls shown may_leave
 
+  -- behind the second list the calls of the device are those behind the first, over the same bytes
+  abbrev pub LeavesDevice : K → List Happening → List Happening → Type 0
+  LeavesDevice key seen seen' =
+      let p : Past = (led (plane at) (at key) seen).past in
+      let q : Past = (led (plane at) (at key) seen').past in
+      (q.opened ≡ p.opened) × (q.calls ≡ p.calls)
+
   -- what a step of the keeper tells that adds this event
   abbrev pub adding : Happening → Step Slot → Me Slot (Knows K) → ℕ → Me Slot (Knows K) → Type 0
   adding its st m n m' = (key : K) → m.0.about ≡ Some key → Stepped (plane at) (at key) m.0 m.1 st.word [] its n m'
