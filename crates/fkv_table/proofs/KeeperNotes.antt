@@ -1,20 +1,18 @@
 -- What others do leaves the keeper as it was, and an event of its own that changes no word may be added to the list.
 use Rattle.std.proofs.Common.{◌≡◌, ℕ, refl, sym, ap, subst, ◌∙◌, Bool, true, false, true≢false, List, [], ◌∷◌, ◌++◌, get_or, map}
-use Rattle.std.specs.Prelude.{Option, Some, None, if◌then◌else◌}
+use Rattle.std.specs.Prelude.{Option, Some, None}
 use mathlib.Core.Option.{none}
-use Rattle.atomic_table.specs.Table.{Me, Step, step, Allows, carried_after}
+use Rattle.atomic_table.specs.Table.{Me, step, Allows, carried_after}
 use Rattle.fkv_base.specs.declared.commits.CommitKind.{CommitKind}
-use Rattle.fkv_base.specs.declared.shapes.Shape.{Shape}
 use Rattle.fkv_plane.specs.declared.asks.Ask.{Ask}
 use Rattle.fkv_plane.specs.declared.asks.Ask.TheVariants.{Done}
-use Rattle.fkv_plane.specs.declared.places.Places.{Places}
 use Rattle.fkv_keeper.specs.declared.answers.KeeperTold.{KeeperTold}
 use Rattle.fkv_keeper.specs.declared.answers.KeeperTold.TheVariants.{Device}
 use Rattle.fkv_keeper.specs.Keeping.{KeeperModel, KeeperState, commit_asked, keeper_ask, keeper_next, turn_asked}
 use Rattle.fkv_keeper.specs.KeeperAsks.{keeper_calls}
 use Rattle.fkv_keeper.specs.KeeperRun.{is_in_hand}
 use Rattle.fkv_plane.specs.Asked.{reply_to}
-use Rattle.fkv_world.specs.Actors.{is_of_keeper, slot_named, slot_of_step}
+use Rattle.fkv_world.specs.Actors.{is_of_keeper, slot_of_step}
 use Rattle.fkv_world.specs.Past.{calls_after}
 use Rattle.fkv_world.specs.Runs.{World, happens, read_by_keeper}
 use Rattle.fkv_world.specs.World.{Event, Now, keeper_asked, life_goes}

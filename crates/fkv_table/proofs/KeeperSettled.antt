@@ -1,5 +1,5 @@
 -- How the keeper and its seat stand behind a step, with the action that goes with it.
-use Rattle.std.proofs.Common.{◌≡◌, ℕ, ◌<◌, refl, sym, ap, subst, ◌∙◌, Bool, true, false, List, [], ◌∷◌, ◌++◌, length, map, arith}
+use Rattle.std.proofs.Common.{◌≡◌, ℕ, ◌<◌, refl, sym, ap, subst, ◌∙◌, Bool, true, false, List, ◌∷◌, ◌++◌, length, map, arith}
 use Rattle.std.specs.Prelude.{Option, Some, None}
 use Rattle.atomic_table.specs.Table.{Me, rest}
 use Rattle.fkv_base.specs.declared.shapes.Shape.{Shape}
@@ -8,11 +8,11 @@ use Rattle.fkv_plane.specs.declared.actions.Action.{Action}
 use Rattle.fkv_plane.specs.declared.asks.Ask.{Ask}
 use Rattle.fkv_plane.specs.declared.asks.Ask.TheVariants.{Load, Store, Swap, Cas, Add, Max, Put, Take, Done}
 use Rattle.fkv_plane.specs.declared.places.Places.{Places}
-use Rattle.fkv_plane.specs.Asked.{asked_place, reply_to, words_after}
+use Rattle.fkv_plane.specs.Asked.{asked_place, words_after}
 use Rattle.fkv_plane.specs.Plane.{action_at}
 use Rattle.fkv_disk.specs.Calls as device
 use Rattle.fkv_keeper.specs.Answers.{is_busy}
-use Rattle.fkv_keeper.specs.KeeperAsks.{keeper_asks_left, keeper_calls}
+use Rattle.fkv_keeper.specs.KeeperAsks.{keeper_asks_left}
 use Rattle.fkv_keeper.specs.declared.answers.KeeperTold.{KeeperTold}
 use Rattle.fkv_keeper.specs.declared.keepers.Keeping.{Keeping}
 use Rattle.fkv_keeper.specs.declared.keepers.Keeping.TheVariants.{LoadsPhase}
@@ -21,7 +21,7 @@ use Rattle.fkv_keeper.proofs.Shown.{keeper_left}
 use Rattle.fkv_world.specs.Actors.{keeper_goes, slot_asked, slot_named}
 use Rattle.fkv_world.specs.Moves.{Near, keeper_asks, keeper_gets, keeper_replied, keeper_settled}
 use Rattle.fkv_world.specs.Past.{calls_after}
-use Rattle.fkv_world.specs.Runs.{World, happens, read_by_keeper}
+use Rattle.fkv_world.specs.Runs.{World, read_by_keeper}
 use Rattle.fkv_world.specs.World.{Now, near, with_keeper}
 use Rattle.fkv_world.proofs.Shown.{keeper_own}
 use Rattle.law_world.specs.Runs.Ends.{KeeperStandsAtNoSlot, asks_left_of_keeper}

@@ -1,10 +1,10 @@
 -- A step of the keeper keeps the rule of the table, and what it tells.
-use Rattle.std.proofs.Common.{◌≡◌, ◌≢◌, ℕ, ◌<◌, ◌≤◌, ◌+◌, refl, sym, ap, subst, ◌∙◌, Bool, true, false, List, [], ◌∷◌, ◌++◌, length, map, set, get_or}
-use Rattle.std.specs.Prelude.{Option, Some, None, slice_index_or, ◌^◌}
+use Rattle.std.proofs.Common.{◌≡◌, ℕ, ◌<◌, refl, sym, ap, subst, ◌∙◌, Bool, true, List, [], ◌∷◌, ◌++◌, length, map, set, get_or}
+use Rattle.std.specs.Prelude.{Option, Some, slice_index_or, ◌^◌}
 use Rattle.atomic_table.specs.Seated.{TableId}
-use Rattle.atomic_table.specs.Table.{Me, Step, Allows}
+use Rattle.atomic_table.specs.Table.{Me, Allows}
 use Rattle.fkv_plane.specs.declared.asks.Ask.{Ask}
-use Rattle.fkv_plane.specs.Asked.{asked, asked_place, reply_to, word_found, words_after, words_changed}
+use Rattle.fkv_plane.specs.Asked.{asked, asked_place, reply_to, word_found, words_after}
 use Rattle.fkv_plane.specs.Places.{word_count}
 use Rattle.fkv_plane.specs.declared.places.Places.{Places}
 use Rattle.fkv_base.specs.declared.shapes.Shape.{Shape}
@@ -12,7 +12,6 @@ use Rattle.fkv_keeper.specs.declared.answers.KeeperTold.{KeeperTold}
 use Rattle.fkv_keeper.specs.Keeping.{KeeperModel, KeeperState, keeper_ask, keeper_next}
 use Rattle.fkv_world.specs.Actors.{slot_asked, slot_of_step, slot_named}
 use Rattle.fkv_world.specs.Runs.{World, happens}
-use Rattle.fkv_world.specs.World.{Now}
 use Rattle.law_world.proofs.OfRuns.OneWord.{keeper_writes}
 use Rattle.law_guard.proofs.OfGuarded.WordsWithin.{life_keeper_within}
 use Rattle.fkv_seats.specs.Rule.{Changes, Quiet, Ruled, Stepped, led}
@@ -25,7 +24,7 @@ use Rattle.fkv_table.specs.Events.{event_of}
 use Rattle.fkv_table.specs.Keeps.{IsKeeping, KeeperReplied, adding}
 use Rattle.fkv_table.specs.Openings.{IsGuardedOpening, IsTableOf}
 use Rattle.fkv_table.specs.Planes.{plane}
-use Rattle.fkv_table.specs.Positions.{gaps, laid, position}
+use Rattle.fkv_table.specs.Positions.{laid, position}
 use Rattle.fkv_table.proofs.Laid.{below, laid_found, laid_set}
 use Rattle.fkv_table.proofs.Lives.{alive, changed_there, is_there, led_run, slot_facts}
 use Rattle.fkv_table.proofs.KeeperNotes.{ask_there, own, places_so, shape_so, there}

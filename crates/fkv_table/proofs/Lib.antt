@@ -1,5 +1,6 @@
 pub mod Called
 pub mod KeeperCalled
+pub mod KeeperCommits
 pub mod KeeperNotes
 pub mod KeeperSettled
 pub mod KeeperSteps

@@ -1,6 +1,6 @@
 -- Two passes that meet.
-use Rattle.std.proofs.Common.{◌≡◌, ℕ, ◌+◌, refl, sym, ap, subst, ◌∙◌, Bool, true, false, List, [], ◌∷◌}
-use Rattle.std.specs.Prelude.{Option, Some, None}
+use Rattle.std.proofs.Common.{◌≡◌, ℕ, ◌+◌, refl, sym, ap, subst, ◌∙◌, true, false, List, [], ◌∷◌}
+use Rattle.std.specs.Prelude.{Some}
 use Rattle.atomic_table.specs.Seated.{TableId}
 use Rattle.atomic_table.specs.Table.{Joins, Me, Splits, rest}
 use Rattle.fkv_base.specs.Limits.{drain_slots}
@@ -14,7 +14,6 @@ use Rattle.fkv_table.specs.Desks.{Slot, Knows}
 use Rattle.fkv_table.specs.Meets.{AreTwoReady, HaveMet, StaysReady}
 use Rattle.fkv_table.specs.Planes.{plane}
 use Rattle.fkv_table.specs.Seating.{MaySit}
-use Rattle.fkv_table.specs.Calls.{IsReady}
 use Rattle.fkv_table.proofs.Ready.{below, held, ready_on}
 
 module _ {K : Type 0} (at : K → World) (key : K) (table seat seat' : TableId) (first second : Me Slot (Knows K)) (two : AreTwoReady at key table seat seat' first second) where

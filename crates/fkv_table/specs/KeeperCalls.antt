@@ -1,5 +1,7 @@
 -- A call of the keeper in the list of events.
 use Rattle.std.specs.Prelude.{◌≡◌, ⊤, List, [], ◌∷◌, ◌++◌}
+use Rattle.fkv_keeper.specs.declared.keepers.Keeping.{Keeping}
+use Rattle.fkv_keeper.specs.declared.keepers.Keeping.TheVariants.{Ended, Starts}
 use Rattle.fkv_table.specs.declared.happenings.Happening.{Happening}
 use Rattle.fkv_table.specs.declared.happenings.Happening.TheVariants.{Calls, Moves, Commits, Turns, KeeperMoves}
 
@@ -33,3 +35,9 @@ pub record HasGoneOn (seen seen' : List Happening) : Type 0 where
   pub steps : List Happening
   pub begins : BeginsNone steps
   pub so : seen' ≡ steps ++ seen
+
+-- where a commit begins, or no call is in hand
+abbrev pub IsBeginning : Keeping → Type 0
+IsBeginning (Ended its) = ⊤
+IsBeginning Starts = ⊤
+IsBeginning step = ⊥

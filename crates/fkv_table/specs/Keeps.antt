@@ -1,11 +1,11 @@
 -- What the keeper's machine and its seat have to do with each other, and what a step of the keeper tells.
-use Rattle.std.specs.Prelude.{◌≡◌, ◌⊎◌, ⊤, ℕ, Bool, true, false, List, [], ◌∷◌, ◌++◌, Option, Some, None}
+use Rattle.std.specs.Prelude.{◌≡◌, ⊤, ℕ, Bool, true, false, List, [], ◌∷◌, ◌++◌, Option, Some, None}
 use Rattle.atomic_table.specs.Seated.{TableId}
 use Rattle.atomic_table.specs.Table.{Me, Step, rest}
 use Rattle.fkv_disk.specs.Device.{IsAfter}
 use Rattle.fkv_plane.specs.declared.actions.Action.{Action}
 use Rattle.fkv_plane.specs.declared.asks.Ask.{Ask}
-use Rattle.fkv_plane.specs.declared.asks.Ask.TheVariants.{Put, Take, Done}
+use Rattle.fkv_plane.specs.declared.asks.Ask.TheVariants.{Put, Take}
 use Rattle.fkv_plane.specs.Asked.{reply_to}
 use Rattle.fkv_keeper.specs.declared.answers.KeeperTold.{KeeperTold}
 use Rattle.fkv_keeper.specs.Keeping.{KeeperModel, keeper_ask, keeper_next}
@@ -51,6 +51,13 @@ module _ {K : Type 0} (at : K → World) where
   -- A device reads as, and may leave, what the calls give that are past behind a list of events.
   abbrev pub IsAfterSeen : K → List Happening → List ℕ → (List ℕ → Type 0) → Type 0
   IsAfterSeen key events shown may_leave = let p : Past = (led (plane at) (at key) events).past in IsAfter p.opened p.calls shown may_leave
+
+  -- behind the second list the calls of the device are those behind the first, over the same bytes
+  abbrev pub LeavesDevice : K → List Happening → List Happening → Type 0
+  LeavesDevice key seen seen' =
+      let p : Past = (led (plane at) (at key) seen).past in
+      let q : Past = (led (plane at) (at key) seen').past in
+      (q.opened ≡ p.opened) × (q.calls ≡ p.calls)
 
   -- what a step of the keeper tells that adds this event
   abbrev pub adding : Happening → Step Slot → Me Slot (Knows K) → ℕ → Me Slot (Knows K) → Type 0

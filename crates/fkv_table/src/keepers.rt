@@ -6,21 +6,21 @@ ghost use Rattle.fkv_keeper.specs.Answers.{is_busy};
 ghost use Rattle.fkv_keeper.specs.Keeping.{keeper_ask};
 ghost use Rattle.fkv_keeper.specs.KeeperAsks.{keeper_asks_left};
 ghost use Rattle.fkv_keeper.specs.KeeperRun.{is_in_hand};
-ghost use Rattle.fkv_keeper.specs.Running.{IsTurnTold};
+ghost use Rattle.fkv_keeper.specs.Running.{IsBeginTold, IsTurnTold};
 ghost use Rattle.fkv_keeper.specs.declared.answers.KeeperTold.TheVariants.{Device as AtDevice};
 ghost use Rattle.fkv_plane.specs.Asked.{asked_place};
 ghost use Rattle.fkv_plane.specs.declared.asks.Ask.TheVariants.{Done};
 ghost use Rattle.fkv_seats.specs.Rule.{HandFits, led};
 ghost use Rattle.fkv_table.specs.declared.happenings.Happening.TheVariants.{Commits, KeeperMoves, Turns};
-ghost use Rattle.fkv_table.specs.KeeperCalls.{HasGoneOn, HasKept};
-ghost use Rattle.fkv_table.specs.Keeps.{IsAfterSeen, IsKeeping, IsKeeperReady, IsNoted, KeeperIsAsked, KeeperReplied, KeeperSettled, Spares};
+ghost use Rattle.fkv_table.specs.KeeperCalls.{HasGoneOn, HasKept, IsBeginning};
+ghost use Rattle.fkv_table.specs.Keeps.{IsAfterSeen, IsKeeping, IsKeeperReady, IsNoted, KeeperIsAsked, KeeperReplied, KeeperSettled, LeavesDevice, Spares};
 ghost use Rattle.fkv_table.specs.Openings.{IsTableOf};
 ghost use Rattle.fkv_table.specs.Planes.{plane, opening_of};
 
 use crate::performing::perform;
 use crate::rule::{Knows, Place, Slot, Table, Words};
 use atomic_table::Play;
-use fkv_base::{CommitKind, Fault};
+use fkv_base::{CommitKind, Fault, Version};
 use fkv_checkpoint::CopyRoom;
 use fkv_disk::Device;
 use fkv_keeper::{KeeperAsk, KeeperTold, Turn};
@@ -160,6 +160,7 @@ pub(crate) fn begin_commit<D: Device>(
     ensures seat { (seat.new.table_id ≡ seat.old.table_id) × (seat.new.id ≡ seat.old.id) }
     ensures noted { IsNoted (opening_of D.seen) words.now.key seat.old.me (Commits kind) seat.new.me }
     ensures keeping { IsKeeping (opening_of D.seen) words.now.key seat.new.me machine.new }
+    ensures beginning { IsBeginning machine.new.state.step }
 {
     machine.begin_commit(kind);
     match kind {
@@ -258,6 +259,7 @@ fn step<D: Device>(
     ensures went { HasGoneOn seat.old.me.0.seen seat.new.me.0.seen }
     ensures calls { (led (plane (opening_of D.seen)) (opening_of D.seen words.now.key) seat.new.me.0.seen).past.calls ≡ (led (plane (opening_of D.seen)) (opening_of D.seen words.now.key) seat.old.me.0.seen).past.calls }
     ensures fewer { keeper_asks_left machine.new.shape machine.new.places machine.new.state < keeper_asks_left machine.old.shape machine.old.places machine.old.state }
+    ensures beginning { IsBeginning machine.old.state.step → IsBeginning machine.new.state.step }
 {
     let room = machine.room();
     let next = ask_by_room(words, seat, machine, ask, room);
@@ -318,6 +320,25 @@ fn steps_on<D: Device>(
     }
 }
 
+/// Makes the steps of a commit's beginning up to their end. None of them asks for the device.
+fn commit_steps<D: Device>(words: &Words<D>, seat: &mut Place<D>, machine: &mut fkv_keeper::Keeper)
+    requires table { (seat.old.table_id ≡ words.now.table_id) × IsTableOf (opening_of D.seen words.now.key) words.now.table_id }
+    requires keeping { IsKeeping (opening_of D.seen) words.now.key seat.old.me machine.old }
+    requires beginning { IsBeginning machine.old.state.step }
+    ensures seat { (seat.new.table_id ≡ seat.old.table_id) × (seat.new.id ≡ seat.old.id) }
+    ensures keeping { IsKeeping (opening_of D.seen) words.now.key seat.new.me machine.new }
+    ensures went { HasGoneOn seat.old.me.0.seen seat.new.me.0.seen }
+    ensures calls { (led (plane (opening_of D.seen)) (opening_of D.seen words.now.key) seat.new.me.0.seen).past.calls ≡ (led (plane (opening_of D.seen)) (opening_of D.seen words.now.key) seat.old.me.0.seen).past.calls }
+    ensures over { is_busy (keeper_ask machine.new.shape machine.new.places machine.new.state) ≡ false }
+{
+    'asks: loop {
+        match machine.ask() {
+            Ask::Done(_) => return,
+            ask => step(words, seat, machine, &ask),
+        }
+    }
+}
+
 impl Keeper {
     /// Makes a turn to its end, with each call of the device that it needs. Its answers are those of the keeper's machine: it ends early
     /// with `Broken`, `Device`, `EpochsSpent` or `Memory`. The device is the one that the store was opened from, and it is honest.
@@ -342,6 +363,27 @@ impl Keeper {
         let answer = turn_told(&mut self.machine);
         (pass, answer)
     }
+
+    /// Begins a commit of this kind and gives its number; later turns carry it through. Its refusals are those of the keeper's machine:
+    /// `Broken`, `CommitRunning`, `VersionsSpent`, `LostFull`, `EpochsSpent` or `DrainFull`. The device isn't called.
+    pub fn ask_commit<D: Device>(
+        &mut self,
+        table: &Table<D>,
+        mut pass: KeeperPass<D>,
+        kind: CommitKind,
+    ) -> (KeeperPass<D>, Result<Version, Fault>)
+        requires ready { IsKeeperReady (opening_of D.seen) table.now.table.shared.key table.now.table.shared.table_id pass.seat.table_id pass.seat.me self.old.machine }
+        ensures ready { IsKeeperReady (opening_of D.seen) table.now.table.shared.key table.now.table.shared.table_id result.0.seat.table_id result.0.seat.me self.new.machine }
+        ensures kept { HasKept (Commits kind) pass.seat.me.0.seen result.0.seat.me.0.seen }
+        ensures device { LeavesDevice (opening_of D.seen) table.now.table.shared.key pass.seat.me.0.seen result.0.seat.me.0.seen }
+        ensures told { IsBeginTold (keeper_ask self.new.machine.shape self.new.machine.places self.new.machine.state) result.1 }
+    {
+        let words = &table.table.shared;
+        begin_commit(words, &mut pass.seat, &mut self.machine, kind);
+        commit_steps(words, &mut pass.seat, &mut self.machine);
+        let answer = begin_told(&mut self.machine);
+        (pass, answer)
+    }
 }
 
 /// How a turn has ended. At rest a reply changes nothing, and the last answer is told again.
@@ -355,5 +397,19 @@ fn turn_told(machine: &mut fkv_keeper::Keeper) -> Result<Turn, Fault>
     match machine.drive(0) {
         KeeperAsk::Turned(result) => result,
         _ => Err(Fault::DrainFull),
+    }
+}
+
+/// How a commit's beginning has ended, told again in the same way.
+#[tactic(auto, unfolding(fkv_keeper::specs::Keeping::keeping_next))]
+fn begin_told(machine: &mut fkv_keeper::Keeper) -> Result<Version, Fault>
+    requires over { is_busy (keeper_ask machine.old.shape machine.old.places machine.old.state) ≡ false }
+    requires idle { is_in_hand machine.old.state.step ≡ false }
+    ensures same { machine.new ≡ machine.old }
+    ensures told { IsBeginTold (keeper_ask machine.old.shape machine.old.places machine.old.state) result }
+{
+    match machine.drive(0) {
+        KeeperAsk::Begun(result) => result,
+        _ => Err(Fault::CommitRunning),
     }
 }

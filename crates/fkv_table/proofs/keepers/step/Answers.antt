@@ -1,8 +1,10 @@
 -- The reply leads the keeper on, and the action that goes with it.
 use Rattle.std.proofs.Common.{◌∙◌, sym, ap, subst}
 use Rattle.fkv_keeper.specs.Keeping.{KeeperModel, keeper_ask}
+use Rattle.fkv_table.specs.KeeperCalls.{IsBeginning}
 use Rattle.fkv_table.specs.Keeps.{IsKeeping}
 use Rattle.fkv_table.specs.Planes.{opening_of}
+use Rattle.fkv_table.proofs.KeeperCommits.{step_begins}
 use Rattle.fkv_table.proofs.KeeperSettled.{IsKeeperStep, keeper_in_hand, keeper_stepped}
 use Rattle.fkv_table.proofs.keepers.step.Goals as goal
 
@@ -44,3 +46,8 @@ returns-clause-fewer g c =
     let done = keeper_stepped (opening_of g.D.Device.seen) c.args.words.now.key c.args.seat.now.me c.ask_by_room-next.new.seat.me c.settle.new.seat.me c.room-room.new.self c.ask_by_room-next.new.machine c.settle.new.machine _ c.args.ask.now
     c.ask_by_room-next.result c.requires.table.1.opening its c.ask_by_room-next.ensures.replied first c.requires.word c.ask_by_room-next.ensures.ask c.settle.ensures.settled in
     (subst (λ (k : KeeperModel). IsKeeperStep (opening_of g.D.Device.seen) c.args.words.now.key c.args.seat.now.me k c.settle.new.seat.me c.settle.new.machine) c.room-room.ensures.same done).fewer
+
+pub returns-clause-beginning : goal.returns-clause-beginning
+returns-clause-beginning g c b =
+    step_begins (opening_of g.D.Device.seen) c.args.words.now.key c.args.seat.now.me c.ask_by_room-next.new.seat.me c.settle.new.seat.me _ c.room-room.new.self c.ask_by_room-next.new.machine c.settle.new.machine c.ask_by_room-next.result
+    c.ask_by_room-next.ensures.replied c.settle.ensures.settled (subst (λ (k : KeeperModel). IsBeginning k.state.step) (sym c.room-room.ensures.same) b)

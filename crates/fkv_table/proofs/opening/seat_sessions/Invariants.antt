@@ -1,4 +1,4 @@
-use Rattle.std.proofs.Common.{◌≡◌, ◌+◌, List, [], length, map}
+use Rattle.std.proofs.Common.{◌≡◌, ◌+◌, [], length, map}
 use Rattle.fkv_base.specs.Limits.{drain_slots}
 use Rattle.fkv_table.specs.Starts.{EachAt, HasSeat, rest_view}
 use Rattle.fkv_table.proofs.opening.seat_sessions.Given as goal

@@ -1,9 +1,7 @@
 -- The table begins by its rule, over the world of the store as it was opened, and each seat fits its machine.
-use Rattle.std.proofs.Common.{◌≡◌, ◌∙◌, sym, ap, subst, arith, ℕ, ◌+◌, ◌<◌, List, length}
-use Rattle.std.specs.declared.snapshot.Snapshot.{Snapshot}
+use Rattle.std.proofs.Common.{◌≡◌, ◌∙◌, sym, ap, subst, arith, List, length}
 use Rattle.atomic_table.specs.Table.{opening}
-use Rattle.fkv_core.specs.Worlds.{AreSeated, WorldModel}
-use Rattle.fkv_keeper.specs.Keeping.{KeeperModel}
+use Rattle.fkv_core.specs.Worlds.{AreSeated}
 use Rattle.fkv_plane.specs.Plane.{Plane}
 use Rattle.fkv_seats.specs.Rule.{Ruled, first_view}
 use Rattle.fkv_table.specs.Desks.{Slot}
