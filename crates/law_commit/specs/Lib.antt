@@ -12,6 +12,7 @@ pub mod PrefixPast
 pub mod Raises
 pub mod Ranks
 pub mod ToldPoints
+pub mod Versions
 pub mod Views
 pub mod Worked
 pub mod WorkedRuns

@@ -7,6 +7,7 @@ mod floor;
 mod laws;
 mod linked;
 mod phases;
+mod versions;
 
 pub use copied::{law_copies_cover, law_world_copied};
 pub use cuts::{law_cuts_stand, law_durable_stands, law_marks_stand};
@@ -20,3 +21,4 @@ pub use phases::{
     law_phases_in_turn, law_quiet_events_are_phases, law_replies_keep_stamps, law_runs_are_safe,
     law_sessions_are_phases, law_stamps_are_loads,
 };
+pub use versions::{law_points_split, law_versions_bounded};

@@ -6,4 +6,5 @@ pub mod Kept
 mod ReadRuns
 pub mod Rests
 pub mod SameEntries
+pub mod Versions
 pub mod Words

@@ -7,6 +7,7 @@ ghost use Rattle.fkv_world.specs.World.{Now};
 ghost use Rattle.law_opening.specs.Lives.OpenedFrom.{IsOpenedFrom};
 ghost use Rattle.law_opening.specs.Lives.Steps.{AllLeadOn, OneCommitStands, Step, device_behind, events_of, now_behind};
 ghost use Rattle.law_order.specs.InTurn.Laws.{HasFloorInItsLife, KeepsItsViewsNear, NumbersItsCommitsInTurn, OpensItsStoreAtRest, TellsOfItsLife};
+ghost use Rattle.law_order.specs.Rules.Openings.{OpensItsVersions};
 
 use crate::rest::law_rest_said;
 use crate::rules::law_life_begins;
@@ -37,6 +38,15 @@ pub fn law_floor_opens()
 {
     law_life_begins();
     law_floor_stands();
+}
+
+/// The log of an opened store's image has no record of a later version than its phase word's, and none from its tail up. So the laws of versions hold of each
+/// of its lives.
+pub fn law_versions_open()
+    ensures { OpensItsVersions }
+{
+    law_phases_open();
+    law_life_begins();
 }
 
 /// And behind any steps of an opened store's world one commit stands in each image that a crash leaves of the device: the newest finished one, or, while

@@ -5,6 +5,7 @@ mod Counts
 pub mod Permitted
 mod Moved
 mod Needs
+pub mod InTries
 mod Openings
 mod Seats
 mod SessionLatches

@@ -1,3 +1,4 @@
+pub mod InTries
 pub mod Latchers
 pub mod LatchEvents
 pub mod Shows

@@ -3,6 +3,7 @@ ghost use Rattle.std.specs.Prelude.{List};
 ghost use Rattle.fkv_latch.specs.Latched.{AreCounted, AreLatchesApart};
 ghost use Rattle.fkv_world.specs.World.{Event};
 ghost use Rattle.fkv_world.specs.Runs.{World, run};
+ghost use Rattle.law_parts.specs.Latches.InTries.{ShareInTries};
 ghost use Rattle.law_parts.specs.Latches.Shows.{AreApart, ArePermitted, IsOpened, Shows, seen_by_latches};
 
 /// Over every life of the engine that begins as a store was opened, whatever its calls, commits, turns and the order of its steps: each
@@ -21,4 +22,11 @@ pub fn law_world_latched()
         → AreLatchesApart (seen_by_latches opening events) }
     ensures counted { (opening : World) (events : List Event) → IsOpened opening.now
         → AreCounted (seen_by_latches opening events) }
+{}
+
+/// In each such life, also while a call is in hand, a session's actor has in the word of each latch what the session's requests share, and what the request of
+/// that call does: its share, or one that it is dropping, or one that has met bit 63 and isn't given back yet. So a latch counts just the requests that share it, but for
+/// those two.
+pub fn law_latched_in_tries()
+    ensures { ShareInTries }
 {}

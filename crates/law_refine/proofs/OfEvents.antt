@@ -7,14 +7,14 @@ mod Between
 pub mod EventEffects
 pub mod Fixed
 pub mod Own
-mod ReadTries
+pub mod ReadTries
 pub mod RequestNames
 mod ReservedCells
 pub mod ReservedLife
 pub mod SessionEffects
 pub mod SessionSteps
 pub mod Trace
-mod TryAppends
+pub mod TryAppends
 mod TryEffects
 mod TrySteps
 pub mod Unborn

@@ -8,6 +8,7 @@ use Rattle.law_opening.specs.Log.Maps.{opening_map}
 use Rattle.law_opening.specs.Log.OpeningLog.{opening_ghosts}
 use Rattle.fkv_world.specs.World.{Now}
 use Rattle.law_commit.specs.Cuts.{HasItsWords, ShowCuts, ShowsDurable}
+use Rattle.law_commit.specs.Versions.Laws.{OpensWithLog}
 use Rattle.law_order.specs.Known.Begins.{BeginsLife}
 use Rattle.law_order.specs.OneHistory.EachLife.{InEachLife}
 use Rattle.law_order.specs.Rules.InTime.{ReadsInTime}
@@ -33,3 +34,8 @@ OpensItsCuts =
 abbrev pub OpensItsDurables : Type 0
 OpensItsDurables =
     (o : Opened) (n : Now) → IsOpeningWorld o n → ShowsDurable n
+
+-- the log of its image has no record of a later version than its phase word's
+abbrev pub OpensItsVersions : Type 0
+OpensItsVersions =
+    (bytes : List ℕ) (o : Opened) (n : Now) → IsStoreOf bytes o → IsOpeningWorld o n → OpensWithLog (beginning n bytes) o.tail.0 (opening_ghosts bytes o)

@@ -183,10 +183,10 @@ few_of : (n m : ℕ) → (0 < n → ⊥) → n ≤ m
 few_of zero m none = omega arith
 few_of (suc n) m none = absurd (none (omega arith))
 
-abbrev book : (k : Seat) (s : SessionState) (a : LatchActor) → Came k s a → ℕ → Book
+abbrev pub book : (k : Seat) (s : SessionState) (a : LatchActor) → Came k s a → ℕ → Book
 book k s a came at = record { seat = k; its = came.its; at = at; added = shares_added k came.opening came.events at; dropped = shares_dropped k came.opening came.events at }
 
-shares_at : (k : Seat) (s : SessionState) (a : LatchActor) (came : Came k s a) (at : ℕ) → StepShares (book k s a came at) s s.step
+pub shares_at : (k : Seat) (s : SessionState) (a : LatchActor) (came : Came k s a) (at : ℕ) → StepShares (book k s a came at) s s.step
 shares_at k s a came at = subst (λ x. StepShares (book k s a came at) x x.step) (sym came.same) (run_shares k came.its came.opening came.events at came.opened)
 
 at_rest_shares : (a : LatchActor) (at : ℕ) → a.step ≡ latching.AtRest → shares_of at a ≡ times at a.shared

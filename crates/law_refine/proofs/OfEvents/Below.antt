@@ -26,11 +26,11 @@ use Rattle.law_refine.proofs.OfEvents.SessionSteps.{life_on}
 use Rattle.law_refine.proofs.OfEvents.Fixed.{life_rises}
 
 -- what an event takes lies at or above this address
-abbrev is_above : ℕ → GhostEvent → Type 0
+abbrev pub is_above : ℕ → GhostEvent → Type 0
 is_above bound (Reserves a entry cell) = bound ≤ a
 is_above bound event = ⊤
 
-abbrev AreAbove : ℕ → List GhostEvent → Type 0
+abbrev pub AreAbove : ℕ → List GhostEvent → Type 0
 AreAbove bound [] = ⊤
 AreAbove bound (event ∷ before) = is_above bound event × AreAbove bound before
 
@@ -146,26 +146,27 @@ tail_above opening start before opened =
     let first = opened.words.tail in
     omega (arith, rises, first)
 
-moved_above : (opening : World) (start : ℕ) (before : List Event) (number : ℕ) (found : Option SessionState) → guard.IsOpened opening.now start → slice_get (run opening before).now.sessions number ≡ found
-    → AreAbove start (moved_ghosts (run opening before) number found)
-moved_above opening start before number None opened e = tt
-moved_above opening start before number (Some s) opened e =
+moved_above : (opening : World) (start bound : ℕ) (before : List Event) (number : ℕ) (found : Option SessionState) → guard.IsOpened opening.now start → bound ≤ tail_at (run opening before).now → slice_get (run opening before).now.sessions number ≡ found
+    → AreAbove bound (moved_ghosts (run opening before) number found)
+moved_above opening start bound before number None opened low e = tt
+moved_above opening start bound before number (Some s) opened low e =
     let w : World = run opening before in
     let k : Seat = seat_at w.now number in
     let ask : Ask Told = session_ask k s in
-    let least_tail : start ≤ tail_at w.now = tail_above opening start before opened in
-    let high : (addr : ℕ) → TakesTail (asked_place ask) (asked ask) (reply_to w.now.words ask) addr → start ≤ addr = λ addr takes.
-    subst (λ (at : ℕ). start ≤ at) (sym (takes.found ∙ ap (word_found w.now.words) takes.at)) least_tail in
-    step_above start k w.past.trace s w.now.words ask
-    (moves_above start (asked_place ask) (asked ask) (reply_to w.now.words ask) (sitting_ghosts k w.past.trace s s.step (reply_to w.now.words ask)) _ _ high (life_on opening start before number s (reply_to w.now.words ask) opened e))
+    let high : (addr : ℕ) → TakesTail (asked_place ask) (asked ask) (reply_to w.now.words ask) addr → bound ≤ addr = λ addr takes.
+    subst (λ (at : ℕ). bound ≤ at) (sym (takes.found ∙ ap (word_found w.now.words) takes.at)) low in
+    step_above bound k w.past.trace s w.now.words ask
+    (moves_above bound (asked_place ask) (asked ask) (reply_to w.now.words ask) (sitting_ghosts k w.past.trace s s.step (reply_to w.now.words ask)) _ _ high (life_on opening start before number s (reply_to w.now.words ask) opened e))
 
-own_above : (opening : World) (start : ℕ) (before : List Event) (event : Event) → guard.IsOpened opening.now start → AreAbove start (own_ghosts (run opening before) event)
-own_above opening start before (Moves number) opened = moved_above opening start before number (slice_get (run opening before).now.sessions number) opened refl
-own_above opening start before event opened = tt
+own_above : (opening : World) (start bound : ℕ) (before : List Event) (event : Event) → guard.IsOpened opening.now start → bound ≤ tail_at (run opening before).now → AreAbove bound (own_ghosts (run opening before) event)
+own_above opening start bound before (Moves number) opened low = moved_above opening start bound before number (slice_get (run opening before).now.sessions number) opened low refl
+own_above opening start bound before event opened low = tt
 
-event_above : (opening : World) (start : ℕ) (before : List Event) (event : Event) → guard.IsOpened opening.now start → AreAbove start (ghost_events (serials_in opening.now) (run opening before) event)
+-- what is taken is the tail, so it lies at or above whatever doesn't lie above that
+pub event_above : (opening : World) (start bound : ℕ) (before : List Event) (event : Event) → guard.IsOpened opening.now start → bound ≤ tail_at (run opening before).now
+    → AreAbove bound (ghost_events (serials_in opening.now) (run opening before) event)
 unfolding ghost_events
-event_above opening start before event opened = by_test w.now.crashed
+event_above opening start bound before event opened low = by_test w.now.crashed
   where
     w : World
     w = run opening before
@@ -173,11 +174,11 @@ event_above opening start before event opened = by_test w.now.crashed
     lines : List TraceLine
     lines = lines_added (serials_in opening.now) w.past.trace (traced_by w event)
 
-    by_test : (c : Bool) → AreAbove start (if c then [] else map Tells lines ++ (fixed_ghosts (safe_at w.now) (safe_at (happens w event).now) ++ own_ghosts w event))
+    by_test : (c : Bool) → AreAbove bound (if c then [] else map Tells lines ++ (fixed_ghosts (safe_at w.now) (safe_at (happens w event).now) ++ own_ghosts w event))
     by_test true = tt
     by_test false =
-        both_above start (map Tells lines) (fixed_ghosts (safe_at w.now) (safe_at (happens w event).now) ++ own_ghosts w event) (told_above start lines)
-        (both_above start (fixed_ghosts (safe_at w.now) (safe_at (happens w event).now)) (own_ghosts w event) (fixed_above start (safe_at w.now) (safe_at (happens w event).now)) (own_above opening start before event opened))
+        both_above bound (map Tells lines) (fixed_ghosts (safe_at w.now) (safe_at (happens w event).now) ++ own_ghosts w event) (told_above bound lines)
+        (both_above bound (fixed_ghosts (safe_at w.now) (safe_at (happens w event).now)) (own_ghosts w event) (fixed_above bound (safe_at w.now) (safe_at (happens w event).now)) (own_above opening start bound before event opened low))
 
 -- ---- and of a life
 pub life_below : (opening : World) (start : ℕ) (m : Map) (number : ℕ) (ghosts : Ghosts) (events : List Event) → guard.IsOpened opening.now start → IsOpened (home_in opening.now.shape.bucket_bits) m number ghosts → start ≤ ghosts.log.fixed
@@ -186,5 +187,5 @@ unfolding mapped ghost_run
 life_below opening start m number ghosts [] opened log fixed enabled = record { same = λ a low. refl; fixed = fixed }
 life_below opening start m number ghosts (event ∷ before) opened log fixed enabled =
     let its : List GhostEvent = ghost_events (serials_in opening.now) (run opening before) event in
-    behind_below (home_in opening.now.shape.bucket_bits) m number ghosts start its (mapped opening before) log enabled (event_above opening start before event opened)
+    behind_below (home_in opening.now.shape.bucket_bits) m number ghosts start its (mapped opening before) log enabled (event_above opening start start before event opened (tail_above opening start before opened))
     (life_below opening start m number ghosts before opened log fixed (enabled_before (home_in opening.now.shape.bucket_bits) ghosts its (mapped opening before) enabled))

@@ -67,7 +67,7 @@ request_keeps : (k : Seat) (s : SessionState) (index : ℕ) (found : Option Pend
 request_keeps k s index None = after_turn_keeps s _
 request_keeps k s index (Some pending) = refl
 
-polls_keeps : (k : Seat) (s : SessionState) (index : ℕ) → (polls_at k s index).effect ≡ s.effect
+pub polls_keeps : (k : Seat) (s : SessionState) (index : ℕ) → (polls_at k s index).effect ≡ s.effect
 unfolding polls_at
 polls_keeps k s index = request_keeps k s index (slice_get s.requests index)
 
@@ -93,7 +93,7 @@ attempted_keeps s has_shifted tried.Shift = shifts_keeps s has_shifted
 attempted_keeps s has_shifted tried.IndexFull = refl
 attempted_keeps s has_shifted tried.LogFull = refl
 
-called_keeps : (s : SessionState) (has_shifted : Bool) (ask : Ask TryAnswer) → (attempt_ledto s has_shifted ask).effect ≡ s.effect
+pub called_keeps : (s : SessionState) (has_shifted : Bool) (ask : Ask TryAnswer) → (attempt_ledto s has_shifted ask).effect ≡ s.effect
 unfolding attempt_ledto
 called_keeps s has_shifted (Done its) = attempted_keeps (attempt_left s) has_shifted its
 called_keeps s has_shifted ask = refl
@@ -106,7 +106,7 @@ keeps_keeps : (k : Seat) (s : SessionState) (index : ℕ) (its : TryAnswer) → 
 unfolding keeps_request
 keeps_keeps k s index its = polls_keeps k (record s { requests = slice_set s.requests index s.attempt.pending; wants_turn = s.wants_turn || lacks_room its }) (index + 1)
 
-polled_keeps : (k : Seat) (s : SessionState) (index : ℕ) (ask : Ask TryAnswer) → (poll_ledto k s index ask).effect ≡ s.effect
+pub polled_keeps : (k : Seat) (s : SessionState) (index : ℕ) (ask : Ask TryAnswer) → (poll_ledto k s index ask).effect ≡ s.effect
 unfolding poll_ledto
 polled_keeps k s index (Done its) = either_keeps (is_finished its) (finishes_request k (attempt_left s) index its) (keeps_request k (attempt_left s) index its) s.effect (finishes_keeps k (attempt_left s) index its) (keeps_keeps k (attempt_left s) index its)
 polled_keeps k s index ask = refl
@@ -116,12 +116,12 @@ caught_keeps k s cause.Refreshes = refl
 caught_keeps k s cause.Wakes = refl
 caught_keeps k s cause.Shifts = attempts_keeps k s true
 
-catch_keeps : (k : Seat) (s : SessionState) (its : CatchCause) (ask : Ask (Unit {0})) → (catch_ledto k s its ask).effect ≡ s.effect
+pub catch_keeps : (k : Seat) (s : SessionState) (its : CatchCause) (ask : Ask (Unit {0})) → (catch_ledto k s its ask).effect ≡ s.effect
 unfolding catch_ledto
 catch_keeps k s its (Done through) = caught_keeps k (record s { seen = s.catching.seen }) its
 catch_keeps k s its ask = refl
 
-clear_keeps : (k : Seat) (s : SessionState) (ask : Ask MailAnswer) → (clear_ledto k s ask).effect ≡ s.effect
+pub clear_keeps : (k : Seat) (s : SessionState) (ask : Ask MailAnswer) → (clear_ledto k s ask).effect ≡ s.effect
 unfolding clear_ledto
 clear_keeps k s (Done Cleared) = polls_keeps k (record s { is_orphaned = false }) 0
 clear_keeps k s (Done its) = polls_keeps k s 0

@@ -1,0 +1,222 @@
+-- In a life each address is taken for a record of the version of the request that is attempted, and a read takes none.
+use Rattle.std.proofs.Common.{◌≡◌, ℕ, List, [], ◌∷◌, ◌++◌, refl, sym, subst, Bool, true, false}
+use Rattle.std.specs.Prelude.{map, slice_get, if◌then◌else◌, ◌==◌, Option, Some, None}
+use Rattle.fkv_base.specs.declared.numbers.Version.{Version}
+use Rattle.fkv_map.specs.declared.history.HistoryEntry.{HistoryEntry}
+use Rattle.fkv_map.specs.declared.operations.Op.{Op}
+use Rattle.fkv_map.specs.declared.operations.Op.TheVariants.{Read}
+use Rattle.fkv_map.specs.declared.operations.Reply.{Reply}
+use Rattle.fkv_map.specs.Keys.{reply_from}
+use Rattle.law_log.specs.Chains.{Cell}
+use Rattle.law_log.specs.Ghosts.{GhostEvent, Tells, Fixes, Reserves, Drops, Changes}
+use Rattle.law_log.specs.Trace.{TraceLine}
+use Rattle.fkv_plane.specs.declared.asks.Ask.{Ask}
+use Rattle.fkv_plane.specs.declared.asks.Ask.TheVariants.{Put, Take, Done}
+use Rattle.fkv_plane.specs.declared.places.Places.{Places}
+use Rattle.fkv_plane.specs.Asked.{reply_to}
+use Rattle.fkv_log.specs.declared.invalidating.Invalidating.{Invalidating}
+use Rattle.fkv_log.specs.declared.invalidating.Invalidating.TheVariants as invalidating
+use Rattle.fkv_log.specs.declared.reserving.ReserveAnswer.{ReserveAnswer}
+use Rattle.fkv_log.specs.declared.reserving.ReserveAnswer.TheVariants as reserve
+use Rattle.fkv_log.specs.Reserving.{reserve_next_ask}
+use Rattle.fkv_index.specs.declared.finding.FindAnswer.{FindAnswer}
+use Rattle.fkv_index.specs.declared.finding.Found.{Found}
+use Rattle.fkv_index.specs.declared.finding.Found.TheVariants as found
+use Rattle.fkv_index.specs.declared.publishing.PublishAnswer.{PublishAnswer}
+use Rattle.fkv_index.specs.declared.publishing.PublishAnswer.TheVariants as publish
+use Rattle.fkv_index.specs.Finding.{find_next_ask}
+use Rattle.fkv_index.specs.Publishing.{publish_next_ask}
+use Rattle.fkv_ops.specs.declared.answers.TryAnswer.{TryAnswer}
+use Rattle.fkv_ops.specs.declared.answers.TryAnswer.TheVariants as answer
+use Rattle.fkv_ops.specs.declared.appending.Appending.{Appending}
+use Rattle.fkv_ops.specs.declared.appending.Appending.TheVariants as appending
+use Rattle.fkv_ops.specs.declared.requests.Request.{Request}
+use Rattle.fkv_ops.specs.declared.trying.Trying.{Trying}
+use Rattle.fkv_ops.specs.declared.trying.Trying.TheVariants as trying
+use Rattle.fkv_ops.specs.declared.walking.Walking.{Walking}
+use Rattle.fkv_ops.specs.declared.walking.Walking.TheVariants as walking
+use Rattle.fkv_ops.specs.Appending.{AppendState}
+use Rattle.fkv_ops.specs.Requests.{is_read}
+use Rattle.fkv_ops.specs.Trying.{TryState}
+use Rattle.fkv_ops.specs.Values.{value_of}
+use Rattle.fkv_ops.specs.Walking.{WalkState}
+use Rattle.fkv_pending.specs.declared.attempting.Attempting.{Attempting}
+use Rattle.fkv_pending.specs.declared.attempting.Attempting.TheVariants as attempting
+use Rattle.fkv_pending.specs.declared.pending_requests.PendingRequest.{PendingRequest}
+use Rattle.fkv_pending.specs.Attempting.{AttemptState, attempt_ask, attempt_next}
+use Rattle.fkv_session.specs.declared.answers.Told.{Told}
+use Rattle.fkv_session.specs.declared.sessions.Sitting.{Sitting}
+use Rattle.fkv_session.specs.declared.sessions.Sitting.TheVariants.{Attempts, Polls}
+use Rattle.fkv_session.specs.Sessions.{SessionState, Seat, bits_of, room_of, session_ask}
+use Rattle.fkv_world.specs.Past.{Traced}
+use Rattle.fkv_world.specs.Runs.{World, happens, run}
+use Rattle.fkv_world.specs.World.{Event, Moves, seat_at}
+use Rattle.law_guard.specs.Guarded.Shows as guard
+use Rattle.law_guard.specs.Sessions.Tries.{is_for_entry}
+use Rattle.law_refine.specs.Events.Appends.{append_ghosts, entry_made, invalidate_ghosts, publish_ghosts, reserved_ghosts}
+use Rattle.law_refine.specs.Events.Effects.{mover_step, step_at}
+use Rattle.law_refine.specs.Events.GhostEvents.{fixed_ghosts, ghost_events, moved_ghosts, own_ghosts, safe_at, serials_in, traced_by}
+use Rattle.law_refine.specs.Events.Lines.{lines_added}
+use Rattle.law_refine.specs.Events.Reservations.{reservation}
+use Rattle.law_refine.specs.Events.Sessions.{attempt_ghosts, sitting_ghosts, step_ghosts, tried_ghosts, value_ghosts}
+use Rattle.law_refine.specs.Events.Tries.{find_ghosts, found_ghosts, search_ghosts, try_ghosts, walk_ghosts}
+use Rattle.law_refine.proofs.OfEvents.ReadTries.{IsReadStep}
+use Rattle.law_refine.proofs.OfEvents.RequestNames.{IsAttemptSo, IsTryOf, StepIsSo, TriesAt, life_so}
+use Rattle.law_refine.proofs.OfEvents.TryAppends.{IsAppendOf, KnowsAt}
+use Rattle.law_commit.specs.Versions.Cells.{AllReserve, AllReserveOf}
+use Rattle.law_commit.specs.Versions.Requests.{AttemptsSo, IsUpdateSo}
+
+-- ---- lists of the log's events
+pub both_reserve : (P : ℕ → Type 0) (later before : List GhostEvent) → AllReserve P later → AllReserve P before → AllReserve P (later ++ before)
+both_reserve P [] before one other = other
+both_reserve P (event ∷ later) before one other = (one.0, both_reserve P later before one.1 other)
+
+pub behind_reserve : (P : ℕ → Type 0) (later before : List GhostEvent) → AllReserve P (later ++ before) → AllReserve P before
+behind_reserve P [] before all = all
+behind_reserve P (event ∷ later) before all = behind_reserve P later before all.1
+
+either_reserves : (P : ℕ → Type 0) (c : Bool) (a b : List GhostEvent) → AllReserve P a → AllReserve P b → AllReserve P (if c then a else b)
+either_reserves P true a b one other = one
+either_reserves P false a b one other = other
+
+-- ---- an append
+taken_reserves : (P : ℕ → Type 0) (request : Request) (a : AppendState) (entry : HistoryEntry) (ask : Ask ReserveAnswer) → P request.version.0 → IsAppendOf request a → AllReserve P (reserved_ghosts a entry ask)
+taken_reserves P request a entry (Done (reserve.Reserved addr)) its so =
+    let is_so : P a.its_words.header.version.0 = subst (λ (v : Version). P v.0) (sym so.same.its_version) its in
+    let made : Cell = (reservation a entry addr.0).cell in
+    either_reserves P (is_for_entry a addr) (Reserves addr.0 entry made ∷ []) (Drops addr.0 ∷ Reserves addr.0 entry made ∷ []) (is_so, tt) (tt, (is_so, tt))
+taken_reserves P request a entry ask its so = tt
+
+publish_reserves : (P : ℕ → Type 0) (addr : ℕ) (ask : Ask PublishAnswer) → AllReserve P (publish_ghosts addr ask)
+publish_reserves P addr (Done publish.Won) = (tt, tt)
+publish_reserves P addr ask = tt
+
+invalidate_reserves : (P : ℕ → Type 0) (step : Invalidating) → AllReserve P (invalidate_ghosts step)
+invalidate_reserves P invalidating.AtRest = tt
+invalidate_reserves P (invalidating.StoresHeader addr header) = (tt, tt)
+
+append_reserves : (P : ℕ → Type 0) (room : ℕ) (request : Request) (a : AppendState) (entry : HistoryEntry) (step : Appending) (reply : ℕ) → P request.version.0 → IsAppendOf request a
+    → AllReserve P (append_ghosts room a entry step reply)
+append_reserves P room request a entry appending.Reserves reply its so = taken_reserves P request a entry (reserve_next_ask room a.reserving reply) its so
+append_reserves P room request a entry (appending.Publishes addr) reply its so = publish_reserves P addr.0 (publish_next_ask a.publishing reply)
+append_reserves P room request a entry appending.Invalidates reply its so = invalidate_reserves P a.invalidating
+append_reserves P room request a entry step reply its so = tt
+
+-- ---- a try
+found_reserves : (P : ℕ → Type 0) (reader : ℕ) (its : Found) → AllReserve P (found_ghosts reader its)
+found_reserves P reader (found.Slot place word) = (tt, tt)
+found_reserves P reader found.NoSlot = (tt, tt)
+found_reserves P reader its = tt
+
+find_reserves : (P : ℕ → Type 0) (reader : ℕ) (ask : Ask FindAnswer) → AllReserve P (find_ghosts reader ask)
+find_reserves P reader (Done its) = found_reserves P reader its.found
+find_reserves P reader ask = tt
+
+walk_reserves : (P : ℕ → Type 0) (p : Places) (reader : ℕ) (w : WalkState) (step : Walking) (reply : ℕ) → AllReserve P (walk_ghosts p reader w step reply)
+walk_reserves P p reader w walking.Finds reply = find_reserves P reader (find_next_ask p w.finding reply)
+walk_reserves P p reader w step reply = tt
+
+search_reserves : (P : ℕ → Type 0) (p : Places) (op : Op) (reader : ℕ) (w : WalkState) (reply : ℕ) → AllReserve P (search_ghosts p op reader w reply)
+search_reserves P p (Read key) reader w reply = walk_reserves P p reader w w.step reply
+search_reserves P p op reader w reply = tt
+
+appends_reserve : (P : ℕ → Type 0) (room session : ℕ) (pending : PendingRequest) (t : TryState) (made : Reply) (reply : ℕ) (reads : Bool) → is_read pending.request.op ≡ reads → t.step ≡ trying.Appends made → IsUpdateSo P pending
+    → IsTryOf pending t → AllReserve P (append_ghosts room t.append (entry_made session pending made) t.append.step reply)
+appends_reserve P room session pending t made reply true e at its so = absurd (subst IsReadStep at (so.reads e).step)
+appends_reserve P room session pending t made reply false e at its so =
+    append_reserves P room pending.request t.append (entry_made session pending made) t.append.step reply (its e) (subst (KnowsAt pending.request t) at so.of_request.knows)
+
+try_reserves : (P : ℕ → Type 0) (p : Places) (room session reader : ℕ) (pending : PendingRequest) (t : TryState) (step : Trying) (reply : ℕ) → t.step ≡ step → IsUpdateSo P pending → IsTryOf pending t
+    → AllReserve P (try_ghosts p room session reader pending t step reply)
+try_reserves P p room session reader pending t trying.Walks reply at its so = search_reserves P p pending.request.op reader t.walk reply
+try_reserves P p room session reader pending t (trying.SwapsValue addr) reply at its so = (tt, tt)
+try_reserves P p room session reader pending t (trying.ChangesValue addr old) reply at its so =
+    either_reserves P (reply == old) (Changes addr.0 (entry_made session pending (reply_from (value_of old) t.request.op)) ∷ []) [] (tt, tt) tt
+try_reserves P p room session reader pending t (trying.Appends made) reply at its so = appends_reserve P room session pending t made reply (is_read pending.request.op) refl at its so
+try_reserves P p room session reader pending t step reply at its so = tt
+
+-- ---- an attempt
+value_reserves : (P : ℕ → Type 0) (op : Op) (reader : ℕ) (ask : Ask TryAnswer) → AllReserve P (value_ghosts op reader ask)
+value_reserves P (Read key) reader (Done (answer.Found value)) = (tt, tt)
+value_reserves P (Read key) reader (Done answer.Absent) = (tt, tt)
+value_reserves P op reader ask = tt
+
+tried_reserves : (P : ℕ → Type 0) (k : Seat) (reader : ℕ) (a : AttemptState) (step : Attempting) (reply : ℕ) → IsUpdateSo P a.pending → TriesAt a.pending a.trial step → AllReserve P (tried_ghosts k reader a step reply)
+tried_reserves P k reader a attempting.Tries reply its so = try_reserves P k.places (room_of k) k.number reader a.pending a.trial a.trial.step reply refl its so
+tried_reserves P k reader a step reply its so = tt
+
+attempt_reserves : (P : ℕ → Type 0) (k : Seat) (reader : ℕ) (a : AttemptState) (reply : ℕ) → IsUpdateSo P a.pending → IsAttemptSo a → AllReserve P (attempt_ghosts k reader a reply)
+attempt_reserves P k reader a reply its so =
+    both_reserve P (value_ghosts a.pending.request.op reader (attempt_ask k.places k.number (attempt_next k.places (bits_of k) (room_of k) k.number a reply))) (tried_ghosts k reader a a.step reply)
+    (value_reserves P a.pending.request.op reader _) (tried_reserves P k reader a a.step reply its so.tries_so)
+
+-- ---- a session
+sitting_reserves : (P : ℕ → Type 0) (k : Seat) (trace : List Traced) (s : SessionState) (step : Sitting) (reply : ℕ) → AttemptsSo P s step → StepIsSo s.attempt step → AllReserve P (sitting_ghosts k trace s step reply)
+sitting_reserves P k trace s (Attempts has_shifted) reply its so = attempt_reserves P k _ s.attempt reply its so
+sitting_reserves P k trace s (Polls index) reply its so = attempt_reserves P k _ s.attempt reply its so
+sitting_reserves P k trace s step reply its so = tt
+
+step_reserves : (P : ℕ → Type 0) (k : Seat) (trace : List Traced) (s : SessionState) (words : List ℕ) (ask : Ask Told) → AttemptsSo P s s.step → StepIsSo s.attempt s.step → AllReserve P (step_ghosts k trace s words ask)
+unfolding step_ghosts
+step_reserves P k trace s words (Done told) its so = tt
+step_reserves P k trace s words (Put slot action) its so = tt
+step_reserves P k trace s words (Take slot) its so = tt
+step_reserves P k trace s words ask its so = sitting_reserves P k trace s s.step (reply_to words ask) its so
+
+-- ---- an event of a life
+told_reserve : (P : ℕ → Type 0) (lines : List TraceLine) → AllReserve P (map Tells lines)
+told_reserve P [] = tt
+told_reserve P (line ∷ rest) = (tt, told_reserve P rest)
+
+fixed_reserve : (P : ℕ → Type 0) (before safe : ℕ) → AllReserve P (fixed_ghosts before safe)
+fixed_reserve P before safe = either_reserves P (safe == before) [] (Fixes safe ∷ []) tt (tt, tt)
+
+event_reserves : (P : ℕ → Type 0) (first : ℕ → ℕ) (w : World) (event : Event) → AllReserve P (own_ghosts w event) → AllReserve P (ghost_events first w event)
+unfolding ghost_events
+event_reserves P first w event own =
+    let lines : List TraceLine = lines_added first w.past.trace (traced_by w event) in
+    let fresh : List GhostEvent = fixed_ghosts (safe_at w.now) (safe_at (happens w event).now) in
+    either_reserves P w.now.crashed [] (map Tells lines ++ (fresh ++ own_ghosts w event)) tt
+    (both_reserve P (map Tells lines) (fresh ++ own_ghosts w event) (told_reserve P lines)
+    (both_reserve P fresh (own_ghosts w event) (fixed_reserve P (safe_at w.now) (safe_at (happens w event).now)) own))
+
+-- if each session attempts updates of such versions
+pub life_reserves : (P : ℕ → Type 0) (opening : World) (start : ℕ) (events : List Event) (event : Event) → guard.IsOpened opening.now start
+    → ((session : ℕ) (s : SessionState) → slice_get (run opening events).now.sessions session ≡ Some s → AttemptsSo P s s.step)
+    → AllReserve P (ghost_events (serials_in opening.now) (run opening events) event)
+life_reserves P opening start events event opened attempts = event_reserves P (serials_in opening.now) w event (by_event event)
+  where
+    w : World
+    w = run opening events
+
+    by_found : (session : ℕ) (got : Option SessionState) → slice_get w.now.sessions session ≡ got → AllReserve P (moved_ghosts w session got)
+    by_found session None e = tt
+    by_found session (Some s) e =
+        step_reserves P (seat_at w.now session) w.past.trace s w.now.words (session_ask (seat_at w.now session) s) (attempts session s e) (life_so opening start events session s opened e).sits
+
+    by_event : (its : Event) → AllReserve P (own_ghosts w its)
+    by_event (Moves session) = by_found session (slice_get w.now.sessions session) refl
+    by_event its = tt
+
+-- it is that of the request
+attempts_its : (s : SessionState) (step : Sitting) → AttemptsSo (λ version. version ≡ s.attempt.pending.request.version.0) s step
+attempts_its s (Attempts has_shifted) = λ updates. refl
+attempts_its s (Polls index) = λ updates. refl
+attempts_its s step = tt
+
+pub life_reserves_its : (opening : World) (start : ℕ) (events : List Event) (event : Event) → guard.IsOpened opening.now start
+    → AllReserveOf (step_at (run opening events).now event).version.0 (ghost_events (serials_in opening.now) (run opening events) event)
+life_reserves_its opening start events event opened = event_reserves (λ version. version ≡ (step_at (run opening events).now event).version.0) (serials_in opening.now) w event (by_event event)
+  where
+    w : World
+    w = run opening events
+
+    by_found : (session : ℕ) (got : Option SessionState) → slice_get w.now.sessions session ≡ got → AllReserveOf (mover_step w.now session got).version.0 (moved_ghosts w session got)
+    by_found session None e = tt
+    by_found session (Some s) e =
+        step_reserves (λ version. version ≡ s.attempt.pending.request.version.0) (seat_at w.now session) w.past.trace s w.now.words (session_ask (seat_at w.now session) s) (attempts_its s s.step)
+        (life_so opening start events session s opened e).sits
+
+    by_event : (its : Event) → AllReserveOf (step_at w.now its).version.0 (own_ghosts w its)
+    by_event (Moves session) = by_found session (slice_get w.now.sessions session) refl
+    by_event its = tt

@@ -1,0 +1,28 @@
+-- The records of an opened store's log are of its commit's version.
+use Rattle.std.proofs.Common.{◌≡◌, ℕ, ◌+◌, List, arith, ap, Bool, true, false}
+use Rattle.std.specs.Prelude.{Some, cond}
+use Rattle.fkv_core.specs.Openings.{IsOpeningWorld}
+use Rattle.fkv_keeper.specs.Keeping.{Finality}
+use Rattle.fkv_opening.specs.declared.opened_store.Opened.{Opened}
+use Rattle.fkv_world.specs.World.{Now}
+use Rattle.law_commit.specs.PhaseVersions.{phase_version, version_said}
+use Rattle.law_commit.specs.Phases.Staged.{OpensAtRest}
+use Rattle.law_commit.specs.Versions.Cells.{CellsUpto, made_in}
+use Rattle.law_log.specs.Chains.{Cell, Logged, Published, Unborn}
+use Rattle.law_opening.specs.Log.OpeningLog.{cell_at, chain_of, is_in, logged_at, opening_log}
+use Rattle.law_refine.specs.Events.GhostEvents.{home_in}
+
+either_made : (stands : Bool) (cell : Cell) (version : ℕ) → made_in (cond stands (Published cell) Unborn) ≡ Some version → version ≡ cell.version
+either_made true cell version made = cc
+either_made false cell version made = cc
+
+logged_made : (bytes : List ℕ) (o : Opened) (a version : ℕ) → made_in (logged_at bytes o a) ≡ Some version → version ≡ o.number.0
+unfolding logged_at cell_at
+logged_made bytes o a version made = either_made _ (cell_at bytes o a) version made
+
+pub opens_upto : (bytes : List ℕ) (o : Opened) (n : Now) → IsOpeningWorld o n → OpensAtRest n → CellsUpto (phase_version n.words) (opening_log bytes o)
+opens_upto bytes o n its rests a version made =
+    let is = logged_made bytes o a version made in
+    let same : n.keeper.last.number.0 ≡ o.number.0 = ap (λ (last : Finality). last.number.0) its.its_keeper.newest in
+    let said : phase_version n.words ≡ n.keeper.last.number.0 + 1 = ap version_said rests.says in
+    omega (arith, is, same, said)
