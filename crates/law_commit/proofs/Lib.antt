@@ -11,6 +11,7 @@ pub mod OfCuts
 pub mod OfFloor
 pub mod OfLinked
 pub mod OfPhases
+pub mod OfQuiet
 pub mod OfVersions
 mod OwnTurnStores
 mod PhaseStores
