@@ -1,1 +1,4 @@
+pub mod Life
+pub mod Live
 pub mod Ranks
+pub mod Sessions
