@@ -1,4 +1,5 @@
 pub mod Life
 pub mod Live
+pub mod Owing
 pub mod Ranks
 pub mod Sessions

@@ -308,10 +308,14 @@ coming_of : (low top : ℕ) (found : Option View) (view : View) → found ≡ So
 coming_of low top found view is between = subst (λ (c : Option View). ComesBetween low top c) is between
 
 pub coming_below : (opening : World) (events : List Event) (session : ℕ) (first its : SessionState) (view : View) → HasBecome opening events session first its → NoneIsAhead opening.now → HasRisingPhase opening events
-    → (sight_of opening events session).coming ≡ Some view → view.version.0 ≤ phase_version (run opening events).now.words
+    → (sight_of opening events session).coming ≡ Some view → ((sight_of opening events session).view.version.0 ≤ view.version.0) × (view.version.0 ≤ phase_version (run opening events).now.words)
 unfolding NoneIsAhead
 coming_below opening events session first its view became none rises is =
     let opened = opened_so opening events session first its became in
     let below = (life_rise opening session first events became.was opened (none session first became.was) rises).below in
-    let found = ap (λ (x : Sight). x.coming) (sym (ap (sight_found opening events session) became.was)) in
-    (coming_of (sight_in opening session first events).view.version.0 (phase_version (run opening events).now.words) (sight_in opening session first events).coming view (found ∙ is) below.coming).1
+    let same = sym (ap (sight_found opening events session) became.was) in
+    let found = ap (λ (x : Sight). x.coming) same in
+    let view_same = ap (λ (x : Sight). x.view.version.0) same in
+    let between = coming_of (sight_in opening session first events).view.version.0 (phase_version (run opening events).now.words) (sight_in opening session first events).coming view (found ∙ is) below.coming in
+    let low = between.0 in
+    (omega (arith, low, view_same), between.1)

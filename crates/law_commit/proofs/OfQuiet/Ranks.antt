@@ -1,5 +1,5 @@
 -- The rank of the phase word never falls.
-use Rattle.std.proofs.Common.{◌≡◌, ◌⊎◌, inl, inr, ℕ, ◌+◌, ◌*◌, ◌<◌, ◌≤◌, ◌∙◌, List, ◌∷◌, refl, arith, ap}
+use Rattle.std.proofs.Common.{◌≡◌, ◌⊎◌, inl, inr, ℕ, ◌+◌, ◌*◌, ◌<◌, ◌≤◌, ◌∙◌, List, [], ◌∷◌, refl, arith, ap}
 use Rattle.fkv_base.specs.Limits.{last_version}
 use Rattle.fkv_base.specs.declared.numbers.Version.{Version}
 use Rattle.fkv_base.specs.declared.phases.Phase.TheVariants as phases
@@ -30,7 +30,7 @@ use Rattle.law_guard.specs.Guarded.Shows as guard
 use Rattle.law_commit.specs.Floor.Stands.{stage_number}
 use Rattle.law_commit.specs.Phases.Staged.{DefersAt, DefersPending, DefersProgress, EnterAt, FinishAt, FitsVersion, Flushes, IsStaged, OpensAtRest, Pends, Prepares, Progresses, Rests, SeekAt, Stage, StartAt, StepAt, defer_moves, enter_moves, finish_moves, finish_number, is_resting, keeping_moves, keeping_number, seek_moves, stage_phase, stage_run, stage_version, start_moves}
 use Rattle.law_commit.specs.PhaseStores.{phase_at}
-use Rattle.law_commit.specs.Quiet.{RanksRise, rank_now, rank_said, word_rank}
+use Rattle.law_commit.specs.Quiet.{OpensQuiet, RanksRise, rank_now, rank_said, word_rank}
 use Rattle.law_commit.specs.Ranks.{rank}
 use Rattle.law_commit.proofs.OfFloor.KeeperPuts.{KeeperPuts, is_put, keeper_puts}
 use Rattle.law_commit.proofs.OfPhases.LifeStages.{event_on, life_staged}
@@ -151,3 +151,12 @@ ranks_rise opening start events event opens =
     let was = staged_rank n past.number past.stage past.staged in
     let is = staged_rank after there.on.its_number there.on.its_stage there.on.staged in
     omega (arith, up, was, is)
+
+-- it is the lowest as the life begins
+not_below : (low mid high : ℕ) → low ≤ mid → mid ≤ high → low ≤ high
+not_below low mid high one other = omega (arith, one, other)
+
+pub rank_first : (opening : World) (start : ℕ) (events : List Event) → OpensQuiet opening start → word_rank opening.now ≤ rank_now opening events
+unfolding run
+rank_first opening start [] opens = omega arith
+rank_first opening start (event ∷ before) opens = not_below (word_rank opening.now) (rank_now opening before) (rank_now opening (event ∷ before)) (rank_first opening start before opens) (ranks_rise opening start before event opens)

@@ -1,6 +1,7 @@
 -- By the floor of live sessions.
 use Rattle.law_commit.proofs.OfQuiet.Life.{none_comes_back}
 use Rattle.law_commit.proofs.OfQuiet.Live.{live_later}
+use Rattle.law_commit.proofs.OfQuiet.Owing.{none_owed}
 use Rattle.law_commit.proofs.OfQuiet.Ranks.{ranks_rise}
 use Rattle.law_commit.proofs.quiet.law_versions_end.Goals as goal
 
