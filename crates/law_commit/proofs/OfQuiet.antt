@@ -1,3 +1,5 @@
+pub mod Keeper
+pub mod Left
 pub mod Life
 pub mod Live
 pub mod Owing

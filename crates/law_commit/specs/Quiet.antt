@@ -46,12 +46,13 @@ pub record HasNoneUpto (version : ℕ) (s : SessionState) : Type 0 where
 abbrev pub IsLiveLater : ℕ → SessionState → Type 0
 IsLiveLater version s = s.is_awake ≡ true → version < s.seen.version.0
 
--- A store was just opened at rest, as its sessions have seen, and has all its words.
+-- A store was just opened at rest, as its sessions have seen, and has all its words. The keeper seeks the points of all its sessions.
 pub record OpensQuiet (opening : World) (start : ℕ) : Type 0 where
   pub guarded : IsOpened opening.now start
   pub opened : IsOpenedWorld opening
   pub seen : OpensSeen opening.now
   pub words : HasItsWords opening.now
+  pub sought : opening.now.keeper.seek.sessions ≡ opening.now.places.sessions
 
 -- ---- in each life of such a store
 -- the rank of the phase word never falls

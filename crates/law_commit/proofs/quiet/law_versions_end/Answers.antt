@@ -1,7 +1,7 @@
 -- By the floor of live sessions.
+use Rattle.law_commit.proofs.OfQuiet.Left.{none_is_left, owes_none}
 use Rattle.law_commit.proofs.OfQuiet.Life.{none_comes_back}
 use Rattle.law_commit.proofs.OfQuiet.Live.{live_later}
-use Rattle.law_commit.proofs.OfQuiet.Owing.{none_owed}
 use Rattle.law_commit.proofs.OfQuiet.Ranks.{ranks_rise}
 use Rattle.law_commit.proofs.quiet.law_versions_end.Goals as goal
 
@@ -13,3 +13,9 @@ returns-clause-live c = live_later c.law_floor_stands.ensures.floor
 
 pub returns-clause-gone : goal.returns-clause-gone
 returns-clause-gone c = none_comes_back (live_later c.law_floor_stands.ensures.floor)
+
+pub returns-clause-owes : goal.returns-clause-owes
+returns-clause-owes c = owes_none (live_later c.law_floor_stands.ensures.floor)
+
+pub returns-clause-left : goal.returns-clause-left
+returns-clause-left c = none_is_left (live_later c.law_floor_stands.ensures.floor)
