@@ -1,14 +1,17 @@
 -- That no update of a version is left, nor comes any more.
-use Rattle.std.specs.Prelude.{◌≡◌, ◌+◌, ◌*◌, ◌<◌, ◌≤◌, ℕ, true, List, ◌∷◌, ◌++◌}
+use Rattle.std.specs.Prelude.{◌≡◌, ◌+◌, ◌*◌, ◌<◌, ◌≤◌, nat_le, ℕ, true, List, ◌∷◌, ◌++◌}
 use Rattle.fkv_words.specs.declared.phase_words.PhaseSaid.{PhaseSaid}
 use Rattle.fkv_words.specs.declared.phase_words.PhaseSaid.TheVariants.{Says, Spoiled}
 use Rattle.fkv_words.specs.PhaseWords.{phase_said}
 use Rattle.fkv_session.specs.InOrder.{owing_place}
 use Rattle.fkv_session.specs.Sessions.{SessionState}
 use Rattle.fkv_world.specs.Opened.{HasBecome, IsOpenedWorld}
+use Rattle.fkv_world.specs.Past.{Effect}
 use Rattle.fkv_world.specs.Runs.{World, run}
 use Rattle.fkv_world.specs.World.{Event, Now, seat_at}
 use Rattle.law_guard.specs.Guarded.Shows.{IsOpened}
+use Rattle.law_log.specs.Trace.{IsIn}
+use Rattle.law_commit.specs.Accepted.{point}
 use Rattle.law_commit.specs.Cuts.{HasItsWords, word_now}
 use Rattle.law_commit.specs.Floor.Stands.{OpensSeen}
 use Rattle.law_commit.specs.PhaseStores.{phase_at}
@@ -82,3 +85,21 @@ abbrev pub NoneIsLeft : Type 0
 NoneIsLeft =
     (opening : World) (start : ℕ) (events : List Event) (version session : ℕ) (first its : SessionState) → OpensQuiet opening start → HasBecome opening events session first its
     → flush_rank version ≤ rank_now opening events → HasNoneUpto version its
+
+-- ---- so of its points
+-- a session's point of this version splits its effects: just those have a serial up to it that are of this version or an earlier one
+abbrev pub PointSplitsAt : World → ℕ → ℕ → List Event → Type 0
+PointSplitsAt opening session version events =
+    (effect : Effect) → IsIn effect (run opening events).past.history → effect.entry.session ≡ session → nat_le effect.entry.serial.0 (point opening events session version) ≡ nat_le effect.version.0 version
+
+-- from wait-pending of a commit on a session's point of its number stays, whether it sleeps or not
+abbrev pub PointsStay : Type 0
+PointsStay =
+    (opening : World) (start : ℕ) (later before : List Event) (version session : ℕ) (first its : SessionState) → OpensQuiet opening start → pending_rank version ≤ rank_now opening before
+    → HasBecome opening before session first its → point opening (later ++ before) session version ≡ point opening before session version
+
+-- and splits its effects
+abbrev pub PointsAlwaysSplit : Type 0
+PointsAlwaysSplit =
+    (opening : World) (start : ℕ) (events : List Event) (version session : ℕ) (first its : SessionState) → OpensQuiet opening start → HasBecome opening events session first its
+    → pending_rank version ≤ rank_now opening events → PointSplitsAt opening session version events

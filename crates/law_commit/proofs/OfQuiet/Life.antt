@@ -79,7 +79,7 @@ by_part G k n Turns called other = other [] tt
 by_part G k n (KeeperMoves granted done) called other = other [] tt
 by_part G k n Crashes called other = other [] tt
 
-by_event : (G : List SessionEvent → Type 0) (n : Now) (number : ℕ) (event : Event) → ((call : Call) → G (Begins call ∷ [])) → ((part : List SessionEvent) → HasNoCall part → G part) → G (session_part_of n number event)
+pub by_event : (G : List SessionEvent → Type 0) (n : Now) (number : ℕ) (event : Event) → ((call : Call) → G (Begins call ∷ [])) → ((part : List SessionEvent) → HasNoCall part → G part) → G (session_part_of n number event)
 by_event G n number event called other = by_crash n.crashed
   where
     by_turn : (s : SessionState) (c : Bool) → G (if c then session_part (seat_at n number) (near n s) event else [])

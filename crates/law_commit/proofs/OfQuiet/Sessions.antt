@@ -194,6 +194,39 @@ module _ (version : ℕ) where
         by_awake true is = is
         by_awake false is = absurd (subst IsStepAsleep shifts (sleeps events is))
 
+    replied_busy : (reply : ℕ) (before : List SessionEvent) → Rises (Replies reply) before → IsBusyLater (session_run k first before) → IsBusyLater (session_run k first (Replies reply ∷ before))
+    unfolding session_run session_happens
+    replied_busy reply before rises busy_before =
+        let s : SessionState = session_run k first before in
+        let after : SessionState = session_run k first (Replies reply ∷ before) in
+        elim (here_or_away s) [
+          | inl here ↦ λ busy awake. higher s.seen.version.0 after.seen.version.0 rises (busy_before here.0 here.1)
+          | inr away ↦ away_busy after (elim away [
+            | inl idle ↦ idle_next k s (asks_after s.asks (is_word_ask (session_ask k s))) s.step reply refl idle
+            | inr asleep ↦ asleep_next k s (asks_after s.asks (is_word_ask (session_ask k s))) s.step reply refl asleep (sleeps before asleep)
+          ])
+        ]
+
+    given_busy : (action : _) (before : List SessionEvent) → Rises (Gets action) before → IsBusyLater (session_run k first before) → IsBusyLater (session_run k first (Gets action ∷ before))
+    unfolding session_run session_happens
+    given_busy action before rises busy_before =
+        let s : SessionState = session_run k first before in
+        let after : SessionState = session_run k first (Gets action ∷ before) in
+        elim (here_or_away s) [
+          | inl here ↦ λ busy awake. higher s.seen.version.0 after.seen.version.0 rises (busy_before here.0 here.1)
+          | inr away ↦ away_busy after (elim away [
+            | inl idle ↦ idle_given k s s.step action refl idle
+            | inr asleep ↦ asleep_given k s s.step action refl asleep (sleeps before asleep)
+          ])
+        ]
+
+    pub busy_calls : (later own : List SessionEvent) → HasNoCall later → HasRisingVersion k first (later ++ own) → IsBusyLater (session_run k first own) → IsBusyLater (session_run k first (later ++ own))
+    unfolding HasRisingVersion
+    busy_calls [] own none rises busy = busy
+    busy_calls (Begins call ∷ later) own none rises busy = absurd none
+    busy_calls (Replies reply ∷ later) own none rises busy = replied_busy reply (later ++ own) rises.0 (busy_calls later own none rises.1 busy)
+    busy_calls (Gets action ∷ later) own none rises busy = given_busy action (later ++ own) rises.0 (busy_calls later own none rises.1 busy)
+
     replied_still : (reply : ℕ) (before : List SessionEvent) → Rises (Replies reply) before → Still before → Still (Replies reply ∷ before)
     unfolding session_run session_happens
     replied_still reply before rises still =
@@ -201,30 +234,13 @@ module _ (version : ℕ) where
         let after : SessionState = session_run k first (Replies reply ∷ before) in
         record {
           knows = replied_later k s reply (λ shifts. (higher s.seen.version.0 after.seen.version.0 rises (still.busy (ap is_busy shifts) (shifts_awake before shifts)), run_version k first (Replies reply ∷ before) opened fit)) still.knows;
-          busy = elim (here_or_away s) [
-            | inl here ↦ λ busy awake. higher s.seen.version.0 after.seen.version.0 rises (still.busy here.0 here.1)
-            | inr away ↦ away_busy after (elim away [
-              | inl idle ↦ idle_next k s (asks_after s.asks (is_word_ask (session_ask k s))) s.step reply refl idle
-              | inr asleep ↦ asleep_next k s (asks_after s.asks (is_word_ask (session_ask k s))) s.step reply refl asleep (sleeps before asleep)
-            ])
-          ];
+          busy = replied_busy reply before rises still.busy;
         }
 
     given_still : (action : _) (before : List SessionEvent) → Rises (Gets action) before → Still before → Still (Gets action ∷ before)
     unfolding session_run session_happens
     given_still action before rises still =
-        let s : SessionState = session_run k first before in
-        let after : SessionState = session_run k first (Gets action ∷ before) in
-        record {
-          knows = given_known WaitsLater TriesLater k s action still.knows;
-          busy = elim (here_or_away s) [
-            | inl here ↦ λ busy awake. higher s.seen.version.0 after.seen.version.0 rises (still.busy here.0 here.1)
-            | inr away ↦ away_busy after (elim away [
-              | inl idle ↦ idle_given k s s.step action refl idle
-              | inr asleep ↦ asleep_given k s s.step action refl asleep (sleeps before asleep)
-            ])
-          ];
-        }
+        record { knows = given_known WaitsLater TriesLater k (session_run k first before) action still.knows; busy = given_busy action before rises still.busy }
 
     pub no_calls : (later own : List SessionEvent) → HasNoCall later → HasRisingVersion k first (later ++ own) → Still own → Still (later ++ own)
     unfolding HasRisingVersion

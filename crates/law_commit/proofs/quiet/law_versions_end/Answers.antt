@@ -2,6 +2,7 @@
 use Rattle.law_commit.proofs.OfQuiet.Left.{none_is_left, owes_none}
 use Rattle.law_commit.proofs.OfQuiet.Life.{none_comes_back}
 use Rattle.law_commit.proofs.OfQuiet.Live.{live_later}
+use Rattle.law_commit.proofs.OfQuiet.Points.{points_split, points_stay}
 use Rattle.law_commit.proofs.OfQuiet.Ranks.{ranks_rise}
 use Rattle.law_commit.proofs.quiet.law_versions_end.Goals as goal
 
@@ -19,3 +20,9 @@ returns-clause-owes c = owes_none (live_later c.law_floor_stands.ensures.floor)
 
 pub returns-clause-left : goal.returns-clause-left
 returns-clause-left c = none_is_left (live_later c.law_floor_stands.ensures.floor)
+
+pub returns-clause-points : goal.returns-clause-points
+returns-clause-points c = points_stay (live_later c.law_floor_stands.ensures.floor)
+
+pub returns-clause-splits : goal.returns-clause-splits
+returns-clause-splits c = points_split (live_later c.law_floor_stands.ensures.floor)
