@@ -1,3 +1,4 @@
+pub mod Begun
 pub mod Keeper
 pub mod Left
 pub mod Life

@@ -12,7 +12,8 @@ use Rattle.fkv_world.specs.World.{Event, Now, seat_at}
 use Rattle.law_guard.specs.Guarded.Shows.{IsOpened}
 use Rattle.law_log.specs.Trace.{IsIn}
 use Rattle.law_commit.specs.Accepted.{point}
-use Rattle.law_commit.specs.Cuts.{HasItsWords, word_now}
+use Rattle.law_commit.specs.BegunCommits.{BegunCommit, life_begun}
+use Rattle.law_commit.specs.Cuts.{word_now}
 use Rattle.law_commit.specs.Floor.Stands.{OpensSeen}
 use Rattle.law_commit.specs.PhaseStores.{phase_at}
 use Rattle.law_commit.specs.Ranks.{rank}
@@ -49,12 +50,11 @@ pub record HasNoneUpto (version : ℕ) (s : SessionState) : Type 0 where
 abbrev pub IsLiveLater : ℕ → SessionState → Type 0
 IsLiveLater version s = s.is_awake ≡ true → version < s.seen.version.0
 
--- A store was just opened at rest, as its sessions have seen, and has all its words. The keeper seeks the points of all its sessions.
+-- A store was just opened at rest, as its sessions have seen. The keeper seeks the points of all its sessions.
 pub record OpensQuiet (opening : World) (start : ℕ) : Type 0 where
   pub guarded : IsOpened opening.now start
   pub opened : IsOpenedWorld opening
   pub seen : OpensSeen opening.now
-  pub words : HasItsWords opening.now
   pub sought : opening.now.keeper.seek.sessions ≡ opening.now.places.sessions
 
 -- ---- in each life of such a store
@@ -103,3 +103,8 @@ abbrev pub PointsAlwaysSplit : Type 0
 PointsAlwaysSplit =
     (opening : World) (start : ℕ) (events : List Event) (version session : ℕ) (first its : SessionState) → OpensQuiet opening start → HasBecome opening events session first its
     → pending_rank version ≤ rank_now opening events → PointSplitsAt opening session version events
+
+-- Each commit that has begun in a life, with the opening's, has come to wait-flush. So all of this holds of its number, at each later moment.
+abbrev pub BegunHaveFlushed : Type 0
+BegunHaveFlushed =
+    (opening : World) (start : ℕ) (events : List Event) (c : BegunCommit) → OpensQuiet opening start → IsIn c (life_begun opening events) → flush_rank c.number.0 ≤ rank_now opening events

@@ -7,7 +7,7 @@ ghost use Rattle.fkv_world.specs.World.{Now};
 ghost use Rattle.law_opening.specs.Lives.OpenedFrom.{IsOpenedFrom};
 ghost use Rattle.law_opening.specs.Lives.Steps.{AllLeadOn, OneCommitStands, Step, device_behind, events_of, now_behind};
 ghost use Rattle.law_order.specs.InTurn.Laws.{HasFloorInItsLife, KeepsItsViewsNear, NumbersItsCommitsInTurn, OpensItsStoreAtRest, TellsOfItsLife};
-ghost use Rattle.law_order.specs.Rules.Openings.{OpensItsVersions};
+ghost use Rattle.law_order.specs.Rules.Openings.{OpensItsEnds, OpensItsVersions};
 
 use crate::rest::law_rest_said;
 use crate::rules::law_life_begins;
@@ -44,6 +44,15 @@ pub fn law_floor_opens()
 /// of its lives.
 pub fn law_versions_open()
     ensures { OpensItsVersions }
+{
+    law_phases_open();
+    law_life_begins();
+}
+
+/// The sessions of an opened store have seen that it rests, and its keeper seeks the points of all of them. So the laws of how a version ends hold of each of
+/// its lives.
+pub fn law_ends_open()
+    ensures { OpensItsEnds }
 {
     law_phases_open();
     law_life_begins();

@@ -242,7 +242,7 @@ module _ (live : LiveAreLater) (opening : World) (start : ℕ) (events : List Ev
           absurd (omega (arith, same, here, began, up, said, rank))
 
   zero_word : words (session_place session own.Owing) ≡ 0
-  zero_word = sym (life_marks opening events session first (session_place session own.Owing) opens.opened opens.words was (owing_mark session)) ∙ owes
+  zero_word = sym (life_marks opening events session first (session_place session own.Owing) opens.opened opens.guarded.words.enough_words was (owing_mark session)) ∙ owes
 
   owed_zero : s.is_awake ≡ true → count_by (is_update_of (record { 0 = version })) s.requests ≡ 0
   owed_zero awake =

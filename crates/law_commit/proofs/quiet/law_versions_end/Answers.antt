@@ -1,4 +1,5 @@
 -- By the floor of live sessions.
+use Rattle.law_commit.proofs.OfQuiet.Begun.{begun_have_flushed}
 use Rattle.law_commit.proofs.OfQuiet.Left.{none_is_left, owes_none}
 use Rattle.law_commit.proofs.OfQuiet.Life.{none_comes_back}
 use Rattle.law_commit.proofs.OfQuiet.Live.{live_later}
@@ -26,3 +27,6 @@ returns-clause-points c = points_stay (live_later c.law_floor_stands.ensures.flo
 
 pub returns-clause-splits : goal.returns-clause-splits
 returns-clause-splits c = points_split (live_later c.law_floor_stands.ensures.floor)
+
+pub returns-clause-begun : goal.returns-clause-begun
+returns-clause-begun c = begun_have_flushed
