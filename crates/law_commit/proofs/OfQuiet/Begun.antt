@@ -1,5 +1,5 @@
 -- Each commit that has begun in a life has come to wait-flush. So each session's point of its number stays and splits the session's effects, for ever.
-use Rattle.std.proofs.Common.{◌≡◌, inl, inr, ℕ, ◌+◌, ◌*◌, ◌≤◌, ◌∙◌, List, [], ◌∷◌, ◌++◌, refl, arith, ap, sym, subst, Bool, true, false}
+use Rattle.std.proofs.Common.{◌≡◌, inl, inr, ℕ, ◌≤◌, List, [], ◌∷◌, ◌++◌, refl, arith, ap, subst, Bool, true, false}
 use Rattle.std.specs.Prelude.{⊤, if◌then◌else◌, Option, Some, None}
 use Rattle.fkv_base.specs.declared.numbers.Version.{Version}
 use Rattle.fkv_base.specs.declared.shapes.Shape.{Shape}
@@ -19,7 +19,7 @@ use Rattle.fkv_keeper.specs.declared.answers.KeeperTold.TheVariants.{Device, Tur
 use Rattle.fkv_keeper.specs.declared.keepers.Keeping.{Keeping}
 use Rattle.fkv_keeper.specs.declared.keepers.Keeping.TheVariants.{Ended, Writes, Finishes}
 use Rattle.fkv_keeper.specs.Keeping.{KeeperState, keeper_ask, keeper_next}
-use Rattle.fkv_keeper.specs.KeeperRun.{BeginsCommit, BeginsTurn, Calls, Gets, KeeperEvent, Replies, keeper_run}
+use Rattle.fkv_keeper.specs.KeeperRun.{BeginsCommit, BeginsTurn, Calls, KeeperEvent, Replies, keeper_run}
 use Rattle.fkv_world.specs.Moves.{Near}
 use Rattle.fkv_world.specs.OwnEvents.{keeper_events, keeper_got, keeper_part, keeper_part_of, keeper_slots, keeper_steps}
 use Rattle.fkv_world.specs.Runs.{World, read_by_keeper, run}

@@ -1,7 +1,6 @@
 -- From wait-flush of a commit on no session has an update up to its number.
-use Rattle.std.proofs.Common.{◌≡◌, ◌⊎◌, inl, inr, ℕ, ◌+◌, ◌*◌, ◌-◌, ◌<◌, ◌≤◌, ◌∙◌, List, [], ◌∷◌, refl, arith, ap, sym, subst, Bool, true, false}
-use Rattle.std.specs.Prelude.{⊤, nat_le, Option, Some, None}
-use Rattle.std.proofs.lemmas.Bool.Decides.{nat_tests}
+use Rattle.std.proofs.Common.{◌≡◌, ◌⊎◌, inl, inr, ℕ, ◌+◌, ◌*◌, ◌-◌, ◌<◌, ◌≤◌, ◌∙◌, List, [], ◌∷◌, refl, arith, ap, sym, subst, false}
+use Rattle.std.specs.Prelude.{Option, Some, None}
 use Rattle.fkv_base.specs.declared.numbers.Version.{Version}
 use Rattle.fkv_plane.specs.declared.actions.Action.{Action}
 use Rattle.fkv_plane.specs.declared.asks.Ask.{Ask}
@@ -33,7 +32,6 @@ use Rattle.fkv_keeper.specs.declared.answers.KeeperTold.{KeeperTold}
 use Rattle.fkv_keeper.specs.declared.keepers.Keeping.{Keeping}
 use Rattle.fkv_keeper.specs.declared.keepers.Keeping.TheVariants.{Ended, Starts, Maintains, LoadsPhase, Enters, Copies, Seeks, Waits, Writes, Finishes}
 use Rattle.fkv_keeper.specs.Keeping.{KeeperState, commit_asked, keeper_ask, keeping_ask, turn_asked}
-use Rattle.fkv_ops.specs.Requests.{is_read}
 use Rattle.fkv_pending.specs.declared.pending_requests.PendingRequest.{PendingRequest}
 use Rattle.fkv_session.specs.declared.sessions.Sitting.{Sitting}
 use Rattle.fkv_session.specs.declared.sessions.Sitting.TheVariants.{Attempts, Idle, Polls}
@@ -50,14 +48,14 @@ use Rattle.law_commit.specs.Cuts.{word_now}
 use Rattle.law_commit.specs.Floor.Stands.{stage_number}
 use Rattle.law_commit.specs.Phases.Staged.{DefersAt, DefersPending, DefersProgress, EnterAt, FinishAt, FitsVersion, Flushes, IsStaged, Pends, Prepares, Progresses, Rests, SeekAt, Stage, StartAt, StepAt, defer_moves, enter_moves, finish_moves, finish_number, is_resting, keeping_moves, keeping_number, seek_moves, stage_run, start_moves}
 use Rattle.law_commit.specs.Quiet.{HasNoneUpto, IsLater, LiveAreLater, NoneIsLeft, OpensQuiet, OwesNone, flush_rank, pending_rank, rank_now}
-use Rattle.law_commit.specs.Versions.Requests.{AreUpdatesSo, AttemptsSo, IsUpdateSo}
+use Rattle.law_commit.specs.Versions.Requests.{AreUpdatesSo, AttemptsSo}
 use Rattle.law_commit.proofs.OfFloor.KeeperPuts.{KeeperPuts, is_put, keeper_puts}
 use Rattle.law_commit.proofs.OfPhases.LifeStages.{event_on, life_staged}
-use Rattle.law_commit.proofs.OfPhases.StageMoves.{EventOn, LedOn, Onto, Plain, Putting, QuietKeeper, Quietly, Replied, RunBySession, Stored}
+use Rattle.law_commit.proofs.OfPhases.StageMoves.{LedOn, QuietKeeper, Quietly, Replied, RunBySession, Stored}
 use Rattle.law_commit.proofs.OfQuiet.Keeper.{AllLeave, KeeperKnows, KeepingLeaves, SeekLeaves, asked_knows, called_knows, commit_knows, given_knows, opened_knows, replied_knows, turn_knows}
 use Rattle.law_commit.proofs.OfQuiet.Life.{none_comes_back}
 use Rattle.law_commit.proofs.OfQuiet.Owing.{none_owed}
-use Rattle.law_commit.proofs.OfQuiet.Ranks.{few_stages, staged_rank}
+use Rattle.law_commit.proofs.OfQuiet.Ranks.{staged_rank}
 
 -- ---- which step brings wait-flush
 -- a version that has flushed there had flushed here

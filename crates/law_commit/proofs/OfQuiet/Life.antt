@@ -1,6 +1,6 @@
 -- In a life a session that has no update up to a version, from wait-pending of the commit of this number on, gets none any more.
-use Rattle.std.proofs.Common.{◌≡◌, ◌⊎◌, inl, inr, ℕ, zero, suc, ◌<◌, ◌≤◌, ◌∙◌, List, [], ◌∷◌, ◌++◌, refl, arith, ap, sym, subst, Bool, true, false}
-use Rattle.std.specs.Prelude.{⊤, ◌==◌, Option, Some, None, slice_get, if◌then◌else◌}
+use Rattle.std.proofs.Common.{◌≡◌, ℕ, zero, suc, ◌<◌, ◌≤◌, ◌∙◌, List, [], ◌∷◌, ◌++◌, refl, arith, ap, sym, subst, Bool, true, false}
+use Rattle.std.specs.Prelude.{◌==◌, Option, Some, None, slice_get, if◌then◌else◌}
 use Rattle.std.proofs.lemmas.Bool.Decides.{nat_tests}
 use Rattle.fkv_base.specs.declared.numbers.Version.{Version}
 use Rattle.fkv_map.specs.declared.operations.Call.{Call}
@@ -14,7 +14,7 @@ use Rattle.fkv_plane.specs.Asked.{reply_to}
 use Rattle.fkv_plane.specs.Plane.{action_at}
 use Rattle.fkv_session.specs.declared.answers.Told.{Told}
 use Rattle.fkv_session.specs.declared.sessions.Sitting.{Sitting}
-use Rattle.fkv_session.specs.declared.sessions.Sitting.TheVariants.{Attempts, CatchesUp, Idle, Polls}
+use Rattle.fkv_session.specs.declared.sessions.Sitting.TheVariants.{Attempts, Polls}
 use Rattle.fkv_session.specs.Sessions.{IsOpened, Seat, SessionState, session_ask, session_next}
 use Rattle.fkv_session.specs.SessionRun.{Begins, Gets, Replies, SessionEvent, session_run}
 use Rattle.fkv_session.specs.Versions.{IsAttemptOfRequest, IsVersion}
@@ -27,10 +27,10 @@ use Rattle.fkv_world.specs.Runs.{World, run}
 use Rattle.fkv_world.specs.World.{Event, Calls, Commits, Crashes, KeeperMoves, Moves, Now, Turns, near, seat_at}
 use Rattle.fkv_world.proofs.Shown.{session_runs}
 use Rattle.law_local.specs.Sessions.Known.{is_attempting}
-use Rattle.law_world.proofs.OfSessions.OwnRun.{here, of_run, opened_so, to_run}
+use Rattle.law_world.proofs.OfSessions.OwnRun.{of_run, opened_so, to_run}
 use Rattle.law_commit.specs.Accepted.{HasRisingVersion}
 use Rattle.law_commit.specs.Quiet.{HasNoneUpto, IsLater, IsLiveLater, LiveAreLater, NoneComesBack, OpensQuiet, pending_rank, rank_now}
-use Rattle.law_commit.specs.Versions.Requests.{AreUpdatesSo, AttemptsSo, IsUpdateSo}
+use Rattle.law_commit.specs.Versions.Requests.{AreUpdatesSo, AttemptsSo}
 use Rattle.law_commit.proofs.OfPhases.LifeStages.{first_version, rising_version}
 use Rattle.law_commit.proofs.OfQuiet.Ranks.{ranks_rise}
 use Rattle.law_commit.proofs.OfQuiet.Sessions.{HasNoCall, KnowsLater, Still, TriesLater, WaitsLater, no_calls, one_call}

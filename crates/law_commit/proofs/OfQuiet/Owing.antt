@@ -1,12 +1,11 @@
 -- In wait-pending a session whose owing word reads 0 has no update up to the commit's number.
-use Rattle.std.proofs.Common.{◌≡◌, inl, inr, ℕ, ◌+◌, ◌*◌, ◌-◌, ◌<◌, ◌≤◌, ◌∙◌, List, [], ◌∷◌, refl, arith, ap, sym, subst, Bool, true, false}
+use Rattle.std.proofs.Common.{◌≡◌, ℕ, ◌+◌, ◌*◌, ◌-◌, ◌<◌, ◌∙◌, List, [], ◌∷◌, refl, arith, ap, sym, subst, Bool, true, false}
 use Rattle.std.specs.Prelude.{⊤, cond, ◌==◌, Option, Some, None, slice_get}
 use Rattle.std.specs.List.{count_by}
 use Rattle.std.proofs.lemmas.Bool.Decides.{nat_tests}
 use Rattle.std.proofs.lemmas.List.Sums.{sum_by-cons}
 use Rattle.fkv_base.specs.declared.numbers.Version.{Version}
 use Rattle.fkv_ops.specs.Requests.{is_read}
-use Rattle.fkv_ops.specs.declared.requests.Seen.{Seen}
 use Rattle.fkv_pending.specs.Pending.{is_update_of}
 use Rattle.fkv_pending.specs.declared.pending_requests.PendingRequest.{PendingRequest}
 use Rattle.fkv_plane.specs.declared.places.SessionWord.TheVariants as own
@@ -14,7 +13,6 @@ use Rattle.fkv_plane.specs.Asked.{word_at}
 use Rattle.fkv_plane.specs.Places.{session_place}
 use Rattle.fkv_session.specs.declared.catching_up.Catching.{Catching}
 use Rattle.fkv_session.specs.declared.catching_up.Catching.TheVariants as catching
-use Rattle.fkv_session.specs.declared.sessions.CatchCause.TheVariants.{Wakes}
 use Rattle.fkv_session.specs.declared.sessions.Sitting.{Sitting}
 use Rattle.fkv_session.specs.declared.sessions.Sitting.TheVariants.{Idle, Attempts, CatchesUp, ClearsMail, Polls, StoresOwing, Turns, StoresCut, Leaves, LoadsDurable}
 use Rattle.fkv_session.specs.Asleep.{IsStepAsleep}
@@ -40,7 +38,7 @@ use Rattle.law_commit.specs.Versions.Requests.{AreUpdatesSo, AttemptsAtItsVersio
 use Rattle.law_commit.specs.Views.{IsComing, IsTakenFrom, Sight, TakesUp, View, sight_of}
 use Rattle.law_commit.proofs.OfCuts.Marks.{life_marks}
 use Rattle.law_commit.proofs.OfCuts.Told.{owing_mark}
-use Rattle.law_commit.proofs.OfPhases.LifeStages.{first_version, life_staged, none_ahead, version_now}
+use Rattle.law_commit.proofs.OfPhases.LifeStages.{life_staged, none_ahead, version_now}
 use Rattle.law_commit.proofs.OfQuiet.Ranks.{rank_first, staged_rank}
 use Rattle.law_commit.proofs.OfVersions.Requests.{life_requests, polled_so}
 use Rattle.law_commit.proofs.Rising.{coming_below, version_below}

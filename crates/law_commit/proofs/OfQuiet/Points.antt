@@ -1,6 +1,6 @@
 -- From wait-pending of a commit on each session's point of its number stays, and splits the session's effects by version.
 use Rattle.std.proofs.Common.{◌≡◌, ◌⊎◌, inl, inr, ℕ, ◌+◌, ◌<◌, ◌≤◌, ◌∙◌, List, [], ◌∷◌, ◌++◌, length, refl, arith, ap, sym, subst, Bool, true, false}
-use Rattle.std.specs.Prelude.{cond, nat_le, Option, Some, None, slice_get}
+use Rattle.std.specs.Prelude.{nat_le, Some, slice_get}
 use Rattle.std.proofs.lemmas.Bool.Decides.{nat_tests}
 use Rattle.fkv_map.specs.declared.operations.Call.{Call}
 use Rattle.fkv_session.specs.declared.sessions.Sitting.TheVariants.{Attempts}
@@ -12,20 +12,18 @@ use Rattle.fkv_session.specs.Versions.{IsVersion, TakenAt, versions_taken}
 use Rattle.fkv_session.proofs.Shown.{run_asleep, run_call}
 use Rattle.fkv_world.specs.Opened.{HasBecome}
 use Rattle.fkv_world.specs.OwnEvents.{session_events}
-use Rattle.fkv_world.specs.Past.{Effect}
 use Rattle.fkv_world.specs.Runs.{World, run}
 use Rattle.fkv_world.specs.World.{Event, seat_at}
 use Rattle.fkv_world.proofs.Shown.{session_runs}
-use Rattle.law_log.specs.Trace.{IsIn}
-use Rattle.law_world.proofs.OfSessions.OwnRun.{opened_so, to_run}
+use Rattle.law_world.proofs.OfSessions.OwnRun.{opened_so}
 use Rattle.law_commit.specs.Accepted.{HasRisingVersion, NeverFall, count_upto, point, serial_at, serial_of, versions_of}
-use Rattle.law_commit.specs.Quiet.{IsLiveLater, LiveAreLater, OpensQuiet, PointSplitsAt, PointsAlwaysSplit, PointsStay, pending_rank, rank_now}
+use Rattle.law_commit.specs.Quiet.{LiveAreLater, OpensQuiet, PointSplitsAt, PointsAlwaysSplit, PointsStay, pending_rank, rank_now}
 use Rattle.law_commit.proofs.Counted.{Takes, found_so, life_counted, life_point, life_risen, none_taken, one_taken, run_moves}
 use Rattle.law_commit.proofs.OfPhases.LifeStages.{first_version, rising_version}
 use Rattle.law_commit.proofs.OfQuiet.Life.{by_event, rank_stays}
 use Rattle.law_commit.proofs.OfQuiet.Sessions.{HasNoCall, IsBusyLater, busy_calls}
 use Rattle.law_commit.proofs.OfVersions.History.{life_so}
-use Rattle.law_commit.proofs.OfVersions.Points.{IsLow, le_so, lengths, point_splits, run_follow, taken_low}
+use Rattle.law_commit.proofs.OfVersions.Points.{le_so, lengths, point_splits, run_follow, taken_low}
 
 -- ---- an event of a session that goes by a later version while it has a call in hand
 counts_less : (version its : ℕ) (before : List ℕ) → version < its → count_upto version (its ∷ before) ≡ count_upto version before

@@ -1,9 +1,7 @@
 -- The rank of the phase word never falls.
-use Rattle.std.proofs.Common.{◌≡◌, ◌⊎◌, inl, inr, ℕ, ◌+◌, ◌*◌, ◌<◌, ◌≤◌, ◌∙◌, List, [], ◌∷◌, refl, arith, ap}
-use Rattle.fkv_base.specs.Limits.{last_version}
+use Rattle.std.proofs.Common.{◌≡◌, ◌⊎◌, inl, inr, ℕ, ◌+◌, ◌*◌, ◌≤◌, ◌∙◌, List, [], ◌∷◌, refl, arith, ap}
 use Rattle.fkv_base.specs.declared.numbers.Version.{Version}
 use Rattle.fkv_base.specs.declared.phases.Phase.TheVariants as phases
-use Rattle.fkv_words.specs.PhaseWords.{phase_said}
 use Rattle.fkv_commit.specs.declared.deferring.Deferred.{Deferred}
 use Rattle.fkv_commit.specs.declared.deferring.Deferred.TheVariants.{EntersPhase}
 use Rattle.fkv_commit.specs.declared.deferring.Deferring.{Deferring}
@@ -18,23 +16,19 @@ use Rattle.fkv_commit.specs.declared.starting.Starting.{Starting}
 use Rattle.fkv_commit.specs.declared.starting.Starting.TheVariants as start
 use Rattle.fkv_commit.specs.Commits.{version_after}
 use Rattle.fkv_commit.specs.Entering.{EnterState}
-use Rattle.fkv_commit.specs.Seeking.{SeekState}
 use Rattle.fkv_commit.specs.Starting.{StartState}
 use Rattle.fkv_keeper.specs.declared.keepers.Keeping.{Keeping}
-use Rattle.fkv_keeper.specs.declared.keepers.Keeping.TheVariants.{Ended, Starts, Maintains, LoadsPhase, Enters, Copies, Seeks, Waits, Writes, Finishes}
-use Rattle.fkv_keeper.specs.Keeping.{KeeperState, keeper_ask}
-use Rattle.fkv_world.specs.Opened.{IsOpenedWorld}
+use Rattle.fkv_keeper.specs.declared.keepers.Keeping.TheVariants.{Starts, Maintains, Enters, Seeks, Finishes}
+use Rattle.fkv_keeper.specs.Keeping.{KeeperState}
 use Rattle.fkv_world.specs.Runs.{World, run}
 use Rattle.fkv_world.specs.World.{Event, Now}
-use Rattle.law_guard.specs.Guarded.Shows as guard
 use Rattle.law_commit.specs.Floor.Stands.{stage_number}
-use Rattle.law_commit.specs.Phases.Staged.{DefersAt, DefersPending, DefersProgress, EnterAt, FinishAt, FitsVersion, Flushes, IsStaged, OpensAtRest, Pends, Prepares, Progresses, Rests, SeekAt, Stage, StartAt, StepAt, defer_moves, enter_moves, finish_moves, finish_number, is_resting, keeping_moves, keeping_number, seek_moves, stage_phase, stage_run, stage_version, start_moves}
-use Rattle.law_commit.specs.PhaseStores.{phase_at}
+use Rattle.law_commit.specs.Phases.Staged.{DefersAt, DefersPending, DefersProgress, EnterAt, FinishAt, FitsVersion, Flushes, IsStaged, Pends, Prepares, Progresses, Rests, Stage, StartAt, StepAt, defer_moves, enter_moves, finish_moves, finish_number, is_resting, keeping_moves, keeping_number, seek_moves, stage_phase, stage_run, stage_version, start_moves}
 use Rattle.law_commit.specs.Quiet.{OpensQuiet, RanksRise, rank_now, rank_said, word_rank}
 use Rattle.law_commit.specs.Ranks.{rank}
 use Rattle.law_commit.proofs.OfFloor.KeeperPuts.{KeeperPuts, is_put, keeper_puts}
 use Rattle.law_commit.proofs.OfPhases.LifeStages.{event_on, life_staged}
-use Rattle.law_commit.proofs.OfPhases.StageMoves.{EventOn, LedOn, Plain, Putting, Quietly, Replied, RunBySession}
+use Rattle.law_commit.proofs.OfPhases.StageMoves.{LedOn, Quietly, Replied, RunBySession}
 
 -- ---- by the stage
 pub few_stages : (stage : Stage) → stage_number stage ≤ 4

@@ -1,6 +1,6 @@
 -- What an event of a session leaves of its requests: no update of an earlier version comes in, where the session goes by a later one while it is awake.
 use Rattle.std.proofs.Common.{◌≡◌, ◌⊎◌, inl, inr, ℕ, ◌<◌, ◌≤◌, ◌∙◌, List, [], ◌∷◌, ◌++◌, refl, arith, ap, sym, subst, Bool, true, false}
-use Rattle.std.specs.Prelude.{⊤, not, Option, Some, None, slice_get, if◌then◌else◌}
+use Rattle.std.specs.Prelude.{⊤, not, Option, Some, None, if◌then◌else◌}
 use Rattle.fkv_base.specs.declared.faults.Fault.{Fault}
 use Rattle.fkv_base.specs.declared.numbers.Version.{Version}
 use Rattle.fkv_map.specs.declared.operations.Call.{Call}
@@ -16,14 +16,14 @@ use Rattle.fkv_plane.specs.declared.asks.Ask.{Ask}
 use Rattle.fkv_plane.specs.declared.asks.Ask.TheVariants.{Done}
 use Rattle.fkv_session.specs.declared.sessions.CatchCause.TheVariants.{Refreshes, Shifts, Wakes}
 use Rattle.fkv_session.specs.declared.sessions.Sitting.{Sitting}
-use Rattle.fkv_session.specs.declared.sessions.Sitting.TheVariants.{Attempts, CatchesUp, Idle, LoadsDurable, Polls}
+use Rattle.fkv_session.specs.declared.sessions.Sitting.TheVariants.{CatchesUp, Idle, LoadsDurable}
 use Rattle.fkv_session.specs.Asleep.{IsStepAsleep}
-use Rattle.fkv_session.specs.Sessions.{IsOpened, Seat, SessionState, asks_after, attempts, bits_of, catch_ledto, caught, is_busy, is_word_ask, refusal_of, request_in_hand, room_of, session_ask, session_begun, session_next, sitting_given, sitting_next}
+use Rattle.fkv_session.specs.Sessions.{IsOpened, Seat, SessionState, asks_after, attempts, bits_of, catch_ledto, caught, is_busy, is_word_ask, request_in_hand, room_of, session_ask, session_begun, session_next, sitting_given, sitting_next}
 use Rattle.fkv_session.specs.SessionRun.{Begins, Gets, Replies, SessionEvent, begins, session_happens, session_run}
 use Rattle.fkv_session.specs.Versions.{IsVersion}
 use Rattle.fkv_session.proofs.Shown.{IsSameRequest}
 use Rattle.fkv_session.proofs.Shown.{attempt_keeps, run_asleep, run_version}
-use Rattle.law_local.specs.Sessions.Known.{KeepsKnown, KnowsRequests, attempt_after, catch_after, catch_comes_to, with_op}
+use Rattle.law_local.specs.Sessions.Known.{KnowsRequests, attempt_after, catch_after, catch_comes_to, with_op}
 use Rattle.law_local.proofs.OfSessions.AttemptInputs.{begun_pending}
 use Rattle.law_local.proofs.OfSessions.Known.{begun_known, given_known, next_known}
 use Rattle.law_commit.specs.Accepted.{HasRisingVersion}
