@@ -12,6 +12,7 @@ pub mod OfFloor
 pub mod OfLinked
 pub mod OfPhases
 pub mod OfShares
+pub mod OfQuiet
 pub mod OfVersions
 mod OwnTurnStores
 mod PhaseStores

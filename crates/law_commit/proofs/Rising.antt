@@ -38,7 +38,7 @@ use Rattle.law_world.proofs.OfSessions.OwnRun.{of_run, opened_so}
 use Rattle.fkv_world.proofs.Shown.{same_seat, session_runs, session_runs_on}
 use Rattle.law_commit.specs.Accepted.{HasRisingVersion}
 use Rattle.law_commit.specs.PhaseVersions.{NoneIsAhead, HasRisingPhase, phase_version, version_said}
-use Rattle.law_commit.specs.Views.{View, Sight, completed, is_at_phase, loads_phase, sight_by, sight_in, sight_left, sight_moved, sight_through, view_said, wakes_at_phase, with_loaded}
+use Rattle.law_commit.specs.Views.{View, Sight, completed, is_at_phase, loads_phase, sight_by, sight_found, sight_in, sight_left, sight_moved, sight_of, sight_through, view_said, wakes_at_phase, with_loaded}
 use Rattle.law_commit.proofs.Sights.{Sees, goes_by_view, life_sees, through}
 
 -- what is coming is no earlier than what it goes by, and no later than the phase word's
@@ -302,3 +302,20 @@ version_below opening events session first its became none rises =
     let goes_by = goes_by_view (sight_in opening session first events) s s.step (life_sees opening session first events opened) in
     of_run (λ (x : SessionState). x.seen.version.0 ≤ phase_version (run opening events).now.words) opening events session first its became
     (rw goes_by.version (life_rise opening session first events became.was opened (none session first became.was) rises).below.view)
+
+-- nor is what is coming, which is no earlier than what it goes by
+coming_of : (low top : ℕ) (found : Option View) (view : View) → found ≡ Some view → ComesBetween low top found → (low ≤ view.version.0) × (view.version.0 ≤ top)
+coming_of low top found view is between = subst (λ (c : Option View). ComesBetween low top c) is between
+
+pub coming_below : (opening : World) (events : List Event) (session : ℕ) (first its : SessionState) (view : View) → HasBecome opening events session first its → NoneIsAhead opening.now → HasRisingPhase opening events
+    → (sight_of opening events session).coming ≡ Some view → ((sight_of opening events session).view.version.0 ≤ view.version.0) × (view.version.0 ≤ phase_version (run opening events).now.words)
+unfolding NoneIsAhead
+coming_below opening events session first its view became none rises is =
+    let opened = opened_so opening events session first its became in
+    let below = (life_rise opening session first events became.was opened (none session first became.was) rises).below in
+    let same = sym (ap (sight_found opening events session) became.was) in
+    let found = ap (λ (x : Sight). x.coming) same in
+    let view_same = ap (λ (x : Sight). x.view.version.0) same in
+    let between = coming_of (sight_in opening session first events).view.version.0 (phase_version (run opening events).now.words) (sight_in opening session first events).coming view (found ∙ is) below.coming in
+    let low = between.0 in
+    (omega (arith, low, view_same), between.1)

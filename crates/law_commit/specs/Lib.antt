@@ -10,6 +10,7 @@ pub mod PhaseStores
 pub mod PhaseVersions
 pub mod Phases
 pub mod PrefixPast
+pub mod Quiet
 pub mod Raises
 pub mod Ranks
 pub mod Shares

@@ -1,6 +1,6 @@
 //! Of each life of a store that was opened: its commits' phases and numbers are in turn, so one commit always stands.
 ghost use Rattle.law_order.specs.InTurn.Laws as commits;
-ghost use Rattle.law_order.specs.Rules.Openings.{OpensItsVersions};
+ghost use Rattle.law_order.specs.Rules.Openings.{OpensItsEnds, OpensItsVersions};
 
 use crate::rest::law_rest_said;
 use crate::rules::law_life_begins;
@@ -37,6 +37,15 @@ pub fn law_floor_opens()
 /// of its lives.
 pub fn law_versions_open()
     ensures { OpensItsVersions }
+{
+    law_phases_open();
+    law_life_begins();
+}
+
+/// The sessions of an opened store have seen that it rests, and its keeper seeks the points of all of them. So the laws of how a version ends hold of each of
+/// its lives.
+pub fn law_ends_open()
+    ensures { OpensItsEnds }
 {
     law_phases_open();
     law_life_begins();

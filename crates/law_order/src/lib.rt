@@ -23,7 +23,9 @@ mod truth;
 pub use asked::law_world_asked;
 pub use enabled::law_world_enabled;
 pub use fits::law_opening_fits;
-pub use in_turn::{law_commit_always_stands, law_floor_opens, law_phases_open, law_versions_open};
+pub use in_turn::{
+    law_commit_always_stands, law_ends_open, law_floor_opens, law_phases_open, law_versions_open,
+};
 pub use known::law_sessions_begin;
 pub use looks::law_looks_true;
 pub use new_lives::law_life_exists;

@@ -15,7 +15,7 @@ cut_mark number version = by_parity (version % 2 == 0)
     by_parity true = inl refl
     by_parity false = inr (inl refl)
 
-owing_mark : (number : ℕ) → IsMark number (session_place number own.Owing)
+pub owing_mark : (number : ℕ) → IsMark number (session_place number own.Owing)
 owing_mark number = inr (inr refl)
 
 -- where these words are those at its marks

@@ -200,7 +200,7 @@ rest_next number DefersPending last next = tt
 rest_next number Pends last next = tt
 rest_next number Flushes last next = tt
 
-version_now : (n : Now) (number : Version) (stage : Stage) → IsStaged n number stage → phase_version n.words ≡ (stage_version number stage).0
+pub version_now : (n : Now) (number : Version) (stage : Stage) → IsStaged n number stage → phase_version n.words ≡ (stage_version number stage).0
 version_now n number stage its = ap version_said its.word
 
 pub record Lived (opening : World) (events : List Event) : Type 0 where

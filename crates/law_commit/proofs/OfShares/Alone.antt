@@ -299,8 +299,10 @@ module _ (paper_sound : PaperIsSound) (paper_floor : PaperHasFloor) (opening : W
       let asked : sitting_ask k its (CatchesUp cause) ≡ Add place number = subst (λ (step : Sitting). sitting_ask k its step ≡ Add place number) at asks in
       let adding = catch_adds k.places k.number (sight_of opening events session) its.seen its.requests its.catching its.catching.step place number knows takes asked in
       no_bit opening events place became.opened shows counted (subst (λ (p : Places). has_latch p place ≡ true) (sym (places_stay opening events)) adding.has)
-      (λ other was holder here. (λ alone. let holds = alone_between opening start events other place was holder guarded here alone in conflict session other first its was holder place became here adding holds.0 holds.1,
-      λ drops. let holds = drops_between opening start events other place was holder guarded here drops in conflict session other first its was holder place became here adding holds.0 holds.1))
+      (λ other was holder here. (
+        λ alone. let holds = alone_between opening start events other place was holder guarded here alone in conflict session other first its was holder place became here adding holds.0 holds.1,
+        λ drops. let holds = drops_between opening start events other place was holder guarded here drops in conflict session other first its was holder place became here adding holds.0 holds.1,
+      ))
 
 abbrev ShowsLatches : Type 0
 ShowsLatches = (opening : World) (events : List Event) → latches.IsOpened opening.now → Shows (run opening events).now (seen_by_latches opening events)

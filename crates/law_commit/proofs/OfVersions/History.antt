@@ -29,7 +29,7 @@ use Rattle.law_commit.proofs.OfPhases.LifeStages.{first_version, rising_version}
 use Rattle.law_commit.proofs.OfVersions.Accepted.{IsSoAt, born_so, in_hand_busy, made_own, many_more}
 
 -- what an effect of a session is behind these events of its own
-abbrev IsSo : Seat → SessionState → List SessionEvent → Effect → Type 0
+abbrev pub IsSo : Seat → SessionState → List SessionEvent → Effect → Type 0
 IsSo k first own effect = IsSoAt k first own effect.entry.serial.0 effect.version.0
 
 -- ---- one step of a session
@@ -145,7 +145,7 @@ born_here opening start before event session first effect guarded opened rests w
 its_number : (n : Now) (event : Event) (effect : Effect) (number : ℕ) → BornAt n event effect number → effect.entry.session ≡ number
 its_number n event effect number at = made_own (seat_at n number) at.state at.born.reply effect.entry at.born.made
 
-life_so : (opening : World) (start : ℕ) (events : List Event) (session : ℕ) (first : SessionState) (effect : Effect) → guard.IsOpened opening.now start → IsOpenedWorld opening → OpensAtRest opening.now
+pub life_so : (opening : World) (start : ℕ) (events : List Event) (session : ℕ) (first : SessionState) (effect : Effect) → guard.IsOpened opening.now start → IsOpenedWorld opening → OpensAtRest opening.now
     → slice_get opening.now.sessions session ≡ Some first → effect.entry.session ≡ session → IsIn effect (run opening events).past.history
     → IsSo (seat_at opening.now session) first (session_events opening session events) effect
 unfolding run session_events

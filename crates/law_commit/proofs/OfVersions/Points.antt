@@ -26,14 +26,14 @@ is_le a b e = grind (arith, nat_tests, e)
 is_above : (a b : ℕ) → nat_le a b ≡ false → b < a
 is_above a b e = grind (arith, nat_tests, e)
 
-le_so : (a b : ℕ) → a ≤ b → nat_le a b ≡ true
+pub le_so : (a b : ℕ) → a ≤ b → nat_le a b ≡ true
 le_so a b h = grind (arith, nat_tests, h)
 
 above_so : (a b : ℕ) → b < a → nat_le a b ≡ false
 above_so a b h = grind (arith, nat_tests, h)
 
 -- ---- the serials that were taken follow one another
-abbrev FollowFrom : ℕ → List TakenAt → Type 0
+abbrev pub FollowFrom : ℕ → List TakenAt → Type 0
 FollowFrom first [] = ⊤
 FollowFrom first (it ∷ before) = (it.serial ≡ first + length before + 1) × FollowFrom first before
 
@@ -42,7 +42,7 @@ taken_follow first true serial at op taken next follow = follow
 taken_follow first false serial at None taken next follow = follow
 taken_follow first false serial at (Some op) taken next follow = (next refl, follow)
 
-lengths : (taken : List TakenAt) → length (versions_of taken) ≡ length taken
+pub lengths : (taken : List TakenAt) → length (versions_of taken) ≡ length taken
 lengths [] = refl
 lengths (it ∷ before) = let rest = lengths before in omega (arith, rest)
 
@@ -56,7 +56,7 @@ next_one : (first was now count counted : ℕ) → counted ≡ count → was ≡
 next_one first was now count counted same all other (inl stays) = let clash : (now == was) ≡ true = grind (arith, nat_tests, stays) in let both : true ≡ false = sym clash ∙ other in cc
 next_one first was now count counted same all other (inr next) = omega (arith, same, all, next)
 
-run_follow : (k : Seat) (first : SessionState) (own : List SessionEvent) → IsOpened first → FollowFrom first.serial (versions_taken k first own)
+pub run_follow : (k : Seat) (first : SessionState) (own : List SessionEvent) → IsOpened first → FollowFrom first.serial (versions_taken k first own)
 unfolding versions_taken
 run_follow k first [] opened = tt
 run_follow k first (event ∷ before) opened =
@@ -76,11 +76,11 @@ count_low n (v ∷ before) = by_test (nat_le v n) (count_low n before)
     by_test true rest = omega (arith, rest)
     by_test false rest = omega (arith, rest)
 
-record IsLow (first high serial version : ℕ) (taken : List TakenAt) : Type 0 where
-  serial_low : serial ≤ first + length taken
-  version_low : version ≤ high
+pub record IsLow (first high serial version : ℕ) (taken : List TakenAt) : Type 0 where
+  pub serial_low : serial ≤ first + length taken
+  pub version_low : version ≤ high
 
-taken_low : (first high serial version : ℕ) (taken : List TakenAt) → FollowFrom first taken → NeverFall high (versions_of taken) → IsTakenAt taken serial version → IsLow first high serial version taken
+pub taken_low : (first high serial version : ℕ) (taken : List TakenAt) → FollowFrom first taken → NeverFall high (versions_of taken) → IsTakenAt taken serial version → IsLow first high serial version taken
 taken_low first high serial version [] follow falls was = absurd was
 taken_low first high serial version (it ∷ before) follow falls (inl its) =
     let next = follow.0 in let same = its.0 in let most = falls.0 in let is = its.1 in

@@ -95,7 +95,7 @@ waiting_so : (low high : ℕ) (requests : List PendingRequest) (taken : List Tak
 waiting_so low high [] taken named all are = tt
 waiting_so low high (pending ∷ rest) taken named all are = (named_so low high pending pending.name taken named.0 all are.0, waiting_so low high rest taken named.1 all are.1)
 
-update_at : (P : ℕ → Type 0) (requests : List PendingRequest) (i : ℕ) (pending : PendingRequest) → slice_get requests i ≡ Some pending → AreUpdatesSo P requests → IsUpdateSo P pending
+pub update_at : (P : ℕ → Type 0) (requests : List PendingRequest) (i : ℕ) (pending : PendingRequest) → slice_get requests i ≡ Some pending → AreUpdatesSo P requests → IsUpdateSo P pending
 update_at P [] i pending got all = cc
 update_at P (o ∷ rest) zero pending got all = let same : o ≡ pending = cc in subst (IsUpdateSo P) same all.0
 update_at P (o ∷ rest) (suc i) pending got all = update_at P rest i pending got all.1
@@ -104,7 +104,7 @@ update_at P (o ∷ rest) (suc i) pending got all = update_at P rest i pending go
 same_version : (v w : Version) → v.0 ≡ w.0 → v ≡ w
 same_version v w e = let make : ℕ → Version = λ n. record { 0 = n } in ap make e
 
-polled_so : (P : ℕ → Type 0) (requests : List PendingRequest) (i : ℕ) (pending : PendingRequest) → AreUpdatesSo P requests → IsAttemptOfRequest requests i pending → IsUpdateSo P pending
+pub polled_so : (P : ℕ → Type 0) (requests : List PendingRequest) (i : ℕ) (pending : PendingRequest) → AreUpdatesSo P requests → IsAttemptOfRequest requests i pending → IsUpdateSo P pending
 polled_so P requests i pending all its =
     λ updates. subst (λ (v : Version). P v.0) (sym its.version) (update_at P requests i its.request its.waits all (sym (ap is_read its.op) ∙ updates))
 

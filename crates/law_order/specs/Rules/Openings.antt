@@ -8,6 +8,7 @@ use Rattle.law_opening.specs.Log.Maps.{opening_map}
 use Rattle.law_opening.specs.Log.OpeningLog.{opening_ghosts}
 use Rattle.fkv_world.specs.World.{Now}
 use Rattle.law_commit.specs.Cuts.{HasItsWords, ShowCuts, ShowsDurable}
+use Rattle.law_commit.specs.Quiet.{OpensQuiet}
 use Rattle.law_commit.specs.Versions.Laws.{OpensWithLog}
 use Rattle.law_order.specs.Known.Begins.{BeginsLife}
 use Rattle.law_order.specs.Rules.Ordered.{opening_version}
@@ -37,3 +38,8 @@ OpensItsDurables =
 abbrev pub OpensItsVersions : Type 0
 OpensItsVersions =
     (bytes : List ℕ) (o : Opened) (n : Now) → IsStoreOf bytes o → IsOpeningWorld o n → OpensWithLog (beginning n bytes) o.tail.0 (opening_ghosts bytes o)
+
+-- its versions come to their ends
+abbrev pub OpensItsEnds : Type 0
+OpensItsEnds =
+    (bytes : List ℕ) (o : Opened) (n : Now) → IsStoreOf bytes o → IsOpeningWorld o n → OpensQuiet (beginning n bytes) o.tail.0

@@ -1,0 +1,23 @@
+//! That no update of a version is left once its commit has come to wait-flush.
+ghost use Rattle.law_commit.specs.Quiet.{BegunHaveFlushed, LiveAreLater, NoneComesBack, NoneIsLeft, OwesNone, PointsAlwaysSplit, PointsStay, RanksRise};
+
+use crate::floor::law_floor_stands;
+
+/// In each life of a store that opened at rest the rank of the phase word never falls. From wait-pending of a commit on each live session goes by a later
+/// version than the commit's number. So a session that has no update up to that number gets none any more. While the phase is wait-pending, a session whose
+/// owing word reads 0 has none. The keeper stores wait-flush once it has read each owing word as 0, at whatever moments. So from then on no session has an
+/// update up to the commit's number, for good. From wait-pending on a session's point of that number stays, whether it sleeps or not. It splits the session's
+/// effects at each later moment: just those have a serial up to it that are of that version or an earlier one. Each commit that has begun has come to
+/// wait-flush, with the opening's. So all of this holds of its number, for ever.
+pub fn law_versions_end()
+    ensures ranks { RanksRise }
+    ensures live { LiveAreLater }
+    ensures gone { NoneComesBack }
+    ensures owes { OwesNone }
+    ensures left { NoneIsLeft }
+    ensures points { PointsStay }
+    ensures splits { PointsAlwaysSplit }
+    ensures begun { BegunHaveFlushed }
+{
+    law_floor_stands();
+}
