@@ -302,10 +302,10 @@ module _ (paper_sound : PaperIsSound) (paper_floor : PaperHasFloor) (opening : W
       (λ other was holder here. (λ alone. let holds = alone_between opening start events other place was holder guarded here alone in conflict session other first its was holder place became here adding holds.0 holds.1,
       λ drops. let holds = drops_between opening start events other place was holder guarded here drops in conflict session other first its was holder place became here adding holds.0 holds.1))
 
-abbrev ShowsLatches : Type 0
+abbrev pub ShowsLatches : Type 0
 ShowsLatches = (opening : World) (events : List Event) → latches.IsOpened opening.now → Shows (run opening events).now (seen_by_latches opening events)
 
-abbrev CountsLatches : Type 0
+abbrev pub CountsLatches : Type 0
 CountsLatches = (opening : World) (events : List Event) → latches.IsOpened opening.now → AreCounted (seen_by_latches opening events)
 
 pub meets_none : PaperIsSound → PaperHasFloor → ShowsLatches → CountsLatches → MeetsNoneAlone
