@@ -1,5 +1,6 @@
 -- A try holds a latch alone only where its session is between two versions.
-use Rattle.std.proofs.Common.{◌≡◌, ℕ, refl, sym, subst, Bool, true, false, ◌∙◌}
+use Rattle.std.proofs.Common.{◌≡◌, ℕ, refl, sym, subst, Bool, true, false, ◌∙◌, arith}
+use Rattle.std.proofs.lemmas.Bool.Decides.{nat_tests}
 use Rattle.std.specs.Prelude.{if◌then◌else◌, ◌==◌, ◌&&◌, not, nat_le, ⊤, Option, Some, None}
 use Rattle.fkv_base.specs.declared.numbers.Addr.{Addr}
 use Rattle.fkv_base.specs.declared.numbers.Version.{Version}
@@ -38,9 +39,9 @@ use Rattle.fkv_ops.specs.Walking.{walk_ask, walk_next, walk_on}
 use Rattle.fkv_ops.specs.Appending.{append_ask, append_next}
 use Rattle.fkv_ops.specs.Trying.{TryState, with_latch, is_moving_on, is_prepare, is_wait, ended_without, ends, takes_effect, walks, wants_shared, try_begun, shared_ledto, must_shift, wants_exclusive, appends, copies_from, copies, awaits, held_used, met_nowhere, met_disk, changes, is_own_version, region_met, met_record, walked, has_walked, walk_ledto, safe_loaded, current_ledto, value_changed, told_value, answer_ledto, exclusive_ledto, old_ledto, append_ledto, exclusive_dropped, shared_dropped, latch_moved, trying_next, try_next, new_try}
 
--- the session is between two versions
-abbrev pub MovesOn : Seen → Type 0
-MovesOn seen = is_moving_on seen.phase ≡ true
+-- the session is between two versions, and the request is of its own
+abbrev pub MovesOn : Seen → TryState → Type 0
+MovesOn seen t = (is_moving_on seen.phase ≡ true) × (t.request.version.0 ≡ seen.version.0)
 
 abbrev pub is_dropping : Latching → Bool
 is_dropping (latching.DropsExclusive place) = true
@@ -48,12 +49,12 @@ is_dropping step = false
 
 -- it keeps what it has seen; if it holds a latch alone, or is dropping one, the session is so
 abbrev pub KeepsMoving : Seen → TryState → Type 0
-KeepsMoving seen t = (t.seen ≡ seen) × (t.has_exclusive ≡ true → MovesOn seen) × (is_dropping t.latching ≡ true → MovesOn seen)
+KeepsMoving seen t = (t.seen ≡ seen) × (t.has_exclusive ≡ true → MovesOn seen t) × (is_dropping t.latching ≡ true → MovesOn seen t)
 
 -- and if it takes one alone
-abbrev pub TakesMoving : Seen → Trying → Type 0
-TakesMoving seen (TakesExclusive old) = MovesOn seen
-TakesMoving seen step = ⊤
+abbrev pub TakesMoving : Seen → TryState → Trying → Type 0
+TakesMoving seen t (TakesExclusive old) = MovesOn seen t
+TakesMoving seen t step = ⊤
 
 -- in prepare an update shares its latch, and so does one whose request has come with it
 abbrev pub HasShare : TryState → Type 0
@@ -69,12 +70,12 @@ SharesBy t step = HasShare t
 
 pub record IsTryMoving (seen : Seen) (t : TryState) : Type 0 where
   pub keeps : KeepsMoving seen t
-  pub takes : TakesMoving seen t.step
+  pub takes : TakesMoving seen t t.step
   pub shares : SharesBy t t.step
 
 -- what is known between
 abbrev Inner : Seen → TryState → Type 0
-Inner seen t = (t.seen ≡ seen) × (t.has_exclusive ≡ true → MovesOn seen) × (is_dropping t.latching ≡ true → MovesOn seen) × HasShare t
+Inner seen t = (t.seen ≡ seen) × (t.has_exclusive ≡ true → MovesOn seen t) × (is_dropping t.latching ≡ true → MovesOn seen t) × HasShare t
 
 no_drop : {X : Type 0} → false ≡ true → X
 no_drop e = cc
@@ -98,8 +99,8 @@ either_moving : (c : Bool) (seen : Seen) (a b : TryState) → IsTryMoving seen a
 either_moving true seen a b one other = one
 either_moving false seen a b one other = other
 
-stays_moving : (seen : Seen) (t : TryState) (step : Trying) → t.step ≡ step → KeepsMoving seen t → TakesMoving seen step → SharesBy t step → IsTryMoving seen t
-stays_moving seen t step at keeps takes shares = record { keeps = keeps; takes = subst (λ x. TakesMoving seen x) (sym at) takes; shares = subst (λ x. SharesBy t x) (sym at) shares }
+stays_moving : (seen : Seen) (t : TryState) (step : Trying) → t.step ≡ step → KeepsMoving seen t → TakesMoving seen t step → SharesBy t step → IsTryMoving seen t
+stays_moving seen t step at keeps takes shares = record { keeps = keeps; takes = subst (λ x. TakesMoving seen t x) (sym at) takes; shares = subst (λ x. SharesBy t x) (sym at) shares }
 
 without_moving : (p : Places) (seen : Seen) (t : TryState) (its : TryAnswer) → KeepsMoving seen t → (is_wait its ≡ true → HasShare t) → IsTryMoving seen (ended_without p t its)
 without_moving p seen t its keeps shares = by_wait (is_wait its) refl
@@ -141,9 +142,13 @@ unfolding copies_from
 copies_from_moving seen t (Known old) keeps = appends_moving seen t old keeps
 copies_from_moving seen t InMemory keeps = either_moving (is_blind t.request.op) seen (appends t absent_word) (record t { walk = walk_on t.walk; step = LoadsOld }) (appends_moving seen t absent_word keeps) (record { keeps = (keeps.0, keeps.1, keeps.2); takes = tt; shares = keeps.3 })
 
-first_of_three : (a b c : Bool) → (a && b && c) ≡ true → a ≡ true
-first_of_three true b c e = refl
-first_of_three false b c e = cc
+first_two : (a : Bool) (m n : ℕ) (c : Bool) → (a && m == n && c) ≡ true → (a ≡ true) × (m ≡ n)
+first_two true m n c e = by_same (m == n) refl e
+  where
+    by_same : (b : Bool) → (m == n) ≡ b → (b && c) ≡ true → (true ≡ true) × (m ≡ n)
+    by_same true same f = let it : m ≡ n = grind (arith, nat_tests, same) in (refl, it)
+    by_same false same f = cc
+first_two false m n c e = cc
 
 copies_moving : (p : Places) (seen : Seen) (t : TryState) (old : OldValue) (is_current : Bool) → Inner seen t → IsTryMoving seen (copies p t old is_current)
 unfolding copies
@@ -151,8 +156,8 @@ copies_moving p seen t old is_current keeps = by_need (wants_exclusive t is_curr
   where
     by_need : (b : Bool) → wants_exclusive t is_current ≡ b → IsTryMoving seen (if b then with_latch p t TakeExclusive (TakesExclusive old) else copies_from t old)
     by_need true e =
-        let moves : is_moving_on t.seen.phase ≡ true = first_of_three (is_moving_on t.seen.phase) (t.request.version.0 == t.seen.version.0) (not is_current) e in
-        record { keeps = (keeps.0, keeps.1, λ x. no_drop x); takes = subst (λ (s : Seen). MovesOn s) keeps.0 moves; shares = keeps.3 }
+        let moves : MovesOn t.seen t = first_two (is_moving_on t.seen.phase) (t.request.version.0) (t.seen.version.0) (not is_current) e in
+        record { keeps = (keeps.0, keeps.1, λ x. no_drop x); takes = subst (λ (s : Seen). MovesOn s t) keeps.0 moves; shares = keeps.3 }
     by_need false e = copies_from_moving seen t old keeps
 
 
@@ -226,7 +231,7 @@ shared_moving p seen t (Done Taken) at keeps = walks_moving p seen (record t { h
 shared_moving p seen t (Done its) at keeps = ends_with p seen t answer.Shift keeps (λ wait. no_drop wait)
 shared_moving p seen t ask at keeps = stays_moving seen t TakesShared at keeps tt tt
 
-exclusive_moving : (p : Places) (seen : Seen) (t : TryState) (old : OldValue) (ask : Ask LatchAnswer) → t.step ≡ TakesExclusive old → Inner seen t → MovesOn seen → IsTryMoving seen (exclusive_ledto p t old ask)
+exclusive_moving : (p : Places) (seen : Seen) (t : TryState) (old : OldValue) (ask : Ask LatchAnswer) → t.step ≡ TakesExclusive old → Inner seen t → MovesOn seen t → IsTryMoving seen (exclusive_ledto p t old ask)
 unfolding exclusive_ledto
 exclusive_moving p seen t old (Done Taken) at keeps moves = copies_from_moving seen (record t { has_exclusive = true }) old (keeps.0, λ e. moves, keeps.2, keeps.3)
 exclusive_moving p seen t old (Done its) at keeps moves = ends_moving p seen t _ keeps
@@ -264,7 +269,7 @@ unshared_moving seen t its ask at keeps none = stays_moving seen t (DropsShared 
 latch_keeps : (seen : Seen) (t : TryState) (reply : ℕ) → KeepsMoving seen t → KeepsMoving seen (latch_moved t reply)
 latch_keeps seen t reply keeps = (keeps.0, keeps.1, λ e. no_drop (sym (next_drops t.latching reply) ∙ e))
 
-next_moving : (p : Places) (room : ℕ) (seen : Seen) (t : TryState) (step : Trying) (reply : ℕ) → t.step ≡ step → KeepsMoving seen t → TakesMoving seen step → SharesBy t step → IsTryMoving seen (trying_next p room t step reply)
+next_moving : (p : Places) (room : ℕ) (seen : Seen) (t : TryState) (step : Trying) (reply : ℕ) → t.step ≡ step → KeepsMoving seen t → TakesMoving seen t step → SharesBy t step → IsTryMoving seen (trying_next p room t step reply)
 unfolding trying_next
 next_moving p room seen t (Ended its) reply at keeps takes shares = stays_moving seen t (Ended its) at keeps tt shares
 next_moving p room seen t TakesShared reply at keeps takes shares = shared_moving p seen (latch_moved t reply) (latch_next_ask t.latching reply) at (latch_keeps seen t reply keeps)
