@@ -2,5 +2,7 @@ pub mod Alone
 mod AttemptsMove
 mod Enters
 mod Holders
+pub mod Prepared
 mod SessionsMove
 mod TriesMove
+mod Waiting

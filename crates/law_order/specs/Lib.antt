@@ -9,4 +9,5 @@ pub mod Rest
 pub mod Rows
 pub mod Rules
 pub mod Served
+pub mod Shares
 pub mod Tickets

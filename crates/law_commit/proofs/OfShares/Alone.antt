@@ -21,7 +21,7 @@ use Rattle.fkv_latch.specs.LatchWorld.{has_latch, times}
 use Rattle.fkv_map.specs.Keys.{key_of}
 use Rattle.fkv_ops.specs.declared.requests.Seen.{Seen}
 use Rattle.fkv_ops.specs.declared.trying.Trying.{Trying}
-use Rattle.fkv_ops.specs.declared.trying.Trying.TheVariants.{TakesShared, TakesExclusive, DropsExclusive, DropsShared, LoadsOld, Appends}
+use Rattle.fkv_ops.specs.declared.trying.Trying.TheVariants.{Ended, TakesShared, Walks, LoadsSafe, SwapsValue, LoadsCurrent, ChangesValue, LoadsAnswer, TakesExclusive, LoadsOld, Appends, DropsExclusive, DropsShared}
 use Rattle.fkv_ops.specs.Trying.{TryState, is_moving_on, is_prepare}
 use Rattle.fkv_pending.specs.declared.attempting.Attempting.{Attempting}
 use Rattle.fkv_pending.specs.declared.attempting.Attempting.TheVariants.{Tries}
@@ -60,6 +60,7 @@ use Rattle.law_commit.specs.Phases.Projected.{is_coming, paper_view}
 use Rattle.law_commit.specs.Phases.Staged.{Stage}
 use Rattle.law_commit.specs.Ranks.{rank}
 use Rattle.law_commit.specs.Shares.Alone.{HoldsAloneBetween, MeetsNoneAlone}
+use Rattle.law_commit.specs.Shares.Tries.{SharesAttempting, SharesInHand, SharesInTries, SharesSo, SharesTrying}
 use Rattle.law_commit.specs.Views.{IsComing, IsTakenFrom, Sight, TakesUp, View, rank_of, sight_found, sight_in, sight_of}
 use Rattle.law_commit.proofs.Rising.{ComesBetween, life_rise}
 use Rattle.law_commit.proofs.Sights.{coming_seen, view_seen}
@@ -69,11 +70,11 @@ use Rattle.law_commit.proofs.OfShares.AttemptsMove.{AttemptMoving}
 use Rattle.law_commit.proofs.OfShares.Enters.{CatchEnters, IsSharing, SomeWait}
 use Rattle.law_commit.proofs.OfShares.Holders.{no_bit}
 use Rattle.law_commit.proofs.OfShares.SessionsMove.{IsSessionMoving, SittingMoving, session_run_moving}
-use Rattle.law_commit.proofs.OfShares.TriesMove.{IsTryMoving, MovesOn}
+use Rattle.law_commit.proofs.OfShares.TriesMove.{HasShare, IsTryMoving, MovesOn, SharesBy}
 
 -- ---- who holds a latch alone, or drops it, is between two versions
 abbrev MovesAwake : Seen → Sitting → Type 0
-MovesAwake seen step = MovesOn seen × (IsStepAsleep step → ⊥)
+MovesAwake seen step = (is_moving_on seen.phase ≡ true) × (IsStepAsleep step → ⊥)
 
 held_so : (place at : ℕ) (has : Bool) → 0 < times place (held_if at has) → has ≡ true
 held_so place at true some = refl
@@ -82,23 +83,23 @@ held_so place at false some = absurd (omega (arith, some))
 none_held : {X : Type 0} (place : ℕ) → 0 < times place [] → X
 none_held place some = absurd (omega (arith, some))
 
-try_moves : (p : Places) (seen : Seen) (t : TryState) (step : Trying) (place : ℕ) → IsTryMoving seen t → 0 < times place (try_alone p t step) → MovesOn seen
-try_moves p seen t LoadsOld place its some = its.keeps.1 (held_so place (its_latch p t) t.has_exclusive some)
-try_moves p seen t (Appends reply) place its some = its.keeps.1 (held_so place (its_latch p t) t.has_exclusive some)
+try_moves : (p : Places) (seen : Seen) (t : TryState) (step : Trying) (place : ℕ) → IsTryMoving seen t → 0 < times place (try_alone p t step) → is_moving_on seen.phase ≡ true
+try_moves p seen t LoadsOld place its some = (its.keeps.1 (held_so place (its_latch p t) t.has_exclusive some)).0
+try_moves p seen t (Appends reply) place its some = (its.keeps.1 (held_so place (its_latch p t) t.has_exclusive some)).0
 try_moves p seen t step place its some = none_held place some
 
-attempt_moves : (p : Places) (seen : Seen) (a : AttemptState) (step : Attempting) (place : ℕ) → AttemptMoving seen a step → 0 < times place (attempt_alone p a step) → MovesOn seen
+attempt_moves : (p : Places) (seen : Seen) (a : AttemptState) (step : Attempting) (place : ℕ) → AttemptMoving seen a step → 0 < times place (attempt_alone p a step) → is_moving_on seen.phase ≡ true
 attempt_moves p seen a Tries place its some = try_moves p seen a.trial a.trial.step place its some
 attempt_moves p seen a step place its some = none_held place some
 
-try_drops : (seen : Seen) (t : TryState) (step : Trying) (place : ℕ) → IsTryMoving seen t → try_latching t step ≡ latching.DropsExclusive place → MovesOn seen
-try_drops seen t TakesShared place its e = its.keeps.2 (rw e refl)
-try_drops seen t (TakesExclusive old) place its e = its.keeps.2 (rw e refl)
-try_drops seen t (DropsExclusive told) place its e = its.keeps.2 (rw e refl)
-try_drops seen t (DropsShared told) place its e = its.keeps.2 (rw e refl)
+try_drops : (seen : Seen) (t : TryState) (step : Trying) (place : ℕ) → IsTryMoving seen t → try_latching t step ≡ latching.DropsExclusive place → is_moving_on seen.phase ≡ true
+try_drops seen t TakesShared place its e = (its.keeps.2 (rw e refl)).0
+try_drops seen t (TakesExclusive old) place its e = (its.keeps.2 (rw e refl)).0
+try_drops seen t (DropsExclusive told) place its e = (its.keeps.2 (rw e refl)).0
+try_drops seen t (DropsShared told) place its e = (its.keeps.2 (rw e refl)).0
 try_drops seen t step place its e = cc
 
-attempt_drops : (seen : Seen) (a : AttemptState) (step : Attempting) (place : ℕ) → AttemptMoving seen a step → attempt_latching a step ≡ latching.DropsExclusive place → MovesOn seen
+attempt_drops : (seen : Seen) (a : AttemptState) (step : Attempting) (place : ℕ) → AttemptMoving seen a step → attempt_latching a step ≡ latching.DropsExclusive place → is_moving_on seen.phase ≡ true
 attempt_drops seen a Tries place its e = try_drops seen a.trial a.trial.step place its e
 attempt_drops seen a step place its e = cc
 
@@ -121,6 +122,35 @@ module _ (k : Seat) (homes : (pending : PendingRequest) → (home_of (bits_of k)
   sitting_drops s (Polls i) place its e = (attempt_drops s.seen s.attempt s.attempt.step place its.moving e, λ asleep. absurd asleep)
   sitting_drops s (CatchesUp cause) place its e = catch_drops k.places s.seen s.requests s.catching s.catching.step place its e
   sitting_drops s step place its e = cc
+
+-- ---- what its tries share
+so : (seen : Seen) (t : TryState) → t.seen ≡ seen → (t.has_exclusive ≡ true → MovesOn seen t) → HasShare t → SharesSo seen t
+so seen t same alone shares = record { prepares = λ prepare. shares.0 (subst (λ (x : Seen). is_prepare x.phase ≡ true) (sym same) prepare); kept = shares.1; alone = alone }
+
+try_shares : (seen : Seen) (t : TryState) (step : Trying) → t.seen ≡ seen → (t.has_exclusive ≡ true → MovesOn seen t) → SharesBy t step → SharesTrying seen t step
+try_shares seen t Walks same alone shares = so seen t same alone shares
+try_shares seen t (LoadsSafe addr version) same alone shares = so seen t same alone shares
+try_shares seen t (SwapsValue addr) same alone shares = so seen t same alone shares
+try_shares seen t (LoadsCurrent addr) same alone shares = so seen t same alone shares
+try_shares seen t (ChangesValue addr old) same alone shares = so seen t same alone shares
+try_shares seen t LoadsAnswer same alone shares = so seen t same alone shares
+try_shares seen t (TakesExclusive old) same alone shares = so seen t same alone shares
+try_shares seen t LoadsOld same alone shares = so seen t same alone shares
+try_shares seen t (Appends its) same alone shares = so seen t same alone shares
+try_shares seen t (Ended its) same alone shares = tt
+try_shares seen t TakesShared same alone shares = tt
+try_shares seen t (DropsExclusive its) same alone shares = tt
+try_shares seen t (DropsShared its) same alone shares = tt
+
+attempt_shares : (seen : Seen) (a : AttemptState) (step : Attempting) → AttemptMoving seen a step → SharesAttempting seen a step
+attempt_shares seen a Tries its = try_shares seen a.trial a.trial.step its.keeps.0 its.keeps.1 its.shares
+attempt_shares seen a step its = tt
+
+module _ (k : Seat) (homes : (pending : PendingRequest) → (home_of (bits_of k) (key_of pending.request.op)).bucket < k.places.buckets) where
+  sitting_shares : (s : SessionState) (step : Sitting) → SittingMoving k homes s step → SharesInHand s step
+  sitting_shares s (Attempts has_shifted) its = attempt_shares s.seen s.attempt s.attempt.step its.moving
+  sitting_shares s (Polls i) its = attempt_shares s.seen s.attempt s.attempt.step its.moving
+  sitting_shares s step its = tt
 
 -- ---- who adds to a word in catching up
 refresh_adds : {X : Type 0} (n : ℕ) (step : Refreshing) (place number : ℕ) → passed {B = Told} (passed {B = Unit {0}} (refresh_ask n step) tt) Slept ≡ Add place number → X
@@ -229,6 +259,10 @@ alone_between opening start events session place first its guarded became alone 
     (moving_at opening events session first its guarded.buckets became) alone in
     (moves.0, awake_at opening events session first its became (λ asleep. moves.1 asleep.accepts_none))
 
+pub tries_share : SharesInTries
+tries_share opening start events session first its guarded became =
+    sitting_shares (seat_at opening.now session) (homes_so (seat_at opening.now session) guarded.buckets) its its.step (moving_at opening events session first its guarded.buckets became)
+
 drops_between : (opening : World) (start : ℕ) (events : List Event) (session place : ℕ) (first its : SessionState) → guard.IsOpened opening.now start → HasBecome opening events session first its
     → session_latching its ≡ latching.DropsExclusive place → (is_moving_on its.seen.phase ≡ true) × (its.is_awake ≡ true)
 drops_between opening start events session place first its guarded became drops =
@@ -304,10 +338,10 @@ module _ (paper_sound : PaperIsSound) (paper_floor : PaperHasFloor) (opening : W
         λ drops. let holds = drops_between opening start events other place was holder guarded here drops in conflict session other first its was holder place became here adding holds.0 holds.1,
       ))
 
-abbrev ShowsLatches : Type 0
+abbrev pub ShowsLatches : Type 0
 ShowsLatches = (opening : World) (events : List Event) → latches.IsOpened opening.now → Shows (run opening events).now (seen_by_latches opening events)
 
-abbrev CountsLatches : Type 0
+abbrev pub CountsLatches : Type 0
 CountsLatches = (opening : World) (events : List Event) → latches.IsOpened opening.now → AreCounted (seen_by_latches opening events)
 
 pub meets_none : PaperIsSound → PaperHasFloor → ShowsLatches → CountsLatches → MeetsNoneAlone

@@ -1,0 +1,16 @@
+-- By what an opened store's life begins with.
+use Rattle.fkv_core.specs.Openings.{beginning}
+use Rattle.law_order.proofs.OfRules.Rests.{opens_at_rest}
+use Rattle.law_order.proofs.shares.law_shares_open.Goals as goal
+
+pub returns-clause-meets : goal.returns-clause-meets
+returns-clause-meets c = λ bytes o n events session place number first its cause store opens.
+    let begins = c.law_life_begins.ensures bytes o n store opens in
+    c.law_shares_not_missed.ensures.meets (beginning n bytes) o.tail.0 events session place number first its cause begins.store.now (c.law_latches_open.ensures o n opens)
+    (record { rests = opens_at_rest o n opens begins.rests; seen = λ other was found. (begins.rests.seen other was found).phase })
+
+pub returns-clause-prepare : goal.returns-clause-prepare
+returns-clause-prepare c = λ bytes o n events session first its store opens.
+    let begins = c.law_life_begins.ensures bytes o n store opens in
+    c.law_shares_not_missed.ensures.prepare (beginning n bytes) o.tail.0 events session first its begins.store.now (c.law_latches_open.ensures o n opens)
+    (record { rests = opens_at_rest o n opens begins.rests; seen = λ other was found. (begins.rests.seen other was found).phase })
