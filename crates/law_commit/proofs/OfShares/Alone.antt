@@ -289,7 +289,7 @@ module _ (paper_sound : PaperIsSound) (paper_floor : PaperHasFloor) (opening : W
       let saw = view_seen opening events session was other became in
       gone_on number stage (sight_of opening events session).view.phase (sight_of opening events session).view.version.0 some floor.low floor.rest (subst (λ (phase : Phase). is_moving_on phase ≡ true) saw.phase moves)
 
-  rising : (session : ℕ) (first its : SessionState) (view : View) → HasBecome opening events session first its → (sight_of opening events session).coming ≡ Some view → (sight_of opening events session).view.version.0 ≤ view.version.0
+  pub rising : (session : ℕ) (first its : SessionState) (view : View) → HasBecome opening events session first its → (sight_of opening events session).coming ≡ Some view → (sight_of opening events session).view.version.0 ≤ view.version.0
   unfolding NoneIsAhead
   rising session first its view became e =
       let opened = opened_so opening events session first its became in
