@@ -1,5 +1,5 @@
 //! Shares of latches.
-ghost use Rattle.law_commit.specs.Shares.Alone.{HoldsAloneBetween, MeetsNoneAlone};
+ghost use Rattle.law_commit.specs.Shares.Alone.{HoldsAloneBetween, HoldsAloneByRank, MeetsNoneAlone};
 ghost use Rattle.law_commit.specs.Shares.Leaving.{LeavesFromPrepare};
 ghost use Rattle.law_commit.specs.Shares.Tries.{SharesInTries};
 ghost use Rattle.law_commit.specs.Shares.Waiting.{SharesInPrepare};
@@ -13,6 +13,7 @@ use law_parts::law_world_latched;
 /// its latch, between the session's calls and in them, as long as no attempt has ended as a shift and isn't made again.
 pub fn law_shares_not_missed()
     ensures alone { HoldsAloneBetween }
+    ensures by_rank { HoldsAloneByRank }
     ensures tries { SharesInTries }
     ensures meets { MeetsNoneAlone }
     ensures leaves { LeavesFromPrepare }

@@ -160,7 +160,6 @@ copies_moving p seen t old is_current keeps = by_need (wants_exclusive t is_curr
         record { keeps = (keeps.0, keeps.1, λ x. no_drop x); takes = subst (λ (s : Seen). MovesOn s t) keeps.0 moves; shares = keeps.3 }
     by_need false e = copies_from_moving seen t old keeps
 
-
 held_moving : (p : Places) (seen : Seen) (t : TryState) (addr : Addr) (held : Option HeldRecord) → Inner seen t → IsTryMoving seen (held_used p t addr held)
 unfolding held_used
 held_moving p seen t addr None keeps = ends_moving p seen t _ keeps
