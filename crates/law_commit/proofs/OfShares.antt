@@ -2,6 +2,7 @@ pub mod Alone
 mod AttemptsMove
 mod Enters
 mod Holders
+pub mod Leaving
 pub mod Prepared
 mod SessionsMove
 mod TriesMove

@@ -1,3 +1,4 @@
 pub mod Alone
+pub mod Leaving
 pub mod Tries
 pub mod Waiting

@@ -1,5 +1,6 @@
 //! Shares of latches.
-ghost use Rattle.law_commit.specs.Shares.Alone.{HoldsAloneBetween, MeetsNoneAlone};
+ghost use Rattle.law_commit.specs.Shares.Alone.{HoldsAloneBetween, HoldsAloneByRank, MeetsNoneAlone};
+ghost use Rattle.law_commit.specs.Shares.Leaving.{LeavesFromPrepare};
 ghost use Rattle.law_commit.specs.Shares.Tries.{SharesInTries};
 ghost use Rattle.law_commit.specs.Shares.Waiting.{SharesInPrepare};
 
@@ -8,12 +9,14 @@ use law_parts::law_world_latched;
 
 /// In each life of a store that opened at rest, as each does, with commits too, a session holds a latch alone only while it is awake and goes by in-progress or
 /// wait-pending. A try of an update in prepare shares its latch from where it has taken its share on, and one whose request came with its latch does in each
-/// phase. No latch is held alone as a session takes up prepare. So no share that it adds then is missed. So in prepare each update that waits shares
+/// phase. No latch is held alone as a session takes up prepare. So no share that it adds then is missed. A live session leaves a version from its prepare alone. In prepare each update that waits shares
 /// its latch, between the session's calls and in them, as long as no attempt has ended as a shift and isn't made again.
 pub fn law_shares_not_missed()
     ensures alone { HoldsAloneBetween }
+    ensures by_rank { HoldsAloneByRank }
     ensures tries { SharesInTries }
     ensures meets { MeetsNoneAlone }
+    ensures leaves { LeavesFromPrepare }
     ensures prepare { SharesInPrepare }
 {
     law_phases_are_seen();

@@ -1,9 +1,11 @@
 -- What the law of `shares` says.
-use Rattle.std.specs.Prelude.{◌≡◌, ℕ, List, false}
+use Rattle.std.specs.Prelude.{◌≡◌, ◌⊎◌, ◌<◌, ℕ, List, true, false}
 use Rattle.fkv_core.specs.Openings.{IsOpeningWorld, beginning}
 use Rattle.fkv_latch.specs.Latching.{is_exclusive}
+use Rattle.fkv_latch.specs.LatchWorld.{times}
 use Rattle.fkv_opening.specs.Opened.{IsStoreOf}
 use Rattle.fkv_opening.specs.declared.opened_store.Opened.{Opened}
+use Rattle.fkv_ops.specs.Trying.{is_moving_on, is_prepare}
 use Rattle.fkv_plane.specs.declared.asks.Ask.TheVariants.{Add}
 use Rattle.fkv_plane.specs.Asked.{word_at}
 use Rattle.fkv_session.specs.declared.sessions.CatchCause.{CatchCause}
@@ -13,7 +15,21 @@ use Rattle.fkv_world.specs.Opened.{HasBecome}
 use Rattle.fkv_world.specs.OwnEvents.{session_events}
 use Rattle.fkv_world.specs.Runs.{run}
 use Rattle.fkv_world.specs.World.{Event, Now, seat_at}
+use Rattle.law_parts.specs.Latches.Latchers.{session_alone}
+use Rattle.law_commit.specs.Shares.Leaving.{HasLoaded}
+use Rattle.law_commit.specs.Shares.Tries.{SharesInHand}
 use Rattle.law_commit.specs.Shares.Waiting.{ShareSitting, has_shifted}
+
+-- A session that holds a latch alone is awake, and goes by in-progress or wait-pending.
+abbrev pub HoldsAloneBetweenInItsLife : Type 0
+HoldsAloneBetweenInItsLife =
+    (bytes : List ℕ) (o : Opened) (n : Now) (events : List Event) (session place : ℕ) (first its : SessionState) → IsStoreOf bytes o → IsOpeningWorld o n → HasBecome (beginning n bytes) events session first its
+    → 0 < times place (session_alone (run (beginning n bytes) events).now.places its) → (is_moving_on its.seen.phase ≡ true) × (its.is_awake ≡ true)
+
+-- Its tries share as they must.
+abbrev pub SharesInTriesOfItsLife : Type 0
+SharesInTriesOfItsLife =
+    (bytes : List ℕ) (o : Opened) (n : Now) (events : List Event) (session : ℕ) (first its : SessionState) → IsStoreOf bytes o → IsOpeningWorld o n → HasBecome (beginning n bytes) events session first its → SharesInHand its its.step
 
 -- Where a session that catches up adds to a word, the word has no bit 63.
 abbrev pub MeetsNoneAloneInItsLife : Type 0
@@ -27,3 +43,9 @@ abbrev pub SharesInPrepareInItsLife : Type 0
 SharesInPrepareInItsLife =
     (bytes : List ℕ) (o : Opened) (n : Now) (events : List Event) (session : ℕ) (first its : SessionState) → IsStoreOf bytes o → IsOpeningWorld o n → HasBecome (beginning n bytes) events session first its
     → has_shifted (seat_at n session) first (session_events (beginning n bytes) session events) ≡ false → ShareSitting its its.step
+
+-- What a live session takes up is of the version by which it went, or it went by prepare.
+abbrev pub LeavesFromPrepareInItsLife : Type 0
+LeavesFromPrepareInItsLife =
+    (bytes : List ℕ) (o : Opened) (n : Now) (events : List Event) (session : ℕ) (first its : SessionState) (cause : CatchCause) → IsStoreOf bytes o → IsOpeningWorld o n → HasBecome (beginning n bytes) events session first its
+    → its.is_awake ≡ true → its.step ≡ CatchesUp cause → HasLoaded its.catching.step → (its.catching.seen.version.0 ≡ its.seen.version.0) ⊎ (is_prepare its.seen.phase ≡ true)

@@ -1,14 +1,18 @@
 //! Shares of latches in the lives of opened stores.
-ghost use Rattle.law_order.specs.Shares.{MeetsNoneAloneInItsLife, SharesInPrepareInItsLife};
+ghost use Rattle.law_order.specs.Shares.{HoldsAloneBetweenInItsLife, LeavesFromPrepareInItsLife, MeetsNoneAloneInItsLife, SharesInPrepareInItsLife, SharesInTriesOfItsLife};
 
 use crate::rules::law_life_begins;
 use law_commit::law_shares_not_missed;
 use law_opening::law_latches_open;
 
-/// In each life of an opened store no share is missed that a session adds as it takes up prepare. So in prepare each update that waits shares its latch, as long
-/// as no attempt has ended as a shift and isn't made again.
+/// In each life of an opened store, with commits too, a session holds a latch alone only between two versions, and a try of an update in prepare shares its
+/// latch. No share is missed that a session adds as it takes up prepare, and a live session leaves a version from its prepare alone. So in prepare each update
+/// that waits shares its latch, as long as no attempt has ended as a shift and isn't made again.
 pub fn law_shares_open()
+    ensures alone { HoldsAloneBetweenInItsLife }
+    ensures tries { SharesInTriesOfItsLife }
     ensures meets { MeetsNoneAloneInItsLife }
+    ensures leaves { LeavesFromPrepareInItsLife }
     ensures prepare { SharesInPrepareInItsLife }
 {
     law_life_begins();

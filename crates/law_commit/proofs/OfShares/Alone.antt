@@ -1,5 +1,5 @@
 -- No session that takes up prepare meets a latch that is held alone.
-use Rattle.std.proofs.Common.{◌≡◌, ℕ, ◌+◌, ◌*◌, ◌<◌, ◌≤◌, ◌∙◌, refl, sym, ap, subst, arith, List, [], Bool, true, false}
+use Rattle.std.proofs.Common.{◌≡◌, inl, inr, ℕ, ◌+◌, ◌*◌, ◌<◌, ◌≤◌, ◌∙◌, refl, sym, ap, subst, arith, List, [], Bool, true, false}
 use Rattle.std.specs.Prelude.{Option, Some, None, ◌==◌, ◌&&◌, not}
 use Rattle.std.proofs.lemmas.Bool.Decides.{nat_tests}
 use Rattle.fkv_base.specs.declared.numbers.Version.{Version}
@@ -50,6 +50,7 @@ use Rattle.fkv_world.specs.World.{Event, seat_at}
 use Rattle.fkv_world.proofs.Shown.{places_stay, same_seat}
 use Rattle.law_world.proofs.OfSessions.OwnRun.{of_run, opened_so}
 use Rattle.law_guard.specs.Guarded.Shows as guard
+use Rattle.law_paper.specs.Apart.{IsBetween}
 use Rattle.law_paper.specs.Phases as paper
 use Rattle.law_parts.specs.Latches.Latchers.{attempt_alone, attempt_latching, catch_latching, held_if, its_latch, session_latching, sitting_alone, sitting_latching, try_alone, try_latching}
 use Rattle.law_parts.specs.Latches.Shows as latches
@@ -59,7 +60,7 @@ use Rattle.law_commit.specs.PhaseVersions.{NoneIsAhead, phase_version}
 use Rattle.law_commit.specs.Phases.Projected.{is_coming, paper_view}
 use Rattle.law_commit.specs.Phases.Staged.{Stage}
 use Rattle.law_commit.specs.Ranks.{rank}
-use Rattle.law_commit.specs.Shares.Alone.{HoldsAloneBetween, MeetsNoneAlone}
+use Rattle.law_commit.specs.Shares.Alone.{HoldsAloneBetween, HoldsAloneByRank, MeetsNoneAlone}
 use Rattle.law_commit.specs.Shares.Tries.{SharesAttempting, SharesInHand, SharesInTries, SharesSo, SharesTrying}
 use Rattle.law_commit.specs.Views.{IsComing, IsTakenFrom, Sight, TakesUp, View, rank_of, sight_found, sight_in, sight_of}
 use Rattle.law_commit.proofs.Rising.{ComesBetween, life_rise}
@@ -289,7 +290,7 @@ module _ (paper_sound : PaperIsSound) (paper_floor : PaperHasFloor) (opening : W
       let saw = view_seen opening events session was other became in
       gone_on number stage (sight_of opening events session).view.phase (sight_of opening events session).view.version.0 some floor.low floor.rest (subst (λ (phase : Phase). is_moving_on phase ≡ true) saw.phase moves)
 
-  rising : (session : ℕ) (first its : SessionState) (view : View) → HasBecome opening events session first its → (sight_of opening events session).coming ≡ Some view → (sight_of opening events session).view.version.0 ≤ view.version.0
+  pub rising : (session : ℕ) (first its : SessionState) (view : View) → HasBecome opening events session first its → (sight_of opening events session).coming ≡ Some view → (sight_of opening events session).view.version.0 ≤ view.version.0
   unfolding NoneIsAhead
   rising session first its view became e =
       let opened = opened_so opening events session first its became in
@@ -348,3 +349,21 @@ pub meets_none : PaperIsSound → PaperHasFloor → ShowsLatches → CountsLatch
 meets_none paper_sound paper_floor shows counted opening start events session place number first its cause guarded held opens became at asks =
     meets_at paper_sound paper_floor opening start events guarded opens session place number first its cause (shows opening events held) (counted opening events held) became at
     (subst (λ (k : Seat). session_ask k its ≡ Add place number) (same_seat opening events session) asks)
+
+-- ---- by ranks
+rank_between : (number : ℕ) (phase : Phase) (version : ℕ) → 0 < number → 5 * number ≤ rank phase version + 1 → is_moving_on phase ≡ true → IsBetween (rank phase version) version
+rank_between number InProgress version some rest e = inl (omega (arith, some, rest))
+rank_between number WaitPending version some rest e = inr (omega (arith, some, rest))
+rank_between number Rest version some rest e = cc
+rank_between number Prepare version some rest e = cc
+rank_between number WaitFlush version some rest e = cc
+
+pub alone_by_rank : PaperIsSound → PaperHasFloor → HoldsAloneByRank
+alone_by_rank paper_sound paper_floor opening start events session place first its guarded opens became alone =
+    let holds = alone_between opening start events session place first its guarded became alone in
+    let lived = life_floored opening start events guarded became.opened opens paper_sound in
+    let floor = has_floor opening start events lived.number lived.stage lived.p lived.its paper_floor session first its became holds.1 in
+    let saw = view_seen opening events session first its became in
+    let view : View = (sight_of opening events session).view in
+    subst (λ (v : Version). IsBetween (rank_of view) v.0) (sym saw.version)
+    (rank_between lived.number.0 view.phase view.version.0 lived.its.staged.fits.some floor.rest (subst (λ (phase : Phase). is_moving_on phase ≡ true) saw.phase holds.0))

@@ -12,15 +12,23 @@ use Rattle.fkv_world.specs.Opened.{HasBecome}
 use Rattle.fkv_world.specs.Runs.{World, run}
 use Rattle.fkv_world.specs.World.{Event, seat_at}
 use Rattle.law_guard.specs.Guarded.Shows as guard
+use Rattle.law_paper.specs.Apart.{IsBetween}
 use Rattle.law_parts.specs.Latches.Latchers.{session_alone}
 use Rattle.law_parts.specs.Latches.Shows as latches
 use Rattle.law_commit.specs.Floor.Stands.{OpensSeen}
+use Rattle.law_commit.specs.Views.{rank_of, sight_of}
 
 -- A session that holds a latch alone is awake, and goes by in-progress or wait-pending.
 abbrev pub HoldsAloneBetween : Type 0
 HoldsAloneBetween =
     (opening : World) (start : ℕ) (events : List Event) (session place : ℕ) (first its : SessionState) → guard.IsOpened opening.now start → HasBecome opening events session first its
     → 0 < times place (session_alone (run opening events).now.places its) → (is_moving_on its.seen.phase ≡ true) × (its.is_awake ≡ true)
+
+-- So its view lies between its version and the one before.
+abbrev pub HoldsAloneByRank : Type 0
+HoldsAloneByRank =
+    (opening : World) (start : ℕ) (events : List Event) (session place : ℕ) (first its : SessionState) → guard.IsOpened opening.now start → OpensSeen opening.now → HasBecome opening events session first its
+    → 0 < times place (session_alone (run opening events).now.places its) → IsBetween (rank_of (sight_of opening events session).view) its.seen.version.0
 
 -- Where a session that catches up adds to a word, the word has no bit 63. So each latch that it wants as it takes up prepare is shared by its one try.
 abbrev pub MeetsNoneAlone : Type 0

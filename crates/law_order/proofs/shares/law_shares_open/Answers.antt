@@ -14,3 +14,17 @@ returns-clause-prepare c = λ bytes o n events session first its store opens.
     let begins = c.law_life_begins.ensures bytes o n store opens in
     c.law_shares_not_missed.ensures.prepare (beginning n bytes) o.tail.0 events session first its begins.store.now (c.law_latches_open.ensures o n opens)
     (record { rests = opens_at_rest o n opens begins.rests; seen = λ other was found. (begins.rests.seen other was found).phase })
+
+pub returns-clause-alone : goal.returns-clause-alone
+returns-clause-alone c = λ bytes o n events session place first its store opens.
+    c.law_shares_not_missed.ensures.alone (beginning n bytes) o.tail.0 events session place first its (c.law_life_begins.ensures bytes o n store opens).store.now
+
+pub returns-clause-tries : goal.returns-clause-tries
+returns-clause-tries c = λ bytes o n events session first its store opens.
+    c.law_shares_not_missed.ensures.tries (beginning n bytes) o.tail.0 events session first its (c.law_life_begins.ensures bytes o n store opens).store.now
+
+pub returns-clause-leaves : goal.returns-clause-leaves
+returns-clause-leaves c = λ bytes o n events session first its cause store opens.
+    let begins = c.law_life_begins.ensures bytes o n store opens in
+    c.law_shares_not_missed.ensures.leaves (beginning n bytes) o.tail.0 events session first its cause begins.store.now
+    (record { rests = opens_at_rest o n opens begins.rests; seen = λ other was found. (begins.rests.seen other was found).phase })

@@ -1,0 +1,121 @@
+-- A live session leaves a version from its prepare alone, by the floor of its view and by how far the view that is coming may be.
+use Rattle.std.proofs.Common.{◌≡◌, ◌⊎◌, inl, inr, ℕ, zero, suc, ◌+◌, ◌*◌, ◌<◌, ◌≤◌, ◌∙◌, refl, sym, ap, subst, arith, true}
+use Rattle.std.specs.Prelude.{Option, Some, None}
+use Rattle.fkv_base.specs.declared.numbers.Version.{Version}
+use Rattle.fkv_base.specs.declared.phases.Phase.{Phase}
+use Rattle.fkv_base.specs.declared.phases.Phase.TheVariants.{Rest, Prepare, InProgress, WaitPending, WaitFlush}
+use Rattle.fkv_ops.specs.Trying.{is_prepare}
+use Rattle.fkv_session.specs.declared.catching_up.Catching.{Catching}
+use Rattle.fkv_session.specs.declared.catching_up.Catching.TheVariants as catching
+use Rattle.fkv_session.specs.declared.sessions.Sitting.{Sitting}
+use Rattle.fkv_session.specs.CatchingUp.{CatchState}
+use Rattle.law_paper.specs.Phases as paper
+use Rattle.law_commit.specs.Floor.Stands.{HasFloor, PaperHasFloor, PaperIsSound, stage_number}
+use Rattle.law_commit.specs.Phases.Projected.{is_coming, paper_view}
+use Rattle.law_commit.specs.Phases.Staged.{Stage}
+use Rattle.law_commit.specs.Ranks.{rank}
+use Rattle.law_commit.specs.Shares.Leaving.{HasLoaded, LeavesFromPrepare}
+use Rattle.law_commit.specs.Views.{IsComing, IsTakenFrom, Sight, TakesUp, View, sight_of}
+use Rattle.law_commit.proofs.Sights.{coming_seen, view_seen}
+use Rattle.law_commit.proofs.OfFloor.Stands.{few_stages, has_floor, life_floored}
+use Rattle.law_commit.proofs.OfShares.Alone.{rising}
+
+-- ---- ranks
+-- before in-progress, and from in-progress on
+early : (n stage : ℕ) (phase next : Phase) (version coming : ℕ) → 0 < n → stage ≤ 1 → 5 * n ≤ rank phase version + 1 → rank next coming ≤ 5 * n + stage → version ≤ coming → rank phase version ≤ 5 * n + stage → (coming ≡ version) ⊎ (is_prepare phase ≡ true)
+early n stage Rest Rest version coming some few low high rises top = inl (omega (arith, some, few, low, high, rises, top))
+early n stage Rest Prepare version coming some few low high rises top = inl (omega (arith, some, few, low, high, rises, top))
+early n stage Rest InProgress version coming some few low high rises top = inl (omega (arith, some, few, low, high, rises, top))
+early n stage Rest WaitPending version coming some few low high rises top = inl (omega (arith, some, few, low, high, rises, top))
+early n stage Rest WaitFlush version coming some few low high rises top = inl (omega (arith, some, few, low, high, rises, top))
+early n stage Prepare Rest version coming some few low high rises top = inr refl
+early n stage Prepare Prepare version coming some few low high rises top = inr refl
+early n stage Prepare InProgress version coming some few low high rises top = inr refl
+early n stage Prepare WaitPending version coming some few low high rises top = inr refl
+early n stage Prepare WaitFlush version coming some few low high rises top = inr refl
+early n stage InProgress Rest version coming some few low high rises top = inl (omega (arith, some, few, low, high, rises, top))
+early n stage InProgress Prepare version coming some few low high rises top = inl (omega (arith, some, few, low, high, rises, top))
+early n stage InProgress InProgress version coming some few low high rises top = inl (omega (arith, some, few, low, high, rises, top))
+early n stage InProgress WaitPending version coming some few low high rises top = inl (omega (arith, some, few, low, high, rises, top))
+early n stage InProgress WaitFlush version coming some few low high rises top = inl (omega (arith, some, few, low, high, rises, top))
+early n stage WaitPending Rest version coming some few low high rises top = inl (omega (arith, some, few, low, high, rises, top))
+early n stage WaitPending Prepare version coming some few low high rises top = inl (omega (arith, some, few, low, high, rises, top))
+early n stage WaitPending InProgress version coming some few low high rises top = inl (omega (arith, some, few, low, high, rises, top))
+early n stage WaitPending WaitPending version coming some few low high rises top = inl (omega (arith, some, few, low, high, rises, top))
+early n stage WaitPending WaitFlush version coming some few low high rises top = inl (omega (arith, some, few, low, high, rises, top))
+early n stage WaitFlush Rest version coming some few low high rises top = inl (omega (arith, some, few, low, high, rises, top))
+early n stage WaitFlush Prepare version coming some few low high rises top = inl (omega (arith, some, few, low, high, rises, top))
+early n stage WaitFlush InProgress version coming some few low high rises top = inl (omega (arith, some, few, low, high, rises, top))
+early n stage WaitFlush WaitPending version coming some few low high rises top = inl (omega (arith, some, few, low, high, rises, top))
+early n stage WaitFlush WaitFlush version coming some few low high rises top = inl (omega (arith, some, few, low, high, rises, top))
+
+late : (n stage : ℕ) (phase next : Phase) (version coming : ℕ) → 0 < n → stage ≤ 4 → 5 * n + 1 ≤ rank phase version → rank next coming ≤ 5 * n + stage → version ≤ coming → rank phase version ≤ 5 * n + stage → (coming ≡ version) ⊎ (is_prepare phase ≡ true)
+late n stage Rest Rest version coming some few low high rises top = inl (omega (arith, some, few, low, high, rises, top))
+late n stage Rest Prepare version coming some few low high rises top = inl (omega (arith, some, few, low, high, rises, top))
+late n stage Rest InProgress version coming some few low high rises top = inl (omega (arith, some, few, low, high, rises, top))
+late n stage Rest WaitPending version coming some few low high rises top = inl (omega (arith, some, few, low, high, rises, top))
+late n stage Rest WaitFlush version coming some few low high rises top = inl (omega (arith, some, few, low, high, rises, top))
+late n stage Prepare Rest version coming some few low high rises top = inr refl
+late n stage Prepare Prepare version coming some few low high rises top = inr refl
+late n stage Prepare InProgress version coming some few low high rises top = inr refl
+late n stage Prepare WaitPending version coming some few low high rises top = inr refl
+late n stage Prepare WaitFlush version coming some few low high rises top = inr refl
+late n stage InProgress Rest version coming some few low high rises top = inl (omega (arith, some, few, low, high, rises, top))
+late n stage InProgress Prepare version coming some few low high rises top = inl (omega (arith, some, few, low, high, rises, top))
+late n stage InProgress InProgress version coming some few low high rises top = inl (omega (arith, some, few, low, high, rises, top))
+late n stage InProgress WaitPending version coming some few low high rises top = inl (omega (arith, some, few, low, high, rises, top))
+late n stage InProgress WaitFlush version coming some few low high rises top = inl (omega (arith, some, few, low, high, rises, top))
+late n stage WaitPending Rest version coming some few low high rises top = inl (omega (arith, some, few, low, high, rises, top))
+late n stage WaitPending Prepare version coming some few low high rises top = inl (omega (arith, some, few, low, high, rises, top))
+late n stage WaitPending InProgress version coming some few low high rises top = inl (omega (arith, some, few, low, high, rises, top))
+late n stage WaitPending WaitPending version coming some few low high rises top = inl (omega (arith, some, few, low, high, rises, top))
+late n stage WaitPending WaitFlush version coming some few low high rises top = inl (omega (arith, some, few, low, high, rises, top))
+late n stage WaitFlush Rest version coming some few low high rises top = inl (omega (arith, some, few, low, high, rises, top))
+late n stage WaitFlush Prepare version coming some few low high rises top = inl (omega (arith, some, few, low, high, rises, top))
+late n stage WaitFlush InProgress version coming some few low high rises top = inl (omega (arith, some, few, low, high, rises, top))
+late n stage WaitFlush WaitPending version coming some few low high rises top = inl (omega (arith, some, few, low, high, rises, top))
+late n stage WaitFlush WaitFlush version coming some few low high rises top = inl (omega (arith, some, few, low, high, rises, top))
+
+split : (n : ℕ) → (n ≤ 1) ⊎ (2 ≤ n)
+split zero = inl (omega arith)
+split (suc zero) = inl (omega arith)
+split (suc (suc n)) = inr (omega arith)
+
+leaves_so : (number : Version) (stage : Stage) (its : View) (next : Phase) (coming : ℕ) → 0 < number.0 → HasFloor number stage its → rank next coming ≤ 5 * number.0 + stage_number stage → its.version.0 ≤ coming
+    → (coming ≡ its.version.0) ⊎ (is_prepare its.phase ≡ true)
+leaves_so number stage its next coming some floor high rises = elim (split (stage_number stage)) [
+  | inl few ↦ early number.0 (stage_number stage) its.phase next its.version.0 coming some few floor.rest high rises floor.low
+  | inr far ↦ late number.0 (stage_number stage) its.phase next its.version.0 coming some (few_stages stage) (floor.in_progress far) high rises floor.low
+]
+
+-- ---- in a life
+taken_by : (sight : Sight) (c : CatchState) (step : Catching) → HasLoaded step → TakesUp sight c step → IsTakenFrom sight.coming c.seen
+taken_by sight c catching.Refreshes loaded takes = absurd loaded
+taken_by sight c catching.Protects loaded takes = absurd loaded
+taken_by sight c catching.Ended loaded takes = takes
+taken_by sight c catching.StoresCut loaded takes = takes
+taken_by sight c catching.StoresOwing loaded takes = takes
+taken_by sight c (catching.Latches i) loaded takes = takes
+taken_by sight c catching.Finishes loaded takes = takes
+
+pub leaves_from_prepare : PaperIsSound → PaperHasFloor → LeavesFromPrepare
+leaves_from_prepare paper_sound paper_floor opening start events session first its cause guarded opens became awake at loaded =
+    let lived = life_floored opening start events guarded became.opened opens paper_sound in
+    let own = has_floor opening start events lived.number lived.stage lived.p lived.its paper_floor session first its became awake in
+    let shown = lived.its.life.sessions.there session first its became in
+    let takes : TakesUp (sight_of opening events session) its.catching its.catching.step = subst (λ (step : Sitting). IsComing (sight_of opening events session) its step) at (coming_seen opening events session first its became) in
+    by_coming (sight_of opening events session).coming refl (taken_by (sight_of opening events session) its.catching its.catching.step loaded takes) lived.number lived.stage lived.its.staged.fits.some own lived.p lived.its.sound lived.its.papers.base lived.its.papers.at shown.comes shown.coming
+  where
+    by_coming : (found : Option View) → (sight_of opening events session).coming ≡ found → IsTakenFrom found its.catching.seen → (number : Version) (stage : Stage) → 0 < number.0 → HasFloor number stage (sight_of opening events session).view
+        → (p : paper.Phasing) → paper.IsSound p → p.base ≡ 5 * number.0 → p.stage ≡ stage_number stage → p.sessions.comes session ≡ is_coming (sight_of opening events session).coming
+        → ((view : View) → (sight_of opening events session).coming ≡ Some view → p.sessions.coming session ≡ paper_view view) → (its.catching.seen.version.0 ≡ its.seen.version.0) ⊎ (is_prepare its.seen.phase ≡ true)
+    by_coming None e takes number stage some floor p sound base at_stage comes coming = absurd takes
+    by_coming (Some view) e takes number stage some floor p sound base at_stage comes coming =
+        let counts = sound.coming session (comes ∙ ap is_coming e) in
+        let high = (subst (λ (v : paper.View). paper.Sees p v) (coming view e) counts).low in
+        let saw = view_seen opening events session first its became in
+        let either = leaves_so number stage (sight_of opening events session).view view.phase view.version.0 some floor (omega (arith, high, base, at_stage)) (rising paper_sound paper_floor opening start events guarded opens session first its view became e) in
+        elim either [
+          | inl same ↦ inl (ap (λ (v : Version). v.0) takes.version ∙ same ∙ sym (ap (λ (v : Version). v.0) saw.version))
+          | inr prepares ↦ inr (subst (λ (phase : Phase). is_prepare phase ≡ true) (sym saw.phase) prepares)
+        ]
