@@ -1,2 +1,5 @@
+mod Attempting
+pub mod Lives
 pub mod Taken
 mod Tails
+mod Undecided

@@ -1,8 +1,26 @@
 //! Which addresses of a life's log are taken and decided.
 ghost use Rattle.law_commit.specs.Decided.Laws as decided;
 
+use crate::floor::law_floor_stands;
+
 /// In every life of a store that was opened each address from the tail with which it began up to the tail is taken: its record is being made, stands, or was
-/// given up.
+/// given up. A record that is being made lies at or above the tail of its session's view. So all is decided below what each session that is awake has seen as
+/// tail, and stays so below the tail.
 pub fn law_addresses_taken()
     ensures taken { decided.TakesUptoTail }
+    ensures above_view { decided.MakesAboveItsView }
+    ensures below_views { decided.DecidesBelowViews }
+    ensures stays { decided.StaysDecided }
+    ensures settled { decided.SettlesDecided }
 {}
+
+/// In each life of a store that opened at rest, as its sessions have seen, all is decided below the first address of the commit in hand from in-progress on.
+/// So it was as a full commit's copy began. Once its points are taken and the epoch of its last arming is safe all is decided below its end, and so as it is
+/// written.
+pub fn law_commits_decided()
+    ensures first { decided.DecidesBelowFirst }
+    ensures before_copies { decided.DecidesBeforeCopies }
+    ensures end { decided.DecidesBelowEnd }
+{
+    law_floor_stands();
+}
