@@ -1,4 +1,5 @@
 mod Attempting
+pub mod Later
 pub mod Lives
 pub mod Taken
 mod Tails

@@ -1,4 +1,5 @@
 //! Which addresses of a life's log are taken and decided.
+ghost use Rattle.law_commit.specs.Decided.Later as later;
 ghost use Rattle.law_commit.specs.Decided.Laws as decided;
 
 use crate::floor::law_floor_stands;
@@ -21,6 +22,17 @@ pub fn law_commits_decided()
     ensures first { decided.DecidesBelowFirst }
     ensures before_copies { decided.DecidesBeforeCopies }
     ensures end { decided.DecidesBelowEnd }
+{
+    law_floor_stands();
+}
+
+/// Let the tail have been at or below an address at a moment, and let all that was attempted since be of later versions than one. Then each record from the
+/// address on is of a later version too. While the phase word says wait-pending or wait-flush, each session that is awake goes by a later version than the
+/// commit in hand. So what it attempts at a call is of a later one; and all that is attempted is, if what polls attempt is.
+pub fn law_later_above()
+    ensures above { later.MakesLaterFrom }
+    ensures goes { later.GoesByLater }
+    ensures attempts { later.AttemptsLaterButPolls }
 {
     law_floor_stands();
 }
